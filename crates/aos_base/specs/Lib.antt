@@ -1,0 +1,6 @@
+pub mod Number
+pub mod Lock
+pub mod Book
+pub mod Machine
+pub mod Observation
+pub mod Question

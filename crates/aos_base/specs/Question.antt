@@ -1,0 +1,25 @@
+-- What a piece of a program does, as a tree of questions: a value, a trap, or one question with what follows each answer.
+use Rattle.std.specs.Prelude.{ℕ, List, [], ◌∷◌}
+
+-- Q: questions; V: answers; A: values
+pub data Tree (Q V A : Type 0) : Type 0 where
+  Val : A → Tree Q V A
+  Asks : Q → (V → Tree Q V A) → Tree Q V A
+  Traps : (number code : ℕ) → Tree Q V A
+
+-- one piece after another, which goes on with its value
+abbrev pub bind : {Q V A B : Type 0} → Tree Q V A → (A → Tree Q V B) → Tree Q V B
+bind (Val a) k = k a
+bind (Asks q f) k = Asks q (λ v. bind (f v) k)
+bind (Traps n c) k = Traps n c
+
+-- one question, whose answer is the value
+abbrev pub ask : {Q V : Type 0} → Q → Tree Q V V
+ask q = Asks q (λ v. Val v)
+
+-- what is left after these answers; there is nothing after a value or a trap
+abbrev pub feed : {Q V A : Type 0} → List V → Tree Q V A → Tree Q V A
+feed [] t = t
+feed (v ∷ vs) (Val a) = Traps 0 0
+feed (v ∷ vs) (Asks q f) = feed vs (f v)
+feed (v ∷ vs) (Traps n c) = Traps n c

@@ -1,0 +1,11 @@
+//! What every other crate stands on: places in a text, refusals, widths and their arithmetic, names of locks, verdicts,
+//! outcomes and events. Its definitions have the semantics of the kernel over activities of any kind.
+#![tactic(auto)]
+
+pub mod kernel;
+pub mod number;
+pub mod text;
+
+pub use kernel::{Did, Event, LockName, Outcome, Verdict};
+pub use number::{Width, add, fits, sub};
+pub use text::{NoMemory, Pos, Refusal};
