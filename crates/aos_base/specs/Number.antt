@@ -1,7 +1,11 @@
 -- The integers of each width, in two's complement (Active Oberon Language Report, section on basic types).
-use Rattle.std.specs.Prelude.{ℕ, ℤ, pos, negsuc, ◌≤ℤ◌}
+use Rattle.std.specs.Prelude.{ℕ, ◌+◌, ◌-◌, ◌++◌, ◌&&◌, List, replicate, length, ℤ, pos, negsuc, ◌≤ℤ◌, Bool, not, int_lt, int_le, Option, Some, None, nat_le, if◌then◌else◌}
+use Rattle.std.specs.Ordering.{int_eq}
+use Rattle.std.specs.Fmt.{signed_decimal}
 use Rattle.aos_base.specs.declared.number.Width.{Width}
 use Rattle.aos_base.specs.declared.number.Width.TheVariants.{W8, W16, W32, W64}
+use Rattle.aos_base.specs.declared.number.Relation.{Relation}
+use Rattle.aos_base.specs.declared.number.Relation.TheVariants.{Equal, NotEqual, Less, LessEqual, Greater, GreaterEqual}
 
 abbrev pub greatest : Width → ℕ
 greatest W8 = 127
@@ -9,7 +13,28 @@ greatest W16 = 32767
 greatest W32 = 2147483647
 greatest W64 = 9223372036854775807
 
+abbrev pub holds : Relation → ℤ → ℤ → Bool
+holds Equal a b = int_eq a b
+holds NotEqual a b = not (int_eq a b)
+holds Less a b = int_lt a b
+holds LessEqual a b = int_le a b
+holds Greater a b = int_lt b a
+holds GreaterEqual a b = int_le b a
+
 -- an integer is one of the width
 pub record IsWithin (w : Width) (z : ℤ) : Type 0 where
   pub low : negsuc (greatest w) ≤ℤ z
   pub high : z ≤ℤ pos (greatest w)
+
+-- a sum and a difference of a width, where they are in it
+abbrev pub if_within : Width → ℤ → Option ℤ
+if_within w z = if int_le (negsuc (greatest w)) z && int_le z (pos (greatest w)) then Some z else None
+
+-- in decimal, with blanks before it up to this many places (Oakwood Guidelines, module Out)
+abbrev pub right_justified : ℤ → ℕ → List ℕ
+right_justified z places = replicate (places - length (signed_decimal z)) 32 ++ signed_decimal z
+
+-- the number of places must be 0 to 255
+abbrev pub places_of : ℤ → Option ℕ
+places_of (pos n) = if nat_le n 255 then Some n else None
+places_of (negsuc n) = None

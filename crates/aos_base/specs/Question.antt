@@ -1,5 +1,5 @@
 -- What a piece of a program does, as a tree of questions: a value, a trap, or one question with what follows each answer.
-use Rattle.std.specs.Prelude.{ℕ, List, [], ◌∷◌}
+use Rattle.std.specs.Prelude.{ℕ, Option, List, [], ◌∷◌}
 
 -- Q: questions; V: answers; A: values
 pub data Tree (Q V A : Type 0) : Type 0 where
@@ -17,9 +17,17 @@ bind (Traps n c) k = Traps n c
 abbrev pub ask : {Q V : Type 0} → Q → Tree Q V V
 ask q = Asks q (λ v. Val v)
 
--- what is left after these answers; there is nothing after a value or a trap
+-- what is left after these answers; behind a value or a trap there is none
 abbrev pub feed : {Q V A : Type 0} → List V → Tree Q V A → Tree Q V A
 feed [] t = t
 feed (v ∷ vs) (Val a) = Traps 0 0
 feed (v ∷ vs) (Asks q f) = feed vs (f v)
 feed (v ∷ vs) (Traps n c) = Traps n c
+
+-- a piece of visible work that a frame asks for. P: places, V: values
+pub data Ask (P V : Type 0) : Type 0 where
+  Reads : (place : P) → Ask P V
+  Stores : (place : P) → (value : V) → Ask P V
+  Ends : (result : Option V) → Ask P V             -- the end of the frame, which has no answer
+  PutsInt : (value places : V) → Ask P V
+  PutsLn : Ask P V

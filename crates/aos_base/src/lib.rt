@@ -7,5 +7,5 @@ pub mod number;
 pub mod text;
 
 pub use kernel::{Did, Event, LockName, Outcome, Verdict};
-pub use number::{Width, add, fits, sub};
+pub use number::{Relation, Width, add, fits, related, sub};
 pub use text::{NoMemory, Pos, Refusal};

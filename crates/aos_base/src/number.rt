@@ -2,7 +2,7 @@
 
 ghost use Rattle.std.specs.Prelude.{◌↔◌, ◌≡◌, ◌+ℤ◌, ◌-ℤ◌, IsTrue, pos};
 ghost use Rattle.std.specs.Option.{SomeIff};
-ghost use Rattle.aos_base.specs.Number.{greatest as greatest_of, IsWithin};
+ghost use Rattle.aos_base.specs.Number.{greatest as greatest_of, IsWithin, holds};
 
 /// The width of an integer type in bits.
 #[derive(Clone, Copy, PartialEq, Eq, Debug)]
@@ -11,6 +11,31 @@ pub enum Width {
     W16,
     W32,
     W64,
+}
+
+/// The six relations of two values that have an order.
+#[derive(Clone, Copy, PartialEq, Eq, Debug)]
+pub enum Relation {
+    Equal,
+    NotEqual,
+    Less,
+    LessEqual,
+    Greater,
+    GreaterEqual,
+}
+
+/// Whether two integers stand in a relation.
+pub fn related(relation: Relation, a: i64, b: i64) -> bool
+    ensures { result ≡ holds relation a b }
+{
+    match relation {
+        Relation::Equal => a == b,
+        Relation::NotEqual => a != b,
+        Relation::Less => a < b,
+        Relation::LessEqual => a <= b,
+        Relation::Greater => a > b,
+        Relation::GreaterEqual => a >= b,
+    }
 }
 
 /// The greatest integer of a width.

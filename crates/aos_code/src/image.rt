@@ -1,0 +1,31 @@
+// What the kernel runs.
+
+use crate::instr::{Cell, Instr};
+
+/// The code of a procedure.
+#[derive(Drop, Debug)]
+pub struct Body {
+    pub code: Vec<Instr>,
+}
+
+/// What is known of a procedure: the number of the module in which it stands.
+#[derive(Drop, Debug)]
+pub struct ProcShape {
+    pub module: u32,
+}
+
+/// A module: its name, what its cells hold at first, and the number of the procedure that is its body.
+#[derive(Drop, Debug)]
+pub struct ModuleDesc {
+    pub name: String,
+    pub cells: Vec<Cell>,
+    pub body: u32,
+}
+
+/// A program in code. Procedures are numbered from 1, and procedure p has shape and body p - 1.
+#[derive(Drop, Debug)]
+pub struct Image {
+    pub modules: Vec<ModuleDesc>,
+    pub shapes: Vec<ProcShape>,
+    pub bodies: Vec<Body>,
+}

@@ -1,0 +1,10 @@
+//! Stack code: instructions and images, and what an image does, so that it is a machine under the kernel of aos_base.
+#![tactic(auto)]
+
+pub mod image;
+pub mod instr;
+pub mod report;
+
+pub use image::{Body, Image, ModuleDesc, ProcShape};
+pub use instr::{Cell, Instr, Kind, Root};
+pub use report::TrapRec;

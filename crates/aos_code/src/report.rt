@@ -1,0 +1,14 @@
+// What is told of a run.
+
+use aos_base::Pos;
+
+/// A trap that happened: its number, its code, the activity, and the place of the statement in its module, by the
+/// module's number.
+#[derive(Clone, Copy, PartialEq, Eq, Debug)]
+pub struct TrapRec {
+    pub number: u8,
+    pub code: u8,
+    pub activity: u32,
+    pub module: u32,
+    pub pos: Pos,
+}

@@ -1,0 +1,7 @@
+//! The typed program, and what it means: values, the store, statements, frames and turns, so that a program is a machine
+//! under the kernel of aos_base.
+#![tactic(auto)]
+
+pub mod tree;
+
+pub use tree::{Binary, Literal, OutCall, Program, TExpr, TModule, TPlace, TStat, TVariable};
