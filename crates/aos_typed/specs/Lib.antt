@@ -1,1 +1,4 @@
-
+pub mod Value
+pub mod Store
+pub mod Meaning
+pub mod Source
