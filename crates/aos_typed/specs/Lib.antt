@@ -2,3 +2,4 @@ pub mod Value
 pub mod Store
 pub mod Meaning
 pub mod Source
+pub mod WellTyped
