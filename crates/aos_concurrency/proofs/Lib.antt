@@ -6,3 +6,4 @@ pub mod Release
 pub mod Steps
 pub mod Begin
 pub mod Excludes
+pub mod Matching
