@@ -1,11 +1,8 @@
 -- The code of a well-typed expression does what the expression does, for all answers of the right kinds.
-use Rattle.std.proofs.Common.{◌≡◌, ℕ, zero, suc, ◌+◌, ◌-◌, ◌<◌, Bool, true, false, Option, Some, None, List, [], ◌∷◌, ◌++◌, length, map, drop, refl, sym, ap, ◌∙◌, subst, arith, append_assoc, length-append}
+use Rattle.std.proofs.Common.{◌≡◌, ℕ, suc, ◌+◌, Option, Some, None, List, [], ◌∷◌, ◌++◌, length, refl, sym, ap, ◌∙◌, subst, arith, append_assoc, length-append}
 use Rattle.std.specs.Prelude.{ℤ, option_map, ◌+ℤ◌, ◌-ℤ◌}
-use Rattle.aos_base.specs.declared.number.Width.{Width}
-use Rattle.aos_base.specs.declared.number.Relation.{Relation}
 use Rattle.aos_base.specs.Number.{if_within, holds}
-use Rattle.aos_base.specs.Question.{Tree, Val, Asks, Traps, bind, ask, Ask, Reads, Stores, Ends, PutsInt, PutsLn, feed}
-use Rattle.aos_typed.specs.declared.tree.Literal.{Literal}
+use Rattle.aos_base.specs.Question.{Val, Asks, Traps, bind, Reads, Stores, Ends, PutsInt, PutsLn}
 use Rattle.aos_typed.specs.declared.tree.Literal.TheVariants.{Int as IntLiteral}
 use Rattle.aos_typed.specs.declared.tree.Binary.{Binary}
 use Rattle.aos_typed.specs.declared.tree.Binary.TheVariants.{Add as AddOf, Sub as SubOf}
@@ -13,7 +10,7 @@ use Rattle.aos_typed.specs.declared.tree.TPlace.{TPlace}
 use Rattle.aos_typed.specs.declared.tree.TPlace.TheVariants.{ModuleVar}
 use Rattle.aos_typed.specs.declared.tree.TExpr.{TExpr}
 use Rattle.aos_typed.specs.declared.tree.TExpr.TheVariants.{Lit, Read, Binary', Compare'}
-use Rattle.aos_typed.specs.Value.{Value, Int, Flag, literal, binary, result_of, or_overflow, compare}
+use Rattle.aos_typed.specs.Value.{Value, Int, Flag, binary, or_overflow, compare}
 use Rattle.aos_typed.specs.Store.{Spot, Root, ModuleRoot}
 use Rattle.aos_typed.specs.Meaning as source
 use Rattle.aos_typed.specs.Meaning.{Doing, place_of, value_of}
@@ -26,8 +23,8 @@ use Rattle.aos_code.specs.declared.instr.Instr.{Instr}
 use Rattle.aos_code.specs.declared.instr.Instr.TheVariants as i
 use Rattle.aos_code.specs.declared.instr.Kind.TheVariants.{N}
 use Rattle.aos_code.specs.Memory.{Addr}
-use Rattle.aos_code.specs.Silent.{Stack, Question, Act, Goes, Sees, Stops, Fails, flag, or_overflow as or_trap}
-use Rattle.aos_sim.specs.Code.{literal_code, binary_code, place_code, operands_code, value_code}
+use Rattle.aos_code.specs.Silent.{Stack, Question, flag, or_overflow as or_trap}
+use Rattle.aos_sim.specs.Code.{binary_code, place_code, operands_code, value_code}
 use Rattle.aos_sim.proofs.Runs.{Run, on_run, runs}
 
 -- the cell that holds a value
@@ -119,9 +116,9 @@ module _ (code : List Instr) where
       let flat : operands_code ca cb x ++ rest ≡ ca ++ (cb ++ (x ∷ rest)) = simp append_assoc in
       along Q _ _ (bind ra (λ a. bind rb (λ b. f a b))) (ap (λ l. runs code l 0 at s) flat)
       (does_bind (Pushed IsInt (cb ++ (x ∷ rest)) (at + length ca) s) Q _ ra (λ a. bind rb (λ b. f a b)) (ha (cb ++ (x ∷ rest)) s)
-        (λ a m h. along Q m _ (bind rb (λ b. f a b)) h.run
-          (does_bind (Pushed IsInt (x ∷ rest) (at + length ca + length cb) (cell_of a ∷ s)) Q _ rb (λ b. f a b) (hb (x ∷ rest) (cell_of a ∷ s))
-            (λ b m' h'. on_ints a b h.kind h'.kind m' h'.run))))
+      (λ a m h. along Q m _ (bind rb (λ b. f a b)) h.run
+      (does_bind (Pushed IsInt (x ∷ rest) (at + length ca + length cb) (cell_of a ∷ s)) Q _ rb (λ b. f a b) (hb (x ∷ rest) (cell_of a ∷ s))
+      (λ b m' h'. on_ints a b h.kind h'.kind m' h'.run))))
     where
       on_ints : (a b : Value) → IsInt a → IsInt b → (m : Run) → m ≡ runs code (x ∷ rest) 0 (at + length ca + length cb) (cell_of b ∷ (cell_of a ∷ s)) → Does Q m (f a b)
       on_ints (Int a) (Int b) ha' hb' m e = op a b m e
@@ -141,7 +138,7 @@ module _ (code : List Instr) where
   behind_operands : (ca cb : List Instr) (x : Instr) (at : ℕ) → at + length ca + length cb + 1 ≡ at + length (operands_code ca cb x)
   behind_operands ca cb x at = omega (arith, length-append ca (cb ++ x ∷ []), length-append cb (x ∷ []))
 
-  place_does : (p : TPlace) (at : ℕ) (rest : List Instr) (s : Stack) → Does (Named rest (at + length (place_code p at)) s) (runs code (place_code p at ++ rest) 0 at s) (place_of p)
+  pub place_does : (p : TPlace) (at : ℕ) (rest : List Instr) (s : Stack) → Does (Named rest (at + length (place_code p at)) s) (runs code (place_code p at ++ rest) 0 at s) (place_of p)
   place_does (ModuleVar m k) at rest s = record { run = refl }
 
   mutual

@@ -1,5 +1,5 @@
 -- The code of a program. A jump names its target, so each piece of code is told where it stands.
-use Rattle.std.specs.Prelude.{ℕ, suc, ℤ, pos, ◌+◌, List, [], ◌∷◌, ◌++◌, length, map}
+use Rattle.std.specs.Prelude.{ℕ, pos, ◌+◌, List, [], ◌∷◌, ◌++◌, length}
 use Rattle.aos_base.specs.declared.text.Pos.{Pos}
 use Rattle.aos_typed.specs.declared.tree.Literal.{Literal}
 use Rattle.aos_typed.specs.declared.tree.Literal.TheVariants.{Int as IntLiteral}

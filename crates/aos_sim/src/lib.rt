@@ -9,5 +9,4 @@ ghost use Rattle.aos_sim.specs.Shows.{EachWellTyped, IsCodeOf, Shows};
 /// workers the two executions have the same observation and the same events.
 pub fn image_shows_program()
     ensures { (p : Program) (image : Image) → EachWellTyped p → IsCodeOf p image → Shows p image }
-{
-}
+{}

@@ -1,7 +1,7 @@
--- Well-typed modules: each operand is of the kind that its operator takes.
-use Rattle.std.specs.Prelude.{List, [], ◌∷◌}
-use Rattle.aos_typed.specs.declared.tree.Literal.{Literal}
-use Rattle.aos_typed.specs.declared.tree.Literal.TheVariants.{Int as IntLiteral}
+-- Programs whose expressions have the types that their places ask for: each operand is an integer, and what a loop tests
+-- is a truth value.
+use Rattle.std.specs.Prelude.{List, [], ◌∷◌, All}
+use Rattle.aos_typed.specs.declared.tree.Literal.TheVariants as literal
 use Rattle.aos_typed.specs.declared.tree.TExpr.{TExpr}
 use Rattle.aos_typed.specs.declared.tree.TExpr.TheVariants.{Lit, Read, Binary', Compare'}
 use Rattle.aos_typed.specs.declared.tree.OutCall.{OutCall}
@@ -10,37 +10,36 @@ use Rattle.aos_typed.specs.declared.tree.TStat.{TStat, Row_of-TStat, end_of-TSta
 use Rattle.aos_typed.specs.declared.tree.TStat.TheVariants.{Assign, While', Out}
 use Rattle.aos_typed.specs.declared.tree.TModule.{TModule}
 
--- an expression whose value is an integer; all variables hold integers
+-- an expression is an integer
 abbrev pub IsInteger : TExpr → Type 0
-IsInteger (Lit (IntLiteral n)) = Unit {0}
+IsInteger (Lit (literal.Int n)) = Unit {0}
 IsInteger (Read p) = Unit {0}
 IsInteger (Binary' op p a q b) = IsInteger a × IsInteger b
-IsInteger (Compare' r p a q b) = ⊥
+IsInteger (Compare' relation p a q b) = ⊥
 
--- an expression whose value is TRUE or FALSE
+-- an expression is a truth value
 abbrev pub IsBoolean : TExpr → Type 0
+IsBoolean (Compare' relation p a q b) = IsInteger a × IsInteger b
 IsBoolean (Lit l) = ⊥
 IsBoolean (Read p) = ⊥
 IsBoolean (Binary' op p a q b) = ⊥
-IsBoolean (Compare' r p a q b) = IsInteger a × IsInteger b
 
-abbrev pub IsCallTyped : OutCall → Type 0
-IsCallTyped (Int value places) = IsInteger value × IsInteger places
-IsCallTyped Ln = Unit {0}
+-- what a call of module Out writes is an integer
+abbrev pub IsCall : OutCall → Type 0
+IsCall (Int a b) = IsInteger a × IsInteger b
+IsCall Ln = Unit {0}
 
+-- a statement is well typed, and so is each of a row
 abbrev mutual
-  pub IsStatTyped : TStat → Type 0
-  IsStatTyped (Assign at p e) = IsInteger e
-  IsStatTyped (While' at e shape body) = IsBoolean e × AreTyped body
-  IsStatTyped (Out at call) = IsCallTyped call
+  pub IsStatement : TStat → Type 0
+  IsStatement (Assign p place e) = IsInteger e
+  IsStatement (While' p e shape body) = IsBoolean e × AreStatements body
+  IsStatement (Out p call) = IsCall call
 
-  pub AreTyped : {m : _} → Row_of-TStat m → Type 0
-  AreTyped end_of-TStat = Unit {0}
-  AreTyped (more_of-TStat s ss) = IsStatTyped s × AreTyped ss
+  pub AreStatements : {m : _} → Row_of-TStat m → Type 0
+  AreStatements end_of-TStat = Unit {0}
+  AreStatements (more_of-TStat s ss) = IsStatement s × AreStatements ss
 
-abbrev pub EachTyped : List TStat → Type 0
-EachTyped [] = Unit {0}
-EachTyped (s ∷ ss) = IsStatTyped s × EachTyped ss
-
+-- all statements of the module's body are well typed
 abbrev pub IsWellTyped : TModule → Type 0
-IsWellTyped m = EachTyped m.body.items
+IsWellTyped m = All IsStatement m.body.items
