@@ -1,5 +1,5 @@
 -- Counts that never fall and stop at the greatest number of 64 bits.
-use Rattle.std.specs.Prelude.{◌≡◌, ℕ, ◌+◌, ◌-◌, ◌^◌, ◌<◌, ◌⊎◌}
+use Rattle.std.specs.Prelude.{◌≡◌, ℕ, ◌+◌, ◌-◌, ◌^◌, ◌<◌, ◌⊎◌, min}
 
 -- the greatest number of 64 bits, at which every count stops
 abbrev pub greatest : ℕ
@@ -12,3 +12,7 @@ Rose old new = (old < new) ⊎ ((old ≡ greatest) × (new ≡ old))
 -- a number rose by more than `most` in a call, or stands at the greatest number
 abbrev pub RoseAbove : (most old new : ℕ) → Type 0
 RoseAbove most old new = (old + most < new) ⊎ (new ≡ greatest)
+
+-- a count that went on by one, or stays at the greatest number
+abbrev pub next : ℕ → ℕ
+next count = min (count + 1) greatest

@@ -1,4 +1,5 @@
 pub mod Count
+pub mod MemShelf
+pub mod MemSink
 pub mod Shelf
 pub mod Sink
-pub mod Memory

@@ -1,0 +1,55 @@
+// The sink over a real stream: the trusted edge, a loop over `write`.
+ghost use Rattle.std.specs.Prelude.{ℕ, None};
+ghost use Rattle.aos_dev.specs.declared.sink.Put.{Put};
+
+use crate::count::next;
+use crate::sink::{Put, Sink};
+use std::io::{ErrorKind, Write};
+
+/// Writes every piece to a writer at once, as to standard output or standard error. It tells no bytes.
+#[derive(Drop)]
+pub struct StdSink<W: Write + Drop> {
+    writer: W,
+    faults: u64,
+}
+
+impl<W: Write + Drop> StdSink<W> {
+    /// A sink over the writer, with no fault yet.
+    pub fn new(writer: W) -> StdSink<W> {
+        StdSink { writer, faults: 0 }
+    }
+}
+
+impl<W: Write + Drop> Sink for StdSink<W> {
+    ghost written = { λ _. None };
+
+    ghost faults = { λ sink. sink.faults };
+
+    fn put(&mut self, bytes: &[u8]) -> Put {
+        if write_whole(&mut self.writer, bytes) {
+            return Put::Done;
+        }
+        self.faults = next(self.faults);
+        Put::Failed
+    }
+}
+
+// Writes all the bytes and flushes, or says that it failed. A write that was interrupted is tried again.
+fn write_whole<W: Write>(writer: &mut W, bytes: &[u8]) -> bool {
+    let mut at = 0;
+    for _ in 0..u64::MAX {
+        if at >= bytes.len() {
+            return writer.flush().is_ok();
+        }
+        match writer.write(&bytes[at..]) {
+            Ok(0) => return false,
+            Ok(count) => at += count,
+            Err(error) => {
+                if error.kind() != ErrorKind::Interrupted {
+                    return false;
+                }
+            }
+        }
+    }
+    false
+}
