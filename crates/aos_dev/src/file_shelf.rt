@@ -22,7 +22,11 @@ pub struct FileShelf<R: Files + Drop> {
 
 impl<R: Files + Drop> FileShelf<R> {
     /// The files that the runtime reaches, with no byte taken and no fault yet.
-    pub fn new(rt: R) -> FileShelf<R> {
+    pub fn new(rt: R) -> FileShelf<R>
+        ensures texts { ⟦<FileShelf<R> as Shelf>⟧.texts result ≡ None }
+        ensures taken { ⟦<FileShelf<R> as Shelf>⟧.taken result ≡ 0 }
+        ensures faults { ⟦<FileShelf<R> as Shelf>⟧.faults result ≡ 0 }
+    {
         FileShelf {
             rt,
             taken: 0,

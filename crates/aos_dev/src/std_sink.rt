@@ -1,5 +1,5 @@
 // The sink over a real stream: the trusted edge, a loop over `write`.
-ghost use Rattle.std.specs.Prelude.{ℕ, None};
+ghost use Rattle.std.specs.Prelude.{◌≡◌, ℕ, None};
 ghost use Rattle.aos_dev.specs.declared.sink.Put.{Put};
 
 use crate::count::next;
@@ -15,7 +15,10 @@ pub struct StdSink<W: Write + Drop> {
 
 impl<W: Write + Drop> StdSink<W> {
     /// A sink over the writer, with no fault yet.
-    pub fn new(writer: W) -> StdSink<W> {
+    pub fn new(writer: W) -> StdSink<W>
+        ensures written { ⟦<StdSink<W> as Sink>⟧.written result ≡ None }
+        ensures faults { ⟦<StdSink<W> as Sink>⟧.faults result ≡ 0 }
+    {
         StdSink { writer, faults: 0 }
     }
 }
