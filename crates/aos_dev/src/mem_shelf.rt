@@ -69,6 +69,7 @@ impl Shelf for MemShelf {
         // the calls that fail, and no others
         ensures failed { OnFailed result (Rose (shelf_faults self.old) (shelf_faults self.new)) }
         ensures fails { (result ≡ Got.Failed) ↔ ShelfFailsNext self.old }
+        ensures no_fault { ¬ ShelfFailsNext self.old → shelf_faults self.new ≡ shelf_faults self.old }
     {
         if self.begin() {
             self.faults = next(self.faults);

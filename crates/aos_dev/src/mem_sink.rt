@@ -82,6 +82,7 @@ impl Sink for MemSink {
         // the answer: which pieces are taken, and no others
         ensures takes { (result ≡ Put.Done) ↔ TakesNext self.old bytes.now }
         ensures done { OnDone result (sink_bytes self.new ≡ sink_bytes self.old ++ bytes.now) }
+        ensures no_fault { OnDone result (sink_faults self.new ≡ sink_faults self.old) }
 
         // a fault, which takes what was chosen for this call, as far as there is room
         ensures failed { OnFailed result (Rose (sink_faults self.old) (sink_faults self.new)) }
