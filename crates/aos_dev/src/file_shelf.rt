@@ -1,5 +1,6 @@
 // The shelf of real files: the trusted edge, a loop over `read`.
 ghost use Rattle.std.specs.Prelude.{◌≡◌, ℕ, ◌≤◌, [], length, None};
+ghost use Rattle.std.specs.Io.KnownBytes.{Consumes, IsAtEnd};
 ghost use Rattle.aos_dev.specs.declared.shelf.Got.{Got};
 ghost use Rattle.aos_dev.specs.Count.{RoseAbove};
 ghost use Rattle.aos_dev.specs.Shelf.{OnText, OnTooLong, OnNoText};
@@ -67,6 +68,9 @@ fn read_whole<S: Read>(source: &mut S, most: u64, taken: &mut u64, into: &mut Ve
     ensures fits { OnText result (length into.new.items ≤ most) }
     ensures empty { OnNoText result (into.new.items ≡ []) }
     ensures too_long { OnTooLong result (RoseAbove most taken.old taken.new) }
+    ensures whole { OnText result
+        (Consumes (S.remaining source.old) (S.remaining source.new) into.new.items) }
+    ensures end { OnText result (IsAtEnd (S.remaining source.new)) }
 {
     let answer = read_on(source, most, taken, into);
     if answer != Got::Text {
@@ -81,6 +85,9 @@ fn read_on<S: Read>(source: &mut S, most: u64, taken: &mut u64, into: &mut Vec<u
     ensures taken_stays { taken.old ≤ taken.new }
     ensures fits { OnText result (length into.new.items ≤ most) }
     ensures too_long { OnTooLong result (RoseAbove most taken.old taken.new) }
+    ensures whole { OnText result
+        (Consumes (S.remaining source.old) (S.remaining source.new) into.new.items) }
+    ensures end { OnText result (IsAtEnd (S.remaining source.new)) }
 {
     let mut piece = [0; 8192];
     for _ in 0..u64::MAX {

@@ -1,6 +1,11 @@
 // The sink over a real stream: the trusted edge, a loop over `write`.
-ghost use Rattle.std.specs.Prelude.{◌≡◌, ℕ, None};
+ghost use Rattle.std.specs.Prelude.{◌≡◌, ℕ, ◌≤◌, None};
+ghost use Rattle.std.specs.Bool.{OnTrue, OnFalse};
+ghost use Rattle.std.specs.Io.KnownBytes.{Appends};
 ghost use Rattle.aos_dev.specs.declared.sink.Put.{Put};
+ghost use Rattle.aos_dev.specs.Count.{Rose};
+ghost use Rattle.aos_dev.specs.Sink.{OnDone, OnFailed};
+ghost use Rattle.aos_dev.specs.StdSink.{writer_of, AppendsPart};
 
 use crate::count::next;
 use crate::sink::{Put, Sink};
@@ -18,6 +23,7 @@ impl<W: Write + Drop> StdSink<W> {
     pub fn new(writer: W) -> StdSink<W>
         ensures written { ⟦<StdSink<W> as Sink>⟧.written result ≡ None }
         ensures faults { ⟦<StdSink<W> as Sink>⟧.faults result ≡ 0 }
+        ensures writer { writer_of result ≡ writer }
     {
         StdSink { writer, faults: 0 }
     }
@@ -28,7 +34,16 @@ impl<W: Write + Drop> Sink for StdSink<W> {
 
     ghost faults = { λ sink. sink.faults };
 
-    fn put(&mut self, bytes: &[u8]) -> Put {
+    fn put(&mut self, bytes: &[u8]) -> Put
+        ensures faults_stay { self.old.faults ≤ self.new.faults }
+        ensures failed { OnFailed result (Rose self.old.faults self.new.faults) }
+
+        // what the writer holds, where it is known
+        ensures done { OnDone result
+            (Appends (W.contents (writer_of self.old)) (W.contents (writer_of self.new)) bytes.now) }
+        ensures part { OnFailed result
+            (AppendsPart (W.contents (writer_of self.old)) (W.contents (writer_of self.new)) bytes.now) }
+    {
         if write_whole(&mut self.writer, bytes) {
             return Put::Done;
         }
@@ -38,7 +53,11 @@ impl<W: Write + Drop> Sink for StdSink<W> {
 }
 
 // Writes all the bytes and flushes, or says that it failed. A write that was interrupted is tried again.
-fn write_whole<W: Write>(writer: &mut W, bytes: &[u8]) -> bool {
+fn write_whole<W: Write>(writer: &mut W, bytes: &[u8]) -> bool
+    ensures whole { OnTrue result (Appends (W.contents writer.old) (W.contents writer.new) bytes.now) }
+    ensures part { OnFalse result
+        (AppendsPart (W.contents writer.old) (W.contents writer.new) bytes.now) }
+{
     let mut at = 0;
     for _ in 0..u64::MAX {
         if at >= bytes.len() {
