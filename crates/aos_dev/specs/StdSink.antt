@@ -7,6 +7,10 @@ use Rattle.aos_dev.specs.declared.std_sink.StdSink.{StdSink}
 abbrev pub writer_of : {W : Type 0} → StdSink W → W
 writer_of sink = sink.writer
 
+-- how often it failed
+abbrev pub faults_of : {W : Type 0} → StdSink W → ℕ
+faults_of sink = sink.faults
+
 -- known bytes grow by some of the piece, from its beginning
 abbrev pub AppendsPart : (old new : Option (List ℕ)) → List ℕ → Type 0
 AppendsPart old new piece = (count : ℕ) × Appends old new (take count piece)

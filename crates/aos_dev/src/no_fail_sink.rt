@@ -1,5 +1,5 @@
 // A sink for callers that want no output.
-ghost use Rattle.std.specs.Prelude.{None};
+ghost use Rattle.std.specs.Prelude.{◌≡◌, None};
 ghost use Rattle.aos_dev.specs.declared.sink.Put.{Put};
 
 use crate::sink::{Put, Sink};
@@ -20,7 +20,9 @@ impl Sink for NoFailSink {
 
     ghost faults = { λ _. 0 };
 
-    fn put(&mut self, _bytes: &[u8]) -> Put {
+    fn put(&mut self, _bytes: &[u8]) -> Put
+        ensures { result ≡ Put.Done }
+    {
         Put::Done
     }
 }

@@ -5,13 +5,14 @@ ghost use Rattle.std.specs.Io.KnownBytes.{Appends};
 ghost use Rattle.aos_dev.specs.declared.sink.Put.{Put};
 ghost use Rattle.aos_dev.specs.Count.{Rose};
 ghost use Rattle.aos_dev.specs.Sink.{OnDone, OnFailed};
-ghost use Rattle.aos_dev.specs.StdSink.{writer_of, AppendsPart};
+ghost use Rattle.aos_dev.specs.StdSink.{writer_of, faults_of, AppendsPart};
 
 use crate::count::next;
 use crate::sink::{Put, Sink};
 use std::io::{ErrorKind, Write};
 
-/// Writes every piece to a writer at once, as to standard output or standard error. It tells no bytes.
+/// Writes every piece to a writer at once, as to standard output or standard error. It tells no bytes of its own; where
+/// the writer tells what it holds, `put` says what came to it.
 #[derive(Drop)]
 pub struct StdSink<W: Write + Drop> {
     writer: W,
@@ -22,7 +23,7 @@ impl<W: Write + Drop> StdSink<W> {
     /// A sink over the writer, with no fault yet.
     pub fn new(writer: W) -> StdSink<W>
         ensures written { ⟦<StdSink<W> as Sink>⟧.written result ≡ None }
-        ensures faults { ⟦<StdSink<W> as Sink>⟧.faults result ≡ 0 }
+        ensures faults { faults_of result ≡ 0 }
         ensures writer { writer_of result ≡ writer }
     {
         StdSink { writer, faults: 0 }
@@ -32,11 +33,11 @@ impl<W: Write + Drop> StdSink<W> {
 impl<W: Write + Drop> Sink for StdSink<W> {
     ghost written = { λ _. None };
 
-    ghost faults = { λ sink. sink.faults };
+    ghost faults = { faults_of };
 
     fn put(&mut self, bytes: &[u8]) -> Put
-        ensures faults_stay { self.old.faults ≤ self.new.faults }
-        ensures failed { OnFailed result (Rose self.old.faults self.new.faults) }
+        ensures faults_stay { faults_of self.old ≤ faults_of self.new }
+        ensures failed { OnFailed result (Rose (faults_of self.old) (faults_of self.new)) }
 
         // what the writer holds, where it is known
         ensures done { OnDone result
