@@ -7,3 +7,5 @@ pub mod Steps
 pub mod Begin
 pub mod Excludes
 pub mod Matching
+pub mod Itself
+pub mod Changes
