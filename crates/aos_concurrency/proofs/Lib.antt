@@ -9,3 +9,4 @@ pub mod Excludes
 pub mod Matching
 pub mod Itself
 pub mod Changes
+pub mod Handed
