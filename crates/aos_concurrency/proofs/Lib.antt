@@ -10,3 +10,7 @@ pub mod Matching
 pub mod Itself
 pub mod Changes
 pub mod Handed
+pub mod Records
+pub mod Settles
+pub mod Chosen
+pub mod Queues
