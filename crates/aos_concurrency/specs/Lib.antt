@@ -7,3 +7,5 @@ pub mod Simulates
 pub mod Acting
 pub mod Handover
 pub mod Private
+pub mod Laws
+pub mod Toy

@@ -1,0 +1,1 @@
+// Each law at a small machine.
