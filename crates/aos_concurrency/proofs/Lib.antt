@@ -14,3 +14,6 @@ pub mod Records
 pub mod Settles
 pub mod Chosen
 pub mod Queues
+pub mod ToyKeeps
+pub mod ToyCoded
+pub mod ToyHands
