@@ -1,12 +1,13 @@
 -- The laws, each as a statement over any machine whose stores and frames are of these types.
-use Rattle.std.specs.Prelude.{◌≡◌, ℕ, Option, Some, List, [], ◌∷◌, ◌++◌, Bool, IsTrue}
+use Rattle.std.specs.Prelude.{◌≡◌, ◌+◌, ◌<◌, ℕ, Option, Some, List, [], ◌∷◌, ◌++◌, Bool, IsTrue}
 use Rattle.aos_base.specs.declared.kernel.LockName.{LockName}
 use Rattle.aos_base.specs.declared.kernel.Verdict.{Verdict}
 use Rattle.aos_base.specs.declared.kernel.Did.{Did}
 use Rattle.aos_base.specs.declared.kernel.Did.TheVariants.{Went}
 use Rattle.aos_base.specs.declared.kernel.Event.{Event}
+use Rattle.aos_base.specs.declared.kernel.Outcome.TheVariants as outcome_is
 use Rattle.aos_base.specs.Lock.{Waiting, heir, after_heir, Alike}
-use Rattle.aos_base.specs.Book.{Runs, on_worker}
+use Rattle.aos_base.specs.Book.{Runs, Book, on_worker, outcome}
 use Rattle.aos_base.specs.Machine.{Choice, Machine, State, start_of, happens, execution}
 use Rattle.aos_base.specs.Observation.{Observation, observation}
 use Rattle.aos_concurrency.specs.Orderly.{Orderly}
@@ -16,7 +17,7 @@ use Rattle.aos_concurrency.specs.Traps.{RecordsTraps}
 use Rattle.aos_concurrency.specs.Simulates.{Simulates}
 use Rattle.aos_concurrency.specs.Acting.{acting, Changed, KeepsTidy}
 use Rattle.aos_concurrency.specs.Handover.{GuardsBy, HandsOver}
-use Rattle.aos_concurrency.specs.Private.{steps, ArePrivate, GoesOn, settled}
+use Rattle.aos_concurrency.specs.Private.{steps, ArePrivate, GoesOn, settled, begun_by, front}
 
 module _ (S F : Type 0) where
   -- where the machine keeps its regions, mutual exclusion holds in every state of every execution
@@ -65,6 +66,13 @@ module _ (S F : Type 0) where
       (m : Machine S F) (w a : ℕ) (f g : F) (begun : List Bool) (st : State S F)
       → GoesOn a begun st.book → on_worker w st.book.line ≡ Some a → (st.book.activity a).next ≡ Runs → st.frames a ≡ f → ArePrivate m f begun g
       → execution m (steps w begun) st ≡ settled a g begun st
+
+-- which they are while the activity's count stays below the budget before the last
+abbrev pub LastInBudget : Type 0
+LastInBudget =
+    (a : ℕ) (begun : List Bool) (b : Book)
+    → outcome b ≡ outcome_is.Going → (b.activity a).begun + begun_by (front begun) < b.budget
+    → GoesOn a begun b
 
 module _ (S F T G : Type 0) where
   -- from starts that are related, two machines that make the same turns

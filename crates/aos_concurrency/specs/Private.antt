@@ -1,5 +1,5 @@
 -- Turns on an activity's own frames alone, which can be made elsewhere and put into the log later.
-use Rattle.std.specs.Prelude.{◌≡◌, ℕ, nat_eq, List, [], ◌∷◌, Bool}
+use Rattle.std.specs.Prelude.{◌≡◌, ℕ, suc, nat_eq, List, [], ◌∷◌, Bool, if◌then◌else◌}
 use Rattle.aos_base.specs.declared.kernel.Outcome.TheVariants as outcome_is
 use Rattle.aos_base.specs.declared.kernel.Did.TheVariants.{Went}
 use Rattle.aos_base.specs.Book.{Book, put, counted, outcome}
@@ -33,3 +33,13 @@ GoesOn a (x ∷ xs) b = (outcome b ≡ outcome_is.Going) × GoesOn a xs (counted
 -- of all that a state has, its frames and its count are others
 abbrev pub settled : {S F : Type 0} → ℕ → F → List Bool → State S F → State S F
 settled a g begun st = record { store = st.store; frames = put nat_eq st.frames a g; book = tallied a begun st.book }
+
+abbrev pub begun_by : List Bool → ℕ
+begun_by [] = 0
+begun_by (x ∷ xs) = if x then suc (begun_by xs) else begun_by xs
+
+-- all but the last
+abbrev pub front : List Bool → List Bool
+front [] = []
+front (x ∷ []) = []
+front (x ∷ y ∷ ys) = x ∷ front (y ∷ ys)

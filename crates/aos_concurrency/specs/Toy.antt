@@ -1,13 +1,14 @@
 -- A small machine, at which the laws are seen to hold: each activity makes a list of commands.
 use Rattle.std.specs.Prelude.{◌≡◌, ◌<◌, ◌-◌, ℕ, suc, Option, Some, None, List, [], ◌∷◌, nat_le, length, slice_get, if◌then◌else◌, Bool, true, false}
 use Rattle.aos_base.specs.declared.kernel.LockName.{LockName}
+use Rattle.aos_base.specs.declared.kernel.LockName.TheVariants.{Object}
 use Rattle.aos_base.specs.declared.kernel.Verdict.{Verdict}
 use Rattle.aos_base.specs.declared.kernel.Verdict.TheVariants.{Holds, Fails}
 use Rattle.aos_base.specs.declared.kernel.Did.{Did}
 use Rattle.aos_base.specs.declared.kernel.Did.TheVariants.{Went, Ended, Enter, Leave, Await, Start, Trapped}
-use Rattle.aos_base.specs.Lock.{is_lock}
+use Rattle.aos_base.specs.Lock.{is_lock, Entry, Condition, Waiting}
 use Rattle.aos_base.specs.Book.{Where, put}
-use Rattle.aos_base.specs.Machine.{Turn, Machine, State, start_of}
+use Rattle.aos_base.specs.Machine.{Choice, Step, Turn, Machine, State, start_of, execution}
 use Rattle.aos_concurrency.specs.Regions.{times}
 
 pub data Command : Type 0 where
@@ -114,6 +115,10 @@ toy = record {
 abbrev pub toy_start : List Command → List Command → ℕ → State Shared Frames
 toy_start commands forked budget = start_of (nothing_raised forked) (whole_of commands) budget
 
+-- the state after a schedule
+abbrev pub toy_run : List Command → List Command → ℕ → List Choice → State Shared Frames
+toy_run commands forked budget cs = execution toy cs (toy_start commands forked budget)
+
 -- The same, compiled: code, and a place in it
 
 pub record Coded : Type 0 where
@@ -150,6 +155,9 @@ coded = record {
 abbrev pub coded_start : List Command → List Command → ℕ → State Shared Coded
 coded_start commands forked budget = start_of (nothing_raised forked) (code_of commands) budget
 
+abbrev pub coded_run : List Command → List Command → ℕ → List Choice → State Shared Coded
+coded_run commands forked budget cs = execution coded cs (coded_start commands forked budget)
+
 -- well nested: each lock that is given was taken last, and a number is raised and awaited in a region of its lock
 abbrev pub Nested : List Command → List LockName → Type 0
 Nested [] ls = ls ≡ []
@@ -165,3 +173,29 @@ Nested (Fail n ∷ rest) ls = Nested rest ls
 -- each condition of the toy reads the number of its own lock alone
 abbrev pub IsAnyLocal : LockName → ℕ → Type 0
 IsAnyLocal l n = Unit {0}
+
+-- An execution in which the lock of object 1 passes to activity 0, which waits until its number is 1
+
+abbrev pub waits_for_one : List Command
+waits_for_one = Fork ∷ Take (Object 1) ∷ Until (Object 1) 1 ∷ Say 7 ∷ Give (Object 1) ∷ []
+
+abbrev pub raises_it : List Command
+raises_it = Take (Object 1) ∷ Raise (Object 1) ∷ Give (Object 1) ∷ []
+
+-- up to where activity 1 has raised the number, and is about to give up the lock
+abbrev pub up_to_the_release : List Choice
+up_to_the_release = Step 0 ∷ Step 0 ∷ Step 0 ∷ Step 0 ∷ Step 0 ∷ Step 0 ∷ Step 0 ∷ []
+
+-- Two lists that are alike: 4 and 6 wait to enter, 5 waits for condition 9
+
+abbrev pub entrant : ℕ → Waiting
+entrant a = record { activity = a; wants = Entry }
+
+abbrev pub waiter : ℕ → Waiting
+waiter a = record { activity = a; wants = Condition 9 }
+
+abbrev pub one_list : List Waiting
+one_list = entrant 4 ∷ waiter 5 ∷ entrant 6 ∷ []
+
+abbrev pub another_list : List Waiting
+another_list = waiter 5 ∷ entrant 4 ∷ entrant 6 ∷ []

@@ -1,5 +1,8 @@
-use Rattle.aos_concurrency.proofs.Settles.{settle}
+use Rattle.aos_concurrency.proofs.Settles.{settle, goes_on}
 use Rattle.aos_concurrency.proofs.laws.private_turns.Goals as goal
 
-pub returns : goal.returns
-returns g c = record { settle = λ m w a f h begun st going on runs is private. settle m w a f h begun st going on runs is private }
+pub returns-clause-settle : goal.returns-clause-settle
+returns-clause-settle g c m w a f h begun st going on runs is private = settle m w a f h begun st going on runs is private
+
+pub returns-clause-budget : goal.returns-clause-budget
+returns-clause-budget g c a begun b going below = goes_on a begun b going below
