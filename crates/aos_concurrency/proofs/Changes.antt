@@ -1,5 +1,5 @@
 -- An entry of a schedule changes the store and the frames of those that run in five ways only.
-use Rattle.std.proofs.Common.{◌≡◌, ℕ, List, [], ◌∷◌, ◌++◌, Bool, true, false, refl, sym, ◌∙◌, ap, subst, arith, ◌≤◌, suc, ◌≢◌}
+use Rattle.std.proofs.Common.{◌≡◌, ℕ, List, [], ◌∷◌, ◌++◌, Bool, true, false, refl, sym, ◌∙◌, ap, subst, arith, ◌≢◌}
 use Rattle.std.specs.Prelude.{if◌then◌else◌, nat_eq, Option, Some, None}
 use Rattle.aos_base.specs.declared.kernel.LockName.{LockName}
 use Rattle.aos_base.specs.declared.kernel.Verdict.{Verdict}
@@ -8,19 +8,18 @@ use Rattle.aos_base.specs.declared.kernel.Did.{Did}
 use Rattle.aos_base.specs.declared.kernel.Did.TheVariants.{Went, Ended, Enter, Leave, Await, Start, Trapped}
 use Rattle.aos_base.specs.declared.kernel.Event.{Event}
 use Rattle.aos_base.specs.declared.kernel.Event.TheVariants as event
-use Rattle.aos_base.specs.declared.kernel.Outcome.{Outcome}
 use Rattle.aos_base.specs.declared.kernel.Outcome.TheVariants as outcome_is
-use Rattle.aos_base.specs.Lock.{Wants, Entry, Condition, Heir, Nobody, Entrant, Waiter, Trapping, heir}
-use Rattle.aos_base.specs.Book.{Place, On, Ready, At, Next, Runs, WillTrap, Unwinds, Gone, put, place_of, is_at_lock, waiting, tell, stands, ready, next_is, owned_by, counted, trapped, ended, restarted, born, on_worker, first_ready, is_full, outcome}
-use Rattle.aos_base.specs.Machine.{Choice, Step, Tick, Turn, Machine, State, start_of, on_book, with_frames, go_past, pass, release, trap, enter, await, start, serve, turned, finish, turn_by, dispatch, step_of, tick_of, happens_in, if_going, happens, execution}
-use Rattle.aos_concurrency.specs.Spot.{Spot, spot, before, GoesPast, MayTrap, AtWork}
+use Rattle.aos_base.specs.Lock.{Entry, Condition, Heir, Nobody, Entrant, Waiter, Trapping, heir}
+use Rattle.aos_base.specs.Book.{Place, On, Ready, At, Next, Runs, WillTrap, Unwinds, Gone, put, place_of, waiting, tell, stands, ready, next_is, owned_by, counted, trapped, ended, restarted, born, on_worker, first_ready, is_full, outcome}
+use Rattle.aos_base.specs.Machine.{Choice, Step, Tick, Machine, State, on_book, with_frames, go_past, pass, release, trap, enter, await, start, serve, turned, finish, turn_by, dispatch, step_of, tick_of, happens_in, if_going, happens, execution}
+use Rattle.aos_concurrency.specs.Spot.{Spot, spot, GoesPast, MayTrap, AtWork}
 use Rattle.aos_concurrency.specs.Orderly.{Agrees, Orderly}
 use Rattle.aos_concurrency.specs.Regions.{KeepsFits, Fitting}
 use Rattle.aos_concurrency.specs.Acting.{acts, acting, Changed, Stays, Turned, Passed, Began, Left, BeganAnew, KeepsTidy}
 use Rattle.aos_concurrency.proofs.Tables.{number, put_same, put_other, put_back, each_put}
-use Rattle.aos_concurrency.proofs.Lines.{StandsAs, heir_stands, found_on, found_ready}
-use Rattle.aos_concurrency.proofs.Spots.{spot-stands, spot-next, spot-ended, spot-anew, spot-born, spot-past, spot-trap, spot-turned, spot-heir, spot-trapping, orderly-stands, orderly-next, orderly-born, orderly-past, orderly-turned, live_there, runs_there, not_started, gone_nowhere}
-use Rattle.aos_concurrency.proofs.Works.{at_rest, runs_at, work_along, work_map}
+use Rattle.aos_concurrency.proofs.Lines.{StandsAs, heir_stands, found_on}
+use Rattle.aos_concurrency.proofs.Spots.{spot-stands, spot-next, spot-ended, spot-anew, spot-born, spot-past, spot-trap, spot-turned, spot-heir, spot-trapping, orderly-stands, orderly-next, orderly-past, orderly-turned, live_there, runs_there, not_started}
+use Rattle.aos_concurrency.proofs.Works.{runs_at, work_along, work_map}
 use Rattle.aos_concurrency.proofs.Itself.{happens_fitting}
 
 module _ {S F : Type 0} (m : Machine S F) (Fits : S → Did → F → Type 0) where

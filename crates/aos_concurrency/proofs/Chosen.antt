@@ -3,8 +3,7 @@ use Rattle.std.proofs.Common.{◌≡◌, ℕ, List, [], ◌∷◌, ◌++◌, Boo
 use Rattle.std.specs.Prelude.{if◌then◌else◌, filter}
 use Rattle.std.proofs.lemmas.List.Elements.{filter-append}
 use Rattle.aos_base.specs.declared.kernel.Verdict.{Verdict}
-use Rattle.aos_base.specs.declared.kernel.Verdict.TheVariants.{Holds, Fails, Traps}
-use Rattle.aos_base.specs.Lock.{Wants, Waiting, Heir, Entry, Condition, Nobody, Entrant, Waiter, Trapping, judged, served, first_waiter, first_entrant, entering, or_else, heir, without, after_heir, enters, entrants, waiters, Alike}
+use Rattle.aos_base.specs.Lock.{Waiting, Heir, Entry, Condition, Nobody, Entrant, Waiter, Trapping, judged, served, first_waiter, first_entrant, entering, or_else, heir, without, after_heir, enters, entrants, waiters, Alike}
 
 pub first_of_waiters : (verdict : ℕ → ℕ → Verdict) (es : List Waiting) → first_waiter verdict es ≡ first_waiter verdict (waiters es)
 first_of_waiters verdict [] = refl

@@ -1,29 +1,27 @@
 -- Between a release and its heir's turn nobody touches the heir, its lock or what the lock guards.
-use Rattle.std.proofs.Common.{◌≡◌, ℕ, suc, ◌+◌, ◌<◌, List, [], ◌∷◌, ◌++◌, Bool, true, false, refl, sym, ◌∙◌, ap, subst, arith, inl, inr, ◌≢◌}
+use Rattle.std.proofs.Common.{◌≡◌, ℕ, ◌<◌, List, [], ◌∷◌, ◌++◌, Bool, true, false, refl, sym, ◌∙◌, ap, subst, arith, inl, inr, ◌≢◌}
 use Rattle.std.specs.Prelude.{if◌then◌else◌, nat_eq, Option, Some, None}
 use Rattle.aos_base.specs.declared.kernel.LockName.{LockName}
-use Rattle.aos_base.specs.declared.kernel.LockName.TheVariants.{Module, Object}
 use Rattle.aos_base.specs.declared.kernel.Verdict.{Verdict}
 use Rattle.aos_base.specs.declared.kernel.Verdict.TheVariants.{Holds, Fails, Traps}
 use Rattle.aos_base.specs.declared.kernel.Did.{Did}
 use Rattle.aos_base.specs.declared.kernel.Did.TheVariants.{Went, Ended, Enter, Leave, Await, Start, Trapped}
 use Rattle.aos_base.specs.declared.kernel.Event.{Event}
 use Rattle.aos_base.specs.declared.kernel.Event.TheVariants as event
-use Rattle.aos_base.specs.declared.kernel.Outcome.{Outcome}
 use Rattle.aos_base.specs.declared.kernel.Outcome.TheVariants as outcome_is
 use Rattle.aos_base.specs.Lock.{is_lock, Wants, Entry, Condition, Heir, Nobody, Entrant, Waiter, Trapping, heir}
 use Rattle.aos_base.specs.Book.{Place, On, Ready, At, Next, Runs, WillTrap, Unwinds, Gone, put, place_of, is_at_lock, waiting, tell, stands, ready, next_is, owned_by, counted, trapped, ended, restarted, born, on_worker, first_ready, is_full, outcome}
-use Rattle.aos_base.specs.Machine.{Choice, Step, Tick, Turn, Machine, State, on_book, with_frames, go_past, pass, release, trap, enter, await, start, serve, turned, finish, turn_by, dispatch, step_of, tick_of, happens_in, if_going, happens, execution}
+use Rattle.aos_base.specs.Machine.{Choice, Step, Tick, Machine, State, on_book, with_frames, go_past, pass, release, trap, enter, await, start, serve, turned, finish, turn_by, dispatch, step_of, tick_of, happens_in, if_going, happens, execution}
 use Rattle.aos_concurrency.specs.Spot.{Spot, spot}
-use Rattle.aos_concurrency.specs.Orderly.{Distinct, Orderly}
+use Rattle.aos_concurrency.specs.Orderly.{Distinct}
 use Rattle.aos_concurrency.specs.Regions.{times, owns, waits_in, KeepsRegions, Sits, Sound}
 use Rattle.aos_concurrency.specs.Traps.{turn_of}
 use Rattle.aos_concurrency.specs.Acting.{acts, acting}
-use Rattle.aos_concurrency.specs.Handover.{GuardsBy, OfOthers, IsGiven, HandsOver}
+use Rattle.aos_concurrency.specs.Handover.{GuardsBy, OfOthers, HandsOver}
 use Rattle.aos_concurrency.proofs.Tables.{number, lock, put_same, put_other}
 use Rattle.aos_concurrency.proofs.Lines.{StandsAs, heir_stands, found_on, found_ready, distinct-move}
 use Rattle.aos_concurrency.proofs.Spots.{spot-stands, spot-next, spot-ended, spot-anew, spot-born, spot-past, spot-trap, spot-turned, spot-heir, spot-trapping, not_started, runs_there}
-use Rattle.aos_concurrency.proofs.Works.{at_spot, spot_along, runs_at}
+use Rattle.aos_concurrency.proofs.Works.{at_spot, runs_at}
 use Rattle.aos_concurrency.proofs.Release.{owns_self, owns_other}
 use Rattle.aos_concurrency.proofs.Steps.{Turning, turned_turning, sits_on, head_within, happens_sound}
 use Rattle.aos_concurrency.proofs.Itself.{sound_fitting}

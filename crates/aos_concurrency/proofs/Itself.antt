@@ -1,15 +1,15 @@
 -- Whatever the machine, activities stand in order; and their frames fit where its own laws say so.
-use Rattle.std.proofs.Common.{◌≡◌, ℕ, List, Bool, refl, sym, ap, subst}
+use Rattle.std.proofs.Common.{◌≡◌, ℕ, List, refl, ap, subst}
 use Rattle.std.specs.Prelude.{Option, Some, None}
 use Rattle.aos_base.specs.declared.kernel.Did.{Did}
 use Rattle.aos_base.specs.declared.kernel.Did.TheVariants.{Went, Await}
 use Rattle.aos_base.specs.declared.kernel.LockName.TheVariants.{Module}
 use Rattle.aos_base.specs.Book.{Place, Next, Runs, WillTrap, Unwinds, Gone}
-use Rattle.aos_base.specs.Machine.{Choice, Turn, Machine, State, start_of, happens, execution}
-use Rattle.aos_concurrency.specs.Spot.{spot, MayTrap, AtWork}
+use Rattle.aos_base.specs.Machine.{Choice, Machine, State, start_of, happens, execution}
+use Rattle.aos_concurrency.specs.Spot.{spot, AtWork}
 use Rattle.aos_concurrency.specs.Orderly.{Agrees, Orderly}
-use Rattle.aos_concurrency.specs.Regions.{KeepsFits, Sits, Fitting, Sound}
-use Rattle.aos_concurrency.specs.Simulates.{SameTurn, SameAnew, Simulates, Matches}
+use Rattle.aos_concurrency.specs.Regions.{KeepsFits, Fitting, Sound}
+use Rattle.aos_concurrency.specs.Simulates.{SameAnew, Simulates, Matches}
 use Rattle.aos_concurrency.proofs.Works.{work_map}
 use Rattle.aos_concurrency.proofs.Matching.{happens_matches, execution_matches, start_matches}
 

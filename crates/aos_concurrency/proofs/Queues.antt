@@ -2,8 +2,8 @@
 use Rattle.std.proofs.Common.{◌≡◌, ℕ, List, [], ◌∷◌, ◌++◌, Bool, true, false, refl, sym, ◌∙◌, ap, subst, inl, inr, ◌≢◌, not}
 use Rattle.std.specs.Prelude.{if◌then◌else◌, nat_eq, filter, Option, Some, None}
 use Rattle.aos_base.specs.declared.kernel.LockName.{LockName}
-use Rattle.aos_base.specs.Lock.{Wants, Waiting, Entry, Condition, without}
-use Rattle.aos_base.specs.Book.{Place, Stand, On, Ready, At, place_of, move, leave_line, waiting, wanted, listed, first_at}
+use Rattle.aos_base.specs.Lock.{Wants, Waiting, without}
+use Rattle.aos_base.specs.Book.{Place, Stand, At, place_of, move, leave_line, waiting, wanted, listed, first_at}
 use Rattle.aos_concurrency.specs.Orderly.{Distinct}
 use Rattle.aos_concurrency.proofs.Tables.{number, by_case}
 use Rattle.aos_concurrency.proofs.Lines.{wanted_tells, place-cons, place-head}

@@ -1,12 +1,10 @@
 -- Private turns, made at once or put into the log later.
-use Rattle.std.proofs.Common.{◌≡◌, ℕ, suc, ◌+◌, ◌<◌, List, [], ◌∷◌, Bool, true, false, refl, sym, ◌∙◌, ap, subst, arith}
-use Rattle.std.specs.Prelude.{if◌then◌else◌, nat_eq, Option, Some, None}
+use Rattle.std.proofs.Common.{◌≡◌, ℕ, suc, ◌+◌, ◌<◌, List, [], ◌∷◌, Bool, true, false, refl, ◌∙◌, ap, arith}
+use Rattle.std.specs.Prelude.{if◌then◌else◌, nat_eq, Some}
 use Rattle.std.proofs.lemmas.Bool.{lt-leb}
-use Rattle.aos_base.specs.declared.kernel.Did.TheVariants.{Went}
-use Rattle.aos_base.specs.declared.kernel.Outcome.{Outcome}
 use Rattle.aos_base.specs.declared.kernel.Outcome.TheVariants as outcome_is
-use Rattle.aos_base.specs.Book.{Book, Activity, Next, Runs, put, counted, on_worker, outcome, outcome_of}
-use Rattle.aos_base.specs.Machine.{Choice, Step, Tick, Turn, Machine, State, serve, turned, turn_by, step_of, happens_in, if_going, happens, execution}
+use Rattle.aos_base.specs.Book.{Book, Activity, Runs, put, counted, on_worker, outcome, outcome_of}
+use Rattle.aos_base.specs.Machine.{Step, Turn, Machine, State, serve, turned, turn_by, step_of, happens_in, if_going, happens, execution}
 use Rattle.aos_concurrency.specs.Private.{steps, IsPrivate, ArePrivate, tallied, GoesOn, settled, begun_by, front}
 use Rattle.aos_concurrency.proofs.Tables.{number, put_same, put_back, put_twice}
 

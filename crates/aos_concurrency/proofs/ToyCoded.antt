@@ -1,16 +1,15 @@
 -- The compiled toy shows the toy.
-use Rattle.std.proofs.Common.{◌≡◌, ℕ, zero, suc, ◌≤◌, ◌⊎◌, ◌-◌, List, [], ◌∷◌, Bool, refl, sym, ◌∙◌, ap, subst, arith, length, drop, inl, inr, length-drop}
-use Rattle.std.specs.Prelude.{Option, Some, None, slice_get}
+use Rattle.std.proofs.Common.{◌≡◌, ℕ, suc, ◌≤◌, ◌⊎◌, List, [], ◌∷◌, refl, sym, ◌∙◌, ap, subst, arith, length, drop, inl, inr, length-drop}
+use Rattle.std.specs.Prelude.{Some, None, slice_get}
 use Rattle.std.proofs.lemmas.Option.{slice_get_cases}
 use Rattle.std.proofs.Math.Seq.{drop-cons}
 use Rattle.std.proofs.Math.ListN.{drop_of_length-le}
-use Rattle.aos_base.specs.declared.kernel.LockName.{LockName}
 use Rattle.aos_base.specs.declared.kernel.Did.{Did}
 use Rattle.aos_base.specs.declared.kernel.Did.TheVariants.{Went}
-use Rattle.aos_base.specs.Machine.{Choice, Turn, Machine, State, execution}
-use Rattle.aos_base.specs.Observation.{Observation, observation}
-use Rattle.aos_concurrency.specs.Simulates.{SameTurn, SameAnew, Simulates, Matches}
-use Rattle.aos_concurrency.specs.Toy.{Command, Skip, Say, Raise, Take, Give, Until, Fork, Fail, Shared, Frames, nothing_raised, whole_of, at_left, judges, first, toy, toy_turn, toy_past, toy_start, Coded, code_of, coded, coded_turn, coded_start, regions_past, raised}
+use Rattle.aos_base.specs.Machine.{Choice, Turn}
+use Rattle.aos_base.specs.Observation.{observation}
+use Rattle.aos_concurrency.specs.Simulates.{SameTurn, Simulates, Matches}
+use Rattle.aos_concurrency.specs.Toy.{Command, Skip, Say, Raise, Take, Give, Until, Fork, Fail, Shared, Program, Frames, nothing_raised, whole_of, at_left, judges, first, toy, toy_turn, toy_past, toy_start, toy_run, Coded, code_of, coded, coded_turn, coded_start, coded_run, regions_past, raised}
 use Rattle.aos_concurrency.proofs.Matching.{execution_matches, start_matches, observation_matches, events_match}
 
 abbrev One : Shared → Shared → Type 0
@@ -88,15 +87,15 @@ toy_shown = record {
   priority = λ s t o f g p h. refl;
 }
 
-module _ (commands forked : List Command) (budget : ℕ) (cs : List Choice) where
-  matched : Matches One Shows (execution toy cs (toy_start commands forked budget)) (execution coded cs (coded_start commands forked budget))
+module _ (p : Program) (budget : ℕ) (cs : List Choice) where
+  matched : Matches One Shows (toy_run p budget cs) (coded_run p budget cs)
   matched =
-      execution_matches One Shows toy coded toy_shown cs (toy_start commands forked budget) (coded_start commands forked budget)
-      (start_matches One Shows toy coded toy_shown (nothing_raised forked) (nothing_raised forked) (whole_of commands) (code_of commands) budget refl (record { rest = refl; regions = refl; whole = refl }))
+      execution_matches One Shows toy coded toy_shown cs (toy_start p budget) (coded_start p budget)
+      (start_matches One Shows toy coded toy_shown (nothing_raised p.forked) (nothing_raised p.forked) (whole_of p.commands) (code_of p.commands) budget refl (record { rest = refl; regions = refl; whole = refl }))
 
   -- for every list of commands, budget and schedule
-  pub coded_seen : observation toy (execution toy cs (toy_start commands forked budget)) ≡ observation coded (execution coded cs (coded_start commands forked budget))
+  pub coded_seen : observation toy (toy_run p budget cs) ≡ observation coded (coded_run p budget cs)
   coded_seen = observation_matches One Shows toy coded toy_shown _ _ matched
 
-  pub coded_told : (execution toy cs (toy_start commands forked budget)).book.events ≡ (execution coded cs (coded_start commands forked budget)).book.events
+  pub coded_told : (toy_run p budget cs).book.events ≡ (coded_run p budget cs).book.events
   coded_told = events_match One Shows toy coded toy_shown _ _ matched

@@ -1,18 +1,13 @@
 -- The toy's locks guard their numbers, and its conditions read nothing else.
-use Rattle.std.proofs.Common.{◌≡◌, ℕ, suc, ◌<◌, List, [], ◌∷◌, Bool, true, false, refl, sym, ◌∙◌, ap, subst, arith, ◌≢◌}
-use Rattle.std.specs.Prelude.{if◌then◌else◌, nat_le, Option, Some, None}
+use Rattle.std.proofs.Common.{◌≡◌, ℕ, suc, ◌<◌, List, [], ◌∷◌, refl, sym, ◌∙◌, ap, subst, arith}
+use Rattle.std.specs.Prelude.{if◌then◌else◌, nat_le}
 use Rattle.aos_base.specs.declared.kernel.LockName.{LockName}
-use Rattle.aos_base.specs.declared.kernel.Verdict.{Verdict}
 use Rattle.aos_base.specs.declared.kernel.Verdict.TheVariants.{Holds, Fails}
-use Rattle.aos_base.specs.declared.kernel.Did.{Did}
-use Rattle.aos_base.specs.declared.kernel.Did.TheVariants.{Went, Ended, Enter, Leave, Await, Start, Trapped}
-use Rattle.aos_base.specs.Lock.{is_lock}
-use Rattle.aos_base.specs.Book.{put}
-use Rattle.aos_base.specs.Machine.{Choice, Turn, Machine, State, execution}
+use Rattle.aos_base.specs.declared.kernel.Did.TheVariants.{Await}
+use Rattle.aos_base.specs.Machine.{Choice}
 use Rattle.aos_concurrency.specs.Regions.{times}
-use Rattle.aos_concurrency.specs.Acting.{acting, KeepsTidy}
 use Rattle.aos_concurrency.specs.Handover.{GuardsBy, HandsOver}
-use Rattle.aos_concurrency.specs.Toy.{Command, Skip, Say, Raise, Take, Give, Until, Fork, Fail, Shared, Frames, judges, first, toy, toy_turn, toy_start, Nested, IsAnyLocal}
+use Rattle.aos_concurrency.specs.Toy.{Command, Skip, Say, Raise, Take, Give, Until, Fork, Fail, Shared, Program, Frames, judges, first, toy, toy_turn, toy_run, Nested, IsNested, IsAnyLocal}
 use Rattle.aos_concurrency.proofs.Tables.{lock, put_other}
 use Rattle.aos_concurrency.proofs.ToyKeeps.{asks, ToyFits, toy_keeps, toy_sound, AllNested, nested_stays, toy_nested}
 use Rattle.aos_concurrency.proofs.Handed.{hands_over}
@@ -55,7 +50,6 @@ toy_guards = record {
   reads = λ l c s t f fits local same. reads_number l c s t f.rest fits.at same;
 }
 
-pub toy_hands_over : (commands forked : List Command) (budget : ℕ) → Nested commands [] → Nested forked [] → (before others : List Choice) (entry : Choice) (a : ℕ) (l : LockName) (c : ℕ) → HandsOver toy IsAnyLocal (execution toy before (toy_start commands forked budget)) entry a l c others
-toy_hands_over commands forked budget h k before others entry a l c =
-    hands_over toy ToyFits AllNested SameNumber IsAnyLocal toy_keeps toy_guards (execution toy before (toy_start commands forked budget)) entry a l c others
-    (toy_sound commands forked budget h k before) (toy_nested commands forked budget h k before)
+pub toy_hands_over : (p : Program) (budget : ℕ) → IsNested p → (before others : List Choice) (entry : Choice) (a : ℕ) (l : LockName) (c : ℕ) → HandsOver toy IsAnyLocal (toy_run p budget before) entry a l c others
+toy_hands_over p budget h before others entry a l c =
+    hands_over toy ToyFits AllNested SameNumber IsAnyLocal toy_keeps toy_guards (toy_run p budget before) entry a l c others (toy_sound p budget h before) (toy_nested p budget h before)

@@ -1,16 +1,15 @@
 -- A toy whose commands are well nested keeps its regions, and stays well nested.
-use Rattle.std.proofs.Common.{◌≡◌, ℕ, suc, ◌<◌, List, [], ◌∷◌, Bool, true, false, refl, sym, ◌∙◌, ap, subst, arith}
-use Rattle.std.specs.Prelude.{if◌then◌else◌, nat_eq, Option, Some, None}
+use Rattle.std.proofs.Common.{◌≡◌, ℕ, List, [], ◌∷◌, refl, sym, ap, subst}
+use Rattle.std.specs.Prelude.{nat_eq, Option, Some, None}
 use Rattle.aos_base.specs.declared.kernel.LockName.{LockName}
 use Rattle.aos_base.specs.declared.kernel.Did.{Did}
 use Rattle.aos_base.specs.declared.kernel.Did.TheVariants.{Went, Ended, Enter, Leave, Await, Start, Trapped}
 use Rattle.aos_base.specs.Book.{put}
-use Rattle.aos_base.specs.Machine.{Choice, Turn, Machine, State, start_of, execution}
-use Rattle.aos_concurrency.specs.Spot.{GoesPast, MayTrap}
-use Rattle.aos_concurrency.specs.Regions.{times, Passes, KeepsFits, KeepsRegions, Sound}
+use Rattle.aos_base.specs.Machine.{Choice}
+use Rattle.aos_concurrency.specs.Regions.{Passes, KeepsFits, KeepsRegions, Sound}
 use Rattle.aos_concurrency.specs.Mutual.{Mutual}
 use Rattle.aos_concurrency.specs.Acting.{acts, acting, KeepsTidy}
-use Rattle.aos_concurrency.specs.Toy.{Command, Skip, Say, Raise, Take, Give, Until, Fork, Fail, Shared, Frames, nothing_raised, whole_of, toy, toy_turn, toy_past, toy_start, tail, Nested}
+use Rattle.aos_concurrency.specs.Toy.{Command, Skip, Say, Raise, Take, Give, Until, Fork, Fail, Shared, Program, Frames, nothing_raised, whole_of, toy, toy_turn, toy_past, toy_start, toy_run, Nested, IsNested}
 use Rattle.aos_concurrency.proofs.Tables.{number, each_put}
 use Rattle.aos_concurrency.proofs.Begin.{each_start, start_sound}
 use Rattle.aos_concurrency.proofs.Steps.{execution_sound}
@@ -138,15 +137,15 @@ toy_keeps = record {
   anew = λ s w f g may h is. (let e : whole_of f.whole ≡ g = cc is in ap (λ (x : Frames). x.regions) (sym e));
 }
 
-module _ (commands forked : List Command) (budget : ℕ) (h : Nested commands []) (k : Nested forked []) where
-  pub toy_first : Sound toy ToyFits (toy_start commands forked budget)
-  toy_first = start_sound (nothing_raised forked) (whole_of commands) budget toy ToyFits (record { rest = h; whole = h; forked = k; at = tt }) refl
+module _ (p : Program) (budget : ℕ) (h : IsNested p) where
+  pub toy_first : Sound toy ToyFits (toy_start p budget)
+  toy_first = start_sound (nothing_raised p.forked) (whole_of p.commands) budget toy ToyFits (record { rest = h.0; whole = h.0; forked = h.1; at = tt }) refl
 
-  pub toy_sound : (cs : List Choice) → Sound toy ToyFits (execution toy cs (toy_start commands forked budget))
-  toy_sound cs = execution_sound toy ToyFits toy_keeps cs (toy_start commands forked budget) toy_first
+  pub toy_sound : (cs : List Choice) → Sound toy ToyFits (toy_run p budget cs)
+  toy_sound cs = execution_sound toy ToyFits toy_keeps cs (toy_start p budget) toy_first
 
-  pub toy_mutual : (cs : List Choice) → Mutual toy (execution toy cs (toy_start commands forked budget))
-  toy_mutual cs = sound_mutual toy ToyFits (execution toy cs (toy_start commands forked budget)) (toy_sound cs)
+  pub toy_mutual : (cs : List Choice) → Mutual toy (toy_run p budget cs)
+  toy_mutual cs = sound_mutual toy ToyFits (toy_run p budget cs) (toy_sound cs)
 
 -- The frames of those that run are well nested
 
@@ -166,13 +165,12 @@ nested_stays = record {
   anew = λ s t a w f g none may h is all. some_nested t s a g (let y = begins_anew s w f g h is in y.rest) all;
 }
 
-first_nested : (commands forked : List Command) (budget : ℕ) → Nested commands [] → (a : ℕ) (f : Frames) → acting (toy_start commands forked budget) a ≡ Some f → Nested f.rest f.regions
-first_nested commands forked budget h =
-    each_start (nothing_raised forked) (whole_of commands) budget (λ _ y. (f : Frames) → acts y.next y.frames ≡ Some f → Nested f.rest f.regions)
-    (λ f is. let e : whole_of commands ≡ f = cc is in subst (λ (y : Frames). Nested y.rest y.regions) e h) (λ x ne f is. absurd (cc is))
+first_nested : (p : Program) (budget : ℕ) → IsNested p → AllNested (toy_start p budget).store (acting (toy_start p budget))
+first_nested p budget h =
+    each_start (nothing_raised p.forked) (whole_of p.commands) budget (λ _ y. (f : Frames) → acts y.next y.frames ≡ Some f → Nested f.rest f.regions)
+    (λ f is. let e : whole_of p.commands ≡ f = cc is in subst (λ (y : Frames). Nested y.rest y.regions) e h.0) (λ x ne f is. absurd (cc is))
 
-pub toy_nested : (commands forked : List Command) (budget : ℕ) → Nested commands [] → Nested forked [] → (cs : List Choice) → AllNested (execution toy cs (toy_start commands forked budget)).store (acting (execution toy cs (toy_start commands forked budget)))
-toy_nested commands forked budget h k cs =
-    execution_tidy toy ToyFits toy_fits AllNested nested_stays cs (toy_start commands forked budget)
-    (sound_fitting toy ToyFits (toy_start commands forked budget) (toy_first commands forked budget h k))
-    (first_nested commands forked budget h)
+pub toy_nested : (p : Program) (budget : ℕ) → IsNested p → (cs : List Choice) → AllNested (toy_run p budget cs).store (acting (toy_run p budget cs))
+toy_nested p budget h cs =
+    execution_tidy toy ToyFits toy_fits AllNested nested_stays cs (toy_start p budget)
+    (sound_fitting toy ToyFits (toy_start p budget) (toy_first p budget h)) (first_nested p budget h)

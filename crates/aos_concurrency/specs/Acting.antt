@@ -3,8 +3,8 @@ use Rattle.std.specs.Prelude.{◌≡◌, ℕ, nat_eq, Option, Some, None}
 use Rattle.aos_base.specs.declared.kernel.Did.{Did}
 use Rattle.aos_base.specs.declared.kernel.Did.TheVariants.{Went, Start}
 use Rattle.aos_base.specs.Book.{Next, Runs, WillTrap, Unwinds, Gone, put}
-use Rattle.aos_base.specs.Machine.{Turn, Machine, State}
-use Rattle.aos_concurrency.specs.Spot.{Spot, spot, GoesPast, MayTrap}
+use Rattle.aos_base.specs.Machine.{Machine, State}
+use Rattle.aos_concurrency.specs.Spot.{spot, GoesPast, MayTrap}
 
 abbrev pub acts : {F : Type 0} → Next → F → Option F
 acts Runs f = Some f

@@ -4,12 +4,11 @@ use Rattle.aos_base.specs.declared.kernel.LockName.{LockName}
 use Rattle.aos_base.specs.declared.kernel.Verdict.{Verdict}
 use Rattle.aos_base.specs.declared.kernel.Did.{Did}
 use Rattle.aos_base.specs.declared.kernel.Did.TheVariants.{Went}
-use Rattle.aos_base.specs.declared.kernel.Event.{Event}
 use Rattle.aos_base.specs.declared.kernel.Outcome.TheVariants as outcome_is
 use Rattle.aos_base.specs.Lock.{Waiting, heir, after_heir, Alike}
 use Rattle.aos_base.specs.Book.{Runs, Book, on_worker, outcome}
 use Rattle.aos_base.specs.Machine.{Choice, Machine, State, start_of, happens, execution}
-use Rattle.aos_base.specs.Observation.{Observation, observation}
+use Rattle.aos_base.specs.Observation.{observation}
 use Rattle.aos_concurrency.specs.Orderly.{Orderly}
 use Rattle.aos_concurrency.specs.Regions.{KeepsFits, KeepsRegions, Fitting}
 use Rattle.aos_concurrency.specs.Mutual.{Mutual}

@@ -3,7 +3,7 @@ use Rattle.std.specs.Prelude.{◌≡◌, ℕ, suc, nat_eq, List, [], ◌∷◌, 
 use Rattle.aos_base.specs.declared.kernel.Outcome.TheVariants as outcome_is
 use Rattle.aos_base.specs.declared.kernel.Did.TheVariants.{Went}
 use Rattle.aos_base.specs.Book.{Book, put, counted, outcome}
-use Rattle.aos_base.specs.Machine.{Choice, Step, Turn, Machine, State}
+use Rattle.aos_base.specs.Machine.{Choice, Step, Machine, State}
 
 -- so many steps of a worker
 abbrev pub steps : {A : Type 0} → ℕ → List A → List Choice

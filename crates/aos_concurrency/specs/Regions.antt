@@ -5,7 +5,7 @@ use Rattle.aos_base.specs.declared.kernel.Did.{Did}
 use Rattle.aos_base.specs.declared.kernel.Did.TheVariants.{Went, Ended, Enter, Leave, Await, Start, Trapped}
 use Rattle.aos_base.specs.Lock.{is_lock, Entry, Condition}
 use Rattle.aos_base.specs.Book.{Place, On, Ready, At, Next, Runs, WillTrap, Unwinds, Gone}
-use Rattle.aos_base.specs.Machine.{Turn, Machine, State}
+use Rattle.aos_base.specs.Machine.{Machine, State}
 use Rattle.aos_concurrency.specs.Spot.{Spot, spot, GoesPast, MayTrap, AtWork}
 use Rattle.aos_concurrency.specs.Orderly.{Orderly}
 

@@ -1,5 +1,5 @@
 -- A small machine, at which the laws are seen to hold: each activity makes a list of commands.
-use Rattle.std.specs.Prelude.{◌≡◌, ◌<◌, ◌-◌, ℕ, suc, Option, Some, None, List, [], ◌∷◌, nat_le, length, slice_get, if◌then◌else◌, Bool, true, false}
+use Rattle.std.specs.Prelude.{◌≡◌, ◌<◌, ◌-◌, ℕ, suc, Option, Some, None, List, [], ◌∷◌, nat_le, length, slice_get, if◌then◌else◌, true}
 use Rattle.aos_base.specs.declared.kernel.LockName.{LockName}
 use Rattle.aos_base.specs.declared.kernel.LockName.TheVariants.{Object}
 use Rattle.aos_base.specs.declared.kernel.Verdict.{Verdict}
@@ -25,6 +25,11 @@ pub data Command : Type 0 where
 pub record Shared : Type 0 where
   pub number : LockName → ℕ
   pub commands : List Command
+
+-- what activity 0 makes, and what each new one does
+pub record Program : Type 0 where
+  pub commands : List Command
+  pub forked : List Command
 
 -- what is left to make, the open regions, and the whole, with which it begins anew
 pub record Frames : Type 0 where
@@ -112,12 +117,12 @@ toy = record {
   anew = λ f. Some (whole_of f.whole);
 }
 
-abbrev pub toy_start : List Command → List Command → ℕ → State Shared Frames
-toy_start commands forked budget = start_of (nothing_raised forked) (whole_of commands) budget
+abbrev pub toy_start : Program → ℕ → State Shared Frames
+toy_start p budget = start_of (nothing_raised p.forked) (whole_of p.commands) budget
 
 -- the state after a schedule
-abbrev pub toy_run : List Command → List Command → ℕ → List Choice → State Shared Frames
-toy_run commands forked budget cs = execution toy cs (toy_start commands forked budget)
+abbrev pub toy_run : Program → ℕ → List Choice → State Shared Frames
+toy_run p budget cs = execution toy cs (toy_start p budget)
 
 -- The same, compiled: code, and a place in it
 
@@ -152,11 +157,11 @@ coded = record {
   anew = λ g. Some (code_of g.code);
 }
 
-abbrev pub coded_start : List Command → List Command → ℕ → State Shared Coded
-coded_start commands forked budget = start_of (nothing_raised forked) (code_of commands) budget
+abbrev pub coded_start : Program → ℕ → State Shared Coded
+coded_start p budget = start_of (nothing_raised p.forked) (code_of p.commands) budget
 
-abbrev pub coded_run : List Command → List Command → ℕ → List Choice → State Shared Coded
-coded_run commands forked budget cs = execution coded cs (coded_start commands forked budget)
+abbrev pub coded_run : Program → ℕ → List Choice → State Shared Coded
+coded_run p budget cs = execution coded cs (coded_start p budget)
 
 -- well nested: each lock that is given was taken last, and a number is raised and awaited in a region of its lock
 abbrev pub Nested : List Command → List LockName → Type 0
@@ -170,17 +175,20 @@ Nested (Until l n ∷ rest) ls = (0 < times l ls) × Nested rest ls
 Nested (Fork ∷ rest) ls = Nested rest ls
 Nested (Fail n ∷ rest) ls = Nested rest ls
 
+abbrev pub IsNested : Program → Type 0
+IsNested p = Nested p.commands [] × Nested p.forked []
+
 -- each condition of the toy reads the number of its own lock alone
 abbrev pub IsAnyLocal : LockName → ℕ → Type 0
 IsAnyLocal l n = Unit {0}
 
 -- An execution in which the lock of object 1 passes to activity 0, which waits until its number is 1
 
-abbrev pub waits_for_one : List Command
-waits_for_one = Fork ∷ Take (Object 1) ∷ Until (Object 1) 1 ∷ Say 7 ∷ Give (Object 1) ∷ []
-
-abbrev pub raises_it : List Command
-raises_it = Take (Object 1) ∷ Raise (Object 1) ∷ Give (Object 1) ∷ []
+abbrev pub waits_for_one : Program
+waits_for_one = record {
+  commands = Fork ∷ Take (Object 1) ∷ Until (Object 1) 1 ∷ Say 7 ∷ Give (Object 1) ∷ [];
+  forked = Take (Object 1) ∷ Raise (Object 1) ∷ Give (Object 1) ∷ [];
+}
 
 -- up to where activity 1 has raised the number, and is about to give up the lock
 abbrev pub up_to_the_release : List Choice

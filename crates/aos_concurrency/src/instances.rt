@@ -11,24 +11,24 @@ ghost use Rattle.aos_concurrency.specs.Mutual.{Mutual};
 ghost use Rattle.aos_concurrency.specs.Acting.{acting};
 ghost use Rattle.aos_concurrency.specs.Handover.{IsGiven, HandsOver};
 ghost use Rattle.aos_concurrency.specs.Private.{GoesOn, settled};
-ghost use Rattle.aos_concurrency.specs.Toy.{Command, Skip, Shared, Frames, toy, toy_run, coded, coded_run, Nested, IsAnyLocal, waits_for_one, raises_it, up_to_the_release, one_list, another_list};
+ghost use Rattle.aos_concurrency.specs.Toy.{Command, Skip, Shared, Program, Frames, toy, toy_run, coded, coded_run, Nested, IsNested, IsAnyLocal, waits_for_one, up_to_the_release, one_list, another_list};
 
 /// Mutual exclusion at the machine, where its commands are well nested.
 pub fn toy_excludes()
-    ensures exclusive { (commands forked : List Command) (budget : ℕ) (cs : List Choice) → Nested commands [] → Nested forked [] → Mutual toy (toy_run commands forked budget cs) }
+    ensures exclusive { (p : Program) (budget : ℕ) (cs : List Choice) → IsNested p → Mutual toy (toy_run p budget cs) }
 {}
 
 /// The compiled machine is seen to do the same.
 pub fn coded_shows()
-    ensures observation { (commands forked : List Command) (budget : ℕ) (cs : List Choice) → observation toy (toy_run commands forked budget cs) ≡ observation coded (coded_run commands forked budget cs) }
-    ensures events { (commands forked : List Command) (budget : ℕ) (cs : List Choice) → (toy_run commands forked budget cs).book.events ≡ (coded_run commands forked budget cs).book.events }
+    ensures observation { (p : Program) (budget : ℕ) (cs : List Choice) → observation toy (toy_run p budget cs) ≡ observation coded (coded_run p budget cs) }
+    ensures events { (p : Program) (budget : ℕ) (cs : List Choice) → (toy_run p budget cs).book.events ≡ (coded_run p budget cs).book.events }
 {}
 
 /// A condition reads the number of its lock alone, so it holds until the heir's turn; and there is such an heir.
 pub fn toy_hands_over()
-    ensures handed { (commands forked : List Command) (budget : ℕ) (before others : List Choice) (entry : Choice) (a : ℕ) (l : LockName) (c : ℕ) → Nested commands [] → Nested forked [] → HandsOver toy IsAnyLocal (toy_run commands forked budget before) entry a l c others }
-    ensures given { IsGiven toy (toy_run waits_for_one raises_it 100 up_to_the_release) (Step 0) 0 (LockName.Object 1) 1 }
-    ensures nested { Nested waits_for_one [] × Nested raises_it [] }
+    ensures handed { (p : Program) (budget : ℕ) (before others : List Choice) (entry : Choice) (a : ℕ) (l : LockName) (c : ℕ) → IsNested p → HandsOver toy IsAnyLocal (toy_run p budget before) entry a l c others }
+    ensures given { IsGiven toy (toy_run waits_for_one 100 up_to_the_release) (Step 0) 0 (LockName.Object 1) 1 }
+    ensures nested { IsNested waits_for_one }
 {}
 
 /// These two lists are alike, so a release chooses the same of them.
@@ -39,10 +39,10 @@ pub fn toy_alike()
 
 /// What is left to each that runs stays well nested.
 pub fn toy_stays_nested()
-    ensures nested { (commands forked : List Command) (budget : ℕ) (cs : List Choice) → Nested commands [] → Nested forked [] → (a : ℕ) (f : Frames) → acting (toy_run commands forked budget cs) a ≡ Some f → Nested f.rest f.regions }
+    ensures nested { (p : Program) (budget : ℕ) (cs : List Choice) → IsNested p → (a : ℕ) (f : Frames) → acting (toy_run p budget cs) a ≡ Some f → Nested f.rest f.regions }
 {}
 
 /// Two turns that skip, made elsewhere, are two steps.
 pub fn toy_settles()
-    ensures settle { (st : State Shared Frames) (w a : ℕ) (rest whole : List Command) (regions : List LockName) → GoesOn a (true ∷ true ∷ []) st.book → on_worker w st.book.line ≡ Some a → (st.book.activity a).next ≡ Runs → st.frames a ≡ record { rest = Skip ∷ Skip ∷ rest; regions = regions; whole = whole } → execution toy (Step w ∷ Step w ∷ []) st ≡ settled a (record { rest = rest; regions = regions; whole = whole }) (true ∷ true ∷ []) st }
+    ensures settle { (st : State Shared Frames) (w a : ℕ) (f : Frames) (rest : List Command) → GoesOn a (true ∷ true ∷ []) st.book → on_worker w st.book.line ≡ Some a → (st.book.activity a).next ≡ Runs → st.frames a ≡ record f { rest = Skip ∷ Skip ∷ rest } → execution toy (Step w ∷ Step w ∷ []) st ≡ settled a (record f { rest = rest }) (true ∷ true ∷ []) st }
 {}

@@ -5,7 +5,7 @@ use Rattle.aos_concurrency.proofs.ToyHands.{toy_hands_over}
 use Rattle.aos_concurrency.proofs.instances.toy_hands_over.Goals as goal
 
 pub returns-clause-handed : goal.returns-clause-handed
-returns-clause-handed c commands forked budget before others entry a l d h k = toy_hands_over commands forked budget h k before others entry a l d
+returns-clause-handed c p budget before others entry a l d h = toy_hands_over p budget h before others entry a l d
 
 pub returns-clause-given : goal.returns-clause-given
 unfolding stands ready next_is owned_by counted born go_past release turned happens

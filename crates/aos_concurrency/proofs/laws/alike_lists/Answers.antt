@@ -1,4 +1,4 @@
-use Rattle.std.proofs.Common.{◌≡◌, subst}
+use Rattle.std.proofs.Common.{subst}
 use Rattle.aos_base.specs.Lock.{heir, after_heir, Alike}
 use Rattle.aos_concurrency.proofs.Chosen.{heir_alike, after_alike, append_alike}
 use Rattle.aos_concurrency.proofs.laws.alike_lists.Goals as goal

@@ -1,5 +1,5 @@
 use Rattle.std.proofs.Common.{IsTrue}
-use Rattle.aos_base.specs.Machine.{start_of, execution}
+use Rattle.aos_base.specs.Machine.{start_of}
 use Rattle.aos_concurrency.proofs.Matching.{execution_matches, start_matches, observation_matches, events_match}
 use Rattle.aos_concurrency.proofs.laws.same_executions.Goals as goal
 
