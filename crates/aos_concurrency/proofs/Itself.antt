@@ -73,7 +73,7 @@ module _ {S F : Type 0} (m : Machine S F) (Fits : S → Did → F → Type 0) wh
 
 module _ {S F : Type 0} (m : Machine S F) where
   -- each frame fits where nothing is asked of it
-  abbrev Any : S → Did → F → Type 0
+  abbrev pub Any : S → Did → F → Type 0
   Any s w f = Unit {0}
 
   pub anything : KeepsFits m Any
@@ -92,8 +92,11 @@ module _ {S F : Type 0} (m : Machine S F) where
   any_work (Unwinds ls) p h = (Await (Module 0) 0, (tt, tt))
   any_work Gone p h = tt
 
-  any_fitting : (st : State S F) → Orderly st → Fitting m Any st
+  pub any_fitting : (st : State S F) → Orderly st → Fitting m Any st
   any_fitting st o = record { orderly = o; fits = λ a. any_work (spot st a).next (spot st a).place (o.agrees a) }
+
+  pub happens_orderly : (c : Choice) (st : State S F) → Orderly st → Orderly (happens m c st)
+  happens_orderly c st o = (happens_fitting m Any anything c st (any_fitting st o)).orderly
 
   -- in every state of every execution, of any machine
   pub execution_orderly : (cs : List Choice) (st : State S F) → Orderly st → Orderly (execution m cs st)

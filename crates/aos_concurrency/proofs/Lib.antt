@@ -17,3 +17,4 @@ pub mod Queues
 pub mod ToyKeeps
 pub mod ToyCoded
 pub mod ToyHands
+pub mod Lent

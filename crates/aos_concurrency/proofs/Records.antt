@@ -1,7 +1,7 @@
 -- An entry of a schedule adds a trap row exactly where it tells a trap.
 use Rattle.std.proofs.Common.{◌≡◌, ℕ, [], ◌∷◌, ◌++◌, Bool, true, false, refl, sym, ◌∙◌, ap, inl, inr, ◌⊎◌, append_assoc}
-use Rattle.std.specs.Prelude.{if◌then◌else◌, nat_eq, Option, Some, None}
-use Rattle.std.proofs.lemmas.List.{append-nil}
+use Rattle.std.specs.Prelude.{List, filter, if◌then◌else◌, nat_eq, Option, Some, None, map}
+use Rattle.std.proofs.lemmas.List.{append-nil, map-append}
 use Rattle.std.proofs.lemmas.List.Elements.{filter-append}
 use Rattle.aos_base.specs.declared.kernel.LockName.{LockName}
 use Rattle.aos_base.specs.declared.kernel.Verdict.{Verdict}
@@ -12,8 +12,8 @@ use Rattle.aos_base.specs.declared.kernel.Event.TheVariants as event
 use Rattle.aos_base.specs.declared.kernel.Outcome.TheVariants as outcome_is
 use Rattle.aos_base.specs.Lock.{Entry, Condition, Heir, Nobody, Entrant, Waiter, Trapping, heir}
 use Rattle.aos_base.specs.Book.{Place, At, Next, Runs, WillTrap, Unwinds, Gone, Book, waiting, tell, stands, ready, next_is, owned_by, counted, trapped, ended, restarted, born, on_worker, first_ready, is_full, may_restart, outcome}
-use Rattle.aos_base.specs.Machine.{Choice, Step, Tick, Turn, Machine, State, on_book, go_past, pass, release, trap, enter, await, start, serve, turned, finish, turn_by, dispatch, step_of, tick_of, happens_in, if_going, happens}
-use Rattle.aos_concurrency.specs.Traps.{turn_of, is_trap, AddsNoTrap, AddsTrap, RecordsTraps}
+use Rattle.aos_base.specs.Machine.{Choice, Step, Tick, Turn, Machine, State, on_book, go_past, pass, release, trap, enter, await, start, serve, turned, finish, turn_by, dispatch, step_of, tick_of, happens_in, if_going, happens, execution}
+use Rattle.aos_concurrency.specs.Traps.{turn_of, is_trap, AddsNoTrap, AddsTrap, RecordsTraps, event_of, AreTold}
 
 nothing : (b : Book) → AddsNoTrap b b
 nothing b = record { told = []; events = sym (append-nil b.events); none = refl; traps = refl }
@@ -144,3 +144,26 @@ module _ {S F : Type 0} (m : Machine S F) where
         | outcome_is.Dead ↦ inl (nothing st.book)
         | outcome_is.Spent ↦ inl (nothing st.book)
       ]
+
+  -- the rows are told
+
+  still_told : (b c : Book) → AddsNoTrap b c → AreTold b → AreTold c
+  still_told b c h told =
+      ap (filter is_trap) h.events ∙ filter-append is_trap b.events h.told ∙ (λ i. told i ++ h.none i) ∙ append-nil (map event_of b.traps) ∙ ap (map event_of) (sym h.traps)
+
+  one_told : (a : ℕ) (b c : Book) → AddsTrap a b c → AreTold b → AreTold c
+  one_told a b c h told =
+      ap (filter is_trap) h.events ∙ filter-append is_trap b.events (event.Trap a h.row.number ∷ [])
+      ∙ (let e = sym h.of_it in λ i. told i ++ event.Trap (e i) h.row.number ∷ [])
+      ∙ sym (map-append event_of b.traps (h.row ∷ [])) ∙ ap (map event_of) (sym h.traps)
+
+  happens_told : (c : Choice) (st : State S F) → AreTold st.book → AreTold (happens m c st).book
+  happens_told c st told =
+      elim (records_traps c st) [
+        | inl h ↦ still_told st.book (happens m c st).book h told
+        | inr h ↦ one_told h.0 st.book (happens m c st).book h.1.1 told
+      ]
+
+  pub execution_told : (cs : List Choice) (st : State S F) → AreTold st.book → AreTold (execution m cs st).book
+  execution_told [] st told = told
+  execution_told (c ∷ cs) st told = execution_told cs (happens m c st) (happens_told c st told)

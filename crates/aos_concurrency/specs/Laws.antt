@@ -6,17 +6,17 @@ use Rattle.aos_base.specs.declared.kernel.Did.{Did}
 use Rattle.aos_base.specs.declared.kernel.Did.TheVariants.{Went}
 use Rattle.aos_base.specs.declared.kernel.Outcome.TheVariants as outcome_is
 use Rattle.aos_base.specs.Lock.{Waiting, heir, after_heir, Alike}
-use Rattle.aos_base.specs.Book.{Runs, Book, on_worker, outcome}
+use Rattle.aos_base.specs.Book.{Runs, Activity, Book, on_worker, outcome}
 use Rattle.aos_base.specs.Machine.{Choice, Machine, State, start_of, happens, execution}
 use Rattle.aos_base.specs.Observation.{observation}
 use Rattle.aos_concurrency.specs.Orderly.{Orderly}
 use Rattle.aos_concurrency.specs.Regions.{KeepsFits, KeepsRegions, Fitting}
 use Rattle.aos_concurrency.specs.Mutual.{Mutual}
-use Rattle.aos_concurrency.specs.Traps.{RecordsTraps}
+use Rattle.aos_concurrency.specs.Traps.{RecordsTraps, AreTold}
 use Rattle.aos_concurrency.specs.Simulates.{Simulates}
 use Rattle.aos_concurrency.specs.Acting.{acting, Changed, KeepsTidy}
 use Rattle.aos_concurrency.specs.Handover.{GuardsBy, HandsOver}
-use Rattle.aos_concurrency.specs.Private.{steps, ArePrivate, GoesOn, settled, begun_by, front}
+use Rattle.aos_concurrency.specs.Private.{steps, ArePrivate, GoesOn, settled, begun_by, front, NoneOf, IsLent}
 
 module _ (S F : Type 0) where
   -- where the machine keeps its regions, mutual exclusion holds in every state of every execution
@@ -33,6 +33,10 @@ module _ (S F : Type 0) where
   -- only a trap adds a trap row, in any state
   abbrev pub TrapsRecorded : Type 0
   TrapsRecorded = (m : Machine S F) (c : Choice) (st : State S F) → RecordsTraps m c st
+
+  -- so each state's trap rows are those of its trap events
+  abbrev pub TrapsTold : Type 0
+  TrapsTold = (m : Machine S F) (s : S) (f : F) (budget : ℕ) (cs : List Choice) → AreTold (execution m cs (start_of s f budget)).book
 
   -- a waiter that was given its lock because its condition held is the owner until its turn, and a local condition holds until then
   abbrev pub HandedOver : Type 0
@@ -66,7 +70,15 @@ module _ (S F : Type 0) where
       → GoesOn a begun st.book → on_worker w st.book.line ≡ Some a → (st.book.activity a).next ≡ Runs → st.frames a ≡ f → ArePrivate m f begun g
       → execution m (steps w begun) st ≡ settled a g begun st
 
--- which they are while the activity's count stays below the budget before the last
+  -- also where others have made their steps since the frames were lent, and none was the worker's
+  abbrev pub SettlesLater : Type 0
+  SettlesLater =
+      (m : Machine S F) (w a : ℕ) (entry : Activity) (f g : F) (begun : List Bool) (cs : List Choice) (st : State S F)
+      → Orderly st → IsLent w a entry f st → entry.next ≡ Runs → NoneOf w cs
+      → let later = execution m cs st in GoesOn a begun later.book → ArePrivate m f begun g
+      → execution m (steps w begun) later ≡ settled a g begun later
+
+-- the outcome stays Going before each while the activity's count stays below the budget before the last
 abbrev pub LastInBudget : Type 0
 LastInBudget =
     (a : ℕ) (begun : List Bool) (b : Book)

@@ -1,9 +1,9 @@
 -- Turns on an activity's own frames alone, which can be made elsewhere and put into the log later.
-use Rattle.std.specs.Prelude.{◌≡◌, ℕ, suc, nat_eq, List, [], ◌∷◌, Bool, if◌then◌else◌}
+use Rattle.std.specs.Prelude.{◌≡◌, ◌≢◌, ℕ, suc, nat_eq, Option, Some, List, [], ◌∷◌, Bool, if◌then◌else◌}
 use Rattle.aos_base.specs.declared.kernel.Outcome.TheVariants as outcome_is
 use Rattle.aos_base.specs.declared.kernel.Did.TheVariants.{Went}
-use Rattle.aos_base.specs.Book.{Book, put, counted, outcome}
-use Rattle.aos_base.specs.Machine.{Choice, Step, Machine, State}
+use Rattle.aos_base.specs.Book.{Book, Activity, On, put, counted, on_worker, place_of, outcome}
+use Rattle.aos_base.specs.Machine.{Choice, Step, Tick, Machine, State}
 
 -- so many steps of a worker
 abbrev pub steps : {A : Type 0} → ℕ → List A → List Choice
@@ -43,3 +43,22 @@ abbrev pub front : List Bool → List Bool
 front [] = []
 front (x ∷ []) = []
 front (x ∷ y ∷ ys) = x ∷ front (y ∷ ys)
+
+-- While frames are lent
+
+-- whose step or tick it is
+abbrev pub of_worker : Choice → ℕ
+of_worker (Step w) = w
+of_worker (Tick w) = w
+
+-- none of these is a step or a tick of the worker
+abbrev pub NoneOf : ℕ → List Choice → Type 0
+NoneOf w [] = Unit {0}
+NoneOf w (c ∷ cs) = (of_worker c ≢ w) × NoneOf w cs
+
+-- the activity is the worker's, with this entry in the book and these frames
+pub record IsLent {S F : Type 0} (w a : ℕ) (entry : Activity) (f : F) (st : State S F) : Type 0 where
+  pub on : on_worker w st.book.line ≡ Some a
+  pub stands : place_of st.book.line a ≡ Some (On w)
+  pub activity : st.book.activity a ≡ entry
+  pub frames : st.frames a ≡ f

@@ -1,6 +1,6 @@
 // The laws over any machine. S and T are the types of stores, F and G those of an activity's frames.
 
-ghost use Rattle.aos_concurrency.specs.Laws.{Exclusive, InOrder, TrapsRecorded, HandedOver, FiveWays, StaysTidy, Settles, LastInBudget, SeenAlike, ToldAlike, SameHeir, StayAlike, JoinAlike};
+ghost use Rattle.aos_concurrency.specs.Laws.{Exclusive, InOrder, TrapsRecorded, TrapsTold, HandedOver, FiveWays, StaysTidy, Settles, SettlesLater, LastInBudget, SeenAlike, ToldAlike, SameHeir, StayAlike, JoinAlike};
 
 /// Whoever is in a region of a lock and doesn't wait there owns it, and what goes with it, in every state of every execution.
 pub fn one_owner<S, F>()
@@ -11,6 +11,7 @@ pub fn one_owner<S, F>()
 pub fn in_order<S, F>()
     ensures places { InOrder S F }
     ensures traps { TrapsRecorded S F }
+    ensures told { TrapsTold S F }
 {}
 
 /// Machines that make the same turns are seen to do the same under every schedule.
@@ -40,5 +41,6 @@ pub fn acts_in_five_ways<S, F>()
 /// Turns on an activity's own frames alone, made elsewhere, are steps at the place of the log where they are added.
 pub fn private_turns<S, F>()
     ensures settle { Settles S F }
+    ensures later { SettlesLater S F }
     ensures budget { LastInBudget }
 {}
