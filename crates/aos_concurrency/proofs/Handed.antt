@@ -188,7 +188,7 @@ module _ {S F : Type 0} (m : Machine S F) (Fits : S → Did → F → Type 0) (T
       omega (arith, sits.regions l, awake_free l h.place h.awake, ap (λ o. owns o a) h.owner ∙ owns_self a)
 
   -- the own part of another's turn
-  turned_held : KeepsRegions m Fits → GuardsBy m Fits Tidy Agree IsLocal → (a : ℕ) (l : LockName) (b : ℕ) (s : S) (f : F) (st : State S F) → Sound m Fits st → Tidy st.store (acting st) → Holding a l s f st → a ≢ b → (v : ℕ) → place_of st.book.line b ≡ Some (On v) → (st.book.activity b).next ≡ Runs → Holding a l s f (turned m b (m.turn st.store (st.frames b)) st)
+  turned_held : KeepsRegions m Fits → GuardsBy m Fits Tidy Agree IsLocal → (a : ℕ) (l : LockName) (b : ℕ) (s : S) (f : F) (st : State S F) → Sound m Fits st → Tidy st.store (acting m st) → Holding a l s f st → a ≢ b → (v : ℕ) → place_of st.book.line b ≡ Some (On v) → (st.book.activity b).next ≡ Runs → Holding a l s f (turned m b (m.turn st.store (st.frames b)) st)
   unfolding turned counted
   turned_held keeps guards a l b s f st sound tidy h ne v on runs =
       let t = m.turn st.store (st.frames b) in
@@ -199,10 +199,10 @@ module _ {S F : Type 0} (m : Machine S F) (Fits : S → Did → F → Type 0) (T
         place = h.place;
         spot = spot-turned m b t st a ∙ put_other number (spot st) b (record (spot st b) { frames = t.frames }) a ne ∙ h.spot;
         awake = h.awake;
-        store = guards.then_ l s st.store _ h.store (guards.outside st.store (acting st) l a b f (st.frames b) tidy ne (ap (λ (y : Spot F). acts y.next y.frames) h.spot) (within a l s f st sound h) (ap (λ n. acts n (st.frames b)) runs) sits.fits out);
+        store = guards.then_ l s st.store _ h.store (guards.outside st.store (acting m st) l a b f (st.frames b) tidy ne (ap (λ (y : Spot F). acts m y.next y.frames) h.spot) (within a l s f st sound h) (ap (λ n. acts m n (st.frames b)) runs) sits.fits out);
       }
 
-  turn_held : KeepsRegions m Fits → GuardsBy m Fits Tidy Agree IsLocal → (a : ℕ) (l : LockName) (b : ℕ) (n : Next) (s : S) (f : F) (st : State S F) → Sound m Fits st → Tidy st.store (acting st) → Holding a l s f st → a ≢ b → (v : ℕ) → place_of st.book.line b ≡ Some (On v) → (st.book.activity b).next ≡ n → Holding a l s f (turn_by m b n st)
+  turn_held : KeepsRegions m Fits → GuardsBy m Fits Tidy Agree IsLocal → (a : ℕ) (l : LockName) (b : ℕ) (n : Next) (s : S) (f : F) (st : State S F) → Sound m Fits st → Tidy st.store (acting m st) → Holding a l s f st → a ≢ b → (v : ℕ) → place_of st.book.line b ≡ Some (On v) → (st.book.activity b).next ≡ n → Holding a l s f (turn_by m b n st)
   turn_held keeps guards a l b Runs s f st sound tidy h ne v on is =
       let t = turned_turning m Fits keeps b st sound v on is in
       let k = turned_held keeps guards a l b s f st sound tidy h ne v on is in
@@ -233,7 +233,7 @@ module _ {S F : Type 0} (m : Machine S F) (Fits : S → Did → F → Type 0) (T
         | inr i ↦ held a l s f st _ h (stands_of m Fits a l b p st.book.events st i.1)
       ]
 
-  step_held : KeepsRegions m Fits → GuardsBy m Fits Tidy Agree IsLocal → (a : ℕ) (l : LockName) (w : ℕ) (o : Option ℕ) (s : S) (f : F) (st : State S F) → Sound m Fits st → Tidy st.store (acting st) → Holding a l s f st → on_worker w st.book.line ≡ o → o ≢ Some a → Holding a l s f (step_of m w o st)
+  step_held : KeepsRegions m Fits → GuardsBy m Fits Tidy Agree IsLocal → (a : ℕ) (l : LockName) (w : ℕ) (o : Option ℕ) (s : S) (f : F) (st : State S F) → Sound m Fits st → Tidy st.store (acting m st) → Holding a l s f st → on_worker w st.book.line ≡ o → o ≢ Some a → Holding a l s f (step_of m w o st)
   step_held keeps guards a l w None s f st sound tidy h is far =
       elim (first_ready st.book.line) as (λ o. Holding a l s f (dispatch w o st)) [
         | None ↦ h
@@ -248,11 +248,11 @@ module _ {S F : Type 0} (m : Machine S F) (Fits : S → Did → F → Type 0) (T
   tick_held a l None s f st h = h
   tick_held a l (Some b) s f st h = moves a l b (Ready (st.book.activity b).priority) s f st refl h
 
-  happens_in_held : KeepsRegions m Fits → GuardsBy m Fits Tidy Agree IsLocal → (a : ℕ) (l : LockName) (c : Choice) (s : S) (f : F) (st : State S F) → Sound m Fits st → Tidy st.store (acting st) → Holding a l s f st → turn_of c st.book ≢ Some a → Holding a l s f (happens_in m c st)
+  happens_in_held : KeepsRegions m Fits → GuardsBy m Fits Tidy Agree IsLocal → (a : ℕ) (l : LockName) (c : Choice) (s : S) (f : F) (st : State S F) → Sound m Fits st → Tidy st.store (acting m st) → Holding a l s f st → turn_of c st.book ≢ Some a → Holding a l s f (happens_in m c st)
   happens_in_held keeps guards a l (Step w) s f st sound tidy h far = step_held keeps guards a l w (on_worker w st.book.line) s f st sound tidy h refl far
   happens_in_held keeps guards a l (Tick w) s f st sound tidy h far = tick_held a l (on_worker w st.book.line) s f st h
 
-  happens_held : KeepsRegions m Fits → GuardsBy m Fits Tidy Agree IsLocal → (a : ℕ) (l : LockName) (c : Choice) (s : S) (f : F) (st : State S F) → Sound m Fits st → Tidy st.store (acting st) → Holding a l s f st → turn_of c st.book ≢ Some a → Holding a l s f (happens m c st)
+  happens_held : KeepsRegions m Fits → GuardsBy m Fits Tidy Agree IsLocal → (a : ℕ) (l : LockName) (c : Choice) (s : S) (f : F) (st : State S F) → Sound m Fits st → Tidy st.store (acting m st) → Holding a l s f st → turn_of c st.book ≢ Some a → Holding a l s f (happens m c st)
   unfolding happens
   happens_held keeps guards a l c s f st sound tidy h far =
       elim (outcome st.book) as (λ o. Holding a l s f (if_going o (happens_in m c st) st)) [
@@ -262,10 +262,10 @@ module _ {S F : Type 0} (m : Machine S F) (Fits : S → Did → F → Type 0) (T
         | outcome_is.Spent ↦ h
       ]
 
-  tidy_still : KeepsRegions m Fits → GuardsBy m Fits Tidy Agree IsLocal → (c : Choice) (st : State S F) → Sound m Fits st → Tidy st.store (acting st) → Tidy (happens m c st).store (acting (happens m c st))
+  tidy_still : KeepsRegions m Fits → GuardsBy m Fits Tidy Agree IsLocal → (c : Choice) (st : State S F) → Sound m Fits st → Tidy st.store (acting m st) → Tidy (happens m c st).store (acting m (happens m c st))
   tidy_still keeps guards c st sound tidy = happens_tidy m Fits keeps.fits Tidy guards.tidy c st (sound_fitting m Fits st sound) tidy
 
-  held_on : KeepsRegions m Fits → GuardsBy m Fits Tidy Agree IsLocal → (a : ℕ) (l : LockName) (s : S) (f : F) (cs : List Choice) (st : State S F) → Sound m Fits st → Tidy st.store (acting st) → Holding a l s f st → OfOthers m a cs st → Holding a l s f (execution m cs st)
+  held_on : KeepsRegions m Fits → GuardsBy m Fits Tidy Agree IsLocal → (a : ℕ) (l : LockName) (s : S) (f : F) (cs : List Choice) (st : State S F) → Sound m Fits st → Tidy st.store (acting m st) → Holding a l s f st → OfOthers m a cs st → Holding a l s f (execution m cs st)
   held_on keeps guards a l s f [] st sound tidy h others = h
   held_on keeps guards a l s f (c ∷ cs) st sound tidy h others =
       held_on keeps guards a l s f cs (happens m c st) (happens_sound m Fits keeps c st sound) (tidy_still keeps guards c st sound tidy) (happens_held keeps guards a l c s f st sound tidy h others.0) others.1
@@ -424,7 +424,7 @@ module _ {S F : Type 0} (m : Machine S F) (Fits : S → Did → F → Type 0) (T
         | outcome_is.Spent ↦ waits_on s
       ]
 
-  pub hands_over : KeepsRegions m Fits → GuardsBy m Fits Tidy Agree IsLocal → (st : State S F) (entry : Choice) (a : ℕ) (l : LockName) (c : ℕ) (cs : List Choice) → Sound m Fits st → Tidy st.store (acting st) → HandsOver m IsLocal st entry a l c cs
+  pub hands_over : KeepsRegions m Fits → GuardsBy m Fits Tidy Agree IsLocal → (st : State S F) (entry : Choice) (a : ℕ) (l : LockName) (c : ℕ) (cs : List Choice) → Sound m Fits st → Tidy st.store (acting m st) → HandsOver m IsLocal st entry a l c cs
   hands_over keeps guards st entry a l c cs sound tidy given others =
       let runs = runs_there st sound.orderly a l (Condition c) given.waited in
       let fits = runs_at (λ w. Fits st.store w (st.frames a)) _ _ (At l (Condition c)) runs given.waited (let s = sound.each a in s.fits) in

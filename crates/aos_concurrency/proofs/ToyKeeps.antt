@@ -161,16 +161,16 @@ nested_stays = record {
   turn = λ s t a f is h all. some_nested t (toy_turn s f f.rest).store a _ ((turns s f.rest f.regions f.whole h.rest h.whole h.forked).rest) all;
   past = λ s t a w f is goes h all. some_nested t s a _ (nested_past f.rest f.regions f.whole h.rest) all;
   body = λ s t a b o f none is h all. some_nested t s a _ h.forked all;
-  leaves = λ s t a f is all x g. each_put number (λ _ o. o ≡ Some g → Nested g.rest g.regions) t a None (λ e. absurd (cc e)) (λ z ne. all z g) x;
-  anew = λ s t a w f g none may h is all. some_nested t s a g (let y = begins_anew s w f g h is in y.rest) all;
+  traps = λ s t a w f is may h all. some_nested t s a _ h.whole all;
+  ends = λ s t a f is all x g. each_put number (λ _ o. o ≡ Some g → Nested g.rest g.regions) t a None (λ e. absurd (cc e)) (λ z ne. all z g) x;
 }
 
-first_nested : (p : Program) (budget : ℕ) → IsNested p → AllNested (toy_start p budget).store (acting (toy_start p budget))
+first_nested : (p : Program) (budget : ℕ) → IsNested p → AllNested (toy_start p budget).store (acting toy (toy_start p budget))
 first_nested p budget h =
-    each_start (nothing_raised p.forked) (whole_of p.commands) budget (λ _ y. (f : Frames) → acts y.next y.frames ≡ Some f → Nested f.rest f.regions)
+    each_start (nothing_raised p.forked) (whole_of p.commands) budget (λ _ y. (f : Frames) → acts toy y.next y.frames ≡ Some f → Nested f.rest f.regions)
     (λ f is. let e : whole_of p.commands ≡ f = cc is in subst (λ (y : Frames). Nested y.rest y.regions) e h.0) (λ x ne f is. absurd (cc is))
 
-pub toy_nested : (p : Program) (budget : ℕ) → IsNested p → (cs : List Choice) → AllNested (toy_run p budget cs).store (acting (toy_run p budget cs))
+pub toy_nested : (p : Program) (budget : ℕ) → IsNested p → (cs : List Choice) → AllNested (toy_run p budget cs).store (acting toy (toy_run p budget cs))
 toy_nested p budget h cs =
     execution_tidy toy ToyFits toy_fits AllNested nested_stays cs (toy_start p budget)
     (sound_fitting toy ToyFits (toy_start p budget) (toy_first p budget h)) (first_nested p budget h)

@@ -45,23 +45,23 @@ module _ (S F : Type 0) where
       (s : S) (f : F) (budget : ℕ) (before others : List Choice) (entry : Choice) (a : ℕ) (l : LockName) (c : ℕ)
       → KeepsRegions m (λ t w g. IsTrue (fits t w g))
       → GuardsBy m (λ t w g. IsTrue (fits t w g)) (λ t g. IsTrue (tidy t g)) (λ k t u. IsTrue (agree k t u)) (λ k d. IsTrue (is_local k d))
-      → IsTrue (fits s Went f) → m.regions f ≡ [] → IsTrue (tidy s (acting (start_of s f budget)))
+      → IsTrue (fits s Went f) → m.regions f ≡ [] → IsTrue (tidy s (acting m (start_of s f budget)))
       → HandsOver m (λ k d. IsTrue (is_local k d)) (execution m before (start_of s f budget)) entry a l c others
 
-  -- an entry changes the store and the frames of those that run in five ways only
+  -- an entry changes the store and the frames of those that act in five ways only
   abbrev pub FiveWays : Type 0
   FiveWays =
       (m : Machine S F) (fits : S → Did → F → Bool) (c : Choice) (st : State S F)
       → KeepsFits m (λ t w g. IsTrue (fits t w g)) → Fitting m (λ t w g. IsTrue (fits t w g)) st
-      → Changed m (λ t w g. IsTrue (fits t w g)) st.store (acting st) (happens m c st).store (acting (happens m c st))
+      → Changed m (λ t w g. IsTrue (fits t w g)) st.store (acting m st) (happens m c st).store (acting m (happens m c st))
 
   -- so what each of the five ways keeps holds in every state of every execution
   abbrev pub StaysTidy : Type 0
   StaysTidy =
       (m : Machine S F) (fits : S → Did → F → Bool) (tidy : S → (ℕ → Option F) → Bool) (s : S) (f : F) (budget : ℕ) (cs : List Choice)
       → KeepsFits m (λ t w g. IsTrue (fits t w g)) → KeepsTidy m (λ t w g. IsTrue (fits t w g)) (λ t g. IsTrue (tidy t g))
-      → IsTrue (fits s Went f) → IsTrue (tidy s (acting (start_of s f budget)))
-      → let st = execution m cs (start_of s f budget) in IsTrue (tidy st.store (acting st))
+      → IsTrue (fits s Went f) → IsTrue (tidy s (acting m (start_of s f budget)))
+      → let st = execution m cs (start_of s f budget) in IsTrue (tidy st.store (acting m st))
 
   -- private turns of a worker's activity are steps of that worker
   abbrev pub Settles : Type 0

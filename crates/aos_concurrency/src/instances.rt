@@ -39,7 +39,7 @@ pub fn toy_alike()
 
 /// What is left to each that runs stays well nested.
 pub fn toy_stays_nested()
-    ensures nested { (p : Program) (budget : ℕ) (cs : List Choice) → IsNested p → (a : ℕ) (f : Frames) → acting (toy_run p budget cs) a ≡ Some f → Nested f.rest f.regions }
+    ensures nested { (p : Program) (budget : ℕ) (cs : List Choice) → IsNested p → (a : ℕ) (f : Frames) → acting toy (toy_run p budget cs) a ≡ Some f → Nested f.rest f.regions }
 {}
 
 /// Two turns that skip, made elsewhere, are two steps.

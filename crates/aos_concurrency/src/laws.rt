@@ -32,7 +32,7 @@ pub fn alike_lists()
     ensures joined { JoinAlike }
 {}
 
-/// The store and the frames of those that run change in five ways only.
+/// The store and the frames of those that act change in five ways only.
 pub fn acts_in_five_ways<S, F>()
     ensures ways { FiveWays S F }
     ensures tidy { StaysTidy S F }
