@@ -8,12 +8,10 @@ use Rattle.aos_base.specs.declared.kernel.Did.{Did}
 use Rattle.aos_base.specs.declared.kernel.Did.TheVariants.{Went, Ended, Enter, Leave, Await, Start, Trapped}
 use Rattle.aos_base.specs.declared.kernel.Event.{Event}
 use Rattle.aos_base.specs.declared.kernel.Event.TheVariants as event
-use Rattle.aos_base.specs.declared.kernel.Outcome.{Outcome}
 use Rattle.aos_base.specs.declared.kernel.Outcome.TheVariants as outcome_is
-use Rattle.aos_base.specs.Lock.{Wants, Entry, Condition, Heir, Nobody, Entrant, Waiter, Trapping, heir}
-use Rattle.aos_base.specs.Book.{Place, Stand, On, Ready, At, Next, Runs, WillTrap, Unwinds, Gone, Activity, put, place_of, leave_line, move, first_at, is_on, waiting, tell, stands, ready, next_is, owned_by, counted, trapped, ended, restarted, born, on_worker, first_ready, is_full, outcome}
+use Rattle.aos_base.specs.Lock.{Entry, Condition, Heir, Nobody, Entrant, Waiter, Trapping, heir}
+use Rattle.aos_base.specs.Book.{Place, Stand, On, Ready, At, Next, Runs, WillTrap, Unwinds, Gone, Activity, place_of, leave_line, move, first_at, is_on, waiting, tell, stands, ready, next_is, owned_by, counted, trapped, ended, restarted, born, on_worker, first_ready, is_full, outcome}
 use Rattle.aos_base.specs.Machine.{Choice, Step, Tick, Turn, Machine, State, on_book, with_frames, go_past, pass, release, trap, enter, await, start, serve, turned, finish, turn_by, dispatch, step_of, tick_of, happens_in, if_going, happens, execution}
-use Rattle.aos_concurrency.specs.Spot.{Spot, spot}
 use Rattle.aos_concurrency.specs.Orderly.{Distinct, Orderly}
 use Rattle.aos_concurrency.specs.Private.{steps, ArePrivate, GoesOn, settled, of_worker, NoneOf, IsLent}
 use Rattle.aos_concurrency.proofs.Tables.{number, by_case, put_other}

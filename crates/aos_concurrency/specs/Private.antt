@@ -1,5 +1,5 @@
 -- Turns on an activity's own frames alone, which can be made elsewhere and put into the log later.
-use Rattle.std.specs.Prelude.{◌≡◌, ◌≢◌, ℕ, suc, nat_eq, Option, Some, List, [], ◌∷◌, Bool, if◌then◌else◌}
+use Rattle.std.specs.Prelude.{◌≡◌, ◌≢◌, ℕ, suc, nat_eq, Some, List, [], ◌∷◌, Bool, if◌then◌else◌}
 use Rattle.aos_base.specs.declared.kernel.Outcome.TheVariants as outcome_is
 use Rattle.aos_base.specs.declared.kernel.Did.TheVariants.{Went}
 use Rattle.aos_base.specs.Book.{Book, Activity, On, put, counted, on_worker, place_of, outcome}

@@ -194,6 +194,22 @@ waits_for_one = record {
 abbrev pub up_to_the_release : List Choice
 up_to_the_release = Step 0 ∷ Step 0 ∷ Step 0 ∷ Step 0 ∷ Step 0 ∷ Step 0 ∷ Step 0 ∷ []
 
+-- An execution in which worker 0 has activity 0, which is to skip twice, while worker 1 makes steps
+
+abbrev pub skips_twice : Program
+skips_twice = record { commands = Fork ∷ Skip ∷ Skip ∷ []; forked = Say 7 ∷ [] }
+
+-- activity 0 has started activity 1
+abbrev pub lent_at : State Shared Frames
+lent_at = toy_run skips_twice 100 (Step 0 ∷ Step 0 ∷ [])
+
+-- activity 1 has written its byte
+abbrev pub settled_at : State Shared Frames
+settled_at = execution toy (Step 1 ∷ Step 1 ∷ []) lent_at
+
+abbrev pub skipping : List Command → Frames
+skipping rest = record { rest = rest; regions = []; whole = Fork ∷ Skip ∷ Skip ∷ [] }
+
 -- Two lists that are alike: 4 and 6 wait to enter, 5 waits for condition 9
 
 abbrev pub entrant : ℕ → Waiting

@@ -10,8 +10,8 @@ ghost use Rattle.aos_base.specs.Observation.{observation};
 ghost use Rattle.aos_concurrency.specs.Mutual.{Mutual};
 ghost use Rattle.aos_concurrency.specs.Acting.{acting};
 ghost use Rattle.aos_concurrency.specs.Handover.{IsGiven, HandsOver};
-ghost use Rattle.aos_concurrency.specs.Private.{GoesOn, settled};
-ghost use Rattle.aos_concurrency.specs.Toy.{Command, Skip, Shared, Program, Frames, toy, toy_run, coded, coded_run, Nested, IsNested, IsAnyLocal, waits_for_one, up_to_the_release, one_list, another_list};
+ghost use Rattle.aos_concurrency.specs.Private.{GoesOn, IsLent, settled};
+ghost use Rattle.aos_concurrency.specs.Toy.{Command, Skip, Shared, Program, Frames, toy, toy_run, coded, coded_run, Nested, IsNested, IsAnyLocal, waits_for_one, up_to_the_release, one_list, another_list, lent_at, settled_at, skipping};
 
 /// Mutual exclusion at the machine, where its commands are well nested.
 pub fn toy_excludes()
@@ -42,7 +42,9 @@ pub fn toy_stays_nested()
     ensures nested { (p : Program) (budget : ℕ) (cs : List Choice) → IsNested p → (a : ℕ) (f : Frames) → acting toy (toy_run p budget cs) a ≡ Some f → Nested f.rest f.regions }
 {}
 
-/// Two turns that skip, made elsewhere, are two steps.
+/// Two turns that skip, made elsewhere, are two steps, here also after two steps of another worker.
 pub fn toy_settles()
+    ensures lent { IsLent 0 0 (lent_at.book.activity 0) (skipping (Skip ∷ Skip ∷ [])) lent_at }
+    ensures later { execution toy (Step 0 ∷ Step 0 ∷ []) settled_at ≡ settled 0 (skipping []) (true ∷ true ∷ []) settled_at }
     ensures settle { (st : State Shared Frames) (w a : ℕ) (f : Frames) (rest : List Command) → GoesOn a (true ∷ true ∷ []) st.book → on_worker w st.book.line ≡ Some a → (st.book.activity a).next ≡ Runs → st.frames a ≡ record f { rest = Skip ∷ Skip ∷ rest } → execution toy (Step w ∷ Step w ∷ []) st ≡ settled a (record f { rest = rest }) (true ∷ true ∷ []) st }
 {}
