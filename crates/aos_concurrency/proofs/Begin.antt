@@ -9,7 +9,8 @@ use Rattle.aos_base.specs.Book.{Ready, At, Runs, Gone, Activity, put}
 use Rattle.aos_base.specs.Machine.{Machine, start_of}
 use Rattle.aos_concurrency.specs.Spot.{Spot, spot}
 use Rattle.aos_concurrency.specs.Orderly.{Agrees, Orderly}
-use Rattle.aos_concurrency.specs.Regions.{times, Sits, Sound}
+use Rattle.aos_concurrency.specs.Regions.{times}
+use Rattle.aos_concurrency.specs.Sound.{Sits, Sound}
 use Rattle.aos_concurrency.proofs.Tables.{number, each_put}
 use Rattle.aos_concurrency.proofs.Works.{at_spot}
 

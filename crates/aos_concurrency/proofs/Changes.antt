@@ -14,7 +14,8 @@ use Rattle.aos_base.specs.Book.{Place, On, Ready, At, Next, Runs, WillTrap, Unwi
 use Rattle.aos_base.specs.Machine.{Choice, Step, Tick, Machine, State, on_book, with_frames, go_past, pass, release, trap, enter, await, start, serve, turned, finish, turn_by, dispatch, step_of, tick_of, happens_in, if_going, happens, execution}
 use Rattle.aos_concurrency.specs.Spot.{Spot, spot, GoesPast, MayTrap, AtWork}
 use Rattle.aos_concurrency.specs.Orderly.{Agrees, Orderly}
-use Rattle.aos_concurrency.specs.Regions.{KeepsFits, Fitting}
+use Rattle.aos_concurrency.specs.Regions.{KeepsFits}
+use Rattle.aos_concurrency.specs.Sound.{Fitting}
 use Rattle.aos_concurrency.specs.Acting.{acts, acting, Changed, Stays, Turned, Passed, Began, FellBack, Left, KeepsTidy}
 use Rattle.aos_concurrency.proofs.Tables.{number, put_same, put_other, put_back, each_put}
 use Rattle.aos_concurrency.proofs.Lines.{StandsAs, heir_stands, found_on}

@@ -7,7 +7,8 @@ use Rattle.aos_base.specs.declared.kernel.Outcome.TheVariants as outcome_is
 use Rattle.aos_base.specs.Lock.{Wants, Entry, Condition}
 use Rattle.aos_base.specs.Book.{Place, Stand, On, Ready, At, place_of, is_at_lock, all_at_locks, outcome_of}
 use Rattle.aos_base.specs.Machine.{Machine, State}
-use Rattle.aos_concurrency.specs.Regions.{times, owns, waits_in, regions_of, Sound}
+use Rattle.aos_concurrency.specs.Regions.{times, regions_of}
+use Rattle.aos_concurrency.specs.Sound.{owns, waits_in, Sound}
 use Rattle.aos_concurrency.specs.Mutual.{Mutual}
 use Rattle.aos_concurrency.proofs.Tables.{number, lock, by_case}
 use Rattle.aos_concurrency.proofs.Spots.{gone_nowhere, somewhere}

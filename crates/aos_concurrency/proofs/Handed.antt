@@ -14,7 +14,8 @@ use Rattle.aos_base.specs.Book.{Place, On, Ready, At, Next, Runs, WillTrap, Unwi
 use Rattle.aos_base.specs.Machine.{Choice, Step, Tick, Machine, State, on_book, with_frames, go_past, pass, release, trap, enter, await, start, serve, turned, finish, turn_by, dispatch, step_of, tick_of, happens_in, if_going, happens, execution}
 use Rattle.aos_concurrency.specs.Spot.{Spot, spot}
 use Rattle.aos_concurrency.specs.Orderly.{Distinct}
-use Rattle.aos_concurrency.specs.Regions.{times, owns, waits_in, KeepsRegions, Sits, Sound}
+use Rattle.aos_concurrency.specs.Regions.{times, KeepsRegions}
+use Rattle.aos_concurrency.specs.Sound.{owns, waits_in, Sits, Sound}
 use Rattle.aos_concurrency.specs.Traps.{turn_of}
 use Rattle.aos_concurrency.specs.Acting.{acts, acting}
 use Rattle.aos_concurrency.specs.Handover.{GuardsBy, OfOthers, HandsOver}

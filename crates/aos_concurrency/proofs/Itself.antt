@@ -8,7 +8,8 @@ use Rattle.aos_base.specs.Book.{Place, Next, Runs, WillTrap, Unwinds, Gone}
 use Rattle.aos_base.specs.Machine.{Choice, Machine, State, start_of, happens, execution}
 use Rattle.aos_concurrency.specs.Spot.{spot, AtWork}
 use Rattle.aos_concurrency.specs.Orderly.{Agrees, Orderly}
-use Rattle.aos_concurrency.specs.Regions.{KeepsFits, Fitting, Sound}
+use Rattle.aos_concurrency.specs.Regions.{KeepsFits}
+use Rattle.aos_concurrency.specs.Sound.{Fitting, Sound}
 use Rattle.aos_concurrency.specs.Simulates.{SameAnew, Simulates, Matches}
 use Rattle.aos_concurrency.proofs.Works.{work_map}
 use Rattle.aos_concurrency.proofs.Matching.{happens_matches, execution_matches, start_matches}

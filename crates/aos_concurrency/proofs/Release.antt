@@ -11,7 +11,8 @@ use Rattle.aos_base.specs.Book.{Ready, At, Runs, WillTrap, put, place_of, waitin
 use Rattle.aos_base.specs.Machine.{Machine, State, on_book, go_past, pass, release}
 use Rattle.aos_concurrency.specs.Spot.{Spot, spot}
 use Rattle.aos_concurrency.specs.Orderly.{Orderly}
-use Rattle.aos_concurrency.specs.Regions.{times, owns, waits_in, KeepsRegions, Sits, Sound}
+use Rattle.aos_concurrency.specs.Regions.{times, KeepsRegions}
+use Rattle.aos_concurrency.specs.Sound.{owns, waits_in, Sits, Sound}
 use Rattle.aos_concurrency.proofs.Tables.{number, lock, by_case, each_put}
 use Rattle.aos_concurrency.proofs.Lines.{StandsAs, heir_stands, nobody}
 use Rattle.aos_concurrency.proofs.Spots.{spot-heir, spot-trapping, orderly-heir, orderly-trapping, runs_there}

@@ -14,7 +14,8 @@ use Rattle.aos_base.specs.Book.{Place, On, Ready, At, Next, Runs, WillTrap, Unwi
 use Rattle.aos_base.specs.Machine.{Choice, Step, Tick, Machine, State, on_book, with_frames, go_past, release, trap, enter, await, start, serve, turned, finish, turn_by, dispatch, step_of, tick_of, happens_in, if_going, happens, execution}
 use Rattle.aos_concurrency.specs.Spot.{Spot, spot, GoesPast, MayTrap}
 use Rattle.aos_concurrency.specs.Orderly.{Agrees, Orderly}
-use Rattle.aos_concurrency.specs.Regions.{times, owns, waits_in, KeepsRegions, Sits, Sound}
+use Rattle.aos_concurrency.specs.Regions.{times, KeepsRegions}
+use Rattle.aos_concurrency.specs.Sound.{owns, waits_in, Sits, Sound}
 use Rattle.aos_concurrency.proofs.Tables.{number, lock, by_case, put_same, put_other, each_put}
 use Rattle.aos_concurrency.proofs.Lines.{found_on, found_ready}
 use Rattle.aos_concurrency.proofs.Spots.{spot-stands, spot-next, spot-ended, spot-anew, spot-born, spot-past, spot-trap, spot-turned, orderly-stands, orderly-next, orderly-ended, orderly-anew, orderly-born, orderly-past, orderly-trap, orderly-turned, live_there, not_started, awake_agrees, gone_nowhere}

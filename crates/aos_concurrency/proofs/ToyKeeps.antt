@@ -6,7 +6,8 @@ use Rattle.aos_base.specs.declared.kernel.Did.{Did}
 use Rattle.aos_base.specs.declared.kernel.Did.TheVariants.{Went, Ended, Enter, Leave, Await, Start, Trapped}
 use Rattle.aos_base.specs.Book.{put}
 use Rattle.aos_base.specs.Machine.{Choice}
-use Rattle.aos_concurrency.specs.Regions.{Passes, KeepsFits, KeepsRegions, Sound}
+use Rattle.aos_concurrency.specs.Regions.{Passes, KeepsFits, KeepsRegions}
+use Rattle.aos_concurrency.specs.Sound.{Sound}
 use Rattle.aos_concurrency.specs.Mutual.{Mutual}
 use Rattle.aos_concurrency.specs.Acting.{acts, acting, KeepsTidy}
 use Rattle.aos_concurrency.specs.Toy.{Command, Skip, Say, Raise, Take, Give, Until, Fork, Fail, Shared, Program, Frames, nothing_raised, whole_of, toy, toy_turn, toy_past, toy_start, toy_run, Nested, IsNested}

@@ -10,7 +10,8 @@ use Rattle.aos_base.specs.Book.{Runs, Activity, Book, on_worker, outcome}
 use Rattle.aos_base.specs.Machine.{Choice, Machine, State, start_of, happens, execution}
 use Rattle.aos_base.specs.Observation.{observation}
 use Rattle.aos_concurrency.specs.Orderly.{Orderly}
-use Rattle.aos_concurrency.specs.Regions.{KeepsFits, KeepsRegions, Fitting}
+use Rattle.aos_concurrency.specs.Regions.{KeepsFits, KeepsRegions}
+use Rattle.aos_concurrency.specs.Sound.{Fitting}
 use Rattle.aos_concurrency.specs.Mutual.{Mutual}
 use Rattle.aos_concurrency.specs.Traps.{RecordsTraps, AreTold}
 use Rattle.aos_concurrency.specs.Simulates.{Simulates}
