@@ -1,15 +1,16 @@
 -- Where an execution begins.
-use Rattle.std.proofs.Common.{◌≡◌, ℕ, ◌≤◌, [], Bool, true, false, refl, sym, ◌∙◌, ap, subst, arith, ◌≢◌}
+use Rattle.std.proofs.Common.{◌≡◌, ℕ, ◌≤◌, [], true, false, refl, sym, ap, subst, arith, ◌≢◌}
 use Rattle.std.specs.Prelude.{if◌then◌else◌, nat_eq, Option, Some, None}
 use Rattle.aos_base.specs.declared.kernel.LockName.{LockName}
 use Rattle.aos_base.specs.declared.kernel.Did.{Did}
 use Rattle.aos_base.specs.declared.kernel.Did.TheVariants.{Went}
 use Rattle.aos_base.specs.Lock.{Entry}
 use Rattle.aos_base.specs.Book.{Ready, At, Runs, Gone, Activity, put}
-use Rattle.aos_base.specs.Machine.{Machine, State, start_of}
-use Rattle.aos_concurrency.specs.Spot.{Spot, spot, AtWork}
+use Rattle.aos_base.specs.Machine.{Machine, start_of}
+use Rattle.aos_concurrency.specs.Spot.{Spot, spot}
 use Rattle.aos_concurrency.specs.Orderly.{Agrees, Orderly}
-use Rattle.aos_concurrency.specs.Regions.{times, Sits, Sound}
+use Rattle.aos_concurrency.specs.Regions.{times}
+use Rattle.aos_concurrency.specs.Sound.{Sits, Sound}
 use Rattle.aos_concurrency.proofs.Tables.{number, each_put}
 use Rattle.aos_concurrency.proofs.Works.{at_spot}
 

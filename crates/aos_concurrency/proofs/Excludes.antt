@@ -1,14 +1,14 @@
 -- Mutual exclusion in a sound state.
-use Rattle.std.proofs.Common.{◌≡◌, ℕ, ◌+◌, ◌<◌, List, [], ◌∷◌, Bool, true, false, refl, sym, ◌∙◌, ap, subst, arith, ◌≢◌}
+use Rattle.std.proofs.Common.{◌≡◌, ℕ, ◌+◌, List, [], ◌∷◌, Bool, true, false, refl, sym, ap, subst, arith, ◌≢◌}
 use Rattle.std.specs.Prelude.{if◌then◌else◌, Option, Some, None, ◌&&◌}
 use Rattle.aos_base.specs.declared.kernel.LockName.{LockName}
 use Rattle.aos_base.specs.declared.kernel.Did.{Did}
-use Rattle.aos_base.specs.declared.kernel.Outcome.{Outcome}
 use Rattle.aos_base.specs.declared.kernel.Outcome.TheVariants as outcome_is
 use Rattle.aos_base.specs.Lock.{Wants, Entry, Condition}
-use Rattle.aos_base.specs.Book.{Place, Stand, On, Ready, At, Gone, place_of, is_at_lock, all_at_locks, outcome_of}
+use Rattle.aos_base.specs.Book.{Place, Stand, On, Ready, At, place_of, is_at_lock, all_at_locks, outcome_of}
 use Rattle.aos_base.specs.Machine.{Machine, State}
-use Rattle.aos_concurrency.specs.Regions.{times, owns, waits_in, regions_of, Sits, Sound}
+use Rattle.aos_concurrency.specs.Regions.{times, regions_of}
+use Rattle.aos_concurrency.specs.Sound.{owns, waits_in, Sound}
 use Rattle.aos_concurrency.specs.Mutual.{Mutual}
 use Rattle.aos_concurrency.proofs.Tables.{number, lock, by_case}
 use Rattle.aos_concurrency.proofs.Spots.{gone_nowhere, somewhere}

@@ -7,3 +7,14 @@ pub mod Steps
 pub mod Begin
 pub mod Excludes
 pub mod Matching
+pub mod Itself
+pub mod Changes
+pub mod Handed
+pub mod Records
+pub mod Settles
+pub mod Chosen
+pub mod Queues
+pub mod ToyKeeps
+pub mod ToyCoded
+pub mod ToyHands
+pub mod Lent

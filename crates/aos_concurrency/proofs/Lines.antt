@@ -1,10 +1,10 @@
 -- Where activities stand after one has moved, who is found there, and who the heir of a lock is.
-use Rattle.std.proofs.Common.{◌≡◌, ℕ, suc, ◌<◌, ◌≤◌, List, [], ◌∷◌, ◌++◌, Bool, true, false, refl, sym, ◌∙◌, ap, subst, arith, inl, inr, ◌⊎◌, not, ◌≢◌, length}
+use Rattle.std.proofs.Common.{◌≡◌, ℕ, ◌<◌, ◌≤◌, List, [], ◌∷◌, ◌++◌, Bool, true, false, refl, sym, ◌∙◌, ap, subst, arith, inl, inr, ◌⊎◌, not, ◌≢◌, length}
 use Rattle.std.specs.Prelude.{if◌then◌else◌, nat_eq, Option, Some, None}
 use Rattle.aos_base.specs.declared.kernel.LockName.{LockName}
 use Rattle.aos_base.specs.declared.kernel.Verdict.{Verdict}
 use Rattle.aos_base.specs.declared.kernel.Verdict.TheVariants.{Holds, Fails, Traps}
-use Rattle.aos_base.specs.Lock.{Wants, Waiting, Heir, Entry, Condition, Nobody, Entrant, Waiter, Trapping, judged, served, first_waiter, first_entrant, entering, or_else, heir}
+use Rattle.aos_base.specs.Lock.{Wants, Heir, Entry, Condition, Nobody, Entrant, Waiter, Trapping, judged, served, first_waiter, first_entrant, entering, or_else, heir}
 use Rattle.aos_base.specs.Book.{Place, Stand, On, Ready, At, put, place_of, leave_line, move, first_at, is_on, on_worker, is_ready, first_ready, or_next, waiting, wanted, listed}
 use Rattle.aos_concurrency.specs.Orderly.{Distinct}
 use Rattle.aos_concurrency.proofs.Tables.{number, lock, by_case, is_itself, put_same, put_other}

@@ -8,15 +8,14 @@ use Rattle.aos_base.specs.declared.kernel.Did.{Did}
 use Rattle.aos_base.specs.declared.kernel.Did.TheVariants.{Went, Ended, Enter, Leave, Await, Start, Trapped}
 use Rattle.aos_base.specs.declared.kernel.Event.{Event}
 use Rattle.aos_base.specs.declared.kernel.Event.TheVariants as event
-use Rattle.aos_base.specs.declared.kernel.Outcome.{Outcome}
 use Rattle.aos_base.specs.declared.kernel.Outcome.TheVariants as outcome_is
 use Rattle.aos_base.specs.Lock.{Wants, Entry, Condition, Heir, Nobody, Entrant, Waiter, Trapping, heir, enters}
 use Rattle.aos_base.specs.Book.{Place, On, Ready, At, Next, Runs, WillTrap, Unwinds, Gone, Book, put, place_of, is_at_lock, waiting, tell, stands, ready, next_is, owned_by, counted, trapped, ended, restarted, born, on_worker, first_ready, is_full, outcome}
-use Rattle.aos_base.specs.Machine.{Choice, Step, Tick, Turn, Machine, State, start_of, on_book, with_frames, go_past, pass, release, trap, enter, await, start, serve, turned, finish, turn_by, dispatch, step_of, tick_of, happens_in, if_going, happens, execution}
-use Rattle.aos_base.specs.Observation.{WaitRow, Observation, status_of, waits_if, spent_if, wait_row, waits_below, observation}
+use Rattle.aos_base.specs.Machine.{Choice, Step, Tick, Turn, Machine, State, start_of, on_book, go_past, pass, release, trap, enter, await, start, serve, turned, finish, turn_by, dispatch, step_of, tick_of, happens_in, if_going, happens, execution}
+use Rattle.aos_base.specs.Observation.{status_of, waits_if, spent_if, wait_row, waits_below, observation}
 use Rattle.aos_concurrency.specs.Spot.{Spot, spot, before, GoesPast, MayTrap, AtWork}
 use Rattle.aos_concurrency.specs.Orderly.{Agrees, Orderly}
-use Rattle.aos_concurrency.specs.Simulates.{SameTurn, SameAnew, Simulates, Matches}
+use Rattle.aos_concurrency.specs.Simulates.{SameAnew, Simulates, Matches}
 use Rattle.aos_concurrency.proofs.Tables.{number, by_case, put_same, put_other, put_back}
 use Rattle.aos_concurrency.proofs.Lines.{StandsAs, heir_stands, heir_same, found_on, found_ready}
 use Rattle.aos_concurrency.proofs.Spots.{spot-stands, spot-next, spot-ended, spot-anew, spot-born, spot-past, spot-trap, spot-turned, spot-heir, spot-trapping, orderly-stands, orderly-next, orderly-ended, orderly-anew, orderly-born, orderly-past, orderly-trap, orderly-turned, orderly-heir, orderly-trapping, live_there, runs_there, not_started, awake_agrees}

@@ -1,18 +1,19 @@
 -- A release keeps each activity where it may be.
-use Rattle.std.proofs.Common.{◌≡◌, ℕ, suc, ◌+◌, ◌<◌, List, [], ◌∷◌, Bool, true, false, refl, sym, ◌∙◌, ap, subst, arith, inl, inr, ◌≢◌}
+use Rattle.std.proofs.Common.{◌≡◌, ℕ, suc, ◌+◌, Bool, true, false, refl, sym, ◌∙◌, ap, subst, arith, inl, inr, ◌≢◌}
 use Rattle.std.specs.Prelude.{if◌then◌else◌, nat_eq, Option, Some, None}
 use Rattle.aos_base.specs.declared.kernel.LockName.{LockName}
 use Rattle.aos_base.specs.declared.kernel.Verdict.{Verdict}
 use Rattle.aos_base.specs.declared.kernel.Did.{Did}
-use Rattle.aos_base.specs.declared.kernel.Did.TheVariants.{Went, Enter, Await}
+use Rattle.aos_base.specs.declared.kernel.Did.TheVariants.{Enter, Await}
 use Rattle.aos_base.specs.declared.kernel.Event.TheVariants as event
 use Rattle.aos_base.specs.Lock.{is_lock, Wants, Entry, Condition, Heir, Nobody, Entrant, Waiter, Trapping, heir}
-use Rattle.aos_base.specs.Book.{Place, On, Ready, At, Next, Runs, WillTrap, Unwinds, Gone, put, place_of, waiting, tell, ready, next_is, owned_by}
+use Rattle.aos_base.specs.Book.{Ready, At, Runs, WillTrap, put, place_of, waiting, tell, ready, next_is, owned_by}
 use Rattle.aos_base.specs.Machine.{Machine, State, on_book, go_past, pass, release}
-use Rattle.aos_concurrency.specs.Spot.{Spot, spot, AtWork}
+use Rattle.aos_concurrency.specs.Spot.{Spot, spot}
 use Rattle.aos_concurrency.specs.Orderly.{Orderly}
-use Rattle.aos_concurrency.specs.Regions.{times, owns, waits_in, KeepsFits, KeepsRegions, Sits, Sound}
-use Rattle.aos_concurrency.proofs.Tables.{number, lock, by_case, put_same, put_other, each_put}
+use Rattle.aos_concurrency.specs.Regions.{times, KeepsRegions}
+use Rattle.aos_concurrency.specs.Sound.{owns, waits_in, Sits, Sound}
+use Rattle.aos_concurrency.proofs.Tables.{number, lock, by_case, each_put}
 use Rattle.aos_concurrency.proofs.Lines.{StandsAs, heir_stands, nobody}
 use Rattle.aos_concurrency.proofs.Spots.{spot-heir, spot-trapping, orderly-heir, orderly-trapping, runs_there}
 use Rattle.aos_concurrency.proofs.Works.{at_spot, spot_along}

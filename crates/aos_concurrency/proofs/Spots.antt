@@ -1,14 +1,14 @@
 -- What each operation of the kernel does to where activities stand, their next turns and their frames; and it keeps their order.
-use Rattle.std.proofs.Common.{◌≡◌, ℕ, suc, ◌≤◌, List, Bool, true, false, refl, sym, ◌∙◌, ap, subst, arith, inl, inr, ◌⊎◌, ◌≢◌}
+use Rattle.std.proofs.Common.{◌≡◌, ℕ, suc, ◌≤◌, List, true, false, refl, sym, ◌∙◌, ap, subst, arith, ◌≢◌}
 use Rattle.std.specs.Prelude.{if◌then◌else◌, nat_eq, Option, Some, None}
 use Rattle.aos_base.specs.declared.kernel.LockName.{LockName}
 use Rattle.aos_base.specs.declared.kernel.Event.{Event}
 use Rattle.aos_base.specs.Lock.{Wants}
-use Rattle.aos_base.specs.Book.{Place, Stand, On, Ready, At, Next, Runs, WillTrap, Unwinds, Gone, Activity, Book, put, place_of, is_at_lock, leave_line, move, tell, stands, ready, next_is, owned_by, counted, trapped, ended, restarted, born}
+use Rattle.aos_base.specs.Book.{Place, Stand, On, Ready, At, Next, Runs, WillTrap, Unwinds, Gone, Activity, put, place_of, is_at_lock, tell, stands, ready, next_is, owned_by, counted, trapped, ended, restarted, born}
 use Rattle.aos_base.specs.Machine.{Turn, Machine, State, on_book, with_frames, go_past, trap, turned}
-use Rattle.aos_concurrency.specs.Spot.{Spot, spot, spot_in}
+use Rattle.aos_concurrency.specs.Spot.{Spot, spot}
 use Rattle.aos_concurrency.specs.Orderly.{Distinct, Agrees, Orderly}
-use Rattle.aos_concurrency.proofs.Tables.{number, put_same, put_back, each_put}
+use Rattle.aos_concurrency.proofs.Tables.{number, put_back, each_put}
 use Rattle.aos_concurrency.proofs.Lines.{place_of-move, place_of-leave, distinct-move, distinct-leave}
 
 module _ {F : Type 0} where

@@ -1,6 +1,6 @@
 -- Each entry of a schedule keeps each activity where it may be; mutual exclusion follows.
-use Rattle.std.proofs.Common.{◌≡◌, ℕ, suc, ◌+◌, ◌<◌, ◌≤◌, List, [], ◌∷◌, ◌++◌, Bool, true, false, refl, sym, ◌∙◌, ap, subst, arith, inl, inr, ◌≢◌}
-use Rattle.std.specs.Prelude.{if◌then◌else◌, nat_eq, Option, Some, None, ◌&&◌}
+use Rattle.std.proofs.Common.{◌≡◌, ℕ, suc, ◌+◌, ◌<◌, List, [], ◌∷◌, ◌++◌, Bool, true, false, refl, sym, ◌∙◌, ap, subst, arith, inl, inr, ◌≢◌}
+use Rattle.std.specs.Prelude.{if◌then◌else◌, nat_eq, Option, Some, None}
 use Rattle.aos_base.specs.declared.kernel.LockName.{LockName}
 use Rattle.aos_base.specs.declared.kernel.Verdict.{Verdict}
 use Rattle.aos_base.specs.declared.kernel.Verdict.TheVariants.{Holds, Fails, Traps}
@@ -8,18 +8,17 @@ use Rattle.aos_base.specs.declared.kernel.Did.{Did}
 use Rattle.aos_base.specs.declared.kernel.Did.TheVariants.{Went, Ended, Enter, Leave, Await, Start, Trapped}
 use Rattle.aos_base.specs.declared.kernel.Event.{Event}
 use Rattle.aos_base.specs.declared.kernel.Event.TheVariants as event
-use Rattle.aos_base.specs.declared.kernel.Outcome.{Outcome}
 use Rattle.aos_base.specs.declared.kernel.Outcome.TheVariants as outcome_is
-use Rattle.aos_base.specs.Lock.{is_lock, Wants, Entry, Condition}
-use Rattle.aos_base.specs.Book.{Place, Stand, On, Ready, At, Next, Runs, WillTrap, Unwinds, Gone, Activity, put, place_of, is_at_lock, tell, stands, ready, next_is, owned_by, counted, trapped, ended, restarted, born, on_worker, first_ready, is_full, may_restart, all_at_locks, outcome, outcome_of}
-use Rattle.aos_base.specs.Machine.{Choice, Step, Tick, Turn, Machine, State, start_of, on_book, with_frames, go_past, release, trap, enter, await, start, serve, turned, finish, turn_by, dispatch, step_of, tick_of, happens_in, if_going, happens, execution}
-use Rattle.aos_concurrency.specs.Spot.{Spot, spot, GoesPast, MayTrap, AtWork}
+use Rattle.aos_base.specs.Lock.{is_lock, Entry, Condition}
+use Rattle.aos_base.specs.Book.{Place, On, Ready, At, Next, Runs, WillTrap, Unwinds, Gone, put, place_of, is_at_lock, tell, stands, ready, next_is, owned_by, counted, trapped, ended, restarted, born, on_worker, first_ready, is_full, outcome}
+use Rattle.aos_base.specs.Machine.{Choice, Step, Tick, Machine, State, on_book, with_frames, go_past, release, trap, enter, await, start, serve, turned, finish, turn_by, dispatch, step_of, tick_of, happens_in, if_going, happens, execution}
+use Rattle.aos_concurrency.specs.Spot.{Spot, spot, GoesPast, MayTrap}
 use Rattle.aos_concurrency.specs.Orderly.{Agrees, Orderly}
-use Rattle.aos_concurrency.specs.Regions.{times, owns, waits_in, regions_of, KeepsFits, KeepsRegions, Sits, Sound, Fitting}
-use Rattle.aos_concurrency.specs.Mutual.{Mutual, IsInRegion}
-use Rattle.aos_concurrency.proofs.Tables.{number, lock, by_case, put_same, put_other, each_put, is_itself}
+use Rattle.aos_concurrency.specs.Regions.{times, KeepsRegions}
+use Rattle.aos_concurrency.specs.Sound.{owns, waits_in, Sits, Sound}
+use Rattle.aos_concurrency.proofs.Tables.{number, lock, by_case, put_same, put_other, each_put}
 use Rattle.aos_concurrency.proofs.Lines.{found_on, found_ready}
-use Rattle.aos_concurrency.proofs.Spots.{spot-stands, spot-next, spot-ended, spot-anew, spot-born, spot-past, spot-trap, spot-turned, orderly-stands, orderly-next, orderly-ended, orderly-anew, orderly-born, orderly-past, orderly-trap, orderly-turned, live_at, live_there, not_started, awake_agrees, gone_nowhere, somewhere}
+use Rattle.aos_concurrency.proofs.Spots.{spot-stands, spot-next, spot-ended, spot-anew, spot-born, spot-past, spot-trap, spot-turned, orderly-stands, orderly-next, orderly-ended, orderly-anew, orderly-born, orderly-past, orderly-trap, orderly-turned, live_there, not_started, awake_agrees, gone_nowhere}
 use Rattle.aos_concurrency.proofs.Works.{at_spot, spot_along, each_at, work_map, work_elsewhere}
 use Rattle.aos_concurrency.proofs.Release.{owns_self, owns_other, owner_taken, entrant_before, sits_owner, each_sits, Open, release_sound}
 

@@ -1,11 +1,10 @@
 -- The work before which an activity stands, from one place and state to another.
-use Rattle.std.proofs.Common.{◌≡◌, ℕ, Bool, true, false, refl, sym, ◌∙◌, ap, subst, inl, inr, ◌≢◌}
+use Rattle.std.proofs.Common.{◌≡◌, ℕ, false, refl, sym, ◌∙◌, subst, inl, inr, ◌≢◌}
 use Rattle.std.specs.Prelude.{Option, Some, None}
-use Rattle.aos_base.specs.declared.kernel.LockName.{LockName}
 use Rattle.aos_base.specs.declared.kernel.Did.{Did}
 use Rattle.aos_base.specs.declared.kernel.Did.TheVariants.{Went}
 use Rattle.aos_base.specs.Book.{Place, On, Ready, At, Next, Runs, WillTrap, Unwinds, Gone, is_at_lock}
-use Rattle.aos_concurrency.specs.Spot.{Spot, before, MayTrap, AtWork}
+use Rattle.aos_concurrency.specs.Spot.{Spot, before, AtWork}
 use Rattle.aos_concurrency.proofs.Tables.{number}
 
 pub each_at : (G : ℕ → Type 0) (a : ℕ) → G a → ((x : ℕ) → x ≢ a → G x) → (x : ℕ) → G x

@@ -1,12 +1,12 @@
 -- A lock that passes to a waiter whose condition holds.
-use Rattle.std.specs.Prelude.{◌≡◌, ◌≢◌, ◌<◌, ℕ, Option, Some, None, List, [], ◌∷◌, false}
+use Rattle.std.specs.Prelude.{◌≡◌, ◌≢◌, ◌<◌, ℕ, Option, Some, List, [], ◌∷◌, false}
 use Rattle.aos_base.specs.declared.kernel.LockName.{LockName}
 use Rattle.aos_base.specs.declared.kernel.Verdict.TheVariants.{Holds}
 use Rattle.aos_base.specs.declared.kernel.Did.{Did}
 use Rattle.aos_base.specs.declared.kernel.Did.TheVariants.{Went, Await}
 use Rattle.aos_base.specs.Lock.{Condition}
 use Rattle.aos_base.specs.Book.{Place, At, Runs, is_at_lock, place_of}
-use Rattle.aos_base.specs.Machine.{Choice, Turn, Machine, State, happens, execution}
+use Rattle.aos_base.specs.Machine.{Choice, Machine, State, happens, execution}
 use Rattle.aos_concurrency.specs.Regions.{times}
 use Rattle.aos_concurrency.specs.Traps.{turn_of}
 use Rattle.aos_concurrency.specs.Acting.{KeepsTidy}

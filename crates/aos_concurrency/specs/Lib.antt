@@ -1,9 +1,12 @@
 pub mod Spot
 pub mod Orderly
 pub mod Regions
+pub mod Sound
 pub mod Mutual
 pub mod Traps
 pub mod Simulates
 pub mod Acting
 pub mod Handover
 pub mod Private
+pub mod Laws
+pub mod Toy

@@ -1,9 +1,9 @@
 -- Mutual exclusion, and what goes with it, in every state of an execution.
-use Rattle.std.specs.Prelude.{◌≡◌, ◌≢◌, ◌<◌, ℕ, Option, Some, None}
+use Rattle.std.specs.Prelude.{◌≡◌, ◌≢◌, ◌<◌, ℕ, Some, None}
 use Rattle.aos_base.specs.declared.kernel.LockName.{LockName}
 use Rattle.aos_base.specs.declared.kernel.Outcome.TheVariants as outcome_is
 use Rattle.aos_base.specs.Lock.{Wants, Entry, Condition}
-use Rattle.aos_base.specs.Book.{Place, At, Gone, place_of, outcome}
+use Rattle.aos_base.specs.Book.{At, Gone, place_of, outcome}
 use Rattle.aos_base.specs.Machine.{Machine, State}
 use Rattle.aos_concurrency.specs.Orderly.{Distinct}
 use Rattle.aos_concurrency.specs.Regions.{times, regions_of}

@@ -1,5 +1,5 @@
 -- When two machines make the same turns, and the states of their executions that belong together.
-use Rattle.std.specs.Prelude.{◌≡◌, ℕ, Option, Some, None, List, Bool}
+use Rattle.std.specs.Prelude.{◌≡◌, ℕ, Option, Some, None}
 use Rattle.aos_base.specs.declared.kernel.LockName.{LockName}
 use Rattle.aos_base.specs.declared.kernel.Did.{Did}
 use Rattle.aos_base.specs.declared.kernel.Did.TheVariants.{Went, Await, Start}

@@ -1,5 +1,5 @@
 -- Which entries of a schedule add trap rows.
-use Rattle.std.specs.Prelude.{◌≡◌, ℕ, Option, Some, None, List, [], ◌∷◌, ◌++◌, ◌⊎◌, Bool, true, false, filter}
+use Rattle.std.specs.Prelude.{◌≡◌, ℕ, Option, Some, None, List, [], ◌∷◌, ◌++◌, ◌⊎◌, Bool, true, false, filter, map}
 use Rattle.aos_base.specs.declared.kernel.Event.{Event}
 use Rattle.aos_base.specs.declared.kernel.Event.TheVariants as event
 use Rattle.aos_base.specs.Book.{Book, TrapRow, on_worker}
@@ -32,6 +32,13 @@ pub record AddsTrap (a : ℕ) (b c : Book) : Type 0 where
   pub of_it : row.activity ≡ a
   pub events : c.events ≡ b.events ++ event.Trap a row.number ∷ []
   pub traps : c.traps ≡ b.traps ++ row ∷ []
+
+abbrev pub event_of : TrapRow → Event
+event_of row = event.Trap row.activity row.number
+
+-- the trap rows are those of the trap events, in their order
+abbrev pub AreTold : Book → Type 0
+AreTold b = filter is_trap b.events ≡ map event_of b.traps
 
 module _ {S F : Type 0} (m : Machine S F) where
   -- an entry adds a trap row exactly where it tells a trap: one, of the activity whose turn it is

@@ -1,0 +1,115 @@
+-- The laws, each as a statement over any machine whose stores and frames are of these types.
+use Rattle.std.specs.Prelude.{◌≡◌, ◌+◌, ◌<◌, ℕ, Option, Some, List, [], ◌∷◌, ◌++◌, Bool, IsTrue}
+use Rattle.aos_base.specs.declared.kernel.LockName.{LockName}
+use Rattle.aos_base.specs.declared.kernel.Verdict.{Verdict}
+use Rattle.aos_base.specs.declared.kernel.Did.{Did}
+use Rattle.aos_base.specs.declared.kernel.Did.TheVariants.{Went}
+use Rattle.aos_base.specs.declared.kernel.Outcome.TheVariants as outcome_is
+use Rattle.aos_base.specs.Lock.{Waiting, heir, after_heir, Alike}
+use Rattle.aos_base.specs.Book.{Runs, Activity, Book, on_worker, outcome}
+use Rattle.aos_base.specs.Machine.{Choice, Machine, State, start_of, happens, execution}
+use Rattle.aos_base.specs.Observation.{observation}
+use Rattle.aos_concurrency.specs.Orderly.{Orderly}
+use Rattle.aos_concurrency.specs.Regions.{KeepsFits, KeepsRegions}
+use Rattle.aos_concurrency.specs.Sound.{Fitting}
+use Rattle.aos_concurrency.specs.Mutual.{Mutual}
+use Rattle.aos_concurrency.specs.Traps.{RecordsTraps, AreTold}
+use Rattle.aos_concurrency.specs.Simulates.{Simulates}
+use Rattle.aos_concurrency.specs.Acting.{acting, Changed, KeepsTidy}
+use Rattle.aos_concurrency.specs.Handover.{GuardsBy, HandsOver}
+use Rattle.aos_concurrency.specs.Private.{steps, ArePrivate, GoesOn, settled, begun_by, front, NoneOf, IsLent}
+
+module _ (S F : Type 0) where
+  -- where the machine keeps its regions, mutual exclusion holds in every state of every execution
+  abbrev pub Exclusive : Type 0
+  Exclusive =
+      (m : Machine S F) (fits : S → Did → F → Bool) (s : S) (f : F) (budget : ℕ) (cs : List Choice)
+      → KeepsRegions m (λ t w g. IsTrue (fits t w g)) → IsTrue (fits s Went f) → m.regions f ≡ []
+      → Mutual m (execution m cs (start_of s f budget))
+
+  -- with no premise on the machine, each activity stands in at most one place, and none that hasn't been started stands
+  abbrev pub InOrder : Type 0
+  InOrder = (m : Machine S F) (s : S) (f : F) (budget : ℕ) (cs : List Choice) → Orderly (execution m cs (start_of s f budget))
+
+  -- only a trap adds a trap row, in any state
+  abbrev pub TrapsRecorded : Type 0
+  TrapsRecorded = (m : Machine S F) (c : Choice) (st : State S F) → RecordsTraps m c st
+
+  -- so each state's trap rows are those of its trap events
+  abbrev pub TrapsTold : Type 0
+  TrapsTold = (m : Machine S F) (s : S) (f : F) (budget : ℕ) (cs : List Choice) → AreTold (execution m cs (start_of s f budget)).book
+
+  -- a waiter that was given its lock because its condition held is the owner until its turn, and a local condition holds until then
+  abbrev pub HandedOver : Type 0
+  HandedOver =
+      (m : Machine S F) (fits : S → Did → F → Bool) (tidy : S → (ℕ → Option F) → Bool) (agree : LockName → S → S → Bool) (is_local : LockName → ℕ → Bool)
+      (s : S) (f : F) (budget : ℕ) (before others : List Choice) (entry : Choice) (a : ℕ) (l : LockName) (c : ℕ)
+      → KeepsRegions m (λ t w g. IsTrue (fits t w g))
+      → GuardsBy m (λ t w g. IsTrue (fits t w g)) (λ t g. IsTrue (tidy t g)) (λ k t u. IsTrue (agree k t u)) (λ k d. IsTrue (is_local k d))
+      → IsTrue (fits s Went f) → m.regions f ≡ [] → IsTrue (tidy s (acting m (start_of s f budget)))
+      → HandsOver m (λ k d. IsTrue (is_local k d)) (execution m before (start_of s f budget)) entry a l c others
+
+  -- an entry changes the store and the frames of those that act in five ways only
+  abbrev pub FiveWays : Type 0
+  FiveWays =
+      (m : Machine S F) (fits : S → Did → F → Bool) (c : Choice) (st : State S F)
+      → KeepsFits m (λ t w g. IsTrue (fits t w g)) → Fitting m (λ t w g. IsTrue (fits t w g)) st
+      → Changed m (λ t w g. IsTrue (fits t w g)) st.store (acting m st) (happens m c st).store (acting m (happens m c st))
+
+  -- so what each of the five ways keeps holds in every state of every execution
+  abbrev pub StaysTidy : Type 0
+  StaysTidy =
+      (m : Machine S F) (fits : S → Did → F → Bool) (tidy : S → (ℕ → Option F) → Bool) (s : S) (f : F) (budget : ℕ) (cs : List Choice)
+      → KeepsFits m (λ t w g. IsTrue (fits t w g)) → KeepsTidy m (λ t w g. IsTrue (fits t w g)) (λ t g. IsTrue (tidy t g))
+      → IsTrue (fits s Went f) → IsTrue (tidy s (acting m (start_of s f budget)))
+      → let st = execution m cs (start_of s f budget) in IsTrue (tidy st.store (acting m st))
+
+  -- private turns of a worker's activity are steps of that worker
+  abbrev pub Settles : Type 0
+  Settles =
+      (m : Machine S F) (w a : ℕ) (f g : F) (begun : List Bool) (st : State S F)
+      → GoesOn a begun st.book → on_worker w st.book.line ≡ Some a → (st.book.activity a).next ≡ Runs → st.frames a ≡ f → ArePrivate m f begun g
+      → execution m (steps w begun) st ≡ settled a g begun st
+
+  -- also where others have made their steps since the frames were lent, and none was the worker's
+  abbrev pub SettlesLater : Type 0
+  SettlesLater =
+      (m : Machine S F) (w a : ℕ) (entry : Activity) (f g : F) (begun : List Bool) (cs : List Choice) (st : State S F)
+      → Orderly st → IsLent w a entry f st → entry.next ≡ Runs → NoneOf w cs
+      → let later = execution m cs st in GoesOn a begun later.book → ArePrivate m f begun g
+      → execution m (steps w begun) later ≡ settled a g begun later
+
+-- the outcome stays Going before each while the activity's count stays below the budget before the last
+abbrev pub LastInBudget : Type 0
+LastInBudget =
+    (a : ℕ) (begun : List Bool) (b : Book)
+    → outcome b ≡ outcome_is.Going → (b.activity a).begun + begun_by (front begun) < b.budget
+    → GoesOn a begun b
+
+module _ (S F T G : Type 0) where
+  -- from starts that are related, two machines that make the same turns
+  abbrev FromRelated : (Machine S F → Machine T G → S → T → F → G → Type 0) → Type 0
+  FromRelated Q =
+      (m : Machine S F) (n : Machine T G) (stores : S → T → Bool) (frames : S → T → Did → F → G → Bool) (s : S) (t : T) (f : F) (g : G)
+      → Simulates (λ x y. IsTrue (stores x y)) (λ x y w h k. IsTrue (frames x y w h k)) m n → IsTrue (stores s t) → IsTrue (frames s t Went f g)
+      → Q m n s t f g
+
+  -- have the same observation after every schedule
+  abbrev pub SeenAlike : Type 0
+  SeenAlike = FromRelated (λ m n s t f g. (budget : ℕ) (cs : List Choice) → observation m (execution m cs (start_of s f budget)) ≡ observation n (execution n cs (start_of t g budget)))
+
+  -- and the same events
+  abbrev pub ToldAlike : Type 0
+  ToldAlike = FromRelated (λ m n s t f g. (budget : ℕ) (cs : List Choice) → (execution m cs (start_of s f budget)).book.events ≡ (execution n cs (start_of t g budget)).book.events)
+
+-- a release chooses the same heir of alike lists
+abbrev pub SameHeir : Type 0
+SameHeir = (verdict : ℕ → ℕ → Verdict) (es fs : List Waiting) → Alike es fs → heir verdict es ≡ heir verdict fs
+
+-- and leaves alike lists
+abbrev pub StayAlike : Type 0
+StayAlike = (verdict : ℕ → ℕ → Verdict) (es fs : List Waiting) → Alike es fs → Alike (after_heir (heir verdict es) es) (after_heir (heir verdict fs) fs)
+
+-- as does one who joins both
+abbrev pub JoinAlike : Type 0
+JoinAlike = (e : Waiting) (es fs : List Waiting) → Alike es fs → Alike (es ++ e ∷ []) (fs ++ e ∷ [])
