@@ -1,7 +1,10 @@
 //! From a text to its typed program and the image that shows it.
 #![tactic(auto)]
 
+pub mod compile_err;
 mod emit;
-pub mod image;
+mod image;
+pub mod program;
 
-pub use image::image_of;
+pub use compile_err::CompileErr;
+pub use program::compile;

@@ -1,5 +1,5 @@
 -- What a shelf means: its list of texts by name, and what an answer says of the text that was asked for.
-use Rattle.std.specs.Prelude.{◌≡◌, ℕ, ◌<◌, ◌≤◌, List, [], ◌∷◌, length, Option, Some, None, IfSome, if◌then◌else◌}
+use Rattle.std.specs.Prelude.{◌≡◌, ℕ, ◌<◌, ◌≤◌, List, [], ◌∷◌, length, Option, Some, None, IfSome, IsSomeAnd, if◌then◌else◌}
 use Rattle.std.specs.Str.{bytes_eq}
 use Rattle.aos_dev.specs.declared.shelf.Got.{Got}
 use Rattle.aos_dev.specs.declared.shelf.Got.TheVariants.{Text, Absent, TooLong, Failed, NoMemory}
@@ -48,6 +48,6 @@ OnNoText NoMemory fact = fact
 abbrev pub Answers : (kept : Option (List ℕ)) (most : ℕ) (answer : Got) (bytes : List ℕ) → Type 0
 Answers kept most Text bytes = (kept ≡ Some bytes) × (length bytes ≤ most)
 Answers kept most Absent bytes = kept ≡ None
-Answers kept most TooLong bytes = IfSome kept (λ text. most < length text)
+Answers kept most TooLong bytes = IsSomeAnd kept (λ text. most < length text)
 Answers kept most Failed bytes = Unit
 Answers kept most NoMemory bytes = Unit

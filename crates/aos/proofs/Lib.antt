@@ -1,0 +1,5 @@
+pub mod Settings
+pub mod Pieces
+pub mod Over
+pub mod Causes
+pub mod Clauses

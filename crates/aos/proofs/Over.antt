@@ -1,0 +1,69 @@
+-- What a kernel tells of a run that is over is the image's observation.
+use Rattle.std.proofs.Common.{◌≡◌, ◌≢◌, ℕ, zero, suc, ◌<◌, List, [], ◌∷◌, ◌++◌, map, replicate, Option, refl, ap, ◌∙◌, subst, arith}
+use Rattle.std.specs.Prelude.{All}
+use Rattle.std.proofs.lemmas.List.Elements.{All-nil, All-cons, All-tail, All-append}
+use Rattle.aos_base.specs.declared.kernel.Outcome.{Outcome}
+use Rattle.aos_base.specs.declared.kernel.Outcome.TheVariants.{Going, Ended, Dead, Spent}
+use Rattle.aos_base.specs.Book.{TrapRow, outcome}
+use Rattle.aos_base.specs.Machine.{Step, Tick, execution}
+use Rattle.aos_base.specs.Observation.{Observation, observation, status_of, spent_if}
+use Rattle.aos_code.specs.Machine.{machine, first_state}
+use Rattle.aos_kernel.specs.declared.log.Sched.{Sched}
+use Rattle.aos_kernel.specs.declared.log.Sched.TheVariants.{Steps, Tick as TickEntry}
+use Rattle.aos_kernel.specs.Log.{choices, entry_choices, IsEntry}
+use Rattle.aos_kernel.specs.Run.{Run, state_of, rec_of, traps_of, spent_of, if_spent}
+use Rattle.aos_report.specs.Texts.{row_text, rows_text}
+use Rattle.aos.specs.declared.answer.Answer.{Answer}
+use Rattle.aos.specs.Report.{row_of, spent_text}
+use Rattle.aos.specs.Seen.{default_budget, worker_of, OfWorkers, names_in}
+use Rattle.aos.specs.Shown.{ShowsRun}
+
+of_steps : (n w k : ℕ) → w < n → OfWorkers n (replicate k (Step w))
+of_steps n w zero lt = All-nil (λ c. worker_of c < n)
+of_steps n w (suc k) lt = All-cons (λ c. worker_of c < n) (Step w) (replicate k (Step w)) lt (of_steps n w k lt)
+
+of_entry : (n : ℕ) (e : Sched) → IsEntry n e → OfWorkers n (entry_choices e)
+of_entry n (Steps w k) h = of_steps n w k h.0
+of_entry n (TickEntry w) h = All-cons (λ c. worker_of c < n) (Tick w) [] h (All-nil (λ c. worker_of c < n))
+
+-- the steps and ticks of a log are of its workers
+of_log : (n : ℕ) (log : List Sched) → All (IsEntry n) log → OfWorkers n (choices log)
+of_log n [] h = All-nil (λ c. worker_of c < n)
+of_log n (e ∷ log) h = All-append (λ c. worker_of c < n) (entry_choices e) (choices log) (of_entry n e (h 0 e (omega arith))) (of_log n log (All-tail (IsEntry n) e log h))
+
+-- a trap's line doesn't tell what the record leaves out
+rows_told : (names : List (List ℕ)) (rows : List TrapRow) → rows_text names (map row_of (map rec_of rows)) ≡ rows_text names rows
+rows_told names [] = refl
+rows_told names (row ∷ rows) = ap (λ l. row_text names row ++ l) (rows_told names rows)
+
+status_told : (o : Outcome) (rows : List TrapRow) → status_of o (map row_of (map rec_of rows)) ≡ status_of o rows
+status_told Ended [] = refl
+status_told Ended (row ∷ rows) = refl
+status_told Dead rows = refl
+status_told Spent rows = refl
+status_told Going rows = refl
+
+spent_told : (o : Outcome) (a : Option ℕ) → if_spent o a ≡ spent_if o a
+spent_told Going a = refl
+spent_told Ended a = refl
+spent_told Dead a = refl
+spent_told Spent a = refl
+
+pub shows_run : (r : Run) (a : Answer) → r.workers ≡ 1 → r.budget ≡ default_budget → outcome (state_of r).book ≢ Going → outcome (state_of r).book ≢ Dead → All (IsEntry r.workers) r.log → a.status ≡ status_of (outcome (state_of r).book) (map row_of (traps_of r)) → a.out.items ≡ (state_of r).book.output → a.err.items ≡ rows_text (names_in r.image) (map row_of (traps_of r)) ++ spent_text (spent_of r) default_budget → ShowsRun r.image a
+unfolding observation
+shows_run r a one budget over lively entries status out err =
+    let st = state_of r in
+    let o : Observation = observation (machine r.image) st in
+    record {
+      observation = o;
+      seen = record {
+        schedule = choices r.log;
+        workers = subst (λ n. OfWorkers n (choices r.log)) one (of_log r.workers r.log entries);
+        over = over;
+        lively = lively;
+        seen = ap (λ b. observation (machine r.image) (execution (machine r.image) (choices r.log) (first_state r.image b))) budget;
+      };
+      status = status ∙ status_told (outcome st.book) st.book.traps;
+      out = out;
+      err = err ∙ ap (λ l. l ++ spent_text (spent_of r) default_budget) (rows_told (names_in r.image) st.book.traps) ∙ ap (λ s. rows_text (names_in r.image) st.book.traps ++ spent_text s default_budget) (spent_told (outcome st.book) st.book.spent);
+    }

@@ -1,0 +1,57 @@
+-- Texts that are written in pieces, and lines one after another.
+use Rattle.std.proofs.Common.{◌≡◌, ℕ, ◌+◌, ◌-◌, ◌<◌, ◌≤◌, min, Option, arith, List, [], ◌∷◌, ◌++◌, length, take, drop, get_or, map, refl, sym, ap, ◌∙◌, append_assoc, append-nil}
+use Rattle.std.specs.Prelude.{slice_range}
+use Rattle.std.proofs.Math.Seq.{take-append-add}
+use Rattle.std.proofs.lemmas.List.{take_more, map-append, take_min, take-append-drop, take-append-le, length-take-le}
+use Rattle.aos_dev.specs.Sink.{appended, WrotePart}
+use Rattle.aos_dev.proofs.SinkLemmas.{appended-appended}
+use Rattle.aos_code.specs.declared.report.TrapRec.{TrapRec}
+use Rattle.aos.specs.Report.{row_of}
+use Rattle.aos_base.specs.Book.{TrapRow}
+use Rattle.aos_report.specs.Texts.{row_text, rows_text}
+
+pub rows_text-append : (names : List (List ℕ)) (rows others : List TrapRow) → rows_text names (rows ++ others) ≡ rows_text names rows ++ rows_text names others
+rows_text-append names [] others = refl
+rows_text-append names (row ∷ rows) others =
+    ap (λ l. row_text names row ++ l) (rows_text-append names rows others)
+    ∙ sym (append_assoc (row_text names row) (rows_text names rows) (rows_text names others))
+
+-- the lines so far, and one more
+pub one_more_line : (names : List (List ℕ)) (ts : List TrapRec) (k : ℕ) (t : TrapRec) (lines lines' line : List ℕ) → k < length ts → t ≡ get_or ts k t → lines ≡ rows_text names (map row_of (take k ts)) → lines' ≡ lines ++ line → line ≡ row_text names (row_of t) → lines' ≡ rows_text names (map row_of (take (k + 1) ts))
+one_more_line names ts k t lines lines' line lt at h e e' =
+    let next : take (k + 1) ts ≡ take k ts ++ t ∷ [] = take_more ts k t lt ∙ ap (λ q. take k ts ++ q ∷ []) (sym at) in
+    e ∙ ap (λ l. l ++ line) h ∙ ap (λ l. rows_text names (map row_of (take k ts)) ++ l) (e' ∙ sym (append-nil (row_text names (row_of t))))
+    ∙ sym (rows_text-append names (map row_of (take k ts)) (row_of t ∷ []))
+    ∙ ap (rows_text names) (sym (map-append row_of (take k ts) (t ∷ [])))
+    ∙ ap (λ l. rows_text names (map row_of l)) (sym next)
+
+-- the first bytes, and then some of those behind them
+take_on : (a b : ℕ) (xs : List ℕ) → a ≤ length xs → take (a + b) xs ≡ take a xs ++ take b (drop a xs)
+take_on a b xs le =
+    let n : length (take a xs) ≡ a = length-take-le a xs le in
+    ap (λ m. take (m + b) xs) (sym n) ∙ ap (take (length (take a xs) + b)) (sym (take-append-drop a xs))
+    ∙ take-append-add (take a xs) (drop a xs) b
+
+-- the first bytes of a piece are those of the text from there on
+take_piece : (k m : ℕ) (xs : List ℕ) → k ≤ length (take m xs) → take k (take m xs) ≡ take k xs
+take_piece k m xs le = sym (take-append-le k (take m xs) (drop m xs) le) ∙ ap (take k) (take-append-drop m xs)
+
+-- a part of a piece that was written behind all before it is a part of the text
+pub part_of_text : (w0 w w' : Option (List ℕ)) (text : List ℕ) (at end : ℕ) → at ≤ length text → w ≡ appended w0 (take at text) → WrotePart w w' (slice_range text at end) → WrotePart w0 w' text
+part_of_text w0 w w' text at end le h part =
+    let piece = slice_range text at end in
+    let k = min part.0 (length piece) in
+    let short : k ≤ length piece = omega arith in
+    let same : take part.0 piece ≡ take k (drop at text) = sym (take_min part.0 piece) ∙ take_piece k (end - at) (drop at text) short in (
+      at + k,
+      part.1 ∙ ap (λ v. appended v (take part.0 piece)) h ∙ appended-appended w0 (take at text) (take part.0 piece)
+          ∙ ap (λ l. appended w0 (take at text ++ l)) same ∙ ap (appended w0) (sym (take_on at k text le)),
+    )
+
+-- a piece that was written behind all before it
+pub piece_of_text : (w0 w w' : Option (List ℕ)) (text : List ℕ) (at end : ℕ) → at < end → end ≤ length text → w ≡ appended w0 (take at text) → w' ≡ appended w (slice_range text at end) → w' ≡ appended w0 (take end text)
+piece_of_text w0 w w' text at end lt le h e =
+    let le' : at ≤ length text = omega arith in
+    let n : at + (end - at) ≡ end = omega arith in
+    e ∙ ap (λ v. appended v (slice_range text at end)) h ∙ appended-appended w0 (take at text) (slice_range text at end)
+    ∙ ap (appended w0) (sym (take_on at (end - at) text le') ∙ ap (λ m. take m text) n)

@@ -1,0 +1,5 @@
+use Rattle.aos.specs.Seen.{SameSetting}
+use Rattle.aos.proofs.run.round.Given as goal
+
+abbrev pub invariant-loop : goal.invariant-loop
+invariant-loop l = SameSetting l.fn.kernel l.kernel

@@ -1,0 +1,5 @@
+use Rattle.aos.specs.Seen.{SameSetting}
+use Rattle.aos.proofs.run.run.Given as goal
+
+abbrev pub invariant-loop : goal.invariant-loop
+invariant-loop g l = SameSetting l.fn.kernel l.kernel

@@ -1,0 +1,5 @@
+pub mod Words
+pub mod Report
+pub mod Seen
+pub mod Cause
+pub mod Shown

@@ -1,0 +1,148 @@
+// An image's run by one worker, and what is seen of it.
+
+ghost use Rattle.std.specs.Prelude.{◌≡◌, ◌≢◌, ◌≤◌, ◌++◌, map, IfOk, OnOk};
+ghost use Rattle.std.specs.String.{string_bytes};
+ghost use Rattle.std.specs.Arc.{arc_value};
+ghost use Rattle.aos_base.specs.declared.kernel.Outcome.{Outcome};
+ghost use Rattle.aos_base.specs.Book.{outcome};
+ghost use Rattle.aos_base.specs.Observation.{Observation, status_of};
+ghost use Rattle.aos_code.specs.declared.image.Image.{Image};
+ghost use Rattle.aos_kernel.specs.Run.{state_of};
+ghost use Rattle.aos_report.specs.Texts.{rows_text};
+ghost use Rattle.aos.specs.Report.{row_of, report, spent_text};
+ghost use Rattle.aos.specs.Seen.{SameSetting, default_budget};
+ghost use Rattle.aos.specs.Shown.{ShowsRun};
+
+use crate::answer::Answer;
+use aos_base::{NoMemory, Outcome};
+use aos_code::{Image, ModuleDesc, TrapRec};
+use aos_kernel::{Kernel, Stepped};
+use aos_report::{budget_line, trap_line};
+use std::alloc::Global;
+use std::sync::{Arc, Wait};
+
+// How many statements an activity may begin.
+const BUDGET: u64 = 1_000_000;
+
+// The most steps of a round.
+const ROUND: u32 = 256;
+
+// A step of worker 0: whether something happened.
+fn step(kernel: &mut Kernel) -> Result<bool, NoMemory>
+    requires { 1 ≤ kernel.old.workers }
+    ensures { SameSetting kernel.old kernel.new }
+{
+    match kernel.step(0)? {
+        Stepped::Turned | Stepped::Dispatched => Ok(true),
+        Stepped::Idle | Stepped::Over => Ok(false),
+    }
+}
+
+// One round of worker 0: at most 256 steps, and a tick.
+fn round(kernel: &mut Kernel) -> Result<(), NoMemory>
+    requires { 1 ≤ kernel.old.workers }
+    ensures { SameSetting kernel.old kernel.new }
+{
+    for _ in 0..ROUND {
+        if !step(kernel)? {
+            break;
+        }
+    }
+    kernel.tick(0)?;
+    Ok(())
+}
+
+// Rounds of worker 0 until the outcome isn't Going.
+fn run<R: Wait>(rt: &R, kernel: &mut Kernel) -> Result<(), NoMemory>
+    requires { 1 ≤ kernel.old.workers }
+    ensures same { SameSetting kernel.old kernel.new }
+    ensures over { OnOk result (outcome (state_of kernel.new).book ≢ Outcome.Going) }
+{
+    for _ in rt.forever() {
+        if kernel.outcome() != Outcome::Going {
+            return Ok(());
+        }
+        round(kernel)?;
+    }
+    unreachable!()
+}
+
+// The lines of the traps, in their order.
+fn trap_lines(alloc: Global, traps: &[TrapRec], modules: &[ModuleDesc]) -> Result<Vec<u8>, NoMemory>
+    ensures { IfOk result (λ lines. lines.items ≡ rows_text (map (λ d. string_bytes d.name) modules.now) (map row_of traps.now)) }
+{
+    let mut lines = Vec::new(alloc);
+    for trap in traps {
+        lines.extend_from_slice(&trap_line(alloc, trap, modules)?)?;
+    }
+    Ok(lines)
+}
+
+// The status of a run with this outcome and these traps.
+fn status(outcome: Outcome, traps: &[TrapRec]) -> u8
+    ensures { result ≡ status_of outcome (map row_of traps.now) }
+{
+    match outcome {
+        Outcome::Ended => if traps.is_empty() { 0 } else { 3 },
+        Outcome::Dead => 4,
+        Outcome::Spent => 5,
+        Outcome::Going => 9,
+    }
+}
+
+// The line of the activity that used up the budget, if there is one.
+fn spent_line(alloc: Global, spent: Option<u32>) -> Result<Vec<u8>, NoMemory>
+    ensures { IfOk result (λ line. line.items ≡ spent_text spent default_budget) }
+{
+    match spent {
+        Some(activity) => budget_line(alloc, activity, BUDGET),
+        None => Ok(Vec::new(alloc)),
+    }
+}
+
+// What is seen of a kernel whose run is over.
+fn seen(alloc: Global, kernel: &Kernel) -> Result<Answer, NoMemory>
+    requires workers { kernel.now.workers ≡ 1 }
+    requires budget { kernel.now.budget ≡ default_budget }
+    requires over { outcome (state_of kernel.now).book ≢ Outcome.Going }
+    ensures { IfOk result (λ a. ShowsRun kernel.now.image a) }
+{
+    let _log = kernel.log();
+    let modules = kernel.image().modules.as_slice();
+    let traps = kernel.traps();
+    let mut err = trap_lines(alloc, traps, modules)?;
+    err.extend_from_slice(&spent_line(alloc, kernel.spent())?)?;
+    Ok(Answer {
+        status: status(kernel.outcome(), traps),
+        out: Vec::from_slice(alloc, kernel.output())?,
+        err,
+    })
+}
+
+// Runs a kernel of one worker, and tells what is seen.
+fn run_to_end<R: Wait>(rt: &R, alloc: Global, kernel: &mut Kernel) -> Result<Answer, NoMemory>
+    requires workers { kernel.old.workers ≡ 1 }
+    requires budget { kernel.old.budget ≡ default_budget }
+    ensures { IfOk result (λ a. ShowsRun kernel.old.image a) }
+{
+    run(rt, kernel)?;
+    seen(alloc, kernel)
+}
+
+// An image that the kernel shares.
+fn shared(alloc: Global, image: Image) -> Result<Arc<Image>, NoMemory>
+    ensures { IfOk result (λ a. arc_value a ≡ image) }
+{
+    match Arc::new(alloc, image) {
+        Ok(image) => Ok(image),
+        Err(_) => Err(NoMemory),
+    }
+}
+
+/// Runs an image by worker 0, with the default budget, until nothing more happens.
+pub fn run_image<R: Wait>(rt: &R, alloc: Global, image: Image) -> Result<Answer, NoMemory>
+    ensures { IfOk result (λ a. ShowsRun image a) }
+{
+    let mut kernel = Kernel::new(alloc, shared(alloc, image)?, 1, BUDGET)?;
+    run_to_end(rt, alloc, &mut kernel)
+}

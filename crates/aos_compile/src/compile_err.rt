@@ -1,0 +1,32 @@
+// Why a text isn't compiled.
+
+ghost use Rattle.std.specs.Prelude.{◌≡◌};
+ghost use Rattle.aos_compile.specs.declared.compile_err.CompileErr.{CompileErr};
+
+use aos_base::{NoMemory, Refusal};
+use std::alloc::AllocError;
+
+/// Why a text isn't compiled.
+#[derive(Clone, Copy, PartialEq, Eq, Debug)]
+pub enum CompileErr {
+    /// A rule is broken.
+    Refused(Refusal),
+    /// Memory was wanted and not had.
+    NoMemory,
+}
+
+impl From<NoMemory> for CompileErr {
+    ghost from_gives = { λ _ e. e ≡ CompileErr.NoMemory };
+
+    fn from(_: NoMemory) -> CompileErr {
+        CompileErr::NoMemory
+    }
+}
+
+impl From<AllocError> for CompileErr {
+    ghost from_gives = { λ _ e. e ≡ CompileErr.NoMemory };
+
+    fn from(_: AllocError) -> CompileErr {
+        CompileErr::NoMemory
+    }
+}

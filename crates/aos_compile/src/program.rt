@@ -1,0 +1,45 @@
+// From a text to its program and image.
+
+ghost use Rattle.std.specs.Prelude.{◌≡◌, ◌≤◌, ◌^◌, [], ◌∷◌, length, map, IfOk, IfErr};
+ghost use Rattle.std.specs.String.{string_bytes};
+ghost use Rattle.aos_sim.specs.Shows.{Shows};
+ghost use Rattle.aos_compile.specs.Elaborates.{Elaborates, IsAccepted, names_of, not_built, OnRefused};
+
+use crate::compile_err::CompileErr;
+use crate::image::image_of;
+use aos_base::{NoMemory, Pos, Refusal};
+use aos_code::Image;
+use aos_read::{law_of_typing, read};
+use aos_typed::{Program, TModule};
+use std::alloc::{AllocError, Global};
+
+// The program of one module.
+fn program_of(alloc: Global, only: TModule) -> Result<Program, AllocError>
+    ensures { IfOk result (λ p. p.modules.items ≡ only ∷ []) }
+{
+    let mut modules = Vec::new(alloc);
+    modules.push(only)?;
+    Ok(Program { modules })
+}
+
+/// The typed program of a text of at most 2^20 bytes, and an image that shows it: for every budget and schedule the
+/// image's execution is seen as the program's. Refused exactly where the text has no program.
+pub fn compile(alloc: Global, text: &[u8]) -> Result<(Program, Image), CompileErr>
+    requires { length text.now ≤ 2 ^ 20 }
+    ensures elaborates { IfOk result (λ r. Elaborates text.now r.0) }
+    ensures shows { IfOk result (λ r. Shows r.0 r.1) }
+    ensures names { IfOk result (λ r. map (λ d. string_bytes d.name) r.1.modules.items ≡ names_of r.0) }
+    ensures refused { IfErr result (λ e. OnRefused e (λ r. (r ≡ not_built) × (¬ IsAccepted text.now))) }
+{
+    let Some(module) = read(alloc, text)? else {
+        return Err(CompileErr::Refused(Refusal {
+            rule: 99,
+            file: 0,
+            pos: Pos { line: 1, col: 1 },
+        }));
+    };
+    law_of_typing();
+    let program = program_of(alloc, module)?;
+    let image = image_of(alloc, &program)?;
+    Ok((program, image))
+}
