@@ -1,0 +1,5 @@
+pub mod Names
+pub mod Tokens
+pub mod Grammar
+pub mod Module
+pub mod Variables
