@@ -3,3 +3,4 @@ pub mod Tokens
 pub mod Grammar
 pub mod Module
 pub mod Variables
+pub mod Lexemes

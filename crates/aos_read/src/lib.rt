@@ -11,7 +11,9 @@ use aos_base::NoMemory;
 use aos_typed::TModule;
 use std::alloc::Global;
 
+mod scan;
 pub mod token;
+mod words;
 
 /// The module that a text is, or None where it is none.
 pub fn read(alloc: Global, text: &[u8]) -> Result<Option<TModule>, NoMemory>

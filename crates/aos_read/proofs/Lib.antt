@@ -1,0 +1,5 @@
+pub mod Each
+pub mod Typed
+pub mod Own
+pub mod Fronts
+pub mod Reached
