@@ -1,8 +1,9 @@
 -- How far the tokens of a text are read: what makes up the rest makes up the whole, and whatever makes up the whole
 -- begins with the tokens found.
-use Rattle.std.proofs.Common.{◌≡◌, ℕ, suc, ◌+◌, ◌-◌, ◌<◌, ◌≤◌, List, [], ◌∷◌, ◌++◌, take, drop, length, Option, Some, None, Bool, true, false, ◌==◌, ◌||◌, ◌&&◌, nat_le, subst, ap, ◌∙◌, sym, refl, arith, append_assoc, append-nil, rules, ◌≢◌, ◌⊎◌, inl, inr}
+use Rattle.std.proofs.Common.{◌≡◌, ℕ, zero, suc, ◌+◌, ◌-◌, ◌<◌, ◌≤◌, List, [], ◌∷◌, ◌++◌, take, drop, length, Option, Some, None, Bool, true, false, ◌==◌, ◌||◌, ◌&&◌, nat_le, subst, ap, ◌∙◌, sym, refl, arith, append_assoc, append-nil, rules, ◌≢◌, ◌⊎◌, inl, inr}
 use Rattle.std.proofs.lemmas.Bool.Decides.{nat_tests}
 use Rattle.std.proofs.lemmas.List.{length-take}
+use Rattle.std.specs.Str.{IsAscii}
 use Rattle.std.specs.Option.{option_map}
 use Rattle.std.specs.List.{prefix_len}
 use Rattle.std.specs.Char.{is_ascii_digit, is_ascii_alphabetic}
@@ -23,6 +24,7 @@ digit_no_letter b digit = grind (arith, nat_tests)
 
 -- a byte that is no symbol's, or is one of these
 record IsPlain (b : ℕ) : Type 0 where
+  low : b < 128
   letter : is_ascii_alphabetic b ≡ false
   digit : is_ascii_digit b ≡ false
   colon : (b == 58) ≡ false
@@ -36,15 +38,15 @@ plain_at b n plain e = subst (λ x. IsPlain x) (sym (same_of b n e)) plain
 
 symbol_plain : (b : ℕ) (k : Kind) → symbol_of b ≡ Some k → IsPlain b
 symbol_plain b k is =
-    by_test (IsPlain b) (b == 59) (plain_at b 59 (record { letter = refl; digit = refl; colon = refl; blank = refl })) (λ f0.
-    by_test (IsPlain b) (b == 44) (plain_at b 44 (record { letter = refl; digit = refl; colon = refl; blank = refl })) (λ f1.
-    by_test (IsPlain b) (b == 60) (plain_at b 60 (record { letter = refl; digit = refl; colon = refl; blank = refl })) (λ f2.
-    by_test (IsPlain b) (b == 35) (plain_at b 35 (record { letter = refl; digit = refl; colon = refl; blank = refl })) (λ f3.
-    by_test (IsPlain b) (b == 43) (plain_at b 43 (record { letter = refl; digit = refl; colon = refl; blank = refl })) (λ f4.
-    by_test (IsPlain b) (b == 45) (plain_at b 45 (record { letter = refl; digit = refl; colon = refl; blank = refl })) (λ f5.
-    by_test (IsPlain b) (b == 46) (plain_at b 46 (record { letter = refl; digit = refl; colon = refl; blank = refl })) (λ f6.
-    by_test (IsPlain b) (b == 40) (plain_at b 40 (record { letter = refl; digit = refl; colon = refl; blank = refl })) (λ f7.
-    by_test (IsPlain b) (b == 41) (plain_at b 41 (record { letter = refl; digit = refl; colon = refl; blank = refl })) (λ f8. let none : symbol_of b ≡ None = rw (f0, f1, f2, f3, f4, f5, f6, f7, f8) refl in let no : None ≡ Some k = sym none ∙ is in absurd (cc))))))))))
+    by_test (IsPlain b) (b == 59) (plain_at b 59 (record { low = omega arith; letter = refl; digit = refl; colon = refl; blank = refl })) (λ f0.
+    by_test (IsPlain b) (b == 44) (plain_at b 44 (record { low = omega arith; letter = refl; digit = refl; colon = refl; blank = refl })) (λ f1.
+    by_test (IsPlain b) (b == 60) (plain_at b 60 (record { low = omega arith; letter = refl; digit = refl; colon = refl; blank = refl })) (λ f2.
+    by_test (IsPlain b) (b == 35) (plain_at b 35 (record { low = omega arith; letter = refl; digit = refl; colon = refl; blank = refl })) (λ f3.
+    by_test (IsPlain b) (b == 43) (plain_at b 43 (record { low = omega arith; letter = refl; digit = refl; colon = refl; blank = refl })) (λ f4.
+    by_test (IsPlain b) (b == 45) (plain_at b 45 (record { low = omega arith; letter = refl; digit = refl; colon = refl; blank = refl })) (λ f5.
+    by_test (IsPlain b) (b == 46) (plain_at b 46 (record { low = omega arith; letter = refl; digit = refl; colon = refl; blank = refl })) (λ f6.
+    by_test (IsPlain b) (b == 40) (plain_at b 40 (record { low = omega arith; letter = refl; digit = refl; colon = refl; blank = refl })) (λ f7.
+    by_test (IsPlain b) (b == 41) (plain_at b 41 (record { low = omega arith; letter = refl; digit = refl; colon = refl; blank = refl })) (λ f8. let none : symbol_of b ≡ None = rw (f0, f1, f2, f3, f4, f5, f6, f7, f8) refl in let no : None ≡ Some k = sym none ∙ is in absurd (cc))))))))))
 
 -- no token begins with a blank or at a line's end
 at_space : (bytes : List ℕ) → front_of (32 ∷ bytes) ≡ None
@@ -235,3 +237,43 @@ pub blank_of : (b : ℕ) → (b ≡ 9) ⊎ ((b ≡ 13) ⊎ (b ≡ 32)) → is_bl
 blank_of b (inl e) = ap is_blank e
 blank_of b (inr (inl e)) = ap is_blank e
 blank_of b (inr (inr e)) = ap is_blank e
+
+ascii_cons : (b : ℕ) (bytes : List ℕ) → b < 128 → IsAscii bytes → IsAscii (b ∷ bytes)
+ascii_cons b bytes low all zero = low
+ascii_cons b bytes low all (suc i) = all i
+
+ascii_nil : IsAscii []
+ascii_nil i = omega arith
+
+run_ascii : (p : ℕ → Bool) → ((b : ℕ) → p b ≡ true → b < 128) → (bytes : List ℕ) → IsAscii (run_of p bytes)
+run_ascii p low [] = ascii_nil
+run_ascii p low (b ∷ bytes) =
+    by_test (IsAscii (run_of p (b ∷ bytes))) (p b)
+    (λ t.
+      let one : prefix_len p (b ∷ bytes) ≡ 1 + prefix_len p bytes = rw t refl in
+      let e : prefix_len p (b ∷ bytes) ≡ suc (prefix_len p bytes) = omega arith in
+      subst (λ n. IsAscii (take n (b ∷ bytes))) (sym e) (ascii_cons b (run_of p bytes) (low b t) (run_ascii p low bytes)))
+    (λ f. let e : prefix_len p (b ∷ bytes) ≡ 0 = rw f refl in subst (λ n. IsAscii (take n (b ∷ bytes))) (sym e) ascii_nil)
+
+letter_low : (b : ℕ) → is_ascii_alphabetic b ≡ true → b < 128
+letter_low b letter = grind (arith, nat_tests)
+
+digit_low : (b : ℕ) → is_ascii_digit b ≡ true → b < 128
+digit_low b digit = grind (arith, nat_tests)
+
+part_low : (b : ℕ) → is_name_part b ≡ true → b < 128
+part_low b part = grind (arith, nat_tests)
+
+symbol_low : (b : ℕ) (k : Kind) → symbol_of b ≡ Some k → b < 128
+symbol_low b k is = let plain = symbol_plain b k is in plain.low
+
+begins_ascii : {bytes : List ℕ} {k : Kind} {w : Name} → Begins bytes k w → IsAscii w
+begins_ascii (a_word {b = b} {bytes = bytes} letter) = ascii_cons b _ (letter_low b letter) (run_ascii is_name_part part_low bytes)
+begins_ascii (a_number {b = b} {bytes = bytes} digit short) = ascii_cons b _ (digit_low b digit) (run_ascii is_ascii_digit digit_low bytes)
+begins_ascii (a_symbol {b = b} {k = k} is) = ascii_cons b [] (symbol_low b k is) ascii_nil
+begins_ascii becomes = ascii_cons 58 (61 ∷ []) (omega arith) (ascii_cons 61 [] (omega arith) ascii_nil)
+begins_ascii colon = ascii_cons 58 [] (omega arith) ascii_nil
+begins_ascii (colon_before other) = ascii_cons 58 [] (omega arith) ascii_nil
+
+pub ascii : (bytes : List ℕ) (k : Kind) (w : Name) → front_of bytes ≡ Some (k, w) → IsAscii w
+ascii bytes k w e = begins_ascii (front_begins bytes k w e)

@@ -1,6 +1,7 @@
 -- What the code's tokens show, and how the code reads a text: for the contracts of private functions alone.
 use Rattle.std.specs.Prelude.{◌≡◌, ℕ, ◌+◌, List, [], ◌∷◌, map, Bool, true, false, ◌==◌, Option, Some, None, if◌then◌else◌}
 use denote.Ref.{Bor}
+use Rattle.std.specs.String.{string_bytes}
 use Rattle.std.specs.Option.{option_map}
 use Rattle.std.specs.Char.{is_ascii_digit, is_ascii_alphabetic}
 use Rattle.aos_read.specs.declared.token.Kind.{Kind}
@@ -10,7 +11,7 @@ use Rattle.aos_read.specs.Names.{Name, reserved, kind_among}
 use Rattle.aos_read.specs.Tokens.{Lexeme, is_name_part, is_to_sixteen, run_of, symbol_of}
 
 abbrev pub lexeme_of : Token → Lexeme
-lexeme_of t = record { kind = t.kind; pos = t.pos; word = t.word.now }
+lexeme_of t = record { kind = t.kind; pos = t.pos; word = string_bytes t.word }
 
 abbrev pub lexemes : List Token → List Lexeme
 lexemes ts = map lexeme_of ts

@@ -4,3 +4,4 @@ pub mod Grammar
 pub mod Module
 pub mod Variables
 pub mod Lexemes
+pub mod Machine

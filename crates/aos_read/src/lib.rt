@@ -11,7 +11,9 @@ use aos_base::NoMemory;
 use aos_typed::TModule;
 use std::alloc::Global;
 
+mod parse;
 mod scan;
+mod statement;
 pub mod token;
 mod words;
 

@@ -3,6 +3,7 @@
 ghost use Rattle.std.specs.Prelude.{ℕ, ◌≡◌, ◌+◌, ◌<◌, ◌≤◌, ◌^◌, List, [], ◌∷◌, length, take, drop, Some, None, IfOk, IfSome, IfNone, MatchOption};
 ghost use Rattle.std.specs.List.{prefix_len};
 ghost use Rattle.std.specs.Char.{is_ascii_digit};
+ghost use Rattle.std.specs.Str.{IsAscii};
 ghost use Rattle.aos_read.specs.Names.{kind_among, reserved};
 ghost use Rattle.aos_read.specs.Tokens.{Lexeme, IsText, is_name_part, is_sixteen_digit, is_to_sixteen, symbol_of, run_of};
 ghost use Rattle.aos_read.specs.Lexemes.{lexemes, front_of, word_at, number_at, colon_at, symbol_at, IsShown};
@@ -129,8 +130,19 @@ fn first_token<'a>(bytes: &'a [u8]) -> Option<(Kind, &'a [u8])>
     }
 }
 
+/// The bytes of a token as text.
+fn as_text(word: &[u8]) -> &str
+    requires { IsAscii word.now }
+    ensures { result.now ≡ word.now }
+{
+    match str::from_utf8(word) {
+        Ok(text) => text,
+        Err(_) => unreachable!(),
+    }
+}
+
 /// The tokens that make up a text, or None where none do.
-pub fn tokens_of(alloc: Global, text: &[u8]) -> Result<Option<Vec<Token<'_>>>, AllocError>
+pub fn tokens_of(alloc: Global, text: &[u8]) -> Result<Option<Vec<Token>>, AllocError>
     requires { length text.now ≤ 2 ^ 20 }
     ensures made_up { IfOk result (λ o. IfSome o (λ v. IsText 1 1 text.now (lexemes v.items))) }
     ensures only { IfOk result (λ o. IfSome o (λ v. (ts : List Lexeme) → IsText 1 1 text.now ts → ts ≡ lexemes v.items)) }
@@ -154,7 +166,12 @@ pub fn tokens_of(alloc: Global, text: &[u8]) -> Result<Option<Vec<Token<'_>>>, A
                 let Some((kind, word)) = first_token(rest) else {
                     return Ok(None);
                 };
-                tokens.push(Token { kind, pos, word })?;
+                let spelling = String::from_str(alloc, as_text(word))?;
+                tokens.push(Token {
+                    kind,
+                    pos,
+                    word: spelling,
+                })?;
                 pos.col += word.len() as u32;
                 rest = behind(rest, word.len());
             }

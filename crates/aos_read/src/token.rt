@@ -43,9 +43,9 @@ pub enum Kind {
 }
 
 /// A token: its kind, its place in the text and its bytes.
-#[derive(Clone, Copy, Debug)]
-pub struct Token<'a> {
+#[derive(Debug, Drop)]
+pub struct Token {
     pub kind: Kind,
     pub pos: Pos,
-    pub word: &'a [u8],
+    pub word: String,
 }

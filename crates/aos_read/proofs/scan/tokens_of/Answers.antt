@@ -4,7 +4,7 @@ use Rattle.aos_read.specs.declared.token.Token.{Token}
 use Rattle.aos_read.specs.Tokens.{is_blank}
 use Rattle.aos_read.specs.Lexemes.{lexeme_of, lexemes, front_of}
 use Rattle.aos_read.proofs.Fronts.{head_of, empty_of}
-use Rattle.aos_read.proofs.Reached.{Reached, past_blank, past_line, past_token, within, all_found, none_other, stuck, begun, blank_of}
+use Rattle.aos_read.proofs.Reached.{Reached, past_blank, past_line, past_token, within, all_found, none_other, stuck, begun, blank_of, ascii, at_place}
 use Rattle.aos_read.proofs.scan.tokens_of.Goals as goal
 
 pub loop-first-init : goal.loop-first-init
@@ -86,13 +86,14 @@ loop-first-preserved c =
     let w = within rest k word (sym c.in-Some-first_token.ensures) in
     let short = length-drop (length word) rest in
     let cut : length c.behind-rest-in_default-first.result.now ≡ length (drop (length word) rest) = ap length c.behind-rest-in_default-first.ensures in
-    let t : Token = record { kind = k; pos = record { line = line; col = col }; word = c.in-Some-first_token.word } in
+    let t : Token = record { kind = k; pos = record { line = line; col = col }; word = c.in_ok-spelling-in_default-first.spelling } in
     record {
       reached =
         subst (λ ts. Reached text (lexemes ts) line (col + length word) c.behind-rest-in_default-first.result.now) (sym c.in_ok-push-in_default-first.ensures.items)
         (subst (λ ts. Reached text ts line (col + length word) c.behind-rest-in_default-first.result.now) (sym (map-append lexeme_of found (t ∷ [])))
         (subst (λ l. Reached text (lexemes found ++ lexeme_of t ∷ []) line (col + length word) l) (sym c.behind-rest-in_default-first.ensures)
-        (past_token text (lexemes found) line col k word rest (sym c.in-Some-first_token.ensures) c.loop-first.invariant.reached)));
+        (subst (λ v. Reached text (lexemes found ++ at_place line col k v ∷ []) line (col + length word) (drop (length word) rest)) (sym (c.in_ok-spelling-in_default-first.ensures.ok ∙ c.as_text.ensures))
+        (past_token text (lexemes found) line col k word rest (sym c.in-Some-first_token.ensures) c.loop-first.invariant.reached))));
       line = omega arith;
       col = omega arith
     }
@@ -106,3 +107,6 @@ pub returns-clause-only : goal.returns-clause-only
 returns-clause-only c =
     none_other c.args.text.now (lexemes c.loop-first.tokens.items) c.loop-first.pos.line c.loop-first.pos.col c.loop-first.rest.now
     (empty_of c.loop-first.rest.now (search rules)) c.loop-first.invariant.reached
+
+pub as_text-requires : goal.as_text-requires
+as_text-requires c = ascii c.loop-first.rest.now c.in-Some-first_token.kind c.in-Some-first_token.word.now (sym c.in-Some-first_token.ensures)
