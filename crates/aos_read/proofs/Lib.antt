@@ -6,3 +6,5 @@ pub mod Reached
 pub mod Steps
 pub mod TokenTests
 pub mod Trees
+pub mod Complete
+pub mod Whole

@@ -42,7 +42,7 @@ kind_at k.CloseParen = refl
 same_code : (a b : Kind) → code a ≡ code b → a ≡ b
 same_code a b e = let both : Some a ≡ Some b = sym (kind_at a) ∙ ap (λ n. slice_get kinds n) e ∙ kind_at b in cc
 
-not_true : (b : Bool) → (b ≡ true → ⊥) → b ≡ false
+pub not_true : (b : Bool) → (b ≡ true → ⊥) → b ≡ false
 not_true true h = absurd (h refl)
 not_true false h = refl
 
@@ -62,10 +62,10 @@ pub kind_test : (r : Bool) (x : Kind) (t : Lexeme) → (r ≡ true → t.kind �
 kind_test true x t yes_case no_case = sym (kind_is x t (yes_case refl))
 kind_test false x t yes_case no_case = sym (kind_isnt x t (no_case refl))
 
-bytes_same : (v w : Name) → bytes_eq v w ≡ true → v ≡ w
+pub bytes_same : (v w : Name) → bytes_eq v w ≡ true → v ≡ w
 bytes_same v w e = (bytes_eq-Decides v w).0 e
 
-same_bytes : (v w : Name) → v ≡ w → bytes_eq v w ≡ true
+pub same_bytes : (v w : Name) → v ≡ w → bytes_eq v w ≡ true
 same_bytes v w e = (bytes_eq-Decides v w).1 e
 
 pub word_off : (w : Name) (t : Lexeme) → is_kind k.Ident t ≡ false → false ≡ is_word w t
@@ -134,11 +134,11 @@ pub variable_found : (names : List Name) (t : Lexeme) (r : Option ℕ) → is_ki
 variable_found names t (Some n) on is = record { ident = kind_true k.Ident t on; declared = is }
 variable_found names t None on is = tt
 
-or_true : (b : Bool) → (b || true) ≡ true
+pub or_true : (b : Bool) → (b || true) ≡ true
 or_true true = refl
 or_true false = refl
 
-among_of : (names : List Name) (n : ℕ) (w : Name) → slice_get names n ≡ Some w → is_among names w ≡ true
+pub among_of : (names : List Name) (n : ℕ) (w : Name) → slice_get names n ≡ Some w → is_among names w ≡ true
 among_of [] n w e = absurd (cc)
 among_of (x ∷ names) zero w e =
     let same : x ≡ w = cc in ap (λ b. b || is_among names w) (same_bytes x w same)
@@ -148,3 +148,42 @@ among_of (x ∷ names) (suc n) w e =
 pub variable_is : (names : List Name) (n : ℕ) (t : Lexeme) → IsVariable names n t → is_variable names t ≡ true
 variable_is names n t is =
     sym (variable_on names t (kind_is k.Ident t is.ident)) ∙ among_of names n t.word is.declared
+
+pub new_is : (before : List Name) (t : Lexeme) → IsNew before t → is_new before t ≡ true
+unfolding is_new
+new_is before t is = rw (kind_is k.Ident t is.ident, is.free, is.once) refl
+
+pub new_found : (before : List Name) (t : Lexeme) → is_kind k.Ident t ≡ true → is_among taken t.word ≡ false → is_among before t.word ≡ false → IsNew before t
+new_found before t kind free once = record { ident = kind_true k.Ident t kind; free = free; once = once }
+
+and_false : (a : Bool) → false ≡ (a && false)
+and_false true = refl
+and_false false = refl
+
+pub new_off : (before : List Name) (t : Lexeme) → is_kind k.Ident t ≡ false → false ≡ is_new before t
+unfolding is_new
+new_off before t off = ap (λ a. a && not (is_among taken t.word) && not (is_among before t.word)) (sym off)
+
+pub new_taken : (before : List Name) (t : Lexeme) → is_among taken t.word ≡ true → false ≡ is_new before t
+unfolding is_new
+new_taken before t there =
+    ap (λ a. a && not (is_among before t.word)) (and_false (is_kind k.Ident t)) ∙ ap (λ a. is_kind k.Ident t && not a && not (is_among before t.word)) (sym there)
+
+pub new_again : (before : List Name) (t : Lexeme) → is_among before t.word ≡ true → false ≡ is_new before t
+unfolding is_new
+new_again before t there =
+    and_false (is_kind k.Ident t && not (is_among taken t.word)) ∙ ap (λ a. is_kind k.Ident t && not (is_among taken t.word) && not a) (sym there)
+
+not_not : (a : Bool) → not a ≡ true → a ≡ false
+not_not true e = absurd (cc)
+not_not false e = refl
+
+pub new_true : (before : List Name) (t : Lexeme) → is_new before t ≡ true → IsNew before t
+unfolding is_new
+new_true before t e =
+    let p = both (is_kind k.Ident t && not (is_among taken t.word)) (not (is_among before t.word)) e in
+    let q = both (is_kind k.Ident t) (not (is_among taken t.word)) p.0 in
+    record { ident = kind_true k.Ident t q.0; free = not_not (is_among taken t.word) q.1; once = not_not (is_among before t.word) p.1 }
+
+pub new_last : (before : List Name) (t : Lexeme) → is_kind k.Ident t ≡ true → is_among taken t.word ≡ false → is_among before t.word ≡ false → true ≡ is_new before t
+new_last before t kind free once = sym (new_is before t (new_found before t kind free once))

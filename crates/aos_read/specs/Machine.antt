@@ -1,6 +1,6 @@
 -- The grammar as a machine that tells whether tokens are read by what is still to come: for the contracts of private
 -- functions alone. Each token takes the first of what is to come and puts what comes after it in its place.
-use Rattle.std.specs.Prelude.{◌≡◌, ℕ, ◌+◌, List, [], ◌∷◌, codes, Bool, true, false, not, ◌||◌, ◌&&◌, ◌==◌, nat_le, Option, Some, None, if◌then◌else◌, is_some}
+use Rattle.std.specs.Prelude.{◌≡◌, ℕ, ◌+◌, List, [], ◌∷◌, ◌++◌, codes, Bool, true, false, not, ◌||◌, ◌&&◌, ◌==◌, nat_le, Option, Some, None, if◌then◌else◌, is_some}
 use Rattle.std.specs.Option.{option_map}
 use Rattle.std.specs.List.{position}
 use Rattle.std.specs.Str.{bytes_eq}
@@ -15,7 +15,7 @@ use Rattle.aos_read.specs.declared.token.Token.{Token}
 use Rattle.aos_read.specs.Names.{Name, is_among, taken}
 use Rattle.aos_read.specs.Tokens.{Lexeme, number_of}
 use Rattle.aos_read.specs.Lexemes.{lexemes}
-use Rattle.aos_read.specs.Grammar.{sign_of, relation_of, greatest_number, greatest_places, greatest_nesting, IsSum}
+use Rattle.aos_read.specs.Grammar.{sign_of, relation_of, greatest_number, greatest_places, greatest_nesting, IsSum, IsWord}
 
 -- a number for each kind, by which two are compared
 abbrev pub code : Kind → ℕ
@@ -62,6 +62,9 @@ pub data Symbol : Type 0 where
   word : Name → Symbol
   number : ℕ → Symbol
   name : Symbol
+  fresh : List Name → Symbol
+  after : List Name → Symbol
+  variables : Symbol
   operand : Symbol
   chain : Symbol
   sum : Symbol
@@ -84,12 +87,22 @@ module _ (names : List Name) where
 
   unfoldable pub step_call : ℕ → Lexeme → Stack → Option Stack
   step_call d t j =
-      if is_word (codes "Int") t && nat_le (d + 2) greatest_nesting
-      then Some (kind k.OpenParen ∷ sum ∷ kind k.Comma ∷ number greatest_places ∷ kind k.CloseParen ∷ j)
-      else if is_word (codes "Ln") t && nat_le d greatest_nesting then Some j else None
+      if is_word (codes "Int") t then
+        if nat_le (d + 2) greatest_nesting
+        then Some (kind k.OpenParen ∷ sum ∷ kind k.Comma ∷ number greatest_places ∷ kind k.CloseParen ∷ j) else None
+      else if is_word (codes "Ln") t then if nat_le d greatest_nesting then Some j else None else None
 
   unfoldable pub step_more : ℕ → Lexeme → Stack → Option Stack
   step_more d t j = if is_kind k.KwEnd t then Some j else if is_kind k.Semicolon t then Some (block d ∷ j) else None
+
+  unfoldable pub step_after : List Name → Lexeme → Stack → Option Stack
+  step_after before t j =
+      if is_kind k.Comma t then Some (fresh before ∷ j)
+      else if is_kind k.Colon t then Some (word (codes "LONGINT") ∷ kind k.Semicolon ∷ j) else None
+
+  unfoldable pub step_variables : Lexeme → Stack → Option Stack
+  step_variables t j =
+      if is_kind k.KwBegin t then Some j else if is_kind k.KwVar t then Some (fresh [] ∷ kind k.KwBegin ∷ j) else None
 
   unfoldable pub step_sum : Lexeme → Stack → Option Stack
   step_sum t j =
@@ -104,6 +117,9 @@ module _ (names : List Name) where
   step (word w ∷ j) t = if is_word w t then Some j else None
   step (number most ∷ j) t = if is_number most t then Some j else None
   step (name ∷ j) t = if is_new [] t then Some j else None
+  step (fresh before ∷ j) t = if is_new before t then Some (after (before ++ t.word ∷ []) ∷ j) else None
+  step (after before ∷ j) t = step_after before t j
+  step (variables ∷ j) t = step_variables t j
   step (operand ∷ j) t = if is_operand t then Some j else None
   step (chain ∷ j) t = if is_some (sign_of t.kind) then Some (operand ∷ chain ∷ j) else step j t
   step (sum ∷ j) t = step_sum t j
@@ -132,6 +148,16 @@ module _ (names : List Name) where
   accepts j None = false
   accepts j (Some ts) = run j ts
 
+-- a module's head before what is to come, and all of a module whose name is this
+abbrev pub head : Stack → Stack
+head j = kind k.KwModule ∷ name ∷ kind k.Semicolon ∷ kind k.KwImport ∷ word (codes "Out") ∷ kind k.Semicolon ∷ j
+
+abbrev pub end : Name → Stack
+end w = word w ∷ kind k.Period ∷ []
+
+abbrev pub module_named : Name → Stack
+module_named w = head (variables ∷ block 1 ∷ end w)
+
 -- what the code leaves of the tokens
 abbrev pub left : Option (Bor (List Token)) → Option (List Lexeme)
 left o = option_map (λ r. lexemes r.now) o
@@ -150,3 +176,7 @@ pub data IsCompared (r : Relation) (a b : TExpr) : TExpr → Type 0 where
 pub data IsCondition (names : List Name) : TExpr → List Lexeme → List Lexeme → Type 0 where
   condition : {a b : TExpr} {r : Relation} {p q : _} {s o : Lexeme} {ts us rest : List Lexeme} → IsSum names a ts (s ∷ us) →
       relation_of s.kind ≡ Some r → IsSum names b us (o ∷ rest) → o.kind ≡ k.KwDo → IsCondition names (Compare' r p a q b) ts rest
+
+-- LONGINT ";"
+pub data IsLongint : List Lexeme → List Lexeme → Type 0 where
+  longint : {l s : Lexeme} {rest : List Lexeme} → IsWord (codes "LONGINT") l → s.kind ≡ k.Semicolon → IsLongint (l ∷ s ∷ rest) rest

@@ -9,8 +9,12 @@ ghost use Rattle.aos_read.specs.Variables.{NamesItsVariables};
 
 use aos_base::NoMemory;
 use aos_typed::TModule;
+
+use crate::module::module;
+use crate::scan::tokens_of;
 use std::alloc::Global;
 
+mod module;
 mod parse;
 mod scan;
 mod statement;
@@ -23,7 +27,10 @@ pub fn read(alloc: Global, text: &[u8]) -> Result<Option<TModule>, NoMemory>
     ensures accepted { IfOk result (λ o. IfSome o (λ m. IsModule text.now m)) }
     ensures refused { IfOk result (λ o. IfNone o ((m : Module) → ¬ IsModule text.now m)) }
 {
-    Err(NoMemory)
+    let Some(tokens) = tokens_of(alloc, text)? else {
+        return Ok(None);
+    };
+    Ok(module(alloc, &tokens)?)
 }
 
 /// The law: a text's module is well typed, and each of its variables is of module 0 and one of those that it declares.

@@ -146,6 +146,7 @@ pub fn tokens_of(alloc: Global, text: &[u8]) -> Result<Option<Vec<Token>>, Alloc
     requires { length text.now ≤ 2 ^ 20 }
     ensures made_up { IfOk result (λ o. IfSome o (λ v. IsText 1 1 text.now (lexemes v.items))) }
     ensures only { IfOk result (λ o. IfSome o (λ v. (ts : List Lexeme) → IsText 1 1 text.now ts → ts ≡ lexemes v.items)) }
+    ensures count { IfOk result (λ o. IfSome o (λ v. length v.items ≤ length text.now)) }
     ensures none { IfOk result (λ o. IfNone o ((ts : List Lexeme) → ¬ IsText 1 1 text.now ts)) }
 {
     let mut tokens = Vec::new(alloc);

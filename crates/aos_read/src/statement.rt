@@ -145,7 +145,10 @@ fn write<'a>(
     let Some((name, rest)) = next(rest) else {
         return Ok(None);
     };
-    if is_word(name, "Int") && depth + 2 <= NESTING {
+    if is_word(name, "Int") {
+        if depth + 2 > NESTING {
+            return Ok(None);
+        }
         return write_int(alloc, variables, first, rest);
     }
     if is_word(name, "Ln") {

@@ -7,6 +7,7 @@ abbrev pub invariant-loop-first : goal.invariant-loop-first
 invariant-loop-first l = record {
   reached : Reached l.text (lexemes l.tokens.items) l.pos.line l.pos.col l.rest;
   line : l.pos.line + length l.rest ≤ 2 ^ 20 + 1;
+  count : length l.tokens.items + length l.rest ≤ length l.text;
   col : l.pos.col + length l.rest ≤ 2 ^ 20 + 1
 }
 

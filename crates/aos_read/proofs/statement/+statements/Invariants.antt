@@ -18,12 +18,12 @@ abbrev pub decreases-block : goal.decreases-block
 decreases-block l = 4 * (201 - l.depth) + 3
 
 -- what goes on with the statements found goes on with all
-abbrev pub invariant-block-loop-one : goal.invariant-block-loop-one
-invariant-block-loop-one l = record {
+abbrev pub invariant-block-loop-found : goal.invariant-block-loop-found
+invariant-block-loop-found l = record {
   tree : (more : List TStat) (end : List Lexeme) → IsBlock (names_of l.variables) l.depth more (lexemes l.rest) end → IsBlock (names_of l.variables) l.depth (l.found.items ++ more) (lexemes l.tokens) end;
   moves : (j : Stack) → run (names_of l.variables) (m.block l.depth ∷ j) (lexemes l.tokens) ≡ run (names_of l.variables) (m.block l.depth ∷ j) (lexemes l.rest);
   shorter : length l.rest ≤ length l.tokens
 }
 
-abbrev pub decreases-block-loop-one : goal.decreases-block-loop-one
-decreases-block-loop-one l = length l.rest
+abbrev pub decreases-block-loop-found : goal.decreases-block-loop-found
+decreases-block-loop-found l = length l.rest
