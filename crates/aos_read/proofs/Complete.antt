@@ -1,12 +1,11 @@
 -- What the grammar reads, the machine accepts: so tokens that it refuses are read by no tree.
-use Rattle.std.proofs.Common.{◌≡◌, ℕ, ◌+◌, ◌≤◌, List, [], ◌∷◌, ◌++◌, Option, Some, None, Bool, true, false, ◌||◌, is_some, ap, ◌∙◌, sym, refl, subst, codes, slice_get, arith, ◌≢◌}
-use Rattle.std.specs.Str.{bytes_eq}
+use Rattle.std.proofs.Common.{◌≡◌, ℕ, ◌+◌, List, [], ◌∷◌, ◌++◌, Some, true, false, ◌||◌, is_some, ap, ◌∙◌, sym, refl, codes, arith, ◌≢◌}
 use Rattle.aos_base.specs.declared.number.Relation.{Relation}
 use Rattle.aos_typed.specs.declared.tree.TExpr.{TExpr}
 use Rattle.aos_typed.specs.declared.tree.TStat.{TStat}
 use Rattle.aos_read.specs.declared.token.Kind.{Kind}
 use Rattle.aos_read.specs.declared.token.Kind.TheVariants as k
-use Rattle.aos_read.specs.Names.{Name, is_among, taken}
+use Rattle.aos_read.specs.Names.{Name, is_among}
 use Rattle.aos_read.specs.Tokens.{Lexeme}
 use Rattle.aos_read.specs.Grammar as g
 use Rattle.aos_read.specs.Grammar.{IsWord, IsNumber, IsVariable, IsOperand, IsChain, IsSum, IsStat, IsBlock, sign_of, relation_of, greatest_number}
@@ -75,8 +74,8 @@ module _ (names : List Name) (no_out : is_among names (codes "Out") ≡ false) w
         ∙ by.kind_takes names k.Becomes (m.sum ∷ j) b (b ∷ ts) ts refl (kind_is k.Becomes b becomes) ∙ sum_run names sum loose j
     stat_run (g.while_do {d = d} {relation = relation} body {w = w} {r = r} {o = o} {ts = ts} {us = us} {vs = vs} within begins left is right ends block) loose j =
         by.stat_while names d j w (w ∷ ts) ts refl
-          (sym (word_off (codes "Out") w (other_kind k.KwWhile k.Ident w begins (λ h. omega arith)))) within
-          (sym (variable_off names w (other_kind k.KwWhile k.Ident w begins (λ h. omega arith)))) (kind_is k.KwWhile w begins)
+        (sym (word_off (codes "Out") w (other_kind k.KwWhile k.Ident w begins (λ h. omega arith)))) within
+        (sym (variable_off names w (other_kind k.KwWhile k.Ident w begins (λ h. omega arith)))) (kind_is k.KwWhile w begins)
         ∙ sum_run names left (relation_loose r.kind relation is) (m.relation ∷ m.sum ∷ m.kind k.KwDo ∷ m.block (d + 1) ∷ j)
         ∙ by.relation_takes names (m.sum ∷ m.kind k.KwDo ∷ m.block (d + 1) ∷ j) r (r ∷ us) us refl (ap is_some is)
         ∙ sum_run names right (loose_of k.KwDo o ends refl) (m.kind k.KwDo ∷ m.block (d + 1) ∷ j)

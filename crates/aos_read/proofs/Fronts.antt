@@ -1,5 +1,5 @@
 -- The first byte and a run behind it are a front of the text.
-use Rattle.std.proofs.Common.{◌≡◌, ℕ, suc, ◌+◌, List, [], ◌∷◌, take, drop, Option, Some, None, length, ◌-◌, Bool, true, false, ◌==◌, slice_get, subst, ap, ◌∙◌, sym, refl, arith}
+use Rattle.std.proofs.Common.{◌≡◌, ℕ, suc, ◌+◌, List, [], ◌∷◌, take, drop, Option, Some, None, length, ◌-◌, Bool, true, false, ◌==◌, slice_get, ap, ◌∙◌, sym, refl, arith}
 use Rattle.std.proofs.lemmas.List.{take_all}
 use Rattle.std.specs.Char.{is_ascii_digit, is_ascii_alphabetic}
 use Rattle.aos_read.specs.declared.token.Kind.{Kind}

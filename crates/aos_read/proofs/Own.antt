@@ -1,5 +1,5 @@
 -- Each variable that the grammar reads is one of the declared.
-use Rattle.std.proofs.Common.{◌≡◌, ◌<◌, ℕ, List, [], ◌∷◌, subst, sym, refl, length}
+use Rattle.std.proofs.Common.{◌≡◌, ◌<◌, ℕ, List, subst, sym, refl, length}
 use Rattle.std.specs.String.{string_bytes}
 use Rattle.std.specs.List.{All}
 use Rattle.std.specs.declared.vec.Vec.{Vec}

@@ -1,18 +1,17 @@
 -- How far the tokens of a text are read: what makes up the rest makes up the whole, and whatever makes up the whole
 -- begins with the tokens found.
-use Rattle.std.proofs.Common.{◌≡◌, ℕ, zero, suc, ◌+◌, ◌-◌, ◌<◌, ◌≤◌, List, [], ◌∷◌, ◌++◌, take, drop, length, Option, Some, None, Bool, true, false, ◌==◌, ◌||◌, ◌&&◌, nat_le, subst, ap, ◌∙◌, sym, refl, arith, append_assoc, append-nil, rules, ◌≢◌, ◌⊎◌, inl, inr}
+use Rattle.std.proofs.Common.{◌≡◌, ℕ, zero, suc, ◌+◌, ◌<◌, ◌≤◌, List, [], ◌∷◌, ◌++◌, take, drop, length, Option, Some, None, Bool, true, false, ◌==◌, subst, ap, ◌∙◌, sym, refl, arith, append_assoc, append-nil, rules, ◌≢◌, ◌⊎◌, inl, inr}
 use Rattle.std.proofs.lemmas.Bool.Decides.{nat_tests}
 use Rattle.std.proofs.lemmas.List.{length-take}
 use Rattle.std.specs.Str.{IsAscii}
 use Rattle.std.specs.Option.{option_map}
 use Rattle.std.specs.List.{prefix_len}
 use Rattle.std.specs.Char.{is_ascii_digit, is_ascii_alphabetic}
-use Rattle.aos_base.specs.declared.text.Pos.{Pos}
 use Rattle.aos_read.specs.declared.token.Kind.{Kind}
-use Rattle.aos_read.specs.declared.token.Kind.TheVariants.{Number, Semicolon, Comma, Colon, Becomes, Less, NotEquals, Plus, Minus, Period, OpenParen, CloseParen}
-use Rattle.aos_read.specs.Names.{Name, reserved, kind_among}
+use Rattle.aos_read.specs.declared.token.Kind.TheVariants.{Number, Colon, Becomes}
+use Rattle.aos_read.specs.Names.{Name}
 use Rattle.aos_read.specs.Tokens.{Lexeme, Begins, a_word, a_number, a_symbol, becomes, colon, colon_before, IsText, ends, blank, line_end, token, is_blank, is_to_sixteen, is_name_part, run_of, symbol_of}
-use Rattle.aos_read.specs.Lexemes.{front_of, word_at, number_at, colon_at, symbol_at}
+use Rattle.aos_read.specs.Lexemes.{front_of, number_at, colon_at}
 use Rattle.aos_read.proofs.Fronts.{at_letter, at_digit, at_colon, at_symbol}
 
 by_test : (P : Type 0) (b : Bool) → (b ≡ true → P) → (b ≡ false → P) → P
@@ -105,7 +104,7 @@ colon_begins [] k w e = moved colon e
 colon_begins (b ∷ bytes) k w e =
     by_test (Begins (58 ∷ b ∷ bytes) k w) (b == 61)
     (λ t. let same : colon_at (b ∷ bytes) ≡ Some (Becomes, 58 ∷ 61 ∷ []) = rw t refl in
-      subst (λ x. Begins (58 ∷ x ∷ bytes) k w) (sym (same_of b 61 t)) (moved becomes (sym same ∙ e)))
+    subst (λ x. Begins (58 ∷ x ∷ bytes) k w) (sym (same_of b 61 t)) (moved becomes (sym same ∙ e)))
     (λ f. let same : colon_at (b ∷ bytes) ≡ Some (Colon, 58 ∷ []) = rw f refl in moved (colon_before f) (sym same ∙ e))
 
 symbol_begins : (b : ℕ) (bytes : List ℕ) (k : Kind) (w : Name) (o : Option Kind) → symbol_of b ≡ o → option_map {U = Kind × Name} (λ j. (j, b ∷ [])) o ≡ Some (k, w) → Begins (b ∷ bytes) k w
@@ -118,13 +117,13 @@ front_begins (b ∷ bytes) k w e =
     by_test (Begins (b ∷ bytes) k w) (is_ascii_alphabetic b)
     (λ letter. moved (a_word letter) (sym (at_letter b bytes letter) ∙ e))
     (λ letter. by_test (Begins (b ∷ bytes) k w) (is_ascii_digit b)
-      (λ digit. let found = sym (at_digit b bytes letter digit) ∙ e in
-        by_test (Begins (b ∷ bytes) k w) (is_to_sixteen (b ∷ bytes))
-        (λ t. let none : number_at b bytes ≡ None = rw t refl in none_some _ (k, w) (number_at b bytes) none found)
-        (λ f. let some : number_at b bytes ≡ Some (Number, b ∷ run_of is_ascii_digit bytes) = rw f refl in moved (a_number digit f) (sym some ∙ found)))
-      (λ digit. by_test (Begins (b ∷ bytes) k w) (b == 58)
-        (λ t. let same = same_of b 58 t in subst (λ x. Begins (x ∷ bytes) k w) (sym same) (colon_begins bytes k w (sym (at_colon b bytes same) ∙ e)))
-        (λ f. symbol_begins b bytes k w (symbol_of b) refl (sym (at_symbol b bytes letter digit f) ∙ e))))
+    (λ digit. let found = sym (at_digit b bytes letter digit) ∙ e in
+    by_test (Begins (b ∷ bytes) k w) (is_to_sixteen (b ∷ bytes))
+    (λ t. let none : number_at b bytes ≡ None = rw t refl in none_some _ (k, w) (number_at b bytes) none found)
+    (λ f. let some : number_at b bytes ≡ Some (Number, b ∷ run_of is_ascii_digit bytes) = rw f refl in moved (a_number digit f) (sym some ∙ found)))
+    (λ digit. by_test (Begins (b ∷ bytes) k w) (b == 58)
+    (λ t. let same = same_of b 58 t in subst (λ x. Begins (x ∷ bytes) k w) (sym same) (colon_begins bytes k w (sym (at_colon b bytes same) ∙ e)))
+    (λ f. symbol_begins b bytes k w (symbol_of b) refl (sym (at_symbol b bytes letter digit f) ∙ e))))
 
 -- a token is no longer than the text, and not empty
 pub begins_within : {bytes : List ℕ} {k : Kind} {w : Name} → Begins bytes k w → (0 < length w) × (length w ≤ length bytes)
@@ -183,7 +182,7 @@ pub past_blank : (text : List ℕ) (found : List Lexeme) (line col b : ℕ) (aft
 past_blank text found line col b after rest e is reached =
     subst (λ l. Reached text found line (col + 1) l) (sym (ap (λ l. drop 1 l) e)) (record {
       sound = λ us more. reached.sound us (subst (λ l. IsText line col l us) (sym e) (blank is more));
-      whole = λ ts all. let w = reached.whole ts all in (w.0, w.1, unblank is (subst (λ l. IsText line col l w.0) e w.2))
+      whole = λ ts all. let w = reached.whole ts all in (w.0, w.1, unblank is (subst (λ l. IsText line col l w.0) e w.2));
     })
 
 pub past_line : (text : List ℕ) (found : List Lexeme) (line col : ℕ) (after rest : List ℕ) → rest ≡ 10 ∷ after →
@@ -191,7 +190,7 @@ pub past_line : (text : List ℕ) (found : List Lexeme) (line col : ℕ) (after 
 past_line text found line col after rest e reached =
     subst (λ l. Reached text found (line + 1) 1 l) (sym (ap (λ l. drop 1 l) e)) (record {
       sound = λ us more. reached.sound us (subst (λ l. IsText line col l us) (sym e) (line_end more));
-      whole = λ ts all. let w = reached.whole ts all in (w.0, w.1, unline (subst (λ l. IsText line col l w.0) e w.2))
+      whole = λ ts all. let w = reached.whole ts all in (w.0, w.1, unline (subst (λ l. IsText line col l w.0) e w.2));
     })
 
 pub past_token : (text : List ℕ) (found : List Lexeme) (line col : ℕ) (k : Kind) (w : Name) (rest : List ℕ) → front_of rest ≡ Some (k, w) →
@@ -202,9 +201,9 @@ past_token text found line col k w rest e reached =
     record {
       sound = λ us more. subst (λ l. IsText 1 1 text l) (sym (append_assoc found (t ∷ []) us)) (reached.sound (t ∷ us) (token (front_begins rest k w e) more));
       whole = λ ts all.
-        let w1 = reached.whole ts all in
-        let goes = untoken k w e w1.2 in
-        (goes.us, w1.1 ∙ ap (λ l. found ++ l) goes.is ∙ sym (append_assoc found (t ∷ []) goes.us), goes.more)
+          let w1 = reached.whole ts all in
+          let goes = untoken k w e w1.2 in
+          (goes.us, w1.1 ∙ ap (λ l. found ++ l) goes.is ∙ sym (append_assoc found (t ∷ []) goes.us), goes.more);
     }
 
 nothing : {line col : ℕ} {us : List Lexeme} → IsText line col [] us → us ≡ []
@@ -250,9 +249,9 @@ run_ascii p low [] = ascii_nil
 run_ascii p low (b ∷ bytes) =
     by_test (IsAscii (run_of p (b ∷ bytes))) (p b)
     (λ t.
-      let one : prefix_len p (b ∷ bytes) ≡ 1 + prefix_len p bytes = rw t refl in
-      let e : prefix_len p (b ∷ bytes) ≡ suc (prefix_len p bytes) = omega arith in
-      subst (λ n. IsAscii (take n (b ∷ bytes))) (sym e) (ascii_cons b (run_of p bytes) (low b t) (run_ascii p low bytes)))
+    let one : prefix_len p (b ∷ bytes) ≡ 1 + prefix_len p bytes = rw t refl in
+    let e : prefix_len p (b ∷ bytes) ≡ suc (prefix_len p bytes) = omega arith in
+    subst (λ n. IsAscii (take n (b ∷ bytes))) (sym e) (ascii_cons b (run_of p bytes) (low b t) (run_ascii p low bytes)))
     (λ f. let e : prefix_len p (b ∷ bytes) ≡ 0 = rw f refl in subst (λ n. IsAscii (take n (b ∷ bytes))) (sym e) ascii_nil)
 
 letter_low : (b : ℕ) → is_ascii_alphabetic b ≡ true → b < 128

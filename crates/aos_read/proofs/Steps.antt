@@ -1,5 +1,5 @@
 -- The machine a token at a time.
-use Rattle.std.proofs.Common.{◌≡◌, ℕ, ◌+◌, ◌≤◌, List, [], ◌∷◌, ◌++◌, ◌<◌, arith, Option, Some, None, Bool, true, false, ◌==◌, ◌&&◌, ◌||◌, not, nat_le, is_some, ap, ◌∙◌, sym, refl, codes, if◌then◌else◌}
+use Rattle.std.proofs.Common.{◌≡◌, ℕ, ◌+◌, ◌≤◌, List, [], ◌∷◌, ◌++◌, ◌<◌, arith, Option, Some, None, Bool, true, false, not, nat_le, is_some, ap, ◌∙◌, sym, refl, codes, if◌then◌else◌}
 use Rattle.std.proofs.lemmas.Bool.Decides.{nat_tests}
 use Rattle.aos_read.specs.declared.token.Kind.{Kind}
 use Rattle.aos_read.specs.declared.token.Kind.TheVariants as k

@@ -1,5 +1,5 @@
 -- What the tests of tokens say.
-use Rattle.std.proofs.Common.{◌≡◌, ◌≢◌, ℕ, zero, suc, ◌+◌, ◌||◌, arith, ◌≤◌, List, [], ◌∷◌, Option, Some, None, Bool, true, false, ◌==◌, ◌&&◌, nat_le, is_some, slice_get, ap, ◌∙◌, sym, refl, codes, IfSome, eq-eqb, eqb-true, rules, not, subst}
+use Rattle.std.proofs.Common.{◌≡◌, ◌≢◌, ℕ, zero, suc, ◌||◌, arith, ◌≤◌, List, [], ◌∷◌, Option, Some, None, Bool, true, false, ◌&&◌, nat_le, is_some, slice_get, ap, ◌∙◌, sym, refl, IfSome, eq-eqb, eqb-true, rules, not, subst}
 use Rattle.std.specs.Option.{SomeIff}
 use Rattle.std.specs.Str.{bytes_eq}
 use Rattle.std.proofs.lemmas.Bool.Decides.{nat_tests}

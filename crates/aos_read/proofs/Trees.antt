@@ -1,5 +1,5 @@
 -- Trees that the code puts together are those that the grammar reads.
-use Rattle.std.proofs.Common.{◌≡◌, ◌≤◌, ◌<◌, ℕ, suc, ◌+◌, ◌-◌, ◌*◌, pos, List, [], ◌∷◌, ◌++◌, Option, Some, None, length, take, drop, get_or, slice_get, fold, true, subst, sym, ap, ◌∙◌, refl, arith, codes, IfOk, IfSome, Result, Ok, Err, map, drop-cons, add-one}
+use Rattle.std.proofs.Common.{◌≡◌, ◌≤◌, ◌<◌, ℕ, suc, ◌+◌, ◌-◌, ◌*◌, pos, List, [], ◌∷◌, ◌++◌, Option, Some, None, length, drop, get_or, slice_get, fold, true, subst, sym, ap, ◌∙◌, arith, codes, IfOk, IfSome, Result, Ok, Err, drop-cons}
 use Rattle.std.specs.String.{string_bytes}
 use Rattle.std.specs.Str.{bytes_eq}
 use Rattle.std.specs.Option.{option_map}

@@ -1,6 +1,5 @@
 -- What the grammar reads is well typed.
-use Rattle.std.proofs.Common.{◌≡◌, ℕ, List, [], ◌∷◌, subst, sym}
-use Rattle.std.specs.List.{All}
+use Rattle.std.proofs.Common.{ℕ, List, subst, sym}
 use Rattle.std.specs.declared.vec.Vec.{Vec}
 use Rattle.std.specs.declared.alloc.Global.{Global}
 use Rattle.aos_typed.specs.declared.tree.TExpr.{TExpr}

@@ -1,11 +1,11 @@
 -- A whole module: what is found is read, and where nothing is found nothing is read.
-use Rattle.std.proofs.Common.{◌≡◌, ℕ, List, [], ◌∷◌, ◌++◌, Bool, true, false, ◌||◌, ap, ◌∙◌, sym, refl, subst, codes, length, ◌==◌, eqb-true, arith}
+use Rattle.std.proofs.Common.{◌≡◌, List, [], ◌∷◌, ◌++◌, Bool, true, false, ◌||◌, ap, ◌∙◌, sym, refl, subst, codes, length, ◌==◌, eqb-true, arith}
 use Rattle.std.specs.Str.{bytes_eq}
 use Rattle.std.specs.String.{string_bytes}
 use Rattle.aos_typed.specs.declared.tree.TStat.{TStat}
 use Rattle.aos_typed.specs.declared.tree.TModule.{TModule}
 use Rattle.aos_read.specs.declared.token.Kind.TheVariants as k
-use Rattle.aos_read.specs.Names.{Name, names_of, is_among, taken}
+use Rattle.aos_read.specs.Names.{Name, names_of, is_among}
 use Rattle.aos_read.specs.declared.token.Token.{Token}
 use Rattle.aos_read.specs.Lexemes.{lexeme_of, lexemes}
 use Rattle.aos_read.specs.Tokens.{Lexeme}
@@ -43,8 +43,8 @@ module _ (names : List Name) where
   period_end w n (p ∷ us) is e =
       by_test (Ended w (n ∷ p ∷ us)) (is_kind k.Period p)
       (λ on.
-        let nothing = only_end us (sym (kind_takes names k.Period [] p (p ∷ us) us refl on) ∙ e) in
-        record { n = n; p = p; whole = ap (λ l. n ∷ p ∷ l) nothing; name = is; period = kind_true k.Period p on })
+      let nothing = only_end us (sym (kind_takes names k.Period [] p (p ∷ us) us refl on) ∙ e) in
+      record { n = n; p = p; whole = ap (λ l. n ∷ p ∷ l) nothing; name = is; period = kind_true k.Period p on })
       (λ off. clash _ (run names (m.kind k.Period ∷ []) (p ∷ us)) (kind_refuses names k.Period [] p (p ∷ us) us refl off) e)
 
   pub end_true : (w : Name) (ts : List Lexeme) → run names (m.end w) ts ≡ true → Ended w ts
@@ -59,9 +59,9 @@ pub whole_reads : (t : TModule) (w : Name) (ts us vs ws : List Lexeme) → IsHea
 whole_reads t w ts us vs ws title variables block ends named =
     let ended = end_true [] w ws ends in
     of.module_of
-      (subst (λ x. IsHead x ts us) (sym named) title) variables
-      (subst (λ l. IsBlock (names_of t.variables.items) 1 t.body.items vs l) ended.whole block)
-      (subst (λ x. IsWord x ended.n) (sym named) ended.name) ended.period
+    (subst (λ x. IsHead x ts us) (sym named) title) variables
+    (subst (λ l. IsBlock (names_of t.variables.items) 1 t.body.items vs l) ended.whole block)
+    (subst (λ x. IsWord x ended.n) (sym named) ended.name) ended.period
 
 -- names are read in one way
 names_unique : {before all some : List Name} {ts rest end : List Lexeme} → IsNames before all ts rest → IsNames before some ts end → (all ≡ some) × (rest ≡ end)

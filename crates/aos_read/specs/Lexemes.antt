@@ -1,5 +1,5 @@
 -- What the code's tokens show, and how the code reads a text: for the contracts of private functions alone.
-use Rattle.std.specs.Prelude.{◌≡◌, ℕ, ◌+◌, List, [], ◌∷◌, map, Bool, true, false, ◌==◌, Option, Some, None, if◌then◌else◌}
+use Rattle.std.specs.Prelude.{◌≡◌, ℕ, List, [], ◌∷◌, map, ◌==◌, Option, Some, None, if◌then◌else◌}
 use denote.Ref.{Bor}
 use Rattle.std.specs.String.{string_bytes}
 use Rattle.std.specs.Option.{option_map}

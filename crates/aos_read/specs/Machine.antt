@@ -2,7 +2,6 @@
 -- functions alone. Each token takes the first of what is to come and puts what comes after it in its place.
 use Rattle.std.specs.Prelude.{◌≡◌, ℕ, ◌+◌, List, [], ◌∷◌, ◌++◌, codes, Bool, true, false, not, ◌||◌, ◌&&◌, ◌==◌, nat_le, Option, Some, None, if◌then◌else◌, is_some}
 use Rattle.std.specs.Option.{option_map}
-use Rattle.std.specs.List.{position}
 use Rattle.std.specs.Str.{bytes_eq}
 use denote.Ref.{Bor}
 use Rattle.aos_base.specs.declared.number.Relation.{Relation}
@@ -88,8 +87,8 @@ module _ (names : List Name) where
   unfoldable pub step_call : ℕ → Lexeme → Stack → Option Stack
   step_call d t j =
       if is_word (codes "Int") t then
-        if nat_le (d + 2) greatest_nesting
-        then Some (kind k.OpenParen ∷ sum ∷ kind k.Comma ∷ number greatest_places ∷ kind k.CloseParen ∷ j) else None
+      if nat_le (d + 2) greatest_nesting
+      then Some (kind k.OpenParen ∷ sum ∷ kind k.Comma ∷ number greatest_places ∷ kind k.CloseParen ∷ j) else None
       else if is_word (codes "Ln") t then if nat_le d greatest_nesting then Some j else None else None
 
   unfoldable pub step_more : ℕ → Lexeme → Stack → Option Stack

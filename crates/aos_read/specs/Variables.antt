@@ -1,5 +1,5 @@
 -- Each variable that a module's body names is one of the module's own.
-use Rattle.std.specs.Prelude.{◌≡◌, ℕ, ◌<◌, List, [], ◌∷◌, All, length}
+use Rattle.std.specs.Prelude.{◌≡◌, ℕ, ◌<◌, All, length}
 use Rattle.aos_typed.specs.declared.tree.TPlace.{TPlace}
 use Rattle.aos_typed.specs.declared.tree.TPlace.TheVariants.{ModuleVar}
 use Rattle.aos_typed.specs.declared.tree.TExpr.{TExpr}

@@ -7,11 +7,10 @@ ghost use Rattle.aos_typed.specs.WellTyped.{IsWellTyped};
 ghost use Rattle.aos_read.specs.Module.{IsModule};
 ghost use Rattle.aos_read.specs.Variables.{NamesItsVariables};
 
-use aos_base::NoMemory;
-use aos_typed::TModule;
-
 use crate::module::module;
 use crate::scan::tokens_of;
+use aos_base::NoMemory;
+use aos_typed::TModule;
 use std::alloc::Global;
 
 mod module;
@@ -38,3 +37,21 @@ pub fn law_of_typing()
     ensures typed { (text : List ℕ) (m : Module) → IsModule text m → IsWellTyped m }
     ensures own { (text : List ℕ) (m : Module) → IsModule text m → NamesItsVariables m }
 {}
+
+#[cfg(test)]
+mod tests {
+    use super::*;
+    use std::test::Fail;
+
+    #[test]
+    fn modules(rt: HostRuntime) -> Result<(), Fail> {
+        let text =
+            "MODULE M; IMPORT Out; VAR i, s: LONGINT; BEGIN i := 1; WHILE i < 11 DO s := s + i; i := i + 1 END; Out.Int(s, 4); Out.Ln END M.";
+        let m = read(rt.alloc(), text.as_bytes())?.ok_or("refused")?;
+        assert_eq!(rt; m.variables.len(), 2);
+        assert_eq!(rt; m.body.len(), 4);
+        let cut = read(rt.alloc(), b"MODULE M; IMPORT Out; BEGIN IF")?;
+        assert!(rt; cut.is_none());
+        Ok(())
+    }
+}

@@ -10,14 +10,12 @@ ghost use Rattle.aos_read.specs.Module.{IsHead, IsNew, IsNames, IsVariables, Rea
 ghost use Rattle.aos_read.specs.Machine as m;
 ghost use Rattle.aos_read.specs.Machine.{Stack, run, accepts, left_of};
 
-use std::alloc::{AllocError, Global};
-
-use aos_typed::{TModule, TVariable};
-
 use crate::parse::{expect, expect_word, is_kind, next, number_of_variable};
 use crate::statement::block;
 use crate::token::{Kind, Token};
 use crate::words::is_taken;
+use aos_typed::{TModule, TVariable};
+use std::alloc::{AllocError, Global};
 
 /// Whether a token is a name that stands for nothing yet, behind these variables.
 fn is_new(variables: &[TVariable], token: &Token) -> bool
@@ -112,10 +110,7 @@ fn typed<'a>(
 }
 
 /// Names with `,` between them, behind VAR, and their type.
-fn names(
-    alloc: Global,
-    tokens: &[Token],
-) -> Result<Option<(Vec<TVariable>, &[Token])>, AllocError>
+fn names(alloc: Global, tokens: &[Token]) -> Result<Option<(Vec<TVariable>, &[Token])>, AllocError>
     requires { length tokens.now < 2 ^ 32 }
     ensures tree { IfOk result (λ o. IfSome o (λ r. IsNames [] (names_of r.0.items) (lexemes tokens.now) (lexemes r.1.now))) }
     ensures moves { IfOk result (λ o. (names : List Name) (j : Stack) → run names (m.fresh [] ∷ j) (lexemes tokens.now) ≡ accepts names j (left_of o)) }

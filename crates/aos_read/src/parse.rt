@@ -12,12 +12,10 @@ ghost use Rattle.aos_read.specs.Grammar.{sign_of, relation_of, IsWord, IsNumber,
 ghost use Rattle.aos_read.specs.Machine as m;
 ghost use Rattle.aos_read.specs.Machine.{Stack, run, accepts, left, left_of, IsJoined, IsCompared};
 
-use std::alloc::{AllocError, Global};
-
+use crate::token::{Kind, Token};
 use aos_base::{Relation, Width};
 use aos_typed::{Binary, Literal, TExpr, TPlace, TVariable};
-
-use crate::token::{Kind, Token};
+use std::alloc::{AllocError, Global};
 
 /// The greatest number that a module may have.
 const GREATEST: u32 = 2_147_483_647;
@@ -56,7 +54,11 @@ pub fn expect<'a>(tokens: &'a [Token], kind: Kind) -> Option<&'a [Token]>
     let Some((token, rest)) = next(tokens) else {
         return None;
     };
-    if is_kind(token, kind) { Some(rest) } else { None }
+    if is_kind(token, kind) {
+        Some(rest)
+    } else {
+        None
+    }
 }
 
 /// The tokens behind the first, if that is the identifier of this spelling.
@@ -68,7 +70,11 @@ pub fn expect_word<'a>(tokens: &'a [Token], word: &str) -> Option<&'a [Token]>
     let Some((token, rest)) = next(tokens) else {
         return None;
     };
-    if is_word(token, word) { Some(rest) } else { None }
+    if is_word(token, word) {
+        Some(rest)
+    } else {
+        None
+    }
 }
 
 /// The number that digits are, if it is at most this great.
@@ -96,10 +102,7 @@ fn number_at(token: &Token, most: u32) -> Option<u32>
 }
 
 /// The number that the first token is, if it is at most this great, and the tokens behind it.
-pub fn expect_number<'a>(
-    tokens: &'a [Token],
-    most: u32,
-) -> Option<(u32, &'a [Token])>
+pub fn expect_number<'a>(tokens: &'a [Token], most: u32) -> Option<(u32, &'a [Token])>
     ensures token { IfSome result (λ r. (t : Lexeme) × (lexemes tokens.now ≡ t ∷ lexemes r.1.now) × IsNumber most r.0 t) }
     ensures moves { (names : List Name) (j : Stack) → run names (m.number most ∷ j) (lexemes tokens.now) ≡ accepts names j (left_of result) }
     ensures shorter { IfSome result (λ r. length r.1.now < length tokens.now) }
@@ -212,10 +215,7 @@ fn expect_sign<'a>(tokens: &'a [Token]) -> Option<(Binary, &'a [Token])>
 }
 
 /// The operand that the first token is, and the tokens behind it.
-fn expect_operand<'a>(
-    variables: &[TVariable],
-    tokens: &'a [Token],
-) -> Option<(TExpr, &'a [Token])>
+fn expect_operand<'a>(variables: &[TVariable], tokens: &'a [Token]) -> Option<(TExpr, &'a [Token])>
     requires { length variables.now < 2 ^ 32 }
     ensures token { IfSome result (λ r. (t : Lexeme) × (lexemes tokens.now ≡ t ∷ lexemes r.1.now) × IsOperand (names_of variables.now) r.0 t) }
     ensures moves { (j : Stack) → run (names_of variables.now) (m.operand ∷ j) (lexemes tokens.now) ≡ accepts (names_of variables.now) j (left_of result) }

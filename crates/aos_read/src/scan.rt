@@ -8,12 +8,10 @@ ghost use Rattle.aos_read.specs.Names.{kind_among, reserved};
 ghost use Rattle.aos_read.specs.Tokens.{Lexeme, IsText, is_name_part, is_sixteen_digit, is_to_sixteen, symbol_of, run_of};
 ghost use Rattle.aos_read.specs.Lexemes.{lexemes, front_of, word_at, number_at, colon_at, symbol_at, IsShown};
 
-use std::alloc::{AllocError, Global};
-
-use aos_base::Pos;
-
 use crate::token::{Kind, Token};
 use crate::words::kind_of;
+use aos_base::Pos;
+use std::alloc::{AllocError, Global};
 
 /// The bytes behind the first so many.
 fn behind(bytes: &[u8], count: usize) -> &[u8]

@@ -9,15 +9,13 @@ ghost use Rattle.aos_read.specs.Grammar.{IsWord, IsVariable, IsStat, IsBlock};
 ghost use Rattle.aos_read.specs.Machine as m;
 ghost use Rattle.aos_read.specs.Machine.{Stack, run, accepts, left_of, IsCompared};
 
-use std::alloc::{AllocError, Global};
-
-use aos_base::Relation;
-use aos_typed::{OutCall, TExpr, TPlace, TStat, TVariable};
-
 use crate::parse::{
     expect, expect_number, expect_relation, is_kind, is_word, literal, next, sum, variable_at,
 };
 use crate::token::{Kind, Token};
+use aos_base::Relation;
+use aos_typed::{OutCall, TExpr, TPlace, TStat, TVariable};
+use std::alloc::{AllocError, Global};
 
 /// The most places that a number may be written in.
 const PLACES: u32 = 255;

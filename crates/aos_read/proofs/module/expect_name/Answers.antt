@@ -1,4 +1,4 @@
-use Rattle.std.proofs.Common.{◌≡◌, sym, ◌∙◌, ◌∷◌, [], rules}
+use Rattle.std.proofs.Common.{sym, ◌∙◌, ◌∷◌, [], rules}
 use Rattle.aos_read.specs.Lexemes.{lexeme_of, lexemes}
 use Rattle.aos_read.specs.Machine as m
 use Rattle.aos_read.proofs.Steps.{at_end, name_takes, name_refuses}

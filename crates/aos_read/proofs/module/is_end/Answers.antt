@@ -1,6 +1,5 @@
-use Rattle.std.proofs.Common.{◌≡◌, sym, ◌∙◌, ◌∷◌, []}
+use Rattle.std.proofs.Common.{sym, ◌∙◌, ◌∷◌, []}
 use Rattle.aos_read.specs.declared.token.Kind.TheVariants as k
-use Rattle.aos_read.specs.Lexemes.{lexemes}
 use Rattle.aos_read.specs.Machine as m
 use Rattle.aos_read.proofs.Whole.{empty_run}
 use Rattle.aos_read.proofs.module.is_end.Goals as goal

@@ -1,4 +1,4 @@
-use Rattle.std.proofs.Common.{◌≡◌, sym, ◌∙◌, ap, is_some}
+use Rattle.std.proofs.Common.{sym, ◌∙◌, ap}
 use Rattle.aos_read.specs.Names.{names_of, is_among, taken}
 use Rattle.aos_read.specs.Lexemes.{lexeme_of}
 use Rattle.aos_read.proofs.TokenTests.{new_off, new_taken, new_again, new_last}
@@ -18,5 +18,5 @@ returns-in-Some c =
 pub returns-in-None : goal.returns-in-None
 returns-in-None c =
     new_last (names_of c.args.variables.now) (lexeme_of c.args.token.now) (sym c.is_kind.ensures ∙ c.if-not-is_kind.false)
-      (ap (λ w. is_among taken w) (sym c.as_bytes.ensures.value) ∙ sym c.is_taken.ensures ∙ c.if-is_taken.false)
-      (ap (λ w. is_among (names_of c.args.variables.now) w) (sym c.as_str.ensures.value) ∙ sym c.in-None.ensures.tells)
+    (ap (λ w. is_among taken w) (sym c.as_bytes.ensures.value) ∙ sym c.is_taken.ensures ∙ c.if-is_taken.false)
+    (ap (λ w. is_among (names_of c.args.variables.now) w) (sym c.as_str.ensures.value) ∙ sym c.in-None.ensures.tells)

@@ -1,4 +1,4 @@
-use Rattle.std.proofs.Common.{◌≡◌, [], ◌∷◌, ap, sym, ◌∙◌, subst, false, List}
+use Rattle.std.proofs.Common.{◌≡◌, [], ◌∷◌, sym, ◌∙◌, subst, false, List}
 use Rattle.aos_typed.specs.declared.tree.TVariable.{TVariable}
 use Rattle.aos_read.specs.Names.{names_of}
 use Rattle.aos_read.specs.Lexemes.{lexemes}
@@ -19,7 +19,7 @@ pub returns-in_default-3-clause-refused : goal.returns-in_default-3-clause-refus
 returns-in_default-3-clause-refused c =
     let vs = lexemes c.in-Some-2.rest.now in
     no_block c.in-Some.name.now (names_of c.in-Some-2.variables.items) (lexemes c.args.tokens.now) (lexemes c.in-Some.rest.now) vs c.in-Some.ensures.tree (rw c.in-Some-2.is at c.in_ok-variables.ensures.tree)
-      (subst (λ (l : List TVariable). (j : Stack) → run (names_of l) (m.block 1 ∷ j) vs ≡ false) c.deref.ensures.value (rw c.in_default-3.is at c.in_ok-body.ensures.moves))
+    (subst (λ (l : List TVariable). (j : Stack) → run (names_of l) (m.block 1 ∷ j) vs ≡ false) c.deref.ensures.value (rw c.in_default-3.is at c.in_ok-body.ensures.moves))
 
 pub returns-then-not-is_end-clause-refused : goal.returns-then-not-is_end-clause-refused
 returns-then-not-is_end-clause-refused c =
@@ -27,13 +27,13 @@ returns-then-not-is_end-clause-refused c =
     let vs = lexemes c.in-Some-2.rest.now in
     let ws = lexemes c.in-Some-3.rest.now in
     no_end c.in-Some.name.now names c.in-Some-3.body.items (lexemes c.args.tokens.now) (lexemes c.in-Some.rest.now) vs ws c.in-Some.ensures.tree (rw c.in-Some-2.is at c.in_ok-variables.ensures.tree)
-      (subst (λ (l : List TVariable). IsBlock (names_of l) 1 c.in-Some-3.body.items vs ws) c.deref.ensures.value (rw c.in-Some-3.is at c.in_ok-body.ensures.tree))
-      (sym (c.is_end.ensures names) ∙ c.if-not-is_end.true)
+    (subst (λ (l : List TVariable). IsBlock (names_of l) 1 c.in-Some-3.body.items vs ws) c.deref.ensures.value (rw c.in-Some-3.is at c.in_ok-body.ensures.tree))
+    (sym (c.is_end.ensures names) ∙ c.if-not-is_end.true)
 
 pub returns-clause-reads : goal.returns-clause-reads
 returns-clause-reads c =
     let vs = lexemes c.in-Some-2.rest.now in
     let ws = lexemes c.in-Some-3.rest.now in
     whole_reads _ c.in-Some.name.now (lexemes c.args.tokens.now) (lexemes c.in-Some.rest.now) vs ws c.in-Some.ensures.tree (rw c.in-Some-2.is at c.in_ok-variables.ensures.tree)
-      (subst (λ (l : List TVariable). IsBlock (names_of l) 1 c.in-Some-3.body.items vs ws) c.deref.ensures.value (rw c.in-Some-3.is at c.in_ok-body.ensures.tree))
-      (sym (c.is_end.ensures []) ∙ c.if-not-is_end.false) c.in_ok-name.ensures.ok
+    (subst (λ (l : List TVariable). IsBlock (names_of l) 1 c.in-Some-3.body.items vs ws) c.deref.ensures.value (rw c.in-Some-3.is at c.in_ok-body.ensures.tree))
+    (sym (c.is_end.ensures []) ∙ c.if-not-is_end.false) c.in_ok-name.ensures.ok

@@ -12,7 +12,7 @@ abbrev pub invariant-loop-token : goal.invariant-loop-token
 invariant-loop-token l = record {
   tree : (all : List Name) (end : List Lexeme) → IsNames (names_of l.variables.items) all (lexemes l.rest) end → IsNames [] all (lexemes l.tokens) end;
   moves : (names : List Name) (j : Stack) → run names (m.fresh [] ∷ j) (lexemes l.tokens) ≡ run names (m.fresh (names_of l.variables.items) ∷ j) (lexemes l.rest);
-  count : length l.variables.items + length l.rest ≤ length l.tokens
+  count : length l.variables.items + length l.rest ≤ length l.tokens;
 }
 
 abbrev pub decreases-loop-token : goal.decreases-loop-token

@@ -1,4 +1,4 @@
-use Rattle.std.proofs.Common.{◌≡◌, sym, ◌∙◌, ◌∷◌, refl}
+use Rattle.std.proofs.Common.{sym, ◌∙◌, ◌∷◌, refl}
 use Rattle.aos_read.specs.declared.token.Kind.TheVariants as k
 use Rattle.aos_read.specs.Lexemes.{lexeme_of, lexemes}
 use Rattle.aos_read.proofs.Steps.{after_colon, after_refuses}

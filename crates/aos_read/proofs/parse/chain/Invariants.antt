@@ -13,7 +13,7 @@ abbrev pub invariant-loop-operator : goal.invariant-loop-operator
 invariant-loop-operator l = record {
   tree : (e : TExpr) (end : List Lexeme) → IsChain (names_of l.variables) l.whole e (lexemes l.rest) end → IsChain (names_of l.variables) l.fn.first e (lexemes l.tokens) end;
   moves : (j : Stack) → run (names_of l.variables) (m.chain ∷ j) (lexemes l.tokens) ≡ run (names_of l.variables) (m.chain ∷ j) (lexemes l.rest);
-  shorter : length l.rest ≤ length l.tokens
+  shorter : length l.rest ≤ length l.tokens;
 }
 
 abbrev pub decreases-loop-operator : goal.decreases-loop-operator

@@ -1,4 +1,4 @@
-use Rattle.std.proofs.Common.{rules, sym, ◌∙◌, ◌∷◌}
+use Rattle.std.proofs.Common.{rules, sym, ◌∷◌}
 use Rattle.aos_read.specs.Names.{names_of}
 use Rattle.aos_read.specs.Lexemes.{lexeme_of, lexemes}
 use Rattle.aos_read.specs.Machine as m

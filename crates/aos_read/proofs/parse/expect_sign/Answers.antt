@@ -1,4 +1,4 @@
-use Rattle.std.proofs.Common.{rules, sym, ◌∙◌, ◌∷◌, ap, is_some}
+use Rattle.std.proofs.Common.{rules, sym, ap, is_some}
 use Rattle.aos_read.specs.Lexemes.{lexeme_of, lexemes}
 use Rattle.aos_read.proofs.Steps.{chain_ends, chain_takes, chain_skips}
 use Rattle.aos_read.proofs.parse.expect_sign.Goals as goal

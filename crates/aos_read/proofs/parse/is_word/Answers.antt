@@ -1,4 +1,4 @@
-use Rattle.std.proofs.Common.{rules, sym, ◌∙◌, ap}
+use Rattle.std.proofs.Common.{sym, ◌∙◌, ap}
 use Rattle.std.specs.Str.{bytes_eq}
 use Rattle.aos_read.specs.Lexemes.{lexeme_of}
 use Rattle.aos_read.proofs.TokenTests.{word_on, word_off}

@@ -1,4 +1,4 @@
-use Rattle.std.proofs.Common.{rules, sym, ◌∙◌}
+use Rattle.std.proofs.Common.{sym, ◌∙◌}
 use Rattle.aos_read.specs.Lexemes.{lexeme_of}
 use Rattle.aos_read.proofs.TokenTests.{number_off, number_tells, number_found}
 use Rattle.aos_read.proofs.parse.number_at.Goals as goal

@@ -1,4 +1,4 @@
-use Rattle.std.proofs.Common.{◌≡◌, sym, ◌∙◌}
+use Rattle.std.proofs.Common.{sym, ◌∙◌}
 use Rattle.aos_read.proofs.Trees.{named}
 use Rattle.aos_read.proofs.parse.number_of_variable.Goals as goal
 

@@ -1,4 +1,4 @@
-use Rattle.std.proofs.Common.{◌≡◌, arith}
+use Rattle.std.proofs.Common.{arith}
 use Rattle.aos_read.proofs.Trees.{too_great}
 use Rattle.aos_read.proofs.parse.number_up_to.Goals as goal
 

@@ -7,5 +7,5 @@ use Rattle.aos_read.proofs.parse.number_up_to.Given as goal
 abbrev pub invariant-loop-byte : goal.invariant-loop-byte
 invariant-loop-byte l = record {
   so_far : fold (λ n b. n * 10 + (b - 48)) l.number (drop l.byte-index l.word) ≡ number_of l.word;
-  bound : l.number ≤ l.most
+  bound : l.number ≤ l.most;
 }

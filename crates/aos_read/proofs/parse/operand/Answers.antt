@@ -1,4 +1,4 @@
-use Rattle.std.proofs.Common.{◌≡◌, sym, subst}
+use Rattle.std.proofs.Common.{sym, subst}
 use Rattle.aos_read.specs.Names.{names_of}
 use Rattle.aos_read.specs.Lexemes.{lexeme_of}
 use Rattle.aos_read.specs.Grammar.{IsOperand, a_number, a_variable}

@@ -1,4 +1,4 @@
-use Rattle.std.proofs.Common.{◌≡◌, ap, sym, ◌∙◌, drop, rules, ◌∷◌}
+use Rattle.std.proofs.Common.{ap, sym, ◌∙◌, drop, rules, ◌∷◌}
 use Rattle.aos_read.specs.Lexemes.{front_of}
 use Rattle.aos_read.proofs.Fronts.{head_of, empty_of, at_end, at_letter, at_digit, at_colon, at_symbol, symbol_shown, no_symbol}
 use Rattle.aos_read.proofs.scan.first_token.Goals as goal

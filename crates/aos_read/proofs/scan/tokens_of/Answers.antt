@@ -1,4 +1,4 @@
-use Rattle.std.proofs.Common.{◌≡◌, ◌<◌, ◌≤◌, ℕ, List, length, ap, sym, ◌∙◌, drop, rules, arith, ◌∷◌, None, Some, subst, ◌≢◌, false, length-drop, length-append, [], ◌++◌, ◌+◌}
+use Rattle.std.proofs.Common.{◌≡◌, length, ap, sym, ◌∙◌, drop, rules, arith, ◌∷◌, None, subst, ◌≢◌, false, length-drop, length-append, [], ◌++◌, ◌+◌}
 use Rattle.std.proofs.lemmas.List.{map-append}
 use Rattle.aos_read.specs.declared.token.Token.{Token}
 use Rattle.aos_read.specs.Tokens.{is_blank}
@@ -12,7 +12,7 @@ loop-first-init c = record {
   reached = subst (λ ts. Reached c.args.text.now (lexemes ts) 1 1 c.args.text.now) (sym c.new-tokens.ensures.items) (begun c.args.text.now);
   line = omega arith;
   count = let e : length c.new-tokens.result.items ≡ 0 = ap length c.new-tokens.ensures.items in omega arith;
-  col = omega arith
+  col = omega arith;
 }
 
 pub loop-first-preserved-in-32 : goal.loop-first-preserved-in-32
@@ -25,10 +25,10 @@ loop-first-preserved-in-32 c =
     let cut : length c.behind-rest.result.now ≡ length (drop 1 rest) = ap length c.behind-rest.ensures in
     record {
       reached = subst (λ l. Reached c.args.text.now (lexemes c.loop-first.tokens.items) c.loop-first.pos.line (c.loop-first.pos.col + 1) l) (sym c.behind-rest.ensures)
-        (past_blank c.args.text.now (lexemes c.loop-first.tokens.items) c.loop-first.pos.line c.loop-first.pos.col b (drop 1 rest) rest whole (blank_of b c.in-32.is) c.loop-first.invariant.reached);
+          (past_blank c.args.text.now (lexemes c.loop-first.tokens.items) c.loop-first.pos.line c.loop-first.pos.col b (drop 1 rest) rest whole (blank_of b c.in-32.is) c.loop-first.invariant.reached);
       line = omega arith;
       count = omega arith;
-      col = omega arith
+      col = omega arith;
     }
 
 pub loop-first-preserved-in-10 : goal.loop-first-preserved-in-10
@@ -41,10 +41,10 @@ loop-first-preserved-in-10 c =
     let cut : length c.behind-rest-in-10.result.now ≡ length (drop 1 rest) = ap length c.behind-rest-in-10.ensures in
     record {
       reached = subst (λ l. Reached c.args.text.now (lexemes c.loop-first.tokens.items) (c.loop-first.pos.line + 1) 1 l) (sym c.behind-rest-in-10.ensures)
-        (past_line c.args.text.now (lexemes c.loop-first.tokens.items) c.loop-first.pos.line c.loop-first.pos.col (drop 1 rest) rest (whole ∙ ap (λ x. x ∷ drop 1 rest) c.in-10.is) c.loop-first.invariant.reached);
+          (past_line c.args.text.now (lexemes c.loop-first.tokens.items) c.loop-first.pos.line c.loop-first.pos.col (drop 1 rest) rest (whole ∙ ap (λ x. x ∷ drop 1 rest) c.in-10.is) c.loop-first.invariant.reached);
       line = omega arith;
       count = omega arith;
-      col = omega arith
+      col = omega arith;
     }
 
 pub returns-in_default-first_token-clause-none : goal.returns-in_default-first_token-clause-none
@@ -92,16 +92,16 @@ loop-first-preserved c =
     let t : Token = record { kind = k; pos = record { line = line; col = col }; word = c.in_ok-spelling-in_default-first.spelling } in
     record {
       reached =
-        subst (λ ts. Reached text (lexemes ts) line (col + length word) c.behind-rest-in_default-first.result.now) (sym c.in_ok-push-in_default-first.ensures.items)
-        (subst (λ ts. Reached text ts line (col + length word) c.behind-rest-in_default-first.result.now) (sym (map-append lexeme_of found (t ∷ [])))
-        (subst (λ l. Reached text (lexemes found ++ lexeme_of t ∷ []) line (col + length word) l) (sym c.behind-rest-in_default-first.ensures)
-        (subst (λ v. Reached text (lexemes found ++ at_place line col k v ∷ []) line (col + length word) (drop (length word) rest)) (sym (c.in_ok-spelling-in_default-first.ensures.ok ∙ c.as_text.ensures))
-        (past_token text (lexemes found) line col k word rest (sym c.in-Some-first_token.ensures) c.loop-first.invariant.reached))));
+          subst (λ ts. Reached text (lexemes ts) line (col + length word) c.behind-rest-in_default-first.result.now) (sym c.in_ok-push-in_default-first.ensures.items)
+          (subst (λ ts. Reached text ts line (col + length word) c.behind-rest-in_default-first.result.now) (sym (map-append lexeme_of found (t ∷ [])))
+          (subst (λ l. Reached text (lexemes found ++ lexeme_of t ∷ []) line (col + length word) l) (sym c.behind-rest-in_default-first.ensures)
+          (subst (λ v. Reached text (lexemes found ++ at_place line col k v ∷ []) line (col + length word) (drop (length word) rest)) (sym (c.in_ok-spelling-in_default-first.ensures.ok ∙ c.as_text.ensures))
+          (past_token text (lexemes found) line col k word rest (sym c.in-Some-first_token.ensures) c.loop-first.invariant.reached))));
       line = omega arith;
       count =
-        let e : length c.push.new.self.items ≡ length (found ++ t ∷ []) = ap length c.in_ok-push-in_default-first.ensures.items in
-        let f = length-append found (t ∷ []) in omega arith;
-      col = omega arith
+          let e : length c.push.new.self.items ≡ length (found ++ t ∷ []) = ap length c.in_ok-push-in_default-first.ensures.items in
+          let f = length-append found (t ∷ []) in omega arith;
+      col = omega arith;
     }
 
 pub returns-clause-made_up : goal.returns-clause-made_up

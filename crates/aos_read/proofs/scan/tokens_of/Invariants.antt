@@ -8,7 +8,7 @@ invariant-loop-first l = record {
   reached : Reached l.text (lexemes l.tokens.items) l.pos.line l.pos.col l.rest;
   line : l.pos.line + length l.rest ≤ 2 ^ 20 + 1;
   count : length l.tokens.items + length l.rest ≤ length l.text;
-  col : l.pos.col + length l.rest ≤ 2 ^ 20 + 1
+  col : l.pos.col + length l.rest ≤ 2 ^ 20 + 1;
 }
 
 abbrev pub decreases-loop-first : goal.decreases-loop-first

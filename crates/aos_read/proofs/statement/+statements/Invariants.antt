@@ -22,7 +22,7 @@ abbrev pub invariant-block-loop-found : goal.invariant-block-loop-found
 invariant-block-loop-found l = record {
   tree : (more : List TStat) (end : List Lexeme) → IsBlock (names_of l.variables) l.depth more (lexemes l.rest) end → IsBlock (names_of l.variables) l.depth (l.found.items ++ more) (lexemes l.tokens) end;
   moves : (j : Stack) → run (names_of l.variables) (m.block l.depth ∷ j) (lexemes l.tokens) ≡ run (names_of l.variables) (m.block l.depth ∷ j) (lexemes l.rest);
-  shorter : length l.rest ≤ length l.tokens
+  shorter : length l.rest ≤ length l.tokens;
 }
 
 abbrev pub decreases-block-loop-found : goal.decreases-block-loop-found
