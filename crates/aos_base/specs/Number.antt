@@ -38,3 +38,7 @@ right_justified z places = replicate (places - length (signed_decimal z)) 32 ++ 
 abbrev pub places_of : ℤ → Option ℕ
 places_of (pos n) = if nat_le n 255 then Some n else None
 places_of (negsuc n) = None
+
+abbrev pub justified : ℤ → Option ℕ → Option (List ℕ)
+justified z None = None
+justified z (Some places) = Some (right_justified z places)

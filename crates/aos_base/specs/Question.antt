@@ -28,6 +28,6 @@ feed (v ∷ vs) (Traps n c) = Traps n c
 pub data Ask (P V : Type 0) : Type 0 where
   Reads : (place : P) → Ask P V
   Stores : (place : P) → (value : V) → Ask P V
-  Ends : (result : Option V) → Ask P V             -- the end of the frame, which has no answer
+  Ends : (result : Option V) → Ask P V  -- the end of the frame, which has no answer
   PutsInt : (value places : V) → Ask P V
   PutsLn : Ask P V

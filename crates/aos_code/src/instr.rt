@@ -2,22 +2,25 @@
 
 use aos_base::{Relation, Width};
 
+/// The memory that a place is in: that of a module, by its number in load order from 0.
+#[derive(Clone, Copy, PartialEq, Eq, Debug)]
+pub enum Root {
+    Module(u32),
+}
+
 /// What a cell or an operand holds.
 #[derive(Clone, Copy, PartialEq, Eq, Debug)]
 pub enum Cell {
     Num(i64),
+    /// A place: its root, the number of its cell, and the dynamic type of a record there, 0 for none.
+    Place(Root, u32, u32),
 }
 
 /// The kind of what a cell holds.
 #[derive(Clone, Copy, PartialEq, Eq, Debug)]
 pub enum Kind {
+    /// A number.
     N,
-}
-
-/// The memory that a place is in: that of a module, by its number in load order from 0.
-#[derive(Clone, Copy, PartialEq, Eq, Debug)]
-pub enum Root {
-    Module(u32),
 }
 
 /// An instruction. It takes its operands from the stack, the last one from the top, and puts its result there.

@@ -1,1 +1,5 @@
+pub mod Value
+pub mod Store
+pub mod Meaning
+pub mod Source
 pub mod WellTyped

@@ -1,6 +1,6 @@
 -- Programs whose expressions have the types that their places ask for: each operand is an integer, and what a loop tests
 -- is a truth value.
-use Rattle.std.specs.Prelude.{All}
+use Rattle.std.specs.Prelude.{List, [], ◌∷◌, All}
 use Rattle.aos_typed.specs.declared.tree.Literal.TheVariants as literal
 use Rattle.aos_typed.specs.declared.tree.TExpr.{TExpr}
 use Rattle.aos_typed.specs.declared.tree.TExpr.TheVariants.{Lit, Read, Binary', Compare'}

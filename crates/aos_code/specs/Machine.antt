@@ -1,0 +1,149 @@
+-- An image as a machine: its memory, its frames, and the turns of an activity.
+use Rattle.std.specs.Prelude.{ℕ, zero, suc, ℤ, pos, ◌+◌, ◌-◌, List, [], ◌∷◌, Bool, true, false, Option, Some, None, map, slice_get}
+use Rattle.aos_base.specs.declared.text.Pos.{Pos}
+use Rattle.aos_base.specs.declared.kernel.Did.{Did}
+use Rattle.aos_base.specs.declared.kernel.Did.TheVariants.{Went, Ended as NoFrame, Trapped}
+use Rattle.aos_base.specs.declared.kernel.Verdict.TheVariants.{Fails as NeverHolds}
+use Rattle.aos_base.specs.Number.{places_of, justified}
+use Rattle.aos_base.specs.Book.{Where}
+use Rattle.aos_base.specs.Machine.{Turn, Machine, State, start_of}
+use Rattle.aos_base.specs.Question.{Ask, Reads, Stores, Ends, PutsInt, PutsLn}
+use Rattle.aos_code.specs.declared.instr.Cell.{Cell}
+use Rattle.aos_code.specs.declared.instr.Cell.TheVariants.{Num, Place}
+use Rattle.aos_code.specs.declared.instr.Instr.{Instr}
+use Rattle.aos_code.specs.declared.image.Body.{Body}
+use Rattle.aos_code.specs.declared.image.ProcShape.{ProcShape}
+use Rattle.aos_code.specs.declared.image.ModuleDesc.{ModuleDesc}
+use Rattle.aos_code.specs.declared.image.Image.{Image}
+use Rattle.aos_code.specs.Memory.{Addr, Memory, load, store}
+use Rattle.aos_code.specs.Silent.{Stack, Question, End, Begins, Fails, Stop, Work, Ended, silent}
+
+-- a frame: its procedure, the place of the next instruction, the statement last begun, and the operands
+pub record Frame : Type 0 where
+  pub procedure : ℕ
+  pub next : ℕ
+  pub at : Option Pos
+  pub stack : Stack
+
+-- an activity's frames, the topmost first; below those of a module's body stand those of the bodies that are to follow
+abbrev pub Frames : Type 0
+Frames = List Frame
+
+abbrev pub Turned : Type 0
+Turned = Turn Memory Frames
+
+abbrev pub goes_on : Frames → Memory → Turned
+goes_on fs mem = record { store = mem; frames = fs; output = []; begun = false; left = Went }
+
+abbrev pub puts : List ℕ → Frames → Memory → Turned
+puts bytes fs mem = record { store = mem; frames = fs; output = bytes; begun = false; left = Went }
+
+abbrev pub leaves : Did → Frames → Memory → Turned
+leaves work fs mem = record { store = mem; frames = fs; output = []; begun = false; left = work }
+
+-- the end of a frame
+abbrev pub ends : Frames → Memory → Turned
+ends fs mem = goes_on fs mem
+
+-- the text that OutInt writes, where the number of places is 0 to 255
+abbrev pub written : Cell → Cell → Option (List ℕ)
+written (Num z) (Num n) = justified z (places_of n)
+written (Num z) (Place root cell type) = None
+written (Place root cell type) v = None
+
+-- the frame goes on behind the instruction at this place, with these operands
+abbrev pub behind : ℕ → Stack → Frame → Frame
+behind at s f = record f { next = at + 1; stack = s }
+
+abbrev pub loads : Option Cell → ℕ → Stack → Frame → Frames → Memory → Turned
+loads None at s f fs mem = leaves (Trapped 16 0) (f ∷ fs) mem
+loads (Some v) at s f fs mem = goes_on (behind at (v ∷ s) f ∷ fs) mem
+
+abbrev pub prints : Option (List ℕ) → ℕ → Stack → Frame → Frames → Memory → Turned
+prints None at s f fs mem = leaves (Trapped 14 0) (f ∷ fs) mem
+prints (Some bytes) at s f fs mem = puts bytes (behind at s f ∷ fs) mem
+
+-- the question of the instruction at this place is answered; s has the operands below its own
+abbrev pub answer : Question → ℕ → Stack → Frame → Frames → Memory → Turned
+answer (Reads a) at s f fs mem = loads (load a mem) at s f fs mem
+answer (Stores a v) at s f fs mem = goes_on (behind at s f ∷ fs) (store a v mem)
+answer (Ends result) at s f fs mem = ends fs mem
+answer (PutsInt v n) at s f fs mem = prints (written v n) at s f fs mem
+answer PutsLn at s f fs mem = puts (10 ∷ []) (behind at s f ∷ fs) mem
+
+abbrev pub goes : Stop → Frame → Frames → Memory → Turned
+goes (Work q at s) f fs mem = answer q at s f fs mem
+goes (Ended (Begins at p s)) f fs mem =
+    record {
+      store = mem;
+      frames = record f { next = at + 1; at = Some p; stack = s } ∷ fs;
+      output = [];
+      begun = true;
+      left = Went;
+    }
+goes (Ended (Fails n c)) f fs mem = leaves (Trapped n c) (f ∷ fs) mem
+
+abbrev pub code_in : Option Body → List Instr
+code_in None = []
+code_in (Some b) = b.code.items
+
+abbrev pub home_in : Option ProcShape → ℕ
+home_in None = 0
+home_in (Some s) = s.module
+
+abbrev pub or_below : Option Pos → ℕ → Where → Where
+or_below None home below = below
+or_below (Some p) home below = record { module_ = home; pos = p }
+
+module _ (image : Image) where
+  -- procedures are numbered from 1
+  abbrev pub code_of : ℕ → List Instr
+  code_of p = code_in (slice_get image.bodies.items (p - 1))
+
+  -- the number of the module in which a procedure stands
+  abbrev pub home_of : ℕ → ℕ
+  home_of p = home_in (slice_get image.shapes.items (p - 1))
+
+  -- all silent work up to and with the next visible instruction
+  abbrev pub turn : Memory → Frames → Turned
+  turn mem [] = leaves NoFrame [] mem
+  turn mem (f ∷ fs) = goes (silent (code_of f.procedure) f.next f.stack) f fs mem
+
+  abbrev pub position_or : Where → Frames → Where
+  position_or none [] = none
+  position_or none (f ∷ fs) = or_below f.at (home_of f.procedure) (position_or none fs)
+
+  -- where the topmost frame that has begun a statement stands; line 0 and column 0 where none has
+  abbrev pub position : Frames → Where
+  position [] = record { module_ = 0; pos = record { line = 0; col = 0 } }
+  position (f ∷ fs) =
+      position_or (record { module_ = home_of f.procedure; pos = record { line = 0; col = 0 } }) (f ∷ fs)
+
+  -- an image as a machine under the kernel
+  abbrev pub machine : Machine Memory Frames
+  machine =
+      record {
+        turn = turn;
+        past = λ fs. fs;
+        verdict = λ mem fs c. NeverHolds;
+        regions = λ fs. [];
+        position = position;
+        body = λ mem o. [];
+        priority = λ mem o. 2;
+        anew = λ fs. None;
+      }
+
+  abbrev pub first_memory : Memory
+  first_memory = record { modules = map (λ m. m.cells.items) image.modules.items }
+
+-- a frame at the beginning of a procedure
+abbrev pub frame_of : ℕ → Frame
+frame_of p = record { procedure = p; next = 0; at = None; stack = [] }
+
+module _ (image : Image) where
+  -- activity 0 runs the bodies of the modules, in load order
+  abbrev pub first_frames : Frames
+  first_frames = map (λ m. frame_of m.body) image.modules.items
+
+  abbrev pub first_state : ℕ → State Memory Frames
+  first_state budget = start_of (first_memory image) first_frames budget

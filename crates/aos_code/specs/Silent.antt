@@ -1,0 +1,115 @@
+-- What each instruction does, and the silent work up to the next visible instruction.
+use Rattle.std.specs.Prelude.{ℕ, zero, suc, ℤ, pos, negsuc, ◌+◌, ◌-◌, ◌+ℤ◌, ◌-ℤ◌, List, [], ◌∷◌, Bool, true, false, Option, Some, None, nat_lt, if◌then◌else◌, slice_get, drop}
+use Rattle.aos_base.specs.declared.text.Pos.{Pos}
+use Rattle.aos_base.specs.Number.{if_within, holds}
+use Rattle.aos_base.specs.Question.{Ask, Reads, Stores, Ends, PutsInt, PutsLn}
+use Rattle.aos_code.specs.declared.instr.Cell.{Cell}
+use Rattle.aos_code.specs.declared.instr.Cell.TheVariants.{Num, Place}
+use Rattle.aos_code.specs.declared.instr.Kind.{Kind}
+use Rattle.aos_code.specs.declared.instr.Kind.TheVariants.{N}
+use Rattle.aos_code.specs.declared.instr.Root.TheVariants.{Module as ModuleRoot}
+use Rattle.aos_code.specs.declared.instr.Instr.{Instr}
+use Rattle.aos_code.specs.declared.instr.Instr.TheVariants.{Num as NumInstr, Module, Add, Sub, Cmp, Jump, JumpFalse, Begin, Load, Store, Return, OutInt, OutLn}
+use Rattle.aos_code.specs.Memory.{Addr}
+
+-- the operands, the topmost first
+abbrev pub Stack : Type 0
+Stack = List Cell
+
+abbrev pub Question : Type 0
+Question = Ask Addr Cell
+
+-- where silent work ends without a question: at a Begin, with its place in the code and the text, or with a trap
+pub data End : Type 0 where
+  Begins : (at : ℕ) → (pos : Pos) → (stack : Stack) → End
+  Fails : (number code : ℕ) → End
+
+-- where silent work ends: at a question, with the place of its instruction and the operands below its own, or at an end
+pub data Stop : Type 0 where
+  Work : Question → (at : ℕ) → (stack : Stack) → Stop
+  Ended : End → Stop
+
+-- what one instruction does: silent work after which so many instructions are passed over, a question, or an end
+pub data Act : Type 0 where
+  Goes : (over : ℕ) → (stack : Stack) → Act
+  Sees : Question → (stack : Stack) → Act
+  Stops : End → Act
+
+-- code that finds another operand than it takes, or runs past its end
+abbrev pub lost : End
+lost = Fails 16 0
+
+abbrev pub on_number : (ℤ → Stack → Act) → Stack → Act
+on_number k [] = Stops lost
+on_number k (Num a ∷ s) = k a s
+on_number k (Place root cell type ∷ s) = Stops lost
+
+-- the second number is the topmost operand
+abbrev pub on_numbers : (ℤ → ℤ → Stack → Act) → Stack → Act
+on_numbers k s = on_number (λ b s1. on_number (λ a s2. k a b s2) s1) s
+
+abbrev pub on_place : (Addr → Stack → Act) → Stack → Act
+on_place k [] = Stops lost
+on_place k (Num a ∷ s) = Stops lost
+on_place k (Place root cell type ∷ s) = k (record { root = root; cell = cell }) s
+
+abbrev pub gives : Cell → Stack → Act
+gives v s = Goes 0 (v ∷ s)
+
+-- a value of this kind lies above the place that it's stored at
+abbrev pub stores : Kind → Stack → Act
+stores N s = on_number (λ v s1. on_place (λ p s2. Sees (Stores p (Num v)) s2) s1) s
+
+abbrev pub or_overflow : Option ℤ → Stack → Act
+or_overflow None s = Stops (Fails 5 0)
+or_overflow (Some z) s = gives (Num z) s
+
+-- TRUE is 1 and FALSE is 0
+abbrev pub flag : Bool → ℤ
+flag true = pos 1
+flag false = pos 0
+
+-- a jump back comes to a Begin, which is visible work
+abbrev pub lands : Option Instr → ℕ → Stack → Act
+lands (Some (Begin line col)) to s = Stops (Begins to (record { line = line; col = col }) s)
+lands _ to s = Stops lost
+
+abbrev pub jumps : List Instr → (to at : ℕ) → Stack → Act
+jumps code to at s = if nat_lt at to then Goes (to - (at + 1)) s else lands (slice_get code to) to s
+
+abbrev pub jumps_on_false : List Instr → (to at : ℕ) → ℤ → Stack → Act
+jumps_on_false code to at (pos zero) s = jumps code to at s
+jumps_on_false code to at (pos (suc zero)) s = Goes 0 s
+jumps_on_false code to at (pos (suc (suc n))) s = Stops lost
+jumps_on_false code to at (negsuc n) s = Stops lost
+
+-- the instruction at this place of the code
+abbrev pub act : Instr → List Instr → ℕ → Stack → Act
+act (NumInstr n) code at s = gives (Num n) s
+act (Module m c) code at s = gives (Place (ModuleRoot m) c 0) s
+act (Add w) code at s = on_numbers (λ a b s'. or_overflow (if_within w (a +ℤ b)) s') s
+act (Sub w) code at s = on_numbers (λ a b s'. or_overflow (if_within w (a -ℤ b)) s') s
+act (Cmp relation) code at s = on_numbers (λ a b s'. gives (Num (flag (holds relation a b))) s') s
+act (Jump to) code at s = jumps code to at s
+act (JumpFalse to) code at s = on_number (λ a s'. jumps_on_false code to at a s') s
+act (Begin line col) code at s = Stops (Begins at (record { line = line; col = col }) s)
+act (Load kind) code at s = on_place (λ p s'. Sees (Reads p) s') s
+act (Store kind) code at s = stores kind s
+act Return code at s = Sees (Ends None) s
+act OutInt code at s = on_numbers (λ a n s'. Sees (PutsInt (Num a) (Num n)) s') s
+act OutLn code at s = Sees PutsLn s
+
+abbrev pub on_act : Act → (ℕ → ℕ → Stack → Stop) → ℕ → Stop
+on_act (Goes over s) next at = next over (at + 1) s
+on_act (Sees q s) next at = Work q at s
+on_act (Stops end) next at = Ended end
+
+-- silent work over the instructions from `at` on, of which the first `over` are passed over
+abbrev pub walk : List Instr → List Instr → (over at : ℕ) → Stack → Stop
+walk code [] over at s = Ended lost
+walk code (i ∷ rest) zero at s = on_act (act i code at s) (walk code rest) at
+walk code (i ∷ rest) (suc n) at s = walk code rest n (at + 1) s
+
+-- silent work from a place of the code
+abbrev pub silent : List Instr → ℕ → Stack → Stop
+silent code at s = walk code (drop at code) 0 at s

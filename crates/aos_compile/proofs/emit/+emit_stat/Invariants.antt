@@ -1,0 +1,8 @@
+use Rattle.std.proofs.Common.{◌≡◌, ◌++◌, length, drop}
+use Rattle.aos_sim.specs.Code.{stats_code}
+use Rattle.aos_compile.proofs.emit.+emit_stat.Given as goal
+
+-- the code so far and that of the rest is that of all
+abbrev pub invariant-emit_stats-loop-statement : goal.invariant-emit_stats-loop-statement
+invariant-emit_stats-loop-statement l =
+    l.code.items ++ stats_code (drop l.statement-index l.statements) (length l.code.items) ≡ l.fn.code.items ++ stats_code l.fn.statements (length l.fn.code.items)

@@ -1,0 +1,132 @@
+// From typed statements to instructions: what is emitted is the code that the definitions give.
+
+ghost use Rattle.std.specs.Prelude.{◌≡◌, [], ◌∷◌, ◌++◌, length, IfOk, OnOk};
+ghost use Rattle.aos_sim.specs.Code.{begin, literal_code, binary_code, place_code, value_code, out_code, stat_code, stats_code, body_code};
+
+use aos_base::Pos;
+use aos_code::{Body, Instr, Kind};
+use aos_typed::{Binary, Literal, OutCall, TExpr, TPlace, TStat};
+use std::alloc::{AllocError, Global};
+
+// One more instruction.
+fn put(code: &mut Vec<Instr>, instr: Instr) -> Result<(), AllocError>
+    ensures { OnOk result (code.new.items ≡ code.old.items ++ instr ∷ []) }
+{
+    code.push(instr)?;
+    Ok(())
+}
+
+fn literal_instr(literal: Literal) -> Instr
+    ensures { result ≡ literal_code literal }
+{
+    match literal {
+        Literal::Int(n) => Instr::Num(n),
+    }
+}
+
+fn binary_instr(operator: Binary) -> Instr
+    ensures { result ≡ binary_code operator }
+{
+    match operator {
+        Binary::Add(w) => Instr::Add(w),
+        Binary::Sub(w) => Instr::Sub(w),
+    }
+}
+
+fn emit_begin(code: &mut Vec<Instr>, at: Pos) -> Result<(), AllocError>
+    ensures { OnOk result (code.new.items ≡ code.old.items ++ begin at ∷ []) }
+{
+    put(code, Instr::Begin(at.line, at.col))
+}
+
+fn emit_place(code: &mut Vec<Instr>, place: &TPlace) -> Result<(), AllocError>
+    ensures { OnOk result (code.new.items ≡ code.old.items ++ place_code place.now (length code.old.items)) }
+{
+    match place {
+        TPlace::ModuleVar(module, variable) => put(code, Instr::Module(*module, *variable)),
+    }
+}
+
+fn emit_value(code: &mut Vec<Instr>, value: &TExpr) -> Result<(), AllocError>
+    ensures { OnOk result (code.new.items ≡ code.old.items ++ value_code value.now (length code.old.items)) }
+{
+    match value {
+        TExpr::Lit(literal) => put(code, literal_instr(*literal)),
+        TExpr::Read(place) => {
+            emit_place(code, place)?;
+            put(code, Instr::Load(Kind::N))
+        }
+        TExpr::Binary(operator, left, right) => {
+            emit_value(code, left)?;
+            emit_value(code, right)?;
+            put(code, binary_instr(*operator))
+        }
+        TExpr::Compare(relation, left, right) => {
+            emit_value(code, left)?;
+            emit_value(code, right)?;
+            put(code, Instr::Cmp(*relation))
+        }
+    }
+}
+
+fn emit_out(code: &mut Vec<Instr>, call: &OutCall) -> Result<(), AllocError>
+    ensures { OnOk result (code.new.items ≡ code.old.items ++ out_code call.now (length code.old.items)) }
+{
+    match call {
+        OutCall::Int(value, places) => {
+            emit_value(code, value)?;
+            emit_value(code, places)?;
+            put(code, Instr::OutInt)
+        }
+        OutCall::Ln => put(code, Instr::OutLn),
+    }
+}
+
+#[cycle(emit_stat)]
+fn emit_stat(code: &mut Vec<Instr>, statement: &TStat) -> Result<(), AllocError>
+    ensures { OnOk result (code.new.items ≡ code.old.items ++ stat_code statement.now (length code.old.items)) }
+{
+    match statement {
+        TStat::Assign(at, place, value) => {
+            emit_begin(code, *at)?;
+            emit_place(code, place)?;
+            emit_value(code, value)?;
+            put(code, Instr::Store(Kind::N))
+        }
+        TStat::While(at, condition, body) => {
+            let start = code.len();
+            emit_begin(code, *at)?;
+            emit_value(code, condition)?;
+            let test_end = code.len();
+            put(code, Instr::JumpFalse(0))?;
+            emit_stats(code, body)?;
+            put(code, Instr::Jump(start))?;
+            code[test_end] = Instr::JumpFalse(code.len());
+            Ok(())
+        }
+        TStat::Out(at, call) => {
+            emit_begin(code, *at)?;
+            emit_out(code, call)
+        }
+    }
+}
+
+#[cycle(emit_stat)]
+fn emit_stats(code: &mut Vec<Instr>, statements: &[TStat]) -> Result<(), AllocError>
+    ensures { OnOk result (code.new.items ≡ code.old.items ++ stats_code statements.now (length code.old.items)) }
+{
+    for statement in statements {
+        emit_stat(code, statement)?;
+    }
+    Ok(())
+}
+
+/// The code of a body with these statements.
+pub fn emit_body(alloc: Global, statements: &[TStat]) -> Result<Body, AllocError>
+    ensures { IfOk result (λ body. body.code.items ≡ body_code statements.now) }
+{
+    let mut code = Vec::new(alloc);
+    emit_stats(&mut code, statements)?;
+    put(&mut code, Instr::Return)?;
+    Ok(Body { code })
+}

@@ -1,0 +1,9 @@
+pub mod Spot
+pub mod Orderly
+pub mod Regions
+pub mod Mutual
+pub mod Traps
+pub mod Simulates
+pub mod Acting
+pub mod Handover
+pub mod Private

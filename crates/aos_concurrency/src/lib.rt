@@ -1,0 +1,2 @@
+//! Laws of the kernel's semantics over any machine.
+#![tactic(auto)]

@@ -1,0 +1,3 @@
+pub mod CountLemmas
+pub mod SinkLemmas
+pub mod KnownBytesLemmas

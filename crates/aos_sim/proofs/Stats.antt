@@ -1,0 +1,157 @@
+-- The code of a statement does what the statement does, and what is left of a body is carried out from the place that it leaves.
+use Rattle.std.proofs.Common.{◌≡◌, ℕ, suc, ◌+◌, ◌-◌, ◌<◌, ◌≤◌, true, false, List, [], ◌∷◌, ◌++◌, length, drop, Some, refl, sym, ap, ◌∙◌, subst, arith, append_assoc, length-append}
+use Rattle.std.specs.Prelude.{slice_get, All}
+use Rattle.std.proofs.lemmas.Bool.{le-ltb, lt-ltb}
+use Rattle.std.proofs.lemmas.List.Elements.{All-tail}
+use Rattle.aos_base.specs.declared.text.Pos.{Pos}
+use Rattle.aos_base.specs.Question.{Val, Asks, bind, ask, Stores, PutsInt, PutsLn}
+use Rattle.aos_typed.specs.declared.tree.TPlace.{TPlace}
+use Rattle.aos_typed.specs.declared.tree.TExpr.{TExpr}
+use Rattle.aos_typed.specs.declared.tree.OutCall.{OutCall}
+use Rattle.aos_typed.specs.declared.tree.OutCall.TheVariants.{Int as OutInt, Ln as OutLn}
+use Rattle.aos_typed.specs.declared.tree.TStat.{TStat, Row_of-TStat, end_of-TStat, more_of-TStat}
+use Rattle.aos_typed.specs.declared.tree.TStat.TheVariants.{Assign, While', Out}
+use Rattle.aos_typed.specs.Value.{Value, Int, Flag}
+use Rattle.aos_typed.specs.Store.{Spot}
+use Rattle.aos_typed.specs.Meaning as source
+use Rattle.aos_typed.specs.Meaning.{Doing, Item, Do, items_of, do_each, if_flag, place_of, value_of, stat_of, pos_of, out_of}
+use Rattle.aos_typed.specs.WellTyped.{IsInteger, IsBoolean, IsStatement, AreStatements, IsCall}
+use Rattle.aos_code.specs.declared.instr.Instr.{Instr}
+use Rattle.aos_code.specs.declared.instr.Instr.TheVariants as i
+use Rattle.aos_code.specs.declared.instr.Kind.TheVariants.{N}
+use Rattle.aos_code.specs.Silent.{Stack, jumps, lands}
+use Rattle.aos_sim.specs.Code.{begin, place_code, operands_code, value_code, while_code, stat_code, row_code, stats_code}
+use Rattle.aos_sim.proofs.Runs.{Run, AtBegin, on_run, runs, run, drop_next, drop_past, get_at, Stands}
+use Rattle.aos_sim.proofs.Exprs.{cell_of, place_in, placed, IsInt, IsFlag, IsAsk, Does, along, does_bind, Pushed, Named, passed, operands_do, place_does, integer_does, boolean_does}
+
+module _ (code : List Instr) where
+  -- from both places the code does the same
+  abbrev pub Same : ℕ → ℕ → Type 0
+  Same p q = (s : Stack) → run code p s ≡ run code q s
+
+  -- the code at a place carries out these items, and then the end of the frame
+  abbrev pub Carries : List Item → ℕ → Type 0
+  Carries [] p = (at : ℕ) × Same p at × Stands code at (i.Return ∷ [])
+  Carries (Do st ∷ is) p = (at : ℕ) × Same p at × Stands code at (stat_code st at) × IsStatement st × Carries is (at + length (stat_code st at))
+
+  pub carries_from : (is : List Item) (p q : ℕ) → Same p q → Carries is q → Carries is p
+  carries_from [] p q same c = (c.0, (λ s. same s ∙ c.1 s), c.2)
+  carries_from (Do st ∷ is) p q same c = (c.0, (λ s. same s ∙ c.1 s), c.2, c.3, c.4)
+
+  carries_row : {m : _} (row : Row_of-TStat m) (p : ℕ) (after : List Item) → AreStatements row → Stands code p (row_code row p) → Carries after (p + length (row_code row p)) → Carries (items_of row ++ after) p
+  carries_row end_of-TStat p after ok st c = let e : p + 0 ≡ p = omega arith in subst (Carries after) e c
+  carries_row (more_of-TStat s ss) p after ok st c =
+      let cs = stat_code s p in
+      let cr = row_code ss (p + length cs) in
+      let split : drop p code ≡ cs ++ (cr ++ st.rest) = st.here ∙ append_assoc cs cr st.rest in
+      let next : Stands code (p + length cs) cr = record { rest = st.rest; here = drop_past cs p code (cr ++ st.rest) split } in
+      let len : p + length (cs ++ cr) ≡ p + length cs + length cr = omega (arith, length-append cs cr) in
+      (p, (λ s'. refl), record { rest = cr ++ st.rest; here = split }, ok.0, carries_row ss (p + length cs) after ok.1 next (subst (Carries after) len c))
+
+  pub carries_list : (ss : List TStat) (p : ℕ) → All IsStatement ss → Stands code p (stats_code ss p ++ i.Return ∷ []) → Carries (do_each ss) p
+  carries_list [] p ok st = (p, (λ s. refl), st)
+  carries_list (s ∷ ss) p ok st =
+      let cs = stat_code s p in
+      let cr = stats_code ss (p + length cs) in
+      let last = i.Return ∷ [] in
+      let split : drop p code ≡ cs ++ ((cr ++ last) ++ st.rest) = st.here ∙ simp append_assoc in
+      let next : Stands code (p + length cs) (cr ++ last) = record { rest = st.rest; here = drop_past cs p code ((cr ++ last) ++ st.rest) split } in
+      (p, (λ s'. refl), record { rest = (cr ++ last) ++ st.rest; here = split }, ok 0 s (omega arith), carries_list ss (p + length cs) (All-tail IsStatement s ss ok) next)
+
+  -- where these items take the place of a statement, the code goes on with them and those after them
+  abbrev pub Into : List Item → List Item → Run → Type 0
+  Into after is m = (at : ℕ) × (m ≡ run code at []) × Carries (is ++ after) at
+
+  from_here : (at : ℕ) (xs : List Instr) (s : Stack) → drop at code ≡ xs → run code at s ≡ runs code xs 0 at s
+  from_here at xs s e = ap (λ l. runs code l 0 at s) e
+
+  jump_on : (rest : List Instr) (to at n : ℕ) (s : Stack) → to ≡ at + 1 + n → on_run (jumps code to at s) (runs code rest) at ≡ runs code rest n (at + 1) s
+  jump_on rest to at n s e =
+      let lt : at < to = omega arith in
+      let d : to - (at + 1) ≡ n = omega arith in
+      rw (lt-ltb at to lt) (ap (λ m. runs code rest m (at + 1) s) d)
+
+  lands_back : (to p : ℕ) (at : Pos) (rest : List Instr) (s : Stack) → to ≤ p → slice_get code to ≡ Some (begin at) → runs code (i.Jump to ∷ rest) 0 p s ≡ Val (AtBegin to at s)
+  lands_back to p at rest s le here = rw (le-ltb p to le) (ap (λ o. on_run (lands o to s) (runs code rest) p) here)
+
+  -- the statement's last instruction asks, and with the answer the statement is done
+  last_asks : (q : source.Question) (m : Run) (p : ℕ) (rest : List Instr) (after : List Item) → m ≡ Asks (placed q) (λ x. runs code rest 0 (p + 1) []) → IsAsk q → drop (p + 1) code ≡ rest → Carries after (p + 1) → Does (Into after) m (bind (ask q) (λ _. Val []))
+  last_asks q m p rest after e ok here c = ((λ x. runs code rest 0 (p + 1) []), e, ok, λ v a. (p + 1, sym (from_here (p + 1) rest [] here), c))
+
+  assign_does : (pl : TPlace) (e : TExpr) (here : Pos) (at : ℕ) (after : List Item) → IsInteger e → Stands code at (stat_code (Assign here pl e) at) → Carries after (at + length (stat_code (Assign here pl e) at)) → Does (Into after) (run code (at + 1) []) (stat_of (Assign here pl e))
+  assign_does pl e here at after ok st c =
+      let cp = place_code pl (at + 1) in
+      let pe = at + 1 + length cp in
+      let ce = value_code e pe in
+      let p = pe + length ce in
+      let tail = i.Store N ∷ st.rest in
+      let flat : operands_code cp ce (i.Store N) ++ st.rest ≡ cp ++ (ce ++ tail) = simp append_assoc in
+      let h1 : drop (at + 1) code ≡ cp ++ (ce ++ tail) = drop_next at code (begin here) (operands_code cp ce (i.Store N) ++ st.rest) st.here ∙ flat in
+      let h2 : drop p code ≡ tail = drop_past ce pe code tail (drop_past cp (at + 1) code (ce ++ tail) h1) in
+      let len : at + suc (length (operands_code cp ce (i.Store N))) ≡ p + 1 = omega (arith, length-append cp (ce ++ i.Store N ∷ []), length-append ce (i.Store N ∷ [])) in
+      let onward : Spot → Doing (List Item) = λ s. bind (value_of e) (λ v. bind (ask (Stores s v)) (λ _. Val [])) in
+      along (Into after) _ _ (bind (place_of pl) onward) (from_here (at + 1) (cp ++ (ce ++ tail)) [] h1)
+      (does_bind (Named code (ce ++ tail) pe []) (Into after) _ (place_of pl) onward (place_does code pl (at + 1) (ce ++ tail) [])
+      (λ s m h. along (Into after) m _ (onward s) h.run
+      (does_bind (Pushed code IsInt tail p (place_in s ∷ [])) (Into after) _ (value_of e) (λ v. bind (ask (Stores s v)) (λ _. Val [])) (integer_does code e ok pe tail (place_in s ∷ []))
+      (λ v m' h'. stored s v m' p st.rest h'.kind h'.run (drop_next p code (i.Store N) st.rest h2) (subst (Carries after) len c)))))
+    where
+      stored : (s : Spot) (v : Value) (m : Run) (p : ℕ) (rest : List Instr) → IsInt v → m ≡ runs code (i.Store N ∷ rest) 0 p (cell_of v ∷ (place_in s ∷ [])) → drop (p + 1) code ≡ rest → Carries after (p + 1) → Does (Into after) m (bind (ask (Stores s v)) (λ _. Val []))
+      stored s (Int z) m p rest k e' h c' = last_asks (Stores s (Int z)) m p rest after e' tt h c'
+      stored s (Flag b) m p rest k e' h c' = absurd k
+
+  out_does : (call : OutCall) (here : Pos) (at : ℕ) (after : List Item) → IsCall call → Stands code at (stat_code (Out here call) at) → Carries after (at + length (stat_code (Out here call) at)) → Does (Into after) (run code (at + 1) []) (out_of call)
+  out_does OutLn here at after ok st c =
+      let h1 : drop (at + 1) code ≡ i.OutLn ∷ st.rest = drop_next at code (begin here) (i.OutLn ∷ st.rest) st.here in
+      let len : at + 2 ≡ at + 1 + 1 = omega arith in
+      along (Into after) _ _ (out_of OutLn) (from_here (at + 1) (i.OutLn ∷ st.rest) [] h1)
+      (last_asks PutsLn _ (at + 1) st.rest after refl tt (drop_next (at + 1) code i.OutLn st.rest h1) (subst (Carries after) len c))
+  out_does (OutInt e n) here at after ok st c =
+      let ca = value_code e (at + 1) in
+      let cb = value_code n (at + 1 + length ca) in
+      let p = at + 1 + length ca + length cb in
+      let flat : operands_code ca cb i.OutInt ++ st.rest ≡ ca ++ (cb ++ (i.OutInt ∷ st.rest)) = simp append_assoc in
+      let h1 : drop (at + 1) code ≡ operands_code ca cb i.OutInt ++ st.rest = drop_next at code (begin here) (operands_code ca cb i.OutInt ++ st.rest) st.here in
+      let h2 : drop p code ≡ i.OutInt ∷ st.rest = drop_past cb (at + 1 + length ca) code (i.OutInt ∷ st.rest) (drop_past ca (at + 1) code (cb ++ (i.OutInt ∷ st.rest)) (h1 ∙ flat)) in
+      let len : at + suc (length (operands_code ca cb i.OutInt)) ≡ p + 1 = omega (arith, length-append ca (cb ++ i.OutInt ∷ []), length-append cb (i.OutInt ∷ [])) in
+      along (Into after) _ _ (out_of (OutInt e n)) (from_here (at + 1) (operands_code ca cb i.OutInt ++ st.rest) [] h1)
+      (operands_do code (Into after) i.OutInt (λ x y. bind (ask (PutsInt x y)) (λ _. Val [])) ca cb (value_of e) (value_of n) (at + 1) st.rest []
+      (integer_does code e ok.0 (at + 1)) (integer_does code n ok.1 (at + 1 + length ca))
+      (λ a b m e'. last_asks (PutsInt (Int a) (Int b)) m p st.rest after e' (tt, tt) (drop_next p code i.OutInt st.rest h2) (subst (Carries after) len c)))
+
+  -- a test and the jump that it decides
+  chosen : (then otherwise : List Item) (to on p : ℕ) (rest : List Instr) (after : List Item) (v : Value) (m : Run) → IsFlag v → m ≡ runs code (i.JumpFalse to ∷ rest) 0 p (cell_of v ∷ []) → on_run (jumps code to p []) (runs code rest) p ≡ run code to [] → runs code rest 0 (p + 1) [] ≡ run code on [] → Carries (then ++ after) on → Carries (otherwise ++ after) to → Does (Into after) m (if_flag v then otherwise)
+  chosen then otherwise to on p rest after (Flag true) m k e en ey cy cn = (on, e ∙ ey, cy)
+  chosen then otherwise to on p rest after (Flag false) m k e en ey cy cn = (to, e ∙ en, cn)
+  chosen then otherwise to on p rest after (Int z) m k e en ey cy cn = absurd k
+
+  while_does : (w : TStat) (e : TExpr) {m : _} (b : Row_of-TStat m) (here : Pos) (at : ℕ) (after : List Item) → let c1 = value_code e (at + 1) in let b1 = row_code b (at + 1 + length c1 + 1) in stat_code w at ≡ while_code here c1 b1 at → IsStatement w → IsBoolean e → AreStatements b → Stands code at (stat_code w at) → Carries after (at + length (stat_code w at)) → Does (Into after) (run code (at + 1) []) (bind (value_of e) (λ v. if_flag v (items_of b ++ Do w ∷ []) []))
+  while_does w e b here at after hw okw oke okb st c =
+      let c1 = value_code e (at + 1) in
+      let p = at + 1 + length c1 in
+      let pb = p + 1 in
+      let b1 = row_code b pb in
+      let pj = pb + length b1 in
+      let end = pj + 1 in
+      let tail = i.JumpFalse end ∷ (b1 ++ (i.Jump at ∷ st.rest)) in
+      let flat : (c1 ++ (i.JumpFalse end ∷ (b1 ++ i.Jump at ∷ []))) ++ st.rest ≡ c1 ++ tail = simp append_assoc in
+      let h0 : drop at code ≡ begin here ∷ (c1 ++ tail) = st.here ∙ ap (λ l. l ++ st.rest) hw ∙ ap (λ l. begin here ∷ l) flat in
+      let h1 : drop (at + 1) code ≡ c1 ++ tail = drop_next at code (begin here) (c1 ++ tail) h0 in
+      let h2 : drop p code ≡ tail = drop_past c1 (at + 1) code tail h1 in
+      let h3 : drop pb code ≡ b1 ++ (i.Jump at ∷ st.rest) = drop_next p code (i.JumpFalse end) (b1 ++ (i.Jump at ∷ st.rest)) h2 in
+      let h4 : drop pj code ≡ i.Jump at ∷ st.rest = drop_past b1 pb code (i.Jump at ∷ st.rest) h3 in
+      let h5 : drop end code ≡ st.rest = drop_next pj code (i.Jump at) st.rest h4 in
+      let len : at + length (stat_code w at) ≡ end = omega (arith, ap length hw, length-append c1 (i.JumpFalse end ∷ (b1 ++ i.Jump at ∷ [])), length-append b1 (i.Jump at ∷ [])) in
+      let le : at ≤ pj = omega arith in
+      let back : Same pj at = λ s. from_here pj (i.Jump at ∷ st.rest) s h4 ∙ lands_back at pj here st.rest s le (get_at at code (begin here) (c1 ++ tail) h0) ∙ sym (from_here at (begin here ∷ (c1 ++ tail)) s h0) in
+      let again : Carries (Do w ∷ after) pj = (at, back, st, okw, c) in
+      let to_b : Carries ((items_of b ++ Do w ∷ []) ++ after) pb = subst (λ l. Carries l pb) (sym (append_assoc (items_of b) (Do w ∷ []) after)) (carries_row b pb (Do w ∷ after) okb (record { rest = i.Jump at ∷ st.rest; here = h3 }) again) in
+      let over : on_run (jumps code end p []) (runs code (b1 ++ (i.Jump at ∷ st.rest))) p ≡ run code end [] = jump_on (b1 ++ (i.Jump at ∷ st.rest)) end p (length b1 + 1) [] (omega arith) ∙ passed code b1 (i.Jump at ∷ st.rest) 1 (p + 1) [] ∙ sym (from_here end st.rest [] h5) in
+      along (Into after) _ _ (bind (value_of e) (λ v. if_flag v (items_of b ++ Do w ∷ []) [])) (from_here (at + 1) (c1 ++ tail) [] h1)
+      (does_bind (Pushed code IsFlag tail p []) (Into after) _ (value_of e) (λ v. if_flag v (items_of b ++ Do w ∷ []) []) (boolean_does code e oke (at + 1) tail [])
+      (λ v m h. chosen (items_of b ++ Do w ∷ []) [] end pb p (b1 ++ (i.Jump at ∷ st.rest)) after v m h.kind h.run over (sym (from_here pb (b1 ++ (i.Jump at ∷ st.rest)) [] h3)) to_b (subst (Carries after) len c)))
+
+  pub stat_does : (s : TStat) (at : ℕ) (after : List Item) → IsStatement s → Stands code at (stat_code s at) → Carries after (at + length (stat_code s at)) → Does (Into after) (run code (at + 1) []) (stat_of s)
+  stat_does (Assign here pl e) at after ok st c = assign_does pl e here at after ok st c
+  stat_does (While' here e shape b) at after ok st c = while_does (While' here e shape b) e b here at after refl ok ok.0 ok.1 st c
+  stat_does (Out here call) at after ok st c = out_does call here at after ok st c

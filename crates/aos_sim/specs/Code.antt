@@ -1,0 +1,79 @@
+-- The code of a program. A jump names its target, so each piece of code is told where it stands.
+use Rattle.std.specs.Prelude.{ℕ, pos, ◌+◌, List, [], ◌∷◌, ◌++◌, length}
+use Rattle.aos_base.specs.declared.text.Pos.{Pos}
+use Rattle.aos_typed.specs.declared.tree.Literal.{Literal}
+use Rattle.aos_typed.specs.declared.tree.Literal.TheVariants.{Int as IntLiteral}
+use Rattle.aos_typed.specs.declared.tree.Binary.{Binary}
+use Rattle.aos_typed.specs.declared.tree.Binary.TheVariants.{Add as AddOf, Sub as SubOf}
+use Rattle.aos_typed.specs.declared.tree.TPlace.{TPlace}
+use Rattle.aos_typed.specs.declared.tree.TPlace.TheVariants.{ModuleVar}
+use Rattle.aos_typed.specs.declared.tree.TExpr.{TExpr}
+use Rattle.aos_typed.specs.declared.tree.TExpr.TheVariants.{Lit, Read, Binary', Compare'}
+use Rattle.aos_typed.specs.declared.tree.OutCall.{OutCall}
+use Rattle.aos_typed.specs.declared.tree.OutCall.TheVariants.{Int, Ln}
+use Rattle.aos_typed.specs.declared.tree.TStat.{TStat, Row_of-TStat, end_of-TStat, more_of-TStat}
+use Rattle.aos_typed.specs.declared.tree.TStat.TheVariants.{Assign, While', Out}
+use Rattle.aos_code.specs.declared.instr.Cell.{Cell}
+use Rattle.aos_code.specs.declared.instr.Kind.TheVariants.{N}
+use Rattle.aos_code.specs.declared.instr.Cell.TheVariants as cell
+use Rattle.aos_code.specs.declared.instr.Instr.{Instr}
+use Rattle.aos_code.specs.declared.instr.Instr.TheVariants.{Num, Module, Add, Sub, Cmp, Jump, JumpFalse, Begin, Load, Store, Return, OutInt, OutLn}
+
+abbrev pub begin : Pos → Instr
+begin at = Begin at.line at.col
+
+abbrev pub literal_code : Literal → Instr
+literal_code (IntLiteral n) = Num n
+
+abbrev pub binary_code : Binary → Instr
+binary_code (AddOf w) = Add w
+binary_code (SubOf w) = Sub w
+
+-- a variable's cell has the variable's number
+abbrev pub place_code : TPlace → ℕ → List Instr
+place_code (ModuleVar m i) at = Module m i ∷ []
+
+-- two operands and their operator
+abbrev pub operands_code : List Instr → List Instr → Instr → List Instr
+operands_code a b operator = a ++ (b ++ operator ∷ [])
+
+abbrev pub value_code : TExpr → ℕ → List Instr
+value_code (Lit l) at = literal_code l ∷ []
+value_code (Read p) at = place_code p at ++ Load N ∷ []
+value_code (Binary' op p a q b) at =
+    operands_code (value_code a at) (value_code b (at + length (value_code a at))) (binary_code op)
+value_code (Compare' r p a q b) at =
+    operands_code (value_code a at) (value_code b (at + length (value_code a at))) (Cmp r)
+
+abbrev pub out_code : OutCall → ℕ → List Instr
+out_code (Int e n) at = operands_code (value_code e at) (value_code n (at + length (value_code e at))) OutInt
+out_code Ln at = OutLn ∷ []
+
+-- a loop: where its condition is false the code goes on behind it, else its body and then the loop again
+abbrev pub while_code : Pos → List Instr → List Instr → ℕ → List Instr
+while_code here c b at =
+    begin here ∷ (c ++ (JumpFalse (at + 1 + length c + 1 + length b + 1) ∷ (b ++ Jump at ∷ [])))
+
+abbrev mutual
+  pub stat_code : TStat → ℕ → List Instr
+  stat_code (Assign here p e) at =
+      begin here ∷ operands_code (place_code p (at + 1)) (value_code e (at + 1 + length (place_code p (at + 1)))) (Store N)
+  stat_code (While' here e shape body) at =
+      let c = value_code e (at + 1) in while_code here c (row_code body (at + 1 + length c + 1)) at
+  stat_code (Out here call) at = begin here ∷ out_code call (at + 1)
+
+  pub row_code : {m : _} → Row_of-TStat m → ℕ → List Instr
+  row_code end_of-TStat at = []
+  row_code (more_of-TStat s ss) at = stat_code s at ++ row_code ss (at + length (stat_code s at))
+
+abbrev pub stats_code : List TStat → ℕ → List Instr
+stats_code [] at = []
+stats_code (s ∷ ss) at = stat_code s at ++ stats_code ss (at + length (stat_code s at))
+
+-- a body: its statements, and the end of its frame
+abbrev pub body_code : List TStat → List Instr
+body_code ss = stats_code ss 0 ++ Return ∷ []
+
+-- a variable's cell at first
+abbrev pub zero_cell : Cell
+zero_cell = cell.Num (pos 0)

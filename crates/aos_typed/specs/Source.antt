@@ -1,0 +1,154 @@
+-- A program as a machine: its store, its frames, and the turns of an activity.
+use Rattle.std.specs.Prelude.{ℕ, suc, ◌++◌, List, [], ◌∷◌, Bool, true, false, Option, Some, None, map, pos}
+use Rattle.aos_base.specs.declared.text.Pos.{Pos}
+use Rattle.aos_base.specs.declared.kernel.Did.{Did}
+use Rattle.aos_base.specs.declared.kernel.Did.TheVariants.{Went, Ended, Trapped}
+use Rattle.aos_base.specs.declared.kernel.Verdict.TheVariants.{Fails}
+use Rattle.aos_base.specs.Number.{places_of, justified}
+use Rattle.aos_base.specs.Book.{Where}
+use Rattle.aos_base.specs.Machine.{Turn, Machine, State, start_of}
+use Rattle.aos_base.specs.Question.{Tree, Val, Asks, Traps, feed, Ask, Reads, Stores, Ends, PutsInt, PutsLn}
+use Rattle.aos_typed.specs.declared.tree.TModule.{TModule}
+use Rattle.aos_typed.specs.declared.tree.TVariable.{TVariable}
+use Rattle.aos_typed.specs.declared.tree.Program.{Program}
+use Rattle.aos_typed.specs.declared.tree.TStat.{TStat}
+use Rattle.aos_typed.specs.Value.{Value, Int, Flag}
+use Rattle.aos_typed.specs.Store.{Content, Scalar, Spot, Store, read, write}
+use Rattle.aos_typed.specs.Meaning.{Question, Doing, Item, Do, do_each, item_of, pos_of}
+
+-- a frame: the module of its text, the statement last begun, the items that remain, and the answers that the first of
+-- them has had, if it has begun
+pub record Frame : Type 0 where
+  pub home : ℕ
+  pub at : Option Pos
+  pub items : List Item
+  pub answers : Option (List Value)
+
+-- an activity's frames, the topmost first; below those of a module's body stand those of the bodies that are to follow
+abbrev pub Frames : Type 0
+Frames = List Frame
+
+abbrev pub Turned : Type 0
+Turned = Turn Store Frames
+
+-- a turn that leaves nothing to the kernel
+abbrev pub goes_on : Frames → Store → Turned
+goes_on fs s = record { store = s; frames = fs; output = []; begun = false; left = Went }
+
+abbrev pub puts : List ℕ → Frames → Store → Turned
+puts bytes fs s = record { store = s; frames = fs; output = bytes; begun = false; left = Went }
+
+abbrev pub leaves : Did → Frames → Store → Turned
+leaves work fs s = record { store = s; frames = fs; output = []; begun = false; left = work }
+
+abbrev pub told : Value → Option (List Value) → Option (List Value)
+told v None = None
+told v (Some vs) = Some (vs ++ v ∷ [])
+
+-- the frame's first item has one more answer
+abbrev pub answered : Value → Frame → Frame
+answered v f = record f { answers = told v f.answers }
+
+-- what has no other answer is answered so
+abbrev pub done : Value
+done = Int (pos 0)
+
+-- the end of a frame
+abbrev pub ends : Frames → Store → Turned
+ends fs s = goes_on fs s
+
+-- the next item begins, or the frame ends where there is none
+abbrev pub settles : List Item → Frame → Frames → Store → Turned
+settles [] f fs s = ends fs s
+settles (Do st ∷ is) f fs s =
+    record {
+      store = s;
+      frames = record f { at = Some (pos_of st); items = Do st ∷ is; answers = Some [] } ∷ fs;
+      output = [];
+      begun = true;
+      left = Went;
+    }
+
+-- the text that Out.Int writes, where the number of places is 0 to 255
+abbrev pub written : Value → Value → Option (List ℕ)
+written (Int z) (Int n) = justified z (places_of n)
+written (Int z) (Flag b) = None
+written (Flag b) v = None
+
+abbrev pub reads : Option Value → Frame → Frames → Store → Turned
+reads None f fs s = leaves (Trapped 16 0) (f ∷ fs) s
+reads (Some v) f fs s = goes_on (answered v f ∷ fs) s
+
+abbrev pub prints : Option (List ℕ) → Frame → Frames → Store → Turned
+prints None f fs s = leaves (Trapped 14 0) (f ∷ fs) s
+prints (Some bytes) f fs s = puts bytes (answered done f ∷ fs) s
+
+-- a question is answered
+abbrev pub answer : Question → Frame → Frames → Store → Turned
+answer (Reads p) f fs s = reads (read p s) f fs s
+answer (Stores p v) f fs s = goes_on (answered done f ∷ fs) (write p v s)
+answer (Ends result) f fs s = ends fs s
+answer (PutsInt v n) f fs s = prints (written v n) f fs s
+answer PutsLn f fs s = puts (10 ∷ []) (answered done f ∷ fs) s
+
+abbrev pub goes : Doing (List Item) → List Item → Frame → Frames → Store → Turned
+goes (Val is) rest f fs s = settles (is ++ rest) f fs s
+goes (Asks q k) rest f fs s = answer q f fs s
+goes (Traps n c) rest f fs s = leaves (Trapped n c) (f ∷ fs) s
+
+-- the first item goes on from the answers that it has had
+abbrev pub turn_at : Option (List Value) → List Item → Frame → Frames → Store → Turned
+turn_at None is f fs s = settles is f fs s
+turn_at (Some vs) [] f fs s = ends fs s
+turn_at (Some vs) (i ∷ is) f fs s = goes (feed vs (item_of i)) is f fs s
+
+-- all silent work up to and with the next visible work
+abbrev pub turn : Store → Frames → Turned
+turn s [] = leaves Ended [] s
+turn s (f ∷ fs) = turn_at f.answers f.items f fs s
+
+abbrev pub or_below : Option Pos → ℕ → Where → Where
+or_below None home below = below
+or_below (Some p) home below = record { module_ = home; pos = p }
+
+abbrev pub position_or : Where → Frames → Where
+position_or none [] = none
+position_or none (f ∷ fs) = or_below f.at f.home (position_or none fs)
+
+-- where the topmost frame that has begun a statement stands; line 0 and column 0 where none has
+abbrev pub position : Frames → Where
+position [] = record { module_ = 0; pos = record { line = 0; col = 0 } }
+position (f ∷ fs) = position_or (record { module_ = f.home; pos = record { line = 0; col = 0 } }) (f ∷ fs)
+
+-- a program as a machine under the kernel
+abbrev pub source : Program → Machine Store Frames
+source p =
+    record {
+      turn = turn;
+      past = λ fs. fs;
+      verdict = λ s fs c. Fails;
+      regions = λ fs. [];
+      position = position;
+      body = λ s o. [];
+      priority = λ s o. 2;
+      anew = λ fs. None;
+    }
+
+-- all variables begin as 0
+abbrev pub first_contents : List TVariable → List Content
+first_contents vs = map (λ v. Scalar (Int (pos 0))) vs
+
+abbrev pub first_store : Program → Store
+first_store p = record { modules = map (λ m. first_contents m.variables.items) p.modules.items }
+
+-- the frames of the bodies, in load order; the first module has the number `from`
+abbrev pub bodies_from : ℕ → List TModule → Frames
+bodies_from from [] = []
+bodies_from from (m ∷ ms) = record { home = from; at = None; items = do_each m.body.items; answers = None } ∷ bodies_from (suc from) ms
+
+-- activity 0 runs the bodies of the modules
+abbrev pub first_frames : Program → Frames
+first_frames p = bodies_from 0 p.modules.items
+
+abbrev pub first_state : Program → ℕ → State Store Frames
+first_state p budget = start_of (first_store p) (first_frames p) budget

@@ -1,0 +1,39 @@
+-- The store: below each root stand contents, which a path reads and writes.
+use Rattle.std.specs.Prelude.{ℕ, zero, suc, List, [], ◌∷◌, Option, Some, None, slice_get, slice_set, option_and_then, option_map}
+use Rattle.aos_typed.specs.Value.{Value}
+
+-- what a variable holds: a scalar
+pub data Content : Type 0 where
+  Scalar : (value : Value) → Content
+
+-- a module, by its number in load order
+pub data Root : Type 0 where
+  ModuleRoot : (number : ℕ) → Root
+
+-- a root, and the number of the variable there
+pub record Spot : Type 0 where
+  pub root : Root
+  pub variable : ℕ
+
+pub record Store : Type 0 where
+  pub modules : List (List Content)
+
+abbrev pub value_in : Content → Value
+value_in (Scalar v) = v
+
+-- what a place holds, where there is such a place
+abbrev pub read_at : Root → ℕ → Store → Option Value
+read_at (ModuleRoot m) i s = option_and_then (λ vs. option_map value_in (slice_get vs i)) (slice_get s.modules m)
+
+abbrev pub put_in : Option (List Content) → ℕ → ℕ → Value → Store → Store
+put_in None m i v s = s
+put_in (Some vs) m i v s = record s { modules = slice_set s.modules m (slice_set vs i (Scalar v)) }
+
+abbrev pub store_at : Root → ℕ → Value → Store → Store
+store_at (ModuleRoot m) i v s = put_in (slice_get s.modules m) m i v s
+
+abbrev pub read : Spot → Store → Option Value
+read p s = read_at p.root p.variable s
+
+abbrev pub write : Spot → Value → Store → Store
+write p v s = store_at p.root p.variable v s
