@@ -1,0 +1,7 @@
+pub mod Names
+pub mod Tokens
+pub mod Grammar
+pub mod Module
+pub mod Variables
+pub mod Lexemes
+pub mod Machine
