@@ -3,6 +3,7 @@ use Rattle.std.specs.Prelude.{◌≡◌, ℕ, suc, ℤ, ◌+◌, ◌<◌, List, 
 use Rattle.std.specs.declared.alloc.Global.{Global}
 use Rattle.aos_base.specs.declared.text.Pos.{Pos}
 use Rattle.aos_base.specs.declared.kernel.Did.{Did}
+use Rattle.aos_base.specs.Book.{Where}
 use Rattle.aos_base.specs.Machine.{Turn}
 use Rattle.aos_base.specs.Question.{Reads, Stores, PutsInt, PutsLn, Ends}
 use Rattle.aos_code.specs.declared.instr.Cell.{Cell}
@@ -83,6 +84,14 @@ WhereStays EndsFrame P = P
 WhereStays (BeginsAt at pos) P = Unit {0}
 WhereStays (FailsWith n c) P = P
 
+-- a jump asks nothing
+abbrev pub IsJump : KeptAct → Type 0
+IsJump (GoesOn over) = Unit {0}
+IsJump (Asks q) = ⊥
+IsJump EndsFrame = ⊥
+IsJump (BeginsAt at pos) = Unit {0}
+IsJump (FailsWith n c) = Unit {0}
+
 abbrev pub IsStay : KeptAct → Type 0
 IsStay (GoesOn over) = ⊥
 IsStay (Asks q) = Unit {0}
@@ -108,6 +117,10 @@ place_in (Some (Place root cell type)) = Some (record { root = root; cell = cell
 
 abbrev pub addr_in : (Root × ℕ) → Addr
 addr_in p = record { root = p.0; cell = p.1 }
+
+-- a module's number and a place in it
+abbrev pub where_in : (ℕ × Pos) → Where
+where_in p = record { module_ = p.0; pos = p.1 }
 
 -- code that lacks an operand is lost
 abbrev pub or_lost : {A : Type 0} → Option A → (A → Act) → Act

@@ -1,5 +1,5 @@
 -- What the kernel keeps, and the state that it shows.
-use Rattle.std.specs.Prelude.{◌≡◌, ℕ, suc, ◌<◌, ◌≤◌, List, [], ◌∷◌, ◌++◌, Bool, Option, Some, None, map, length, slice_get, All, vec_len, vec_capacity, ◌+◌}
+use Rattle.std.specs.Prelude.{◌≡◌, ℕ, suc, ◌<◌, ◌≤◌, List, [], ◌∷◌, ◌++◌, Bool, Option, Some, None, map, length, slice_get, vec_len, vec_capacity, ◌+◌}
 use Rattle.aos_base.specs.declared.kernel.Event.{Event}
 use Rattle.aos_base.specs.declared.kernel.Did.{Did}
 use Rattle.aos_base.specs.declared.kernel.Did.TheVariants.{Went, Ended, Enter, Leave, Await, Start, Trapped}
@@ -42,6 +42,11 @@ pub record ShowsActivity (image : Image) (kept : Activity) (a : book.Activity) (
   pub next : a.next ≡ next_in kept.next
   pub alike : Alike image fs (frames_in kept.frames.items)
 
+-- each stand is of one of so many activities
+abbrev pub IsKnown : ℕ → List book.Stand → Type 0
+IsKnown n [] = Unit {0}
+IsKnown n (s ∷ line) = (s.activity < n) × IsKnown n line
+
 -- `earlier` are the events before those that the desk keeps
 pub record Shows (image : Image) (earlier : List Event) (d : Desk) (st : State Memory Frames) : Type 0 where
   pub store : st.store ≡ memory_in d.memory.items
@@ -52,7 +57,7 @@ pub record Shows (image : Image) (earlier : List Event) (d : Desk) (st : State M
   pub budget : st.book.budget ≡ d.budget
   pub spent : st.book.spent ≡ d.spent
   pub started : st.book.started ≡ length d.activities.items
-  pub known : All (λ s. s.activity < st.book.started) st.book.line
+  pub known : IsKnown st.book.started st.book.line
   pub activities : (x : ℕ) (kept : Activity) → slice_get d.activities.items x ≡ Some kept → ShowsActivity image kept (st.book.activity x) (st.frames x)
   pub unspent : (x : ℕ) → st.book.spent ≡ None → (st.book.activity x).begun < st.book.budget
 

@@ -5,8 +5,8 @@ ghost use Rattle.aos_base.specs.Number.{if_within, holds, right_justified};
 ghost use Rattle.aos_base.specs.Question.{Reads, PutsInt};
 ghost use Rattle.aos_code.specs.Memory.{Memory, load as load_of, store as store_of};
 ghost use Rattle.aos_code.specs.Silent.{Stack, Act as ActOf, Sees, on_number, on_numbers, on_place, or_overflow, gives, flag, stores, jumps, jumps_on_false, act, silent};
-ghost use Rattle.aos_code.specs.Machine.{Frames, behind, code_of as code_at, home_of as home_at, position as position_at, answer as answer_of, turn as turn_of};
-ghost use Rattle.aos_kernel.specs.Cpu.{frame_in, frames_in, memory_in, question_in, act_in, stop_in, addr_in, IsStopWithin, IsBeginOf, IsStay, WhereStays, WhereWork, number_in, place_in, or_lost, Alike, Makes, Shown, operands_of};
+ghost use Rattle.aos_code.specs.Machine.{Frames, behind, code_of as code_at, home_of as home_at, position as position_at, position_or, answer as answer_of, turn as turn_of};
+ghost use Rattle.aos_kernel.specs.Cpu.{frame_in, frames_in, memory_in, question_in, act_in, stop_in, addr_in, where_in, IsStopWithin, IsBeginOf, IsStay, IsJump, WhereStays, WhereWork, number_in, place_in, or_lost, Alike, Makes, Shown, operands_of};
 
 use aos_base::{Did, NoMemory, Pos, Relation, Width, add, related, sub};
 use aos_code::{Cell, Image, Instr, Kind, Root};
@@ -190,6 +190,7 @@ fn give(stack: &mut Vec<Cell>, cell: Cell) -> Act
 fn jump(code: &[Instr], to: usize, at: usize) -> Act
     requires { at < length code.now }
     ensures act { (s : Stack) → act_in result s ≡ jumps code.now to at s }
+    ensures jumps { IsJump result }
     ensures begins { IsBeginOf code.now result }
 {
     if at < to {
@@ -209,11 +210,16 @@ fn jump_on_false(code: &[Instr], to: usize, at: usize, stack: &mut Vec<Cell>) ->
 {
     match number(stack, 0) {
         Some(0) => match jump(code, to, at) {
-            Act::Fails(n, c) => Act::Fails(n, c),
-            act => {
+            Act::Goes(over) => {
                 take(stack, 1);
-                act
+                Act::Goes(over)
             }
+            Act::Begins(to, pos) => {
+                take(stack, 1);
+                Act::Begins(to, pos)
+            }
+            Act::Fails(n, c) => Act::Fails(n, c),
+            Act::Sees(_) | Act::Ends => LOST,
         },
         Some(1) => {
             take(stack, 1);
@@ -316,11 +322,19 @@ fn load(memory: &[Vec<Cell>], root: Root, cell: u32) -> Option<Cell>
     cells.get(cell as usize).copied()
 }
 
+/// The module whose cells a root has.
+fn module_of(root: Root) -> u32
+    ensures { root ≡ Root.Module result }
+{
+    let Root::Module(m) = root;
+    m
+}
+
 /// Sets a cell, where there is such a cell.
 fn store(memory: &mut Vec<Vec<Cell>>, root: Root, cell: u32, value: Cell)
     ensures { memory_in memory.new.items ≡ store_of (record { root = root; cell = cell }) value (memory_in memory.old.items) }
 {
-    let Root::Module(m) = root;
+    let m = module_of(root);
     if let Some(cells) = memory.get_mut(m as usize) {
         if let Some(place) = cells.get_mut(cell as usize) {
             *place = value;
@@ -426,14 +440,21 @@ fn home_of(image: &Image, procedure: u32) -> u32
     }
 }
 
-/// Where the topmost frame that has begun a statement stands: the module's number, and the place.
-pub fn position(image: &Image, frames: &[Frame]) -> (u32, Pos)
-    ensures { (fs : Frames) → Alike image.now fs (frames_in frames.now) → position_at image.now fs ≡ record { module_ = result.0; pos = result.1 } }
+/// The topmost frame's module, and no place in it.
+fn top_home(image: &Image, frames: &[Frame]) -> (u32, Pos)
+    ensures { position_at image.now (frames_in frames.now) ≡ position_or image.now (where_in result) (frames_in frames.now) }
 {
-    let mut found = match frames.last() {
+    match frames.last() {
         None => (0, Pos { line: 0, col: 0 }),
         Some(frame) => (home_of(image, frame.procedure), Pos { line: 0, col: 0 }),
-    };
+    }
+}
+
+/// Where the topmost frame that has begun a statement stands: the module's number, and the place.
+pub fn position(image: &Image, frames: &[Frame]) -> (u32, Pos)
+    ensures { (fs : Frames) → Alike image.now fs (frames_in frames.now) → position_at image.now fs ≡ where_in result }
+{
+    let mut found = top_home(image, frames);
     for frame in frames {
         if let Some(pos) = frame.at {
             found = (home_of(image, frame.procedure), pos);

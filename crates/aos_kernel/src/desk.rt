@@ -1,10 +1,10 @@
 // What the kernel keeps of a run, and the operations on it, one for each of the definitions.
 ghost use Rattle.std.specs.Prelude.{◌≡◌, ℕ, suc, ◌+◌, ◌<◌, ◌≤◌, ◌^◌, ◌++◌, ◌∷◌, List, length, slice_get, slice_set, vec_len, vec_capacity, IfOk, OnOk, OnErr, Some, None, if◌then◌else◌};
-ghost use Rattle.aos_base.specs.Book.{outcome_of, leave_line, move, first_at, is_on, is_ready, on_worker as worker_in, first_ready, spent_by, stands, ready, ended, Runs};
+ghost use Rattle.aos_base.specs.Book.{outcome_of, leave_line, move, first_at, is_on, is_ready, on_worker as worker_in, first_ready, spent_by, stands, ready, ended, Runs, On};
 ghost use Rattle.aos_base.specs.Machine.{State, on_book, trap, serve, turn_by, turned};
 ghost use Rattle.aos_code.specs.Memory.{Memory};
 ghost use Rattle.aos_code.specs.Machine.{Frames, machine, position, turn as turn_of};
-ghost use Rattle.aos_kernel.specs.Cpu.{Alike, frames_in};
+ghost use Rattle.aos_kernel.specs.Cpu.{Alike, frames_in, where_in};
 ghost use Rattle.aos_kernel.specs.Shows.{stand_in, place_in, line_in, Shows, IsServed, HasRoom};
 
 use aos_base::{Did, Event, NoMemory, Outcome, Pos};
@@ -137,7 +137,7 @@ fn next_of(activities: &[Activity], activity: u32) -> Next
 
 /// Where an activity stands in the text.
 fn place_of(image: &Image, activities: &[Activity], activity: u32) -> (u32, Pos)
-    ensures { (kept : Activity) (fs : Frames) → slice_get activities.now activity ≡ Some kept → Alike image.now fs (frames_in kept.frames.items) → position image.now fs ≡ record { module_ = result.0; pos = result.1 } }
+    ensures { (kept : Activity) (fs : Frames) → slice_get activities.now activity ≡ Some kept → Alike image.now fs (frames_in kept.frames.items) → position image.now fs ≡ where_in result }
 {
     match activities.get(activity as usize) {
         Some(kept) => cpu::position(image, &kept.frames),
@@ -209,21 +209,25 @@ impl Desk {
         next_ready(&self.line)
     }
 
-    /// The activity stands there from now on.
-    pub fn stands(&mut self, activity: u32, place: Place)
-        requires { vec_len self.old.line < vec_capacity self.old.line }
-        ensures { (image : Image) (earlier : List Event) (st : State Memory Frames) → Shows image earlier self.old st → activity < st.book.started → Shows image earlier self.new (on_book (stands activity (place_in place)) st) }
+    /// The activity stands on a worker from now on.
+    pub fn dispatch(&mut self, activity: u32, worker: u32) -> Result<(), NoMemory>
+        ensures ok { OnOk result ((image : Image) (earlier : List Event) (st : State Memory Frames) → Shows image earlier self.old st → activity < st.book.started → Shows image earlier self.new (on_book (stands activity (On worker)) st)) }
+        ensures err { OnErr result ((image : Image) (earlier : List Event) (st : State Memory Frames) → Shows image earlier self.old st → Shows image earlier self.new st) }
     {
-        move_in(&mut self.line, activity, place);
+        self.line.reserve(1)?;
+        move_in(&mut self.line, activity, Place::On(worker));
+        Ok(())
     }
 
     /// The activity is ready, behind those of its priority.
-    pub fn ready(&mut self, activity: u32)
-        requires { vec_len self.old.line < vec_capacity self.old.line }
-        ensures { (image : Image) (earlier : List Event) (st : State Memory Frames) → Shows image earlier self.old st → activity < st.book.started → Shows image earlier self.new (on_book (ready activity) st) }
+    pub fn ready(&mut self, activity: u32) -> Result<(), NoMemory>
+        ensures ok { OnOk result ((image : Image) (earlier : List Event) (st : State Memory Frames) → Shows image earlier self.old st → activity < st.book.started → Shows image earlier self.new (on_book (ready activity) st)) }
+        ensures err { OnErr result ((image : Image) (earlier : List Event) (st : State Memory Frames) → Shows image earlier self.old st → Shows image earlier self.new st) }
     {
+        self.line.reserve(1)?;
         let priority = priority_of(&self.activities, activity);
         move_in(&mut self.line, activity, Place::Ready(priority));
+        Ok(())
     }
 
     /// The activity ends.

@@ -32,6 +32,7 @@ pub const MAX_BUDGET: u64 = 1_000_000_000;
 pub struct Kernel {
     image: Arc<Image>,
     workers: u32,
+    budget: u64,
     desk: Desk,
     events: Vec<Event>,
     log: Vec<Sched>,
@@ -44,9 +45,9 @@ impl Model for Kernel {
 
     ghost Value = { Run };
 
-    ghost view = { λ k. record { image = arc_value k.image; workers = k.workers; budget = k.desk.budget; log = k.log.items } };
+    ghost view = { λ k. record { image = arc_value k.image; workers = k.workers; budget = k.budget; log = k.log.items } };
 
-    ghost invariant = { λ k. Keeps (record { image = arc_value k.image; workers = k.workers; budget = k.desk.budget; log = k.log.items }) k.desk k.events.items };
+    ghost invariant = { λ k. Keeps (record { image = arc_value k.image; workers = k.workers; budget = k.budget; log = k.log.items }) k.desk k.events.items };
 }
 
 /// What the cells of the modules hold at first.
@@ -83,8 +84,7 @@ fn first_bodies(alloc: Global, image: &Image) -> Result<Vec<Frame>, NoMemory>
 /// The desk where nothing has happened yet.
 fn first_desk(alloc: Global, image: &Image, budget: u64) -> Result<Desk, NoMemory>
     requires { 1 ≤ budget }
-    ensures shows { IfOk result (λ desk. Shows image.now [] desk (first_state image.now budget)) }
-    ensures budget { IfOk result (λ desk. desk.budget ≡ budget) }
+    ensures { IfOk result (λ desk. Shows image.now [] desk (first_state image.now budget)) }
 {
     let memory = first_cells(alloc, image)?;
     let frames = first_bodies(alloc, image)?;
@@ -136,6 +136,7 @@ impl Kernel {
         let kernel = Kernel {
             image,
             workers,
+            budget,
             desk,
             events: Vec::new(alloc),
             log: Vec::new(alloc),
@@ -159,7 +160,7 @@ impl Kernel {
         ensures budget { result ≡ self.now.budget }
         ensures range { (1 ≤ result) × (result ≤ MAX_BUDGET) }
     {
-        self.desk.budget
+        self.budget
     }
 
     /// The image that it runs.
@@ -236,8 +237,7 @@ impl Kernel {
             None => match self.desk.first_ready() {
                 Some(activity) => {
                     self.log.reserve(1)?;
-                    self.desk.line.reserve(1)?;
-                    self.desk.stands(activity, Place::On(w));
+                    self.desk.dispatch(activity, w)?;
                     hand_out(&mut self.events, &mut self.desk);
                     add_step(&mut self.log, w);
                     Ok(Stepped::Dispatched)
@@ -263,8 +263,7 @@ impl Kernel {
         match self.desk.on(w) {
             Some(activity) => {
                 self.log.reserve(1)?;
-                self.desk.line.reserve(1)?;
-                self.desk.ready(activity);
+                self.desk.ready(activity)?;
                 hand_out(&mut self.events, &mut self.desk);
                 self.log.push_reserved(Sched::Tick(w));
                 Ok(true)

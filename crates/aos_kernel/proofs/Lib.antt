@@ -1,0 +1,5 @@
+pub mod Operands
+pub mod Walks
+pub mod Turns
+pub mod Cells
+pub mod Desks
