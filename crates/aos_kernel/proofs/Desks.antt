@@ -1,6 +1,6 @@
 -- The desk after an operation shows the state after it.
 use Rattle.std.proofs.Common.{◌≡◌, ℕ, zero, suc, ◌+◌, ◌<◌, ◌≤◌, ◌^◌, List, [], ◌∷◌, ◌++◌, Bool, true, false, refl, sym, ◌∙◌, ap, subst, arith, inl, inr, ◌==◌, ◌⊎◌, not, ◌≢◌, length, map, append_assoc}
-use Rattle.std.specs.Prelude.{if◌then◌else◌, filter, Option, Some, None, is_some, nat_eq, nat_le, slice_get, slice_set, Vec}
+use Rattle.std.specs.Prelude.{if◌then◌else◌, filter, Option, Some, None, is_some, nat_eq, nat_le, slice_get, slice_set, Vec, Result, Ok, Err, OnErr}
 use Rattle.std.specs.declared.alloc.Global.{Global}
 use Rattle.std.proofs.lemmas.Bool.Decides.{eqb_tells, leb_tells}
 use Rattle.std.proofs.lemmas.Option.{slice_get_cases, slice_get_within, slice_get-get_or, slice_get_past}
@@ -295,15 +295,16 @@ shows_roomy image earlier d st traps events output line e f g l h = record {
 }
 
 -- only silent work has been done
-pub shows_silent : (image : Image) (earlier : List Event) (d : Desk) (st : State Memory Frames) (activities : Vec Activity Global) (a : ℕ) (old : Activity) (frames : Vec Kept Global) → slice_get d.activities.items a ≡ Some old →
-    activities.items ≡ slice_set d.activities.items a (record old { frames = frames }) → Alike image (frames_in old.frames.items) (frames_in frames.items) → Shows image earlier d st → Shows image earlier (record d { activities = activities }) st
-shows_silent image earlier d st activities a old frames was is alike h =
+pub shows_silent : (image : Image) (earlier : List Event) (d : Desk) (st : State Memory Frames) (memory : Vec (Vec Cell Global) Global) (activities : Vec Activity Global) (output : Vec ℕ Global) (a : ℕ) (old : Activity) (frames : Vec Kept Global) →
+    slice_get d.activities.items a ≡ Some old → activities.items ≡ slice_set d.activities.items a (record old { frames = frames }) → Alike image (frames_in old.frames.items) (frames_in frames.items) → memory ≡ d.memory → output ≡ d.output →
+    Shows image earlier d st → Shows image earlier (record d { memory = memory; activities = activities; output = output }) st
+shows_silent image earlier d st memory activities output a old frames was is alike same_memory same_output h =
     let s = h.activities a old was in
     let new : Activity = record old { frames = frames } in
     record {
-      store = h.store;
+      store = h.store ∙ ap (λ (m : Vec (Vec Cell Global) Global). memory_in m.items) (sym same_memory);
       line = h.line;
-      output = h.output;
+      output = h.output ∙ ap (λ (o : Vec ℕ Global). o.items) (sym same_output);
       traps = h.traps;
       events = h.events;
       budget = h.budget;
@@ -314,3 +315,7 @@ shows_silent image earlier d st activities a old frames was is alike h =
         (record { priority = s.priority; begun = s.begun; next = s.next; alike = s.alike ∙ alike }) (λ x ne. refl) (λ x ne. refl) h.activities;
       unspent = h.unspent;
     }
+
+pub on_err : {A E : Type 0} {P : Type 0} (r : Result A E) → P → OnErr r P
+on_err (Ok x) p = tt
+on_err (Err e) p = p
