@@ -3,3 +3,5 @@ pub mod Walks
 pub mod Turns
 pub mod Cells
 pub mod Desks
+pub mod Logs
+pub mod Histories

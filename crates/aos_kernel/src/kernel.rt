@@ -56,7 +56,7 @@ fn first_cells(alloc: Global, image: &Image) -> Result<Vec<Vec<Cell>>, NoMemory>
 {
     let mut memory = Vec::new(alloc);
     for module in &image.modules {
-        let cells = module.cells.clone()?;
+        let cells = Vec::from_slice(alloc, &module.cells)?;
         memory.reserve(1)?;
         memory.push_reserved(cells);
     }

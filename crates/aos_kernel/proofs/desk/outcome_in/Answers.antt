@@ -1,4 +1,4 @@
-use Rattle.std.proofs.Common.{◌≡◌, ℕ, List, [], ◌∷◌, length, Bool, true, false, refl, nat_eq, ◌==◌}
+use Rattle.std.proofs.Common.{◌≡◌, ℕ, List, [], ◌∷◌, length, Bool, true, false, refl, sym, ◌∙◌, nat_eq, ◌==◌}
 use Rattle.std.specs.Prelude.{Option, Some, None, is_some, ◌&&◌, if◌then◌else◌}
 use Rattle.aos_base.specs.declared.kernel.Outcome.TheVariants.{Going, Dead}
 use Rattle.aos_base.specs.Book.{outcome_of, is_at_lock, all_at_locks}
@@ -15,4 +15,4 @@ going (s ∷ line) None e f =
     elim s.place as (λ p. Going ≡ (if is_at_lock (place_in p) && all_at_locks (line_in line) then Dead else Going)) [ On w ↦ refl | Ready p ↦ refl ]
 
 pub returns : goal.returns
-returns c = going c.args.line.now c.args.spent ? ?
+returns c = going c.args.line.now c.args.spent (sym c.is_empty.ensures ∙ c.if-is_empty.false) (sym c.is_some.ensures ∙ c.if-is_some.false)
