@@ -31,7 +31,7 @@ stored ms root m c cells v is here =
 pub stored_past : (ms : List (Vec Cell Global)) (root : Root) (m c : ℕ) (cells : Vec Cell Global) (v : Cell) → root ≡ Module m → slice_get ms m ≡ Some cells → length cells.items ≤ c → memory_in (slice_set ms m cells) ≡ store (record { root = root; cell = c }) v (memory_in ms)
 stored_past ms root m c cells v is here past =
     ap (λ (x : List (List Cell)). let mem : Memory = record { modules = x } in mem)
-      (map-set (λ (x : Vec Cell Global). x.items) ms m cells ∙ ap (slice_set (map (λ (x : Vec Cell Global). x.items) ms) m) (sym (set_past cells.items c v past)))
+    (map-set (λ (x : Vec Cell Global). x.items) ms m cells ∙ ap (slice_set (map (λ (x : Vec Cell Global). x.items) ms) m) (sym (set_past cells.items c v past)))
     ∙ sym (stored_at ms m c cells v here) ∙ ap (λ r. store_at r c v (memory_in ms)) (sym is)
 
 pub frames_in-push : (fs : List Kept) (f : Kept) → frames_in (fs ++ f ∷ []) ≡ frame_in f ∷ frames_in fs
@@ -45,6 +45,6 @@ pub advanced : (image : Image) (old rest : List Kept) (f g : Kept) (code : List 
     silent code g.next (reverse g.stack.items) ≡ silent code f.next (reverse f.stack.items) → Alike image (frames_in old) (frame_in g ∷ frames_in rest)
 advanced image old rest f g code is coded p q e =
     let there : silent (code_of image g.procedure) g.next (reverse g.stack.items) ≡ silent (code_of image f.procedure) f.next (reverse f.stack.items) =
-      (λ i. silent (code_of image (p i)) g.next (reverse g.stack.items)) ∙ subst (λ c. silent c g.next (reverse g.stack.items) ≡ silent c f.next (reverse f.stack.items)) coded e in
+    (λ i. silent (code_of image (p i)) g.next (reverse g.stack.items)) ∙ subst (λ c. silent c g.next (reverse g.stack.items) ≡ silent c f.next (reverse f.stack.items)) coded e in
     let same : seen image (frame_in f) ≡ seen image (frame_in g) = (λ i. let x : Seen = record { procedure = sym p i; at = sym q i; stop = sym there i } in x) in
     ap (map (seen image)) (pushed old rest f is) ∙ both image (frame_in f) (frame_in g) (frames_in rest) (frames_in rest) same refl

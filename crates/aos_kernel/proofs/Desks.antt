@@ -49,8 +49,8 @@ known_left : (n a : ℕ) (line : List book.Stand) → IsKnown n line → IsKnown
 known_left n a [] h = tt
 known_left n a (s ∷ line) h =
     elim (s.activity == a) as (λ q. IsKnown n (if not q then s ∷ leave_line a line else leave_line a line)) [
-      true ↦ known_left n a line h.1
-    | false ↦ (h.0, known_left n a line h.1)
+      | true ↦ known_left n a line h.1
+      | false ↦ (h.0, known_left n a line h.1)
     ]
 
 known_joined : (n : ℕ) (line : List book.Stand) (s : book.Stand) → IsKnown n line → s.activity < n → IsKnown n (line ++ s ∷ [])
@@ -65,8 +65,8 @@ pub found : (n : ℕ) (at : book.Place → Bool) (line : List book.Stand) (a : �
 found n at [] a e h = absurd (cc e)
 found n at (s ∷ line) a e h =
     (elim (at s.place) as (λ q. (if q then Some s.activity else first_at at line) ≡ Some a → a < n) [
-      true ↦ λ f. (let z : s.activity ≡ a = cc f in subst (λ x. x < n) z h.0)
-    | false ↦ λ f. found n at line a f h.1
+      | true ↦ λ f. (let z : s.activity ≡ a = cc f in subst (λ x. x < n) z h.0)
+      | false ↦ λ f. found n at line a f h.1
     ]) e
 
 either : (n : ℕ) (o p : Option ℕ) (a : ℕ) → or_next o p ≡ Some a → ((x : ℕ) → o ≡ Some x → x < n) → ((x : ℕ) → p ≡ Some x → x < n) → a < n
@@ -76,7 +76,7 @@ either n (Some x) p a e h k = h a e
 pub found_ready : (n : ℕ) (line : List book.Stand) (a : ℕ) → first_ready line ≡ Some a → IsKnown n line → a < n
 found_ready n line a e h =
     either n (first_at (is_ready 3) line) (or_next (first_at (is_ready 2) line) (first_at (is_ready 1) line)) a e (λ x f. found n (is_ready 3) line x f h)
-      (λ y g. either n (first_at (is_ready 2) line) (first_at (is_ready 1) line) y g (λ x f. found n (is_ready 2) line x f h) (λ x f. found n (is_ready 1) line x f h))
+    (λ y g. either n (first_at (is_ready 2) line) (first_at (is_ready 1) line) y g (λ x f. found n (is_ready 2) line x f h) (λ x f. found n (is_ready 1) line x f h))
 
 -- The activities
 
@@ -89,8 +89,8 @@ set_here xs i g h = slice_get-get_or (slice_set xs i g) i g (subst (λ n. i < n)
 set_there : {A : Type 0} (xs : List A) (i x : ℕ) (g : A) → x ≢ i → slice_get (slice_set xs i g) x ≡ slice_get xs x
 set_there xs i x g ne =
     elim (slice_get_cases xs x).1 [
-      inl r ↦ slice_get-get_or (slice_set xs i g) x r.0 (subst (λ n. x < n) (sym (length-set xs i g)) r.1) ∙ ap (λ y. Some y) (get_or-set_other xs i x g r.0 ne ∙ r.3) ∙ sym r.2
-    | inr r ↦ slice_get_past (slice_set xs i g) x (subst (λ n. n ≤ x) (sym (length-set xs i g)) r.0) ∙ sym r.1
+      | inl r ↦ slice_get-get_or (slice_set xs i g) x r.0 (subst (λ n. x < n) (sym (length-set xs i g)) r.1) ∙ ap (λ y. Some y) (get_or-set_other xs i x g r.0 ne ∙ r.3) ∙ sym r.2
+      | inr r ↦ slice_get_past (slice_set xs i g) x (subst (λ n. n ≤ x) (sym (length-set xs i g)) r.0) ∙ sym r.1
     ]
 
 -- the desk's activities show those of a book with their frames
@@ -103,20 +103,20 @@ each_after : (image : Image) (items items' : List Activity) (acts acts' : ℕ �
 each_after image items items' acts acts' frames frames' a old new was is here same_acts same_frames each =
     each_at (λ x. (kept : Activity) → slice_get items' x ≡ Some kept → ShowsActivity image kept (acts' x) (frames' x)) a
     (λ kept at.
-      let z = sym (set_here items a new (slice_get_within items a old was)) ∙ sym (ap (λ xs. slice_get xs a) is) ∙ at in
-      let e : new ≡ kept = cc z in
-      subst (λ k. ShowsActivity image k (acts' a) (frames' a)) e here)
+    let z = sym (set_here items a new (slice_get_within items a old was)) ∙ sym (ap (λ xs. slice_get xs a) is) ∙ at in
+    let e : new ≡ kept = cc z in
+    subst (λ k. ShowsActivity image k (acts' a) (frames' a)) e here)
     (λ x ne kept at.
-      let s = each x kept (sym (set_there items a x new ne) ∙ sym (ap (λ xs. slice_get xs x) is) ∙ at) in
-      subst (λ v. ShowsActivity image kept v (frames' x)) (sym (same_acts x ne)) (subst (λ f. ShowsActivity image kept (acts x) f) (sym (same_frames x ne)) s))
+    let s = each x kept (sym (set_there items a x new ne) ∙ sym (ap (λ xs. slice_get xs x) is) ∙ at) in
+    subst (λ v. ShowsActivity image kept v (frames' x)) (sym (same_acts x ne)) (subst (λ f. ShowsActivity image kept (acts x) f) (sym (same_frames x ne)) s))
 
 -- an activity below the budget is so after one statement more, unless it is spent
 not_spent : (does_begin : Bool) (budget begun a : ℕ) (spent : Option ℕ) → begun < budget → spent_by does_begin budget (if does_begin then suc begun else begun) a spent ≡ None → (if does_begin then suc begun else begun) < budget
 not_spent false budget begun a spent less none = less
 not_spent true budget begun a spent less none =
     (elim (leb_tells budget (suc begun)) as (λ _. spent_by true budget (suc begun) a spent ≡ None → suc begun < budget) [
-      inl e ↦ λ f. (let z = sym (ap (λ q. if q then Some a else spent) e.0) ∙ f in absurd (cc z))
-    | inr e ↦ λ f. e.1
+      | inl e ↦ λ f. (let z = sym (ap (λ q. if q then Some a else spent) e.0) ∙ f in absurd (cc z))
+      | inr e ↦ λ f. e.1
     ]) none
 
 -- Each operation
@@ -169,8 +169,8 @@ module _ (image : Image) (earlier : List Event) (d : Desk) (st : State Memory Fr
       let s = h.activities a r.0 r.1 in
       let v : book.Activity = record (st.book.activity a) { next = next_in n } in
       each_after image d.activities.items activities.items st.book.activity (put nat_eq st.book.activity a v) st.frames st.frames a r.0 (record r.0 { next = n }) r.1 (set r.0 r.1)
-        (subst (λ x. ShowsActivity image (record r.0 { next = n }) x (st.frames a)) (sym (put_same st.book.activity a v)) (record { priority = s.priority; begun = s.begun; next = refl; alike = s.alike }))
-        (λ x ne. put_other st.book.activity a v x ne) (λ x ne. refl) h.activities
+      (subst (λ x. ShowsActivity image (record r.0 { next = n }) x (st.frames a)) (sym (put_same st.book.activity a v)) (record { priority = s.priority; begun = s.begun; next = refl; alike = s.alike }))
+      (λ x ne. put_other st.book.activity a v x ne) (λ x ne. refl) h.activities
 
   started_after : (activities : Vec Activity Global) (n : Next) → ((kept : Activity) → slice_get d.activities.items a ≡ Some kept → activities.items ≡ slice_set d.activities.items a (record kept { next = n })) → st.book.started ≡ length activities.items
   started_after activities n set = let r = here_is in h.started ∙ sym (ap length (set r.0 r.1) ∙ length-set d.activities.items a (record r.0 { next = n }))
@@ -214,7 +214,7 @@ module _ (image : Image) (earlier : List Event) (d : Desk) (st : State Memory Fr
         line = h.line;
         output = h.output;
         traps = map-append rec_of st.book.traps (record { number = n; code = c; activity = a; at = position image (st.frames a); restart = 0 } ∷ [])
-          ∙ (λ i. h.traps i ++ rec_of (record { number = n; code = c; activity = a; at = p i; restart = 0 }) ∷ []) ∙ sym told;
+            ∙ (λ i. h.traps i ++ rec_of (record { number = n; code = c; activity = a; at = p i; restart = 0 }) ∷ []) ∙ sym told;
         events = ap (λ x. x ++ event.Trap a n ∷ []) h.events ∙ append_assoc earlier d.events.items (event.Trap a n ∷ []) ∙ ap (λ x. earlier ++ x) (sym is);
         budget = h.budget;
         spent = h.spent;
@@ -250,12 +250,12 @@ module _ (image : Image) (earlier : List Event) (d : Desk) (st : State Memory Fr
         started = h.started ∙ sym (ap length is ∙ length-set d.activities.items a new);
         known = h.known;
         activities = each_after image d.activities.items activities.items st.book.activity (put nat_eq st.book.activity a v) st.frames (put nat_eq st.frames a t.frames) a old new was is
-          (subst (λ x. ShowsActivity image new x (put nat_eq st.frames a t.frames a)) (sym (put_same st.book.activity a v))
+            (subst (λ x. ShowsActivity image new x (put nat_eq st.frames a t.frames a)) (sym (put_same st.book.activity a v))
             (subst (λ x. ShowsActivity image new v x) (sym (put_same st.frames a t.frames)) (record { priority = s.priority; begun = count; next = s.next; alike = shown.alike })))
-          (λ x ne. put_other st.book.activity a v x ne) (λ x ne. put_other st.frames a t.frames x ne) h.activities;
+            (λ x ne. put_other st.book.activity a v x ne) (λ x ne. put_other st.frames a t.frames x ne) h.activities;
         unspent = λ x spends. each_at (λ y. (put nat_eq st.book.activity a v y).begun < st.book.budget) a
-          (subst (λ (y : book.Activity). y.begun < st.book.budget) (sym (put_same st.book.activity a v)) (not_spent t.begun st.book.budget begun a st.book.spent less spends))
-          (λ y ne. subst (λ (y : book.Activity). y.begun < st.book.budget) (sym (put_other st.book.activity a v y ne)) (h.unspent y none)) x;
+            (subst (λ (y : book.Activity). y.begun < st.book.budget) (sym (put_same st.book.activity a v)) (not_spent t.begun st.book.budget begun a st.book.spent less spends))
+            (λ y ne. subst (λ (y : book.Activity). y.begun < st.book.budget) (sym (put_other st.book.activity a v y ne)) (h.unspent y none)) x;
       }
 
   -- the operations of a turn
@@ -312,7 +312,7 @@ shows_silent image earlier d st memory activities output a old frames was is ali
       started = h.started ∙ sym (ap length is ∙ length-set d.activities.items a new);
       known = h.known;
       activities = each_after image d.activities.items activities.items st.book.activity st.book.activity st.frames st.frames a old new was is
-        (record { priority = s.priority; begun = s.begun; next = s.next; alike = s.alike ∙ alike }) (λ x ne. refl) (λ x ne. refl) h.activities;
+          (record { priority = s.priority; begun = s.begun; next = s.next; alike = s.alike ∙ alike }) (λ x ne. refl) (λ x ne. refl) h.activities;
       unspent = h.unspent;
     }
 

@@ -64,7 +64,7 @@ keeps_after r log c d new events st is to shown out told entries old before h =
     record {
       shows = subst (λ (x : State Memory Frames). Shows r.image x.book.events new x) (sym now) (handed_out r.image (state_of r).book.events d new st shown out);
       events_are = (λ i. drop (length (state_before_is r log c is i).book.events) (now i).book.events)
-        ∙ ap (drop (length (state_of r).book.events)) shown.events ∙ drop_at (state_of r).book.events d.events.items (length (state_of r).book.events) refl ∙ sym told;
+          ∙ ap (drop (length (state_of r).book.events)) shown.events ∙ drop_at (state_of r).book.events d.events.items (length (state_of r).book.events) refl ∙ sym told;
       entries = entries;
       one_worker = h.one_worker;
       few_workers = h.few_workers;
@@ -101,10 +101,10 @@ pub is_over : (image : Image) (st : State Memory Frames) (c : Choice) → outcom
 unfolding happens
 is_over image st c why =
     (elim (outcome st.book) as (λ (o : Outcome). (o ≢ Going) → if_going o (happens_in (machine image) c st) st ≡ st) [
-      Going ↦ λ n. absurd (n refl)
-    | Ended ↦ λ _. refl
-    | Dead ↦ λ _. refl
-    | Spent ↦ λ _. refl
+      | Going ↦ λ n. absurd (n refl)
+      | Ended ↦ λ _. refl
+      | Dead ↦ λ _. refl
+      | Spent ↦ λ _. refl
     ]) why
 
 over_is : (o : Outcome) (s : Stepped) → o ≢ Going → stepped_while o s ≡ Over

@@ -12,12 +12,12 @@ use Rattle.aos_kernel.specs.Log.{choices, joined, joined_to, with_step, with_tic
 joined_by : (P : List Sched → Type 0) (v k w : ℕ) → (v ≡ w → k < 1000000000 → P (Steps v (suc k) ∷ [])) → P (Steps v k ∷ Steps w 1 ∷ []) → P (joined v k w)
 joined_by P v k w yes_ no_ =
     elim (eqb_tells v w) [
-      inr e ↦ subst (λ q. P (if q && nat_lt k 1000000000 then Steps v (suc k) ∷ [] else Steps v k ∷ Steps w 1 ∷ [])) (sym e.0) no_
-    | inl e ↦ subst (λ q. P (if q && nat_lt k 1000000000 then Steps v (suc k) ∷ [] else Steps v k ∷ Steps w 1 ∷ [])) (sym e.0)
-        (elim (leb_tells (suc k) 1000000000) [
-          inl f ↦ subst (λ q. P (if q then Steps v (suc k) ∷ [] else Steps v k ∷ Steps w 1 ∷ [])) (sym f.0) (let lt : k < 1000000000 = omega (arith, f.1) in yes_ e.1 lt)
-        | inr f ↦ subst (λ q. P (if q then Steps v (suc k) ∷ [] else Steps v k ∷ Steps w 1 ∷ [])) (sym f.0) no_
-        ])
+      | inr e ↦ subst (λ q. P (if q && nat_lt k 1000000000 then Steps v (suc k) ∷ [] else Steps v k ∷ Steps w 1 ∷ [])) (sym e.0) no_
+      | inl e ↦ subst (λ q. P (if q && nat_lt k 1000000000 then Steps v (suc k) ∷ [] else Steps v k ∷ Steps w 1 ∷ [])) (sym e.0)
+          (elim (leb_tells (suc k) 1000000000) [
+            | inl f ↦ subst (λ q. P (if q then Steps v (suc k) ∷ [] else Steps v k ∷ Steps w 1 ∷ [])) (sym f.0) (let lt : k < 1000000000 = omega (arith, f.1) in yes_ e.1 lt)
+            | inr f ↦ subst (λ q. P (if q then Steps v (suc k) ∷ [] else Steps v k ∷ Steps w 1 ∷ [])) (sym f.0) no_
+          ])
     ]
 
 pub with_step-last : (w : ℕ) (log : List Sched) (e : Sched) → with_step w (log ++ e ∷ []) ≡ log ++ joined_to e w
@@ -34,9 +34,9 @@ joined-choices : (v k w : ℕ) → choices (joined v k w) ≡ (replicate k (Step
 joined-choices v k w =
     joined_by (λ l. choices l ≡ (replicate k (Step v) ++ []) ++ Step w ∷ []) v k w
     (λ e lt.
-      let n : suc k ≡ k + 1 = omega arith in
-      append-nil (replicate (suc k) (Step v)) ∙ ap (λ m. replicate m (Step v)) n ∙ sym (replicate-append-replicate k 1 (Step v))
-      ∙ ap (λ x. x ++ Step v ∷ []) (sym (append-nil (replicate k (Step v)))) ∙ ap (λ x. (replicate k (Step v) ++ []) ++ Step x ∷ []) e)
+    let n : suc k ≡ k + 1 = omega arith in
+    append-nil (replicate (suc k) (Step v)) ∙ ap (λ m. replicate m (Step v)) n ∙ sym (replicate-append-replicate k 1 (Step v))
+    ∙ ap (λ x. x ++ Step v ∷ []) (sym (append-nil (replicate k (Step v)))) ∙ ap (λ x. (replicate k (Step v) ++ []) ++ Step x ∷ []) e)
     (ap (λ x. x ++ Step w ∷ []) (sym (append-nil (replicate k (Step v)))))
 
 -- a step more is one choice more
@@ -68,9 +68,9 @@ joined-entries : (n v k w : ℕ) → w < n → IsEntry n (Steps v k) → All (Is
 joined-entries n v k w lt is =
     joined_by (λ l. All (IsEntry n) l) v k w
     (λ e less.
-      let some : 1 ≤ suc k = omega arith in
-      let most : suc k ≤ 1000000000 = omega arith in
-      All-cons (IsEntry n) (Steps v (suc k)) [] (is.0, some, most) (all_none (IsEntry n)))
+    let some : 1 ≤ suc k = omega arith in
+    let most : suc k ≤ 1000000000 = omega arith in
+    All-cons (IsEntry n) (Steps v (suc k)) [] (is.0, some, most) (all_none (IsEntry n)))
     (All-cons (IsEntry n) (Steps v k) (Steps w 1 ∷ []) is (All-cons (IsEntry n) (Steps w 1) [] (one_step n w lt) (all_none (IsEntry n))))
 
 pub entries-with_step : (n w : ℕ) (log : List Sched) → w < n → All (IsEntry n) log → All (IsEntry n) (with_step w log)

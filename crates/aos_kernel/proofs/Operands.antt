@@ -10,15 +10,15 @@ reverse-take xs n =
     let m = length xs - n in
     let split : reverse xs ≡ reverse (drop m xs) ++ reverse (take m xs) = ap reverse (sym (take-append-drop m xs)) ∙ reverse-append (take m xs) (drop m xs) in
     elim (leb_tells n (length xs)) [
-      inl e ↦
-        let le : n ≤ length xs = e.1 in
-        let len : length (reverse (drop m xs)) ≡ n = omega (arith, length-reverse (drop m xs), length-drop m xs) in
-        sym (ap (drop n) split ∙ drop_at (reverse (drop m xs)) (reverse (take m xs)) n len)
-    | inr e ↦
-        let lt : length xs < n = e.1 in
-        let z : m ≡ 0 = omega arith in
-        let past : length (reverse xs) ≤ n = omega (arith, length-reverse xs) in
-        ap (λ k. reverse (take k xs)) z ∙ sym (drop_all n (reverse xs) past)
+      | inl e ↦
+          let le : n ≤ length xs = e.1 in
+          let len : length (reverse (drop m xs)) ≡ n = omega (arith, length-reverse (drop m xs), length-drop m xs) in
+          sym (ap (drop n) split ∙ drop_at (reverse (drop m xs)) (reverse (take m xs)) n len)
+      | inr e ↦
+          let lt : length xs < n = e.1 in
+          let z : m ≡ 0 = omega arith in
+          let past : length (reverse xs) ≤ n = omega (arith, length-reverse xs) in
+          ap (λ k. reverse (take k xs)) z ∙ sym (drop_all n (reverse xs) past)
     ]
 
 pub reverse-push : {A : Type 0} (xs : List A) (x : A) → reverse (xs ++ x ∷ []) ≡ x ∷ reverse xs

@@ -44,20 +44,25 @@ module _ (image : Image) (f g : Frame) (fs gs : Frames) (mem : Memory) where
     where
       p : f.procedure ≡ g.procedure
       p = ap (λ (x : Seen). x.procedure) e
+
       q : f.at ≡ g.at
       q = ap (λ (x : Seen). x.at) e
+
       loaded : (v : Option Cell) (at : ℕ) (s : Stack) → Similar image (loads v at s f fs mem) (loads v at s g gs mem)
       loaded None at s = record { store = refl; alike = both image f g fs gs e h; output = refl; begun = refl; left = refl }
       loaded (Some v) at s = record { store = refl; alike = moved (at + 1) f.at g.at (v ∷ s) p q h; output = refl; begun = refl; left = refl }
+
       printed : (v : Option (List ℕ)) (at : ℕ) (s : Stack) → Similar image (prints v at s f fs mem) (prints v at s g gs mem)
       printed None at s = record { store = refl; alike = both image f g fs gs e h; output = refl; begun = refl; left = refl }
       printed (Some bytes) at s = record { store = refl; alike = moved (at + 1) f.at g.at s p q h; output = refl; begun = refl; left = refl }
+
       answered : (q : Question) (at : ℕ) (s : Stack) → Similar image (answer q at s f fs mem) (answer q at s g gs mem)
       answered (Reads a) at s = loaded (load a mem) at s
       answered (Stores a v) at s = record { store = refl; alike = moved (at + 1) f.at g.at s p (ap (λ (x : Seen). x.at) e) h; output = refl; begun = refl; left = refl }
       answered (Ends r) at s = record { store = refl; alike = h; output = refl; begun = refl; left = refl }
       answered (PutsInt v n) at s = printed (written v n) at s
       answered PutsLn at s = record { store = refl; alike = moved (at + 1) f.at g.at s p (ap (λ (x : Seen). x.at) e) h; output = refl; begun = refl; left = refl }
+
       by_stop : (x : Stop) → Similar image (goes x f fs mem) (goes x g gs mem)
       by_stop (Work y at s) = answered y at s
       by_stop (Ended (Begins at p1 s)) = record { store = refl; alike = moved (at + 1) (Some p1) (Some p1) s p refl h; output = refl; begun = refl; left = refl }
@@ -92,9 +97,11 @@ turn_served image mem (f ∷ fs) = by_stop (silent (code_of image f.procedure) f
     loaded : (v : Option Cell) (at : ℕ) (s : Stack) → IsServed (loads v at s f fs mem).left
     loaded None at s = tt
     loaded (Some v) at s = tt
+
     printed : (v : Option (List ℕ)) (at : ℕ) (s : Stack) → IsServed (prints v at s f fs mem).left
     printed None at s = tt
     printed (Some bytes) at s = tt
+
     by_stop : (x : Stop) → IsServed (goes x f fs mem).left
     by_stop (Work (Reads a) at s) = loaded (load a mem) at s
     by_stop (Work (Stores a v) at s) = tt

@@ -48,13 +48,13 @@ module _ (code : List Instr) where
   pub jumped : (at n m : ℕ) (s : Stack) → m ≡ min (at + 1 + n) (2 ^ 64 - 1) → length code < 2 ^ 64 → silent code (at + 1 + n) s ≡ silent code m s
   jumped at n m s is small =
       elim (leb_tells (at + 1 + n) m) [
-        inl e ↦
-          let le : at + 1 + n ≤ m = e.1 in
-          let z : at + 1 + n ≡ m = omega (arith, is) in
-          ap (λ k. silent code k s) z
-      | inr e ↦
-          let lt : m < at + 1 + n = e.1 in
-          let far : length code ≤ m = omega (arith, is) in
-          let farther : length code ≤ at + 1 + n = omega arith in
-          past_end (at + 1 + n) s farther ∙ sym (past_end m s far)
+        | inl e ↦
+            let le : at + 1 + n ≤ m = e.1 in
+            let z : at + 1 + n ≡ m = omega (arith, is) in
+            ap (λ k. silent code k s) z
+        | inr e ↦
+            let lt : m < at + 1 + n = e.1 in
+            let far : length code ≤ m = omega (arith, is) in
+            let farther : length code ≤ at + 1 + n = omega arith in
+            past_end (at + 1 + n) s farther ∙ sym (past_end m s far)
       ]

@@ -96,4 +96,3 @@ ticks w r = let b = (state_of r).book in ticks_while (outcome b) (has_activity (
 abbrev pub after_tick : Bool → ℕ → Run → Run
 after_tick true w r = record r { log = with_tick w r.log }
 after_tick false w r = r
-

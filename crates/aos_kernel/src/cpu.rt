@@ -70,7 +70,11 @@ const LOST: Act = Act::Fails(16, 0);
 fn operand(stack: &[Cell], depth: usize) -> Option<Cell>
     ensures { result ≡ slice_get (reverse stack.now) depth }
 {
-    if depth < stack.len() { Some(stack[stack.len() - 1 - depth]) } else { None }
+    if depth < stack.len() {
+        Some(stack[stack.len() - 1 - depth])
+    } else {
+        None
+    }
 }
 
 /// The number that lies so deep.
@@ -396,7 +400,13 @@ fn put_int(output: &mut Vec<u8>, a: i64, places: i64, at: usize, frame: &mut Fra
 }
 
 /// The question of the instruction at this place, whose operands lie on the stack, is answered.
-fn answer(question: Question, at: usize, frame: &mut Frame, memory: &mut Vec<Vec<Cell>>, output: &mut Vec<u8>) -> Did
+fn answer(
+    question: Question,
+    at: usize,
+    frame: &mut Frame,
+    memory: &mut Vec<Vec<Cell>>,
+    output: &mut Vec<u8>,
+) -> Did
     requires place { at + 1 < 2 ^ 64 }
     requires stack_room { vec_len frame.old.stack < vec_capacity frame.old.stack }
     requires room { vec_len output.old + MAX_BYTES ≤ vec_capacity output.old }
@@ -466,7 +476,12 @@ pub fn position(image: &Image, frames: &[Frame]) -> (u32, Pos)
 // The turn -------------------------------------------------------------------------------------
 
 /// One turn, up to the kernel's part. Where memory runs out, only silent work has been done.
-pub fn turn(image: &Image, frames: &mut Vec<Frame>, memory: &mut Vec<Vec<Cell>>, output: &mut Vec<u8>) -> Result<Turned, NoMemory>
+pub fn turn(
+    image: &Image,
+    frames: &mut Vec<Frame>,
+    memory: &mut Vec<Vec<Cell>>,
+    output: &mut Vec<u8>,
+) -> Result<Turned, NoMemory>
     requires { vec_len output.old + MAX_BYTES ≤ vec_capacity output.old }
     ensures ok { IfOk result (λ t. (fs : Frames) → Alike image.now fs (frames_in frames.old.items) → Shown image.now (turn_of image.now (memory_in memory.old.items) fs) t.begun t.left (frames_in frames.new.items) (memory_in memory.new.items) output.old.items output.new.items) }
     ensures err { OnErr result (Alike image.now (frames_in frames.old.items) (frames_in frames.new.items)) }
@@ -474,14 +489,24 @@ pub fn turn(image: &Image, frames: &mut Vec<Frame>, memory: &mut Vec<Vec<Cell>>,
     ensures output { OnErr result (output.new ≡ output.old) }
 {
     let Some(mut frame) = frames.pop() else {
-        return Ok(Turned { begun: false, left: Did::Ended });
+        return Ok(Turned {
+            begun: false,
+            left: Did::Ended,
+        });
     };
-    match silent_from(code_of(image, frame.procedure), &mut frame.next, &mut frame.stack) {
+    match silent_from(
+        code_of(image, frame.procedure),
+        &mut frame.next,
+        &mut frame.stack,
+    ) {
         Err(no_memory) => {
             frames.push_reserved(frame);
             Err(no_memory)
         }
-        Ok(Stop::Ends(_)) => Ok(Turned { begun: false, left: Did::Went }),
+        Ok(Stop::Ends(_)) => Ok(Turned {
+            begun: false,
+            left: Did::Went,
+        }),
         Ok(Stop::Work(question, at)) => {
             let left = answer(question, at, &mut frame, memory, output);
             frames.push_reserved(frame);
@@ -491,11 +516,17 @@ pub fn turn(image: &Image, frames: &mut Vec<Frame>, memory: &mut Vec<Vec<Cell>>,
             frame.next = at + 1;
             frame.at = Some(pos);
             frames.push_reserved(frame);
-            Ok(Turned { begun: true, left: Did::Went })
+            Ok(Turned {
+                begun: true,
+                left: Did::Went,
+            })
         }
         Ok(Stop::Fails(number, code)) => {
             frames.push_reserved(frame);
-            Ok(Turned { begun: false, left: Did::Trapped(number, code) })
+            Ok(Turned {
+                begun: false,
+                left: Did::Trapped(number, code),
+            })
         }
     }
 }

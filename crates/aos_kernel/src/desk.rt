@@ -7,11 +7,10 @@ ghost use Rattle.aos_code.specs.Machine.{Frames, machine, position, turn as turn
 ghost use Rattle.aos_kernel.specs.Cpu.{Alike, frames_in, where_in};
 ghost use Rattle.aos_kernel.specs.Shows.{stand_in, place_in, line_in, Shows, IsServed, HasRoom};
 
-use aos_base::{Did, Event, NoMemory, Outcome, Pos};
-use aos_code::{Cell, Image, TrapRec};
-
 use crate::cpu;
 use crate::cpu::{Frame, MAX_BYTES};
+use aos_base::{Did, Event, NoMemory, Outcome, Pos};
+use aos_code::{Cell, Image, TrapRec};
 
 /// Where an activity stands: on a worker, or ready at a priority.
 #[derive(Clone, Copy)]
@@ -149,14 +148,28 @@ fn place_of(image: &Image, activities: &[Activity], activity: u32) -> (u32, Pos)
 fn count_after(begun: u64, does_begin: bool) -> u64
     ensures { suc begun < 2 ^ 64 → result ≡ (if does_begin then suc begun else begun) }
 {
-    if does_begin { begun.saturating_add(1) } else { begun }
+    if does_begin {
+        begun.saturating_add(1)
+    } else {
+        begun
+    }
 }
 
 /// Who has reached the budget, after an activity has begun this many statements.
-fn spent_after(spent: Option<u32>, budget: u64, begun: u64, activity: u32, does_begin: bool) -> Option<u32>
+fn spent_after(
+    spent: Option<u32>,
+    budget: u64,
+    begun: u64,
+    activity: u32,
+    does_begin: bool,
+) -> Option<u32>
     ensures { result ≡ spent_by does_begin budget begun activity spent }
 {
-    if does_begin && budget <= begun { Some(activity) } else { spent }
+    if does_begin && budget <= begun {
+        Some(activity)
+    } else {
+        spent
+    }
 }
 
 // Writing -----------------------------------------------------------------------------------
@@ -246,7 +259,13 @@ impl Desk {
         ensures { (earlier : List Event) (st : State Memory Frames) → Shows image.now earlier self.old st → activity < st.book.started → Shows image.now earlier self.new (trap (machine image.now) activity number code st) }
     {
         let (module, pos) = place_of(image, &self.activities, activity);
-        self.traps.push_reserved(TrapRec { number, code, activity, module, pos });
+        self.traps.push_reserved(TrapRec {
+            number,
+            code,
+            activity,
+            module,
+            pos,
+        });
         self.events.push_reserved(Event::Trap { activity, number });
         set_next(&mut self.activities, activity, Next::Unwinds);
     }

@@ -9,16 +9,15 @@ ghost use Rattle.aos_kernel.specs.Log.{IsEntry};
 ghost use Rattle.aos_kernel.specs.Shows.{Shows, HandsOut};
 ghost use Rattle.aos_kernel.specs.Run.{state_of, events_of, traps_of, spent_of, comes_to, after_step, ticks, after_tick};
 
+use crate::cpu::Frame;
+use crate::desk::{Activity, Desk, Next, Place, Stand};
+use crate::log::{Sched, Stepped, add_step};
 use aos_base::{Event, NoMemory, Outcome};
 use aos_code::{Cell, Image, TrapRec};
 use std::alloc::Global;
 use std::marker::Model;
 use std::mem;
 use std::sync::Arc;
-
-use crate::cpu::Frame;
-use crate::desk::{Activity, Desk, Next, Place, Stand};
-use crate::log::{Sched, Stepped, add_step};
 
 /// The most workers of a kernel.
 pub const MAX_WORKERS: u32 = 16;
@@ -127,7 +126,12 @@ fn hand_out(events: &mut Vec<Event>, desk: &mut Desk)
 impl Kernel {
     /// A kernel in which nothing has happened yet: activity 0, which runs the modules' bodies, is ready.
     /// It has 1 to 16 workers, and a budget of 1 to 10^9 statements for each activity. NoMemory where memory runs out.
-    pub fn new(alloc: Global, image: Arc<Image>, workers: u32, budget: u64) -> Result<Box<Kernel>, NoMemory>
+    pub fn new(
+        alloc: Global,
+        image: Arc<Image>,
+        workers: u32,
+        budget: u64,
+    ) -> Result<Box<Kernel>, NoMemory>
         requires workers { (1 ≤ workers) × (workers ≤ MAX_WORKERS) }
         requires budget { (1 ≤ budget) × (budget ≤ MAX_BUDGET) }
         ensures { IfOk result (λ k. k.value ≡ record { image = arc_value image; workers = workers; budget = budget; log = [] }) }
@@ -210,7 +214,11 @@ impl Kernel {
     pub fn spent(&self) -> Option<u32>
         ensures { result ≡ spent_of self.now }
     {
-        if let Outcome::Spent = self.desk.outcome() { self.desk.spent } else { None }
+        if let Outcome::Spent = self.desk.outcome() {
+            self.desk.spent
+        } else {
+            None
+        }
     }
 
     /// A step of a worker, below the number of workers: a turn of its activity, or else the dispatch of the first ready
@@ -220,6 +228,7 @@ impl Kernel {
         requires { w < self.old.workers }
         ensures stepped { IfOk result (λ stepped. stepped ≡ comes_to w self.old) }
         ensures log { IfOk result (λ stepped. self.new ≡ after_step stepped w self.old) }
+        ensures same { self.new ≡ record self.old { log = self.new.log } }
         ensures state { IfOk result (λ _. state_of self.new ≡ happens (machine self.old.image) (Step w) (state_of self.old)) }
         ensures err { OnErr result (self.new ≡ self.old) }
     {
@@ -254,6 +263,7 @@ impl Kernel {
         requires { w < self.old.workers }
         ensures ticked { IfOk result (λ ticked. ticked ≡ ticks w self.old) }
         ensures log { IfOk result (λ ticked. self.new ≡ after_tick ticked w self.old) }
+        ensures same { self.new ≡ record self.old { log = self.new.log } }
         ensures state { IfOk result (λ _. state_of self.new ≡ happens (machine self.old.image) (Tick w) (state_of self.old)) }
         ensures err { OnErr result (self.new ≡ self.old) }
     {
@@ -270,5 +280,68 @@ impl Kernel {
             }
             None => Ok(false),
         }
+    }
+}
+
+#[cfg(test)]
+mod tests {
+    use super::*;
+    use aos_code::{Body, Instr, ModuleDesc, ProcShape};
+    use std::alloc::AllocError;
+    use std::test::Fail;
+
+    /// One module, whose body writes 7 in three places and ends the line.
+    fn sample(alloc: Global) -> Result<Image, AllocError> {
+        let code = vec![in alloc;
+            Instr::Begin(1, 1),
+            Instr::Num(7),
+            Instr::Num(3),
+            Instr::OutInt,
+            Instr::Begin(2, 1),
+            Instr::OutLn,
+            Instr::Return,
+        ]?;
+        let module = ModuleDesc {
+            name: String::from_str(alloc, "M")?,
+            cells: Vec::new(alloc),
+            body: 1,
+        };
+        Ok(Image {
+            modules: vec![in alloc; module]?,
+            shapes: vec![in alloc; ProcShape { module: 0 }]?,
+            bodies: vec![in alloc; Body { code }]?,
+        })
+    }
+
+    #[test]
+    fn runs_to_its_end(rt: HostRuntime) -> Result<(), Fail> {
+        let alloc = rt.alloc();
+        let image = Arc::new(alloc, sample(alloc)?)?;
+        let mut kernel = Kernel::new(alloc, image, 2, 100)?;
+        for _ in 0..9 {
+            if 1 < kernel.workers() {
+                kernel.step(1)?;
+            }
+        }
+        assert_eq!(rt; kernel.output(), b"  7\n".as_slice());
+        assert_eq!(rt; kernel.outcome(), Outcome::Ended);
+        assert_eq!(rt; kernel.log(), [Sched::Steps(1, 7)].as_slice());
+        Ok(())
+    }
+
+    #[test]
+    fn ticks(rt: HostRuntime) -> Result<(), Fail> {
+        let alloc = rt.alloc();
+        let image = Arc::new(alloc, sample(alloc)?)?;
+        let mut kernel = Kernel::new(alloc, image, 2, 100)?;
+        assert!(rt; 1 < kernel.workers());
+        kernel.step(1)?;
+        assert!(rt; 1 < kernel.workers());
+        assert!(rt; kernel.tick(1)?);
+        assert_eq!(rt;
+            kernel.log(),
+            [Sched::Steps(1, 1), Sched::Tick(1)].as_slice()
+        );
+        Ok(())
     }
 }

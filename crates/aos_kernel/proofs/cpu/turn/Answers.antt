@@ -18,8 +18,8 @@ returns-in-Ok-Work-clause-ok c fs h =
     let stop = stop_in (AtWork c.in-Ok-Work.question c.in-Ok-Work.at) (reverse g.stack.items) in
     let alike = advanced image c.args.frames.now.items rest f g c.code_of.result.now c.in-Some.ensures.items c.code_of.ensures refl refl c.silent_from.ensures.alike in
     let stops : silent (code_of image g.procedure) g.next (reverse g.stack.items) ≡ stop =
-      ap (λ code. silent code g.next (reverse g.stack.items)) (sym c.code_of.ensures) ∙ c.silent_from.ensures.alike ∙ sym c.in-Ok-Work.ensures.stop ∙ ap (λ x. stop_in x (reverse g.stack.items)) c.in-Ok-Work.field-0-is in
+    ap (λ code. silent code g.next (reverse g.stack.items)) (sym c.code_of.ensures) ∙ c.silent_from.ensures.alike ∙ sym c.in-Ok-Work.ensures.stop ∙ ap (λ x. stop_in x (reverse g.stack.items)) c.in-Ok-Work.field-0-is in
     shown_by image mem (memory_in c.answer-left.new.memory.items) fs (frame_in g) (frames_in rest) (frames_in c.push_reserved-in-Ok-Work.new.self.items) stop false c.answer-left.result c.args.output.now.items c.answer-left.new.output.items
-      (h ∙ alike) stops
-      (subst (λ (x : Frames). Makes (goes stop (frame_in g) (frames_in rest) mem) false c.answer-left.result x (memory_in c.answer-left.new.memory.items) c.args.output.now.items c.answer-left.new.output.items)
-        (sym (pushed c.push_reserved-in-Ok-Work.new.self.items rest c.answer-left.new.frame c.push_reserved-in-Ok-Work.ensures.items)) (c.answer-left.ensures (frames_in rest)))
+    (h ∙ alike) stops
+    (subst (λ (x : Frames). Makes (goes stop (frame_in g) (frames_in rest) mem) false c.answer-left.result x (memory_in c.answer-left.new.memory.items) c.args.output.now.items c.answer-left.new.output.items)
+    (sym (pushed c.push_reserved-in-Ok-Work.new.self.items rest c.answer-left.new.frame c.push_reserved-in-Ok-Work.ensures.items)) (c.answer-left.ensures (frames_in rest)))

@@ -13,7 +13,7 @@ loop-preserved c =
     let e : c.loop.counter + 1 - n ≡ k + 1 = omega arith in
     record {
       blanks = c.push_reserved.ensures.items ∙ ap (λ x. x ++ 32 ∷ []) c.loop.invariant.blanks ∙ append_assoc old (replicate k 32) (32 ∷ [])
-        ∙ ap (λ x. old ++ x) (replicate-append-replicate k 1 32 ∙ ap (λ m. replicate m 32) (sym e));
+          ∙ ap (λ x. old ++ x) (replicate-append-replicate k 1 32 ∙ ap (λ m. replicate m 32) (sym e));
       few = omega arith;
       len = omega arith;
       capacity = c.push_reserved.ensures.capacity ∙ c.loop.invariant.capacity;

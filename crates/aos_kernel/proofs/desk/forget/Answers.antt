@@ -10,8 +10,8 @@ line-leave : (a : ℕ) (line : List Stand) → line_in (filter (λ s. not (s.act
 line-leave a [] = refl
 line-leave a (s ∷ line) =
     elim (s.activity == a) as (λ q. line_in (if not q then s ∷ filter (λ s. not (s.activity == a)) line else filter (λ s. not (s.activity == a)) line) ≡ (if not q then stand_in s ∷ leave_line a (line_in line) else leave_line a (line_in line))) [
-      true ↦ line-leave a line
-    | false ↦ ap (λ l. stand_in s ∷ l) (line-leave a line)
+      | true ↦ line-leave a line
+      | false ↦ ap (λ l. stand_in s ∷ l) (line-leave a line)
     ]
 
 pub returns-clause-items : goal.returns-clause-items

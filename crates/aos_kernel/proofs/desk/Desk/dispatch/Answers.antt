@@ -8,7 +8,7 @@ use Rattle.aos_kernel.proofs.desk.Desk.dispatch.Goals as goal
 pub returns-clause-ok : goal.returns-clause-ok
 returns-clause-ok c image earlier st h there =
     shows_stands image earlier c.args.self.now st c.args.activity h there c.move_in.new.line (OnWorker c.args.worker)
-      (c.move_in.ensures ∙ ap (λ xs. move c.args.activity (On c.args.worker) (line_in xs)) c.in_ok-reserve.ensures.items)
+    (c.move_in.ensures ∙ ap (λ xs. move c.args.activity (On c.args.worker) (line_in xs)) c.in_ok-reserve.ensures.items)
 
 pub returns-in_err-reserve-clause-err : goal.returns-in_err-reserve-clause-err
 returns-in_err-reserve-clause-err c =

@@ -9,8 +9,8 @@ use Rattle.aos_kernel.proofs.desk.Desk.ready.Goals as goal
 pub returns-clause-ok : goal.returns-clause-ok
 returns-clause-ok c image earlier st h there =
     shows_ready image earlier c.args.self.now st c.args.activity h there c.move_in.new.line c.priority_of-priority.result
-      (c.move_in.ensures ∙ ap (λ xs. move c.args.activity (Ready c.priority_of-priority.result) (line_in xs)) c.in_ok-reserve.ensures.items)
-      (subst (λ (xs : List Activity). (kept : Activity) → slice_get xs c.args.activity ≡ Some kept → c.priority_of-priority.result ≡ kept.priority) c.deref.ensures.value c.priority_of-priority.ensures)
+    (c.move_in.ensures ∙ ap (λ xs. move c.args.activity (Ready c.priority_of-priority.result) (line_in xs)) c.in_ok-reserve.ensures.items)
+    (subst (λ (xs : List Activity). (kept : Activity) → slice_get xs c.args.activity ≡ Some kept → c.priority_of-priority.result ≡ kept.priority) c.deref.ensures.value c.priority_of-priority.ensures)
 
 pub returns-in_err-reserve-clause-err : goal.returns-in_err-reserve-clause-err
 returns-in_err-reserve-clause-err c =

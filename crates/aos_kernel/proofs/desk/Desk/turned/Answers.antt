@@ -29,6 +29,8 @@ returns-in-Some-clause-ok c earlier st h there none =
     let begun = c.in_ok-turned.turned.begun in
     let left = c.in_ok-turned.turned.left in
     let shown = subst (λ (m : Memory). Shown image (turn image m (st.frames a)) begun left (frames_in c.turn.new.frames.items) (memory_in c.turn.new.memory.items) d.output.items c.turn.new.output.items) (sym h.store) told in
-    let small : d.budget < 2 ^ 64 = omega arith in
-    (sym shown.left, shows_turned image earlier d st a h there c.turn.new.memory (with_item d.activities a new) c.turn.new.output c.spent_after-self.result c.turn.new.frames kept c.count_after-kept.result begun left was refl shown
-      c.count_after-kept.ensures c.spent_after-self.ensures none small)
+    let small : d.budget < 2 ^ 64 = omega arith in (
+      sym shown.left,
+      shows_turned image earlier d st a h there c.turn.new.memory (with_item d.activities a new) c.turn.new.output c.spent_after-self.result c.turn.new.frames kept c.count_after-kept.result begun left was refl shown
+          c.count_after-kept.ensures c.spent_after-self.ensures none small,
+    )

@@ -26,6 +26,7 @@ returns-in_default c =
     record {
       stepped = sym (comes_over w r over) ∙ ap (comes_to w) c.self.view_is;
       log = refl;
+      same = refl;
       state = subst (λ (x : Run). state_of x ≡ happens (machine x.image) (Step w) (state_of x)) c.self.view_is (sym (is_over r.image st (Step w) over));
       err = tt;
     }
@@ -52,11 +53,11 @@ invariant_of-self-in-Some c =
     let logged = c.add_step.ensures ∙ ap (with_step w) c.reserve.ensures.items in
     let fits : w < r.workers = subst (λ (x : Run). w < x.workers) (sym c.self.view_is) c.requires in
     let shown = subst (λ (image : Image). (earlier : List Event) (x : State Memory Frames) → Shows image earlier k.desk x → a < x.book.started → x.book.spent ≡ None → Shows image earlier c.turn.new.self (turn_by (machine image) a (x.book.activity a).next x))
-      c.deref.ensures c.in_ok-turn-in-Some.ensures.ok in
+    c.deref.ensures c.in_ok-turn-in-Some.ensures.ok in
     keeps_after r c.add_step.new.log.items (Step w) c.turn.new.self c.hand_out.new.desk c.hand_out.new.events.items (turn_by (machine r.image) a (st.book.activity a).next st)
-      (ap choices logged ∙ choices-with_step w r.log) (steps_by r.image st w a going on)
-      (shown st.book.events st h.shows (known_on r k.desk k.events.items h w a on) (unspent_while r k.desk k.events.items h going))
-      c.hand_out.ensures.desk c.hand_out.ensures.events (subst (λ l. All (IsEntry r.workers) l) (sym logged) (entries-with_step r.workers w r.log fits h.entries)) k.desk k.events.items h
+    (ap choices logged ∙ choices-with_step w r.log) (steps_by r.image st w a going on)
+    (shown st.book.events st h.shows (known_on r k.desk k.events.items h w a on) (unspent_while r k.desk k.events.items h going))
+    c.hand_out.ensures.desk c.hand_out.ensures.events (subst (λ l. All (IsEntry r.workers) l) (sym logged) (entries-with_step r.workers w r.log fits h.entries)) k.desk k.events.items h
 
 pub invariant_of-self-in_err-dispatch-in-Some-first_ready : goal.invariant_of-self-in_err-dispatch-in-Some-first_ready
 invariant_of-self-in_err-dispatch-in-Some-first_ready c =
@@ -80,9 +81,9 @@ invariant_of-self-in-Some-first_ready c =
     let logged = c.add_step-in-Some-first_ready.ensures ∙ ap (with_step w) c.reserve-in-Some-first_ready.ensures.items in
     let fits : w < r.workers = subst (λ (x : Run). w < x.workers) (sym c.self.view_is) c.requires in
     keeps_after r c.add_step-in-Some-first_ready.new.log.items (Step w) c.dispatch.new.self c.hand_out-in-Some-first_ready.new.desk c.hand_out-in-Some-first_ready.new.events.items (on_book (stands a (On w)) st)
-      (ap choices logged ∙ choices-with_step w r.log) (dispatches r.image st w a going on next)
-      (c.in_ok-dispatch-in-Some-first_ready.ensures.ok r.image st.book.events st h.shows (known_first r k.desk k.events.items h a next))
-      c.hand_out-in-Some-first_ready.ensures.desk c.hand_out-in-Some-first_ready.ensures.events (subst (λ l. All (IsEntry r.workers) l) (sym logged) (entries-with_step r.workers w r.log fits h.entries)) k.desk k.events.items h
+    (ap choices logged ∙ choices-with_step w r.log) (dispatches r.image st w a going on next)
+    (c.in_ok-dispatch-in-Some-first_ready.ensures.ok r.image st.book.events st h.shows (known_first r k.desk k.events.items h a next))
+    c.hand_out-in-Some-first_ready.ensures.desk c.hand_out-in-Some-first_ready.ensures.events (subst (λ l. All (IsEntry r.workers) l) (sym logged) (entries-with_step r.workers w r.log fits h.entries)) k.desk k.events.items h
 
 pub returns-in_ok-turn-in-Some-clause-stepped : goal.returns-in_ok-turn-in-Some-clause-stepped
 returns-in_ok-turn-in-Some-clause-stepped c =

@@ -26,6 +26,7 @@ returns-in_default c =
     record {
       ticked = sym (ticks_over w r over) ∙ ap (ticks w) c.self.view_is;
       log = refl;
+      same = refl;
       state = subst (λ (x : Run). state_of x ≡ happens (machine x.image) (Tick w) (state_of x)) c.self.view_is (sym (is_over r.image st (Tick w) over));
       err = tt;
     }
@@ -51,9 +52,9 @@ invariant_of-self-in-Some c =
     let logged : c.push_reserved.new.self.items ≡ with_tick w r.log = c.push_reserved.ensures.items ∙ ap (with_tick w) c.reserve.ensures.items in
     let fits : w < r.workers = subst (λ (x : Run). w < x.workers) (sym c.self.view_is) c.requires in
     keeps_after r c.push_reserved.new.self.items (Tick w) c.ready.new.self c.hand_out.new.desk c.hand_out.new.events.items (on_book (ready a) st)
-      (ap choices logged ∙ choices-with_tick w r.log) (ticks_by r.image st w a going on)
-      (c.in_ok-ready-in-Some.ensures.ok r.image st.book.events st h.shows (known_on r k.desk k.events.items h w a on))
-      c.hand_out.ensures.desk c.hand_out.ensures.events (subst (λ l. All (IsEntry r.workers) l) (sym logged) (entries-with_tick r.workers w r.log fits h.entries)) k.desk k.events.items h
+    (ap choices logged ∙ choices-with_tick w r.log) (ticks_by r.image st w a going on)
+    (c.in_ok-ready-in-Some.ensures.ok r.image st.book.events st h.shows (known_on r k.desk k.events.items h w a on))
+    c.hand_out.ensures.desk c.hand_out.ensures.events (subst (λ l. All (IsEntry r.workers) l) (sym logged) (entries-with_tick r.workers w r.log fits h.entries)) k.desk k.events.items h
 
 pub returns-in_ok-ready-in-Some-clause-ticked : goal.returns-in_ok-ready-in-Some-clause-ticked
 returns-in_ok-ready-in-Some-clause-ticked c =
