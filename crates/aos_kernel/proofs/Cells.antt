@@ -1,10 +1,10 @@
 -- Memory and frames as lists of the code's values.
-use Rattle.std.proofs.Common.{◌≡◌, ℕ, ◌<◌, ◌≤◌, List, [], ◌∷◌, ◌++◌, length, map, reverse, refl, sym, ap, ◌∙◌, subst}
-use Rattle.std.specs.Prelude.{Option, Some, None, slice_get, slice_set, Vec}
+use Rattle.std.proofs.Common.{◌≡◌, ℕ, ◌≤◌, List, [], ◌∷◌, ◌++◌, length, map, reverse, refl, sym, ap, ◌∙◌, subst}
+use Rattle.std.specs.Prelude.{Some, slice_get, slice_set, Vec}
 use Rattle.std.specs.Option.{option_map}
 use Rattle.std.specs.Vec.{with_item}
 use Rattle.std.specs.declared.alloc.Global.{Global}
-use Rattle.std.proofs.lemmas.List.{map-set, set_past, set-get_or}
+use Rattle.std.proofs.lemmas.List.{map-set, set_past}
 use Rattle.std.proofs.lemmas.Option.{slice_get-map}
 use Rattle.aos_code.specs.declared.instr.Cell.{Cell}
 use Rattle.aos_code.specs.declared.instr.Instr.{Instr}
@@ -13,7 +13,7 @@ use Rattle.aos_code.specs.declared.instr.Root.TheVariants.{Module}
 use Rattle.aos_code.specs.declared.image.Image.{Image}
 use Rattle.aos_code.specs.Memory.{Memory, store, store_at, put_in}
 use Rattle.aos_code.specs.Silent.{silent}
-use Rattle.aos_code.specs.Machine.{Frame, Frames, code_of}
+use Rattle.aos_code.specs.Machine.{code_of}
 use Rattle.aos_kernel.specs.declared.cpu.Frame.{Frame as Kept}
 use Rattle.aos_kernel.specs.Cpu.{frame_in, frames_in, memory_in, Seen, seen, Alike}
 use Rattle.aos_kernel.proofs.Operands.{reverse-push}

@@ -1,6 +1,6 @@
 -- The desk after an operation shows the state after it.
-use Rattle.std.proofs.Common.{◌≡◌, ℕ, zero, suc, ◌+◌, ◌<◌, ◌≤◌, ◌^◌, List, [], ◌∷◌, ◌++◌, Bool, true, false, refl, sym, ◌∙◌, ap, subst, arith, inl, inr, ◌==◌, ◌⊎◌, not, ◌≢◌, length, map, append_assoc}
-use Rattle.std.specs.Prelude.{if◌then◌else◌, filter, Option, Some, None, is_some, nat_eq, nat_le, slice_get, slice_set, Vec, Result, Ok, Err, OnErr}
+use Rattle.std.proofs.Common.{◌≡◌, ℕ, suc, ◌<◌, ◌≤◌, ◌^◌, List, [], ◌∷◌, ◌++◌, Bool, true, false, refl, sym, ◌∙◌, ap, subst, arith, inl, inr, ◌==◌, not, ◌≢◌, length, append_assoc}
+use Rattle.std.specs.Prelude.{if◌then◌else◌, Option, Some, None, nat_eq, slice_get, slice_set, Vec, Result, Ok, Err, OnErr}
 use Rattle.std.specs.declared.alloc.Global.{Global}
 use Rattle.std.proofs.lemmas.Bool.Decides.{eqb_tells, leb_tells}
 use Rattle.std.proofs.lemmas.Option.{slice_get_cases, slice_get_within, slice_get-get_or, slice_get_past}
@@ -11,7 +11,7 @@ use Rattle.aos_base.specs.declared.kernel.Did.{Did}
 use Rattle.aos_base.specs.declared.text.Pos.{Pos}
 use Rattle.aos_base.specs.Book as book
 use Rattle.aos_base.specs.Book.{put, place_of, leave_line, move, stands, ready, next_is, counted, spent_by, trapped, ended, first_at, first_ready, or_next, is_ready, may_restart}
-use Rattle.aos_base.specs.Machine.{State, Turn, on_book, trap, turned, finish, turn_by, serve}
+use Rattle.aos_base.specs.Machine.{State, on_book, trap, turned, finish, turn_by, serve}
 use Rattle.aos_code.specs.declared.image.Image.{Image}
 use Rattle.aos_code.specs.declared.instr.Cell.{Cell}
 use Rattle.aos_code.specs.declared.report.TrapRec.{TrapRec}
@@ -19,15 +19,15 @@ use Rattle.aos_code.specs.Memory.{Memory}
 use Rattle.aos_code.specs.Machine.{Frames, machine, position, turn}
 use Rattle.aos_kernel.specs.declared.cpu.Frame.{Frame as Kept}
 use Rattle.aos_kernel.specs.declared.desk.Place.{Place}
-use Rattle.aos_kernel.specs.declared.desk.Place.TheVariants.{On, Ready}
+use Rattle.aos_kernel.specs.declared.desk.Place.TheVariants.{Ready}
 use Rattle.aos_kernel.specs.declared.desk.Stand.{Stand}
 use Rattle.aos_kernel.specs.declared.desk.Next.{Next}
-use Rattle.aos_kernel.specs.declared.desk.Next.TheVariants.{Runs, WillTrap, Unwinds, Gone}
+use Rattle.aos_kernel.specs.declared.desk.Next.TheVariants.{Unwinds, Gone}
 use Rattle.aos_kernel.specs.declared.desk.Activity.{Activity}
 use Rattle.aos_kernel.specs.declared.desk.Desk.{Desk}
 use Rattle.aos_kernel.specs.Cpu.{frames_in, memory_in, where_in, Alike, Shown}
 use Rattle.aos_kernel.specs.Run.{rec_of}
-use Rattle.aos_kernel.specs.Shows.{place_in, stand_in, line_in, next_in, IsKnown, ShowsActivity, Shows, IsServed}
+use Rattle.aos_kernel.specs.Shows.{place_in, line_in, next_in, IsKnown, ShowsActivity, Shows}
 
 -- by whether two numbers are one
 by_case : (P : Bool → Type 0) (x k : ℕ) → (x ≡ k → P true) → (x ≢ k → P false) → P (x == k)

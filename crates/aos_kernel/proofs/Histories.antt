@@ -1,5 +1,5 @@
 -- A run with one choice more.
-use Rattle.std.proofs.Common.{◌≡◌, ◌≢◌, ℕ, zero, suc, ◌+◌, ◌-◌, ◌<◌, ◌≤◌, List, [], ◌∷◌, ◌++◌, refl, sym, ◌∙◌, ap, subst, arith, length, take, drop, length-append}
+use Rattle.std.proofs.Common.{◌≡◌, ◌≢◌, ℕ, ◌-◌, ◌<◌, List, [], ◌∷◌, ◌++◌, refl, sym, ◌∙◌, ap, subst, arith, length, take, drop, length-append}
 use Rattle.std.specs.Prelude.{Option, Some, None, All, Bool, true, false}
 use Rattle.std.proofs.lemmas.List.{take_at, drop_at, append-nil as append_nil}
 use Rattle.aos_base.specs.declared.kernel.Event.{Event}
@@ -14,12 +14,11 @@ use Rattle.aos_kernel.specs.declared.desk.Desk.{Desk}
 use Rattle.aos_kernel.specs.declared.log.Sched.{Sched}
 use Rattle.aos_kernel.specs.declared.log.Stepped.{Stepped}
 use Rattle.aos_kernel.specs.declared.log.Stepped.TheVariants.{Turned, Dispatched, Idle, Over}
-use Rattle.aos_kernel.specs.Log.{choices, with_step, with_tick, IsEntry}
-use Rattle.aos_kernel.specs.Run.{Run, after, state_of, without_last, state_before, events_of, stepped_with, stepped_while, comes_to, after_step, has_activity, ticks_while, ticks, after_tick}
+use Rattle.aos_kernel.specs.Log.{choices, IsEntry}
+use Rattle.aos_kernel.specs.Run.{Run, after, state_of, without_last, state_before, stepped_with, stepped_while, comes_to, has_activity, ticks_while, ticks}
 use Rattle.aos_kernel.specs.Shows.{line_in, Shows, HandsOut}
 use Rattle.aos_kernel.specs.Keeps.{Keeps}
 use Rattle.aos_kernel.proofs.Desks.{found, found_ready}
-use Rattle.aos_kernel.proofs.Logs.{choices-with_step, choices-with_tick}
 
 execution-push : (m : Machine Memory Frames) (cs : List Choice) (c : Choice) (st : State Memory Frames) → execution m (cs ++ c ∷ []) st ≡ happens m c (execution m cs st)
 execution-push m [] c st = refl

@@ -1,10 +1,10 @@
 -- The log with one entry more.
-use Rattle.std.proofs.Common.{◌≡◌, ℕ, zero, suc, ◌+◌, ◌<◌, ◌≤◌, List, [], ◌∷◌, ◌++◌, Bool, true, false, refl, sym, ◌∙◌, ap, subst, arith, inl, inr, ◌==◌, length, append_assoc, replicate}
+use Rattle.std.proofs.Common.{◌≡◌, ℕ, suc, ◌+◌, ◌<◌, ◌≤◌, List, [], ◌∷◌, ◌++◌, refl, sym, ◌∙◌, ap, subst, arith, inl, inr, length, append_assoc, replicate}
 use Rattle.std.specs.Prelude.{if◌then◌else◌, nat_lt, ◌&&◌, All}
 use Rattle.std.proofs.lemmas.Bool.Decides.{eqb_tells, leb_tells}
 use Rattle.std.proofs.lemmas.List.{append-nil, replicate-append-replicate}
 use Rattle.std.proofs.lemmas.List.Elements.{All-cons}
-use Rattle.aos_base.specs.Machine.{Choice, Step, Tick}
+use Rattle.aos_base.specs.Machine.{Step, Tick}
 use Rattle.aos_kernel.specs.declared.log.Sched.{Sched}
 use Rattle.aos_kernel.specs.declared.log.Sched.TheVariants.{Steps, Tick as TickEntry}
 use Rattle.aos_kernel.specs.Log.{choices, joined, joined_to, with_step, with_tick, IsEntry}

@@ -1,15 +1,14 @@
 -- Turns don't see silent work.
-use Rattle.std.proofs.Common.{◌≡◌, ℕ, zero, suc, ◌+◌, List, [], ◌∷◌, ◌++◌, map, refl, sym, ap, ◌∙◌, subst, arith}
-use Rattle.std.specs.Prelude.{Option, Some, None, Bool, true, false}
+use Rattle.std.proofs.Common.{◌≡◌, ℕ, ◌+◌, List, [], ◌∷◌, ◌++◌, map, refl, sym, ap, ◌∙◌, subst}
+use Rattle.std.specs.Prelude.{Option, Some, None, Bool, false}
 use Rattle.aos_base.specs.declared.text.Pos.{Pos}
 use Rattle.aos_base.specs.declared.kernel.Did.{Did}
-use Rattle.aos_base.specs.declared.kernel.Did.TheVariants.{Went, Ended as NoFrame, Trapped}
+use Rattle.aos_base.specs.declared.kernel.Did.TheVariants.{Ended as NoFrame}
 use Rattle.aos_base.specs.Book.{Where}
-use Rattle.aos_base.specs.Machine.{Turn}
 use Rattle.aos_base.specs.Question.{Reads, Stores, Ends, PutsInt, PutsLn}
 use Rattle.aos_code.specs.declared.instr.Cell.{Cell}
 use Rattle.aos_code.specs.declared.image.Image.{Image}
-use Rattle.aos_code.specs.Memory.{Memory, load, store}
+use Rattle.aos_code.specs.Memory.{Memory, load}
 use Rattle.aos_code.specs.Silent.{Stack, Question, Begins, Fails, Stop, Work, Ended, silent}
 use Rattle.aos_code.specs.Machine.{Frame, Frames, Turned, code_of, loads, prints, written, answer, goes, turn, position, position_or, or_below, home_of}
 use Rattle.aos_kernel.specs.Cpu.{Seen, seen, Alike, Makes, Shown}

@@ -1,11 +1,11 @@
 -- Silent work, one instruction at a time.
 use Rattle.std.proofs.Common.{◌≡◌, ℕ, zero, suc, ◌+◌, ◌<◌, ◌≤◌, List, [], ◌∷◌, length, drop, refl, sym, ap, ◌∙◌, arith, min, ◌-◌, ◌^◌, inl, inr}
 use Rattle.std.proofs.lemmas.Bool.Decides.{leb_tells}
-use Rattle.std.specs.Prelude.{Option, Some, None, slice_get}
+use Rattle.std.specs.Prelude.{Some, slice_get}
 use Rattle.std.proofs.lemmas.List.{drop-drop, drop_all}
 use Rattle.aos_code.specs.declared.instr.Instr.{Instr}
 use Rattle.aos_code.specs.declared.instr.Instr.TheVariants.{Begin}
-use Rattle.aos_code.specs.Silent.{Stack, Question, Act, Goes, Sees, Stops, End, Begins, Stop, Work, Ended, lost, act, on_act, walk, silent}
+use Rattle.aos_code.specs.Silent.{Stack, Act, Goes, Begins, Ended, lost, act, on_act, walk, silent}
 
 drop_at_get : (at : ℕ) (code : List Instr) (i : Instr) → slice_get code at ≡ Some i → drop at code ≡ i ∷ drop (at + 1) code
 drop_at_get at [] i e = absurd (cc e)

@@ -1,5 +1,5 @@
 -- The interpreter's data, and what of the definitions they show.
-use Rattle.std.specs.Prelude.{◌≡◌, ℕ, suc, ℤ, ◌+◌, ◌<◌, List, [], ◌∷◌, ◌++◌, Bool, Option, Some, None, map, reverse, drop, slice_get, Vec}
+use Rattle.std.specs.Prelude.{◌≡◌, ℕ, ℤ, ◌<◌, List, ◌∷◌, ◌++◌, Bool, false, Option, Some, None, map, reverse, drop, slice_get, Vec}
 use Rattle.std.specs.declared.alloc.Global.{Global}
 use Rattle.aos_base.specs.declared.text.Pos.{Pos}
 use Rattle.aos_base.specs.declared.kernel.Did.{Did}
@@ -14,7 +14,7 @@ use Rattle.aos_code.specs.declared.instr.Instr.TheVariants.{Begin}
 use Rattle.aos_code.specs.declared.image.Image.{Image}
 use Rattle.aos_code.specs.Memory.{Addr, Memory}
 use Rattle.aos_code.specs.Silent.{Stack, Question, Begins, Fails, Stop, Work, Ended, Act, Goes, Sees, Stops, lost, silent}
-use Rattle.aos_code.specs.Machine.{Frame, Frames, code_of}
+use Rattle.aos_code.specs.Machine.{Frame, Frames, code_of, answer, turn}
 use Rattle.aos_kernel.specs.declared.cpu.Frame.{Frame as Kept}
 use Rattle.aos_kernel.specs.declared.cpu.Question.{Question as KeptQuestion}
 use Rattle.aos_kernel.specs.declared.cpu.Question.TheVariants.{Reads as AsksRead, Stores as AsksStore, PutsInt as AsksInt, PutsLn as AsksLn}
@@ -26,6 +26,9 @@ use Rattle.aos_kernel.specs.declared.cpu.Act.TheVariants.{Goes as GoesOn, Sees a
 -- the operands of code keep the topmost last
 abbrev pub frame_in : Kept → Frame
 frame_in f = record { procedure = f.procedure; next = f.next; at = f.at; stack = reverse f.stack.items }
+
+abbrev pub operands_in : Vec Cell Global → Stack
+operands_in stack = reverse stack.items
 
 -- so do its frames
 abbrev pub frames_in : List Kept → Frames
@@ -155,3 +158,13 @@ pub record Shown (image : Image) (t : Turn Memory Frames) (does_begin : Bool) (d
   pub output : after ≡ before ++ t.output
   pub begun : t.begun ≡ does_begin
   pub left : t.left ≡ did
+
+-- the question of the instruction at this place, which takes so many operands, has been answered, whatever frames lie below
+abbrev pub IsAnswered : Question → (at taken : ℕ) → (old new : Kept) → (old_memory new_memory : Memory) → Did → (before after : List ℕ) → Type 0
+IsAnswered q at taken old new old_memory new_memory did before after =
+    (fs : Frames) → Makes (answer q at (drop taken (reverse old.stack.items)) (frame_in old) fs old_memory) false did (frame_in new ∷ fs) new_memory before after
+
+-- a turn has been made, from any frames that are alike to the old ones
+abbrev pub IsTurned : Image → (does_begin : Bool) (did : Did) → (old new : List Kept) → (old_memory new_memory : Memory) → (before after : List ℕ) → Type 0
+IsTurned image does_begin did old new old_memory new_memory before after =
+    (fs : Frames) → Alike image fs (frames_in old) → Shown image (turn image old_memory fs) does_begin did (frames_in new) new_memory before after

@@ -1,5 +1,5 @@
 -- What a kernel's fields say: they are the state after its log.
-use Rattle.std.specs.Prelude.{◌≡◌, ℕ, ◌≤◌, List, All}
+use Rattle.std.specs.Prelude.{◌≡◌, ◌≤◌, List, All}
 use Rattle.aos_base.specs.declared.kernel.Event.{Event}
 use Rattle.aos_kernel.specs.declared.desk.Desk.{Desk}
 use Rattle.aos_kernel.specs.Log.{IsEntry}

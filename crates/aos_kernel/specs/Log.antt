@@ -1,5 +1,5 @@
 -- The log of a kernel: runs of steps, and ticks.
-use Rattle.std.specs.Prelude.{◌≡◌, ℕ, suc, ◌<◌, ◌≤◌, ◌==◌, ◌&&◌, nat_lt, if◌then◌else◌, List, [], ◌∷◌, ◌++◌, replicate}
+use Rattle.std.specs.Prelude.{ℕ, suc, ◌<◌, ◌≤◌, ◌==◌, ◌&&◌, nat_lt, if◌then◌else◌, List, [], ◌∷◌, ◌++◌, replicate}
 use Rattle.aos_base.specs.Machine.{Choice, Step, Tick}
 use Rattle.aos_kernel.specs.declared.log.Sched.{Sched}
 use Rattle.aos_kernel.specs.declared.log.Sched.TheVariants.{Steps, Tick as TickEntry}

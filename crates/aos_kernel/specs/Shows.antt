@@ -1,13 +1,13 @@
 -- What the kernel keeps, and the state that it shows.
-use Rattle.std.specs.Prelude.{◌≡◌, ℕ, suc, ◌<◌, ◌≤◌, List, [], ◌∷◌, ◌++◌, Bool, Option, Some, None, map, length, slice_get, vec_len, vec_capacity, ◌+◌}
+use Rattle.std.specs.Prelude.{◌≡◌, ℕ, ◌<◌, List, [], ◌∷◌, ◌++◌, Some, None, map, length, slice_get, vec_len, vec_capacity}
 use Rattle.aos_base.specs.declared.kernel.Event.{Event}
 use Rattle.aos_base.specs.declared.kernel.Did.{Did}
 use Rattle.aos_base.specs.declared.kernel.Did.TheVariants.{Went, Ended, Enter, Leave, Await, Start, Trapped}
 use Rattle.aos_base.specs.Book as book
-use Rattle.aos_base.specs.Machine.{State}
+use Rattle.aos_base.specs.Machine.{State, turned}
 use Rattle.aos_code.specs.declared.image.Image.{Image}
 use Rattle.aos_code.specs.Memory.{Memory}
-use Rattle.aos_code.specs.Machine.{Frames}
+use Rattle.aos_code.specs.Machine.{Frames, machine, turn}
 use Rattle.aos_kernel.specs.declared.desk.Place.{Place}
 use Rattle.aos_kernel.specs.declared.desk.Place.TheVariants.{On, Ready}
 use Rattle.aos_kernel.specs.declared.desk.Stand.{Stand}
@@ -60,6 +60,27 @@ pub record Shows (image : Image) (earlier : List Event) (d : Desk) (st : State M
   pub known : IsKnown st.book.started st.book.line
   pub activities : (x : ℕ) (kept : Activity) → slice_get d.activities.items x ≡ Some kept → ShowsActivity image kept (st.book.activity x) (st.frames x)
   pub unspent : (x : ℕ) → st.book.spent ≡ None → (st.book.activity x).begun < st.book.budget
+
+-- from each state that the old desk shows, the new one shows what the operation on an activity makes of it
+abbrev pub Performs : Image → ℕ → (State Memory Frames → State Memory Frames) → Desk → Desk → Type 0
+Performs image a operation old new =
+    (earlier : List Event) (st : State Memory Frames) → Shows image earlier old st → a < st.book.started → Shows image earlier new (operation st)
+
+-- the same, where the budget hasn't been reached
+abbrev pub PerformsUnspent : Image → ℕ → (State Memory Frames → State Memory Frames) → Desk → Desk → Type 0
+PerformsUnspent image a operation old new =
+    (earlier : List Event) (st : State Memory Frames) → Shows image earlier old st → a < st.book.started → st.book.spent ≡ None → Shows image earlier new (operation st)
+
+-- it shows the same states
+abbrev pub ShowsSame : Image → Desk → Desk → Type 0
+ShowsSame image old new = (earlier : List Event) (st : State Memory Frames) → Shows image earlier old st → Shows image earlier new st
+
+-- the activity's own part of a turn has been done, and this is left to the kernel
+abbrev pub HasTurned : Image → ℕ → Did → Desk → Desk → Type 0
+HasTurned image a left old new =
+    (earlier : List Event) (st : State Memory Frames) → Shows image earlier old st → a < st.book.started → st.book.spent ≡ None →
+    let t = turn image st.store (st.frames a) in
+    (left ≡ t.left) × Shows image earlier new (turned (machine image) a t st)
 
 -- work that instructions leave to the kernel
 abbrev pub IsServed : Did → Type 0

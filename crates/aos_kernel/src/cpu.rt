@@ -6,7 +6,7 @@ ghost use Rattle.aos_base.specs.Question.{Reads, PutsInt};
 ghost use Rattle.aos_code.specs.Memory.{Memory, load as load_of, store as store_of};
 ghost use Rattle.aos_code.specs.Silent.{Stack, Act as ActOf, Sees, on_number, on_numbers, on_place, or_overflow, gives, flag, stores, jumps, jumps_on_false, act, silent};
 ghost use Rattle.aos_code.specs.Machine.{Frames, behind, code_of as code_at, home_of as home_at, position as position_at, position_or, answer as answer_of, turn as turn_of};
-ghost use Rattle.aos_kernel.specs.Cpu.{frame_in, frames_in, memory_in, question_in, act_in, stop_in, addr_in, where_in, IsStopWithin, IsBeginOf, IsStay, IsJump, WhereStays, WhereWork, number_in, place_in, or_lost, Alike, Makes, Shown, operands_of};
+ghost use Rattle.aos_kernel.specs.Cpu.{frame_in, frames_in, memory_in, operands_in, question_in, act_in, stop_in, addr_in, where_in, IsStopWithin, IsBeginOf, IsStay, IsJump, WhereStays, WhereWork, number_in, place_in, or_lost, Alike, IsAnswered, IsTurned, operands_of};
 
 use aos_base::{Did, NoMemory, Pos, Relation, Width, add, related, sub};
 use aos_code::{Cell, Image, Instr, Kind, Root};
@@ -89,7 +89,8 @@ fn number(stack: &[Cell], depth: usize) -> Option<i64>
 
 /// The two topmost numbers, the topmost second.
 fn numbers(stack: &[Cell]) -> Option<(i64, i64)>
-    ensures { (k : ℤ → ℤ → Stack → ActOf) → on_numbers k (reverse stack.now) ≡ or_lost result (λ p. k p.0 p.1 (drop 2 (reverse stack.now))) }
+    ensures { (k : ℤ → ℤ → Stack → ActOf) → on_numbers k (reverse stack.now) ≡
+        or_lost result (λ p. k p.0 p.1 (drop 2 (reverse stack.now))) }
 {
     let b = number(stack, 0)?;
     let a = number(stack, 1)?;
@@ -109,7 +110,7 @@ fn place(stack: &[Cell], depth: usize) -> Option<(Root, u32)>
 /// One operand in place of the topmost ones.
 fn replace(stack: &mut Vec<Cell>, taken: usize, cell: Cell)
     requires { vec_len stack.old < vec_capacity stack.old }
-    ensures { reverse stack.new.items ≡ cell ∷ drop taken (reverse stack.old.items) }
+    ensures { operands_in stack.new ≡ cell ∷ drop taken (operands_in stack.old) }
 {
     stack.truncate(stack.len().saturating_sub(taken));
     stack.push_reserved(cell);
@@ -117,7 +118,7 @@ fn replace(stack: &mut Vec<Cell>, taken: usize, cell: Cell)
 
 /// Takes so many operands.
 fn take(stack: &mut Vec<Cell>, taken: usize)
-    ensures { reverse stack.new.items ≡ drop taken (reverse stack.old.items) }
+    ensures { operands_in stack.new ≡ drop taken (operands_in stack.old) }
 {
     stack.truncate(stack.len().saturating_sub(taken));
 }
@@ -128,7 +129,8 @@ fn take(stack: &mut Vec<Cell>, taken: usize)
 fn result_of(stack: &mut Vec<Cell>, value: Option<i64>) -> Act
     requires { vec_len stack.old < vec_capacity stack.old }
     ensures kept { WhereStays result (stack.new ≡ stack.old) }
-    ensures act { act_in result (reverse stack.new.items) ≡ or_overflow value (drop 2 (reverse stack.old.items)) }
+    ensures act { act_in result (operands_in stack.new) ≡
+        or_overflow value (drop 2 (operands_in stack.old)) }
 {
     match value {
         None => Act::Fails(5, 0),
@@ -142,7 +144,8 @@ fn result_of(stack: &mut Vec<Cell>, value: Option<i64>) -> Act
 fn add_numbers(w: Width, stack: &mut Vec<Cell>) -> Act
     requires { vec_len stack.old < vec_capacity stack.old }
     ensures kept { WhereStays result (stack.new ≡ stack.old) }
-    ensures act { act_in result (reverse stack.new.items) ≡ on_numbers (λ a b s. or_overflow (if_within w (a +ℤ b)) s) (reverse stack.old.items) }
+    ensures act { act_in result (operands_in stack.new) ≡
+        on_numbers (λ a b s. or_overflow (if_within w (a +ℤ b)) s) (operands_in stack.old) }
 {
     match numbers(stack) {
         None => LOST,
@@ -153,7 +156,8 @@ fn add_numbers(w: Width, stack: &mut Vec<Cell>) -> Act
 fn subtract_numbers(w: Width, stack: &mut Vec<Cell>) -> Act
     requires { vec_len stack.old < vec_capacity stack.old }
     ensures kept { WhereStays result (stack.new ≡ stack.old) }
-    ensures act { act_in result (reverse stack.new.items) ≡ on_numbers (λ a b s. or_overflow (if_within w (a -ℤ b)) s) (reverse stack.old.items) }
+    ensures act { act_in result (operands_in stack.new) ≡
+        on_numbers (λ a b s. or_overflow (if_within w (a -ℤ b)) s) (operands_in stack.old) }
 {
     match numbers(stack) {
         None => LOST,
@@ -171,7 +175,8 @@ fn truth(b: bool) -> i64
 fn compare(relation: Relation, stack: &mut Vec<Cell>) -> Act
     requires { vec_len stack.old < vec_capacity stack.old }
     ensures kept { WhereStays result (stack.new ≡ stack.old) }
-    ensures act { act_in result (reverse stack.new.items) ≡ on_numbers (λ a b s. gives (Cell.Num (flag (holds relation a b))) s) (reverse stack.old.items) }
+    ensures act { act_in result (operands_in stack.new) ≡
+        on_numbers (λ a b s. gives (Cell.Num (flag (holds relation a b))) s) (operands_in stack.old) }
 {
     match numbers(stack) {
         None => LOST,
@@ -184,7 +189,7 @@ fn compare(relation: Relation, stack: &mut Vec<Cell>) -> Act
 
 fn give(stack: &mut Vec<Cell>, cell: Cell) -> Act
     requires { vec_len stack.old < vec_capacity stack.old }
-    ensures { act_in result (reverse stack.new.items) ≡ gives cell (reverse stack.old.items) }
+    ensures { act_in result (operands_in stack.new) ≡ gives cell (operands_in stack.old) }
 {
     stack.push_reserved(cell);
     Act::Goes(0)
@@ -209,7 +214,8 @@ fn jump(code: &[Instr], to: usize, at: usize) -> Act
 fn jump_on_false(code: &[Instr], to: usize, at: usize, stack: &mut Vec<Cell>) -> Act
     requires { at < length code.now }
     ensures kept { WhereStays result (stack.new ≡ stack.old) }
-    ensures act { act_in result (reverse stack.new.items) ≡ on_number (λ a s. jumps_on_false code.now to at a s) (reverse stack.old.items) }
+    ensures act { act_in result (operands_in stack.new) ≡
+        on_number (λ a s. jumps_on_false code.now to at a s) (operands_in stack.old) }
     ensures begins { IsBeginOf code.now result }
 {
     match number(stack, 0) {
@@ -234,7 +240,8 @@ fn jump_on_false(code: &[Instr], to: usize, at: usize, stack: &mut Vec<Cell>) ->
 }
 
 fn ask_read(stack: &[Cell]) -> Act
-    ensures act { act_in result (reverse stack.now) ≡ on_place (λ p s. Sees (Reads p) s) (reverse stack.now) }
+    ensures act { act_in result (reverse stack.now) ≡
+        on_place (λ p s. Sees (Reads p) s) (reverse stack.now) }
     ensures stays { IsStay result }
 {
     match place(stack, 0) {
@@ -257,7 +264,8 @@ fn ask_store(stack: &[Cell]) -> Act
 }
 
 fn ask_int(stack: &[Cell]) -> Act
-    ensures act { act_in result (reverse stack.now) ≡ on_numbers (λ a n s. Sees (PutsInt (Cell.Num a) (Cell.Num n)) s) (reverse stack.now) }
+    ensures act { act_in result (reverse stack.now) ≡
+        on_numbers (λ a n s. Sees (PutsInt (Cell.Num a) (Cell.Num n)) s) (reverse stack.now) }
     ensures stays { IsStay result }
 {
     match numbers(stack) {
@@ -271,7 +279,8 @@ fn act_on(instr: Instr, code: &[Instr], at: usize, stack: &mut Vec<Cell>) -> Act
     requires place { slice_get code.now at ≡ Some instr }
     requires room { vec_len stack.old < vec_capacity stack.old }
     ensures kept { WhereStays result (stack.new ≡ stack.old) }
-    ensures act { act_in result (reverse stack.new.items) ≡ act instr code.now at (reverse stack.old.items) }
+    ensures act { act_in result (operands_in stack.new) ≡
+        act instr code.now at (operands_in stack.old) }
     ensures begins { IsBeginOf code.now result }
 {
     match instr {
@@ -293,8 +302,10 @@ fn act_on(instr: Instr, code: &[Instr], at: usize, stack: &mut Vec<Cell>) -> Act
 
 /// Silent work from a place of the code to where it ends. Where memory runs out, some of it has been done.
 fn silent_from(code: &[Instr], next: &mut usize, stack: &mut Vec<Cell>) -> Result<Stop, NoMemory>
-    ensures stop { IfOk result (λ stop. stop_in stop (reverse stack.new.items) ≡ silent code.now next.old (reverse stack.old.items)) }
-    ensures alike { silent code.now next.new (reverse stack.new.items) ≡ silent code.now next.old (reverse stack.old.items) }
+    ensures stop { IfOk result (λ stop. stop_in stop (operands_in stack.new) ≡
+        silent code.now next.old (operands_in stack.old)) }
+    ensures alike { silent code.now next.new (operands_in stack.new) ≡
+        silent code.now next.old (operands_in stack.old) }
     ensures within { IfOk result (λ stop. IsStopWithin (length code.now) stop) }
     ensures room { IfOk result (λ stop. WhereWork stop (vec_len stack.new < vec_capacity stack.new)) }
 {
@@ -336,7 +347,8 @@ fn module_of(root: Root) -> u32
 
 /// Sets a cell, where there is such a cell.
 fn store(memory: &mut Vec<Vec<Cell>>, root: Root, cell: u32, value: Cell)
-    ensures { memory_in memory.new.items ≡ store_of (record { root = root; cell = cell }) value (memory_in memory.old.items) }
+    ensures { memory_in memory.new.items ≡
+        store_of (record { root = root; cell = cell }) value (memory_in memory.old.items) }
 {
     let m = module_of(root);
     if let Some(cells) = memory.get_mut(m as usize) {
@@ -365,7 +377,8 @@ fn write_right(output: &mut Vec<u8>, number: i64, places: usize)
 /// The frame goes on behind the instruction at this place, with so many operands fewer.
 fn go_behind(frame: &mut Frame, at: usize, taken: usize)
     requires { at + 1 < 2 ^ 64 }
-    ensures { frame_in frame.new ≡ behind at (drop taken (reverse frame.old.stack.items)) (frame_in frame.old) }
+    ensures { frame_in frame.new ≡
+        behind at (drop taken (reverse frame.old.stack.items)) (frame_in frame.old) }
 {
     take(&mut frame.stack, taken);
     frame.next = at + 1;
@@ -374,7 +387,8 @@ fn go_behind(frame: &mut Frame, at: usize, taken: usize)
 fn read(memory: &[Vec<Cell>], root: Root, cell: u32, at: usize, frame: &mut Frame) -> Did
     requires place { at + 1 < 2 ^ 64 }
     requires room { vec_len frame.old.stack < vec_capacity frame.old.stack }
-    ensures { (fs : Frames) (out : List ℕ) → Makes (answer_of (Reads (record { root = root; cell = cell })) at (drop 1 (reverse frame.old.stack.items)) (frame_in frame.old) fs (memory_in memory.now)) false result (frame_in frame.new ∷ fs) (memory_in memory.now) out out }
+    ensures { (out : List ℕ) → let memory_is = memory_in memory.now in
+        IsAnswered (Reads (record { root = root; cell = cell })) at 1 frame.old frame.new memory_is memory_is result out out }
 {
     match load(memory, root, cell) {
         None => Did::Trapped(16, 0),
@@ -389,7 +403,8 @@ fn read(memory: &[Vec<Cell>], root: Root, cell: u32, at: usize, frame: &mut Fram
 fn put_int(output: &mut Vec<u8>, a: i64, places: i64, at: usize, frame: &mut Frame) -> Did
     requires place { at + 1 < 2 ^ 64 }
     requires room { vec_len output.old + MAX_BYTES ≤ vec_capacity output.old }
-    ensures { (fs : Frames) (mem : Memory) → Makes (answer_of (PutsInt (Cell.Num a) (Cell.Num places)) at (drop 2 (reverse frame.old.stack.items)) (frame_in frame.old) fs mem) false result (frame_in frame.new ∷ fs) mem output.old.items output.new.items }
+    ensures { (mem : Memory) → IsAnswered (PutsInt (Cell.Num a) (Cell.Num places)) at 2 frame.old frame.new mem mem result
+        output.old.items output.new.items }
 {
     if places < 0 || places > 255 {
         return Did::Trapped(14, 0);
@@ -410,7 +425,8 @@ fn answer(
     requires place { at + 1 < 2 ^ 64 }
     requires stack_room { vec_len frame.old.stack < vec_capacity frame.old.stack }
     requires room { vec_len output.old + MAX_BYTES ≤ vec_capacity output.old }
-    ensures { (fs : Frames) → Makes (answer_of (question_in question) at (drop (operands_of question) (reverse frame.old.stack.items)) (frame_in frame.old) fs (memory_in memory.old.items)) false result (frame_in frame.new ∷ fs) (memory_in memory.new.items) output.old.items output.new.items }
+    ensures { IsAnswered (question_in question) at (operands_of question) frame.old frame.new (memory_in memory.old.items)
+        (memory_in memory.new.items) result output.old.items output.new.items }
 {
     match question {
         Question::Reads(root, cell) => read(memory, root, cell, at, frame),
@@ -452,7 +468,8 @@ fn home_of(image: &Image, procedure: u32) -> u32
 
 /// The topmost frame's module, and no place in it.
 fn top_home(image: &Image, frames: &[Frame]) -> (u32, Pos)
-    ensures { position_at image.now (frames_in frames.now) ≡ position_or image.now (where_in result) (frames_in frames.now) }
+    ensures { position_at image.now (frames_in frames.now) ≡
+        position_or image.now (where_in result) (frames_in frames.now) }
 {
     match frames.last() {
         None => (0, Pos { line: 0, col: 0 }),
@@ -462,7 +479,8 @@ fn top_home(image: &Image, frames: &[Frame]) -> (u32, Pos)
 
 /// Where the topmost frame that has begun a statement stands: the module's number, and the place.
 pub fn position(image: &Image, frames: &[Frame]) -> (u32, Pos)
-    ensures { (fs : Frames) → Alike image.now fs (frames_in frames.now) → position_at image.now fs ≡ where_in result }
+    ensures { (fs : Frames) → Alike image.now fs (frames_in frames.now) → position_at image.now fs ≡
+        where_in result }
 {
     let mut found = top_home(image, frames);
     for frame in frames {
@@ -483,7 +501,8 @@ pub fn turn(
     output: &mut Vec<u8>,
 ) -> Result<Turned, NoMemory>
     requires { vec_len output.old + MAX_BYTES ≤ vec_capacity output.old }
-    ensures ok { IfOk result (λ t. (fs : Frames) → Alike image.now fs (frames_in frames.old.items) → Shown image.now (turn_of image.now (memory_in memory.old.items) fs) t.begun t.left (frames_in frames.new.items) (memory_in memory.new.items) output.old.items output.new.items) }
+    ensures ok { IfOk result (λ t. IsTurned image.now t.begun t.left frames.old.items frames.new.items (memory_in memory.old.items)
+        (memory_in memory.new.items) output.old.items output.new.items) }
     ensures err { OnErr result (Alike image.now (frames_in frames.old.items) (frames_in frames.new.items)) }
     ensures memory { OnErr result (memory.new ≡ memory.old) }
     ensures output { OnErr result (output.new ≡ output.old) }

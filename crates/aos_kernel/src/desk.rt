@@ -5,7 +5,7 @@ ghost use Rattle.aos_base.specs.Machine.{State, on_book, trap, serve, turn_by, t
 ghost use Rattle.aos_code.specs.Memory.{Memory};
 ghost use Rattle.aos_code.specs.Machine.{Frames, machine, position, turn as turn_of};
 ghost use Rattle.aos_kernel.specs.Cpu.{Alike, frames_in, where_in};
-ghost use Rattle.aos_kernel.specs.Shows.{stand_in, place_in, line_in, Shows, IsServed, HasRoom};
+ghost use Rattle.aos_kernel.specs.Shows.{place_in, line_in, Shows, Performs, PerformsUnspent, ShowsSame, HasTurned, IsServed, HasRoom};
 
 use crate::cpu;
 use crate::cpu::{Frame, MAX_BYTES};
@@ -136,7 +136,8 @@ fn next_of(activities: &[Activity], activity: u32) -> Next
 
 /// Where an activity stands in the text.
 fn place_of(image: &Image, activities: &[Activity], activity: u32) -> (u32, Pos)
-    ensures { (kept : Activity) (fs : Frames) → slice_get activities.now activity ≡ Some kept → Alike image.now fs (frames_in kept.frames.items) → position image.now fs ≡ where_in result }
+    ensures { (kept : Activity) (fs : Frames) → slice_get activities.now activity ≡ Some kept →
+        Alike image.now fs (frames_in kept.frames.items) → position image.now fs ≡ where_in result }
 {
     match activities.get(activity as usize) {
         Some(kept) => cpu::position(image, &kept.frames),
@@ -194,7 +195,8 @@ fn move_in(line: &mut Vec<Stand>, activity: u32, place: Place)
 
 /// Sets an activity's next turn.
 fn set_next(activities: &mut Vec<Activity>, activity: u32, next: Next)
-    ensures { (kept : Activity) → slice_get activities.old.items activity ≡ Some kept → activities.new.items ≡ slice_set activities.old.items activity (record kept { next = next }) }
+    ensures { (kept : Activity) → slice_get activities.old.items activity ≡ Some kept →
+        activities.new.items ≡ slice_set activities.old.items activity (record kept { next = next }) }
 {
     if let Some(kept) = activities.get_mut(activity as usize) {
         kept.next = next;
@@ -224,8 +226,9 @@ impl Desk {
 
     /// The activity stands on a worker from now on.
     pub fn dispatch(&mut self, activity: u32, worker: u32) -> Result<(), NoMemory>
-        ensures ok { OnOk result ((image : Image) (earlier : List Event) (st : State Memory Frames) → Shows image earlier self.old st → activity < st.book.started → Shows image earlier self.new (on_book (stands activity (On worker)) st)) }
-        ensures err { OnErr result ((image : Image) (earlier : List Event) (st : State Memory Frames) → Shows image earlier self.old st → Shows image earlier self.new st) }
+        ensures ok { OnOk result ((image : Image) →
+            Performs image activity (on_book (stands activity (On worker))) self.old self.new) }
+        ensures err { OnErr result ((image : Image) → ShowsSame image self.old self.new) }
     {
         self.line.reserve(1)?;
         move_in(&mut self.line, activity, Place::On(worker));
@@ -234,8 +237,8 @@ impl Desk {
 
     /// The activity is ready, behind those of its priority.
     pub fn ready(&mut self, activity: u32) -> Result<(), NoMemory>
-        ensures ok { OnOk result ((image : Image) (earlier : List Event) (st : State Memory Frames) → Shows image earlier self.old st → activity < st.book.started → Shows image earlier self.new (on_book (ready activity) st)) }
-        ensures err { OnErr result ((image : Image) (earlier : List Event) (st : State Memory Frames) → Shows image earlier self.old st → Shows image earlier self.new st) }
+        ensures ok { OnOk result ((image : Image) → Performs image activity (on_book (ready activity)) self.old self.new) }
+        ensures err { OnErr result ((image : Image) → ShowsSame image self.old self.new) }
     {
         self.line.reserve(1)?;
         let priority = priority_of(&self.activities, activity);
@@ -246,7 +249,7 @@ impl Desk {
     /// The activity ends.
     fn ended(&mut self, activity: u32)
         requires { vec_len self.old.events < vec_capacity self.old.events }
-        ensures { (image : Image) (earlier : List Event) (st : State Memory Frames) → Shows image earlier self.old st → activity < st.book.started → Shows image earlier self.new (on_book (ended activity) st) }
+        ensures { (image : Image) → Performs image activity (on_book (ended activity)) self.old self.new }
     {
         forget(&mut self.line, activity);
         self.events.push_reserved(Event::End { activity });
@@ -256,7 +259,7 @@ impl Desk {
     /// A trap of the activity is recorded, and its end follows.
     fn trap(&mut self, image: &Image, activity: u32, number: u8, code: u8)
         requires { HasRoom self.old }
-        ensures { (earlier : List Event) (st : State Memory Frames) → Shows image.now earlier self.old st → activity < st.book.started → Shows image.now earlier self.new (trap (machine image.now) activity number code st) }
+        ensures { Performs image.now activity (trap (machine image.now) activity number code) self.old self.new }
     {
         let (module, pos) = place_of(image, &self.activities, activity);
         self.traps.push_reserved(TrapRec {
@@ -273,8 +276,8 @@ impl Desk {
     /// The activity's own part of a turn. Where memory runs out, only silent work has been done.
     fn turned(&mut self, image: &Image, activity: u32) -> Result<Did, NoMemory>
         requires { vec_len self.old.output + MAX_BYTES ≤ vec_capacity self.old.output }
-        ensures ok { IfOk result (λ left. (earlier : List Event) (st : State Memory Frames) → Shows image.now earlier self.old st → activity < st.book.started → st.book.spent ≡ None → (left ≡ (turn_of image.now st.store (st.frames activity)).left) × Shows image.now earlier self.new (turned (machine image.now) activity (turn_of image.now st.store (st.frames activity)) st)) }
-        ensures err { OnErr result ((earlier : List Event) (st : State Memory Frames) → Shows image.now earlier self.old st → Shows image.now earlier self.new st) }
+        ensures ok { IfOk result (λ left. HasTurned image.now activity left self.old self.new) }
+        ensures err { OnErr result (ShowsSame image.now self.old self.new) }
         ensures traps { self.new.traps ≡ self.old.traps }
         ensures events { self.new.events ≡ self.old.events }
     {
@@ -290,7 +293,9 @@ impl Desk {
     /// The kernel's part of a turn. No instruction asks for more yet.
     fn serve(&mut self, image: &Image, activity: u32, left: Did)
         requires { HasRoom self.old }
-        ensures { (earlier : List Event) (st : State Memory Frames) → Shows image.now earlier self.old st → activity < st.book.started → IsServed left → Shows image.now earlier self.new (serve (machine image.now) activity left st) }
+        ensures { (earlier : List Event) (st : State Memory Frames) → Shows image.now earlier self.old st →
+            activity < st.book.started → IsServed left →
+            Shows image.now earlier self.new (serve (machine image.now) activity left st) }
     {
         match left {
             Did::Ended => self.ended(activity),
@@ -303,8 +308,8 @@ impl Desk {
     fn run(&mut self, image: &Image, activity: u32) -> Result<(), NoMemory>
         requires room { HasRoom self.old }
         requires output { vec_len self.old.output + MAX_BYTES ≤ vec_capacity self.old.output }
-        ensures ok { OnOk result ((earlier : List Event) (st : State Memory Frames) → Shows image.now earlier self.old st → activity < st.book.started → st.book.spent ≡ None → Shows image.now earlier self.new (turn_by (machine image.now) activity Runs st)) }
-        ensures err { OnErr result ((earlier : List Event) (st : State Memory Frames) → Shows image.now earlier self.old st → Shows image.now earlier self.new st) }
+        ensures ok { OnOk result (PerformsUnspent image.now activity (turn_by (machine image.now) activity Runs) self.old self.new) }
+        ensures err { OnErr result (ShowsSame image.now self.old self.new) }
     {
         let left = self.turned(image, activity)?;
         self.serve(image, activity, left);
@@ -315,7 +320,7 @@ impl Desk {
     fn make_room(&mut self) -> Result<(), NoMemory>
         ensures room { OnOk result (HasRoom self.new) }
         ensures output { OnOk result (vec_len self.new.output + MAX_BYTES ≤ vec_capacity self.new.output) }
-        ensures same { (image : Image) (earlier : List Event) (st : State Memory Frames) → Shows image earlier self.old st → Shows image earlier self.new st }
+        ensures same { (image : Image) → ShowsSame image self.old self.new }
     {
         self.traps.reserve(1)?;
         self.events.reserve(1)?;
@@ -325,8 +330,9 @@ impl Desk {
 
     /// A turn of an activity, whatever its next one is. Where memory runs out, only silent work has been done.
     pub fn turn(&mut self, image: &Image, activity: u32) -> Result<(), NoMemory>
-        ensures ok { OnOk result ((earlier : List Event) (st : State Memory Frames) → Shows image.now earlier self.old st → activity < st.book.started → st.book.spent ≡ None → Shows image.now earlier self.new (turn_by (machine image.now) activity (st.book.activity activity).next st)) }
-        ensures err { OnErr result ((earlier : List Event) (st : State Memory Frames) → Shows image.now earlier self.old st → Shows image.now earlier self.new st) }
+        ensures ok { OnOk result (PerformsUnspent image.now activity
+            (λ st. turn_by (machine image.now) activity (st.book.activity activity).next st) self.old self.new) }
+        ensures err { OnErr result (ShowsSame image.now self.old self.new) }
     {
         self.make_room()?;
         match next_of(&self.activities, activity) {

@@ -46,7 +46,8 @@ impl Model for Kernel {
 
     ghost view = { λ k. record { image = arc_value k.image; workers = k.workers; budget = k.budget; log = k.log.items } };
 
-    ghost invariant = { λ k. Keeps (record { image = arc_value k.image; workers = k.workers; budget = k.budget; log = k.log.items }) k.desk k.events.items };
+    ghost invariant = { λ k. Keeps (record { image = arc_value k.image; workers = k.workers; budget = k.budget; log = k.log.items })
+        k.desk k.events.items };
 }
 
 /// What the cells of the modules hold at first.
@@ -134,7 +135,8 @@ impl Kernel {
     ) -> Result<Box<Kernel>, NoMemory>
         requires workers { (1 ≤ workers) × (workers ≤ MAX_WORKERS) }
         requires budget { (1 ≤ budget) × (budget ≤ MAX_BUDGET) }
-        ensures { IfOk result (λ k. k.value ≡ record { image = arc_value image; workers = workers; budget = budget; log = [] }) }
+        ensures { IfOk result (λ k. k.value ≡
+            record { image = arc_value image; workers = workers; budget = budget; log = [] }) }
     {
         let desk = first_desk(alloc, &image, budget)?;
         let kernel = Kernel {

@@ -1,4 +1,4 @@
-use Rattle.std.proofs.Common.{◌≡◌, ◌≤◌, length, take, sym, ap, ◌∙◌, arith, List}
+use Rattle.std.proofs.Common.{◌≤◌, length, sym, ap, ◌∙◌, arith, List}
 use Rattle.std.proofs.lemmas.List.{take_all}
 use Rattle.aos_code.specs.Machine.{position_or}
 use Rattle.aos_kernel.specs.declared.cpu.Frame.{Frame as Kept}

@@ -1,4 +1,4 @@
-use Rattle.std.proofs.Common.{◌≡◌, ◌-◌, length, arith}
+use Rattle.std.proofs.Common.{arith}
 use Rattle.aos_kernel.proofs.Operands.{replaced}
 use Rattle.aos_kernel.proofs.cpu.replace.Goals as goal
 

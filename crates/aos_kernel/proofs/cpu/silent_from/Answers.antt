@@ -1,9 +1,8 @@
-use Rattle.std.proofs.Common.{◌≡◌, ◌+◌, ◌<◌, ◌≤◌, get_or, reverse, length, sym, ap, ◌∙◌, subst, arith, List, ◌^◌}
+use Rattle.std.proofs.Common.{◌≡◌, ◌<◌, get_or, reverse, length, sym, ap, ◌∙◌, arith, ◌^◌}
 use Rattle.std.specs.Prelude.{pos, slice_get, Some}
 use Rattle.std.proofs.lemmas.Option.{slice_get-get_or}
-use Rattle.aos_code.specs.declared.instr.Cell.{Cell}
 use Rattle.aos_code.specs.declared.instr.Instr.TheVariants.{Num}
-use Rattle.aos_code.specs.Silent.{act, silent, Goes, Stops, Begins, Act}
+use Rattle.aos_code.specs.Silent.{act, Goes, Stops, Begins}
 use Rattle.aos_kernel.proofs.Walks.{acts, goes_on, jumped, at_begin}
 use Rattle.aos_kernel.proofs.cpu.silent_from.Goals as goal
 

@@ -1,4 +1,4 @@
-use Rattle.std.proofs.Common.{◌≡◌, ◌-◌, length, arith}
+use Rattle.std.proofs.Common.{arith}
 use Rattle.aos_kernel.proofs.Operands.{taken}
 use Rattle.aos_kernel.proofs.cpu.take.Goals as goal
 

@@ -1,4 +1,4 @@
-use Rattle.std.proofs.Common.{◌≡◌, ◌∷◌, sym, ap, ◌∙◌, subst, false, refl, reverse}
+use Rattle.std.proofs.Common.{◌≡◌, sym, ap, ◌∙◌, subst, false, refl, reverse}
 use Rattle.aos_code.specs.Silent.{silent}
 use Rattle.aos_code.specs.Machine.{Frames, code_of, goes}
 use Rattle.aos_kernel.specs.declared.cpu.Frame.{Frame as Kept}

@@ -1,8 +1,7 @@
-use Rattle.std.proofs.Common.{◌≡◌, ◌+◌, ◌-◌, ◌<◌, ◌≤◌, ◌++◌, ◌∷◌, [], length, take, replicate, vec_len, vec_capacity, sym, ap, ◌∙◌, arith, append_assoc, w64}
+use Rattle.std.proofs.Common.{◌≡◌, ◌+◌, ◌-◌, ◌≤◌, ◌++◌, ◌∷◌, [], length, take, replicate, sym, ap, ◌∙◌, arith, append_assoc, w64}
 use Rattle.std.proofs.lemmas.List.{replicate-append-replicate, take_all}
 use Rattle.std.specs.Fmt.{signed_decimal}
 use Rattle.std.proofs.Math.Facts.{to_z-of_z}
-use Rattle.aos_base.specs.Number.{right_justified}
 use Rattle.aos_kernel.proofs.cpu.write_right.Goals as goal
 
 pub loop-preserved : goal.loop-preserved

@@ -1,4 +1,4 @@
-use Rattle.std.proofs.Common.{rules, ◌≡◌, ℕ, List, [], ◌∷◌, ◌∙◌, ap, refl, not, ◌==◌, Bool, true, false}
+use Rattle.std.proofs.Common.{rules, ◌≡◌, ℕ, List, [], ◌∷◌, ◌∙◌, ap, refl, not, ◌==◌, true, false}
 use Rattle.std.specs.Prelude.{filter, if◌then◌else◌}
 use Rattle.std.proofs.lemmas.Fn.{filter_same}
 use Rattle.aos_base.specs.Book.{leave_line}

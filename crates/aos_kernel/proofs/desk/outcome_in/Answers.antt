@@ -1,9 +1,8 @@
-use Rattle.std.proofs.Common.{◌≡◌, ℕ, List, [], ◌∷◌, length, Bool, true, false, refl, sym, ◌∙◌, nat_eq, ◌==◌}
+use Rattle.std.proofs.Common.{◌≡◌, ℕ, List, [], ◌∷◌, length, false, refl, sym, ◌∙◌, ◌==◌}
 use Rattle.std.specs.Prelude.{Option, Some, None, is_some, ◌&&◌, if◌then◌else◌}
 use Rattle.aos_base.specs.declared.kernel.Outcome.TheVariants.{Going, Dead}
 use Rattle.aos_base.specs.Book.{outcome_of, is_at_lock, all_at_locks}
 use Rattle.aos_kernel.specs.declared.desk.Stand.{Stand}
-use Rattle.aos_kernel.specs.declared.desk.Place.{Place}
 use Rattle.aos_kernel.specs.declared.desk.Place.TheVariants.{On, Ready}
 use Rattle.aos_kernel.specs.Shows.{line_in, place_in}
 use Rattle.aos_kernel.proofs.desk.outcome_in.Goals as goal

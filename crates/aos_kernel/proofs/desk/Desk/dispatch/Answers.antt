@@ -1,4 +1,4 @@
-use Rattle.std.proofs.Common.{◌≡◌, ap, ◌∙◌, refl}
+use Rattle.std.proofs.Common.{ap, ◌∙◌, refl}
 use Rattle.aos_base.specs.Book.{move, On}
 use Rattle.aos_kernel.specs.declared.desk.Place.TheVariants.{On as OnWorker}
 use Rattle.aos_kernel.specs.Shows.{line_in}

@@ -1,4 +1,4 @@
-use Rattle.std.proofs.Common.{◌≡◌, sym, subst, List, []}
+use Rattle.std.proofs.Common.{◌≡◌, subst, List, []}
 use Rattle.std.specs.Prelude.{slice_get, Some}
 use Rattle.aos_base.specs.Book as book
 use Rattle.aos_kernel.specs.declared.desk.Activity.{Activity}

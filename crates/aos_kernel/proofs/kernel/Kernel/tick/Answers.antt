@@ -1,18 +1,14 @@
-use Rattle.std.proofs.Common.{true, false, ◌≡◌, ◌≢◌, ◌<◌, ◌++◌, ◌∷◌, [], List, refl, sym, ap, ◌∙◌, subst}
+use Rattle.std.proofs.Common.{◌≡◌, ◌≢◌, ◌<◌, refl, sym, ap, ◌∙◌, subst}
 use Rattle.std.specs.Prelude.{Some, None, All}
 use Rattle.std.specs.Arc.{arc_value}
-use Rattle.aos_base.specs.declared.kernel.Event.{Event}
 use Rattle.aos_base.specs.declared.kernel.Outcome.TheVariants.{Going}
 use Rattle.aos_base.specs.Book.{outcome, on_worker, ready}
-use Rattle.aos_base.specs.Machine.{State, Tick, happens, on_book}
-use Rattle.aos_code.specs.declared.image.Image.{Image}
-use Rattle.aos_code.specs.Memory.{Memory}
-use Rattle.aos_code.specs.Machine.{Frames, machine}
+use Rattle.aos_base.specs.Machine.{Tick, happens, on_book}
+use Rattle.aos_code.specs.Machine.{machine}
 use Rattle.aos_kernel.specs.Log.{choices, with_tick, IsEntry}
 use Rattle.aos_kernel.specs.Run.{Run, state_of, ticks}
-use Rattle.aos_kernel.specs.Shows.{Shows}
 use Rattle.aos_kernel.proofs.Logs.{choices-with_tick, entries-with_tick}
-use Rattle.aos_kernel.proofs.Histories.{state_after, keeps_after, keeps_silent, ticks_by, ticks_nothing, is_over, ticks_over, ticks_some, ticks_none, outcome_is, on_is, known_on}
+use Rattle.aos_kernel.proofs.Histories.{state_after, keeps_after, keeps_silent, ticks_by, ticks_nothing, is_over, ticks_over, ticks_some, outcome_is, on_is, known_on}
 use Rattle.aos_kernel.proofs.kernel.Kernel.tick.Goals as goal
 
 pub returns-in_default : goal.returns-in_default
