@@ -1,0 +1,321 @@
+-- The desk after an operation shows the state after it.
+use Rattle.std.proofs.Common.{◌≡◌, ℕ, suc, ◌<◌, ◌≤◌, ◌^◌, List, [], ◌∷◌, ◌++◌, Bool, true, false, refl, sym, ◌∙◌, ap, subst, arith, inl, inr, ◌==◌, not, ◌≢◌, length, append_assoc}
+use Rattle.std.specs.Prelude.{if◌then◌else◌, Option, Some, None, nat_eq, slice_get, slice_set, Vec, Result, Ok, Err, OnErr}
+use Rattle.std.specs.declared.alloc.Global.{Global}
+use Rattle.std.proofs.lemmas.Bool.Decides.{eqb_tells, leb_tells}
+use Rattle.std.proofs.lemmas.Option.{slice_get_cases, slice_get_within, slice_get-get_or, slice_get_past}
+use Rattle.std.proofs.lemmas.List.{get_or-set_same, get_or-set_other, length-set, map-append}
+use Rattle.aos_base.specs.declared.kernel.Event.{Event}
+use Rattle.aos_base.specs.declared.kernel.Event.TheVariants as event
+use Rattle.aos_base.specs.declared.kernel.Did.{Did}
+use Rattle.aos_base.specs.declared.text.Pos.{Pos}
+use Rattle.aos_base.specs.Book as book
+use Rattle.aos_base.specs.Book.{put, place_of, leave_line, move, stands, ready, next_is, counted, spent_by, trapped, ended, first_at, first_ready, or_next, is_ready, may_restart}
+use Rattle.aos_base.specs.Machine.{State, on_book, trap, turned, finish, turn_by, serve}
+use Rattle.aos_code.specs.declared.image.Image.{Image}
+use Rattle.aos_code.specs.declared.instr.Cell.{Cell}
+use Rattle.aos_code.specs.declared.report.TrapRec.{TrapRec}
+use Rattle.aos_code.specs.Memory.{Memory}
+use Rattle.aos_code.specs.Machine.{Frames, machine, position, turn}
+use Rattle.aos_kernel.specs.declared.cpu.Frame.{Frame as Kept}
+use Rattle.aos_kernel.specs.declared.desk.Place.{Place}
+use Rattle.aos_kernel.specs.declared.desk.Place.TheVariants.{Ready}
+use Rattle.aos_kernel.specs.declared.desk.Stand.{Stand}
+use Rattle.aos_kernel.specs.declared.desk.Next.{Next}
+use Rattle.aos_kernel.specs.declared.desk.Next.TheVariants.{Unwinds, Gone}
+use Rattle.aos_kernel.specs.declared.desk.Activity.{Activity}
+use Rattle.aos_kernel.specs.declared.desk.Desk.{Desk}
+use Rattle.aos_kernel.specs.Cpu.{frames_in, memory_in, where_in, Alike, Shown}
+use Rattle.aos_kernel.specs.Run.{rec_of}
+use Rattle.aos_kernel.specs.Shows.{place_in, line_in, next_in, IsKnown, ShowsActivity, Shows}
+
+-- by whether two numbers are one
+by_case : (P : Bool → Type 0) (x k : ℕ) → (x ≡ k → P true) → (x ≢ k → P false) → P (x == k)
+by_case P x k same other =
+    elim (eqb_tells x k) [ inl h ↦ subst P (sym h.0) (same h.1) | inr h ↦ subst P (sym h.0) (other h.1) ]
+
+each_at : (G : ℕ → Type 0) (a : ℕ) → G a → ((x : ℕ) → x ≢ a → G x) → (x : ℕ) → G x
+each_at G a here other x = elim (eqb_tells x a) [ inl h ↦ subst G (sym h.1) here | inr h ↦ other x h.1 ]
+
+put_same : {A : Type 0} (f : ℕ → A) (k : ℕ) (v : A) → put nat_eq f k v k ≡ v
+put_same f k v = by_case (λ q. (if q then v else f k) ≡ v) k k (λ e. refl) (λ ne. absurd (ne refl))
+
+put_other : {A : Type 0} (f : ℕ → A) (k : ℕ) (v : A) (x : ℕ) → x ≢ k → put nat_eq f k v x ≡ f x
+put_other f k v x ne = by_case (λ q. (if q then v else f x) ≡ f x) x k (λ e. absurd (ne e)) (λ _. refl)
+
+-- The line
+
+known_left : (n a : ℕ) (line : List book.Stand) → IsKnown n line → IsKnown n (leave_line a line)
+known_left n a [] h = tt
+known_left n a (s ∷ line) h =
+    elim (s.activity == a) as (λ q. IsKnown n (if not q then s ∷ leave_line a line else leave_line a line)) [
+      | true ↦ known_left n a line h.1
+      | false ↦ (h.0, known_left n a line h.1)
+    ]
+
+known_joined : (n : ℕ) (line : List book.Stand) (s : book.Stand) → IsKnown n line → s.activity < n → IsKnown n (line ++ s ∷ [])
+known_joined n [] s h p = (p, tt)
+known_joined n (t ∷ line) s h p = (h.0, known_joined n line s h.1 p)
+
+known_moved : (n a : ℕ) (place : book.Place) (line : List book.Stand) → IsKnown n line → a < n → IsKnown n (move a place line)
+known_moved n a place line h p = known_joined n (leave_line a line) (record { activity = a; place = place }) (known_left n a line h) p
+
+-- who is found stands in the line
+pub found : (n : ℕ) (at : book.Place → Bool) (line : List book.Stand) (a : ℕ) → first_at at line ≡ Some a → IsKnown n line → a < n
+found n at [] a e h = absurd (cc e)
+found n at (s ∷ line) a e h =
+    (elim (at s.place) as (λ q. (if q then Some s.activity else first_at at line) ≡ Some a → a < n) [
+      | true ↦ λ f. (let z : s.activity ≡ a = cc f in subst (λ x. x < n) z h.0)
+      | false ↦ λ f. found n at line a f h.1
+    ]) e
+
+either : (n : ℕ) (o p : Option ℕ) (a : ℕ) → or_next o p ≡ Some a → ((x : ℕ) → o ≡ Some x → x < n) → ((x : ℕ) → p ≡ Some x → x < n) → a < n
+either n None p a e h k = k a e
+either n (Some x) p a e h k = h a e
+
+pub found_ready : (n : ℕ) (line : List book.Stand) (a : ℕ) → first_ready line ≡ Some a → IsKnown n line → a < n
+found_ready n line a e h =
+    either n (first_at (is_ready 3) line) (or_next (first_at (is_ready 2) line) (first_at (is_ready 1) line)) a e (λ x f. found n (is_ready 3) line x f h)
+    (λ y g. either n (first_at (is_ready 2) line) (first_at (is_ready 1) line) y g (λ x f. found n (is_ready 2) line x f h) (λ x f. found n (is_ready 1) line x f h))
+
+-- The activities
+
+pub get_below : {A : Type 0} (xs : List A) (i : ℕ) → i < length xs → (x : A) × (slice_get xs i ≡ Some x)
+get_below xs i h = elim (slice_get_cases xs i).1 [ inl r ↦ (r.0, r.2) | inr r ↦ absurd (omega arith) ]
+
+set_here : {A : Type 0} (xs : List A) (i : ℕ) (g : A) → i < length xs → slice_get (slice_set xs i g) i ≡ Some g
+set_here xs i g h = slice_get-get_or (slice_set xs i g) i g (subst (λ n. i < n) (sym (length-set xs i g)) h) ∙ ap (λ x. Some x) (get_or-set_same xs i g g h)
+
+set_there : {A : Type 0} (xs : List A) (i x : ℕ) (g : A) → x ≢ i → slice_get (slice_set xs i g) x ≡ slice_get xs x
+set_there xs i x g ne =
+    elim (slice_get_cases xs x).1 [
+      | inl r ↦ slice_get-get_or (slice_set xs i g) x r.0 (subst (λ n. x < n) (sym (length-set xs i g)) r.1) ∙ ap (λ y. Some y) (get_or-set_other xs i x g r.0 ne ∙ r.3) ∙ sym r.2
+      | inr r ↦ slice_get_past (slice_set xs i g) x (subst (λ n. n ≤ x) (sym (length-set xs i g)) r.0) ∙ sym r.1
+    ]
+
+-- the desk's activities show those of a book with their frames
+abbrev pub EachShows : Image → List Activity → (ℕ → book.Activity) → (ℕ → Frames) → Type 0
+EachShows image items acts frames = (x : ℕ) (kept : Activity) → slice_get items x ≡ Some kept → ShowsActivity image kept (acts x) (frames x)
+
+-- after one has changed
+each_after : (image : Image) (items items' : List Activity) (acts acts' : ℕ → book.Activity) (frames frames' : ℕ → Frames) (a : ℕ) (old new : Activity) → slice_get items a ≡ Some old → items' ≡ slice_set items a new →
+    ShowsActivity image new (acts' a) (frames' a) → ((x : ℕ) → x ≢ a → acts' x ≡ acts x) → ((x : ℕ) → x ≢ a → frames' x ≡ frames x) → EachShows image items acts frames → EachShows image items' acts' frames'
+each_after image items items' acts acts' frames frames' a old new was is here same_acts same_frames each =
+    each_at (λ x. (kept : Activity) → slice_get items' x ≡ Some kept → ShowsActivity image kept (acts' x) (frames' x)) a
+    (λ kept at.
+    let z = sym (set_here items a new (slice_get_within items a old was)) ∙ sym (ap (λ xs. slice_get xs a) is) ∙ at in
+    let e : new ≡ kept = cc z in
+    subst (λ k. ShowsActivity image k (acts' a) (frames' a)) e here)
+    (λ x ne kept at.
+    let s = each x kept (sym (set_there items a x new ne) ∙ sym (ap (λ xs. slice_get xs x) is) ∙ at) in
+    subst (λ v. ShowsActivity image kept v (frames' x)) (sym (same_acts x ne)) (subst (λ f. ShowsActivity image kept (acts x) f) (sym (same_frames x ne)) s))
+
+-- an activity below the budget is so after one statement more, unless it is spent
+not_spent : (does_begin : Bool) (budget begun a : ℕ) (spent : Option ℕ) → begun < budget → spent_by does_begin budget (if does_begin then suc begun else begun) a spent ≡ None → (if does_begin then suc begun else begun) < budget
+not_spent false budget begun a spent less none = less
+not_spent true budget begun a spent less none =
+    (elim (leb_tells budget (suc begun)) as (λ _. spent_by true budget (suc begun) a spent ≡ None → suc begun < budget) [
+      | inl e ↦ λ f. (let z = sym (ap (λ q. if q then Some a else spent) e.0) ∙ f in absurd (cc z))
+      | inr e ↦ λ f. e.1
+    ]) none
+
+-- Each operation
+
+module _ (image : Image) (earlier : List Event) (d : Desk) (st : State Memory Frames) (a : ℕ) (h : Shows image earlier d st) (there : a < st.book.started) where
+  here_is : (kept : Activity) × (slice_get d.activities.items a ≡ Some kept)
+  here_is = get_below d.activities.items a (subst (λ n. a < n) h.started there)
+
+  pub shows_stands : (line : Vec Stand Global) (p : Place) → line_in line.items ≡ move a (place_in p) (line_in d.line.items) → Shows image earlier (record d { line = line }) (on_book (stands a (place_in p)) st)
+  unfolding stands
+  shows_stands line p is = record {
+    store = h.store;
+    line = ap (move a (place_in p)) h.line ∙ sym is;
+    output = h.output;
+    traps = h.traps;
+    events = h.events;
+    budget = h.budget;
+    spent = h.spent;
+    started = h.started;
+    known = known_moved st.book.started a (place_in p) st.book.line h.known there;
+    activities = h.activities;
+    unspent = h.unspent;
+  }
+
+  pub shows_ready : (line : Vec Stand Global) (p : ℕ) → line_in line.items ≡ move a (place_in (Ready p)) (line_in d.line.items) → ((kept : Activity) → slice_get d.activities.items a ≡ Some kept → p ≡ kept.priority) → Shows image earlier (record d { line = line }) (on_book (ready a) st)
+  unfolding ready
+  shows_ready line p is told =
+      let r = here_is in
+      let q : p ≡ (st.book.activity a).priority = told r.0 r.1 ∙ sym (h.activities a r.0 r.1).priority in
+      let to = book.Ready (st.book.activity a).priority in
+      record {
+        store = h.store;
+        line = ap (move a to) h.line ∙ ap (λ n. move a (book.Ready n) (line_in d.line.items)) (sym q) ∙ sym is;
+        output = h.output;
+        traps = h.traps;
+        events = h.events;
+        budget = h.budget;
+        spent = h.spent;
+        started = h.started;
+        known = known_moved st.book.started a to st.book.line h.known there;
+        activities = h.activities;
+        unspent = h.unspent;
+      }
+
+  -- the next turn has changed
+  next_after : (activities : Vec Activity Global) (n : Next) → ((kept : Activity) → slice_get d.activities.items a ≡ Some kept → activities.items ≡ slice_set d.activities.items a (record kept { next = n })) →
+      EachShows image activities.items (put nat_eq st.book.activity a (record (st.book.activity a) { next = next_in n })) st.frames
+  next_after activities n set =
+      let r = here_is in
+      let s = h.activities a r.0 r.1 in
+      let v : book.Activity = record (st.book.activity a) { next = next_in n } in
+      each_after image d.activities.items activities.items st.book.activity (put nat_eq st.book.activity a v) st.frames st.frames a r.0 (record r.0 { next = n }) r.1 (set r.0 r.1)
+      (subst (λ x. ShowsActivity image (record r.0 { next = n }) x (st.frames a)) (sym (put_same st.book.activity a v)) (record { priority = s.priority; begun = s.begun; next = refl; alike = s.alike }))
+      (λ x ne. put_other st.book.activity a v x ne) (λ x ne. refl) h.activities
+
+  started_after : (activities : Vec Activity Global) (n : Next) → ((kept : Activity) → slice_get d.activities.items a ≡ Some kept → activities.items ≡ slice_set d.activities.items a (record kept { next = n })) → st.book.started ≡ length activities.items
+  started_after activities n set = let r = here_is in h.started ∙ sym (ap length (set r.0 r.1) ∙ length-set d.activities.items a (record r.0 { next = n }))
+
+  unspent_after : (n : book.Next) (x : ℕ) → st.book.spent ≡ None → (put nat_eq st.book.activity a (record (st.book.activity a) { next = n }) x).begun < st.book.budget
+  unspent_after n x none =
+      each_at (λ y. (put nat_eq st.book.activity a (record (st.book.activity a) { next = n }) y).begun < st.book.budget) a
+      (subst (λ (v : book.Activity). v.begun < st.book.budget) (sym (put_same st.book.activity a (record (st.book.activity a) { next = n }))) (h.unspent a none))
+      (λ y ne. subst (λ (v : book.Activity). v.begun < st.book.budget) (sym (put_other st.book.activity a (record (st.book.activity a) { next = n }) y ne)) (h.unspent y none)) x
+
+  pub shows_ended : (line : Vec Stand Global) (events : Vec Event Global) (activities : Vec Activity Global) → line_in line.items ≡ leave_line a (line_in d.line.items) → events.items ≡ d.events.items ++ event.End a ∷ [] →
+      ((kept : Activity) → slice_get d.activities.items a ≡ Some kept → activities.items ≡ slice_set d.activities.items a (record kept { next = Gone })) →
+      Shows image earlier (record d { line = line; events = events; activities = activities }) (on_book (ended a) st)
+  unfolding ended next_is
+  shows_ended line events activities gone is set = record {
+    store = h.store;
+    line = ap (leave_line a) h.line ∙ sym gone;
+    output = h.output;
+    traps = h.traps;
+    events = ap (λ x. x ++ event.End a ∷ []) h.events ∙ append_assoc earlier d.events.items (event.End a ∷ []) ∙ ap (λ x. earlier ++ x) (sym is);
+    budget = h.budget;
+    spent = h.spent;
+    started = started_after activities Gone set;
+    known = known_left st.book.started a st.book.line h.known;
+    activities = next_after activities Gone set;
+    unspent = unspent_after book.Gone;
+  }
+
+  pub shows_trapped : (traps : Vec TrapRec Global) (events : Vec Event Global) (activities : Vec Activity Global) (n c : ℕ) (at : ℕ × Pos) →
+      ((kept : Activity) (fs : Frames) → slice_get d.activities.items a ≡ Some kept → Alike image fs (frames_in kept.frames.items) → position image fs ≡ where_in at) →
+      traps.items ≡ d.traps.items ++ record { number = n; code = c; activity = a; «module» = at.0; pos = at.1 } ∷ [] → events.items ≡ d.events.items ++ event.Trap a n ∷ [] →
+      ((kept : Activity) → slice_get d.activities.items a ≡ Some kept → activities.items ≡ slice_set d.activities.items a (record kept { next = Unwinds })) →
+      Shows image earlier (record d { traps = traps; events = events; activities = activities }) (trap (machine image) a n c st)
+  unfolding trap trapped next_is
+  shows_trapped traps events activities n c at placed told is set =
+      let r = here_is in
+      let s = h.activities a r.0 r.1 in
+      let p = placed r.0 (st.frames a) r.1 s.alike in
+      record {
+        store = h.store;
+        line = h.line;
+        output = h.output;
+        traps = map-append rec_of st.book.traps (record { number = n; code = c; activity = a; at = position image (st.frames a); restart = 0 } ∷ [])
+            ∙ (λ i. h.traps i ++ rec_of (record { number = n; code = c; activity = a; at = p i; restart = 0 }) ∷ []) ∙ sym told;
+        events = ap (λ x. x ++ event.Trap a n ∷ []) h.events ∙ append_assoc earlier d.events.items (event.Trap a n ∷ []) ∙ ap (λ x. earlier ++ x) (sym is);
+        budget = h.budget;
+        spent = h.spent;
+        started = started_after activities Unwinds set;
+        known = h.known;
+        activities = next_after activities Unwinds set;
+        unspent = unspent_after (book.Unwinds []);
+      }
+
+  pub shows_turned : (memory : Vec (Vec Cell Global) Global) (activities : Vec Activity Global) (output : Vec ℕ Global) (spent : Option ℕ) (frames : Vec Kept Global) (old : Activity) (n : ℕ) (does_begin : Bool) (left : Did) →
+      slice_get d.activities.items a ≡ Some old → activities.items ≡ slice_set d.activities.items a (record old { begun = n; frames = frames }) →
+      Shown image (turn image st.store (st.frames a)) does_begin left (frames_in frames.items) (memory_in memory.items) d.output.items output.items →
+      (suc old.begun < 2 ^ 64 → n ≡ (if does_begin then suc old.begun else old.begun)) → spent ≡ spent_by does_begin d.budget n a d.spent → st.book.spent ≡ None → d.budget < 2 ^ 64 →
+      Shows image earlier (record d { memory = memory; activities = activities; output = output; spent = spent }) (turned (machine image) a (turn image st.store (st.frames a)) st)
+  unfolding turned counted
+  shows_turned memory activities output spent frames old n does_begin left was is shown told when none small =
+      let t = turn image st.store (st.frames a) in
+      let s = h.activities a old was in
+      let begun = (st.book.activity a).begun in
+      let new : Activity = record old { begun = n; frames = frames } in
+      let less : begun < st.book.budget = h.unspent a none in
+      let fits : suc old.begun < 2 ^ 64 = omega (arith, s.begun, h.budget) in
+      let count : (if t.begun then suc begun else begun) ≡ n = (λ i. if shown.begun i then suc (s.begun i) else s.begun i) ∙ sym (told fits) in
+      let v : book.Activity = record (st.book.activity a) { begun = if t.begun then suc begun else begun } in
+      record {
+        store = shown.store;
+        line = h.line;
+        output = ap (λ o. o ++ t.output) h.output ∙ sym shown.output;
+        traps = h.traps;
+        events = h.events;
+        budget = h.budget;
+        spent = (λ i. spent_by (shown.begun i) (h.budget i) (count i) a (h.spent i)) ∙ sym when;
+        started = h.started ∙ sym (ap length is ∙ length-set d.activities.items a new);
+        known = h.known;
+        activities = each_after image d.activities.items activities.items st.book.activity (put nat_eq st.book.activity a v) st.frames (put nat_eq st.frames a t.frames) a old new was is
+            (subst (λ x. ShowsActivity image new x (put nat_eq st.frames a t.frames a)) (sym (put_same st.book.activity a v))
+            (subst (λ x. ShowsActivity image new v x) (sym (put_same st.frames a t.frames)) (record { priority = s.priority; begun = count; next = s.next; alike = shown.alike })))
+            (λ x ne. put_other st.book.activity a v x ne) (λ x ne. put_other st.frames a t.frames x ne) h.activities;
+        unspent = λ x spends. each_at (λ y. (put nat_eq st.book.activity a v y).begun < st.book.budget) a
+            (subst (λ (y : book.Activity). y.begun < st.book.budget) (sym (put_same st.book.activity a v)) (not_spent t.begun st.book.budget begun a st.book.spent less spends))
+            (λ y ne. subst (λ (y : book.Activity). y.begun < st.book.budget) (sym (put_other st.book.activity a v y ne)) (h.unspent y none)) x;
+      }
+
+  -- the operations of a turn
+
+  pub shows_served : (d' : Desk) (left : Did) → Shows image earlier d' (serve (machine image) a left st) → (m : Did) → left ≡ m → Shows image earlier d' (serve (machine image) a m st)
+  shows_served d' left shown m e = subst (λ x. Shows image earlier d' (serve (machine image) a x st)) e shown
+
+  -- the next turn, by what the desk has
+  pub next_is_in : (n : Next) → ((kept : Activity) → slice_get d.activities.items a ≡ Some kept → n ≡ kept.next) → (st.book.activity a).next ≡ next_in n
+  next_is_in n told = let r = here_is in (h.activities a r.0 r.1).next ∙ ap next_in (sym (told r.0 r.1))
+
+  pub turns_by : (d' : Desk) (n : book.Next) → (st.book.activity a).next ≡ n → Shows image earlier d' (turn_by (machine image) a n st) → Shows image earlier d' (turn_by (machine image) a (st.book.activity a).next st)
+  turns_by d' n e shown = subst (λ x. Shows image earlier d' (turn_by (machine image) a x st)) (sym e) shown
+
+finished : (image : Image) (earlier : List Event) (d : Desk) (a : ℕ) (st : State Memory Frames) (q : Bool) → Shows image earlier d (on_book (ended a) st) → Shows image earlier d (finish a q None st)
+finished image earlier d a st true h = h
+finished image earlier d a st false h = h
+
+pub turn_ended : (image : Image) (earlier : List Event) (d : Desk) (a : ℕ) (st : State Memory Frames) → Shows image earlier d (on_book (ended a) st) → Shows image earlier d (turn_by (machine image) a (book.Unwinds []) st)
+turn_ended image earlier d a st h = finished image earlier d a st (may_restart (st.book.activity a).restarts) h
+
+-- room has been made, and no more
+pub shows_roomy : (image : Image) (earlier : List Event) (d : Desk) (st : State Memory Frames) (traps : Vec TrapRec Global) (events : Vec Event Global) (output : Vec ℕ Global) (line : Vec Stand Global) →
+    traps.items ≡ d.traps.items → events.items ≡ d.events.items → output.items ≡ d.output.items → line.items ≡ d.line.items → Shows image earlier d st → Shows image earlier (record d { traps = traps; events = events; output = output; line = line }) st
+shows_roomy image earlier d st traps events output line e f g l h = record {
+  store = h.store;
+  line = h.line ∙ ap line_in (sym l);
+  output = h.output ∙ sym g;
+  traps = h.traps ∙ sym e;
+  events = h.events ∙ ap (λ x. earlier ++ x) (sym f);
+  budget = h.budget;
+  spent = h.spent;
+  started = h.started;
+  known = h.known;
+  activities = h.activities;
+  unspent = h.unspent;
+}
+
+-- only silent work has been done
+pub shows_silent : (image : Image) (earlier : List Event) (d : Desk) (st : State Memory Frames) (memory : Vec (Vec Cell Global) Global) (activities : Vec Activity Global) (output : Vec ℕ Global) (a : ℕ) (old : Activity) (frames : Vec Kept Global) →
+    slice_get d.activities.items a ≡ Some old → activities.items ≡ slice_set d.activities.items a (record old { frames = frames }) → Alike image (frames_in old.frames.items) (frames_in frames.items) → memory ≡ d.memory → output ≡ d.output →
+    Shows image earlier d st → Shows image earlier (record d { memory = memory; activities = activities; output = output }) st
+shows_silent image earlier d st memory activities output a old frames was is alike same_memory same_output h =
+    let s = h.activities a old was in
+    let new : Activity = record old { frames = frames } in
+    record {
+      store = h.store ∙ ap (λ (m : Vec (Vec Cell Global) Global). memory_in m.items) (sym same_memory);
+      line = h.line;
+      output = h.output ∙ ap (λ (o : Vec ℕ Global). o.items) (sym same_output);
+      traps = h.traps;
+      events = h.events;
+      budget = h.budget;
+      spent = h.spent;
+      started = h.started ∙ sym (ap length is ∙ length-set d.activities.items a new);
+      known = h.known;
+      activities = each_after image d.activities.items activities.items st.book.activity st.book.activity st.frames st.frames a old new was is
+          (record { priority = s.priority; begun = s.begun; next = s.next; alike = s.alike ∙ alike }) (λ x ne. refl) (λ x ne. refl) h.activities;
+      unspent = h.unspent;
+    }
+
+pub on_err : {A E : Type 0} {P : Type 0} (r : Result A E) → P → OnErr r P
+on_err (Ok x) p = tt
+on_err (Err e) p = p

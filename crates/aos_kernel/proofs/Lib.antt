@@ -1,0 +1,7 @@
+pub mod Operands
+pub mod Walks
+pub mod Turns
+pub mod Cells
+pub mod Desks
+pub mod Logs
+pub mod Histories

@@ -1,0 +1,18 @@
+use Rattle.std.proofs.Common.{◌≡◌, ap, ◌∙◌, refl, subst, List}
+use Rattle.std.specs.Prelude.{slice_get, Some}
+use Rattle.aos_base.specs.Book.{move, Ready}
+use Rattle.aos_kernel.specs.declared.desk.Activity.{Activity}
+use Rattle.aos_kernel.specs.Shows.{line_in}
+use Rattle.aos_kernel.proofs.Desks.{shows_ready, shows_roomy, on_err}
+use Rattle.aos_kernel.proofs.desk.Desk.ready.Goals as goal
+
+pub returns-clause-ok : goal.returns-clause-ok
+returns-clause-ok c image earlier st h there =
+    shows_ready image earlier c.args.self.now st c.args.activity h there c.move_in.new.line c.priority_of-priority.result
+    (c.move_in.ensures ∙ ap (λ xs. move c.args.activity (Ready c.priority_of-priority.result) (line_in xs)) c.in_ok-reserve.ensures.items)
+    (subst (λ (xs : List Activity). (kept : Activity) → slice_get xs c.args.activity ≡ Some kept → c.priority_of-priority.result ≡ kept.priority) c.deref.ensures.value c.priority_of-priority.ensures)
+
+pub returns-in_err-reserve-clause-err : goal.returns-in_err-reserve-clause-err
+returns-in_err-reserve-clause-err c =
+    let d = c.args.self.now in
+    on_err c.from_residual.result (λ image earlier st h. shows_roomy image earlier d st d.traps d.events d.output c.reserve.new.self refl refl refl c.reserve.ensures.items h)

@@ -1,0 +1,86 @@
+use Rattle.std.proofs.Common.{◌≡◌, ◌≢◌, ◌<◌, refl, sym, ap, ◌∙◌, subst}
+use Rattle.std.specs.Prelude.{Some, None, All}
+use Rattle.std.specs.Arc.{arc_value}
+use Rattle.aos_base.specs.declared.kernel.Outcome.TheVariants.{Going}
+use Rattle.aos_base.specs.Book.{outcome, on_worker, ready}
+use Rattle.aos_base.specs.Machine.{Tick, happens, on_book}
+use Rattle.aos_code.specs.Machine.{machine}
+use Rattle.aos_kernel.specs.Log.{choices, with_tick, IsEntry}
+use Rattle.aos_kernel.specs.Run.{Run, state_of, ticks}
+use Rattle.aos_kernel.proofs.Logs.{choices-with_tick, entries-with_tick}
+use Rattle.aos_kernel.proofs.Histories.{state_after, keeps_after, keeps_silent, ticks_by, ticks_nothing, is_over, ticks_over, ticks_some, outcome_is, on_is, known_on}
+use Rattle.aos_kernel.proofs.kernel.Kernel.tick.Goals as goal
+
+pub returns-in_default : goal.returns-in_default
+returns-in_default c =
+    let k = c.self.inside in
+    let r : Run = record { image = arc_value k.image; workers = k.workers; budget = k.budget; log = k.log.items } in
+    let h = c.self.invariant in
+    let st = state_of r in
+    let w = c.args.w in
+    let over : outcome st.book ≢ Going = λ e. c.in_default.not-Going (c.outcome.ensures ∙ sym (outcome_is r k.desk k.events.items h) ∙ e) in
+    record {
+      ticked = sym (ticks_over w r over) ∙ ap (ticks w) c.self.view_is;
+      log = refl;
+      same = refl;
+      state = subst (λ (x : Run). state_of x ≡ happens (machine x.image) (Tick w) (state_of x)) c.self.view_is (sym (is_over r.image st (Tick w) over));
+      err = tt;
+    }
+
+pub invariant_of-self-in_err-ready-in-Some : goal.invariant_of-self-in_err-ready-in-Some
+invariant_of-self-in_err-ready-in-Some c =
+    let k = c.self.inside in
+    let r : Run = record { image = arc_value k.image; workers = k.workers; budget = k.budget; log = k.log.items } in
+    let h = c.self.invariant in
+    let st = state_of r in
+    keeps_silent r k.desk k.events.items h c.ready.new.self c.reserve.new.self.items (c.in_err-ready-in-Some.ensures.err r.image st.book.events st h.shows) c.reserve.ensures.items
+
+pub invariant_of-self-in-Some : goal.invariant_of-self-in-Some
+invariant_of-self-in-Some c =
+    let k = c.self.inside in
+    let r : Run = record { image = arc_value k.image; workers = k.workers; budget = k.budget; log = k.log.items } in
+    let h = c.self.invariant in
+    let st = state_of r in
+    let w = c.args.w in
+    let a = c.in-Some.activity in
+    let going : outcome st.book ≡ Going = outcome_is r k.desk k.events.items h ∙ sym c.in-Going.ensures in
+    let on : on_worker c.args.w st.book.line ≡ Some a = on_is r k.desk k.events.items h c.args.w ∙ sym c.in-Some.ensures in
+    let logged : c.push_reserved.new.self.items ≡ with_tick w r.log = c.push_reserved.ensures.items ∙ ap (with_tick w) c.reserve.ensures.items in
+    let fits : w < r.workers = subst (λ (x : Run). w < x.workers) (sym c.self.view_is) c.requires in
+    keeps_after r c.push_reserved.new.self.items (Tick w) c.ready.new.self c.hand_out.new.desk c.hand_out.new.events.items (on_book (ready a) st)
+    (ap choices logged ∙ choices-with_tick w r.log) (ticks_by r.image st w a going on)
+    (c.in_ok-ready-in-Some.ensures.ok r.image st.book.events st h.shows (known_on r k.desk k.events.items h w a on))
+    c.hand_out.ensures.desk c.hand_out.ensures.events (subst (λ l. All (IsEntry r.workers) l) (sym logged) (entries-with_tick r.workers w r.log fits h.entries)) k.desk k.events.items h
+
+pub returns-in_ok-ready-in-Some-clause-ticked : goal.returns-in_ok-ready-in-Some-clause-ticked
+returns-in_ok-ready-in-Some-clause-ticked c =
+    let k = c.self.inside in
+    let r : Run = record { image = arc_value k.image; workers = k.workers; budget = k.budget; log = k.log.items } in
+    let h = c.self.invariant in
+    let st = state_of r in
+    let w = c.args.w in
+    let a = c.in-Some.activity in
+    let going : outcome st.book ≡ Going = outcome_is r k.desk k.events.items h ∙ sym c.in-Going.ensures in
+    let on : on_worker c.args.w st.book.line ≡ Some a = on_is r k.desk k.events.items h c.args.w ∙ sym c.in-Some.ensures in
+    sym (ticks_some w a r going on) ∙ ap (ticks w) c.self.view_is
+
+pub returns-in_ok-ready-in-Some-clause-state : goal.returns-in_ok-ready-in-Some-clause-state
+returns-in_ok-ready-in-Some-clause-state c =
+    let k = c.self.inside in
+    let r : Run = record { image = arc_value k.image; workers = k.workers; budget = k.budget; log = k.log.items } in
+    let h = c.self.invariant in
+    let st = state_of r in
+    let w = c.args.w in
+    let logged : c.push_reserved.new.self.items ≡ with_tick w r.log = c.push_reserved.ensures.items ∙ ap (with_tick w) c.reserve.ensures.items in
+    state_after r c.push_reserved.new.self.items (Tick w) (ap choices logged ∙ choices-with_tick w r.log) ∙ ap (λ (x : Run). happens (machine x.image) (Tick w) (state_of x)) c.self.view_is
+
+pub returns-in-None-clause-state : goal.returns-in-None-clause-state
+returns-in-None-clause-state c =
+    let k = c.self.inside in
+    let r : Run = record { image = arc_value k.image; workers = k.workers; budget = k.budget; log = k.log.items } in
+    let h = c.self.invariant in
+    let st = state_of r in
+    let w = c.args.w in
+    let going : outcome st.book ≡ Going = outcome_is r k.desk k.events.items h ∙ sym c.in-Going.ensures in
+    let on : on_worker c.args.w st.book.line ≡ None = on_is r k.desk k.events.items h c.args.w ∙ sym c.in-None.ensures in
+    subst (λ (x : Run). state_of x ≡ happens (machine x.image) (Tick w) (state_of x)) c.self.view_is (sym (ticks_nothing r.image st w going on))

@@ -1,0 +1,5 @@
+pub mod Log
+pub mod Run
+pub mod Cpu
+pub mod Shows
+pub mod Keeps

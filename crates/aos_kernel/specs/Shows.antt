@@ -1,0 +1,102 @@
+-- What the kernel keeps, and the state that it shows.
+use Rattle.std.specs.Prelude.{◌≡◌, ℕ, ◌<◌, List, [], ◌∷◌, ◌++◌, Some, None, map, length, slice_get, vec_len, vec_capacity}
+use Rattle.aos_base.specs.declared.kernel.Event.{Event}
+use Rattle.aos_base.specs.declared.kernel.Did.{Did}
+use Rattle.aos_base.specs.declared.kernel.Did.TheVariants.{Went, Ended, Enter, Leave, Await, Start, Trapped}
+use Rattle.aos_base.specs.Book as book
+use Rattle.aos_base.specs.Machine.{State, turned}
+use Rattle.aos_code.specs.declared.image.Image.{Image}
+use Rattle.aos_code.specs.Memory.{Memory}
+use Rattle.aos_code.specs.Machine.{Frames, machine, turn}
+use Rattle.aos_kernel.specs.declared.desk.Place.{Place}
+use Rattle.aos_kernel.specs.declared.desk.Place.TheVariants.{On, Ready}
+use Rattle.aos_kernel.specs.declared.desk.Stand.{Stand}
+use Rattle.aos_kernel.specs.declared.desk.Next.{Next}
+use Rattle.aos_kernel.specs.declared.desk.Next.TheVariants.{Runs, WillTrap, Unwinds, Gone}
+use Rattle.aos_kernel.specs.declared.desk.Activity.{Activity}
+use Rattle.aos_kernel.specs.declared.desk.Desk.{Desk}
+use Rattle.aos_kernel.specs.Cpu.{frames_in, memory_in, Alike}
+use Rattle.aos_kernel.specs.Run.{rec_of}
+
+abbrev pub place_in : Place → book.Place
+place_in (On w) = book.On w
+place_in (Ready p) = book.Ready p
+
+abbrev pub stand_in : Stand → book.Stand
+stand_in s = record { activity = s.activity; place = place_in s.place }
+
+abbrev pub line_in : List Stand → List book.Stand
+line_in line = map stand_in line
+
+-- no activity owns a lock yet, so none is to be released
+abbrev pub next_in : Next → book.Next
+next_in Runs = book.Runs
+next_in (WillTrap n) = book.WillTrap n
+next_in Unwinds = book.Unwinds []
+next_in Gone = book.Gone
+
+-- an activity with its frames, up to silent work
+pub record ShowsActivity (image : Image) (kept : Activity) (a : book.Activity) (fs : Frames) : Type 0 where
+  pub priority : a.priority ≡ kept.priority
+  pub begun : a.begun ≡ kept.begun
+  pub next : a.next ≡ next_in kept.next
+  pub alike : Alike image fs (frames_in kept.frames.items)
+
+-- each stand is of one of so many activities
+abbrev pub IsKnown : ℕ → List book.Stand → Type 0
+IsKnown n [] = Unit {0}
+IsKnown n (s ∷ line) = (s.activity < n) × IsKnown n line
+
+-- `earlier` are the events before those that the desk keeps
+pub record Shows (image : Image) (earlier : List Event) (d : Desk) (st : State Memory Frames) : Type 0 where
+  pub store : st.store ≡ memory_in d.memory.items
+  pub line : st.book.line ≡ line_in d.line.items
+  pub output : st.book.output ≡ d.output.items
+  pub traps : map rec_of st.book.traps ≡ d.traps.items
+  pub events : st.book.events ≡ earlier ++ d.events.items
+  pub budget : st.book.budget ≡ d.budget
+  pub spent : st.book.spent ≡ d.spent
+  pub started : st.book.started ≡ length d.activities.items
+  pub known : IsKnown st.book.started st.book.line
+  pub activities : (x : ℕ) (kept : Activity) → slice_get d.activities.items x ≡ Some kept → ShowsActivity image kept (st.book.activity x) (st.frames x)
+  pub unspent : (x : ℕ) → st.book.spent ≡ None → (st.book.activity x).begun < st.book.budget
+
+-- from each state that the old desk shows, the new one shows what the operation on an activity makes of it
+abbrev pub Performs : Image → ℕ → (State Memory Frames → State Memory Frames) → Desk → Desk → Type 0
+Performs image a operation old new =
+    (earlier : List Event) (st : State Memory Frames) → Shows image earlier old st → a < st.book.started → Shows image earlier new (operation st)
+
+-- the same, where the budget hasn't been reached
+abbrev pub PerformsUnspent : Image → ℕ → (State Memory Frames → State Memory Frames) → Desk → Desk → Type 0
+PerformsUnspent image a operation old new =
+    (earlier : List Event) (st : State Memory Frames) → Shows image earlier old st → a < st.book.started → st.book.spent ≡ None → Shows image earlier new (operation st)
+
+-- it shows the same states
+abbrev pub ShowsSame : Image → Desk → Desk → Type 0
+ShowsSame image old new = (earlier : List Event) (st : State Memory Frames) → Shows image earlier old st → Shows image earlier new st
+
+-- the activity's own part of a turn has been done, and this is left to the kernel
+abbrev pub HasTurned : Image → ℕ → Did → Desk → Desk → Type 0
+HasTurned image a left old new =
+    (earlier : List Event) (st : State Memory Frames) → Shows image earlier old st → a < st.book.started → st.book.spent ≡ None →
+    let t = turn image st.store (st.frames a) in
+    (left ≡ t.left) × Shows image earlier new (turned (machine image) a t st)
+
+-- work that instructions leave to the kernel
+abbrev pub IsServed : Did → Type 0
+IsServed Went = Unit {0}
+IsServed Ended = Unit {0}
+IsServed (Enter l) = ⊥
+IsServed (Leave l) = ⊥
+IsServed (Await l c) = ⊥
+IsServed (Start o) = ⊥
+IsServed (Trapped n c) = Unit {0}
+
+-- there is room for the record of a trap and for an event
+pub record HasRoom (d : Desk) : Type 0 where
+  pub traps : vec_len d.traps < vec_capacity d.traps
+  pub events : vec_len d.events < vec_capacity d.events
+
+-- the desk has handed out its events
+abbrev pub HandsOut : Desk → Desk → Type 0
+HandsOut old new = (new.events.items ≡ []) × (new ≡ record old { events = new.events })

@@ -1,0 +1,551 @@
+// One turn of an activity: the silent work of its topmost frame, and the visible work that follows.
+ghost use Rattle.std.specs.Prelude.{◌≡◌, ℕ, ◌+◌, ◌<◌, ◌≤◌, ◌^◌, ◌+ℤ◌, ◌-ℤ◌, ℤ, ◌++◌, ◌∷◌, List, false, length, reverse, drop, slice_get, vec_len, vec_capacity, IfOk, OnErr};
+ghost use Rattle.std.specs.Option.{option_map};
+ghost use Rattle.aos_base.specs.Number.{if_within, holds, right_justified};
+ghost use Rattle.aos_base.specs.Question.{Reads, PutsInt};
+ghost use Rattle.aos_code.specs.Memory.{Memory, load as load_of, store as store_of};
+ghost use Rattle.aos_code.specs.Silent.{Stack, Act as ActOf, Sees, on_number, on_numbers, on_place, or_overflow, gives, flag, stores, jumps, jumps_on_false, act, silent};
+ghost use Rattle.aos_code.specs.Machine.{Frames, behind, code_of as code_at, home_of as home_at, position as position_at, position_or, answer as answer_of, turn as turn_of};
+ghost use Rattle.aos_kernel.specs.Cpu.{frame_in, frames_in, memory_in, operands_in, question_in, act_in, stop_in, addr_in, where_in, IsStopWithin, IsBeginOf, IsStay, IsJump, WhereStays, WhereWork, number_in, place_in, or_lost, Alike, IsAnswered, IsTurned, operands_of};
+
+use aos_base::{Did, NoMemory, Pos, Relation, Width, add, related, sub};
+use aos_code::{Cell, Image, Instr, Kind, Root};
+use itoa::Buffer;
+
+/// The most bytes that one turn writes.
+pub const MAX_BYTES: usize = 300;
+
+/// A frame: its procedure, the place of the next instruction, the statement last begun, and the operands, the topmost
+/// last.
+#[derive(Drop)]
+pub struct Frame {
+    pub procedure: u32,
+    pub next: usize,
+    pub at: Option<Pos>,
+    pub stack: Vec<Cell>,
+}
+
+/// Visible work that has an answer.
+#[derive(Clone, Copy)]
+pub enum Question {
+    Reads(Root, u32),
+    Stores(Root, u32, Cell),
+    PutsInt(i64, i64),
+    PutsLn,
+}
+
+/// Where silent work ends: at a question, at the end of the frame or at a Begin, with its place, or with a trap. The
+/// question's operands lie on the stack still.
+#[derive(Clone, Copy)]
+pub enum Stop {
+    Work(Question, usize),
+    Ends(usize),
+    Begins(usize, Pos),
+    Fails(u8, u8),
+}
+
+/// What one instruction does: silent work after which so many instructions are passed over, or where that ends.
+#[derive(Clone, Copy)]
+pub enum Act {
+    Goes(usize),
+    Sees(Question),
+    Ends,
+    Begins(usize, Pos),
+    Fails(u8, u8),
+}
+
+/// A turn, up to the kernel's part: whether a statement was begun, and what is left to the kernel.
+#[derive(Clone, Copy)]
+pub struct Turned {
+    pub begun: bool,
+    pub left: Did,
+}
+
+/// Code that finds another operand than it takes, or runs past its end.
+const LOST: Act = Act::Fails(16, 0);
+
+// The operands -------------------------------------------------------------------------
+
+/// The operand that lies so deep.
+fn operand(stack: &[Cell], depth: usize) -> Option<Cell>
+    ensures { result ≡ slice_get (reverse stack.now) depth }
+{
+    if depth < stack.len() {
+        Some(stack[stack.len() - 1 - depth])
+    } else {
+        None
+    }
+}
+
+/// The number that lies so deep.
+fn number(stack: &[Cell], depth: usize) -> Option<i64>
+    ensures { result ≡ number_in (slice_get (reverse stack.now) depth) }
+{
+    match operand(stack, depth) {
+        Some(Cell::Num(a)) => Some(a),
+        _ => None,
+    }
+}
+
+/// The two topmost numbers, the topmost second.
+fn numbers(stack: &[Cell]) -> Option<(i64, i64)>
+    ensures { (k : ℤ → ℤ → Stack → ActOf) → on_numbers k (reverse stack.now) ≡
+        or_lost result (λ p. k p.0 p.1 (drop 2 (reverse stack.now))) }
+{
+    let b = number(stack, 0)?;
+    let a = number(stack, 1)?;
+    Some((a, b))
+}
+
+/// The place that lies so deep.
+fn place(stack: &[Cell], depth: usize) -> Option<(Root, u32)>
+    ensures { option_map addr_in result ≡ place_in (slice_get (reverse stack.now) depth) }
+{
+    match operand(stack, depth) {
+        Some(Cell::Place(root, cell, _)) => Some((root, cell)),
+        _ => None,
+    }
+}
+
+/// One operand in place of the topmost ones.
+fn replace(stack: &mut Vec<Cell>, taken: usize, cell: Cell)
+    requires { vec_len stack.old < vec_capacity stack.old }
+    ensures { operands_in stack.new ≡ cell ∷ drop taken (operands_in stack.old) }
+{
+    stack.truncate(stack.len().saturating_sub(taken));
+    stack.push_reserved(cell);
+}
+
+/// Takes so many operands.
+fn take(stack: &mut Vec<Cell>, taken: usize)
+    ensures { operands_in stack.new ≡ drop taken (operands_in stack.old) }
+{
+    stack.truncate(stack.len().saturating_sub(taken));
+}
+
+// What one instruction does ----------------------------------------------------------------
+
+/// A result in place of two numbers, or trap 5 where it is outside its width.
+fn result_of(stack: &mut Vec<Cell>, value: Option<i64>) -> Act
+    requires { vec_len stack.old < vec_capacity stack.old }
+    ensures kept { WhereStays result (stack.new ≡ stack.old) }
+    ensures act { act_in result (operands_in stack.new) ≡
+        or_overflow value (drop 2 (operands_in stack.old)) }
+{
+    match value {
+        None => Act::Fails(5, 0),
+        Some(z) => {
+            replace(stack, 2, Cell::Num(z));
+            Act::Goes(0)
+        }
+    }
+}
+
+fn add_numbers(w: Width, stack: &mut Vec<Cell>) -> Act
+    requires { vec_len stack.old < vec_capacity stack.old }
+    ensures kept { WhereStays result (stack.new ≡ stack.old) }
+    ensures act { act_in result (operands_in stack.new) ≡
+        on_numbers (λ a b s. or_overflow (if_within w (a +ℤ b)) s) (operands_in stack.old) }
+{
+    match numbers(stack) {
+        None => LOST,
+        Some((a, b)) => result_of(stack, add(w, a, b)),
+    }
+}
+
+fn subtract_numbers(w: Width, stack: &mut Vec<Cell>) -> Act
+    requires { vec_len stack.old < vec_capacity stack.old }
+    ensures kept { WhereStays result (stack.new ≡ stack.old) }
+    ensures act { act_in result (operands_in stack.new) ≡
+        on_numbers (λ a b s. or_overflow (if_within w (a -ℤ b)) s) (operands_in stack.old) }
+{
+    match numbers(stack) {
+        None => LOST,
+        Some((a, b)) => result_of(stack, sub(w, a, b)),
+    }
+}
+
+/// TRUE is 1 and FALSE is 0.
+fn truth(b: bool) -> i64
+    ensures { result ≡ flag b }
+{
+    if b { 1 } else { 0 }
+}
+
+fn compare(relation: Relation, stack: &mut Vec<Cell>) -> Act
+    requires { vec_len stack.old < vec_capacity stack.old }
+    ensures kept { WhereStays result (stack.new ≡ stack.old) }
+    ensures act { act_in result (operands_in stack.new) ≡
+        on_numbers (λ a b s. gives (Cell.Num (flag (holds relation a b))) s) (operands_in stack.old) }
+{
+    match numbers(stack) {
+        None => LOST,
+        Some((a, b)) => {
+            replace(stack, 2, Cell::Num(truth(related(relation, a, b))));
+            Act::Goes(0)
+        }
+    }
+}
+
+fn give(stack: &mut Vec<Cell>, cell: Cell) -> Act
+    requires { vec_len stack.old < vec_capacity stack.old }
+    ensures { act_in result (operands_in stack.new) ≡ gives cell (operands_in stack.old) }
+{
+    stack.push_reserved(cell);
+    Act::Goes(0)
+}
+
+/// A jump back comes to a Begin.
+fn jump(code: &[Instr], to: usize, at: usize) -> Act
+    requires { at < length code.now }
+    ensures act { (s : Stack) → act_in result s ≡ jumps code.now to at s }
+    ensures jumps { IsJump result }
+    ensures begins { IsBeginOf code.now result }
+{
+    if at < to {
+        return Act::Goes(to - (at + 1));
+    }
+    match code.get(to).copied() {
+        Some(Instr::Begin(line, col)) => Act::Begins(to, Pos { line, col }),
+        _ => LOST,
+    }
+}
+
+fn jump_on_false(code: &[Instr], to: usize, at: usize, stack: &mut Vec<Cell>) -> Act
+    requires { at < length code.now }
+    ensures kept { WhereStays result (stack.new ≡ stack.old) }
+    ensures act { act_in result (operands_in stack.new) ≡
+        on_number (λ a s. jumps_on_false code.now to at a s) (operands_in stack.old) }
+    ensures begins { IsBeginOf code.now result }
+{
+    match number(stack, 0) {
+        Some(0) => match jump(code, to, at) {
+            Act::Goes(over) => {
+                take(stack, 1);
+                Act::Goes(over)
+            }
+            Act::Begins(to, pos) => {
+                take(stack, 1);
+                Act::Begins(to, pos)
+            }
+            Act::Fails(n, c) => Act::Fails(n, c),
+            Act::Sees(_) | Act::Ends => LOST,
+        },
+        Some(1) => {
+            take(stack, 1);
+            Act::Goes(0)
+        }
+        _ => LOST,
+    }
+}
+
+fn ask_read(stack: &[Cell]) -> Act
+    ensures act { act_in result (reverse stack.now) ≡
+        on_place (λ p s. Sees (Reads p) s) (reverse stack.now) }
+    ensures stays { IsStay result }
+{
+    match place(stack, 0) {
+        None => LOST,
+        Some((root, cell)) => Act::Sees(Question::Reads(root, cell)),
+    }
+}
+
+fn ask_store(stack: &[Cell]) -> Act
+    ensures act { act_in result (reverse stack.now) ≡ stores Kind.N (reverse stack.now) }
+    ensures stays { IsStay result }
+{
+    match number(stack, 0) {
+        None => LOST,
+        Some(v) => match place(stack, 1) {
+            None => LOST,
+            Some((root, cell)) => Act::Sees(Question::Stores(root, cell, Cell::Num(v))),
+        },
+    }
+}
+
+fn ask_int(stack: &[Cell]) -> Act
+    ensures act { act_in result (reverse stack.now) ≡
+        on_numbers (λ a n s. Sees (PutsInt (Cell.Num a) (Cell.Num n)) s) (reverse stack.now) }
+    ensures stays { IsStay result }
+{
+    match numbers(stack) {
+        None => LOST,
+        Some((a, n)) => Act::Sees(Question::PutsInt(a, n)),
+    }
+}
+
+/// What the instruction at this place of the code does. It takes no operand of a question, or before a trap.
+fn act_on(instr: Instr, code: &[Instr], at: usize, stack: &mut Vec<Cell>) -> Act
+    requires place { slice_get code.now at ≡ Some instr }
+    requires room { vec_len stack.old < vec_capacity stack.old }
+    ensures kept { WhereStays result (stack.new ≡ stack.old) }
+    ensures act { act_in result (operands_in stack.new) ≡
+        act instr code.now at (operands_in stack.old) }
+    ensures begins { IsBeginOf code.now result }
+{
+    match instr {
+        Instr::Num(n) => give(stack, Cell::Num(n)),
+        Instr::Module(m, c) => give(stack, Cell::Place(Root::Module(m), c, 0)),
+        Instr::Add(w) => add_numbers(w, stack),
+        Instr::Sub(w) => subtract_numbers(w, stack),
+        Instr::Cmp(relation) => compare(relation, stack),
+        Instr::Jump(to) => jump(code, to, at),
+        Instr::JumpFalse(to) => jump_on_false(code, to, at, stack),
+        Instr::Begin(line, col) => Act::Begins(at, Pos { line, col }),
+        Instr::Load(_) => ask_read(stack),
+        Instr::Store(Kind::N) => ask_store(stack),
+        Instr::Return => Act::Ends,
+        Instr::OutInt => ask_int(stack),
+        Instr::OutLn => Act::Sees(Question::PutsLn),
+    }
+}
+
+/// Silent work from a place of the code to where it ends. Where memory runs out, some of it has been done.
+fn silent_from(code: &[Instr], next: &mut usize, stack: &mut Vec<Cell>) -> Result<Stop, NoMemory>
+    ensures stop { IfOk result (λ stop. stop_in stop (operands_in stack.new) ≡
+        silent code.now next.old (operands_in stack.old)) }
+    ensures alike { silent code.now next.new (operands_in stack.new) ≡
+        silent code.now next.old (operands_in stack.old) }
+    ensures within { IfOk result (λ stop. IsStopWithin (length code.now) stop) }
+    ensures room { IfOk result (λ stop. WhereWork stop (vec_len stack.new < vec_capacity stack.new)) }
+{
+    while *next < code.len() {
+        let at = *next;
+        stack.reserve(1)?;
+        match act_on(code[at], code, at, stack) {
+            Act::Goes(over) => *next = (at + 1).saturating_add(over),
+            Act::Sees(question) => return Ok(Stop::Work(question, at)),
+            Act::Ends => return Ok(Stop::Ends(at)),
+            Act::Begins(to, pos) => {
+                *next = to;
+                return Ok(Stop::Begins(to, pos));
+            }
+            Act::Fails(number, code) => return Ok(Stop::Fails(number, code)),
+        }
+    }
+    Ok(Stop::Fails(16, 0))
+}
+
+// Visible work -----------------------------------------------------------------------------
+
+/// What a cell holds, where there is such a cell.
+fn load(memory: &[Vec<Cell>], root: Root, cell: u32) -> Option<Cell>
+    ensures { result ≡ load_of (record { root = root; cell = cell }) (memory_in memory.now) }
+{
+    let Root::Module(m) = root;
+    let cells = memory.get(m as usize)?;
+    cells.get(cell as usize).copied()
+}
+
+/// The module whose cells a root has.
+fn module_of(root: Root) -> u32
+    ensures { root ≡ Root.Module result }
+{
+    let Root::Module(m) = root;
+    m
+}
+
+/// Sets a cell, where there is such a cell.
+fn store(memory: &mut Vec<Vec<Cell>>, root: Root, cell: u32, value: Cell)
+    ensures { memory_in memory.new.items ≡
+        store_of (record { root = root; cell = cell }) value (memory_in memory.old.items) }
+{
+    let m = module_of(root);
+    if let Some(cells) = memory.get_mut(m as usize) {
+        if let Some(place) = cells.get_mut(cell as usize) {
+            *place = value;
+        }
+    }
+}
+
+/// A number in decimal, right-justified.
+fn write_right(output: &mut Vec<u8>, number: i64, places: usize)
+    requires places { places ≤ 255 }
+    requires room { vec_len output.old + MAX_BYTES ≤ vec_capacity output.old }
+    ensures { output.new.items ≡ output.old.items ++ right_justified number places }
+{
+    let mut buffer = Buffer::new();
+    let digits = buffer.format(number).as_bytes();
+    for _ in digits.len()..places {
+        output.push_reserved(b' ');
+    }
+    for digit in digits {
+        output.push_reserved(*digit);
+    }
+}
+
+/// The frame goes on behind the instruction at this place, with so many operands fewer.
+fn go_behind(frame: &mut Frame, at: usize, taken: usize)
+    requires { at + 1 < 2 ^ 64 }
+    ensures { frame_in frame.new ≡
+        behind at (drop taken (reverse frame.old.stack.items)) (frame_in frame.old) }
+{
+    take(&mut frame.stack, taken);
+    frame.next = at + 1;
+}
+
+fn read(memory: &[Vec<Cell>], root: Root, cell: u32, at: usize, frame: &mut Frame) -> Did
+    requires place { at + 1 < 2 ^ 64 }
+    requires room { vec_len frame.old.stack < vec_capacity frame.old.stack }
+    ensures { (out : List ℕ) → let memory_is = memory_in memory.now in
+        IsAnswered (Reads (record { root = root; cell = cell })) at 1 frame.old frame.new memory_is memory_is result out out }
+{
+    match load(memory, root, cell) {
+        None => Did::Trapped(16, 0),
+        Some(value) => {
+            replace(&mut frame.stack, 1, value);
+            frame.next = at + 1;
+            Did::Went
+        }
+    }
+}
+
+fn put_int(output: &mut Vec<u8>, a: i64, places: i64, at: usize, frame: &mut Frame) -> Did
+    requires place { at + 1 < 2 ^ 64 }
+    requires room { vec_len output.old + MAX_BYTES ≤ vec_capacity output.old }
+    ensures { (mem : Memory) → IsAnswered (PutsInt (Cell.Num a) (Cell.Num places)) at 2 frame.old frame.new mem mem result
+        output.old.items output.new.items }
+{
+    if places < 0 || places > 255 {
+        return Did::Trapped(14, 0);
+    }
+    write_right(output, a, places as usize);
+    go_behind(frame, at, 2);
+    Did::Went
+}
+
+/// The question of the instruction at this place, whose operands lie on the stack, is answered.
+fn answer(
+    question: Question,
+    at: usize,
+    frame: &mut Frame,
+    memory: &mut Vec<Vec<Cell>>,
+    output: &mut Vec<u8>,
+) -> Did
+    requires place { at + 1 < 2 ^ 64 }
+    requires stack_room { vec_len frame.old.stack < vec_capacity frame.old.stack }
+    requires room { vec_len output.old + MAX_BYTES ≤ vec_capacity output.old }
+    ensures { IsAnswered (question_in question) at (operands_of question) frame.old frame.new (memory_in memory.old.items)
+        (memory_in memory.new.items) result output.old.items output.new.items }
+{
+    match question {
+        Question::Reads(root, cell) => read(memory, root, cell, at, frame),
+        Question::Stores(root, cell, value) => {
+            store(memory, root, cell, value);
+            go_behind(frame, at, 2);
+            Did::Went
+        }
+        Question::PutsInt(a, places) => put_int(output, a, places, at, frame),
+        Question::PutsLn => {
+            output.push_reserved(b'\n');
+            go_behind(frame, at, 0);
+            Did::Went
+        }
+    }
+}
+
+// The image ----------------------------------------------------------------------------------
+
+/// The code of a procedure.
+fn code_of(image: &Image, procedure: u32) -> &[Instr]
+    ensures { result.now ≡ code_at image.now procedure }
+{
+    match image.bodies.get(procedure.saturating_sub(1) as usize) {
+        Some(body) => &body.code,
+        None => &[],
+    }
+}
+
+/// The number of the module in which a procedure stands.
+fn home_of(image: &Image, procedure: u32) -> u32
+    ensures { result ≡ home_at image.now procedure }
+{
+    match image.shapes.get(procedure.saturating_sub(1) as usize) {
+        Some(shape) => shape.module,
+        None => 0,
+    }
+}
+
+/// The topmost frame's module, and no place in it.
+fn top_home(image: &Image, frames: &[Frame]) -> (u32, Pos)
+    ensures { position_at image.now (frames_in frames.now) ≡
+        position_or image.now (where_in result) (frames_in frames.now) }
+{
+    match frames.last() {
+        None => (0, Pos { line: 0, col: 0 }),
+        Some(frame) => (home_of(image, frame.procedure), Pos { line: 0, col: 0 }),
+    }
+}
+
+/// Where the topmost frame that has begun a statement stands: the module's number, and the place.
+pub fn position(image: &Image, frames: &[Frame]) -> (u32, Pos)
+    ensures { (fs : Frames) → Alike image.now fs (frames_in frames.now) → position_at image.now fs ≡
+        where_in result }
+{
+    let mut found = top_home(image, frames);
+    for frame in frames {
+        if let Some(pos) = frame.at {
+            found = (home_of(image, frame.procedure), pos);
+        }
+    }
+    found
+}
+
+// The turn -------------------------------------------------------------------------------------
+
+/// One turn, up to the kernel's part. Where memory runs out, only silent work has been done.
+pub fn turn(
+    image: &Image,
+    frames: &mut Vec<Frame>,
+    memory: &mut Vec<Vec<Cell>>,
+    output: &mut Vec<u8>,
+) -> Result<Turned, NoMemory>
+    requires { vec_len output.old + MAX_BYTES ≤ vec_capacity output.old }
+    ensures ok { IfOk result (λ t. IsTurned image.now t.begun t.left frames.old.items frames.new.items (memory_in memory.old.items)
+        (memory_in memory.new.items) output.old.items output.new.items) }
+    ensures err { OnErr result (Alike image.now (frames_in frames.old.items) (frames_in frames.new.items)) }
+    ensures memory { OnErr result (memory.new ≡ memory.old) }
+    ensures output { OnErr result (output.new ≡ output.old) }
+{
+    let Some(mut frame) = frames.pop() else {
+        return Ok(Turned {
+            begun: false,
+            left: Did::Ended,
+        });
+    };
+    match silent_from(
+        code_of(image, frame.procedure),
+        &mut frame.next,
+        &mut frame.stack,
+    ) {
+        Err(no_memory) => {
+            frames.push_reserved(frame);
+            Err(no_memory)
+        }
+        Ok(Stop::Ends(_)) => Ok(Turned {
+            begun: false,
+            left: Did::Went,
+        }),
+        Ok(Stop::Work(question, at)) => {
+            let left = answer(question, at, &mut frame, memory, output);
+            frames.push_reserved(frame);
+            Ok(Turned { begun: false, left })
+        }
+        Ok(Stop::Begins(at, pos)) => {
+            frame.next = at + 1;
+            frame.at = Some(pos);
+            frames.push_reserved(frame);
+            Ok(Turned {
+                begun: true,
+                left: Did::Went,
+            })
+        }
+        Ok(Stop::Fails(number, code)) => {
+            frames.push_reserved(frame);
+            Ok(Turned {
+                begun: false,
+                left: Did::Trapped(number, code),
+            })
+        }
+    }
+}

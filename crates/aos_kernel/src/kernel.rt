@@ -1,0 +1,349 @@
+// The kernel over an image, seen as its log.
+ghost use Rattle.std.specs.Prelude.{◌≡◌, ◌<◌, ◌≤◌, [], IfOk, OnErr, All};
+ghost use Rattle.std.specs.Arc.{arc_value};
+ghost use Rattle.aos_base.specs.Book.{outcome};
+ghost use Rattle.aos_base.specs.Machine.{Step, Tick, happens};
+ghost use Rattle.aos_code.specs.Machine.{machine, first_memory, first_frames, first_state};
+ghost use Rattle.aos_kernel.specs.Cpu.{memory_in, frames_in};
+ghost use Rattle.aos_kernel.specs.Log.{IsEntry};
+ghost use Rattle.aos_kernel.specs.Shows.{Shows, HandsOut};
+ghost use Rattle.aos_kernel.specs.Run.{state_of, events_of, traps_of, spent_of, comes_to, after_step, ticks, after_tick};
+
+use crate::cpu::Frame;
+use crate::desk::{Activity, Desk, Next, Place, Stand};
+use crate::log::{Sched, Stepped, add_step};
+use aos_base::{Event, NoMemory, Outcome};
+use aos_code::{Cell, Image, TrapRec};
+use std::alloc::Global;
+use std::marker::Model;
+use std::mem;
+use std::sync::Arc;
+
+/// The most workers of a kernel.
+pub const MAX_WORKERS: u32 = 16;
+
+/// The largest budget: the number of statements that stops an activity.
+pub const MAX_BUDGET: u64 = 1_000_000_000;
+
+/// A kernel that runs an image. Clauses see its image, the number of its workers, its budget and its log, and
+/// everything else about it is a function of these: it is the image's execution under the log.
+#[derive(Drop)]
+pub struct Kernel {
+    image: Arc<Image>,
+    workers: u32,
+    budget: u64,
+    desk: Desk,
+    events: Vec<Event>,
+    log: Vec<Sched>,
+}
+
+impl Model for Kernel {
+    ghost use Rattle.std.specs.Arc.{arc_value};
+    ghost use Rattle.aos_kernel.specs.Run.{Run};
+    ghost use Rattle.aos_kernel.specs.Keeps.{Keeps};
+
+    ghost Value = { Run };
+
+    ghost view = { λ k. record { image = arc_value k.image; workers = k.workers; budget = k.budget; log = k.log.items } };
+
+    ghost invariant = { λ k. Keeps (record { image = arc_value k.image; workers = k.workers; budget = k.budget; log = k.log.items })
+        k.desk k.events.items };
+}
+
+/// What the cells of the modules hold at first.
+fn first_cells(alloc: Global, image: &Image) -> Result<Vec<Vec<Cell>>, NoMemory>
+    ensures { IfOk result (λ cells. memory_in cells.items ≡ first_memory image.now) }
+{
+    let mut memory = Vec::new(alloc);
+    for module in &image.modules {
+        let cells = Vec::from_slice(alloc, &module.cells)?;
+        memory.reserve(1)?;
+        memory.push_reserved(cells);
+    }
+    Ok(memory)
+}
+
+/// The frames with which activity 0 begins: those of the modules' bodies, the first module's topmost.
+fn first_bodies(alloc: Global, image: &Image) -> Result<Vec<Frame>, NoMemory>
+    ensures { IfOk result (λ frames. frames_in frames.items ≡ first_frames image.now) }
+{
+    let mut frames = Vec::new(alloc);
+    for module in &image.modules {
+        frames.reserve(1)?;
+        frames.push_reserved(Frame {
+            procedure: module.body,
+            next: 0,
+            at: None,
+            stack: Vec::new(alloc),
+        });
+    }
+    frames.reverse();
+    Ok(frames)
+}
+
+/// The desk where nothing has happened yet.
+fn first_desk(alloc: Global, image: &Image, budget: u64) -> Result<Desk, NoMemory>
+    requires { 1 ≤ budget }
+    ensures { IfOk result (λ desk. Shows image.now [] desk (first_state image.now budget)) }
+{
+    let memory = first_cells(alloc, image)?;
+    let frames = first_bodies(alloc, image)?;
+    let first = Activity {
+        priority: 2,
+        begun: 0,
+        next: Next::Runs,
+        frames,
+    };
+    let mut activities = Vec::new(alloc);
+    activities.reserve(1)?;
+    activities.push_reserved(first);
+    let mut line = Vec::new(alloc);
+    line.reserve(1)?;
+    line.push_reserved(Stand {
+        activity: 0,
+        place: Place::Ready(2),
+    });
+    Ok(Desk {
+        memory,
+        activities,
+        line,
+        output: Vec::new(alloc),
+        traps: Vec::new(alloc),
+        events: Vec::new(alloc),
+        budget,
+        spent: None,
+    })
+}
+
+/// The events that the desk has told are handed out, in place of the earlier ones.
+fn hand_out(events: &mut Vec<Event>, desk: &mut Desk)
+    ensures events { events.new.items ≡ desk.old.events.items }
+    ensures desk { HandsOut desk.old desk.new }
+{
+    mem::swap(events, &mut desk.events);
+    desk.events.clear();
+}
+
+impl Kernel {
+    /// A kernel in which nothing has happened yet: activity 0, which runs the modules' bodies, is ready.
+    /// It has 1 to 16 workers, and a budget of 1 to 10^9 statements for each activity. NoMemory where memory runs out.
+    pub fn new(
+        alloc: Global,
+        image: Arc<Image>,
+        workers: u32,
+        budget: u64,
+    ) -> Result<Box<Kernel>, NoMemory>
+        requires workers { (1 ≤ workers) × (workers ≤ MAX_WORKERS) }
+        requires budget { (1 ≤ budget) × (budget ≤ MAX_BUDGET) }
+        ensures { IfOk result (λ k. k.value ≡
+            record { image = arc_value image; workers = workers; budget = budget; log = [] }) }
+    {
+        let desk = first_desk(alloc, &image, budget)?;
+        let kernel = Kernel {
+            image,
+            workers,
+            budget,
+            desk,
+            events: Vec::new(alloc),
+            log: Vec::new(alloc),
+        };
+        match Box::new(alloc, kernel) {
+            Ok(kernel) => Ok(kernel),
+            Err(_) => Err(NoMemory),
+        }
+    }
+
+    /// The number of its workers, 1 to 16.
+    pub fn workers(&self) -> u32
+        ensures workers { result ≡ self.now.workers }
+        ensures range { (1 ≤ result) × (result ≤ MAX_WORKERS) }
+    {
+        self.workers
+    }
+
+    /// The number of statements that stops an activity, 1 to 10^9.
+    pub fn budget(&self) -> u64
+        ensures budget { result ≡ self.now.budget }
+        ensures range { (1 ≤ result) × (result ≤ MAX_BUDGET) }
+    {
+        self.budget
+    }
+
+    /// The image that it runs.
+    pub fn image(&self) -> &Arc<Image>
+        ensures { arc_value result.now ≡ self.now.image }
+    {
+        &self.image
+    }
+
+    /// Its log: the steps that were turns or dispatches, and the ticks that took an activity from its worker.
+    pub fn log(&self) -> &[Sched]
+        ensures log { result.now ≡ self.now.log }
+        ensures entries { All (IsEntry self.now.workers) result.now }
+    {
+        &self.log
+    }
+
+    /// How far the execution is.
+    pub fn outcome(&self) -> Outcome
+        ensures { result ≡ outcome (state_of self.now).book }
+    {
+        self.desk.outcome()
+    }
+
+    /// What the execution has written.
+    pub fn output(&self) -> &[u8]
+        ensures { result.now ≡ (state_of self.now).book.output }
+    {
+        &self.desk.output
+    }
+
+    /// The traps that have happened, in their order.
+    pub fn traps(&self) -> &[TrapRec]
+        ensures { result.now ≡ traps_of self.now }
+    {
+        &self.desk.traps
+    }
+
+    /// The events of the last step or tick of the log, in their order; none where the log is empty.
+    pub fn events(&self) -> &[Event]
+        ensures { result.now ≡ events_of self.now }
+    {
+        &self.events
+    }
+
+    /// The activity that has begun as many statements as the budget, where the outcome is Spent.
+    pub fn spent(&self) -> Option<u32>
+        ensures { result ≡ spent_of self.now }
+    {
+        if let Outcome::Spent = self.desk.outcome() {
+            self.desk.spent
+        } else {
+            None
+        }
+    }
+
+    /// A step of a worker, below the number of workers: a turn of its activity, or else the dispatch of the first ready
+    /// activity of the highest priority (Muller 2002, the scheduler of the Active Object System). Where it is Idle or
+    /// Over, nothing changes. NoMemory where memory runs out, and then the kernel is as it was.
+    pub fn step(&mut self, w: u32) -> Result<Stepped, NoMemory>
+        requires { w < self.old.workers }
+        ensures stepped { IfOk result (λ stepped. stepped ≡ comes_to w self.old) }
+        ensures log { IfOk result (λ stepped. self.new ≡ after_step stepped w self.old) }
+        ensures same { self.new ≡ record self.old { log = self.new.log } }
+        ensures state { IfOk result (λ _. state_of self.new ≡ happens (machine self.old.image) (Step w) (state_of self.old)) }
+        ensures err { OnErr result (self.new ≡ self.old) }
+    {
+        let Outcome::Going = self.desk.outcome() else {
+            return Ok(Stepped::Over);
+        };
+        match self.desk.on(w) {
+            Some(activity) => {
+                self.log.reserve(1)?;
+                self.desk.turn(&self.image, activity)?;
+                hand_out(&mut self.events, &mut self.desk);
+                add_step(&mut self.log, w);
+                Ok(Stepped::Turned)
+            }
+            None => match self.desk.first_ready() {
+                Some(activity) => {
+                    self.log.reserve(1)?;
+                    self.desk.dispatch(activity, w)?;
+                    hand_out(&mut self.events, &mut self.desk);
+                    add_step(&mut self.log, w);
+                    Ok(Stepped::Dispatched)
+                }
+                None => Ok(Stepped::Idle),
+            },
+        }
+    }
+
+    /// A tick of a worker, below the number of workers: its activity becomes ready, behind those of its priority. False
+    /// where it has none or the outcome isn't Going, and then nothing changes. NoMemory where memory runs out, and then
+    /// the kernel is as it was.
+    pub fn tick(&mut self, w: u32) -> Result<bool, NoMemory>
+        requires { w < self.old.workers }
+        ensures ticked { IfOk result (λ ticked. ticked ≡ ticks w self.old) }
+        ensures log { IfOk result (λ ticked. self.new ≡ after_tick ticked w self.old) }
+        ensures same { self.new ≡ record self.old { log = self.new.log } }
+        ensures state { IfOk result (λ _. state_of self.new ≡ happens (machine self.old.image) (Tick w) (state_of self.old)) }
+        ensures err { OnErr result (self.new ≡ self.old) }
+    {
+        let Outcome::Going = self.desk.outcome() else {
+            return Ok(false);
+        };
+        match self.desk.on(w) {
+            Some(activity) => {
+                self.log.reserve(1)?;
+                self.desk.ready(activity)?;
+                hand_out(&mut self.events, &mut self.desk);
+                self.log.push_reserved(Sched::Tick(w));
+                Ok(true)
+            }
+            None => Ok(false),
+        }
+    }
+}
+
+#[cfg(test)]
+mod tests {
+    use super::*;
+    use aos_code::{Body, Instr, ModuleDesc, ProcShape};
+    use std::alloc::AllocError;
+    use std::test::Fail;
+
+    /// One module, whose body writes 7 in three places and ends the line.
+    fn sample(alloc: Global) -> Result<Image, AllocError> {
+        let code = vec![in alloc;
+            Instr::Begin(1, 1),
+            Instr::Num(7),
+            Instr::Num(3),
+            Instr::OutInt,
+            Instr::Begin(2, 1),
+            Instr::OutLn,
+            Instr::Return,
+        ]?;
+        let module = ModuleDesc {
+            name: String::from_str(alloc, "M")?,
+            cells: Vec::new(alloc),
+            body: 1,
+        };
+        Ok(Image {
+            modules: vec![in alloc; module]?,
+            shapes: vec![in alloc; ProcShape { module: 0 }]?,
+            bodies: vec![in alloc; Body { code }]?,
+        })
+    }
+
+    #[test]
+    fn runs_to_its_end(rt: HostRuntime) -> Result<(), Fail> {
+        let alloc = rt.alloc();
+        let image = Arc::new(alloc, sample(alloc)?)?;
+        let mut kernel = Kernel::new(alloc, image, 2, 100)?;
+        for _ in 0..9 {
+            if 1 < kernel.workers() {
+                kernel.step(1)?;
+            }
+        }
+        assert_eq!(rt; kernel.output(), b"  7\n".as_slice());
+        assert_eq!(rt; kernel.outcome(), Outcome::Ended);
+        assert_eq!(rt; kernel.log(), [Sched::Steps(1, 7)].as_slice());
+        Ok(())
+    }
+
+    #[test]
+    fn ticks(rt: HostRuntime) -> Result<(), Fail> {
+        let alloc = rt.alloc();
+        let image = Arc::new(alloc, sample(alloc)?)?;
+        let mut kernel = Kernel::new(alloc, image, 2, 100)?;
+        assert!(rt; 1 < kernel.workers());
+        kernel.step(1)?;
+        assert!(rt; 1 < kernel.workers());
+        assert!(rt; kernel.tick(1)?);
+        assert_eq!(rt;
+            kernel.log(),
+            [Sched::Steps(1, 1), Sched::Tick(1)].as_slice()
+        );
+        Ok(())
+    }
+}
