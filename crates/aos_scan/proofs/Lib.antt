@@ -1,0 +1,4 @@
+pub mod Words
+pub mod ByteLemmas
+pub mod Comments
+pub mod Gaps
