@@ -12,7 +12,7 @@ use Rattle.aos_scan.specs.Spelling.{Row, kind_in, reserved_words, word_kind}
 use Rattle.aos_scan.specs.Words.{words_of_length, kind_of_length}
 
 -- a spelling of another length is another
-bytes_eq-other_length : (v w : List ℕ) → (length v ≡ length w → ⊥) → bytes_eq v w ≡ false
+pub bytes_eq-other_length : (v w : List ℕ) → (length v ≡ length w → ⊥) → bytes_eq v w ≡ false
 bytes_eq-other_length v w other =
     ⊎_elim (λ same. absurd (other (ap length ((bytes_eq-Decides v w).0 same)))) (λ differs. differs) (cases_Bool (bytes_eq v w))
 

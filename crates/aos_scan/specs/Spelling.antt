@@ -61,7 +61,7 @@ reserved_words =
     ∷ record { spelling = codes "WITH"; kind = kind.KwWith }
     ∷ []
 
-abbrev pub symbols : List Row
+unfoldable pub symbols : List Row
 symbols =
     record { spelling = codes "+"; kind = kind.Plus }
     ∷ record { spelling = codes "-"; kind = kind.Minus }

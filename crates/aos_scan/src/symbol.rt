@@ -6,6 +6,7 @@ ghost use Rattle.aos_scan.specs.Spelling.{kind_in, symbols};
 use crate::token::TokenKind;
 
 /// The symbol of two bytes.
+#[tactic(auto, unfolding(crate::specs::Spelling::symbols))]
 pub fn pair(first: u8, second: u8) -> Option<TokenKind>
     ensures { result ≡ kind_in symbols (first ∷ second ∷ []) }
 {
@@ -19,6 +20,7 @@ pub fn pair(first: u8, second: u8) -> Option<TokenKind>
 }
 
 /// The symbol of one byte.
+#[tactic(auto, unfolding(crate::specs::Spelling::symbols))]
 pub fn single(b: u8) -> Option<TokenKind>
     ensures { result ≡ kind_in symbols (b ∷ []) }
 {
