@@ -5,3 +5,4 @@ pub mod Gaps
 pub mod Slices
 pub mod Lexemes
 pub mod Values
+pub mod Unique

@@ -1,11 +1,12 @@
 // The token that begins at a place.
 
-ghost use Rattle.std.specs.Prelude.{◌≡◌, ◌≤◌, ◌<◌, ◌^◌, ◌*◌, ◌+◌, length, slice_index, IsTrue, MatchOption, MatchResult};
+ghost use Rattle.std.specs.Prelude.{◌≡◌, ◌≤◌, ◌<◌, ◌^◌, ◌*◌, ◌+◌, length, slice_index, IsTrue, MatchOption, MatchResult, slice_range, ◌≢◌};
 ghost use Rattle.std.specs.Option.{SomeIff};
 ghost use Rattle.std.specs.Char.{is_ascii_alphabetic, is_ascii_digit, digit_value};
 ghost use Rattle.std.specs.List.{list_all};
 ghost use Rattle.aos_scan.specs.Bytes.{is_quote, is_hexadecimal};
 ghost use Rattle.aos_scan.specs.Spelling.{value_of};
+ghost use Rattle.aos_scan.specs.TokenList.{Begins, greatest};
 ghost use Rattle.aos_scan.specs.Found.{EndsGap, BeginsAt};
 ghost use Rattle.aos_scan.specs.Refusal.{NothingBegins, StringIsOpen, IsTooBig, BreaksAt};
 
@@ -23,11 +24,15 @@ pub struct Found {
     pub value: u64,
 }
 
-/// The greatest value of a number.
-const GREATEST_NUMBER: u64 = 0x7fff_ffff_ffff_ffff;
-
-/// The greatest code of a char.
-const GREATEST_CHAR: u64 = 0xff;
+/// The greatest value of a number, or the greatest code of a char.
+fn greatest(kind: TokenKind) -> u64
+    ensures { result ≡ greatest kind }
+{
+    match kind {
+        TokenKind::Char => 0xff,
+        _ => 0x7fff_ffff_ffff_ffff,
+    }
+}
 
 /// The value of a digit from 0 to F.
 fn digit(b: u8) -> u64
@@ -61,6 +66,13 @@ fn value_of(digits: &[u8], base: u64, most: u64) -> Option<u64>
     Some(value)
 }
 
+/// The byte at a place, or 0 past the text's end.
+fn byte_at(text: &[u8], at: usize) -> u8
+    ensures { result ≡ slice_index text.now at }
+{
+    if at < text.len() { text[at] } else { 0 }
+}
+
 /// The name or reserved word that begins with a letter.
 fn word_at(text: &[u8], at: usize) -> Found
     requires within { at < length text.now }
@@ -72,6 +84,20 @@ fn word_at(text: &[u8], at: usize) -> Found
     Found { kind: word_kind(&text[at..end]), end, value: 0 }
 }
 
+/// The number or char of these digits, or None where it is past the greatest.
+fn valued(text: &[u8], at: usize, to: usize, base: u64, end: usize, kind: TokenKind) -> Option<Found>
+    requires ordered { at ≤ to }
+    requires within { to ≤ length text.now }
+    requires digits { IsTrue (list_all is_hexadecimal (slice_range text.now at to)) }
+    requires base { 0 < base }
+    requires begins { Begins text.now at end (record { kind = kind; value = value_of base (slice_range text.now at to) }) }
+    requires kind { kind ≢ TokenKind.End }
+    ensures { MatchOption result (IsTooBig text.now at) (BeginsAt text.now at) }
+{
+    let value = value_of(&text[at..to], base, greatest(kind))?;
+    Some(Found { kind, end, value })
+}
+
 /// The number or char that begins with a digit, or None where it is past the greatest.
 fn number_at(text: &[u8], at: usize) -> Option<Found>
     requires within { at < length text.now }
@@ -80,18 +106,15 @@ fn number_at(text: &[u8], at: usize) -> Option<Found>
     requires digit { IsTrue (is_ascii_digit (slice_index text.now at)) }
     ensures { MatchOption result (IsTooBig text.now at) (BeginsAt text.now at) }
 {
-    let end = run_end(text, at, Class::Hexadecimal);
-    if end < text.len() && text[end] == b'H' {
-        let value = value_of(&text[at..end], 16, GREATEST_NUMBER)?;
-        return Some(Found { kind: TokenKind::Number, end: end + 1, value });
+    let to = run_end(text, at, Class::Hexadecimal);
+    match byte_at(text, to) {
+        b'H' => valued(text, at, to, 16, to + 1, TokenKind::Number),
+        b'X' => valued(text, at, to, 16, to + 1, TokenKind::Char),
+        _ => {
+            let end = run_end(text, at, Class::Decimal);
+            valued(text, at, end, 10, end, TokenKind::Number)
+        }
     }
-    if end < text.len() && text[end] == b'X' {
-        let value = value_of(&text[at..end], 16, GREATEST_CHAR)?;
-        return Some(Found { kind: TokenKind::Char, end: end + 1, value });
-    }
-    let end = run_end(text, at, Class::Decimal);
-    let value = value_of(&text[at..end], 10, GREATEST_NUMBER)?;
-    Some(Found { kind: TokenKind::Number, end, value })
 }
 
 /// The string that begins with a quote, or None where it isn't closed on its line or a byte is not allowed in it.
