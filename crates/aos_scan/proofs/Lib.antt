@@ -6,3 +6,4 @@ pub mod Slices
 pub mod Lexemes
 pub mod Values
 pub mod Unique
+pub mod Laws

@@ -38,7 +38,9 @@ fn next_token(text: &[u8], from: usize, pos: Pos) -> Result<Token, ScanErr>
 {
     let start = match gap_end(text, from) {
         Ok(start) => start,
-        Err(open) => return Err(ScanErr::OpenComment(advance(text, from, open.at, pos))),
+        Err(comment) => {
+            return Err(ScanErr::OpenComment(advance(text, from, comment.at, pos)));
+        },
     };
     let pos = advance(text, from, start, pos);
     if start == text.len() {
@@ -56,31 +58,45 @@ fn next_token(text: &[u8], from: usize, pos: Pos) -> Result<Token, ScanErr>
     }
 }
 
-/// The token list of a text of at most 2^20 bytes, whose last token is the text's end (Active Oberon Language Report,
-/// section on vocabulary). A text that has none is refused by the first rule that it breaks, with its place.
-pub fn scan(alloc: Global, text: &[u8]) -> Result<Vec<Token>, ScanErr>
+/// The token list of a text, or why it has none.
+fn token_list(alloc: Global, text: &[u8]) -> Result<Vec<Token>, ScanErr>
     requires size { length text.now ≤ 2 ^ 20 }
     ensures found { IfOk result (λ tokens. IsTokenList text.now tokens.items) }
     ensures refused { IfErr result (λ e. (e ≡ NoMemory) ⊎ IsRefused text.now e) }
-    // A text with a token list is refused only for want of memory.
-    ensures only { (all : List Token) → IsTokenList text.now all →
-        MatchResult result (λ tokens. tokens.items ≡ all) (λ e. e ≡ NoMemory) }
-    // A text that breaks a rule is refused by it.
-    ensures exact { (e : ScanErr) → IsRefused text.now e →
-        MatchResult result (λ _. ⊥) (λ f. (f ≡ NoMemory) ⊎ (f ≡ e)) }
 {
     let mut tokens = Vec::new(alloc);
     let mut at = 0;
     let mut pos = Pos { line: 1, col: 1 };
     loop {
-        let token = next_token(text, at, pos)?;
-        tokens.push(token).map_err(|_| ScanErr::NoMemory)?;
+        let token = match next_token(text, at, pos) {
+            Ok(token) => token,
+            Err(refusal) => return Err(refusal),
+        };
+        if tokens.push(token).is_err() {
+            return Err(ScanErr::NoMemory);
+        }
         if token.kind == TokenKind::End {
             return Ok(tokens);
         }
         at = token.end as usize;
         pos = advance(text, token.start as usize, at, token.pos);
     }
+}
+
+/// The token list of a text of at most 2^20 bytes, whose last token is the text's end (Active Oberon Language Report,
+/// section on vocabulary). A text that has none is refused by the first rule that it breaks, with its place.
+pub fn scan(alloc: Global, text: &[u8]) -> Result<Vec<Token>, ScanErr>
+    requires size { length text.now ≤ 2 ^ 20 }
+    ensures found { IfOk result (λ tokens. IsTokenList text.now tokens.items) }
+    ensures refused { IfErr result (λ e. (e ≡ NoMemory) ⊎ IsRefused text.now e) }
+    // A text that has a token list is refused only for want of memory.
+    ensures only { (all : List Token) → IsTokenList text.now all →
+        MatchResult result (λ tokens. tokens.items ≡ all) (λ e. e ≡ NoMemory) }
+    // A text that breaks a rule is refused by it.
+    ensures exact { (e : ScanErr) → IsRefused text.now e →
+        MatchResult result (λ _. ⊥) (λ f. (f ≡ NoMemory) ⊎ (f ≡ e)) }
+{
+    token_list(alloc, text)
 }
 
 /// A text has at most one token list.
