@@ -1,5 +1,5 @@
 -- Comments by their nesting.
-use Rattle.std.proofs.Common.{◌≡◌, ℕ, zero, suc, ◌+◌, ◌-◌, ◌<◌, ◌≤◌, List, length, get_or, refl, sym, ◌∙◌, ap, subst, arith, add-one}
+use Rattle.std.proofs.Common.{◌≡◌, ℕ, zero, suc, ◌+◌, ◌-◌, ◌<◌, ◌≤◌, List, length, refl, sym, ◌∙◌, subst, arith, add-one}
 use Rattle.aos_scan.specs.Gap.{OpensComment, ClosesComment, Comment, closed, nested, other}
 use Rattle.aos_scan.proofs.ByteLemmas.{read_within}
 
@@ -34,24 +34,24 @@ module _ (text : List ℕ) where
   levels_open (suc depth) at end positive opens =
       let e = sym (add-one (suc depth)) in
       let F : ℕ → Type 0 = λ d. Levels text d (at + 2) end in (
-      (λ levels. let parts = at_open at levels.0 opens levels.1 in subst F e (parts.0, parts.1, (levels.0, parts.2, levels.2))),
-      (λ levels. let two = subst F (add-one (suc depth)) levels in (two.2.0, nested opens refl two.1 two.2.1, two.2.2)),
-  )
+        (λ levels. let parts = at_open at levels.0 opens levels.1 in subst F e (parts.0, parts.1, (levels.0, parts.2, levels.2))),
+        (λ levels. let two = subst F (add-one (suc depth)) levels in (two.2.0, nested opens refl two.1 two.2.1, two.2.2)),
+      )
 
   pub levels_close : (depth at end : ℕ) → 0 < depth → ClosesComment text at → (Levels text depth at end → Levels text (depth - 1) (at + 2) end) × (Levels text (depth - 1) (at + 2) end → Levels text depth at end)
   levels_close zero at end positive closes = absurd (omega arith)
   levels_close (suc depth) at end positive closes =
       let e : depth ≡ suc depth - 1 = omega arith in
       let F : ℕ → Type 0 = λ d. Levels text d (at + 2) end in (
-      (λ levels. subst F e (subst (λ i. Levels text depth i end) (at_close at levels.0 closes levels.1) levels.2)),
-      (λ levels. (at + 2, closed closes refl, subst F (sym e) levels)),
-  )
+        (λ levels. subst F e (subst (λ i. Levels text depth i end) (at_close at levels.0 closes levels.1) levels.2)),
+        (λ levels. (at + 2, closed closes refl, subst F (sym e) levels)),
+      )
 
   pub levels_other : (depth at end : ℕ) → 0 < depth → at < length text → (OpensComment text at → ⊥) → (ClosesComment text at → ⊥) → (Levels text depth at end → Levels text depth (at + 1) end) × (Levels text depth (at + 1) end → Levels text depth at end)
   levels_other zero at end positive within not_open not_close = absurd (omega arith)
   levels_other (suc depth) at end positive within not_open not_close = (
-      (λ levels. (levels.0, at_other at levels.0 not_open not_close levels.1, levels.2)),
-      (λ levels. (levels.0, other within not_open not_close refl levels.1, levels.2)),
+    (λ levels. (levels.0, at_other at levels.0 not_open not_close levels.1, levels.2)),
+    (λ levels. (levels.0, other within not_open not_close refl levels.1, levels.2)),
   )
 
   pub levels_past : (depth at end : ℕ) → 0 < depth → length text ≤ at → Levels text depth at end → ⊥

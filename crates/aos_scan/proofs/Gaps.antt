@@ -1,9 +1,9 @@
 -- Gaps one after the other, and where a gap ends.
-use Rattle.std.proofs.Common.{◌≡◌, ℕ, ◌+◌, ◌<◌, ◌≤◌, true, false, List, length, get_or, refl, sym, ◌∙◌, ap, subst, ⊎_elim, arith}
+use Rattle.std.proofs.Common.{◌≡◌, ℕ, ◌<◌, ◌≤◌, true, List, length, get_or, sym, ◌∙◌, ap, subst, ⊎_elim, arith}
 use Rattle.std.proofs.lemmas.List.{get_or_past}
 use Rattle.std.proofs.lemmas.Bool.{true≢false, cases_lt}
 use Rattle.aos_scan.specs.Bytes.{is_blank}
-use Rattle.aos_scan.specs.Gap.{OpensComment, IsComment, Gap, nothing, blank, comment}
+use Rattle.aos_scan.specs.Gap.{IsComment, Gap, nothing, blank, comment}
 use Rattle.aos_scan.specs.Found.{EndsGap}
 use Rattle.aos_scan.proofs.ByteLemmas.{read_within}
 use Rattle.aos_scan.proofs.Comments.{Comment-bounds, Comment-unique}

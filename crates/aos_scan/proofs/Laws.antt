@@ -1,5 +1,5 @@
 -- The laws of token lists, and how a reading goes on.
-use Rattle.std.proofs.Common.{◌≡◌, ℕ, ◌<◌, ◌≤◌, List, [], ◌∷◌, ◌++◌, length, Option, Some, None, Result, Ok, Err, MatchResult, IfOk, IfErr, refl, sym, ap, subst, ◌∙◌, ⊎_elim, inl, inr, arith}
+use Rattle.std.proofs.Common.{◌≡◌, ℕ, List, [], ◌∷◌, ◌++◌, length, Some, None, Result, Ok, Err, MatchResult, IfOk, IfErr, refl, sym, ap, subst, ◌∙◌, ⊎_elim, inl, inr}
 use Rattle.std.proofs.Common.{◌⊎◌}
 use Rattle.std.specs.Global.{Vec}
 use Rattle.aos_base.specs.declared.text.Pos.{Pos}
@@ -11,7 +11,7 @@ use Rattle.aos_scan.specs.declared.refusal.ScanErr.TheVariants as errors
 use Rattle.aos_scan.specs.Place.{position}
 use Rattle.aos_scan.specs.Gap.{Gap}
 use Rattle.aos_scan.specs.TokenList.{StandsIn, AreTokens, end_token, IsTokenList}
-use Rattle.aos_scan.specs.Refusal.{Breaks, BreaksAt, IsRefusedFrom, IsRefused, refusal}
+use Rattle.aos_scan.specs.Refusal.{Breaks, IsRefusedFrom, IsRefused, refusal}
 use Rattle.aos_scan.specs.Laws.{OneTokenList, OneRefusal, NotBoth}
 use Rattle.aos_scan.proofs.Unique.{Reading, Reading-unique}
 

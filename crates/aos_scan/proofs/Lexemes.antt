@@ -1,22 +1,19 @@
 -- The token that begins at a place, by its first byte.
-use Rattle.std.proofs.Common.{◌≡◌, ◌≢◌, ℕ, zero, suc, ◌+◌, ◌-◌, ◌<◌, ◌≤◌, Bool, true, false, not, cond, eqb, List, [], ◌∷◌, length, get_or, Option, Some, None, refl, sym, ap, ◌∙◌, subst, ⊎_elim, arith}
+use Rattle.std.proofs.Common.{◌≡◌, ◌≢◌, ℕ, ◌+◌, ◌-◌, ◌<◌, ◌≤◌, Bool, true, false, not, cond, List, [], ◌∷◌, length, get_or, Option, Some, None, refl, sym, ap, ◌∙◌, ⊎_elim, arith}
 use Rattle.std.specs.Prelude.{slice_range, option_map, nat_le, unwrap_or}
 use Rattle.std.specs.List.{list_all}
 use Rattle.std.specs.Str.{bytes_eq}
 use Rattle.std.specs.Char.{is_ascii_digit, is_ascii_alphabetic}
 use Rattle.std.proofs.lemmas.Bool.{true≢false, cases_lt, cases_Bool, and_parts, leb-true, or_left, and_right, eq-eqb, ne_eqb, not-true}
-use Rattle.aos_scan.specs.declared.run.Class.{Class}
 use Rattle.aos_scan.specs.declared.run.Class.TheVariants.{Word, Decimal, Hexadecimal, Inside}
 use Rattle.aos_scan.specs.declared.token.TokenKind.{TokenKind}
 use Rattle.aos_scan.specs.declared.token.TokenKind.TheVariants as kind
 use Rattle.aos_scan.specs.Bytes.{is_in, is_hexadecimal, is_quote, is_word_byte, is_text_byte}
 use Rattle.aos_scan.specs.Run.{IsRun}
-use Rattle.aos_scan.specs.Spelling.{Lexeme, Row, kind_in, reserved_words, symbols, front, last, is_run_then, value_of, word_kind, word, number, text as text_lexeme, symbol, lexeme}
-use Rattle.aos_scan.specs.Gap.{OpensComment}
-use Rattle.aos_scan.specs.TokenList.{Begins, greatest}
-use Rattle.aos_scan.specs.Refusal.{NoLexeme, StringIsOpen, NothingBegins}
+use Rattle.aos_scan.specs.Spelling.{Row, kind_in, reserved_words, symbols, front, is_run_then, value_of, word_kind, word, number, text as text_lexeme, symbol, lexeme}
+use Rattle.aos_scan.specs.TokenList.{Begins}
+use Rattle.aos_scan.specs.Refusal.{StringIsOpen, NothingBegins}
 use Rattle.aos_scan.specs.Found.{EndsGap}
-use Rattle.aos_scan.proofs.ByteLemmas.{not_true}
 use Rattle.aos_scan.proofs.Words.{bytes_eq-other_length}
 use Rattle.aos_scan.proofs.Slices.{slice_range-first, slice_range-none, length-slice_range, front-slice_range, not_all-slice_range, run_some, all_of_run, not_past_run, run_then, not_run_then_past, not_run_then}
 
@@ -74,11 +71,11 @@ kind_in-passes [] w k all is = cc
 kind_in-passes (row ∷ rows) w k all is =
     let parts = and_parts _ _ all in
     ⊎_elim
-      (λ same. let e : Some row.kind ≡ Some k = sym (ap (λ t. cond t (Some row.kind) (kind_in rows w)) same) ∙ is in
-        let kinds : row.kind ≡ k = cc in
-        ap is_end (sym kinds) ∙ not-true (is_end row.kind) parts.0)
-      (λ other. kind_in-passes rows w k parts.1 (sym (ap (λ t. cond t (Some row.kind) (kind_in rows w)) other) ∙ is))
-      (cases_Bool (bytes_eq row.spelling w))
+    (λ same. let e : Some row.kind ≡ Some k = sym (ap (λ t. cond t (Some row.kind) (kind_in rows w)) same) ∙ is in
+    let kinds : row.kind ≡ k = cc in
+    ap is_end (sym kinds) ∙ not-true (is_end row.kind) parts.0)
+    (λ other. kind_in-passes rows w k parts.1 (sym (ap (λ t. cond t (Some row.kind) (kind_in rows w)) other) ∙ is))
+    (cases_Bool (bytes_eq row.spelling w))
 
 not_end : (o : Option TokenKind) → ((k : TokenKind) → o ≡ Some k → k ≢ kind.End) → unwrap_or o kind.Ident ≢ kind.End
 unfolding is_end
@@ -108,14 +105,13 @@ text_not_end end = true≢false (sym (ap is_end end))
 pub word_not_end : (w : List ℕ) → word_kind w ≢ kind.End
 word_not_end w = not_end (kind_in reserved_words w) (λ k. reserved_not_end w k)
 
-
 -- no row is longer than two bytes
 kind_in-long : (rows : List Row) (w : List ℕ) → list_all (λ row. nat_le (length row.spelling) 2) rows ≡ true → 2 < length w → kind_in rows w ≡ None
 kind_in-long [] w short long = refl
 kind_in-long (row ∷ rows) w short long =
     let parts = and_parts (nat_le (length row.spelling) 2) _ short in
     ap (λ t. cond t (Some row.kind) (kind_in rows w))
-      (bytes_eq-other_length row.spelling w (λ e. omega (arith, e, leb-true (length row.spelling) 2 parts.0)))
+    (bytes_eq-other_length row.spelling w (λ e. omega (arith, e, leb-true (length row.spelling) 2 parts.0)))
     ∙ kind_in-long rows w parts.1 long
 
 symbols-long : (w : List ℕ) → 2 < length w → kind_in symbols w ≡ None
@@ -170,10 +166,10 @@ module _ (text : List ℕ) (at : ℕ) (within : at < length text) where
             some = some;
             within = all;
             spelled = number_at no_letter digit (to + 1) some all
-              ∙ number-hexadecimal (slice_range text at (to + 1)) (not_digits 72 is refl (to + 1) (omega arith) all) (run_then text Hexadecimal 72 at to run inside is)
-              ∙ ap (λ ds. Some (record { kind = kind.Number; value = value_of 16 ds })) digits;
+                ∙ number-hexadecimal (slice_range text at (to + 1)) (not_digits 72 is refl (to + 1) (omega arith) all) (run_then text Hexadecimal 72 at to run inside is)
+                ∙ ap (λ ds. Some (record { kind = kind.Number; value = value_of 16 ds })) digits;
             longest = λ k past most. number_at no_letter digit k (omega arith) most
-              ∙ number-none (slice_range text at k) (not_digits 72 is refl k (omega arith) most) (not_run_then_past text Hexadecimal 72 at to k run past most) (not_run_then_past text Hexadecimal 88 at to k run past most);
+                ∙ number-none (slice_range text at k) (not_digits 72 is refl k (omega arith) most) (not_run_then_past text Hexadecimal 72 at to k run past most) (not_run_then_past text Hexadecimal 88 at to k run past most);
           }
 
       pub char_begins : to < length text → get_or text to 0 ≡ 88 → Begins text at (to + 1) (record { kind = kind.Char; value = value_of 16 (slice_range text at to) })
@@ -189,10 +185,10 @@ module _ (text : List ℕ) (at : ℕ) (within : at < length text) where
             some = some;
             within = all;
             spelled = number_at no_letter digit (to + 1) some all
-              ∙ number-char (slice_range text at (to + 1)) (not_digits 88 is refl (to + 1) (omega arith) all) (not_run_then text Hexadecimal 72 at to (to + 1) run no_number refl some all) (run_then text Hexadecimal 88 at to run inside is)
-              ∙ ap (λ ds. Some (record { kind = kind.Char; value = value_of 16 ds })) digits;
+                ∙ number-char (slice_range text at (to + 1)) (not_digits 88 is refl (to + 1) (omega arith) all) (not_run_then text Hexadecimal 72 at to (to + 1) run no_number refl some all) (run_then text Hexadecimal 88 at to run inside is)
+                ∙ ap (λ ds. Some (record { kind = kind.Char; value = value_of 16 ds })) digits;
             longest = λ k past most. number_at no_letter digit k (omega arith) most
-              ∙ number-none (slice_range text at k) (not_digits 88 is refl k (omega arith) most) (not_run_then_past text Hexadecimal 72 at to k run past most) (not_run_then_past text Hexadecimal 88 at to k run past most);
+                ∙ number-none (slice_range text at k) (not_digits 88 is refl k (omega arith) most) (not_run_then_past text Hexadecimal 72 at to k run past most) (not_run_then_past text Hexadecimal 88 at to k run past most);
           }
 
       pub decimal_begins : (to < length text → get_or text to 0 ≢ 72) → (to < length text → get_or text to 0 ≢ 88) → (end : ℕ) → IsRun Decimal text at end → Begins text at end (record { kind = kind.Number; value = value_of 10 (slice_range text at end) })
@@ -204,7 +200,7 @@ module _ (text : List ℕ) (at : ℕ) (within : at < length text) where
             within = digits.within;
             spelled = number_at no_letter digit end some digits.within ∙ number-decimal (slice_range text at end) (all_of_run text Decimal at end digits);
             longest = λ k past most. number_at no_letter digit k (omega arith) most
-              ∙ number-none (slice_range text at k) (not_past_run text Decimal at end k digits past most) (not_run_then text Hexadecimal 72 at to k run no_number refl (omega arith) most) (not_run_then text Hexadecimal 88 at to k run no_char refl (omega arith) most);
+                ∙ number-none (slice_range text at k) (not_past_run text Decimal at end k digits past most) (not_run_then text Hexadecimal 72 at to k run no_number refl (omega arith) most) (not_run_then text Hexadecimal 88 at to k run no_char refl (omega arith) most);
           }
 
     module _ (no_digit : is_ascii_digit (get_or text at 0) ≡ false) where
@@ -233,12 +229,12 @@ module _ (text : List ℕ) (at : ℕ) (within : at < length text) where
         string_is_open ends = record {
           quote = quote;
           no_lexeme = λ k most. ⊎_elim
-            (λ some. text_at k some most ∙ ⊎_elim
+              (λ some. text_at k some most ∙ ⊎_elim
               (λ more. text-none (get_or text at 0) (slice_range text (at + 1) k) (not_run_then text (Inside (get_or text at 0)) (get_or text at 0) (at + 1) to k run ends none_in more most))
               (λ one. ap (text_lexeme (get_or text at 0)) (slice_range-none text (at + 1) k one) ∙ text-nil)
               (cases_lt (at + 1) k))
-            (none_before k)
-            (cases_lt at k);
+              (none_before k)
+              (cases_lt at k);
         }
 
       module _ (no_quote : is_quote (get_or text at 0) ≡ false) where
@@ -250,7 +246,7 @@ module _ (text : List ℕ) (at : ℕ) (within : at < length text) where
 
         two_bytes : at + 2 ≤ length text → slice_range text at (at + 2) ≡ get_or text at 0 ∷ get_or text (at + 1) 0 ∷ []
         two_bytes most = slice_range-first text at (at + 2) (omega arith) most
-          ∙ ap (λ w. get_or text at 0 ∷ w) (slice_range-first text (at + 1) (at + 2) (omega arith) most
+            ∙ ap (λ w. get_or text at 0 ∷ w) (slice_range-first text (at + 1) (at + 2) (omega arith) most
             ∙ ap (λ w. get_or text (at + 1) 0 ∷ w) (slice_range-none text (at + 1 + 1) (at + 2) (omega arith)))
 
         many_bytes : (k : ℕ) → at + 2 < k → k ≤ length text → lexeme (slice_range text at k) ≡ None
@@ -269,10 +265,10 @@ module _ (text : List ℕ) (at : ℕ) (within : at < length text) where
 
         past_one : (at + 1 < length text → kind_in symbols (get_or text at 0 ∷ get_or text (at + 1) 0 ∷ []) ≡ None) → (k : ℕ) → at + 1 < k → k ≤ length text → lexeme (slice_range text at k) ≡ None
         past_one no_pair k past most = ⊎_elim
-          (λ many. many_bytes k many most)
-          (λ two. let is : at + 2 ≡ k = omega arith in
+            (λ many. many_bytes k many most)
+            (λ two. let is : at + 2 ≡ k = omega arith in
             ap (λ j. lexeme (slice_range text at j)) (sym is) ∙ symbol-at (at + 2) _ None (omega arith) (omega arith) (two_bytes (omega arith)) (no_pair (omega arith)))
-          (cases_lt (at + 2) k)
+            (cases_lt (at + 2) k)
 
         pub single_begins : (k : TokenKind) → (at + 1 < length text → kind_in symbols (get_or text at 0 ∷ get_or text (at + 1) 0 ∷ []) ≡ None) → kind_in symbols (get_or text at 0 ∷ []) ≡ Some k → Begins text at (at + 1) (record { kind = k; value = 0 })
         single_begins k no_pair found = record {
@@ -290,11 +286,11 @@ module _ (text : List ℕ) (at : ℕ) (within : at < length text) where
           no_comment = gap.no_comment;
           no_quote = λ quote. true≢false (sym quote ∙ no_quote);
           no_lexeme = λ k most. ⊎_elim
-            (λ past. past_one no_pair k past most)
-            (λ short. ⊎_elim
+              (λ past. past_one no_pair k past most)
+              (λ short. ⊎_elim
               (λ some. let is : at + 1 ≡ k = omega arith in
-                ap (λ j. lexeme (slice_range text at j)) (sym is) ∙ symbol-at (at + 1) _ None (omega arith) (omega arith) (one_byte (omega arith)) none)
+              ap (λ j. lexeme (slice_range text at j)) (sym is) ∙ symbol-at (at + 1) _ None (omega arith) (omega arith) (one_byte (omega arith)) none)
               (none_before k)
               (cases_lt at k))
-            (cases_lt (at + 1) k);
+              (cases_lt (at + 1) k);
         }

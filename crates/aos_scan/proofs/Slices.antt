@@ -1,9 +1,9 @@
 -- Parts of a text from one place to another.
-use Rattle.std.proofs.Common.{◌≡◌, ◌≢◌, ℕ, suc, ◌+◌, ◌-◌, ◌<◌, ◌≤◌, Bool, true, false, ◌&&◌, eqb, List, [], ◌∷◌, length, get_or, take, drop, refl, sym, ap, ◌∙◌, subst, ⊎_elim, arith, length-take, length-drop, get_or-take, get_or-drop}
+use Rattle.std.proofs.Common.{◌≡◌, ◌≢◌, ℕ, suc, ◌+◌, ◌-◌, ◌<◌, ◌≤◌, Bool, true, false, List, [], ◌∷◌, length, get_or, take, drop, sym, ap, ◌∙◌, ⊎_elim, arith, length-take, length-drop, get_or-take, get_or-drop}
 use Rattle.std.specs.Prelude.{slice_range}
 use Rattle.std.specs.List.{list_all}
 use Rattle.std.proofs.lemmas.Bool.{true≢false, cases_lt, and_left, and_right, and_from, ne_eqb, eq-eqb}
-use Rattle.std.proofs.lemmas.List.{drop_more, take-take, drop_all}
+use Rattle.std.proofs.lemmas.List.{drop_more, take-take}
 use Rattle.std.proofs.lemmas.List.Sums.{list_all-from_AllPass}
 use Rattle.std.proofs.lemmas.List.Elements.{All-from_get_or}
 use Rattle.std.proofs.lemmas.List.Folds.{list_all_at}
@@ -49,10 +49,10 @@ module _ (text : List ℕ) where
   list_all-slice_range p i j ordered within each =
       let long = length-slice_range i j ordered within in
       list_all-from_AllPass p (slice_range text i j) (All-from_get_or (λ b. p b ≡ true) (slice_range text i j) 0 (λ n in_range.
-        let low : i ≤ i + n = omega arith in
-        let high : i + n < j = omega arith in
-        let place : (i + n) - i ≡ n = omega arith in
-        ap p (ap (λ m. get_or (slice_range text i j) m 0) (sym place) ∙ get_or-slice_range i j (i + n) low high) ∙ each (i + n) low high))
+      let low : i ≤ i + n = omega arith in
+      let high : i + n < j = omega arith in
+      let place : (i + n) - i ≡ n = omega arith in
+      ap p (ap (λ m. get_or (slice_range text i j) m 0) (sym place) ∙ get_or-slice_range i j (i + n) low high) ∙ each (i + n) low high))
 
   -- a byte of a part doesn't pass
   pub not_all-slice_range : (p : ℕ → Bool) (i j k : ℕ) → i ≤ k → k < j → j ≤ length text → p (get_or text k 0) ≡ false → list_all p (slice_range text i j) ≡ false
@@ -64,9 +64,9 @@ module _ (text : List ℕ) where
   pub run_some : (class : Class) (from to : ℕ) → IsRun class text from to → from < length text → is_in class (get_or text from 0) ≡ true → from < to
   run_some class from to run within first =
       ⊎_elim (λ some. some)
-        (λ none. let same : to ≡ from = omega (arith, run.ordered) in
-          absurd (true≢false (sym first ∙ ap (λ i. is_in class (get_or text i 0)) (sym same) ∙ run.stops (omega arith))))
-        (cases_lt from to)
+      (λ none. let same : to ≡ from = omega (arith, run.ordered) in
+      absurd (true≢false (sym first ∙ ap (λ i. is_in class (get_or text i 0)) (sym same) ∙ run.stops (omega arith))))
+      (cases_lt from to)
 
   pub all_of_run : (class : Class) (from to : ℕ) → IsRun class text from to → list_all (is_in class) (slice_range text from to) ≡ true
   all_of_run class from to run = list_all-slice_range (is_in class) from to run.ordered run.within run.each
@@ -82,8 +82,8 @@ module _ (text : List ℕ) where
       let some : from < to + 1 = omega arith in
       let back : to + 1 - 1 ≡ to = omega arith in
       and_from _ _
-        (ap (list_all (is_in class)) (front-slice_range from (to + 1) some (omega arith) ∙ ap (slice_range text from) back) ∙ all_of_run class from to run)
-        (eq-eqb _ b (last-slice_range from (to + 1) some (omega arith) ∙ ap (λ i. get_or text i 0) back ∙ is))
+      (ap (list_all (is_in class)) (front-slice_range from (to + 1) some (omega arith) ∙ ap (slice_range text from) back) ∙ all_of_run class from to run)
+      (eq-eqb _ b (last-slice_range from (to + 1) some (omega arith) ∙ ap (λ i. get_or text i 0) back ∙ is))
 
   pub not_run_then_past : (class : Class) (b from to end : ℕ) → IsRun class text from to → to + 1 < end → end ≤ length text → is_run_then (is_in class) b (slice_range text from end) ≡ false
   not_run_then_past class b from to end run past within =
@@ -94,10 +94,10 @@ module _ (text : List ℕ) where
   pub not_run_then : (class : Class) (b from to end : ℕ) → IsRun class text from to → (to < length text → get_or text to 0 ≢ b) → is_in class b ≡ false → from < end → end ≤ length text → is_run_then (is_in class) b (slice_range text from end) ≡ false
   not_run_then class b from to end run ends not_in some within =
       ⊎_elim
-        (λ inside. and_right _ _ (ne_eqb _ b (λ is. true≢false (sym (run.each (end - 1) (omega arith) (omega arith)) ∙ ap (is_in class) (sym (last-slice_range from end some within) ∙ is) ∙ not_in))))
-        (λ outside. ⊎_elim
-          (λ past. not_run_then_past class b from to end run past within)
-          (λ at_end. let same : end - 1 ≡ to = omega (arith, run.ordered) in
-            and_right _ _ (ne_eqb _ b (λ is. ends (omega arith) (ap (λ i. get_or text i 0) (sym same) ∙ sym (last-slice_range from end some within) ∙ is))))
-          (cases_lt (to + 1) end))
-        (cases_lt (end - 1) to)
+      (λ inside. and_right _ _ (ne_eqb _ b (λ is. true≢false (sym (run.each (end - 1) (omega arith) (omega arith)) ∙ ap (is_in class) (sym (last-slice_range from end some within) ∙ is) ∙ not_in))))
+      (λ outside. ⊎_elim
+      (λ past. not_run_then_past class b from to end run past within)
+      (λ at_end. let same : end - 1 ≡ to = omega (arith, run.ordered) in
+      and_right _ _ (ne_eqb _ b (λ is. ends (omega arith) (ap (λ i. get_or text i 0) (sym same) ∙ sym (last-slice_range from end some within) ∙ is))))
+      (cases_lt (to + 1) end))
+      (cases_lt (end - 1) to)

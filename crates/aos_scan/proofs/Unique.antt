@@ -1,21 +1,17 @@
 -- A text is read in one way: to its end, or to the first place at which a rule is broken.
-use Rattle.std.proofs.Common.{◌≡◌, ◌≢◌, ℕ, ◌+◌, ◌<◌, ◌≤◌, ◌⊎◌, true, false, List, [], ◌∷◌, ◌++◌, length, get_or, Option, Some, None, Result, refl, sym, ap, subst, ◌∙◌, ⊎_elim, inl, inr, arith}
+use Rattle.std.proofs.Common.{◌≡◌, ◌≢◌, ℕ, ◌≤◌, ◌⊎◌, true, List, [], ◌∷◌, length, get_or, Option, Some, None, refl, sym, ap, subst, ◌∙◌, ⊎_elim, inl, inr, arith}
 use Rattle.std.specs.Prelude.{slice_range, pos}
 use Rattle.std.proofs.lemmas.Bool.{true≢false, cases_order, or_cases, eqb-true}
-use Rattle.aos_base.specs.declared.text.Pos.{Pos}
 use Rattle.aos_scan.specs.declared.token.Token.{Token}
-use Rattle.aos_scan.specs.declared.token.TokenKind.{TokenKind}
 use Rattle.aos_scan.specs.declared.refusal.Rule.{Rule}
 use Rattle.aos_scan.specs.declared.refusal.Rule.TheVariants as rules
-use Rattle.aos_scan.specs.declared.refusal.ScanErr.{ScanErr}
-use Rattle.aos_scan.specs.declared.refusal.ScanErr.TheVariants as errors
 use Rattle.aos_scan.specs.Bytes.{is_blank, is_quote}
 use Rattle.aos_scan.specs.Spelling.{Lexeme, lexeme, symbols}
 use Rattle.aos_scan.specs.Place.{position}
-use Rattle.aos_scan.specs.Gap.{OpensComment, IsComment, Gap}
-use Rattle.aos_scan.specs.TokenList.{Begins, greatest, StandsIn, AreTokens, end_token, IsTokenList}
-use Rattle.aos_scan.specs.Refusal.{NoLexeme, BreaksAt, Breaks, IsRefusedFrom, IsRefused, refusal}
-use Rattle.aos_scan.proofs.ByteLemmas.{read_within, not_true}
+use Rattle.aos_scan.specs.Gap.{Gap}
+use Rattle.aos_scan.specs.TokenList.{Begins, greatest, StandsIn, AreTokens}
+use Rattle.aos_scan.specs.Refusal.{BreaksAt}
+use Rattle.aos_scan.proofs.ByteLemmas.{read_within}
 use Rattle.aos_scan.proofs.Slices.{slice_range-first}
 use Rattle.aos_scan.proofs.Gaps.{Stops, Gap-unique, Stops-ends, EndsGap-end}
 
@@ -25,9 +21,9 @@ unfolding lexeme symbols
 lexeme-blank b w blank =
     let at = λ (n : ℕ) (is : b ≡ n) (none : lexeme (n ∷ w) ≡ None). ap (λ m. lexeme (m ∷ w)) is ∙ none in
     ⊎_elim
-      (λ two. ⊎_elim (λ tab. at 9 (eqb-true b 9 tab) refl) (λ line. at 10 (eqb-true b 10 line) refl) (or_cases _ _ two))
-      (λ two. ⊎_elim (λ return. at 13 (eqb-true b 13 return) refl) (λ space. at 32 (eqb-true b 32 space) refl) (or_cases _ _ two))
-      (or_cases _ _ blank)
+    (λ two. ⊎_elim (λ tab. at 9 (eqb-true b 9 tab) refl) (λ line. at 10 (eqb-true b 10 line) refl) (or_cases _ _ two))
+    (λ two. ⊎_elim (λ return. at 13 (eqb-true b 13 return) refl) (λ space. at 32 (eqb-true b 32 space) refl) (or_cases _ _ two))
+    (or_cases _ _ blank)
 
 none_some : {A : Type 0} {x : A} {o : Option A} → o ≡ None → o ≡ Some x → ⊥
 none_some none some = cc
@@ -51,12 +47,12 @@ module _ (text : List ℕ) where
   -- one token is the longest
   Begins-unique : (at end end' : ℕ) (l l' : Lexeme) → Begins text at end l → Begins text at end' l' → (end ≡ end') × (l ≡ l')
   Begins-unique at end end' l l' a b = ⊎_elim
-    (λ same. (same, some_same (sym a.spelled ∙ ap (λ k. lexeme (slice_range text at k)) same ∙ b.spelled)))
-    (λ differ. ⊎_elim
+      (λ same. (same, some_same (sym a.spelled ∙ ap (λ k. lexeme (slice_range text at k)) same ∙ b.spelled)))
+      (λ differ. ⊎_elim
       (λ less. absurd (none_some (a.longest end' less b.within) b.spelled))
       (λ more. absurd (none_some (b.longest end more a.within) a.spelled))
       differ)
-    (cases_order end end')
+      (cases_order end end')
 
   -- where the text's reading ends: at its end, or at a broken rule
   abbrev Final : Option Rule → ℕ → Type 0
@@ -79,9 +75,9 @@ module _ (text : List ℕ) where
   Breaks-within rules.Bad at b is = omega (arith, b.within)
   Breaks-within rules.OpenComment at b is = omega (arith, read_within text at 40 b.opens.parenthesis (omega arith))
   Breaks-within rules.OpenString at b is = ⊎_elim
-    (λ two. omega (arith, read_within text at 34 two (omega arith)))
-    (λ one. omega (arith, read_within text at 39 one (omega arith)))
-    (quote_cases (get_or text at 0) b.quote)
+      (λ two. omega (arith, read_within text at 34 two (omega arith)))
+      (λ one. omega (arith, read_within text at 39 one (omega arith)))
+      (quote_cases (get_or text at 0) b.quote)
   Breaks-within rules.TooBig at b is = omega (arith, b.begins.some, b.begins.within)
 
   Breaks-unique : (r s : Rule) (at : ℕ) → BreaksAt r text at → BreaksAt s text at → r ≡ s

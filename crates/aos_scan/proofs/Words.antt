@@ -1,15 +1,14 @@
 -- The kind of a word, from the reserved words of its length.
-use Rattle.std.proofs.Common.{◌≡◌, ◌≢◌, ℕ, ◌==◌, eqb, Bool, true, false, cond, List, [], ◌∷◌, length, Option, Some, None, refl, sym, ap, ◌∙◌, arith, unwrap_or}
+use Rattle.std.proofs.Common.{◌≡◌, ◌≢◌, ℕ, ◌==◌, Bool, true, false, cond, List, [], ◌∷◌, length, Some, None, refl, sym, ap, ◌∙◌, unwrap_or}
 use Rattle.std.specs.Prelude.{filter, ◌||◌}
 use Rattle.std.specs.List.{list_all}
 use Rattle.std.specs.Str.{bytes_eq}
 use Rattle.std.proofs.lemmas.Slice.Eq.{bytes_eq-Decides}
 use Rattle.std.proofs.lemmas.Bool.{eqb-false, cases_Bool, and_parts, true≢false, or_from, ne_eqb}
 use Rattle.std.proofs.Common.{⊎_elim}
-use Rattle.aos_scan.specs.declared.token.TokenKind.{TokenKind}
 use Rattle.aos_scan.specs.declared.token.TokenKind.TheVariants as kind
 use Rattle.aos_scan.specs.Spelling.{Row, kind_in, reserved_words, word_kind}
-use Rattle.aos_scan.specs.Words.{words_of_length, kind_of_length}
+use Rattle.aos_scan.specs.Words.{kind_of_length}
 
 -- a spelling of another length is another
 pub bytes_eq-other_length : (v w : List ℕ) → (length v ≡ length w → ⊥) → bytes_eq v w ≡ false
@@ -38,7 +37,7 @@ kind_in-none [] w all other = refl
 kind_in-none (row ∷ rows) w all other =
     let parts = and_parts _ _ all in
     ap (λ t. cond t (Some row.kind) (kind_in rows w))
-      (bytes_eq-other_length row.spelling w (λ e. true≢false (sym parts.0 ∙ ap is_reserved_length e ∙ other)))
+    (bytes_eq-other_length row.spelling w (λ e. true≢false (sym parts.0 ∙ ap is_reserved_length e ∙ other)))
     ∙ kind_in-none rows w parts.1 other
 
 pub word_kind_of_other_length : (w : List ℕ) → is_reserved_length (length w) ≡ false → word_kind w ≡ kind.Ident
@@ -48,5 +47,5 @@ word_kind_of_other_length w other = ap (λ k. unwrap_or k kind.Ident) (kind_in-n
 pub other_length : (n : ℕ) → n ≢ 2 → n ≢ 3 → n ≢ 4 → n ≢ 5 → n ≢ 6 → n ≢ 7 → n ≢ 9 → is_reserved_length n ≡ false
 other_length n not2 not3 not4 not5 not6 not7 not9 =
     or_from _ _ (or_from _ _ (ne_eqb n 2 not2) (ne_eqb n 3 not3))
-      (or_from _ _ (or_from _ _ (ne_eqb n 4 not4) (ne_eqb n 5 not5))
-        (or_from _ _ (or_from _ _ (ne_eqb n 6 not6) (ne_eqb n 7 not7)) (ne_eqb n 9 not9)))
+    (or_from _ _ (or_from _ _ (ne_eqb n 4 not4) (ne_eqb n 5 not5))
+    (or_from _ _ (or_from _ _ (ne_eqb n 6 not6) (ne_eqb n 7 not7)) (ne_eqb n 9 not9)))

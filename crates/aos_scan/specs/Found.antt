@@ -1,5 +1,5 @@
 -- What the functions that read one token say.
-use Rattle.std.specs.Prelude.{◌≡◌, ◌≢◌, ℕ, ◌≤◌, List, length, slice_index, IsTrue}
+use Rattle.std.specs.Prelude.{◌≡◌, ◌≢◌, ℕ, ◌≤◌, List, slice_index, IsTrue}
 use Rattle.aos_scan.specs.declared.token.Token.{Token}
 use Rattle.aos_scan.specs.declared.token.TokenKind.TheVariants.{End}
 use Rattle.aos_scan.specs.declared.lexeme.Found.{Found}

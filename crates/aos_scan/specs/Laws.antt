@@ -1,6 +1,5 @@
 -- The laws of token lists: a text has one, or breaks one rule at one place.
 use Rattle.std.specs.Prelude.{◌≡◌, ℕ, List}
-use Rattle.aos_base.specs.declared.text.Pos.{Pos}
 use Rattle.aos_scan.specs.declared.token.Token.{Token}
 use Rattle.aos_scan.specs.declared.refusal.ScanErr.{ScanErr}
 use Rattle.aos_scan.specs.TokenList.{IsTokenList}

@@ -50,7 +50,10 @@ fn digit(b: u8) -> u64
 fn with_digit(value: u64, base: u64, digit: u64, most: u64) -> Option<u64>
     ensures { SomeIff result (value * base + digit ≤ most) (value * base + digit) }
 {
-    value.checked_mul(base)?.checked_add(digit).filter(|v| *v <= most)
+    value
+        .checked_mul(base)?
+        .checked_add(digit)
+        .filter(|v| *v <= most)
 }
 
 /// The number that digits stand for, or None where it is past the greatest.
@@ -81,11 +84,22 @@ fn word_at(text: &[u8], at: usize) -> Found
     ensures { BeginsAt text.now at result }
 {
     let end = run_end(text, at, Class::Word);
-    Found { kind: word_kind(&text[at..end]), end, value: 0 }
+    Found {
+        kind: word_kind(&text[at..end]),
+        end,
+        value: 0,
+    }
 }
 
 /// The number or char of these digits, or None where it is past the greatest.
-fn valued(text: &[u8], at: usize, to: usize, base: u64, end: usize, kind: TokenKind) -> Option<Found>
+fn valued(
+    text: &[u8],
+    at: usize,
+    to: usize,
+    base: u64,
+    end: usize,
+    kind: TokenKind,
+) -> Option<Found>
     requires ordered { at ≤ to }
     requires within { to ≤ length text.now }
     requires digits { IsTrue (list_all is_hexadecimal (slice_range text.now at to)) }
@@ -129,7 +143,11 @@ fn string_at(text: &[u8], at: usize) -> Option<Found>
     let quote = text[at];
     let end = run_end(text, at + 1, Class::Inside(quote));
     if end < text.len() && text[end] == quote {
-        Some(Found { kind: TokenKind::Text, end: end + 1, value: 0 })
+        Some(Found {
+            kind: TokenKind::Text,
+            end: end + 1,
+            value: 0,
+        })
     } else {
         None
     }
@@ -146,11 +164,19 @@ fn symbol_at(text: &[u8], at: usize) -> Option<Found>
 {
     if at + 1 < text.len() {
         if let Some(kind) = pair(text[at], text[at + 1]) {
-            return Some(Found { kind, end: at + 2, value: 0 });
+            return Some(Found {
+                kind,
+                end: at + 2,
+                value: 0,
+            });
         }
     }
     let kind = single(text[at])?;
-    Some(Found { kind, end: at + 1, value: 0 })
+    Some(Found {
+        kind,
+        end: at + 1,
+        value: 0,
+    })
 }
 
 /// The token that begins at a place, or the rule that is broken there.

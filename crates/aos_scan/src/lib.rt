@@ -8,6 +8,8 @@ pub mod refusal;
 mod run;
 pub mod scan;
 mod symbol;
+#[cfg(test)]
+mod tests;
 pub mod token;
 mod word;
 

@@ -25,7 +25,13 @@ fn end_token(text: &[u8], pos: Pos) -> Token
     ensures { result ≡ end_token text.now }
 {
     let end = text.len() as u32;
-    Token { kind: TokenKind::End, start: end, end, pos, value: 0 }
+    Token {
+        kind: TokenKind::End,
+        start: end,
+        end,
+        pos,
+        value: 0,
+    }
 }
 
 /// The next token from a place on.
@@ -102,17 +108,14 @@ pub fn scan(alloc: Global, text: &[u8]) -> Result<Vec<Token>, ScanErr>
 /// A text has at most one token list.
 pub fn one_token_list()
     ensures { OneTokenList }
-{
-}
+{}
 
 /// A text is refused by one rule at one place.
 pub fn one_refusal()
     ensures { OneRefusal }
-{
-}
+{}
 
 /// A text that has a token list breaks no rule.
 pub fn not_both()
     ensures { NotBoth }
-{
-}
+{}

@@ -1,4 +1,4 @@
-use Rattle.std.proofs.Common.{◌≡◌, ℕ, ◌<◌, ◌≤◌, refl, sym, arith, length, ◌-◌, ◌+◌, subst}
+use Rattle.std.proofs.Common.{◌≡◌, ℕ, refl, sym, arith, ◌-◌, ◌+◌, subst}
 use Rattle.std.proofs.lemmas.Bool.{iff_false}
 use Rattle.aos_scan.proofs.ByteLemmas.{read_within}
 use Rattle.aos_scan.proofs.Comments.{Levels, levels_open, levels_close, levels_other, levels_past, Comment-bounds}

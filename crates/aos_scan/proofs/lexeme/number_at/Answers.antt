@@ -1,4 +1,4 @@
-use Rattle.std.proofs.Common.{◌≡◌, ◌≢◌, ◌<◌, length, get_or, sym, ◌∙◌, arith, rules}
+use Rattle.std.proofs.Common.{◌≡◌, get_or, arith}
 use Rattle.aos_scan.specs.declared.run.Class.TheVariants.{Hexadecimal}
 use Rattle.std.proofs.lemmas.Bool.{or_left}
 use Rattle.aos_scan.proofs.ByteLemmas.{not_true, read_within}
@@ -37,4 +37,4 @@ valued-requires-in_default-clause-begins c =
     let text = c.args.text.now in
     let to = c.run_end-to.result in
     decimal_begins text c.args.at c.requires.within c.requires.gap (not_true _ c.requires.no_letter) c.requires.digit to c.run_end-to.ensures
-      (λ _ mark. omega (arith, c.byte_at.ensures, mark)) (λ _ mark. omega (arith, c.byte_at.ensures, mark)) c.run_end-end.result c.run_end-end.ensures
+    (λ _ mark. omega (arith, c.byte_at.ensures, mark)) (λ _ mark. omega (arith, c.byte_at.ensures, mark)) c.run_end-end.result c.run_end-end.ensures

@@ -1,4 +1,4 @@
-use Rattle.std.proofs.Common.{◌≡◌, ◌<◌, ◌+◌, length, [], ◌∷◌, get_or, None, refl, sym, ◌∙◌, arith, rules}
+use Rattle.std.proofs.Common.{◌≡◌, ◌<◌, ◌+◌, length, [], ◌∷◌, get_or, None, sym, ◌∙◌, arith, rules}
 use Rattle.aos_scan.specs.Spelling.{kind_in, symbols}
 use Rattle.aos_scan.proofs.ByteLemmas.{not_true}
 use Rattle.aos_scan.proofs.Lexemes.{pair_begins, single_begins, nothing_begins, symbol_not_end}
@@ -20,7 +20,7 @@ returns-in_err-kind c =
     let text = c.args.text.now in
     let at = c.args.at in
     let no_pair : at + 1 < length text → kind_in symbols (get_or text at 0 ∷ get_or text (at + 1) 0 ∷ []) ≡ None =
-      elim c.if-at-text.branch [ then-at-text+in_default w ↦ λ _. sym w.pair.ensures ∙ search rules | else-at-text w ↦ λ inside. absurd (omega arith) ] in
+    elim c.if-at-text.branch [ then-at-text+in_default w ↦ λ _. sym w.pair.ensures ∙ search rules | else-at-text w ↦ λ inside. absurd (omega arith) ] in
     rw c.from_residual.ensures (nothing_begins text at c.requires.within c.requires.gap (not_true _ c.requires.no_letter) (not_true _ c.requires.no_digit) (not_true _ c.requires.no_quote) no_pair (sym c.single.ensures ∙ c.in_err-kind.was))
 
 pub returns : goal.returns
@@ -28,7 +28,7 @@ returns c =
     let text = c.args.text.now in
     let at = c.args.at in
     let no_pair : at + 1 < length text → kind_in symbols (get_or text at 0 ∷ get_or text (at + 1) 0 ∷ []) ≡ None =
-      elim c.if-at-text.branch [ then-at-text+in_default w ↦ λ _. sym w.pair.ensures ∙ search rules | else-at-text w ↦ λ inside. absurd (omega arith) ] in
+    elim c.if-at-text.branch [ then-at-text+in_default w ↦ λ _. sym w.pair.ensures ∙ search rules | else-at-text w ↦ λ inside. absurd (omega arith) ] in
     let found = sym c.single.ensures ∙ c.in_ok-kind.was in
     record {
       begins = single_begins text at c.requires.within c.requires.gap (not_true _ c.requires.no_letter) (not_true _ c.requires.no_digit) (not_true _ c.requires.no_quote) c.in_ok-kind.kind no_pair found;

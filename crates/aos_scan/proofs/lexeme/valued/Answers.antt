@@ -2,7 +2,6 @@ use Rattle.std.proofs.Common.{ℕ, ◌<◌, ◌≤◌, sym, subst, ⊎_elim, ari
 use Rattle.std.specs.Prelude.{slice_range}
 use Rattle.std.proofs.lemmas.Bool.{cases_lt}
 use Rattle.aos_scan.specs.Spelling.{value_of}
-use Rattle.aos_scan.specs.TokenList.{greatest, Begins}
 use Rattle.aos_scan.specs.Found.{BeginsAt}
 use Rattle.aos_scan.proofs.lexeme.valued.Goals as goal
 

@@ -1,4 +1,4 @@
-use Rattle.std.proofs.Common.{◌≤◌, not, eqb, take, length, arith, length-take-le}
+use Rattle.std.proofs.Common.{not, eqb, take, arith, length-take-le}
 use Rattle.std.proofs.lemmas.List.Sums.{suffix_len-le-length}
 use Rattle.aos_scan.proofs.place.advance.Goals as goal
 

@@ -1,7 +1,7 @@
-use Rattle.std.proofs.Common.{◌≡◌, ◌≢◌, ◌≤◌, ◌<◌, ◌++◌, ◌∷◌, [], true, is_ok, length, inr, sym, subst, ◌∙◌, arith, rules}
+use Rattle.std.proofs.Common.{◌≡◌, ◌≢◌, true, is_ok, inr, sym, subst, arith, rules}
 use Rattle.std.proofs.ResultArms.{chosen}
 use Rattle.aos_scan.specs.declared.token.TokenKind.TheVariants.{End}
-use Rattle.aos_scan.specs.TokenList.{StandsIn, AreTokens}
+use Rattle.aos_scan.specs.TokenList.{AreTokens}
 use Rattle.aos_scan.proofs.Gaps.{Gap-bounds}
 use Rattle.aos_scan.proofs.Laws.{AreTokens-push, refused_after}
 use Rattle.aos_scan.proofs.scan.token_list.Goals as goal

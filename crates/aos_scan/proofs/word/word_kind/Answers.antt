@@ -1,4 +1,4 @@
-use Rattle.std.proofs.Common.{◌≢◌, length, sym, ◌∙◌, arith, rules}
+use Rattle.std.proofs.Common.{length, sym, ◌∙◌, arith, rules}
 use Rattle.aos_scan.proofs.Words.{word_kind_of_length, word_kind_of_other_length, other_length}
 use Rattle.aos_scan.proofs.word.word_kind.Goals as goal
 
