@@ -1,6 +1,6 @@
 -- The laws of token lists, and how a reading goes on.
 use Rattle.std.proofs.Common.{◌≡◌, ℕ, List, [], ◌∷◌, ◌++◌, length, Some, None, Result, Ok, Err, MatchResult, IfOk, IfErr, refl, sym, ap, subst, ◌∙◌, ⊎_elim, inl, inr}
-use Rattle.std.proofs.Common.{◌⊎◌}
+use Rattle.std.proofs.Common.{◌⊎◌, ◌≢◌, ◌≤◌, arith}
 use Rattle.std.specs.Global.{Vec}
 use Rattle.aos_base.specs.declared.text.Pos.{Pos}
 use Rattle.aos_scan.specs.declared.token.Token.{Token}
@@ -10,9 +10,14 @@ use Rattle.aos_scan.specs.declared.refusal.ScanErr.{ScanErr}
 use Rattle.aos_scan.specs.declared.refusal.ScanErr.TheVariants as errors
 use Rattle.aos_scan.specs.Place.{position}
 use Rattle.aos_scan.specs.Gap.{Gap}
-use Rattle.aos_scan.specs.TokenList.{StandsIn, AreTokens, end_token, IsTokenList}
+use Rattle.aos_scan.specs.TokenList.{AreInOrder, EndsOnce, StandsIn, AreTokens, end_token, IsTokenList}
 use Rattle.aos_scan.specs.Refusal.{Breaks, IsRefusedFrom, IsRefused, refusal}
 use Rattle.aos_scan.specs.Laws.{OneTokenList, OneRefusal, NotBoth}
+use Rattle.aos_scan.proofs.Gaps.{Gap-bounds}
+use Rattle.aos_scan.proofs.Lexemes.{lexeme_no_end}
+use Rattle.std.proofs.lemmas.List.Elements.{All-from_recursion}
+use Rattle.std.specs.List.{AllByRecursion}
+use Rattle.aos_scan.specs.declared.token.TokenKind.TheVariants.{End}
 use Rattle.aos_scan.proofs.Unique.{Reading, Reading-unique}
 
 -- the reading that a token list is
@@ -97,3 +102,29 @@ only text (Err e) found refused all list = ⊎_elim (λ memory. memory) (λ othe
 pub exact : (text : List ℕ) (answer : Result (Vec Token) ScanErr) → IfOk answer (λ v. IsTokenList text v.items) → IfErr answer (λ e. (e ≡ errors.NoMemory) ⊎ IsRefused text e) → (e : ScanErr) → IsRefused text e → MatchResult answer (λ _. ⊥) (λ f. (f ≡ errors.NoMemory) ⊎ (f ≡ e))
 exact text (Ok v) found refused e broken = not_both text v.items e found broken
 exact text (Err f) found refused e broken = ⊎_elim (λ memory. inl memory) (λ other. inr (one_refusal text f e other broken)) refused
+
+-- the spans of a token list
+AreTokens-in_order : (text : List ℕ) (from : ℕ) (ts : List Token) (to : ℕ) → AreTokens text from ts to → Gap text to (length text) → from ≤ length text → AreInOrder from (ts ++ end_token text ∷ []) (length text)
+AreTokens-in_order text from [] to made rest within =
+    let bounds = Gap-bounds text rest (omega (arith, made)) in (within, omega arith, omega arith)
+AreTokens-in_order text from (t ∷ ts) to made rest within =
+    let bounds = Gap-bounds text made.0 within in
+    let begins = made.1.begins in
+    let some = begins.nonempty in
+    (bounds.0, omega arith, AreTokens-in_order text t.end ts to made.2 rest begins.within)
+
+AreTokens-no_end : (text : List ℕ) (from : ℕ) (ts : List Token) (to : ℕ) → AreTokens text from ts to → AllByRecursion (λ (t : Token). t.kind ≢ End) ts
+AreTokens-no_end text from [] to made = tt
+AreTokens-no_end text from (t ∷ ts) to made = (lexeme_no_end _ _ made.1.begins.spelled, AreTokens-no_end text t.end ts to made.2)
+
+pub spans : (text : List ℕ) (answer : Result (Vec Token) ScanErr) → IfOk answer (λ v. IsTokenList text v.items) → IfOk answer (λ v. AreInOrder 0 v.items (length text))
+spans text (Ok v) list = subst (λ all. AreInOrder 0 all (length text)) (sym list.whole) (AreTokens-in_order text 0 list.tokens list.to list.made list.rest (omega arith))
+spans text (Err e) list = list
+
+pub ends_once : (text : List ℕ) (answer : Result (Vec Token) ScanErr) → IfOk answer (λ v. IsTokenList text v.items) → IfOk answer (λ v. EndsOnce text v.items)
+ends_once text (Ok v) list = record {
+  others = list.tokens;
+  whole = list.whole;
+  no_end = All-from_recursion (λ (t : Token). t.kind ≢ End) list.tokens (AreTokens-no_end text 0 list.tokens list.to list.made);
+}
+ends_once text (Err e) list = list

@@ -1,5 +1,5 @@
 -- The token that begins at a place, by its first byte.
-use Rattle.std.proofs.Common.{◌≡◌, ◌≢◌, ℕ, ◌+◌, ◌-◌, ◌<◌, ◌≤◌, Bool, true, false, not, cond, List, [], ◌∷◌, length, get_or, Option, Some, None, refl, sym, ap, ◌∙◌, ⊎_elim, arith}
+use Rattle.std.proofs.Common.{subst, ◌≡◌, ◌≢◌, ℕ, ◌+◌, ◌-◌, ◌<◌, ◌≤◌, Bool, true, false, not, cond, List, [], ◌∷◌, length, get_or, Option, Some, None, refl, sym, ap, ◌∙◌, ⊎_elim, arith}
 use Rattle.std.specs.Prelude.{slice_range, option_map, nat_le, unwrap_or}
 use Rattle.std.specs.List.{list_all}
 use Rattle.std.specs.Str.{bytes_eq}
@@ -10,7 +10,7 @@ use Rattle.aos_scan.specs.declared.token.TokenKind.{TokenKind}
 use Rattle.aos_scan.specs.declared.token.TokenKind.TheVariants as kind
 use Rattle.aos_scan.specs.Bytes.{is_in, is_hexadecimal, is_quote, is_word_byte, is_text_byte}
 use Rattle.aos_scan.specs.Run.{IsRun}
-use Rattle.aos_scan.specs.Spelling.{Row, kind_in, reserved_words, symbols, front, is_run_then, value_of, word_kind, word, number, text as text_lexeme, symbol, lexeme}
+use Rattle.aos_scan.specs.Spelling.{Lexeme, Row, kind_in, reserved_words, symbols, front, is_run_then, value_of, word_kind, word, number, text as text_lexeme, symbol, lexeme}
 use Rattle.aos_scan.specs.TokenList.{Begins}
 use Rattle.aos_scan.specs.Refusal.{StringIsOpen, NothingBegins}
 use Rattle.aos_scan.specs.Found.{EndsGap}
@@ -143,7 +143,7 @@ module _ (text : List ℕ) (at : ℕ) (within : at < length text) where
       let some = run_some text Word at end run within (or_left _ _ (or_left _ _ letter)) in
       record {
         no_comment = gap.no_comment;
-        some = some;
+        nonempty = some;
         within = run.within;
         spelled = word_at letter end some run.within ∙ word-some (slice_range text at end) (all_of_run text Word at end run);
         longest = λ k past inside. word_at letter k (omega arith) inside ∙ word-none (slice_range text at k) (not_past_run text Word at end k run past inside);
@@ -163,7 +163,7 @@ module _ (text : List ℕ) (at : ℕ) (within : at < length text) where
           let digits = front-slice_range text at (to + 1) some all ∙ ap (slice_range text at) back in
           record {
             no_comment = gap.no_comment;
-            some = some;
+            nonempty = some;
             within = all;
             spelled = number_at no_letter digit (to + 1) some all
                 ∙ number-hexadecimal (slice_range text at (to + 1)) (not_digits 72 is refl (to + 1) (omega arith) all) (run_then text Hexadecimal 72 at to run inside is)
@@ -182,7 +182,7 @@ module _ (text : List ℕ) (at : ℕ) (within : at < length text) where
           let no_number : to < length text → get_or text to 0 ≢ 72 = λ _ other. omega (arith, is, other) in
           record {
             no_comment = gap.no_comment;
-            some = some;
+            nonempty = some;
             within = all;
             spelled = number_at no_letter digit (to + 1) some all
                 ∙ number-char (slice_range text at (to + 1)) (not_digits 88 is refl (to + 1) (omega arith) all) (not_run_then text Hexadecimal 72 at to (to + 1) run no_number refl some all) (run_then text Hexadecimal 88 at to run inside is)
@@ -196,7 +196,7 @@ module _ (text : List ℕ) (at : ℕ) (within : at < length text) where
           let some = run_some text Decimal at end digits within digit in
           record {
             no_comment = gap.no_comment;
-            some = some;
+            nonempty = some;
             within = digits.within;
             spelled = number_at no_letter digit end some digits.within ∙ number-decimal (slice_range text at end) (all_of_run text Decimal at end digits);
             longest = λ k past most. number_at no_letter digit k (omega arith) most
@@ -213,7 +213,7 @@ module _ (text : List ℕ) (at : ℕ) (within : at < length text) where
             let ordered = run.ordered in
             record {
               no_comment = gap.no_comment;
-              some = omega arith;
+              nonempty = omega arith;
               within = omega arith;
               spelled = text_at (to + 1) (omega arith) (omega arith) ∙ text-some (get_or text at 0) (slice_range text (at + 1) (to + 1)) (run_then text (Inside (get_or text at 0)) (get_or text at 0) (at + 1) to run inside is);
               longest = λ k past most. text_at k (omega arith) most ∙ text-none (get_or text at 0) (slice_range text (at + 1) k) (not_run_then_past text (Inside (get_or text at 0)) (get_or text at 0) (at + 1) to k run past most);
@@ -257,7 +257,7 @@ module _ (text : List ℕ) (at : ℕ) (within : at < length text) where
         pub pair_begins : (k : TokenKind) → at + 1 < length text → kind_in symbols (get_or text at 0 ∷ get_or text (at + 1) 0 ∷ []) ≡ Some k → Begins text at (at + 2) (record { kind = k; value = 0 })
         pair_begins k inside found = record {
           no_comment = gap.no_comment;
-          some = omega arith;
+          nonempty = omega arith;
           within = omega arith;
           spelled = symbol-at (at + 2) _ _ (omega arith) (omega arith) (two_bytes (omega arith)) found;
           longest = many_bytes;
@@ -273,7 +273,7 @@ module _ (text : List ℕ) (at : ℕ) (within : at < length text) where
         pub single_begins : (k : TokenKind) → (at + 1 < length text → kind_in symbols (get_or text at 0 ∷ get_or text (at + 1) 0 ∷ []) ≡ None) → kind_in symbols (get_or text at 0 ∷ []) ≡ Some k → Begins text at (at + 1) (record { kind = k; value = 0 })
         single_begins k no_pair found = record {
           no_comment = gap.no_comment;
-          some = omega arith;
+          nonempty = omega arith;
           within = omega arith;
           spelled = symbol-at (at + 1) _ _ (omega arith) (omega arith) (one_byte (omega arith)) found;
           longest = past_one no_pair;
@@ -294,3 +294,54 @@ module _ (text : List ℕ) (at : ℕ) (within : at < length text) where
               (cases_lt at k))
               (cases_lt (at + 1) k);
         }
+
+-- no token of a text is of the kind of its end
+some_same : {A : Type 0} {x y : A} → Some x ≡ Some y → x ≡ y
+some_same same = cc
+
+none_some : {A : Type 0} {x : A} {o : Option A} → o ≡ None → o ≡ Some x → ⊥
+none_some none some = cc
+
+kind_of_some : (l m : Lexeme) → Some l ≡ Some m → l.kind ≢ kind.End → m.kind ≢ kind.End
+kind_of_some l m same other = subst (λ (x : Lexeme). x.kind ≢ kind.End) (some_same same) other
+
+word_no_end : (w : List ℕ) (l : Lexeme) → word w ≡ Some l → l.kind ≢ kind.End
+word_no_end w l is = ⊎_elim
+    (λ all. kind_of_some _ l (sym (word-some w all) ∙ is) (word_not_end w))
+    (λ none. absurd (none_some (word-none w none) is))
+    (cases_Bool (list_all is_word_byte w))
+
+number_no_end : (w : List ℕ) (l : Lexeme) → number w ≡ Some l → l.kind ≢ kind.End
+number_no_end w l is = ⊎_elim
+    (λ digits. kind_of_some _ l (sym (number-decimal w digits) ∙ is) number_not_end)
+    (λ digits. ⊎_elim
+    (λ marked. kind_of_some _ l (sym (number-hexadecimal w digits marked) ∙ is) number_not_end)
+    (λ marked. ⊎_elim
+    (λ char. kind_of_some _ l (sym (number-char w digits marked char) ∙ is) char_not_end)
+    (λ char. absurd (none_some (number-none w digits marked char) is))
+    (cases_Bool (is_run_then is_hexadecimal 88 w)))
+    (cases_Bool (is_run_then is_hexadecimal 72 w)))
+    (cases_Bool (list_all is_ascii_digit w))
+
+text_no_end : (quote : ℕ) (w : List ℕ) (l : Lexeme) → text_lexeme quote w ≡ Some l → l.kind ≢ kind.End
+text_no_end quote w l is = ⊎_elim
+    (λ closed. kind_of_some _ l (sym (text-some quote w closed) ∙ is) text_not_end)
+    (λ closed. absurd (none_some (text-none quote w closed) is))
+    (cases_Bool (is_run_then (is_text_byte quote) quote w))
+
+symbol_no_end : (w : List ℕ) (o : Option TokenKind) (l : Lexeme) → kind_in symbols w ≡ o → option_map (λ (k : TokenKind). record { kind = k; value = 0 }) o ≡ Some l → l.kind ≢ kind.End
+symbol_no_end w None l found is = absurd (none_some refl is)
+symbol_no_end w (Some k) l found is = kind_of_some (record { kind = k; value = 0 }) l is (symbol_not_end w k found)
+
+pub lexeme_no_end : (w : List ℕ) (l : Lexeme) → lexeme w ≡ Some l → l.kind ≢ kind.End
+lexeme_no_end [] l is = absurd (none_some lexeme-nil is)
+lexeme_no_end (b ∷ w) l is = ⊎_elim
+    (λ letter. word_no_end (b ∷ w) l (sym (lexeme-word b w letter) ∙ is))
+    (λ no_letter. ⊎_elim
+    (λ digit. number_no_end (b ∷ w) l (sym (lexeme-number b w no_letter digit) ∙ is))
+    (λ no_digit. ⊎_elim
+    (λ quote. text_no_end b w l (sym (lexeme-text b w no_letter no_digit quote) ∙ is))
+    (λ no_quote. symbol_no_end (b ∷ w) _ l refl (sym (lexeme-symbol b w no_letter no_digit no_quote) ∙ is))
+    (cases_Bool (is_quote b)))
+    (cases_Bool (is_ascii_digit b)))
+    (cases_Bool (is_ascii_alphabetic b))

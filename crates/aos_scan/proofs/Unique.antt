@@ -40,7 +40,7 @@ quote_no_blank b quote blank = ⊎_elim (λ two. true≢false (sym blank ∙ ap 
 module _ (text : List ℕ) where
   Begins-stops : (at end : ℕ) (l : Lexeme) → Begins text at end l → Stops text at
   Begins-stops at end l begins = record {
-    no_blank = λ blank. none_some (ap lexeme (slice_range-first text at end begins.some begins.within) ∙ lexeme-blank _ _ blank) begins.spelled;
+    no_blank = λ blank. none_some (ap lexeme (slice_range-first text at end begins.nonempty begins.within) ∙ lexeme-blank _ _ blank) begins.spelled;
     no_comment = λ end c. begins.no_comment c.opens;
   }
 
@@ -78,7 +78,7 @@ module _ (text : List ℕ) where
       (λ two. omega (arith, read_within text at 34 two (omega arith)))
       (λ one. omega (arith, read_within text at 39 one (omega arith)))
       (quote_cases (get_or text at 0) b.quote)
-  Breaks-within rules.TooBig at b is = omega (arith, b.begins.some, b.begins.within)
+  Breaks-within rules.TooBig at b is = omega (arith, b.begins.nonempty, b.begins.within)
 
   Breaks-unique : (r s : Rule) (at : ℕ) → BreaksAt r text at → BreaksAt s text at → r ≡ s
   Breaks-unique rules.Bad rules.Bad at a b = refl
@@ -118,7 +118,7 @@ module _ (text : List ℕ) where
   Final-unique (Some r) (Some s) at a b = ap Some (Breaks-unique r s at a b)
 
   Final-no_token : (f : Option Rule) (at : ℕ) → Final f at → (t : Token) → StandsIn text t → at ≡ t.start → ⊥
-  Final-no_token None at final t stands same = omega (arith, stands.begins.some, stands.begins.within)
+  Final-no_token None at final t stands same = omega (arith, stands.begins.nonempty, stands.begins.within)
   Final-no_token (Some rule) at final t stands same =
       Breaks-no_token rule t.start (subst (BreaksAt rule text) same final) t.end _ stands.begins stands.fits
 

@@ -1,5 +1,5 @@
 -- The token list of a text.
-use Rattle.std.specs.Prelude.{◌≡◌, ℕ, ◌<◌, ◌≤◌, ◌^◌, ◌-◌, List, [], ◌∷◌, ◌++◌, length, slice_range, Some, None, pos}
+use Rattle.std.specs.Prelude.{◌≡◌, ◌≢◌, All, ℕ, ◌<◌, ◌≤◌, ◌^◌, ◌-◌, List, [], ◌∷◌, ◌++◌, length, slice_range, Some, None, pos}
 use Rattle.aos_scan.specs.declared.token.Token.{Token}
 use Rattle.aos_scan.specs.declared.token.TokenKind.{TokenKind}
 use Rattle.aos_scan.specs.declared.token.TokenKind.TheVariants.{End, Char}
@@ -10,7 +10,7 @@ use Rattle.aos_scan.specs.Gap.{OpensComment, Gap}
 -- The longest token that fits at a place, whose bytes end at another place.
 pub record Begins (text : List ℕ) (at end : ℕ) (l : Lexeme) : Type 0 where
   pub no_comment : ¬ OpensComment text at
-  pub some : at < end
+  pub nonempty : at < end
   pub within : end ≤ length text
   pub spelled : lexeme (slice_range text at end) ≡ Some l
   pub longest : (k : ℕ) → end < k → k ≤ length text → lexeme (slice_range text at k) ≡ None
@@ -44,3 +44,14 @@ pub record IsTokenList (text : List ℕ) (all : List Token) : Type 0 where
   pub made : AreTokens text 0 tokens to
   pub rest : Gap text to (length text)
   pub whole : all ≡ tokens ++ end_token text ∷ []
+
+-- From one place to the other each token begins where the one before it ends, or later.
+abbrev pub AreInOrder : ℕ → List Token → ℕ → Type 0
+AreInOrder from [] to = from ≤ to
+AreInOrder from (t ∷ ts) to = (from ≤ t.start) × (t.start ≤ t.end) × AreInOrder t.end ts to
+
+-- The last token is the text's end, and no other is of its kind.
+pub record EndsOnce (text : List ℕ) (all : List Token) : Type 0 where
+  pub others : List Token
+  pub whole : all ≡ others ++ end_token text ∷ []
+  pub no_end : All (λ t. t.kind ≢ End) others

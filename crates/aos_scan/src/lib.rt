@@ -1,4 +1,4 @@
-//! From a text's bytes to its tokens.
+//! From a text's bytes to its tokens (Active Oberon Language Report, section on vocabulary).
 #![tactic(auto)]
 
 mod gap;
@@ -6,7 +6,7 @@ mod lexeme;
 mod place;
 pub mod refusal;
 mod run;
-pub mod scan;
+mod scanner;
 mod symbol;
 #[cfg(test)]
 mod tests;
@@ -14,4 +14,5 @@ pub mod token;
 mod word;
 
 pub use refusal::{Rule, ScanErr};
+pub use scanner::{not_both, one_refusal, one_token_list, scan};
 pub use token::{Token, TokenKind};

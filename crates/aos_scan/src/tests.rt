@@ -1,7 +1,7 @@
 // Texts and their tokens, by hand.
 
 use crate::refusal::ScanErr;
-use crate::scan::scan;
+use crate::scanner::scan;
 use crate::token::{Token, TokenKind};
 use std::alloc::Global;
 use std::process::Abort;

@@ -1,7 +1,7 @@
 use Rattle.std.proofs.Common.{[], refl, sym, subst}
 use Rattle.aos_scan.specs.Refusal.{IsRefusedFrom}
 use Rattle.aos_scan.proofs.Laws.{is_refused}
-use Rattle.aos_scan.proofs.scan.next_token.Goals as goal
+use Rattle.aos_scan.proofs.scanner.next_token.Goals as goal
 
 pub returns-in-Err-clause-refused : goal.returns-in-Err-clause-refused
 returns-in-Err-clause-refused c = record {

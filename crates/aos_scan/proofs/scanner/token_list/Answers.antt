@@ -4,7 +4,7 @@ use Rattle.aos_scan.specs.declared.token.TokenKind.TheVariants.{End}
 use Rattle.aos_scan.specs.TokenList.{AreTokens}
 use Rattle.aos_scan.proofs.Gaps.{Gap-bounds}
 use Rattle.aos_scan.proofs.Laws.{AreTokens-push, refused_after}
-use Rattle.aos_scan.proofs.scan.token_list.Goals as goal
+use Rattle.aos_scan.proofs.scanner.token_list.Goals as goal
 
 pub returns-in-Err-clause-refused : goal.returns-in-Err-clause-refused
 returns-in-Err-clause-refused c = inr (refused_after c.args.text.now c.loop-token.at c.loop-token.tokens.items c.in-Err.refusal c.loop-token.invariant.made c.in-Err.ensures.refused)
@@ -14,7 +14,7 @@ loop-token-smaller c =
     let no_end : c.in-Ok.token.kind ≢ End = search rules in
     let begins = (c.in-Ok.ensures.found.stands no_end).begins in
     let bounds = Gap-bounds c.args.text.now c.in-Ok.ensures.found.gap c.loop-token.invariant.within in
-    omega (arith, begins.some, begins.within, bounds.0)
+    omega (arith, begins.nonempty, begins.within, bounds.0)
 
 pub loop-token-preserved : goal.loop-token-preserved
 loop-token-preserved c =

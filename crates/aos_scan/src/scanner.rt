@@ -5,7 +5,7 @@ ghost use Rattle.aos_scan.specs.declared.token.Token.{Token};
 ghost use Rattle.aos_scan.specs.declared.refusal.ScanErr.{ScanErr};
 ghost use Rattle.aos_scan.specs.declared.refusal.ScanErr.TheVariants.{NoMemory};
 ghost use Rattle.aos_scan.specs.Place.{position};
-ghost use Rattle.aos_scan.specs.TokenList.{IsTokenList, end_token};
+ghost use Rattle.aos_scan.specs.TokenList.{IsTokenList, AreInOrder, EndsOnce, end_token};
 ghost use Rattle.aos_scan.specs.Found.{IsNext};
 ghost use Rattle.aos_scan.specs.Refusal.{IsRefused, IsRefusedFrom};
 ghost use Rattle.aos_scan.specs.Laws.{OneTokenList, OneRefusal, NotBoth};
@@ -94,6 +94,9 @@ fn token_list(alloc: Global, text: &[u8]) -> Result<Vec<Token>, ScanErr>
 pub fn scan(alloc: Global, text: &[u8]) -> Result<Vec<Token>, ScanErr>
     requires size { length text.now ≤ 2 ^ 20 }
     ensures found { IfOk result (λ tokens. IsTokenList text.now tokens.items) }
+    ensures spans { IfOk result (λ tokens. AreInOrder 0 tokens.items (length text.now)) }
+    ensures ends { IfOk result (λ tokens. EndsOnce text.now tokens.items) }
+
     ensures refused { IfErr result (λ e. (e ≡ NoMemory) ⊎ IsRefused text.now e) }
     // A text that has a token list is refused only for want of memory.
     ensures only { (all : List Token) → IsTokenList text.now all →

@@ -1,7 +1,7 @@
 use Rattle.std.proofs.Common.{◌≡◌, ◌-◌, ◌≤◌, length}
 use Rattle.aos_scan.specs.Place.{position}
 use Rattle.aos_scan.specs.TokenList.{AreTokens}
-use Rattle.aos_scan.proofs.scan.token_list.Given as goal
+use Rattle.aos_scan.proofs.scanner.token_list.Given as goal
 
 abbrev pub invariant-loop-token : goal.invariant-loop-token
 invariant-loop-token l = record {
