@@ -1,0 +1,10 @@
+pub mod Bytes
+pub mod Run
+pub mod Spelling
+pub mod Words
+pub mod Place
+pub mod Gap
+pub mod TokenList
+pub mod Found
+pub mod Refusal
+pub mod Laws
