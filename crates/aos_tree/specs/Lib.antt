@@ -1,0 +1,9 @@
+pub mod formers
+pub mod Nesting
+pub mod Operators
+pub mod Words
+pub mod ExprGrammar
+pub mod StatGrammar
+pub mod DeclGrammar
+pub mod ModuleGrammar
+pub mod Begins
