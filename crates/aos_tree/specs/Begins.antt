@@ -1,6 +1,6 @@
 -- How far tokens begin a production, and where they cease to. `reads` is the production: under a rule for the nesting,
 -- which tree reads which tokens up to which rest.
-use Rattle.std.specs.Prelude.{◌≡◌, ℕ, ◌++◌, List, [], ◌∷◌, length, ◌⊎◌}
+use Rattle.std.specs.Prelude.{◌≡◌, ◌++◌, List, [], ◌∷◌, length, ◌⊎◌}
 use Rattle.aos_base.specs.declared.text.Pos.{Pos}
 use Rattle.aos_scan.specs.declared.token.Token.{Token}
 use Rattle.aos_scan.specs.declared.token.TokenKind.TheVariants as k

@@ -3,7 +3,6 @@
 use Rattle.std.specs.Prelude.{◌≡◌, ℕ, ◌+◌, List, [], ◌∷◌, Option, Some, None, Bool, true, false}
 use Rattle.aos_base.specs.declared.text.Pos.{Pos}
 use Rattle.aos_scan.specs.declared.token.Token.{Token}
-use Rattle.aos_scan.specs.declared.token.TokenKind.{TokenKind}
 use Rattle.aos_scan.specs.declared.token.TokenKind.TheVariants as k
 use Rattle.aos_tree.specs.declared.name.Name.{Name}
 use Rattle.aos_tree.specs.declared.name.Qualident.{Qualident}

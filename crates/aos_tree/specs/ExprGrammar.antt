@@ -1,7 +1,7 @@
 -- The grammar of expressions: a tree reads the tokens `ts` up to `rest`, at a nesting d that is open round it
 -- (Active Oberon Language Report, Reali 2002, syntax). One case for each form of a production. `may` says where a token
 -- may stand.
-use Rattle.std.specs.Prelude.{◌≡◌, ℕ, ◌+◌, List, [], ◌∷◌, Option, Some, None, true}
+use Rattle.std.specs.Prelude.{◌≡◌, ℕ, ◌+◌, List, [], ◌∷◌, Some, None, true}
 use Rattle.aos_scan.specs.declared.token.Token.{Token}
 use Rattle.aos_scan.specs.declared.token.TokenKind.TheVariants as k
 use Rattle.aos_tree.specs.declared.expr.RelationOp.{RelationOp}
@@ -71,12 +71,8 @@ mutual
         t.kind ≡ k.Text → may (d + 1) ts ≡ true → IsFactor may d (f.Text (text_at t)) (t ∷ ts) ts
     nil : {d : ℕ} {t : Token} {ts : List Token} →
         t.kind ≡ k.KwNil → may (d + 1) ts ≡ true → IsFactor may d (f.Nil t.pos) (t ∷ ts) ts
-    empty_set : {d : ℕ} {t u : Token} {ts : List Token} →
-        t.kind ≡ k.OpenBrace → may (d + 1) (u ∷ ts) ≡ true → u.kind ≡ k.CloseBrace → may (d + 1) ts ≡ true →
-        IsFactor may d (f.Set t.pos []) (t ∷ u ∷ ts) ts
-    set : {d : ℕ} {all : List Elem} {t u : Token} {ts rest : List Token} →
-        t.kind ≡ k.OpenBrace → may (d + 1) ts ≡ true → IsElems may (d + 1) all ts (u ∷ rest) →
-        u.kind ≡ k.CloseBrace → may (d + 1) rest ≡ true →
+    set : {d : ℕ} {all : List Elem} {t : Token} {ts rest : List Token} →
+        t.kind ≡ k.OpenBrace → may (d + 1) ts ≡ true → IsMembers may (d + 1) all ts rest →
         IsFactor may d (f.Set t.pos all) (t ∷ ts) rest
     paren : {d : ℕ} {a : Expr} {t u : Token} {ts rest : List Token} →
         t.kind ≡ k.OpenParen → may (d + 1) ts ≡ true → IsExpr may (d + 1) a ts (u ∷ rest) →
@@ -85,6 +81,13 @@ mutual
     not : {d : ℕ} {a : Factor} {t : Token} {ts rest : List Token} →
         t.kind ≡ k.Tilde → may (d + 1) ts ≡ true → IsFactor may (d + 1) a ts rest →
         IsFactor may d (f.Not t.pos a) (t ∷ ts) rest
+
+  -- [Elem {"," Elem}] "}"
+  pub data IsMembers (may : Rule) : ℕ → List Elem → List Token → List Token → Type 0 where
+    no_members : {d : ℕ} {t : Token} {ts : List Token} →
+        t.kind ≡ k.CloseBrace → may d ts ≡ true → IsMembers may d [] (t ∷ ts) ts
+    members : {d : ℕ} {all : List Elem} {t : Token} {ts rest : List Token} →
+        IsElems may d all ts (t ∷ rest) → t.kind ≡ k.CloseBrace → may d rest ≡ true → IsMembers may d all ts rest
 
   -- Elem {"," Elem}
   pub data IsElems (may : Rule) : ℕ → List Elem → List Token → List Token → Type 0 where
@@ -126,13 +129,16 @@ mutual
         IsSelector may d (s.Index t.pos all) (t ∷ ts) rest
     follow : {d : ℕ} {t : Token} {ts : List Token} →
         t.kind ≡ k.Caret → may d ts ≡ true → IsSelector may d (s.Follow t.pos) (t ∷ ts) ts
-    no_arguments : {d : ℕ} {t u : Token} {ts : List Token} →
-        t.kind ≡ k.OpenParen → may d (u ∷ ts) ≡ true → u.kind ≡ k.CloseParen → may d ts ≡ true →
-        IsSelector may d (s.Paren t.pos []) (t ∷ u ∷ ts) ts
-    arguments : {d : ℕ} {all : List Expr} {t u : Token} {ts rest : List Token} →
-        t.kind ≡ k.OpenParen → may d ts ≡ true → IsExprs may d all ts (u ∷ rest) →
-        u.kind ≡ k.CloseParen → may d rest ≡ true →
+    applied : {d : ℕ} {all : List Expr} {t : Token} {ts rest : List Token} →
+        t.kind ≡ k.OpenParen → may d ts ≡ true → IsArguments may d all ts rest →
         IsSelector may d (s.Paren t.pos all) (t ∷ ts) rest
+
+  -- [Expr {"," Expr}] ")"
+  pub data IsArguments (may : Rule) : ℕ → List Expr → List Token → List Token → Type 0 where
+    no_arguments : {d : ℕ} {t : Token} {ts : List Token} →
+        t.kind ≡ k.CloseParen → may d ts ≡ true → IsArguments may d [] (t ∷ ts) ts
+    arguments : {d : ℕ} {all : List Expr} {t : Token} {ts rest : List Token} →
+        IsExprs may d all ts (t ∷ rest) → t.kind ≡ k.CloseParen → may d rest ≡ true → IsArguments may d all ts rest
 
   -- Expr {"," Expr}
   pub data IsExprs (may : Rule) : ℕ → List Expr → List Token → List Token → Type 0 where
@@ -144,3 +150,10 @@ mutual
     another_expr : {d : ℕ} {a : Expr} {more : List Expr} {t : Token} {ts mid rest : List Token} →
         t.kind ≡ k.Comma → may d ts ≡ true → IsExpr may d a ts mid → IsMoreExprs may d more mid rest →
         IsMoreExprs may d (a ∷ more) (t ∷ ts) rest
+
+-- an expression, and a designator, at a nesting that is open round it
+abbrev pub expr_at : ℕ → Rule → Expr → List Token → List Token → Type 0
+expr_at d may tree ts rest = IsExpr may d tree ts rest
+
+abbrev pub desig_at : ℕ → Rule → Desig → List Token → List Token → Type 0
+desig_at d may tree ts rest = IsDesig may d tree ts rest

@@ -1,4 +1,5 @@
 pub mod formers
+pub mod Ended
 pub mod Nesting
 pub mod Operators
 pub mod Words

@@ -1,6 +1,6 @@
 -- The grammar of statements: a tree reads the tokens `ts` up to `rest`, at a nesting d that is open round it
 -- (Active Oberon Language Report, Reali 2002, syntax). One case for each form of a production.
-use Rattle.std.specs.Prelude.{◌≡◌, ℕ, ◌+◌, List, [], ◌∷◌, Option, Some, None}
+use Rattle.std.specs.Prelude.{ℕ, ◌+◌, List, [], ◌∷◌, Option, Some, None}
 use Rattle.aos_base.specs.declared.text.Pos.{Pos}
 use Rattle.aos_scan.specs.declared.token.Token.{Token}
 use Rattle.aos_scan.specs.declared.token.TokenKind.{TokenKind}

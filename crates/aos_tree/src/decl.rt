@@ -1,12 +1,11 @@
 // Declarations and types.
 
-use aos_base::Pos;
-
 use crate::boxed::Boxed;
 use crate::expr::Expr;
 use crate::items::Items;
 use crate::name::{Name, Qualident};
 use crate::stat::Block;
+use aos_base::Pos;
 
 /// `*`: exported, `-`: exported and read only.
 #[derive(Clone, Copy, PartialEq, Eq, Debug)]

@@ -1,10 +1,9 @@
 // Expressions.
 
-use aos_base::Pos;
-
 use crate::boxed::Boxed;
 use crate::items::Items;
 use crate::name::{Name, Text};
+use aos_base::Pos;
 
 /// `=`, `#`, `<`, `<=`, `>`, `>=`, `IN` and `IS`.
 #[derive(Clone, Copy, PartialEq, Eq, Debug)]

@@ -8,14 +8,19 @@ pub mod expr;
 pub mod items;
 pub mod module;
 pub mod name;
+pub mod sameness;
 pub mod stat;
 
 pub use boxed::Boxed;
-pub use decl::{ConstDef, Decl, Def, Fields, Formals, Mark, Proc, Section, TypeDef, TypeExpr, VarDef};
+pub use decl::{
+    ConstDef, Decl, Def, Fields, Formals, Mark, Proc, Section, TypeDef, TypeExpr, VarDef,
+};
 pub use expr::{
-    AddOp, Addition, Desig, Elem, Expr, Factor, MulOp, Product, Relation, RelationOp, Selector, Sign, Simple, Term,
+    AddOp, Addition, Desig, Elem, Expr, Factor, MulOp, Product, Relation, RelationOp, Selector,
+    Sign, Simple, Term,
 };
 pub use items::Items;
 pub use module::{Import, Module};
 pub use name::{Name, Qualident, Text};
+pub use sameness::same;
 pub use stat::{Block, Case, Elsif, Label, Modifier, Stat, StatSeq};

@@ -1,11 +1,10 @@
 // Modules.
 
-use aos_base::Pos;
-
 use crate::decl::Decl;
 use crate::items::Items;
 use crate::name::Name;
 use crate::stat::Block;
+use aos_base::Pos;
 
 /// `Module = MODULE ident ";" [IMPORT Import {"," Import} ";"] {Decl} Body ident ".".` A body that is END alone is no
 /// block.

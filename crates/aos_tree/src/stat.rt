@@ -1,10 +1,9 @@
 // Statements.
 
-use aos_base::Pos;
-
 use crate::expr::{Desig, Expr};
 use crate::items::Items;
 use crate::name::{Name, Qualident};
+use aos_base::Pos;
 
 /// `StatSeq = Stat {";" Stat}.`
 #[cycle(statements)]
