@@ -1,0 +1,10 @@
+pub mod formers
+pub mod Ended
+pub mod Nesting
+pub mod Operators
+pub mod Words
+pub mod ExprGrammar
+pub mod StatGrammar
+pub mod DeclGrammar
+pub mod ModuleGrammar
+pub mod Begins

@@ -1,0 +1,115 @@
+// Declarations and types.
+
+use crate::boxed::Boxed;
+use crate::expr::Expr;
+use crate::items::Items;
+use crate::name::{Name, Qualident};
+use crate::stat::Block;
+use aos_base::Pos;
+
+/// `*`: exported, `-`: exported and read only.
+#[derive(Clone, Copy, PartialEq, Eq, Debug)]
+pub enum Mark {
+    Exported,
+    ReadOnly,
+}
+
+/// `Def = ident ["*" | "-"].` Its place is that of its name.
+#[derive(Clone, Copy, PartialEq, Eq, Debug)]
+pub struct Def {
+    pub name: Name,
+    pub mark: Option<Mark>,
+}
+
+/// `Decl = CONST {ConstDef ";"} | TYPE {TypeDef ";"} | VAR {VarDef ";"} | Proc ";".`
+#[cycle(declarations)]
+#[derive(Drop)]
+pub enum Decl {
+    Consts(Pos, Items<ConstDef>),
+    Types(Pos, Items<TypeDef>),
+    Vars(Pos, Items<VarDef>),
+    Proc(Proc),
+}
+
+/// `ConstDef = Def "=" Expr.` Its place is that of its name.
+#[derive(Drop)]
+pub struct ConstDef {
+    pub def: Def,
+    pub value: Expr,
+}
+
+/// `TypeDef = Def "=" Type.` Its place is that of its name.
+#[cycle(declarations)]
+#[derive(Drop)]
+pub struct TypeDef {
+    pub def: Def,
+    pub value: TypeExpr,
+}
+
+/// `VarDef = Def {"," Def} ":" Type.` Its place is that of its first name.
+#[cycle(declarations)]
+#[derive(Drop)]
+pub struct VarDef {
+    pub defs: Items<Def>,
+    pub of: TypeExpr,
+}
+
+/// `Proc = PROCEDURE ["&"] Def [Formals] ";" {LocalDecl} Body ident.` A body that is END alone is no block.
+#[cycle(declarations)]
+#[derive(Drop)]
+pub struct Proc {
+    pub pos: Pos,
+    /// `&` stands before the name.
+    pub initializer: bool,
+    pub def: Def,
+    pub formals: Option<Formals>,
+    /// None of them is a procedure.
+    pub decls: Items<Decl>,
+    pub body: Option<Block>,
+    pub end: Name,
+}
+
+/// `Formals = "(" [Section {";" Section}] ")" [":" Qualident].`
+#[derive(Drop)]
+pub struct Formals {
+    pub pos: Pos,
+    pub sections: Items<Section>,
+    pub result: Option<Qualident>,
+}
+
+/// `Section = [VAR] ident {"," ident} ":" {ARRAY OF} Qualident.`
+#[derive(Drop)]
+pub struct Section {
+    pub pos: Pos,
+    /// `VAR` stands before the names.
+    pub by_reference: bool,
+    pub names: Items<Name>,
+    /// The place of each `ARRAY`.
+    pub arrays: Items<Pos>,
+    pub of: Qualident,
+}
+
+/// `Type`, with a variant for each of its forms.
+#[cycle(declarations)]
+#[derive(Drop)]
+pub enum TypeExpr {
+    Named(Qualident),
+    /// `ARRAY [Expr {"," Expr}] OF Type`
+    Array(Pos, Items<Expr>, Boxed<TypeExpr>),
+    /// `RECORD ["(" Qualident ")"] Fields {";" Fields} END`
+    Record(Pos, Option<Qualident>, Items<Fields>),
+    /// `POINTER TO Type`
+    Pointer(Pos, Boxed<TypeExpr>),
+    /// `PROCEDURE ["{" ident "}"] [Formals]`
+    Proc(Pos, Option<Name>, Option<Formals>),
+    /// `OBJECT ["(" Qualident ")"] {Decl} Body [ident]`
+    Object(Pos, Option<Qualident>, Items<Decl>, Option<Block>, Option<Name>),
+}
+
+/// `Fields = [VarDef].`
+#[cycle(declarations)]
+#[derive(Drop)]
+pub enum Fields {
+    Empty,
+    Of(VarDef),
+}

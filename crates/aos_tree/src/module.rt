@@ -1,0 +1,26 @@
+// Modules.
+
+use crate::decl::Decl;
+use crate::items::Items;
+use crate::name::Name;
+use crate::stat::Block;
+use aos_base::Pos;
+
+/// `Module = MODULE ident ";" [IMPORT Import {"," Import} ";"] {Decl} Body ident ".".` A body that is END alone is no
+/// block.
+#[derive(Drop)]
+pub struct Module {
+    pub pos: Pos,
+    pub name: Name,
+    pub imports: Items<Import>,
+    pub decls: Items<Decl>,
+    pub body: Option<Block>,
+    pub end: Name,
+}
+
+/// `Import = ident [":=" ident].` Its place is that of its first name.
+#[derive(Clone, Copy, PartialEq, Eq, Debug)]
+pub struct Import {
+    pub name: Name,
+    pub of: Option<Name>,
+}
