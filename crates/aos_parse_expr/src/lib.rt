@@ -1,13 +1,70 @@
-// A library with one function.
+//! From tokens to the trees of expressions and designators.
+//!
+//! `expr(alloc, tokens, at, depth)` gives the tree of the longest expression that begins at `at`, and the place after it,
+//! or says at which token the text breaks rule 6 (syntax) or rule 7 (nesting too deep). It descends with one token of
+//! sight, and no deeper than the nesting, which ends at 200.
 #![tactic(auto)]
 
-ghost use Rattle.std.specs.Prelude.{◌≡◌};
-ghost use Rattle.aos_parse_expr.specs.Echo.{echo_of};
+mod descent;
+pub mod error;
+mod token;
 
-// The `ensures` clause is the contract: what `echo` returns is `echo_of` of its argument, a definition
-// in `specs/Echo.antt`, which a caller's clause can cite too.
-pub fn echo(x: usize) -> usize
-    ensures { result ≡ echo_of x }
+ghost use Rattle.std.specs.Prelude.{◌≡◌, ◌≤◌, ◌<◌, drop, length, IfOk};
+ghost use Rattle.aos_base.specs.declared.text.Pos.{Pos};
+ghost use Rattle.aos_tree.specs.Begins.{CeasesAt, ExpectsAt, TooDeepAt};
+ghost use Rattle.aos_tree.specs.Ended.{IsEnded};
+ghost use Rattle.aos_tree.specs.ExprGrammar.{desig_at, expr_at};
+ghost use Rattle.aos_tree.specs.Nesting.{shallow};
+
+use aos_scan::Token;
+use aos_tree::{Desig, Expr};
+pub use error::ParseErr;
+use std::alloc::Global;
+
+/// The tree of the longest expression that begins at `at`, and the place after it, where `depth` productions that nest are
+/// open round it, 200 at most. The last token and no other is `End`.
+///
+/// A token that can go on with the expression does so. `Expected` names the token where another is expected, `Deep` the
+/// one where the nesting passes 200; at one place `Deep` comes first, wherever all that could stand there would be too deep.
+pub fn expr(
+    alloc: Global,
+    tokens: &[Token],
+    at: usize,
+    depth: u32,
+) -> Result<(Expr, usize), ParseErr>
+    requires ended { IsEnded tokens.now }
+    requires inside { at < length tokens.now }
+    requires nested { depth ≤ 200 }
+    ensures place { IfOk result (λ r. (at < r.1) × (r.1 < length tokens.now)) }
+    // The tree reads the tokens up to the place after it, none of them too deep, and the next does not go on with them.
+    ensures tree { IfOk result (λ r. expr_at depth shallow r.0 (drop at tokens.now) (drop r.1 tokens.now)) }
+    ensures longest { IfOk result (λ r. CeasesAt (expr_at depth) (drop at tokens.now) (drop r.1 tokens.now)) }
+    ensures expected { (p : Pos) → result ≡ Err (ParseErr.Expected p) → ExpectsAt (expr_at depth) (drop at tokens.now) p }
+    ensures deep { (p : Pos) → result ≡ Err (ParseErr.Deep p) → TooDeepAt (expr_at depth) (drop at tokens.now) p }
 {
-    x
+    let (tree, rest) = descent::expr(alloc, &tokens[at..], depth)?;
+    Ok((tree, tokens.len() - rest.len()))
 }
+
+/// The same of the longest designator that begins at `at`.
+pub fn desig(
+    alloc: Global,
+    tokens: &[Token],
+    at: usize,
+    depth: u32,
+) -> Result<(Desig, usize), ParseErr>
+    requires ended { IsEnded tokens.now }
+    requires inside { at < length tokens.now }
+    requires nested { depth ≤ 200 }
+    ensures place { IfOk result (λ r. (at < r.1) × (r.1 < length tokens.now)) }
+    ensures tree { IfOk result (λ r. desig_at depth shallow r.0 (drop at tokens.now) (drop r.1 tokens.now)) }
+    ensures longest { IfOk result (λ r. CeasesAt (desig_at depth) (drop at tokens.now) (drop r.1 tokens.now)) }
+    ensures expected { (p : Pos) → result ≡ Err (ParseErr.Expected p) → ExpectsAt (desig_at depth) (drop at tokens.now) p }
+    ensures deep { (p : Pos) → result ≡ Err (ParseErr.Deep p) → TooDeepAt (desig_at depth) (drop at tokens.now) p }
+{
+    let (tree, rest) = descent::desig(alloc, &tokens[at..], depth)?;
+    Ok((tree, tokens.len() - rest.len()))
+}
+
+#[cfg(test)]
+mod tests;

@@ -1,0 +1,10 @@
+pub mod Steps
+pub mod Words
+pub mod Walk
+pub mod Falling
+pub mod Yields
+pub mod Places
+pub mod Productions
+pub mod ExprWalk
+pub mod ExprYields
+pub mod Answer
