@@ -5,3 +5,4 @@ pub mod Cells
 pub mod Desks
 pub mod Logs
 pub mod Histories
+pub mod Lively

@@ -1,5 +1,6 @@
 // The kernel over an image, seen as its log.
-ghost use Rattle.std.specs.Prelude.{◌≡◌, ◌<◌, ◌≤◌, [], IfOk, OnErr, All};
+ghost use Rattle.std.specs.Prelude.{◌≡◌, ◌≢◌, ◌<◌, ◌≤◌, [], IfOk, OnErr, All};
+ghost use Rattle.aos_base.specs.declared.kernel.Outcome.{Outcome};
 ghost use Rattle.std.specs.Arc.{arc_value};
 ghost use Rattle.aos_base.specs.Book.{outcome};
 ghost use Rattle.aos_base.specs.Machine.{Step, Tick, happens};
@@ -184,9 +185,10 @@ impl Kernel {
         &self.log
     }
 
-    /// How far the execution is.
+    /// How far the execution is. It is never Dead, since no activity waits for a lock yet.
     pub fn outcome(&self) -> Outcome
-        ensures { result ≡ outcome (state_of self.now).book }
+        ensures outcome { result ≡ outcome (state_of self.now).book }
+        ensures lively { result ≢ Outcome.Dead }
     {
         self.desk.outcome()
     }
