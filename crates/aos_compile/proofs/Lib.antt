@@ -1,2 +1,3 @@
 pub mod Patch
 pub mod Codes
+pub mod Accepted
