@@ -1,7 +1,10 @@
 // From the words and the shelf to an answer.
 
-ghost use Rattle.std.specs.Prelude.{ℕ, ◌≡◌, ◌≤◌, ◌≢◌, List, [], length, IfOk, Option};
+ghost use Rattle.std.specs.Prelude.{ℕ, ◌≡◌, ◌≤◌, ◌≢◌, List, [], length, map, IfOk, Option};
+ghost use Rattle.std.specs.String.{string_bytes};
 ghost use Rattle.aos_dev.specs.Shelf.{Named};
+ghost use Rattle.aos_sim.specs.Shows.{Shows};
+ghost use Rattle.aos_compile.specs.Elaborates.{Elaborates, names_of};
 ghost use Rattle.aos_report.specs.Texts.{refusal_text};
 ghost use Rattle.aos.specs.Words.{words_of};
 ghost use Rattle.aos.specs.Cause.{limit, AsksFor, Has, Causes};
@@ -10,9 +13,11 @@ use crate::answer::Answer;
 use crate::run::run_image;
 use crate::words::command;
 use aos_base::{NoMemory, Pos, Refusal};
+use aos_code::Image;
 use aos_compile::{CompileErr, compile};
 use aos_dev::{Got, Shelf};
 use aos_report::{refusal, too_long, unread, usage};
+use aos_typed::Program;
 use std::alloc::Global;
 use std::sync::Wait;
 
@@ -40,13 +45,30 @@ fn refuse(alloc: Global, file: &str, rule: u16, pos: Pos) -> Result<Answer, NoMe
     Ok(message(alloc, 1, line))
 }
 
+// The answer for a file whose text has this program, which the image shows.
+fn run_program<R: Wait>(
+    rt: &R,
+    alloc: Global,
+    file: &str,
+    text: &[u8],
+    program: &Program,
+    image: Image,
+) -> Result<Answer, NoMemory>
+    requires elaborates { Elaborates text.now program.now }
+    requires shows { Shows program.now image }
+    requires names { map (λ d. string_bytes d.name) image.modules.items ≡ names_of program.now }
+    ensures { IfOk result (λ a. (texts : Option (List Named)) (old new : ℕ) (words : List (List ℕ)) → AsksFor words file.now → Has texts file.now text.now → Causes texts old new words a) }
+{
+    run_image(rt, alloc, image)
+}
+
 // The answer for a file that has this text.
 fn run_text<R: Wait>(rt: &R, alloc: Global, file: &str, text: &[u8]) -> Result<Answer, NoMemory>
     requires { length text.now ≤ limit }
     ensures { IfOk result (λ a. (texts : Option (List Named)) (old new : ℕ) (words : List (List ℕ)) → AsksFor words file.now → Has texts file.now text.now → Causes texts old new words a) }
 {
     match compile(alloc, text) {
-        Ok((_program, image)) => run_image(rt, alloc, image),
+        Ok((program, image)) => run_program(rt, alloc, file, text, &program, image),
         Err(CompileErr::Refused(r)) => refuse(alloc, file, r.rule, r.pos),
         Err(CompileErr::NoMemory) => Err(NoMemory),
     }
