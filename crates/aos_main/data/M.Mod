@@ -1,0 +1,1 @@
+MODULE M; IMPORT Out; BEGIN Out.Int(7, 3); Out.Ln END M.

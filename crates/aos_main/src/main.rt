@@ -1,0 +1,31 @@
+//! The program: it makes the real shelf and sinks, hands the words in, and ends with the status.
+#![tactic(auto)]
+
+use aos::aos;
+use aos_dev::{FileShelf, StdSink};
+use std::env;
+use std::io;
+use std::process::ExitCode;
+use std::rt::Env;
+
+// The status where memory was wanted and not had.
+const NO_MEMORY: u8 = 8;
+
+// The words after the program's name; none where one isn't UTF-8, since then they are no command.
+fn given_words<R: Env + AllocGlobal>(rt: &R) -> io::Result<Vec<String>> {
+    match env::args(rt) {
+        Ok(words) => words.skip(1).collect(rt.alloc()).map_err(io::Error::from),
+        Err(error) if error.kind() == io::ErrorKind::OutOfMemory => Err(error),
+        Err(_) => Ok(Vec::new(rt.alloc())),
+    }
+}
+
+fn main(rt: HostRuntime) -> ExitCode {
+    let Ok(words) = given_words(&rt) else {
+        return ExitCode::from(NO_MEMORY);
+    };
+    let mut shelf = FileShelf::new(&rt);
+    let mut out = StdSink::new(rt.stdout());
+    let mut err = StdSink::new(rt.stderr());
+    ExitCode::from(aos(&rt, rt.alloc(), words.as_slice(), &mut shelf, &mut out, &mut err))
+}
