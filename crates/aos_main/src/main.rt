@@ -3,10 +3,9 @@
 
 use aos::aos;
 use aos_dev::{FileShelf, StdSink};
-use std::env;
-use std::io;
 use std::process::ExitCode;
 use std::rt::Env;
+use std::{env, io};
 
 // The status where memory was wanted and not had.
 const NO_MEMORY: u8 = 8;
@@ -27,5 +26,12 @@ fn main(rt: HostRuntime) -> ExitCode {
     let mut shelf = FileShelf::new(&rt);
     let mut out = StdSink::new(rt.stdout());
     let mut err = StdSink::new(rt.stderr());
-    ExitCode::from(aos(&rt, rt.alloc(), words.as_slice(), &mut shelf, &mut out, &mut err))
+    ExitCode::from(aos(
+        &rt,
+        rt.alloc(),
+        words.as_slice(),
+        &mut shelf,
+        &mut out,
+        &mut err,
+    ))
 }
