@@ -1,5 +1,5 @@
 -- What the descent of a production shows, in the grammar's words.
-use Rattle.std.proofs.Common.{◌≡◌, ℕ, zero, suc, ◌+◌, ◌-◌, ◌≤◌, ◌<◌, ◌++◌, List, [], ◌∷◌, length, take, drop, refl, sym, ap, ◌∙◌, subst, arith, length-append, append_assoc}
+use Rattle.std.proofs.Common.{◌≡◌, ℕ, zero, suc, ◌-◌, ◌≤◌, ◌<◌, ◌++◌, List, [], ◌∷◌, length, take, drop, sym, ap, ◌∙◌, subst, arith, length-append, append_assoc}
 use Rattle.std.proofs.lemmas.List.{take-append-drop, drop_at}
 use Rattle.std.specs.Prelude.{IsErrAnd, Result, Ok, Err}
 use Rattle.aos_base.specs.declared.text.Pos.{Pos}
@@ -8,11 +8,10 @@ use Rattle.aos_tree.specs.declared.expr.Expr.{Expr}
 use Rattle.aos_tree.specs.declared.expr.Desig.{Desig}
 use Rattle.aos_tree.specs.Nesting.{Rule, shallow}
 use Rattle.aos_tree.specs.Ended.{IsEnded}
-use Rattle.aos_tree.specs.ExprGrammar.{IsExpr, IsDesig, expr_at, desig_at}
+use Rattle.aos_tree.specs.ExprGrammar.{expr_at, desig_at}
 use Rattle.aos_tree.specs.Begins.{CeasesAt, ExpectsAt, TooDeepAt}
 use Rattle.aos_parse_expr.specs.declared.error.ParseErr.{ParseErr}
 use Rattle.aos_parse_expr.specs.declared.error.ParseErr.TheVariants as e
-use Rattle.aos_parse_expr.specs.Machine as machine
 use Rattle.aos_parse_expr.specs.Machine.{Refuses, run}
 use Rattle.aos_parse_expr.specs.Symbols as m
 use Rattle.aos_parse_expr.specs.Symbols.{Sym, Stack}
@@ -23,16 +22,16 @@ use Rattle.aos_parse_expr.proofs.ExprWalk.{joins, read_expr, read_desig}
 use Rattle.aos_parse_expr.proofs.ExprYields as y
 use Rattle.aos_parse_expr.proofs.ExprYields.{Yields}
 
-an_expr : (d : ℕ) (may : Rule) (ts rest : List Token) → All (Yields may) (m.expr d ∷ []) ts rest → (a : Expr) × expr_at d may a ts rest
+pub an_expr : (d : ℕ) (may : Rule) (ts rest : List Token) → All (Yields may) (m.expr d ∷ []) ts rest → (a : Expr) × expr_at d may a ts rest
 an_expr d may ts rest (next (y.an_expr x) done) = (_, x)
 
-a_desig : (d : ℕ) (may : Rule) (ts rest : List Token) → All (Yields may) (m.desig d ∷ []) ts rest → (a : Desig) × desig_at d may a ts rest
+pub a_desig : (d : ℕ) (may : Rule) (ts rest : List Token) → All (Yields may) (m.desig d ∷ []) ts rest → (a : Desig) × desig_at d may a ts rest
 a_desig d may ts rest (next (y.a_desig x) done) = (_, x)
 
-walk_expr : (d : ℕ) (may : Rule) (a : Expr) (ts rest : List Token) → expr_at d may a ts rest → w.Reads m.table joins may 4 (m.expr d ∷ []) ts rest
+pub walk_expr : (d : ℕ) (may : Rule) (a : Expr) (ts rest : List Token) → expr_at d may a ts rest → w.Reads m.table joins may 4 (m.expr d ∷ []) ts rest
 walk_expr d may a ts rest h = (read_expr may h).0
 
-walk_desig : (d : ℕ) (may : Rule) (a : Desig) (ts rest : List Token) → desig_at d may a ts rest → w.Reads m.table joins may 1 (m.desig d ∷ []) ts rest
+pub walk_desig : (d : ℕ) (may : Rule) (a : Desig) (ts rest : List Token) → desig_at d may a ts rest → w.Reads m.table joins may 1 (m.desig d ∷ []) ts rest
 walk_desig d may a ts rest h = read_desig may h
 
 pub expr_ceases : (d : ℕ) (a : Expr) (ts rest : List Token) → IsEnded rest → expr_at d shallow a ts rest → ((k : Stack) → run m.table shallow ts (m.expr d ∷ k) ≡ run m.table shallow rest k) → CeasesAt (expr_at d) ts rest

@@ -1,7 +1,6 @@
 -- What the grammar of expressions reads, the machine walks. How loosely a token joins what stands before it: 1 a selector,
 -- 2 a product, 3 an addition, 4 a relation, 5 `..`, 6 a comma, 7 the rest.
-use Rattle.std.proofs.Common.{◌≡◌, ℕ, ◌+◌, ◌≤◌, ◌<◌, ◌++◌, List, [], ◌∷◌, Bool, true, false, Option, Some, None, refl, sym, ap, ◌∙◌, subst, arith, lit<}
-use Rattle.std.specs.Prelude.{⊤}
+use Rattle.std.proofs.Common.{◌≡◌, ℕ, ◌+◌, ◌≤◌, ◌<◌, ◌++◌, List, [], ◌∷◌, true, Option, Some, None, refl, sym, ap, subst, arith, lit<}
 use Rattle.aos_scan.specs.declared.token.Token.{Token}
 use Rattle.aos_scan.specs.declared.token.TokenKind.{TokenKind}
 use Rattle.aos_scan.specs.declared.token.TokenKind.TheVariants as k
@@ -22,7 +21,6 @@ use Rattle.aos_tree.specs.Nesting.{Rule}
 use Rattle.aos_tree.specs.Operators.{relation_of, addition_of, product_of, sign_of}
 use Rattle.aos_tree.specs.ExprGrammar as g
 use Rattle.aos_tree.specs.ExprGrammar.{IsExpr, IsSimple, IsAdditions, IsTerm, IsProducts, IsFactor, IsMembers, IsElems, IsMoreElems, IsElem, IsDesig, IsSelectors, IsSelector, IsArguments, IsExprs, IsMoreExprs}
-use Rattle.aos_parse_expr.specs.Machine.{or_else}
 use Rattle.aos_parse_expr.specs.Symbols as m
 use Rattle.aos_parse_expr.specs.Symbols.{Sym, Stack}
 use Rattle.aos_parse_expr.proofs.Productions as by

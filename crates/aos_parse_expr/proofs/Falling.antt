@@ -1,8 +1,7 @@
 -- On a stack that the machine reaches, nestings never rise downwards: so the least nesting of what must come next is the
 -- least of all that could come. Over symbols of any kind.
-use Rattle.std.proofs.Common.{◌≡◌, ℕ, ◌+◌, ◌≤◌, ◌<◌, ◌++◌, List, [], ◌∷◌, Option, Some, None, refl, sym, ap, ◌∙◌, subst, arith}
+use Rattle.std.proofs.Common.{◌≡◌, ℕ, ◌≤◌, ◌++◌, List, [], ◌∷◌, Option, Some, None, refl, ap, subst, arith}
 use Rattle.std.specs.Prelude.{⊤, unwrap_or}
-use Rattle.aos_scan.specs.declared.token.Token.{Token}
 use Rattle.aos_scan.specs.declared.token.TokenKind.{TokenKind}
 use Rattle.aos_parse_expr.specs.Machine as m
 use Rattle.aos_parse_expr.specs.Machine.{Table, Step, step, without, or_else}

@@ -8,3 +8,6 @@ pub mod Productions
 pub mod ExprWalk
 pub mod ExprYields
 pub mod Answer
+pub mod Compose
+pub mod Unique
+pub mod Above

@@ -1,6 +1,6 @@
 -- The place where the machine stops is the one that the grammar names. Over symbols of any kind, for a symbol `x` whose
 -- production is `reads`.
-use Rattle.std.proofs.Common.{◌≡◌, ℕ, ◌+◌, ◌≤◌, ◌<◌, ◌++◌, List, [], ◌∷◌, length, Bool, true, false, Option, Some, None, refl, sym, ap, ◌∙◌, subst, arith, append_assoc, append-nil, length-append, ◌⊎◌, inl, inr, nat_le, if◌then◌else◌}
+use Rattle.std.proofs.Common.{◌≡◌, ℕ, ◌≤◌, ◌<◌, ◌++◌, List, [], ◌∷◌, length, Bool, true, false, Option, Some, None, refl, sym, ap, ◌∙◌, subst, arith, append_assoc, append-nil, length-append, ◌⊎◌, inl, inr, nat_le, if◌then◌else◌}
 use Rattle.std.proofs.lemmas.Bool.{leb-true, leb-false, le-leb, lt-leb}
 use Rattle.aos_base.specs.declared.text.Pos.{Pos}
 use Rattle.aos_scan.specs.declared.token.Token.{Token}
@@ -31,7 +31,7 @@ same_split (x ∷ xs) (y ∷ ys) us vs at len =
     (cc, p.1)
 
 -- a walk without its nestings
-abbrev Walks : {S : Type 0} → Table S → List Token → List S → List S → Type 0
+abbrev pub Walks : {S : Type 0} → Table S → List Token → List S → List S → Type 0
 Walks g [] xs ys = xs ≡ ys
 Walks {S} g (t ∷ ts) xs ys = (n : ℕ) × (j : List S) × (step g xs t.kind ≡ m.shifts n j) × Walks g ts j ys
 
@@ -39,18 +39,18 @@ kept_by : (b : Bool) (n : ℕ) → nat_le n 200 ≡ true → (if b then nat_le n
 kept_by true n h = h
 kept_by false n h = refl
 
-kept : (free n : ℕ) (q : List Token) → nat_le n 200 ≡ true → shallow_before free n q ≡ true
+pub kept : (free n : ℕ) (q : List Token) → nat_le n 200 ≡ true → shallow_before free n q ≡ true
 kept free n q h = kept_by (nat_le free (length q)) n h
 
 -- with as many tokens after it as are kept, one is within the limit
-within : (n : ℕ) (q : List Token) → shallow_before (length q) n q ≡ true → nat_le n 200 ≡ true
+pub within : (n : ℕ) (q : List Token) → shallow_before (length q) n q ≡ true → nat_le n 200 ≡ true
 within n q h = sym (ap (λ b. if b then nat_le n 200 else true) (le-leb (length q) (length q) (omega arith))) ∙ h
 
-free_before : (n : ℕ) → Free (shallow_before n) n
+pub free_before : (n : ℕ) → Free (shallow_before n) n
 free_before n d vs h = ap (λ b. if b then nat_le d 200 else true) (lt-leb n (length vs) h)
 
 module _ {S : Type 0} (g : Table S) where
-  bare : (may : Rule) (front rest : List Token) (xs ys : List S) → Walk g may front rest xs ys → Walks g front xs ys
+  pub bare : (may : Rule) (front rest : List Token) (xs ys : List S) → Walk g may front rest xs ys → Walks g front xs ys
   bare may [] rest xs ys v = v
   bare may (t ∷ ts) rest xs ys v = (v.0, v.1, v.2, bare may ts rest v.1 ys v.4)
 
@@ -143,32 +143,32 @@ module _ {S : Type 0} (g : Table S) where
   stop (t ∷ ts) xs err left h = stop_by t ts xs err left (step g xs t.kind) refl h (λ j h'. stop ts j err left h')
 
   -- with nothing to come the next token is refused
-  ended_run : (after : List Token) (p : Pos) (left : ℕ) → run g shallow after [] ≡ m.fault (e.Expected p) left → length after ≡ left → ⊥
+  ended_run : (after : List Token) (err : ParseErr) (left : ℕ) → run g shallow after [] ≡ m.fault err left → length after ≡ left → ⊥
   unfolding run
-  ended_run [] p left h is = absurd (cc)
-  ended_run (v ∷ vs) p left h is = let a : length vs ≡ left = cc in omega arith
+  ended_run [] err left h is = absurd (cc)
+  ended_run (v ∷ vs) err left h is = let a : length vs ≡ left = cc in omega arith
 
-  run_step : (t : Token) (us : List Token) (xs : List S) (st : Step S) → step g xs t.kind ≡ st → run g shallow (t ∷ us) xs ≡ act shallow t us st (run g shallow us)
+  pub run_step : (t : Token) (us : List Token) (xs : List S) (st : Step S) → step g xs t.kind ≡ st → run g shallow (t ∷ us) xs ≡ act shallow t us st (run g shallow us)
   unfolding run
   run_step t us xs st is = ap (λ q. act shallow t us q (run g shallow us)) is
 
-  run_end : (t : Token) (us : List Token) → run g shallow (t ∷ us) [] ≡ m.fault (e.Expected t.pos) (length us)
+  pub run_end : (t : Token) (us : List Token) → run g shallow (t ∷ us) [] ≡ m.fault (e.Expected t.pos) (length us)
   unfolding run
   run_end t us = refl
 
   module _ (only : TokenKind → S) (only_takes : (c : TokenKind) → g.after (only c) c ≡ Some (0, [])) where
     -- what is refused, whatever comes after it, is no whole
-    not_left : (x : S) (ts front : List Token) (next : Token) (after : List Token) (stack : List S) (n : ℕ) (p : Pos) (left : ℕ) →
-        ((ys : List S) → run g shallow ts (x ∷ ys) ≡ m.fault (e.Expected p) left) → ts ≡ front ++ (next ∷ after) → length after ≡ left →
+    not_left : (x : S) (ts front : List Token) (next : Token) (after : List Token) (stack : List S) (n : ℕ) (err : ParseErr) (left : ℕ) →
+        ((ys : List S) → run g shallow ts (x ∷ ys) ≡ m.fault err left) → ts ≡ front ++ (next ∷ after) → length after ≡ left →
         Walk g shallow front (next ∷ after) (x ∷ []) stack → step g stack next.kind ≡ m.refuses n → AllLeft g stack → ⊥
-    not_left x ts front next after stack n p left f whole left_is walk is all =
+    not_left x ts front next after stack n err left f whole left_is walk is all =
         let ys : List S = only next.kind ∷ [] in
         let a : step g ys next.kind ≡ m.shifts 0 [] = ap (λ mv. or_else mv [] (without (g.needs (only next.kind)) (m.refuses 0))) (only_takes next.kind) in
         let b : step g (stack ++ ys) next.kind ≡ m.shifts 0 [] = passes stack ys next.kind n all is ∙ a in
         let c : run g shallow ts (x ∷ ys) ≡ run g shallow after [] =
         ap (λ q. run g shallow q (x ∷ ys)) whole ∙ walk_runs g shallow front (next ∷ after) (x ∷ ys) (stack ++ ys) (walk_more shallow front (next ∷ after) (x ∷ []) stack ys walk)
         ∙ run_step next after (stack ++ ys) (m.shifts 0 []) b in
-        ended_run after p left (sym c ∙ f ys) left_is
+        ended_run after err left (sym c ∙ f ys) left_is
 
 module _ {S : Type 0} (g : Table S) (joins : TokenKind → ℕ) (yields : Rule → S → List Token → List Token → Type 0) (sound : Sound g yields) (empty : Empty g yields)
     (sample : (x : S) (n : ℕ) → g.needs x ≡ Some n → Sample g yields x n)
@@ -176,7 +176,7 @@ module _ {S : Type 0} (g : Table S) (joins : TokenKind → ℕ) (yields : Rule �
     (x : S) {A : Type 0} (reads : Rule → A → List Token → List Token → Type 0)
     (from : (may : Rule) (ts rest : List Token) → All (yields may) (x ∷ []) ts rest → (a : A) × reads may a ts rest)
     (l : ℕ) (into : (may : Rule) (a : A) (ts rest : List Token) → reads may a ts rest → Reads g joins may l (x ∷ []) ts rest) where
-  begins_within : (front rest : List Token) (stack : List S) → Walk g shallow front rest (x ∷ []) stack → BeginsWithin reads front
+  pub begins_within : (front rest : List Token) (stack : List S) → Walk g shallow front rest (x ∷ []) stack → BeginsWithin reads front
   begins_within front rest stack w =
       let f = fill g yields sound empty sample stack in
       let us : List Token = f.0 ++ (end_token ∷ []) in
@@ -186,7 +186,7 @@ module _ {S : Type 0} (g : Table S) (joins : TokenKind → ℕ) (yields : Rule �
       record { tree = t.0; more = f.0; end = end_token; is_end = refl; whole = t.1 }
 
   -- a token that goes on, however deep
-  begins_on : (front rest : List Token) (stack : List S) (u : Token) (n : ℕ) (j : List S) → Walk g shallow front rest (x ∷ []) stack → step g stack u.kind ≡ m.shifts n j → Begins reads (front ++ (u ∷ []))
+  pub begins_on : (front rest : List Token) (stack : List S) (u : Token) (n : ℕ) (j : List S) → Walk g shallow front rest (x ∷ []) stack → step g stack u.kind ≡ m.shifts n j → Begins reads (front ++ (u ∷ []))
   begins_on front rest stack u n j w is =
       let f = fill g yields sound empty sample j in
       let us : List Token = f.0 ++ (end_token ∷ []) in
@@ -196,7 +196,7 @@ module _ {S : Type 0} (g : Table S) (joins : TokenKind → ℕ) (yields : Rule �
       record { tree = t.0; more = f.0; end = end_token; is_end = refl; whole = subst (λ q. reads anywhere t.0 q (end_token ∷ [])) (sym (append_assoc front (u ∷ []) us)) t.1 }
 
   -- a token that could stand there
-  begins_other : (front rest : List Token) (stack : List S) (n : ℕ) → n ≤ 200 → Walk g shallow front rest (x ∷ []) stack → Point g yields stack n → (u : Token) × BeginsWithin reads (front ++ (u ∷ []))
+  pub begins_other : (front rest : List Token) (stack : List S) (n : ℕ) → n ≤ 200 → Walk g shallow front rest (x ∷ []) stack → Point g yields stack n → (u : Token) × BeginsWithin reads (front ++ (u ∷ []))
   begins_other front rest stack n le w p =
       let us : List Token = p.1 ++ (end_token ∷ []) in
       let rule : Rule = shallow_before (length us) in
@@ -206,7 +206,7 @@ module _ {S : Type 0} (g : Table S) (joins : TokenKind → ℕ) (yields : Rule �
       (p.0, record { tree = t.0; more = p.1; end = end_token; is_end = refl; whole = subst (λ q. reads rule t.0 q (end_token ∷ [])) (sym (append_assoc front (p.0 ∷ []) us)) t.1 })
 
   -- a tree that goes on with a token moves the machine by it
-  goes_on : (may : Rule) (front : List Token) (u : Token) (more : List Token) (end : Token) (a : A) (stack : List S) → reads may a ((front ++ (u ∷ [])) ++ (more ++ (end ∷ []))) (end ∷ []) →
+  pub goes_on : (may : Rule) (front : List Token) (u : Token) (more : List Token) (end : Token) (a : A) (stack : List S) → reads may a ((front ++ (u ∷ [])) ++ (more ++ (end ∷ []))) (end ∷ []) →
       Walks g front (x ∷ []) stack → (n : ℕ) × (j : List S) × (step g stack u.kind ≡ m.shifts n j) × (may n (more ++ (end ∷ [])) ≡ true)
   goes_on may front u more end a stack h v =
       let r = into may a ((front ++ (u ∷ [])) ++ (more ++ (end ∷ []))) (end ∷ []) h in
@@ -231,7 +231,7 @@ module _ {S : Type 0} (g : Table S) (joins : TokenKind → ℕ) (yields : Rule �
   expects_by : (ts : List Token) (p : Pos) (left : ℕ) → ((ys : List S) → run g shallow ts (x ∷ ys) ≡ m.fault (e.Expected p) left) → (r : Stop g ts (x ∷ []) (e.Expected p) left) →
       ((n : ℕ) × (step g r.stack r.next.kind ≡ m.refuses n) × (n ≤ 200) × (e.Expected p ≡ e.Expected r.next.pos)) → ExpectsAt reads ts p
   expects_by ts p left f r w =
-      let never : AllLeft g r.stack → ⊥ = not_left g only only_takes x ts r.front r.next r.after r.stack w.0 p left f r.whole r.left_is r.walk w.1 in
+      let never : AllLeft g r.stack → ⊥ = not_left g only only_takes x ts r.front r.next r.after r.stack w.0 (e.Expected p) left f r.whole r.left_is r.walk w.1 in
       record {
         front = r.front;
         next = r.next;
@@ -283,7 +283,7 @@ module _ {S : Type 0} (g : Table S) (joins : TokenKind → ℕ) (yields : Rule �
   module _ (depth : S → ℕ) (low : (y : S) (c : TokenKind) (p : ℕ × List S) → g.after y c ≡ Some p → depth y ≤ p.0)
       (floor : (y : S) (c : TokenKind) (p : ℕ × List S) (n : ℕ) → g.after y c ≡ Some p → g.needs y ≡ Some n → n ≤ p.0)
       (falls : (y : S) (c : TokenKind) (p : ℕ × List S) → g.after y c ≡ Some p → falling.FallsTo g depth (depth y) p.1) where
-    falls_walk : (may : Rule) (front rest : List Token) (xs ys : List S) → Walk g may front rest xs ys → falling.FallsTo g depth 0 xs → falling.FallsTo g depth 0 ys
+    pub falls_walk : (may : Rule) (front rest : List Token) (xs ys : List S) → Walk g may front rest xs ys → falling.FallsTo g depth 0 xs → falling.FallsTo g depth 0 ys
     falls_walk may [] rest xs ys w f = subst (λ q. falling.FallsTo g depth 0 q) w f
     falls_walk may (t ∷ ts) rest xs ys w f = falls_walk may ts rest w.1 ys w.4 (falling.falls_step g depth low floor falls xs t.kind w.0 w.1 w.2 f)
 
@@ -307,8 +307,8 @@ module _ {S : Type 0} (g : Table S) (joins : TokenKind → ℕ) (yields : Rule �
         let b : n ≡ q.0 = cc in
         omega arith
 
-    deep_why : (ts : List Token) (p : Pos) (left : ℕ) → Stop g ts (x ∷ []) (e.Deep p) left → TooDeepAt reads ts p
-    deep_why ts p left r =
+    deep_why : (ts : List Token) (p : Pos) (left : ℕ) → ((ys : List S) → run g shallow ts (x ∷ ys) ≡ m.fault (e.Deep p) left) → Stop g ts (x ∷ []) (e.Deep p) left → TooDeepAt reads ts p
+    deep_why ts p left f r =
         elim r.why [
           | inl w ↦ (let no : e.Deep p ≡ e.Expected r.next.pos = w.3 in absurd (cc))
           | inr v ↦ elim v [
@@ -320,7 +320,10 @@ module _ {S : Type 0} (g : Table S) (joins : TokenKind → ℕ) (yields : Rule �
               place = cc;
               begins = begins_within r.front (r.next ∷ r.after) r.stack r.walk;
               no_further = none_within r.front (r.next ∷ r.after) r.stack r.next w.0 w.2 r.walk w.1 r.next;
-              deeper = inr (none_within r.front (r.next ∷ r.after) r.stack r.next w.0 w.2 r.walk w.1);
+              deeper = inr (
+                (λ a h. not_left g only only_takes x ts r.front r.next r.after r.stack w.0 (e.Deep p) left f r.whole r.left_is r.walk w.1 (leaves_all ts r.front (r.next ∷ r.after) r.stack a r.whole r.walk h)),
+                none_within r.front (r.next ∷ r.after) r.stack r.next w.0 w.2 r.walk w.1,
+              );
             })
             | inr w ↦ (let at : e.Deep p ≡ e.Deep r.next.pos = w.4 in record {
               front = r.front;
@@ -337,4 +340,4 @@ module _ {S : Type 0} (g : Table S) (joins : TokenKind → ℕ) (yields : Rule �
 
     -- where the nesting passes the limit
     pub deep : (ts : List Token) (p : Pos) → Refuses g (x ∷ []) ts (e.Deep p) → TooDeepAt reads ts p
-    deep ts p h = deep_why ts p h.refused.0 (stop g ts (x ∷ []) (e.Deep p) h.refused.0 (h.refused.1 []))
+    deep ts p h = deep_why ts p h.refused.0 h.refused.1 (stop g ts (x ∷ []) (e.Deep p) h.refused.0 (h.refused.1 []))

@@ -1,16 +1,13 @@
 -- Each production of an expression at its first token.
-use Rattle.std.proofs.Common.{◌≡◌, ℕ, ◌+◌, ◌≤◌, ◌<◌, ◌++◌, List, [], ◌∷◌, Bool, true, false, Option, Some, None, refl, sym, ap, ◌∙◌, append_assoc, arith, ◌⊎◌, inl, inr}
-use Rattle.std.specs.Prelude.{◌≢◌, Result}
+use Rattle.std.proofs.Common.{◌≡◌, ℕ, ◌+◌, ◌++◌, List, [], ◌∷◌, true, false, Option, Some, None, refl, sym, ap, ◌∙◌, append_assoc, ◌⊎◌, inl, inr}
+use Rattle.std.specs.Prelude.{◌≢◌}
 use Rattle.aos_scan.specs.declared.token.Token.{Token}
 use Rattle.aos_scan.specs.declared.token.TokenKind.{TokenKind}
 use Rattle.aos_scan.specs.declared.token.TokenKind.TheVariants as k
-use Rattle.aos_tree.specs.declared.expr.RelationOp.{RelationOp}
-use Rattle.aos_tree.specs.declared.expr.AddOp.{AddOp}
-use Rattle.aos_tree.specs.declared.expr.MulOp.{MulOp}
 use Rattle.aos_tree.specs.declared.expr.Sign.{Sign}
 use Rattle.aos_tree.specs.Nesting.{shallow}
 use Rattle.aos_tree.specs.Ended.{IsEnded}
-use Rattle.aos_tree.specs.Operators.{relation_of, addition_of, product_of, sign_of}
+use Rattle.aos_tree.specs.Operators.{sign_of}
 use Rattle.aos_parse_expr.specs.Machine.{Step, refuses, shifts, or_else, without, run}
 use Rattle.aos_parse_expr.specs.Machine as machine
 use Rattle.aos_parse_expr.specs.Symbols as m

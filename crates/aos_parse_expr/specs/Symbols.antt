@@ -1,11 +1,9 @@
 -- The symbols of expressions, each with the nesting that is open round it, and how they take tokens.
-use Rattle.std.specs.Prelude.{ℕ, ◌+◌, ◌++◌, List, [], ◌∷◌, Option, Some, None, Bool, true, false, nat_eq, if◌then◌else◌, Result}
-use Rattle.aos_scan.specs.declared.token.Token.{Token}
+use Rattle.std.specs.Prelude.{ℕ, ◌+◌, ◌++◌, List, [], ◌∷◌, Option, Some, None, Bool, true, false, nat_eq, if◌then◌else◌}
 use Rattle.aos_scan.specs.declared.token.TokenKind.{TokenKind}
 use Rattle.aos_scan.specs.declared.token.TokenKind.TheVariants as k
 use Rattle.aos_tree.specs.Operators.{relation_of, addition_of, product_of, sign_of}
-use Rattle.aos_parse_expr.specs.declared.error.ParseErr.{ParseErr}
-use Rattle.aos_parse_expr.specs.Machine.{Table, Moves}
+use Rattle.aos_parse_expr.specs.Machine.{Table}
 
 pub data Sym : Type 0 where
   tok : ℕ → TokenKind → Sym

@@ -7,6 +7,7 @@
 
 mod descent;
 pub mod error;
+pub mod laws;
 mod token;
 
 ghost use Rattle.std.specs.Prelude.{◌≡◌, ◌≤◌, ◌<◌, drop, length, IfOk};

@@ -86,14 +86,16 @@ fn tokens(alloc: Global, text: &str) -> Result<Vec<Token>, AllocError> {
 fn is_ended(tokens: &[Token]) -> bool
     ensures { IsTrue result → IsEnded tokens.now }
 {
-    match tokens {
-        [] => false,
-        [last] => last.kind == TokenKind::End,
-        [first, rest @ ..] => first.kind != TokenKind::End && is_ended(rest),
+    match tokens.split_first() {
+        None => false,
+        Some((first, rest)) => match first.kind {
+            TokenKind::End => rest.is_empty(),
+            _ => is_ended(rest),
+        },
     }
 }
 
-fn outcome(alloc: Global, tokens: &[Token], depth: u32) -> Outcome {
+fn outcome_of(alloc: Global, tokens: &[Token], depth: u32) -> Outcome {
     if tokens.is_empty() || depth > 200 || !is_ended(tokens) {
         return Outcome::Untried;
     }
@@ -152,7 +154,11 @@ const ROWS: [(&str, Outcome); 40] = [
 fn expressions(rt: HostRuntime) -> Result<(), Fail> {
     for (text, want) in ROWS {
         let tokens = tokens(rt.alloc(), text)?;
-        assert_eq!(rt; outcome(rt.alloc(), tokens.as_slice(), 0), want, "{text}");
+        assert_eq!(rt;
+            outcome_of(rt.alloc(), tokens.as_slice(), 0),
+            want,
+            "{text}"
+        );
     }
     Ok(())
 }
@@ -194,7 +200,11 @@ const LEFT_OUT: [(&str, Outcome); 29] = [
 fn a_token_left_out(rt: HostRuntime) -> Result<(), Fail> {
     for (text, want) in LEFT_OUT {
         let tokens = tokens(rt.alloc(), text)?;
-        assert_eq!(rt; outcome(rt.alloc(), tokens.as_slice(), 0), want, "{text}");
+        assert_eq!(rt;
+            outcome_of(rt.alloc(), tokens.as_slice(), 0),
+            want,
+            "{text}"
+        );
     }
     Ok(())
 }
@@ -235,7 +245,7 @@ fn nesting(rt: HostRuntime) -> Result<(), Fail> {
     for (parens, text, depth, want) in NESTED {
         let tokens = nested(rt.alloc(), parens, text)?;
         assert_eq!(rt;
-            outcome(rt.alloc(), tokens.as_slice(), depth),
+            outcome_of(rt.alloc(), tokens.as_slice(), depth),
             want,
             "{parens} {text}"
         );

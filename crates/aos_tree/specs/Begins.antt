@@ -46,7 +46,7 @@ module _ {A : Type 0} (reads : Rule → A → List Token → List Token → Type
     pub other : (u : Token) × BeginsWithin (front ++ (u ∷ []))
 
   -- The nesting passes 200 at p: the tokens before it begin a tree within the limit, those up to it don't, and either it
-  -- goes on, too deep, or whatever could stand there would be too deep.
+  -- goes on, too deep, or those before it are no whole one and whatever could stand there would be too deep.
   pub record TooDeepAt (ts : List Token) (p : Pos) : Type 0 where
     pub front : List Token
     pub next : Token
@@ -55,4 +55,5 @@ module _ {A : Type 0} (reads : Rule → A → List Token → List Token → Type
     pub place : next.pos ≡ p
     pub begins : BeginsWithin front
     pub no_further : BeginsWithin (front ++ (next ∷ [])) → ⊥
-    pub deeper : Begins (front ++ (next ∷ [])) ⊎ ((u : Token) → BeginsWithin (front ++ (u ∷ [])) → ⊥)
+    pub deeper : Begins (front ++ (next ∷ []))
+        ⊎ (((a : A) → reads shallow a ts (next ∷ after) → ⊥) × ((u : Token) → BeginsWithin (front ++ (u ∷ [])) → ⊥))

@@ -1,6 +1,5 @@
-use Rattle.std.proofs.Common.{◌≡◌, ◌+◌, ◌≤◌, ◌<◌, ◌∷◌, [], sym, subst, arith, drop, length, List, ◌-◌, take, ◌∙◌}
+use Rattle.std.proofs.Common.{◌≡◌, ◌∷◌, [], sym, subst, arith, drop}
 use Rattle.std.proofs.lemmas.List.{take_rest}
-use Rattle.aos_scan.specs.declared.token.Token.{Token}
 use Rattle.aos_tree.specs.Ended.{IsEnded}
 use Rattle.aos_tree.specs.Nesting.{shallow}
 use Rattle.aos_tree.specs.Begins.{CeasesAt}

@@ -1,4 +1,4 @@
-use Rattle.std.proofs.Common.{◌≡◌, ◌+◌, ◌≤◌, ◌<◌, ◌∷◌, [], ◌≢◌, ℕ, rules, sym, ◌∙◌, refl, ap, arith, List, ◌++◌, append_assoc, subst, length, append-nil}
+use Rattle.std.proofs.Common.{◌≡◌, ◌+◌, ◌∷◌, [], rules, sym, ◌∙◌, refl, ap, arith, append_assoc, length, append-nil}
 use Rattle.std.proofs.lemmas.Int.{to_z-of_z}
 use mir.Val.{SFits}
 use mir.Syntax.{w64}

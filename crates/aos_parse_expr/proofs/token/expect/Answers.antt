@@ -1,4 +1,4 @@
-use Rattle.std.proofs.Common.{◌≡◌, ◌≤◌, [], ◌∷◌, rules, sym, ◌∙◌, refl}
+use Rattle.std.proofs.Common.{[], rules, sym, ◌∙◌, refl}
 use denote.Enum.Bare.{same_true, same_false}
 use Rattle.aos_scan.specs.contracts.token.TokenKind.{the_type}
 use Rattle.aos_tree.specs.Nesting.{shallow}
