@@ -48,6 +48,10 @@ pub fn compile(alloc: Global, text: &[u8]) -> Result<(Program, Image), CompileEr
 {
     match read(alloc, text)? {
         Some(only) => linked(alloc, text, only),
-        None => Err(CompileErr::Refused(Refusal { rule: 99, file: 0, pos: Pos { line: 1, col: 1 } })),
+        None => Err(CompileErr::Refused(Refusal {
+            rule: 99,
+            file: 0,
+            pos: Pos { line: 1, col: 1 },
+        })),
     }
 }

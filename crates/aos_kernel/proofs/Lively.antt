@@ -14,6 +14,6 @@ never_dead [] spent = λ e. absurd (cc e)
 never_dead (s ∷ line) (Some a) = λ e. absurd (cc e)
 never_dead (s ∷ line) None =
     elim s.place as (λ p. (if is_at_lock (place_in p) && all_at_locks (line_in line) then Dead else Going) ≢ Dead) [
-      On w ↦ λ e. absurd (cc e)
-    | Ready q ↦ λ e. absurd (cc e)
+      | On w ↦ λ e. absurd (cc e)
+      | Ready q ↦ λ e. absurd (cc e)
     ]
