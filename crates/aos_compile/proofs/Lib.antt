@@ -1,3 +1,4 @@
 pub mod Patch
 pub mod Codes
 pub mod Accepted
+pub mod Forth

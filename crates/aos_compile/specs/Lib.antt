@@ -1,1 +1,2 @@
 pub mod Elaborates
+pub mod Back

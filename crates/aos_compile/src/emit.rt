@@ -1,6 +1,7 @@
 // From typed statements to instructions: what is emitted is the code that the definitions give.
 
 ghost use Rattle.std.specs.Prelude.{◌≡◌, [], ◌∷◌, ◌++◌, length, IfOk, OnOk};
+ghost use Rattle.aos_compile.specs.Back.{back_code};
 ghost use Rattle.aos_sim.specs.Code.{begin, literal_code, binary_code, place_code, value_code, out_code, stat_code, stats_code, body_code};
 
 use aos_base::Pos;
@@ -47,35 +48,51 @@ fn emit_place(code: &mut Vec<Instr>, place: &TPlace) -> Result<(), AllocError>
     }
 }
 
-fn emit_value(code: &mut Vec<Instr>, value: &TExpr) -> Result<(), AllocError>
-    ensures { OnOk result (code.new.items ≡ code.old.items ++ value_code value.now (length code.old.items)) }
+// The code of an expression, from its last instruction to its first. A long sum has as many left operands, one in
+// another: the loop over them takes no stack.
+fn emit_back(code: &mut Vec<Instr>, value: &TExpr) -> Result<(), AllocError>
+    ensures { OnOk result (code.new.items ≡ code.old.items ++ back_code value.now) }
 {
-    match value {
-        TExpr::Lit(literal) => put(code, literal_instr(*literal)),
-        TExpr::Read(place) => {
-            emit_place(code, place)?;
-            put(code, Instr::Load(Kind::N))
-        }
-        TExpr::Binary(operator, left, right) => {
-            emit_value(code, left)?;
-            emit_value(code, right)?;
-            put(code, binary_instr(*operator))
-        }
-        TExpr::Compare(relation, left, right) => {
-            emit_value(code, left)?;
-            emit_value(code, right)?;
-            put(code, Instr::Cmp(*relation))
+    let mut rest = value;
+    loop {
+        match rest {
+            TExpr::Lit(literal) => return put(code, literal_instr(*literal)),
+            TExpr::Read(place) => {
+                put(code, Instr::Load(Kind::N))?;
+                return emit_place(code, place);
+            }
+            TExpr::Binary(operator, left, right) => {
+                put(code, binary_instr(*operator))?;
+                emit_back(code, right)?;
+                rest = left;
+            }
+            TExpr::Compare(relation, left, right) => {
+                put(code, Instr::Cmp(*relation))?;
+                emit_back(code, right)?;
+                rest = left;
+            }
         }
     }
 }
 
-fn emit_out(code: &mut Vec<Instr>, call: &OutCall) -> Result<(), AllocError>
+fn emit_value(alloc: Global, code: &mut Vec<Instr>, value: &TExpr) -> Result<(), AllocError>
+    ensures { OnOk result (code.new.items ≡ code.old.items ++ value_code value.now (length code.old.items)) }
+{
+    let mut back = Vec::new(alloc);
+    emit_back(&mut back, value)?;
+    while let Some(instr) = back.pop() {
+        put(code, instr)?;
+    }
+    Ok(())
+}
+
+fn emit_out(alloc: Global, code: &mut Vec<Instr>, call: &OutCall) -> Result<(), AllocError>
     ensures { OnOk result (code.new.items ≡ code.old.items ++ out_code call.now (length code.old.items)) }
 {
     match call {
         OutCall::Int(value, places) => {
-            emit_value(code, value)?;
-            emit_value(code, places)?;
+            emit_value(alloc, code, value)?;
+            emit_value(alloc, code, places)?;
             put(code, Instr::OutInt)
         }
         OutCall::Ln => put(code, Instr::OutLn),
@@ -83,40 +100,40 @@ fn emit_out(code: &mut Vec<Instr>, call: &OutCall) -> Result<(), AllocError>
 }
 
 #[cycle(emit_stat)]
-fn emit_stat(code: &mut Vec<Instr>, statement: &TStat) -> Result<(), AllocError>
+fn emit_stat(alloc: Global, code: &mut Vec<Instr>, statement: &TStat) -> Result<(), AllocError>
     ensures { OnOk result (code.new.items ≡ code.old.items ++ stat_code statement.now (length code.old.items)) }
 {
     match statement {
         TStat::Assign(at, place, value) => {
             emit_begin(code, *at)?;
             emit_place(code, place)?;
-            emit_value(code, value)?;
+            emit_value(alloc, code, value)?;
             put(code, Instr::Store(Kind::N))
         }
         TStat::While(at, condition, body) => {
             let start = code.len();
             emit_begin(code, *at)?;
-            emit_value(code, condition)?;
+            emit_value(alloc, code, condition)?;
             let test_end = code.len();
             put(code, Instr::JumpFalse(0))?;
-            emit_stats(code, body)?;
+            emit_stats(alloc, code, body)?;
             put(code, Instr::Jump(start))?;
             code[test_end] = Instr::JumpFalse(code.len());
             Ok(())
         }
         TStat::Out(at, call) => {
             emit_begin(code, *at)?;
-            emit_out(code, call)
+            emit_out(alloc, code, call)
         }
     }
 }
 
 #[cycle(emit_stat)]
-fn emit_stats(code: &mut Vec<Instr>, statements: &[TStat]) -> Result<(), AllocError>
+fn emit_stats(alloc: Global, code: &mut Vec<Instr>, statements: &[TStat]) -> Result<(), AllocError>
     ensures { OnOk result (code.new.items ≡ code.old.items ++ stats_code statements.now (length code.old.items)) }
 {
     for statement in statements {
-        emit_stat(code, statement)?;
+        emit_stat(alloc, code, statement)?;
     }
     Ok(())
 }
@@ -126,7 +143,7 @@ pub fn emit_body(alloc: Global, statements: &[TStat]) -> Result<Body, AllocError
     ensures { IfOk result (λ body. body.code.items ≡ body_code statements.now) }
 {
     let mut code = Vec::new(alloc);
-    emit_stats(&mut code, statements)?;
+    emit_stats(alloc, &mut code, statements)?;
     put(&mut code, Instr::Return)?;
     Ok(Body { code })
 }

@@ -22,12 +22,32 @@ pub enum TPlace {
 }
 
 /// An expression.
-#[derive(Drop, Debug)]
+#[derive(Debug)]
 pub enum TExpr {
     Lit(Literal),
     Read(TPlace),
     Binary(Binary, Box<TExpr>, Box<TExpr>),
     Compare(Relation, Box<TExpr>, Box<TExpr>),
+}
+
+// A long sum has as many left operands, one in another: it is dropped by a loop, which takes no stack.
+impl Drop for TExpr {
+    fn drop(mut self) {
+        loop {
+            match self {
+                TExpr::Lit(_) => return,
+                TExpr::Read(_) => return,
+                TExpr::Binary(_, left, right) => {
+                    drop(right);
+                    self = Box::into_inner(left);
+                }
+                TExpr::Compare(_, left, right) => {
+                    drop(right);
+                    self = Box::into_inner(left);
+                }
+            }
+        }
+    }
 }
 
 /// A call of a procedure of module Out.
