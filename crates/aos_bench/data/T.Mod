@@ -1,0 +1,5 @@
+MODULE T;
+VAR x: INTEGER;
+BEGIN
+  x := 1 (* one *)
+END T.
