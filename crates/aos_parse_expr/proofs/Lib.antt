@@ -11,3 +11,4 @@ pub mod Answer
 pub mod Compose
 pub mod Unique
 pub mod Above
+pub mod Outcomes
