@@ -1,6 +1,7 @@
 pub mod Steps
 pub mod Words
 pub mod Walk
+pub mod Ended
 pub mod Falling
 pub mod Yields
 pub mod Places
