@@ -1,6 +1,7 @@
 pub mod Steps
 pub mod Words
 pub mod Walk
+pub mod Ended
 pub mod Falling
 pub mod Yields
 pub mod Places
@@ -11,3 +12,4 @@ pub mod Answer
 pub mod Compose
 pub mod Unique
 pub mod Above
+pub mod Outcomes

@@ -143,7 +143,7 @@ module _ {S : Type 0} (g : Table S) where
   stop (t ∷ ts) xs err left h = stop_by t ts xs err left (step g xs t.kind) refl h (λ j h'. stop ts j err left h')
 
   -- with nothing to come the next token is refused
-  ended_run : (after : List Token) (err : ParseErr) (left : ℕ) → run g shallow after [] ≡ m.fault err left → length after ≡ left → ⊥
+  pub ended_run : (after : List Token) (err : ParseErr) (left : ℕ) → run g shallow after [] ≡ m.fault err left → length after ≡ left → ⊥
   unfolding run
   ended_run [] err left h is = absurd (cc)
   ended_run (v ∷ vs) err left h is = let a : length vs ≡ left = cc in omega arith

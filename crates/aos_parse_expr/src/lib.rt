@@ -26,7 +26,8 @@ use std::alloc::Global;
 /// open round it, 200 at most. The last token and no other is `End`.
 ///
 /// A token that can go on with the expression does so. `Expected` names the token where another is expected, `Deep` the
-/// one where the nesting passes 200; at one place `Deep` comes first, wherever all that could stand there would be too deep.
+/// one where the nesting passes 200; at one place `Deep` comes first, wherever all that could stand there would be too
+/// deep. `NoMemory` comes where the tree finds no memory.
 pub fn expr(
     alloc: Global,
     tokens: &[Token],
@@ -40,14 +41,17 @@ pub fn expr(
     // The tree reads the tokens up to the place after it, none of them too deep, and the next does not go on with them.
     ensures tree { IfOk result (λ r. expr_at depth shallow r.0 (drop at tokens.now) (drop r.1 tokens.now)) }
     ensures longest { IfOk result (λ r. CeasesAt (expr_at depth) (drop at tokens.now) (drop r.1 tokens.now)) }
-    ensures expected { (p : Pos) → result ≡ Err (ParseErr.Expected p) → ExpectsAt (expr_at depth) (drop at tokens.now) p }
-    ensures deep { (p : Pos) → result ≡ Err (ParseErr.Deep p) → TooDeepAt (expr_at depth) (drop at tokens.now) p }
+    ensures expected { (p : Pos) → result ≡ Err (ParseErr.Expected p) →
+        ExpectsAt (expr_at depth) (drop at tokens.now) p }
+    ensures deep { (p : Pos) → result ≡ Err (ParseErr.Deep p) →
+        TooDeepAt (expr_at depth) (drop at tokens.now) p }
 {
     let (tree, rest) = descent::expr(alloc, &tokens[at..], depth)?;
     Ok((tree, tokens.len() - rest.len()))
 }
 
-/// The same of the longest designator that begins at `at`.
+/// The tree of the longest designator that begins at `at`, and the place after it, with the errors of `expr`. A designator
+/// does not nest itself: only the expressions in its brackets do.
 pub fn desig(
     alloc: Global,
     tokens: &[Token],
@@ -60,8 +64,10 @@ pub fn desig(
     ensures place { IfOk result (λ r. (at < r.1) × (r.1 < length tokens.now)) }
     ensures tree { IfOk result (λ r. desig_at depth shallow r.0 (drop at tokens.now) (drop r.1 tokens.now)) }
     ensures longest { IfOk result (λ r. CeasesAt (desig_at depth) (drop at tokens.now) (drop r.1 tokens.now)) }
-    ensures expected { (p : Pos) → result ≡ Err (ParseErr.Expected p) → ExpectsAt (desig_at depth) (drop at tokens.now) p }
-    ensures deep { (p : Pos) → result ≡ Err (ParseErr.Deep p) → TooDeepAt (desig_at depth) (drop at tokens.now) p }
+    ensures expected { (p : Pos) → result ≡ Err (ParseErr.Expected p) →
+        ExpectsAt (desig_at depth) (drop at tokens.now) p }
+    ensures deep { (p : Pos) → result ≡ Err (ParseErr.Deep p) →
+        TooDeepAt (desig_at depth) (drop at tokens.now) p }
 {
     let (tree, rest) = descent::desig(alloc, &tokens[at..], depth)?;
     Ok((tree, tokens.len() - rest.len()))
