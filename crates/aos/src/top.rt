@@ -55,10 +55,11 @@ fn serve<R: Wait, F: Shelf, O: Sink, E: Sink>(
     }
 }
 
-/// What the program does: it fetches the file that the words name from the shelf, checks it, compiles it, runs it by one
-/// worker, and puts what it wrote on `out` and its reports on `err`. It answers the status: 0 where the run ended, 3
-/// where it ended with a trap, 5 where it used up the budget; 1 where the file is absent or refused, 2 where the words
-/// are no command, 6 where the file couldn't be read or is too long, 7 where a sink failed, 8 where memory was wanted.
+/// What the program does: the words name a file, the shelf gives its text, the text is checked, compiled and run by one
+/// worker; what the run wrote goes to `out`, and its reports to `err`. The status is 0 where the run ended, 3 where it
+/// ended with a trap, 5 where it used up the budget; 1 where the file is absent or refused, 2 where the words are no
+/// command, 6 where the shelf failed or the file is too long. Where a sink failed it is 7 in the place of any of these,
+/// and 8, with nothing put, where memory was wanted.
 pub fn aos<R: Wait, F: Shelf, O: Sink, E: Sink>(
     rt: &R,
     alloc: Global,
