@@ -8,9 +8,9 @@ use Rattle.aos_base.specs.Book.{TrapRow, outcome}
 use Rattle.aos_base.specs.Machine.{Step, Tick, execution}
 use Rattle.aos_base.specs.Observation.{Observation, observation, status_of, spent_if}
 use Rattle.aos_code.specs.Machine.{machine, first_state}
-use Rattle.aos_kernel.specs.declared.log.Sched.{Sched}
-use Rattle.aos_kernel.specs.declared.log.Sched.TheVariants.{Steps, Tick as TickEntry}
-use Rattle.aos_kernel.specs.Log.{choices, entry_choices, IsEntry}
+use Rattle.aos_base.specs.declared.kernel.Sched.{Sched}
+use Rattle.aos_base.specs.declared.kernel.Sched.TheVariants.{Steps, Tick as TickEntry}
+use Rattle.aos_base.specs.Schedule.{choices, entry_choices, IsEntry}
 use Rattle.aos_kernel.specs.Run.{Run, state_of, rec_of, traps_of, spent_of, if_spent}
 use Rattle.aos_report.specs.Texts.{row_text, rows_text}
 use Rattle.aos.specs.declared.answer.Answer.{Answer}

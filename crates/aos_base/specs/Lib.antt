@@ -2,5 +2,6 @@ pub mod Number
 pub mod Lock
 pub mod Book
 pub mod Machine
+pub mod Schedule
 pub mod Observation
 pub mod Question

@@ -88,3 +88,15 @@ pub enum Event {
         activity: u32,
     },
 }
+
+/// The most steps that one entry of a schedule stands for.
+pub const MAX_STEPS: u32 = 1_000_000_000;
+
+/// An entry of a schedule: which worker goes on.
+#[derive(Clone, Copy, PartialEq, Eq, Debug)]
+pub enum Sched {
+    /// So many steps of a worker: the worker, and 1 to 10^9 for their number.
+    Steps(u32, u32),
+    /// A tick of a worker.
+    Tick(u32),
+}

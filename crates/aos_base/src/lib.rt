@@ -6,6 +6,6 @@ pub mod kernel;
 pub mod number;
 pub mod text;
 
-pub use kernel::{Did, Event, LockName, Outcome, Verdict};
+pub use kernel::{Did, Event, LockName, MAX_STEPS, Outcome, Sched, Verdict};
 pub use number::{Relation, Width, add, fits, related, sub};
 pub use text::{NoMemory, Pos, Refusal};

@@ -11,10 +11,10 @@ use Rattle.aos_code.specs.declared.image.Image.{Image}
 use Rattle.aos_code.specs.Memory.{Memory}
 use Rattle.aos_code.specs.Machine.{Frames, machine, first_state}
 use Rattle.aos_kernel.specs.declared.desk.Desk.{Desk}
-use Rattle.aos_kernel.specs.declared.log.Sched.{Sched}
+use Rattle.aos_base.specs.declared.kernel.Sched.{Sched}
 use Rattle.aos_kernel.specs.declared.log.Stepped.{Stepped}
 use Rattle.aos_kernel.specs.declared.log.Stepped.TheVariants.{Turned, Dispatched, Idle, Over}
-use Rattle.aos_kernel.specs.Log.{choices, IsEntry}
+use Rattle.aos_base.specs.Schedule.{choices, IsEntry}
 use Rattle.aos_kernel.specs.Run.{Run, after, state_of, without_last, state_before, stepped_with, stepped_while, comes_to, has_activity, ticks_while, ticks}
 use Rattle.aos_kernel.specs.Shows.{line_in, Shows, HandsOut}
 use Rattle.aos_kernel.specs.Keeps.{Keeps}

@@ -5,9 +5,10 @@ use Rattle.std.proofs.lemmas.Bool.Decides.{eqb_tells, leb_tells}
 use Rattle.std.proofs.lemmas.List.{append-nil, replicate-append-replicate}
 use Rattle.std.proofs.lemmas.List.Elements.{All-cons}
 use Rattle.aos_base.specs.Machine.{Step, Tick}
-use Rattle.aos_kernel.specs.declared.log.Sched.{Sched}
-use Rattle.aos_kernel.specs.declared.log.Sched.TheVariants.{Steps, Tick as TickEntry}
-use Rattle.aos_kernel.specs.Log.{choices, joined, joined_to, with_step, with_tick, IsEntry}
+use Rattle.aos_base.specs.declared.kernel.Sched.{Sched}
+use Rattle.aos_base.specs.declared.kernel.Sched.TheVariants.{Steps, Tick as TickEntry}
+use Rattle.aos_base.specs.Schedule.{choices, IsEntry}
+use Rattle.aos_kernel.specs.Log.{joined, joined_to, with_step, with_tick}
 
 joined_by : (P : List Sched → Type 0) (v k w : ℕ) → (v ≡ w → k < 1000000000 → P (Steps v (suc k) ∷ [])) → P (Steps v k ∷ Steps w 1 ∷ []) → P (joined v k w)
 joined_by P v k w yes_ no_ =

@@ -9,10 +9,11 @@ use Rattle.aos_code.specs.declared.image.Image.{Image}
 use Rattle.aos_code.specs.declared.report.TrapRec.{TrapRec}
 use Rattle.aos_code.specs.Memory.{Memory}
 use Rattle.aos_code.specs.Machine.{Frames, machine, first_state}
-use Rattle.aos_kernel.specs.declared.log.Sched.{Sched}
+use Rattle.aos_base.specs.declared.kernel.Sched.{Sched}
 use Rattle.aos_kernel.specs.declared.log.Stepped.{Stepped}
 use Rattle.aos_kernel.specs.declared.log.Stepped.TheVariants.{Turned, Dispatched, Idle, Over}
-use Rattle.aos_kernel.specs.Log.{choices, with_step, with_tick}
+use Rattle.aos_base.specs.Schedule.{choices}
+use Rattle.aos_kernel.specs.Log.{with_step, with_tick}
 
 pub record Run : Type 0 where
   pub image : Image

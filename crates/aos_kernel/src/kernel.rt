@@ -6,14 +6,14 @@ ghost use Rattle.aos_base.specs.Book.{outcome};
 ghost use Rattle.aos_base.specs.Machine.{Step, Tick, happens};
 ghost use Rattle.aos_code.specs.Machine.{machine, first_memory, first_frames, first_state};
 ghost use Rattle.aos_kernel.specs.Cpu.{memory_in, frames_in};
-ghost use Rattle.aos_kernel.specs.Log.{IsEntry};
+ghost use Rattle.aos_base.specs.Schedule.{IsEntry};
 ghost use Rattle.aos_kernel.specs.Shows.{Shows, HandsOut};
 ghost use Rattle.aos_kernel.specs.Run.{state_of, events_of, traps_of, spent_of, comes_to, after_step, ticks, after_tick};
 
 use crate::cpu::Frame;
 use crate::desk::{Activity, Desk, Next, Place, Stand};
-use crate::log::{Sched, Stepped, add_step};
-use aos_base::{Event, NoMemory, Outcome};
+use crate::log::{Stepped, add_step};
+use aos_base::{Event, NoMemory, Outcome, Sched};
 use aos_code::{Cell, Image, TrapRec};
 use std::alloc::Global;
 use std::marker::Model;

@@ -7,4 +7,4 @@ pub mod kernel;
 pub mod log;
 
 pub use kernel::{Kernel, MAX_BUDGET, MAX_WORKERS};
-pub use log::{MAX_STEPS, Sched, Stepped};
+pub use log::Stepped;

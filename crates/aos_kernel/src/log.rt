@@ -3,17 +3,7 @@
 ghost use Rattle.std.specs.Prelude.{◌≡◌, ◌<◌, ◌==◌, ◌&&◌, nat_lt, vec_len, vec_capacity};
 ghost use Rattle.aos_kernel.specs.Log.{with_step};
 
-/// The most steps that one entry of a log stands for.
-pub const MAX_STEPS: u32 = 1_000_000_000;
-
-/// An entry of a log.
-#[derive(Clone, Copy, PartialEq, Eq, Debug)]
-pub enum Sched {
-    /// So many steps of a worker: the worker, and 1 to 10^9 for their number.
-    Steps(u32, u32),
-    /// A tick of a worker.
-    Tick(u32),
-}
+use aos_base::{MAX_STEPS, Sched};
 
 /// What a step of a worker comes to.
 #[derive(Clone, Copy, PartialEq, Eq, Debug)]

@@ -2,7 +2,7 @@ use Rattle.std.proofs.Common.{◌++◌, List, map, ap, ◌∙◌, subst}
 use Rattle.std.specs.Prelude.{All}
 use Rattle.std.specs.String.{string_bytes}
 use Rattle.aos_code.specs.declared.image.ModuleDesc.{ModuleDesc}
-use Rattle.aos_kernel.specs.Log.{IsEntry}
+use Rattle.aos_base.specs.Schedule.{IsEntry}
 use Rattle.aos_kernel.specs.Run.{state_of, spent_of}
 use Rattle.aos_base.specs.Book.{outcome}
 use Rattle.aos_code.specs.declared.image.Image.{Image}

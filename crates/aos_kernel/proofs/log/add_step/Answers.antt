@@ -1,6 +1,6 @@
 use Rattle.std.proofs.Common.{◌≡◌, ◌++◌, ◌∷◌, [], ◌+◌, suc, ap, sym, ◌∙◌, arith, append_assoc}
 use Rattle.std.specs.Prelude.{if◌then◌else◌}
-use Rattle.aos_kernel.specs.declared.log.Sched.TheVariants.{Steps, Tick}
+use Rattle.aos_base.specs.declared.kernel.Sched.TheVariants.{Steps, Tick}
 use Rattle.aos_kernel.specs.Log.{with_step}
 use Rattle.aos_kernel.proofs.Logs.{with_step-last}
 use Rattle.aos_kernel.proofs.log.add_step.Goals as goal

@@ -8,7 +8,8 @@ use Rattle.aos_base.specs.Machine.{State, Step, happens, turn_by, on_book}
 use Rattle.aos_code.specs.declared.image.Image.{Image}
 use Rattle.aos_code.specs.Memory.{Memory}
 use Rattle.aos_code.specs.Machine.{Frames, machine}
-use Rattle.aos_kernel.specs.Log.{choices, with_step, IsEntry}
+use Rattle.aos_base.specs.Schedule.{choices, IsEntry}
+use Rattle.aos_kernel.specs.Log.{with_step}
 use Rattle.aos_kernel.specs.Run.{Run, state_of, comes_to}
 use Rattle.aos_kernel.specs.Shows.{Shows}
 use Rattle.aos_kernel.proofs.Logs.{choices-with_step, entries-with_step}

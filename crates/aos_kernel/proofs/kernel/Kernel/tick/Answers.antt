@@ -5,7 +5,8 @@ use Rattle.aos_base.specs.declared.kernel.Outcome.TheVariants.{Going}
 use Rattle.aos_base.specs.Book.{outcome, on_worker, ready}
 use Rattle.aos_base.specs.Machine.{Tick, happens, on_book}
 use Rattle.aos_code.specs.Machine.{machine}
-use Rattle.aos_kernel.specs.Log.{choices, with_tick, IsEntry}
+use Rattle.aos_base.specs.Schedule.{choices, IsEntry}
+use Rattle.aos_kernel.specs.Log.{with_tick}
 use Rattle.aos_kernel.specs.Run.{Run, state_of, ticks}
 use Rattle.aos_kernel.proofs.Logs.{choices-with_tick, entries-with_tick}
 use Rattle.aos_kernel.proofs.Histories.{state_after, keeps_after, keeps_silent, ticks_by, ticks_nothing, is_over, ticks_over, ticks_some, outcome_is, on_is, known_on}
