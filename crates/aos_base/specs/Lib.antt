@@ -1,4 +1,5 @@
 pub mod Number
+pub mod Set
 pub mod Lock
 pub mod Book
 pub mod Machine

@@ -1,6 +1,7 @@
 -- The integers of each width, in two's complement (Active Oberon Language Report, section on basic types).
-use Rattle.std.specs.Prelude.{ℕ, ◌+◌, ◌-◌, ◌++◌, ◌&&◌, List, replicate, length, ℤ, pos, negsuc, ◌≤ℤ◌, Bool, not, int_lt, int_le, Option, Some, None, nat_le, if◌then◌else◌}
+use Rattle.std.specs.Prelude.{ℕ, ◌-◌, ◌++◌, ◌&&◌, List, replicate, length, ℤ, pos, negsuc, ◌≤ℤ◌, ◌*ℤ◌, ◌^◌, suc, Bool, not, int_lt, int_le, Option, Some, None, nat_le, if◌then◌else◌}
 use Rattle.std.specs.Ordering.{int_eq}
+use Rattle.std.specs.Int.{int_div_euclid}
 use Rattle.std.specs.Fmt.{signed_decimal}
 use Rattle.aos_base.specs.declared.number.Width.{Width}
 use Rattle.aos_base.specs.declared.number.Width.TheVariants.{W8, W16, W32, W64}
@@ -29,6 +30,11 @@ pub record IsWithin (w : Width) (z : ℤ) : Type 0 where
 -- a sum and a difference of a width, where they are in it
 abbrev pub if_within : Width → ℤ → Option ℤ
 if_within w z = if int_le (negsuc (greatest w)) z && int_le z (pos (greatest w)) then Some z else None
+
+-- a times 2 to the power b, rounded down (Oberon-2 report, 10.3)
+abbrev pub shifted : ℤ → ℤ → ℤ
+shifted a (pos n) = a *ℤ pos (2 ^ n)
+shifted a (negsuc n) = int_div_euclid a (pos (2 ^ suc n))
 
 -- in decimal, with blanks before it up to this many places (Oakwood Guidelines, module Out)
 abbrev pub right_justified : ℤ → ℕ → List ℕ

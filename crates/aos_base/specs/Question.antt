@@ -29,5 +29,7 @@ pub data Ask (P V : Type 0) : Type 0 where
   Reads : (place : P) → Ask P V
   Stores : (place : P) → (value : V) → Ask P V
   Ends : (result : Option V) → Ask P V  -- the end of the frame, which has no answer
+  Makes : (type : ℕ) → Ask P V  -- a new object of this type, which is the answer
+  Starts : (object : V) → Ask P V  -- the activity of an object
   PutsInt : (value places : V) → Ask P V
   PutsLn : Ask P V

@@ -4,8 +4,13 @@
 
 pub mod kernel;
 pub mod number;
+pub mod set;
 pub mod text;
 
 pub use kernel::{Did, Event, LockName, MAX_STEPS, Outcome, Sched, Verdict};
-pub use number::{Relation, Width, add, fits, related, sub};
+pub use number::{Relation, Width, abs, add, ash, div, fits, modulo, mul, neg, related, sub};
+pub use set::{set_has, set_span};
 pub use text::{NoMemory, Pos, Refusal};
+
+#[cfg(test)]
+mod tests;
