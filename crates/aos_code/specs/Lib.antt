@@ -1,3 +1,4 @@
 pub mod Memory
+pub mod Operators
 pub mod Silent
 pub mod Machine

@@ -1,22 +1,22 @@
 -- An image as a machine: its memory, its frames, and the turns of an activity.
-use Rattle.std.specs.Prelude.{ℕ, zero, suc, ℤ, pos, ◌+◌, ◌-◌, List, [], ◌∷◌, Bool, true, false, Option, Some, None, map, slice_get}
+use Rattle.std.specs.Prelude.{ℕ, zero, suc, ◌+◌, ◌-◌, List, [], ◌∷◌, Bool, true, false, Option, Some, None, map, slice_get, option_and_then}
 use Rattle.aos_base.specs.declared.text.Pos.{Pos}
 use Rattle.aos_base.specs.declared.kernel.Did.{Did}
-use Rattle.aos_base.specs.declared.kernel.Did.TheVariants.{Went, Ended as NoFrame, Trapped}
+use Rattle.aos_base.specs.declared.kernel.Did.TheVariants.{Went, Ended as NoFrame, Start, Trapped}
 use Rattle.aos_base.specs.declared.kernel.Verdict.TheVariants.{Fails as NeverHolds}
 use Rattle.aos_base.specs.Number.{places_of, justified}
 use Rattle.aos_base.specs.Book.{Where}
 use Rattle.aos_base.specs.Machine.{Turn, Machine, State, start_of}
-use Rattle.aos_base.specs.Question.{Ask, Reads, Stores, Ends, PutsInt, PutsLn}
+use Rattle.aos_base.specs.Question.{Reads, Stores, Ends, Makes, Starts, PutsInt, PutsLn}
 use Rattle.aos_code.specs.declared.instr.Cell.{Cell}
-use Rattle.aos_code.specs.declared.instr.Cell.TheVariants.{Num, Place}
+use Rattle.aos_code.specs.declared.instr.Cell.TheVariants.{Num, Ref, Place}
 use Rattle.aos_code.specs.declared.instr.Instr.{Instr}
 use Rattle.aos_code.specs.declared.image.Body.{Body}
 use Rattle.aos_code.specs.declared.image.ProcShape.{ProcShape}
-use Rattle.aos_code.specs.declared.image.ModuleDesc.{ModuleDesc}
+use Rattle.aos_code.specs.declared.image.TypeDesc.{TypeDesc}
 use Rattle.aos_code.specs.declared.image.Image.{Image}
-use Rattle.aos_code.specs.Memory.{Addr, Memory, load, store}
-use Rattle.aos_code.specs.Silent.{Stack, Question, End, Begins, Fails, Stop, Work, Ended, silent}
+use Rattle.aos_code.specs.Memory.{Memory, load, store, type_of_object, with_object, new_number, has_room}
+use Rattle.aos_code.specs.Silent.{Stack, Question, Begins, Fails, Stop, Work, Ended, silent}
 
 -- a frame: its procedure, the place of the next instruction, the statement last begun, and the operands
 pub record Frame : Type 0 where
@@ -48,7 +48,9 @@ ends fs mem = goes_on fs mem
 -- the text that OutInt writes, where the number of places is 0 to 255
 abbrev pub written : Cell → Cell → Option (List ℕ)
 written (Num z) (Num n) = justified z (places_of n)
+written (Num z) (Ref o) = None
 written (Num z) (Place root cell type) = None
+written (Ref o) v = None
 written (Place root cell type) v = None
 
 -- the frame goes on behind the instruction at this place, with these operands
@@ -63,11 +65,25 @@ abbrev pub prints : Option (List ℕ) → ℕ → Stack → Frame → Frames →
 prints None at s f fs mem = leaves (Trapped 14 0) (f ∷ fs) mem
 prints (Some bytes) at s f fs mem = puts bytes (behind at s f ∷ fs) mem
 
+-- an object is made, where the heap has room for it
+abbrev pub makes : Bool → ℕ → ℕ → Stack → Frame → Frames → Memory → Turned
+makes true t at s f fs mem = goes_on (behind at (Ref (new_number mem) ∷ s) f ∷ fs) (with_object t mem)
+makes false t at s f fs mem = leaves (Trapped 12 0) (f ∷ fs) mem
+
+-- an object's activity is left to the kernel
+abbrev pub starts : Cell → Frame → Frames → Memory → Turned
+starts (Ref zero) f fs mem = leaves (Trapped 16 0) (f ∷ fs) mem
+starts (Ref (suc k)) f fs mem = leaves (Start (suc k)) (f ∷ fs) mem
+starts (Num z) f fs mem = leaves (Trapped 16 0) (f ∷ fs) mem
+starts (Place root cell type) f fs mem = leaves (Trapped 16 0) (f ∷ fs) mem
+
 -- the question of the instruction at this place is answered; s has the operands below its own
 abbrev pub answer : Question → ℕ → Stack → Frame → Frames → Memory → Turned
 answer (Reads a) at s f fs mem = loads (load a mem) at s f fs mem
 answer (Stores a v) at s f fs mem = goes_on (behind at s f ∷ fs) (store a v mem)
 answer (Ends result) at s f fs mem = ends fs mem
+answer (Makes t) at s f fs mem = makes (has_room mem) t at s f fs mem
+answer (Starts v) at s f fs mem = starts v f fs mem
 answer (PutsInt v n) at s f fs mem = prints (written v n) at s f fs mem
 answer PutsLn at s f fs mem = puts (10 ∷ []) (behind at s f ∷ fs) mem
 
@@ -83,6 +99,15 @@ goes (Ended (Begins at p s)) f fs mem =
     }
 goes (Ended (Fails n c)) f fs mem = leaves (Trapped n c) (f ∷ fs) mem
 
+-- behind the instruction at which silent work stops
+abbrev pub behind_stop : Stop → Frame → Frame
+behind_stop (Work q at s) f = behind at s f
+behind_stop (Ended end) f = f
+
+-- a frame at the beginning of a procedure
+abbrev pub frame_of : ℕ → Frame
+frame_of p = record { procedure = p; next = 0; at = None; stack = [] }
+
 abbrev pub code_in : Option Body → List Instr
 code_in None = []
 code_in (Some b) = b.code.items
@@ -90,6 +115,15 @@ code_in (Some b) = b.code.items
 abbrev pub home_in : Option ProcShape → ℕ
 home_in None = 0
 home_in (Some s) = s.module
+
+abbrev pub body_in : Option TypeDesc → Frames
+body_in None = []
+body_in (Some t) = frame_of t.body ∷ []
+
+-- types are numbered from 1
+abbrev pub desc_at : List TypeDesc → ℕ → Option TypeDesc
+desc_at types zero = None
+desc_at types (suc t) = slice_get types t
 
 abbrev pub or_below : Option Pos → ℕ → Where → Where
 or_below None home below = below
@@ -109,6 +143,15 @@ module _ (image : Image) where
   turn mem [] = leaves NoFrame [] mem
   turn mem (f ∷ fs) = goes (silent (code_of f.procedure) f.next f.stack) f fs mem
 
+  -- past the work that was left to the kernel
+  abbrev pub past : Frames → Frames
+  past [] = []
+  past (f ∷ fs) = behind_stop (silent (code_of f.procedure) f.next f.stack) f ∷ fs
+
+  -- the frame with which an object's activity begins
+  abbrev pub body_of : Memory → ℕ → Frames
+  body_of mem o = body_in (option_and_then (desc_at image.types.items) (type_of_object o mem))
+
   abbrev pub position_or : Where → Frames → Where
   position_or none [] = none
   position_or none (f ∷ fs) = or_below f.at (home_of f.procedure) (position_or none fs)
@@ -124,21 +167,17 @@ module _ (image : Image) where
   machine =
       record {
         turn = turn;
-        past = λ fs. fs;
+        past = past;
         verdict = λ mem fs c. NeverHolds;
         regions = λ fs. [];
         position = position;
-        body = λ mem o. [];
+        body = body_of;
         priority = λ mem o. 2;
         anew = λ fs. None;
       }
 
   abbrev pub first_memory : Memory
-  first_memory = record { modules = map (λ m. m.cells.items) image.modules.items }
-
--- a frame at the beginning of a procedure
-abbrev pub frame_of : ℕ → Frame
-frame_of p = record { procedure = p; next = 0; at = None; stack = [] }
+  first_memory = record { modules = map (λ m. m.cells.items) image.modules.items; objects = [] }
 
 module _ (image : Image) where
   -- activity 0 runs the bodies of the modules, in load order

@@ -1,5 +1,5 @@
 -- The memory that code works on: cells below each root.
-use Rattle.std.specs.Prelude.{ℕ, List, Option, Some, None, slice_get, slice_set, option_and_then}
+use Rattle.std.specs.Prelude.{ℕ, zero, suc, List, [], ◌∷◌, ◌++◌, length, nat_lt, Bool, Option, Some, None, slice_get, slice_set, option_and_then}
 use Rattle.aos_code.specs.declared.instr.Cell.{Cell}
 use Rattle.aos_code.specs.declared.instr.Root.{Root}
 use Rattle.aos_code.specs.declared.instr.Root.TheVariants.{Module}
@@ -9,9 +9,10 @@ pub record Addr : Type 0 where
   pub root : Root
   pub cell : ℕ
 
--- the cells of each module, in load order
+-- the cells of each module, in load order, and the type of each object, in the order of making
 pub record Memory : Type 0 where
   pub modules : List (List Cell)
+  pub objects : List ℕ
 
 -- what a cell holds, where there is such a cell
 abbrev pub load_at : Root → ℕ → Memory → Option Cell
@@ -29,3 +30,19 @@ load a mem = load_at a.root a.cell mem
 
 abbrev pub store : Addr → Cell → Memory → Memory
 store a v mem = store_at a.root a.cell v mem
+
+-- the objects' numbers begin with 1
+abbrev pub type_of_object : ℕ → Memory → Option ℕ
+type_of_object zero mem = None
+type_of_object (suc k) mem = slice_get mem.objects k
+
+-- a new object of this type, and its number
+abbrev pub with_object : ℕ → Memory → Memory
+with_object t mem = record mem { objects = mem.objects ++ t ∷ [] }
+
+abbrev pub new_number : Memory → ℕ
+new_number mem = suc (length mem.objects)
+
+-- the heap has room for so many scalars; an object without fields counts as one
+abbrev pub has_room : Memory → Bool
+has_room mem = nat_lt (length mem.objects) 16777216

@@ -1,16 +1,20 @@
 -- What each instruction does, and the silent work up to the next visible instruction.
-use Rattle.std.specs.Prelude.{ℕ, zero, suc, ℤ, pos, negsuc, ◌+◌, ◌-◌, ◌+ℤ◌, ◌-ℤ◌, List, [], ◌∷◌, Bool, true, false, Option, Some, None, nat_lt, if◌then◌else◌, slice_get, drop}
+use Rattle.std.specs.Prelude.{ℕ, zero, suc, ℤ, pos, negsuc, ◌+◌, ◌-◌, ◌+ℤ◌, ◌-ℤ◌, List, [], ◌∷◌, Option, Some, None, nat_lt, if◌then◌else◌, slice_get, drop}
 use Rattle.aos_base.specs.declared.text.Pos.{Pos}
 use Rattle.aos_base.specs.Number.{if_within, holds}
-use Rattle.aos_base.specs.Question.{Ask, Reads, Stores, Ends, PutsInt, PutsLn}
+use Rattle.aos_base.specs.Question.{Ask, Reads, Stores, Ends, Makes, Starts, PutsInt, PutsLn}
 use Rattle.aos_code.specs.declared.instr.Cell.{Cell}
-use Rattle.aos_code.specs.declared.instr.Cell.TheVariants.{Num, Place}
+use Rattle.aos_code.specs.declared.instr.Cell.TheVariants.{Num, Ref, Place}
 use Rattle.aos_code.specs.declared.instr.Kind.{Kind}
-use Rattle.aos_code.specs.declared.instr.Kind.TheVariants.{N}
+use Rattle.aos_code.specs.declared.instr.Kind.TheVariants.{N, R}
 use Rattle.aos_code.specs.declared.instr.Root.TheVariants.{Module as ModuleRoot}
 use Rattle.aos_code.specs.declared.instr.Instr.{Instr}
-use Rattle.aos_code.specs.declared.instr.Instr.TheVariants.{Num as NumInstr, Module, Add, Sub, Cmp, Jump, JumpFalse, Begin, Load, Store, Return, OutInt, OutLn}
+use Rattle.aos_code.specs.declared.instr.Instr.TheVariants.{Num as NumInstr, Dup, Swap, Module, Add, Sub, Cmp, Unary, Binary, Fail, Assert, Halt, Jump, JumpFalse, Begin, Load, Store, NewObject, Start, Return, OutInt, OutLn}
+use Rattle.aos_code.specs.declared.instr.Given.{Given}
+use Rattle.aos_code.specs.declared.instr.Given.TheVariants.{Number, Trap}
 use Rattle.aos_code.specs.Memory.{Addr}
+use Rattle.aos_code.specs.Operators.{unary, binary}
+pub use Rattle.aos_code.specs.Operators.{flag}
 
 -- the operands, the topmost first
 abbrev pub Stack : Type 0
@@ -42,6 +46,7 @@ lost = Fails 16 0
 abbrev pub on_number : (ℤ → Stack → Act) → Stack → Act
 on_number k [] = Stops lost
 on_number k (Num a ∷ s) = k a s
+on_number k (Ref o ∷ s) = Stops lost
 on_number k (Place root cell type ∷ s) = Stops lost
 
 -- the second number is the topmost operand
@@ -51,7 +56,23 @@ on_numbers k s = on_number (λ b s1. on_number (λ a s2. k a b s2) s1) s
 abbrev pub on_place : (Addr → Stack → Act) → Stack → Act
 on_place k [] = Stops lost
 on_place k (Num a ∷ s) = Stops lost
+on_place k (Ref o ∷ s) = Stops lost
 on_place k (Place root cell type ∷ s) = k (record { root = root; cell = cell }) s
+
+abbrev pub on_object : (ℕ → Stack → Act) → Stack → Act
+on_object k [] = Stops lost
+on_object k (Num a ∷ s) = Stops lost
+on_object k (Ref o ∷ s) = k o s
+on_object k (Place root cell type ∷ s) = Stops lost
+
+abbrev pub duplicates : Stack → Act
+duplicates [] = Stops lost
+duplicates (v ∷ s) = Goes 0 (v ∷ v ∷ s)
+
+abbrev pub swaps : Stack → Act
+swaps [] = Stops lost
+swaps (v ∷ []) = Stops lost
+swaps (v ∷ w ∷ s) = Goes 0 (w ∷ v ∷ s)
 
 abbrev pub gives : Cell → Stack → Act
 gives v s = Goes 0 (v ∷ s)
@@ -59,15 +80,21 @@ gives v s = Goes 0 (v ∷ s)
 -- a value of this kind lies above the place that it's stored at
 abbrev pub stores : Kind → Stack → Act
 stores N s = on_number (λ v s1. on_place (λ p s2. Sees (Stores p (Num v)) s2) s1) s
+stores R s = on_object (λ o s1. on_place (λ p s2. Sees (Stores p (Ref o)) s2) s1) s
 
 abbrev pub or_overflow : Option ℤ → Stack → Act
 or_overflow None s = Stops (Fails 5 0)
 or_overflow (Some z) s = gives (Num z) s
 
--- TRUE is 1 and FALSE is 0
-abbrev pub flag : Bool → ℤ
-flag true = pos 1
-flag false = pos 0
+abbrev pub given : Given → Stack → Act
+given (Number z) s = gives (Num z) s
+given (Trap n) s = Stops (Fails n 0)
+
+abbrev pub asserts : ℕ → ℤ → Stack → Act
+asserts code (pos zero) s = Stops (Fails 7 code)
+asserts code (pos (suc zero)) s = Goes 0 s
+asserts code (pos (suc (suc n))) s = Stops lost
+asserts code (negsuc n) s = Stops lost
 
 -- a jump back comes to a Begin, which is visible work
 abbrev pub lands : Option Instr → ℕ → Stack → Act
@@ -86,15 +113,24 @@ jumps_on_false code to at (negsuc n) s = Stops lost
 -- the instruction at this place of the code
 abbrev pub act : Instr → List Instr → ℕ → Stack → Act
 act (NumInstr n) code at s = gives (Num n) s
+act Dup code at s = duplicates s
+act Swap code at s = swaps s
 act (Module m c) code at s = gives (Place (ModuleRoot m) c 0) s
 act (Add w) code at s = on_numbers (λ a b s'. or_overflow (if_within w (a +ℤ b)) s') s
 act (Sub w) code at s = on_numbers (λ a b s'. or_overflow (if_within w (a -ℤ b)) s') s
 act (Cmp relation) code at s = on_numbers (λ a b s'. gives (Num (flag (holds relation a b))) s') s
+act (Unary op) code at s = on_number (λ a s'. given (unary op a) s') s
+act (Binary op) code at s = on_numbers (λ a b s'. given (binary op a b) s') s
+act (Fail n) code at s = Stops (Fails n 0)
+act (Assert c) code at s = on_number (λ a s'. asserts c a s') s
+act (Halt c) code at s = Stops (Fails 8 c)
 act (Jump to) code at s = jumps code to at s
 act (JumpFalse to) code at s = on_number (λ a s'. jumps_on_false code to at a s') s
 act (Begin line col) code at s = Stops (Begins at (record { line = line; col = col }) s)
 act (Load kind) code at s = on_place (λ p s'. Sees (Reads p) s') s
 act (Store kind) code at s = stores kind s
+act (NewObject t) code at s = Sees (Makes t) s
+act Start code at s = on_object (λ o s'. Sees (Starts (Ref o)) s') s
 act Return code at s = Sees (Ends None) s
 act OutInt code at s = on_numbers (λ a n s'. Sees (PutsInt (Num a) (Num n)) s') s
 act OutLn code at s = Sees PutsLn s

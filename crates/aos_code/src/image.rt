@@ -22,10 +22,17 @@ pub struct ModuleDesc {
     pub body: u32,
 }
 
-/// A program in code. Procedures are numbered from 1, and procedure p has shape and body p - 1.
+/// A type of objects: the number of the procedure that is their body, 0 for none.
+#[derive(Drop, Debug)]
+pub struct TypeDesc {
+    pub body: u32,
+}
+
+/// A program in code. Procedures are numbered from 1, and procedure p has shape and body p - 1; so are types.
 #[derive(Drop, Debug)]
 pub struct Image {
     pub modules: Vec<ModuleDesc>,
+    pub types: Vec<TypeDesc>,
     pub shapes: Vec<ProcShape>,
     pub bodies: Vec<Body>,
 }

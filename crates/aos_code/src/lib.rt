@@ -5,6 +5,6 @@ pub mod image;
 pub mod instr;
 pub mod report;
 
-pub use image::{Body, Image, ModuleDesc, ProcShape};
-pub use instr::{Cell, Instr, Kind, Root};
+pub use image::{Body, Image, ModuleDesc, ProcShape, TypeDesc};
+pub use instr::{Binary, Cell, Given, Instr, Kind, Root, Unary};
 pub use report::TrapRec;

@@ -2,7 +2,7 @@
 use Rattle.std.proofs.Common.{◌≡◌, ℕ, zero, suc, ◌+◌, List, [], ◌∷◌, ◌++◌, Some, length, drop, refl, sym, ap, ◌∙◌, arith}
 use Rattle.std.specs.Prelude.{slice_get}
 use Rattle.aos_base.specs.declared.text.Pos.{Pos}
-use Rattle.aos_base.specs.Question.{Tree, Val, Asks, Traps, feed, Reads, Stores, Ends, PutsInt, PutsLn}
+use Rattle.aos_base.specs.Question.{Tree, Val, Asks, Traps, feed, Reads, Stores, Ends, Makes, Starts, PutsInt, PutsLn}
 use Rattle.aos_code.specs.declared.instr.Cell.{Cell}
 use Rattle.aos_code.specs.declared.instr.Instr.{Instr}
 use Rattle.aos_code.specs.Silent.{Stack, Question, End, Begins, Fails, Stop, Work, Ended, Act, Goes, Sees, Stops, act, on_act, walk, silent}
@@ -21,18 +21,13 @@ abbrev pub ended : End → Run
 ended (Begins at p s) = Val (AtBegin at p s)
 ended (Fails n c) = Traps n c
 
--- the operands behind visible work, with its answer
-abbrev pub answered : Question → Cell → Stack → Stack
-answered (Reads a) x s = x ∷ s
-answered (Stores a v) x s = s
-answered (Ends r) x s = s
-answered (PutsInt v n) x s = s
-answered PutsLn x s = s
-
+-- visible work is done, and with its answer the code goes on behind it
 abbrev pub past : Question → Cell → ℕ → Stack → Onward → Run
 past (Reads a) x at s next = next 0 (at + 1) (x ∷ s)
 past (Stores a v) x at s next = next 0 (at + 1) s
 past (Ends r) x at s next = Traps 0 0
+past (Makes t) x at s next = next 0 (at + 1) (x ∷ s)
+past (Starts v) x at s next = next 0 (at + 1) s
 past (PutsInt v n) x at s next = next 0 (at + 1) s
 past PutsLn x at s next = next 0 (at + 1) s
 
@@ -87,6 +82,8 @@ past_same : (q : Question) (x : Cell) (at : ℕ) (s : Stack) (next next' : Onwar
 past_same (Reads a) x at s next next' e = e (x ∷ s)
 past_same (Stores a v) x at s next next' e = e s
 past_same (Ends r) x at s next next' e = refl
+past_same (Makes t) x at s next next' e = e (x ∷ s)
+past_same (Starts v) x at s next next' e = e s
 past_same (PutsInt v n) x at s next next' e = e s
 past_same PutsLn x at s next next' e = e s
 

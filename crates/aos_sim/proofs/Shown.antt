@@ -1,43 +1,50 @@
 -- An image that has a well-typed program's code shows the program.
-use Rattle.std.proofs.Common.{◌≡◌, ℕ, zero, suc, ◌+◌, ◌-◌, List, [], ◌∷◌, ◌++◌, map, Option, Some, None, refl, sym, ap, ◌∙◌, subst, arith, append-nil}
-use Rattle.std.specs.Prelude.{slice_get, option_map, All, pos}
+use Rattle.std.proofs.Common.{◌≡◌, ℕ, zero, suc, ◌+◌, ◌-◌, List, [], ◌∷◌, ◌++◌, map, length, Option, Some, None, refl, sym, ap, ◌∙◌, subst, arith, append-nil}
+use Rattle.std.specs.Prelude.{slice_get, option_map, option_and_then, All}
+use Rattle.std.proofs.lemmas.List.{length-map}
+use Rattle.std.proofs.lemmas.List.Elements.{All-tail}
 use Rattle.std.proofs.lemmas.Option.{slice_get-map}
-use Rattle.std.proofs.lemmas.List.Elements.{All-map}
 use Rattle.aos_base.specs.Book.{Where}
 use Rattle.aos_base.specs.Machine.{Choice, execution}
 use Rattle.aos_typed.specs.declared.tree.Program.{Program}
 use Rattle.aos_typed.specs.declared.tree.TModule.{TModule}
+use Rattle.aos_typed.specs.declared.tree.TObject.{TObject}
+use Rattle.aos_typed.specs.declared.tree.TStat.{TStat}
+use Rattle.aos_typed.specs.declared.tree.TType.{TType}
+use Rattle.aos_typed.specs.declared.tree.TType.TheVariants as type
 use Rattle.aos_typed.specs.declared.tree.TVariable.{TVariable}
-use Rattle.aos_typed.specs.Value.{Int}
-use Rattle.aos_typed.specs.Store.{Scalar}
+use Rattle.aos_typed.specs.Value.{Value}
+use Rattle.aos_typed.specs.Store.{Store, value_in}
 use Rattle.aos_typed.specs.Source as S
-use Rattle.aos_typed.specs.Meaning.{do_each}
-use Rattle.aos_typed.specs.WellTyped.{IsWellTyped}
+use Rattle.aos_typed.specs.WellTyped.{IsStatement, IsWellTyped}
 use Rattle.aos_code.specs.declared.instr.Instr.{Instr}
 use Rattle.aos_code.specs.declared.instr.Instr.TheVariants as i
 use Rattle.aos_code.specs.declared.image.Image.{Image}
 use Rattle.aos_code.specs.declared.image.Body.{Body}
 use Rattle.aos_code.specs.declared.image.ProcShape.{ProcShape}
 use Rattle.aos_code.specs.declared.image.ModuleDesc.{ModuleDesc}
+use Rattle.aos_code.specs.declared.image.TypeDesc.{TypeDesc}
+use Rattle.aos_code.specs.Memory.{Memory}
 use Rattle.aos_code.specs.Machine as I
-use Rattle.aos_code.specs.Machine.{machine, code_in, home_in, code_of, home_of, frame_of}
+use Rattle.aos_code.specs.Machine.{machine, code_in, home_in, body_in, desc_at, code_of, home_of, frame_of}
 use Rattle.aos_concurrency.specs.Simulates.{Simulates, Matches}
 use Rattle.aos_concurrency.proofs.Matching.{execution_matches, start_matches, observation_matches, events_match}
 use Rattle.aos_sim.specs.Code.{stats_code, body_code, zero_cell}
-use Rattle.aos_sim.specs.Shows.{numbers_from, IsCodeOf, Shows, EachWellTyped}
+use Rattle.aos_sim.specs.Shows.{numbers_from, IsCodeOf, Shows}
 use Rattle.aos_sim.proofs.Runs.{Stands}
+use Rattle.aos_sim.proofs.Exprs.{cell_of, sort_of, sort_of_type}
 use Rattle.aos_sim.proofs.Stats.{carries_list}
-use Rattle.aos_sim.proofs.Stores.{cell_in, HoldsInt, SameStore, all_get}
+use Rattle.aos_sim.proofs.Stores.{SameStore}
 use Rattle.aos_sim.proofs.Turns.{SameFrame, SameFrames, Together, turn_alike}
 
-module _ (image : Image) where
-  position_or_same : (none : Where) (fs : S.Frames) (gs : I.Frames) → SameFrames image fs gs → S.position_or none fs ≡ I.position_or image none gs
+module _ (program : Program) (image : Image) where
+  position_or_same : (none : Where) (fs : S.Frames) (gs : I.Frames) → SameFrames program image fs gs → S.position_or none fs ≡ I.position_or image none gs
   position_or_same none [] [] h = refl
   position_or_same none [] (g ∷ gs) h = absurd h
   position_or_same none (f ∷ fs) [] h = absurd h
   position_or_same none (f ∷ fs) (g ∷ gs) h = λ j. S.or_below (sym h.0.at j) (sym h.0.home j) (position_or_same none fs gs h.1 j)
 
-  pub position_same : (fs : S.Frames) (gs : I.Frames) → SameFrames image fs gs → S.position fs ≡ I.position image gs
+  pub position_same : (fs : S.Frames) (gs : I.Frames) → SameFrames program image fs gs → S.position fs ≡ I.position image gs
   position_same [] [] h = refl
   position_same [] (g ∷ gs) h = absurd h
   position_same (f ∷ fs) [] h = absurd h
@@ -45,34 +52,50 @@ module _ (image : Image) where
       position_or_same (record { module_ = f.home; pos = record { line = 0; col = 0 } }) (f ∷ fs) (g ∷ gs) h
       ∙ ap (λ k. I.position_or image (record { module_ = k; pos = record { line = 0; col = 0 } }) (g ∷ gs)) (sym h.0.home)
 
-  -- one turn of the image is one turn of the source
-  pub simulates : (p : Program) → Simulates SameStore (Together image) (S.source p) (machine image)
-  simulates p = record {
-    turn = λ s mem fs gs stores h. turn_alike image s mem fs gs stores h;
-    kept = λ s mem fs gs stores h w fs' gs' h'. h';
-    past = λ s mem w fs gs goes stores h. h;
-    verdict = λ s mem l c fs gs stores h. refl;
-    regions = λ s mem w fs gs may stores h. refl;
-    position = λ s mem w fs gs may stores h. position_same fs gs h;
-    anew = λ s mem w fs gs may stores h. tt;
-    body = λ s mem o fs gs stores h. tt;
-    priority = λ s mem o fs gs stores h. refl;
-  }
+-- Lists
+
+all_get : {X : Type 0} (P : X → Type 0) (xs : List X) (i : ℕ) (x : X) → All P xs → slice_get xs i ≡ Some x → P x
+all_get P [] i x h e = absurd (cc)
+all_get P (y ∷ ys) zero x h e = let q : y ≡ x = cc in subst P q (h 0 y (omega arith))
+all_get P (y ∷ ys) (suc i) x h e = all_get P ys i x (All-tail P y ys h) e
+
+get_left : {X : Type 0} (xs ys : List X) (i : ℕ) (x : X) → slice_get xs i ≡ Some x → slice_get (xs ++ ys) i ≡ Some x
+get_left [] ys i x e = absurd (cc)
+get_left (y ∷ xs) ys zero x e = e
+get_left (y ∷ xs) ys (suc i) x e = get_left xs ys i x e
+
+get_right : {X : Type 0} (xs ys : List X) (n i : ℕ) → n ≡ length xs + i → slice_get (xs ++ ys) n ≡ slice_get ys i
+get_right [] ys n i e = let h : n ≡ i = omega arith in ap (slice_get ys) h
+get_right (x ∷ xs) ys zero i e = absurd (omega arith)
+get_right (x ∷ xs) ys (suc n) i e = get_right xs ys n i (omega arith)
+
+numbered : {A : Type 0} (k j : ℕ) (xs : List A) → slice_get (numbers_from k xs) j ≡ option_map (λ x. k + j) (slice_get xs j)
+numbered k j [] = refl
+numbered k zero (y ∷ ys) = let n : k ≡ k + 0 = omega arith in ap (λ m. Some m) n
+numbered k (suc j) (y ∷ ys) = let n : suc k + j ≡ k + suc j = omega arith in numbered (suc k) j ys ∙ ap (λ m. option_map (λ x. m) (slice_get ys j)) n
+
+length-numbers : {A : Type 0} (k : ℕ) (xs : List A) → length (numbers_from k xs) ≡ length xs
+length-numbers k [] = refl
+length-numbers k (x ∷ xs) = ap (λ n. suc n) (length-numbers (suc k) xs)
 
 -- The beginning
 
-zeros : (vs : List TVariable) → map (λ v. zero_cell) vs ≡ map cell_in (S.first_contents vs)
-zeros [] = refl
-zeros (v ∷ vs) = ap (λ l. zero_cell ∷ l) (zeros vs)
+-- what is known of each variable's first value by its type
+first_values : {A : Type 0} (f : TType → A) (g : Value → A) → ((t : TType) → f t ≡ g (S.first_value t)) → (ms : List TModule) → map (λ (m : TModule). map (λ (v : TVariable). f v.of) m.variables.items) ms ≡ map (λ vs. map (λ c. g (value_in c)) vs) (map (λ (m : TModule). S.first_contents m.variables.items) ms)
+first_values f g e [] = refl
+first_values f g e (m ∷ ms) = λ j. in_module m.variables.items j ∷ first_values f g e ms j
+  where
+    in_module : (vs : List TVariable) → map (λ (v : TVariable). f v.of) vs ≡ map (λ c. g (value_in c)) (S.first_contents vs)
+    in_module [] = refl
+    in_module (v ∷ vs) = λ j. e v.of j ∷ in_module vs j
 
-zero_blocks : (ms : List TModule) → map (λ (m : TModule). map (λ v. zero_cell) m.variables.items) ms ≡ map (λ vs. map cell_in vs) (map (λ (m : TModule). S.first_contents m.variables.items) ms)
-zero_blocks [] = refl
-zero_blocks (m ∷ ms) = λ j. zeros m.variables.items j ∷ zero_blocks ms j
+zero_first : (t : TType) → zero_cell t ≡ cell_of (S.first_value t)
+zero_first type.LongInt = refl
+zero_first (type.Object t) = refl
 
-numbered : {A : Type 0} (k j : ℕ) (xs : List A) (x : A) → slice_get xs j ≡ Some x → slice_get (numbers_from k xs) j ≡ Some (k + j)
-numbered k j [] x e = absurd (cc)
-numbered k zero (y ∷ ys) x e = let n : k ≡ k + 0 = omega arith in ap (λ m. Some m) n
-numbered k (suc j) (y ∷ ys) x e = let n : suc k + j ≡ k + suc j = omega arith in numbered (suc k) j ys x e ∙ ap (λ m. Some m) n
+sort_first : (t : TType) → sort_of_type t ≡ sort_of (S.first_value t)
+sort_first type.LongInt = refl
+sort_first (type.Object t) = refl
 
 code_found : (o : Option Body) (is : List Instr) → option_map (λ (b : Body). b.code.items) o ≡ Some is → code_in o ≡ is
 code_found None is e = absurd (cc)
@@ -82,37 +105,56 @@ home_found : (o : Option ProcShape) (k : ℕ) → option_map (λ (s : ProcShape)
 home_found None k e = absurd (cc)
 home_found (Some b) k e = cc
 
-module _ (p : Program) (image : Image) (well : EachWellTyped p) (ok : IsCodeOf p image) where
-  first_store_same : SameStore (S.first_store p) (I.first_memory image)
-  first_store_same = record {
-    cells = ok.cells ∙ zero_blocks p.modules.items;
-    kinds = All-map (λ vs. All HoldsInt vs) (λ (m : TModule). S.first_contents m.variables.items) p.modules.items
-        (λ k d lt. All-map HoldsInt (λ v. Scalar (Int (pos 0))) _ (λ k' d' lt'. tt));
-  }
+module _ (p : Program) (image : Image) (well : IsWellTyped p) (ok : IsCodeOf p image) where
+  abbrev ms : List TModule
+  ms = p.modules.items
 
-  -- what is known of the module of number k
-  record Linked (k : ℕ) (m : TModule) : Type 0 where
-    pub home : home_of image (suc k) ≡ k
-    pub code : code_of image (suc k) ≡ body_code m.body.items
-    pub typed : IsWellTyped m
+  abbrev os : List TObject
+  os = p.objects.items
 
-  linked : (k : ℕ) (m : TModule) → slice_get p.modules.items k ≡ Some m → Linked k m
-  linked k m e =
+  first_store_same : SameStore p (S.first_store p) (I.first_memory image)
+  first_store_same =
+      record { cells = ok.cells ∙ first_values zero_cell cell_of zero_first ms; sorts = sym (first_values sort_of_type sort_of sort_first ms); objects = refl }
+
+  -- what is known of the procedure of number k, counted from 0: the body of these statements, in this module
+  record Linked (k m : ℕ) (ss : List TStat) : Type 0 where
+    pub home : home_of image (suc k) ≡ m
+    pub code : code_of image (suc k) ≡ body_code ss
+    pub typed : All (IsStatement p) ss
+
+  linked : (k home : ℕ) (ss : List TStat) → slice_get (numbers_from 0 ms ++ map (λ o. o.home) os) k ≡ Some home → slice_get (map (λ m. body_code m.body.items) ms ++ map (λ o. body_code o.body.items) os) k ≡ Some (body_code ss) → All (IsStatement p) ss → Linked k home ss
+  linked k home ss eh ec typed =
       let n : suc k - 1 ≡ k = omega arith in
-      let z : 0 + k ≡ k = omega arith in
       record {
-        home = home_found (slice_get image.shapes.items (suc k - 1)) k (ap (λ j. option_map (λ (s : ProcShape). s.module) (slice_get image.shapes.items j)) n ∙ sym (slice_get-map (λ (s : ProcShape). s.module) image.shapes.items k) ∙ ap (λ l. slice_get l k) ok.homes ∙ numbered 0 k p.modules.items m e ∙ ap (λ j. Some j) z);
-        code = code_found (slice_get image.bodies.items (suc k - 1)) (body_code m.body.items) (ap (λ j. option_map (λ (b : Body). b.code.items) (slice_get image.bodies.items j)) n ∙ sym (slice_get-map (λ (b : Body). b.code.items) image.bodies.items k) ∙ ap (λ l. slice_get l k) ok.bodies ∙ slice_get-map (λ (x : TModule). body_code x.body.items) p.modules.items k ∙ ap (λ o. option_map (λ (x : TModule). body_code x.body.items) o) e);
-        typed = all_get IsWellTyped p.modules.items k m well e;
+        home = home_found (slice_get image.shapes.items (suc k - 1)) home (ap (λ j. option_map (λ (s : ProcShape). s.module) (slice_get image.shapes.items j)) n ∙ sym (slice_get-map (λ (s : ProcShape). s.module) image.shapes.items k) ∙ ap (λ l. slice_get l k) ok.homes ∙ eh);
+        code = code_found (slice_get image.bodies.items (suc k - 1)) (body_code ss) (ap (λ j. option_map (λ (b : Body). b.code.items) (slice_get image.bodies.items j)) n ∙ sym (slice_get-map (λ (b : Body). b.code.items) image.bodies.items k) ∙ ap (λ l. slice_get l k) ok.bodies ∙ ec);
+        typed = typed;
       }
 
-  first_frame_same : (k : ℕ) (m : TModule) → Linked k m → SameFrame image (record { home = k; at = None; items = do_each m.body.items; answers = None }) (frame_of (suc k))
-  first_frame_same k m l =
-      let code = code_of image (suc k) in
-      let stands : Stands code 0 (stats_code m.body.items 0 ++ i.Return ∷ []) = record { rest = []; here = l.code ∙ sym (append-nil (body_code m.body.items)) } in
-      record { home = l.home; at = refl; remains = (refl, carries_list code m.body.items 0 l.typed stands) }
+  linked_module : (k : ℕ) (m : TModule) → slice_get ms k ≡ Some m → Linked k k m.body.items
+  linked_module k m e =
+      let z : 0 + k ≡ k = omega arith in
+      linked k k m.body.items
+      (get_left (numbers_from 0 ms) (map (λ o. o.home) os) k k (numbered 0 k ms ∙ ap (option_map (λ x. 0 + k)) e ∙ ap (λ j. Some j) z))
+      (get_left (map (λ m. body_code m.body.items) ms) (map (λ o. body_code o.body.items) os) k (body_code m.body.items) (slice_get-map (λ (x : TModule). body_code x.body.items) ms k ∙ ap (option_map (λ (x : TModule). body_code x.body.items)) e))
+      (all_get (λ x. All (IsStatement p) x.body.items) ms k m well.bodies e)
 
-  frames_same : (k : ℕ) (ms : List TModule) (ds : List ModuleDesc) → ((j : ℕ) (m : TModule) → slice_get ms j ≡ Some m → Linked (k + j) m) → map (λ (d : ModuleDesc). d.body) ds ≡ numbers_from (suc k) ms → SameFrames image (S.bodies_from k ms) (map (λ (d : ModuleDesc). frame_of d.body) ds)
+  linked_object : (t : ℕ) (o : TObject) → slice_get os t ≡ Some o → Linked (length ms + t) o.home o.body.items
+  linked_object t o e =
+      let n : length ms + t ≡ length (numbers_from 0 ms) + t = ap (λ j. j + t) (sym (length-numbers 0 ms)) in
+      let c : length ms + t ≡ length (map (λ (m : TModule). body_code m.body.items) ms) + t = ap (λ j. j + t) (sym (length-map ms (λ (m : TModule). body_code m.body.items))) in
+      linked (length ms + t) o.home o.body.items
+      (get_right (numbers_from 0 ms) (map (λ o. o.home) os) (length ms + t) t n ∙ slice_get-map (λ (x : TObject). x.home) os t ∙ ap (option_map (λ (x : TObject). x.home)) e)
+      (get_right (map (λ m. body_code m.body.items) ms) (map (λ o. body_code o.body.items) os) (length ms + t) t c ∙ slice_get-map (λ (x : TObject). body_code x.body.items) os t ∙ ap (option_map (λ (x : TObject). body_code x.body.items)) e)
+      (all_get (λ x. All (IsStatement p) x.body.items) os t o well.objects e)
+
+  first_frame_same : (k home : ℕ) (ss : List TStat) → Linked k home ss → SameFrame p image (S.body_frame home ss) (frame_of (suc k))
+  first_frame_same k home ss l =
+      let code = code_of image (suc k) in
+      let stands : Stands code 0 (stats_code ss 0 ++ i.Return ∷ []) = record { rest = []; here = l.code ∙ sym (append-nil (body_code ss)) } in
+      record { home = l.home; at = refl; remains = (refl, carries_list p code ss 0 l.typed stands) }
+
+  frames_same : (k : ℕ) (ms : List TModule) (ds : List ModuleDesc) → ((j : ℕ) (m : TModule) → slice_get ms j ≡ Some m → Linked (k + j) (k + j) m.body.items) → map (λ (d : ModuleDesc). d.body) ds ≡ numbers_from (suc k) ms → SameFrames p image (S.bodies_from k ms) (map (λ (d : ModuleDesc). frame_of d.body) ds)
   frames_same k [] [] each e = tt
   frames_same k [] (d ∷ ds) each e = absurd (cc)
   frames_same k (m ∷ ms) [] each e = absurd (cc)
@@ -120,18 +162,59 @@ module _ (p : Program) (image : Image) (well : EachWellTyped p) (ok : IsCodeOf p
       let here : d.body ≡ suc k = cc in
       let rest : map (λ (x : ModuleDesc). x.body) ds ≡ numbers_from (suc (suc k)) ms = cc in
       let n : k + 0 ≡ k = omega arith in (
-        subst (λ b. SameFrame image (record { home = k; at = None; items = do_each m.body.items; answers = None }) (frame_of b)) (sym here) (first_frame_same k m (subst (λ j. Linked j m) n (each 0 m refl))),
-        frames_same (suc k) ms ds (λ j x at. let n' : k + suc j ≡ suc k + j = omega arith in subst (λ q. Linked q x) n' (each (suc j) x at)) rest,
+        subst (λ b. SameFrame p image (S.body_frame k m.body.items) (frame_of b)) (sym here) (first_frame_same k k m.body.items (subst (λ j. Linked j j m.body.items) n (each 0 m refl))),
+        frames_same (suc k) ms ds (λ j x at. let n' : k + suc j ≡ suc k + j = omega arith in subst (λ q. Linked q q x.body.items) n' (each (suc j) x at)) rest,
       )
 
-  matched : (budget : ℕ) (choices : List Choice) → Matches SameStore (Together image) (execution (S.source p) choices (S.first_state p budget)) (execution (machine image) choices (I.first_state image budget))
+  -- the frames of an object's activity, by the object's type on both sides
+  object_same : (t : ℕ) (o : Option TObject) (d : Option TypeDesc) → slice_get os t ≡ o → slice_get image.types.items t ≡ d → SameFrames p image (S.object_frames o) (body_in d)
+  object_same t o d eo ed = by_case o d eo (ap (option_map (λ (x : TypeDesc). x.body)) (sym ed) ∙ sym (slice_get-map (λ (x : TypeDesc). x.body) image.types.items t) ∙ ap (λ l. slice_get l t) ok.types ∙ numbered (suc (length ms)) t os ∙ ap (option_map (λ x. suc (length ms) + t)) eo)
+    where
+      by_case : (o : Option TObject) (d : Option TypeDesc) → slice_get os t ≡ o → option_map (λ (x : TypeDesc). x.body) d ≡ option_map (λ x. suc (length ms) + t) o → SameFrames p image (S.object_frames o) (body_in d)
+      by_case None None eo e = tt
+      by_case None (Some d) eo e = absurd (cc)
+      by_case (Some o) None eo e = absurd (cc)
+      by_case (Some o) (Some d) eo e =
+          let here : d.body ≡ suc (length ms) + t = cc in
+          let n : suc (length ms) + t ≡ suc (length ms + t) = omega arith in
+          (subst (λ b. SameFrame p image (S.body_frame o.home o.body.items) (frame_of b)) (sym (here ∙ n)) (first_frame_same (length ms + t) o.home o.body.items (linked_object t o eo)), tt)
+
+  body_same : (s : Store) (mem : Memory) (o : ℕ) → SameStore p s mem → SameFrames p image (S.body_of p s o) (I.body_of image mem o)
+  body_same s mem zero stores = tt
+  body_same s mem (suc k) stores =
+      subst (λ x. SameFrames p image (S.object_frames (option_and_then (slice_get os) (slice_get s.objects k))) (body_in (option_and_then (desc_at image.types.items) x)))
+      (sym (ap (λ l. slice_get l k) stores.objects ∙ slice_get-map (λ t. t + 1) s.objects k))
+      (of_type (slice_get s.objects k))
+    where
+      of_type : (t : Option ℕ) → SameFrames p image (S.object_frames (option_and_then (slice_get os) t)) (body_in (option_and_then (desc_at image.types.items) (option_map (λ x. x + 1) t)))
+      of_type None = tt
+      of_type (Some t) =
+          let n : t + 1 ≡ suc t = omega arith in
+          subst (λ x. SameFrames p image (S.object_frames (slice_get os t)) (body_in (desc_at image.types.items x))) (sym n)
+          (object_same t (slice_get os t) (slice_get image.types.items t) refl refl)
+
+  -- one turn of the image is one turn of the source
+  simulates : Simulates (SameStore p) (Together p image) (S.source p) (machine image)
+  simulates = record {
+    turn = λ s mem fs gs stores h. turn_alike p image s mem fs gs stores h.now;
+    kept = λ s mem fs gs stores h w fs' gs' h'. record { now = h'.now; behind = h'.behind };
+    past = λ s mem w fs gs goes stores h. record { now = h.behind goes; behind = λ k. absurd k };
+    verdict = λ s mem l c fs gs stores h. refl;
+    regions = λ s mem w fs gs may stores h. refl;
+    position = λ s mem w fs gs may stores h. position_same p image fs gs h.now;
+    anew = λ s mem w fs gs may stores h. tt;
+    body = λ s mem o fs gs stores h. record { now = body_same s mem o stores; behind = λ k. absurd k };
+    priority = λ s mem o fs gs stores h. refl;
+  }
+
+  matched : (budget : ℕ) (choices : List Choice) → Matches (SameStore p) (Together p image) (execution (S.source p) choices (S.first_state p budget)) (execution (machine image) choices (I.first_state image budget))
   matched budget choices =
-      execution_matches SameStore (Together image) (S.source p) (machine image) (simulates image p) choices (S.first_state p budget) (I.first_state image budget)
-      (start_matches SameStore (Together image) (S.source p) (machine image) (simulates image p) (S.first_store p) (I.first_memory image) (S.first_frames p) (I.first_frames image) budget first_store_same
-      (frames_same 0 p.modules.items image.modules.items (λ j m e. let n : j ≡ 0 + j = omega arith in subst (λ q. Linked q m) n (linked j m e)) ok.starts))
+      execution_matches (SameStore p) (Together p image) (S.source p) (machine image) simulates choices (S.first_state p budget) (I.first_state image budget)
+      (start_matches (SameStore p) (Together p image) (S.source p) (machine image) simulates (S.first_store p) (I.first_memory image) (S.first_frames p) (I.first_frames image) budget first_store_same
+      (record { now = frames_same 0 ms image.modules.items (λ j m e. let n : j ≡ 0 + j = omega arith in subst (λ q. Linked q q m.body.items) n (linked_module j m e)) ok.starts; behind = λ k. absurd k }))
 
   pub shown : Shows p image
   shown = record {
-    observation = λ budget choices. sym (observation_matches SameStore (Together image) (S.source p) (machine image) (simulates image p) (execution (S.source p) choices (S.first_state p budget)) (execution (machine image) choices (I.first_state image budget)) (matched budget choices));
-    events = λ budget choices. sym (events_match SameStore (Together image) (S.source p) (machine image) (simulates image p) (execution (S.source p) choices (S.first_state p budget)) (execution (machine image) choices (I.first_state image budget)) (matched budget choices));
+    observation = λ budget choices. sym (observation_matches (SameStore p) (Together p image) (S.source p) (machine image) simulates (execution (S.source p) choices (S.first_state p budget)) (execution (machine image) choices (I.first_state image budget)) (matched budget choices));
+    events = λ budget choices. sym (events_match (SameStore p) (Together p image) (S.source p) (machine image) simulates (execution (S.source p) choices (S.first_state p budget)) (execution (machine image) choices (I.first_state image budget)) (matched budget choices));
   }

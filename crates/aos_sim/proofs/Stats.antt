@@ -1,30 +1,33 @@
 -- The code of a statement does what the statement does, and what is left of a body is carried out from the place that it leaves.
 use Rattle.std.proofs.Common.{◌≡◌, ℕ, suc, ◌+◌, ◌-◌, ◌<◌, ◌≤◌, true, false, List, [], ◌∷◌, ◌++◌, length, drop, Some, refl, sym, ap, ◌∙◌, subst, arith, append_assoc, length-append}
-use Rattle.std.specs.Prelude.{slice_get, All}
+use Rattle.std.specs.Prelude.{slice_get, option_map, All}
 use Rattle.std.proofs.lemmas.Bool.{le-ltb, lt-ltb}
 use Rattle.std.proofs.lemmas.List.Elements.{All-tail}
 use Rattle.aos_base.specs.declared.text.Pos.{Pos}
-use Rattle.aos_base.specs.Question.{Val, Asks, bind, ask, Stores, PutsInt, PutsLn}
+use Rattle.aos_base.specs.Question.{Val, Asks, bind, ask, Stores, Starts, PutsInt, PutsLn}
 use Rattle.aos_typed.specs.declared.tree.TPlace.{TPlace}
+use Rattle.aos_typed.specs.declared.tree.TPlace.TheVariants.{ModuleVar}
 use Rattle.aos_typed.specs.declared.tree.TExpr.{TExpr}
 use Rattle.aos_typed.specs.declared.tree.OutCall.{OutCall}
 use Rattle.aos_typed.specs.declared.tree.OutCall.TheVariants.{Int as OutInt, Ln as OutLn}
 use Rattle.aos_typed.specs.declared.tree.TStat.{TStat, Row_of-TStat, end_of-TStat, more_of-TStat}
-use Rattle.aos_typed.specs.declared.tree.TStat.TheVariants.{Assign, While', Out}
-use Rattle.aos_typed.specs.Value.{Value, Int, Flag}
-use Rattle.aos_typed.specs.Store.{Spot}
+use Rattle.aos_typed.specs.declared.tree.TStat.TheVariants.{Assign, While', New, Out}
+use Rattle.aos_typed.specs.declared.tree.TType.TheVariants as type
+use Rattle.aos_typed.specs.declared.tree.Program.{Program}
+use Rattle.aos_typed.specs.Value.{Value, Int, Flag, Object}
+use Rattle.aos_typed.specs.Store.{Spot, ModuleRoot}
 use Rattle.aos_typed.specs.Meaning as source
 use Rattle.aos_typed.specs.Meaning.{Doing, Item, Do, items_of, do_each, if_flag, place_of, value_of, stat_of, pos_of, out_of}
-use Rattle.aos_typed.specs.WellTyped.{IsInteger, IsBoolean, IsStatement, AreStatements, IsCall}
+use Rattle.aos_typed.specs.WellTyped.{place_type, IsBoolean, IsStatement, AreStatements, IsCall}
 use Rattle.aos_code.specs.declared.instr.Instr.{Instr}
 use Rattle.aos_code.specs.declared.instr.Instr.TheVariants as i
-use Rattle.aos_code.specs.declared.instr.Kind.TheVariants.{N}
+use Rattle.aos_code.specs.declared.instr.Kind.TheVariants.{N, R}
 use Rattle.aos_code.specs.Silent.{Stack, jumps, lands}
 use Rattle.aos_sim.specs.Code.{begin, place_code, operands_code, value_code, while_code, stat_code, row_code, stats_code}
 use Rattle.aos_sim.proofs.Runs.{Run, AtBegin, on_run, runs, run, drop_next, drop_past, get_at, Stands}
-use Rattle.aos_sim.proofs.Exprs.{cell_of, place_in, placed, IsInt, IsFlag, IsAsk, Does, along, does_bind, Pushed, Named, passed, operands_do, place_does, integer_does, boolean_does}
+use Rattle.aos_sim.proofs.Exprs.{cell_of, place_in, placed, Number, Truth, Reference, sort_of_type, Is, type_at, IsAsk, Does, along, does_bind, Pushed, Named, passed, operands_do, place_does, integer_does, boolean_does}
 
-module _ (code : List Instr) where
+module _ (program : Program) (code : List Instr) where
   -- from both places the code does the same
   abbrev pub Same : ℕ → ℕ → Type 0
   Same p q = (s : Stack) → run code p s ≡ run code q s
@@ -32,13 +35,13 @@ module _ (code : List Instr) where
   -- the code at a place carries out these items, and then the end of the frame
   abbrev pub Carries : List Item → ℕ → Type 0
   Carries [] p = (at : ℕ) × Same p at × Stands code at (i.Return ∷ [])
-  Carries (Do st ∷ is) p = (at : ℕ) × Same p at × Stands code at (stat_code st at) × IsStatement st × Carries is (at + length (stat_code st at))
+  Carries (Do st ∷ is) p = (at : ℕ) × Same p at × Stands code at (stat_code st at) × IsStatement program st × Carries is (at + length (stat_code st at))
 
   pub carries_from : (is : List Item) (p q : ℕ) → Same p q → Carries is q → Carries is p
   carries_from [] p q same c = (c.0, (λ s. same s ∙ c.1 s), c.2)
   carries_from (Do st ∷ is) p q same c = (c.0, (λ s. same s ∙ c.1 s), c.2, c.3, c.4)
 
-  carries_row : {m : _} (row : Row_of-TStat m) (p : ℕ) (after : List Item) → AreStatements row → Stands code p (row_code row p) → Carries after (p + length (row_code row p)) → Carries (items_of row ++ after) p
+  carries_row : {m : _} (row : Row_of-TStat m) (p : ℕ) (after : List Item) → AreStatements program row → Stands code p (row_code row p) → Carries after (p + length (row_code row p)) → Carries (items_of row ++ after) p
   carries_row end_of-TStat p after ok st c = let e : p + 0 ≡ p = omega arith in subst (Carries after) e c
   carries_row (more_of-TStat s ss) p after ok st c =
       let cs = stat_code s p in
@@ -48,7 +51,7 @@ module _ (code : List Instr) where
       let len : p + length (cs ++ cr) ≡ p + length cs + length cr = omega (arith, length-append cs cr) in
       (p, (λ s'. refl), record { rest = cr ++ st.rest; here = split }, ok.0, carries_row ss (p + length cs) after ok.1 next (subst (Carries after) len c))
 
-  pub carries_list : (ss : List TStat) (p : ℕ) → All IsStatement ss → Stands code p (stats_code ss p ++ i.Return ∷ []) → Carries (do_each ss) p
+  pub carries_list : (ss : List TStat) (p : ℕ) → All (IsStatement program) ss → Stands code p (stats_code ss p ++ i.Return ∷ []) → Carries (do_each ss) p
   carries_list [] p ok st = (p, (λ s. refl), st)
   carries_list (s ∷ ss) p ok st =
       let cs = stat_code s p in
@@ -56,7 +59,7 @@ module _ (code : List Instr) where
       let last = i.Return ∷ [] in
       let split : drop p code ≡ cs ++ ((cr ++ last) ++ st.rest) = st.here ∙ simp append_assoc in
       let next : Stands code (p + length cs) (cr ++ last) = record { rest = st.rest; here = drop_past cs p code ((cr ++ last) ++ st.rest) split } in
-      (p, (λ s'. refl), record { rest = (cr ++ last) ++ st.rest; here = split }, ok 0 s (omega arith), carries_list ss (p + length cs) (All-tail IsStatement s ss ok) next)
+      (p, (λ s'. refl), record { rest = (cr ++ last) ++ st.rest; here = split }, ok 0 s (omega arith), carries_list ss (p + length cs) (All-tail (IsStatement program) s ss ok) next)
 
   -- where these items take the place of a statement, the code goes on with them and those after them
   abbrev pub Into : List Item → List Item → Run → Type 0
@@ -75,10 +78,10 @@ module _ (code : List Instr) where
   lands_back to p at rest s le here = rw (le-ltb p to le) (ap (λ o. on_run (lands o to s) (runs code rest) p) here)
 
   -- the statement's last instruction asks, and with the answer the statement is done
-  last_asks : (q : source.Question) (m : Run) (p : ℕ) (rest : List Instr) (after : List Item) → m ≡ Asks (placed q) (λ x. runs code rest 0 (p + 1) []) → IsAsk q → drop (p + 1) code ≡ rest → Carries after (p + 1) → Does (Into after) m (bind (ask q) (λ _. Val []))
+  last_asks : (q : source.Question) (m : Run) (p : ℕ) (rest : List Instr) (after : List Item) → m ≡ Asks (placed q) (λ x. runs code rest 0 (p + 1) []) → IsAsk program q → drop (p + 1) code ≡ rest → Carries after (p + 1) → Does program (Into after) m (bind (ask q) (λ _. Val []))
   last_asks q m p rest after e ok here c = ((λ x. runs code rest 0 (p + 1) []), e, ok, λ v a. (p + 1, sym (from_here (p + 1) rest [] here), c))
 
-  assign_does : (pl : TPlace) (e : TExpr) (here : Pos) (at : ℕ) (after : List Item) → IsInteger e → Stands code at (stat_code (Assign here pl e) at) → Carries after (at + length (stat_code (Assign here pl e) at)) → Does (Into after) (run code (at + 1) []) (stat_of (Assign here pl e))
+  assign_does : (pl : TPlace) (e : TExpr) (here : Pos) (at : ℕ) (after : List Item) → IsStatement program (Assign here pl e) → Stands code at (stat_code (Assign here pl e) at) → Carries after (at + length (stat_code (Assign here pl e) at)) → Does program (Into after) (run code (at + 1) []) (stat_of (Assign here pl e))
   assign_does pl e here at after ok st c =
       let cp = place_code pl (at + 1) in
       let pe = at + 1 + length cp in
@@ -90,21 +93,50 @@ module _ (code : List Instr) where
       let h2 : drop p code ≡ tail = drop_past ce pe code tail (drop_past cp (at + 1) code (ce ++ tail) h1) in
       let len : at + suc (length (operands_code cp ce (i.Store N))) ≡ p + 1 = omega (arith, length-append cp (ce ++ i.Store N ∷ []), length-append ce (i.Store N ∷ [])) in
       let onward : Spot → Doing (List Item) = λ s. bind (value_of e) (λ v. bind (ask (Stores s v)) (λ _. Val [])) in
-      along (Into after) _ _ (bind (place_of pl) onward) (from_here (at + 1) (cp ++ (ce ++ tail)) [] h1)
-      (does_bind (Named code (ce ++ tail) pe []) (Into after) _ (place_of pl) onward (place_does code pl (at + 1) (ce ++ tail) [])
-      (λ s m h. along (Into after) m _ (onward s) h.run
-      (does_bind (Pushed code IsInt tail p (place_in s ∷ [])) (Into after) _ (value_of e) (λ v. bind (ask (Stores s v)) (λ _. Val [])) (integer_does code e ok pe tail (place_in s ∷ []))
-      (λ v m' h'. stored s v m' p st.rest h'.kind h'.run (drop_next p code (i.Store N) st.rest h2) (subst (Carries after) len c)))))
+      along program (Into after) _ _ (bind (place_of pl) onward) (from_here (at + 1) (cp ++ (ce ++ tail)) [] h1)
+      (does_bind program (Named program code (place_type program pl) (ce ++ tail) pe []) (Into after) _ (place_of pl) onward (place_does program code pl (at + 1) (ce ++ tail) [])
+      (λ s m h. along program (Into after) m _ (onward s) h.run
+      (does_bind program (Pushed code Number tail p (place_in s ∷ [])) (Into after) _ (value_of e) (λ v. bind (ask (Stores s v)) (λ _. Val [])) (integer_does program code e ok.1 pe tail (place_in s ∷ []))
+      (λ v m' h'. stored s v m' p st.rest (h.of ∙ ok.0) h'.kind h'.run (drop_next p code (i.Store N) st.rest h2) (subst (Carries after) len c)))))
     where
-      stored : (s : Spot) (v : Value) (m : Run) (p : ℕ) (rest : List Instr) → IsInt v → m ≡ runs code (i.Store N ∷ rest) 0 p (cell_of v ∷ (place_in s ∷ [])) → drop (p + 1) code ≡ rest → Carries after (p + 1) → Does (Into after) m (bind (ask (Stores s v)) (λ _. Val []))
-      stored s (Int z) m p rest k e' h c' = last_asks (Stores s (Int z)) m p rest after e' tt h c'
-      stored s (Flag b) m p rest k e' h c' = absurd k
+      stored : (s : Spot) (v : Value) (m : Run) (p : ℕ) (rest : List Instr) → type_at program s.root s.variable ≡ Some type.LongInt → Is Number v → m ≡ runs code (i.Store N ∷ rest) 0 p (cell_of v ∷ (place_in s ∷ [])) → drop (p + 1) code ≡ rest → Carries after (p + 1) → Does program (Into after) m (bind (ask (Stores s v)) (λ _. Val []))
+      stored s (Int z) m p rest o k e' h c' = last_asks (Stores s (Int z)) m p rest after e' (ap (option_map sort_of_type) o) h c'
+      stored s (Flag b) m p rest o k e' h c' = absurd (cc)
+      stored s (Object n) m p rest o k e' h c' = absurd (cc)
 
-  out_does : (call : OutCall) (here : Pos) (at : ℕ) (after : List Item) → IsCall call → Stands code at (stat_code (Out here call) at) → Carries after (at + length (stat_code (Out here call) at)) → Does (Into after) (run code (at + 1) []) (out_of call)
+  -- the object stays below the place while it's stored, and is started then
+  new_does : (pl : TPlace) (t : ℕ) (here : Pos) (at : ℕ) (after : List Item) → IsStatement program (New here pl t) → Stands code at (stat_code (New here pl t) at) → Carries after (at + length (stat_code (New here pl t) at)) → Does program (Into after) (run code (at + 1) []) (stat_of (New here pl t))
+  new_does (ModuleVar m k) t here at after ok st c =
+      let p = at + 1 + 1 + 1 + 1 + 1 in
+      let s5 = i.Start ∷ st.rest in
+      let s4 = i.Store R ∷ s5 in
+      let s3 = i.Swap ∷ s4 in
+      let s2 = i.Module m k ∷ s3 in
+      let s1 = i.Dup ∷ s2 in
+      let s0 = i.NewObject (t + 1) ∷ s1 in
+      let h1 : drop (at + 1) code ≡ s0 = drop_next at code (begin here) s0 st.here in
+      let h2 : drop (at + 1 + 1) code ≡ s1 = drop_next (at + 1) code (i.NewObject (t + 1)) s1 h1 in
+      let h3 : drop (at + 1 + 1 + 1) code ≡ s2 = drop_next (at + 1 + 1) code i.Dup s2 h2 in
+      let h4 : drop (at + 1 + 1 + 1 + 1) code ≡ s3 = drop_next (at + 1 + 1 + 1) code (i.Module m k) s3 h3 in
+      let h5 : drop p code ≡ s4 = drop_next (at + 1 + 1 + 1 + 1) code i.Swap s4 h4 in
+      let h6 : drop (p + 1) code ≡ s5 = drop_next p code (i.Store R) s5 h5 in
+      let h7 : drop (p + 1 + 1) code ≡ st.rest = drop_next (p + 1) code i.Start st.rest h6 in
+      let len : at + 7 ≡ p + 1 + 1 = omega arith in
+      let spot : Spot = record { root = ModuleRoot m; variable = k } in
+      along program (Into after) _ _ (stat_of (New here (ModuleVar m k) t)) (from_here (at + 1) s0 [] h1)
+      ((λ x. runs code s1 0 (at + 1 + 1) (x ∷ [])), refl, tt, λ o is. made o spot p st.rest is (ap (option_map sort_of_type) ok.0) h7 (subst (Carries after) len c))
+    where
+      made : (o : Value) (spot : Spot) (p : ℕ) (rest : List Instr) → Is Reference o → option_map sort_of_type (type_at program spot.root spot.variable) ≡ Some Reference → drop (p + 1 + 1) code ≡ rest → Carries after (p + 1 + 1) → Does program (Into after) (runs code (i.Store R ∷ (i.Start ∷ rest)) 0 p (cell_of o ∷ (place_in spot ∷ (cell_of o ∷ [])))) (bind (ask (Stores spot o)) (λ _. bind (ask (Starts o)) (λ _. Val [])))
+      made (Object n) spot p rest is suits h c' =
+          ((λ x. runs code (i.Start ∷ rest) 0 (p + 1) (cell_of (Object n) ∷ [])), refl, suits, λ v a. last_asks (Starts (Object n)) _ (p + 1) rest after refl refl h c')
+      made (Int z) spot p rest is suits h c' = absurd (cc)
+      made (Flag b) spot p rest is suits h c' = absurd (cc)
+
+  out_does : (call : OutCall) (here : Pos) (at : ℕ) (after : List Item) → IsCall program call → Stands code at (stat_code (Out here call) at) → Carries after (at + length (stat_code (Out here call) at)) → Does program (Into after) (run code (at + 1) []) (out_of call)
   out_does OutLn here at after ok st c =
       let h1 : drop (at + 1) code ≡ i.OutLn ∷ st.rest = drop_next at code (begin here) (i.OutLn ∷ st.rest) st.here in
       let len : at + 2 ≡ at + 1 + 1 = omega arith in
-      along (Into after) _ _ (out_of OutLn) (from_here (at + 1) (i.OutLn ∷ st.rest) [] h1)
+      along program (Into after) _ _ (out_of OutLn) (from_here (at + 1) (i.OutLn ∷ st.rest) [] h1)
       (last_asks PutsLn _ (at + 1) st.rest after refl tt (drop_next (at + 1) code i.OutLn st.rest h1) (subst (Carries after) len c))
   out_does (OutInt e n) here at after ok st c =
       let ca = value_code e (at + 1) in
@@ -114,18 +146,19 @@ module _ (code : List Instr) where
       let h1 : drop (at + 1) code ≡ operands_code ca cb i.OutInt ++ st.rest = drop_next at code (begin here) (operands_code ca cb i.OutInt ++ st.rest) st.here in
       let h2 : drop p code ≡ i.OutInt ∷ st.rest = drop_past cb (at + 1 + length ca) code (i.OutInt ∷ st.rest) (drop_past ca (at + 1) code (cb ++ (i.OutInt ∷ st.rest)) (h1 ∙ flat)) in
       let len : at + suc (length (operands_code ca cb i.OutInt)) ≡ p + 1 = omega (arith, length-append ca (cb ++ i.OutInt ∷ []), length-append cb (i.OutInt ∷ [])) in
-      along (Into after) _ _ (out_of (OutInt e n)) (from_here (at + 1) (operands_code ca cb i.OutInt ++ st.rest) [] h1)
-      (operands_do code (Into after) i.OutInt (λ x y. bind (ask (PutsInt x y)) (λ _. Val [])) ca cb (value_of e) (value_of n) (at + 1) st.rest []
-      (integer_does code e ok.0 (at + 1)) (integer_does code n ok.1 (at + 1 + length ca))
-      (λ a b m e'. last_asks (PutsInt (Int a) (Int b)) m p st.rest after e' (tt, tt) (drop_next p code i.OutInt st.rest h2) (subst (Carries after) len c)))
+      along program (Into after) _ _ (out_of (OutInt e n)) (from_here (at + 1) (operands_code ca cb i.OutInt ++ st.rest) [] h1)
+      (operands_do program code (Into after) i.OutInt (λ x y. bind (ask (PutsInt x y)) (λ _. Val [])) ca cb (value_of e) (value_of n) (at + 1) st.rest []
+      (integer_does program code e ok.0 (at + 1)) (integer_does program code n ok.1 (at + 1 + length ca))
+      (λ a b m e'. last_asks (PutsInt (Int a) (Int b)) m p st.rest after e' (refl, refl) (drop_next p code i.OutInt st.rest h2) (subst (Carries after) len c)))
 
   -- a test and the jump that it decides
-  chosen : (then otherwise : List Item) (to on p : ℕ) (rest : List Instr) (after : List Item) (v : Value) (m : Run) → IsFlag v → m ≡ runs code (i.JumpFalse to ∷ rest) 0 p (cell_of v ∷ []) → on_run (jumps code to p []) (runs code rest) p ≡ run code to [] → runs code rest 0 (p + 1) [] ≡ run code on [] → Carries (then ++ after) on → Carries (otherwise ++ after) to → Does (Into after) m (if_flag v then otherwise)
+  chosen : (then otherwise : List Item) (to on p : ℕ) (rest : List Instr) (after : List Item) (v : Value) (m : Run) → Is Truth v → m ≡ runs code (i.JumpFalse to ∷ rest) 0 p (cell_of v ∷ []) → on_run (jumps code to p []) (runs code rest) p ≡ run code to [] → runs code rest 0 (p + 1) [] ≡ run code on [] → Carries (then ++ after) on → Carries (otherwise ++ after) to → Does program (Into after) m (if_flag v then otherwise)
   chosen then otherwise to on p rest after (Flag true) m k e en ey cy cn = (on, e ∙ ey, cy)
   chosen then otherwise to on p rest after (Flag false) m k e en ey cy cn = (to, e ∙ en, cn)
-  chosen then otherwise to on p rest after (Int z) m k e en ey cy cn = absurd k
+  chosen then otherwise to on p rest after (Int z) m k e en ey cy cn = absurd (cc)
+  chosen then otherwise to on p rest after (Object o) m k e en ey cy cn = absurd (cc)
 
-  while_does : (w : TStat) (e : TExpr) {m : _} (b : Row_of-TStat m) (here : Pos) (at : ℕ) (after : List Item) → let c1 = value_code e (at + 1) in let b1 = row_code b (at + 1 + length c1 + 1) in stat_code w at ≡ while_code here c1 b1 at → IsStatement w → IsBoolean e → AreStatements b → Stands code at (stat_code w at) → Carries after (at + length (stat_code w at)) → Does (Into after) (run code (at + 1) []) (bind (value_of e) (λ v. if_flag v (items_of b ++ Do w ∷ []) []))
+  while_does : (w : TStat) (e : TExpr) {m : _} (b : Row_of-TStat m) (here : Pos) (at : ℕ) (after : List Item) → let c1 = value_code e (at + 1) in let b1 = row_code b (at + 1 + length c1 + 1) in stat_code w at ≡ while_code here c1 b1 at → IsStatement program w → IsBoolean program e → AreStatements program b → Stands code at (stat_code w at) → Carries after (at + length (stat_code w at)) → Does program (Into after) (run code (at + 1) []) (bind (value_of e) (λ v. if_flag v (items_of b ++ Do w ∷ []) []))
   while_does w e b here at after hw okw oke okb st c =
       let c1 = value_code e (at + 1) in
       let p = at + 1 + length c1 in
@@ -147,11 +180,12 @@ module _ (code : List Instr) where
       let again : Carries (Do w ∷ after) pj = (at, back, st, okw, c) in
       let to_b : Carries ((items_of b ++ Do w ∷ []) ++ after) pb = subst (λ l. Carries l pb) (sym (append_assoc (items_of b) (Do w ∷ []) after)) (carries_row b pb (Do w ∷ after) okb (record { rest = i.Jump at ∷ st.rest; here = h3 }) again) in
       let over : on_run (jumps code end p []) (runs code (b1 ++ (i.Jump at ∷ st.rest))) p ≡ run code end [] = jump_on (b1 ++ (i.Jump at ∷ st.rest)) end p (length b1 + 1) [] (omega arith) ∙ passed code b1 (i.Jump at ∷ st.rest) 1 (p + 1) [] ∙ sym (from_here end st.rest [] h5) in
-      along (Into after) _ _ (bind (value_of e) (λ v. if_flag v (items_of b ++ Do w ∷ []) [])) (from_here (at + 1) (c1 ++ tail) [] h1)
-      (does_bind (Pushed code IsFlag tail p []) (Into after) _ (value_of e) (λ v. if_flag v (items_of b ++ Do w ∷ []) []) (boolean_does code e oke (at + 1) tail [])
+      along program (Into after) _ _ (bind (value_of e) (λ v. if_flag v (items_of b ++ Do w ∷ []) [])) (from_here (at + 1) (c1 ++ tail) [] h1)
+      (does_bind program (Pushed code Truth tail p []) (Into after) _ (value_of e) (λ v. if_flag v (items_of b ++ Do w ∷ []) []) (boolean_does program code e oke (at + 1) tail [])
       (λ v m h. chosen (items_of b ++ Do w ∷ []) [] end pb p (b1 ++ (i.Jump at ∷ st.rest)) after v m h.kind h.run over (sym (from_here pb (b1 ++ (i.Jump at ∷ st.rest)) [] h3)) to_b (subst (Carries after) len c)))
 
-  pub stat_does : (s : TStat) (at : ℕ) (after : List Item) → IsStatement s → Stands code at (stat_code s at) → Carries after (at + length (stat_code s at)) → Does (Into after) (run code (at + 1) []) (stat_of s)
+  pub stat_does : (s : TStat) (at : ℕ) (after : List Item) → IsStatement program s → Stands code at (stat_code s at) → Carries after (at + length (stat_code s at)) → Does program (Into after) (run code (at + 1) []) (stat_of s)
   stat_does (Assign here pl e) at after ok st c = assign_does pl e here at after ok st c
   stat_does (While' here e shape b) at after ok st c = while_does (While' here e shape b) e b here at after refl ok ok.0 ok.1 st c
+  stat_does (New here pl t) at after ok st c = new_does pl t here at after ok st c
   stat_does (Out here call) at after ok st c = out_does call here at after ok st c

@@ -1,84 +1,94 @@
 -- The store and the memory that shows it.
-use Rattle.std.proofs.Common.{◌≡◌, ℕ, zero, suc, List, [], ◌∷◌, map, Option, Some, None, refl, sym, ap, ◌∙◌, subst, arith}
-use Rattle.std.specs.Prelude.{slice_get, slice_set, option_map, option_and_then, All}
-use Rattle.std.proofs.lemmas.List.{map-set}
-use Rattle.std.proofs.lemmas.List.Elements.{All-set, All-tail}
+use Rattle.std.proofs.Common.{◌≡◌, ℕ, zero, suc, ◌+◌, List, [], ◌∷◌, ◌++◌, map, Option, Some, None, refl, sym, ap, ◌∙◌, subst}
+use Rattle.std.specs.Prelude.{slice_get, slice_set, option_map, option_and_then}
+use Rattle.std.proofs.lemmas.List.{map-set, map-append}
 use Rattle.std.proofs.lemmas.Option.{slice_get-map}
+use Rattle.aos_typed.specs.declared.tree.Program.{Program}
 use Rattle.aos_typed.specs.Value.{Value}
-use Rattle.aos_typed.specs.Store.{Content, Scalar, Root, ModuleRoot, Spot, Store, value_in, read, write, put_in}
+use Rattle.aos_typed.specs.Store.{Content, Scalar, Root, ModuleRoot, Spot, Store, value_in, read, write, put_in, with_object}
 use Rattle.aos_code.specs.declared.instr.Cell.{Cell}
-use Rattle.aos_code.specs.Memory.{Memory, load, store, put_in as put_cells}
-use Rattle.aos_sim.proofs.Exprs.{cell_of, addr_of, IsInt}
+use Rattle.aos_code.specs.Memory.{Memory, load, store, put_in as put_cells, with_object as with_one}
+use Rattle.aos_sim.proofs.Exprs.{cell_of, addr_of, Sort, sort_of, sort_of_type, type_at, Suits}
 
 -- the cell of a variable
 abbrev pub cell_in : Content → Cell
-cell_in (Scalar v) = cell_of v
+cell_in c = cell_of (value_in c)
 
--- all variables hold integers
-abbrev pub HoldsInt : Content → Type 0
-HoldsInt (Scalar v) = IsInt v
+-- what kind of value it holds
+abbrev pub sort_in : Content → Sort
+sort_in c = sort_of (value_in c)
 
--- each cell holds its variable's value
-pub record SameStore (s : Store) (mem : Memory) : Type 0 where
+-- each cell holds its variable's value, which is of the variable's type, and the objects have the same types
+pub record SameStore (program : Program) (s : Store) (mem : Memory) : Type 0 where
   pub cells : mem.modules ≡ map (λ vs. map cell_in vs) s.modules
-  pub kinds : All (λ vs. All HoldsInt vs) s.modules
+  pub sorts : map (λ vs. map sort_in vs) s.modules ≡ map (λ m. map (λ v. sort_of_type v.of) m.variables.items) program.modules.items
+  pub objects : mem.objects ≡ map (λ t. t + 1) s.objects
 
-pub all_get : {X : Type 0} (P : X → Type 0) (xs : List X) (i : ℕ) (x : X) → All P xs → slice_get xs i ≡ Some x → P x
-all_get P [] i x h e = absurd (cc)
-all_get P (y ∷ ys) zero x h e = let q : y ≡ x = cc in subst P q (h 0 y (omega arith))
-all_get P (y ∷ ys) (suc i) x h e = all_get P ys i x (All-tail P y ys h) e
-
-read_in : (vs : List Content) (i : ℕ) → slice_get (map cell_in vs) i ≡ option_map cell_of (option_map value_in (slice_get vs i))
-read_in vs i = slice_get-map cell_in vs i ∙ by_case (slice_get vs i)
+-- one element of one row, of which another row has the image
+in_rows : {X Y Z A : Type 0} (row : X → List Y) (g : Y → Z) (f : Z → A) (xs : List X) (m i : ℕ) → option_and_then (λ r. slice_get r i) (slice_get (map (λ x. map (λ y. f (g y)) (row x)) xs) m) ≡ option_map f (option_and_then (λ x. option_map g (slice_get (row x) i)) (slice_get xs m))
+in_rows row g f xs m i =
+    ap (option_and_then (λ r. slice_get r i)) (slice_get-map (λ x. map (λ y. f (g y)) (row x)) xs m) ∙ in_row (slice_get xs m)
   where
-    by_case : (o : Option Content) → option_map cell_in o ≡ option_map cell_of (option_map value_in o)
-    by_case None = refl
-    by_case (Some (Scalar v)) = refl
+    at_element : (o : Option _) → option_map (λ y. f (g y)) o ≡ option_map f (option_map g o)
+    at_element None = refl
+    at_element (Some y) = refl
+
+    in_row : (o : Option _) → option_and_then (λ r. slice_get r i) (option_map (λ x. map (λ y. f (g y)) (row x)) o) ≡ option_map f (option_and_then (λ x. option_map g (slice_get (row x) i)) o)
+    in_row None = refl
+    in_row (Some x) = slice_get-map (λ y. f (g y)) (row x) i ∙ at_element (slice_get (row x) i)
+
+-- an element is replaced by one that f can't tell from it
+set_kept : {X Y : Type 0} (f : X → Y) (xs : List X) (i : ℕ) (x : X) → option_map f (slice_get xs i) ≡ Some (f x) → map f (slice_set xs i x) ≡ map f xs
+set_kept f [] i x e = absurd (cc)
+set_kept f (y ∷ ys) zero x e = cc
+set_kept f (y ∷ ys) (suc i) x e = ap (λ l. f y ∷ l) (set_kept f ys i x e)
 
 -- a read gives the value's cell
-pub read_same : (p : Spot) (s : Store) (mem : Memory) → SameStore s mem → load (addr_of p) mem ≡ option_map cell_of (read p s)
-read_same p s mem h = by_root p.root
+pub read_same : (program : Program) (p : Spot) (s : Store) (mem : Memory) → SameStore program s mem → load (addr_of p) mem ≡ option_map cell_of (read p s)
+read_same program p s mem h = by_root p.root
   where
-    in_module : (i : ℕ) (o : Option (List Content)) → option_and_then (λ cells. slice_get cells i) (option_map (λ vs. map cell_in vs) o) ≡ option_map cell_of (option_and_then (λ vs. option_map value_in (slice_get vs i)) o)
-    in_module i None = refl
-    in_module i (Some vs) = read_in vs i
-
     by_root : (r : Root) → load (addr_of (record { root = r; variable = p.variable })) mem ≡ option_map cell_of (read (record { root = r; variable = p.variable }) s)
     by_root (ModuleRoot m) =
         ap (λ ms. option_and_then (λ cells. slice_get cells p.variable) (slice_get ms m)) h.cells
-        ∙ ap (λ o. option_and_then (λ cells. slice_get cells p.variable) o) (slice_get-map (λ vs. map cell_in vs) s.modules m)
-        ∙ in_module p.variable (slice_get s.modules m)
+        ∙ in_rows (λ vs. vs) value_in cell_of s.modules m p.variable
 
--- and an integer
-pub read_kind : (p : Spot) (s : Store) (mem : Memory) (v : Value) → SameStore s mem → read p s ≡ Some v → IsInt v
-read_kind p s mem v h e = by_root p.root e
+-- the sort of a variable's value is that of its type
+sort_read : (program : Program) (m k : ℕ) (s : Store) (mem : Memory) → SameStore program s mem → option_and_then (λ r. slice_get r k) (slice_get (map (λ vs. map sort_in vs) s.modules) m) ≡ option_map sort_of_type (type_at program (ModuleRoot m) k)
+sort_read program m k s mem h =
+    ap (λ ms. option_and_then (λ r. slice_get r k) (slice_get ms m)) h.sorts
+    ∙ in_rows (λ x. x.variables.items) (λ v. v.of) sort_of_type program.modules.items m k
+
+pub read_suits : (program : Program) (p : Spot) (s : Store) (mem : Memory) (v : Value) → SameStore program s mem → read p s ≡ Some v → Suits program p v
+read_suits program p s mem v h e = by_root p.root e
   where
-    of_content : (i : ℕ) (vs : List Content) (o : Option Content) → All HoldsInt vs → slice_get vs i ≡ o → option_map value_in o ≡ Some v → IsInt v
-    of_content i vs None k at e' = absurd (cc)
-    of_content i vs (Some (Scalar w)) k at e' = let q : w ≡ v = cc in subst IsInt q (all_get HoldsInt vs i (Scalar w) k at)
+    by_root : (r : Root) → read (record { root = r; variable = p.variable }) s ≡ Some v → Suits program (record { root = r; variable = p.variable }) v
+    by_root (ModuleRoot m) e' =
+        sym (sort_read program m p.variable s mem h) ∙ in_rows (λ vs. vs) value_in sort_of s.modules m p.variable ∙ ap (option_map sort_of) e'
 
-    in_module : (m i : ℕ) (o : Option (List Content)) → slice_get s.modules m ≡ o → option_and_then (λ vs. option_map value_in (slice_get vs i)) o ≡ Some v → IsInt v
-    in_module m i None at e' = absurd (cc)
-    in_module m i (Some vs) at e' = of_content i vs (slice_get vs i) (all_get (λ ws. All HoldsInt ws) s.modules m vs h.kinds at) refl e'
-
-    by_root : (r : Root) → read (record { root = r; variable = p.variable }) s ≡ Some v → IsInt v
-    by_root (ModuleRoot m) e' = in_module m p.variable (slice_get s.modules m) refl e'
-
--- a store of an integer keeps them alike
-pub write_same : (p : Spot) (v : Value) (s : Store) (mem : Memory) → IsInt v → SameStore s mem → SameStore (write p v s) (store (addr_of p) (cell_of v) mem)
-write_same p v s mem k h = by_root p.root
+-- a store of what suits keeps them alike
+pub write_same : (program : Program) (p : Spot) (v : Value) (s : Store) (mem : Memory) → Suits program p v → SameStore program s mem → SameStore program (write p v s) (store (addr_of p) (cell_of v) mem)
+write_same program p v s mem k h = by_root p.root k
   where
-    in_module : (m i : ℕ) (o : Option (List Content)) → slice_get s.modules m ≡ o → SameStore (put_in o m i v s) (put_cells (option_map (λ vs. map cell_in vs) o) m i (cell_of v) mem)
-    in_module m i None at = h
-    in_module m i (Some vs) at = record {
-      cells = ap (λ ms. slice_set ms m (slice_set (map cell_in vs) i (cell_of v))) h.cells
-          ∙ ap (λ row. slice_set (map (λ ws. map cell_in ws) s.modules) m row) (sym (map-set cell_in vs i (Scalar v)))
-          ∙ sym (map-set (λ ws. map cell_in ws) s.modules m (slice_set vs i (Scalar v)));
-      kinds = All-set (λ ws. All HoldsInt ws) s.modules m (slice_set vs i (Scalar v)) (All-set HoldsInt vs i (Scalar v) k (all_get (λ ws. All HoldsInt ws) s.modules m vs h.kinds at)) h.kinds;
-    }
+    in_module : (m i : ℕ) (o : Option (List Content)) → slice_get s.modules m ≡ o → option_and_then (λ r. slice_get r i) (option_map (λ vs. map sort_in vs) o) ≡ Some (sort_of v) → SameStore program (put_in o m i v s) (put_cells (option_map (λ vs. map cell_in vs) o) m i (cell_of v) mem)
+    in_module m i None at suits = h
+    in_module m i (Some vs) at suits =
+        let row : map sort_in (slice_set vs i (Scalar v)) ≡ map sort_in vs = set_kept sort_in vs i (Scalar v) (sym (slice_get-map sort_in vs i) ∙ suits) in
+        record {
+          cells = ap (λ ms. slice_set ms m (slice_set (map cell_in vs) i (cell_of v))) h.cells
+              ∙ ap (λ r. slice_set (map (λ ws. map cell_in ws) s.modules) m r) (sym (map-set cell_in vs i (Scalar v)))
+              ∙ sym (map-set (λ ws. map cell_in ws) s.modules m (slice_set vs i (Scalar v)));
+          sorts = set_kept (λ ws. map sort_in ws) s.modules m (slice_set vs i (Scalar v)) (ap (option_map (λ ws. map sort_in ws)) at ∙ ap (λ r. Some r) (sym row)) ∙ h.sorts;
+          objects = h.objects;
+        }
 
-    by_root : (r : Root) → SameStore (write (record { root = r; variable = p.variable }) v s) (store (addr_of (record { root = r; variable = p.variable })) (cell_of v) mem)
-    by_root (ModuleRoot m) =
-        subst (λ o. SameStore (put_in (slice_get s.modules m) m p.variable v s) (put_cells o m p.variable (cell_of v) mem))
+    by_root : (r : Root) → Suits program (record { root = r; variable = p.variable }) v → SameStore program (write (record { root = r; variable = p.variable }) v s) (store (addr_of (record { root = r; variable = p.variable })) (cell_of v) mem)
+    by_root (ModuleRoot m) suits =
+        subst (λ o. SameStore program (put_in (slice_get s.modules m) m p.variable v s) (put_cells o m p.variable (cell_of v) mem))
         (sym (ap (λ ms. slice_get ms m) h.cells ∙ slice_get-map (λ vs. map cell_in vs) s.modules m))
-        (in_module m p.variable (slice_get s.modules m) refl)
+        (in_module m p.variable (slice_get s.modules m) refl
+        (ap (option_and_then (λ r. slice_get r p.variable)) (sym (slice_get-map (λ vs. map sort_in vs) s.modules m)) ∙ sort_read program m p.variable s mem h ∙ suits))
+
+-- an object of the same type on both sides
+pub made_same : (program : Program) (t : ℕ) (s : Store) (mem : Memory) → SameStore program s mem → SameStore program (with_object t s) (with_one (t + 1) mem)
+made_same program t s mem h =
+    record { cells = h.cells; sorts = h.sorts; objects = ap (λ l. l ++ (t + 1) ∷ []) h.objects ∙ sym (map-append (λ x. x + 1) s.objects (t ∷ [])) }

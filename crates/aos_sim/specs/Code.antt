@@ -12,12 +12,14 @@ use Rattle.aos_typed.specs.declared.tree.TExpr.TheVariants.{Lit, Read, Binary', 
 use Rattle.aos_typed.specs.declared.tree.OutCall.{OutCall}
 use Rattle.aos_typed.specs.declared.tree.OutCall.TheVariants.{Int, Ln}
 use Rattle.aos_typed.specs.declared.tree.TStat.{TStat, Row_of-TStat, end_of-TStat, more_of-TStat}
-use Rattle.aos_typed.specs.declared.tree.TStat.TheVariants.{Assign, While', Out}
+use Rattle.aos_typed.specs.declared.tree.TStat.TheVariants.{Assign, While', New, Out}
 use Rattle.aos_code.specs.declared.instr.Cell.{Cell}
-use Rattle.aos_code.specs.declared.instr.Kind.TheVariants.{N}
+use Rattle.aos_typed.specs.declared.tree.TType.{TType}
+use Rattle.aos_typed.specs.declared.tree.TType.TheVariants as type
+use Rattle.aos_code.specs.declared.instr.Kind.TheVariants.{N, R}
 use Rattle.aos_code.specs.declared.instr.Cell.TheVariants as cell
 use Rattle.aos_code.specs.declared.instr.Instr.{Instr}
-use Rattle.aos_code.specs.declared.instr.Instr.TheVariants.{Num, Module, Add, Sub, Cmp, Jump, JumpFalse, Begin, Load, Store, Return, OutInt, OutLn}
+use Rattle.aos_code.specs.declared.instr.Instr.TheVariants.{Num, Dup, Swap, Module, Add, Sub, Cmp, Jump, JumpFalse, Begin, Load, Store, NewObject, Start, Return, OutInt, OutLn}
 
 abbrev pub begin : Pos → Instr
 begin at = Begin at.line at.col
@@ -49,6 +51,11 @@ abbrev pub out_code : OutCall → ℕ → List Instr
 out_code (Int e n) at = operands_code (value_code e at) (value_code n (at + length (value_code e at))) OutInt
 out_code Ln at = OutLn ∷ []
 
+-- a new object stays below the place that it's stored at, to be started. The place is a module's variable, whose code
+-- does no visible work
+abbrev pub new_code : TPlace → ℕ → ℕ → List Instr
+new_code p t at = NewObject (t + 1) ∷ (Dup ∷ (place_code p (at + 2) ++ (Swap ∷ (Store R ∷ (Start ∷ [])))))
+
 -- a loop: where its condition is false the code goes on behind it, else its body and then the loop again
 abbrev pub while_code : Pos → List Instr → List Instr → ℕ → List Instr
 while_code here c b at =
@@ -60,6 +67,7 @@ abbrev mutual
       begin here ∷ operands_code (place_code p (at + 1)) (value_code e (at + 1 + length (place_code p (at + 1)))) (Store N)
   stat_code (While' here e shape body) at =
       let c = value_code e (at + 1) in while_code here c (row_code body (at + 1 + length c + 1)) at
+  stat_code (New here p t) at = begin here ∷ new_code p t (at + 1)
   stat_code (Out here call) at = begin here ∷ out_code call (at + 1)
 
   pub row_code : {m : _} → Row_of-TStat m → ℕ → List Instr
@@ -75,5 +83,6 @@ abbrev pub body_code : List TStat → List Instr
 body_code ss = stats_code ss 0 ++ Return ∷ []
 
 -- a variable's cell at first
-abbrev pub zero_cell : Cell
-zero_cell = cell.Num (pos 0)
+abbrev pub zero_cell : TType → Cell
+zero_cell type.LongInt = cell.Num (pos 0)
+zero_cell (type.Object t) = cell.Ref 0

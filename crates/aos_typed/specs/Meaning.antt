@@ -1,7 +1,7 @@
 -- What expressions and statements do, as trees of questions.
-use Rattle.std.specs.Prelude.{ℕ, List, [], ◌∷◌, ◌++◌, Bool, true, false, Option, Some, None}
+use Rattle.std.specs.Prelude.{List, [], ◌∷◌, ◌++◌, true, false}
 use Rattle.aos_base.specs.declared.text.Pos.{Pos}
-use Rattle.aos_base.specs.Question.{Tree, Val, Asks, Traps, bind, ask, Ask, Reads, Stores, Ends, PutsInt, PutsLn}
+use Rattle.aos_base.specs.Question.{Tree, Val, bind, ask, Ask, Reads, Stores, Makes, Starts, PutsInt, PutsLn}
 use Rattle.aos_typed.specs.declared.tree.TPlace.{TPlace}
 use Rattle.aos_typed.specs.declared.tree.TPlace.TheVariants.{ModuleVar}
 use Rattle.aos_typed.specs.declared.tree.TExpr.{TExpr}
@@ -9,8 +9,8 @@ use Rattle.aos_typed.specs.declared.tree.TExpr.TheVariants.{Lit, Read, Binary', 
 use Rattle.aos_typed.specs.declared.tree.OutCall.{OutCall}
 use Rattle.aos_typed.specs.declared.tree.OutCall.TheVariants.{Int as OutInt, Ln as OutLn}
 use Rattle.aos_typed.specs.declared.tree.TStat.{TStat, Row_of-TStat, end_of-TStat, more_of-TStat}
-use Rattle.aos_typed.specs.declared.tree.TStat.TheVariants.{Assign, While', Out}
-use Rattle.aos_typed.specs.Value.{Value, Flag, literal, binary, compare, wrong_kind, Int as IntValue}
+use Rattle.aos_typed.specs.declared.tree.TStat.TheVariants.{Assign, While', New, Out}
+use Rattle.aos_typed.specs.Value.{Value, Flag, Object, literal, binary, compare, wrong_kind, Int as IntValue}
 use Rattle.aos_typed.specs.Store.{Spot, ModuleRoot}
 
 abbrev pub Question : Type 0
@@ -46,6 +46,7 @@ abbrev pub if_flag : {A : Type 0} → Value → A → A → Doing A
 if_flag (Flag true) then otherwise = Val then
 if_flag (Flag false) then otherwise = Val otherwise
 if_flag (IntValue n) then otherwise = wrong_kind
+if_flag (Object o) then otherwise = wrong_kind
 
 abbrev pub out_of : OutCall → Doing (List Item)
 out_of (OutInt e n) =
@@ -57,11 +58,15 @@ abbrev pub stat_of : TStat → Doing (List Item)
 stat_of (Assign at p e) = bind (place_of p) (λ s. bind (value_of e) (λ v. bind (ask (Stores s v)) (λ _. Val [])))
 stat_of (While' at e shape body) =
     bind (value_of e) (λ v. if_flag v (items_of body ++ Do (While' at e shape body) ∷ []) [])
+-- the object is made, then stored, and then its activity is started
+stat_of (New at p t) =
+    bind (place_of p) (λ s. bind (ask (Makes t)) (λ o. bind (ask (Stores s o)) (λ _. bind (ask (Starts o)) (λ _. Val []))))
 stat_of (Out at call) = out_of call
 
 abbrev pub pos_of : TStat → Pos
 pos_of (Assign at p e) = at
 pos_of (While' at e shape body) = at
+pos_of (New at p t) = at
 pos_of (Out at call) = at
 
 abbrev pub item_of : Item → Doing (List Item)

@@ -1,19 +1,22 @@
 -- A program as a machine: its store, its frames, and the turns of an activity.
-use Rattle.std.specs.Prelude.{ℕ, suc, ◌++◌, List, [], ◌∷◌, Bool, true, false, Option, Some, None, map, pos}
+use Rattle.std.specs.Prelude.{ℕ, zero, suc, ◌++◌, List, [], ◌∷◌, Bool, true, false, Option, Some, None, map, pos, slice_get, option_and_then}
 use Rattle.aos_base.specs.declared.text.Pos.{Pos}
 use Rattle.aos_base.specs.declared.kernel.Did.{Did}
-use Rattle.aos_base.specs.declared.kernel.Did.TheVariants.{Went, Ended, Trapped}
+use Rattle.aos_base.specs.declared.kernel.Did.TheVariants.{Went, Ended, Start, Trapped}
 use Rattle.aos_base.specs.declared.kernel.Verdict.TheVariants.{Fails}
 use Rattle.aos_base.specs.Number.{places_of, justified}
 use Rattle.aos_base.specs.Book.{Where}
 use Rattle.aos_base.specs.Machine.{Turn, Machine, State, start_of}
-use Rattle.aos_base.specs.Question.{Tree, Val, Asks, Traps, feed, Ask, Reads, Stores, Ends, PutsInt, PutsLn}
+use Rattle.aos_base.specs.Question.{Val, Asks, Traps, feed, Reads, Stores, Ends, Makes, Starts, PutsInt, PutsLn}
 use Rattle.aos_typed.specs.declared.tree.TModule.{TModule}
 use Rattle.aos_typed.specs.declared.tree.TVariable.{TVariable}
+use Rattle.aos_typed.specs.declared.tree.TType.{TType}
+use Rattle.aos_typed.specs.declared.tree.TType.TheVariants as type
+use Rattle.aos_typed.specs.declared.tree.TObject.{TObject}
 use Rattle.aos_typed.specs.declared.tree.Program.{Program}
 use Rattle.aos_typed.specs.declared.tree.TStat.{TStat}
-use Rattle.aos_typed.specs.Value.{Value, Int, Flag}
-use Rattle.aos_typed.specs.Store.{Content, Scalar, Spot, Store, read, write}
+use Rattle.aos_typed.specs.Value.{Value, Int, Flag, Object}
+use Rattle.aos_typed.specs.Store.{Content, Scalar, Store, read, write, type_of_object, with_object, new_number, has_room}
 use Rattle.aos_typed.specs.Meaning.{Question, Doing, Item, Do, do_each, item_of, pos_of}
 
 -- a frame: the module of its text, the statement last begun, the items that remain, and the answers that the first of
@@ -73,7 +76,9 @@ settles (Do st ∷ is) f fs s =
 abbrev pub written : Value → Value → Option (List ℕ)
 written (Int z) (Int n) = justified z (places_of n)
 written (Int z) (Flag b) = None
+written (Int z) (Object o) = None
 written (Flag b) v = None
+written (Object o) v = None
 
 abbrev pub reads : Option Value → Frame → Frames → Store → Turned
 reads None f fs s = leaves (Trapped 16 0) (f ∷ fs) s
@@ -83,11 +88,25 @@ abbrev pub prints : Option (List ℕ) → Frame → Frames → Store → Turned
 prints None f fs s = leaves (Trapped 14 0) (f ∷ fs) s
 prints (Some bytes) f fs s = puts bytes (answered done f ∷ fs) s
 
+-- an object is made, where the heap has room for it
+abbrev pub makes : Bool → ℕ → Frame → Frames → Store → Turned
+makes true t f fs s = goes_on (answered (Object (new_number s)) f ∷ fs) (with_object t s)
+makes false t f fs s = leaves (Trapped 12 0) (f ∷ fs) s
+
+-- an object's activity is left to the kernel
+abbrev pub starts : Value → Frame → Frames → Store → Turned
+starts (Object zero) f fs s = leaves (Trapped 16 0) (f ∷ fs) s
+starts (Object (suc k)) f fs s = leaves (Start (suc k)) (f ∷ fs) s
+starts (Int z) f fs s = leaves (Trapped 16 0) (f ∷ fs) s
+starts (Flag b) f fs s = leaves (Trapped 16 0) (f ∷ fs) s
+
 -- a question is answered
 abbrev pub answer : Question → Frame → Frames → Store → Turned
 answer (Reads p) f fs s = reads (read p s) f fs s
 answer (Stores p v) f fs s = goes_on (answered done f ∷ fs) (write p v s)
 answer (Ends result) f fs s = ends fs s
+answer (Makes t) f fs s = makes (has_room s) t f fs s
+answer (Starts v) f fs s = starts v f fs s
 answer (PutsInt v n) f fs s = prints (written v n) f fs s
 answer PutsLn f fs s = puts (10 ∷ []) (answered done f ∷ fs) s
 
@@ -120,31 +139,52 @@ abbrev pub position : Frames → Where
 position [] = record { module_ = 0; pos = record { line = 0; col = 0 } }
 position (f ∷ fs) = position_or (record { module_ = f.home; pos = record { line = 0; col = 0 } }) (f ∷ fs)
 
+-- past the work that was left to the kernel, which is the first item's latest question
+abbrev pub past : Frames → Frames
+past [] = []
+past (f ∷ fs) = answered done f ∷ fs
+
+-- the frame of a body: of this module, and with these statements
+abbrev pub body_frame : ℕ → List TStat → Frame
+body_frame home ss = record { home = home; at = None; items = do_each ss; answers = None }
+
+abbrev pub object_frames : Option TObject → Frames
+object_frames None = []
+object_frames (Some t) = body_frame t.home t.body.items ∷ []
+
+-- the frames with which an object's activity begins
+abbrev pub body_of : Program → Store → ℕ → Frames
+body_of p s o = object_frames (option_and_then (slice_get p.objects.items) (type_of_object o s))
+
 -- a program as a machine under the kernel
 abbrev pub source : Program → Machine Store Frames
 source p =
     record {
       turn = turn;
-      past = λ fs. fs;
+      past = past;
       verdict = λ s fs c. Fails;
       regions = λ fs. [];
       position = position;
-      body = λ s o. [];
+      body = body_of p;
       priority = λ s o. 2;
       anew = λ fs. None;
     }
 
--- all variables begin as 0
+-- a number begins as 0, an object variable as NIL
+abbrev pub first_value : TType → Value
+first_value type.LongInt = Int (pos 0)
+first_value (type.Object t) = Object 0
+
 abbrev pub first_contents : List TVariable → List Content
-first_contents vs = map (λ v. Scalar (Int (pos 0))) vs
+first_contents vs = map (λ v. Scalar (first_value v.of)) vs
 
 abbrev pub first_store : Program → Store
-first_store p = record { modules = map (λ m. first_contents m.variables.items) p.modules.items }
+first_store p = record { modules = map (λ m. first_contents m.variables.items) p.modules.items; objects = [] }
 
 -- the frames of the bodies, in load order; the first module has the number `from`
 abbrev pub bodies_from : ℕ → List TModule → Frames
 bodies_from from [] = []
-bodies_from from (m ∷ ms) = record { home = from; at = None; items = do_each m.body.items; answers = None } ∷ bodies_from (suc from) ms
+bodies_from from (m ∷ ms) = body_frame from m.body.items ∷ bodies_from (suc from) ms
 
 -- activity 0 runs the bodies of the modules
 abbrev pub first_frames : Program → Frames

@@ -1,5 +1,5 @@
 -- The store: below each root stand contents, which a path reads and writes.
-use Rattle.std.specs.Prelude.{ℕ, zero, suc, List, [], ◌∷◌, Option, Some, None, slice_get, slice_set, option_and_then, option_map}
+use Rattle.std.specs.Prelude.{ℕ, zero, suc, List, [], ◌∷◌, ◌++◌, length, nat_lt, Bool, Option, Some, None, slice_get, slice_set, option_and_then, option_map}
 use Rattle.aos_typed.specs.Value.{Value}
 
 -- what a variable holds: a scalar
@@ -17,6 +17,23 @@ pub record Spot : Type 0 where
 
 pub record Store : Type 0 where
   pub modules : List (List Content)
+  pub objects : List ℕ  -- the type of each object, in the order of making
+
+-- the objects' numbers begin with 1
+abbrev pub type_of_object : ℕ → Store → Option ℕ
+type_of_object zero s = None
+type_of_object (suc k) s = slice_get s.objects k
+
+-- a new object of this type, and its number
+abbrev pub with_object : ℕ → Store → Store
+with_object t s = record s { objects = s.objects ++ t ∷ [] }
+
+abbrev pub new_number : Store → ℕ
+new_number s = suc (length s.objects)
+
+-- the heap has room for so many scalars; an object without fields counts as one
+abbrev pub has_room : Store → Bool
+has_room s = nat_lt (length s.objects) 16777216
 
 abbrev pub value_in : Content → Value
 value_in (Scalar v) = v

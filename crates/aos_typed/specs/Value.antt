@@ -1,6 +1,5 @@
 -- Values, and the operators on them (Oberon-2 report, section on expressions).
-use Rattle.std.specs.Prelude.{ℕ, ℤ, pos, ◌+ℤ◌, ◌-ℤ◌, Bool, Option, Some, None}
-use Rattle.aos_base.specs.declared.number.Width.{Width}
+use Rattle.std.specs.Prelude.{ℕ, ℤ, ◌+ℤ◌, ◌-ℤ◌, Bool, Option, Some, None}
 use Rattle.aos_base.specs.declared.number.Relation.{Relation}
 use Rattle.aos_base.specs.Number.{if_within, holds}
 use Rattle.aos_base.specs.Question.{Tree, Val, Traps}
@@ -12,6 +11,7 @@ use Rattle.aos_typed.specs.declared.tree.Binary.TheVariants.{Add, Sub}
 pub data Value : Type 0 where
   Int : (number : ℤ) → Value
   Flag : (is_true : Bool) → Value
+  Object : (number : ℕ) → Value  -- by its number, from 1 in the order of making; 0 is NIL
 
 abbrev pub literal : Literal → Value
 literal (IntLiteral n) = Int n
@@ -33,7 +33,9 @@ result_of (Sub w) a b = or_overflow (if_within w (a -ℤ b))
 abbrev pub on_integers : {Q V A : Type 0} → (ℤ → ℤ → Tree Q V A) → Value → Value → Tree Q V A
 on_integers k (Int a) (Int b) = k a b
 on_integers k (Int a) (Flag b) = wrong_kind
+on_integers k (Int a) (Object o) = wrong_kind
 on_integers k (Flag a) v = wrong_kind
+on_integers k (Object o) v = wrong_kind
 
 abbrev pub binary : {Q V : Type 0} → Binary → Value → Value → Tree Q V Value
 binary op a b = on_integers (result_of op) a b

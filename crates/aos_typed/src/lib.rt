@@ -4,4 +4,6 @@
 
 pub mod tree;
 
-pub use tree::{Binary, Literal, OutCall, Program, TExpr, TModule, TPlace, TStat, TVariable};
+pub use tree::{
+    Binary, Literal, OutCall, Program, TExpr, TModule, TObject, TPlace, TStat, TType, TVariable,
+};

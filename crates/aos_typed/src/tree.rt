@@ -63,13 +63,32 @@ pub enum OutCall {
 pub enum TStat {
     Assign(Pos, TPlace, TExpr),
     While(Pos, TExpr, Vec<TStat>),
+    /// NEW of a variable: an object of this type, by the type's number in the program, whose activity is started.
+    New(Pos, TPlace, u32),
     Out(Pos, OutCall),
 }
 
-/// A variable of a module. Its type is LONGINT.
+/// The type of a variable: LONGINT, or an object type by its number in the program, from 0.
+#[derive(Clone, Copy, PartialEq, Eq, Debug)]
+pub enum TType {
+    LongInt,
+    Object(u32),
+}
+
+/// A variable of a module.
 #[derive(Drop, Debug)]
 pub struct TVariable {
     pub name: String,
+    pub of: TType,
+}
+
+/// An object type whose objects are active: its name, the number of its module in load order from 0, and the statements
+/// of its body, which each object's activity carries out.
+#[derive(Drop, Debug)]
+pub struct TObject {
+    pub name: String,
+    pub home: u32,
+    pub body: Vec<TStat>,
 }
 
 /// A module, with the statements of its body.
@@ -80,8 +99,9 @@ pub struct TModule {
     pub body: Vec<TStat>,
 }
 
-/// A program: its modules in load order.
+/// A program: its modules in load order, and its object types.
 #[derive(Drop, Debug)]
 pub struct Program {
     pub modules: Vec<TModule>,
+    pub objects: Vec<TObject>,
 }
