@@ -15,24 +15,34 @@ use Rattle.aos_code.specs.Memory.{Memory, store, store_at, put_in}
 use Rattle.aos_code.specs.Silent.{silent}
 use Rattle.aos_code.specs.Machine.{code_of}
 use Rattle.aos_kernel.specs.declared.cpu.Frame.{Frame as Kept}
+use Rattle.aos_kernel.specs.declared.cpu.Shared.{Shared}
 use Rattle.aos_kernel.specs.Cpu.{frame_in, frames_in, memory_in, Seen, seen, Alike}
 use Rattle.aos_kernel.proofs.Operands.{reverse-push}
 use Rattle.aos_kernel.proofs.Turns.{both}
 
-stored_at : (ms : List (Vec Cell Global)) (m c : ℕ) (cells : Vec Cell Global) (v : Cell) → slice_get ms m ≡ Some cells → store_at (Module m) c v (memory_in ms) ≡ record { modules = slice_set (map (λ (x : Vec Cell Global). x.items) ms) m (slice_set cells.items c v) }
-stored_at ms m c cells v here =
-    ap (λ o. put_in o m c v (memory_in ms)) (slice_get-map (λ (x : Vec Cell Global). x.items) ms m ∙ ap (option_map (λ (x : Vec Cell Global). x.items)) here)
+-- the cells of the modules have changed
+abbrev with_cells : Shared → Vec (Vec Cell Global) Global → Shared
+with_cells sh ms = record sh { modules = ms }
 
-pub stored : (ms : List (Vec Cell Global)) (root : Root) (m c : ℕ) (cells : Vec Cell Global) (v : Cell) → root ≡ Module m → slice_get ms m ≡ Some cells → memory_in (slice_set ms m (with_item cells c v)) ≡ store (record { root = root; cell = c }) v (memory_in ms)
-stored ms root m c cells v is here =
-    ap (λ (x : List (List Cell)). let mem : Memory = record { modules = x } in mem) (map-set (λ (x : Vec Cell Global). x.items) ms m (with_item cells c v))
-    ∙ sym (stored_at ms m c cells v here) ∙ ap (λ r. store_at r c v (memory_in ms)) (sym is)
+stored_at : (sh : Shared) (m c : ℕ) (cells : Vec Cell Global) (v : Cell) → slice_get sh.modules.items m ≡ Some cells →
+    store_at (Module m) c v (memory_in sh) ≡ record { modules = slice_set (map (λ (x : Vec Cell Global). x.items) sh.modules.items) m (slice_set cells.items c v); objects = sh.objects.items }
+stored_at sh m c cells v here =
+    ap (λ o. put_in o m c v (memory_in sh)) (slice_get-map (λ (x : Vec Cell Global). x.items) sh.modules.items m ∙ ap (option_map (λ (x : Vec Cell Global). x.items)) here)
 
-pub stored_past : (ms : List (Vec Cell Global)) (root : Root) (m c : ℕ) (cells : Vec Cell Global) (v : Cell) → root ≡ Module m → slice_get ms m ≡ Some cells → length cells.items ≤ c → memory_in (slice_set ms m cells) ≡ store (record { root = root; cell = c }) v (memory_in ms)
-stored_past ms root m c cells v is here past =
-    ap (λ (x : List (List Cell)). let mem : Memory = record { modules = x } in mem)
-    (map-set (λ (x : Vec Cell Global). x.items) ms m cells ∙ ap (slice_set (map (λ (x : Vec Cell Global). x.items) ms) m) (sym (set_past cells.items c v past)))
-    ∙ sym (stored_at ms m c cells v here) ∙ ap (λ r. store_at r c v (memory_in ms)) (sym is)
+remembered : (sh : Shared) (xs ys : List (List Cell)) → xs ≡ ys → (let mem : Memory = record { modules = xs; objects = sh.objects.items } in mem) ≡ record { modules = ys; objects = sh.objects.items }
+remembered sh xs ys e = ap (λ (x : List (List Cell)). let mem : Memory = record { modules = x; objects = sh.objects.items } in mem) e
+
+pub stored : (sh : Shared) (ms : Vec (Vec Cell Global) Global) (root : Root) (m c : ℕ) (cells : Vec Cell Global) (v : Cell) → root ≡ Module m → slice_get sh.modules.items m ≡ Some cells → ms.items ≡ slice_set sh.modules.items m (with_item cells c v) →
+    memory_in (with_cells sh ms) ≡ store (record { root = root; cell = c }) v (memory_in sh)
+stored sh ms root m c cells v is here after =
+    remembered sh _ _ (ap (map (λ (x : Vec Cell Global). x.items)) after ∙ map-set (λ (x : Vec Cell Global). x.items) sh.modules.items m (with_item cells c v))
+    ∙ sym (stored_at sh m c cells v here) ∙ ap (λ r. store_at r c v (memory_in sh)) (sym is)
+
+pub stored_past : (sh : Shared) (ms : Vec (Vec Cell Global) Global) (root : Root) (m c : ℕ) (cells : Vec Cell Global) (v : Cell) → root ≡ Module m → slice_get sh.modules.items m ≡ Some cells → length cells.items ≤ c → ms.items ≡ slice_set sh.modules.items m cells →
+    memory_in (with_cells sh ms) ≡ store (record { root = root; cell = c }) v (memory_in sh)
+stored_past sh ms root m c cells v is here past after =
+    remembered sh _ _ (ap (map (λ (x : Vec Cell Global). x.items)) after ∙ map-set (λ (x : Vec Cell Global). x.items) sh.modules.items m cells ∙ ap (slice_set (map (λ (x : Vec Cell Global). x.items) sh.modules.items) m) (sym (set_past cells.items c v past)))
+    ∙ sym (stored_at sh m c cells v here) ∙ ap (λ r. store_at r c v (memory_in sh)) (sym is)
 
 pub frames_in-push : (fs : List Kept) (f : Kept) → frames_in (fs ++ f ∷ []) ≡ frame_in f ∷ frames_in fs
 frames_in-push fs f = ap (map frame_in) (reverse-push fs f)

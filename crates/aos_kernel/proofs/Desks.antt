@@ -1,33 +1,35 @@
 -- The desk after an operation shows the state after it.
-use Rattle.std.proofs.Common.{◌≡◌, ℕ, suc, ◌<◌, ◌≤◌, ◌^◌, List, [], ◌∷◌, ◌++◌, Bool, true, false, refl, sym, ◌∙◌, ap, subst, arith, inl, inr, ◌==◌, not, ◌≢◌, length, append_assoc}
-use Rattle.std.specs.Prelude.{if◌then◌else◌, Option, Some, None, nat_eq, slice_get, slice_set, Vec, Result, Ok, Err, OnErr}
+use Rattle.std.proofs.Common.{◌≡◌, ℕ, zero, suc, ◌<◌, ◌≤◌, ◌^◌, List, [], ◌∷◌, ◌++◌, Bool, true, false, refl, sym, ◌∙◌, ap, subst, arith, inl, inr, ◌==◌, not, ◌≢◌, length, map, append_assoc}
+use Rattle.std.specs.Prelude.{if◌then◌else◌, ◌||◌, nat_le, Option, Some, None, nat_eq, slice_get, slice_set, Vec, Result, Ok, Err, OnErr}
 use Rattle.std.specs.declared.alloc.Global.{Global}
+use Rattle.std.proofs.lemmas.Bool.{leb-false}
 use Rattle.std.proofs.lemmas.Bool.Decides.{eqb_tells, leb_tells}
 use Rattle.std.proofs.lemmas.Option.{slice_get_cases, slice_get_within, slice_get-get_or, slice_get_past}
-use Rattle.std.proofs.lemmas.List.{get_or-set_same, get_or-set_other, length-set, map-append}
+use Rattle.std.proofs.lemmas.List.{get_or-set_same, get_or-set_other, length-set, length-map, map-append}
 use Rattle.aos_base.specs.declared.kernel.Event.{Event}
 use Rattle.aos_base.specs.declared.kernel.Event.TheVariants as event
 use Rattle.aos_base.specs.declared.kernel.Did.{Did}
 use Rattle.aos_base.specs.declared.text.Pos.{Pos}
 use Rattle.aos_base.specs.Book as book
-use Rattle.aos_base.specs.Book.{put, place_of, leave_line, move, stands, ready, next_is, counted, spent_by, trapped, ended, first_at, first_ready, or_next, is_ready, may_restart}
-use Rattle.aos_base.specs.Machine.{State, on_book, trap, turned, finish, turn_by, serve}
+use Rattle.aos_base.specs.Book.{put, place_of, leave_line, move, stands, ready, next_is, counted, spent_by, trapped, ended, first_at, first_ready, or_next, is_ready, may_restart, born, is_full}
+use Rattle.aos_base.specs.Machine.{State, on_book, with_frames, go_past, trap, turned, finish, turn_by, serve}
 use Rattle.aos_code.specs.declared.image.Image.{Image}
-use Rattle.aos_code.specs.declared.instr.Cell.{Cell}
 use Rattle.aos_code.specs.declared.report.TrapRec.{TrapRec}
 use Rattle.aos_code.specs.Memory.{Memory}
-use Rattle.aos_code.specs.Machine.{Frames, machine, position, turn}
+use Rattle.aos_code.specs.Machine.{Frames, machine, past, position, turn}
+use Rattle.aos_code.specs.declared.instr.Cell.{Cell}
 use Rattle.aos_kernel.specs.declared.cpu.Frame.{Frame as Kept}
+use Rattle.aos_kernel.specs.declared.cpu.Shared.{Shared}
 use Rattle.aos_kernel.specs.declared.desk.Place.{Place}
 use Rattle.aos_kernel.specs.declared.desk.Place.TheVariants.{Ready}
 use Rattle.aos_kernel.specs.declared.desk.Stand.{Stand}
 use Rattle.aos_kernel.specs.declared.desk.Next.{Next}
-use Rattle.aos_kernel.specs.declared.desk.Next.TheVariants.{Unwinds, Gone}
+use Rattle.aos_kernel.specs.declared.desk.Next.TheVariants.{Runs, Unwinds, Gone}
 use Rattle.aos_kernel.specs.declared.desk.Activity.{Activity}
 use Rattle.aos_kernel.specs.declared.desk.Desk.{Desk}
 use Rattle.aos_kernel.specs.Cpu.{frames_in, memory_in, where_in, Alike, Shown}
 use Rattle.aos_kernel.specs.Run.{rec_of}
-use Rattle.aos_kernel.specs.Shows.{place_in, line_in, next_in, IsKnown, ShowsActivity, Shows}
+use Rattle.aos_kernel.specs.Shows.{place_in, stand_in, line_in, next_in, IsKnown, ShowsActivity, Shows, HasSame}
 
 -- by whether two numbers are one
 by_case : (P : Bool → Type 0) (x k : ℕ) → (x ≡ k → P true) → (x ≢ k → P false) → P (x == k)
@@ -56,6 +58,10 @@ known_left n a (s ∷ line) h =
 known_joined : (n : ℕ) (line : List book.Stand) (s : book.Stand) → IsKnown n line → s.activity < n → IsKnown n (line ++ s ∷ [])
 known_joined n [] s h p = (p, tt)
 known_joined n (t ∷ line) s h p = (h.0, known_joined n line s h.1 p)
+
+known_more : (n : ℕ) (line : List book.Stand) → IsKnown n line → IsKnown (suc n) line
+known_more n [] h = tt
+known_more n (s ∷ line) h = (omega arith, known_more n line h.1)
 
 known_moved : (n a : ℕ) (place : book.Place) (line : List book.Stand) → IsKnown n line → a < n → IsKnown n (move a place line)
 known_moved n a place line h p = known_joined n (leave_line a line) (record { activity = a; place = place }) (known_left n a line h) p
@@ -109,6 +115,30 @@ each_after image items items' acts acts' frames frames' a old new was is here sa
     (λ x ne kept at.
     let s = each x kept (sym (set_there items a x new ne) ∙ sym (ap (λ xs. slice_get xs x) is) ∙ at) in
     subst (λ v. ShowsActivity image kept v (frames' x)) (sym (same_acts x ne)) (subst (λ f. ShowsActivity image kept (acts x) f) (sym (same_frames x ne)) s))
+
+-- and after one has been added
+get_last : {A : Type 0} (xs : List A) (y : A) → slice_get (xs ++ y ∷ []) (length xs) ≡ Some y
+get_last [] y = refl
+get_last (x ∷ xs) y = get_last xs y
+
+pub get_before : {A : Type 0} (xs : List A) (y : A) (k : ℕ) (kept : A) → k ≢ length xs → slice_get (xs ++ y ∷ []) k ≡ Some kept → slice_get xs k ≡ Some kept
+get_before [] y zero kept ne e = absurd (ne refl)
+get_before [] y (suc k) kept ne e = e
+get_before (x ∷ xs) y zero kept ne e = e
+get_before (x ∷ xs) y (suc k) kept ne e = get_before xs y k kept (λ z. ne (ap suc z)) e
+
+each_joined : (image : Image) (items items' : List Activity) (acts : ℕ → book.Activity) (frames : ℕ → Frames) (n : ℕ) (new : Activity) (act : book.Activity) (fs : Frames) → n ≡ length items → items' ≡ items ++ new ∷ [] →
+    ShowsActivity image new act fs → EachShows image items acts frames → EachShows image items' (put nat_eq acts n act) (put nat_eq frames n fs)
+each_joined image items items' acts frames n new act fs count is here each =
+    each_at (λ x. (kept : Activity) → slice_get items' x ≡ Some kept → ShowsActivity image kept (put nat_eq acts n act x) (put nat_eq frames n fs x)) n
+    (λ kept at.
+    let z : Some new ≡ Some kept = sym (get_last items new) ∙ sym (ap (slice_get (items ++ new ∷ [])) count) ∙ sym (ap (λ xs. slice_get xs n) is) ∙ at in
+    let e : new ≡ kept = cc z in
+    subst (λ k. ShowsActivity image k (put nat_eq acts n act n) (put nat_eq frames n fs n)) e
+    (subst (λ v. ShowsActivity image new v (put nat_eq frames n fs n)) (sym (put_same acts n act)) (subst (λ f. ShowsActivity image new act f) (sym (put_same frames n fs)) here)))
+    (λ x ne kept at.
+    let s = each x kept (get_before items new x kept (λ z. ne (z ∙ sym count)) (sym (ap (λ xs. slice_get xs x) is) ∙ at)) in
+    subst (λ v. ShowsActivity image kept v (put nat_eq frames n fs x)) (sym (put_other acts n act x ne)) (subst (λ f. ShowsActivity image kept (acts x) f) (sym (put_other frames n fs x ne)) s))
 
 -- an activity below the budget is so after one statement more, unless it is spent
 not_spent : (does_begin : Bool) (budget begun a : ℕ) (spent : Option ℕ) → begun < budget → spent_by does_begin budget (if does_begin then suc begun else begun) a spent ≡ None → (if does_begin then suc begun else begun) < budget
@@ -224,13 +254,13 @@ module _ (image : Image) (earlier : List Event) (d : Desk) (st : State Memory Fr
         unspent = unspent_after (book.Unwinds []);
       }
 
-  pub shows_turned : (memory : Vec (Vec Cell Global) Global) (activities : Vec Activity Global) (output : Vec ℕ Global) (spent : Option ℕ) (frames : Vec Kept Global) (old : Activity) (n : ℕ) (does_begin : Bool) (left : Did) →
+  pub shows_turned : (shared : Shared) (activities : Vec Activity Global) (output : Vec ℕ Global) (spent : Option ℕ) (frames : Vec Kept Global) (old : Activity) (n : ℕ) (does_begin : Bool) (left : Did) →
       slice_get d.activities.items a ≡ Some old → activities.items ≡ slice_set d.activities.items a (record old { begun = n; frames = frames }) →
-      Shown image (turn image st.store (st.frames a)) does_begin left (frames_in frames.items) (memory_in memory.items) d.output.items output.items →
+      Shown image (turn image st.store (st.frames a)) does_begin left (frames_in frames.items) (memory_in shared) d.output.items output.items →
       (suc old.begun < 2 ^ 64 → n ≡ (if does_begin then suc old.begun else old.begun)) → spent ≡ spent_by does_begin d.budget n a d.spent → st.book.spent ≡ None → d.budget < 2 ^ 64 →
-      Shows image earlier (record d { memory = memory; activities = activities; output = output; spent = spent }) (turned (machine image) a (turn image st.store (st.frames a)) st)
+      Shows image earlier (record d { shared = shared; activities = activities; output = output; spent = spent }) (turned (machine image) a (turn image st.store (st.frames a)) st)
   unfolding turned counted
-  shows_turned memory activities output spent frames old n does_begin left was is shown told when none small =
+  shows_turned shared activities output spent frames old n does_begin left was is shown told when none small =
       let t = turn image st.store (st.frames a) in
       let s = h.activities a old was in
       let begun = (st.book.activity a).begun in
@@ -258,6 +288,30 @@ module _ (image : Image) (earlier : List Event) (d : Desk) (st : State Memory Fr
             (λ y ne. subst (λ (y : book.Activity). y.begun < st.book.budget) (sym (put_other st.book.activity a v y ne)) (h.unspent y none)) x;
       }
 
+  -- the activity goes on behind a start
+  pub shows_past : (activities : Vec Activity Global) (old : Activity) (frames : Vec Kept Global) → slice_get d.activities.items a ≡ Some old → activities.items ≡ slice_set d.activities.items a (record old { frames = frames }) →
+      Alike image (past image (st.frames a)) (frames_in frames.items) → Shows image earlier (record d { activities = activities }) (go_past (machine image) a st)
+  unfolding go_past
+  shows_past activities old frames was is alike =
+      let s = h.activities a old was in
+      let new : Activity = record old { frames = frames } in
+      let fs = past image (st.frames a) in
+      record {
+        store = h.store;
+        line = h.line;
+        output = h.output;
+        traps = h.traps;
+        events = h.events;
+        budget = h.budget;
+        spent = h.spent;
+        started = h.started ∙ sym (ap length is ∙ length-set d.activities.items a new);
+        known = h.known;
+        activities = each_after image d.activities.items activities.items st.book.activity st.book.activity st.frames (put nat_eq st.frames a fs) a old new was is
+            (subst (λ x. ShowsActivity image new (st.book.activity a) x) (sym (put_same st.frames a fs)) (record { priority = s.priority; begun = s.begun; next = s.next; alike = alike }))
+            (λ x ne. refl) (λ x ne. put_other st.frames a fs x ne) h.activities;
+        unspent = h.unspent;
+      }
+
   -- the operations of a turn
 
   pub shows_served : (d' : Desk) (left : Did) → Shows image earlier d' (serve (machine image) a left st) → (m : Did) → left ≡ m → Shows image earlier d' (serve (machine image) a m st)
@@ -270,6 +324,55 @@ module _ (image : Image) (earlier : List Event) (d : Desk) (st : State Memory Fr
   pub turns_by : (d' : Desk) (n : book.Next) → (st.book.activity a).next ≡ n → Shows image earlier d' (turn_by (machine image) a n st) → Shows image earlier d' (turn_by (machine image) a (st.book.activity a).next st)
   turns_by d' n e shown = subst (λ x. Shows image earlier d' (turn_by (machine image) a x st)) (sym e) shown
 
+-- a new activity is ready
+pub shows_born : (image : Image) (earlier : List Event) (d : Desk) (st : State Memory Frames) (n : ℕ) (activities : Vec Activity Global) (line : Vec Stand Global) (events : Vec Event Global) (spare frames : Vec Kept Global) (fs : Frames) →
+    n ≡ length d.activities.items → activities.items ≡ d.activities.items ++ record { priority = 2; begun = 0; next = Runs; frames = frames } ∷ [] → line_in line.items ≡ move n (place_in (Ready 2)) (line_in d.line.items) → events.items ≡ d.events.items ++ event.Start n ∷ [] →
+    Alike image fs (frames_in frames.items) → Shows image earlier d st →
+    Shows image earlier (record d { activities = activities; line = line; events = events; spare = spare }) (on_book (born 2) (with_frames st.book.started fs st))
+unfolding born
+shows_born image earlier d st n activities line events spare frames fs count is moved told alike h =
+    let k = st.book.started in
+    let same : k ≡ n = h.started ∙ sym count in
+    let new : Activity = record { priority = 2; begun = 0; next = Runs; frames = frames } in
+    let act : book.Activity = record { priority = 2; begun = 0; restarts = 0; next = book.Runs } in
+    record {
+      store = h.store;
+      line = (λ i. move (same i) (book.Ready 2) (h.line i)) ∙ sym moved;
+      output = h.output;
+      traps = h.traps;
+      events = ap (λ x. x ++ event.Start k ∷ []) h.events ∙ append_assoc earlier d.events.items (event.Start k ∷ []) ∙ (λ i. earlier ++ (d.events.items ++ event.Start (same i) ∷ [])) ∙ ap (λ x. earlier ++ x) (sym told);
+      budget = h.budget;
+      spent = h.spent;
+      started = ap suc h.started ∙ sym (ap length is ∙ added d.activities.items new);
+      known = known_moved (suc k) k (book.Ready 2) st.book.line (known_more k st.book.line h.known) (omega arith);
+      activities = each_joined image d.activities.items activities.items st.book.activity st.frames k new act fs h.started is (record { priority = refl; begun = refl; next = refl; alike = alike }) h.activities;
+      unspent = λ x none. each_at (λ y. (put nat_eq st.book.activity k act y).begun < st.book.budget) k
+          (subst (λ (y : book.Activity). y.begun < st.book.budget) (sym (put_same st.book.activity k act)) (positive (st.book.activity 0).begun st.book.budget (h.unspent 0 none)))
+          (λ y ne. subst (λ (y : book.Activity). y.begun < st.book.budget) (sym (put_other st.book.activity k act y ne)) (h.unspent y none)) x;
+    }
+  where
+    added : (xs : List Activity) (y : Activity) → length (xs ++ y ∷ []) ≡ suc (length xs)
+    added [] y = refl
+    added (x ∷ xs) y = ap suc (added xs y)
+
+    positive : (x b : ℕ) → x < b → 0 < b
+    positive x b lt = omega arith
+
+-- the desk's tests tell whether the book is full
+pub full_is : (image : Image) (earlier : List Event) (d : Desk) (st : State Memory Frames) → Shows image earlier d st → is_full st.book ≡ (nat_le 1024 (length d.line.items) || nat_le 65536 (length d.activities.items))
+full_is image earlier d st h = (λ i. nat_le 1024 (lines i) || nat_le 65536 (h.started i))
+  where
+    lines : length st.book.line ≡ length d.line.items
+    lines = ap length h.line ∙ length-map d.line.items stand_in
+
+-- where it isn't full there are fewer activities than the most
+pub few_if : (live started : ℕ) → false ≡ (nat_le 1024 live || nat_le 65536 started) → started < 65536
+few_if live started e =
+    (elim (nat_le 1024 live) as (λ q. false ≡ (q || nat_le 65536 started) → started < 65536) [
+      | true ↦ λ f. absurd (cc f)
+      | false ↦ λ f. leb-false 65536 started (sym f)
+    ]) e
+
 finished : (image : Image) (earlier : List Event) (d : Desk) (a : ℕ) (st : State Memory Frames) (q : Bool) → Shows image earlier d (on_book (ended a) st) → Shows image earlier d (finish a q None st)
 finished image earlier d a st true h = h
 finished image earlier d a st false h = h
@@ -278,31 +381,30 @@ pub turn_ended : (image : Image) (earlier : List Event) (d : Desk) (a : ℕ) (st
 turn_ended image earlier d a st h = finished image earlier d a st (may_restart (st.book.activity a).restarts) h
 
 -- room has been made, and no more
-pub shows_roomy : (image : Image) (earlier : List Event) (d : Desk) (st : State Memory Frames) (traps : Vec TrapRec Global) (events : Vec Event Global) (output : Vec ℕ Global) (line : Vec Stand Global) →
-    traps.items ≡ d.traps.items → events.items ≡ d.events.items → output.items ≡ d.output.items → line.items ≡ d.line.items → Shows image earlier d st → Shows image earlier (record d { traps = traps; events = events; output = output; line = line }) st
-shows_roomy image earlier d st traps events output line e f g l h = record {
-  store = h.store;
-  line = h.line ∙ ap line_in (sym l);
-  output = h.output ∙ sym g;
-  traps = h.traps ∙ sym e;
-  events = h.events ∙ ap (λ x. earlier ++ x) (sym f);
-  budget = h.budget;
-  spent = h.spent;
-  started = h.started;
+pub shows_same : (image : Image) (earlier : List Event) (d new : Desk) (st : State Memory Frames) → HasSame d new → Shows image earlier d st → Shows image earlier new st
+shows_same image earlier d new st e h = record {
+  store = h.store ∙ (λ i. let mem : Memory = record { modules = map (λ (v : Vec Cell Global). v.items) (sym e.modules i).items; objects = sym e.objects i } in mem);
+  line = h.line ∙ ap line_in (sym e.line);
+  output = h.output ∙ sym e.output;
+  traps = h.traps ∙ sym e.traps;
+  events = h.events ∙ ap (λ x. earlier ++ x) (sym e.events);
+  budget = h.budget ∙ sym e.budget;
+  spent = h.spent ∙ sym e.spent;
+  started = h.started ∙ ap length (sym e.activities);
   known = h.known;
-  activities = h.activities;
+  activities = subst (λ xs. EachShows image xs st.book.activity st.frames) (sym e.activities) h.activities;
   unspent = h.unspent;
 }
 
 -- only silent work has been done
-pub shows_silent : (image : Image) (earlier : List Event) (d : Desk) (st : State Memory Frames) (memory : Vec (Vec Cell Global) Global) (activities : Vec Activity Global) (output : Vec ℕ Global) (a : ℕ) (old : Activity) (frames : Vec Kept Global) →
-    slice_get d.activities.items a ≡ Some old → activities.items ≡ slice_set d.activities.items a (record old { frames = frames }) → Alike image (frames_in old.frames.items) (frames_in frames.items) → memory ≡ d.memory → output ≡ d.output →
-    Shows image earlier d st → Shows image earlier (record d { memory = memory; activities = activities; output = output }) st
-shows_silent image earlier d st memory activities output a old frames was is alike same_memory same_output h =
+pub shows_silent : (image : Image) (earlier : List Event) (d : Desk) (st : State Memory Frames) (shared : Shared) (activities : Vec Activity Global) (output : Vec ℕ Global) (a : ℕ) (old : Activity) (frames : Vec Kept Global) →
+    slice_get d.activities.items a ≡ Some old → activities.items ≡ slice_set d.activities.items a (record old { frames = frames }) → Alike image (frames_in old.frames.items) (frames_in frames.items) → shared ≡ d.shared → output ≡ d.output →
+    Shows image earlier d st → Shows image earlier (record d { shared = shared; activities = activities; output = output }) st
+shows_silent image earlier d st shared activities output a old frames was is alike same_memory same_output h =
     let s = h.activities a old was in
     let new : Activity = record old { frames = frames } in
     record {
-      store = h.store ∙ ap (λ (m : Vec (Vec Cell Global) Global). memory_in m.items) (sym same_memory);
+      store = h.store ∙ ap memory_in (sym same_memory);
       line = h.line;
       output = h.output ∙ ap (λ (o : Vec ℕ Global). o.items) (sym same_output);
       traps = h.traps;

@@ -1,10 +1,8 @@
 -- Nobody waits for a lock, so no outcome is Dead.
-use Rattle.std.proofs.Common.{◌≡◌, ◌≢◌, ℕ, List, [], ◌∷◌}
+use Rattle.std.proofs.Common.{◌≢◌, ℕ, List, [], ◌∷◌}
 use Rattle.std.specs.Prelude.{Option, Some, None, ◌&&◌, if◌then◌else◌}
-use Rattle.aos_base.specs.declared.kernel.Outcome.{Outcome}
-use Rattle.aos_base.specs.declared.kernel.Outcome.TheVariants.{Going, Ended, Dead, Spent}
+use Rattle.aos_base.specs.declared.kernel.Outcome.TheVariants.{Going, Dead}
 use Rattle.aos_base.specs.Book.{outcome_of, is_at_lock, all_at_locks}
-use Rattle.aos_kernel.specs.declared.desk.Place.{Place}
 use Rattle.aos_kernel.specs.declared.desk.Place.TheVariants.{On, Ready}
 use Rattle.aos_kernel.specs.declared.desk.Stand.{Stand}
 use Rattle.aos_kernel.specs.Shows.{line_in, place_in}

@@ -1,13 +1,14 @@
 -- The interpreter's data, and what of the definitions they show.
-use Rattle.std.specs.Prelude.{◌≡◌, ℕ, ℤ, ◌<◌, List, ◌∷◌, ◌++◌, Bool, false, Option, Some, None, map, reverse, drop, slice_get, Vec}
+use Rattle.std.specs.Prelude.{◌≡◌, ℕ, ℤ, ◌<◌, ◌+◌, ◌^◌, List, [], ◌∷◌, ◌++◌, Bool, false, Option, Some, None, map, reverse, drop, slice_get, Vec}
 use Rattle.std.specs.declared.alloc.Global.{Global}
 use Rattle.aos_base.specs.declared.text.Pos.{Pos}
 use Rattle.aos_base.specs.declared.kernel.Did.{Did}
+use Rattle.aos_base.specs.declared.kernel.Did.TheVariants.{Went, Ended as NoFrame, Enter, Leave, Await, Start, Trapped}
 use Rattle.aos_base.specs.Book.{Where}
 use Rattle.aos_base.specs.Machine.{Turn}
-use Rattle.aos_base.specs.Question.{Reads, Stores, PutsInt, PutsLn, Ends}
+use Rattle.aos_base.specs.Question.{Reads, Stores, Makes as MakesOf, Starts, PutsInt, PutsLn, Ends}
 use Rattle.aos_code.specs.declared.instr.Cell.{Cell}
-use Rattle.aos_code.specs.declared.instr.Cell.TheVariants.{Num, Place}
+use Rattle.aos_code.specs.declared.instr.Cell.TheVariants.{Num, Ref, Place}
 use Rattle.aos_code.specs.declared.instr.Root.{Root}
 use Rattle.aos_code.specs.declared.instr.Instr.{Instr}
 use Rattle.aos_code.specs.declared.instr.Instr.TheVariants.{Begin}
@@ -16,8 +17,9 @@ use Rattle.aos_code.specs.Memory.{Addr, Memory}
 use Rattle.aos_code.specs.Silent.{Stack, Question, Begins, Fails, Stop, Work, Ended, Act, Goes, Sees, Stops, lost, silent}
 use Rattle.aos_code.specs.Machine.{Frame, Frames, code_of, answer, turn}
 use Rattle.aos_kernel.specs.declared.cpu.Frame.{Frame as Kept}
+use Rattle.aos_kernel.specs.declared.cpu.Shared.{Shared}
 use Rattle.aos_kernel.specs.declared.cpu.Question.{Question as KeptQuestion}
-use Rattle.aos_kernel.specs.declared.cpu.Question.TheVariants.{Reads as AsksRead, Stores as AsksStore, PutsInt as AsksInt, PutsLn as AsksLn}
+use Rattle.aos_kernel.specs.declared.cpu.Question.TheVariants.{Reads as AsksRead, Stores as AsksStore, Makes as AsksNew, Starts as AsksStart, PutsInt as AsksInt, PutsLn as AsksLn}
 use Rattle.aos_kernel.specs.declared.cpu.Stop.{Stop as KeptStop}
 use Rattle.aos_kernel.specs.declared.cpu.Stop.TheVariants.{Work as AtWork, Ends as AtEnd, Begins as AtBegin, Fails as AtFault}
 use Rattle.aos_kernel.specs.declared.cpu.Act.{Act as KeptAct}
@@ -34,12 +36,14 @@ operands_in stack = reverse stack.items
 abbrev pub frames_in : List Kept → Frames
 frames_in fs = map frame_in (reverse fs)
 
-abbrev pub memory_in : List (Vec Cell Global) → Memory
-memory_in cells = record { modules = map (λ v. v.items) cells }
+abbrev pub memory_in : Shared → Memory
+memory_in s = record { modules = map (λ v. v.items) s.modules.items; objects = s.objects.items }
 
 abbrev pub question_in : KeptQuestion → Question
 question_in (AsksRead root cell) = Reads (record { root = root; cell = cell })
 question_in (AsksStore root cell v) = Stores (record { root = root; cell = cell }) v
+question_in (AsksNew t) = MakesOf t
+question_in (AsksStart o) = Starts (Ref o)
 question_in (AsksInt a n) = PutsInt (Num a) (Num n)
 question_in AsksLn = PutsLn
 
@@ -47,6 +51,8 @@ question_in AsksLn = PutsLn
 abbrev pub operands_of : KeptQuestion → ℕ
 operands_of (AsksRead root cell) = 1
 operands_of (AsksStore root cell v) = 2
+operands_of (AsksNew t) = 0
+operands_of (AsksStart o) = 1
 operands_of (AsksInt a n) = 2
 operands_of AsksLn = 0
 
@@ -70,6 +76,13 @@ IsStopWithin n (AtWork q at) = at < n
 IsStopWithin n (AtEnd at) = at < n
 IsStopWithin n (AtBegin at pos) = at < n
 IsStopWithin n (AtFault k c) = Unit {0}
+
+-- where silent work stops at a question, the next instruction is the one that asks
+abbrev pub WhereAt : KeptStop → ℕ → Type 0
+WhereAt (AtWork q at) next = at ≡ next
+WhereAt (AtEnd at) next = Unit {0}
+WhereAt (AtBegin at pos) next = Unit {0}
+WhereAt (AtFault k c) next = Unit {0}
 
 -- where silent work goes to a Begin, it stands there
 abbrev pub IsBeginOf : List Instr → KeptAct → Type 0
@@ -111,11 +124,19 @@ WhereWork (AtFault n c) P = Unit {0}
 abbrev pub number_in : Option Cell → Option ℤ
 number_in None = None
 number_in (Some (Num a)) = Some a
+number_in (Some (Ref o)) = None
 number_in (Some (Place root cell type)) = None
+
+abbrev pub object_in : Option Cell → Option ℕ
+object_in None = None
+object_in (Some (Num a)) = None
+object_in (Some (Ref o)) = Some o
+object_in (Some (Place root cell type)) = None
 
 abbrev pub place_in : Option Cell → Option Addr
 place_in None = None
 place_in (Some (Num a)) = None
+place_in (Some (Ref o)) = None
 place_in (Some (Place root cell type)) = Some (record { root = root; cell = cell })
 
 abbrev pub addr_in : (Root × ℕ) → Addr
@@ -168,3 +189,19 @@ IsAnswered q at taken old new old_memory new_memory did before after =
 abbrev pub IsTurned : Image → (does_begin : Bool) (did : Did) → (old new : List Kept) → (old_memory new_memory : Memory) → (before after : List ℕ) → Type 0
 IsTurned image does_begin did old new old_memory new_memory before after =
     (fs : Frames) → Alike image fs (frames_in old) → Shown image (turn image old_memory fs) does_begin did (frames_in new) new_memory before after
+
+-- the topmost frame stands before the instruction that starts this object's activity
+abbrev pub IsBeforeStart : Image → ℕ → Frames → Type 0
+IsBeforeStart image o [] = ⊥
+IsBeforeStart image o (f ∷ fs) =
+    (f.next + 1 < 2 ^ 64) × (silent (code_of image f.procedure) f.next f.stack ≡ Work (Starts (Ref o)) f.next (drop 1 f.stack))
+
+-- where an activity's start is left to the kernel, the frames stand before it
+abbrev pub IsBefore : Image → Did → Frames → Type 0
+IsBefore image (Start o) fs = IsBeforeStart image o fs
+IsBefore image Went fs = Unit {0}
+IsBefore image NoFrame fs = Unit {0}
+IsBefore image (Enter l) fs = Unit {0}
+IsBefore image (Leave l) fs = Unit {0}
+IsBefore image (Await l c) fs = Unit {0}
+IsBefore image (Trapped n c) fs = Unit {0}

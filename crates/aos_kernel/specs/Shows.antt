@@ -1,5 +1,5 @@
 -- What the kernel keeps, and the state that it shows.
-use Rattle.std.specs.Prelude.{◌≡◌, ℕ, ◌<◌, List, [], ◌∷◌, ◌++◌, Some, None, map, length, slice_get, vec_len, vec_capacity}
+use Rattle.std.specs.Prelude.{◌≡◌, ℕ, ◌<◌, List, [], ◌∷◌, ◌++◌, Option, Some, None, map, length, slice_get, vec_len, vec_capacity}
 use Rattle.aos_base.specs.declared.kernel.Event.{Event}
 use Rattle.aos_base.specs.declared.kernel.Did.{Did}
 use Rattle.aos_base.specs.declared.kernel.Did.TheVariants.{Went, Ended, Enter, Leave, Await, Start, Trapped}
@@ -7,7 +7,7 @@ use Rattle.aos_base.specs.Book as book
 use Rattle.aos_base.specs.Machine.{State, turned}
 use Rattle.aos_code.specs.declared.image.Image.{Image}
 use Rattle.aos_code.specs.Memory.{Memory}
-use Rattle.aos_code.specs.Machine.{Frames, machine, turn}
+use Rattle.aos_code.specs.Machine.{Frames, frame_of, machine, turn}
 use Rattle.aos_kernel.specs.declared.desk.Place.{Place}
 use Rattle.aos_kernel.specs.declared.desk.Place.TheVariants.{On, Ready}
 use Rattle.aos_kernel.specs.declared.desk.Stand.{Stand}
@@ -15,7 +15,7 @@ use Rattle.aos_kernel.specs.declared.desk.Next.{Next}
 use Rattle.aos_kernel.specs.declared.desk.Next.TheVariants.{Runs, WillTrap, Unwinds, Gone}
 use Rattle.aos_kernel.specs.declared.desk.Activity.{Activity}
 use Rattle.aos_kernel.specs.declared.desk.Desk.{Desk}
-use Rattle.aos_kernel.specs.Cpu.{frames_in, memory_in, Alike}
+use Rattle.aos_kernel.specs.Cpu.{frames_in, memory_in, Alike, IsBefore}
 use Rattle.aos_kernel.specs.Run.{rec_of}
 
 abbrev pub place_in : Place → book.Place
@@ -49,7 +49,7 @@ IsKnown n (s ∷ line) = (s.activity < n) × IsKnown n line
 
 -- `earlier` are the events before those that the desk keeps
 pub record Shows (image : Image) (earlier : List Event) (d : Desk) (st : State Memory Frames) : Type 0 where
-  pub store : st.store ≡ memory_in d.memory.items
+  pub store : st.store ≡ memory_in d.shared
   pub line : st.book.line ≡ line_in d.line.items
   pub output : st.book.output ≡ d.output.items
   pub traps : map rec_of st.book.traps ≡ d.traps.items
@@ -60,6 +60,11 @@ pub record Shows (image : Image) (earlier : List Event) (d : Desk) (st : State M
   pub known : IsKnown st.book.started st.book.line
   pub activities : (x : ℕ) (kept : Activity) → slice_get d.activities.items x ≡ Some kept → ShowsActivity image kept (st.book.activity x) (st.frames x)
   pub unspent : (x : ℕ) → st.book.spent ≡ None → (st.book.activity x).begun < st.book.budget
+
+-- the frame at the beginning of a procedure, where there is one
+abbrev pub frames_of : Option ℕ → Frames
+frames_of None = []
+frames_of (Some p) = frame_of p ∷ []
 
 -- from each state that the old desk shows, the new one shows what the operation on an activity makes of it
 abbrev pub Performs : Image → ℕ → (State Memory Frames → State Memory Frames) → Desk → Desk → Type 0
@@ -89,13 +94,32 @@ IsServed Ended = Unit {0}
 IsServed (Enter l) = ⊥
 IsServed (Leave l) = ⊥
 IsServed (Await l c) = ⊥
-IsServed (Start o) = ⊥
+IsServed (Start o) = Unit {0}
 IsServed (Trapped n c) = Unit {0}
 
--- there is room for the record of a trap and for an event
+-- the activity's frames stand before the work that is left to the kernel
+abbrev pub StandsBefore : Image → ℕ → Did → Desk → Type 0
+StandsBefore image a left d = (kept : Activity) → slice_get d.activities.items a ≡ Some kept → IsBefore image left (frames_in kept.frames.items)
+
+-- there is room for the record of a trap, for an event, for a new object, and for a new activity with its frame
 pub record HasRoom (d : Desk) : Type 0 where
   pub traps : vec_len d.traps < vec_capacity d.traps
   pub events : vec_len d.events < vec_capacity d.events
+  pub activities : vec_len d.activities < vec_capacity d.activities
+  pub line : vec_len d.line < vec_capacity d.line
+  pub spare : (vec_len d.spare ≡ 0) × (0 < vec_capacity d.spare)
+
+-- the desk has what it had, and perhaps more room
+pub record HasSame (old new : Desk) : Type 0 where
+  pub modules : new.shared.modules ≡ old.shared.modules
+  pub objects : new.shared.objects.items ≡ old.shared.objects.items
+  pub activities : new.activities.items ≡ old.activities.items
+  pub line : new.line.items ≡ old.line.items
+  pub output : new.output.items ≡ old.output.items
+  pub traps : new.traps.items ≡ old.traps.items
+  pub events : new.events.items ≡ old.events.items
+  pub budget : new.budget ≡ old.budget
+  pub spent : new.spent ≡ old.spent
 
 -- the desk has handed out its events
 abbrev pub HandsOut : Desk → Desk → Type 0

@@ -2,14 +2,16 @@
 ghost use Rattle.std.specs.Prelude.{◌≡◌, ℕ, ◌+◌, ◌<◌, ◌≤◌, ◌^◌, ◌+ℤ◌, ◌-ℤ◌, ℤ, ◌++◌, ◌∷◌, List, false, length, reverse, drop, slice_get, vec_len, vec_capacity, IfOk, OnErr};
 ghost use Rattle.std.specs.Option.{option_map};
 ghost use Rattle.aos_base.specs.Number.{if_within, holds, right_justified};
-ghost use Rattle.aos_base.specs.Question.{Reads, PutsInt};
+ghost use Rattle.aos_base.specs.Question.{Reads, Makes as MakesOf, Starts, PutsInt};
 ghost use Rattle.aos_code.specs.Memory.{Memory, load as load_of, store as store_of};
-ghost use Rattle.aos_code.specs.Silent.{Stack, Act as ActOf, Sees, on_number, on_numbers, on_place, or_overflow, gives, flag, stores, jumps, jumps_on_false, act, silent};
-ghost use Rattle.aos_code.specs.Machine.{Frames, behind, code_of as code_at, home_of as home_at, position as position_at, position_or, answer as answer_of, turn as turn_of};
-ghost use Rattle.aos_kernel.specs.Cpu.{frame_in, frames_in, memory_in, operands_in, question_in, act_in, stop_in, addr_in, where_in, IsStopWithin, IsBeginOf, IsStay, IsJump, WhereStays, WhereWork, number_in, place_in, or_lost, Alike, IsAnswered, IsTurned, operands_of};
+ghost use Rattle.aos_code.specs.Silent.{Stack, Act as ActOf, Sees, given, asserts, on_number, on_numbers, on_place, on_object, or_overflow, gives, duplicates, swaps, flag, stores, jumps, jumps_on_false, act, silent};
+ghost use Rattle.aos_code.specs.Operators.{unary as unary_of, binary as binary_of};
+ghost use Rattle.aos_code.specs.Machine.{Frames, past, behind, code_of as code_at, home_of as home_at, position as position_at, position_or, answer as answer_of, turn as turn_of};
+ghost use Rattle.aos_kernel.specs.Cpu.{frame_in, frames_in, memory_in, operands_in, question_in, act_in, stop_in, addr_in, where_in, IsStopWithin, IsBeginOf, IsStay, IsJump, WhereStays, WhereWork, number_in, place_in, or_lost, Alike, IsAnswered, IsTurned, IsBefore, WhereAt, object_in, operands_of};
 
+use crate::arith::{binary, truth, unary};
 use aos_base::{Did, NoMemory, Pos, Relation, Width, add, related, sub};
-use aos_code::{Cell, Image, Instr, Kind, Root};
+use aos_code::{Binary, Cell, Given, Image, Instr, Kind, Root, Unary};
 use itoa::Buffer;
 
 /// The most bytes that one turn writes.
@@ -25,11 +27,20 @@ pub struct Frame {
     pub stack: Vec<Cell>,
 }
 
+/// What all activities share: the cells of each module, and the type of each object in the order of making.
+#[derive(Drop)]
+pub struct Shared {
+    pub modules: Vec<Vec<Cell>>,
+    pub objects: Vec<u32>,
+}
+
 /// Visible work that has an answer.
 #[derive(Clone, Copy)]
 pub enum Question {
     Reads(Root, u32),
     Stores(Root, u32, Cell),
+    Makes(u32),
+    Starts(u32),
     PutsInt(i64, i64),
     PutsLn,
 }
@@ -107,6 +118,16 @@ fn place(stack: &[Cell], depth: usize) -> Option<(Root, u32)>
     }
 }
 
+/// The object that lies so deep.
+fn object(stack: &[Cell], depth: usize) -> Option<u32>
+    ensures { result ≡ object_in (slice_get (reverse stack.now) depth) }
+{
+    match operand(stack, depth) {
+        Some(Cell::Ref(o)) => Some(o),
+        _ => None,
+    }
+}
+
 /// One operand in place of the topmost ones.
 fn replace(stack: &mut Vec<Cell>, taken: usize, cell: Cell)
     requires { vec_len stack.old < vec_capacity stack.old }
@@ -165,11 +186,60 @@ fn subtract_numbers(w: Width, stack: &mut Vec<Cell>) -> Act
     }
 }
 
-/// TRUE is 1 and FALSE is 0.
-fn truth(b: bool) -> i64
-    ensures { result ≡ flag b }
+/// What an operator gives, in place of the operands that it took.
+fn put_given(stack: &mut Vec<Cell>, taken: usize, value: Given) -> Act
+    requires { vec_len stack.old < vec_capacity stack.old }
+    ensures kept { WhereStays result (stack.new ≡ stack.old) }
+    ensures act { act_in result (operands_in stack.new) ≡
+        given value (drop taken (operands_in stack.old)) }
 {
-    if b { 1 } else { 0 }
+    match value {
+        Given::Number(z) => {
+            replace(stack, taken, Cell::Num(z));
+            Act::Goes(0)
+        }
+        Given::Trap(n) => Act::Fails(n, 0),
+    }
+}
+
+fn operate_on_one(operator: Unary, stack: &mut Vec<Cell>) -> Act
+    requires { vec_len stack.old < vec_capacity stack.old }
+    ensures kept { WhereStays result (stack.new ≡ stack.old) }
+    ensures act { act_in result (operands_in stack.new) ≡
+        on_number (λ a s. given (unary_of operator a) s) (operands_in stack.old) }
+{
+    match number(stack, 0) {
+        None => LOST,
+        Some(a) => put_given(stack, 1, unary(operator, a)),
+    }
+}
+
+fn operate_on_two(operator: Binary, stack: &mut Vec<Cell>) -> Act
+    requires { vec_len stack.old < vec_capacity stack.old }
+    ensures kept { WhereStays result (stack.new ≡ stack.old) }
+    ensures act { act_in result (operands_in stack.new) ≡
+        on_numbers (λ a b s. given (binary_of operator a b) s) (operands_in stack.old) }
+{
+    match numbers(stack) {
+        None => LOST,
+        Some((a, b)) => put_given(stack, 2, binary(operator, a, b)),
+    }
+}
+
+/// Trap 7 where the condition on the stack is FALSE.
+fn assert_true(code: u8, stack: &mut Vec<Cell>) -> Act
+    ensures kept { WhereStays result (stack.new ≡ stack.old) }
+    ensures act { act_in result (operands_in stack.new) ≡
+        on_number (λ a s. asserts code a s) (operands_in stack.old) }
+{
+    match number(stack, 0) {
+        Some(0) => Act::Fails(7, code),
+        Some(1) => {
+            take(stack, 1);
+            Act::Goes(0)
+        }
+        _ => LOST,
+    }
 }
 
 fn compare(relation: Relation, stack: &mut Vec<Cell>) -> Act
@@ -184,6 +254,41 @@ fn compare(relation: Relation, stack: &mut Vec<Cell>) -> Act
             replace(stack, 2, Cell::Num(truth(related(relation, a, b))));
             Act::Goes(0)
         }
+    }
+}
+
+/// The topmost operand once more.
+fn duplicate(stack: &mut Vec<Cell>) -> Act
+    requires { vec_len stack.old < vec_capacity stack.old }
+    ensures kept { WhereStays result (stack.new ≡ stack.old) }
+    ensures act { act_in result (operands_in stack.new) ≡ duplicates (operands_in stack.old) }
+{
+    match operand(stack, 0) {
+        None => LOST,
+        Some(cell) => {
+            stack.push_reserved(cell);
+            Act::Goes(0)
+        }
+    }
+}
+
+/// The two topmost operands, exchanged.
+fn swap(stack: &mut Vec<Cell>) -> Act
+    requires { vec_len stack.old < vec_capacity stack.old }
+    ensures kept { WhereStays result (stack.new ≡ stack.old) }
+    ensures act { act_in result (operands_in stack.new) ≡ swaps (operands_in stack.old) }
+{
+    match operand(stack, 0) {
+        None => LOST,
+        Some(above) => match operand(stack, 1) {
+            None => LOST,
+            Some(below) => {
+                stack.truncate(stack.len().saturating_sub(2));
+                stack.push_reserved(above);
+                stack.push_reserved(below);
+                Act::Goes(0)
+            }
+        },
     }
 }
 
@@ -250,7 +355,7 @@ fn ask_read(stack: &[Cell]) -> Act
     }
 }
 
-fn ask_store(stack: &[Cell]) -> Act
+fn ask_store_number(stack: &[Cell]) -> Act
     ensures act { act_in result (reverse stack.now) ≡ stores Kind.N (reverse stack.now) }
     ensures stays { IsStay result }
 {
@@ -260,6 +365,30 @@ fn ask_store(stack: &[Cell]) -> Act
             None => LOST,
             Some((root, cell)) => Act::Sees(Question::Stores(root, cell, Cell::Num(v))),
         },
+    }
+}
+
+fn ask_store_object(stack: &[Cell]) -> Act
+    ensures act { act_in result (reverse stack.now) ≡ stores Kind.R (reverse stack.now) }
+    ensures stays { IsStay result }
+{
+    match object(stack, 0) {
+        None => LOST,
+        Some(o) => match place(stack, 1) {
+            None => LOST,
+            Some((root, cell)) => Act::Sees(Question::Stores(root, cell, Cell::Ref(o))),
+        },
+    }
+}
+
+fn ask_start(stack: &[Cell]) -> Act
+    ensures act { act_in result (reverse stack.now) ≡
+        on_object (λ o s. Sees (Starts (Cell.Ref o)) s) (reverse stack.now) }
+    ensures stays { IsStay result }
+{
+    match object(stack, 0) {
+        None => LOST,
+        Some(o) => Act::Sees(Question::Starts(o)),
     }
 }
 
@@ -285,15 +414,25 @@ fn act_on(instr: Instr, code: &[Instr], at: usize, stack: &mut Vec<Cell>) -> Act
 {
     match instr {
         Instr::Num(n) => give(stack, Cell::Num(n)),
+        Instr::Dup => duplicate(stack),
+        Instr::Swap => swap(stack),
         Instr::Module(m, c) => give(stack, Cell::Place(Root::Module(m), c, 0)),
         Instr::Add(w) => add_numbers(w, stack),
         Instr::Sub(w) => subtract_numbers(w, stack),
         Instr::Cmp(relation) => compare(relation, stack),
+        Instr::Unary(operator) => operate_on_one(operator, stack),
+        Instr::Binary(operator) => operate_on_two(operator, stack),
+        Instr::Fail(n) => Act::Fails(n, 0),
+        Instr::Assert(n) => assert_true(n, stack),
+        Instr::Halt(n) => Act::Fails(8, n),
         Instr::Jump(to) => jump(code, to, at),
         Instr::JumpFalse(to) => jump_on_false(code, to, at, stack),
         Instr::Begin(line, col) => Act::Begins(at, Pos { line, col }),
         Instr::Load(_) => ask_read(stack),
-        Instr::Store(Kind::N) => ask_store(stack),
+        Instr::Store(Kind::N) => ask_store_number(stack),
+        Instr::Store(Kind::R) => ask_store_object(stack),
+        Instr::NewObject(t) => Act::Sees(Question::Makes(t)),
+        Instr::Start => ask_start(stack),
         Instr::Return => Act::Ends,
         Instr::OutInt => ask_int(stack),
         Instr::OutLn => Act::Sees(Question::PutsLn),
@@ -307,6 +446,7 @@ fn silent_from(code: &[Instr], next: &mut usize, stack: &mut Vec<Cell>) -> Resul
     ensures alike { silent code.now next.new (operands_in stack.new) ≡
         silent code.now next.old (operands_in stack.old) }
     ensures within { IfOk result (λ stop. IsStopWithin (length code.now) stop) }
+    ensures at { IfOk result (λ stop. WhereAt stop next.new) }
     ensures room { IfOk result (λ stop. WhereWork stop (vec_len stack.new < vec_capacity stack.new)) }
 {
     while *next < code.len() {
@@ -329,11 +469,11 @@ fn silent_from(code: &[Instr], next: &mut usize, stack: &mut Vec<Cell>) -> Resul
 // Visible work -----------------------------------------------------------------------------
 
 /// What a cell holds, where there is such a cell.
-fn load(memory: &[Vec<Cell>], root: Root, cell: u32) -> Option<Cell>
-    ensures { result ≡ load_of (record { root = root; cell = cell }) (memory_in memory.now) }
+fn load(shared: &Shared, root: Root, cell: u32) -> Option<Cell>
+    ensures { result ≡ load_of (record { root = root; cell = cell }) (memory_in shared.now) }
 {
     let Root::Module(m) = root;
-    let cells = memory.get(m as usize)?;
+    let cells = shared.modules.get(m as usize)?;
     cells.get(cell as usize).copied()
 }
 
@@ -346,12 +486,12 @@ fn module_of(root: Root) -> u32
 }
 
 /// Sets a cell, where there is such a cell.
-fn store(memory: &mut Vec<Vec<Cell>>, root: Root, cell: u32, value: Cell)
-    ensures { memory_in memory.new.items ≡
-        store_of (record { root = root; cell = cell }) value (memory_in memory.old.items) }
+fn store(shared: &mut Shared, root: Root, cell: u32, value: Cell)
+    ensures { memory_in shared.new ≡
+        store_of (record { root = root; cell = cell }) value (memory_in shared.old) }
 {
     let m = module_of(root);
-    if let Some(cells) = memory.get_mut(m as usize) {
+    if let Some(cells) = shared.modules.get_mut(m as usize) {
         if let Some(place) = cells.get_mut(cell as usize) {
             *place = value;
         }
@@ -384,13 +524,13 @@ fn go_behind(frame: &mut Frame, at: usize, taken: usize)
     frame.next = at + 1;
 }
 
-fn read(memory: &[Vec<Cell>], root: Root, cell: u32, at: usize, frame: &mut Frame) -> Did
+fn read(shared: &Shared, root: Root, cell: u32, at: usize, frame: &mut Frame) -> Did
     requires place { at + 1 < 2 ^ 64 }
     requires room { vec_len frame.old.stack < vec_capacity frame.old.stack }
-    ensures { (out : List ℕ) → let memory_is = memory_in memory.now in
+    ensures { (out : List ℕ) → let memory_is = memory_in shared.now in
         IsAnswered (Reads (record { root = root; cell = cell })) at 1 frame.old frame.new memory_is memory_is result out out }
 {
-    match load(memory, root, cell) {
+    match load(shared, root, cell) {
         None => Did::Trapped(16, 0),
         Some(value) => {
             replace(&mut frame.stack, 1, value);
@@ -414,27 +554,62 @@ fn put_int(output: &mut Vec<u8>, a: i64, places: i64, at: usize, frame: &mut Fra
     Did::Went
 }
 
+/// The most scalars in the heap. An object without fields counts as one.
+const MAX_SCALARS: usize = 16_777_216;
+
+/// A new object of a type, in whose place on the stack nothing lies.
+fn make(shared: &mut Shared, of: u32, at: usize, frame: &mut Frame) -> Did
+    requires place { at + 1 < 2 ^ 64 }
+    requires stack_room { vec_len frame.old.stack < vec_capacity frame.old.stack }
+    requires heap_room { vec_len shared.old.objects < vec_capacity shared.old.objects }
+    ensures { (out : List ℕ) → IsAnswered (MakesOf of) at 0 frame.old frame.new (memory_in shared.old)
+        (memory_in shared.new) result out out }
+{
+    if shared.objects.len() >= MAX_SCALARS {
+        return Did::Trapped(12, 0);
+    }
+    shared.objects.push_reserved(of);
+    replace(&mut frame.stack, 0, Cell::Ref(shared.objects.len() as u32));
+    frame.next = at + 1;
+    Did::Went
+}
+
+/// The activity of an object is left to the kernel.
+fn start(object: u32) -> Did
+    ensures { (at : ℕ) (f : Frame) (mem : Memory) (out : List ℕ) →
+        IsAnswered (Starts (Cell.Ref object)) at 1 f f mem mem result out out }
+{
+    if object == 0 {
+        Did::Trapped(16, 0)
+    } else {
+        Did::Start(object)
+    }
+}
+
 /// The question of the instruction at this place, whose operands lie on the stack, is answered.
 fn answer(
     question: Question,
     at: usize,
     frame: &mut Frame,
-    memory: &mut Vec<Vec<Cell>>,
+    shared: &mut Shared,
     output: &mut Vec<u8>,
 ) -> Did
     requires place { at + 1 < 2 ^ 64 }
     requires stack_room { vec_len frame.old.stack < vec_capacity frame.old.stack }
+    requires heap_room { vec_len shared.old.objects < vec_capacity shared.old.objects }
     requires room { vec_len output.old + MAX_BYTES ≤ vec_capacity output.old }
-    ensures { IsAnswered (question_in question) at (operands_of question) frame.old frame.new (memory_in memory.old.items)
-        (memory_in memory.new.items) result output.old.items output.new.items }
+    ensures { IsAnswered (question_in question) at (operands_of question) frame.old frame.new (memory_in shared.old)
+        (memory_in shared.new) result output.old.items output.new.items }
 {
     match question {
-        Question::Reads(root, cell) => read(memory, root, cell, at, frame),
+        Question::Reads(root, cell) => read(shared, root, cell, at, frame),
         Question::Stores(root, cell, value) => {
-            store(memory, root, cell, value);
+            store(shared, root, cell, value);
             go_behind(frame, at, 2);
             Did::Went
         }
+        Question::Makes(of) => make(shared, of, at, frame),
+        Question::Starts(object) => start(object),
         Question::PutsInt(a, places) => put_int(output, a, places, at, frame),
         Question::PutsLn => {
             output.push_reserved(b'\n');
@@ -493,18 +668,21 @@ pub fn position(image: &Image, frames: &[Frame]) -> (u32, Pos)
 
 // The turn -------------------------------------------------------------------------------------
 
-/// One turn, up to the kernel's part. Where memory runs out, only silent work has been done.
+/// One turn, up to the kernel's part. Where memory runs out, only silent work has been done. Where it leaves the start of
+/// an activity, the topmost frame stands before that instruction.
 pub fn turn(
     image: &Image,
     frames: &mut Vec<Frame>,
-    memory: &mut Vec<Vec<Cell>>,
+    shared: &mut Shared,
     output: &mut Vec<u8>,
 ) -> Result<Turned, NoMemory>
-    requires { vec_len output.old + MAX_BYTES ≤ vec_capacity output.old }
-    ensures ok { IfOk result (λ t. IsTurned image.now t.begun t.left frames.old.items frames.new.items (memory_in memory.old.items)
-        (memory_in memory.new.items) output.old.items output.new.items) }
+    requires output { vec_len output.old + MAX_BYTES ≤ vec_capacity output.old }
+    requires heap { vec_len shared.old.objects < vec_capacity shared.old.objects }
+    ensures ok { IfOk result (λ t. IsTurned image.now t.begun t.left frames.old.items frames.new.items (memory_in shared.old)
+        (memory_in shared.new) output.old.items output.new.items) }
+    ensures starts { IfOk result (λ t. IsBefore image.now t.left (frames_in frames.new.items)) }
     ensures err { OnErr result (Alike image.now (frames_in frames.old.items) (frames_in frames.new.items)) }
-    ensures memory { OnErr result (memory.new ≡ memory.old) }
+    ensures memory { OnErr result (shared.new ≡ shared.old) }
     ensures output { OnErr result (output.new ≡ output.old) }
 {
     let Some(mut frame) = frames.pop() else {
@@ -527,7 +705,7 @@ pub fn turn(
             left: Did::Went,
         }),
         Ok(Stop::Work(question, at)) => {
-            let left = answer(question, at, &mut frame, memory, output);
+            let left = answer(question, at, &mut frame, shared, output);
             frames.push_reserved(frame);
             Ok(Turned { begun: false, left })
         }
@@ -547,5 +725,17 @@ pub fn turn(
                 left: Did::Trapped(number, code),
             })
         }
+    }
+}
+
+/// Past a Start, whose activity has been started.
+pub fn go_past(frames: &mut Vec<Frame>)
+    ensures { (image : Image) (object : ℕ) (fs : Frames) → IsBefore image (Did.Start object) (frames_in frames.old.items) →
+        Alike image fs (frames_in frames.old.items) → Alike image (past image fs) (frames_in frames.new.items) }
+{
+    if let Some(mut frame) = frames.pop() {
+        take(&mut frame.stack, 1);
+        frame.next = frame.next.saturating_add(1);
+        frames.push_reserved(frame);
     }
 }

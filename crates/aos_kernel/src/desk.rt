@@ -1,16 +1,18 @@
 // What the kernel keeps of a run, and the operations on it, one for each of the definitions.
-ghost use Rattle.std.specs.Prelude.{◌≡◌, ℕ, suc, ◌+◌, ◌<◌, ◌≤◌, ◌^◌, ◌++◌, ◌∷◌, List, length, slice_get, slice_set, vec_len, vec_capacity, IfOk, OnOk, OnErr, Some, None, if◌then◌else◌};
-ghost use Rattle.aos_base.specs.Book.{outcome_of, leave_line, move, first_at, is_on, is_ready, on_worker as worker_in, first_ready, spent_by, stands, ready, ended, Runs, On};
-ghost use Rattle.aos_base.specs.Machine.{State, on_book, trap, serve, turn_by, turned};
-ghost use Rattle.aos_code.specs.Memory.{Memory};
-ghost use Rattle.aos_code.specs.Machine.{Frames, machine, position, turn as turn_of};
-ghost use Rattle.aos_kernel.specs.Cpu.{Alike, frames_in, where_in};
-ghost use Rattle.aos_kernel.specs.Shows.{place_in, line_in, Shows, Performs, PerformsUnspent, ShowsSame, HasTurned, IsServed, HasRoom};
+ghost use Rattle.std.specs.Prelude.{◌≡◌, ℕ, suc, ◌+◌, ◌<◌, ◌≤◌, ◌^◌, ◌++◌, ◌∷◌, List, length, slice_get, slice_set, nat_le, ◌||◌, false, vec_len, vec_capacity, IfOk, OnOk, OnErr, Some, None, if◌then◌else◌};
+ghost use Rattle.aos_base.specs.Book.{outcome_of, leave_line, move, first_at, is_on, is_ready, on_worker as worker_in, first_ready, spent_by, stands, ready, ended, born, is_full, Runs, On};
+ghost use Rattle.aos_base.specs.Machine.{State, on_book, with_frames, go_past, trap, start, serve, turn_by, turned};
+ghost use Rattle.aos_code.specs.Memory.{Memory, type_of_object};
+ghost use Rattle.aos_code.specs.Machine.{Frames, machine, body_of, body_in, desc_at, position, turn as turn_of};
+ghost use Rattle.aos_kernel.specs.Cpu.{Alike, frames_in, where_in, memory_in, IsBefore};
+ghost use Rattle.aos_kernel.specs.Shows.{place_in, line_in, Shows, Performs, PerformsUnspent, ShowsSame, HasTurned, IsServed, StandsBefore, HasRoom, HasSame, frames_of};
 
 use crate::cpu;
-use crate::cpu::{Frame, MAX_BYTES};
+use crate::cpu::{Frame, MAX_BYTES, Shared};
 use aos_base::{Did, Event, NoMemory, Outcome, Pos};
-use aos_code::{Cell, Image, TrapRec};
+use aos_code::{Image, TrapRec};
+use std::alloc::Global;
+use std::mem;
 
 /// Where an activity stands: on a worker, or ready at a priority.
 #[derive(Clone, Copy)]
@@ -44,11 +46,13 @@ pub struct Activity {
     pub frames: Vec<Frame>,
 }
 
-/// The memory, the activities by their numbers, who stands where in the order in which they came there, and what has
-/// happened: the output, the traps, and the events of the last step or tick.
+/// What all share, the activities by their numbers, who stands where in the order in which they came there, and what has
+/// happened: the output, the traps, and the events of the last step or tick. The spare frames are the room for those of
+/// the next new activity.
 #[derive(Drop)]
 pub struct Desk {
-    pub memory: Vec<Vec<Cell>>,
+    pub alloc: Global,
+    pub shared: Shared,
     pub activities: Vec<Activity>,
     pub line: Vec<Stand>,
     pub output: Vec<u8>,
@@ -56,6 +60,7 @@ pub struct Desk {
     pub events: Vec<Event>,
     pub budget: u64,
     pub spent: Option<u32>,
+    pub spare: Vec<Frame>,
 }
 
 // Reading ----------------------------------------------------------------------------------
@@ -173,6 +178,62 @@ fn spent_after(
     }
 }
 
+/// The most activities that may live at one time.
+const MAX_LIVE: usize = 1024;
+
+/// The most activities in all, the first one included.
+const MAX_ACTIVITIES: usize = 65536;
+
+/// Whether there is no room for one activity more.
+fn is_full_with(live: usize, started: usize) -> bool
+    ensures { result ≡ (nat_le 1024 live || nat_le 65536 started) }
+{
+    MAX_LIVE <= live || MAX_ACTIVITIES <= started
+}
+
+/// The type of an object.
+fn type_of(shared: &Shared, object: u32) -> Option<u32>
+    ensures { result ≡ type_of_object object (memory_in shared.now) }
+{
+    if object == 0 {
+        return None;
+    }
+    shared.objects.get((object - 1) as usize).copied()
+}
+
+/// The procedure that is the body of a type's objects.
+fn body_of_type(image: &Image, of: u32) -> Option<u32>
+    ensures { body_in (desc_at image.now.types.items of) ≡ frames_of result }
+{
+    if of == 0 {
+        return None;
+    }
+    Some(image.types.get((of - 1) as usize)?.body)
+}
+
+/// The procedure that is an object's body.
+fn body_of_object(image: &Image, shared: &Shared, object: u32) -> Option<u32>
+    ensures { body_of image.now (memory_in shared.now) object ≡ frames_of result }
+{
+    body_of_type(image, type_of(shared, object)?)
+}
+
+/// The frame at the beginning of a procedure, in the room of the spare frames.
+fn frames_at(alloc: Global, mut spare: Vec<Frame>, procedure: Option<u32>) -> Vec<Frame>
+    requires { (vec_len spare ≡ 0) × (0 < vec_capacity spare) }
+    ensures { frames_in result.items ≡ frames_of procedure }
+{
+    if let Some(procedure) = procedure {
+        spare.push_reserved(Frame {
+            procedure,
+            next: 0,
+            at: None,
+            stack: Vec::new(alloc),
+        });
+    }
+    spare
+}
+
 // Writing -----------------------------------------------------------------------------------
 
 /// Takes an activity out of the line.
@@ -273,16 +334,68 @@ impl Desk {
         set_next(&mut self.activities, activity, Next::Unwinds);
     }
 
-    /// The activity's own part of a turn. Where memory runs out, only silent work has been done.
-    fn turned(&mut self, image: &Image, activity: u32) -> Result<Did, NoMemory>
-        requires { vec_len self.old.output + MAX_BYTES ≤ vec_capacity self.old.output }
-        ensures ok { IfOk result (λ left. HasTurned image.now activity left self.old self.new) }
-        ensures err { OnErr result (ShowsSame image.now self.old self.new) }
-        ensures traps { self.new.traps ≡ self.old.traps }
-        ensures events { self.new.events ≡ self.old.events }
+    /// A new activity, for this object, is ready.
+    fn bear(&mut self, image: &Image, object: u32)
+        requires room { HasRoom self.old }
+        requires few { length self.old.activities.items < 65536 }
+        ensures before { (a : ℕ) (left : Did) → a < length self.old.activities.items →
+            StandsBefore image.now a left self.old → StandsBefore image.now a left self.new }
+        ensures born { (earlier : List Event) (st : State Memory Frames) → Shows image.now earlier self.old st →
+            Shows image.now earlier self.new
+            (on_book (born 2) (with_frames st.book.started (body_of image.now st.store object) st)) }
+    {
+        let number = self.activities.len() as u32;
+        let procedure = body_of_object(image, &self.shared, object);
+        let spare = mem::replace(&mut self.spare, Vec::new(self.alloc));
+        let frames = frames_at(self.alloc, spare, procedure);
+        self.activities.push_reserved(Activity {
+            priority: 2,
+            begun: 0,
+            next: Next::Runs,
+            frames,
+        });
+        move_in(&mut self.line, number, Place::Ready(2));
+        self.events.push_reserved(Event::Start { activity: number });
+    }
+
+    /// The activity goes on behind a start.
+    fn go_past(&mut self, activity: u32)
+        ensures { (image : Image) (object : ℕ) (earlier : List Event) (st : State Memory Frames) →
+            Shows image earlier self.old st → activity < st.book.started →
+            StandsBefore image activity (Did.Start object) self.old →
+            Shows image earlier self.new (go_past (machine image) activity st) }
     {
         if let Some(kept) = self.activities.get_mut(activity as usize) {
-            let turned = cpu::turn(image, &mut kept.frames, &mut self.memory, &mut self.output)?;
+            cpu::go_past(&mut kept.frames);
+        }
+    }
+
+    /// The activity starts that of an object, or traps where there is no room for one more.
+    fn start(&mut self, image: &Image, activity: u32, object: u32)
+        requires { HasRoom self.old }
+        ensures { (earlier : List Event) (st : State Memory Frames) → Shows image.now earlier self.old st →
+            activity < st.book.started → StandsBefore image.now activity (Did.Start object) self.old →
+            Shows image.now earlier self.new (start (machine image.now) activity object (is_full st.book) st) }
+    {
+        if is_full_with(self.line.len(), self.activities.len()) {
+            self.trap(image, activity, 13, 0);
+        } else {
+            self.bear(image, object);
+            self.go_past(activity);
+        }
+    }
+
+    /// The activity's own part of a turn. Where memory runs out, only silent work has been done.
+    fn turned(&mut self, image: &Image, activity: u32) -> Result<Did, NoMemory>
+        requires output { vec_len self.old.output + MAX_BYTES ≤ vec_capacity self.old.output }
+        requires heap { vec_len self.old.shared.objects < vec_capacity self.old.shared.objects }
+        ensures before { IfOk result (λ left. StandsBefore image.now activity left self.new) }
+        ensures room { HasRoom self.old → HasRoom self.new }
+        ensures ok { IfOk result (λ left. HasTurned image.now activity left self.old self.new) }
+        ensures err { OnErr result (ShowsSame image.now self.old self.new) }
+    {
+        if let Some(kept) = self.activities.get_mut(activity as usize) {
+            let turned = cpu::turn(image, &mut kept.frames, &mut self.shared, &mut self.output)?;
             kept.begun = count_after(kept.begun, turned.begun);
             self.spent = spent_after(self.spent, self.budget, kept.begun, activity, turned.begun);
             return Ok(turned.left);
@@ -290,16 +403,17 @@ impl Desk {
         Ok(Did::Went)
     }
 
-    /// The kernel's part of a turn. No instruction asks for more yet.
+    /// The kernel's part of a turn. No instruction asks for a lock yet.
     fn serve(&mut self, image: &Image, activity: u32, left: Did)
         requires { HasRoom self.old }
         ensures { (earlier : List Event) (st : State Memory Frames) → Shows image.now earlier self.old st →
-            activity < st.book.started → IsServed left →
+            activity < st.book.started → IsServed left → StandsBefore image.now activity left self.old →
             Shows image.now earlier self.new (serve (machine image.now) activity left st) }
     {
         match left {
             Did::Ended => self.ended(activity),
             Did::Trapped(number, code) => self.trap(image, activity, number, code),
+            Did::Start(object) => self.start(image, activity, object),
             _ => {}
         }
     }
@@ -307,6 +421,7 @@ impl Desk {
     /// A turn of an activity that runs.
     fn run(&mut self, image: &Image, activity: u32) -> Result<(), NoMemory>
         requires room { HasRoom self.old }
+        requires heap { vec_len self.old.shared.objects < vec_capacity self.old.shared.objects }
         requires output { vec_len self.old.output + MAX_BYTES ≤ vec_capacity self.old.output }
         ensures ok { OnOk result (PerformsUnspent image.now activity (turn_by (machine image.now) activity Runs) self.old self.new) }
         ensures err { OnErr result (ShowsSame image.now self.old self.new) }
@@ -319,9 +434,15 @@ impl Desk {
     /// Room for all that a turn may write.
     fn make_room(&mut self) -> Result<(), NoMemory>
         ensures room { OnOk result (HasRoom self.new) }
+        ensures heap { OnOk result (vec_len self.new.shared.objects < vec_capacity self.new.shared.objects) }
         ensures output { OnOk result (vec_len self.new.output + MAX_BYTES ≤ vec_capacity self.new.output) }
-        ensures same { (image : Image) → ShowsSame image self.old self.new }
+        ensures same { HasSame self.old self.new }
     {
+        self.spare.clear();
+        self.spare.reserve(1)?;
+        self.shared.objects.reserve(1)?;
+        self.activities.reserve(1)?;
+        self.line.reserve(1)?;
         self.traps.reserve(1)?;
         self.events.reserve(1)?;
         self.output.reserve(MAX_BYTES)?;

@@ -10,11 +10,11 @@ ghost use Rattle.aos_base.specs.Schedule.{IsEntry};
 ghost use Rattle.aos_kernel.specs.Shows.{Shows, HandsOut};
 ghost use Rattle.aos_kernel.specs.Run.{state_of, events_of, traps_of, spent_of, comes_to, after_step, ticks, after_tick};
 
-use crate::cpu::Frame;
+use crate::cpu::{Frame, Shared};
 use crate::desk::{Activity, Desk, Next, Place, Stand};
 use crate::log::{Stepped, add_step};
 use aos_base::{Event, NoMemory, Outcome, Sched};
-use aos_code::{Cell, Image, TrapRec};
+use aos_code::{Image, TrapRec};
 use std::alloc::Global;
 use std::marker::Model;
 use std::mem;
@@ -52,16 +52,19 @@ impl Model for Kernel {
 }
 
 /// What the cells of the modules hold at first.
-fn first_cells(alloc: Global, image: &Image) -> Result<Vec<Vec<Cell>>, NoMemory>
-    ensures { IfOk result (λ cells. memory_in cells.items ≡ first_memory image.now) }
+fn first_cells(alloc: Global, image: &Image) -> Result<Shared, NoMemory>
+    ensures { IfOk result (λ shared. memory_in shared ≡ first_memory image.now) }
 {
-    let mut memory = Vec::new(alloc);
+    let mut modules = Vec::new(alloc);
     for module in &image.modules {
         let cells = Vec::from_slice(alloc, &module.cells)?;
-        memory.reserve(1)?;
-        memory.push_reserved(cells);
+        modules.reserve(1)?;
+        modules.push_reserved(cells);
     }
-    Ok(memory)
+    Ok(Shared {
+        modules,
+        objects: Vec::new(alloc),
+    })
 }
 
 /// The frames with which activity 0 begins: those of the modules' bodies, the first module's topmost.
@@ -87,7 +90,7 @@ fn first_desk(alloc: Global, image: &Image, budget: u64) -> Result<Desk, NoMemor
     requires { 1 ≤ budget }
     ensures { IfOk result (λ desk. Shows image.now [] desk (first_state image.now budget)) }
 {
-    let memory = first_cells(alloc, image)?;
+    let shared = first_cells(alloc, image)?;
     let frames = first_bodies(alloc, image)?;
     let first = Activity {
         priority: 2,
@@ -105,7 +108,8 @@ fn first_desk(alloc: Global, image: &Image, budget: u64) -> Result<Desk, NoMemor
         place: Place::Ready(2),
     });
     Ok(Desk {
-        memory,
+        alloc,
+        shared,
         activities,
         line,
         output: Vec::new(alloc),
@@ -113,6 +117,7 @@ fn first_desk(alloc: Global, image: &Image, budget: u64) -> Result<Desk, NoMemor
         events: Vec::new(alloc),
         budget,
         spent: None,
+        spare: Vec::new(alloc),
     })
 }
 
@@ -312,6 +317,7 @@ mod tests {
         };
         Ok(Image {
             modules: vec![in alloc; module]?,
+            types: Vec::new(alloc),
             shapes: vec![in alloc; ProcShape { module: 0 }]?,
             bodies: vec![in alloc; Body { code }]?,
         })

@@ -1,6 +1,7 @@
 //! The kernel that runs an image: its state is at every moment the image's execution under the log that it keeps.
 #![tactic(auto)]
 
+mod arith;
 mod cpu;
 mod desk;
 pub mod kernel;

@@ -2,7 +2,7 @@ use Rattle.std.proofs.Common.{ap, ◌∙◌, refl}
 use Rattle.aos_base.specs.Book.{move, On}
 use Rattle.aos_kernel.specs.declared.desk.Place.TheVariants.{On as OnWorker}
 use Rattle.aos_kernel.specs.Shows.{line_in}
-use Rattle.aos_kernel.proofs.Desks.{shows_stands, shows_roomy, on_err}
+use Rattle.aos_kernel.proofs.Desks.{shows_stands, shows_same, on_err}
 use Rattle.aos_kernel.proofs.desk.Desk.dispatch.Goals as goal
 
 pub returns-clause-ok : goal.returns-clause-ok
@@ -13,4 +13,4 @@ returns-clause-ok c image earlier st h there =
 pub returns-in_err-reserve-clause-err : goal.returns-in_err-reserve-clause-err
 returns-in_err-reserve-clause-err c =
     let d = c.args.self.now in
-    on_err c.from_residual.result (λ image earlier st h. shows_roomy image earlier d st d.traps d.events d.output c.reserve.new.self refl refl refl c.reserve.ensures.items h)
+    on_err c.from_residual.result (λ image earlier st h. shows_same image earlier d _ st (record { modules = refl; objects = refl; activities = refl; line = c.reserve.ensures.items; output = refl; traps = refl; events = refl; budget = refl; spent = refl }) h)

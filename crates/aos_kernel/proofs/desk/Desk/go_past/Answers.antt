@@ -1,0 +1,16 @@
+use Rattle.std.proofs.Common.{refl}
+use Rattle.std.specs.Vec.{with_item}
+use Rattle.std.proofs.lemmas.Option.{slice_get_read}
+use Rattle.aos_kernel.specs.declared.desk.Activity.{Activity}
+use Rattle.aos_kernel.proofs.Desks.{shows_past}
+use Rattle.aos_kernel.proofs.desk.Desk.go_past.Goals as goal
+
+pub returns-in-Some : goal.returns-in-Some
+returns-in-Some c image object earlier st h there before =
+    let d = c.args.self.now in
+    let a = c.args.activity in
+    let kept = c.in-Some.kept.now in
+    let new : Activity = record kept { frames = c.go_past.new.frames } in
+    let was = slice_get_read d.activities.items _ a kept refl c.in-Some.ensures.item.3.0 c.in-Some.ensures.item.1 in
+    shows_past image earlier d st a h there (with_item d.activities a new) kept c.go_past.new.frames was refl
+    (c.go_past.ensures image object (st.frames a) (before kept was) (h.activities a kept was).alike)
