@@ -12,8 +12,27 @@ abbrev pub place_text : List ℕ → Pos → List ℕ
 place_text name at = name ++ codes ":" ++ decimal at.line ++ codes ":" ++ decimal at.col
 
 -- what a rule is called
+-- the name of a rule of this number, or else another text
+abbrev pub named : (number : ℕ) → List ℕ → ℕ → List ℕ → List ℕ
+named number text rule other = if rule == number then text else other
+
 abbrev pub rule_text : ℕ → List ℕ
-rule_text rule = if rule == 1 then codes "file not found" else codes "not built yet"
+rule_text rule =
+    named 1 (codes "file not found") rule (
+    named 2 (codes "character not allowed") rule (
+    named 3 (codes "comment not closed") rule (
+    named 4 (codes "string not closed") rule (
+    named 5 (codes "number too large") rule (
+    named 6 (codes "syntax") rule (
+    named 7 (codes "nesting too deep") rule (
+    named 8 (codes "module given twice") rule (
+    named 9 (codes "imported module not given") rule (
+    named 10 (codes "import cycle") rule (
+    named 11 (codes "module named Out") rule (
+    named 12 (codes "end name differs") rule (
+    named 13 (codes "name declared twice") rule (
+    named 14 (codes "unknown name") rule (
+    codes "not built yet"))))))))))))))
 
 -- FILE:LINE:COL: rule N: TEXT
 abbrev pub refusal_text : List ℕ → ℕ → Pos → List ℕ
@@ -45,3 +64,15 @@ rows_text names (row ∷ rows) = row_text names row ++ rows_text names rows
 -- activity A began B statements
 abbrev pub budget_text : (activity budget : ℕ) → List ℕ
 budget_text activity budget = codes "activity " ++ decimal activity ++ codes " began " ++ decimal budget ++ codes " statements\n"
+
+-- a script came to its end while the run was going on
+abbrev pub script_ended_text : (steps : ℕ) → List ℕ
+script_ended_text steps = codes "script ended after " ++ decimal steps ++ codes " steps\n"
+
+-- this line of a script isn't what may stand there
+abbrev pub script_refused_text : (line : ℕ) → List ℕ
+script_refused_text line = codes "script line " ++ decimal line ++ codes " refused\n"
+
+-- this line of a script names a worker that there isn't
+abbrev pub no_worker_text : (line : ℕ) → List ℕ
+no_worker_text line = codes "script line " ++ decimal line ++ codes ": no such worker\n"

@@ -3,7 +3,7 @@
 
 ghost use Rattle.std.specs.Prelude.{◌≡◌, ◌++◌, IfOk, OnOk, map, codes, decimal};
 ghost use Rattle.std.specs.String.{string_bytes};
-ghost use Rattle.aos_report.specs.Texts.{name_of, rule_text, place_text, refusal_text, usage_text, unread_text, too_long_text, trap_text, budget_text};
+ghost use Rattle.aos_report.specs.Texts.{name_of, rule_text, place_text, refusal_text, usage_text, unread_text, too_long_text, trap_text, budget_text, script_ended_text, script_refused_text, no_worker_text};
 
 use aos_base::{NoMemory, Pos, Refusal};
 use aos_code::{ModuleDesc, TrapRec};
@@ -39,6 +39,32 @@ fn rule_name(rule: u16) -> &'static str
 {
     if rule == 1 {
         "file not found"
+    } else if rule == 2 {
+        "character not allowed"
+    } else if rule == 3 {
+        "comment not closed"
+    } else if rule == 4 {
+        "string not closed"
+    } else if rule == 5 {
+        "number too large"
+    } else if rule == 6 {
+        "syntax"
+    } else if rule == 7 {
+        "nesting too deep"
+    } else if rule == 8 {
+        "module given twice"
+    } else if rule == 9 {
+        "imported module not given"
+    } else if rule == 10 {
+        "import cycle"
+    } else if rule == 11 {
+        "module named Out"
+    } else if rule == 12 {
+        "end name differs"
+    } else if rule == 13 {
+        "name declared twice"
+    } else if rule == 14 {
+        "unknown name"
     } else {
         "not built yet"
     }
@@ -125,5 +151,38 @@ pub fn budget_line(alloc: Global, activity: u32, budget: u64) -> Result<Vec<u8>,
     put(&mut line, " began ")?;
     put_number(&mut line, budget)?;
     put(&mut line, " statements\n")?;
+    Ok(line)
+}
+
+/// The line of a script that came to its end while the run was going on, after so many steps and ticks.
+pub fn script_ended(alloc: Global, steps: u64) -> Result<Vec<u8>, NoMemory>
+    ensures { IfOk result (λ line. line.items ≡ script_ended_text steps) }
+{
+    let mut line = Vec::new(alloc);
+    put(&mut line, "script ended after ")?;
+    put_number(&mut line, steps)?;
+    put(&mut line, " steps\n")?;
+    Ok(line)
+}
+
+/// The line for a script whose line of this number isn't what may stand there.
+pub fn script_refused(alloc: Global, number: u32) -> Result<Vec<u8>, NoMemory>
+    ensures { IfOk result (λ line. line.items ≡ script_refused_text number) }
+{
+    let mut line = Vec::new(alloc);
+    put(&mut line, "script line ")?;
+    put_number(&mut line, u64::from(number))?;
+    put(&mut line, " refused\n")?;
+    Ok(line)
+}
+
+/// The line for a script whose line of this number names a worker that there isn't.
+pub fn no_worker(alloc: Global, number: u32) -> Result<Vec<u8>, NoMemory>
+    ensures { IfOk result (λ line. line.items ≡ no_worker_text number) }
+{
+    let mut line = Vec::new(alloc);
+    put(&mut line, "script line ")?;
+    put_number(&mut line, u64::from(number))?;
+    put(&mut line, ": no such worker\n")?;
     Ok(line)
 }

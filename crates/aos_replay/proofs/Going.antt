@@ -1,0 +1,123 @@
+-- How a run goes on: by nothing, by a step or a tick, by one after the other.
+use Rattle.std.proofs.Common.{◌≡◌, ◌≢◌, ℕ, zero, suc, ◌+◌, ◌-◌, ◌<◌, ◌≤◌, Bool, true, false, List, [], ◌∷◌, ◌++◌, length, get_or, take, drop, replicate, refl, sym, ap, ◌∙◌, subst, append_assoc, take-append-drop, arith}
+use Rattle.std.proofs.lemmas.List.{append-nil, drop_more, take_more, replicate-append-replicate}
+use Rattle.aos_base.specs.declared.kernel.Outcome.TheVariants.{Going}
+use Rattle.aos_base.specs.declared.kernel.Sched.{Sched}
+use Rattle.aos_base.specs.Book.{outcome}
+use Rattle.aos_base.specs.Machine.{Choice, Step, Tick, State, Machine, happens, execution}
+use Rattle.aos_base.specs.Schedule.{choices, entry_choices}
+use Rattle.aos_code.specs.Machine.{machine}
+use Rattle.aos_kernel.specs.declared.log.Stepped.{Stepped}
+use Rattle.aos_kernel.specs.declared.log.Stepped.TheVariants.{Turned, Dispatched, Idle, Over}
+use Rattle.aos_kernel.specs.Run.{Run, state_of, after_step, after_tick}
+use Rattle.aos_kernel.proofs.Histories.{is_over}
+use Rattle.aos_kernel.proofs.Logs.{choices-append, choices-with_step, choices-with_tick}
+use Rattle.aos_replay.specs.Continues.{IsSome, none, kept, left_out, Continues, ContinuesPart}
+
+module _ {S F : Type 0} (m : Machine S F) where
+  pub execution-append : (cs ds : List Choice) (st : State S F) → execution m (cs ++ ds) st ≡ execution m ds (execution m cs st)
+  execution-append [] ds st = refl
+  execution-append (c ∷ cs) ds st = execution-append cs ds (happens m c st)
+
+  -- a choice that changes nothing changes nothing however often
+  pub execution-idle : (n : ℕ) (c : Choice) (st : State S F) → happens m c st ≡ st → execution m (replicate n c) st ≡ st
+  execution-idle zero c st idle = refl
+  execution-idle (suc n) c st idle = ap (execution m (replicate n c)) idle ∙ execution-idle n c st idle
+
+pub execution-over : (r : Run) (cs : List Choice) → outcome (state_of r).book ≢ Going → execution (machine r.image) cs (state_of r) ≡ state_of r
+execution-over r [] over = refl
+execution-over r (c ∷ cs) over = ap (execution (machine r.image) cs) (is_over r.image (state_of r) c over) ∙ execution-over r cs over
+
+some_none : (cs : List Choice) → IsSome [] cs
+some_none [] = none
+some_none (c ∷ cs) = left_out (some_none cs)
+
+some-append : {made more cs ds : List Choice} → IsSome made cs → IsSome more ds → IsSome (made ++ more) (cs ++ ds)
+some-append none b = b
+some-append (kept a) b = kept (some-append a b)
+some-append (left_out a) b = left_out (some-append a b)
+
+pub goes_nowhere : (r : Run) → Continues [] r r
+goes_nowhere r = record { same = refl; state = refl; made = []; some = none; log = sym (append-nil (choices r.log)) }
+
+-- by choices that change nothing more
+pub goes_idly : (cs ds : List Choice) (a b : Run) → Continues cs a b → execution (machine b.image) ds (state_of b) ≡ state_of b → Continues (cs ++ ds) a b
+goes_idly cs ds a b h idle =
+    let image : b.image ≡ a.image = ap (λ r. r.image) h.same in
+    record {
+      same = h.same;
+      state =
+          sym idle ∙ ap (λ i. execution (machine i) ds (state_of b)) image ∙ ap (execution (machine a.image) ds) h.state
+          ∙ sym (execution-append (machine a.image) cs ds (state_of a));
+      made = h.made;
+      some = subst (λ l. IsSome l (cs ++ ds)) (append-nil h.made) (some-append h.some (some_none ds));
+      log = h.log;
+    }
+
+pub goes_then : (cs ds : List Choice) (a b c : Run) → Continues cs a b → Continues ds b c → Continues (cs ++ ds) a c
+goes_then cs ds a b c h k =
+    let image : b.image ≡ a.image = ap (λ r. r.image) h.same in
+    record {
+      same = k.same ∙ ap (λ (r : Run). let x : Run = record r { log = c.log } in x) h.same;
+      state =
+          k.state ∙ ap (λ i. execution (machine i) ds (state_of b)) image ∙ ap (execution (machine a.image) ds) h.state
+          ∙ sym (execution-append (machine a.image) cs ds (state_of a));
+      made = h.made ++ k.made;
+      some = some-append h.some k.some;
+      log = k.log ∙ ap (λ l. l ++ k.made) h.log ∙ append_assoc (choices a.log) h.made k.made;
+    }
+
+module _ (w : ℕ) (old new : Run) where
+  pub goes_step : (stepped : Stepped) → new ≡ after_step stepped w old → new ≡ record old { log = new.log } → state_of new ≡ happens (machine old.image) (Step w) (state_of old) → Continues (Step w ∷ []) old new
+  goes_step Turned is same state = record { same = same; state = state; made = Step w ∷ []; some = kept none; log = ap (λ r. choices r.log) is ∙ choices-with_step w old.log }
+  goes_step Dispatched is same state = record { same = same; state = state; made = Step w ∷ []; some = kept none; log = ap (λ r. choices r.log) is ∙ choices-with_step w old.log }
+  goes_step Idle is same state = record { same = same; state = state; made = []; some = left_out none; log = ap (λ r. choices r.log) is ∙ sym (append-nil (choices old.log)) }
+  goes_step Over is same state = record { same = same; state = state; made = []; some = left_out none; log = ap (λ r. choices r.log) is ∙ sym (append-nil (choices old.log)) }
+
+  pub goes_tick : (ticked : Bool) → new ≡ after_tick ticked w old → new ≡ record old { log = new.log } → state_of new ≡ happens (machine old.image) (Tick w) (state_of old) → Continues (Tick w ∷ []) old new
+  goes_tick true is same state = record { same = same; state = state; made = Tick w ∷ []; some = kept none; log = ap (λ r. choices r.log) is ∙ choices-with_tick w old.log }
+  goes_tick false is same state = record { same = same; state = state; made = []; some = left_out none; log = ap (λ r. choices r.log) is ∙ sym (append-nil (choices old.log)) }
+
+-- steps of one worker, the last of which changed nothing, and so wouldn't any more
+pub goes_steps_idly : (w i n : ℕ) (a b c : Run) → i ≤ n → Continues (replicate i (Step w)) a b → c ≡ b → state_of c ≡ happens (machine b.image) (Step w) (state_of b) → Continues (replicate n (Step w)) a c
+goes_steps_idly w i n a b c less h same state =
+    let idle = execution-idle (machine b.image) (n - i) (Step w) (state_of b) (sym state ∙ ap state_of same) in
+    let all = replicate-append-replicate i (n - i) (Step w) in
+    let number : i + (n - i) ≡ n = omega arith in
+    subst (Continues (replicate n (Step w)) a) (sym same)
+    (subst (λ k. Continues (replicate k (Step w)) a b) number
+    (subst (λ cs. Continues cs a b) all (goes_idly (replicate i (Step w)) (replicate (n - i) (Step w)) a b h idle)))
+
+-- the first of some steps
+pub part_of_steps : (w i n : ℕ) (a b c : Run) → i ≤ n → Continues (replicate i (Step w)) a b → c ≡ b → ContinuesPart (replicate n (Step w)) a c
+part_of_steps w i n a b c less h same =
+    let all = replicate-append-replicate i (n - i) (Step w) in
+    let number : n ≡ i + (n - i) = omega arith in
+    record {
+      first = replicate i (Step w);
+      others = replicate (n - i) (Step w);
+      whole = ap (λ k. replicate k (Step w)) number ∙ sym all;
+      continues = subst (Continues (replicate i (Step w)) a) (sym same) h;
+    }
+
+pub part_of : (cs ds : List Choice) (old new : Run) → Continues cs old new → ContinuesPart (cs ++ ds) old new
+part_of cs ds old new h = record { first = cs; others = ds; whole = refl; continues = h }
+
+pub part_then : (cs ds es : List Choice) (a b c : Run) → Continues cs a b → ContinuesPart ds b c → ContinuesPart (cs ++ (ds ++ es)) a c
+part_then cs ds es a b c h k = record {
+  first = cs ++ k.first;
+  others = k.others ++ es;
+  whole = ap (λ l. cs ++ (l ++ es)) k.whole ∙ ap (λ l. cs ++ l) (append_assoc k.first k.others es) ∙ sym (append_assoc cs k.first (k.others ++ es));
+  continues = goes_then cs k.first a b c h k.continues;
+}
+
+pub choices-split : (i : ℕ) (runs : List Sched) → choices runs ≡ choices (take i runs) ++ choices (drop i runs)
+choices-split i runs = ap choices (sym (take-append-drop i runs)) ∙ choices-append (take i runs) (drop i runs)
+
+-- up to an entry, that entry, and what is behind it
+pub choices-next : (i : ℕ) (runs : List Sched) (d : Sched) → i < length runs → choices runs ≡ choices (take i runs) ++ (entry_choices (get_or runs i d) ++ choices (drop (i + 1) runs))
+choices-next i runs d in_range = choices-split i runs ∙ ap (λ l. choices (take i runs) ++ choices l) (drop_more runs i d in_range)
+
+pub choices-more : (i : ℕ) (runs : List Sched) (d : Sched) → i < length runs → choices (take (i + 1) runs) ≡ choices (take i runs) ++ entry_choices (get_or runs i d)
+choices-more i runs d in_range =
+    ap choices (take_more runs i d in_range) ∙ choices-append (take i runs) (get_or runs i d ∷ []) ∙ ap (λ l. choices (take i runs) ++ l) (append-nil (entry_choices (get_or runs i d)))

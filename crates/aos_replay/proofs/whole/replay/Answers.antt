@@ -1,0 +1,43 @@
+use Rattle.std.proofs.Common.{◌≡◌, ◌+◌, ◌<◌, get_or, take, drop, length, ap, sym, subst, ◌∙◌, arith}
+use Rattle.aos_base.specs.declared.kernel.Sched.TheVariants.{Steps}
+use Rattle.aos_base.specs.declared.kernel.Outcome.TheVariants.{Going}
+use Rattle.aos_base.specs.Book.{outcome}
+use Rattle.aos_base.specs.Schedule.{choices, entry_choices}
+use Rattle.aos_kernel.specs.Run.{state_of}
+use Rattle.aos_replay.specs.Continues.{Continues, ContinuesPart}
+use Rattle.aos_replay.proofs.Going.{goes_nowhere, execution-over, goes_idly, goes_then, part_then, choices-split, choices-more, choices-next}
+use Rattle.aos_replay.proofs.whole.replay.Goals as goal
+
+pub loop-entry-init : goal.loop-entry-init
+loop-entry-init c = goes_nowhere c.args.kernel.now
+
+pub loop-entry-preserved : goal.loop-entry-preserved
+loop-entry-preserved c =
+    let runs = c.args.s.now.runs in
+    let i = c.loop-entry.entry-index in
+    let in_range : i < length runs = let n = ap length c.as_slice-entry-items.ensures in omega arith in
+    let same = ap (λ l. get_or l i (Steps 0 0)) c.as_slice-entry-items.ensures in
+    let done = subst (λ e. Continues (entry_choices e) c.loop-entry.kernel c.make.new.kernel) same c.in-Ok.ensures.done in
+    subst (λ cs. Continues cs c.args.kernel.now c.make.new.kernel) (sym (choices-more i runs (Steps 0 0) in_range))
+    (goes_then (choices (take i runs)) (entry_choices (get_or runs i (Steps 0 0))) c.args.kernel.now c.loop-entry.kernel c.make.new.kernel c.loop-entry.invariant done)
+
+pub returns-in_default-clause-log : goal.returns-in_default-clause-log
+returns-in_default-clause-log c =
+    let i = c.loop-entry.entry-index in
+    let runs = c.args.s.now.runs in
+    let over = λ (going : outcome (state_of c.loop-entry.kernel).book ≡ Going). c.in_default.not-Going (c.outcome.ensures.outcome ∙ going) in
+    subst (λ cs. Continues cs c.args.kernel.now c.loop-entry.kernel) (sym (choices-split i runs))
+    (goes_idly (choices (take i runs)) (choices (drop i runs)) c.args.kernel.now c.loop-entry.kernel c.loop-entry.invariant (execution-over c.loop-entry.kernel (choices (drop i runs)) over))
+
+pub returns-in_default-clause-state : goal.returns-in_default-clause-state
+returns-in_default-clause-state c = (returns-in_default-clause-log c).state
+
+pub returns-in-Err-clause-err : goal.returns-in-Err-clause-err
+returns-in-Err-clause-err c =
+    let runs = c.args.s.now.runs in
+    let i = c.loop-entry.entry-index in
+    let in_range : i < length runs = let n = ap length c.as_slice-entry-items.ensures in omega arith in
+    let same = ap (λ l. get_or l i (Steps 0 0)) c.as_slice-entry-items.ensures in
+    let part = subst (λ e. ContinuesPart (entry_choices e) c.loop-entry.kernel c.make.new.kernel) same c.in-Err.ensures.part in
+    subst (λ cs. ContinuesPart cs c.args.kernel.now c.make.new.kernel) (sym (choices-next i runs (Steps 0 0) in_range))
+    (part_then (choices (take i runs)) (entry_choices (get_or runs i (Steps 0 0))) (choices (drop (i + 1) runs)) c.args.kernel.now c.loop-entry.kernel c.make.new.kernel c.loop-entry.invariant part)

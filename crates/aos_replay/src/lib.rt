@@ -1,0 +1,9 @@
+//! A kernel driven by a script: the steps and ticks that the script says, in its order.
+#![tactic(auto)]
+
+mod entry;
+#[cfg(test)]
+mod tests;
+mod whole;
+
+pub use whole::replay;

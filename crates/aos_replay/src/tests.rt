@@ -1,0 +1,76 @@
+// An image of one module, driven by scripts.
+
+use crate::whole::replay;
+use aos_code::{Body, Image, Instr, ModuleDesc, ProcShape};
+use aos_kernel::Kernel;
+use aos_script::read_script;
+use std::alloc::{AllocError, Global};
+use std::process::Abort;
+use std::sync::Arc;
+use std::test::Fail;
+
+/// One module, whose body writes 7 in three places and ends the line.
+fn sample(alloc: Global) -> Result<Image, AllocError> {
+    let code = vec![in alloc;
+        Instr::Begin(1, 1),
+        Instr::Num(7),
+        Instr::Num(3),
+        Instr::OutInt,
+        Instr::Begin(2, 1),
+        Instr::OutLn,
+        Instr::Return,
+    ]?;
+    let module = ModuleDesc {
+        name: String::from_str(alloc, "M")?,
+        cells: Vec::new(alloc),
+        body: 1,
+    };
+    Ok(Image {
+        modules: vec![in alloc; module]?,
+        shapes: vec![in alloc; ProcShape { module: 0 }]?,
+        bodies: vec![in alloc; Body { code }]?,
+    })
+}
+
+/// Run lines for two workers, and the outcome, the output and the log that they come to. Twice 10^9 idle steps take no
+/// time.
+const RUNS: [(&str, &str); 6] = [
+    ("", "Going  []"),
+    ("s 0 1\ns 1 5\ns 0 100\n", "Ended   7\n [Steps(0, 7)]"),
+    ("s 1 4\n", "Going   7 [Steps(1, 4)]"),
+    (
+        "t 0\ns 0 1\nt 0\ns 1 6\nt 1\n",
+        "Going   7\n [Steps(0, 1), Tick(0), Steps(1, 6), Tick(1)]",
+    ),
+    (
+        "s 0 1\ns 1 1000000000\ns 1 1000000000\ns 0 2\n",
+        "Going   7 [Steps(0, 3)]",
+    ),
+    (
+        "s 0 1000000000\nt 0\ns 1 1000000000\n",
+        "Ended   7\n [Steps(0, 7)]",
+    ),
+];
+
+/// What these run lines come to, as text.
+fn shown(rt: &impl Abort, alloc: Global, runs: &str) -> Result<String, Fail> {
+    let text = format!(in alloc; "aos-script 1\nworkers 2\nbudget 100\n{runs}end\n")?;
+    assert!(rt; text.len() <= 67108864);
+    let script = read_script(alloc, text.as_bytes())?;
+    let image = Arc::new(alloc, sample(alloc)?)?;
+    let mut kernel = Kernel::new(alloc, image, script.workers, script.budget)?;
+    replay(&mut kernel, &script)?;
+    let output = String::from_utf8_lossy(alloc, kernel.output())?;
+    let mut out = String::new(alloc);
+    write!(out, "{:?} {} {:?}", kernel.outcome(), output, kernel.log())?;
+    Ok(out)
+}
+
+#[test]
+fn replays_runs(rt: HostRuntime) -> Result<(), Fail> {
+    for (runs, want) in RUNS {
+        let found = shown(&rt, rt.alloc(), runs)?;
+        assert_eq!(rt; found.as_str(), want, "at {runs:?}");
+    }
+    Ok(())
+}
