@@ -1,0 +1,12 @@
+pub mod Joins
+pub mod Chains
+pub mod Embedding
+pub mod Starts
+pub mod ModWalk
+pub mod Trees
+pub mod ModYields
+pub mod ModFalls
+pub mod ModSteps
+pub mod ModAnswer
+pub mod ModUnique
+pub mod ModExclusion

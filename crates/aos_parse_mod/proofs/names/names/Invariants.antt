@@ -1,0 +1,21 @@
+use Rattle.std.proofs.Common.{◌≡◌, ◌<◌, ◌++◌, List, ◌∷◌, length}
+use Rattle.aos_scan.specs.declared.token.Token.{Token}
+use Rattle.aos_scan.specs.declared.token.TokenKind.TheVariants as kind
+use Rattle.aos_tree.specs.declared.name.Name.{Name}
+use Rattle.aos_tree.specs.Ended.{IsEnded}
+use Rattle.aos_tree.specs.Nesting.{shallow}
+use Rattle.aos_tree.specs.Words.{IsNames, IsMoreNames}
+use Rattle.aos_parse_expr.specs.Machine.{run}
+use Rattle.aos_parse_mod.specs.Symbols as m
+use Rattle.aos_parse_mod.proofs.names.names.Given as goal
+
+abbrev pub invariant-loop-found : goal.invariant-loop-found
+invariant-loop-found l = record {
+  ended : IsEnded l.rest;
+  shorter : length l.rest < length l.tokens;
+  tree : (more : List Name) (end : List Token) → IsMoreNames shallow l.depth more l.rest end → IsNames shallow l.depth (l.found ++ more) l.tokens end;
+  moves : (k : m.Stack) → run m.table shallow l.tokens (m.tok l.depth kind.Ident ∷ m.more_names l.depth ∷ k) ≡ run m.table shallow l.rest (m.more_names l.depth ∷ k);
+}
+
+abbrev pub decreases-loop-found : goal.decreases-loop-found
+decreases-loop-found l = length l.rest

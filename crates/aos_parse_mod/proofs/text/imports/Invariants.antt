@@ -1,0 +1,21 @@
+use Rattle.std.proofs.Common.{◌≡◌, ◌<◌, ◌++◌, List, ◌∷◌, length}
+use Rattle.aos_scan.specs.declared.token.Token.{Token}
+use Rattle.aos_scan.specs.declared.token.TokenKind.TheVariants as kind
+use Rattle.aos_tree.specs.declared.module.Import.{Import}
+use Rattle.aos_tree.specs.Ended.{IsEnded}
+use Rattle.aos_tree.specs.Nesting.{shallow}
+use Rattle.aos_tree.specs.ModuleGrammar.{IsImports, IsMoreImports}
+use Rattle.aos_parse_expr.specs.Machine.{run}
+use Rattle.aos_parse_mod.specs.Symbols as m
+use Rattle.aos_parse_mod.proofs.text.imports.Given as goal
+
+abbrev pub invariant-loop-found : goal.invariant-loop-found
+invariant-loop-found l = record {
+  ended : IsEnded l.rest;
+  shorter : length l.rest < length l.tokens;
+  tree : (more : List Import) (end : List Token) → IsMoreImports shallow l.depth more l.rest end → IsImports shallow l.depth (l.found ++ more) l.tokens end;
+  moves : (k : m.Stack) → run m.table shallow l.tokens (m.tok l.depth kind.Ident ∷ m.then_name l.depth kind.Becomes ∷ m.more_imports l.depth ∷ k) ≡ run m.table shallow l.rest (m.more_imports l.depth ∷ k);
+}
+
+abbrev pub decreases-loop-found : goal.decreases-loop-found
+decreases-loop-found l = length l.rest

@@ -1,0 +1,5 @@
+pub mod Text
+pub mod Parts
+pub mod Symbols
+pub mod Outcomes
+pub mod Unambiguous

@@ -1,0 +1,11 @@
+pub mod Embedding
+pub mod Moving
+pub mod Trees
+pub mod StatProductions
+pub mod StatWalk
+pub mod StatYields
+pub mod Lower
+pub mod StatAnswer
+pub mod Above
+pub mod StatUnique
+pub mod Exclusion

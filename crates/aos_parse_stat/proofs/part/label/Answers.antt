@@ -1,0 +1,14 @@
+use Rattle.std.proofs.Common.{◌∷◌, []}
+use Rattle.aos_scan.specs.declared.token.TokenKind.TheVariants as kind
+use Rattle.aos_tree.specs.StatGrammar as g
+use Rattle.aos_parse_expr.proofs.Steps as by
+use Rattle.aos_parse_stat.specs.Symbols as m
+use Rattle.aos_parse_stat.proofs.part.label.Goals as goal
+
+pub returns-in_err-last-clause-moves : goal.returns-in_err-last-clause-moves
+returns-in_err-last-clause-moves c =
+    by.exits (λ r. r.1.now) c.from_residual-in_err-last.result (m.label c.args.depth) c.from_residual-in_err-last.ensures.1 (by.pass_on [] c.in_err-last.ensures.moves (λ k. c.in_ok-first.ensures.moves (m.option c.args.depth kind.Range ∷ k)))
+
+pub returns-clause-tree : goal.returns-clause-tree
+returns-clause-tree c =
+    g.label c.in_ok-first.ensures.tree c.in_ok-last.ensures.tree

@@ -1,0 +1,22 @@
+use Rattle.std.proofs.Common.{[], refl}
+use Rattle.aos_scan.specs.declared.token.TokenKind.TheVariants as kind
+use Rattle.aos_tree.specs.Nesting.{shallow}
+use Rattle.aos_tree.specs.Words as words
+use Rattle.aos_parse_expr.proofs.Steps as by
+use Rattle.aos_parse_stat.specs.Symbols as m
+use Rattle.aos_parse_stat.proofs.StatProductions as q
+use Rattle.aos_parse_stat.proofs.token.ident.Goals as goal
+
+pub returns-in-Ident-clause-tree : goal.returns-in-Ident-clause-tree
+returns-in-Ident-clause-tree c = rw c.split.ensures.whole (words.ident c.in-Ident.is (by.fits_shallow _ c.requires.nested))
+
+pub returns-in-Ident-clause-moves : goal.returns-in-Ident-clause-moves
+returns-in-Ident-clause-moves c =
+    by.shifts m.table shallow c.split.ensures.whole (m.tok c.args.depth kind.Ident) c.args.depth [] (q.word_is _ _ _ c.in-Ident.is) (by.fits_shallow _ c.requires.nested)
+
+pub returns-in_default : goal.returns-in_default
+returns-in_default c = record {
+  tree = tt;
+  rest = tt;
+  moves = record { refused = (_, by.refuses m.table shallow c.split.ensures.whole (m.tok c.args.depth kind.Ident) c.args.depth (q.word_not _ _ _ c.in_default.not-Ident) refl (by.fits_shallow _ c.requires.nested)) };
+}

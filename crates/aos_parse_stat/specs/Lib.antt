@@ -1,0 +1,4 @@
+pub mod Grammar
+pub mod Outcomes
+pub mod Symbols
+pub mod Unambiguous
