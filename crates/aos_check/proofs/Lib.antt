@@ -1,0 +1,12 @@
+pub mod Keeping
+pub mod Rows
+pub mod StatRows
+pub mod Unbroken
+pub mod Boxes
+pub mod CallParts
+pub mod Objects
+pub mod Passes
+pub mod Examples
+pub mod Each
+pub mod Typing
+pub mod Least

@@ -1,0 +1,9 @@
+pub mod Breaches
+pub mod Spelling
+pub mod Scope
+pub mod Names
+pub mod Heads
+pub mod Bodies
+pub mod Typed
+pub mod Elaborate
+pub mod Laws

@@ -1,0 +1,150 @@
+// The third pass: bodies.
+
+ghost use Rattle.std.specs.Prelude.{◌≡◌};
+ghost use Rattle.std.specs.List.{flat_map};
+ghost use Rattle.aos_check.specs.Breaches.{first_after, first};
+ghost use Rattle.aos_check.specs.Scope.{type_defs, entries};
+ghost use Rattle.aos_check.specs.Heads.{variable_types};
+ghost use Rattle.aos_check.specs.Bodies as bodies;
+
+use crate::breach::{Breach, NOT_BUILT, note};
+use crate::calls::check_desig;
+use crate::expressions::check_condition;
+use crate::heads::is_active;
+use crate::scope::Entry;
+use aos_tree::{Block, Decl, Items, Modifier, Module, Stat, TypeDef, TypeExpr};
+use aos_typed::TType;
+
+#[cycle(check_statements)]
+fn check_stat(
+    found: &mut Option<Breach>,
+    text: &[u8],
+    scope: &[Entry],
+    types: &[TType],
+    stat: &Stat,
+)
+    ensures { found.new ≡ first_after found.old (bodies.stat_breaches text.now scope.now types.now stat.now) }
+{
+    match stat {
+        Stat::Empty => {},
+        Stat::Desig(desig, value) => check_desig(found, text, scope, types, desig, value),
+        Stat::While(at, condition, body) => {
+            check_condition(found, text, scope, types, *at, condition);
+            check_stats(found, text, scope, types, &body.stats);
+        },
+        Stat::Block(block) => note(found, NOT_BUILT, block.pos),
+        Stat::Exit(at) => note(found, NOT_BUILT, *at),
+        Stat::Return(at, _) => note(found, NOT_BUILT, *at),
+        Stat::Await(at, _) => note(found, NOT_BUILT, *at),
+        Stat::If(at, _, _, _, _) => note(found, NOT_BUILT, *at),
+        Stat::Case(at, _, _, _) => note(found, NOT_BUILT, *at),
+        Stat::Repeat(at, _, _) => note(found, NOT_BUILT, *at),
+        Stat::Loop(at, _) => note(found, NOT_BUILT, *at),
+        Stat::For(at, _, _, _, _, _) => note(found, NOT_BUILT, *at),
+        Stat::With(at, _, _, _) => note(found, NOT_BUILT, *at),
+    }
+}
+
+#[cycle(check_statements)]
+fn check_stats(
+    found: &mut Option<Breach>,
+    text: &[u8],
+    scope: &[Entry],
+    types: &[TType],
+    stats: &Items<Stat>,
+)
+    ensures { found.new ≡ first_after found.old (flat_map (bodies.stat_breaches text.now scope.now types.now) stats.now) }
+{
+    for stat in stats.as_slice() {
+        check_stat(found, text, scope, types, stat);
+    }
+}
+
+fn check_modifiers(
+    found: &mut Option<Breach>,
+    text: &[u8],
+    may_be_active: bool,
+    modifiers: &[Modifier],
+)
+    ensures { found.new ≡ first_after found.old (bodies.modifier_breaches text.now may_be_active modifiers.now) }
+{
+    let mut may_be_active = may_be_active;
+    for modifier in modifiers {
+        if !may_be_active || !is_active(text, modifier) || modifier.value.is_some() {
+            note(found, NOT_BUILT, modifier.name.pos);
+        }
+        may_be_active = may_be_active && !is_active(text, modifier);
+    }
+}
+
+fn check_body(
+    found: &mut Option<Breach>,
+    text: &[u8],
+    scope: &[Entry],
+    types: &[TType],
+    may_be_active: bool,
+    body: &Option<Block>,
+)
+    ensures { found.new ≡ first_after found.old (bodies.body_breaches text.now scope.now types.now may_be_active body.now) }
+{
+    if let Some(block) = body {
+        check_modifiers(found, text, may_be_active, block.modifiers.as_slice());
+        check_stats(found, text, scope, types, &block.body.stats);
+    }
+}
+
+fn check_object_type(
+    found: &mut Option<Breach>,
+    text: &[u8],
+    scope: &[Entry],
+    types: &[TType],
+    def: &TypeDef,
+)
+    ensures { found.new ≡ first_after found.old (bodies.object_breaches_of text.now scope.now types.now def.now) }
+{
+    if let TypeExpr::Object(_, _, _, body, _) = &def.value {
+        check_body(found, text, scope, types, true, body);
+    }
+}
+
+fn check_objects(
+    found: &mut Option<Breach>,
+    text: &[u8],
+    scope: &[Entry],
+    types: &[TType],
+    defs: &[TypeDef],
+)
+    ensures { found.new ≡ first_after found.old (flat_map (bodies.object_breaches_of text.now scope.now types.now) defs.now) }
+{
+    for def in defs {
+        check_object_type(found, text, scope, types, def);
+    }
+}
+
+fn check_types(
+    found: &mut Option<Breach>,
+    text: &[u8],
+    scope: &[Entry],
+    types: &[TType],
+    decls: &[Decl],
+)
+    ensures { found.new ≡ first_after found.old (flat_map (bodies.object_breaches_of text.now scope.now types.now) (type_defs decls.now)) }
+{
+    for decl in decls {
+        if let Decl::Types(_, defs) = decl {
+            check_objects(found, text, scope, types, defs.as_slice());
+        }
+    }
+}
+
+/// The first breach of the bodies.
+pub fn check_bodies(text: &[u8], scope: &[Entry], types: &[TType], tree: &Module) -> Option<Breach>
+    requires scope { scope.now ≡ entries text.now tree.now }
+    requires types { types.now ≡ variable_types text.now scope.now tree.now.decls }
+    ensures { result ≡ first (bodies.bodies_of text.now tree.now) }
+{
+    let mut found = None;
+    check_types(&mut found, text, scope, types, tree.decls.as_slice());
+    check_body(&mut found, text, scope, types, false, &tree.body);
+    found
+}

@@ -1,0 +1,183 @@
+// Statements that are calls or assignments.
+
+ghost use Rattle.std.specs.Prelude.{◌≡◌};
+ghost use Rattle.aos_check.specs.Breaches.{first_after};
+ghost use Rattle.aos_check.specs.Scope.{meaning};
+ghost use Rattle.aos_check.specs.Bodies as bodies;
+
+use crate::breach::{Breach, NOT_BUILT, UNKNOWN, note};
+use crate::expressions::{
+    check_object, check_places, check_value, needs_number, refuse_selectors, selector_place,
+};
+use crate::scope::{Entry, Meaning, meaning_of};
+use crate::spelling::{is_procedure_of_out, is_word, word};
+use aos_base::Pos;
+use aos_tree::{Desig, Expr, Name, Selector};
+use aos_typed::TType;
+
+fn check_int_arguments(
+    found: &mut Option<Breach>,
+    text: &[u8],
+    scope: &[Entry],
+    types: &[TType],
+    at: Pos,
+    arguments: &[Expr],
+)
+    ensures { found.new ≡ first_after found.old (bodies.int_arguments text.now scope.now types.now at arguments.now) }
+{
+    match arguments {
+        [value, places] => {
+            check_value(found, text, scope, types, value);
+            check_places(found, text, scope, places);
+        },
+        _ => note(found, NOT_BUILT, at),
+    }
+}
+
+fn check_new_arguments(
+    found: &mut Option<Breach>,
+    text: &[u8],
+    scope: &[Entry],
+    types: &[TType],
+    at: Pos,
+    arguments: &[Expr],
+)
+    ensures { found.new ≡ first_after found.old (bodies.new_arguments text.now scope.now types.now at arguments.now) }
+{
+    match arguments {
+        [object] => check_object(found, text, scope, types, object),
+        _ => note(found, NOT_BUILT, at),
+    }
+}
+
+fn check_int(
+    found: &mut Option<Breach>,
+    text: &[u8],
+    scope: &[Entry],
+    types: &[TType],
+    at: Pos,
+    selectors: &[Selector],
+)
+    ensures { found.new ≡ first_after found.old (bodies.int_breaches text.now scope.now types.now at selectors.now) }
+{
+    let Some((selector, more)) = selectors.split_first() else {
+        note(found, NOT_BUILT, at);
+        return;
+    };
+    match selector {
+        Selector::Paren(_, arguments) => {
+            check_int_arguments(found, text, scope, types, at, arguments.as_slice());
+            refuse_selectors(found, more);
+        },
+        _ => note(found, NOT_BUILT, selector_place(selector)),
+    }
+}
+
+fn check_new(
+    found: &mut Option<Breach>,
+    text: &[u8],
+    scope: &[Entry],
+    types: &[TType],
+    at: Pos,
+    selectors: &[Selector],
+)
+    ensures { found.new ≡ first_after found.old (bodies.new_breaches text.now scope.now types.now at selectors.now) }
+{
+    let Some((selector, more)) = selectors.split_first() else {
+        note(found, NOT_BUILT, at);
+        return;
+    };
+    match selector {
+        Selector::Paren(_, arguments) => {
+            check_new_arguments(found, text, scope, types, at, arguments.as_slice());
+            refuse_selectors(found, more);
+        },
+        _ => note(found, NOT_BUILT, selector_place(selector)),
+    }
+}
+
+fn check_member(
+    found: &mut Option<Breach>,
+    text: &[u8],
+    scope: &[Entry],
+    types: &[TType],
+    at: Pos,
+    name: Name,
+    more: &[Selector],
+)
+    ensures { found.new ≡ first_after found.old (bodies.member_call text.now scope.now types.now at name more.now) }
+{
+    if is_word(text, "Int", name) {
+        check_int(found, text, scope, types, at, more);
+    } else if is_word(text, "Ln", name) {
+        refuse_selectors(found, more);
+    } else if is_procedure_of_out(word(text, name)) {
+        note(found, NOT_BUILT, name.pos);
+    } else {
+        note(found, UNKNOWN, name.pos);
+    }
+}
+
+fn check_out(
+    found: &mut Option<Breach>,
+    text: &[u8],
+    scope: &[Entry],
+    types: &[TType],
+    at: Pos,
+    selectors: &[Selector],
+)
+    ensures { found.new ≡ first_after found.old (bodies.out_breaches text.now scope.now types.now at selectors.now) }
+{
+    let Some((selector, more)) = selectors.split_first() else {
+        note(found, NOT_BUILT, at);
+        return;
+    };
+    match selector {
+        Selector::Field(_, name) => check_member(found, text, scope, types, at, *name, more),
+        _ => note(found, NOT_BUILT, selector_place(selector)),
+    }
+}
+
+fn check_call(
+    found: &mut Option<Breach>,
+    text: &[u8],
+    scope: &[Entry],
+    types: &[TType],
+    desig: &Desig,
+)
+    ensures { found.new ≡ first_after found.old (bodies.called text.now scope.now types.now (meaning text.now scope.now desig.now.name) desig.now) }
+{
+    let at = desig.name.pos;
+    let selectors = desig.selectors.as_slice();
+    match meaning_of(text, scope, desig.name) {
+        Some(Meaning::Out) => check_out(found, text, scope, types, at, selectors),
+        Some(Meaning::New) => check_new(found, text, scope, types, at, selectors),
+        None => note(found, UNKNOWN, at),
+        Some(_) => note(found, NOT_BUILT, at),
+    }
+}
+
+/// An assignment, or without a value a call.
+pub fn check_desig(
+    found: &mut Option<Breach>,
+    text: &[u8],
+    scope: &[Entry],
+    types: &[TType],
+    desig: &Desig,
+    value: &Option<Expr>,
+)
+    ensures { found.new ≡ first_after found.old (bodies.desig_breaches text.now scope.now types.now desig.now value.now) }
+{
+    let Some(value) = value else {
+        check_call(found, text, scope, types, desig);
+        return;
+    };
+    needs_number(
+        found,
+        types,
+        meaning_of(text, scope, desig.name),
+        desig.name.pos,
+    );
+    refuse_selectors(found, desig.selectors.as_slice());
+    check_value(found, text, scope, types, value);
+}

@@ -1,0 +1,160 @@
+// The typed program of a module that breaks no rule.
+
+ghost use Rattle.std.specs.Prelude.{◌≡◌, [], IfOk, OnOk, Some, false, length};
+ghost use Rattle.std.specs.List.{flat_map};
+ghost use Rattle.aos_check.specs.Scope.{type_defs, types_in};
+ghost use Rattle.aos_check.specs.Heads as heads;
+ghost use Rattle.aos_check.specs.Bodies as bodies;
+ghost use Rattle.aos_check.specs.Typed as typed;
+
+use crate::elaborate::{body_of, spelling_of, stats_of};
+use crate::scope::{Entry, variable_names};
+use aos_base::Pos;
+use aos_tree::{Block, Decl, Module, Name, TypeDef, TypeExpr};
+use aos_typed::{Program, TModule, TObject, TType, TVariable};
+use std::alloc::{AllocError, Global};
+
+/// The body of an object type that is built.
+fn block_of<'a>(text: &[u8], scope: &[Entry], of: &'a TypeExpr) -> &'a Block
+    requires { heads.defined_type text.now scope.now of.now ≡ [] }
+    ensures { bodies.object_body of.now ≡ Some result.now }
+{
+    match of {
+        TypeExpr::Object(_, _, _, body, _) => match body {
+            Some(block) => block,
+            None => unreachable!(),
+        },
+        TypeExpr::Named(_) => unreachable!(),
+        TypeExpr::Array(_, _, _) => unreachable!(),
+        TypeExpr::Record(_, _, _) => unreachable!(),
+        TypeExpr::Pointer(_, _) => unreachable!(),
+        TypeExpr::Proc(_, _, _) => unreachable!(),
+    }
+}
+
+/// The object type of a definition.
+fn object_of_def(
+    alloc: Global,
+    text: &[u8],
+    scope: &[Entry],
+    types: &[TType],
+    def: &TypeDef,
+) -> Result<TObject, AllocError>
+    requires head { heads.defined_type text.now scope.now def.now.value ≡ [] }
+    requires body { bodies.object_breaches_of text.now scope.now types.now def.now ≡ [] }
+    ensures { IfOk result (λ o. typed.IsObject text.now scope.now types.now def.now o) }
+{
+    let block = block_of(text, scope, &def.value);
+    let body = stats_of(alloc, text, scope, types, &block.body.stats)?;
+    let name = spelling_of(alloc, text, def.def.name)?;
+    Ok(TObject {
+        name,
+        home: 0,
+        body,
+    })
+}
+
+fn add_objects(
+    alloc: Global,
+    out: &mut Vec<TObject>,
+    text: &[u8],
+    scope: &[Entry],
+    types: &[TType],
+    at: Pos,
+    defs: &[TypeDef],
+) -> Result<(), AllocError>
+    requires heads { flat_map (heads.type_def text.now scope.now at) defs.now ≡ [] }
+    requires bodies { flat_map (bodies.object_breaches_of text.now scope.now types.now) defs.now ≡ [] }
+    ensures { OnOk result (typed.AddsObjects text.now scope.now types.now defs.now out.old.items out.new.items) }
+{
+    for def in defs {
+        out.push(object_of_def(alloc, text, scope, types, def)?)?;
+    }
+    Ok(())
+}
+
+fn add_decl(
+    alloc: Global,
+    out: &mut Vec<TObject>,
+    text: &[u8],
+    scope: &[Entry],
+    types: &[TType],
+    decl: &Decl,
+) -> Result<(), AllocError>
+    requires heads { heads.decl_breaches text.now scope.now decl.now ≡ [] }
+    requires bodies { flat_map (bodies.object_breaches_of text.now scope.now types.now) (types_in decl.now) ≡ [] }
+    ensures { OnOk result (typed.AddsObjects text.now scope.now types.now (types_in decl.now) out.old.items out.new.items) }
+{
+    match decl {
+        Decl::Types(at, defs) => {
+            add_objects(alloc, out, text, scope, types, *at, defs.as_slice())
+        },
+        Decl::Consts(_, _) => Ok(()),
+        Decl::Vars(_, _) => Ok(()),
+        Decl::Proc(_) => Ok(()),
+    }
+}
+
+fn objects_of(
+    alloc: Global,
+    text: &[u8],
+    scope: &[Entry],
+    types: &[TType],
+    decls: &[Decl],
+) -> Result<Vec<TObject>, AllocError>
+    requires heads { flat_map (heads.decl_breaches text.now scope.now) decls.now ≡ [] }
+    requires bodies { flat_map (bodies.object_breaches_of text.now scope.now types.now) (type_defs decls.now) ≡ [] }
+    ensures { IfOk result (λ os. typed.AddsObjects text.now scope.now types.now (type_defs decls.now) [] os.items) }
+{
+    let mut out = Vec::new(alloc);
+    for decl in decls {
+        add_decl(alloc, &mut out, text, scope, types, decl)?;
+    }
+    Ok(out)
+}
+
+fn variables_of(
+    alloc: Global,
+    text: &[u8],
+    names: &[Name],
+    types: &[TType],
+) -> Result<Vec<TVariable>, AllocError>
+    requires { length types.now ≡ length names.now }
+    ensures { IfOk result (λ vs. typed.AreVariables text.now types.now names.now vs.items) }
+{
+    let mut out = Vec::new(alloc);
+    for i in 0..names.len() {
+        let name = spelling_of(alloc, text, names[i])?;
+        out.push(TVariable { name, of: types[i] })?;
+    }
+    Ok(out)
+}
+
+/// The program of a module that breaks no rule, under what its names stand for and the types of its variables.
+pub fn program_of(
+    alloc: Global,
+    text: &[u8],
+    scope: &[Entry],
+    types: &[TType],
+    tree: &Module,
+) -> Result<Program, AllocError>
+    requires types { types.now ≡ heads.variable_types text.now scope.now tree.now.decls }
+    requires heads { flat_map (heads.decl_breaches text.now scope.now) tree.now.decls ≡ [] }
+    requires objects { flat_map (bodies.object_breaches_of text.now scope.now types.now) (type_defs tree.now.decls) ≡ [] }
+    requires body { bodies.body_breaches text.now scope.now types.now false tree.now.body ≡ [] }
+    ensures { IfOk result (λ p. typed.IsProgramUnder text.now scope.now types.now tree.now p) }
+{
+    let decls = tree.decls.as_slice();
+    let names = variable_names(alloc, decls)?;
+    let variables = variables_of(alloc, text, &names, types)?;
+    let objects = objects_of(alloc, text, scope, types, decls)?;
+    let body = body_of(alloc, text, scope, types, &tree.body)?;
+    let name = spelling_of(alloc, text, tree.name)?;
+    let mut modules = Vec::new(alloc);
+    modules.push(TModule {
+        name,
+        variables,
+        body,
+    })?;
+    Ok(Program { modules, objects })
+}
