@@ -1,17 +1,29 @@
--- A program of one module.
-use Rattle.std.proofs.Common.{◌≡◌, ℕ, List, [], ◌∷◌, sym, subst}
-use Rattle.std.specs.Prelude.{All}
-use Rattle.std.proofs.lemmas.List.Elements.{All-nil, All-cons}
-use Rattle.aos_typed.specs.declared.tree.TModule.{TModule}
-use Rattle.aos_typed.specs.declared.tree.Program.{Program}
-use Rattle.aos_typed.specs.WellTyped.{IsWellTyped}
-use Rattle.aos_read.specs.Module.{IsModule}
-use Rattle.aos_sim.specs.Shows.{EachWellTyped}
-use Rattle.aos_compile.specs.Elaborates.{IsAccepted}
+-- A text that a rule refuses has no program.
+use Rattle.std.proofs.Common.{◌≡◌, ℕ, List, sym, ap, ◌∙◌, subst}
+use Rattle.aos_base.specs.declared.text.Refusal.{Refusal}
+use Rattle.aos_scan.specs.declared.token.Token.{Token}
+use Rattle.aos_scan.specs.TokenList.{IsTokenList}
+use Rattle.aos_scan.proofs.Laws.{one_token_list, not_both}
+use Rattle.aos_tree.specs.declared.module.Module.{Module}
+use Rattle.aos_tree.specs.ModuleGrammar.{Reads}
+use Rattle.aos_parse_mod.proofs.ModExclusion.{exclude}
+use Rattle.aos_parse_mod.proofs.ModUnique.{unique_reads}
+use Rattle.aos_check.specs.Elaborate.{first_breach}
+use Rattle.aos_compile.specs.Elaborates.{IsTreeOf, IsAccepted, IsRefused, by_scanner, by_syntax, by_nesting, by_rule}
 
-pub typed_of : (p : Program) (only : TModule) → p.modules.items ≡ only ∷ [] → IsWellTyped only → EachWellTyped p
-typed_of p only e h = subst (λ ms. All IsWellTyped ms) (sym e) (All-cons IsWellTyped only [] h (All-nil IsWellTyped))
+-- the tokens of the tree of an accepted text
+reads_of : {text : List ℕ} {tokens : List Token} (a : IsAccepted text) → IsTokenList text tokens → Reads a.elaborates.tree tokens
+reads_of {text} {tokens} a list =
+    let t = a.elaborates.is_tree in
+    subst (λ ts. Reads a.elaborates.tree ts) (one_token_list text t.tokens tokens t.scanned list) t.reads
 
--- a text that is no module has no program
-pub not_accepted : (text : List ℕ) → ((m : TModule) → ¬ IsModule text m) → ¬ IsAccepted text
-not_accepted text h a = h a.elaborates.only a.elaborates.reads
+same_tree : {text : List ℕ} {tree : Module} (a : IsAccepted text) → IsTreeOf text tree → tree ≡ a.elaborates.tree
+same_tree {text} {tree} a t = unique_reads tree a.elaborates.tree t.tokens t.reads (reads_of a t.scanned)
+
+pub never_accepted : (text : List ℕ) (r : Refusal) → IsRefused text r → ¬ IsAccepted text
+never_accepted text r (by_scanner e h) a = not_both text a.elaborates.is_tree.tokens e a.elaborates.is_tree.scanned h
+never_accepted text r (by_syntax {tokens} p list at) a = (exclude tokens).read_or_expected a.elaborates.tree p (reads_of a list) at
+never_accepted text r (by_nesting {tokens} p list at) a = (exclude tokens).read_or_deep a.elaborates.tree p (reads_of a list) at
+never_accepted text r (by_rule {tree} b t breaks) a =
+    let e = sym breaks ∙ ap (first_breach text) (same_tree a t) ∙ a.elaborates.unbroken in
+    absurd (cc)

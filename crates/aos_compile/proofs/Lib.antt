@@ -2,3 +2,6 @@ pub mod Patch
 pub mod Codes
 pub mod Accepted
 pub mod Forth
+pub mod Parts
+pub mod Heights
+pub mod Refusals

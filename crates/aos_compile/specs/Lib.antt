@@ -1,2 +1,3 @@
 pub mod Elaborates
 pub mod Back
+pub mod Typed

@@ -1,8 +1,9 @@
 // From typed statements to instructions: what is emitted is the code that the definitions give.
 
-ghost use Rattle.std.specs.Prelude.{◌≡◌, [], ◌∷◌, ◌++◌, length, IfOk, OnOk};
+ghost use Rattle.std.specs.Prelude.{◌≡◌, ◌+◌, ◌<◌, ◌^◌, [], ◌∷◌, ◌++◌, length, IfOk, OnOk};
 ghost use Rattle.aos_compile.specs.Back.{back_code};
-ghost use Rattle.aos_sim.specs.Code.{begin, literal_code, binary_code, place_code, value_code, out_code, stat_code, stats_code, body_code};
+ghost use Rattle.aos_compile.specs.Typed.{IsTyped, AreTyped};
+ghost use Rattle.aos_sim.specs.Code.{begin, literal_code, binary_code, place_code, value_code, out_code, new_code, stat_code, stats_code, body_code};
 
 use aos_base::Pos;
 use aos_code::{Body, Instr, Kind};
@@ -99,8 +100,22 @@ fn emit_out(alloc: Global, code: &mut Vec<Instr>, call: &OutCall) -> Result<(), 
     }
 }
 
+// The object is stored before its activity is started.
+fn emit_new(code: &mut Vec<Instr>, place: &TPlace, object: u32) -> Result<(), AllocError>
+    requires { object + 1 < 2 ^ 32 }
+    ensures { OnOk result (code.new.items ≡ code.old.items ++ new_code place.now object (length code.old.items)) }
+{
+    put(code, Instr::NewObject(object + 1))?;
+    put(code, Instr::Dup)?;
+    emit_place(code, place)?;
+    put(code, Instr::Swap)?;
+    put(code, Instr::Store(Kind::R))?;
+    put(code, Instr::Start)
+}
+
 #[cycle(emit_stat)]
 fn emit_stat(alloc: Global, code: &mut Vec<Instr>, statement: &TStat) -> Result<(), AllocError>
+    requires { IsTyped statement.now }
     ensures { OnOk result (code.new.items ≡ code.old.items ++ stat_code statement.now (length code.old.items)) }
 {
     match statement {
@@ -121,6 +136,10 @@ fn emit_stat(alloc: Global, code: &mut Vec<Instr>, statement: &TStat) -> Result<
             code[test_end] = Instr::JumpFalse(code.len());
             Ok(())
         }
+        TStat::New(at, place, object) => {
+            emit_begin(code, *at)?;
+            emit_new(code, place, *object)
+        }
         TStat::Out(at, call) => {
             emit_begin(code, *at)?;
             emit_out(alloc, code, call)
@@ -130,6 +149,7 @@ fn emit_stat(alloc: Global, code: &mut Vec<Instr>, statement: &TStat) -> Result<
 
 #[cycle(emit_stat)]
 fn emit_stats(alloc: Global, code: &mut Vec<Instr>, statements: &[TStat]) -> Result<(), AllocError>
+    requires { AreTyped statements.now }
     ensures { OnOk result (code.new.items ≡ code.old.items ++ stats_code statements.now (length code.old.items)) }
 {
     for statement in statements {
@@ -138,8 +158,9 @@ fn emit_stats(alloc: Global, code: &mut Vec<Instr>, statements: &[TStat]) -> Res
     Ok(())
 }
 
-/// The code of a body with these statements.
+/// The code of a body with these statements, which are well typed in a program of fewer than 2^32 object types.
 pub fn emit_body(alloc: Global, statements: &[TStat]) -> Result<Body, AllocError>
+    requires { AreTyped statements.now }
     ensures { IfOk result (λ body. body.code.items ≡ body_code statements.now) }
 {
     let mut code = Vec::new(alloc);

@@ -3,8 +3,9 @@
 
 pub mod compile_err;
 mod emit;
+mod front;
 mod image;
 pub mod program;
 
 pub use compile_err::CompileErr;
-pub use program::compile;
+pub use program::{compile, refused_or_accepted};

@@ -1,5 +1,7 @@
-use Rattle.std.proofs.Common.{◌+◌, ◌++◌, length, sym, ap, ◌∙◌}
+use Rattle.std.proofs.Common.{◌+◌, ◌++◌, length, sym, ap, ◌∙◌, rules}
 use Rattle.aos_sim.specs.Code.{value_code, stat_code, stats_code, while_code}
+use Rattle.aos_compile.proofs.Heights.{body_less, one_less}
+use Rattle.aos_compile.proofs.Parts.{loop_typed, one_typed}
 use Rattle.aos_compile.proofs.Patch.{while_is, patch_while}
 use Rattle.aos_compile.proofs.emit.+emit_stat.Goals as goal
 
@@ -13,3 +15,13 @@ emit_stat-returns-in_ok-put-in-While-2 t c =
     ∙ ap (λ b. base ++ while_code here e1 (stats_code b pb) (length base)) c.deref.ensures.value
     ∙ ap (λ l. base ++ l) (sym (while_is here c.in-While.condition c.in-While.body (length base)))
     ∙ ap (λ s. base ++ stat_code s (length base)) (sym c.in-While.is)
+
+pub emit_stat-emit_stats-requires : goal.emit_stat-emit_stats-requires
+emit_stat-emit_stats-requires t c =
+    let less = body_less c.args.statement.now c.in-While.at c.in-While.condition c.in-While.body c.deref.result.now c.in-While.is c.deref.ensures.value in
+    (search (rules, less), loop_typed c.args.statement.now c.in-While.at c.in-While.condition c.in-While.body c.deref.result.now c.in-While.is c.deref.ensures.value c.requires)
+
+pub emit_stats-emit_stat-requires : goal.emit_stats-emit_stat-requires
+emit_stats-emit_stat-requires t c =
+    let less = one_less c.args.statements.now c.loop-statement.statement-index c.statement-item.result c.loop-statement-test.true c.statement-item.is in
+    (search (rules, less), one_typed c.args.statements.now c.loop-statement.statement-index c.statement-item.result c.loop-statement-test.true c.statement-item.is c.requires)
