@@ -1,5 +1,5 @@
 -- What a kernel tells of a run that is over is the image's observation.
-use Rattle.std.proofs.Common.{◌≡◌, ◌≢◌, ℕ, zero, suc, ◌<◌, List, [], ◌∷◌, ◌++◌, map, replicate, Option, refl, ap, ◌∙◌, subst, arith}
+use Rattle.std.proofs.Common.{◌≡◌, ◌≢◌, ℕ, zero, suc, ◌<◌, List, [], ◌∷◌, ◌++◌, length, map, replicate, Option, refl, ap, ◌∙◌, subst, arith}
 use Rattle.std.specs.Prelude.{All}
 use Rattle.std.proofs.lemmas.List.Elements.{All-nil, All-cons, All-tail, All-append}
 use Rattle.aos_base.specs.declared.kernel.Outcome.{Outcome}
@@ -14,9 +14,12 @@ use Rattle.aos_base.specs.Schedule.{choices, entry_choices, IsEntry}
 use Rattle.aos_kernel.specs.Run.{Run, state_of, rec_of, traps_of, spent_of, if_spent}
 use Rattle.aos_report.specs.Texts.{row_text, rows_text}
 use Rattle.aos.specs.declared.answer.Answer.{Answer}
-use Rattle.aos.specs.Report.{row_of, spent_text}
-use Rattle.aos.specs.Seen.{default_budget, worker_of, OfWorkers, names_in}
-use Rattle.aos.specs.Shown.{ShowsRun}
+use Rattle.aos_code.specs.declared.image.Image.{Image}
+use Rattle.aos_script.specs.declared.script.Script.{Script}
+use Rattle.aos_script.specs.Listing.{choices_of}
+use Rattle.aos.specs.Report.{row_of, report, spent_text, ended_text}
+use Rattle.aos.specs.Seen.{default_budget, worker_of, OfWorkers, names_in, observed, replayed_of}
+use Rattle.aos.specs.Shown.{ShowsRun, ShowsReplayOf, TellsOf}
 
 of_steps : (n w k : ℕ) → w < n → OfWorkers n (replicate k (Step w))
 of_steps n w zero lt = All-nil (λ c. worker_of c < n)
@@ -49,13 +52,22 @@ spent_told Ended a = refl
 spent_told Dead a = refl
 spent_told Spent a = refl
 
-pub shows_run : (r : Run) (a : Answer) → r.workers ≡ 1 → r.budget ≡ default_budget → outcome (state_of r).book ≢ Going → outcome (state_of r).book ≢ Dead → All (IsEntry r.workers) r.log → a.status ≡ status_of (outcome (state_of r).book) (map row_of (traps_of r)) → a.out.items ≡ (state_of r).book.output → a.err.items ≡ rows_text (names_in r.image) (map row_of (traps_of r)) ++ spent_text (spent_of r) default_budget → ShowsRun r.image a
-unfolding observation
-shows_run r a one budget over lively entries status out err =
+-- what the kernel hands out is the observation of its state
+pub tells : (r : Run) (a : Answer) → a.status ≡ status_of (outcome (state_of r).book) (map row_of (traps_of r)) → a.out.items ≡ (state_of r).book.output → a.err.items ≡ rows_text (names_in r.image) (map row_of (traps_of r)) ++ spent_text (spent_of r) r.budget → TellsOf r a
+unfolding observed observation
+tells r a status out err =
     let st = state_of r in
-    let o : Observation = observation (machine r.image) st in
     record {
-      observation = o;
+      status = status ∙ status_told (outcome st.book) st.book.traps;
+      out = out;
+      err = err ∙ ap (λ l. l ++ spent_text (spent_of r) r.budget) (rows_told (names_in r.image) st.book.traps) ∙ ap (λ s. rows_text (names_in r.image) st.book.traps ++ spent_text s r.budget) (spent_told (outcome st.book) st.book.spent);
+    }
+
+pub shows_run : (r : Run) (a : Answer) → r.workers ≡ 1 → r.budget ≡ default_budget → outcome (state_of r).book ≢ Going → outcome (state_of r).book ≢ Dead → All (IsEntry r.workers) r.log → TellsOf r a → ShowsRun r.image a
+unfolding observed observation
+shows_run r a one budget over lively entries told =
+    record {
+      observation = observed r;
       seen = record {
         schedule = choices r.log;
         workers = subst (λ n. OfWorkers n (choices r.log)) one (of_log r.workers r.log entries);
@@ -63,7 +75,20 @@ shows_run r a one budget over lively entries status out err =
         lively = lively;
         seen = ap (λ b. observation (machine r.image) (execution (machine r.image) (choices r.log) (first_state r.image b))) budget;
       };
-      status = status ∙ status_told (outcome st.book) st.book.traps;
-      out = out;
-      err = err ∙ ap (λ l. l ++ spent_text (spent_of r) default_budget) (rows_told (names_in r.image) st.book.traps) ∙ ap (λ s. rows_text (names_in r.image) st.book.traps ++ spent_text s default_budget) (spent_told (outcome st.book) st.book.spent);
+      status = told.status;
+      out = told.out;
+      err = told.err ∙ ap (λ b. report (names_in r.image) b (observed r)) budget;
+    }
+
+-- the kernel of a script, and the line of one that has ended
+pub shows_replay : (image : Image) (s : Script) (r : Run) (a b : Answer) (line : List ℕ) → r.image ≡ image → r.budget ≡ s.budget → state_of r ≡ execution (machine image) (choices_of s) (first_state image s.budget) → outcome (state_of r).book ≢ Dead → TellsOf r a →
+    b.status ≡ a.status → b.out.items ≡ a.out.items → b.err.items ≡ a.err.items ++ line → line ≡ ended_text (outcome (state_of r).book) (length (choices_of s)) → ShowsReplayOf image s b
+unfolding observed replayed_of observation
+shows_replay image s r a b line here budget state lively told status out err ended =
+    let same : observed r ≡ replayed_of image s = (λ i. observation (machine (here i)) (state i)) in
+    record {
+      lively = λ e. lively (ap (λ (o : Observation). o.outcome) same ∙ e);
+      status = status ∙ told.status ∙ ap (λ (o : Observation). o.status) same;
+      out = out ∙ told.out ∙ ap (λ (o : Observation). o.output) same;
+      err = err ∙ (λ i. told.err i ++ ended i) ∙ (λ i. report (names_in (here i)) (budget i) (same i) ++ ended_text (same i).outcome (length (choices_of s)));
     }

@@ -1,33 +1,44 @@
 -- The causes of the program's answers.
-use Rattle.std.specs.Prelude.{◌≡◌, ◌≢◌, ℕ, ◌<◌, ◌≤◌, ◌⊎◌, List, [], length, Option, Some, None, IfSome, IsSomeAnd}
+use Rattle.std.specs.Prelude.{◌≡◌, ◌≢◌, ℕ, ◌⊎◌, List, [], ◌∷◌, Option, Some, None, IfSome}
 use Rattle.aos_base.specs.declared.text.Pos.{Pos}
+use Rattle.aos_base.specs.declared.text.Refusal.{Refusal}
+use Rattle.aos_base.specs.declared.kernel.Outcome.TheVariants.{Going, Dead}
 use Rattle.aos_base.specs.Observation.{Observation}
 use Rattle.aos_typed.specs.declared.tree.Program.{Program}
 use Rattle.aos_dev.specs.Count.{Rose}
-use Rattle.aos_dev.specs.Shelf.{Named, text_of}
+use Rattle.aos_dev.specs.Shelf.{Named}
 use Rattle.aos_dev.specs.Sink.{appended, WrotePart}
 use Rattle.aos_report.specs.Texts.{refusal_text, usage_text, unread_text, too_long_text}
-use Rattle.aos_compile.specs.Elaborates.{Elaborates, IsAccepted, names_of}
+use Rattle.aos_script.specs.declared.script.Script.{Script}
+use Rattle.aos_script.specs.declared.error.ScriptErr.{ScriptErr}
+use Rattle.aos_script.specs.Listing.{IsScript}
+use Rattle.aos_script.specs.Refusals.{IsRefused as IsRefusedScript}
+use Rattle.aos_compile.specs.Elaborates.{Elaborates, IsAccepted, IsRefused, names_of}
 use Rattle.aos.specs.declared.answer.Answer.{Answer}
-use Rattle.aos.specs.Words.{Run, command_of}
-use Rattle.aos.specs.Report.{report}
-use Rattle.aos.specs.Seen.{default_budget, Seen}
+use Rattle.aos.specs.Words.{Command, Run, Replay, command_of, Wanted, wanted, text_file, script_file}
+use Rattle.aos.specs.Fetched.{Texts, NoFile, LongFile, fetched, AreWithin}
+use Rattle.aos.specs.Report.{report, replay_report, script_line}
+use Rattle.aos.specs.Seen.{default_budget, Seen, replayed}
 
--- the most bytes of a file
-abbrev pub limit : ℕ
-limit = 1048576
+-- the words are this command
+abbrev pub Asks : List (List ℕ) → Command → Type 0
+Asks words c = command_of words ≡ Some c
 
--- the words ask for this file
-abbrev pub AsksFor : List (List ℕ) → List ℕ → Type 0
-AsksFor words file = command_of words ≡ Some (Run file)
+-- the command wants this file
+pub data IsWanted : Command → Wanted → Type 0 where
+  to_run : {file : List ℕ} → IsWanted (Run file) (text_file file)
+  as_script : {script file : List ℕ} → IsWanted (Replay script file) (script_file script)
+  to_replay : {script file : List ℕ} → IsWanted (Replay script file) (text_file file)
 
--- the file has this text, of no more bytes than the limit, as far as the shelf tells
-pub record Has (texts : Option (List Named)) (file text : List ℕ) : Type 0 where
-  pub kept : IfSome texts (λ ts. text_of ts file ≡ Some text)
-  pub fits : length text ≤ limit
+-- the files that the command wants have these texts, as far as the shelf tells
+pub record Had (texts : Option (List Named)) (c : Command) (all : List (List ℕ)) : Type 0 where
+  pub told : IfSome texts (λ ts. fetched ts (wanted c) ≡ Texts all)
+  pub fits : AreWithin (wanted c) all
 
-abbrev pub start : Pos
-start = record { line = 1; col = 1 }
+-- the words ask for a run of this file, which has this text; a script that is asked for too is a good one
+pub data Takes (texts : Option (List Named)) (words : List (List ℕ)) : (file text : List ℕ) → Type 0 where
+  alone : {file text : List ℕ} → Asks words (Run file) → Had texts (Run file) (text ∷ []) → Takes texts words file text
+  by_script : {script file said text : List ℕ} (s : Script) → Asks words (Replay script file) → Had texts (Replay script file) (said ∷ text ∷ []) → IsScript said s → Takes texts words file text
 
 abbrev pub whole : Pos
 whole = record { line = 0; col = 0 }
@@ -36,11 +47,13 @@ whole = record { line = 0; col = 0 }
 -- them; `old` and `new`: its count of faults before and after
 pub data Cause (texts : Option (List Named)) (old new : ℕ) (words : List (List ℕ)) : (status : ℕ) → (out err : List ℕ) → Type 0 where
   wrong_words : command_of words ≡ None → Cause texts old new words 2 [] usage_text
-  unread : {file : List ℕ} → AsksFor words file → Rose old new → Cause texts old new words 6 [] (unread_text file)
-  absent : {file : List ℕ} → AsksFor words file → IfSome texts (λ ts. text_of ts file ≡ None) → Cause texts old new words 1 [] (refusal_text file 1 whole)
-  too_long : {file : List ℕ} → AsksFor words file → IfSome texts (λ ts. IsSomeAnd (text_of ts file) (λ text. limit < length text)) → Cause texts old new words 6 [] (too_long_text file limit)
-  refused : {file text : List ℕ} → AsksFor words file → Has texts file text → ¬ IsAccepted text → Cause texts old new words 1 [] (refusal_text file 99 start)
-  ran : {file text : List ℕ} (p : Program) (o : Observation) → AsksFor words file → Has texts file text → Elaborates text p → Seen p o → Cause texts old new words o.status o.output (report (names_of p) default_budget o)
+  unread : {c : Command} {w : Wanted} → Asks words c → IsWanted c w → Rose old new → Cause texts old new words 6 [] (unread_text w.file)
+  absent : {c : Command} {w : Wanted} → Asks words c → IsWanted c w → IfSome texts (λ ts. fetched ts (wanted c) ≡ NoFile w.file) → Cause texts old new words 1 [] (refusal_text w.file 1 whole)
+  too_long : {c : Command} {w : Wanted} → Asks words c → IsWanted c w → IfSome texts (λ ts. fetched ts (wanted c) ≡ LongFile w.file w.most) → Cause texts old new words 6 [] (too_long_text w.file w.most)
+  bad_script : {script file said text : List ℕ} (e : ScriptErr) → Asks words (Replay script file) → Had texts (Replay script file) (said ∷ text ∷ []) → IsRefusedScript said e → Cause texts old new words 10 [] (script_line e)
+  refused : {file text : List ℕ} (r : Refusal) → Takes texts words file text → IsRefused text r → Cause texts old new words 1 [] (refusal_text file r.rule r.pos)
+  ran : {file text : List ℕ} (p : Program) (o : Observation) → Asks words (Run file) → Had texts (Run file) (text ∷ []) → Elaborates text p → Seen p o → Cause texts old new words o.status o.output (report (names_of p) default_budget o)
+  ran_by : {script file said text : List ℕ} (s : Script) (p : Program) → Asks words (Replay script file) → Had texts (Replay script file) (said ∷ text ∷ []) → IsScript said s → Elaborates text p → (replayed p s).outcome ≢ Dead → Cause texts old new words (replayed p s).status (replayed p s).output (replay_report (names_of p) s (replayed p s))
 
 -- an answer of this kind
 abbrev pub Causes : Option (List Named) → (old new : ℕ) → List (List ℕ) → Answer → Type 0
@@ -68,29 +81,67 @@ pub record ShowsText (text : List ℕ) (answer : ℕ) (o o' e e' : Option (List 
   pub on_out : Wrote o o' observation.output
   pub on_err : Wrote e e' (report (names_of program) default_budget observation)
 
--- the words ask for a file that has this text, of no more bytes than the limit
+-- the same of the execution under a script
+pub record ShowsReplay (s : Script) (text : List ℕ) (answer : ℕ) (o o' e e' : Option (List ℕ)) : Type 0 where
+  pub program : Program
+  pub elaborates : Elaborates text program
+  pub status : answer ≡ (replayed program s).status
+  pub on_out : Wrote o o' (replayed program s).output
+  pub on_err : Wrote e e' (replay_report (names_of program) s (replayed program s))
+
+-- the words ask for a run of a file that has this text
 pub record IsAsked (texts : List Named) (words : List (List ℕ)) (text : List ℕ) : Type 0 where
   pub file : List ℕ
-  pub asks : AsksFor words file
-  pub kept : text_of texts file ≡ Some text
-  pub fits : length text ≤ limit
+  pub asks : Asks words (Run file)
+  pub had : fetched texts (wanted (Run file)) ≡ Texts (text ∷ [])
 
--- the file that the words ask for is absent, or its text isn't accepted
-pub data IsRefused (texts : List Named) (words : List (List ℕ)) : Type 0 where
-  is_absent : {file : List ℕ} → AsksFor words file → text_of texts file ≡ None → IsRefused texts words
-  not_accepted : {text : List ℕ} → IsAsked texts words text → ¬ IsAccepted text → IsRefused texts words
-
--- the file that the words ask for has more bytes than the limit
-pub record IsTooLong (texts : List Named) (words : List (List ℕ)) : Type 0 where
+-- the words ask for a run of a file that has this text, by a script whose text is this
+pub record IsAskedBy (texts : List Named) (words : List (List ℕ)) (said text : List ℕ) : Type 0 where
+  pub script : List ℕ
   pub file : List ℕ
+  pub asks : Asks words (Replay script file)
+  pub had : fetched texts (wanted (Replay script file)) ≡ Texts (said ∷ text ∷ [])
+
+-- the first file that isn't had is absent; or all are had, a script is a good one, and the text isn't accepted
+pub data IsAbsentOrRefused (texts : List Named) (words : List (List ℕ)) : Type 0 where
+  is_absent : {c : Command} {file : List ℕ} → Asks words c → fetched texts (wanted c) ≡ NoFile file → IsAbsentOrRefused texts words
+  not_accepted : {text : List ℕ} → IsAsked texts words text → ¬ IsAccepted text → IsAbsentOrRefused texts words
+  not_accepted_by : {said text : List ℕ} (s : Script) → IsAskedBy texts words said text → IsScript said s → ¬ IsAccepted text → IsAbsentOrRefused texts words
+
+-- the first file that isn't had has more bytes than it may have
+pub record IsTooLong (texts : List Named) (words : List (List ℕ)) : Type 0 where
+  pub command : Command
+  pub file : List ℕ
+  pub most : ℕ
+  pub asks : Asks words command
+  pub long : fetched texts (wanted command) ≡ LongFile file most
+
+-- the files are had, and the text that is to be a script is none
+pub record IsNoScript (texts : List Named) (words : List (List ℕ)) : Type 0 where
+  pub said : List ℕ
   pub text : List ℕ
-  pub asks : AsksFor words file
-  pub kept : text_of texts file ≡ Some text
-  pub long : limit < length text
+  pub error : ScriptErr
+  pub asked : IsAskedBy texts words said text
+  pub refused : IsRefusedScript said error
+
+-- the script came to its end while the run was going on
+pub record HasEnded (texts : List Named) (words : List (List ℕ)) : Type 0 where
+  pub said : List ℕ
+  pub text : List ℕ
+  pub script : Script
+  pub program : Program
+  pub asked : IsAskedBy texts words said text
+  pub read : IsScript said script
+  pub elaborates : Elaborates text program
+  pub going : (replayed program script).outcome ≡ Going
 
 -- the status of a run that is over: ended without a trap, ended with one, or spent
 abbrev pub IsRunStatus : ℕ → Type 0
 IsRunStatus status = (status ≡ 0) ⊎ ((status ≡ 3) ⊎ (status ≡ 5))
+
+-- or of one that was still going on as its script ended
+abbrev pub IsReplayStatus : ℕ → Type 0
+IsReplayStatus status = IsRunStatus status ⊎ (status ≡ 9)
 
 -- a fact where neither a sink nor memory failed
 abbrev pub Undisturbed : ℕ → Type 0 → Type 0
@@ -119,3 +170,9 @@ pub record IsWhole (a : Answer) (status : ℕ) (o o' e e' : Option (List ℕ)) :
 -- a sink failed while an answer's texts were put
 abbrev pub IsStopped : Answer → (o o' e e' : Option (List ℕ)) → (count count' other other' : ℕ) → Type 0
 IsStopped a o o' e e' count count' other other' = SinkFailed o o' e e' count count' other other' a.out.items a.err.items
+
+-- what a fetched file comes to where it isn't had
+pub data StopsBy (texts : Option (List Named)) (old new : ℕ) (w : Wanted) : (status : ℕ) → (out err : List ℕ) → Type 0 where
+  by_fault : Rose old new → StopsBy texts old new w 6 [] (unread_text w.file)
+  by_absence : IfSome texts (λ ts. fetched ts (w ∷ []) ≡ NoFile w.file) → StopsBy texts old new w 1 [] (refusal_text w.file 1 whole)
+  by_length : IfSome texts (λ ts. fetched ts (w ∷ []) ≡ LongFile w.file w.most) → StopsBy texts old new w 6 [] (too_long_text w.file w.most)

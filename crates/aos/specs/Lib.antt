@@ -1,4 +1,5 @@
 pub mod Words
+pub mod Fetched
 pub mod Report
 pub mod Seen
 pub mod Cause

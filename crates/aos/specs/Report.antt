@@ -1,9 +1,15 @@
 -- What is written beside a run's output.
-use Rattle.std.specs.Prelude.{ℕ, List, [], ◌++◌, Option, Some, None}
+use Rattle.std.specs.Prelude.{ℕ, List, [], ◌++◌, length, Option, Some, None}
+use Rattle.aos_base.specs.declared.kernel.Outcome.{Outcome}
+use Rattle.aos_base.specs.declared.kernel.Outcome.TheVariants.{Going, Ended, Dead, Spent}
 use Rattle.aos_base.specs.Book.{TrapRow}
 use Rattle.aos_base.specs.Observation.{Observation}
 use Rattle.aos_code.specs.declared.report.TrapRec.{TrapRec}
-use Rattle.aos_report.specs.Texts.{rows_text, budget_text}
+use Rattle.aos_report.specs.Texts.{rows_text, budget_text, script_ended_text, script_refused_text, no_worker_text}
+use Rattle.aos_script.specs.declared.script.Script.{Script}
+use Rattle.aos_script.specs.declared.error.ScriptErr.{ScriptErr}
+use Rattle.aos_script.specs.declared.error.ScriptErr.TheVariants.{BadLine, BadWorker, NoMemory}
+use Rattle.aos_script.specs.Listing.{choices_of}
 
 -- a trap as the kernel tells it
 abbrev pub row_of : TrapRec → TrapRow
@@ -26,3 +32,20 @@ report_of names budget traps spent = rows_text names traps ++ spent_text spent b
 
 abbrev pub report : List (List ℕ) → ℕ → Observation → List ℕ
 report names budget o = report_of names budget o.traps o.spent
+
+-- the line of a script that came to its end while the run was going on
+abbrev pub ended_text : Outcome → ℕ → List ℕ
+ended_text Going steps = script_ended_text steps
+ended_text Ended steps = []
+ended_text Dead steps = []
+ended_text Spent steps = []
+
+-- the same of a run by a script
+abbrev pub replay_report : List (List ℕ) → Script → Observation → List ℕ
+replay_report names s o = report names s.budget o ++ ended_text o.outcome (length (choices_of s))
+
+-- the line of a text that is no script
+abbrev pub script_line : ScriptErr → List ℕ
+script_line (BadLine n) = script_refused_text n
+script_line (BadWorker n) = no_worker_text n
+script_line NoMemory = []

@@ -7,7 +7,9 @@ use Rattle.aos_typed.specs.declared.tree.Program.{Program}
 use Rattle.aos_typed.specs.Source.{source, first_state}
 use Rattle.aos_code.specs.declared.image.Image.{Image}
 use Rattle.aos_code.specs.Machine.{machine, first_state as first_of}
-use Rattle.aos_kernel.specs.Run.{Run}
+use Rattle.aos_kernel.specs.Run.{Run, state_of}
+use Rattle.aos_script.specs.declared.script.Script.{Script}
+use Rattle.aos_script.specs.Listing.{choices_of}
 
 -- how many statements an activity may begin
 abbrev pub default_budget : ℕ
@@ -29,7 +31,19 @@ pub record Seen (p : Program) (o : Observation) : Type 0 where
   pub lively : o.outcome ≢ Dead
   pub seen : o ≡ observation (source p) (execution (source p) schedule (first_state p default_budget))
 
+-- the observation of the program's execution under a script, with its budget
+unfoldable pub replayed : Program → Script → Observation
+replayed p s = observation (source p) (execution (source p) (choices_of s) (first_state p s.budget))
+
 -- the same of an image
+unfoldable pub replayed_of : Image → Script → Observation
+replayed_of image s = observation (machine image) (execution (machine image) (choices_of s) (first_of image s.budget))
+
+-- the observation of a kernel's state
+unfoldable pub observed : Run → Observation
+observed r = observation (machine r.image) (state_of r)
+
+-- what was seen of a run by one worker, of an image
 pub record SeenOf (image : Image) (o : Observation) : Type 0 where
   pub schedule : List Choice
   pub workers : OfWorkers 1 schedule

@@ -1,6 +1,6 @@
 // An image's run by one worker, and what is seen of it.
 
-ghost use Rattle.std.specs.Prelude.{◌≡◌, ◌≢◌, ◌≤◌, ◌++◌, map, IfOk, OnOk};
+ghost use Rattle.std.specs.Prelude.{[], ◌≡◌, ◌≢◌, ◌≤◌, ◌++◌, map, IfOk, OnOk};
 ghost use Rattle.std.specs.String.{string_bytes};
 ghost use Rattle.std.specs.Arc.{arc_value};
 ghost use Rattle.aos_base.specs.declared.kernel.Outcome.{Outcome};
@@ -9,15 +9,17 @@ ghost use Rattle.aos_base.specs.Observation.{Observation, status_of};
 ghost use Rattle.aos_code.specs.declared.image.Image.{Image};
 ghost use Rattle.aos_kernel.specs.Run.{state_of};
 ghost use Rattle.aos_report.specs.Texts.{rows_text};
-ghost use Rattle.aos.specs.Report.{row_of, report, spent_text};
+ghost use Rattle.aos.specs.Report.{row_of, report, spent_text, ended_text};
 ghost use Rattle.aos.specs.Seen.{SameSetting, default_budget};
-ghost use Rattle.aos.specs.Shown.{ShowsRun};
+ghost use Rattle.aos.specs.Shown.{ShowsRun, ShowsReplayOf, TellsOf, IsReady};
 
 use crate::answer::Answer;
 use aos_base::{NoMemory, Outcome};
 use aos_code::{Image, ModuleDesc, TrapRec};
 use aos_kernel::{Kernel, Stepped};
-use aos_report::{budget_line, trap_line};
+use aos_replay::replay;
+use aos_report::{budget_line, script_ended, trap_line};
+use aos_script::Script;
 use std::alloc::Global;
 use std::sync::{Arc, Wait};
 
@@ -91,27 +93,33 @@ fn status(outcome: Outcome, traps: &[TrapRec]) -> u8
 }
 
 // The line of the activity that used up the budget, if there is one.
-fn spent_line(alloc: Global, spent: Option<u32>) -> Result<Vec<u8>, NoMemory>
-    ensures { IfOk result (λ line. line.items ≡ spent_text spent default_budget) }
+fn spent_line(alloc: Global, spent: Option<u32>, budget: u64) -> Result<Vec<u8>, NoMemory>
+    ensures { IfOk result (λ line. line.items ≡ spent_text spent budget) }
 {
     match spent {
-        Some(activity) => budget_line(alloc, activity, BUDGET),
+        Some(activity) => budget_line(alloc, activity, budget),
         None => Ok(Vec::new(alloc)),
     }
 }
 
-// What is seen of a kernel whose run is over.
-fn seen(alloc: Global, kernel: &Kernel) -> Result<Answer, NoMemory>
-    requires workers { kernel.now.workers ≡ 1 }
-    requires budget { kernel.now.budget ≡ default_budget }
-    requires over { outcome (state_of kernel.now).book ≢ Outcome.Going }
-    ensures { IfOk result (λ a. ShowsRun kernel.now.image a) }
+// The line of a script that came to its end, if the run was going on.
+fn ended_line(alloc: Global, outcome: Outcome, steps: u64) -> Result<Vec<u8>, NoMemory>
+    ensures { IfOk result (λ line. line.items ≡ ended_text outcome steps) }
 {
-    let _log = kernel.log();
+    match outcome {
+        Outcome::Going => script_ended(alloc, steps),
+        _ => Ok(Vec::new(alloc)),
+    }
+}
+
+// What is seen of a kernel whose activities may begin so many statements.
+fn seen(alloc: Global, kernel: &Kernel) -> Result<Answer, NoMemory>
+    ensures { IfOk result (TellsOf kernel.now) }
+{
     let modules = kernel.image().modules.as_slice();
     let traps = kernel.traps();
     let mut err = trap_lines(alloc, traps, modules)?;
-    err.extend_from_slice(&spent_line(alloc, kernel.spent())?)?;
+    err.extend_from_slice(&spent_line(alloc, kernel.spent(), kernel.budget())?)?;
     Ok(Answer {
         status: status(kernel.outcome(), traps),
         out: Vec::from_slice(alloc, kernel.output())?,
@@ -126,6 +134,8 @@ fn run_to_end<R: Wait>(rt: &R, alloc: Global, kernel: &mut Kernel) -> Result<Ans
     ensures { IfOk result (λ a. ShowsRun kernel.old.image a) }
 {
     run(rt, kernel)?;
+    let _log = kernel.log();
+    let _outcome = kernel.outcome();
     seen(alloc, kernel)
 }
 
@@ -145,4 +155,27 @@ pub fn run_image<R: Wait>(rt: &R, alloc: Global, image: Image) -> Result<Answer,
 {
     let mut kernel = Kernel::new(alloc, shared(alloc, image)?, 1, BUDGET)?;
     run_to_end(rt, alloc, &mut kernel)
+}
+
+// Drives a kernel in which nothing has happened yet by a script, and tells what is seen.
+fn replay_all(alloc: Global, kernel: &mut Kernel, script: &Script) -> Result<Answer, NoMemory>
+    requires script { IsReady script.now }
+    requires first { kernel.old ≡ record { image = kernel.old.image; workers = script.now.workers; budget = script.now.budget; log = [] } }
+    ensures { IfOk result (ShowsReplayOf kernel.old.image script.now) }
+{
+    replay(kernel, script)?;
+    let outcome = kernel.outcome();
+    let mut answer = seen(alloc, kernel)?;
+    let ended = ended_line(alloc, outcome, script.steps())?;
+    answer.err.extend_from_slice(&ended)?;
+    Ok(answer)
+}
+
+/// Runs an image by a script, with its workers and its budget.
+pub fn replay_image(alloc: Global, image: Image, script: &Script) -> Result<Answer, NoMemory>
+    requires { IsReady script.now }
+    ensures { IfOk result (ShowsReplayOf image script.now) }
+{
+    let mut kernel = Kernel::new(alloc, shared(alloc, image)?, script.workers, script.budget)?;
+    replay_all(alloc, &mut kernel, script)
 }

@@ -2,9 +2,11 @@
 
 ghost use Rattle.std.specs.Prelude.{ℕ, ◌≡◌, ◌≢◌, ◌≤◌, ◌<◌, ◌↔◌, ◌⊎◌, List, IfSome, None};
 ghost use Rattle.aos_dev.specs.Count.{Rose};
+ghost use Rattle.aos_script.specs.declared.script.Script.{Script};
+ghost use Rattle.aos_script.specs.Listing.{IsScript};
 ghost use Rattle.aos_compile.specs.Elaborates.{IsAccepted};
 ghost use Rattle.aos.specs.Words.{command_of, words_of};
-ghost use Rattle.aos.specs.Cause.{Answered, ShowsText, IsAsked, IsRefused, IsTooLong, IsRunStatus, Undisturbed, Stopped, IsWhole, IsStopped};
+ghost use Rattle.aos.specs.Cause.{Answered, ShowsText, ShowsReplay, IsAsked, IsAskedBy, IsAbsentOrRefused, IsTooLong, IsNoScript, HasEnded, IsRunStatus, IsReplayStatus, Undisturbed, Stopped, IsWhole, IsStopped};
 
 use crate::answer::Answer;
 use crate::command::answer;
@@ -55,11 +57,12 @@ fn serve<R: Wait, F: Shelf, O: Sink, E: Sink>(
     }
 }
 
-/// What the program does: the words name a file, the shelf gives its text, the text is checked, compiled and run by one
-/// worker; what the run wrote goes to `out`, and its reports to `err`. The status is 0 where the run ended, 3 where it
-/// ended with a trap, 5 where it used up the budget; 1 where the file is absent or refused, 2 where the words are no
-/// command, 6 where the shelf failed or the file is too long. Where a sink failed it is 7 in the place of any of these,
-/// and 8, with nothing put, where memory was wanted.
+/// What the program does. `run FILE`: the shelf gives the file's text, the text is checked, compiled and run by one worker;
+/// what the run wrote goes to `out`, and its reports to `err`. `replay --script S FILE`: the same, but the run goes by the
+/// script, with its workers and its budget. The status is 0 where the run ended, 3 where it ended with a trap, 5 where it
+/// used up the budget, 9 where the script ended first; 1 where a file is absent or the text is refused, 2 where the words
+/// are no command, 6 where the shelf failed or a file is too long, 10 where the script is none. Where a sink failed it is
+/// 7 in the place of any of these, and 8, with nothing put, where memory was wanted.
 pub fn aos<R: Wait, F: Shelf, O: Sink, E: Sink>(
     rt: &R,
     alloc: Global,
@@ -78,14 +81,26 @@ pub fn aos<R: Wait, F: Shelf, O: Sink, E: Sink>(
     // and where no count rose, that is the answer, or memory was wanted
     ensures complete { IfSome (F.texts shelf.old) (λ texts. (text : List ℕ) → IsAsked texts (words_of words.now) text → IsAccepted text → ¬ Rose (F.faults shelf.old) (F.faults shelf.new) → ¬ Rose (O.faults out.old) (O.faults out.new) → ¬ Rose (E.faults err.old) (E.faults err.new) → (result ≡ 8) ⊎ (IsRunStatus result × ShowsText text result (O.written out.old) (O.written out.new) (E.written err.old) (E.written err.new))) }
 
-    // 1: the file is absent or refused
-    ensures absent_or_refused { IfSome (F.texts shelf.old) (λ texts. Undisturbed result ((result ≡ 1 → IsRefused texts (words_of words.now)) × (IsRefused texts (words_of words.now) → ¬ Rose (F.faults shelf.old) (F.faults shelf.new) → result ≡ 1))) }
+    // by a script: the status and what the sinks got are those of the execution of the text's program under the script
+    ensures replays { IfSome (F.texts shelf.old) (λ texts. (said text : List ℕ) (s : Script) → IsAskedBy texts (words_of words.now) said text → IsScript said s → IsAccepted text → ¬ Rose (F.faults shelf.old) (F.faults shelf.new) → Undisturbed result (ShowsReplay s text result (O.written out.old) (O.written out.new) (E.written err.old) (E.written err.new))) }
+
+    // and where no count rose, that is the answer, or memory was wanted
+    ensures replays_complete { IfSome (F.texts shelf.old) (λ texts. (said text : List ℕ) (s : Script) → IsAskedBy texts (words_of words.now) said text → IsScript said s → IsAccepted text → ¬ Rose (F.faults shelf.old) (F.faults shelf.new) → ¬ Rose (O.faults out.old) (O.faults out.new) → ¬ Rose (E.faults err.old) (E.faults err.new) → (result ≡ 8) ⊎ (IsReplayStatus result × ShowsReplay s text result (O.written out.old) (O.written out.new) (E.written err.old) (E.written err.new))) }
+
+    // 1: a file is absent, or the text is refused
+    ensures absent_or_refused { IfSome (F.texts shelf.old) (λ texts. Undisturbed result ((result ≡ 1 → IsAbsentOrRefused texts (words_of words.now)) × (IsAbsentOrRefused texts (words_of words.now) → ¬ Rose (F.faults shelf.old) (F.faults shelf.new) → result ≡ 1))) }
 
     // 2: the words are no command
     ensures wrong_words { Undisturbed result ((result ≡ 2) ↔ (command_of (words_of words.now) ≡ None)) }
 
-    // 6: the shelf failed, or the file is too long
+    // 6: the shelf failed, or a file is too long
     ensures unread_or_too_long { IfSome (F.texts shelf.old) (λ texts. Undisturbed result ((result ≡ 6 → Rose (F.faults shelf.old) (F.faults shelf.new) ⊎ IsTooLong texts (words_of words.now)) × (IsTooLong texts (words_of words.now) → ¬ Rose (F.faults shelf.old) (F.faults shelf.new) → result ≡ 6))) }
+
+    // 9: the script ended while the run was going on
+    ensures script_ended { IfSome (F.texts shelf.old) (λ texts. Undisturbed result (result ≡ 9 → HasEnded texts (words_of words.now))) }
+
+    // 10: the text that is to be a script is none
+    ensures no_script { IfSome (F.texts shelf.old) (λ texts. Undisturbed result ((result ≡ 10 → IsNoScript texts (words_of words.now)) × (IsNoScript texts (words_of words.now) → ¬ Rose (F.faults shelf.old) (F.faults shelf.new) → result ≡ 10))) }
 
     // 7: a sink failed, and nothing more was put
     ensures sink_failed { result ≡ 7 → Stopped (F.texts shelf.old) (F.faults shelf.old) (F.faults shelf.new) (words_of words.now) (O.written out.old) (O.written out.new) (E.written err.old) (E.written err.new) (O.faults out.old) (O.faults out.new) (E.faults err.old) (E.faults err.new) }

@@ -2,4 +2,10 @@
 #![tactic(auto)]
 
 #[cfg(test)]
-mod tests;
+mod refusals;
+#[cfg(test)]
+mod replays;
+#[cfg(test)]
+mod rows;
+#[cfg(test)]
+mod runs;

@@ -1,16 +1,13 @@
-use Rattle.std.proofs.Common.{◌++◌, List, map, ap, ◌∙◌, subst}
-use Rattle.std.specs.Prelude.{All}
+use Rattle.std.proofs.Common.{◌++◌, List, map, ap, ◌∙◌}
 use Rattle.std.specs.String.{string_bytes}
 use Rattle.aos_code.specs.declared.image.ModuleDesc.{ModuleDesc}
-use Rattle.aos_base.specs.Schedule.{IsEntry}
 use Rattle.aos_kernel.specs.Run.{state_of, spent_of}
 use Rattle.aos_base.specs.Book.{outcome}
 use Rattle.aos_code.specs.declared.image.Image.{Image}
 use Rattle.aos_report.specs.Texts.{rows_text}
 use Rattle.aos_base.specs.Observation.{status_of}
 use Rattle.aos.specs.Report.{row_of, spent_text}
-use Rattle.aos.specs.Seen.{default_budget}
-use Rattle.aos.proofs.Over.{shows_run}
+use Rattle.aos.proofs.Over.{tells}
 use Rattle.aos.proofs.run.seen.Goals as goal
 
 pub returns : goal.returns
@@ -19,9 +16,8 @@ returns c =
     let names = λ (ds : List ModuleDesc). map (λ (d : ModuleDesc). string_bytes d.name) ds in
     let modules = c.as_slice-modules.ensures.value ∙ ap (λ (i : Image). i.modules.items) (c.deref.ensures ∙ c.image.ensures) in
     let lines = c.in_ok-err.ensures ∙ ap (λ ds. rows_text (names ds) (map row_of c.traps-traps.result.now)) modules ∙ ap (λ ts. rows_text (names r.image.modules.items) (map row_of ts)) c.traps-traps.ensures in
-    let last = c.deref-2.ensures.value ∙ c.in_ok-spent_line.ensures ∙ ap (λ o. spent_text o default_budget) c.spent.ensures in
-    shows_run r _ c.requires.workers c.requires.budget c.requires.over (λ e. c.outcome.ensures.lively (c.outcome.ensures.outcome ∙ e))
-    (subst (λ l. All (IsEntry r.workers) l) c.log-log.ensures.log c.log-log.ensures.entries)
+    let last = c.deref-2.ensures.value ∙ c.in_ok-spent_line.ensures ∙ (λ i. spent_text (c.spent.ensures i) (c.budget.ensures.budget i)) in
+    tells r _
     (c.status.ensures ∙ ap (λ o. status_of o (map row_of c.traps-traps.result.now)) c.outcome.ensures.outcome ∙ ap (λ ts. status_of (outcome (state_of r).book) (map row_of ts)) c.traps-traps.ensures)
     (c.in_ok-from_slice.ensures.items ∙ c.output.ensures)
-    (c.in_ok-extend_from_slice.ensures.items ∙ ap (λ l. c.in_ok-err.err.items ++ l) last ∙ ap (λ l. l ++ spent_text (spent_of r) default_budget) lines)
+    (c.in_ok-extend_from_slice.ensures.items ∙ ap (λ l. c.in_ok-err.err.items ++ l) last ∙ ap (λ l. l ++ spent_text (spent_of r) r.budget) lines)

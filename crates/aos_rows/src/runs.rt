@@ -1,67 +1,8 @@
 // Each row is a command line over one file in memory, with what the two sinks get and the status.
+use crate::rows::{ROOM, SEVEN, expect_answer, expect_run, owned, shelf_with};
 use aos::aos;
-use aos_base::NoMemory;
 use aos_dev::{MemShelf, MemSink};
-use std::alloc::{AllocError, Global};
-use std::process::Abort;
-use std::sync::Wait;
 use std::test::Fail;
-
-// Room for each sink's bytes.
-const ROOM: usize = 65536;
-
-// A module that prints a number.
-const SEVEN: &str = "MODULE M; IMPORT Out; BEGIN Out.Int(7, 3); Out.Ln END M.";
-
-fn owned(alloc: Global, words: &[&str]) -> Result<Vec<String>, AllocError> {
-    let mut all = Vec::new(alloc);
-    for word in words {
-        all.push(String::from_str(alloc, word)?)?;
-    }
-    Ok(all)
-}
-
-// A shelf with one file, M.Mod, that works.
-fn shelf_with(alloc: Global, text: Vec<u8>) -> Result<MemShelf, AllocError> {
-    let files = vec![in alloc; (String::from_str(alloc, "M.Mod")?, text)]?;
-    Ok(MemShelf::new(files, Vec::new(alloc)))
-}
-
-// Answers the words over the shelf, and wants these texts and this status.
-fn expect_answer<R: Abort + Wait>(
-    rt: &R,
-    alloc: Global,
-    words: &[&str],
-    mut shelf: MemShelf,
-    (out, err, status): (&str, &str, u8),
-) -> Result<(), NoMemory> {
-    let words = owned(alloc, words)?;
-    let mut out_sink = MemSink::new(alloc, Vec::new(alloc), ROOM)?;
-    let mut err_sink = MemSink::new(alloc, Vec::new(alloc), ROOM)?;
-    let got = aos(
-        rt,
-        alloc,
-        words.as_slice(),
-        &mut shelf,
-        &mut out_sink,
-        &mut err_sink,
-    );
-    assert_eq!(rt; got, status, "status, where out is {out} and err is {err}");
-    assert!(rt; out_sink.bytes() == out.as_bytes(), "out {out}");
-    assert!(rt; err_sink.bytes() == err.as_bytes(), "err {err}");
-    Ok(())
-}
-
-// Runs the text as M.Mod.
-fn expect_run<R: Abort + Wait>(
-    rt: &R,
-    alloc: Global,
-    text: &str,
-    want: (&str, &str, u8),
-) -> Result<(), NoMemory> {
-    let shelf = shelf_with(alloc, Vec::from_slice(alloc, text.as_bytes())?)?;
-    expect_answer(rt, alloc, &["run", "M.Mod"], shelf, want)
-}
 
 #[test]
 fn prints(rt: HostRuntime) -> Result<(), Fail> {
@@ -127,23 +68,6 @@ fn stops_at_the_budget(rt: HostRuntime) -> Result<(), Fail> {
 }
 
 #[test]
-fn refuses_texts(rt: HostRuntime) -> Result<(), Fail> {
-    for text in [
-        "MODULE M; IMPORT Out; BEGIN IF",
-        // the name at the end is another
-        "MODULE M; IMPORT Out; BEGIN Out.Ln END N.",
-    ] {
-        expect_run(
-            &rt,
-            rt.alloc(),
-            text,
-            ("", "M.Mod:1:1: rule 99: not built yet\n", 1),
-        )?;
-    }
-    Ok(())
-}
-
-#[test]
 fn refuses_an_absent_file(rt: HostRuntime) -> Result<(), Fail> {
     let alloc = rt.alloc();
     let shelf = MemShelf::new(Vec::new(alloc), Vec::new(alloc));
@@ -178,6 +102,10 @@ fn answers_wrong_words(rt: HostRuntime) -> Result<(), Fail> {
         &["run", "--x", "M.Mod"],
         &["run", "-M.Mod"],
         &["run", "M.Mod", "N.Mod"],
+        &["replay", "M.Mod"],
+        &["replay", "--script", "S"],
+        &["replay", "--scripts", "S", "M.Mod"],
+        &["replay", "--script", "-S", "M.Mod"],
     ] {
         let shelf = shelf_with(alloc, Vec::from_slice(alloc, SEVEN.as_bytes())?)?;
         let want = ("", "usage: aos run|replay|check|list|gen\n", 2);
