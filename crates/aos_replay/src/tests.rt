@@ -27,6 +27,7 @@ fn sample(alloc: Global) -> Result<Image, AllocError> {
     };
     Ok(Image {
         modules: vec![in alloc; module]?,
+        types: Vec::new(alloc),
         shapes: vec![in alloc; ProcShape { module: 0 }]?,
         bodies: vec![in alloc; Body { code }]?,
     })
