@@ -10,10 +10,10 @@ use Rattle.aos_typed.specs.declared.tree.TType.{TType}
 use Rattle.aos_typed.specs.declared.tree.OutCall.TheVariants as call
 use Rattle.aos_typed.specs.declared.tree.TStat.{TStat}
 use Rattle.aos_typed.specs.declared.tree.TStat.TheVariants.{Out}
-use Rattle.aos_check.specs.declared.breach.Breach.{Breach}
-use Rattle.aos_check.specs.declared.scope.Entry.{Entry}
-use Rattle.aos_check.specs.Breaches.{breach, not_built}
-use Rattle.aos_check.specs.Spelling.{word, is_word, is_among, procedures_of_out}
+use Rattle.aos_symbols.specs.declared.breach.Breach.{Breach}
+use Rattle.aos_symbols.specs.declared.scope.Entry.{Entry}
+use Rattle.aos_symbols.specs.Breaches.{breach, not_built}
+use Rattle.aos_symbols.specs.Spelling.{word, is_word, is_among, procedures_of_out}
 use Rattle.aos_check.specs.Bodies as bodies
 use Rattle.aos_check.specs.Typed as typed
 use Rattle.aos_check.proofs.Unbroken.{left, right, no_selectors, past}

@@ -22,7 +22,7 @@ use Rattle.aos_tree.specs.declared.decl.Def.{Def}
 use Rattle.aos_tree.specs.declared.decl.TypeExpr.TheVariants as type
 use Rattle.aos_tree.specs.declared.module.Import.{Import}
 use Rattle.aos_tree.specs.declared.module.Module.{Module}
-use Rattle.aos_check.specs.declared.breach.Breach.{Breach}
+use Rattle.aos_symbols.specs.declared.breach.Breach.{Breach}
 use Rattle.aos_check.specs.Elaborate.{first_breach}
 
 -- places in a text of one line

@@ -1,5 +1,3 @@
-pub mod Keeping
-pub mod Rows
 pub mod StatRows
 pub mod Unbroken
 pub mod Boxes
@@ -7,6 +5,4 @@ pub mod CallParts
 pub mod Objects
 pub mod Passes
 pub mod Examples
-pub mod Each
 pub mod Typing
-pub mod Least

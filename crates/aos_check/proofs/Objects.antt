@@ -10,8 +10,8 @@ use Rattle.aos_tree.specs.declared.stat.Block.{Block}
 use Rattle.aos_tree.specs.declared.decl.Decl.{Decl, items_hidden-the_row-TypeDef-0, items-the_row-VarDef, items-the_row-Decl}
 use Rattle.aos_tree.specs.declared.decl.Decl.TheBlock.{hidden-the_row-Decl-2}
 use Rattle.std.specs.Option.{is_none}
-use Rattle.aos_check.specs.Breaches.{breach, breach_unless, not_built}
-use Rattle.aos_check.specs.Spelling.{word, is_among, procedures_of_out}
+use Rattle.aos_symbols.specs.Breaches.{breach, breach_unless, not_built}
+use Rattle.aos_symbols.specs.Spelling.{word, is_among, procedures_of_out}
 use Rattle.aos_tree.specs.declared.decl.Decl.TheVariants as decl
 use Rattle.aos_tree.specs.declared.decl.TypeDef.{TypeDef}
 use Rattle.aos_tree.specs.declared.decl.VarDef.{VarDef}
@@ -19,12 +19,12 @@ use Rattle.aos_tree.specs.declared.decl.TypeExpr.{TypeExpr}
 use Rattle.aos_tree.specs.declared.decl.TypeExpr.TheVariants as type
 use Rattle.aos_typed.specs.declared.tree.TType.{TType}
 use Rattle.aos_typed.specs.declared.tree.TObject.{TObject}
-use Rattle.aos_check.specs.declared.breach.Breach.{Breach}
-use Rattle.aos_check.specs.declared.scope.Entry.{Entry}
-use Rattle.aos_check.specs.declared.scope.Meaning.{Meaning}
-use Rattle.aos_check.specs.declared.scope.Meaning.TheVariants as means
-use Rattle.aos_check.specs.Scope.{meaning, def_names, types_in, variables_in, variable_defs, variable_names}
-use Rattle.aos_check.specs.Heads as heads
+use Rattle.aos_symbols.specs.declared.breach.Breach.{Breach}
+use Rattle.aos_symbols.specs.declared.scope.Entry.{Entry}
+use Rattle.aos_symbols.specs.declared.scope.Meaning.{Meaning}
+use Rattle.aos_symbols.specs.declared.scope.Meaning.TheVariants as means
+use Rattle.aos_symbols.specs.Scope.{meaning, def_names, types_in, variables_in, variable_defs, variable_names}
+use Rattle.aos_symbols.specs.Heads as heads
 use Rattle.aos_check.specs.Typed as typed
 use Rattle.aos_check.proofs.Unbroken as whole
 use Rattle.aos_check.proofs.Unbroken.{left, right}

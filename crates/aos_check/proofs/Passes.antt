@@ -6,14 +6,14 @@ use Rattle.aos_base.specs.declared.text.Pos.{Pos}
 use Rattle.aos_tree.specs.declared.module.Module.{Module}
 use Rattle.aos_typed.specs.declared.tree.TType.{TType}
 use Rattle.aos_typed.specs.declared.tree.Program.{Program}
-use Rattle.aos_check.specs.declared.scope.Entry.{Entry}
-use Rattle.aos_check.specs.Scope.{entries, type_defs}
-use Rattle.aos_check.specs.Heads.{head_breaches, decl_breaches, taken_name, import_breaches, variable_types}
+use Rattle.aos_symbols.specs.declared.scope.Entry.{Entry}
+use Rattle.aos_symbols.specs.Scope.{entries, type_defs}
+use Rattle.aos_symbols.specs.Heads.{head_breaches, decl_breaches, taken_name, import_breaches, variable_types}
 use Rattle.aos_check.specs.Bodies.{bodies_of, all_bodies, object_breaches_of, body_breaches}
 use Rattle.aos_check.specs.Typed.{IsProgram, IsProgramUnder}
 use Rattle.aos_check.proofs.Unbroken.{left, right}
-use Rattle.aos_check.specs.declared.breach.Breach.{Breach}
-use Rattle.aos_check.specs.Breaches.{first, first_after, breach_unless, is_before}
+use Rattle.aos_symbols.specs.declared.breach.Breach.{Breach}
+use Rattle.aos_symbols.specs.Breaches.{first, first_after, breach_unless, is_before}
 
 pub named_first : (w : Bool) (p : Pos) (rest : Option Breach) → w ≡ true →
     option_or (first (breach_unless (not w) 11 p)) rest ≡ Some (record { rule = 11; pos = p })

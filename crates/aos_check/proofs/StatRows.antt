@@ -8,7 +8,7 @@ use Rattle.aos_tree.specs.declared.stat.Stat.{Row_of-Stat, end_of-Stat, more_of-
 use Rattle.aos_tree.specs.declared.stat.Stat.TheVariants as stat
 use Rattle.aos_tree.specs.declared.stat.Case.TheBlock.{hidden-the_row-Stat-0}
 use Rattle.aos_typed.specs.declared.tree.TType.{TType}
-use Rattle.aos_check.specs.declared.scope.Entry.{Entry}
+use Rattle.aos_symbols.specs.declared.scope.Entry.{Entry}
 use Rattle.aos_check.specs.Bodies.{stat_breaches, row_breaches, condition_breaches}
 
 module _ (text : List ℕ) (scope : List Entry) (types : List TType) where

@@ -18,7 +18,7 @@ use Rattle.aos_typed.specs.declared.tree.TStat.TheBlock.{items_hidden-the_row-TS
 use Rattle.aos_typed.specs.declared.tree.TObject.{TObject}
 use Rattle.aos_typed.specs.declared.tree.Program.{Program}
 use Rattle.aos_typed.specs.WellTyped.{variable_type, IsInteger, IsBoolean, IsStatement, AreStatements, IsWellTyped}
-use Rattle.aos_check.specs.declared.scope.Entry.{Entry}
+use Rattle.aos_symbols.specs.declared.scope.Entry.{Entry}
 use Rattle.std.specs.List.{All, flat_map}
 use Rattle.std.specs.Option.{option_or}
 use Rattle.std.specs.Str.{bytes_eq}
@@ -29,13 +29,13 @@ use Rattle.aos_tree.specs.declared.decl.TypeExpr.{TypeExpr}
 use Rattle.aos_tree.specs.declared.decl.TypeExpr.TheVariants as tree
 use Rattle.aos_tree.specs.declared.module.Import.{Import}
 use Rattle.aos_tree.specs.declared.module.Module.{Module}
-use Rattle.aos_check.specs.declared.scope.Meaning.{Meaning}
-use Rattle.aos_check.specs.declared.scope.Meaning.TheVariants as means
-use Rattle.aos_check.specs.Spelling.{word, is_word, is_among, predeclared}
-use Rattle.aos_check.specs.Scope.{entries, type_entries, variable_entries, other_entry, import_entry, imported, declared_meaning, predeclared_meaning, meaning, type_names, variable_names, variable_defs, type_defs, others_in}
-use Rattle.aos_check.specs.Heads.{as_type, qualident_type, type_of, types_of_def, variable_types}
+use Rattle.aos_symbols.specs.declared.scope.Meaning.{Meaning}
+use Rattle.aos_symbols.specs.declared.scope.Meaning.TheVariants as means
+use Rattle.aos_symbols.specs.Spelling.{word, is_word, is_among, predeclared}
+use Rattle.aos_symbols.specs.Scope.{entries, type_entries, variable_entries, other_entry, import_entry, imported, declared_meaning, predeclared_meaning, meaning, type_names, variable_names, variable_defs, type_defs, others_in}
+use Rattle.aos_symbols.specs.Heads.{as_type, qualident_type, type_of, types_of_def, variable_types}
 use Rattle.aos_check.specs.Typed as typed
-use Rattle.aos_check.proofs.Each.{Each, all_of, joined, repeated, in_all}
+use Rattle.aos_symbols.proofs.Each.{Each, all_of, joined, repeated, in_all}
 
 module _ (p : Program) where
   typed_row : {m : _} (row : Row_of-TStat m) → Each (IsStatement p) (items-the_row-TStat m row) → AreStatements p row

@@ -14,17 +14,17 @@ use Rattle.aos_tree.specs.declared.expr.Factor.TheVariants as f
 use Rattle.aos_tree.specs.declared.expr.Desig.{Desig, items_hidden-the_row-Selector-0}
 use Rattle.aos_tree.specs.declared.expr.Selector.{Selector}
 use Rattle.aos_typed.specs.declared.tree.TType.{TType}
-use Rattle.aos_check.specs.declared.breach.Breach.{Breach}
-use Rattle.aos_check.specs.declared.scope.Entry.{Entry}
-use Rattle.aos_check.specs.Breaches.{breach_unless, not_built}
-use Rattle.aos_check.specs.Scope.{meaning}
+use Rattle.aos_symbols.specs.declared.breach.Breach.{Breach}
+use Rattle.aos_symbols.specs.declared.scope.Entry.{Entry}
+use Rattle.aos_symbols.specs.Breaches.{breach_unless, not_built}
+use Rattle.aos_symbols.specs.Scope.{meaning}
 use Rattle.aos_check.specs.Bodies as bodies
 use Rattle.aos_check.specs.Bodies.{first_factor}
 use Rattle.aos_typed.specs.declared.tree.Literal.TheVariants.{Int}
 use Rattle.aos_typed.specs.declared.tree.TExpr.{TExpr}
 use Rattle.aos_typed.specs.declared.tree.TExpr.TheVariants.{Lit}
-use Rattle.aos_check.specs.declared.scope.Meaning.{Meaning}
-use Rattle.aos_check.specs.Heads.{no_meaning}
+use Rattle.aos_symbols.specs.declared.scope.Meaning.{Meaning}
+use Rattle.aos_symbols.specs.Heads.{no_meaning}
 use Rattle.aos_check.specs.Typed as typed
 use Rattle.aos_check.specs.Typed.{IsAlone, IsOperand, IsPlacesFactor}
 

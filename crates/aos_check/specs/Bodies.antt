@@ -31,14 +31,14 @@ use Rattle.aos_tree.specs.declared.decl.TypeExpr.TheVariants as type
 use Rattle.aos_tree.specs.declared.module.Module.{Module}
 use Rattle.aos_typed.specs.declared.tree.TType.{TType}
 use Rattle.aos_typed.specs.declared.tree.TType.TheVariants as typed
-use Rattle.aos_check.specs.declared.breach.Breach.{Breach}
-use Rattle.aos_check.specs.declared.scope.Entry.{Entry}
-use Rattle.aos_check.specs.declared.scope.Meaning.{Meaning}
-use Rattle.aos_check.specs.declared.scope.Meaning.TheVariants as means
-use Rattle.aos_check.specs.Breaches.{breach, breach_unless, not_built}
-use Rattle.aos_check.specs.Spelling.{word, is_word, is_among, procedures_of_out}
-use Rattle.aos_check.specs.Scope.{entries, meaning, type_defs}
-use Rattle.aos_check.specs.Heads.{is_active, no_meaning, variable_types}
+use Rattle.aos_symbols.specs.declared.breach.Breach.{Breach}
+use Rattle.aos_symbols.specs.declared.scope.Entry.{Entry}
+use Rattle.aos_symbols.specs.declared.scope.Meaning.{Meaning}
+use Rattle.aos_symbols.specs.declared.scope.Meaning.TheVariants as means
+use Rattle.aos_symbols.specs.Breaches.{breach, breach_unless, not_built}
+use Rattle.aos_symbols.specs.Spelling.{word, is_word, is_among, procedures_of_out}
+use Rattle.aos_symbols.specs.Scope.{entries, meaning, type_defs}
+use Rattle.aos_symbols.specs.Heads.{is_active, no_meaning, variable_types}
 
 -- the greatest number, and the greatest number of places
 abbrev pub greatest_number : ℤ

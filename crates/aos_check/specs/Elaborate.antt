@@ -3,13 +3,13 @@ use Rattle.std.specs.Prelude.{◌≡◌, ℕ, List, codes, not, Option, Some, No
 use Rattle.std.specs.Option.{option_or}
 use Rattle.aos_base.specs.declared.text.Refusal.{Refusal}
 use Rattle.aos_tree.specs.declared.module.Module.{Module}
-use Rattle.aos_check.specs.declared.breach.Breach.{Breach}
+use Rattle.aos_symbols.specs.declared.breach.Breach.{Breach}
 use Rattle.aos_check.specs.declared.module.CheckErr.{CheckErr}
 use Rattle.aos_check.specs.declared.module.CheckErr.TheVariants.{Refused}
-use Rattle.aos_check.specs.Breaches.{first, breach_unless}
-use Rattle.aos_check.specs.Spelling.{is_word}
-use Rattle.aos_check.specs.Names.{name_breaches}
-use Rattle.aos_check.specs.Heads.{head_breaches}
+use Rattle.aos_symbols.specs.Breaches.{first, breach_unless}
+use Rattle.aos_symbols.specs.Spelling.{is_word}
+use Rattle.aos_symbols.specs.Names.{name_breaches}
+use Rattle.aos_symbols.specs.Heads.{head_breaches}
 use Rattle.aos_check.specs.Bodies.{bodies_of}
 
 -- rule 11

@@ -1,8 +1,3 @@
-pub mod Breaches
-pub mod Spelling
-pub mod Scope
-pub mod Names
-pub mod Heads
 pub mod Bodies
 pub mod Typed
 pub mod Elaborate

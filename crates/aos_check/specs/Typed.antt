@@ -45,11 +45,11 @@ use Rattle.aos_typed.specs.declared.tree.TVariable.{TVariable}
 use Rattle.aos_typed.specs.declared.tree.TObject.{TObject}
 use Rattle.aos_typed.specs.declared.tree.TModule.{TModule}
 use Rattle.aos_typed.specs.declared.tree.Program.{Program}
-use Rattle.aos_check.specs.declared.scope.Entry.{Entry}
-use Rattle.aos_check.specs.declared.scope.Meaning.TheVariants as means
-use Rattle.aos_check.specs.Spelling.{word, is_word}
-use Rattle.aos_check.specs.Scope.{entries, meaning, type_defs, variable_names}
-use Rattle.aos_check.specs.Heads.{variable_types}
+use Rattle.aos_symbols.specs.declared.scope.Entry.{Entry}
+use Rattle.aos_symbols.specs.declared.scope.Meaning.TheVariants as means
+use Rattle.aos_symbols.specs.Spelling.{word, is_word}
+use Rattle.aos_symbols.specs.Scope.{entries, meaning, type_defs, variable_names}
+use Rattle.aos_symbols.specs.Heads.{variable_types}
 use Rattle.aos_check.specs.Bodies.{object_body, first_factor, greatest_number, greatest_places}
 
 -- the operator and the relation that a symbol stands for

@@ -2,16 +2,14 @@
 
 ghost use Rattle.std.specs.Prelude.{◌≡◌};
 ghost use Rattle.std.specs.List.{flat_map};
-ghost use Rattle.aos_check.specs.Breaches.{first_after, first};
-ghost use Rattle.aos_check.specs.Scope.{type_defs, entries};
-ghost use Rattle.aos_check.specs.Heads.{variable_types};
+ghost use Rattle.aos_symbols.specs.Breaches.{first_after, first};
+ghost use Rattle.aos_symbols.specs.Scope.{type_defs, entries};
+ghost use Rattle.aos_symbols.specs.Heads.{variable_types};
 ghost use Rattle.aos_check.specs.Bodies as bodies;
 
-use crate::breach::{Breach, NOT_BUILT, note};
 use crate::calls::check_desig;
 use crate::expressions::check_condition;
-use crate::heads::is_active;
-use crate::scope::Entry;
+use aos_symbols::{Breach, Entry, NOT_BUILT, is_active, note};
 use aos_tree::{Block, Decl, Items, Modifier, Module, Stat, TypeDef, TypeExpr};
 use aos_typed::TType;
 

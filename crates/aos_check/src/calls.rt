@@ -1,17 +1,18 @@
 // Statements that are calls or assignments.
 
 ghost use Rattle.std.specs.Prelude.{◌≡◌};
-ghost use Rattle.aos_check.specs.Breaches.{first_after};
-ghost use Rattle.aos_check.specs.Scope.{meaning};
+ghost use Rattle.aos_symbols.specs.Breaches.{first_after};
+ghost use Rattle.aos_symbols.specs.Scope.{meaning};
 ghost use Rattle.aos_check.specs.Bodies as bodies;
 
-use crate::breach::{Breach, NOT_BUILT, UNKNOWN, note};
 use crate::expressions::{
     check_object, check_places, check_value, needs_number, refuse_selectors, selector_place,
 };
-use crate::scope::{Entry, Meaning, meaning_of};
-use crate::spelling::{is_procedure_of_out, is_word, word};
 use aos_base::Pos;
+use aos_symbols::{
+    Breach, Entry, Meaning, NOT_BUILT, UNKNOWN, is_procedure_of_out, is_word, meaning_of, note,
+    word,
+};
 use aos_tree::{Desig, Expr, Name, Selector};
 use aos_typed::TType;
 

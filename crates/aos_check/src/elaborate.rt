@@ -4,14 +4,13 @@ ghost use Rattle.std.specs.Prelude.{◌≡◌, [], IfOk, OnOk, Some, false};
 ghost use Rattle.std.specs.String.{string_bytes};
 ghost use Rattle.std.specs.List.{flat_map};
 ghost use Rattle.aos_tree.specs.declared.stat.Stat.TheVariants as stat;
-ghost use Rattle.aos_check.specs.Scope.{meaning};
+ghost use Rattle.aos_symbols.specs.Scope.{meaning};
 ghost use Rattle.aos_check.specs.Bodies as bodies;
 ghost use Rattle.aos_check.specs.Typed as typed;
 
-use crate::scope::{Entry, Meaning, meaning_of};
-use crate::spelling::{is_word, word};
 use crate::typed::{condition_of, number_variable, object_of, places_of, value_of};
 use aos_base::Pos;
+use aos_symbols::{Entry, Meaning, is_word, meaning_of, word};
 use aos_tree::{Block, Desig, Expr, Items, Name, Selector, Stat};
 use aos_typed::{OutCall, TPlace, TStat, TType};
 use std::alloc::{AllocError, Global};

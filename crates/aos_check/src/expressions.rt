@@ -2,13 +2,11 @@
 
 ghost use Rattle.std.specs.Prelude.{◌≡◌, int_le, slice_get};
 ghost use Rattle.std.specs.List.{flat_map};
-ghost use Rattle.aos_check.specs.Breaches.{first_after, breach_unless};
+ghost use Rattle.aos_symbols.specs.Breaches.{first_after, breach_unless};
 ghost use Rattle.aos_check.specs.Bodies as bodies;
 
-use crate::breach::{Breach, NOT_BUILT, note};
-use crate::heads::no_meaning;
-use crate::scope::{Entry, Meaning, meaning_of};
 use aos_base::{Pos, Relation as Order, related};
+use aos_symbols::{Breach, Entry, Meaning, NOT_BUILT, meaning_of, no_meaning, note};
 use aos_tree::{
     AddOp, Addition, Expr, Factor, Product, Relation, RelationOp, Selector, Sign, Simple, Term,
 };

@@ -1,24 +1,17 @@
 // Laws of programs.
 
-ghost use Rattle.std.specs.Prelude.{◌≡◌, Some, ℕ, List};
+ghost use Rattle.std.specs.Prelude.{◌≡◌, ℕ, List};
 ghost use Rattle.aos_tree.specs.declared.module.Module.{Module};
 ghost use Rattle.aos_typed.specs.declared.tree.Program.{Program};
 ghost use Rattle.aos_typed.specs.WellTyped.{IsWellTyped};
 ghost use Rattle.std.specs.List.{All};
-ghost use Rattle.aos_check.specs.declared.breach.Breach.{Breach};
-ghost use Rattle.aos_check.specs.Breaches.{first};
-ghost use Rattle.aos_check.specs.Laws.{IsLeast, NamesLieIn, program_names};
-ghost use Rattle.aos_check.specs.Spelling.{word};
+ghost use Rattle.aos_check.specs.Laws.{NamesLieIn, program_names};
+ghost use Rattle.aos_symbols.specs.Spelling.{word};
 ghost use Rattle.aos_check.specs.Typed.{IsProgram, spelling};
 
 /// The program of a tree is well typed.
 pub fn law_of_typing()
     ensures { (text : List ℕ) (m : Module) (p : Program) → IsProgram text m p → IsWellTyped p }
-{}
-
-/// The first of some breaches is one before which none of them comes.
-pub fn law_of_first()
-    ensures { (bs : List Breach) (b : Breach) → first bs ≡ Some b → IsLeast bs b }
 {}
 
 /// Names of ASCII letters, digits and `_` are in the program as they stand in the text.

@@ -7,13 +7,9 @@ ghost use Rattle.aos_check.specs.Elaborate as elaborate;
 ghost use Rattle.aos_check.specs.Typed as typed;
 
 use crate::bodies::check_bodies;
-use crate::breach::{Breach, NAMED_OUT};
-use crate::heads::check_heads;
-use crate::names::check_names;
 use crate::program::program_of;
-use crate::scope::entries;
-use crate::spelling::is_word;
 use aos_base::Refusal;
+use aos_symbols::{Breach, NAMED_OUT, check_heads, check_names, entries, is_word};
 use aos_tree::Module;
 use aos_typed::Program;
 use std::alloc::Global;

@@ -2,14 +2,14 @@
 
 ghost use Rattle.std.specs.Prelude.{◌≡◌, [], IfOk, OnOk, Some, false, length};
 ghost use Rattle.std.specs.List.{flat_map};
-ghost use Rattle.aos_check.specs.Scope.{type_defs, types_in};
-ghost use Rattle.aos_check.specs.Heads as heads;
+ghost use Rattle.aos_symbols.specs.Scope.{type_defs, types_in};
+ghost use Rattle.aos_symbols.specs.Heads as heads;
 ghost use Rattle.aos_check.specs.Bodies as bodies;
 ghost use Rattle.aos_check.specs.Typed as typed;
 
 use crate::elaborate::{body_of, spelling_of, stats_of};
-use crate::scope::{Entry, variable_names};
 use aos_base::Pos;
+use aos_symbols::{Entry, variable_names};
 use aos_tree::{Block, Decl, Module, Name, TypeDef, TypeExpr};
 use aos_typed::{Program, TModule, TObject, TType, TVariable};
 use std::alloc::{AllocError, Global};

@@ -6,13 +6,13 @@ ghost use Rattle.aos_tree.specs.declared.expr.Addition.{out-Addition};
 ghost use Rattle.aos_typed.specs.declared.tree.Literal.TheVariants.{Int};
 ghost use Rattle.aos_typed.specs.declared.tree.TExpr.TheVariants.{Lit};
 ghost use Rattle.aos_typed.specs.declared.tree.TType.TheVariants as type;
-ghost use Rattle.aos_check.specs.Scope.{meaning};
+ghost use Rattle.aos_symbols.specs.Scope.{meaning};
 ghost use Rattle.aos_check.specs.Bodies as bodies;
 ghost use Rattle.aos_check.specs.Typed as typed;
 
 use crate::expressions::type_at;
-use crate::scope::{Entry, Meaning, meaning_of};
 use aos_base::{Pos, Relation as Order, Width};
+use aos_symbols::{Entry, Meaning, meaning_of};
 use aos_tree::{AddOp, Addition, Expr, Factor, Name, RelationOp, Simple, Term};
 use aos_typed::{Binary, Literal, TExpr, TPlace, TType};
 use std::alloc::{AllocError, Global};

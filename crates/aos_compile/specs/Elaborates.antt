@@ -12,7 +12,7 @@ use Rattle.aos_tree.specs.declared.module.Module.{Module}
 use Rattle.aos_tree.specs.Begins.{ExpectsAt, TooDeepAt}
 use Rattle.aos_tree.specs.ModuleGrammar.{Reads}
 use Rattle.aos_parse_mod.specs.Text.{module_at}
-use Rattle.aos_check.specs.declared.breach.Breach.{Breach}
+use Rattle.aos_symbols.specs.declared.breach.Breach.{Breach}
 use Rattle.aos_check.specs.Elaborate.{first_breach, refusal_of}
 use Rattle.aos_check.specs.Typed.{IsProgram}
 use Rattle.aos_typed.specs.declared.tree.Program.{Program}

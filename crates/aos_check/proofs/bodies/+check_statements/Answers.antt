@@ -1,8 +1,8 @@
 use Rattle.std.proofs.Common.{◌∙◌, sym, ap}
 use Rattle.std.specs.List.{flat_map}
-use Rattle.aos_check.specs.Breaches.{first_after}
+use Rattle.aos_symbols.specs.Breaches.{first_after}
 use Rattle.aos_check.specs.Bodies.{stat_breaches, condition_breaches}
-use Rattle.aos_check.proofs.Keeping.{after_two}
+use Rattle.aos_symbols.proofs.Keeping.{after_two}
 use Rattle.aos_check.proofs.StatRows.{stat_while}
 use Rattle.aos_check.proofs.bodies.+check_statements.Goals as goal
 

@@ -1,10 +1,10 @@
 use Rattle.std.proofs.Common.{◌≡◌, None, ◌∙◌, ap, false}
 use Rattle.std.specs.List.{flat_map}
-use Rattle.aos_check.specs.Breaches.{first, first_after}
-use Rattle.aos_check.specs.Scope.{type_defs}
-use Rattle.aos_check.specs.Heads.{variable_types}
+use Rattle.aos_symbols.specs.Breaches.{first, first_after}
+use Rattle.aos_symbols.specs.Scope.{type_defs}
+use Rattle.aos_symbols.specs.Heads.{variable_types}
 use Rattle.aos_check.specs.Bodies.{object_breaches_of, body_breaches, all_bodies}
-use Rattle.aos_check.proofs.Keeping.{after_two}
+use Rattle.aos_symbols.proofs.Keeping.{after_two}
 use Rattle.aos_check.proofs.bodies.check_bodies.Goals as goal
 
 pub returns : goal.returns

@@ -1,5 +1,5 @@
 use Rattle.std.proofs.Common.{◌≡◌, drop}
-use Rattle.aos_check.specs.Breaches.{first_after}
+use Rattle.aos_symbols.specs.Breaches.{first_after}
 use Rattle.aos_check.specs.Bodies as bodies
 use Rattle.aos_check.proofs.bodies.check_modifiers.Given as goal
 

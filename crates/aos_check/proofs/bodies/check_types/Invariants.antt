@@ -1,7 +1,7 @@
 use Rattle.std.proofs.Common.{◌≡◌, take}
 use Rattle.std.specs.List.{flat_map}
-use Rattle.aos_check.specs.Breaches.{first_after}
-use Rattle.aos_check.specs.Scope.{type_defs}
+use Rattle.aos_symbols.specs.Breaches.{first_after}
+use Rattle.aos_symbols.specs.Scope.{type_defs}
 use Rattle.aos_check.specs.Bodies as bodies
 use Rattle.aos_check.proofs.bodies.check_types.Given as goal
 

@@ -1,4 +1,4 @@
-use Rattle.aos_check.specs.Scope.{meaning}
+use Rattle.aos_symbols.specs.Scope.{meaning}
 use Rattle.aos_check.specs.Bodies as bodies
 use Rattle.aos_check.specs.Typed as typed
 use Rattle.aos_check.proofs.Unbroken as whole

@@ -1,6 +1,6 @@
 use Rattle.std.proofs.Common.{◌≡◌, take}
 use Rattle.std.specs.List.{flat_map}
-use Rattle.aos_check.specs.Breaches.{first_after}
+use Rattle.aos_symbols.specs.Breaches.{first_after}
 use Rattle.aos_check.specs.Bodies as bodies
 use Rattle.aos_check.proofs.expressions.refuse_additions.Given as goal
 

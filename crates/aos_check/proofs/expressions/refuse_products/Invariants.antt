@@ -1,6 +1,6 @@
 use Rattle.std.proofs.Common.{◌≡◌, take}
 use Rattle.std.specs.List.{flat_map}
-use Rattle.aos_check.specs.Breaches.{first_after, not_built}
+use Rattle.aos_symbols.specs.Breaches.{first_after, not_built}
 use Rattle.aos_check.proofs.expressions.refuse_products.Given as goal
 
 abbrev pub invariant-loop-product : goal.invariant-loop-product

@@ -4,7 +4,7 @@ use Rattle.std.proofs.lemmas.List.Elements.{All-get_or, All-from_get_or}
 use Rattle.std.proofs.lemmas.Str.{utf8_lossy-IsUtf8, IsUtf8-from_ascii}
 use Rattle.aos_tree.specs.declared.name.Name.{Name}
 use Rattle.aos_check.specs.Laws.{program_names}
-use Rattle.aos_check.specs.Spelling.{word}
+use Rattle.aos_symbols.specs.Spelling.{word}
 use Rattle.aos_check.specs.Typed.{spelling}
 use Rattle.aos_check.proofs.laws.law_of_spelling.Goals as goal
 

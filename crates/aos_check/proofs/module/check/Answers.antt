@@ -1,7 +1,7 @@
 use Rattle.std.proofs.Common.{refl, ap, sym, ◌∙◌, inr}
-use Rattle.aos_check.specs.Heads as heads
+use Rattle.aos_symbols.specs.Heads as heads
 use Rattle.std.proofs.Common.{codes}
-use Rattle.aos_check.specs.Spelling.{is_word}
+use Rattle.aos_symbols.specs.Spelling.{is_word}
 use Rattle.aos_check.specs.Elaborate as elaborate
 use Rattle.aos_check.proofs.Passes as passes
 use Rattle.aos_check.proofs.module.check.Goals as goal

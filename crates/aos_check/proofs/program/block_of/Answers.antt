@@ -1,5 +1,5 @@
 use Rattle.std.proofs.Common.{ap, sym, ◌∙◌}
-use Rattle.aos_check.specs.Heads as heads
+use Rattle.aos_symbols.specs.Heads as heads
 use Rattle.aos_check.proofs.Objects as objects
 use Rattle.aos_check.proofs.program.block_of.Goals as goal
 

@@ -1,7 +1,7 @@
 use Rattle.std.proofs.Common.{◌≡◌, [], sym, subst, take}
 use Rattle.std.specs.List.{flat_map}
-use Rattle.aos_check.specs.Scope.{type_defs, types_in}
-use Rattle.aos_check.specs.Heads as heads
+use Rattle.aos_symbols.specs.Scope.{type_defs, types_in}
+use Rattle.aos_symbols.specs.Heads as heads
 use Rattle.aos_check.specs.Bodies as bodies
 use Rattle.aos_check.specs.Typed as typed
 use Rattle.aos_check.proofs.Unbroken as whole

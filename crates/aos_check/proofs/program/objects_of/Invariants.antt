@@ -1,5 +1,5 @@
 use Rattle.std.proofs.Common.{take, []}
-use Rattle.aos_check.specs.Scope.{type_defs}
+use Rattle.aos_symbols.specs.Scope.{type_defs}
 use Rattle.aos_check.specs.Typed as typed
 use Rattle.aos_check.proofs.program.objects_of.Given as goal
 

@@ -1,9 +1,9 @@
 use Rattle.std.proofs.Common.{[], ◌∷◌, ◌++◌, ap, sym, ◌∙◌, subst, length}
-use Rattle.aos_check.specs.Scope.{type_defs}
+use Rattle.aos_symbols.specs.Scope.{type_defs}
 use Rattle.aos_check.specs.Typed as typed
 use Rattle.aos_check.proofs.Objects as objects
 use Rattle.aos_typed.specs.declared.tree.TModule.{TModule}
-use Rattle.aos_check.specs.Scope.{variable_names}
+use Rattle.aos_symbols.specs.Scope.{variable_names}
 use Rattle.aos_check.proofs.program.program_of.Goals as goal
 
 pub variables_of-requires : goal.variables_of-requires
