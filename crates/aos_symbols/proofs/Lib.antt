@@ -2,3 +2,4 @@ pub mod Keeping
 pub mod Rows
 pub mod Each
 pub mod Least
+pub mod Words

@@ -1,40 +1,43 @@
 // The first pass: rules 12 and 13.
 
-ghost use Rattle.std.specs.Prelude.{◌≡◌, ◌++◌, OnOk, IfOk};
-ghost use Rattle.std.specs.List.{flat_map, list_any};
-ghost use Rattle.aos_symbols.specs.Breaches.{first_after, first};
-ghost use Rattle.aos_symbols.specs.Spelling.{are_same};
+ghost use Rattle.std.specs.Prelude.{◌≡◌, ◌++◌, ◌||◌, not, codes, OnOk, IfOk};
+ghost use Rattle.std.specs.List.{flat_map};
+ghost use Rattle.aos_symbols.specs.Breaches.{breach_unless, first_after, first};
+ghost use Rattle.aos_symbols.specs.Spelling as spelling;
 ghost use Rattle.aos_symbols.specs.Scope.{declared_names};
 ghost use Rattle.aos_symbols.specs.Names as rules;
 
 use crate::breach::{Breach, OTHER_END, TWICE, note};
 use crate::scope::{add_declared, add_defs};
-use crate::spelling::{are_same, is_word};
+use crate::spelling::{are_same, is_word, word};
 use aos_tree::{Decl, Fields, Formals, Items, Module, Name, TypeDef, TypeExpr, VarDef};
+use indexmap::IndexSet;
 use std::alloc::{AllocError, Global};
 
-/// Whether a name is spelled as one of these.
-fn stands_among(text: &[u8], before: &[Name], name: Name) -> bool
-    ensures { result ≡ list_any (are_same text.now name) before.now }
+/// Rule 13 at a name that was met before in its scope, or wasn't.
+fn declared_again(found: &mut Option<Breach>, text: &[u8], was_met: bool, name: Name)
+    ensures { found.new ≡ first_after found.old (breach_unless (not (spelling.is_word text.now (codes "SELF") name || was_met)) 13 name.pos) }
 {
-    before.iter().any(|other| are_same(text, name, *other))
-}
-
-fn declared_again(found: &mut Option<Breach>, text: &[u8], before: &[Name], name: Name)
-    ensures { found.new ≡ first_after found.old (rules.declared_again text.now before.now name) }
-{
-    if is_word(text, "SELF", name) || stands_among(text, before, name) {
+    if is_word(text, "SELF", name) || was_met {
         note(found, TWICE, name.pos);
     }
 }
 
 /// Rule 13 in one scope.
-fn twice(found: &mut Option<Breach>, text: &[u8], names: &[Name])
-    ensures { found.new ≡ first_after found.old (rules.twice text.now names.now) }
+fn twice(
+    alloc: Global,
+    found: &mut Option<Breach>,
+    text: &[u8],
+    names: &[Name],
+) -> Result<(), AllocError>
+    ensures { OnOk result (found.new ≡ first_after found.old (rules.twice text.now names.now)) }
 {
-    for i in 0..names.len() {
-        declared_again(found, text, &names[..i], names[i]);
+    let mut met: IndexSet<&[u8]> = IndexSet::new(alloc);
+    for name in names {
+        let is_new = met.insert(word(text, *name))?;
+        declared_again(found, text, !is_new, *name);
     }
+    Ok(())
 }
 
 /// Rule 12 at an end name.
@@ -98,8 +101,7 @@ fn procedure_scope(
     let mut names = Vec::new(alloc);
     add_formals(&mut names, formals)?;
     add_declared(&mut names, decls)?;
-    twice(found, text, &names);
-    Ok(())
+    twice(alloc, found, text, &names)
 }
 
 /// Rule 13 among the fields of a record.
@@ -113,8 +115,7 @@ fn record_scope(
 {
     let mut names = Vec::new(alloc);
     add_fields(&mut names, fields)?;
-    twice(found, text, &names);
-    Ok(())
+    twice(alloc, found, text, &names)
 }
 
 #[cycle(within)]
@@ -243,8 +244,7 @@ fn module_scope(
         names.push(import.name)?;
     }
     add_declared(&mut names, tree.decls.as_slice())?;
-    twice(found, text, &names);
-    Ok(())
+    twice(alloc, found, text, &names)
 }
 
 /// The first breach of rules 12 and 13.
@@ -252,7 +252,7 @@ pub fn check_names(alloc: Global, text: &[u8], tree: &Module) -> Result<Option<B
     ensures { IfOk result (λ found. found ≡ first (rules.name_breaches text.now tree.now)) }
 {
     let mut found = None;
-    declared_again(&mut found, text, &[], tree.name);
+    declared_again(&mut found, text, false, tree.name);
     module_scope(alloc, &mut found, text, tree)?;
     within_decls(alloc, &mut found, text, &tree.decls)?;
     other_end(&mut found, text, tree.name, tree.end);
