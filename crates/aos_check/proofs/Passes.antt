@@ -1,5 +1,5 @@
 -- The first breach of the passes.
-use Rattle.std.proofs.Common.{◌≡◌, ◌++◌, ℕ, sym, ap, ◌∙◌, subst, List, [], ◌∷◌, Bool, true, false, not, Option, Some, None, refl, if◌then◌else◌}
+use Rattle.std.proofs.Common.{◌≡◌, ◌++◌, ℕ, sym, ap, ◌∙◌, subst, List, [], ◌∷◌, Bool, true, false, not, Option, Some, None, refl, codes, if◌then◌else◌}
 use Rattle.std.specs.Option.{option_or}
 use Rattle.std.specs.List.{flat_map}
 use Rattle.aos_base.specs.declared.text.Pos.{Pos}
@@ -8,8 +8,11 @@ use Rattle.aos_typed.specs.declared.tree.TType.{TType}
 use Rattle.aos_typed.specs.declared.tree.Program.{Program}
 use Rattle.aos_symbols.specs.declared.scope.Entry.{Entry}
 use Rattle.aos_symbols.specs.Scope.{entries, type_defs}
+use Rattle.aos_symbols.specs.Spelling.{is_word}
+use Rattle.aos_symbols.specs.Names.{name_breaches}
 use Rattle.aos_symbols.specs.Heads.{head_breaches, decl_breaches, taken_name, import_breaches, variable_types}
 use Rattle.aos_check.specs.Bodies.{bodies_of, all_bodies, object_breaches_of, body_breaches}
+use Rattle.aos_check.specs.Elaborate.{first_breach}
 use Rattle.aos_check.specs.Typed.{IsProgram, IsProgramUnder}
 use Rattle.aos_check.proofs.Unbroken.{left, right}
 use Rattle.aos_symbols.specs.declared.breach.Breach.{Breach}
@@ -19,6 +22,26 @@ pub named_first : (w : Bool) (p : Pos) (rest : Option Breach) → w ≡ true →
     option_or (first (breach_unless (not w) 11 p)) rest ≡ Some (record { rule = 11; pos = p })
 named_first true p rest e = refl
 named_first false p rest e = cc
+
+not_named : (w : Bool) (p : Pos) (rest : Option Breach) → w ≡ false → option_or (first (breach_unless (not w) 11 p)) rest ≡ rest
+not_named false p rest e = refl
+not_named true p rest e = cc
+
+-- the first breach where the names break no rule: that of the headings, or of the bodies where these break none
+module _ (text t : List ℕ) (m : Module) (same : t ≡ text) (out : is_word text (codes "Out") m.name ≡ false) (names : first (name_breaches text m) ≡ None) where
+  behind_names : first_breach text m ≡ option_or (first (head_breaches text m)) (first (bodies_of text m))
+  behind_names =
+      not_named (is_word text (codes "Out") m.name) m.name.pos _ out
+      ∙ ap (λ z. option_or z (option_or (first (head_breaches text m)) (first (bodies_of text m)))) names
+
+  pub in_headings : (b : Breach) → first (head_breaches t m) ≡ Some b → first_breach text m ≡ Some b
+  in_headings b e =
+      behind_names ∙ ap (λ z. option_or z (first (bodies_of text m))) (ap (λ z. first (head_breaches z m)) (sym same) ∙ e)
+
+  pub in_bodies : (r : Option Breach) → first (head_breaches t m) ≡ None → first (bodies_of t m) ≡ r → first_breach text m ≡ r
+  in_bodies r e f =
+      behind_names ∙ ap (λ z. option_or z (first (bodies_of text m))) (ap (λ z. first (head_breaches z m)) (sym same) ∙ e)
+      ∙ ap (λ z. first (bodies_of z m)) (sym same) ∙ f
 
 moved : (w : Bool) (a b : Breach) → (if w then Some b else Some a) ≡ Some (if w then b else a)
 moved true a b = refl

@@ -9,26 +9,20 @@ ghost use Rattle.aos_check.specs.Bodies as bodies;
 
 use crate::calls::check_desig;
 use crate::expressions::check_condition;
-use aos_symbols::{Breach, Entry, NOT_BUILT, is_active, note};
+use aos_symbols::{Breach, NOT_BUILT, Scope, is_active, note};
 use aos_tree::{Block, Decl, Items, Modifier, Module, Stat, TypeDef, TypeExpr};
 use aos_typed::TType;
 
 #[cycle(check_statements)]
-fn check_stat(
-    found: &mut Option<Breach>,
-    text: &[u8],
-    scope: &[Entry],
-    types: &[TType],
-    stat: &Stat,
-)
-    ensures { found.new ≡ first_after found.old (bodies.stat_breaches text.now scope.now types.now stat.now) }
+fn check_stat(found: &mut Option<Breach>, scope: &Scope<'_>, types: &[TType], stat: &Stat)
+    ensures { found.new ≡ first_after found.old (bodies.stat_breaches scope.now.text scope.now.entries types.now stat.now) }
 {
     match stat {
         Stat::Empty => {},
-        Stat::Desig(desig, value) => check_desig(found, text, scope, types, desig, value),
+        Stat::Desig(desig, value) => check_desig(found, scope, types, desig, value),
         Stat::While(at, condition, body) => {
-            check_condition(found, text, scope, types, *at, condition);
-            check_stats(found, text, scope, types, &body.stats);
+            check_condition(found, scope, types, *at, condition);
+            check_stats(found, scope, types, &body.stats);
         },
         Stat::Block(block) => note(found, NOT_BUILT, block.pos),
         Stat::Exit(at) => note(found, NOT_BUILT, *at),
@@ -44,17 +38,11 @@ fn check_stat(
 }
 
 #[cycle(check_statements)]
-fn check_stats(
-    found: &mut Option<Breach>,
-    text: &[u8],
-    scope: &[Entry],
-    types: &[TType],
-    stats: &Items<Stat>,
-)
-    ensures { found.new ≡ first_after found.old (flat_map (bodies.stat_breaches text.now scope.now types.now) stats.now) }
+fn check_stats(found: &mut Option<Breach>, scope: &Scope<'_>, types: &[TType], stats: &Items<Stat>)
+    ensures { found.new ≡ first_after found.old (flat_map (bodies.stat_breaches scope.now.text scope.now.entries types.now) stats.now) }
 {
     for stat in stats.as_slice() {
-        check_stat(found, text, scope, types, stat);
+        check_stat(found, scope, types, stat);
     }
 }
 
@@ -77,72 +65,58 @@ fn check_modifiers(
 
 fn check_body(
     found: &mut Option<Breach>,
-    text: &[u8],
-    scope: &[Entry],
+    scope: &Scope<'_>,
     types: &[TType],
     may_be_active: bool,
     body: &Option<Block>,
 )
-    ensures { found.new ≡ first_after found.old (bodies.body_breaches text.now scope.now types.now may_be_active body.now) }
+    ensures { found.new ≡ first_after found.old (bodies.body_breaches scope.now.text scope.now.entries types.now may_be_active body.now) }
 {
     if let Some(block) = body {
-        check_modifiers(found, text, may_be_active, block.modifiers.as_slice());
-        check_stats(found, text, scope, types, &block.body.stats);
+        check_modifiers(
+            found,
+            scope.text(),
+            may_be_active,
+            block.modifiers.as_slice(),
+        );
+        check_stats(found, scope, types, &block.body.stats);
     }
 }
 
-fn check_object_type(
-    found: &mut Option<Breach>,
-    text: &[u8],
-    scope: &[Entry],
-    types: &[TType],
-    def: &TypeDef,
-)
-    ensures { found.new ≡ first_after found.old (bodies.object_breaches_of text.now scope.now types.now def.now) }
+fn check_object_type(found: &mut Option<Breach>, scope: &Scope<'_>, types: &[TType], def: &TypeDef)
+    ensures { found.new ≡ first_after found.old (bodies.object_breaches_of scope.now.text scope.now.entries types.now def.now) }
 {
     if let TypeExpr::Object(_, _, _, body, _) = &def.value {
-        check_body(found, text, scope, types, true, body);
+        check_body(found, scope, types, true, body);
     }
 }
 
-fn check_objects(
-    found: &mut Option<Breach>,
-    text: &[u8],
-    scope: &[Entry],
-    types: &[TType],
-    defs: &[TypeDef],
-)
-    ensures { found.new ≡ first_after found.old (flat_map (bodies.object_breaches_of text.now scope.now types.now) defs.now) }
+fn check_objects(found: &mut Option<Breach>, scope: &Scope<'_>, types: &[TType], defs: &[TypeDef])
+    ensures { found.new ≡ first_after found.old (flat_map (bodies.object_breaches_of scope.now.text scope.now.entries types.now) defs.now) }
 {
     for def in defs {
-        check_object_type(found, text, scope, types, def);
+        check_object_type(found, scope, types, def);
     }
 }
 
-fn check_types(
-    found: &mut Option<Breach>,
-    text: &[u8],
-    scope: &[Entry],
-    types: &[TType],
-    decls: &[Decl],
-)
-    ensures { found.new ≡ first_after found.old (flat_map (bodies.object_breaches_of text.now scope.now types.now) (type_defs decls.now)) }
+fn check_types(found: &mut Option<Breach>, scope: &Scope<'_>, types: &[TType], decls: &[Decl])
+    ensures { found.new ≡ first_after found.old (flat_map (bodies.object_breaches_of scope.now.text scope.now.entries types.now) (type_defs decls.now)) }
 {
     for decl in decls {
         if let Decl::Types(_, defs) = decl {
-            check_objects(found, text, scope, types, defs.as_slice());
+            check_objects(found, scope, types, defs.as_slice());
         }
     }
 }
 
 /// The first breach of the bodies.
-pub fn check_bodies(text: &[u8], scope: &[Entry], types: &[TType], tree: &Module) -> Option<Breach>
-    requires scope { scope.now ≡ entries text.now tree.now }
-    requires types { types.now ≡ variable_types text.now scope.now tree.now.decls }
-    ensures { result ≡ first (bodies.bodies_of text.now tree.now) }
+pub fn check_bodies(scope: &Scope<'_>, types: &[TType], tree: &Module) -> Option<Breach>
+    requires scope { scope.now.entries ≡ entries scope.now.text tree.now }
+    requires types { types.now ≡ variable_types scope.now.text scope.now.entries tree.now.decls }
+    ensures { result ≡ first (bodies.bodies_of scope.now.text tree.now) }
 {
     let mut found = None;
-    check_types(&mut found, text, scope, types, tree.decls.as_slice());
-    check_body(&mut found, text, scope, types, false, &tree.body);
+    check_types(&mut found, scope, types, tree.decls.as_slice());
+    check_body(&mut found, scope, types, false, &tree.body);
     found
 }

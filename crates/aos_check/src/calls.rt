@@ -10,26 +10,24 @@ use crate::expressions::{
 };
 use aos_base::Pos;
 use aos_symbols::{
-    Breach, Entry, Meaning, NOT_BUILT, UNKNOWN, is_procedure_of_out, is_word, meaning_of, note,
-    word,
+    Breach, Meaning, NOT_BUILT, Scope, UNKNOWN, is_procedure_of_out, is_word, note, word,
 };
 use aos_tree::{Desig, Expr, Name, Selector};
 use aos_typed::TType;
 
 fn check_int_arguments(
     found: &mut Option<Breach>,
-    text: &[u8],
-    scope: &[Entry],
+    scope: &Scope<'_>,
     types: &[TType],
     at: Pos,
     arguments: &[Expr],
 )
-    ensures { found.new ≡ first_after found.old (bodies.int_arguments text.now scope.now types.now at arguments.now) }
+    ensures { found.new ≡ first_after found.old (bodies.int_arguments scope.now.text scope.now.entries types.now at arguments.now) }
 {
     match arguments {
         [value, places] => {
-            check_value(found, text, scope, types, value);
-            check_places(found, text, scope, places);
+            check_value(found, scope, types, value);
+            check_places(found, scope, places);
         },
         _ => note(found, NOT_BUILT, at),
     }
@@ -37,29 +35,27 @@ fn check_int_arguments(
 
 fn check_new_arguments(
     found: &mut Option<Breach>,
-    text: &[u8],
-    scope: &[Entry],
+    scope: &Scope<'_>,
     types: &[TType],
     at: Pos,
     arguments: &[Expr],
 )
-    ensures { found.new ≡ first_after found.old (bodies.new_arguments text.now scope.now types.now at arguments.now) }
+    ensures { found.new ≡ first_after found.old (bodies.new_arguments scope.now.text scope.now.entries types.now at arguments.now) }
 {
     match arguments {
-        [object] => check_object(found, text, scope, types, object),
+        [object] => check_object(found, scope, types, object),
         _ => note(found, NOT_BUILT, at),
     }
 }
 
 fn check_int(
     found: &mut Option<Breach>,
-    text: &[u8],
-    scope: &[Entry],
+    scope: &Scope<'_>,
     types: &[TType],
     at: Pos,
     selectors: &[Selector],
 )
-    ensures { found.new ≡ first_after found.old (bodies.int_breaches text.now scope.now types.now at selectors.now) }
+    ensures { found.new ≡ first_after found.old (bodies.int_breaches scope.now.text scope.now.entries types.now at selectors.now) }
 {
     let Some((selector, more)) = selectors.split_first() else {
         note(found, NOT_BUILT, at);
@@ -67,7 +63,7 @@ fn check_int(
     };
     match selector {
         Selector::Paren(_, arguments) => {
-            check_int_arguments(found, text, scope, types, at, arguments.as_slice());
+            check_int_arguments(found, scope, types, at, arguments.as_slice());
             refuse_selectors(found, more);
         },
         _ => note(found, NOT_BUILT, selector_place(selector)),
@@ -76,13 +72,12 @@ fn check_int(
 
 fn check_new(
     found: &mut Option<Breach>,
-    text: &[u8],
-    scope: &[Entry],
+    scope: &Scope<'_>,
     types: &[TType],
     at: Pos,
     selectors: &[Selector],
 )
-    ensures { found.new ≡ first_after found.old (bodies.new_breaches text.now scope.now types.now at selectors.now) }
+    ensures { found.new ≡ first_after found.old (bodies.new_breaches scope.now.text scope.now.entries types.now at selectors.now) }
 {
     let Some((selector, more)) = selectors.split_first() else {
         note(found, NOT_BUILT, at);
@@ -90,7 +85,7 @@ fn check_new(
     };
     match selector {
         Selector::Paren(_, arguments) => {
-            check_new_arguments(found, text, scope, types, at, arguments.as_slice());
+            check_new_arguments(found, scope, types, at, arguments.as_slice());
             refuse_selectors(found, more);
         },
         _ => note(found, NOT_BUILT, selector_place(selector)),
@@ -99,20 +94,19 @@ fn check_new(
 
 fn check_member(
     found: &mut Option<Breach>,
-    text: &[u8],
-    scope: &[Entry],
+    scope: &Scope<'_>,
     types: &[TType],
     at: Pos,
     name: Name,
     more: &[Selector],
 )
-    ensures { found.new ≡ first_after found.old (bodies.member_call text.now scope.now types.now at name more.now) }
+    ensures { found.new ≡ first_after found.old (bodies.member_call scope.now.text scope.now.entries types.now at name more.now) }
 {
-    if is_word(text, "Int", name) {
-        check_int(found, text, scope, types, at, more);
-    } else if is_word(text, "Ln", name) {
+    if is_word(scope.text(), "Int", name) {
+        check_int(found, scope, types, at, more);
+    } else if is_word(scope.text(), "Ln", name) {
         refuse_selectors(found, more);
-    } else if is_procedure_of_out(word(text, name)) {
+    } else if is_procedure_of_out(word(scope.text(), name)) {
         note(found, NOT_BUILT, name.pos);
     } else {
         note(found, UNKNOWN, name.pos);
@@ -121,38 +115,31 @@ fn check_member(
 
 fn check_out(
     found: &mut Option<Breach>,
-    text: &[u8],
-    scope: &[Entry],
+    scope: &Scope<'_>,
     types: &[TType],
     at: Pos,
     selectors: &[Selector],
 )
-    ensures { found.new ≡ first_after found.old (bodies.out_breaches text.now scope.now types.now at selectors.now) }
+    ensures { found.new ≡ first_after found.old (bodies.out_breaches scope.now.text scope.now.entries types.now at selectors.now) }
 {
     let Some((selector, more)) = selectors.split_first() else {
         note(found, NOT_BUILT, at);
         return;
     };
     match selector {
-        Selector::Field(_, name) => check_member(found, text, scope, types, at, *name, more),
+        Selector::Field(_, name) => check_member(found, scope, types, at, *name, more),
         _ => note(found, NOT_BUILT, selector_place(selector)),
     }
 }
 
-fn check_call(
-    found: &mut Option<Breach>,
-    text: &[u8],
-    scope: &[Entry],
-    types: &[TType],
-    desig: &Desig,
-)
-    ensures { found.new ≡ first_after found.old (bodies.called text.now scope.now types.now (meaning text.now scope.now desig.now.name) desig.now) }
+fn check_call(found: &mut Option<Breach>, scope: &Scope<'_>, types: &[TType], desig: &Desig)
+    ensures { found.new ≡ first_after found.old (bodies.called scope.now.text scope.now.entries types.now (meaning scope.now.text scope.now.entries desig.now.name) desig.now) }
 {
     let at = desig.name.pos;
     let selectors = desig.selectors.as_slice();
-    match meaning_of(text, scope, desig.name) {
-        Some(Meaning::Out) => check_out(found, text, scope, types, at, selectors),
-        Some(Meaning::New) => check_new(found, text, scope, types, at, selectors),
+    match scope.meaning_of(desig.name) {
+        Some(Meaning::Out) => check_out(found, scope, types, at, selectors),
+        Some(Meaning::New) => check_new(found, scope, types, at, selectors),
         None => note(found, UNKNOWN, at),
         Some(_) => note(found, NOT_BUILT, at),
     }
@@ -161,24 +148,18 @@ fn check_call(
 /// An assignment, or without a value a call.
 pub fn check_desig(
     found: &mut Option<Breach>,
-    text: &[u8],
-    scope: &[Entry],
+    scope: &Scope<'_>,
     types: &[TType],
     desig: &Desig,
     value: &Option<Expr>,
 )
-    ensures { found.new ≡ first_after found.old (bodies.desig_breaches text.now scope.now types.now desig.now value.now) }
+    ensures { found.new ≡ first_after found.old (bodies.desig_breaches scope.now.text scope.now.entries types.now desig.now value.now) }
 {
     let Some(value) = value else {
-        check_call(found, text, scope, types, desig);
+        check_call(found, scope, types, desig);
         return;
     };
-    needs_number(
-        found,
-        types,
-        meaning_of(text, scope, desig.name),
-        desig.name.pos,
-    );
+    needs_number(found, types, scope.meaning_of(desig.name), desig.name.pos);
     refuse_selectors(found, desig.selectors.as_slice());
-    check_value(found, text, scope, types, value);
+    check_value(found, scope, types, value);
 }

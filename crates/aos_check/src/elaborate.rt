@@ -10,7 +10,7 @@ ghost use Rattle.aos_check.specs.Typed as typed;
 
 use crate::typed::{condition_of, number_variable, object_of, places_of, value_of};
 use aos_base::Pos;
-use aos_symbols::{Entry, Meaning, is_word, meaning_of, word};
+use aos_symbols::{Meaning, Scope, is_word, word};
 use aos_tree::{Block, Desig, Expr, Items, Name, Selector, Stat};
 use aos_typed::{OutCall, TPlace, TStat, TType};
 use std::alloc::{AllocError, Global};
@@ -25,19 +25,18 @@ pub fn spelling_of(alloc: Global, text: &[u8], name: Name) -> Result<String, All
 /// Out.Int of two arguments, in a call that begins at a place.
 fn int_arguments_of(
     alloc: Global,
-    text: &[u8],
-    scope: &[Entry],
+    scope: &Scope<'_>,
     types: &[TType],
     at: Pos,
     arguments: &[Expr],
 ) -> Result<TStat, AllocError>
-    requires { bodies.int_arguments text.now scope.now types.now at arguments.now ≡ [] }
-    ensures { IfOk result (λ s. typed.IsIntArguments text.now scope.now types.now at arguments.now s) }
+    requires { bodies.int_arguments scope.now.text scope.now.entries types.now at arguments.now ≡ [] }
+    ensures { IfOk result (λ s. typed.IsIntArguments scope.now.text scope.now.entries types.now at arguments.now s) }
 {
     match arguments {
         [value, places] => {
-            let places = places_of(text, scope, places);
-            let value = value_of(alloc, text, scope, types, value)?;
+            let places = places_of(scope, places);
+            let value = value_of(alloc, scope, types, value)?;
             Ok(TStat::Out(at, OutCall::Int(value, places)))
         },
         _ => unreachable!(),
@@ -45,19 +44,13 @@ fn int_arguments_of(
 }
 
 /// NEW of one argument, in a call that begins at a place.
-fn new_arguments_of(
-    text: &[u8],
-    scope: &[Entry],
-    types: &[TType],
-    at: Pos,
-    arguments: &[Expr],
-) -> TStat
-    requires { bodies.new_arguments text.now scope.now types.now at arguments.now ≡ [] }
-    ensures { typed.IsNewArguments text.now scope.now types.now at arguments.now result }
+fn new_arguments_of(scope: &Scope<'_>, types: &[TType], at: Pos, arguments: &[Expr]) -> TStat
+    requires { bodies.new_arguments scope.now.text scope.now.entries types.now at arguments.now ≡ [] }
+    ensures { typed.IsNewArguments scope.now.text scope.now.entries types.now at arguments.now result }
 {
     match arguments {
         [object] => {
-            let (number, of) = object_of(text, scope, types, object);
+            let (number, of) = object_of(scope, types, object);
             TStat::New(at, TPlace::ModuleVar(0, number), of)
         },
         _ => unreachable!(),
@@ -66,42 +59,35 @@ fn new_arguments_of(
 
 fn int_call_of(
     alloc: Global,
-    text: &[u8],
-    scope: &[Entry],
+    scope: &Scope<'_>,
     types: &[TType],
     at: Pos,
     selectors: &[Selector],
 ) -> Result<TStat, AllocError>
-    requires { bodies.int_breaches text.now scope.now types.now at selectors.now ≡ [] }
-    ensures { IfOk result (λ s. typed.IsIntCall text.now scope.now types.now at selectors.now s) }
+    requires { bodies.int_breaches scope.now.text scope.now.entries types.now at selectors.now ≡ [] }
+    ensures { IfOk result (λ s. typed.IsIntCall scope.now.text scope.now.entries types.now at selectors.now s) }
 {
     let Some((selector, _)) = selectors.split_first() else {
         unreachable!()
     };
     match selector {
         Selector::Paren(_, arguments) => {
-            int_arguments_of(alloc, text, scope, types, at, arguments.as_slice())
+            int_arguments_of(alloc, scope, types, at, arguments.as_slice())
         },
         _ => unreachable!(),
     }
 }
 
-fn new_call_of(
-    text: &[u8],
-    scope: &[Entry],
-    types: &[TType],
-    at: Pos,
-    selectors: &[Selector],
-) -> TStat
-    requires { bodies.new_breaches text.now scope.now types.now at selectors.now ≡ [] }
-    ensures { typed.IsNewCall text.now scope.now types.now at selectors.now result }
+fn new_call_of(scope: &Scope<'_>, types: &[TType], at: Pos, selectors: &[Selector]) -> TStat
+    requires { bodies.new_breaches scope.now.text scope.now.entries types.now at selectors.now ≡ [] }
+    ensures { typed.IsNewCall scope.now.text scope.now.entries types.now at selectors.now result }
 {
     let Some((selector, _)) = selectors.split_first() else {
         unreachable!()
     };
     match selector {
         Selector::Paren(_, arguments) => {
-            new_arguments_of(text, scope, types, at, arguments.as_slice())
+            new_arguments_of(scope, types, at, arguments.as_slice())
         },
         _ => unreachable!(),
     }
@@ -110,18 +96,17 @@ fn new_call_of(
 /// A call of Out's procedure of this name.
 fn member_call_of(
     alloc: Global,
-    text: &[u8],
-    scope: &[Entry],
+    scope: &Scope<'_>,
     types: &[TType],
     at: Pos,
     name: Name,
     more: &[Selector],
 ) -> Result<TStat, AllocError>
-    requires { bodies.member_call text.now scope.now types.now at name more.now ≡ [] }
-    ensures { IfOk result (λ s. typed.IsMemberCall text.now scope.now types.now at name more.now s) }
+    requires { bodies.member_call scope.now.text scope.now.entries types.now at name more.now ≡ [] }
+    ensures { IfOk result (λ s. typed.IsMemberCall scope.now.text scope.now.entries types.now at name more.now s) }
 {
-    if is_word(text, "Int", name) {
-        int_call_of(alloc, text, scope, types, at, more)
+    if is_word(scope.text(), "Int", name) {
+        int_call_of(alloc, scope, types, at, more)
     } else {
         Ok(TStat::Out(at, OutCall::Ln))
     }
@@ -129,74 +114,70 @@ fn member_call_of(
 
 fn out_call_of(
     alloc: Global,
-    text: &[u8],
-    scope: &[Entry],
+    scope: &Scope<'_>,
     types: &[TType],
     at: Pos,
     selectors: &[Selector],
 ) -> Result<TStat, AllocError>
-    requires { bodies.out_breaches text.now scope.now types.now at selectors.now ≡ [] }
-    ensures { IfOk result (λ s. typed.IsOutCall text.now scope.now types.now at selectors.now s) }
+    requires { bodies.out_breaches scope.now.text scope.now.entries types.now at selectors.now ≡ [] }
+    ensures { IfOk result (λ s. typed.IsOutCall scope.now.text scope.now.entries types.now at selectors.now s) }
 {
     let Some((selector, more)) = selectors.split_first() else {
         unreachable!()
     };
     match selector {
-        Selector::Field(_, name) => member_call_of(alloc, text, scope, types, at, *name, more),
+        Selector::Field(_, name) => member_call_of(alloc, scope, types, at, *name, more),
         _ => unreachable!(),
     }
 }
 
 fn call_of(
     alloc: Global,
-    text: &[u8],
-    scope: &[Entry],
+    scope: &Scope<'_>,
     types: &[TType],
     desig: &Desig,
 ) -> Result<TStat, AllocError>
-    requires { bodies.called text.now scope.now types.now (meaning text.now scope.now desig.now.name) desig.now ≡ [] }
-    ensures { IfOk result (λ s. typed.IsCall text.now scope.now types.now desig.now s) }
+    requires { bodies.called scope.now.text scope.now.entries types.now (meaning scope.now.text scope.now.entries desig.now.name) desig.now ≡ [] }
+    ensures { IfOk result (λ s. typed.IsCall scope.now.text scope.now.entries types.now desig.now s) }
 {
     let at = desig.name.pos;
     let selectors = desig.selectors.as_slice();
-    match meaning_of(text, scope, desig.name) {
-        Some(Meaning::Out) => out_call_of(alloc, text, scope, types, at, selectors),
-        Some(Meaning::New) => Ok(new_call_of(text, scope, types, at, selectors)),
+    match scope.meaning_of(desig.name) {
+        Some(Meaning::Out) => out_call_of(alloc, scope, types, at, selectors),
+        Some(Meaning::New) => Ok(new_call_of(scope, types, at, selectors)),
         _ => unreachable!(),
     }
 }
 
 fn assign_of(
     alloc: Global,
-    text: &[u8],
-    scope: &[Entry],
+    scope: &Scope<'_>,
     types: &[TType],
     desig: &Desig,
     value: &Expr,
 ) -> Result<TStat, AllocError>
-    requires { bodies.desig_breaches text.now scope.now types.now desig.now (Some value.now) ≡ [] }
-    ensures { IfOk result (λ s. typed.IsStat text.now scope.now types.now (stat.Desig desig.now (Some value.now)) s) }
+    requires { bodies.desig_breaches scope.now.text scope.now.entries types.now desig.now (Some value.now) ≡ [] }
+    ensures { IfOk result (λ s. typed.IsStat scope.now.text scope.now.entries types.now (stat.Desig desig.now (Some value.now)) s) }
 {
-    let number = number_variable(text, scope, types, desig.name);
-    let value = value_of(alloc, text, scope, types, value)?;
+    let number = number_variable(scope, types, desig.name);
+    let value = value_of(alloc, scope, types, value)?;
     Ok(TStat::Assign(desig.name.pos, TPlace::ModuleVar(0, number), value))
 }
 
 /// An assignment, or without a value a call.
 fn desig_of(
     alloc: Global,
-    text: &[u8],
-    scope: &[Entry],
+    scope: &Scope<'_>,
     types: &[TType],
     desig: &Desig,
     value: &Option<Expr>,
 ) -> Result<TStat, AllocError>
-    requires { bodies.desig_breaches text.now scope.now types.now desig.now value.now ≡ [] }
-    ensures { IfOk result (λ s. typed.IsStat text.now scope.now types.now (stat.Desig desig.now value.now) s) }
+    requires { bodies.desig_breaches scope.now.text scope.now.entries types.now desig.now value.now ≡ [] }
+    ensures { IfOk result (λ s. typed.IsStat scope.now.text scope.now.entries types.now (stat.Desig desig.now value.now) s) }
 {
     match value {
-        None => call_of(alloc, text, scope, types, desig),
-        Some(value) => assign_of(alloc, text, scope, types, desig, value),
+        None => call_of(alloc, scope, types, desig),
+        Some(value) => assign_of(alloc, scope, types, desig, value),
     }
 }
 
@@ -206,22 +187,21 @@ fn add_stat(
     alloc: Global,
     stat: &Stat,
     out: &mut Vec<TStat>,
-    text: &[u8],
-    scope: &[Entry],
+    scope: &Scope<'_>,
     types: &[TType],
 ) -> Result<(), AllocError>
-    requires { bodies.stat_breaches text.now scope.now types.now stat.now ≡ [] }
-    ensures { OnOk result (typed.AddsStat text.now scope.now types.now stat.now out.old.items out.new.items) }
+    requires { bodies.stat_breaches scope.now.text scope.now.entries types.now stat.now ≡ [] }
+    ensures { OnOk result (typed.AddsStat scope.now.text scope.now.entries types.now stat.now out.old.items out.new.items) }
 {
     match stat {
         Stat::Empty => Ok(()),
         Stat::Desig(desig, value) => {
-            out.push(desig_of(alloc, text, scope, types, desig, value)?)?;
+            out.push(desig_of(alloc, scope, types, desig, value)?)?;
             Ok(())
         },
         Stat::While(at, condition, body) => {
-            let condition = condition_of(alloc, text, scope, types, *at, condition)?;
-            let body = stats_of(alloc, text, scope, types, &body.stats)?;
+            let condition = condition_of(alloc, scope, types, *at, condition)?;
+            let body = stats_of(alloc, scope, types, &body.stats)?;
             out.push(TStat::While(*at, condition, body))?;
             Ok(())
         },
@@ -232,33 +212,31 @@ fn add_stat(
 #[cycle(statements_of)]
 pub fn stats_of(
     alloc: Global,
-    text: &[u8],
-    scope: &[Entry],
+    scope: &Scope<'_>,
     types: &[TType],
     stats: &Items<Stat>,
 ) -> Result<Vec<TStat>, AllocError>
-    requires { flat_map (bodies.stat_breaches text.now scope.now types.now) stats.now ≡ [] }
-    ensures { IfOk result (λ out. typed.AreStats text.now scope.now types.now stats.now out.items) }
+    requires { flat_map (bodies.stat_breaches scope.now.text scope.now.entries types.now) stats.now ≡ [] }
+    ensures { IfOk result (λ out. typed.AreStats scope.now.text scope.now.entries types.now stats.now out.items) }
 {
     let mut out = Vec::new(alloc);
     for stat in stats.as_slice() {
-        add_stat(alloc, stat, &mut out, text, scope, types)?;
+        add_stat(alloc, stat, &mut out, scope, types)?;
     }
     Ok(out)
 }
 
 pub fn body_of(
     alloc: Global,
-    text: &[u8],
-    scope: &[Entry],
+    scope: &Scope<'_>,
     types: &[TType],
     body: &Option<Block>,
 ) -> Result<Vec<TStat>, AllocError>
-    requires { bodies.body_breaches text.now scope.now types.now false body.now ≡ [] }
-    ensures { IfOk result (λ out. typed.IsBody text.now scope.now types.now body.now out.items) }
+    requires { bodies.body_breaches scope.now.text scope.now.entries types.now false body.now ≡ [] }
+    ensures { IfOk result (λ out. typed.IsBody scope.now.text scope.now.entries types.now body.now out.items) }
 {
     match body {
         None => Ok(Vec::new(alloc)),
-        Some(block) => stats_of(alloc, text, scope, types, &block.body.stats),
+        Some(block) => stats_of(alloc, scope, types, &block.body.stats),
     }
 }

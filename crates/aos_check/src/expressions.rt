@@ -6,7 +6,7 @@ ghost use Rattle.aos_symbols.specs.Breaches.{first_after, breach_unless};
 ghost use Rattle.aos_check.specs.Bodies as bodies;
 
 use aos_base::{Pos, Relation as Order, related};
-use aos_symbols::{Breach, Entry, Meaning, NOT_BUILT, meaning_of, no_meaning, note};
+use aos_symbols::{Breach, Meaning, NOT_BUILT, Scope, no_meaning, note};
 use aos_tree::{
     AddOp, Addition, Expr, Factor, Product, Relation, RelationOp, Selector, Sign, Simple, Term,
 };
@@ -182,112 +182,80 @@ fn check_number(found: &mut Option<Breach>, number: i64, most: i64, at: Pos)
     }
 }
 
-fn check_factor(
-    found: &mut Option<Breach>,
-    text: &[u8],
-    scope: &[Entry],
-    types: &[TType],
-    factor: &Factor,
-)
-    ensures { found.new ≡ first_after found.old (bodies.factor_breaches text.now scope.now types.now factor.now) }
+fn check_factor(found: &mut Option<Breach>, scope: &Scope<'_>, types: &[TType], factor: &Factor)
+    ensures { found.new ≡ first_after found.old (bodies.factor_breaches scope.now.text scope.now.entries types.now factor.now) }
 {
     match factor {
         Factor::Number(at, number) => check_number(found, *number, GREATEST, *at),
         Factor::Desig(desig) => {
-            needs_number(
-                found,
-                types,
-                meaning_of(text, scope, desig.name),
-                desig.name.pos,
-            );
+            needs_number(found, types, scope.meaning_of(desig.name), desig.name.pos);
             refuse_selectors(found, desig.selectors.as_slice());
         },
         _ => note(found, NOT_BUILT, factor_place(factor)),
     }
 }
 
-fn check_term(
-    found: &mut Option<Breach>,
-    text: &[u8],
-    scope: &[Entry],
-    types: &[TType],
-    term: &Term,
-)
-    ensures { found.new ≡ first_after found.old (bodies.term_breaches text.now scope.now types.now term.now) }
+fn check_term(found: &mut Option<Breach>, scope: &Scope<'_>, types: &[TType], term: &Term)
+    ensures { found.new ≡ first_after found.old (bodies.term_breaches scope.now.text scope.now.entries types.now term.now) }
 {
-    check_factor(found, text, scope, types, &term.first);
+    check_factor(found, scope, types, &term.first);
     refuse_products(found, term.rest.as_slice());
 }
 
 fn check_addition(
     found: &mut Option<Breach>,
-    text: &[u8],
-    scope: &[Entry],
+    scope: &Scope<'_>,
     types: &[TType],
     after_number: bool,
     addition: &Addition,
 )
-    ensures { found.new ≡ first_after found.old (bodies.addition_breaches text.now scope.now types.now after_number addition.now) }
+    ensures { found.new ≡ first_after found.old (bodies.addition_breaches scope.now.text scope.now.entries types.now after_number addition.now) }
 {
     if after_number || !is_built(addition.op) {
         note(found, NOT_BUILT, addition.pos);
     }
-    check_term(found, text, scope, types, &addition.right);
+    check_term(found, scope, types, &addition.right);
 }
 
 fn check_additions(
     found: &mut Option<Breach>,
-    text: &[u8],
-    scope: &[Entry],
+    scope: &Scope<'_>,
     types: &[TType],
     after_number: bool,
     additions: &[Addition],
 )
-    ensures { found.new ≡ first_after found.old (flat_map (bodies.addition_breaches text.now scope.now types.now after_number) additions.now) }
+    ensures { found.new ≡ first_after found.old (flat_map (bodies.addition_breaches scope.now.text scope.now.entries types.now after_number) additions.now) }
 {
     for addition in additions {
-        check_addition(found, text, scope, types, after_number, addition);
+        check_addition(found, scope, types, after_number, addition);
     }
 }
 
-fn check_sum(
-    found: &mut Option<Breach>,
-    text: &[u8],
-    scope: &[Entry],
-    types: &[TType],
-    sum: &Simple,
-)
-    ensures { found.new ≡ first_after found.old (bodies.sum_breaches text.now scope.now types.now sum.now) }
+fn check_sum(found: &mut Option<Breach>, scope: &Scope<'_>, types: &[TType], sum: &Simple)
+    ensures { found.new ≡ first_after found.old (bodies.sum_breaches scope.now.text scope.now.entries types.now sum.now) }
 {
     refuse_sign(found, sum.sign, sum.pos);
-    check_term(found, text, scope, types, &sum.first);
+    check_term(found, scope, types, &sum.first);
     let after_number = is_number(&sum.first.first);
-    check_additions(found, text, scope, types, after_number, sum.rest.as_slice());
+    check_additions(found, scope, types, after_number, sum.rest.as_slice());
 }
 
 /// An expression that is a sum.
-pub fn check_value(
-    found: &mut Option<Breach>,
-    text: &[u8],
-    scope: &[Entry],
-    types: &[TType],
-    value: &Expr,
-)
-    ensures { found.new ≡ first_after found.old (bodies.value_breaches text.now scope.now types.now value.now) }
+pub fn check_value(found: &mut Option<Breach>, scope: &Scope<'_>, types: &[TType], value: &Expr)
+    ensures { found.new ≡ first_after found.old (bodies.value_breaches scope.now.text scope.now.entries types.now value.now) }
 {
-    check_sum(found, text, scope, types, &value.left);
+    check_sum(found, scope, types, &value.left);
     refuse_relation(found, &value.right);
 }
 
 fn check_compared(
     found: &mut Option<Breach>,
-    text: &[u8],
-    scope: &[Entry],
+    scope: &Scope<'_>,
     types: &[TType],
     relation: &Option<Relation>,
     at: Pos,
 )
-    ensures { found.new ≡ first_after found.old (bodies.compared text.now scope.now types.now relation.now at) }
+    ensures { found.new ≡ first_after found.old (bodies.compared scope.now.text scope.now.entries types.now relation.now at) }
 {
     match relation {
         None => note(found, NOT_BUILT, at),
@@ -295,7 +263,7 @@ fn check_compared(
             if !is_built_relation(relation.op) {
                 note(found, NOT_BUILT, relation.pos);
             }
-            check_sum(found, text, scope, types, &relation.right);
+            check_sum(found, scope, types, &relation.right);
         },
     }
 }
@@ -303,56 +271,49 @@ fn check_compared(
 /// What a WHILE tests that begins at a place.
 pub fn check_condition(
     found: &mut Option<Breach>,
-    text: &[u8],
-    scope: &[Entry],
+    scope: &Scope<'_>,
     types: &[TType],
     at: Pos,
     condition: &Expr,
 )
-    ensures { found.new ≡ first_after found.old (bodies.condition_breaches text.now scope.now types.now at condition.now) }
+    ensures { found.new ≡ first_after found.old (bodies.condition_breaches scope.now.text scope.now.entries types.now at condition.now) }
 {
-    check_sum(found, text, scope, types, &condition.left);
-    check_compared(found, text, scope, types, &condition.right, at);
+    check_sum(found, scope, types, &condition.left);
+    check_compared(found, scope, types, &condition.right, at);
 }
 
-fn check_places_factor(found: &mut Option<Breach>, text: &[u8], scope: &[Entry], factor: &Factor)
-    ensures { found.new ≡ first_after found.old (bodies.places_factor text.now scope.now factor.now) }
+fn check_places_factor(found: &mut Option<Breach>, scope: &Scope<'_>, factor: &Factor)
+    ensures { found.new ≡ first_after found.old (bodies.places_factor scope.now.text scope.now.entries factor.now) }
 {
     match factor {
         Factor::Number(at, number) => check_number(found, *number, PLACES, *at),
         Factor::Desig(desig) => {
-            no_meaning(found, meaning_of(text, scope, desig.name), desig.name.pos);
+            no_meaning(found, scope.meaning_of(desig.name), desig.name.pos);
         },
         _ => note(found, NOT_BUILT, factor_place(factor)),
     }
 }
 
 /// An expression that is a number of places.
-pub fn check_places(found: &mut Option<Breach>, text: &[u8], scope: &[Entry], places: &Expr)
-    ensures { found.new ≡ first_after found.old (bodies.places_breaches text.now scope.now places.now) }
+pub fn check_places(found: &mut Option<Breach>, scope: &Scope<'_>, places: &Expr)
+    ensures { found.new ≡ first_after found.old (bodies.places_breaches scope.now.text scope.now.entries places.now) }
 {
     refuse_operators(found, &places.left);
-    check_places_factor(found, text, scope, &places.left.first.first);
+    check_places_factor(found, scope, &places.left.first.first);
     refuse_relation(found, &places.right);
 }
 
 fn check_object_factor(
     found: &mut Option<Breach>,
-    text: &[u8],
-    scope: &[Entry],
+    scope: &Scope<'_>,
     types: &[TType],
     factor: &Factor,
 )
-    ensures { found.new ≡ first_after found.old (bodies.object_factor text.now scope.now types.now factor.now) }
+    ensures { found.new ≡ first_after found.old (bodies.object_factor scope.now.text scope.now.entries types.now factor.now) }
 {
     match factor {
         Factor::Desig(desig) => {
-            needs_object(
-                found,
-                types,
-                meaning_of(text, scope, desig.name),
-                desig.name.pos,
-            );
+            needs_object(found, types, scope.meaning_of(desig.name), desig.name.pos);
             refuse_selectors(found, desig.selectors.as_slice());
         },
         _ => note(found, NOT_BUILT, factor_place(factor)),
@@ -360,16 +321,10 @@ fn check_object_factor(
 }
 
 /// An expression that is the plain name of an object variable.
-pub fn check_object(
-    found: &mut Option<Breach>,
-    text: &[u8],
-    scope: &[Entry],
-    types: &[TType],
-    object: &Expr,
-)
-    ensures { found.new ≡ first_after found.old (bodies.object_breaches text.now scope.now types.now object.now) }
+pub fn check_object(found: &mut Option<Breach>, scope: &Scope<'_>, types: &[TType], object: &Expr)
+    ensures { found.new ≡ first_after found.old (bodies.object_breaches scope.now.text scope.now.entries types.now object.now) }
 {
     refuse_operators(found, &object.left);
-    check_object_factor(found, text, scope, types, &object.left.first.first);
+    check_object_factor(found, scope, types, &object.left.first.first);
     refuse_relation(found, &object.right);
 }

@@ -9,7 +9,7 @@ ghost use Rattle.aos_check.specs.Typed as typed;
 use crate::bodies::check_bodies;
 use crate::program::program_of;
 use aos_base::Refusal;
-use aos_symbols::{Breach, NAMED_OUT, check_heads, check_names, entries, is_word};
+use aos_symbols::{Breach, NAMED_OUT, Scope, check_heads, check_names, is_word};
 use aos_tree::Module;
 use aos_typed::Program;
 use std::alloc::Global;
@@ -57,19 +57,19 @@ pub fn check(alloc: Global, text: &[u8], tree: &Module, file: u32) -> Result<Pro
     if let Some(breach) = breach {
         return Err(refused(file, breach));
     }
-    let Ok(scope) = entries(alloc, text, tree) else {
+    let Ok(scope) = Scope::of(alloc, text, tree) else {
         return Err(CheckErr::NoMemory);
     };
-    let Ok((breach, types)) = check_heads(alloc, text, &scope, tree) else {
+    let Ok((breach, types)) = check_heads(alloc, &scope, tree) else {
         return Err(CheckErr::NoMemory);
     };
     if let Some(breach) = breach {
         return Err(refused(file, breach));
     }
-    if let Some(breach) = check_bodies(text, &scope, &types, tree) {
+    if let Some(breach) = check_bodies(&scope, &types, tree) {
         return Err(refused(file, breach));
     }
-    match program_of(alloc, text, &scope, &types, tree) {
+    match program_of(alloc, &scope, &types, tree) {
         Ok(program) => Ok(program),
         Err(_) => Err(CheckErr::NoMemory),
     }

@@ -9,14 +9,14 @@ ghost use Rattle.aos_check.specs.Typed as typed;
 
 use crate::elaborate::{body_of, spelling_of, stats_of};
 use aos_base::Pos;
-use aos_symbols::{Entry, variable_names};
+use aos_symbols::{Scope, variable_names};
 use aos_tree::{Block, Decl, Module, Name, TypeDef, TypeExpr};
 use aos_typed::{Program, TModule, TObject, TType, TVariable};
 use std::alloc::{AllocError, Global};
 
 /// The body of an object type that is built.
-fn block_of<'a>(text: &[u8], scope: &[Entry], of: &'a TypeExpr) -> &'a Block
-    requires { heads.defined_type text.now scope.now of.now ≡ [] }
+fn block_of<'a>(scope: &Scope<'_>, of: &'a TypeExpr) -> &'a Block
+    requires { heads.defined_type scope.now.text scope.now.entries of.now ≡ [] }
     ensures { bodies.object_body of.now ≡ Some result.now }
 {
     match of {
@@ -35,18 +35,17 @@ fn block_of<'a>(text: &[u8], scope: &[Entry], of: &'a TypeExpr) -> &'a Block
 /// The object type of a definition.
 fn object_of_def(
     alloc: Global,
-    text: &[u8],
-    scope: &[Entry],
+    scope: &Scope<'_>,
     types: &[TType],
     def: &TypeDef,
 ) -> Result<TObject, AllocError>
-    requires head { heads.defined_type text.now scope.now def.now.value ≡ [] }
-    requires body { bodies.object_breaches_of text.now scope.now types.now def.now ≡ [] }
-    ensures { IfOk result (λ o. typed.IsObject text.now scope.now types.now def.now o) }
+    requires head { heads.defined_type scope.now.text scope.now.entries def.now.value ≡ [] }
+    requires body { bodies.object_breaches_of scope.now.text scope.now.entries types.now def.now ≡ [] }
+    ensures { IfOk result (λ o. typed.IsObject scope.now.text scope.now.entries types.now def.now o) }
 {
-    let block = block_of(text, scope, &def.value);
-    let body = stats_of(alloc, text, scope, types, &block.body.stats)?;
-    let name = spelling_of(alloc, text, def.def.name)?;
+    let block = block_of(scope, &def.value);
+    let body = stats_of(alloc, scope, types, &block.body.stats)?;
+    let name = spelling_of(alloc, scope.text(), def.def.name)?;
     Ok(TObject {
         name,
         home: 0,
@@ -57,18 +56,17 @@ fn object_of_def(
 fn add_objects(
     alloc: Global,
     out: &mut Vec<TObject>,
-    text: &[u8],
-    scope: &[Entry],
+    scope: &Scope<'_>,
     types: &[TType],
     at: Pos,
     defs: &[TypeDef],
 ) -> Result<(), AllocError>
-    requires heads { flat_map (heads.type_def text.now scope.now at) defs.now ≡ [] }
-    requires bodies { flat_map (bodies.object_breaches_of text.now scope.now types.now) defs.now ≡ [] }
-    ensures { OnOk result (typed.AddsObjects text.now scope.now types.now defs.now out.old.items out.new.items) }
+    requires heads { flat_map (heads.type_def scope.now.text scope.now.entries at) defs.now ≡ [] }
+    requires bodies { flat_map (bodies.object_breaches_of scope.now.text scope.now.entries types.now) defs.now ≡ [] }
+    ensures { OnOk result (typed.AddsObjects scope.now.text scope.now.entries types.now defs.now out.old.items out.new.items) }
 {
     for def in defs {
-        out.push(object_of_def(alloc, text, scope, types, def)?)?;
+        out.push(object_of_def(alloc, scope, types, def)?)?;
     }
     Ok(())
 }
@@ -76,19 +74,16 @@ fn add_objects(
 fn add_decl(
     alloc: Global,
     out: &mut Vec<TObject>,
-    text: &[u8],
-    scope: &[Entry],
+    scope: &Scope<'_>,
     types: &[TType],
     decl: &Decl,
 ) -> Result<(), AllocError>
-    requires heads { heads.decl_breaches text.now scope.now decl.now ≡ [] }
-    requires bodies { flat_map (bodies.object_breaches_of text.now scope.now types.now) (types_in decl.now) ≡ [] }
-    ensures { OnOk result (typed.AddsObjects text.now scope.now types.now (types_in decl.now) out.old.items out.new.items) }
+    requires heads { heads.decl_breaches scope.now.text scope.now.entries decl.now ≡ [] }
+    requires bodies { flat_map (bodies.object_breaches_of scope.now.text scope.now.entries types.now) (types_in decl.now) ≡ [] }
+    ensures { OnOk result (typed.AddsObjects scope.now.text scope.now.entries types.now (types_in decl.now) out.old.items out.new.items) }
 {
     match decl {
-        Decl::Types(at, defs) => {
-            add_objects(alloc, out, text, scope, types, *at, defs.as_slice())
-        },
+        Decl::Types(at, defs) => { add_objects(alloc, out, scope, types, *at, defs.as_slice()) },
         Decl::Consts(_, _) => Ok(()),
         Decl::Vars(_, _) => Ok(()),
         Decl::Proc(_) => Ok(()),
@@ -97,18 +92,17 @@ fn add_decl(
 
 fn objects_of(
     alloc: Global,
-    text: &[u8],
-    scope: &[Entry],
+    scope: &Scope<'_>,
     types: &[TType],
     decls: &[Decl],
 ) -> Result<Vec<TObject>, AllocError>
-    requires heads { flat_map (heads.decl_breaches text.now scope.now) decls.now ≡ [] }
-    requires bodies { flat_map (bodies.object_breaches_of text.now scope.now types.now) (type_defs decls.now) ≡ [] }
-    ensures { IfOk result (λ os. typed.AddsObjects text.now scope.now types.now (type_defs decls.now) [] os.items) }
+    requires heads { flat_map (heads.decl_breaches scope.now.text scope.now.entries) decls.now ≡ [] }
+    requires bodies { flat_map (bodies.object_breaches_of scope.now.text scope.now.entries types.now) (type_defs decls.now) ≡ [] }
+    ensures { IfOk result (λ os. typed.AddsObjects scope.now.text scope.now.entries types.now (type_defs decls.now) [] os.items) }
 {
     let mut out = Vec::new(alloc);
     for decl in decls {
-        add_decl(alloc, &mut out, text, scope, types, decl)?;
+        add_decl(alloc, &mut out, scope, types, decl)?;
     }
     Ok(out)
 }
@@ -133,23 +127,22 @@ fn variables_of(
 /// The program of a module that breaks no rule, under what its names stand for and the types of its variables.
 pub fn program_of(
     alloc: Global,
-    text: &[u8],
-    scope: &[Entry],
+    scope: &Scope<'_>,
     types: &[TType],
     tree: &Module,
 ) -> Result<Program, AllocError>
-    requires types { types.now ≡ heads.variable_types text.now scope.now tree.now.decls }
-    requires heads { flat_map (heads.decl_breaches text.now scope.now) tree.now.decls ≡ [] }
-    requires objects { flat_map (bodies.object_breaches_of text.now scope.now types.now) (type_defs tree.now.decls) ≡ [] }
-    requires body { bodies.body_breaches text.now scope.now types.now false tree.now.body ≡ [] }
-    ensures { IfOk result (λ p. typed.IsProgramUnder text.now scope.now types.now tree.now p) }
+    requires types { types.now ≡ heads.variable_types scope.now.text scope.now.entries tree.now.decls }
+    requires heads { flat_map (heads.decl_breaches scope.now.text scope.now.entries) tree.now.decls ≡ [] }
+    requires objects { flat_map (bodies.object_breaches_of scope.now.text scope.now.entries types.now) (type_defs tree.now.decls) ≡ [] }
+    requires body { bodies.body_breaches scope.now.text scope.now.entries types.now false tree.now.body ≡ [] }
+    ensures { IfOk result (λ p. typed.IsProgramUnder scope.now.text scope.now.entries types.now tree.now p) }
 {
     let decls = tree.decls.as_slice();
     let names = variable_names(alloc, decls)?;
-    let variables = variables_of(alloc, text, &names, types)?;
-    let objects = objects_of(alloc, text, scope, types, decls)?;
-    let body = body_of(alloc, text, scope, types, &tree.body)?;
-    let name = spelling_of(alloc, text, tree.name)?;
+    let variables = variables_of(alloc, scope.text(), &names, types)?;
+    let objects = objects_of(alloc, scope, types, decls)?;
+    let body = body_of(alloc, scope, types, &tree.body)?;
+    let name = spelling_of(alloc, scope.text(), tree.name)?;
     let mut modules = Vec::new(alloc);
     modules.push(TModule {
         name,

@@ -12,7 +12,7 @@ ghost use Rattle.aos_check.specs.Typed as typed;
 
 use crate::expressions::type_at;
 use aos_base::{Pos, Relation as Order, Width};
-use aos_symbols::{Entry, Meaning, meaning_of};
+use aos_symbols::{Meaning, Scope};
 use aos_tree::{AddOp, Addition, Expr, Factor, Name, RelationOp, Simple, Term};
 use aos_typed::{Binary, Literal, TExpr, TPlace, TType};
 use std::alloc::{AllocError, Global};
@@ -47,22 +47,22 @@ fn order(op: RelationOp) -> Order
 }
 
 /// The number of the LONGINT variable that a name is.
-pub fn number_variable(text: &[u8], scope: &[Entry], types: &[TType], name: Name) -> u32
-    requires { bodies.needs_variable types.now bodies.is_longint (meaning text.now scope.now name) name.pos ≡ [] }
-    ensures { typed.IsVariable text.now scope.now types.now name result type.LongInt }
+pub fn number_variable(scope: &Scope<'_>, types: &[TType], name: Name) -> u32
+    requires { bodies.needs_variable types.now bodies.is_longint (meaning scope.now.text scope.now.entries name) name.pos ≡ [] }
+    ensures { typed.IsVariable scope.now.text scope.now.entries types.now name result type.LongInt }
 {
-    match meaning_of(text, scope, name) {
+    match scope.meaning_of(name) {
         Some(Meaning::Variable(number)) => number,
         _ => unreachable!(),
     }
 }
 
 /// The numbers of the object variable that a name is, and of its type.
-pub fn object_variable(text: &[u8], scope: &[Entry], types: &[TType], name: Name) -> (u32, u32)
-    requires { bodies.needs_variable types.now bodies.is_object (meaning text.now scope.now name) name.pos ≡ [] }
-    ensures { typed.IsVariable text.now scope.now types.now name result.0 (type.Object result.1) }
+pub fn object_variable(scope: &Scope<'_>, types: &[TType], name: Name) -> (u32, u32)
+    requires { bodies.needs_variable types.now bodies.is_object (meaning scope.now.text scope.now.entries name) name.pos ≡ [] }
+    ensures { typed.IsVariable scope.now.text scope.now.entries types.now name result.0 (type.Object result.1) }
 {
-    let Some(Meaning::Variable(number)) = meaning_of(text, scope, name) else {
+    let Some(Meaning::Variable(number)) = scope.meaning_of(name) else {
         unreachable!()
     };
     match type_at(types, number) {
@@ -71,25 +71,25 @@ pub fn object_variable(text: &[u8], scope: &[Entry], types: &[TType], name: Name
     }
 }
 
-fn operand(text: &[u8], scope: &[Entry], types: &[TType], factor: &Factor) -> TExpr
-    requires { bodies.factor_breaches text.now scope.now types.now factor.now ≡ [] }
-    ensures { typed.IsOperand text.now scope.now types.now factor.now result }
+fn operand(scope: &Scope<'_>, types: &[TType], factor: &Factor) -> TExpr
+    requires { bodies.factor_breaches scope.now.text scope.now.entries types.now factor.now ≡ [] }
+    ensures { typed.IsOperand scope.now.text scope.now.entries types.now factor.now result }
 {
     match factor {
         Factor::Number(_, number) => literal(number),
         Factor::Desig(desig) => {
-            let number = number_variable(text, scope, types, desig.name);
+            let number = number_variable(scope, types, desig.name);
             TExpr::Read(TPlace::ModuleVar(0, number))
         },
         _ => unreachable!(),
     }
 }
 
-fn plain_term(text: &[u8], scope: &[Entry], types: &[TType], term: &Term) -> TExpr
-    requires { bodies.term_breaches text.now scope.now types.now term.now ≡ [] }
-    ensures { typed.IsPlainTerm text.now scope.now types.now term.now result }
+fn plain_term(scope: &Scope<'_>, types: &[TType], term: &Term) -> TExpr
+    requires { bodies.term_breaches scope.now.text scope.now.entries types.now term.now ≡ [] }
+    ensures { typed.IsPlainTerm scope.now.text scope.now.entries types.now term.now result }
 {
-    operand(text, scope, types, &term.first)
+    operand(scope, types, &term.first)
 }
 
 /// An operator over two operands.
@@ -113,87 +113,77 @@ fn compared(alloc: Global, op: Order, left: TExpr, right: TExpr) -> Result<TExpr
 /// An operator and its right operand behind its left one.
 fn extended(
     alloc: Global,
-    text: &[u8],
-    scope: &[Entry],
+    scope: &Scope<'_>,
     types: &[TType],
     left: TExpr,
     addition: &Addition,
 ) -> Result<TExpr, AllocError>
-    requires { bodies.joined_breaches text.now scope.now types.now addition.now ≡ [] }
-    ensures { IfOk result (λ e. typed.IsJoined text.now scope.now types.now left addition.now e) }
+    requires { bodies.joined_breaches scope.now.text scope.now.entries types.now addition.now ≡ [] }
+    ensures { IfOk result (λ e. typed.IsJoined scope.now.text scope.now.entries types.now left addition.now e) }
 {
-    let right = plain_term(text, scope, types, &addition.right);
+    let right = plain_term(scope, types, &addition.right);
     joined(alloc, operator(addition.op), left, right)
 }
 
 fn chain(
     alloc: Global,
-    text: &[u8],
-    scope: &[Entry],
+    scope: &Scope<'_>,
     types: &[TType],
     first: TExpr,
     additions: &[Addition],
 ) -> Result<TExpr, AllocError>
-    requires { flat_map (bodies.joined_breaches text.now scope.now types.now) additions.now ≡ [] }
-    ensures { IfOk result (λ e. typed.IsChain text.now scope.now types.now first additions.now e) }
+    requires { flat_map (bodies.joined_breaches scope.now.text scope.now.entries types.now) additions.now ≡ [] }
+    ensures { IfOk result (λ e. typed.IsChain scope.now.text scope.now.entries types.now first additions.now e) }
 {
     let mut whole = first;
     for addition in additions {
-        whole = extended(alloc, text, scope, types, whole, addition)?;
+        whole = extended(alloc, scope, types, whole, addition)?;
     }
     Ok(whole)
 }
 
-fn sum(
-    alloc: Global,
-    text: &[u8],
-    scope: &[Entry],
-    types: &[TType],
-    sum: &Simple,
-) -> Result<TExpr, AllocError>
-    requires { bodies.sum_breaches text.now scope.now types.now sum.now ≡ [] }
-    ensures { IfOk result (λ e. typed.IsSum text.now scope.now types.now sum.now e) }
+fn sum(alloc: Global, scope: &Scope<'_>, types: &[TType], sum: &Simple) -> Result<TExpr, AllocError>
+    requires { bodies.sum_breaches scope.now.text scope.now.entries types.now sum.now ≡ [] }
+    ensures { IfOk result (λ e. typed.IsSum scope.now.text scope.now.entries types.now sum.now e) }
 {
-    let first = plain_term(text, scope, types, &sum.first);
-    chain(alloc, text, scope, types, first, sum.rest.as_slice())
+    let first = plain_term(scope, types, &sum.first);
+    chain(alloc, scope, types, first, sum.rest.as_slice())
 }
 
 /// An expression that is a sum.
 pub fn value_of(
     alloc: Global,
-    text: &[u8],
-    scope: &[Entry],
+    scope: &Scope<'_>,
     types: &[TType],
     value: &Expr,
 ) -> Result<TExpr, AllocError>
-    requires { bodies.value_breaches text.now scope.now types.now value.now ≡ [] }
-    ensures { IfOk result (λ e. typed.IsValue text.now scope.now types.now value.now e) }
+    requires { bodies.value_breaches scope.now.text scope.now.entries types.now value.now ≡ [] }
+    ensures { IfOk result (λ e. typed.IsValue scope.now.text scope.now.entries types.now value.now e) }
 {
-    sum(alloc, text, scope, types, &value.left)
+    sum(alloc, scope, types, &value.left)
 }
 
 /// What a WHILE tests.
 pub fn condition_of(
     alloc: Global,
-    text: &[u8],
-    scope: &[Entry],
+    scope: &Scope<'_>,
     types: &[TType],
     at: Pos,
     condition: &Expr,
 ) -> Result<TExpr, AllocError>
-    requires { bodies.condition_breaches text.now scope.now types.now at condition.now ≡ [] }
-    ensures { IfOk result (λ e. typed.IsCondition text.now scope.now types.now condition.now e) }
+    requires { bodies.condition_breaches scope.now.text scope.now.entries types.now at condition.now ≡ [] }
+    ensures { IfOk result (λ e. typed.IsCondition scope.now.text scope.now.entries types.now condition.now e) }
 {
     let Some(relation) = &condition.right else {
         unreachable!()
     };
-    let left = sum(alloc, text, scope, types, &condition.left)?;
-    let right = sum(alloc, text, scope, types, &relation.right)?;
+    let left = sum(alloc, scope, types, &condition.left)?;
+    let right = sum(alloc, scope, types, &relation.right)?;
     compared(alloc, order(relation.op), left, right)
 }
 
-fn places_in(text: &[u8], scope: &[Entry], factor: &Factor) -> TExpr
-    requires { bodies.places_factor text.now scope.now factor.now ≡ [] }
+fn places_in(scope: &Scope<'_>, factor: &Factor) -> TExpr
+    requires { bodies.places_factor scope.now.text scope.now.entries factor.now ≡ [] }
     ensures { typed.IsPlacesFactor factor.now result }
 {
     match factor {
@@ -203,27 +193,27 @@ fn places_in(text: &[u8], scope: &[Entry], factor: &Factor) -> TExpr
 }
 
 /// A number of places.
-pub fn places_of(text: &[u8], scope: &[Entry], places: &Expr) -> TExpr
-    requires { bodies.places_breaches text.now scope.now places.now ≡ [] }
+pub fn places_of(scope: &Scope<'_>, places: &Expr) -> TExpr
+    requires { bodies.places_breaches scope.now.text scope.now.entries places.now ≡ [] }
     ensures { typed.IsPlaces places.now result }
 {
-    places_in(text, scope, &places.left.first.first)
+    places_in(scope, &places.left.first.first)
 }
 
-fn object_in(text: &[u8], scope: &[Entry], types: &[TType], factor: &Factor) -> (u32, u32)
-    requires { bodies.object_factor text.now scope.now types.now factor.now ≡ [] }
-    ensures { typed.IsObjectFactor text.now scope.now types.now factor.now result.0 result.1 }
+fn object_in(scope: &Scope<'_>, types: &[TType], factor: &Factor) -> (u32, u32)
+    requires { bodies.object_factor scope.now.text scope.now.entries types.now factor.now ≡ [] }
+    ensures { typed.IsObjectFactor scope.now.text scope.now.entries types.now factor.now result.0 result.1 }
 {
     match factor {
-        Factor::Desig(desig) => object_variable(text, scope, types, desig.name),
+        Factor::Desig(desig) => object_variable(scope, types, desig.name),
         _ => unreachable!(),
     }
 }
 
 /// The numbers of the object variable that an expression names, and of its type.
-pub fn object_of(text: &[u8], scope: &[Entry], types: &[TType], object: &Expr) -> (u32, u32)
-    requires { bodies.object_breaches text.now scope.now types.now object.now ≡ [] }
-    ensures { typed.IsObjectName text.now scope.now types.now object.now result.0 result.1 }
+pub fn object_of(scope: &Scope<'_>, types: &[TType], object: &Expr) -> (u32, u32)
+    requires { bodies.object_breaches scope.now.text scope.now.entries types.now object.now ≡ [] }
+    ensures { typed.IsObjectName scope.now.text scope.now.entries types.now object.now result.0 result.1 }
 {
-    object_in(text, scope, types, &object.left.first.first)
+    object_in(scope, types, &object.left.first.first)
 }

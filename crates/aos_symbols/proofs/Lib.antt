@@ -3,3 +3,4 @@ pub mod Rows
 pub mod Each
 pub mod Least
 pub mod Words
+pub mod Table

@@ -8,7 +8,7 @@ ghost use Rattle.aos_symbols.specs.Heads as heads;
 ghost use Rattle.aos_symbols.specs.Heads.{IsListed};
 
 use crate::breach::{Breach, NOT_BUILT, UNKNOWN, note};
-use crate::scope::{Entry, Meaning, meaning_of};
+use crate::scope::{Meaning, Scope};
 use crate::spelling::{is_predeclared, is_procedure_of_out, is_word, word};
 use aos_base::Pos;
 use aos_tree::{
@@ -116,21 +116,21 @@ pub fn no_meaning(found: &mut Option<Breach>, means: Option<Meaning>, at: Pos)
     }
 }
 
-fn check_defined(found: &mut Option<Breach>, text: &[u8], scope: &[Entry], of: &TypeExpr)
-    ensures { found.new ≡ first_after found.old (heads.defined_type text.now scope.now of.now) }
+fn check_defined(found: &mut Option<Breach>, scope: &Scope<'_>, of: &TypeExpr)
+    ensures { found.new ≡ first_after found.old (heads.defined_type scope.now.text scope.now.entries of.now) }
 {
     match of {
         TypeExpr::Object(at, base, decls, body, _) => {
             if base.is_some() {
                 note(found, NOT_BUILT, *at);
             }
-            if !has_active(text, body) {
+            if !has_active(scope.text(), body) {
                 note(found, NOT_BUILT, *at);
             }
             refuse_decls(found, decls.as_slice());
         },
         TypeExpr::Named(name) => {
-            no_meaning(found, meaning_of(text, scope, name.first), name.first.pos);
+            no_meaning(found, scope.meaning_of(name.first), name.first.pos);
         },
         TypeExpr::Array(at, _, _) => note(found, NOT_BUILT, *at),
         TypeExpr::Record(at, _, _) => note(found, NOT_BUILT, *at),
@@ -139,18 +139,12 @@ fn check_defined(found: &mut Option<Breach>, text: &[u8], scope: &[Entry], of: &
     }
 }
 
-fn check_type_defs(
-    found: &mut Option<Breach>,
-    text: &[u8],
-    scope: &[Entry],
-    at: Pos,
-    defs: &[TypeDef],
-)
-    ensures { found.new ≡ first_after found.old (flat_map (heads.type_def text.now scope.now at) defs.now) }
+fn check_type_defs(found: &mut Option<Breach>, scope: &Scope<'_>, at: Pos, defs: &[TypeDef])
+    ensures { found.new ≡ first_after found.old (flat_map (heads.type_def scope.now.text scope.now.entries at) defs.now) }
 {
     for def in defs {
-        check_def(found, text, at, &def.def);
-        check_defined(found, text, scope, &def.value);
+        check_def(found, scope.text(), at, &def.def);
+        check_defined(found, scope, &def.value);
     }
 }
 
@@ -179,38 +173,28 @@ fn plain_type(found: &mut Option<Breach>, means: Option<Meaning>, at: Pos) -> Op
     }
 }
 
-fn named_type(
-    found: &mut Option<Breach>,
-    text: &[u8],
-    scope: &[Entry],
-    name: &Qualident,
-) -> Option<TType>
-    ensures breaches { found.new ≡ first_after found.old (heads.named_type text.now scope.now name.now) }
-    ensures typed { IsListed result (heads.qualident_type text.now scope.now name.now) }
+fn named_type(found: &mut Option<Breach>, scope: &Scope<'_>, name: &Qualident) -> Option<TType>
+    ensures breaches { found.new ≡ first_after found.old (heads.named_type scope.now.text scope.now.entries name.now) }
+    ensures typed { IsListed result (heads.qualident_type scope.now.text scope.now.entries name.now) }
 {
-    let means = meaning_of(text, scope, name.first);
+    let means = scope.meaning_of(name.first);
     let Some(second) = name.second else {
         return plain_type(found, means, name.first.pos);
     };
     match means {
-        Some(Meaning::Out) => check_member(found, text, second),
+        Some(Meaning::Out) => check_member(found, scope.text(), second),
         _ => no_meaning(found, means, name.first.pos),
     }
     None
 }
 
 /// The type of variables, where it is built.
-fn variable_type(
-    found: &mut Option<Breach>,
-    text: &[u8],
-    scope: &[Entry],
-    of: &TypeExpr,
-) -> Option<TType>
-    ensures breaches { found.new ≡ first_after found.old (heads.variable_type text.now scope.now of.now) }
-    ensures typed { IsListed result (heads.type_of text.now scope.now of.now) }
+fn variable_type(found: &mut Option<Breach>, scope: &Scope<'_>, of: &TypeExpr) -> Option<TType>
+    ensures breaches { found.new ≡ first_after found.old (heads.variable_type scope.now.text scope.now.entries of.now) }
+    ensures typed { IsListed result (heads.type_of scope.now.text scope.now.entries of.now) }
 {
     match of {
-        TypeExpr::Named(name) => return named_type(found, text, scope, name),
+        TypeExpr::Named(name) => return named_type(found, scope, name),
         TypeExpr::Array(at, _, _) => note(found, NOT_BUILT, *at),
         TypeExpr::Record(at, _, _) => note(found, NOT_BUILT, *at),
         TypeExpr::Pointer(at, _) => note(found, NOT_BUILT, *at),
@@ -233,16 +217,15 @@ fn add_types(types: &mut Vec<TType>, of: TType, count: usize) -> Result<(), Allo
 fn check_variable_def(
     found: &mut Option<Breach>,
     types: &mut Vec<TType>,
-    text: &[u8],
-    scope: &[Entry],
+    scope: &Scope<'_>,
     at: Pos,
     def: &VarDef,
 ) -> Result<(), AllocError>
-    ensures breaches { OnOk result (found.new ≡ first_after found.old (heads.variable_def text.now scope.now at def.now)) }
-    ensures types { OnOk result (types.new.items ≡ types.old.items ++ heads.types_of_def text.now scope.now def.now) }
+    ensures breaches { OnOk result (found.new ≡ first_after found.old (heads.variable_def scope.now.text scope.now.entries at def.now)) }
+    ensures types { OnOk result (types.new.items ≡ types.old.items ++ heads.types_of_def scope.now.text scope.now.entries def.now) }
 {
-    check_defs(found, text, at, def.defs.as_slice());
-    if let Some(of) = variable_type(found, text, scope, &def.of) {
+    check_defs(found, scope.text(), at, def.defs.as_slice());
+    if let Some(of) = variable_type(found, scope, &def.of) {
         add_types(types, of, def.defs.len())?;
     }
     Ok(())
@@ -251,16 +234,15 @@ fn check_variable_def(
 fn check_variable_defs(
     found: &mut Option<Breach>,
     types: &mut Vec<TType>,
-    text: &[u8],
-    scope: &[Entry],
+    scope: &Scope<'_>,
     at: Pos,
     defs: &[VarDef],
 ) -> Result<(), AllocError>
-    ensures breaches { OnOk result (found.new ≡ first_after found.old (flat_map (heads.variable_def text.now scope.now at) defs.now)) }
-    ensures types { OnOk result (types.new.items ≡ types.old.items ++ flat_map (heads.types_of_def text.now scope.now) defs.now) }
+    ensures breaches { OnOk result (found.new ≡ first_after found.old (flat_map (heads.variable_def scope.now.text scope.now.entries at) defs.now)) }
+    ensures types { OnOk result (types.new.items ≡ types.old.items ++ flat_map (heads.types_of_def scope.now.text scope.now.entries) defs.now) }
 {
     for def in defs {
-        check_variable_def(found, types, text, scope, at, def)?;
+        check_variable_def(found, types, scope, at, def)?;
     }
     Ok(())
 }
@@ -268,18 +250,17 @@ fn check_variable_defs(
 fn check_decl(
     found: &mut Option<Breach>,
     types: &mut Vec<TType>,
-    text: &[u8],
-    scope: &[Entry],
+    scope: &Scope<'_>,
     decl: &Decl,
 ) -> Result<(), AllocError>
-    ensures breaches { OnOk result (found.new ≡ first_after found.old (heads.decl_breaches text.now scope.now decl.now)) }
-    ensures types { OnOk result (types.new.items ≡ types.old.items ++ flat_map (heads.types_of_def text.now scope.now) (variables_in decl.now)) }
+    ensures breaches { OnOk result (found.new ≡ first_after found.old (heads.decl_breaches scope.now.text scope.now.entries decl.now)) }
+    ensures types { OnOk result (types.new.items ≡ types.old.items ++ flat_map (heads.types_of_def scope.now.text scope.now.entries) (variables_in decl.now)) }
 {
     match decl {
         Decl::Consts(at, _) => note(found, NOT_BUILT, *at),
-        Decl::Types(at, defs) => check_type_defs(found, text, scope, *at, defs.as_slice()),
+        Decl::Types(at, defs) => check_type_defs(found, scope, *at, defs.as_slice()),
         Decl::Vars(at, defs) => {
-            return check_variable_defs(found, types, text, scope, *at, defs.as_slice());
+            return check_variable_defs(found, types, scope, *at, defs.as_slice());
         },
         Decl::Proc(proc) => note(found, NOT_BUILT, proc.pos),
     }
@@ -289,15 +270,14 @@ fn check_decl(
 fn check_decls(
     found: &mut Option<Breach>,
     types: &mut Vec<TType>,
-    text: &[u8],
-    scope: &[Entry],
+    scope: &Scope<'_>,
     decls: &[Decl],
 ) -> Result<(), AllocError>
-    ensures breaches { OnOk result (found.new ≡ first_after found.old (flat_map (heads.decl_breaches text.now scope.now) decls.now)) }
-    ensures types { OnOk result (types.new.items ≡ types.old.items ++ heads.variable_types text.now scope.now decls.now) }
+    ensures breaches { OnOk result (found.new ≡ first_after found.old (flat_map (heads.decl_breaches scope.now.text scope.now.entries) decls.now)) }
+    ensures types { OnOk result (types.new.items ≡ types.old.items ++ heads.variable_types scope.now.text scope.now.entries decls.now) }
 {
     for decl in decls {
-        check_decl(found, types, text, scope, decl)?;
+        check_decl(found, types, scope, decl)?;
     }
     Ok(())
 }
@@ -305,18 +285,17 @@ fn check_decls(
 /// The first breach of the headings, and the types of the variables; where there is none, each has one.
 pub fn check_heads(
     alloc: Global,
-    text: &[u8],
-    scope: &[Entry],
+    scope: &Scope<'_>,
     tree: &Module,
 ) -> Result<(Option<Breach>, Vec<TType>), AllocError>
-    requires { scope.now ≡ entries_of text.now tree.now }
-    ensures breaches { IfOk result (λ r. r.0 ≡ first (heads.head_breaches text.now tree.now)) }
-    ensures types { IfOk result (λ r. r.1.items ≡ heads.variable_types text.now scope.now tree.now.decls) }
+    requires { scope.now.entries ≡ entries_of scope.now.text tree.now }
+    ensures breaches { IfOk result (λ r. r.0 ≡ first (heads.head_breaches scope.now.text tree.now)) }
+    ensures types { IfOk result (λ r. r.1.items ≡ heads.variable_types scope.now.text scope.now.entries tree.now.decls) }
 {
     let mut found = None;
     let mut types = Vec::new(alloc);
-    taken_name(&mut found, text, tree.name);
-    check_imports(&mut found, text, tree.imports.as_slice());
-    check_decls(&mut found, &mut types, text, scope, tree.decls.as_slice())?;
+    taken_name(&mut found, scope.text(), tree.name);
+    check_imports(&mut found, scope.text(), tree.imports.as_slice());
+    check_decls(&mut found, &mut types, scope, tree.decls.as_slice())?;
     Ok((found, types))
 }

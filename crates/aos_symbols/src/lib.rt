@@ -12,5 +12,5 @@ pub use breach::{Breach, NAMED_OUT, NOT_BUILT, OTHER_END, TWICE, UNKNOWN, note};
 pub use heads::{check_heads, is_active, no_meaning};
 pub use laws::law_of_first;
 pub use names::check_names;
-pub use scope::{Entry, Meaning, entries, meaning_of, variable_names};
+pub use scope::{Entry, Meaning, Scope, variable_names};
 pub use spelling::{are_same, is_predeclared, is_procedure_of_out, is_word, word};

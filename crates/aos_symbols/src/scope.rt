@@ -3,12 +3,15 @@
 ghost use Rattle.std.specs.Prelude.{◌≡◌, ◌≤◌, ◌^◌, ◌++◌, length, map, IfOk, OnOk};
 ghost use Rattle.std.specs.List.{flat_map};
 ghost use Rattle.aos_symbols.specs.Scope as scope;
+ghost use Rattle.aos_symbols.specs.Environment.{IsTableOf};
 
 use crate::spelling::{is_predeclared, is_word, word};
 use aos_base::NoMemory;
 use aos_tree::{ConstDef, Decl, Def, Import, Module, Name, TypeDef, VarDef};
 use aos_typed::TType;
+use indexmap::IndexMap;
 use std::alloc::{AllocError, Global};
+use std::marker::Model;
 
 /// How many types, and how many variables, numbers can be told apart by.
 const MOST_NUMBERS: usize = 4_294_967_296;
@@ -35,15 +38,23 @@ pub struct Entry {
     pub means: Meaning,
 }
 
-fn declared_meaning(text: &[u8], entries: &[Entry], name: &[u8]) -> Option<Meaning>
-    ensures { result ≡ scope.declared_meaning text.now entries.now name.now }
-{
-    for entry in entries {
-        if word(text, entry.name) == name {
-            return Some(entry.means);
-        }
-    }
-    None
+/// What the names of a module stand for, in the module's text. A name is looked up in a table, in which the first entry of
+/// each word stands.
+#[derive(Drop)]
+pub struct Scope<'a> {
+    text: &'a [u8],
+    entries: Vec<Entry>,
+    table: IndexMap<&'a [u8], Meaning>,
+}
+
+impl<'a> Model for Scope<'a> {
+    ghost use Rattle.aos_symbols.specs.Environment.{Environment, IsTableOf};
+
+    ghost Value = { Environment };
+
+    ghost view = { λ s. record { text = s.text.now; entries = s.entries.items } };
+
+    ghost invariant = { λ s. IsTableOf s.text.now s.entries.items s.table.entries };
 }
 
 fn predeclared_meaning(name: &[u8]) -> Option<Meaning>
@@ -61,14 +72,56 @@ fn predeclared_meaning(name: &[u8]) -> Option<Meaning>
     None
 }
 
-/// What a name stands for, if anything.
-pub fn meaning_of(text: &[u8], entries: &[Entry], name: Name) -> Option<Meaning>
-    ensures { result ≡ scope.meaning text.now entries.now name }
+/// The words of entries, with what the first entry of each stands for.
+fn table_of<'a>(
+    alloc: Global,
+    text: &'a [u8],
+    entries: &[Entry],
+) -> Result<IndexMap<&'a [u8], Meaning>, AllocError>
+    ensures { IfOk result (λ table. IsTableOf text.now entries.now table.entries) }
 {
-    let name = word(text, name);
-    match declared_meaning(text, entries, name) {
-        Some(means) => Some(means),
-        None => predeclared_meaning(name),
+    let mut table = IndexMap::new(alloc);
+    let mut left = entries.len();
+    while left > 0 {
+        left -= 1;
+        let entry = entries[left];
+        table.insert(word(text, entry.name), entry.means)?;
+    }
+    Ok(table)
+}
+
+impl<'a> Scope<'a> {
+    /// What the names of a module stand for. More than 2^32 types or variables are taken as want of memory: no text that
+    /// is compiled has as many.
+    pub fn of(alloc: Global, text: &'a [u8], tree: &Module) -> Result<Scope<'a>, NoMemory>
+        ensures text { IfOk result (λ s. s.text ≡ text.now) }
+        ensures entries { IfOk result (λ s. s.entries ≡ scope.entries s.text tree.now) }
+    {
+        let entries = entries(alloc, text, tree)?;
+        let table = table_of(alloc, text, &entries)?;
+        Ok(Scope {
+            text,
+            entries,
+            table,
+        })
+    }
+
+    /// The module's text.
+    pub fn text(&self) -> &'a [u8]
+        ensures { result.now ≡ self.now.text }
+    {
+        self.text
+    }
+
+    /// What a name stands for, if anything.
+    pub fn meaning_of(&self, name: Name) -> Option<Meaning>
+        ensures { result ≡ scope.meaning self.now.text self.now.entries name }
+    {
+        let word = word(self.text, name);
+        match self.table.get(word) {
+            Some(means) => Some(*means),
+            None => predeclared_meaning(word),
+        }
     }
 }
 
@@ -242,9 +295,8 @@ fn enter_others(entries: &mut Vec<Entry>, names: &[Name]) -> Result<(), AllocErr
     Ok(())
 }
 
-/// What the names of a module stand for. More than 2^32 types or variables are taken as want of memory: no text that is
-/// compiled has as many.
-pub fn entries(alloc: Global, text: &[u8], tree: &Module) -> Result<Vec<Entry>, NoMemory>
+/// The entries of a module, as `Scope::of` says.
+fn entries(alloc: Global, text: &[u8], tree: &Module) -> Result<Vec<Entry>, NoMemory>
     ensures { IfOk result (λ es. es.items ≡ scope.entries text.now tree.now) }
 {
     let decls = tree.decls.as_slice();

@@ -8,8 +8,8 @@ use Rattle.aos_check.proofs.bodies.+check_statements.Goals as goal
 
 pub check_stat-returns-in-While : goal.check_stat-returns-in-While
 check_stat-returns-in-While t c =
-    let text = c.args.text.now in
-    let scope = c.args.scope.now in
+    let text = c.args.scope.now.text in
+    let scope = c.args.scope.now.entries in
     let types = c.args.types.now in
     let w = c.in-While in
     after_two c.args.found.now (condition_breaches text scope types w.at w.condition) (flat_map (stat_breaches text scope types) w.body.stats) c.check_condition.ensures c.check_stats.ensures

@@ -9,8 +9,8 @@ use Rattle.aos_check.proofs.bodies.check_bodies.Goals as goal
 
 pub returns : goal.returns
 returns c =
-    let text = c.args.text.now in
-    let scope = c.args.scope.now in
+    let text = c.args.scope.now.text in
+    let scope = c.args.scope.now.entries in
     let types = c.args.types.now in
     let tree = c.args.tree.now in
     let objects : c.check_types.new.found ≡ first_after None (flat_map (object_breaches_of text scope types) (type_defs tree.decls)) =

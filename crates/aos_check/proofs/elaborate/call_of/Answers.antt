@@ -5,9 +5,9 @@ use Rattle.aos_check.proofs.elaborate.call_of.Goals as goal
 
 pub returns-in-Some-Out : goal.returns-in-Some-Out
 returns-in-Some-Out c =
-    if_ok (λ b. typed.IsOutCall c.args.text.now c.args.scope.now c.args.types.now c.args.desig.now.name.pos c.as_slice-selectors.result.now b) (λ b. typed.IsCall c.args.text.now c.args.scope.now c.args.types.now c.args.desig.now b) c.out_call_of.result
-    (λ b is. typed.out (sym c.meaning_of.ensures ∙ c.in-Some-Out.is ∙ ap (λ x. Some x) c.in-Some-Out.field-0-is) (subst (λ z. typed.IsOutCall c.args.text.now c.args.scope.now c.args.types.now c.args.desig.now.name.pos z b) c.as_slice-selectors.ensures is)) c.out_call_of.ensures
+    if_ok (λ b. typed.IsOutCall c.args.scope.now.text c.args.scope.now.entries c.args.types.now c.args.desig.now.name.pos c.as_slice-selectors.result.now b) (λ b. typed.IsCall c.args.scope.now.text c.args.scope.now.entries c.args.types.now c.args.desig.now b) c.out_call_of.result
+    (λ b is. typed.out (sym c.meaning_of.ensures ∙ c.in-Some-Out.is ∙ ap (λ x. Some x) c.in-Some-Out.field-0-is) (subst (λ z. typed.IsOutCall c.args.scope.now.text c.args.scope.now.entries c.args.types.now c.args.desig.now.name.pos z b) c.as_slice-selectors.ensures is)) c.out_call_of.ensures
 
 pub returns-in-Some-New : goal.returns-in-Some-New
 returns-in-Some-New c =
-    typed.make (sym c.meaning_of.ensures ∙ c.in-Some-New.is ∙ ap (λ x. Some x) c.in-Some-New.field-0-is) (subst (λ z. typed.IsNewCall c.args.text.now c.args.scope.now c.args.types.now c.args.desig.now.name.pos z c.new_call_of.result) c.as_slice-selectors.ensures c.new_call_of.ensures)
+    typed.make (sym c.meaning_of.ensures ∙ c.in-Some-New.is ∙ ap (λ x. Some x) c.in-Some-New.field-0-is) (subst (λ z. typed.IsNewCall c.args.scope.now.text c.args.scope.now.entries c.args.types.now c.args.desig.now.name.pos z c.new_call_of.result) c.as_slice-selectors.ensures c.new_call_of.ensures)

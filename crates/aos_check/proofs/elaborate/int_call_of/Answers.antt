@@ -7,10 +7,10 @@ use Rattle.aos_check.proofs.elaborate.int_call_of.Goals as goal
 
 pub int_arguments_of-requires : goal.int_arguments_of-requires
 int_arguments_of-requires c =
-    subst (λ es. bodies.int_arguments c.args.text.now c.args.scope.now c.args.types.now c.args.at es ≡ []) (sym c.as_slice.ensures) (calls.int_parts c.args.text.now c.args.scope.now c.args.types.now c.args.at c.args.selectors.now c.in-Some.selector.now c.in-Some.field-0-1.now c.in-Paren.field-0 c.in-Paren.arguments c.in-Some.ensures.cases.0 c.in-Paren.is c.requires).0
+    subst (λ es. bodies.int_arguments c.args.scope.now.text c.args.scope.now.entries c.args.types.now c.args.at es ≡ []) (sym c.as_slice.ensures) (calls.int_parts c.args.scope.now.text c.args.scope.now.entries c.args.types.now c.args.at c.args.selectors.now c.in-Some.selector.now c.in-Some.field-0-1.now c.in-Paren.field-0 c.in-Paren.arguments c.in-Some.ensures.cases.0 c.in-Paren.is c.requires).0
 
 pub returns : goal.returns
 returns c =
-    if_ok (λ b. typed.IsIntArguments c.args.text.now c.args.scope.now c.args.types.now c.args.at c.as_slice.result.now b) (λ b. typed.IsIntCall c.args.text.now c.args.scope.now c.args.types.now c.args.at c.args.selectors.now b) c.int_arguments_of.result
-    (λ b is. subst (λ z. typed.IsIntCall c.args.text.now c.args.scope.now c.args.types.now c.args.at z b) (sym (calls.int_parts c.args.text.now c.args.scope.now c.args.types.now c.args.at c.args.selectors.now c.in-Some.selector.now c.in-Some.field-0-1.now c.in-Paren.field-0 c.in-Paren.arguments c.in-Some.ensures.cases.0 c.in-Paren.is c.requires).1)
-    (typed.int_call (subst (λ es. typed.IsIntArguments c.args.text.now c.args.scope.now c.args.types.now c.args.at es b) c.as_slice.ensures is))) c.int_arguments_of.ensures
+    if_ok (λ b. typed.IsIntArguments c.args.scope.now.text c.args.scope.now.entries c.args.types.now c.args.at c.as_slice.result.now b) (λ b. typed.IsIntCall c.args.scope.now.text c.args.scope.now.entries c.args.types.now c.args.at c.args.selectors.now b) c.int_arguments_of.result
+    (λ b is. subst (λ z. typed.IsIntCall c.args.scope.now.text c.args.scope.now.entries c.args.types.now c.args.at z b) (sym (calls.int_parts c.args.scope.now.text c.args.scope.now.entries c.args.types.now c.args.at c.args.selectors.now c.in-Some.selector.now c.in-Some.field-0-1.now c.in-Paren.field-0 c.in-Paren.arguments c.in-Some.ensures.cases.0 c.in-Paren.is c.requires).1)
+    (typed.int_call (subst (λ es. typed.IsIntArguments c.args.scope.now.text c.args.scope.now.entries c.args.types.now c.args.at es b) c.as_slice.ensures is))) c.int_arguments_of.ensures

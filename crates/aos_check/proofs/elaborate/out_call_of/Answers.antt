@@ -5,5 +5,5 @@ use Rattle.aos_check.proofs.elaborate.out_call_of.Goals as goal
 
 pub returns : goal.returns
 returns c =
-    if_ok (λ b. typed.IsMemberCall c.args.text.now c.args.scope.now c.args.types.now c.args.at c.in-Field.name c.in-Some.more.now b) (λ b. typed.IsOutCall c.args.text.now c.args.scope.now c.args.types.now c.args.at c.args.selectors.now b) c.member_call_of.result
-    (λ b is. subst (λ z. typed.IsOutCall c.args.text.now c.args.scope.now c.args.types.now c.args.at z b) (sym (c.in-Some.ensures.cases.0 ∙ ap (λ z. z ∷ c.in-Some.more.now) c.in-Field.is)) (typed.member is)) c.member_call_of.ensures
+    if_ok (λ b. typed.IsMemberCall c.args.scope.now.text c.args.scope.now.entries c.args.types.now c.args.at c.in-Field.name c.in-Some.more.now b) (λ b. typed.IsOutCall c.args.scope.now.text c.args.scope.now.entries c.args.types.now c.args.at c.args.selectors.now b) c.member_call_of.result
+    (λ b is. subst (λ z. typed.IsOutCall c.args.scope.now.text c.args.scope.now.entries c.args.types.now c.args.at z b) (sym (c.in-Some.ensures.cases.0 ∙ ap (λ z. z ∷ c.in-Some.more.now) c.in-Field.is)) (typed.member is)) c.member_call_of.ensures

@@ -1,5 +1,4 @@
-use Rattle.std.proofs.Common.{refl, ap, sym, ◌∙◌, inr}
-use Rattle.aos_symbols.specs.Heads as heads
+use Rattle.std.proofs.Common.{refl, sym, ◌∙◌, inr, Some, None}
 use Rattle.std.proofs.Common.{codes}
 use Rattle.aos_symbols.specs.Spelling.{is_word}
 use Rattle.aos_check.specs.Elaborate as elaborate
@@ -20,12 +19,48 @@ returns-then-is_word-clause-refused c =
 
 pub program_of-requires-clause-heads : goal.program_of-requires-clause-heads
 program_of-requires-clause-heads c =
-    passes.heads_kept c.args.text.now c.args.tree.now c.deref-4.result.now (c.deref-4.ensures.value ∙ c.in-Ok-entries.ensures) (sym c.in-Ok-check_heads.ensures.breaches ∙ c.in_default-breach-2.is)
+    let s = c.in-Ok-of.scope in
+    passes.heads_kept s.text c.args.tree.now s.entries c.in-Ok-of.ensures.entries (sym c.in-Ok-check_heads.ensures.breaches ∙ c.in_default-breach-2.is)
 
 pub program_of-requires-clause-objects : goal.program_of-requires-clause-objects
 program_of-requires-clause-objects c =
-    passes.objects_kept c.args.text.now c.args.tree.now c.deref-4.result.now (c.deref-4.ensures.value ∙ c.in-Ok-entries.ensures) c.deref-5.result.now (c.deref-5.ensures.value ∙ c.in-Ok-check_heads.ensures.types ∙ ap (λ s. heads.variable_types c.args.text.now s c.args.tree.now.decls) (c.deref.ensures.value ∙ sym c.deref-4.ensures.value)) (sym c.in_default-check_bodies.ensures)
+    let s = c.in-Ok-of.scope in
+    passes.objects_kept s.text c.args.tree.now s.entries c.in-Ok-of.ensures.entries c.deref-2.result.now (c.deref-2.ensures.value ∙ c.in-Ok-check_heads.ensures.types) (sym c.in_default-check_bodies.ensures)
 
 pub program_of-requires-clause-body : goal.program_of-requires-clause-body
 program_of-requires-clause-body c =
-    passes.body_kept c.args.text.now c.args.tree.now c.deref-4.result.now (c.deref-4.ensures.value ∙ c.in-Ok-entries.ensures) c.deref-5.result.now (c.deref-5.ensures.value ∙ c.in-Ok-check_heads.ensures.types ∙ ap (λ s. heads.variable_types c.args.text.now s c.args.tree.now.decls) (c.deref.ensures.value ∙ sym c.deref-4.ensures.value)) (sym c.in_default-check_bodies.ensures)
+    let s = c.in-Ok-of.scope in
+    passes.body_kept s.text c.args.tree.now s.entries c.in-Ok-of.ensures.entries c.deref-2.result.now (c.deref-2.ensures.value ∙ c.in-Ok-check_heads.ensures.types) (sym c.in_default-check_bodies.ensures)
+
+pub returns-in-Some-breach-clause-refused : goal.returns-in-Some-breach-clause-refused
+returns-in-Some-breach-clause-refused c =
+    let b = c.in-Some-breach.breach in
+    inr (record {
+      refusal = elaborate.refusal_of c.args.file b;
+      refused = record {
+        breach = b;
+        is_first = passes.in_headings c.args.text.now c.in-Ok-of.scope.text c.args.tree.now c.in-Ok-of.ensures.text (sym c.is_word.ensures ∙ c.if-is_word.false) (sym c.in-Ok.ensures ∙ c.in_default-breach.is) b
+            (sym c.in-Ok-check_heads.ensures.breaches ∙ c.in-Some-breach.is);
+        is = refl;
+      };
+      is = c.refused-in-Some-breach.ensures;
+    })
+
+pub returns-in-Some-check_bodies-clause-refused : goal.returns-in-Some-check_bodies-clause-refused
+returns-in-Some-check_bodies-clause-refused c =
+    let b = c.in-Some-check_bodies.breach in
+    inr (record {
+      refusal = elaborate.refusal_of c.args.file b;
+      refused = record {
+        breach = b;
+        is_first = passes.in_bodies c.args.text.now c.in-Ok-of.scope.text c.args.tree.now c.in-Ok-of.ensures.text (sym c.is_word.ensures ∙ c.if-is_word.false) (sym c.in-Ok.ensures ∙ c.in_default-breach.is) (Some b)
+            (sym c.in-Ok-check_heads.ensures.breaches ∙ c.in_default-breach-2.is) (sym c.in-Some-check_bodies.ensures);
+        is = refl;
+      };
+      is = c.refused-in-Some-check_bodies.ensures;
+    })
+
+pub returns-in-Ok-program_of-clause-accepted : goal.returns-in-Ok-program_of-clause-accepted
+returns-in-Ok-program_of-clause-accepted c =
+    passes.in_bodies c.args.text.now c.in-Ok-of.scope.text c.args.tree.now c.in-Ok-of.ensures.text (sym c.is_word.ensures ∙ c.if-is_word.false) (sym c.in-Ok.ensures ∙ c.in_default-breach.is) None
+    (sym c.in-Ok-check_heads.ensures.breaches ∙ c.in_default-breach-2.is) (sym c.in_default-check_bodies.ensures)

@@ -3,4 +3,4 @@ use Rattle.aos_check.specs.Typed as typed
 use Rattle.aos_check.proofs.program.add_objects.Given as goal
 
 abbrev pub invariant-loop-def : goal.invariant-loop-def
-invariant-loop-def l = typed.AddsObjects l.text l.scope l.types (take l.def-index l.defs) l.initial.out.items l.out.items
+invariant-loop-def l = typed.AddsObjects l.scope.text l.scope.entries l.types (take l.def-index l.defs) l.initial.out.items l.out.items

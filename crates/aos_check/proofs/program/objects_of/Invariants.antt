@@ -4,4 +4,4 @@ use Rattle.aos_check.specs.Typed as typed
 use Rattle.aos_check.proofs.program.objects_of.Given as goal
 
 abbrev pub invariant-loop-decl : goal.invariant-loop-decl
-invariant-loop-decl l = typed.AddsObjects l.text l.scope l.types (type_defs (take l.decl-index l.decls)) [] l.out.items
+invariant-loop-decl l = typed.AddsObjects l.scope.text l.scope.entries l.types (type_defs (take l.decl-index l.decls)) [] l.out.items

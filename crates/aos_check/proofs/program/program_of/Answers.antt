@@ -8,7 +8,7 @@ use Rattle.aos_check.proofs.program.program_of.Goals as goal
 
 pub variables_of-requires : goal.variables_of-requires
 variables_of-requires c =
-    ap (λ z. length z) c.requires.types ∙ objects.typed_all c.args.text.now c.args.scope.now c.args.tree.now.decls c.requires.heads ∙ ap (λ z. length z) (sym (c.deref.ensures.value ∙ c.in_ok-names.ensures ∙ ap (λ ds. variable_names ds) c.as_slice-decls.ensures))
+    ap (λ z. length z) c.requires.types ∙ objects.typed_all c.args.scope.now.text c.args.scope.now.entries c.args.tree.now.decls c.requires.heads ∙ ap (λ z. length z) (sym (c.deref.ensures.value ∙ c.in_ok-names.ensures ∙ ap (λ ds. variable_names ds) c.as_slice-decls.ensures))
 
 pub returns : goal.returns
 returns c =
@@ -17,10 +17,11 @@ returns c =
       home = home;
       alone = c.in_ok-push.ensures.items ∙ ap (λ z. z ++ home ∷ []) c.new-modules.ensures.items;
       is = record {
-        name = c.in_ok-name.ensures;
-        variables_are = subst (λ ns. typed.AreVariables c.args.text.now c.args.types.now ns c.in_ok-variables.variables.items) (c.deref.ensures.value ∙ c.in_ok-names.ensures ∙ ap (λ ds. variable_names ds) c.as_slice-decls.ensures) c.in_ok-variables.ensures;
+        name = c.in_ok-name.ensures ∙ ap (λ t. typed.spelling t c.args.tree.now.name) c.text-2.ensures;
+        variables_are = subst (λ t. typed.AreVariables t c.args.types.now (variable_names c.args.tree.now.decls) c.in_ok-variables.variables.items) c.text.ensures
+            (subst (λ ns. typed.AreVariables c.text.result.now c.args.types.now ns c.in_ok-variables.variables.items) (c.deref.ensures.value ∙ c.in_ok-names.ensures ∙ ap (λ ds. variable_names ds) c.as_slice-decls.ensures) c.in_ok-variables.ensures);
         body = c.in_ok-body.ensures;
       };
-      objects = subst (λ ds. typed.AreObjects c.args.text.now c.args.scope.now c.args.types.now (type_defs ds) c.in_ok-objects.objects.items) c.as_slice-decls.ensures
-          (subst (λ os. typed.AreObjects c.args.text.now c.args.scope.now c.args.types.now (type_defs c.as_slice-decls.result.now) os) (sym c.in_ok-objects.ensures.all) c.in_ok-objects.ensures.are);
+      objects = subst (λ ds. typed.AreObjects c.args.scope.now.text c.args.scope.now.entries c.args.types.now (type_defs ds) c.in_ok-objects.objects.items) c.as_slice-decls.ensures
+          (subst (λ os. typed.AreObjects c.args.scope.now.text c.args.scope.now.entries c.args.types.now (type_defs c.as_slice-decls.result.now) os) (sym c.in_ok-objects.ensures.all) c.in_ok-objects.ensures.are);
     }

@@ -7,17 +7,17 @@ use Rattle.aos_check.proofs.typed.condition_of.Goals as goal
 
 pub sum-requires : goal.sum-requires
 sum-requires c =
-    whole.left (bodies.sum_breaches c.args.text.now c.args.scope.now c.args.types.now (out-Expr c.args.condition.now).left) (bodies.compared c.args.text.now c.args.scope.now c.args.types.now (out-Expr c.args.condition.now).right c.args.at) c.requires
+    whole.left (bodies.sum_breaches c.args.scope.now.text c.args.scope.now.entries c.args.types.now (out-Expr c.args.condition.now).left) (bodies.compared c.args.scope.now.text c.args.scope.now.entries c.args.types.now (out-Expr c.args.condition.now).right c.args.at) c.requires
 
 pub sum-requires-2 : goal.sum-requires-2
 sum-requires-2 c =
-    (whole.compared_parts c.args.text.now c.args.scope.now c.args.types.now c.args.at c.args.condition.now c.in-Some.relation c.in-Some.is c.requires).1
+    (whole.compared_parts c.args.scope.now.text c.args.scope.now.entries c.args.types.now c.args.at c.args.condition.now c.in-Some.relation c.in-Some.is c.requires).1
 
 pub order-requires : goal.order-requires
 order-requires c =
-    (whole.compared_parts c.args.text.now c.args.scope.now c.args.types.now c.args.at c.args.condition.now c.in-Some.relation c.in-Some.is c.requires).0
+    (whole.compared_parts c.args.scope.now.text c.args.scope.now.entries c.args.types.now c.args.at c.args.condition.now c.in-Some.relation c.in-Some.is c.requires).0
 
 pub returns : goal.returns
 returns c =
-    if_ok (λ e. typed.IsCompare c.order.result c.in_ok-left.left c.in_ok-right.right e) (λ e. typed.IsCondition c.args.text.now c.args.scope.now c.args.types.now c.args.condition.now e) c.compared.result
+    if_ok (λ e. typed.IsCompare c.order.result c.in_ok-left.left c.in_ok-right.right e) (λ e. typed.IsCondition c.args.scope.now.text c.args.scope.now.entries c.args.types.now c.args.condition.now e) c.compared.result
     (λ e is. typed.compared c.in-Some.is c.order.ensures c.in_ok-left.ensures c.in_ok-right.ensures is) c.compared.ensures

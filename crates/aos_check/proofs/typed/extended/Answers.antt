@@ -5,13 +5,13 @@ use Rattle.aos_check.proofs.typed.extended.Goals as goal
 
 pub plain_term-right-requires : goal.plain_term-right-requires
 plain_term-right-requires c =
-    (whole.joins c.args.text.now c.args.scope.now c.args.types.now c.args.addition.now c.requires).1
+    (whole.joins c.args.scope.now.text c.args.scope.now.entries c.args.types.now c.args.addition.now c.requires).1
 
 pub operator-requires : goal.operator-requires
 operator-requires c =
-    (whole.joins c.args.text.now c.args.scope.now c.args.types.now c.args.addition.now c.requires).0
+    (whole.joins c.args.scope.now.text c.args.scope.now.entries c.args.types.now c.args.addition.now c.requires).0
 
 pub returns : goal.returns
 returns c =
-    if_ok (λ e. typed.IsBinary c.operator.result c.args.left c.plain_term-right.result e) (λ e. typed.IsJoined c.args.text.now c.args.scope.now c.args.types.now c.args.left c.args.addition.now e) c.joined.result
+    if_ok (λ e. typed.IsBinary c.operator.result c.args.left c.plain_term-right.result e) (λ e. typed.IsJoined c.args.scope.now.text c.args.scope.now.entries c.args.types.now c.args.left c.args.addition.now e) c.joined.result
     (λ e is. typed.joined c.operator.ensures c.plain_term-right.ensures is) c.joined.ensures

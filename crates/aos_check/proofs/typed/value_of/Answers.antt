@@ -7,9 +7,9 @@ use Rattle.aos_check.proofs.typed.value_of.Goals as goal
 
 pub sum-requires : goal.sum-requires
 sum-requires c =
-    whole.left (bodies.sum_breaches c.args.text.now c.args.scope.now c.args.types.now (out-Expr c.args.value.now).left) (bodies.relation_breaches (out-Expr c.args.value.now).right) c.requires
+    whole.left (bodies.sum_breaches c.args.scope.now.text c.args.scope.now.entries c.args.types.now (out-Expr c.args.value.now).left) (bodies.relation_breaches (out-Expr c.args.value.now).right) c.requires
 
 pub returns : goal.returns
 returns c =
-    if_ok (λ e. typed.IsSum c.args.text.now c.args.scope.now c.args.types.now (out-Expr c.args.value.now).left e) (λ e. typed.IsValue c.args.text.now c.args.scope.now c.args.types.now c.args.value.now e) c.sum.result
-    (λ e is. record { no_relation = whole.no_relation (out-Expr c.args.value.now).right (whole.right (bodies.sum_breaches c.args.text.now c.args.scope.now c.args.types.now (out-Expr c.args.value.now).left) (bodies.relation_breaches (out-Expr c.args.value.now).right) c.requires); sum = is }) c.sum.ensures
+    if_ok (λ e. typed.IsSum c.args.scope.now.text c.args.scope.now.entries c.args.types.now (out-Expr c.args.value.now).left e) (λ e. typed.IsValue c.args.scope.now.text c.args.scope.now.entries c.args.types.now c.args.value.now e) c.sum.result
+    (λ e is. record { no_relation = whole.no_relation (out-Expr c.args.value.now).right (whole.right (bodies.sum_breaches c.args.scope.now.text c.args.scope.now.entries c.args.types.now (out-Expr c.args.value.now).left) (bodies.relation_breaches (out-Expr c.args.value.now).right) c.requires); sum = is }) c.sum.ensures

@@ -5,4 +5,4 @@ use Rattle.aos_symbols.specs.Heads as heads
 use Rattle.aos_symbols.proofs.heads.check_variable_defs.Given as goal
 
 abbrev pub invariant-loop-def : goal.invariant-loop-def
-invariant-loop-def l = record { breaches : l.found ≡ first_after l.initial.found (flat_map (heads.variable_def l.text l.scope l.at) (take l.def-index l.defs)); types : l.types.items ≡ l.initial.types.items ++ flat_map (heads.types_of_def l.text l.scope) (take l.def-index l.defs) }
+invariant-loop-def l = record { breaches : l.found ≡ first_after l.initial.found (flat_map (heads.variable_def l.scope.text l.scope.entries l.at) (take l.def-index l.defs)); types : l.types.items ≡ l.initial.types.items ++ flat_map (heads.types_of_def l.scope.text l.scope.entries) (take l.def-index l.defs) }
