@@ -8,4 +8,4 @@ mod image;
 pub mod program;
 
 pub use compile_err::CompileErr;
-pub use program::{compile, refused_or_accepted};
+pub use program::{compile, one_refusal, refused_or_accepted};

@@ -50,3 +50,8 @@ pub fn compile(alloc: Global, text: &[u8]) -> Result<(Program, Image), CompileEr
 pub fn refused_or_accepted()
     ensures { (text : List ℕ) (r : Refusal) → IsRefused text r → ¬ IsAccepted text }
 {}
+
+/// The law: a text is refused in one way at most, by one rule at one place.
+pub fn one_refusal()
+    ensures { (text : List ℕ) (r s : Refusal) → IsRefused text r → IsRefused text s → r ≡ s }
+{}
