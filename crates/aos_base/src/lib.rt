@@ -11,6 +11,3 @@ pub use kernel::{Did, Event, LockName, MAX_STEPS, Outcome, Sched, Verdict};
 pub use number::{Relation, Width, abs, add, ash, div, fits, modulo, mul, neg, related, sub};
 pub use set::{set_has, set_span};
 pub use text::{NoMemory, Pos, Refusal};
-
-#[cfg(test)]
-mod tests;

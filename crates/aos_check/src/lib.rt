@@ -8,8 +8,6 @@ mod expressions;
 mod laws;
 pub mod module;
 mod program;
-#[cfg(test)]
-mod tests;
 mod typed;
 
 pub use laws::{law_of_spelling, law_of_typing};

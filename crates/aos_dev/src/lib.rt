@@ -18,6 +18,3 @@ pub use no_fail_sink::NoFailSink;
 pub use shelf::{Got, Shelf};
 pub use sink::{Put, Sink};
 pub use std_sink::StdSink;
-
-#[cfg(test)]
-mod tests;

@@ -72,6 +72,3 @@ pub fn desig(
     let (tree, rest) = descent::desig(alloc, &tokens[at..], depth)?;
     Ok((tree, tokens.len() - rest.len()))
 }
-
-#[cfg(test)]
-mod tests;

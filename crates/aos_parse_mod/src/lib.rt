@@ -39,6 +39,3 @@ pub fn module(alloc: Global, tokens: &[Token]) -> Result<Module, ParseErr>
 {
     text::text(alloc, tokens)
 }
-
-#[cfg(test)]
-mod tests;

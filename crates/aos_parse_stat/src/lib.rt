@@ -48,6 +48,3 @@ pub fn block(
     let (tree, rest) = descent::block(alloc, &tokens[at..], depth)?;
     Ok((tree, tokens.len() - rest.len()))
 }
-
-#[cfg(test)]
-mod tests;

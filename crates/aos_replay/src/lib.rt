@@ -2,8 +2,6 @@
 #![tactic(auto)]
 
 mod entry;
-#[cfg(test)]
-mod tests;
 mod whole;
 
 pub use whole::replay;

@@ -8,8 +8,6 @@ pub mod refusal;
 mod run;
 mod scanner;
 mod symbol;
-#[cfg(test)]
-mod tests;
 pub mod token;
 mod word;
 

@@ -6,8 +6,6 @@ mod error;
 mod line;
 mod number;
 mod script;
-#[cfg(test)]
-mod tests;
 mod word;
 
 pub use error::ScriptErr;

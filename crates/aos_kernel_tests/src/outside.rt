@@ -1,5 +1,5 @@
 // Every shelf and every sink, each through the bound of its trait.
-use crate::{FileShelf, Got, MemShelf, MemSink, NoFailSink, Put, Shelf, Sink, StdSink};
+use aos_dev::{FileShelf, Got, MemShelf, MemSink, NoFailSink, Put, Shelf, Sink, StdSink};
 use std::alloc::{AllocError, Global};
 use std::io::{self, ErrorKind, Write};
 use std::process::Abort;

@@ -1,6 +1,6 @@
 // Texts and what they say, by hand.
 
-use crate::script::read_script;
+use aos_script::read_script;
 use std::alloc::Global;
 use std::process::Abort;
 use std::test::Fail;

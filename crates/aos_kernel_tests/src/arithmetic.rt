@@ -1,6 +1,6 @@
 // Arithmetic against vectors that Python computed. Its integers have no bound, and its // and % and >> round down, as DIV,
 // MOD and ASH do.
-use crate::{Width, abs, add, ash, div, modulo, mul, neg, set_has, set_span, sub};
+use aos_base::{Width, abs, add, ash, div, modulo, mul, neg, set_has, set_span, sub};
 use std::str::SplitWhitespace;
 use std::test::Fail;
 

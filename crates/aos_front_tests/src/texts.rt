@@ -1,8 +1,6 @@
 // Texts and their tokens, by hand.
 
-use crate::refusal::ScanErr;
-use crate::scanner::scan;
-use crate::token::{Token, TokenKind};
+use aos_scan::{Token, TokenKind, scan};
 use std::alloc::Global;
 use std::process::Abort;
 use std::test::Fail;

@@ -1,26 +1,11 @@
 // A table of modules, a byte for each token, and what is read of them or where they break a rule.
 
-ghost use Rattle.std.specs.Prelude.{IsTrue};
-ghost use Rattle.aos_tree.specs.Ended.{IsEnded};
-
-use crate::{ParseErr, module};
-use aos_base::Pos;
+use crate::tokens::Outcome::{self, Deep, Expected, Module as Read};
+use crate::tokens::{is_ended, push, refused};
+use aos_parse_mod::module;
 use aos_scan::{Token, TokenKind};
 use std::alloc::{AllocError, Global};
 use std::test::Fail;
-
-#[derive(Clone, Copy, PartialEq, Eq, Debug)]
-enum Outcome {
-    /// A module with so many imports and declarations.
-    Read(usize, usize),
-    /// The column of the token, from 1.
-    Expected(u32),
-    Deep(u32),
-    NoMemory,
-    Untried,
-}
-
-use Outcome::{Deep, Expected, Read};
 
 fn kind(byte: u8) -> TokenKind {
     match byte {
@@ -56,19 +41,6 @@ fn kind(byte: u8) -> TokenKind {
     }
 }
 
-fn push(tokens: &mut Vec<Token>, kind: TokenKind) -> Result<(), AllocError> {
-    let col = u32::try_from(tokens.len()).unwrap_or(0).wrapping_add(1);
-    let pos = Pos { line: 1, col };
-    tokens.push(Token {
-        kind,
-        start: col,
-        end: col,
-        pos,
-        value: 0,
-    })?;
-    Ok(())
-}
-
 /// The tokens of two texts, so many pointers between them, at most `limit` tokens before the end.
 fn tokens(
     alloc: Global,
@@ -92,27 +64,13 @@ fn tokens(
     Ok(found)
 }
 
-fn is_ended(tokens: &[Token]) -> bool
-    ensures { IsTrue result → IsEnded tokens.now }
-{
-    match tokens.split_first() {
-        None => false,
-        Some((first, rest)) => match first.kind {
-            TokenKind::End => rest.is_empty(),
-            _ => is_ended(rest),
-        },
-    }
-}
-
 fn outcome_of(alloc: Global, tokens: &[Token]) -> Outcome {
     if !is_ended(tokens) {
         return Outcome::Untried;
     }
     match module(alloc, tokens) {
         Ok(tree) => Read(tree.imports.len(), tree.decls.len()),
-        Err(ParseErr::Expected(pos)) => Expected(pos.col),
-        Err(ParseErr::Deep(pos)) => Deep(pos.col),
-        Err(ParseErr::NoMemory) => Outcome::NoMemory,
+        Err(err) => refused(&err),
     }
 }
 

@@ -1,27 +1,12 @@
 // Tables of texts, a byte for each token, with what an Earley recognizer of the grammar says of them.
 
-ghost use Rattle.std.specs.Prelude.{IsTrue};
-ghost use Rattle.aos_tree.specs.Ended.{IsEnded};
-
-use crate::{ParseErr, desig, expr};
-use aos_base::Pos;
+use crate::tokens::Outcome::{self, Deep, Ends, Expected};
+use crate::tokens::{is_ended, push, refused};
+use aos_parse_expr::{desig, expr};
 use aos_scan::{Token, TokenKind};
 use aos_tree::{Factor, Selector, Sign};
 use std::alloc::{AllocError, Global};
 use std::test::Fail;
-
-#[derive(Clone, Copy, PartialEq, Eq, Debug)]
-enum Outcome {
-    /// The place after it, from 0.
-    Ends(usize),
-    /// The column of the token, from 1.
-    Expected(u32),
-    Deep(u32),
-    NoMemory,
-    Untried,
-}
-
-use Outcome::{Deep, Ends, Expected};
 
 fn kind(byte: u8) -> TokenKind {
     match byte {
@@ -61,19 +46,6 @@ fn kind(byte: u8) -> TokenKind {
     }
 }
 
-fn push(tokens: &mut Vec<Token>, kind: TokenKind) -> Result<(), AllocError> {
-    let col = u32::try_from(tokens.len()).unwrap_or(0).wrapping_add(1);
-    let pos = Pos { line: 1, col };
-    tokens.push(Token {
-        kind,
-        start: col,
-        end: col,
-        pos,
-        value: 0,
-    })?;
-    Ok(())
-}
-
 fn tokens(alloc: Global, text: &str) -> Result<Vec<Token>, AllocError> {
     let mut found = Vec::new(alloc);
     for byte in text.bytes() {
@@ -83,27 +55,13 @@ fn tokens(alloc: Global, text: &str) -> Result<Vec<Token>, AllocError> {
     Ok(found)
 }
 
-fn is_ended(tokens: &[Token]) -> bool
-    ensures { IsTrue result → IsEnded tokens.now }
-{
-    match tokens.split_first() {
-        None => false,
-        Some((first, rest)) => match first.kind {
-            TokenKind::End => rest.is_empty(),
-            _ => is_ended(rest),
-        },
-    }
-}
-
 fn outcome_of(alloc: Global, tokens: &[Token], depth: u32) -> Outcome {
     if tokens.is_empty() || depth > 200 || !is_ended(tokens) {
         return Outcome::Untried;
     }
     match expr(alloc, tokens, 0, depth) {
         Ok((_, next)) => Ends(next),
-        Err(ParseErr::Expected(pos)) => Expected(pos.col),
-        Err(ParseErr::Deep(pos)) => Deep(pos.col),
-        Err(ParseErr::NoMemory) => Outcome::NoMemory,
+        Err(err) => refused(&err),
     }
 }
 

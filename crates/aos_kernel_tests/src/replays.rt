@@ -1,37 +1,13 @@
 // An image of one module, driven by scripts.
 
-use crate::whole::replay;
-use aos_code::{Body, Image, Instr, ModuleDesc, ProcShape};
+use crate::images::sample;
 use aos_kernel::Kernel;
+use aos_replay::replay;
 use aos_script::read_script;
-use std::alloc::{AllocError, Global};
+use std::alloc::Global;
 use std::process::Abort;
 use std::sync::Arc;
 use std::test::Fail;
-
-/// One module, whose body writes 7 in three places and ends the line.
-fn sample(alloc: Global) -> Result<Image, AllocError> {
-    let code = vec![in alloc;
-        Instr::Begin(1, 1),
-        Instr::Num(7),
-        Instr::Num(3),
-        Instr::OutInt,
-        Instr::Begin(2, 1),
-        Instr::OutLn,
-        Instr::Return,
-    ]?;
-    let module = ModuleDesc {
-        name: String::from_str(alloc, "M")?,
-        cells: Vec::new(alloc),
-        body: 1,
-    };
-    Ok(Image {
-        modules: vec![in alloc; module]?,
-        types: Vec::new(alloc),
-        shapes: vec![in alloc; ProcShape { module: 0 }]?,
-        bodies: vec![in alloc; Body { code }]?,
-    })
-}
 
 /// Run lines for two workers, and the outcome, the output and the log that they come to. Twice 10^9 idle steps take no
 /// time.

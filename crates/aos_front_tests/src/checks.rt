@@ -1,7 +1,7 @@
 // Small modules, with ample memory: their programs and refusals.
 
-use crate::module::{CheckErr, check};
 use aos_base::{Pos, Refusal};
+use aos_check::{CheckErr, check};
 use aos_tree::{Items, Module, Name};
 use std::alloc::Global;
 use std::test::Fail;

@@ -1,0 +1,15 @@
+//! Tests of the way from a text to its typed program: tokens, trees and the check, each by tables.
+#![tactic(auto)]
+
+#[cfg(test)]
+mod blocks;
+#[cfg(test)]
+mod checks;
+#[cfg(test)]
+mod expressions;
+#[cfg(test)]
+mod modules;
+#[cfg(test)]
+mod texts;
+#[cfg(test)]
+mod tokens;

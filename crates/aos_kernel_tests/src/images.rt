@@ -1,0 +1,28 @@
+// Images by hand.
+
+use aos_code::{Body, Image, Instr, ModuleDesc, ProcShape};
+use std::alloc::{AllocError, Global};
+
+/// One module, whose body writes 7 in three places and ends the line.
+pub fn sample(alloc: Global) -> Result<Image, AllocError> {
+    let code = vec![in alloc;
+        Instr::Begin(1, 1),
+        Instr::Num(7),
+        Instr::Num(3),
+        Instr::OutInt,
+        Instr::Begin(2, 1),
+        Instr::OutLn,
+        Instr::Return,
+    ]?;
+    let module = ModuleDesc {
+        name: String::from_str(alloc, "M")?,
+        cells: Vec::new(alloc),
+        body: 1,
+    };
+    Ok(Image {
+        modules: vec![in alloc; module]?,
+        types: Vec::new(alloc),
+        shapes: vec![in alloc; ProcShape { module: 0 }]?,
+        bodies: vec![in alloc; Body { code }]?,
+    })
+}

@@ -1,0 +1,15 @@
+//! Tests of what a run stands on: arithmetic, shelves and sinks, scripts, the kernel, and replays.
+#![tactic(auto)]
+
+#[cfg(test)]
+mod arithmetic;
+#[cfg(test)]
+mod images;
+#[cfg(test)]
+mod kernels;
+#[cfg(test)]
+mod outside;
+#[cfg(test)]
+mod replays;
+#[cfg(test)]
+mod scripts;
