@@ -14,7 +14,8 @@ fn element(x: i64) -> Option<u32>
 /// (Oberon-2 report, 8.2.3; trap 14).
 pub fn set_span(a: i64, b: i64) -> Option<u32>
     ensures value { result ≡ span_of a b }
-    ensures elements { IfSome result (λ set. (n : ℕ) → IsTrue (has set n) ↔ ((a ≤ℤ pos n) × (pos n ≤ℤ b))) }
+    ensures elements { IfSome result (λ set. (n : ℕ) → IsTrue (has set n) ↔
+        ((a ≤ℤ pos n) × (pos n ≤ℤ b))) }
 {
     let first = element(a)?;
     let last = element(b)?;

@@ -15,19 +15,25 @@ ghost use Rattle.aos_concurrency.specs.Toy.{Command, Skip, Shared, Program, Fram
 
 /// Mutual exclusion at the machine, where its commands are well nested.
 pub fn toy_excludes()
-    ensures exclusive { (p : Program) (budget : ℕ) (cs : List Choice) → IsNested p → Mutual toy (toy_run p budget cs) }
+    ensures exclusive { (p : Program) (budget : ℕ) (cs : List Choice) → IsNested p →
+        Mutual toy (toy_run p budget cs) }
 {}
 
 /// The compiled machine is seen to do the same.
 pub fn coded_shows()
-    ensures observation { (p : Program) (budget : ℕ) (cs : List Choice) → observation toy (toy_run p budget cs) ≡ observation coded (coded_run p budget cs) }
-    ensures events { (p : Program) (budget : ℕ) (cs : List Choice) → (toy_run p budget cs).book.events ≡ (coded_run p budget cs).book.events }
+    ensures observation { (p : Program) (budget : ℕ) (cs : List Choice) →
+        observation toy (toy_run p budget cs) ≡ observation coded (coded_run p budget cs) }
+    ensures events { (p : Program) (budget : ℕ) (cs : List Choice) →
+        (toy_run p budget cs).book.events ≡ (coded_run p budget cs).book.events }
 {}
 
 /// A condition reads the number of its lock alone, so it holds until the heir's turn; and there is such an heir.
 pub fn toy_hands_over()
-    ensures handed { (p : Program) (budget : ℕ) (before others : List Choice) (entry : Choice) (a : ℕ) (l : LockName) (c : ℕ) → IsNested p → HandsOver toy IsAnyLocal (toy_run p budget before) entry a l c others }
-    ensures given { IsGiven toy (toy_run waits_for_one 100 up_to_the_release) (Step 0) 0 (LockName.Object 1) 1 }
+    ensures handed { (p : Program) (budget : ℕ) (before others : List Choice) (entry : Choice)
+        (a : ℕ) (l : LockName) (c : ℕ) → IsNested p →
+        HandsOver toy IsAnyLocal (toy_run p budget before) entry a l c others }
+    ensures given { IsGiven toy (toy_run waits_for_one 100 up_to_the_release) (Step 0) 0
+        (LockName.Object 1) 1 }
     ensures nested { IsNested waits_for_one }
 {}
 
@@ -39,12 +45,20 @@ pub fn toy_alike()
 
 /// What is left to each that runs stays well nested.
 pub fn toy_stays_nested()
-    ensures nested { (p : Program) (budget : ℕ) (cs : List Choice) → IsNested p → (a : ℕ) (f : Frames) → acting toy (toy_run p budget cs) a ≡ Some f → Nested f.rest f.regions }
+    ensures nested { (p : Program) (budget : ℕ) (cs : List Choice) → IsNested p →
+        (a : ℕ) (f : Frames) → acting toy (toy_run p budget cs) a ≡ Some f →
+        Nested f.rest f.regions }
 {}
 
 /// Two turns that skip, made elsewhere, are two steps, here also after two steps of another worker.
 pub fn toy_settles()
     ensures lent { IsLent 0 0 (lent_at.book.activity 0) (skipping (Skip ∷ Skip ∷ [])) lent_at }
-    ensures later { execution toy (Step 0 ∷ Step 0 ∷ []) settled_at ≡ settled 0 (skipping []) (true ∷ true ∷ []) settled_at }
-    ensures settle { (st : State Shared Frames) (w a : ℕ) (f : Frames) (rest : List Command) → GoesOn a (true ∷ true ∷ []) st.book → on_worker w st.book.line ≡ Some a → (st.book.activity a).next ≡ Runs → st.frames a ≡ record f { rest = Skip ∷ Skip ∷ rest } → execution toy (Step w ∷ Step w ∷ []) st ≡ settled a (record f { rest = rest }) (true ∷ true ∷ []) st }
+    ensures later { execution toy (Step 0 ∷ Step 0 ∷ []) settled_at ≡
+        settled 0 (skipping []) (true ∷ true ∷ []) settled_at }
+    ensures settle { (st : State Shared Frames) (w a : ℕ) (f : Frames) (rest : List Command) →
+        GoesOn a (true ∷ true ∷ []) st.book → on_worker w st.book.line ≡ Some a →
+        (st.book.activity a).next ≡ Runs →
+        st.frames a ≡ record f { rest = Skip ∷ Skip ∷ rest } →
+        execution toy (Step w ∷ Step w ∷ []) st ≡
+        settled a (record f { rest = rest }) (true ∷ true ∷ []) st }
 {}

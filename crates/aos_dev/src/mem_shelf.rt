@@ -64,12 +64,14 @@ impl Shelf for MemShelf {
         // the answer
         ensures fits { OnText result (length into.new.items ≤ most) }
         ensures empty { OnNoText result (into.new.items ≡ []) }
-        ensures told { Answers (text_of (shelf_texts self.old) name.now) most result into.new.items }
+        ensures told { Answers
+            (text_of (shelf_texts self.old) name.now) most result into.new.items }
 
         // the calls that fail, and no others
         ensures failed { OnFailed result (Rose (shelf_faults self.old) (shelf_faults self.new)) }
         ensures fails { (result ≡ Got.Failed) ↔ ShelfFailsNext self.old }
-        ensures no_fault { ¬ ShelfFailsNext self.old → shelf_faults self.new ≡ shelf_faults self.old }
+        ensures no_fault { ¬ ShelfFailsNext self.old →
+            shelf_faults self.new ≡ shelf_faults self.old }
     {
         if self.begin() {
             self.faults = next(self.faults);
@@ -84,7 +86,8 @@ impl Shelf for MemShelf {
 
 // The first text under the name.
 fn text_at<'a>(files: &'a [(String, Vec<u8>)], name: &str) -> Option<&'a Vec<u8>>
-    ensures { option_map (λ text. text.items) (option_copied result) ≡ text_of (map named files.now) name.now }
+    ensures { option_map (λ text. text.items) (option_copied result) ≡
+        text_of (map named files.now) name.now }
 {
     for file in files {
         if file.0.as_str() == name {

@@ -41,9 +41,11 @@ impl<W: Write + Drop> Sink for StdSink<W> {
 
         // what the writer holds, where it is known
         ensures done { OnDone result
-            (Appends (W.contents (writer_of self.old)) (W.contents (writer_of self.new)) bytes.now) }
+            (Appends (W.contents (writer_of self.old))
+            (W.contents (writer_of self.new)) bytes.now) }
         ensures part { OnFailed result
-            (AppendsPart (W.contents (writer_of self.old)) (W.contents (writer_of self.new)) bytes.now) }
+            (AppendsPart (W.contents (writer_of self.old))
+            (W.contents (writer_of self.new)) bytes.now) }
     {
         if write_whole(&mut self.writer, bytes) {
             return Put::Done;
@@ -55,7 +57,8 @@ impl<W: Write + Drop> Sink for StdSink<W> {
 
 // Writes all the bytes and flushes, or says that it failed. A write that was interrupted is tried again.
 fn write_whole<W: Write>(writer: &mut W, bytes: &[u8]) -> bool
-    ensures whole { OnTrue result (Appends (W.contents writer.old) (W.contents writer.new) bytes.now) }
+    ensures whole { OnTrue result
+        (Appends (W.contents writer.old) (W.contents writer.new) bytes.now) }
     ensures part { OnFalse result
         (AppendsPart (W.contents writer.old) (W.contents writer.new) bytes.now) }
 {

@@ -12,7 +12,8 @@ use aos_kernel::{Kernel, Stepped};
 fn steps(kernel: &mut Kernel, worker: u32, count: u32) -> Result<(), NoMemory>
     requires { worker < kernel.old.workers }
     ensures done { OnOk result (Continues (replicate count (Step worker)) kernel.old kernel.new) }
-    ensures part { OnErr result (ContinuesPart (replicate count (Step worker)) kernel.old kernel.new) }
+    ensures part { OnErr result
+        (ContinuesPart (replicate count (Step worker)) kernel.old kernel.new) }
 {
     for _ in 0..count {
         match kernel.step(worker) {

@@ -19,7 +19,9 @@ use aos_script::Script;
 pub fn replay(kernel: &mut Kernel, s: &Script) -> Result<(), NoMemory>
     requires { All (λ entry. worker_of entry < kernel.old.workers) s.now.runs }
     ensures same { kernel.new ≡ record kernel.old { log = kernel.new.log } }
-    ensures state { OnOk result (state_of kernel.new ≡ execution (machine kernel.old.image) (choices_of s.now) (state_of kernel.old)) }
+    ensures state { OnOk result
+        (state_of kernel.new ≡
+        execution (machine kernel.old.image) (choices_of s.now) (state_of kernel.old)) }
     ensures log { OnOk result (Continues (choices_of s.now) kernel.old kernel.new) }
     ensures err { OnErr result (ContinuesPart (choices_of s.now) kernel.old kernel.new) }
 {

@@ -126,7 +126,10 @@ fn name_in(modules: &[ModuleDesc], number: u32) -> &str
 
 /// The line of a trap: `trap N CODE activity A at MODULE:LINE:COL`, with the name of its module among these.
 pub fn trap_line(alloc: Global, t: &TrapRec, modules: &[ModuleDesc]) -> Result<Vec<u8>, NoMemory>
-    ensures { IfOk result (λ line. line.items ≡ trap_text (map (λ m. string_bytes m.name) modules.now) t.now.number t.now.code t.now.activity (record { module_ = t.now.module; pos = t.now.pos })) }
+    ensures { IfOk result
+        (λ line. line.items ≡
+        trap_text (map (λ m. string_bytes m.name) modules.now) t.now.number t.now.code
+        t.now.activity (record { module_ = t.now.module; pos = t.now.pos })) }
 {
     let mut line = Vec::new(alloc);
     put(&mut line, "trap ")?;

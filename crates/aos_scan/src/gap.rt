@@ -32,7 +32,8 @@ pub fn closes_comment(text: &[u8], at: usize) -> bool
 /// The end of the comment that begins at a place, or None where it isn't closed.
 pub fn comment_end(text: &[u8], from: usize) -> Option<usize>
     requires { OpensComment text.now from }
-    ensures found { MatchOption result ((end : ℕ) → ¬ IsComment text.now from end) (IsComment text.now from) }
+    ensures found { MatchOption result ((end : ℕ) →
+        ¬ IsComment text.now from end) (IsComment text.now from) }
     ensures within { IfSome result (λ end. (from < end) × (end ≤ length text.now)) }
 {
     let mut depth = 1usize;
@@ -57,8 +58,10 @@ pub fn comment_end(text: &[u8], from: usize) -> Option<usize>
 /// The end of the blanks and comments that begin at a place.
 pub fn gap_end(text: &[u8], from: usize) -> Result<usize, OpenComment>
     requires { from ≤ length text.now }
-    ensures found { MatchResult result (Gap text.now from) (λ unclosed. Gap text.now from unclosed.at) }
-    ensures ends { MatchResult result (EndsGap text.now) (λ unclosed. CommentIsOpen text.now unclosed.at) }
+    ensures found { MatchResult result (Gap text.now from)
+        (λ unclosed. Gap text.now from unclosed.at) }
+    ensures ends { MatchResult result (EndsGap text.now)
+        (λ unclosed. CommentIsOpen text.now unclosed.at) }
     ensures within { MatchResult result (λ to. (from ≤ to) × (to ≤ length text.now))
         (λ unclosed. (from ≤ unclosed.at) × (unclosed.at ≤ length text.now)) }
 {

@@ -104,7 +104,8 @@ fn valued(
     requires within { to ≤ length text.now }
     requires digits { IsTrue (list_all is_hexadecimal (slice_range text.now at to)) }
     requires base { 0 < base }
-    requires begins { Begins text.now at end (record { kind = kind; value = value_of base (slice_range text.now at to) }) }
+    requires begins { Begins text.now at end
+        (record { kind = kind; value = value_of base (slice_range text.now at to) }) }
     requires kind { kind ≢ TokenKind.End }
     ensures { MatchOption result (IsTooBig text.now at) (BeginsAt text.now at) }
 {

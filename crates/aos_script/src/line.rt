@@ -63,8 +63,11 @@ pub fn setting(line: &[u8], name: &[u8], most: u64) -> Option<u64>
 
 /// The steps of a worker, from their words.
 fn steps_of(worker: &[u8], steps: &[u8], workers: u32) -> Result<Sched, Flaw>
-    ensures run { IfOk result (λ r. (line : List ℕ) → words line ≡ codes "s" ∷ worker.now ∷ steps.now ∷ [] → IsRun line r × IsEntry workers r) }
-    ensures flaw { IfErr result (λ e. (line : List ℕ) → words line ≡ codes "s" ∷ worker.now ∷ steps.now ∷ [] → HasFlaw workers line e) }
+    ensures run { IfOk result (λ r. (line : List ℕ) →
+        words line ≡ codes "s" ∷ worker.now ∷ steps.now ∷ [] → IsRun line r ×
+        IsEntry workers r) }
+    ensures flaw { IfErr result (λ e. (line : List ℕ) →
+        words line ≡ codes "s" ∷ worker.now ∷ steps.now ∷ [] → HasFlaw workers line e) }
 {
     let Some(k) = counted(steps, u64::from(MAX_STEPS)) else {
         return Err(Flaw::Form);
@@ -77,8 +80,10 @@ fn steps_of(worker: &[u8], steps: &[u8], workers: u32) -> Result<Sched, Flaw>
 
 /// The tick of a worker, from its word.
 fn tick_of(worker: &[u8], workers: u32) -> Result<Sched, Flaw>
-    ensures run { IfOk result (λ r. (line : List ℕ) → words line ≡ codes "t" ∷ worker.now ∷ [] → IsRun line r × IsEntry workers r) }
-    ensures flaw { IfErr result (λ e. (line : List ℕ) → words line ≡ codes "t" ∷ worker.now ∷ [] → HasFlaw workers line e) }
+    ensures run { IfOk result (λ r. (line : List ℕ) → words line ≡ codes "t" ∷ worker.now ∷ [] →
+        IsRun line r × IsEntry workers r) }
+    ensures flaw { IfErr result (λ e. (line : List ℕ) → words line ≡ codes "t" ∷ worker.now ∷ [] →
+        HasFlaw workers line e) }
 {
     match worker_of(worker, workers) {
         Ok(w) => Ok(Sched::Tick(w)),

@@ -92,7 +92,8 @@ fn next_setting<'a>(
     most: u64,
 ) -> Option<(u64, Option<&'a [u8]>)>
     requires { most < 2 ^ 64 - 1 }
-    ensures taken { IfSome result (λ r. TakesSetting name.now most (lines_left left.entry) r.0 (lines_left r.1)) }
+    ensures taken { IfSome result
+        (λ r. TakesSetting name.now most (lines_left left.entry) r.0 (lines_left r.1)) }
     ensures lacking { IfNone result (LacksSetting name.now most (lines_left left.entry)) }
 {
     let (line, more) = cut(left?, b'\n');
@@ -103,7 +104,8 @@ fn next_setting<'a>(
 /// The entries of the run lines that are left, up to `end`. The first of these is line 4.
 fn read_runs(alloc: Global, left: Option<&[u8]>, workers: u32) -> Result<Runs, ScriptErr>
     requires { length (lines_left left) ≤ 2 ^ 27 }
-    ensures read { IfOk result (λ runs. ReadsRuns workers (lines_left left.entry) runs (codes "end" ∷ [])) }
+    ensures read { IfOk result
+        (λ runs. ReadsRuns workers (lines_left left.entry) runs (codes "end" ∷ [])) }
     ensures failed { IfErr result (FailsAt workers (lines_left left.entry)) }
 {
     let mut entries = Vec::new(alloc);
@@ -179,7 +181,8 @@ pub fn read_script(alloc: Global, bytes: &[u8]) -> Result<Script, ScriptErr>
     ensures refused { IfErr result (λ e. (e ≡ NoMemory) ⊎ IsRefused bytes.now e) }
 
     // A script is refused only for want of memory.
-    ensures only { (s : Script) → IsScript bytes.now s → MatchResult result (λ r. r ≡ s) (λ e. e ≡ NoMemory) }
+    ensures only { (s : Script) → IsScript bytes.now s →
+        MatchResult result (λ r. r ≡ s) (λ e. e ≡ NoMemory) }
     // A text that is none is refused with its first bad line.
     ensures exact { (e : ScriptErr) → IsRefused bytes.now e →
         MatchResult result (λ _. ⊥) (λ f. (f ≡ NoMemory) ⊎ (f ≡ e)) }
