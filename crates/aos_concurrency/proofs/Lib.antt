@@ -11,6 +11,7 @@ pub mod Itself
 pub mod Changes
 pub mod Handed
 pub mod Records
+pub mod NeverDead
 pub mod Settles
 pub mod Chosen
 pub mod Queues

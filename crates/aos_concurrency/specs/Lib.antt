@@ -3,6 +3,7 @@ pub mod Orderly
 pub mod Regions
 pub mod Sound
 pub mod Mutual
+pub mod Waits
 pub mod Traps
 pub mod Simulates
 pub mod Acting
