@@ -14,7 +14,7 @@ use Rattle.aos_base.specs.Book.{Place, On, Ready, At, Next, Runs, WillTrap, Unwi
 use Rattle.aos_base.specs.Machine.{Choice, Step, Tick, Machine, State, on_book, with_frames, go_past, pass, release, trap, enter, await, start, serve, turned, finish, turn_by, dispatch, step_of, tick_of, happens_in, if_going, happens, execution}
 use Rattle.aos_concurrency.specs.Spot.{Spot, spot}
 use Rattle.aos_concurrency.specs.Orderly.{Distinct}
-use Rattle.aos_concurrency.specs.Regions.{times, KeepsRegions}
+use Rattle.aos_concurrency.specs.Regions.{times, Outside, KeepsRegions}
 use Rattle.aos_concurrency.specs.Sound.{owns, waits_in, Sits, Sound}
 use Rattle.aos_concurrency.specs.Traps.{turn_of}
 use Rattle.aos_concurrency.specs.Acting.{acts, acting}
@@ -24,7 +24,7 @@ use Rattle.aos_concurrency.proofs.Lines.{StandsAs, heir_stands, found_on, found_
 use Rattle.aos_concurrency.proofs.Spots.{spot-stands, spot-next, spot-ended, spot-anew, spot-born, spot-past, spot-trap, spot-turned, spot-heir, spot-trapping, not_started, runs_there}
 use Rattle.aos_concurrency.proofs.Works.{at_spot, runs_at}
 use Rattle.aos_concurrency.proofs.Release.{owns_self, owns_other}
-use Rattle.aos_concurrency.proofs.Steps.{Turning, turned_turning, sits_on, head_within, happens_sound}
+use Rattle.aos_concurrency.proofs.Steps.{Turning, turned_turning, sits_on, head_within, happens_sound, sound_admits}
 use Rattle.aos_concurrency.proofs.Itself.{sound_fitting}
 use Rattle.aos_concurrency.proofs.Changes.{happens_tidy}
 
@@ -264,7 +264,7 @@ module _ {S F : Type 0} (m : Machine S F) (Fits : S → Did → F → Type 0) (T
       ]
 
   tidy_still : KeepsRegions m Fits → GuardsBy m Fits Tidy Agree IsLocal → (c : Choice) (st : State S F) → Sound m Fits st → Tidy st.store (acting m st) → Tidy (happens m c st).store (acting m (happens m c st))
-  tidy_still keeps guards c st sound tidy = happens_tidy m Fits keeps.fits Tidy guards.tidy c st (sound_fitting m Fits st sound) tidy
+  tidy_still keeps guards c st sound tidy = happens_tidy m (Outside m) Fits keeps.fits Tidy guards.tidy c st (sound_admits m Fits keeps st sound) (sound_fitting m Fits st sound) tidy
 
   held_on : KeepsRegions m Fits → GuardsBy m Fits Tidy Agree IsLocal → (a : ℕ) (l : LockName) (s : S) (f : F) (cs : List Choice) (st : State S F) → Sound m Fits st → Tidy st.store (acting m st) → Holding a l s f st → OfOthers m a cs st → Holding a l s f (execution m cs st)
   held_on keeps guards a l s f [] st sound tidy h others = h
@@ -428,12 +428,16 @@ module _ {S F : Type 0} (m : Machine S F) (Fits : S → Did → F → Type 0) (T
   pub hands_over : KeepsRegions m Fits → GuardsBy m Fits Tidy Agree IsLocal → (st : State S F) (entry : Choice) (a : ℕ) (l : LockName) (c : ℕ) (cs : List Choice) → Sound m Fits st → Tidy st.store (acting m st) → HandsOver m IsLocal st entry a l c cs
   hands_over keeps guards st entry a l c cs sound tidy given others =
       let runs = runs_there st sound.orderly a l (Condition c) given.waited in
-      let fits = runs_at (λ w. Fits st.store w (st.frames a)) _ _ (At l (Condition c)) runs given.waited (let s = sound.each a in s.fits) in
+      let fits = runs_at (λ k. Outside m k (st.frames a)) (λ w. Fits st.store w (st.frames a)) _ _ (At l (Condition c)) runs given.waited (let s = sound.each a in s.fits) in
       let start : Still a l c (st.frames a) st = record { spot = (λ i. at_spot (given.waited i) (runs i) (st.frames a)); fits = fits } in
       elim (happens_still keeps guards a l c entry (st.frames a) st sound start) [
         | waits_on s ↦ absurd (let z = sym given.stands ∙ ap (λ (y : Spot F). y.place) s.spot in let y : given.place ≡ At l (Condition c) = cc z in let q = sym given.awake ∙ ap is_at_lock y in cc q)
         | traps n t ↦ absurd (let z = sym given.runs ∙ t in cc z)
         | got g ↦
             let h = held_on keeps guards a l _ _ cs (happens m entry st) (happens_sound m Fits keeps entry st sound) (tidy_still keeps guards entry st sound tidy) g.holding others in
-            (h.owner, λ local. sym (guards.reads l c _ _ (st.frames a) g.fits local h.store) ∙ g.holds)
+            record {
+              owner = h.owner;
+              frames = ap (λ (y : Spot F). y.frames) h.spot;
+              condition = λ local. sym (guards.reads l c _ _ (st.frames a) g.fits local h.store) ∙ g.holds;
+            }
       ]

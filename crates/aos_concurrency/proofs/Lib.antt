@@ -18,4 +18,5 @@ pub mod Queues
 pub mod ToyKeeps
 pub mod ToyCoded
 pub mod ToyHands
+pub mod ToyNever
 pub mod Lent

@@ -1,5 +1,5 @@
 -- Where no turn enters a region or awaits a condition nobody stands at a lock, so no outcome is Dead.
-use Rattle.std.proofs.Common.{◌≡◌, ◌≢◌, ℕ, List, [], ◌∷◌, ◌++◌, Bool, true, false, refl, sym, ◌∙◌, ap}
+use Rattle.std.proofs.Common.{◌≡◌, ◌≢◌, ℕ, List, [], ◌∷◌, ◌++◌, Bool, true, false, refl, sym, ◌∙◌, ap, subst}
 use Rattle.std.specs.Prelude.{if◌then◌else◌, nat_eq, not, ◌&&◌, Option, Some, None}
 use Rattle.aos_base.specs.declared.kernel.LockName.{LockName}
 use Rattle.aos_base.specs.declared.kernel.Did.{Did}
@@ -8,6 +8,8 @@ use Rattle.aos_base.specs.declared.kernel.Outcome.TheVariants as outcome_is
 use Rattle.aos_base.specs.Lock.{Heir, Nobody, Entrant, Waiter, Trapping, heir}
 use Rattle.aos_base.specs.Book.{Place, On, Ready, Stand, Next, Runs, WillTrap, Unwinds, Gone, waiting, is_at_lock, all_at_locks, leave_line, move, place_of, stands, ready, next_is, owned_by, counted, trapped, ended, restarted, born, on_worker, first_ready, is_full, may_restart, outcome, outcome_of}
 use Rattle.aos_base.specs.Machine.{Choice, Step, Tick, Machine, State, start_of, go_past, pass, release, trap, start, serve, turned, finish, turn_by, dispatch, step_of, tick_of, happens_in, if_going, happens, execution}
+use Rattle.aos_concurrency.specs.Spot.{NoOne}
+use Rattle.aos_concurrency.specs.Admits.{Admits}
 use Rattle.aos_concurrency.specs.Waits.{MayWait, NeverWaits}
 use Rattle.aos_concurrency.specs.Sound.{Fitting}
 use Rattle.aos_concurrency.proofs.Lines.{found_on}
@@ -91,26 +93,26 @@ module _ {S F : Type 0} (m : Machine S F) where
   dispatch_free w (Some a) st free = one_moves a (On w) st.book.line refl free
 
   module _ (Fits : S → Did → F → Type 0) (never : NeverWaits m Fits) where
-    turn_free : (a : ℕ) (n : Next) (st : State S F) → Fitting m Fits st → (v : ℕ) → place_of st.book.line a ≡ Some (On v) → (st.book.activity a).next ≡ n → Free st → Free (turn_by m a n st)
+    turn_free : (a : ℕ) (n : Next) (st : State S F) → Fitting NoOne Fits st → (v : ℕ) → place_of st.book.line a ≡ Some (On v) → (st.book.activity a).next ≡ n → Free st → Free (turn_by m a n st)
     unfolding turned counted next_is
     turn_free a Runs st fit v on is free =
         let t = m.turn st.store (st.frames a) in
-        serve_free a t.left (turned m a t st) (never.turn st.store (st.frames a) (runs_at (λ w. Fits st.store w (st.frames a)) _ _ (On v) is on (fit.fits a))) free
+        serve_free a t.left (turned m a t st) (never.turn st.store (st.frames a) (runs_at (λ l. ⊥) (λ w. Fits st.store w (st.frames a)) _ _ (On v) is on (fit.fits a))) free
     turn_free a (WillTrap n) st fit v on is free = trap_free a n 0 st free
     turn_free a (Unwinds (l ∷ locks)) st fit v on is free = release_free a l _ free
     turn_free a (Unwinds []) st fit v on is free = finish_free a (may_restart (st.book.activity a).restarts) (m.anew (st.frames a)) st free
     turn_free a Gone st fit v on is free = free
 
-    step_free : (w : ℕ) (o : Option ℕ) (st : State S F) → Fitting m Fits st → on_worker w st.book.line ≡ o → Free st → Free (step_of m w o st)
+    step_free : (w : ℕ) (o : Option ℕ) (st : State S F) → Fitting NoOne Fits st → on_worker w st.book.line ≡ o → Free st → Free (step_of m w o st)
     step_free w None st fit is free = dispatch_free w (first_ready st.book.line) st free
     step_free w (Some a) st fit is free =
         let r = found_on st.book.line w a fit.orderly.once is in turn_free a (st.book.activity a).next st fit r.0 r.1 refl free
 
-    happens_in_free : (c : Choice) (st : State S F) → Fitting m Fits st → Free st → Free (happens_in m c st)
+    happens_in_free : (c : Choice) (st : State S F) → Fitting NoOne Fits st → Free st → Free (happens_in m c st)
     happens_in_free (Step w) st fit free = step_free w (on_worker w st.book.line) st fit refl free
     happens_in_free (Tick w) st fit free = tick_free (on_worker w st.book.line) st free
 
-    happens_free : (c : Choice) (st : State S F) → Fitting m Fits st → Free st → Free (happens m c st)
+    happens_free : (c : Choice) (st : State S F) → Fitting NoOne Fits st → Free st → Free (happens m c st)
     unfolding happens
     happens_free c st fit free =
         elim (outcome st.book) as (λ o. Free (if_going o (happens_in m c st) st)) [
@@ -120,11 +122,16 @@ module _ {S F : Type 0} (m : Machine S F) where
           | outcome_is.Spent ↦ free
         ]
 
-    execution_free : (cs : List Choice) (st : State S F) → Fitting m Fits st → Free st → Free (execution m cs st)
+    -- nobody asks for a lock
+    no_one_asks : (st : State S F) → Fitting NoOne Fits st → Admits m NoOne st
+    no_one_asks st fit a l asks =
+        never.turn st.store (st.frames a) (runs_at (λ l. ⊥) (λ w. Fits st.store w (st.frames a)) _ _ (On asks.worker) asks.runs asks.on (fit.fits a)) (subst MayWait (sym asks.left) tt)
+
+    execution_free : (cs : List Choice) (st : State S F) → Fitting NoOne Fits st → Free st → Free (execution m cs st)
     execution_free [] st fit free = free
-    execution_free (c ∷ cs) st fit free = execution_free cs (happens m c st) (happens_fitting m Fits never.fits c st fit) (happens_free c st fit free)
+    execution_free (c ∷ cs) st fit free = execution_free cs (happens m c st) (happens_fitting m NoOne Fits never.fits c st (no_one_asks st fit) fit) (happens_free c st fit free)
 
     pub never_dead : (s : S) (f : F) (budget : ℕ) (cs : List Choice) → Fits s Went f → outcome (execution m cs (start_of s f budget)).book ≢ outcome_is.Dead
     never_dead s f budget cs rest =
         let end = execution m cs (start_of s f budget) in
-        not_dead end.book.line end.book.spent (execution_free cs (start_of s f budget) (start_fitting m Fits never.fits s f budget rest) (refl, tt))
+        not_dead end.book.line end.book.spent (execution_free cs (start_of s f budget) (start_fitting m NoOne Fits never.fits s f budget rest) (refl, tt))

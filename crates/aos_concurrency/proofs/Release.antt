@@ -24,6 +24,10 @@ owns_self a = by_case number (λ q. ◌≡◌ {A = ℕ} (if q then 1 else 0) 1) 
 pub owns_other : (a x : ℕ) → x ≢ a → owns (Some a) x ≡ 0
 owns_other a x ne = by_case number (λ q. ◌≡◌ {A = ℕ} (if q then 1 else 0) 0) a x (λ e. absurd (ne (sym e))) (λ _. refl)
 
+pub owns_not : (o : Option ℕ) (a : ℕ) → o ≢ Some a → owns o a ≡ 0
+owns_not None a ne = refl
+owns_not (Some b) a ne = owns_other b a (λ e. ne (ap (λ (x : ℕ). Some x) (sym e)))
+
 -- a lock that was free is a's
 pub owner_taken : (owner : LockName → Option ℕ) (l : LockName) (a : ℕ) → owner l ≡ None → (x : ℕ) → x ≢ a → (k : LockName) → owns (put is_lock owner l (Some a) k) x ≡ owns (owner k) x
 owner_taken owner l a free x ne k =
@@ -53,10 +57,10 @@ module _ {S F : Type 0} (m : Machine S F) (Fits : S → Did → F → Type 0) wh
 
   heir_enters : KeepsRegions m Fits → (s : S) (owner : LockName → Option ℕ) (a : ℕ) (l : LockName) (p : ℕ) (f : F) → owner l ≡ None → Sits m Fits s owner a (at_spot (Some (At l Entry)) Runs f) → Sits m Fits s (put is_lock owner l (Some a)) a (at_spot (Some (Ready p)) Runs (m.past f))
   heir_enters keeps s owner a l p f free h = record {
-    regions = λ k. ap (times k) (keeps.passes s (Enter l) f h.fits) ∙ by_case lock (λ q. (if q then suc (times k (m.regions f)) else times k (m.regions f)) ≡ owns (if q then Some a else owner k) a + 0) k l
+    regions = λ k. ap (times k) (keeps.passes s (Enter l) f h.fits.1 h.fits.0) ∙ by_case lock (λ q. (if q then suc (times k (m.regions f)) else times k (m.regions f)) ≡ owns (if q then Some a else owner k) a + 0) k l
         (λ e. let z : owns (owner k) a ≡ 0 = ap (λ x. owns (owner x) a) e ∙ ap (λ o. owns o a) free in omega (arith, h.regions k, owns_self a))
         (λ _. h.regions k);
-    fits = keeps.fits.past s (Enter l) f tt h.fits;
+    fits = keeps.fits.past s (Enter l) f h.fits.0 h.fits.1;
   }
 
   -- who no longer waits for a condition of l, and owns it

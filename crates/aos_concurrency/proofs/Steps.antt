@@ -14,13 +14,14 @@ use Rattle.aos_base.specs.Book.{Place, On, Ready, At, Next, Runs, WillTrap, Unwi
 use Rattle.aos_base.specs.Machine.{Choice, Step, Tick, Machine, State, on_book, with_frames, go_past, release, trap, enter, await, start, serve, turned, finish, turn_by, dispatch, step_of, tick_of, happens_in, if_going, happens, execution}
 use Rattle.aos_concurrency.specs.Spot.{Spot, spot, GoesPast, MayTrap}
 use Rattle.aos_concurrency.specs.Orderly.{Agrees, Orderly}
-use Rattle.aos_concurrency.specs.Regions.{times, KeepsRegions}
+use Rattle.aos_concurrency.specs.Regions.{times, Outside, KeepsRegions}
+use Rattle.aos_concurrency.specs.Admits.{Admits, AlwaysAdmits}
 use Rattle.aos_concurrency.specs.Sound.{owns, waits_in, Sits, Sound}
 use Rattle.aos_concurrency.proofs.Tables.{number, lock, by_case, put_same, put_other, each_put}
 use Rattle.aos_concurrency.proofs.Lines.{found_on, found_ready}
 use Rattle.aos_concurrency.proofs.Spots.{spot-stands, spot-next, spot-ended, spot-anew, spot-born, spot-past, spot-trap, spot-turned, orderly-stands, orderly-next, orderly-ended, orderly-anew, orderly-born, orderly-past, orderly-trap, orderly-turned, live_there, not_started, awake_agrees, gone_nowhere}
 use Rattle.aos_concurrency.proofs.Works.{at_spot, spot_along, each_at, work_map, work_elsewhere}
-use Rattle.aos_concurrency.proofs.Release.{owns_self, owns_other, owner_taken, entrant_before, sits_owner, each_sits, Open, release_sound}
+use Rattle.aos_concurrency.proofs.Release.{owns_self, owns_other, owns_not, owner_taken, entrant_before, sits_owner, each_sits, Open, release_sound}
 
 -- an owner is told by its count
 pub owner_is : (o : Option ℕ) (a : ℕ) → 0 < owns o a → o ≡ Some a
@@ -113,7 +114,7 @@ module _ {S F : Type 0} (m : Machine S F) (Fits : S → Did → F → Type 0) wh
   }
 
   -- past the work, with these owners
-  past_sound : KeepsRegions m Fits → (w : Did) (a : ℕ) (owner : LockName → Option ℕ) (events : List Event) (st : State S F) → GoesPast w → Turning w a st
+  past_sound : KeepsRegions m Fits → (w : Did) (a : ℕ) (owner : LockName → Option ℕ) (events : List Event) (st : State S F) → GoesPast (Outside m) w (st.frames a) → Turning w a st
       → ((l : LockName) → times l (m.regions (m.past (st.frames a))) ≡ owns (owner l) a)
       → ((x : ℕ) → x ≢ a → (l : LockName) → owns (owner l) x ≡ owns (st.book.owner l) x)
       → ((x : ℕ) (l : LockName) → (spot st x).place ≡ Some (At l Entry) → owner l ≢ None)
@@ -131,16 +132,16 @@ module _ {S F : Type 0} (m : Machine S F) (Fits : S → Did → F → Type 0) wh
       }
 
   -- to the entrants of a lock
-  blocked : (a : ℕ) (l : LockName) (st : State S F) → Turning (Enter l) a st → (b : ℕ) → st.book.owner l ≡ Some b → Sound m Fits (on_book (λ k. stands a (At l Entry) (tell (event.Wait l a false) k)) st)
+  blocked : (a : ℕ) (l : LockName) (st : State S F) → Turning (Enter l) a st → (b : ℕ) → st.book.owner l ≡ Some b → a ≢ b → Sound m Fits (on_book (λ k. stands a (At l Entry) (tell (event.Wait l a false) k)) st)
   unfolding stands
-  blocked a l st t b is =
+  blocked a l st t b is other =
       let h = t.here in
       let p = At l Entry in
       let es = st.book.events ++ event.Wait l a false ∷ [] in
       record {
         orderly = orderly-stands a p (On h.worker) es st h.on (subst (λ n. Agrees n (Some p)) (sym t.runs) tt) h.orderly;
         each = each_sits m Fits st.store st.book.owner (spot st) _ a (record (spot st a) { place = Some p }) (spot-stands a p es st)
-            (spot_along (Sits m Fits st.store st.book.owner a) _ _ _ _ (st.frames a) _ refl (sym t.runs) refl (record { regions = λ k. omega (arith, t.regions k); fits = t.fits }))
+            (spot_along (Sits m Fits st.store st.book.owner a) _ _ _ _ (st.frames a) _ refl (sym t.runs) refl (record { regions = λ k. omega (arith, t.regions k); fits = (t.regions l ∙ ap (λ o. owns o a) is ∙ owns_other b a other, t.fits) }))
             h.others;
         served = λ x k at none.
             each_put number (λ z (y : Spot F). y.place ≡ Some (At k Entry) → ⊥) (spot st) a (record (spot st a) { place = Some p })
@@ -237,16 +238,16 @@ module _ {S F : Type 0} (m : Machine S F) (Fits : S → Did → F → Type 0) wh
   enters : KeepsRegions m Fits → (a : ℕ) (l : LockName) (o : Option ℕ) (st : State S F) → st.book.owner l ≡ o → Turning (Enter l) a st → Sound m Fits (enter m a l o st)
   unfolding owned_by
   enters keeps a l None st is t =
-      past_sound keeps (Enter l) a (put is_lock st.book.owner l (Some a)) _ st tt t
-      (λ k. ap (times k) (keeps.passes st.store (Enter l) (st.frames a) t.fits) ∙ by_case lock (λ q. (if q then suc (times k (m.regions (st.frames a))) else times k (m.regions (st.frames a))) ≡ owns (if q then Some a else st.book.owner k) a) k l
+      let outside : Outside m l (st.frames a) = t.regions l ∙ ap (λ o. owns o a) is in
+      past_sound keeps (Enter l) a (put is_lock st.book.owner l (Some a)) _ st outside t
+      (λ k. ap (times k) (keeps.passes st.store (Enter l) (st.frames a) t.fits outside) ∙ by_case lock (λ q. (if q then suc (times k (m.regions (st.frames a))) else times k (m.regions (st.frames a))) ≡ owns (if q then Some a else st.book.owner k) a) k l
       (λ e. omega (arith, t.regions k, ap (λ y. owns (st.book.owner y) a) e ∙ ap (λ x. owns x a) is, owns_self a)) (λ _. t.regions k))
       (owner_taken st.book.owner l a is)
       (λ x k at none. by_case lock (λ q. (if q then Some a else st.book.owner k) ≡ None → ⊥) k l (λ _ h. absurd (cc h)) (λ _ h. t.here.served x k at h) none)
   enters keeps a l (Some b) st is t =
-      elim (nat_eq b a) as (λ q. Sound m Fits (if q then trap m a 9 0 st else on_book (λ k. stands a (At l Entry) (tell (event.Wait l a false) k)) st)) [
-        | true ↦ trap_sound a 9 0 (Enter l) st t.here t.regions tt t.fits
-        | false ↦ blocked a l st t b is
-      ]
+      by_case number (λ q. Sound m Fits (if q then trap m a 9 0 st else on_book (λ k. stands a (At l Entry) (tell (event.Wait l a false) k)) st)) b a
+      (λ _. trap_sound a 9 0 (Enter l) st t.here t.regions tt t.fits)
+      (λ ne. blocked a l st t b is (λ e. ne (sym e)))
 
   awaits : KeepsRegions m Fits → (a : ℕ) (l : LockName) (c : ℕ) (v : Verdict) (st : State S F) → Turning (Await l c) a st → Sound m Fits (await m a l c v st)
   awaits keeps a l c Holds st t =
@@ -287,7 +288,7 @@ module _ {S F : Type 0} (m : Machine S F) (Fits : S → Did → F → Type 0) wh
         here = record {
           orderly = orderly-turned m a t (On v) st on sound.orderly;
           others = λ x ne. subst (Sits m Fits t.store st.book.owner x) (sym (e x ∙ put_other number (spot st) a w x ne))
-              (let s = sound.each x in record { regions = s.regions; fits = work_map (λ y. Fits st.store y (st.frames x)) (λ y. Fits t.store y (st.frames x)) (λ y h. keeps.fits.kept st.store (st.frames a) sits.fits y (st.frames x) h) _ _ s.fits });
+              (let s = sound.each x in record { regions = s.regions; fits = work_map (λ k. Outside m k (st.frames x)) (λ y. Fits st.store y (st.frames x)) (λ y. Fits t.store y (st.frames x)) (λ y h. keeps.fits.kept st.store (st.frames a) sits.fits y (st.frames x) h) _ _ s.fits });
           worker = v;
           on = ap (λ (y : Spot F). y.place) mine ∙ on;
           served = λ x l at. sound.served x l (entrant_before (spot st) (spot st') a w e (λ k z. absurd (let y = sym on ∙ z in cc y)) x l at);
@@ -348,7 +349,7 @@ module _ {S F : Type 0} (m : Machine S F) (Fits : S → Did → F → Type 0) wh
       record {
         orderly = orderly-stands a q p st.book.events st at (awake_agrees n q (live_there st sound.orderly a p at) hq) sound.orderly;
         each = each_sits m Fits st.store st.book.owner (spot st) _ a v e
-            (record { regions = λ l. s.regions l ∙ ap (λ z. owns (st.book.owner l) a + z) (awake_free l p hp ∙ sym (awake_free l q hq)); fits = work_elsewhere (λ w. Fits st.store w (st.frames a)) n p q hp hq s.fits })
+            (record { regions = λ l. s.regions l ∙ ap (λ z. owns (st.book.owner l) a + z) (awake_free l p hp ∙ sym (awake_free l q hq)); fits = work_elsewhere (λ k. Outside m k (st.frames a)) (λ w. Fits st.store w (st.frames a)) n p q hp hq s.fits })
             (λ x ne. sound.each x);
         served = λ x l is. sound.served x l (entrant_before (spot st) (spot (on_book (stands a q) st)) a v e (λ k z. absurd (let y : q ≡ At k Entry = cc z in let r = sym hq ∙ ap is_at_lock y in cc r)) x l is);
       }
@@ -383,3 +384,12 @@ module _ {S F : Type 0} (m : Machine S F) (Fits : S → Did → F → Type 0) wh
   pub execution_sound : KeepsRegions m Fits → (cs : List Choice) (st : State S F) → Sound m Fits st → Sound m Fits (execution m cs st)
   execution_sound keeps [] st sound = sound
   execution_sound keeps (c ∷ cs) st sound = execution_sound keeps cs (happens m c st) (happens_sound keeps c st sound)
+
+  -- whoever asks for a lock that it doesn't own is in no region of it
+  pub sound_admits : KeepsRegions m Fits → (st : State S F) → Sound m Fits st → Admits m (Outside m) st
+  sound_admits keeps st sound a l asks =
+      let sits = sits_on a Runs st sound asks.worker asks.on asks.runs in
+      ap (times l) (keeps.turn st.store (st.frames a) sits.fits) ∙ omega (arith, sits.regions l, owns_not (st.book.owner l) a asks.owner)
+
+  pub sound_always : KeepsRegions m Fits → (st : State S F) → Sound m Fits st → AlwaysAdmits m (Outside m) st
+  sound_always keeps st sound cs = sound_admits keeps (execution m cs st) (execution_sound keeps cs st sound)

@@ -8,6 +8,7 @@ use Rattle.aos_base.specs.declared.kernel.Did.{Did}
 use Rattle.aos_base.specs.declared.kernel.Did.TheVariants.{Went}
 use Rattle.aos_base.specs.Machine.{Choice, Turn}
 use Rattle.aos_base.specs.Observation.{observation}
+use Rattle.aos_concurrency.specs.Spot.{Anyone}
 use Rattle.aos_concurrency.specs.Simulates.{SameTurn, Simulates, Matches}
 use Rattle.aos_concurrency.specs.Toy.{Command, Skip, Say, Raise, Take, Give, Until, Fork, Fail, Shared, Program, Frames, nothing_raised, whole_of, at_left, judges, first, toy, toy_turn, toy_past, toy_start, toy_run, Coded, code_of, coded, coded_turn, coded_start, coded_run, regions_past, raised}
 use Rattle.aos_concurrency.proofs.Matching.{execution_matches, start_matches, observation_matches, events_match}
@@ -74,7 +75,7 @@ pasts s t w f g h =
       }
     ]
 
-pub toy_shown : Simulates One Shows toy coded
+pub toy_shown : Simulates One Shows Anyone toy coded
 toy_shown = record {
   turn = turns;
   kept = λ s t f g p h w f' g' k. record { rest = k.rest; regions = k.regions; whole = k.whole };
@@ -88,14 +89,14 @@ toy_shown = record {
 }
 
 module _ (p : Program) (budget : ℕ) (cs : List Choice) where
-  matched : Matches One Shows (toy_run p budget cs) (coded_run p budget cs)
+  matched : Matches One Shows Anyone (toy_run p budget cs) (coded_run p budget cs)
   matched =
-      execution_matches One Shows toy coded toy_shown cs (toy_start p budget) (coded_start p budget)
-      (start_matches One Shows toy coded toy_shown (nothing_raised p.forked) (nothing_raised p.forked) (whole_of p.commands) (code_of p.commands) budget refl (record { rest = refl; regions = refl; whole = refl }))
+      execution_matches One Shows Anyone toy coded toy_shown cs (toy_start p budget) (coded_start p budget) (λ later a l asks. tt)
+      (start_matches One Shows Anyone toy coded toy_shown (nothing_raised p.forked) (nothing_raised p.forked) (whole_of p.commands) (code_of p.commands) budget refl (record { rest = refl; regions = refl; whole = refl }))
 
   -- for every list of commands, budget and schedule
   pub coded_seen : observation toy (toy_run p budget cs) ≡ observation coded (coded_run p budget cs)
-  coded_seen = observation_matches One Shows toy coded toy_shown _ _ matched
+  coded_seen = observation_matches One Shows Anyone toy coded toy_shown _ _ matched
 
   pub coded_told : (toy_run p budget cs).book.events ≡ (coded_run p budget cs).book.events
-  coded_told = events_match One Shows toy coded toy_shown _ _ matched
+  coded_told = events_match One Shows Anyone toy coded toy_shown _ _ matched

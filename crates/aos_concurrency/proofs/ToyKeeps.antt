@@ -6,14 +6,15 @@ use Rattle.aos_base.specs.declared.kernel.Did.{Did}
 use Rattle.aos_base.specs.declared.kernel.Did.TheVariants.{Went, Ended, Enter, Leave, Await, Start, Trapped}
 use Rattle.aos_base.specs.Book.{put}
 use Rattle.aos_base.specs.Machine.{Choice}
-use Rattle.aos_concurrency.specs.Regions.{Passes, KeepsFits, KeepsRegions}
+use Rattle.aos_concurrency.specs.Spot.{GoesPast}
+use Rattle.aos_concurrency.specs.Regions.{Outside, Passes, KeepsFits, KeepsRegions}
 use Rattle.aos_concurrency.specs.Sound.{Sound}
 use Rattle.aos_concurrency.specs.Mutual.{Mutual}
-use Rattle.aos_concurrency.specs.Acting.{acts, acting, KeepsTidy}
+use Rattle.aos_concurrency.specs.Acting.{acts, acting, ByTurn, ByGoingPast, ByStart, ByTrap, ByEnd, KeepsTidy}
 use Rattle.aos_concurrency.specs.Toy.{Command, Skip, Say, Raise, Take, Give, Until, Fork, Fail, Shared, Program, Frames, nothing_raised, whole_of, toy, toy_turn, toy_past, toy_start, toy_run, Nested, IsNested}
 use Rattle.aos_concurrency.proofs.Tables.{number, each_put}
 use Rattle.aos_concurrency.proofs.Begin.{each_start, start_sound}
-use Rattle.aos_concurrency.proofs.Steps.{execution_sound}
+use Rattle.aos_concurrency.proofs.Steps.{execution_sound, sound_always}
 use Rattle.aos_concurrency.proofs.Excludes.{sound_mutual}
 use Rattle.aos_concurrency.proofs.Itself.{sound_fitting}
 use Rattle.aos_concurrency.proofs.Changes.{execution_tidy}
@@ -60,7 +61,7 @@ turns s (Until l n ∷ rest) ls whole h k f = record { rest = h; whole = k; fork
 turns s (Fork ∷ rest) ls whole h k f = record { rest = h; whole = k; forked = f; at = refl }
 turns s (Fail n ∷ rest) ls whole h k f = record { rest = h; whole = k; forked = f; at = refl }
 
-same_commands : (s : Shared) (f : Frames) (rest : List Command) → s.commands ≡ (toy_turn s f rest).store.commands
+pub same_commands : (s : Shared) (f : Frames) (rest : List Command) → s.commands ≡ (toy_turn s f rest).store.commands
 same_commands s f [] = refl
 same_commands s f (Skip ∷ rest) = refl
 same_commands s f (Say b ∷ rest) = refl
@@ -82,18 +83,31 @@ same_regions s f (Until l n ∷ rest) = refl
 same_regions s f (Fork ∷ rest) = refl
 same_regions s f (Fail n ∷ rest) = refl
 
-nested_past : (rest : List Command) (ls : List LockName) (whole : List Command) → Nested rest ls → Nested (toy_past rest (of rest ls whole)).rest (toy_past rest (of rest ls whole)).regions
-nested_past [] ls whole h = h
-nested_past (Skip ∷ rest) ls whole h = h
-nested_past (Say b ∷ rest) ls whole h = h
-nested_past (Raise l ∷ rest) ls whole h = h.1
-nested_past (Take l ∷ rest) ls whole h = h
-nested_past (Give l ∷ rest) ls whole h = h.1
-nested_past (Until l n ∷ rest) ls whole h = h.1
-nested_past (Fork ∷ rest) ls whole h = h
-nested_past (Fail n ∷ rest) ls whole h = h
+-- the kernel lets it past the first command that is left
+goes_past : (w : Did) (f : Frames) → StandsAt w f.rest → GoesPast (Outside toy) w f → GoesPast (Outside toy) (asks f.rest) f
+goes_past Went f at goes = absurd goes
+goes_past Ended f at goes = absurd goes
+goes_past (Enter l) f at goes = subst (λ w. GoesPast (Outside toy) w f) (sym at) goes
+goes_past (Leave l) f at goes = subst (λ w. GoesPast (Outside toy) w f) (sym at) goes
+goes_past (Await l c) f at goes = subst (λ w. GoesPast (Outside toy) w f) (sym at) goes
+goes_past (Start o) f at goes = subst (λ w. GoesPast (Outside toy) w f) (sym at) goes
+goes_past (Trapped n c) f at goes = absurd goes
 
-whole_past : (rest : List Command) (f : Frames) → f.whole ≡ (toy_past rest f).whole
+nested_past : (rest : List Command) (ls : List LockName) (whole : List Command) → GoesPast (Outside toy) (asks rest) (of rest ls whole) → Nested rest ls → Nested (toy_past rest (of rest ls whole)).rest (toy_past rest (of rest ls whole)).regions
+nested_past [] ls whole goes h = h
+nested_past (Skip ∷ rest) ls whole goes h = h
+nested_past (Say b ∷ rest) ls whole goes h = h
+nested_past (Raise l ∷ rest) ls whole goes h = h.1
+nested_past (Take l ∷ rest) ls whole goes h = h goes
+nested_past (Give l ∷ rest) ls whole goes h = h.1
+nested_past (Until l n ∷ rest) ls whole goes h = h.1
+nested_past (Fork ∷ rest) ls whole goes h = h
+nested_past (Fail n ∷ rest) ls whole goes h = h
+
+behind : (s : Shared) (w : Did) (f : Frames) → GoesPast (Outside toy) w f → ToyFits s w f → Nested (toy_past f.rest f).rest (toy_past f.rest f).regions
+behind s w f goes h = nested_past f.rest f.regions f.whole (goes_past w f h.at goes) h.rest
+
+pub whole_past : (rest : List Command) (f : Frames) → f.whole ≡ (toy_past rest f).whole
 whole_past [] f = refl
 whole_past (c ∷ rest) f = refl
 
@@ -102,7 +116,7 @@ passes_at [] ls whole h = h
 passes_at (Skip ∷ rest) ls whole h = tt
 passes_at (Say b ∷ rest) ls whole h = tt
 passes_at (Raise l ∷ rest) ls whole h = tt
-passes_at (Take l ∷ rest) ls whole h = refl
+passes_at (Take l ∷ rest) ls whole h = λ outside. refl
 passes_at (Give l ∷ rest) ls whole h = h.0
 passes_at (Until l n ∷ rest) ls whole h = (refl, h.0)
 passes_at (Fork ∷ rest) ls whole h = refl
@@ -120,11 +134,11 @@ passes s (Trapped n c) f h = tt
 begins_anew : (s : Shared) (w : Did) (f g : Frames) → ToyFits s w f → Some (whole_of f.whole) ≡ Some g → ToyFits s Went g
 begins_anew s w f g h is = let e : whole_of f.whole ≡ g = cc is in subst (ToyFits s Went) e (record { rest = h.whole; whole = h.whole; forked = h.forked; at = tt })
 
-pub toy_fits : KeepsFits toy ToyFits
+pub toy_fits : KeepsFits toy (Outside toy) ToyFits
 toy_fits = record {
   turn = λ s f h. turns s f.rest f.regions f.whole h.rest h.whole h.forked;
   kept = λ s f h w g k. record { rest = k.rest; whole = k.whole; forked = subst (λ cs. Nested cs []) (same_commands s f f.rest) k.forked; at = k.at };
-  past = λ s w f goes h. record { rest = nested_past f.rest f.regions f.whole h.rest; whole = subst (λ cs. Nested cs []) (whole_past f.rest f) h.whole; forked = h.forked; at = tt };
+  past = λ s w f goes h. record { rest = behind s w f goes h; whole = subst (λ cs. Nested cs []) (whole_past f.rest f) h.whole; forked = h.forked; at = tt };
   body = λ s o f h. record { rest = h.forked; whole = h.forked; forked = h.forked; at = tt };
   anew = λ s w f g may h is. begins_anew s w f g h is;
 }
@@ -157,14 +171,12 @@ some_nested : (t : ℕ → Option Frames) (s : Shared) (a : ℕ) (g : Frames) �
 some_nested t s a g h all x f =
     each_put number (λ _ o. o ≡ Some f → Nested f.rest f.regions) t a (Some g) (λ is. let e : g ≡ f = cc is in subst (λ (y : Frames). Nested y.rest y.regions) e h) (λ z ne. all z f) x
 
-pub nested_stays : KeepsTidy toy ToyFits AllNested
-nested_stays = record {
-  turn = λ s t a f is h all. some_nested t (toy_turn s f f.rest).store a _ ((turns s f.rest f.regions f.whole h.rest h.whole h.forked).rest) all;
-  past = λ s t a w f is goes h all. some_nested t s a _ (nested_past f.rest f.regions f.whole h.rest) all;
-  body = λ s t a b o f none is h all. some_nested t s a _ h.forked all;
-  traps = λ s t a w f is may h all. some_nested t s a _ h.whole all;
-  ends = λ s t a f is all x g. each_put number (λ _ o. o ≡ Some g → Nested g.rest g.regions) t a None (λ e. absurd (cc e)) (λ z ne. all z g) x;
-}
+pub nested_stays : KeepsTidy toy (Outside toy) ToyFits AllNested
+nested_stays s t _ _ (ByTurn x y a f is h) all = some_nested t (toy_turn s f f.rest).store a _ ((turns s f.rest f.regions f.whole h.rest h.whole h.forked).rest) all
+nested_stays s t _ _ (ByGoingPast x y a w f is goes h) all = some_nested t s a _ (behind s w f goes h) all
+nested_stays s t _ _ (ByStart x y new a o f none is h) all = some_nested t s new _ h.forked all
+nested_stays s t _ _ (ByTrap x y a w f is may h) all = some_nested t s a _ h.whole all
+nested_stays s t _ _ (ByEnd x y a f is) all = λ z g. each_put number (λ _ o. o ≡ Some g → Nested g.rest g.regions) t a None (λ e. absurd (cc e)) (λ other ne. all other g) z
 
 first_nested : (p : Program) (budget : ℕ) → IsNested p → AllNested (toy_start p budget).store (acting toy (toy_start p budget))
 first_nested p budget h =
@@ -173,5 +185,6 @@ first_nested p budget h =
 
 pub toy_nested : (p : Program) (budget : ℕ) → IsNested p → (cs : List Choice) → AllNested (toy_run p budget cs).store (acting toy (toy_run p budget cs))
 toy_nested p budget h cs =
-    execution_tidy toy ToyFits toy_fits AllNested nested_stays cs (toy_start p budget)
+    execution_tidy toy (Outside toy) ToyFits toy_fits AllNested nested_stays cs (toy_start p budget)
+    (sound_always toy ToyFits toy_keeps (toy_start p budget) (toy_first p budget h))
     (sound_fitting toy ToyFits (toy_start p budget) (toy_first p budget h)) (first_nested p budget h)

@@ -1,5 +1,6 @@
 -- The store and the frames of those that act: what the kernel's part of an execution does to them.
 use Rattle.std.specs.Prelude.{◌≡◌, ℕ, nat_eq, Option, Some, None}
+use Rattle.aos_base.specs.declared.kernel.LockName.{LockName}
 use Rattle.aos_base.specs.declared.kernel.Did.{Did}
 use Rattle.aos_base.specs.declared.kernel.Did.TheVariants.{Went, Start}
 use Rattle.aos_base.specs.Book.{Next, Runs, WillTrap, Unwinds, Gone, put}
@@ -17,30 +18,39 @@ module _ {S F : Type 0} (m : Machine S F) where
   abbrev pub acting : State S F → ℕ → Option F
   acting st a = acts (spot st a).next (spot st a).frames
 
-module _ {S F : Type 0} (m : Machine S F) (Fits : S → Did → F → Type 0) where
-  -- the five ways in which they change, one after another; whoever begins anew changes nothing
-  pub data Changed : S → (ℕ → Option F) → S → (ℕ → Option F) → Type 0 where
-    Stays : (s : S) (t : ℕ → Option F) → Changed s t s t
-    Turned : (s : S) (t : ℕ → Option F) (s' : S) (t' : ℕ → Option F) (a : ℕ) (f : F) → t a ≡ Some f → Fits s Went f
-        → Changed (m.turn s f).store (put nat_eq t a (Some (m.turn s f).frames)) s' t' → Changed s t s' t'
-    Passed : (s : S) (t : ℕ → Option F) (s' : S) (t' : ℕ → Option F) (a : ℕ) (w : Did) (f : F) → t a ≡ Some f → GoesPast w → Fits s w f
-        → Changed s (put nat_eq t a (Some (m.past f))) s' t' → Changed s t s' t'
-    Began : (s : S) (t : ℕ → Option F) (s' : S) (t' : ℕ → Option F) (a b o : ℕ) (f : F) → t a ≡ None → t b ≡ Some f → Fits s (Start o) f
-        → Changed s (put nat_eq t a (Some (m.body s o))) s' t' → Changed s t s' t'
-    FellBack : (s : S) (t : ℕ → Option F) (s' : S) (t' : ℕ → Option F) (a : ℕ) (w : Did) (f : F) → t a ≡ Some f → MayTrap w → Fits s w f
-        → Changed s (put nat_eq t a (m.anew f)) s' t' → Changed s t s' t'
-    Left : (s : S) (t : ℕ → Option F) (s' : S) (t' : ℕ → Option F) (a : ℕ) (f : F) → t a ≡ Some f
-        → Changed s (put nat_eq t a None) s' t' → Changed s t s' t'
+module _ {S F : Type 0} (m : Machine S F) (Admitted : LockName → F → Type 0) (Fits : S → Did → F → Type 0) where
+  -- The five ways in which the store and the frames of those that act change, with `own` the frames of the activity a.
+  -- Whoever begins anew changes nothing.
+  pub data Change : S → (ℕ → Option F) → S → (ℕ → Option F) → Type 0 where
+    -- it makes its own part of a turn
+    ByTurn : (store : S) (frames : ℕ → Option F) (a : ℕ) (own : F)
+        → frames a ≡ Some own → Fits store Went own
+        → Change store frames (m.turn store own).store (put nat_eq frames a (Some (m.turn store own).frames))
+    -- it goes past the work that it left to the kernel
+    ByGoingPast : (store : S) (frames : ℕ → Option F) (a : ℕ) (work : Did) (own : F)
+        → frames a ≡ Some own → GoesPast Admitted work own → Fits store work own
+        → Change store frames store (put nat_eq frames a (Some (m.past own)))
+    -- it starts a new one, the activity of the object o
+    ByStart : (store : S) (frames : ℕ → Option F) (new a o : ℕ) (own : F)
+        → frames new ≡ None → frames a ≡ Some own → Fits store (Start o) own
+        → Change store frames store (put nat_eq frames new (Some (m.body store o)))
+    -- it traps: its frames give way to those with which it may begin anew
+    ByTrap : (store : S) (frames : ℕ → Option F) (a : ℕ) (work : Did) (own : F)
+        → frames a ≡ Some own → MayTrap work → Fits store work own
+        → Change store frames store (put nat_eq frames a (m.anew own))
+    -- it ends
+    ByEnd : (store : S) (frames : ℕ → Option F) (a : ℕ) (own : F) → frames a ≡ Some own
+        → Change store frames store (put nat_eq frames a None)
+
+  -- one change after another
+  pub data Changes : S → (ℕ → Option F) → S → (ℕ → Option F) → Type 0 where
+    Unchanged : (store : S) (frames : ℕ → Option F) → Changes store frames store frames
+    OneThen : (store : S) (frames : ℕ → Option F) (next : S) (next_frames : ℕ → Option F) (last : S) (last_frames : ℕ → Option F)
+        → Change store frames next next_frames → Changes next next_frames last last_frames
+        → Changes store frames last last_frames
 
   -- an invariant of the machine that each of the five ways keeps
-  pub record KeepsTidy (Tidy : S → (ℕ → Option F) → Type 0) : Type 0 where
-    -- one makes its own part of a turn
-    pub turn : (s : S) (t : ℕ → Option F) (a : ℕ) (f : F) → t a ≡ Some f → Fits s Went f → Tidy s t → Tidy (m.turn s f).store (put nat_eq t a (Some (m.turn s f).frames))
-    -- it goes past the kernel's work
-    pub past : (s : S) (t : ℕ → Option F) (a : ℕ) (w : Did) (f : F) → t a ≡ Some f → GoesPast w → Fits s w f → Tidy s t → Tidy s (put nat_eq t a (Some (m.past f)))
-    -- a new one begins, started by one that acts
-    pub body : (s : S) (t : ℕ → Option F) (a b o : ℕ) (f : F) → t a ≡ None → t b ≡ Some f → Fits s (Start o) f → Tidy s t → Tidy s (put nat_eq t a (Some (m.body s o)))
-    -- one traps: its frames give way to those with which it may begin anew
-    pub traps : (s : S) (t : ℕ → Option F) (a : ℕ) (w : Did) (f : F) → t a ≡ Some f → MayTrap w → Fits s w f → Tidy s t → Tidy s (put nat_eq t a (m.anew f))
-    -- one ends
-    pub ends : (s : S) (t : ℕ → Option F) (a : ℕ) (f : F) → t a ≡ Some f → Tidy s t → Tidy s (put nat_eq t a None)
+  abbrev pub KeepsTidy : (Tidy : S → (ℕ → Option F) → Type 0) → Type 0
+  KeepsTidy Tidy =
+      (store : S) (frames : ℕ → Option F) (next : S) (next_frames : ℕ → Option F)
+      → Change store frames next next_frames → Tidy store frames → Tidy next next_frames

@@ -1,5 +1,5 @@
 -- The laws, each as a statement over any machine whose stores and frames are of these types.
-use Rattle.std.specs.Prelude.{◌≡◌, ◌+◌, ◌<◌, ℕ, Option, Some, List, [], ◌∷◌, ◌++◌, Bool, IsTrue}
+use Rattle.std.specs.Prelude.{◌≡◌, ◌≢◌, ◌+◌, ◌<◌, ℕ, Option, Some, List, [], ◌∷◌, ◌++◌, Bool, IsTrue}
 use Rattle.aos_base.specs.declared.kernel.LockName.{LockName}
 use Rattle.aos_base.specs.declared.kernel.Verdict.{Verdict}
 use Rattle.aos_base.specs.declared.kernel.Did.{Did}
@@ -10,12 +10,14 @@ use Rattle.aos_base.specs.Book.{Runs, Activity, Book, on_worker, outcome}
 use Rattle.aos_base.specs.Machine.{Choice, Machine, State, start_of, happens, execution}
 use Rattle.aos_base.specs.Observation.{observation}
 use Rattle.aos_concurrency.specs.Orderly.{Orderly}
-use Rattle.aos_concurrency.specs.Regions.{KeepsFits, KeepsRegions}
+use Rattle.aos_concurrency.specs.Regions.{Outside, KeepsFits, KeepsRegions}
+use Rattle.aos_concurrency.specs.Admits.{Admits, AlwaysAdmits}
+use Rattle.aos_concurrency.specs.Waits.{NeverWaits}
 use Rattle.aos_concurrency.specs.Sound.{Fitting}
 use Rattle.aos_concurrency.specs.Mutual.{Mutual}
 use Rattle.aos_concurrency.specs.Traps.{RecordsTraps, AreTold}
 use Rattle.aos_concurrency.specs.Simulates.{Simulates}
-use Rattle.aos_concurrency.specs.Acting.{acting, Changed, KeepsTidy}
+use Rattle.aos_concurrency.specs.Acting.{acting, Changes, KeepsTidy}
 use Rattle.aos_concurrency.specs.Handover.{GuardsBy, HandsOver}
 use Rattle.aos_concurrency.specs.Private.{steps, ArePrivate, GoesOn, settled, begun_by, front, NoneOf, IsLent}
 
@@ -27,11 +29,25 @@ module _ (S F : Type 0) where
       → KeepsRegions m (λ t w g. IsTrue (fits t w g)) → IsTrue (fits s Went f) → m.regions f ≡ []
       → Mutual m (execution m cs (start_of s f budget))
 
+  -- so whoever asks for a lock that it doesn't own is in no region of it
+  abbrev pub AskedFromOutside : Type 0
+  AskedFromOutside =
+      (m : Machine S F) (fits : S → Did → F → Bool) (s : S) (f : F) (budget : ℕ)
+      → KeepsRegions m (λ t w g. IsTrue (fits t w g)) → IsTrue (fits s Went f) → m.regions f ≡ []
+      → AlwaysAdmits m (Outside m) (start_of s f budget)
+
+  -- where no turn enters a region or awaits a condition the outcome is never Dead
+  abbrev pub NeverDead : Type 0
+  NeverDead =
+      (m : Machine S F) (fits : S → Did → F → Bool) (s : S) (f : F) (budget : ℕ) (cs : List Choice)
+      → NeverWaits m (λ t w g. IsTrue (fits t w g)) → IsTrue (fits s Went f)
+      → outcome (execution m cs (start_of s f budget)).book ≢ outcome_is.Dead
+
   -- with no premise on the machine, each activity stands in at most one place, and none that hasn't been started stands
   abbrev pub InOrder : Type 0
   InOrder = (m : Machine S F) (s : S) (f : F) (budget : ℕ) (cs : List Choice) → Orderly (execution m cs (start_of s f budget))
 
-  -- only a trap adds a trap row, in any state
+  -- an entry adds the trap row of its turn, where that traps, in any state
   abbrev pub TrapsRecorded : Type 0
   TrapsRecorded = (m : Machine S F) (c : Choice) (st : State S F) → RecordsTraps m c st
 
@@ -52,16 +68,20 @@ module _ (S F : Type 0) where
   -- an entry changes the store and the frames of those that act in five ways only
   abbrev pub FiveWays : Type 0
   FiveWays =
-      (m : Machine S F) (fits : S → Did → F → Bool) (c : Choice) (st : State S F)
-      → KeepsFits m (λ t w g. IsTrue (fits t w g)) → Fitting m (λ t w g. IsTrue (fits t w g)) st
-      → Changed m (λ t w g. IsTrue (fits t w g)) st.store (acting m st) (happens m c st).store (acting m (happens m c st))
+      (m : Machine S F) (admitted : LockName → F → Bool) (fits : S → Did → F → Bool) (c : Choice) (st : State S F)
+      → KeepsFits m (λ l g. IsTrue (admitted l g)) (λ t w g. IsTrue (fits t w g))
+      → Fitting (λ l g. IsTrue (admitted l g)) (λ t w g. IsTrue (fits t w g)) st → Admits m (λ l g. IsTrue (admitted l g)) st
+      → Changes m (λ l g. IsTrue (admitted l g)) (λ t w g. IsTrue (fits t w g)) st.store (acting m st) (happens m c st).store (acting m (happens m c st))
 
   -- so what each of the five ways keeps holds in every state of every execution
   abbrev pub StaysTidy : Type 0
   StaysTidy =
-      (m : Machine S F) (fits : S → Did → F → Bool) (tidy : S → (ℕ → Option F) → Bool) (s : S) (f : F) (budget : ℕ) (cs : List Choice)
-      → KeepsFits m (λ t w g. IsTrue (fits t w g)) → KeepsTidy m (λ t w g. IsTrue (fits t w g)) (λ t g. IsTrue (tidy t g))
-      → IsTrue (fits s Went f) → IsTrue (tidy s (acting m (start_of s f budget)))
+      (m : Machine S F) (admitted : LockName → F → Bool) (fits : S → Did → F → Bool) (tidy : S → (ℕ → Option F) → Bool)
+      (s : S) (f : F) (budget : ℕ) (cs : List Choice)
+      → KeepsFits m (λ l g. IsTrue (admitted l g)) (λ t w g. IsTrue (fits t w g))
+      → KeepsTidy m (λ l g. IsTrue (admitted l g)) (λ t w g. IsTrue (fits t w g)) (λ t g. IsTrue (tidy t g))
+      → IsTrue (fits s Went f) → AlwaysAdmits m (λ l g. IsTrue (admitted l g)) (start_of s f budget)
+      → IsTrue (tidy s (acting m (start_of s f budget)))
       → let st = execution m cs (start_of s f budget) in IsTrue (tidy st.store (acting m st))
 
   -- private turns of a worker's activity are steps of that worker
@@ -88,19 +108,21 @@ LastInBudget =
 
 module _ (S F T G : Type 0) where
   -- from starts that are related, two machines that make the same turns
-  abbrev FromRelated : (Machine S F → Machine T G → S → T → F → G → Type 0) → Type 0
+  abbrev FromRelated : (Machine S F → Machine T G → State S F → State T G → Type 0) → Type 0
   FromRelated Q =
-      (m : Machine S F) (n : Machine T G) (stores : S → T → Bool) (frames : S → T → Did → F → G → Bool) (s : S) (t : T) (f : F) (g : G)
-      → Simulates (λ x y. IsTrue (stores x y)) (λ x y w h k. IsTrue (frames x y w h k)) m n → IsTrue (stores s t) → IsTrue (frames s t Went f g)
-      → Q m n s t f g
+      (m : Machine S F) (n : Machine T G) (admitted : LockName → F → Bool) (stores : S → T → Bool) (frames : S → T → Did → F → G → Bool)
+      (s : S) (t : T) (f : F) (g : G) (budget : ℕ)
+      → Simulates (λ x y. IsTrue (stores x y)) (λ x y w h k. IsTrue (frames x y w h k)) (λ l h. IsTrue (admitted l h)) m n
+      → IsTrue (stores s t) → IsTrue (frames s t Went f g) → AlwaysAdmits m (λ l h. IsTrue (admitted l h)) (start_of s f budget)
+      → Q m n (start_of s f budget) (start_of t g budget)
 
   -- have the same observation after every schedule
   abbrev pub SeenAlike : Type 0
-  SeenAlike = FromRelated (λ m n s t f g. (budget : ℕ) (cs : List Choice) → observation m (execution m cs (start_of s f budget)) ≡ observation n (execution n cs (start_of t g budget)))
+  SeenAlike = FromRelated (λ m n st tu. (cs : List Choice) → observation m (execution m cs st) ≡ observation n (execution n cs tu))
 
   -- and the same events
   abbrev pub ToldAlike : Type 0
-  ToldAlike = FromRelated (λ m n s t f g. (budget : ℕ) (cs : List Choice) → (execution m cs (start_of s f budget)).book.events ≡ (execution n cs (start_of t g budget)).book.events)
+  ToldAlike = FromRelated (λ m n st tu. (cs : List Choice) → (execution m cs st).book.events ≡ (execution n cs tu).book.events)
 
 -- a release chooses the same heir of alike lists
 abbrev pub SameHeir : Type 0

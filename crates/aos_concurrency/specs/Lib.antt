@@ -1,6 +1,7 @@
 pub mod Spot
 pub mod Orderly
 pub mod Regions
+pub mod Admits
 pub mod Sound
 pub mod Mutual
 pub mod Waits

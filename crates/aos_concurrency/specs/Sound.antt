@@ -7,7 +7,7 @@ use Rattle.aos_base.specs.Book.{Place, On, Ready, At}
 use Rattle.aos_base.specs.Machine.{Machine, State}
 use Rattle.aos_concurrency.specs.Spot.{Spot, spot, AtWork}
 use Rattle.aos_concurrency.specs.Orderly.{Orderly}
-use Rattle.aos_concurrency.specs.Regions.{times, regions_of}
+use Rattle.aos_concurrency.specs.Regions.{times, Outside, regions_of}
 
 -- 1 where a is the owner
 abbrev pub owns : Option ℕ → ℕ → ℕ
@@ -22,16 +22,16 @@ waits_in l (Some (Ready p)) = 0
 waits_in l (Some (At k Entry)) = 0
 waits_in l (Some (At k (Condition c))) = if is_lock l k then 1 else 0
 
+-- each activity's frames fit, and whoever waits to enter a lock's region has those with which it may be let in
+pub record Fitting {S F : Type 0} (Admitted : LockName → F → Type 0) (Fits : S → Did → F → Type 0) (st : State S F) : Type 0 where
+  pub orderly : Orderly st
+  pub fits : (a : ℕ) → AtWork (λ l. Admitted l (st.frames a)) (λ w. Fits st.store w (st.frames a)) (spot st a).next (spot st a).place
+
 module _ {S F : Type 0} (m : Machine S F) (Fits : S → Did → F → Type 0) where
   -- one activity: in a region of a lock exactly where it owns the lock or waits for a condition there
   pub record Sits (s : S) (owner : LockName → Option ℕ) (a : ℕ) (x : Spot F) : Type 0 where
     pub regions : (l : LockName) → times l (regions_of m x.next x.frames) ≡ owns (owner l) a + waits_in l x.place
-    pub fits : AtWork (λ w. Fits s w x.frames) x.next x.place
-
-  -- each activity's frames fit
-  pub record Fitting (st : State S F) : Type 0 where
-    pub orderly : Orderly st
-    pub fits : (a : ℕ) → AtWork (λ w. Fits st.store w (st.frames a)) (spot st a).next (spot st a).place
+    pub fits : AtWork (λ l. Outside m l x.frames) (λ w. Fits s w x.frames) x.next x.place
 
   -- each activity sits, and a lock with an entrant has an owner
   pub record Sound (st : State S F) : Type 0 where

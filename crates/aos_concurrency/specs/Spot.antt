@@ -1,5 +1,6 @@
 -- One activity of a state, and the work before which its frames stand.
 use Rattle.std.specs.Prelude.{ℕ, Option, Some, None, List}
+use Rattle.aos_base.specs.declared.kernel.LockName.{LockName}
 use Rattle.aos_base.specs.declared.kernel.Did.{Did}
 use Rattle.aos_base.specs.declared.kernel.Did.TheVariants.{Went, Ended, Enter, Leave, Await, Start, Trapped}
 use Rattle.aos_base.specs.Lock.{Entry, Condition}
@@ -25,15 +26,24 @@ before (Ready p) = Went
 before (At l Entry) = Enter l
 before (At l (Condition c)) = Await l c
 
--- work behind which the activity goes on, once the kernel has done its part
-abbrev pub GoesPast : Did → Type 0
-GoesPast Went = ⊥
-GoesPast Ended = ⊥
-GoesPast (Enter l) = Unit {0}
-GoesPast (Leave l) = Unit {0}
-GoesPast (Await l c) = Unit {0}
-GoesPast (Start o) = Unit {0}
-GoesPast (Trapped n c) = ⊥
+-- whoever asks for a lock may be let in, or no one
+
+abbrev pub Anyone : {F : Type 0} → LockName → F → Type 0
+Anyone l f = Unit {0}
+
+abbrev pub NoOne : {F : Type 0} → LockName → F → Type 0
+NoOne l f = ⊥
+
+module _ {F : Type 0} (Admitted : LockName → F → Type 0) where
+  -- work behind which the activity goes on, once the kernel has done its part; with which frames it may be let into a lock's region
+  abbrev pub GoesPast : Did → F → Type 0
+  GoesPast Went f = ⊥
+  GoesPast Ended f = ⊥
+  GoesPast (Enter l) f = Admitted l f
+  GoesPast (Leave l) f = Unit {0}
+  GoesPast (Await l c) f = Unit {0}
+  GoesPast (Start o) f = Unit {0}
+  GoesPast (Trapped n c) f = ⊥
 
 -- work at which the activity may trap
 abbrev pub MayTrap : Did → Type 0
@@ -45,10 +55,17 @@ MayTrap (Await l c) = Unit {0}
 MayTrap (Start o) = Unit {0}
 MayTrap (Trapped n c) = Unit {0}
 
--- R of the work before which an activity stands: by its place while it runs, and that at which it trapped from then on
-abbrev pub AtWork : (Did → Type 0) → Next → Option Place → Type 0
-AtWork R Runs None = Unit {0}
-AtWork R Runs (Some p) = R (before p)
-AtWork R (WillTrap n) place = (w : Did) × (MayTrap w × R w)
-AtWork R (Unwinds locks) place = (w : Did) × (MayTrap w × R w)
-AtWork R Gone place = Unit {0}
+-- R of the work before which an activity stands at a place; whoever waits to enter may be let in
+abbrev pub AtPlace : (Admitted : LockName → Type 0) (R : Did → Type 0) → Place → Type 0
+AtPlace Admitted R (On w) = R Went
+AtPlace Admitted R (Ready p) = R Went
+AtPlace Admitted R (At l Entry) = Admitted l × R (Enter l)
+AtPlace Admitted R (At l (Condition c)) = R (Await l c)
+
+-- by its place while it runs, and R of the work at which it trapped from then on
+abbrev pub AtWork : (Admitted : LockName → Type 0) (R : Did → Type 0) → Next → Option Place → Type 0
+AtWork Admitted R Runs None = Unit {0}
+AtWork Admitted R Runs (Some p) = AtPlace Admitted R p
+AtWork Admitted R (WillTrap n) place = (w : Did) × (MayTrap w × R w)
+AtWork Admitted R (Unwinds locks) place = (w : Did) × (MayTrap w × R w)
+AtWork Admitted R Gone place = Unit {0}

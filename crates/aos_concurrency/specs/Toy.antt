@@ -163,13 +163,14 @@ coded_start p budget = start_of (nothing_raised p.forked) (code_of p.commands) b
 abbrev pub coded_run : Program → ℕ → List Choice → State Shared Coded
 coded_run p budget cs = execution coded cs (coded_start p budget)
 
--- well nested: each lock that is given was taken last, and a number is raised and awaited in a region of its lock
+-- well nested: each lock that is given was taken last, and a number is raised and awaited in a region of its lock;
+-- to take a lock in a region of its own is trap 9, so nothing is asked of what follows
 abbrev pub Nested : List Command → List LockName → Type 0
 Nested [] ls = ls ≡ []
 Nested (Skip ∷ rest) ls = Nested rest ls
 Nested (Say b ∷ rest) ls = Nested rest ls
 Nested (Raise l ∷ rest) ls = (0 < times l ls) × Nested rest ls
-Nested (Take l ∷ rest) ls = Nested rest (l ∷ ls)
+Nested (Take l ∷ rest) ls = times l ls ≡ 0 → Nested rest (l ∷ ls)
 Nested (Give l ∷ rest) ls = (ls ≡ l ∷ tail ls) × Nested rest (tail ls)
 Nested (Until l n ∷ rest) ls = (0 < times l ls) × Nested rest ls
 Nested (Fork ∷ rest) ls = Nested rest ls
@@ -177,6 +178,18 @@ Nested (Fail n ∷ rest) ls = Nested rest ls
 
 abbrev pub IsNested : Program → Type 0
 IsNested p = Nested p.commands [] × Nested p.forked []
+
+-- no command takes a lock or waits
+abbrev pub TakesNone : List Command → Type 0
+TakesNone [] = Unit {0}
+TakesNone (Skip ∷ rest) = TakesNone rest
+TakesNone (Say b ∷ rest) = TakesNone rest
+TakesNone (Raise l ∷ rest) = TakesNone rest
+TakesNone (Take l ∷ rest) = ⊥
+TakesNone (Give l ∷ rest) = TakesNone rest
+TakesNone (Until l n ∷ rest) = ⊥
+TakesNone (Fork ∷ rest) = TakesNone rest
+TakesNone (Fail n ∷ rest) = TakesNone rest
 
 -- each condition of the toy reads the number of its own lock alone
 abbrev pub IsAnyLocal : LockName → ℕ → Type 0

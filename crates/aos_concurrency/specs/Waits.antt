@@ -2,6 +2,7 @@
 use Rattle.aos_base.specs.declared.kernel.Did.{Did}
 use Rattle.aos_base.specs.declared.kernel.Did.TheVariants.{Went, Ended, Enter, Leave, Await, Start, Trapped}
 use Rattle.aos_base.specs.Machine.{Machine}
+use Rattle.aos_concurrency.specs.Spot.{NoOne}
 use Rattle.aos_concurrency.specs.Regions.{KeepsFits}
 
 -- work at which an activity may come to wait for a lock
@@ -16,5 +17,5 @@ MayWait (Trapped n c) = ⊥
 
 -- no turn enters a region or awaits a condition
 pub record NeverWaits {S F : Type 0} (m : Machine S F) (Fits : S → Did → F → Type 0) : Type 0 where
-  pub fits : KeepsFits m Fits
+  pub fits : KeepsFits m NoOne Fits
   pub turn : (s : S) (f : F) → Fits s Went f → MayWait (m.turn s f).left → ⊥

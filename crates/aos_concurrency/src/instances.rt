@@ -1,22 +1,28 @@
 // The laws at a small machine, whose activities make lists of commands, and at its compiled form.
 
-ghost use Rattle.std.specs.Prelude.{◌≡◌, ℕ, Option, Some, List, [], ◌∷◌, true};
+ghost use Rattle.std.specs.Prelude.{◌≡◌, ◌≢◌, ℕ, Option, Some, List, [], ◌∷◌, true};
 ghost use Rattle.aos_base.specs.declared.kernel.LockName.{LockName};
 ghost use Rattle.aos_base.specs.declared.kernel.Verdict.{Verdict};
+ghost use Rattle.aos_base.specs.declared.kernel.Outcome.TheVariants.{Dead};
 ghost use Rattle.aos_base.specs.Lock.{heir, Alike};
-ghost use Rattle.aos_base.specs.Book.{Runs, on_worker};
+ghost use Rattle.aos_base.specs.Book.{Runs, on_worker, outcome};
 ghost use Rattle.aos_base.specs.Machine.{Choice, Step, State, execution};
 ghost use Rattle.aos_base.specs.Observation.{observation};
 ghost use Rattle.aos_concurrency.specs.Mutual.{Mutual};
 ghost use Rattle.aos_concurrency.specs.Acting.{acting};
 ghost use Rattle.aos_concurrency.specs.Handover.{IsGiven, HandsOver};
 ghost use Rattle.aos_concurrency.specs.Private.{GoesOn, IsLent, settled};
-ghost use Rattle.aos_concurrency.specs.Toy.{Command, Skip, Shared, Program, Frames, toy, toy_run, coded, coded_run, Nested, IsNested, IsAnyLocal, waits_for_one, up_to_the_release, one_list, another_list, lent_at, settled_at, skipping};
+ghost use Rattle.aos_concurrency.specs.Toy.{Command, TakesNone, Skip, Shared, Program, Frames, toy, toy_run, coded, coded_run, Nested, IsNested, IsAnyLocal, waits_for_one, up_to_the_release, one_list, another_list, lent_at, settled_at, skipping};
 
 /// Mutual exclusion at the machine, where its commands are well nested.
 pub fn toy_excludes()
     ensures exclusive { (p : Program) (budget : ℕ) (cs : List Choice) → IsNested p →
         Mutual toy (toy_run p budget cs) }
+{}
+
+/// Where no command takes a lock or waits, no execution comes to be Dead.
+pub fn toy_lives()
+    ensures outcome { (p : Program) (budget : ℕ) (cs : List Choice) → TakesNone p.commands → TakesNone p.forked → outcome (toy_run p budget cs).book ≢ Dead }
 {}
 
 /// The compiled machine is seen to do the same.

@@ -1,13 +1,20 @@
 // The laws over any machine. S and T are the types of stores, F and G those of an activity's frames.
 
-ghost use Rattle.aos_concurrency.specs.Laws.{Exclusive, InOrder, TrapsRecorded, TrapsTold, HandedOver, FiveWays, StaysTidy, Settles, SettlesLater, LastInBudget, SeenAlike, ToldAlike, SameHeir, StayAlike, JoinAlike};
+ghost use Rattle.aos_concurrency.specs.Laws.{Exclusive, AskedFromOutside, NeverDead, InOrder, TrapsRecorded, TrapsTold, HandedOver, FiveWays, StaysTidy, Settles, SettlesLater, LastInBudget, SeenAlike, ToldAlike, SameHeir, StayAlike, JoinAlike};
 
-/// Whoever is in a region of a lock and doesn't wait there owns it, and what goes with it, in every state of every execution.
+/// Whoever is in a region of a lock and doesn't wait there owns it, and what goes with it, in every state of every
+/// execution.
 pub fn one_owner<S, F>()
     ensures exclusive { Exclusive S F }
+    ensures outside { AskedFromOutside S F }
 {}
 
-/// Whatever the machine, each activity stands in at most one place, and only a trap adds a trap row.
+/// Where no turn enters a region or awaits a condition, no execution comes to be Dead.
+pub fn never_dead<S, F>()
+    ensures outcome { NeverDead S F }
+{}
+
+/// Whatever the machine, each activity stands in at most one place, and an entry adds the trap row of its turn.
 pub fn in_order<S, F>()
     ensures places { InOrder S F }
     ensures traps { TrapsRecorded S F }

@@ -10,6 +10,7 @@ use Rattle.aos_typed.specs.Value.{Value, Int, Flag, Object}
 use Rattle.aos_typed.specs.Store.{Store, read, has_room}
 use Rattle.aos_typed.specs.Meaning.{Question, Doing, Item, Do, item_of}
 use Rattle.aos_typed.specs.Source.{Frame, Frames, Turned, settles, written, reads, prints, makes, starts, answer, goes, turn_at, turn, source, first_state, first_store, first_frames}
+use Rattle.aos_concurrency.specs.Spot.{NoOne}
 use Rattle.aos_concurrency.specs.Waits.{MayWait}
 use Rattle.aos_concurrency.proofs.Itself.{Any, anything}
 use Rattle.aos_concurrency.proofs.NeverDead.{never_dead as machine_never_dead}
@@ -65,5 +66,5 @@ turn_lively s (f ∷ fs) = turn_at_lively f.answers f.items f fs s
 pub never_dead : (p : Program) (budget : ℕ) (cs : List Choice) → (observation (source p) (execution (source p) cs (first_state p budget))).outcome ≢ Dead
 unfolding observation
 never_dead p budget cs =
-    machine_never_dead (source p) (Any (source p)) (record { fits = anything (source p); turn = λ s fs rest. turn_lively s fs })
+    machine_never_dead (source p) (Any (source p)) (record { fits = anything (source p) NoOne; turn = λ s fs rest. turn_lively s fs })
     (first_store p) (first_frames p) budget cs tt

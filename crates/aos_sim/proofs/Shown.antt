@@ -27,6 +27,7 @@ use Rattle.aos_code.specs.declared.image.TypeDesc.{TypeDesc}
 use Rattle.aos_code.specs.Memory.{Memory}
 use Rattle.aos_code.specs.Machine as I
 use Rattle.aos_code.specs.Machine.{machine, code_in, home_in, body_in, desc_at, code_of, home_of, frame_of}
+use Rattle.aos_concurrency.specs.Spot.{Anyone}
 use Rattle.aos_concurrency.specs.Simulates.{Simulates, Matches}
 use Rattle.aos_concurrency.proofs.Matching.{execution_matches, start_matches, observation_matches, events_match}
 use Rattle.aos_sim.specs.Code.{stats_code, body_code, zero_cell}
@@ -194,7 +195,7 @@ module _ (p : Program) (image : Image) (well : IsWellTyped p) (ok : IsCodeOf p i
           (object_same t (slice_get os t) (slice_get image.types.items t) refl refl)
 
   -- one turn of the image is one turn of the source
-  simulates : Simulates (SameStore p) (Together p image) (S.source p) (machine image)
+  simulates : Simulates (SameStore p) (Together p image) Anyone (S.source p) (machine image)
   simulates = record {
     turn = λ s mem fs gs stores h. turn_alike p image s mem fs gs stores h.now;
     kept = λ s mem fs gs stores h w fs' gs' h'. record { now = h'.now; behind = h'.behind };
@@ -207,14 +208,14 @@ module _ (p : Program) (image : Image) (well : IsWellTyped p) (ok : IsCodeOf p i
     priority = λ s mem o fs gs stores h. refl;
   }
 
-  matched : (budget : ℕ) (choices : List Choice) → Matches (SameStore p) (Together p image) (execution (S.source p) choices (S.first_state p budget)) (execution (machine image) choices (I.first_state image budget))
+  matched : (budget : ℕ) (choices : List Choice) → Matches (SameStore p) (Together p image) Anyone (execution (S.source p) choices (S.first_state p budget)) (execution (machine image) choices (I.first_state image budget))
   matched budget choices =
-      execution_matches (SameStore p) (Together p image) (S.source p) (machine image) simulates choices (S.first_state p budget) (I.first_state image budget)
-      (start_matches (SameStore p) (Together p image) (S.source p) (machine image) simulates (S.first_store p) (I.first_memory image) (S.first_frames p) (I.first_frames image) budget first_store_same
+      execution_matches (SameStore p) (Together p image) Anyone (S.source p) (machine image) simulates choices (S.first_state p budget) (I.first_state image budget) (λ later a l asks. tt)
+      (start_matches (SameStore p) (Together p image) Anyone (S.source p) (machine image) simulates (S.first_store p) (I.first_memory image) (S.first_frames p) (I.first_frames image) budget first_store_same
       (record { now = frames_same 0 ms image.modules.items (λ j m e. let n : j ≡ 0 + j = omega arith in subst (λ q. Linked q q m.body.items) n (linked_module j m e)) ok.starts; behind = λ k. absurd k }))
 
   pub shown : Shows p image
   shown = record {
-    observation = λ budget choices. sym (observation_matches (SameStore p) (Together p image) (S.source p) (machine image) simulates (execution (S.source p) choices (S.first_state p budget)) (execution (machine image) choices (I.first_state image budget)) (matched budget choices));
-    events = λ budget choices. sym (events_match (SameStore p) (Together p image) (S.source p) (machine image) simulates (execution (S.source p) choices (S.first_state p budget)) (execution (machine image) choices (I.first_state image budget)) (matched budget choices));
+    observation = λ budget choices. sym (observation_matches (SameStore p) (Together p image) Anyone (S.source p) (machine image) simulates (execution (S.source p) choices (S.first_state p budget)) (execution (machine image) choices (I.first_state image budget)) (matched budget choices));
+    events = λ budget choices. sym (events_match (SameStore p) (Together p image) Anyone (S.source p) (machine image) simulates (execution (S.source p) choices (S.first_state p budget)) (execution (machine image) choices (I.first_state image budget)) (matched budget choices));
   }

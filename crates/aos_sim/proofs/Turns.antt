@@ -23,7 +23,7 @@ use Rattle.aos_code.specs.Memory.{Memory, has_room as has_room_in, new_number as
 use Rattle.aos_code.specs.Silent.{Stack, Begins, Fails, Stop, Work, Ended, silent}
 use Rattle.aos_code.specs.Machine as I
 use Rattle.aos_code.specs.Machine.{code_of, home_of}
-use Rattle.aos_concurrency.specs.Spot.{GoesPast}
+use Rattle.aos_concurrency.specs.Spot.{Anyone, GoesPast}
 use Rattle.aos_concurrency.specs.Simulates.{SameTurn}
 use Rattle.aos_sim.specs.Code.{stat_code}
 use Rattle.aos_sim.proofs.Runs.{Run, AtBegin, at_work, past, runs, run, resume, run_by_silent, feed-append, Stands}
@@ -86,7 +86,7 @@ module _ (program : Program) (image : Image) where
   -- the frames of an activity before work: the same, now and behind work that the kernel does
   pub record Together (s : Store) (mem : Memory) (w : Did) (fs : S.Frames) (gs : I.Frames) : Type 0 where
     pub now : SameFrames fs gs
-    pub behind : GoesPast w → SameFrames (S.past fs) (I.past image gs)
+    pub behind : GoesPast Anyone w fs → SameFrames (S.past fs) (I.past image gs)
 
   abbrev pub Alike : S.Turned → I.Turned → Type 0
   Alike = SameTurn (SameStore program) Together

@@ -4,13 +4,13 @@ use Rattle.aos_concurrency.proofs.Matching.{execution_matches, start_matches, ob
 use Rattle.aos_concurrency.proofs.laws.same_executions.Goals as goal
 
 pub returns-clause-observation : goal.returns-clause-observation
-returns-clause-observation g c m n stores frames s t f h sim at rest budget cs =
-    observation_matches (λ x y. IsTrue (stores x y)) (λ x y w k j. IsTrue (frames x y w k j)) m n sim _ _
-    (execution_matches (λ x y. IsTrue (stores x y)) (λ x y w k j. IsTrue (frames x y w k j)) m n sim cs (start_of s f budget) (start_of t h budget)
-    (start_matches (λ x y. IsTrue (stores x y)) (λ x y w k j. IsTrue (frames x y w k j)) m n sim s t f h budget at rest))
+returns-clause-observation g c m n admitted stores frames s t f h budget sim at rest always cs =
+    observation_matches (λ x y. IsTrue (stores x y)) (λ x y w k j. IsTrue (frames x y w k j)) (λ l k. IsTrue (admitted l k)) m n sim _ _
+    (execution_matches (λ x y. IsTrue (stores x y)) (λ x y w k j. IsTrue (frames x y w k j)) (λ l k. IsTrue (admitted l k)) m n sim cs (start_of s f budget) (start_of t h budget) always
+    (start_matches (λ x y. IsTrue (stores x y)) (λ x y w k j. IsTrue (frames x y w k j)) (λ l k. IsTrue (admitted l k)) m n sim s t f h budget at rest))
 
 pub returns-clause-events : goal.returns-clause-events
-returns-clause-events g c m n stores frames s t f h sim at rest budget cs =
-    events_match (λ x y. IsTrue (stores x y)) (λ x y w k j. IsTrue (frames x y w k j)) m n sim _ _
-    (execution_matches (λ x y. IsTrue (stores x y)) (λ x y w k j. IsTrue (frames x y w k j)) m n sim cs (start_of s f budget) (start_of t h budget)
-    (start_matches (λ x y. IsTrue (stores x y)) (λ x y w k j. IsTrue (frames x y w k j)) m n sim s t f h budget at rest))
+returns-clause-events g c m n admitted stores frames s t f h budget sim at rest always cs =
+    events_match (λ x y. IsTrue (stores x y)) (λ x y w k j. IsTrue (frames x y w k j)) (λ l k. IsTrue (admitted l k)) m n sim _ _
+    (execution_matches (λ x y. IsTrue (stores x y)) (λ x y w k j. IsTrue (frames x y w k j)) (λ l k. IsTrue (admitted l k)) m n sim cs (start_of s f budget) (start_of t h budget) always
+    (start_matches (λ x y. IsTrue (stores x y)) (λ x y w k j. IsTrue (frames x y w k j)) (λ l k. IsTrue (admitted l k)) m n sim s t f h budget at rest))
