@@ -22,7 +22,8 @@ pub fn toy_excludes()
 
 /// Where no command takes a lock or waits, no execution comes to be Dead.
 pub fn toy_lives()
-    ensures outcome { (p : Program) (budget : ℕ) (cs : List Choice) → TakesNone p.commands → TakesNone p.forked → outcome (toy_run p budget cs).book ≢ Dead }
+    ensures outcome { (p : Program) (budget : ℕ) (cs : List Choice) →
+        TakesNone p.commands → TakesNone p.forked → outcome (toy_run p budget cs).book ≢ Dead }
 {}
 
 /// The compiled machine is seen to do the same.
@@ -33,7 +34,8 @@ pub fn coded_shows()
         (toy_run p budget cs).book.events ≡ (coded_run p budget cs).book.events }
 {}
 
-/// A condition reads the number of its lock alone, so it holds until the heir's turn; and there is such an heir.
+/// A condition reads the number of its lock alone, so it holds until the heir's turn; and there is
+/// such an heir.
 pub fn toy_hands_over()
     ensures handed { (p : Program) (budget : ℕ) (before others : List Choice) (entry : Choice)
         (a : ℕ) (l : LockName) (c : ℕ) → IsNested p →
