@@ -22,7 +22,7 @@ waits_in l (Some (Ready p)) = 0
 waits_in l (Some (At k Entry)) = 0
 waits_in l (Some (At k (Condition c))) = if is_lock l k then 1 else 0
 
--- each activity's frames fit, and whoever waits to enter a lock's region has those with which it may be let in
+-- each activity's frames fit, and those of one that waits to enter a lock's region are admitted
 pub record Fitting {S F : Type 0} (Admitted : LockName → F → Type 0) (Fits : S → Did → F → Type 0) (st : State S F) : Type 0 where
   pub orderly : Orderly st
   pub fits : (a : ℕ) → AtWork (λ l. Admitted l (st.frames a)) (λ w. Fits st.store w (st.frames a)) (spot st a).next (spot st a).place

@@ -26,7 +26,7 @@ before (Ready p) = Went
 before (At l Entry) = Enter l
 before (At l (Condition c)) = Await l c
 
--- whoever asks for a lock may be let in, or no one
+-- With which frames an activity may be let into a region of a lock: with any, or with none
 
 abbrev pub Anyone : {F : Type 0} → LockName → F → Type 0
 Anyone l f = Unit {0}
@@ -35,7 +35,7 @@ abbrev pub NoOne : {F : Type 0} → LockName → F → Type 0
 NoOne l f = ⊥
 
 module _ {F : Type 0} (Admitted : LockName → F → Type 0) where
-  -- work behind which the activity goes on, once the kernel has done its part; with which frames it may be let into a lock's region
+  -- work behind which the activity goes on, once the kernel has done its part; into a region, with frames that are admitted
   abbrev pub GoesPast : Did → F → Type 0
   GoesPast Went f = ⊥
   GoesPast Ended f = ⊥
@@ -55,14 +55,14 @@ MayTrap (Await l c) = Unit {0}
 MayTrap (Start o) = Unit {0}
 MayTrap (Trapped n c) = Unit {0}
 
--- R of the work before which an activity stands at a place; whoever waits to enter may be let in
+-- R of the work before which an activity stands at a place; whoever waits to enter is admitted besides
 abbrev pub AtPlace : (Admitted : LockName → Type 0) (R : Did → Type 0) → Place → Type 0
 AtPlace Admitted R (On w) = R Went
 AtPlace Admitted R (Ready p) = R Went
 AtPlace Admitted R (At l Entry) = Admitted l × R (Enter l)
 AtPlace Admitted R (At l (Condition c)) = R (Await l c)
 
--- by its place while it runs, and R of the work at which it trapped from then on
+-- so it is by its place while it runs; from a trap on, R of the work at which it trapped
 abbrev pub AtWork : (Admitted : LockName → Type 0) (R : Did → Type 0) → Next → Option Place → Type 0
 AtWork Admitted R Runs None = Unit {0}
 AtWork Admitted R Runs (Some p) = AtPlace Admitted R p

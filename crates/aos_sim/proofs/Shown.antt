@@ -27,8 +27,8 @@ use Rattle.aos_code.specs.declared.image.TypeDesc.{TypeDesc}
 use Rattle.aos_code.specs.Memory.{Memory}
 use Rattle.aos_code.specs.Machine as I
 use Rattle.aos_code.specs.Machine.{machine, code_in, home_in, body_in, desc_at, code_of, home_of, frame_of}
-use Rattle.aos_concurrency.specs.Spot.{Anyone}
 use Rattle.aos_concurrency.specs.Simulates.{Simulates, Matches}
+use Rattle.aos_concurrency.specs.Spot.{Anyone}
 use Rattle.aos_concurrency.proofs.Matching.{execution_matches, start_matches, observation_matches, events_match}
 use Rattle.aos_sim.specs.Code.{stats_code, body_code, zero_cell}
 use Rattle.aos_sim.specs.Shows.{numbers_from, IsCodeOf, Shows}
