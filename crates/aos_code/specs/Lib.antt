@@ -1,3 +1,4 @@
+pub mod Numbered
 pub mod Memory
 pub mod Operators
 pub mod Silent

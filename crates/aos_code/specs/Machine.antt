@@ -1,5 +1,5 @@
 -- An image as a machine: its memory, its frames, and the turns of an activity.
-use Rattle.std.specs.Prelude.{ℕ, zero, suc, ◌+◌, ◌-◌, List, [], ◌∷◌, Bool, true, false, Option, Some, None, map, slice_get, option_and_then}
+use Rattle.std.specs.Prelude.{ℕ, zero, suc, ◌+◌, List, [], ◌∷◌, Bool, true, false, Option, Some, None, map, flat_map, option_and_then}
 use Rattle.aos_base.specs.declared.text.Pos.{Pos}
 use Rattle.aos_base.specs.declared.kernel.Did.{Did}
 use Rattle.aos_base.specs.declared.kernel.Did.TheVariants.{Went, Ended as NoFrame, Start, Trapped}
@@ -15,6 +15,7 @@ use Rattle.aos_code.specs.declared.image.Body.{Body}
 use Rattle.aos_code.specs.declared.image.ProcShape.{ProcShape}
 use Rattle.aos_code.specs.declared.image.TypeDesc.{TypeDesc}
 use Rattle.aos_code.specs.declared.image.Image.{Image}
+use Rattle.aos_code.specs.Numbered.{numbered}
 use Rattle.aos_code.specs.Memory.{Memory, load, store, type_of_object, with_object, new_number, has_room}
 use Rattle.aos_code.specs.Silent.{Stack, Question, Begins, Fails, Stop, Work, Ended, silent}
 
@@ -116,27 +117,26 @@ abbrev pub home_in : Option ProcShape → ℕ
 home_in None = 0
 home_in (Some s) = s.module
 
+-- the frames with which a body begins: the frame of its procedure, and none where the body is 0
+abbrev pub body_frames : ℕ → Frames
+body_frames zero = []
+body_frames (suc p) = frame_of (suc p) ∷ []
+
 abbrev pub body_in : Option TypeDesc → Frames
 body_in None = []
-body_in (Some t) = frame_of t.body ∷ []
-
--- types are numbered from 1
-abbrev pub desc_at : List TypeDesc → ℕ → Option TypeDesc
-desc_at types zero = None
-desc_at types (suc t) = slice_get types t
+body_in (Some t) = body_frames t.body
 
 abbrev pub or_below : Option Pos → ℕ → Where → Where
 or_below None home below = below
 or_below (Some p) home below = record { module_ = home; pos = p }
 
 module _ (image : Image) where
-  -- procedures are numbered from 1
   abbrev pub code_of : ℕ → List Instr
-  code_of p = code_in (slice_get image.bodies.items (p - 1))
+  code_of p = code_in (numbered image.bodies.items p)
 
   -- the number of the module in which a procedure stands
   abbrev pub home_of : ℕ → ℕ
-  home_of p = home_in (slice_get image.shapes.items (p - 1))
+  home_of p = home_in (numbered image.shapes.items p)
 
   -- all silent work up to and with the next visible instruction
   abbrev pub turn : Memory → Frames → Turned
@@ -148,9 +148,9 @@ module _ (image : Image) where
   past [] = []
   past (f ∷ fs) = behind_stop (silent (code_of f.procedure) f.next f.stack) f ∷ fs
 
-  -- the frame with which an object's activity begins
+  -- the frames with which an object's activity begins
   abbrev pub body_of : Memory → ℕ → Frames
-  body_of mem o = body_in (option_and_then (desc_at image.types.items) (type_of_object o mem))
+  body_of mem o = body_in (option_and_then (numbered image.types.items) (type_of_object o mem))
 
   abbrev pub position_or : Where → Frames → Where
   position_or none [] = none
@@ -182,7 +182,7 @@ module _ (image : Image) where
 module _ (image : Image) where
   -- activity 0 runs the bodies of the modules, in load order
   abbrev pub first_frames : Frames
-  first_frames = map (λ m. frame_of m.body) image.modules.items
+  first_frames = flat_map (λ m. body_frames m.body) image.modules.items
 
   abbrev pub first_state : ℕ → State Memory Frames
   first_state budget = start_of (first_memory image) first_frames budget

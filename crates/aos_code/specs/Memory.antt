@@ -1,5 +1,6 @@
 -- The memory that code works on: cells below each root.
-use Rattle.std.specs.Prelude.{ℕ, zero, suc, List, [], ◌∷◌, ◌++◌, length, nat_lt, Bool, Option, Some, None, slice_get, slice_set, option_and_then}
+use Rattle.std.specs.Prelude.{ℕ, suc, List, [], ◌∷◌, ◌++◌, length, nat_lt, Bool, Option, Some, None, slice_get, slice_set, option_and_then}
+use Rattle.aos_code.specs.Numbered.{numbered}
 use Rattle.aos_code.specs.declared.instr.Cell.{Cell}
 use Rattle.aos_code.specs.declared.instr.Root.{Root}
 use Rattle.aos_code.specs.declared.instr.Root.TheVariants.{Module}
@@ -31,10 +32,8 @@ load a mem = load_at a.root a.cell mem
 abbrev pub store : Addr → Cell → Memory → Memory
 store a v mem = store_at a.root a.cell v mem
 
--- the objects' numbers begin with 1
 abbrev pub type_of_object : ℕ → Memory → Option ℕ
-type_of_object zero mem = None
-type_of_object (suc k) mem = slice_get mem.objects k
+type_of_object o mem = numbered mem.objects o
 
 -- a new object of this type, and its number
 abbrev pub with_object : ℕ → Memory → Memory

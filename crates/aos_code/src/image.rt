@@ -14,7 +14,7 @@ pub struct ProcShape {
     pub module: u32,
 }
 
-/// A module: its name, what its cells hold at first, and the number of the procedure that is its body.
+/// A module: its name, what its cells hold at first, and the number of the procedure that is its body, 0 for none.
 #[derive(Drop, Debug)]
 pub struct ModuleDesc {
     pub name: String,
@@ -28,7 +28,8 @@ pub struct TypeDesc {
     pub body: u32,
 }
 
-/// A program in code. Procedures are numbered from 1, and procedure p has shape and body p - 1; so are types.
+/// A program in code. Procedures are numbered from 1, and procedure p has shape and body p - 1; so are types. The
+/// number 0 names no procedure and no type: a module or type whose body is 0 has nothing to run.
 #[derive(Drop, Debug)]
 pub struct Image {
     pub modules: Vec<ModuleDesc>,

@@ -107,9 +107,9 @@ pub enum Instr {
     /// Traps with 8 and this code.
     Halt(u8),
     /// Goes on at the instruction of this number.
-    Jump(usize),
+    Jump(u32),
     /// Takes a number, and where it is 0 goes on at the instruction of this number.
-    JumpFalse(usize),
+    JumpFalse(u32),
     /// Begins the statement at this line and column.
     Begin(u32, u32),
     /// Takes a place and gives what its cell holds.
