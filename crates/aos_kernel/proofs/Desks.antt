@@ -16,7 +16,7 @@ use Rattle.aos_base.specs.Machine.{State, on_book, with_frames, go_past, trap, t
 use Rattle.aos_code.specs.declared.image.Image.{Image}
 use Rattle.aos_code.specs.declared.report.TrapRec.{TrapRec}
 use Rattle.aos_code.specs.Memory.{Memory}
-use Rattle.aos_code.specs.Machine.{Frames, machine, past, position, turn}
+use Rattle.aos_code.specs.Machine.{Frames, body_frames, machine, past, position, turn}
 use Rattle.aos_code.specs.declared.instr.Cell.{Cell}
 use Rattle.aos_kernel.specs.declared.cpu.Frame.{Frame as Kept}
 use Rattle.aos_kernel.specs.declared.cpu.Shared.{Shared}
@@ -24,12 +24,12 @@ use Rattle.aos_kernel.specs.declared.desk.Place.{Place}
 use Rattle.aos_kernel.specs.declared.desk.Place.TheVariants.{Ready}
 use Rattle.aos_kernel.specs.declared.desk.Stand.{Stand}
 use Rattle.aos_kernel.specs.declared.desk.Next.{Next}
-use Rattle.aos_kernel.specs.declared.desk.Next.TheVariants.{Runs, Unwinds, Gone}
+use Rattle.aos_kernel.specs.declared.desk.Next.TheVariants.{Runs, WillTrap, Unwinds, Gone}
 use Rattle.aos_kernel.specs.declared.desk.Activity.{Activity}
 use Rattle.aos_kernel.specs.declared.desk.Desk.{Desk}
-use Rattle.aos_kernel.specs.Cpu.{frames_in, memory_in, where_in, Alike, Shown}
+use Rattle.aos_kernel.specs.Cpu.{frame_in, frames_in, memory_in, where_in, Alike, Shown}
 use Rattle.aos_kernel.specs.Run.{rec_of}
-use Rattle.aos_kernel.specs.Shows.{place_in, stand_in, line_in, next_in, IsKnown, ShowsActivity, Shows, HasSame}
+use Rattle.aos_kernel.specs.Shows.{place_in, stand_in, line_in, next_in, IsKnown, ShowsFrames, ShowsActivity, Shows, HasSame}
 
 -- by whether two numbers are one
 by_case : (P : Bool → Type 0) (x k : ℕ) → (x ≡ k → P true) → (x ≢ k → P false) → P (x == k)
@@ -98,6 +98,17 @@ set_there xs i x g ne =
       | inl r ↦ slice_get-get_or (slice_set xs i g) x r.0 (subst (λ n. x < n) (sym (length-set xs i g)) r.1) ∙ ap (λ y. Some y) (get_or-set_other xs i x g r.0 ne ∙ r.3) ∙ sym r.2
       | inr r ↦ slice_get_past (slice_set xs i g) x (subst (λ n. n ≤ x) (sym (length-set xs i g)) r.0) ∙ sym r.1
     ]
+
+-- the frames of an activity that hasn't ended
+pub frames_alike : (image : Image) (n : Next) (fs : Frames) (kept : List Kept) → n ≢ Gone → ShowsFrames image n fs kept → Alike image fs (frames_in kept)
+frames_alike image Runs fs kept live h = h
+frames_alike image (WillTrap k) fs kept live h = h
+frames_alike image Unwinds fs kept live h = h
+frames_alike image Gone fs kept live h = absurd (live refl)
+
+-- an activity that runs hasn't ended
+pub runs_live : (n : Next) → Runs ≡ n → n ≢ Gone
+runs_live n e f = let z = e ∙ f in absurd (cc z)
 
 -- the desk's activities show those of a book with their frames
 abbrev pub EachShows : Image → List Activity → (ℕ → book.Activity) → (ℕ → Frames) → Type 0
@@ -191,19 +202,20 @@ module _ (image : Image) (earlier : List Event) (d : Desk) (st : State Memory Fr
         unspent = h.unspent;
       }
 
-  -- the next turn has changed
-  next_after : (activities : Vec Activity Global) (n : Next) → ((kept : Activity) → slice_get d.activities.items a ≡ Some kept → activities.items ≡ slice_set d.activities.items a (record kept { next = n })) →
-      EachShows image activities.items (put nat_eq st.book.activity a (record (st.book.activity a) { next = next_in n })) st.frames
-  next_after activities n set =
-      let r = here_is in
-      let s = h.activities a r.0 r.1 in
+  -- the next turn has changed, with the frames
+  next_after : (activities : Vec Activity Global) (old : Activity) (n : Next) (frames : Vec Kept Global) → slice_get d.activities.items a ≡ Some old → activities.items ≡ slice_set d.activities.items a (record old { next = n; frames = frames }) →
+      ShowsFrames image n (st.frames a) frames.items → EachShows image activities.items (put nat_eq st.book.activity a (record (st.book.activity a) { next = next_in n })) st.frames
+  next_after activities old n frames was is shown =
+      let s = h.activities a old was in
+      let new : Activity = record old { next = n; frames = frames } in
       let v : book.Activity = record (st.book.activity a) { next = next_in n } in
-      each_after image d.activities.items activities.items st.book.activity (put nat_eq st.book.activity a v) st.frames st.frames a r.0 (record r.0 { next = n }) r.1 (set r.0 r.1)
-      (subst (λ x. ShowsActivity image (record r.0 { next = n }) x (st.frames a)) (sym (put_same st.book.activity a v)) (record { priority = s.priority; begun = s.begun; next = refl; alike = s.alike }))
+      each_after image d.activities.items activities.items st.book.activity (put nat_eq st.book.activity a v) st.frames st.frames a old new was is
+      (subst (λ x. ShowsActivity image new x (st.frames a)) (sym (put_same st.book.activity a v)) (record { priority = s.priority; begun = s.begun; next = refl; frames = shown }))
       (λ x ne. put_other st.book.activity a v x ne) (λ x ne. refl) h.activities
 
-  started_after : (activities : Vec Activity Global) (n : Next) → ((kept : Activity) → slice_get d.activities.items a ≡ Some kept → activities.items ≡ slice_set d.activities.items a (record kept { next = n })) → st.book.started ≡ length activities.items
-  started_after activities n set = let r = here_is in h.started ∙ sym (ap length (set r.0 r.1) ∙ length-set d.activities.items a (record r.0 { next = n }))
+  -- there are as many activities
+  started_after : (activities : Vec Activity Global) (new : Activity) → activities.items ≡ slice_set d.activities.items a new → st.book.started ≡ length activities.items
+  started_after activities new is = h.started ∙ sym (ap length is ∙ length-set d.activities.items a new)
 
   unspent_after : (n : book.Next) (x : ℕ) → st.book.spent ≡ None → (put nat_eq st.book.activity a (record (st.book.activity a) { next = n }) x).begun < st.book.budget
   unspent_after n x none =
@@ -211,11 +223,11 @@ module _ (image : Image) (earlier : List Event) (d : Desk) (st : State Memory Fr
       (subst (λ (v : book.Activity). v.begun < st.book.budget) (sym (put_same st.book.activity a (record (st.book.activity a) { next = n }))) (h.unspent a none))
       (λ y ne. subst (λ (v : book.Activity). v.begun < st.book.budget) (sym (put_other st.book.activity a (record (st.book.activity a) { next = n }) y ne)) (h.unspent y none)) x
 
-  pub shows_ended : (line : Vec Stand Global) (events : Vec Event Global) (activities : Vec Activity Global) → line_in line.items ≡ leave_line a (line_in d.line.items) → events.items ≡ d.events.items ++ event.End a ∷ [] →
-      ((kept : Activity) → slice_get d.activities.items a ≡ Some kept → activities.items ≡ slice_set d.activities.items a (record kept { next = Gone })) →
+  pub shows_ended : (line : Vec Stand Global) (events : Vec Event Global) (activities : Vec Activity Global) (old : Activity) (frames : Vec Kept Global) → line_in line.items ≡ leave_line a (line_in d.line.items) →
+      events.items ≡ d.events.items ++ event.End a ∷ [] → slice_get d.activities.items a ≡ Some old → activities.items ≡ slice_set d.activities.items a (record old { next = Gone; frames = frames }) → frames.items ≡ [] →
       Shows image earlier (record d { line = line; events = events; activities = activities }) (on_book (ended a) st)
   unfolding ended next_is
-  shows_ended line events activities gone is set = record {
+  shows_ended line events activities old frames gone is was set none = record {
     store = h.store;
     line = ap (leave_line a) h.line ∙ sym gone;
     output = h.output;
@@ -223,22 +235,23 @@ module _ (image : Image) (earlier : List Event) (d : Desk) (st : State Memory Fr
     events = ap (λ x. x ++ event.End a ∷ []) h.events ∙ append_assoc earlier d.events.items (event.End a ∷ []) ∙ ap (λ x. earlier ++ x) (sym is);
     budget = h.budget;
     spent = h.spent;
-    started = started_after activities Gone set;
+    started = started_after activities (record old { next = Gone; frames = frames }) set;
     known = known_left st.book.started a st.book.line h.known;
-    activities = next_after activities Gone set;
+    activities = next_after activities old Gone frames was set none;
     unspent = unspent_after book.Gone;
   }
 
   pub shows_trapped : (traps : Vec TrapRec Global) (events : Vec Event Global) (activities : Vec Activity Global) (n c : ℕ) (at : ℕ × Pos) →
+      ((kept : Activity) → slice_get d.activities.items a ≡ Some kept → kept.next ≢ Gone) →
       ((kept : Activity) (fs : Frames) → slice_get d.activities.items a ≡ Some kept → Alike image fs (frames_in kept.frames.items) → position image fs ≡ where_in at) →
       traps.items ≡ d.traps.items ++ record { number = n; code = c; activity = a; «module» = at.0; pos = at.1 } ∷ [] → events.items ≡ d.events.items ++ event.Trap a n ∷ [] →
       ((kept : Activity) → slice_get d.activities.items a ≡ Some kept → activities.items ≡ slice_set d.activities.items a (record kept { next = Unwinds })) →
       Shows image earlier (record d { traps = traps; events = events; activities = activities }) (trap (machine image) a n c st)
   unfolding trap trapped next_is
-  shows_trapped traps events activities n c at placed told is set =
+  shows_trapped traps events activities n c at live placed told is set =
       let r = here_is in
-      let s = h.activities a r.0 r.1 in
-      let p = placed r.0 (st.frames a) r.1 s.alike in
+      let alike = frames_alike image r.0.next (st.frames a) r.0.frames.items (live r.0 r.1) (h.activities a r.0 r.1).frames in
+      let p = placed r.0 (st.frames a) r.1 alike in
       record {
         store = h.store;
         line = h.line;
@@ -248,19 +261,19 @@ module _ (image : Image) (earlier : List Event) (d : Desk) (st : State Memory Fr
         events = ap (λ x. x ++ event.Trap a n ∷ []) h.events ∙ append_assoc earlier d.events.items (event.Trap a n ∷ []) ∙ ap (λ x. earlier ++ x) (sym is);
         budget = h.budget;
         spent = h.spent;
-        started = started_after activities Unwinds set;
+        started = started_after activities (record r.0 { next = Unwinds }) (set r.0 r.1);
         known = h.known;
-        activities = next_after activities Unwinds set;
+        activities = next_after activities r.0 Unwinds r.0.frames r.1 (set r.0 r.1) alike;
         unspent = unspent_after (book.Unwinds []);
       }
 
   pub shows_turned : (shared : Shared) (activities : Vec Activity Global) (output : Vec ℕ Global) (spent : Option ℕ) (frames : Vec Kept Global) (old : Activity) (n : ℕ) (does_begin : Bool) (left : Did) →
-      slice_get d.activities.items a ≡ Some old → activities.items ≡ slice_set d.activities.items a (record old { begun = n; frames = frames }) →
+      slice_get d.activities.items a ≡ Some old → Runs ≡ old.next → activities.items ≡ slice_set d.activities.items a (record old { begun = n; frames = frames }) →
       Shown image (turn image st.store (st.frames a)) does_begin left (frames_in frames.items) (memory_in shared) d.output.items output.items →
       (suc old.begun < 2 ^ 64 → n ≡ (if does_begin then suc old.begun else old.begun)) → spent ≡ spent_by does_begin d.budget n a d.spent → st.book.spent ≡ None → d.budget < 2 ^ 64 →
       Shows image earlier (record d { shared = shared; activities = activities; output = output; spent = spent }) (turned (machine image) a (turn image st.store (st.frames a)) st)
   unfolding turned counted
-  shows_turned shared activities output spent frames old n does_begin left was is shown told when none small =
+  shows_turned shared activities output spent frames old n does_begin left was runs is shown told when none small =
       let t = turn image st.store (st.frames a) in
       let s = h.activities a old was in
       let begun = (st.book.activity a).begun in
@@ -277,11 +290,12 @@ module _ (image : Image) (earlier : List Event) (d : Desk) (st : State Memory Fr
         events = h.events;
         budget = h.budget;
         spent = (λ i. spent_by (shown.begun i) (h.budget i) (count i) a (h.spent i)) ∙ sym when;
-        started = h.started ∙ sym (ap length is ∙ length-set d.activities.items a new);
+        started = started_after activities new is;
         known = h.known;
         activities = each_after image d.activities.items activities.items st.book.activity (put nat_eq st.book.activity a v) st.frames (put nat_eq st.frames a t.frames) a old new was is
             (subst (λ x. ShowsActivity image new x (put nat_eq st.frames a t.frames a)) (sym (put_same st.book.activity a v))
-            (subst (λ x. ShowsActivity image new v x) (sym (put_same st.frames a t.frames)) (record { priority = s.priority; begun = count; next = s.next; alike = shown.alike })))
+            (subst (λ x. ShowsActivity image new v x) (sym (put_same st.frames a t.frames))
+            (record { priority = s.priority; begun = count; next = s.next; frames = subst (λ m. ShowsFrames image m t.frames frames.items) runs shown.alike })))
             (λ x ne. put_other st.book.activity a v x ne) (λ x ne. put_other st.frames a t.frames x ne) h.activities;
         unspent = λ x spends. each_at (λ y. (put nat_eq st.book.activity a v y).begun < st.book.budget) a
             (subst (λ (y : book.Activity). y.begun < st.book.budget) (sym (put_same st.book.activity a v)) (not_spent t.begun st.book.budget begun a st.book.spent less spends))
@@ -289,10 +303,10 @@ module _ (image : Image) (earlier : List Event) (d : Desk) (st : State Memory Fr
       }
 
   -- the activity goes on behind a start
-  pub shows_past : (activities : Vec Activity Global) (old : Activity) (frames : Vec Kept Global) → slice_get d.activities.items a ≡ Some old → activities.items ≡ slice_set d.activities.items a (record old { frames = frames }) →
-      Alike image (past image (st.frames a)) (frames_in frames.items) → Shows image earlier (record d { activities = activities }) (go_past (machine image) a st)
+  pub shows_past : (activities : Vec Activity Global) (old : Activity) (frames : Vec Kept Global) → slice_get d.activities.items a ≡ Some old → Runs ≡ old.next →
+      activities.items ≡ slice_set d.activities.items a (record old { frames = frames }) → Alike image (past image (st.frames a)) (frames_in frames.items) → Shows image earlier (record d { activities = activities }) (go_past (machine image) a st)
   unfolding go_past
-  shows_past activities old frames was is alike =
+  shows_past activities old frames was runs is alike =
       let s = h.activities a old was in
       let new : Activity = record old { frames = frames } in
       let fs = past image (st.frames a) in
@@ -304,10 +318,11 @@ module _ (image : Image) (earlier : List Event) (d : Desk) (st : State Memory Fr
         events = h.events;
         budget = h.budget;
         spent = h.spent;
-        started = h.started ∙ sym (ap length is ∙ length-set d.activities.items a new);
+        started = started_after activities new is;
         known = h.known;
         activities = each_after image d.activities.items activities.items st.book.activity st.book.activity st.frames (put nat_eq st.frames a fs) a old new was is
-            (subst (λ x. ShowsActivity image new (st.book.activity a) x) (sym (put_same st.frames a fs)) (record { priority = s.priority; begun = s.begun; next = s.next; alike = alike }))
+            (subst (λ x. ShowsActivity image new (st.book.activity a) x) (sym (put_same st.frames a fs))
+            (record { priority = s.priority; begun = s.begun; next = s.next; frames = subst (λ m. ShowsFrames image m fs frames.items) runs alike }))
             (λ x ne. refl) (λ x ne. put_other st.frames a fs x ne) h.activities;
         unspent = h.unspent;
       }
@@ -345,7 +360,7 @@ shows_born image earlier d st n activities line events spare frames fs count is 
       spent = h.spent;
       started = ap suc h.started ∙ sym (ap length is ∙ added d.activities.items new);
       known = known_moved (suc k) k (book.Ready 2) st.book.line (known_more k st.book.line h.known) (omega arith);
-      activities = each_joined image d.activities.items activities.items st.book.activity st.frames k new act fs h.started is (record { priority = refl; begun = refl; next = refl; alike = alike }) h.activities;
+      activities = each_joined image d.activities.items activities.items st.book.activity st.frames k new act fs h.started is (record { priority = refl; begun = refl; next = refl; frames = alike }) h.activities;
       unspent = λ x none. each_at (λ y. (put nat_eq st.book.activity k act y).begun < st.book.budget) k
           (subst (λ (y : book.Activity). y.begun < st.book.budget) (sym (put_same st.book.activity k act)) (positive (st.book.activity 0).begun st.book.budget (h.unspent 0 none)))
           (λ y ne. subst (λ (y : book.Activity). y.begun < st.book.budget) (sym (put_other st.book.activity k act y ne)) (h.unspent y none)) x;
@@ -398,9 +413,9 @@ shows_same image earlier d new st e h = record {
 
 -- only silent work has been done
 pub shows_silent : (image : Image) (earlier : List Event) (d : Desk) (st : State Memory Frames) (shared : Shared) (activities : Vec Activity Global) (output : Vec ℕ Global) (a : ℕ) (old : Activity) (frames : Vec Kept Global) →
-    slice_get d.activities.items a ≡ Some old → activities.items ≡ slice_set d.activities.items a (record old { frames = frames }) → Alike image (frames_in old.frames.items) (frames_in frames.items) → shared ≡ d.shared → output ≡ d.output →
+    slice_get d.activities.items a ≡ Some old → Runs ≡ old.next → activities.items ≡ slice_set d.activities.items a (record old { frames = frames }) → Alike image (frames_in old.frames.items) (frames_in frames.items) → shared ≡ d.shared → output ≡ d.output →
     Shows image earlier d st → Shows image earlier (record d { shared = shared; activities = activities; output = output }) st
-shows_silent image earlier d st shared activities output a old frames was is alike same_memory same_output h =
+shows_silent image earlier d st shared activities output a old frames was runs is alike same_memory same_output h =
     let s = h.activities a old was in
     let new : Activity = record old { frames = frames } in
     record {
@@ -414,10 +429,22 @@ shows_silent image earlier d st shared activities output a old frames was is ali
       started = h.started ∙ sym (ap length is ∙ length-set d.activities.items a new);
       known = h.known;
       activities = each_after image d.activities.items activities.items st.book.activity st.book.activity st.frames st.frames a old new was is
-          (record { priority = s.priority; begun = s.begun; next = s.next; alike = s.alike ∙ alike }) (λ x ne. refl) (λ x ne. refl) h.activities;
+          (record {
+            priority = s.priority;
+            begun = s.begun;
+            next = s.next;
+            frames = subst (λ m. ShowsFrames image m (st.frames a) old.frames.items → ShowsFrames image m (st.frames a) frames.items) runs (λ e. e ∙ alike) s.frames;
+          }) (λ x ne. refl) (λ x ne. refl) h.activities;
       unspent = h.unspent;
     }
 
 pub on_err : {A E : Type 0} {P : Type 0} (r : Result A E) → P → OnErr r P
 on_err (Ok x) p = tt
 on_err (Err e) p = p
+
+-- a body's frames are one at most, and so in either order
+pub body_order : (frames : List Kept) (body : ℕ) → map frame_in frames ≡ body_frames body → frames_in frames ≡ body_frames body
+body_order [] body e = e
+body_order (f ∷ []) body e = e
+body_order (f ∷ g ∷ frames) zero e = absurd (cc e)
+body_order (f ∷ g ∷ frames) (suc p) e = absurd (cc e)

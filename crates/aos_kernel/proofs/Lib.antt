@@ -5,4 +5,3 @@ pub mod Cells
 pub mod Desks
 pub mod Logs
 pub mod Histories
-pub mod Lively

@@ -1,5 +1,5 @@
 -- What the kernel keeps, and the state that it shows.
-use Rattle.std.specs.Prelude.{◌≡◌, ℕ, ◌<◌, List, [], ◌∷◌, ◌++◌, Option, Some, None, map, length, slice_get, vec_len, vec_capacity}
+use Rattle.std.specs.Prelude.{◌≡◌, ◌≢◌, ℕ, ◌<◌, List, [], ◌∷◌, ◌++◌, Some, None, map, length, slice_get, vec_len, vec_capacity}
 use Rattle.aos_base.specs.declared.kernel.Event.{Event}
 use Rattle.aos_base.specs.declared.kernel.Did.{Did}
 use Rattle.aos_base.specs.declared.kernel.Did.TheVariants.{Went, Ended, Enter, Leave, Await, Start, Trapped}
@@ -7,7 +7,8 @@ use Rattle.aos_base.specs.Book as book
 use Rattle.aos_base.specs.Machine.{State, turned}
 use Rattle.aos_code.specs.declared.image.Image.{Image}
 use Rattle.aos_code.specs.Memory.{Memory}
-use Rattle.aos_code.specs.Machine.{Frames, frame_of, machine, turn}
+use Rattle.aos_code.specs.Machine.{Frames, machine, turn}
+use Rattle.aos_kernel.specs.declared.cpu.Frame.{Frame as Kept}
 use Rattle.aos_kernel.specs.declared.desk.Place.{Place}
 use Rattle.aos_kernel.specs.declared.desk.Place.TheVariants.{On, Ready}
 use Rattle.aos_kernel.specs.declared.desk.Stand.{Stand}
@@ -35,12 +36,19 @@ next_in (WillTrap n) = book.WillTrap n
 next_in Unwinds = book.Unwinds []
 next_in Gone = book.Gone
 
--- an activity with its frames, up to silent work
+-- an activity that has ended keeps no frames, and any other keeps its own, up to silent work
+abbrev pub ShowsFrames : Image → Next → Frames → List Kept → Type 0
+ShowsFrames image Runs fs kept = Alike image fs (frames_in kept)
+ShowsFrames image (WillTrap n) fs kept = Alike image fs (frames_in kept)
+ShowsFrames image Unwinds fs kept = Alike image fs (frames_in kept)
+ShowsFrames image Gone fs kept = kept ≡ []
+
+-- an activity with its frames
 pub record ShowsActivity (image : Image) (kept : Activity) (a : book.Activity) (fs : Frames) : Type 0 where
   pub priority : a.priority ≡ kept.priority
   pub begun : a.begun ≡ kept.begun
   pub next : a.next ≡ next_in kept.next
-  pub alike : Alike image fs (frames_in kept.frames.items)
+  pub frames : ShowsFrames image kept.next fs kept.frames.items
 
 -- each stand is of one of so many activities
 abbrev pub IsKnown : ℕ → List book.Stand → Type 0
@@ -60,11 +68,6 @@ pub record Shows (image : Image) (earlier : List Event) (d : Desk) (st : State M
   pub known : IsKnown st.book.started st.book.line
   pub activities : (x : ℕ) (kept : Activity) → slice_get d.activities.items x ≡ Some kept → ShowsActivity image kept (st.book.activity x) (st.frames x)
   pub unspent : (x : ℕ) → st.book.spent ≡ None → (st.book.activity x).begun < st.book.budget
-
--- the frame at the beginning of a procedure, where there is one
-abbrev pub frames_of : Option ℕ → Frames
-frames_of None = []
-frames_of (Some p) = frame_of p ∷ []
 
 -- from each state that the old desk shows, the new one shows what the operation on an activity makes of it
 abbrev pub Performs : Image → ℕ → (State Memory Frames → State Memory Frames) → Desk → Desk → Type 0
@@ -97,9 +100,18 @@ IsServed (Await l c) = ⊥
 IsServed (Start o) = Unit {0}
 IsServed (Trapped n c) = Unit {0}
 
--- the activity's frames stand before the work that is left to the kernel
+-- an activity's next turn is this one
+abbrev pub NextIs : ℕ → Next → Desk → Type 0
+NextIs a next d = (kept : Activity) → slice_get d.activities.items a ≡ Some kept → next ≡ kept.next
+
+-- it hasn't ended
+abbrev pub IsLive : ℕ → Desk → Type 0
+IsLive a d = (kept : Activity) → slice_get d.activities.items a ≡ Some kept → kept.next ≢ Gone
+
+-- the activity runs, and its frames stand before the work that is left to the kernel
 abbrev pub StandsBefore : Image → ℕ → Did → Desk → Type 0
-StandsBefore image a left d = (kept : Activity) → slice_get d.activities.items a ≡ Some kept → IsBefore image left (frames_in kept.frames.items)
+StandsBefore image a left d =
+    (kept : Activity) → slice_get d.activities.items a ≡ Some kept → (Runs ≡ kept.next) × IsBefore image left (frames_in kept.frames.items)
 
 -- there is room for the record of a trap, for an event, for a new object, and for a new activity with its frame
 pub record HasRoom (d : Desk) : Type 0 where
@@ -107,7 +119,8 @@ pub record HasRoom (d : Desk) : Type 0 where
   pub events : vec_len d.events < vec_capacity d.events
   pub activities : vec_len d.activities < vec_capacity d.activities
   pub line : vec_len d.line < vec_capacity d.line
-  pub spare : (vec_len d.spare ≡ 0) × (0 < vec_capacity d.spare)
+  pub spare : d.spare.items ≡ []
+  pub spare_room : vec_len d.spare < vec_capacity d.spare
 
 -- the desk has what it had, and perhaps more room
 pub record HasSame (old new : Desk) : Type 0 where

@@ -1,18 +1,20 @@
 // One turn of an activity: the silent work of its topmost frame, and the visible work that follows.
-ghost use Rattle.std.specs.Prelude.{◌≡◌, ℕ, ◌+◌, ◌<◌, ◌≤◌, ◌^◌, ◌+ℤ◌, ◌-ℤ◌, ℤ, ◌++◌, ◌∷◌, List, false, length, reverse, drop, slice_get, vec_len, vec_capacity, IfOk, OnErr};
-ghost use Rattle.std.specs.Option.{option_map};
+ghost use Rattle.std.specs.Prelude.{◌≡◌, ℕ, ◌+◌, ◌<◌, ◌≤◌, ◌^◌, ◌+ℤ◌, ◌-ℤ◌, ℤ, ◌++◌, ◌∷◌, List, false, length, map, reverse, drop, slice_get, vec_len, vec_capacity, IfOk, OnErr};
+ghost use Rattle.std.specs.Option.{option_map, option_copied};
 ghost use Rattle.aos_base.specs.Number.{if_within, holds, right_justified};
 ghost use Rattle.aos_base.specs.Question.{Reads, Makes as MakesOf, Starts, PutsInt};
+ghost use Rattle.aos_code.specs.Numbered.{numbered as numbered_of};
 ghost use Rattle.aos_code.specs.Memory.{Memory, load as load_of, store as store_of};
 ghost use Rattle.aos_code.specs.Silent.{Stack, Act as ActOf, Sees, given, asserts, on_number, on_numbers, on_place, on_object, or_overflow, gives, duplicates, swaps, flag, stores, jumps, jumps_on_false, act, silent};
 ghost use Rattle.aos_code.specs.Operators.{unary as unary_of, binary as binary_of};
-ghost use Rattle.aos_code.specs.Machine.{Frames, past, behind, code_of as code_at, home_of as home_at, position as position_at, position_or, answer as answer_of, turn as turn_of};
+ghost use Rattle.aos_code.specs.Machine.{Frames, past, behind, body_frames, code_of as code_at, home_of as home_at, position as position_at, position_or, answer as answer_of, turn as turn_of};
 ghost use Rattle.aos_kernel.specs.Cpu.{frame_in, frames_in, memory_in, operands_in, question_in, act_in, stop_in, addr_in, where_in, IsStopWithin, IsBeginOf, IsStay, IsJump, WhereStays, WhereWork, number_in, place_in, or_lost, Alike, IsAnswered, IsTurned, IsBefore, WhereAt, object_in, operands_of};
 
 use crate::arith::{binary, truth, unary};
 use aos_base::{Did, NoMemory, Pos, Relation, Width, add, related, sub};
 use aos_code::{Binary, Cell, Given, Image, Instr, Kind, Root, Unary};
 use itoa::Buffer;
+use std::alloc::Global;
 
 /// The most bytes that one turn writes.
 pub const MAX_BYTES: usize = 300;
@@ -301,12 +303,13 @@ fn give(stack: &mut Vec<Cell>, cell: Cell) -> Act
 }
 
 /// A jump back comes to a Begin.
-fn jump(code: &[Instr], to: usize, at: usize) -> Act
+fn jump(code: &[Instr], to: u32, at: usize) -> Act
     requires { at < length code.now }
     ensures act { (s : Stack) → act_in result s ≡ jumps code.now to at s }
     ensures jumps { IsJump result }
     ensures begins { IsBeginOf code.now result }
 {
+    let to = to as usize;
     if at < to {
         return Act::Goes(to - (at + 1));
     }
@@ -316,7 +319,7 @@ fn jump(code: &[Instr], to: usize, at: usize) -> Act
     }
 }
 
-fn jump_on_false(code: &[Instr], to: usize, at: usize, stack: &mut Vec<Cell>) -> Act
+fn jump_on_false(code: &[Instr], to: u32, at: usize, stack: &mut Vec<Cell>) -> Act
     requires { at < length code.now }
     ensures kept { WhereStays result (stack.new ≡ stack.old) }
     ensures act { act_in result (operands_in stack.new) ≡
@@ -621,11 +624,18 @@ fn answer(
 
 // The image ----------------------------------------------------------------------------------
 
+/// The element of this number, counted from 1. The number 0 names none.
+pub fn numbered<T>(items: &[T], number: u32) -> Option<&T>
+    ensures { option_copied result ≡ numbered_of items.now number }
+{
+    items.get(number.checked_sub(1)? as usize)
+}
+
 /// The code of a procedure.
 fn code_of(image: &Image, procedure: u32) -> &[Instr]
     ensures { result.now ≡ code_at image.now procedure }
 {
-    match image.bodies.get(procedure.saturating_sub(1) as usize) {
+    match numbered(&image.bodies, procedure) {
         Some(body) => &body.code,
         None => &[],
     }
@@ -635,7 +645,7 @@ fn code_of(image: &Image, procedure: u32) -> &[Instr]
 fn home_of(image: &Image, procedure: u32) -> u32
     ensures { result ≡ home_at image.now procedure }
 {
-    match image.shapes.get(procedure.saturating_sub(1) as usize) {
+    match numbered(&image.shapes, procedure) {
         Some(shape) => shape.module,
         None => 0,
     }
@@ -649,6 +659,21 @@ fn top_home(image: &Image, frames: &[Frame]) -> (u32, Pos)
     match frames.last() {
         None => (0, Pos { line: 0, col: 0 }),
         Some(frame) => (home_of(image, frame.procedure), Pos { line: 0, col: 0 }),
+    }
+}
+
+/// Puts the frame with which a body begins above the others. A body 0 has none.
+pub fn push_body(alloc: Global, frames: &mut Vec<Frame>, body: u32)
+    requires { vec_len frames.old < vec_capacity frames.old }
+    ensures { map frame_in frames.new.items ≡ map frame_in frames.old.items ++ body_frames body }
+{
+    if body != 0 {
+        frames.push_reserved(Frame {
+            procedure: body,
+            next: 0,
+            at: None,
+            stack: Vec::new(alloc),
+        });
     }
 }
 

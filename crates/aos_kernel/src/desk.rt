@@ -2,10 +2,11 @@
 ghost use Rattle.std.specs.Prelude.{◌≡◌, ℕ, suc, ◌+◌, ◌<◌, ◌≤◌, ◌^◌, ◌++◌, ◌∷◌, List, length, slice_get, slice_set, nat_le, ◌||◌, false, vec_len, vec_capacity, IfOk, OnOk, OnErr, Some, None, if◌then◌else◌};
 ghost use Rattle.aos_base.specs.Book.{outcome_of, leave_line, move, first_at, is_on, is_ready, on_worker as worker_in, first_ready, spent_by, stands, ready, ended, born, is_full, Runs, On};
 ghost use Rattle.aos_base.specs.Machine.{State, on_book, with_frames, go_past, trap, start, serve, turn_by, turned};
+ghost use Rattle.aos_code.specs.Numbered.{numbered};
 ghost use Rattle.aos_code.specs.Memory.{Memory, type_of_object};
-ghost use Rattle.aos_code.specs.Machine.{Frames, machine, body_of, body_in, desc_at, position, turn as turn_of};
+ghost use Rattle.aos_code.specs.Machine.{Frames, machine, body_of, body_in, body_frames, position, turn as turn_of};
 ghost use Rattle.aos_kernel.specs.Cpu.{Alike, frames_in, where_in, memory_in, IsBefore};
-ghost use Rattle.aos_kernel.specs.Shows.{place_in, line_in, Shows, Performs, PerformsUnspent, ShowsSame, HasTurned, IsServed, StandsBefore, HasRoom, HasSame, frames_of};
+ghost use Rattle.aos_kernel.specs.Shows.{place_in, line_in, Shows, Performs, PerformsUnspent, ShowsSame, HasTurned, IsServed, StandsBefore, NextIs, IsLive, HasRoom, HasSame};
 
 use crate::cpu;
 use crate::cpu::{Frame, MAX_BYTES, Shared};
@@ -195,43 +196,27 @@ fn is_full_with(live: usize, started: usize) -> bool
 fn type_of(shared: &Shared, object: u32) -> Option<u32>
     ensures { result ≡ type_of_object object (memory_in shared.now) }
 {
-    if object == 0 {
-        return None;
-    }
-    shared.objects.get((object - 1) as usize).copied()
+    cpu::numbered(&shared.objects, object).copied()
 }
 
-/// The procedure that is the body of a type's objects.
-fn body_of_type(image: &Image, of: u32) -> Option<u32>
-    ensures { body_in (desc_at image.now.types.items of) ≡ frames_of result }
+/// The procedure that is the body of a type's objects, 0 for none.
+fn body_of_type(image: &Image, of: u32) -> u32
+    ensures { body_in (numbered image.now.types.items of) ≡ body_frames result }
 {
-    if of == 0 {
-        return None;
+    match cpu::numbered(&image.types, of) {
+        Some(desc) => desc.body,
+        None => 0,
     }
-    Some(image.types.get((of - 1) as usize)?.body)
 }
 
-/// The procedure that is an object's body.
-fn body_of_object(image: &Image, shared: &Shared, object: u32) -> Option<u32>
-    ensures { body_of image.now (memory_in shared.now) object ≡ frames_of result }
+/// The procedure that is an object's body, 0 for none.
+fn body_of_object(image: &Image, shared: &Shared, object: u32) -> u32
+    ensures { body_of image.now (memory_in shared.now) object ≡ body_frames result }
 {
-    body_of_type(image, type_of(shared, object)?)
-}
-
-/// The frame at the beginning of a procedure, in the room of the spare frames.
-fn frames_at(alloc: Global, mut spare: Vec<Frame>, procedure: Option<u32>) -> Vec<Frame>
-    requires { (vec_len spare ≡ 0) × (0 < vec_capacity spare) }
-    ensures { frames_in result.items ≡ frames_of procedure }
-{
-    if let Some(procedure) = procedure {
-        spare.push_reserved(Frame {
-            procedure,
-            next: 0,
-            at: None,
-            stack: Vec::new(alloc),
-        });
+    match type_of(shared, object) {
+        Some(of) => body_of_type(image, of),
+        None => 0,
     }
-    spare
 }
 
 // Writing -----------------------------------------------------------------------------------
@@ -307,19 +292,23 @@ impl Desk {
         Ok(())
     }
 
-    /// The activity ends.
+    /// The activity ends, and its frames are dropped.
     fn ended(&mut self, activity: u32)
         requires { vec_len self.old.events < vec_capacity self.old.events }
         ensures { (image : Image) → Performs image activity (on_book (ended activity)) self.old self.new }
     {
         forget(&mut self.line, activity);
         self.events.push_reserved(Event::End { activity });
-        set_next(&mut self.activities, activity, Next::Gone);
+        if let Some(kept) = self.activities.get_mut(activity as usize) {
+            kept.next = Next::Gone;
+            kept.frames = Vec::new(self.alloc);
+        }
     }
 
-    /// A trap of the activity is recorded, and its end follows.
+    /// A trap of the activity, which hasn't ended, is recorded, and its end follows.
     fn trap(&mut self, image: &Image, activity: u32, number: u8, code: u8)
-        requires { HasRoom self.old }
+        requires room { HasRoom self.old }
+        requires live { IsLive activity self.old }
         ensures { Performs image.now activity (trap (machine image.now) activity number code) self.old self.new }
     {
         let (module, pos) = place_of(image, &self.activities, activity);
@@ -345,9 +334,9 @@ impl Desk {
             (on_book (born 2) (with_frames st.book.started (body_of image.now st.store object) st)) }
     {
         let number = self.activities.len() as u32;
-        let procedure = body_of_object(image, &self.shared, object);
-        let spare = mem::replace(&mut self.spare, Vec::new(self.alloc));
-        let frames = frames_at(self.alloc, spare, procedure);
+        let body = body_of_object(image, &self.shared, object);
+        let mut frames = mem::replace(&mut self.spare, Vec::new(self.alloc));
+        cpu::push_body(self.alloc, &mut frames, body);
         self.activities.push_reserved(Activity {
             priority: 2,
             begun: 0,
@@ -372,9 +361,10 @@ impl Desk {
 
     /// The activity starts that of an object, or traps where there is no room for one more.
     fn start(&mut self, image: &Image, activity: u32, object: u32)
-        requires { HasRoom self.old }
+        requires room { HasRoom self.old }
+        requires before { StandsBefore image.now activity (Did.Start object) self.old }
         ensures { (earlier : List Event) (st : State Memory Frames) → Shows image.now earlier self.old st →
-            activity < st.book.started → StandsBefore image.now activity (Did.Start object) self.old →
+            activity < st.book.started →
             Shows image.now earlier self.new (start (machine image.now) activity object (is_full st.book) st) }
     {
         if is_full_with(self.line.len(), self.activities.len()) {
@@ -385,8 +375,9 @@ impl Desk {
         }
     }
 
-    /// The activity's own part of a turn. Where memory runs out, only silent work has been done.
+    /// The own part of a turn of an activity that runs. Where memory runs out, only silent work has been done.
     fn turned(&mut self, image: &Image, activity: u32) -> Result<Did, NoMemory>
+        requires runs { NextIs activity Next.Runs self.old }
         requires output { vec_len self.old.output + MAX_BYTES ≤ vec_capacity self.old.output }
         requires heap { vec_len self.old.shared.objects < vec_capacity self.old.shared.objects }
         ensures before { IfOk result (λ left. StandsBefore image.now activity left self.new) }
@@ -405,9 +396,10 @@ impl Desk {
 
     /// The kernel's part of a turn. No instruction asks for a lock yet.
     fn serve(&mut self, image: &Image, activity: u32, left: Did)
-        requires { HasRoom self.old }
+        requires room { HasRoom self.old }
+        requires before { StandsBefore image.now activity left self.old }
         ensures { (earlier : List Event) (st : State Memory Frames) → Shows image.now earlier self.old st →
-            activity < st.book.started → IsServed left → StandsBefore image.now activity left self.old →
+            activity < st.book.started → IsServed left →
             Shows image.now earlier self.new (serve (machine image.now) activity left st) }
     {
         match left {
@@ -420,6 +412,7 @@ impl Desk {
 
     /// A turn of an activity that runs.
     fn run(&mut self, image: &Image, activity: u32) -> Result<(), NoMemory>
+        requires runs { NextIs activity Next.Runs self.old }
         requires room { HasRoom self.old }
         requires heap { vec_len self.old.shared.objects < vec_capacity self.old.shared.objects }
         requires output { vec_len self.old.output + MAX_BYTES ≤ vec_capacity self.old.output }

@@ -1,6 +1,5 @@
 // The kernel over an image, seen as its log.
-ghost use Rattle.std.specs.Prelude.{◌≡◌, ◌≢◌, ◌<◌, ◌≤◌, [], IfOk, OnErr, All};
-ghost use Rattle.aos_base.specs.declared.kernel.Outcome.{Outcome};
+ghost use Rattle.std.specs.Prelude.{◌≡◌, ◌<◌, ◌≤◌, [], IfOk, OnErr, All};
 ghost use Rattle.std.specs.Arc.{arc_value};
 ghost use Rattle.aos_base.specs.Book.{outcome};
 ghost use Rattle.aos_base.specs.Machine.{Step, Tick, happens};
@@ -10,7 +9,7 @@ ghost use Rattle.aos_base.specs.Schedule.{IsEntry};
 ghost use Rattle.aos_kernel.specs.Shows.{Shows, HandsOut};
 ghost use Rattle.aos_kernel.specs.Run.{state_of, events_of, traps_of, spent_of, comes_to, after_step, ticks, after_tick};
 
-use crate::cpu::{Frame, Shared};
+use crate::cpu::{Frame, Shared, push_body};
 use crate::desk::{Activity, Desk, Next, Place, Stand};
 use crate::log::{Stepped, add_step};
 use aos_base::{Event, NoMemory, Outcome, Sched};
@@ -74,12 +73,7 @@ fn first_bodies(alloc: Global, image: &Image) -> Result<Vec<Frame>, NoMemory>
     let mut frames = Vec::new(alloc);
     for module in &image.modules {
         frames.reserve(1)?;
-        frames.push_reserved(Frame {
-            procedure: module.body,
-            next: 0,
-            at: None,
-            stack: Vec::new(alloc),
-        });
+        push_body(alloc, &mut frames, module.body);
     }
     frames.reverse();
     Ok(frames)
@@ -190,10 +184,9 @@ impl Kernel {
         &self.log
     }
 
-    /// How far the execution is. It is never Dead, since no activity waits for a lock yet.
+    /// How far the execution is.
     pub fn outcome(&self) -> Outcome
-        ensures outcome { result ≡ outcome (state_of self.now).book }
-        ensures lively { result ≢ Outcome.Dead }
+        ensures { result ≡ outcome (state_of self.now).book }
     {
         self.desk.outcome()
     }

@@ -1,7 +1,8 @@
-use Rattle.std.proofs.Common.{refl}
+use Rattle.std.proofs.Common.{refl, sym, subst}
 use Rattle.std.specs.Vec.{with_item}
 use Rattle.std.proofs.lemmas.Option.{slice_get_read}
 use Rattle.aos_kernel.specs.declared.desk.Activity.{Activity}
+use Rattle.aos_kernel.specs.Shows.{ShowsFrames}
 use Rattle.aos_kernel.proofs.Desks.{shows_past}
 use Rattle.aos_kernel.proofs.desk.Desk.go_past.Goals as goal
 
@@ -12,5 +13,6 @@ returns-in-Some c image object earlier st h there before =
     let kept = c.in-Some.kept.now in
     let new : Activity = record kept { frames = c.go_past.new.frames } in
     let was = slice_get_read d.activities.items _ a kept refl c.in-Some.ensures.item.3.0 c.in-Some.ensures.item.1 in
-    shows_past image earlier d st a h there (with_item d.activities a new) kept c.go_past.new.frames was refl
-    (c.go_past.ensures image object (st.frames a) (before kept was) (h.activities a kept was).alike)
+    let b = before kept was in
+    let alike = subst (λ n. ShowsFrames image n (st.frames a) kept.frames.items) (sym b.0) (h.activities a kept was).frames in
+    shows_past image earlier d st a h there (with_item d.activities a new) kept c.go_past.new.frames was b.0 refl (c.go_past.ensures image object (st.frames a) b.1 alike)

@@ -16,4 +16,4 @@ returns-clause-ok c earlier st h there none =
     let r = c.in_ok-left.ensures.ok earlier st h there none in
     let served : IsServed c.in_ok-left.left = subst (λ (x : Did). IsServed x) (sym r.0) (turn_served image st.store (st.frames a)) in
     subst (λ (x : Did). Shows image earlier c.serve.new.self (serve (machine image) a x (turned (machine image) a t st))) r.0
-    (c.serve.ensures earlier (turned (machine image) a t st) r.1 there served c.in_ok-left.ensures.before)
+    (c.serve.ensures earlier (turned (machine image) a t st) r.1 there served)

@@ -5,11 +5,11 @@ use Rattle.aos_base.specs.Book.{is_full, born}
 use Rattle.aos_base.specs.Machine.{start}
 use Rattle.aos_code.specs.Machine.{machine}
 use Rattle.aos_kernel.specs.Shows.{Shows}
-use Rattle.aos_kernel.proofs.Desks.{full_is}
+use Rattle.aos_kernel.proofs.Desks.{full_is, runs_live}
 use Rattle.aos_kernel.proofs.desk.Desk.start.Goals as goal
 
 pub returns-then-is_full_with : goal.returns-then-is_full_with
-returns-then-is_full_with c earlier st h there before =
+returns-then-is_full_with c earlier st h there =
     let d = c.args.self.now in
     let live : c.len.result ≡ length d.line.items = omega arith in
     let started : c.len-2.result ≡ length d.activities.items = omega arith in
@@ -18,7 +18,7 @@ returns-then-is_full_with c earlier st h there before =
 
 pub returns-else-is_full_with : goal.returns-else-is_full_with
 unfolding born
-returns-else-is_full_with c earlier st h there before =
+returns-else-is_full_with c earlier st h there =
     let d = c.args.self.now in
     let live : c.len.result ≡ length d.line.items = omega arith in
     let started : c.len-2.result ≡ length d.activities.items = omega arith in
@@ -26,5 +26,8 @@ returns-else-is_full_with c earlier st h there before =
     let born = c.bear.ensures.born earlier st h in
     let here : c.args.activity < length d.activities.items = subst (λ n. c.args.activity < n) h.started there in
     let still : c.args.activity < suc st.book.started = omega arith in
-    let past = c.go_past.ensures c.args.image.now c.args.object earlier _ born still (c.bear.ensures.before c.args.activity (Start c.args.object) here before) in
+    let past = c.go_past.ensures c.args.image.now c.args.object earlier _ born still (c.bear.ensures.before c.args.activity (Start c.args.object) here c.requires.before) in
     subst (λ (q : Bool). Shows c.args.image.now earlier c.go_past.new.self (start (machine c.args.image.now) c.args.activity c.args.object q st)) (sym room) past
+
+pub trap-requires-clause-live : goal.trap-requires-clause-live
+trap-requires-clause-live c kept at = λ e. runs_live kept.next (c.requires.before kept at).0 e
