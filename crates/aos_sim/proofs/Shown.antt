@@ -1,6 +1,6 @@
 -- An image that has a well-typed program's code shows the program.
-use Rattle.std.proofs.Common.{◌≡◌, ℕ, zero, suc, ◌+◌, ◌-◌, List, [], ◌∷◌, ◌++◌, map, length, Option, Some, None, refl, sym, ap, ◌∙◌, subst, arith, append-nil}
-use Rattle.std.specs.Prelude.{slice_get, option_map, option_and_then, All}
+use Rattle.std.proofs.Common.{◌≡◌, ℕ, zero, suc, ◌+◌, List, [], ◌∷◌, ◌++◌, map, length, Option, Some, None, refl, sym, ap, ◌∙◌, subst, arith, append-nil}
+use Rattle.std.specs.Prelude.{slice_get, flat_map, option_map, option_and_then, All}
 use Rattle.std.proofs.lemmas.List.{length-map}
 use Rattle.std.proofs.lemmas.List.Elements.{All-tail}
 use Rattle.std.proofs.lemmas.Option.{slice_get-map}
@@ -24,9 +24,10 @@ use Rattle.aos_code.specs.declared.image.Body.{Body}
 use Rattle.aos_code.specs.declared.image.ProcShape.{ProcShape}
 use Rattle.aos_code.specs.declared.image.ModuleDesc.{ModuleDesc}
 use Rattle.aos_code.specs.declared.image.TypeDesc.{TypeDesc}
+use Rattle.aos_code.specs.Numbered.{numbered}
 use Rattle.aos_code.specs.Memory.{Memory}
 use Rattle.aos_code.specs.Machine as I
-use Rattle.aos_code.specs.Machine.{machine, code_in, home_in, body_in, desc_at, code_of, home_of, frame_of}
+use Rattle.aos_code.specs.Machine.{machine, code_in, home_in, body_in, body_frames, code_of, home_of, frame_of}
 use Rattle.aos_concurrency.specs.Simulates.{Simulates, Matches}
 use Rattle.aos_concurrency.specs.Spot.{Anyone}
 use Rattle.aos_concurrency.proofs.Matching.{execution_matches, start_matches, observation_matches, events_match}
@@ -70,10 +71,10 @@ get_right [] ys n i e = let h : n ≡ i = omega arith in ap (slice_get ys) h
 get_right (x ∷ xs) ys zero i e = absurd (omega arith)
 get_right (x ∷ xs) ys (suc n) i e = get_right xs ys n i (omega arith)
 
-numbered : {A : Type 0} (k j : ℕ) (xs : List A) → slice_get (numbers_from k xs) j ≡ option_map (λ x. k + j) (slice_get xs j)
-numbered k j [] = refl
-numbered k zero (y ∷ ys) = let n : k ≡ k + 0 = omega arith in ap (λ m. Some m) n
-numbered k (suc j) (y ∷ ys) = let n : suc k + j ≡ k + suc j = omega arith in numbered (suc k) j ys ∙ ap (λ m. option_map (λ x. m) (slice_get ys j)) n
+number_at : {A : Type 0} (k j : ℕ) (xs : List A) → slice_get (numbers_from k xs) j ≡ option_map (λ x. k + j) (slice_get xs j)
+number_at k j [] = refl
+number_at k zero (y ∷ ys) = let n : k ≡ k + 0 = omega arith in ap (λ m. Some m) n
+number_at k (suc j) (y ∷ ys) = let n : suc k + j ≡ k + suc j = omega arith in number_at (suc k) j ys ∙ ap (λ m. option_map (λ x. m) (slice_get ys j)) n
 
 length-numbers : {A : Type 0} (k : ℕ) (xs : List A) → length (numbers_from k xs) ≡ length xs
 length-numbers k [] = refl
@@ -125,10 +126,9 @@ module _ (p : Program) (image : Image) (well : IsWellTyped p) (ok : IsCodeOf p i
 
   linked : (k home : ℕ) (ss : List TStat) → slice_get (numbers_from 0 ms ++ map (λ o. o.home) os) k ≡ Some home → slice_get (map (λ m. body_code m.body.items) ms ++ map (λ o. body_code o.body.items) os) k ≡ Some (body_code ss) → All (IsStatement p) ss → Linked k home ss
   linked k home ss eh ec typed =
-      let n : suc k - 1 ≡ k = omega arith in
       record {
-        home = home_found (slice_get image.shapes.items (suc k - 1)) home (ap (λ j. option_map (λ (s : ProcShape). s.module) (slice_get image.shapes.items j)) n ∙ sym (slice_get-map (λ (s : ProcShape). s.module) image.shapes.items k) ∙ ap (λ l. slice_get l k) ok.homes ∙ eh);
-        code = code_found (slice_get image.bodies.items (suc k - 1)) (body_code ss) (ap (λ j. option_map (λ (b : Body). b.code.items) (slice_get image.bodies.items j)) n ∙ sym (slice_get-map (λ (b : Body). b.code.items) image.bodies.items k) ∙ ap (λ l. slice_get l k) ok.bodies ∙ ec);
+        home = home_found (slice_get image.shapes.items k) home (sym (slice_get-map (λ (s : ProcShape). s.module) image.shapes.items k) ∙ ap (λ l. slice_get l k) ok.homes ∙ eh);
+        code = code_found (slice_get image.bodies.items k) (body_code ss) (sym (slice_get-map (λ (b : Body). b.code.items) image.bodies.items k) ∙ ap (λ l. slice_get l k) ok.bodies ∙ ec);
         typed = typed;
       }
 
@@ -136,7 +136,7 @@ module _ (p : Program) (image : Image) (well : IsWellTyped p) (ok : IsCodeOf p i
   linked_module k m e =
       let z : 0 + k ≡ k = omega arith in
       linked k k m.body.items
-      (get_left (numbers_from 0 ms) (map (λ o. o.home) os) k k (numbered 0 k ms ∙ ap (option_map (λ x. 0 + k)) e ∙ ap (λ j. Some j) z))
+      (get_left (numbers_from 0 ms) (map (λ o. o.home) os) k k (number_at 0 k ms ∙ ap (option_map (λ x. 0 + k)) e ∙ ap (λ j. Some j) z))
       (get_left (map (λ m. body_code m.body.items) ms) (map (λ o. body_code o.body.items) os) k (body_code m.body.items) (slice_get-map (λ (x : TModule). body_code x.body.items) ms k ∙ ap (option_map (λ (x : TModule). body_code x.body.items)) e))
       (all_get (λ x. All (IsStatement p) x.body.items) ms k m well.bodies e)
 
@@ -155,21 +155,21 @@ module _ (p : Program) (image : Image) (well : IsWellTyped p) (ok : IsCodeOf p i
       let stands : Stands code 0 (stats_code ss 0 ++ i.Return ∷ []) = record { rest = []; here = l.code ∙ sym (append-nil (body_code ss)) } in
       record { home = l.home; at = refl; remains = (refl, carries_list p code ss 0 l.typed stands) }
 
-  frames_same : (k : ℕ) (ms : List TModule) (ds : List ModuleDesc) → ((j : ℕ) (m : TModule) → slice_get ms j ≡ Some m → Linked (k + j) (k + j) m.body.items) → map (λ (d : ModuleDesc). d.body) ds ≡ numbers_from (suc k) ms → SameFrames p image (S.bodies_from k ms) (map (λ (d : ModuleDesc). frame_of d.body) ds)
+  frames_same : (k : ℕ) (ms : List TModule) (ds : List ModuleDesc) → ((j : ℕ) (m : TModule) → slice_get ms j ≡ Some m → Linked (k + j) (k + j) m.body.items) → map (λ (d : ModuleDesc). d.body) ds ≡ numbers_from (suc k) ms → SameFrames p image (S.bodies_from k ms) (flat_map (λ (d : ModuleDesc). body_frames d.body) ds)
   frames_same k [] [] each e = tt
   frames_same k [] (d ∷ ds) each e = absurd (cc)
   frames_same k (m ∷ ms) [] each e = absurd (cc)
   frames_same k (m ∷ ms) (d ∷ ds) each e =
       let here : d.body ≡ suc k = cc in
       let rest : map (λ (x : ModuleDesc). x.body) ds ≡ numbers_from (suc (suc k)) ms = cc in
-      let n : k + 0 ≡ k = omega arith in (
-        subst (λ b. SameFrame p image (S.body_frame k m.body.items) (frame_of b)) (sym here) (first_frame_same k k m.body.items (subst (λ j. Linked j j m.body.items) n (each 0 m refl))),
-        frames_same (suc k) ms ds (λ j x at. let n' : k + suc j ≡ suc k + j = omega arith in subst (λ q. Linked q q x.body.items) n' (each (suc j) x at)) rest,
-      )
+      let n : k + 0 ≡ k = omega arith in
+      let now = first_frame_same k k m.body.items (subst (λ j. Linked j j m.body.items) n (each 0 m refl)) in
+      let below = frames_same (suc k) ms ds (λ j x at. let n' : k + suc j ≡ suc k + j = omega arith in subst (λ q. Linked q q x.body.items) n' (each (suc j) x at)) rest in
+      subst (λ b. SameFrames p image (S.bodies_from k (m ∷ ms)) (body_frames b ++ flat_map (λ (x : ModuleDesc). body_frames x.body) ds)) (sym here) (now, below)
 
   -- the frames of an object's activity, by the object's type on both sides
   object_same : (t : ℕ) (o : Option TObject) (d : Option TypeDesc) → slice_get os t ≡ o → slice_get image.types.items t ≡ d → SameFrames p image (S.object_frames o) (body_in d)
-  object_same t o d eo ed = by_case o d eo (ap (option_map (λ (x : TypeDesc). x.body)) (sym ed) ∙ sym (slice_get-map (λ (x : TypeDesc). x.body) image.types.items t) ∙ ap (λ l. slice_get l t) ok.types ∙ numbered (suc (length ms)) t os ∙ ap (option_map (λ x. suc (length ms) + t)) eo)
+  object_same t o d eo ed = by_case o d eo (ap (option_map (λ (x : TypeDesc). x.body)) (sym ed) ∙ sym (slice_get-map (λ (x : TypeDesc). x.body) image.types.items t) ∙ ap (λ l. slice_get l t) ok.types ∙ number_at (suc (length ms)) t os ∙ ap (option_map (λ x. suc (length ms) + t)) eo)
     where
       by_case : (o : Option TObject) (d : Option TypeDesc) → slice_get os t ≡ o → option_map (λ (x : TypeDesc). x.body) d ≡ option_map (λ x. suc (length ms) + t) o → SameFrames p image (S.object_frames o) (body_in d)
       by_case None None eo e = tt
@@ -178,20 +178,20 @@ module _ (p : Program) (image : Image) (well : IsWellTyped p) (ok : IsCodeOf p i
       by_case (Some o) (Some d) eo e =
           let here : d.body ≡ suc (length ms) + t = cc in
           let n : suc (length ms) + t ≡ suc (length ms + t) = omega arith in
-          (subst (λ b. SameFrame p image (S.body_frame o.home o.body.items) (frame_of b)) (sym (here ∙ n)) (first_frame_same (length ms + t) o.home o.body.items (linked_object t o eo)), tt)
+          subst (λ b. SameFrames p image (S.object_frames (Some o)) (body_frames b)) (sym (here ∙ n)) (first_frame_same (length ms + t) o.home o.body.items (linked_object t o eo), tt)
 
   body_same : (s : Store) (mem : Memory) (o : ℕ) → SameStore p s mem → SameFrames p image (S.body_of p s o) (I.body_of image mem o)
   body_same s mem zero stores = tt
   body_same s mem (suc k) stores =
-      subst (λ x. SameFrames p image (S.object_frames (option_and_then (slice_get os) (slice_get s.objects k))) (body_in (option_and_then (desc_at image.types.items) x)))
+      subst (λ x. SameFrames p image (S.object_frames (option_and_then (slice_get os) (slice_get s.objects k))) (body_in (option_and_then (numbered image.types.items) x)))
       (sym (ap (λ l. slice_get l k) stores.objects ∙ slice_get-map (λ t. t + 1) s.objects k))
       (of_type (slice_get s.objects k))
     where
-      of_type : (t : Option ℕ) → SameFrames p image (S.object_frames (option_and_then (slice_get os) t)) (body_in (option_and_then (desc_at image.types.items) (option_map (λ x. x + 1) t)))
+      of_type : (t : Option ℕ) → SameFrames p image (S.object_frames (option_and_then (slice_get os) t)) (body_in (option_and_then (numbered image.types.items) (option_map (λ x. x + 1) t)))
       of_type None = tt
       of_type (Some t) =
           let n : t + 1 ≡ suc t = omega arith in
-          subst (λ x. SameFrames p image (S.object_frames (slice_get os t)) (body_in (desc_at image.types.items x))) (sym n)
+          subst (λ x. SameFrames p image (S.object_frames (slice_get os t)) (body_in (numbered image.types.items x))) (sym n)
           (object_same t (slice_get os t) (slice_get image.types.items t) refl refl)
 
   -- one turn of the image is one turn of the source

@@ -25,7 +25,7 @@ pub returns-in_default-clause-log : goal.returns-in_default-clause-log
 returns-in_default-clause-log c =
     let i = c.loop-entry.entry-index in
     let runs = c.args.s.now.runs in
-    let over = λ (going : outcome (state_of c.loop-entry.kernel).book ≡ Going). c.in_default.not-Going (c.outcome.ensures.outcome ∙ going) in
+    let over = λ (going : outcome (state_of c.loop-entry.kernel).book ≡ Going). c.in_default.not-Going (c.outcome.ensures ∙ going) in
     subst (λ cs. Continues cs c.args.kernel.now c.loop-entry.kernel) (sym (choices-split i runs))
     (goes_idly (choices (take i runs)) (choices (drop i runs)) c.args.kernel.now c.loop-entry.kernel c.loop-entry.invariant (execution-over c.loop-entry.kernel (choices (drop i runs)) over))
 
