@@ -1,4 +1,5 @@
 pub mod Operands
+pub mod Pieces
 pub mod Walks
 pub mod Turns
 pub mod Cells

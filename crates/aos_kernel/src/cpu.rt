@@ -5,7 +5,7 @@ ghost use Rattle.aos_base.specs.Number.{if_within, holds, right_justified};
 ghost use Rattle.aos_base.specs.Question.{Reads, Makes as MakesOf, Starts, PutsInt};
 ghost use Rattle.aos_code.specs.Numbered.{numbered as numbered_of};
 ghost use Rattle.aos_code.specs.Memory.{Memory, load as load_of, store as store_of};
-ghost use Rattle.aos_code.specs.Silent.{Stack, Act as ActOf, Sees, given, asserts, on_number, on_numbers, on_place, on_object, or_overflow, gives, duplicates, swaps, flag, stores, jumps, jumps_on_false, act, silent};
+ghost use Rattle.aos_code.specs.Silent.{Stack, Act as ActOf, Sees, given, asserts, on_number, on_numbers, on_place, on_object, or_overflow, gives, duplicates, swaps, flag, stores, lands, jumps, jumps_on_false, act, silent};
 ghost use Rattle.aos_code.specs.Operators.{unary as unary_of, binary as binary_of};
 ghost use Rattle.aos_code.specs.Machine.{Frames, past, behind, body_frames, code_of as code_at, home_of as home_at, position as position_at, position_or, answer as answer_of, turn as turn_of};
 ghost use Rattle.aos_kernel.specs.Cpu.{frame_in, frames_in, memory_in, operands_in, question_in, act_in, stop_in, addr_in, where_in, IsStopWithin, IsBeginOf, IsStay, IsJump, WhereStays, WhereWork, number_in, place_in, or_lost, Alike, IsAnswered, IsTurned, IsBefore, WhereAt, object_in, operands_of};
@@ -302,7 +302,19 @@ fn give(stack: &mut Vec<Cell>, cell: Cell) -> Act
     Act::Goes(0)
 }
 
-/// A jump back comes to a Begin.
+/// Where a jump back comes to: a Begin.
+fn land(code: &[Instr], to: usize) -> Act
+    ensures act { (s : Stack) → act_in result s ≡ lands (slice_get code.now to) to s }
+    ensures jumps { IsJump result }
+    ensures begins { IsBeginOf code.now result }
+{
+    match code.get(to).copied() {
+        Some(Instr::Begin(line, col)) => Act::Begins(to, Pos { line, col }),
+        _ => LOST,
+    }
+}
+
+/// A jump ahead passes over instructions, and a jump back comes to a Begin.
 fn jump(code: &[Instr], to: u32, at: usize) -> Act
     requires { at < length code.now }
     ensures act { (s : Stack) → act_in result s ≡ jumps code.now to at s }
@@ -311,11 +323,9 @@ fn jump(code: &[Instr], to: u32, at: usize) -> Act
 {
     let to = to as usize;
     if at < to {
-        return Act::Goes(to - (at + 1));
-    }
-    match code.get(to).copied() {
-        Some(Instr::Begin(line, col)) => Act::Begins(to, Pos { line, col }),
-        _ => LOST,
+        Act::Goes(to - (at + 1))
+    } else {
+        land(code, to)
     }
 }
 
