@@ -18,6 +18,16 @@ fn put(code: &mut Vec<Instr>, instr: Instr) -> Result<(), AllocError>
     Ok(())
 }
 
+// The number of the next instruction. Code of 2^32 instructions and more is want of memory.
+fn next_place(code: &[Instr]) -> Result<u32, AllocError>
+    ensures { IfOk result (λ n. n ≡ length code.now) }
+{
+    match u32::try_from(code.len()) {
+        Ok(number) => Ok(number),
+        Err(_) => Err(AllocError),
+    }
+}
+
 fn literal_instr(literal: Literal) -> Instr
     ensures { result ≡ literal_code literal }
 {
@@ -126,14 +136,15 @@ fn emit_stat(alloc: Global, code: &mut Vec<Instr>, statement: &TStat) -> Result<
             put(code, Instr::Store(Kind::N))
         }
         TStat::While(at, condition, body) => {
-            let start = code.len();
+            let start = next_place(code)?;
             emit_begin(code, *at)?;
             emit_value(alloc, code, condition)?;
             let test_end = code.len();
             put(code, Instr::JumpFalse(0))?;
             emit_stats(alloc, code, body)?;
             put(code, Instr::Jump(start))?;
-            code[test_end] = Instr::JumpFalse(code.len());
+            let end = next_place(code)?;
+            code[test_end] = Instr::JumpFalse(end);
             Ok(())
         }
         TStat::New(at, place, object) => {

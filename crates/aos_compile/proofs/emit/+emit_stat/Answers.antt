@@ -5,21 +5,21 @@ use Rattle.aos_compile.proofs.Parts.{loop_typed, one_typed}
 use Rattle.aos_compile.proofs.Patch.{while_is, patch_while}
 use Rattle.aos_compile.proofs.emit.+emit_stat.Goals as goal
 
-pub emit_stat-returns-in_ok-put-in-While-2 : goal.emit_stat-returns-in_ok-put-in-While-2
-emit_stat-returns-in_ok-put-in-While-2 t c =
+pub emit_stat-returns-in_ok-end-in-While : goal.emit_stat-returns-in_ok-end-in-While
+emit_stat-returns-in_ok-end-in-While t c =
     let base = c.args.code.now.items in
     let here = c.in-While.at in
     let e1 = value_code c.in-While.condition (length base + 1) in
     let pb = length base + 1 + length e1 + 1 in
-    patch_while base here (value_code c.in-While.condition) (stats_code c.deref.result.now) _ _ _ _ _ _ _ _ _ (c.len-start.ensures ∙ c.args.code.now.ok.0) c.in_ok-emit_begin-in-While.ensures c.in_ok-emit_value-in-While.ensures (c.len-test_end.ensures ∙ c.emit_value-in-While.new.code.ok.0) c.in_ok-put-in-While.ensures c.in_ok-emit_stats-in-While.ensures c.in_ok-put-in-While-2.ensures (c.len.ensures ∙ c.put-in-While-2.new.code.ok.0)
-    ∙ ap (λ b. base ++ while_code here e1 (stats_code b pb) (length base)) c.deref.ensures.value
+    patch_while base here (value_code c.in-While.condition) (stats_code c.deref-in-While.result.now) _ _ _ _ _ _ _ _ _ (c.in_ok-start-in-While.ensures ∙ ap length c.deref.ensures.value) c.in_ok-emit_begin-in-While.ensures c.in_ok-emit_value-in-While.ensures (c.len-test_end.ensures ∙ c.emit_value-in-While.new.code.ok.0) c.in_ok-put-in-While.ensures c.in_ok-emit_stats-in-While.ensures c.in_ok-put-in-While-2.ensures (c.in_ok-end-in-While.ensures ∙ ap length c.deref-in-While-2.ensures.value)
+    ∙ ap (λ b. base ++ while_code here e1 (stats_code b pb) (length base)) c.deref-in-While.ensures.value
     ∙ ap (λ l. base ++ l) (sym (while_is here c.in-While.condition c.in-While.body (length base)))
     ∙ ap (λ s. base ++ stat_code s (length base)) (sym c.in-While.is)
 
 pub emit_stat-emit_stats-requires : goal.emit_stat-emit_stats-requires
 emit_stat-emit_stats-requires t c =
-    let less = body_less c.args.statement.now c.in-While.at c.in-While.condition c.in-While.body c.deref.result.now c.in-While.is c.deref.ensures.value in
-    (search (rules, less), loop_typed c.args.statement.now c.in-While.at c.in-While.condition c.in-While.body c.deref.result.now c.in-While.is c.deref.ensures.value c.requires)
+    let less = body_less c.args.statement.now c.in-While.at c.in-While.condition c.in-While.body c.deref-in-While.result.now c.in-While.is c.deref-in-While.ensures.value in
+    (search (rules, less), loop_typed c.args.statement.now c.in-While.at c.in-While.condition c.in-While.body c.deref-in-While.result.now c.in-While.is c.deref-in-While.ensures.value c.requires)
 
 pub emit_stats-emit_stat-requires : goal.emit_stats-emit_stat-requires
 emit_stats-emit_stat-requires t c =
