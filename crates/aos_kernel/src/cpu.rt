@@ -248,7 +248,8 @@ fn compare(relation: Relation, stack: &mut Vec<Cell>) -> Act
     requires { vec_len stack.old < vec_capacity stack.old }
     ensures kept { WhereStays result (stack.new ≡ stack.old) }
     ensures act { act_in result (operands_in stack.new) ≡
-        on_numbers (λ a b s. gives (Cell.Num (flag (holds relation a b))) s) (operands_in stack.old) }
+        on_numbers (λ a b s. gives (Cell.Num (flag (holds relation a b))) s)
+        (operands_in stack.old) }
 {
     match numbers(stack) {
         None => LOST,
@@ -460,7 +461,8 @@ fn silent_from(code: &[Instr], next: &mut usize, stack: &mut Vec<Cell>) -> Resul
         silent code.now next.old (operands_in stack.old) }
     ensures within { IfOk result (λ stop. IsStopWithin (length code.now) stop) }
     ensures at { IfOk result (λ stop. WhereAt stop next.new) }
-    ensures room { IfOk result (λ stop. WhereWork stop (vec_len stack.new < vec_capacity stack.new)) }
+    ensures room { IfOk result
+        (λ stop. WhereWork stop (vec_len stack.new < vec_capacity stack.new)) }
 {
     while *next < code.len() {
         let at = *next;
@@ -541,7 +543,8 @@ fn read(shared: &Shared, root: Root, cell: u32, at: usize, frame: &mut Frame) ->
     requires place { at + 1 < 2 ^ 64 }
     requires room { vec_len frame.old.stack < vec_capacity frame.old.stack }
     ensures { (out : List ℕ) → let memory_is = memory_in shared.now in
-        IsAnswered (Reads (record { root = root; cell = cell })) at 1 frame.old frame.new memory_is memory_is result out out }
+        IsAnswered (Reads (record { root = root; cell = cell })) at 1 frame.old frame.new
+        memory_is memory_is result out out }
 {
     match load(shared, root, cell) {
         None => Did::Trapped(16, 0),
@@ -556,7 +559,8 @@ fn read(shared: &Shared, root: Root, cell: u32, at: usize, frame: &mut Frame) ->
 fn put_int(output: &mut Vec<u8>, a: i64, places: i64, at: usize, frame: &mut Frame) -> Did
     requires place { at + 1 < 2 ^ 64 }
     requires room { vec_len output.old + MAX_BYTES ≤ vec_capacity output.old }
-    ensures { (mem : Memory) → IsAnswered (PutsInt (Cell.Num a) (Cell.Num places)) at 2 frame.old frame.new mem mem result
+    ensures { (mem : Memory) →
+        IsAnswered (PutsInt (Cell.Num a) (Cell.Num places)) at 2 frame.old frame.new mem mem result
         output.old.items output.new.items }
 {
     if places < 0 || places > 255 {
@@ -575,7 +579,8 @@ fn make(shared: &mut Shared, of: u32, at: usize, frame: &mut Frame) -> Did
     requires place { at + 1 < 2 ^ 64 }
     requires stack_room { vec_len frame.old.stack < vec_capacity frame.old.stack }
     requires heap_room { vec_len shared.old.objects < vec_capacity shared.old.objects }
-    ensures { (out : List ℕ) → IsAnswered (MakesOf of) at 0 frame.old frame.new (memory_in shared.old)
+    ensures { (out : List ℕ) →
+        IsAnswered (MakesOf of) at 0 frame.old frame.new (memory_in shared.old)
         (memory_in shared.new) result out out }
 {
     if shared.objects.len() >= MAX_SCALARS {
@@ -611,7 +616,8 @@ fn answer(
     requires stack_room { vec_len frame.old.stack < vec_capacity frame.old.stack }
     requires heap_room { vec_len shared.old.objects < vec_capacity shared.old.objects }
     requires room { vec_len output.old + MAX_BYTES ≤ vec_capacity output.old }
-    ensures { IsAnswered (question_in question) at (operands_of question) frame.old frame.new (memory_in shared.old)
+    ensures { IsAnswered (question_in question) at (operands_of question) frame.old frame.new
+        (memory_in shared.old)
         (memory_in shared.new) result output.old.items output.new.items }
 {
     match question {
@@ -713,10 +719,13 @@ pub fn turn(
 ) -> Result<Turned, NoMemory>
     requires output { vec_len output.old + MAX_BYTES ≤ vec_capacity output.old }
     requires heap { vec_len shared.old.objects < vec_capacity shared.old.objects }
-    ensures ok { IfOk result (λ t. IsTurned image.now t.begun t.left frames.old.items frames.new.items (memory_in shared.old)
+    ensures ok { IfOk result
+        (λ t. IsTurned image.now t.begun t.left frames.old.items frames.new.items
+        (memory_in shared.old)
         (memory_in shared.new) output.old.items output.new.items) }
     ensures starts { IfOk result (λ t. IsBefore image.now t.left (frames_in frames.new.items)) }
-    ensures err { OnErr result (Alike image.now (frames_in frames.old.items) (frames_in frames.new.items)) }
+    ensures err { OnErr result
+        (Alike image.now (frames_in frames.old.items) (frames_in frames.new.items)) }
     ensures memory { OnErr result (shared.new ≡ shared.old) }
     ensures output { OnErr result (output.new ≡ output.old) }
 {
@@ -765,8 +774,10 @@ pub fn turn(
 
 /// Past a Start, whose activity has been started.
 pub fn go_past(frames: &mut Vec<Frame>)
-    ensures { (image : Image) (object : ℕ) (fs : Frames) → IsBefore image (Did.Start object) (frames_in frames.old.items) →
-        Alike image fs (frames_in frames.old.items) → Alike image (past image fs) (frames_in frames.new.items) }
+    ensures { (image : Image) (object : ℕ) (fs : Frames) →
+        IsBefore image (Did.Start object) (frames_in frames.old.items) →
+        Alike image fs (frames_in frames.old.items) →
+        Alike image (past image fs) (frames_in frames.new.items) }
 {
     if let Some(mut frame) = frames.pop() {
         take(&mut frame.stack, 1);

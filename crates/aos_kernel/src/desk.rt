@@ -122,7 +122,8 @@ fn outcome_in(line: &[Stand], spent: Option<u32>) -> Outcome
 
 /// An activity's priority.
 fn priority_of(activities: &[Activity], activity: u32) -> u8
-    ensures { (kept : Activity) → slice_get activities.now activity ≡ Some kept → result ≡ kept.priority }
+    ensures { (kept : Activity) → slice_get activities.now activity ≡ Some kept →
+        result ≡ kept.priority }
 {
     match activities.get(activity as usize) {
         Some(kept) => kept.priority,
@@ -132,7 +133,8 @@ fn priority_of(activities: &[Activity], activity: u32) -> u8
 
 /// An activity's next turn.
 fn next_of(activities: &[Activity], activity: u32) -> Next
-    ensures { (kept : Activity) → slice_get activities.now activity ≡ Some kept → result ≡ kept.next }
+    ensures { (kept : Activity) → slice_get activities.now activity ≡ Some kept →
+        result ≡ kept.next }
 {
     match activities.get(activity as usize) {
         Some(kept) => kept.next,
@@ -242,7 +244,8 @@ fn move_in(line: &mut Vec<Stand>, activity: u32, place: Place)
 /// Sets an activity's next turn.
 fn set_next(activities: &mut Vec<Activity>, activity: u32, next: Next)
     ensures { (kept : Activity) → slice_get activities.old.items activity ≡ Some kept →
-        activities.new.items ≡ slice_set activities.old.items activity (record kept { next = next }) }
+        activities.new.items ≡
+        slice_set activities.old.items activity (record kept { next = next }) }
 {
     if let Some(kept) = activities.get_mut(activity as usize) {
         kept.next = next;
@@ -283,7 +286,8 @@ impl Desk {
 
     /// The activity is ready, behind those of its priority.
     pub fn ready(&mut self, activity: u32) -> Result<(), NoMemory>
-        ensures ok { OnOk result ((image : Image) → Performs image activity (on_book (ready activity)) self.old self.new) }
+        ensures ok { OnOk result ((image : Image) →
+            Performs image activity (on_book (ready activity)) self.old self.new) }
         ensures err { OnErr result ((image : Image) → ShowsSame image self.old self.new) }
     {
         self.line.reserve(1)?;
@@ -295,7 +299,8 @@ impl Desk {
     /// The activity ends, and its frames are dropped.
     fn ended(&mut self, activity: u32)
         requires { vec_len self.old.events < vec_capacity self.old.events }
-        ensures { (image : Image) → Performs image activity (on_book (ended activity)) self.old self.new }
+        ensures { (image : Image) →
+            Performs image activity (on_book (ended activity)) self.old self.new }
     {
         forget(&mut self.line, activity);
         self.events.push_reserved(Event::End { activity });
@@ -309,7 +314,8 @@ impl Desk {
     fn trap(&mut self, image: &Image, activity: u32, number: u8, code: u8)
         requires room { HasRoom self.old }
         requires live { IsLive activity self.old }
-        ensures { Performs image.now activity (trap (machine image.now) activity number code) self.old self.new }
+        ensures { Performs image.now activity
+            (trap (machine image.now) activity number code) self.old self.new }
     {
         let (module, pos) = place_of(image, &self.activities, activity);
         self.traps.push_reserved(TrapRec {
@@ -329,9 +335,11 @@ impl Desk {
         requires few { length self.old.activities.items < 65536 }
         ensures before { (a : ℕ) (left : Did) → a < length self.old.activities.items →
             StandsBefore image.now a left self.old → StandsBefore image.now a left self.new }
-        ensures born { (earlier : List Event) (st : State Memory Frames) → Shows image.now earlier self.old st →
+        ensures born { (earlier : List Event) (st : State Memory Frames) →
+            Shows image.now earlier self.old st →
             Shows image.now earlier self.new
-            (on_book (born 2) (with_frames st.book.started (body_of image.now st.store object) st)) }
+            (on_book (born 2)
+            (with_frames st.book.started (body_of image.now st.store object) st)) }
     {
         let number = self.activities.len() as u32;
         let body = body_of_object(image, &self.shared, object);
@@ -363,9 +371,11 @@ impl Desk {
     fn start(&mut self, image: &Image, activity: u32, object: u32)
         requires room { HasRoom self.old }
         requires before { StandsBefore image.now activity (Did.Start object) self.old }
-        ensures { (earlier : List Event) (st : State Memory Frames) → Shows image.now earlier self.old st →
+        ensures { (earlier : List Event) (st : State Memory Frames) →
+            Shows image.now earlier self.old st →
             activity < st.book.started →
-            Shows image.now earlier self.new (start (machine image.now) activity object (is_full st.book) st) }
+            Shows image.now earlier self.new
+            (start (machine image.now) activity object (is_full st.book) st) }
     {
         if is_full_with(self.line.len(), self.activities.len()) {
             self.trap(image, activity, 13, 0);
@@ -398,7 +408,8 @@ impl Desk {
     fn serve(&mut self, image: &Image, activity: u32, left: Did)
         requires room { HasRoom self.old }
         requires before { StandsBefore image.now activity left self.old }
-        ensures { (earlier : List Event) (st : State Memory Frames) → Shows image.now earlier self.old st →
+        ensures { (earlier : List Event) (st : State Memory Frames) →
+            Shows image.now earlier self.old st →
             activity < st.book.started → IsServed left →
             Shows image.now earlier self.new (serve (machine image.now) activity left st) }
     {
@@ -416,7 +427,9 @@ impl Desk {
         requires room { HasRoom self.old }
         requires heap { vec_len self.old.shared.objects < vec_capacity self.old.shared.objects }
         requires output { vec_len self.old.output + MAX_BYTES ≤ vec_capacity self.old.output }
-        ensures ok { OnOk result (PerformsUnspent image.now activity (turn_by (machine image.now) activity Runs) self.old self.new) }
+        ensures ok { OnOk result
+            (PerformsUnspent image.now activity
+            (turn_by (machine image.now) activity Runs) self.old self.new) }
         ensures err { OnErr result (ShowsSame image.now self.old self.new) }
     {
         let left = self.turned(image, activity)?;
@@ -427,8 +440,10 @@ impl Desk {
     /// Room for all that a turn may write.
     fn make_room(&mut self) -> Result<(), NoMemory>
         ensures room { OnOk result (HasRoom self.new) }
-        ensures heap { OnOk result (vec_len self.new.shared.objects < vec_capacity self.new.shared.objects) }
-        ensures output { OnOk result (vec_len self.new.output + MAX_BYTES ≤ vec_capacity self.new.output) }
+        ensures heap { OnOk result
+            (vec_len self.new.shared.objects < vec_capacity self.new.shared.objects) }
+        ensures output { OnOk result
+            (vec_len self.new.output + MAX_BYTES ≤ vec_capacity self.new.output) }
         ensures same { HasSame self.old self.new }
     {
         self.spare.clear();
@@ -445,7 +460,8 @@ impl Desk {
     /// A turn of an activity, whatever its next one is. Where memory runs out, only silent work has been done.
     pub fn turn(&mut self, image: &Image, activity: u32) -> Result<(), NoMemory>
         ensures ok { OnOk result (PerformsUnspent image.now activity
-            (λ st. turn_by (machine image.now) activity (st.book.activity activity).next st) self.old self.new) }
+            (λ st. turn_by (machine image.now) activity
+            (st.book.activity activity).next st) self.old self.new) }
         ensures err { OnErr result (ShowsSame image.now self.old self.new) }
     {
         self.make_room()?;

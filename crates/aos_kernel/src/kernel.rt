@@ -44,9 +44,20 @@ impl Model for Kernel {
 
     ghost Value = { Run };
 
-    ghost view = { λ k. record { image = arc_value k.image; workers = k.workers; budget = k.budget; log = k.log.items } };
+    ghost view = { λ k. record {
+      image = arc_value k.image;
+      workers = k.workers;
+      budget = k.budget;
+      log = k.log.items;
+    } };
 
-    ghost invariant = { λ k. Keeps (record { image = arc_value k.image; workers = k.workers; budget = k.budget; log = k.log.items })
+    ghost invariant = { λ k.
+        Keeps (record {
+          image = arc_value k.image;
+          workers = k.workers;
+          budget = k.budget;
+          log = k.log.items;
+        })
         k.desk k.events.items };
 }
 
@@ -231,7 +242,9 @@ impl Kernel {
         ensures stepped { IfOk result (λ stepped. stepped ≡ comes_to w self.old) }
         ensures log { IfOk result (λ stepped. self.new ≡ after_step stepped w self.old) }
         ensures same { self.new ≡ record self.old { log = self.new.log } }
-        ensures state { IfOk result (λ _. state_of self.new ≡ happens (machine self.old.image) (Step w) (state_of self.old)) }
+        ensures state { IfOk result
+            (λ _. state_of self.new ≡
+            happens (machine self.old.image) (Step w) (state_of self.old)) }
         ensures err { OnErr result (self.new ≡ self.old) }
     {
         let Outcome::Going = self.desk.outcome() else {
@@ -266,7 +279,9 @@ impl Kernel {
         ensures ticked { IfOk result (λ ticked. ticked ≡ ticks w self.old) }
         ensures log { IfOk result (λ ticked. self.new ≡ after_tick ticked w self.old) }
         ensures same { self.new ≡ record self.old { log = self.new.log } }
-        ensures state { IfOk result (λ _. state_of self.new ≡ happens (machine self.old.image) (Tick w) (state_of self.old)) }
+        ensures state { IfOk result
+            (λ _. state_of self.new ≡
+            happens (machine self.old.image) (Tick w) (state_of self.old)) }
         ensures err { OnErr result (self.new ≡ self.old) }
     {
         let Outcome::Going = self.desk.outcome() else {
