@@ -8,7 +8,7 @@ use Rattle.aos_tree.specs.declared.name.Name.{Name}
 use Rattle.aos_tree.specs.declared.name.Qualident.{Qualident}
 use Rattle.aos_tree.specs.declared.expr.Expr.{Expr}
 use Rattle.aos_tree.specs.declared.stat.Block.{Block}
-use Rattle.aos_tree.specs.declared.decl.Mark.{Mark}
+use Rattle.aos_tree.specs.declared.decl.Export.{Export}
 use Rattle.aos_tree.specs.declared.decl.Def.{Def}
 use Rattle.aos_tree.specs.declared.decl.Decl.{Decl}
 use Rattle.aos_tree.specs.declared.decl.Decl.TheVariants as e
@@ -23,7 +23,7 @@ use Rattle.aos_tree.specs.declared.decl.TypeExpr.TheVariants as t
 use Rattle.aos_tree.specs.declared.decl.Fields.{Fields}
 use Rattle.aos_tree.specs.declared.decl.Fields.TheVariants as f
 use Rattle.aos_tree.specs.Nesting.{Rule}
-use Rattle.aos_tree.specs.Operators.{mark_of}
+use Rattle.aos_tree.specs.Operators.{export_of}
 use Rattle.aos_tree.specs.ExprGrammar.{IsExpr, IsExprs}
 use Rattle.aos_tree.specs.StatGrammar.{IsBlock}
 use Rattle.aos_tree.specs.Words.{IsWord, IsName, IsNames, IsQualident}
@@ -31,9 +31,9 @@ use Rattle.aos_tree.specs.Words.{IsWord, IsName, IsNames, IsQualident}
 -- Def = ident ["*" | "-"].
 pub data IsDef (may : Rule) (d : ℕ) : Def → List Token → List Token → Type 0 where
   hidden : {a : Name} {ts rest : List Token} → IsName may d a ts rest → IsDef may d (record { name = a; mark = None }) ts rest
-  marked : {a : Name} {mark : Mark} {t : Token} {ts rest : List Token} →
-      IsName may d a ts (t ∷ rest) → mark_of t.kind ≡ Some mark → may d rest ≡ true →
-      IsDef may d (record { name = a; mark = Some mark }) ts rest
+  marked : {a : Name} {export : Export} {t : Token} {ts rest : List Token} →
+      IsName may d a ts (t ∷ rest) → export_of t.kind ≡ Some export → may d rest ≡ true →
+      IsDef may d (record { name = a; mark = Some (record { pos = t.pos; export = export }) }) ts rest
 
 -- Def {"," Def}
 mutual
@@ -161,11 +161,11 @@ mutual
     proper : {d : ℕ} {p q : Pos} {def : Def} {formals : Option Formals} {decls : List Decl} {body : Option Block} {end : Name} {ts t1 t2 t3 t4 t5 t6 rest : List Token} →
         IsWord may d k.KwProcedure p ts t1 → IsDef may d def t1 t2 → IsFormalsOption may d formals t2 t3 → IsWord may d k.Semicolon q t3 t4 →
         IsDecls may true d decls t4 t5 → IsBody may d body t5 t6 → IsName may d end t6 rest →
-        IsProc may d (roll-Proc (record { pos = p; initializer = false; def = def; formals = formals; decls = decls; body = body; end = end })) ts rest
+        IsProc may d (roll-Proc (record { pos = p; initializer = None; def = def; formals = formals; decls = decls; body = body; end = end })) ts rest
     initializer : {d : ℕ} {p q r : Pos} {def : Def} {formals : Option Formals} {decls : List Decl} {body : Option Block} {end : Name} {ts t0 t1 t2 t3 t4 t5 t6 rest : List Token} →
         IsWord may d k.KwProcedure p ts t0 → IsWord may d k.Ampersand r t0 t1 → IsDef may d def t1 t2 → IsFormalsOption may d formals t2 t3 → IsWord may d k.Semicolon q t3 t4 →
         IsDecls may true d decls t4 t5 → IsBody may d body t5 t6 → IsName may d end t6 rest →
-        IsProc may d (roll-Proc (record { pos = p; initializer = true; def = def; formals = formals; decls = decls; body = body; end = end })) ts rest
+        IsProc may d (roll-Proc (record { pos = p; initializer = Some r; def = def; formals = formals; decls = decls; body = body; end = end })) ts rest
 
   -- Type = Qualident | ARRAY .. | RECORD .. | POINTER .. | PROCEDURE .. | OBJECT ...
   pub data IsType (may : Rule) : ℕ → TypeExpr → List Token → List Token → Type 0 where

@@ -13,8 +13,8 @@ use Rattle.aos_tree.specs.declared.expr.MulOp.{MulOp}
 use Rattle.aos_tree.specs.declared.expr.MulOp.TheVariants as mul
 use Rattle.aos_tree.specs.declared.expr.Sign.{Sign}
 use Rattle.aos_tree.specs.declared.expr.Sign.TheVariants as sign
-use Rattle.aos_tree.specs.declared.decl.Mark.{Mark}
-use Rattle.aos_tree.specs.declared.decl.Mark.TheVariants as mark
+use Rattle.aos_tree.specs.declared.decl.Export.{Export}
+use Rattle.aos_tree.specs.declared.decl.Export.TheVariants as export
 
 abbrev pub relation_of : TokenKind → Option RelationOp
 relation_of k.Equals = Some relation.Equal
@@ -46,10 +46,10 @@ sign_of k.Plus = Some sign.Plus
 sign_of k.Minus = Some sign.Minus
 sign_of _ = None
 
-abbrev pub mark_of : TokenKind → Option Mark
-mark_of k.Star = Some mark.Exported
-mark_of k.Minus = Some mark.ReadOnly
-mark_of _ = None
+abbrev pub export_of : TokenKind → Option Export
+export_of k.Star = Some export.ReadWrite
+export_of k.Minus = Some export.ReadOnly
+export_of _ = None
 
 abbrev pub name_at : Token → Name
 name_at t = record { start = t.start; end = t.end; pos = t.pos }

@@ -82,9 +82,10 @@ mutual
   -- Stat = [ .. ].
   pub data IsStat (may : Rule) : ℕ → Stat → List Token → List Token → Type 0 where
     empty : {d : ℕ} {ts : List Token} → IsStat may d s.Empty ts ts
-    desig : {d : ℕ} {a : Desig} {value : Option Expr} {ts mid rest : List Token} →
-        IsDesig may (d + 1) a ts mid → IsOption may (d + 1) k.Becomes value mid rest →
-        IsStat may d (s.Desig a value) ts rest
+    assign : {d : ℕ} {p : Pos} {a : Desig} {value : Expr} {ts mid from rest : List Token} →
+        IsDesig may (d + 1) a ts mid → IsWord may (d + 1) k.Becomes p mid from → IsExpr may (d + 1) value from rest →
+        IsStat may d (s.Assign a p value) ts rest
+    call : {d : ℕ} {a : Desig} {ts rest : List Token} → IsDesig may (d + 1) a ts rest → IsStat may d (s.Call a) ts rest
     block : {d : ℕ} {a : Block} {ts rest : List Token} → IsBlock may (d + 1) a ts rest → IsStat may d (s.Block a) ts rest
     exit : {d : ℕ} {p : Pos} {ts rest : List Token} → IsWord may (d + 1) k.KwExit p ts rest → IsStat may d (s.Exit p) ts rest
     return : {d : ℕ} {p : Pos} {ts rest : List Token} →
@@ -114,11 +115,11 @@ mutual
     for : {d : ℕ} {p q r u v : Pos} {name : Name} {from to : Expr} {by : Option Expr} {body : StatSeq} {ts t1 t2 t3 t4 t5 t6 t7 t8 t9 rest : List Token} →
         IsWord may (d + 1) k.KwFor p ts t1 → IsName may (d + 1) name t1 t2 → IsWord may (d + 1) k.Becomes q t2 t3 → IsExpr may (d + 1) from t3 t4 →
         IsWord may (d + 1) k.KwTo r t4 t5 → IsExpr may (d + 1) to t5 t6 → IsOption may (d + 1) k.KwBy by t6 t7 → IsWord may (d + 1) k.KwDo u t7 t8 →
-        IsStatSeq may (d + 1) body t8 t9 → IsWord may (d + 1) k.KwEnd v t9 rest → IsStat may d (s.For p name from to by body) ts rest
+        IsStatSeq may (d + 1) body t8 t9 → IsWord may (d + 1) k.KwEnd v t9 rest → IsStat may d (s.For p name q from to by body) ts rest
     with : {d : ℕ} {p q r u : Pos} {guarded of : Qualident} {body : StatSeq} {ts t1 t2 t3 t4 t5 t6 rest : List Token} →
         IsWord may (d + 1) k.KwWith p ts t1 → IsQualident may (d + 1) guarded t1 t2 → IsWord may (d + 1) k.Colon q t2 t3 → IsQualident may (d + 1) of t3 t4 →
         IsWord may (d + 1) k.KwDo r t4 t5 → IsStatSeq may (d + 1) body t5 t6 → IsWord may (d + 1) k.KwEnd u t6 rest →
-        IsStat may d (s.With p guarded of body) ts rest
+        IsStat may d (s.With p guarded q of body) ts rest
 
   -- {ELSIF Expr THEN StatSeq}
   pub data IsElsifs (may : Rule) : ℕ → List Elsif → List Token → List Token → Type 0 where

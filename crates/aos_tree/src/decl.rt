@@ -9,9 +9,16 @@ use aos_base::Pos;
 
 /// `*`: exported, `-`: exported and read only.
 #[derive(Clone, Copy, PartialEq, Eq, Debug)]
-pub enum Mark {
-    Exported,
+pub enum Export {
+    ReadWrite,
     ReadOnly,
+}
+
+/// `"*" | "-"` behind a name.
+#[derive(Clone, Copy, PartialEq, Eq, Debug)]
+pub struct Mark {
+    pub pos: Pos,
+    pub export: Export,
 }
 
 /// `Def = ident ["*" | "-"].` Its place is that of its name.
@@ -59,8 +66,8 @@ pub struct VarDef {
 #[derive(Drop)]
 pub struct Proc {
     pub pos: Pos,
-    /// `&` stands before the name.
-    pub initializer: bool,
+    /// The place of `&`, where it stands before the name.
+    pub initializer: Option<Pos>,
     pub def: Def,
     pub formals: Option<Formals>,
     /// None of them is a procedure.

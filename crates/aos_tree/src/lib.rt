@@ -13,7 +13,7 @@ pub mod stat;
 
 pub use boxed::Boxed;
 pub use decl::{
-    ConstDef, Decl, Def, Fields, Formals, Mark, Proc, Section, TypeDef, TypeExpr, VarDef,
+    ConstDef, Decl, Def, Export, Fields, Formals, Mark, Proc, Section, TypeDef, TypeExpr, VarDef,
 };
 pub use expr::{
     AddOp, Addition, Desig, Elem, Expr, Factor, MulOp, Product, Relation, RelationOp, Selector,

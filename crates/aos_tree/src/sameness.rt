@@ -1,7 +1,8 @@
-// Whether two modules are the same.
+// Whether two trees are the same, places included: a method for each node, which asks its parts.
 
 ghost use Rattle.std.specs.Prelude.{◌≡◌, ◌↔◌, IsTrue};
 
+use crate::boxed::Boxed;
 use crate::items::Items;
 use crate::module::{Import, Module};
 
@@ -10,30 +11,65 @@ mod expr;
 mod name;
 mod stat;
 
-fn same_imports(a: &Items<Import>, b: &Items<Import>) -> bool
-    ensures { IsTrue result ↔ (a.now ≡ b.now) }
-{
-    let xs = a.as_slice();
-    let ys = b.as_slice();
-    if xs.len() != ys.len() {
-        return false;
+/// Equality of trees.
+trait Alike {
+    /// Whether the two are one tree.
+    fn same(&self, other: &Self) -> bool
+        ensures { IsTrue result ↔ (self.now ≡ other.now) };
+}
+
+impl<T: Alike> Alike for Boxed<T> {
+    fn same(&self, other: &Boxed<T>) -> bool {
+        self.get().same(other.get())
     }
-    for i in 0..xs.len() {
-        if xs[i] != ys[i] {
-            return false;
+}
+
+impl<T: Alike> Alike for Option<T> {
+    fn same(&self, other: &Option<T>) -> bool {
+        match (self, other) {
+            (None, None) => true,
+            (Some(a), Some(b)) => a.same(b),
+            _ => false,
         }
     }
-    true
+}
+
+impl<T: Alike> Alike for Items<T> {
+    fn same(&self, other: &Items<T>) -> bool {
+        let xs = self.as_slice();
+        let ys = other.as_slice();
+        if xs.len() != ys.len() {
+            return false;
+        }
+        for i in 0..xs.len() {
+            if !xs[i].same(&ys[i]) {
+                return false;
+            }
+        }
+        true
+    }
+}
+
+impl Alike for Import {
+    fn same(&self, other: &Import) -> bool {
+        *self == *other
+    }
+}
+
+impl Alike for Module {
+    fn same(&self, other: &Module) -> bool {
+        self.pos.same(&other.pos)
+            && self.name.same(&other.name)
+            && self.imports.same(&other.imports)
+            && self.decls.same(&other.decls)
+            && self.body.same(&other.body)
+            && self.end.same(&other.end)
+    }
 }
 
 /// Whether two modules have the same tree, places included.
 pub fn same(a: &Module, b: &Module) -> bool
     ensures { IsTrue result ↔ (a.now ≡ b.now) }
 {
-    if a.pos != b.pos || a.name != b.name || a.end != b.end {
-        return false;
-    }
-    same_imports(&a.imports, &b.imports)
-        && decl::same_decls(&a.decls, &b.decls)
-        && stat::same_body(&a.body, &b.body)
+    a.same(b)
 }

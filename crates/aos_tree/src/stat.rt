@@ -17,8 +17,10 @@ pub struct StatSeq {
 #[derive(Drop)]
 pub enum Stat {
     Empty,
-    /// `Desig [":=" Expr]`: an assignment, or without the expression a call.
-    Desig(Desig, Option<Expr>),
+    /// `Desig ":=" Expr`, with the place of `:=`
+    Assign(Desig, Pos, Expr),
+    /// `Desig`
+    Call(Desig),
     Block(Block),
     Exit(Pos),
     Return(Pos, Option<Expr>),
@@ -30,10 +32,10 @@ pub enum Stat {
     While(Pos, Expr, StatSeq),
     Repeat(Pos, StatSeq, Expr),
     Loop(Pos, StatSeq),
-    /// `FOR ident ":=" Expr TO Expr [BY Expr] DO StatSeq END`
-    For(Pos, Name, Expr, Expr, Option<Expr>, StatSeq),
-    /// `WITH Qualident ":" Qualident DO StatSeq END`
-    With(Pos, Qualident, Qualident, StatSeq),
+    /// `FOR ident ":=" Expr TO Expr [BY Expr] DO StatSeq END`, with the places of `FOR` and of `:=`
+    For(Pos, Name, Pos, Expr, Expr, Option<Expr>, StatSeq),
+    /// `WITH Qualident ":" Qualident DO StatSeq END`, with the places of `WITH` and of `:`
+    With(Pos, Qualident, Pos, Qualident, StatSeq),
 }
 
 /// `ELSIF Expr THEN StatSeq`, with the place of `ELSIF`.

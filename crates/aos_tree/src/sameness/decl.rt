@@ -1,290 +1,131 @@
 // Whether two declarations are the same.
 
-ghost use Rattle.std.specs.Prelude.{◌≡◌, ◌↔◌, IsTrue};
+use crate::decl::{ConstDef, Decl, Fields, Formals, Proc, Section, TypeDef, TypeExpr, VarDef};
+use crate::sameness::Alike;
 
-use crate::decl::{ConstDef, Decl, Def, Fields, Formals, Proc, Section, TypeDef, TypeExpr, VarDef};
-use crate::items::Items;
-use crate::name::Name;
-use crate::sameness::expr::{same_expr, same_exprs};
-use crate::sameness::name::same_pos;
-use crate::sameness::stat::same_body;
-use aos_base::Pos;
-
-fn same_places(a: &Items<Pos>, b: &Items<Pos>) -> bool
-    ensures { IsTrue result ↔ (a.now ≡ b.now) }
-{
-    let xs = a.as_slice();
-    let ys = b.as_slice();
-    if xs.len() != ys.len() {
-        return false;
+impl Alike for ConstDef {
+    fn same(&self, other: &ConstDef) -> bool {
+        self.def.same(&other.def) && self.value.same(&other.value)
     }
-    for i in 0..xs.len() {
-        if xs[i] != ys[i] {
-            return false;
+}
+
+impl Alike for Section {
+    fn same(&self, other: &Section) -> bool {
+        self.pos.same(&other.pos)
+            && self.by_reference == other.by_reference
+            && self.names.same(&other.names)
+            && self.arrays.same(&other.arrays)
+            && self.of.same(&other.of)
+    }
+}
+
+impl Alike for Formals {
+    fn same(&self, other: &Formals) -> bool {
+        self.pos.same(&other.pos)
+            && self.sections.same(&other.sections)
+            && self.result.same(&other.result)
+    }
+}
+
+impl Alike for Decl {
+    #[cycle(same_declarations)]
+    fn same(&self, other: &Decl) -> bool {
+        match self {
+            Decl::Consts(a0, a1) => match other {
+                Decl::Consts(b0, b1) => a0.same(b0) && a1.same(b1),
+                _ => false,
+            },
+            Decl::Types(a0, a1) => match other {
+                Decl::Types(b0, b1) => a0.same(b0) && a1.same(b1),
+                _ => false,
+            },
+            Decl::Vars(a0, a1) => match other {
+                Decl::Vars(b0, b1) => a0.same(b0) && a1.same(b1),
+                _ => false,
+            },
+            Decl::Proc(a) => match other {
+                Decl::Proc(b) => a.same(b),
+                _ => false,
+            },
         }
     }
-    true
 }
 
-fn same_names(a: &Items<Name>, b: &Items<Name>) -> bool
-    ensures { IsTrue result ↔ (a.now ≡ b.now) }
-{
-    let xs = a.as_slice();
-    let ys = b.as_slice();
-    if xs.len() != ys.len() {
-        return false;
+impl Alike for TypeDef {
+    #[cycle(same_declarations)]
+    fn same(&self, other: &TypeDef) -> bool {
+        self.def.same(&other.def) && self.value.same(&other.value)
     }
-    for i in 0..xs.len() {
-        if xs[i] != ys[i] {
-            return false;
+}
+
+impl Alike for VarDef {
+    #[cycle(same_declarations)]
+    fn same(&self, other: &VarDef) -> bool {
+        self.defs.same(&other.defs) && self.of.same(&other.of)
+    }
+}
+
+impl Alike for Proc {
+    #[cycle(same_declarations)]
+    fn same(&self, other: &Proc) -> bool {
+        self.pos.same(&other.pos)
+            && self.initializer.same(&other.initializer)
+            && self.def.same(&other.def)
+            && self.formals.same(&other.formals)
+            && self.decls.same(&other.decls)
+            && self.body.same(&other.body)
+            && self.end.same(&other.end)
+    }
+}
+
+impl Alike for TypeExpr {
+    #[cycle(same_declarations)]
+    fn same(&self, other: &TypeExpr) -> bool {
+        match self {
+            TypeExpr::Named(a) => match other {
+                TypeExpr::Named(b) => a.same(b),
+                _ => false,
+            },
+            TypeExpr::Array(a0, a1, a2) => match other {
+                TypeExpr::Array(b0, b1, b2) => a0.same(b0) && a1.same(b1) && a2.same(b2),
+                _ => false,
+            },
+            TypeExpr::Record(a0, a1, a2) => match other {
+                TypeExpr::Record(b0, b1, b2) => a0.same(b0) && a1.same(b1) && a2.same(b2),
+                _ => false,
+            },
+            TypeExpr::Pointer(a0, a1) => match other {
+                TypeExpr::Pointer(b0, b1) => a0.same(b0) && a1.same(b1),
+                _ => false,
+            },
+            TypeExpr::Proc(a0, a1, a2) => match other {
+                TypeExpr::Proc(b0, b1, b2) => a0.same(b0) && a1.same(b1) && a2.same(b2),
+                _ => false,
+            },
+            TypeExpr::Object(a0, a1, a2, a3, a4) => match other {
+                TypeExpr::Object(b0, b1, b2, b3, b4) => a0.same(b0)
+                    && a1.same(b1)
+                    && a2.same(b2)
+                    && a3.same(b3)
+                    && a4.same(b4),
+                _ => false,
+            },
         }
     }
-    true
 }
 
-fn same_defs(a: &Items<Def>, b: &Items<Def>) -> bool
-    ensures { IsTrue result ↔ (a.now ≡ b.now) }
-{
-    let xs = a.as_slice();
-    let ys = b.as_slice();
-    if xs.len() != ys.len() {
-        return false;
-    }
-    for i in 0..xs.len() {
-        if xs[i] != ys[i] {
-            return false;
+impl Alike for Fields {
+    #[cycle(same_declarations)]
+    fn same(&self, other: &Fields) -> bool {
+        match self {
+            Fields::Empty => match other {
+                Fields::Empty => true,
+                _ => false,
+            },
+            Fields::Of(a) => match other {
+                Fields::Of(b) => a.same(b),
+                _ => false,
+            },
         }
-    }
-    true
-}
-
-fn same_section(a: &Section, b: &Section) -> bool
-    ensures { IsTrue result ↔ (a.now ≡ b.now) }
-{
-    a.pos == b.pos
-        && a.by_reference == b.by_reference
-        && same_names(&a.names, &b.names)
-        && same_places(&a.arrays, &b.arrays)
-        && a.of == b.of
-}
-
-fn same_sections(a: &Items<Section>, b: &Items<Section>) -> bool
-    ensures { IsTrue result ↔ (a.now ≡ b.now) }
-{
-    let xs = a.as_slice();
-    let ys = b.as_slice();
-    if xs.len() != ys.len() {
-        return false;
-    }
-    for i in 0..xs.len() {
-        if !same_section(&xs[i], &ys[i]) {
-            return false;
-        }
-    }
-    true
-}
-
-fn same_formals(a: &Option<Formals>, b: &Option<Formals>) -> bool
-    ensures { IsTrue result ↔ (a.now ≡ b.now) }
-{
-    match (a, b) {
-        (None, None) => true,
-        (Some(a), Some(b)) => a.pos == b.pos
-            && same_sections(&a.sections, &b.sections)
-            && a.result == b.result,
-        _ => false,
-    }
-}
-
-fn same_consts(a: &Items<ConstDef>, b: &Items<ConstDef>) -> bool
-    ensures { IsTrue result ↔ (a.now ≡ b.now) }
-{
-    let xs = a.as_slice();
-    let ys = b.as_slice();
-    if xs.len() != ys.len() {
-        return false;
-    }
-    for i in 0..xs.len() {
-        if xs[i].def != ys[i].def || !same_expr(&xs[i].value, &ys[i].value) {
-            return false;
-        }
-    }
-    true
-}
-
-#[cycle(same_declarations)]
-pub(super) fn same_decls(a: &Items<Decl>, b: &Items<Decl>) -> bool
-    ensures { IsTrue result ↔ (a.now ≡ b.now) }
-{
-    let xs = a.as_slice();
-    let ys = b.as_slice();
-    if xs.len() != ys.len() {
-        return false;
-    }
-    for i in 0..xs.len() {
-        if !same_decl(&xs[i], &ys[i]) {
-            return false;
-        }
-    }
-    true
-}
-
-#[cycle(same_declarations)]
-fn same_decl(a: &Decl, b: &Decl) -> bool
-    ensures { IsTrue result ↔ (a.now ≡ b.now) }
-{
-    match a {
-        Decl::Consts(p, x) => match b {
-            Decl::Consts(q, y) => p == q && same_consts(x, y),
-            _ => false,
-        },
-        Decl::Types(p, x) => match b {
-            Decl::Types(q, y) => p == q && same_types(x, y),
-            _ => false,
-        },
-        Decl::Vars(p, x) => match b {
-            Decl::Vars(q, y) => p == q && same_vars(x, y),
-            _ => false,
-        },
-        Decl::Proc(x) => match b {
-            Decl::Proc(y) => same_proc(x, y),
-            _ => false,
-        },
-    }
-}
-
-#[cycle(same_declarations)]
-fn same_types(a: &Items<TypeDef>, b: &Items<TypeDef>) -> bool
-    ensures { IsTrue result ↔ (a.now ≡ b.now) }
-{
-    let xs = a.as_slice();
-    let ys = b.as_slice();
-    if xs.len() != ys.len() {
-        return false;
-    }
-    for i in 0..xs.len() {
-        if xs[i].def != ys[i].def || !same_type(&xs[i].value, &ys[i].value) {
-            return false;
-        }
-    }
-    true
-}
-
-#[cycle(same_declarations)]
-fn same_vars(a: &Items<VarDef>, b: &Items<VarDef>) -> bool
-    ensures { IsTrue result ↔ (a.now ≡ b.now) }
-{
-    let xs = a.as_slice();
-    let ys = b.as_slice();
-    if xs.len() != ys.len() {
-        return false;
-    }
-    for i in 0..xs.len() {
-        if !same_var(&xs[i], &ys[i]) {
-            return false;
-        }
-    }
-    true
-}
-
-#[cycle(same_declarations)]
-fn same_var(a: &VarDef, b: &VarDef) -> bool
-    ensures { IsTrue result ↔ (a.now ≡ b.now) }
-{
-    if !same_defs(&a.defs, &b.defs) {
-        return false;
-    }
-    same_type(&a.of, &b.of)
-}
-
-#[cycle(same_declarations)]
-fn same_proc(a: &Proc, b: &Proc) -> bool
-    ensures { IsTrue result ↔ (a.now ≡ b.now) }
-{
-    if a.pos != b.pos || a.initializer != b.initializer || a.def != b.def || a.end != b.end {
-        return false;
-    }
-    if !same_formals(&a.formals, &b.formals) || !same_body(&a.body, &b.body) {
-        return false;
-    }
-    same_decls(&a.decls, &b.decls)
-}
-
-#[cycle(same_declarations)]
-fn same_type(a: &TypeExpr, b: &TypeExpr) -> bool
-    ensures { IsTrue result ↔ (a.now ≡ b.now) }
-{
-    match a {
-        TypeExpr::Named(x) => match b {
-            TypeExpr::Named(y) => x == y,
-            _ => false,
-        },
-        TypeExpr::Array(p, x, t) => match b {
-            TypeExpr::Array(q, y, u) => {
-                if !same_pos(*p, *q) || !same_exprs(x, y) {
-                    return false;
-                }
-                same_type(t.get(), u.get())
-            }
-            _ => false,
-        },
-        TypeExpr::Record(p, g, x) => match b {
-            TypeExpr::Record(q, h, y) => {
-                if !same_pos(*p, *q) || g != h {
-                    return false;
-                }
-                same_field_lists(x, y)
-            }
-            _ => false,
-        },
-        TypeExpr::Pointer(p, x) => match b {
-            TypeExpr::Pointer(q, y) => p == q && same_type(x.get(), y.get()),
-            _ => false,
-        },
-        TypeExpr::Proc(p, g, x) => match b {
-            TypeExpr::Proc(q, h, y) => p == q && g == h && same_formals(x, y),
-            _ => false,
-        },
-        TypeExpr::Object(p, g, x, c, e) => match b {
-            TypeExpr::Object(q, h, y, d, f) => p == q
-                && g == h
-                && same_decls(x, y)
-                && same_body(c, d)
-                && e == f,
-            _ => false,
-        },
-    }
-}
-
-#[cycle(same_declarations)]
-fn same_field_lists(a: &Items<Fields>, b: &Items<Fields>) -> bool
-    ensures { IsTrue result ↔ (a.now ≡ b.now) }
-{
-    let xs = a.as_slice();
-    let ys = b.as_slice();
-    if xs.len() != ys.len() {
-        return false;
-    }
-    for i in 0..xs.len() {
-        if !same_fields(&xs[i], &ys[i]) {
-            return false;
-        }
-    }
-    true
-}
-
-#[cycle(same_declarations)]
-fn same_fields(a: &Fields, b: &Fields) -> bool
-    ensures { IsTrue result ↔ (a.now ≡ b.now) }
-{
-    match a {
-        Fields::Empty => match b {
-            Fields::Empty => true,
-            _ => false,
-        },
-        Fields::Of(x) => match b {
-            Fields::Of(y) => same_var(x, y),
-            _ => false,
-        },
     }
 }

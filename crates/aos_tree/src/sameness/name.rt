@@ -1,31 +1,61 @@
-// Whether two places, names or signs are the same.
+// Whether two places, names, texts or operators are the same.
 
-ghost use Rattle.std.specs.Prelude.{◌≡◌, ◌↔◌, IsTrue};
-
-use crate::expr::Sign;
-use crate::name::{Name, Qualident};
+use crate::decl::Def;
+use crate::expr::{AddOp, MulOp, RelationOp, Sign};
+use crate::name::{Name, Qualident, Text};
+use crate::sameness::Alike;
 use aos_base::Pos;
 
-pub(super) fn same_pos(a: Pos, b: Pos) -> bool
-    ensures { IsTrue result ↔ (a ≡ b) }
-{
-    a == b
+impl Alike for Pos {
+    fn same(&self, other: &Pos) -> bool {
+        *self == *other
+    }
 }
 
-pub(super) fn same_name(a: Name, b: Name) -> bool
-    ensures { IsTrue result ↔ (a ≡ b) }
-{
-    a == b
+impl Alike for Name {
+    fn same(&self, other: &Name) -> bool {
+        *self == *other
+    }
 }
 
-pub(super) fn same_qualident(a: Qualident, b: Qualident) -> bool
-    ensures { IsTrue result ↔ (a ≡ b) }
-{
-    a == b
+impl Alike for Text {
+    fn same(&self, other: &Text) -> bool {
+        *self == *other
+    }
 }
 
-pub(super) fn same_sign(a: Option<Sign>, b: Option<Sign>) -> bool
-    ensures { IsTrue result ↔ (a ≡ b) }
-{
-    a == b
+impl Alike for Qualident {
+    fn same(&self, other: &Qualident) -> bool {
+        *self == *other
+    }
+}
+
+impl Alike for RelationOp {
+    fn same(&self, other: &RelationOp) -> bool {
+        *self == *other
+    }
+}
+
+impl Alike for AddOp {
+    fn same(&self, other: &AddOp) -> bool {
+        *self == *other
+    }
+}
+
+impl Alike for MulOp {
+    fn same(&self, other: &MulOp) -> bool {
+        *self == *other
+    }
+}
+
+impl Alike for Sign {
+    fn same(&self, other: &Sign) -> bool {
+        *self == *other
+    }
+}
+
+impl Alike for Def {
+    fn same(&self, other: &Def) -> bool {
+        *self == *other
+    }
 }

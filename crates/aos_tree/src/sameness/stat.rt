@@ -1,235 +1,138 @@
 // Whether two statements are the same.
 
-ghost use Rattle.std.specs.Prelude.{◌≡◌, ◌↔◌, IsTrue};
-
-use crate::items::Items;
-use crate::sameness::expr::{same_desig, same_expr, same_option};
-use crate::sameness::name::{same_name, same_pos, same_qualident};
+use crate::sameness::Alike;
 use crate::stat::{Block, Case, Elsif, Label, Modifier, Stat, StatSeq};
 
-fn same_labels(a: &Items<Label>, b: &Items<Label>) -> bool
-    ensures { IsTrue result ↔ (a.now ≡ b.now) }
-{
-    let xs = a.as_slice();
-    let ys = b.as_slice();
-    if xs.len() != ys.len() {
-        return false;
+impl Alike for Label {
+    fn same(&self, other: &Label) -> bool {
+        self.first.same(&other.first) && self.last.same(&other.last)
     }
-    for i in 0..xs.len() {
-        if !same_expr(&xs[i].first, &ys[i].first) || !same_option(&xs[i].last, &ys[i].last) {
-            return false;
+}
+
+impl Alike for Modifier {
+    fn same(&self, other: &Modifier) -> bool {
+        self.name.same(&other.name) && self.value.same(&other.value)
+    }
+}
+
+impl Alike for StatSeq {
+    #[cycle(same_statements)]
+    fn same(&self, other: &StatSeq) -> bool {
+        self.stats.same(&other.stats)
+    }
+}
+
+impl Alike for Stat {
+    #[cycle(same_statements)]
+    fn same(&self, other: &Stat) -> bool {
+        match self {
+            Stat::Empty => match other {
+                Stat::Empty => true,
+                _ => false,
+            },
+            Stat::Assign(a0, a1, a2) => match other {
+                Stat::Assign(b0, b1, b2) => a0.same(b0) && a1.same(b1) && a2.same(b2),
+                _ => false,
+            },
+            Stat::Call(a) => match other {
+                Stat::Call(b) => a.same(b),
+                _ => false,
+            },
+            Stat::Block(a) => match other {
+                Stat::Block(b) => a.same(b),
+                _ => false,
+            },
+            Stat::Exit(a) => match other {
+                Stat::Exit(b) => a.same(b),
+                _ => false,
+            },
+            Stat::Return(a0, a1) => match other {
+                Stat::Return(b0, b1) => a0.same(b0) && a1.same(b1),
+                _ => false,
+            },
+            Stat::Await(a0, a1) => match other {
+                Stat::Await(b0, b1) => a0.same(b0) && a1.same(b1),
+                _ => false,
+            },
+            Stat::If(a0, a1, a2, a3, a4) => match other {
+                Stat::If(b0, b1, b2, b3, b4) => a0.same(b0)
+                    && a1.same(b1)
+                    && a2.same(b2)
+                    && a3.same(b3)
+                    && a4.same(b4),
+                _ => false,
+            },
+            Stat::Case(a0, a1, a2, a3) => match other {
+                Stat::Case(b0, b1, b2, b3) => a0.same(b0)
+                    && a1.same(b1)
+                    && a2.same(b2)
+                    && a3.same(b3),
+                _ => false,
+            },
+            Stat::While(a0, a1, a2) => match other {
+                Stat::While(b0, b1, b2) => a0.same(b0) && a1.same(b1) && a2.same(b2),
+                _ => false,
+            },
+            Stat::Repeat(a0, a1, a2) => match other {
+                Stat::Repeat(b0, b1, b2) => a0.same(b0) && a1.same(b1) && a2.same(b2),
+                _ => false,
+            },
+            Stat::Loop(a0, a1) => match other {
+                Stat::Loop(b0, b1) => a0.same(b0) && a1.same(b1),
+                _ => false,
+            },
+            Stat::For(a0, a1, a2, a3, a4, a5, a6) => match other {
+                Stat::For(b0, b1, b2, b3, b4, b5, b6) => a0.same(b0)
+                    && a1.same(b1)
+                    && a2.same(b2)
+                    && a3.same(b3)
+                    && a4.same(b4)
+                    && a5.same(b5)
+                    && a6.same(b6),
+                _ => false,
+            },
+            Stat::With(a0, a1, a2, a3, a4) => match other {
+                Stat::With(b0, b1, b2, b3, b4) => a0.same(b0)
+                    && a1.same(b1)
+                    && a2.same(b2)
+                    && a3.same(b3)
+                    && a4.same(b4),
+                _ => false,
+            },
         }
     }
-    true
 }
 
-fn same_modifiers(a: &Items<Modifier>, b: &Items<Modifier>) -> bool
-    ensures { IsTrue result ↔ (a.now ≡ b.now) }
-{
-    let xs = a.as_slice();
-    let ys = b.as_slice();
-    if xs.len() != ys.len() {
-        return false;
+impl Alike for Elsif {
+    #[cycle(same_statements)]
+    fn same(&self, other: &Elsif) -> bool {
+        self.pos.same(&other.pos)
+            && self.condition.same(&other.condition)
+            && self.body.same(&other.body)
     }
-    for i in 0..xs.len() {
-        if xs[i].name != ys[i].name || !same_option(&xs[i].value, &ys[i].value) {
-            return false;
+}
+
+impl Alike for Case {
+    #[cycle(same_statements)]
+    fn same(&self, other: &Case) -> bool {
+        match self {
+            Case::Empty => match other {
+                Case::Empty => true,
+                _ => false,
+            },
+            Case::Arm(a0, a1) => match other {
+                Case::Arm(b0, b1) => a0.same(b0) && a1.same(b1),
+                _ => false,
+            },
         }
     }
-    true
 }
 
-#[cycle(same_statements)]
-fn same_stat_seq(a: &StatSeq, b: &StatSeq) -> bool
-    ensures { IsTrue result ↔ (a.now ≡ b.now) }
-{
-    let xs = a.stats.as_slice();
-    let ys = b.stats.as_slice();
-    if xs.len() != ys.len() {
-        return false;
-    }
-    for i in 0..xs.len() {
-        if !same_stat(&xs[i], &ys[i]) {
-            return false;
-        }
-    }
-    true
-}
-
-#[cycle(same_statements)]
-fn same_stat(a: &Stat, b: &Stat) -> bool
-    ensures { IsTrue result ↔ (a.now ≡ b.now) }
-{
-    match a {
-        Stat::Empty => match b {
-            Stat::Empty => true,
-            _ => false,
-        },
-        Stat::Desig(x, v) => match b {
-            Stat::Desig(y, w) => same_desig(x, y) && same_option(v, w),
-            _ => false,
-        },
-        Stat::Block(x) => match b {
-            Stat::Block(y) => same_block(x, y),
-            _ => false,
-        },
-        Stat::Exit(p) => match b {
-            Stat::Exit(q) => p == q,
-            _ => false,
-        },
-        Stat::Return(p, x) => match b {
-            Stat::Return(q, y) => p == q && same_option(x, y),
-            _ => false,
-        },
-        Stat::Await(p, x) => match b {
-            Stat::Await(q, y) => p == q && same_expr(x, y),
-            _ => false,
-        },
-        Stat::If(p, c, x, m, e) => match b {
-            Stat::If(q, d, y, n, f) => {
-                if !same_pos(*p, *q)
-                    || !same_expr(c, d)
-                    || !same_stat_seq(x, y)
-                    || !same_elsifs(m, n)
-                {
-                    return false;
-                }
-                same_else(e, f)
-            }
-            _ => false,
-        },
-        Stat::Case(p, c, m, e) => match b {
-            Stat::Case(q, d, n, f) => {
-                if !same_pos(*p, *q) || !same_expr(c, d) || !same_cases(m, n) {
-                    return false;
-                }
-                same_else(e, f)
-            }
-            _ => false,
-        },
-        Stat::While(p, c, x) => match b {
-            Stat::While(q, d, y) => {
-                if !same_pos(*p, *q) || !same_expr(c, d) {
-                    return false;
-                }
-                same_stat_seq(x, y)
-            }
-            _ => false,
-        },
-        Stat::Repeat(p, x, c) => match b {
-            Stat::Repeat(q, y, d) => p == q && same_stat_seq(x, y) && same_expr(c, d),
-            _ => false,
-        },
-        Stat::Loop(p, x) => match b {
-            Stat::Loop(q, y) => p == q && same_stat_seq(x, y),
-            _ => false,
-        },
-        Stat::For(p, m, c, e, s, x) => match b {
-            Stat::For(q, n, d, f, t, y) => {
-                if !same_pos(*p, *q)
-                    || !same_name(*m, *n)
-                    || !same_expr(c, d)
-                    || !same_expr(e, f)
-                    || !same_option(s, t)
-                {
-                    return false;
-                }
-                same_stat_seq(x, y)
-            }
-            _ => false,
-        },
-        Stat::With(p, g, t, x) => match b {
-            Stat::With(q, h, u, y) => {
-                if !same_pos(*p, *q) || !same_qualident(*g, *h) || !same_qualident(*t, *u) {
-                    return false;
-                }
-                same_stat_seq(x, y)
-            }
-            _ => false,
-        },
-    }
-}
-
-#[cycle(same_statements)]
-fn same_elsifs(a: &Items<Elsif>, b: &Items<Elsif>) -> bool
-    ensures { IsTrue result ↔ (a.now ≡ b.now) }
-{
-    let xs = a.as_slice();
-    let ys = b.as_slice();
-    if xs.len() != ys.len() {
-        return false;
-    }
-    for i in 0..xs.len() {
-        if xs[i].pos != ys[i].pos
-            || !same_expr(&xs[i].condition, &ys[i].condition)
-            || !same_stat_seq(&xs[i].body, &ys[i].body)
-        {
-            return false;
-        }
-    }
-    true
-}
-
-#[cycle(same_statements)]
-fn same_else(a: &Option<StatSeq>, b: &Option<StatSeq>) -> bool
-    ensures { IsTrue result ↔ (a.now ≡ b.now) }
-{
-    match (a, b) {
-        (None, None) => true,
-        (Some(a), Some(b)) => same_stat_seq(a, b),
-        _ => false,
-    }
-}
-
-#[cycle(same_statements)]
-fn same_cases(a: &Items<Case>, b: &Items<Case>) -> bool
-    ensures { IsTrue result ↔ (a.now ≡ b.now) }
-{
-    let xs = a.as_slice();
-    let ys = b.as_slice();
-    if xs.len() != ys.len() {
-        return false;
-    }
-    for i in 0..xs.len() {
-        if !same_case(&xs[i], &ys[i]) {
-            return false;
-        }
-    }
-    true
-}
-
-#[cycle(same_statements)]
-fn same_case(a: &Case, b: &Case) -> bool
-    ensures { IsTrue result ↔ (a.now ≡ b.now) }
-{
-    match a {
-        Case::Empty => match b {
-            Case::Empty => true,
-            _ => false,
-        },
-        Case::Arm(l, x) => match b {
-            Case::Arm(m, y) => same_labels(l, m) && same_stat_seq(x, y),
-            _ => false,
-        },
-    }
-}
-
-#[cycle(same_statements)]
-fn same_block(a: &Block, b: &Block) -> bool
-    ensures { IsTrue result ↔ (a.now ≡ b.now) }
-{
-    if a.pos != b.pos || !same_modifiers(&a.modifiers, &b.modifiers) {
-        return false;
-    }
-    same_stat_seq(&a.body, &b.body)
-}
-
-pub(super) fn same_body(a: &Option<Block>, b: &Option<Block>) -> bool
-    ensures { IsTrue result ↔ (a.now ≡ b.now) }
-{
-    match (a, b) {
-        (None, None) => true,
-        (Some(a), Some(b)) => same_block(a, b),
-        _ => false,
+impl Alike for Block {
+    #[cycle(same_statements)]
+    fn same(&self, other: &Block) -> bool {
+        self.pos.same(&other.pos)
+            && self.modifiers.same(&other.modifiers)
+            && self.body.same(&other.body)
     }
 }

@@ -1,14 +1,7 @@
-use Rattle.std.proofs.Common.{◌≡◌, take}
+-- The measure is the greater depth of the two: lists ask for it of both.
+use Rattle.std.proofs.Common.{max}
+use Rattle.aos_tree.proofs.decl.Proc.TheLaws as proc
 use Rattle.aos_tree.proofs.sameness.decl.+same_declarations.Given as goal
 
-abbrev pub invariant-same_decls-loop-i : goal.invariant-same_decls-loop-i
-invariant-same_decls-loop-i l = take l.i l.xs ≡ take l.i l.ys
-
-abbrev pub invariant-same_types-loop-i : goal.invariant-same_types-loop-i
-invariant-same_types-loop-i l = take l.i l.xs ≡ take l.i l.ys
-
-abbrev pub invariant-same_vars-loop-i : goal.invariant-same_vars-loop-i
-invariant-same_vars-loop-i l = take l.i l.xs ≡ take l.i l.ys
-
-abbrev pub invariant-same_field_lists-loop-i : goal.invariant-same_field_lists-loop-i
-invariant-same_field_lists-loop-i l = take l.i l.xs ≡ take l.i l.ys
+abbrev pub decreases-ProcAlike::same : goal.decreases-ProcAlike::same
+decreases-ProcAlike::same l = max (proc.the_size l.self.now) (proc.the_size l.other.now)

@@ -1,11 +1,7 @@
-use Rattle.std.proofs.Common.{◌≡◌, take}
+-- The measure is the greater depth of the two: lists ask for it of both.
+use Rattle.std.proofs.Common.{max}
+use Rattle.aos_tree.proofs.stat.Block.TheLaws as block
 use Rattle.aos_tree.proofs.sameness.stat.+same_statements.Given as goal
 
-abbrev pub invariant-same_stat_seq-loop-i : goal.invariant-same_stat_seq-loop-i
-invariant-same_stat_seq-loop-i l = take l.i l.xs ≡ take l.i l.ys
-
-abbrev pub invariant-same_elsifs-loop-i : goal.invariant-same_elsifs-loop-i
-invariant-same_elsifs-loop-i l = take l.i l.xs ≡ take l.i l.ys
-
-abbrev pub invariant-same_cases-loop-i : goal.invariant-same_cases-loop-i
-invariant-same_cases-loop-i l = take l.i l.xs ≡ take l.i l.ys
+abbrev pub decreases-BlockAlike::same : goal.decreases-BlockAlike::same
+decreases-BlockAlike::same l = max (block.the_size l.self.now) (block.the_size l.other.now)
