@@ -29,6 +29,18 @@ pub record Embeds {S T : Type 0} (g : Table S) (h : Table T) (f : S → T) : Typ
   pub after_is : (x : S) (c : TokenKind) → h.after (f x) c ≡ lift_move f (g.after x c)
   pub needs_is : (x : S) → h.needs (f x) ≡ g.needs x
 
+-- a table stands in itself
+lift_same : {S : Type 0} (xs : List S) → lift (λ (x : S). x) xs ≡ xs
+lift_same [] = refl
+lift_same (x ∷ xs) = ap (λ q. x ∷ q) (lift_same xs)
+
+move_same : {S : Type 0} (move : Option (ℕ × List S)) → move ≡ lift_move (λ (x : S). x) move
+move_same None = refl
+move_same (Some p) = ap (λ q. Some (p.0, q)) (sym (lift_same p.1))
+
+pub itself : {S : Type 0} (g : Table S) → Embeds g g (λ x. x)
+itself g = record { after_is = λ x c. move_same (g.after x c); needs_is = λ x. refl }
+
 lift_append : {S T : Type 0} (f : S → T) (xs ys : List S) → lift f (xs ++ ys) ≡ lift f xs ++ lift f ys
 lift_append f [] ys = refl
 lift_append f (x ∷ xs) ys = ap (λ q. f x ∷ q) (lift_append f xs ys)

@@ -12,4 +12,5 @@ pub mod Answer
 pub mod Compose
 pub mod Unique
 pub mod Above
-pub mod Outcomes
+pub mod Exclusion
+pub mod Moved

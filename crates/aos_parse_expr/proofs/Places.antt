@@ -17,7 +17,7 @@ use Rattle.aos_parse_expr.proofs.Walk.{AllLeft, Walk, Reads, walk_runs}
 use Rattle.aos_parse_expr.proofs.Yields.{All, Free, Sound, Empty, Sample, Point, step_sound, walk_sound, fill, point}
 use Rattle.aos_parse_expr.proofs.Falling as falling
 
-abbrev end_token : Token
+abbrev pub end_token : Token
 end_token = record { kind = k.End; start = 0; end = 0; pos = record { line = 0; col = 0 }; value = Rattle.std.specs.Prelude.pos 0 }
 
 pub same_split : (xs ys us vs : List Token) → xs ++ us ≡ ys ++ vs → length us ≡ length vs → (xs ≡ ys) × (us ≡ vs)

@@ -11,7 +11,7 @@ use Rattle.aos_parse_expr.specs.declared.error.ParseErr.{ParseErr}
 use Rattle.aos_parse_expr.specs.declared.error.ParseErr.TheVariants as e
 use Rattle.aos_parse_expr.specs.Machine.{Refuses, run, going, fault}
 use Rattle.aos_parse_expr.proofs.Compose as compose
-use Rattle.aos_parse_expr.proofs.Compose.{Embeds, lift, lift_move}
+use Rattle.aos_parse_expr.proofs.Compose.{itself}
 use Rattle.aos_parse_expr.proofs.Walk.{walk_runs}
 use Rattle.aos_parse_mod.specs.Outcomes.{ExcludeOneAnother}
 use Rattle.aos_parse_mod.specs.Symbols as m
@@ -24,23 +24,11 @@ use Rattle.aos_parse_mod.proofs.ModWalk.{walk_text}
 use Rattle.aos_parse_mod.proofs.ModYields as y
 use Rattle.aos_parse_mod.proofs.ModYields.{Yields}
 
--- the grammar stands in itself
-lift_same : (xs : Stack) → lift (λ (x : Sym). x) xs ≡ xs
-lift_same [] = refl
-lift_same (x ∷ xs) = ap (λ q. x ∷ q) (lift_same xs)
-
-move_same : (move : Move) → move ≡ lift_move (λ (x : Sym). x) move
-move_same None = refl
-move_same (Some p) = ap (λ q. Some (p.0, q)) (sym (lift_same p.1))
-
-itself : Embeds m.table m.table (λ x. x)
-itself = record { after_is = λ x c. move_same (m.after x c); needs_is = λ x. refl }
-
 expected : (ts : List Token) (p : Pos) → ExpectsAt module_at ts p → Refuses m.table (m.text 0 ∷ []) ts (e.Expected p)
-expected ts p h = compose.expected_on m.table m.table (λ (x : Sym). x) itself joins Yields y.sound y.empty f.sample (λ c. m.tok 0 c) f.only_takes (m.text 0) module_at a_text 0 walk_text f.depth_of f.low f.floor f.falls ts p h
+expected ts p h = compose.expected_on m.table m.table (λ (x : Sym). x) (itself m.table) joins Yields y.sound y.empty f.sample (λ c. m.tok 0 c) f.only_takes (m.text 0) module_at a_text 0 walk_text f.depth_of f.low f.floor f.falls ts p h
 
 deep : (ts : List Token) (p : Pos) → TooDeepAt module_at ts p → Refuses m.table (m.text 0 ∷ []) ts (e.Deep p)
-deep ts p h = compose.deep_on m.table m.table (λ (x : Sym). x) itself joins Yields y.sound y.empty f.sample (λ c. m.tok 0 c) f.only_takes (m.text 0) module_at a_text 0 walk_text f.depth_of f.low f.floor f.falls ts p h
+deep ts p h = compose.deep_on m.table m.table (λ (x : Sym). x) (itself m.table) joins Yields y.sound y.empty f.sample (λ c. m.tok 0 c) f.only_takes (m.text 0) module_at a_text 0 walk_text f.depth_of f.low f.floor f.falls ts p h
 
 -- what is read is taken to its end
 taken : (ts : List Token) (a : Module) → Reads a ts → (tails : Stack) × (run m.table shallow ts (m.text 0 ∷ []) ≡ going tails)

@@ -8,4 +8,3 @@ pub mod Lower
 pub mod StatAnswer
 pub mod Above
 pub mod StatUnique
-pub mod Exclusion

@@ -31,18 +31,6 @@ lifted_move (Some p) = ap (λ q. Some (p.0, q)) (lifted p.1)
 pub exprs_in : Embeds e.table m.table m.part
 exprs_in = record { after_is = λ x c. lifted_move (e.after x c); needs_is = λ x. refl }
 
--- and so does this one in itself
-lift_same : (xs : Stack) → lift (λ (x : Sym). x) xs ≡ xs
-lift_same [] = refl
-lift_same (x ∷ xs) = ap (λ q. x ∷ q) (lift_same xs)
-
-move_same : (move : Move) → move ≡ lift_move (λ (x : Sym). x) move
-move_same None = refl
-move_same (Some p) = ap (λ q. Some (p.0, q)) (sym (lift_same p.1))
-
-pub itself : Embeds m.table m.table (λ x. x)
-itself = record { after_is = λ x c. move_same (m.after x c); needs_is = λ x. refl }
-
 onward_or : (move : Move) (xs j : Stack) (other : Step Sym) → or_else (onward move xs) j other ≡ or_else move (xs ++ j) other
 onward_or None xs j other = refl
 onward_or (Some p) xs j other = ap (λ s. shifts p.0 s) (append_assoc p.1 xs j)

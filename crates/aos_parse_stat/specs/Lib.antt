@@ -1,4 +1,3 @@
 pub mod Grammar
-pub mod Outcomes
 pub mod Symbols
 pub mod Unambiguous

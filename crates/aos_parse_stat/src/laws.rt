@@ -3,7 +3,7 @@
 ghost use Rattle.std.specs.Prelude.{ℕ, List};
 ghost use Rattle.aos_scan.specs.declared.token.Token.{Token};
 ghost use Rattle.aos_parse_stat.specs.Grammar.{block_at};
-ghost use Rattle.aos_parse_stat.specs.Outcomes.{ExcludeOneAnother};
+ghost use Rattle.aos_parse_expr.specs.Outcomes.{ExcludeOneAnother};
 ghost use Rattle.aos_parse_stat.specs.Unambiguous.{IsUnambiguous};
 
 /// The grammar of blocks gives tokens at most one tree, and this one end.

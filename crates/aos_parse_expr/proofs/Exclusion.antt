@@ -11,7 +11,7 @@ use Rattle.aos_parse_expr.specs.declared.error.ParseErr.TheVariants as e
 use Rattle.aos_parse_expr.specs.Machine as machine
 use Rattle.aos_parse_expr.specs.Machine.{Table, Outcome, Refuses, run, step, shifts, or_else, without, refuses}
 use Rattle.aos_parse_expr.proofs.Places.{same_split, run_step, run_end, ended_run}
-use Rattle.aos_parse_stat.specs.Outcomes.{EndsAt, ExcludeOneAnother}
+use Rattle.aos_parse_expr.specs.Outcomes.{EndsAt, ExcludeOneAnother}
 
 module _ {S A : Type 0} (g : Table S) (x : S) (reads : Rule → A → List Token → List Token → Type 0) (only : TokenKind → S) (only_takes : (c : TokenKind) → g.after (only c) c ≡ Some (0, []))
     (reads_on : (a : A) (ts rest : List Token) → reads shallow a ts rest → CeasesAt reads ts rest → (k : List S) → run g shallow ts (x ∷ k) ≡ run g shallow rest k)
