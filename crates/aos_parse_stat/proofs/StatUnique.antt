@@ -162,7 +162,8 @@ module _ (may : Rule) where
 
   -- a statement by the kind of its first token
   data Form (d : ℕ) : TokenKind → Stat → List Token → List Token → Type 0 where
-    f_desig : {a : Desig} {value : Option Expr} {ts mid rest : List Token} → IsDesig may (d + 1) a ts mid → IsOption may (d + 1) k.Becomes value mid rest → Form d k.Ident (s.Desig a value) ts rest
+    f_assign : {a : Desig} {p : Pos} {value : Expr} {ts mid from rest : List Token} → IsDesig may (d + 1) a ts mid → IsWord may (d + 1) k.Becomes p mid from → IsExpr may (d + 1) value from rest → Form d k.Ident (s.Assign a p value) ts rest
+    f_call : {a : Desig} {ts rest : List Token} → IsDesig may (d + 1) a ts rest → Form d k.Ident (s.Call a) ts rest
     f_block : {a : Block} {ts rest : List Token} → IsBlock may (d + 1) a ts rest → Form d k.KwBegin (s.Block a) ts rest
     f_exit : {p : Pos} {ts rest : List Token} → IsWord may (d + 1) k.KwExit p ts rest → Form d k.KwExit (s.Exit p) ts rest
     f_return : {p : Pos} {ts rest : List Token} → IsWord may (d + 1) k.KwReturn p ts rest → Form d k.KwReturn (s.Return p None) ts rest
@@ -182,17 +183,18 @@ module _ (may : Rule) where
         IsWord may (d + 1) k.KwLoop p ts t1 → IsStatSeq may (d + 1) body t1 t2 → IsWord may (d + 1) k.KwEnd q t2 rest → Form d k.KwLoop (s.Loop p body) ts rest
     f_for : {p q r u v : Pos} {name : Name} {from to : Expr} {by : Option Expr} {body : StatSeq} {ts t1 t2 t3 t4 t5 t6 t7 t8 t9 rest : List Token} →
         IsWord may (d + 1) k.KwFor p ts t1 → IsName may (d + 1) name t1 t2 → IsWord may (d + 1) k.Becomes q t2 t3 → IsExpr may (d + 1) from t3 t4 → IsWord may (d + 1) k.KwTo r t4 t5 → IsExpr may (d + 1) to t5 t6 →
-        IsOption may (d + 1) k.KwBy by t6 t7 → IsWord may (d + 1) k.KwDo u t7 t8 → IsStatSeq may (d + 1) body t8 t9 → IsWord may (d + 1) k.KwEnd v t9 rest → Form d k.KwFor (s.For p name from to by body) ts rest
+        IsOption may (d + 1) k.KwBy by t6 t7 → IsWord may (d + 1) k.KwDo u t7 t8 → IsStatSeq may (d + 1) body t8 t9 → IsWord may (d + 1) k.KwEnd v t9 rest → Form d k.KwFor (s.For p name q from to by body) ts rest
     f_with : {p q r u : Pos} {guarded of : Qualident} {body : StatSeq} {ts t1 t2 t3 t4 t5 t6 rest : List Token} →
         IsWord may (d + 1) k.KwWith p ts t1 → IsQualident may (d + 1) guarded t1 t2 → IsWord may (d + 1) k.Colon q t2 t3 → IsQualident may (d + 1) of t3 t4 → IsWord may (d + 1) k.KwDo r t4 t5 → IsStatSeq may (d + 1) body t5 t6 → IsWord may (d + 1) k.KwEnd u t6 rest →
-        Form d k.KwWith (s.With p guarded of body) ts rest
+        Form d k.KwWith (s.With p guarded q of body) ts rest
 
   by_word : {d : ℕ} {b : Stat} {c c' : TokenKind} {p : Pos} {t : Token} {us ts r rest : List Token} → IsWord may (d + 1) c p ts r → ts ≡ t ∷ us → t.kind ≡ c' → Form d c b ts rest → Form d c' b ts rest
   by_word {d} {b} {t = t} {ts = ts} {rest = rest} (words.word {t = u} is fits) at is' f = subst (λ z. Form d z b ts rest) (let q : u ≡ t = cc in sym is ∙ ap (λ z. z.kind) q ∙ is') f
 
   form_of : {d : ℕ} {b : Stat} {c : TokenKind} {t : Token} {us ts rest : List Token} → IsStat may d b ts rest → ts ≡ t ∷ us → t.kind ≡ c → joins c ≤ 7 → Loose 7 rest → Form d c b ts rest
   form_of {c = c} g.empty at is le loose = absurd (not_here 7 c loose at is le)
-  form_of {d} {b} {t = t} {ts = ts} {rest = rest} (g.desig (x.named {t = u} h fits more) value) at is le loose = subst (λ z. Form d z b ts rest) (let q : u ≡ t = cc in sym h ∙ ap (λ z. z.kind) q ∙ is) (f_desig (x.named h fits more) value)
+  form_of {d} {b} {t = t} {ts = ts} {rest = rest} (g.assign (x.named {t = u} h fits more) set value) at is le loose = subst (λ z. Form d z b ts rest) (let q : u ≡ t = cc in sym h ∙ ap (λ z. z.kind) q ∙ is) (f_assign (x.named h fits more) set value)
+  form_of {d} {b} {t = t} {ts = ts} {rest = rest} (g.call (x.named {t = u} h fits more)) at is le loose = subst (λ z. Form d z b ts rest) (let q : u ≡ t = cc in sym h ∙ ap (λ z. z.kind) q ∙ is) (f_call (x.named h fits more))
   form_of (g.block (g.unmodified w body end)) at is le loose = by_word w at is (f_block (g.unmodified w body end))
   form_of (g.block (g.modified w start all body end)) at is le loose = by_word w at is (f_block (g.modified w start all body end))
   form_of (g.exit w) at is le loose = by_word w at is (f_exit w)
@@ -210,7 +212,8 @@ module _ (may : Rule) where
   -- the empty statement is alone where none goes on
   only_empty : {d : ℕ} {b : Stat} {us ts rest : List Token} → IsStat may d b ts rest → us ≡ ts → Loose 7 us → Same s.Empty b us rest
   only_empty g.empty at loose = (refl, at)
-  only_empty (g.desig (x.named h fits more) value) at loose = absurd (not_here 7 k.Ident loose at h (omega arith))
+  only_empty (g.assign (x.named h fits more) set value) at loose = absurd (not_here 7 k.Ident loose at h (omega arith))
+  only_empty (g.call (x.named h fits more)) at loose = absurd (not_here 7 k.Ident loose at h (omega arith))
   only_empty (g.block (g.unmodified w body end)) at loose = absurd (word_not 7 loose at w (omega arith))
   only_empty (g.block (g.modified w start all body end)) at loose = absurd (word_not 7 loose at w (omega arith))
   only_empty (g.exit w) at loose = absurd (word_not 7 loose at w (omega arith))
@@ -228,7 +231,8 @@ module _ (may : Rule) where
   -- what a part begins by, where it may be left out
   front_stat : {d : ℕ} {a : Stat} {ts r : List Token} → IsStat may d a ts r → Loose 7 r → Loose 5 ts
   front_stat (g.empty {ts = ts}) l = less 7 5 ts (omega arith) l
-  front_stat (g.desig (x.named h fits more) value) l = joins_at 5 h (lit< tt)
+  front_stat (g.assign (x.named h fits more) set value) l = joins_at 5 h (lit< tt)
+  front_stat (g.call (x.named h fits more)) l = joins_at 5 h (lit< tt)
   front_stat (g.block (g.unmodified w body end)) l = word_loose 5 w (lit< tt)
   front_stat (g.block (g.modified w start all body end)) l = word_loose 5 w (lit< tt)
   front_stat (g.exit w) l = word_loose 5 w (lit< tt)
@@ -263,10 +267,18 @@ module _ (may : Rule) where
   front_more_cases (g.another_case w a more) l = word_loose 8 w (lit< tt)
 
   -- two statements of one form
-  same_desig : {d : ℕ} {a : Desig} {value : Option Expr} {b : Stat} {ts mid rest ts' r' : List Token} → IsDesig may (d + 1) a ts mid → IsOption may (d + 1) k.Becomes value mid rest → Form d k.Ident b ts' r' → ts ≡ ts' → Loose 7 rest → Loose 7 r' → Same (s.Desig a value) b rest r'
-  same_desig a v (f_desig a' v') at l l' =
-      let p = unique_desig a a' at (front_option 7 1 (omega arith) (omega arith) v l) (front_option 7 1 (omega arith) (omega arith) v' l') in
-      let q = unique_option 7 (omega arith) (omega arith) v v' p.1 l l' in (cc, q.1)
+  same_assign : {d : ℕ} {a : Desig} {p : Pos} {value : Expr} {b : Stat} {ts mid from rest ts' r' : List Token} → IsDesig may (d + 1) a ts mid → IsWord may (d + 1) k.Becomes p mid from → IsExpr may (d + 1) value from rest → Form d k.Ident b ts' r' → ts ≡ ts' → Loose 7 rest → Loose 7 r' → Same (s.Assign a p value) b rest r'
+  same_assign {rest = r} {r' = r'} a w v (f_assign a' w' v') at l l' =
+      let p = unique_desig a a' at (word_loose 1 w (lit< tt)) (word_loose 1 w' (lit< tt)) in
+      let o = unique_word w w' p.1 in
+      let q = unique_expr v v' o.1 (less 7 4 r (omega arith) l) (less 7 4 r' (omega arith) l') in (cc, q.1)
+  same_assign {r' = r'} a w v (f_call a') at l l' =
+      let p = unique_desig a a' at (word_loose 1 w (lit< tt)) (less 7 1 r' (omega arith) l') in absurd (word_not 7 l' (sym p.1) w (omega arith))
+
+  same_call : {d : ℕ} {a : Desig} {b : Stat} {ts rest ts' r' : List Token} → IsDesig may (d + 1) a ts rest → Form d k.Ident b ts' r' → ts ≡ ts' → Loose 7 rest → Loose 7 r' → Same (s.Call a) b rest r'
+  same_call {rest = r} {r' = r'} a (f_call a') at l l' = let p = unique_desig a a' at (less 7 1 r (omega arith) l) (less 7 1 r' (omega arith) l') in (cc, p.1)
+  same_call {rest = r} a (f_assign a' w' v') at l l' =
+      let p = unique_desig a a' at (less 7 1 r (omega arith) l) (word_loose 1 w' (lit< tt)) in absurd (word_not 7 l p.1 w' (omega arith))
 
   same_exit : {d : ℕ} {p : Pos} {b : Stat} {ts rest ts' r' : List Token} → IsWord may (d + 1) k.KwExit p ts rest → Form d k.KwExit b ts' r' → ts ≡ ts' → Same (s.Exit p) b rest r'
   same_exit w (f_exit w') at = let o = unique_word w w' at in (cc, o.1)
@@ -332,7 +344,7 @@ module _ (may : Rule) where
 
   same_for : {d : ℕ} {p q r u v : Pos} {name : Name} {from to : Expr} {by : Option Expr} {body : StatSeq} {b : Stat} {ts t1 t2 t3 t4 t5 t6 t7 t8 t9 rest ts' r' : List Token} →
       IsWord may (d + 1) k.KwFor p ts t1 → IsName may (d + 1) name t1 t2 → IsWord may (d + 1) k.Becomes q t2 t3 → IsExpr may (d + 1) from t3 t4 → IsWord may (d + 1) k.KwTo r t4 t5 → IsExpr may (d + 1) to t5 t6 →
-      IsOption may (d + 1) k.KwBy by t6 t7 → IsWord may (d + 1) k.KwDo u t7 t8 → IsWord may (d + 1) k.KwEnd v t9 rest → Form d k.KwFor b ts' r' → ts ≡ ts' → Again (IsStatSeq may (d + 1)) 8 body t8 t9 → Same (s.For p name from to by body) b rest r'
+      IsOption may (d + 1) k.KwBy by t6 t7 → IsWord may (d + 1) k.KwDo u t7 t8 → IsWord may (d + 1) k.KwEnd v t9 rest → Form d k.KwFor b ts' r' → ts ≡ ts' → Again (IsStatSeq may (d + 1)) 8 body t8 t9 → Same (s.For p name q from to by body) b rest r'
   same_for w n set a to b step do' end (f_for w' n' set' a' to' b' step' do'' body' end') at again =
       let o = unique_word w w' at in
       let p = unique_name n n' o.1 in
@@ -348,7 +360,7 @@ module _ (may : Rule) where
 
   same_with : {d : ℕ} {p q r u : Pos} {guarded of : Qualident} {body : StatSeq} {b : Stat} {ts t1 t2 t3 t4 t5 t6 rest ts' r' : List Token} →
       IsWord may (d + 1) k.KwWith p ts t1 → IsQualident may (d + 1) guarded t1 t2 → IsWord may (d + 1) k.Colon q t2 t3 → IsQualident may (d + 1) of t3 t4 → IsWord may (d + 1) k.KwDo r t4 t5 → IsWord may (d + 1) k.KwEnd u t6 rest →
-      Form d k.KwWith b ts' r' → ts ≡ ts' → Again (IsStatSeq may (d + 1)) 8 body t5 t6 → Same (s.With p guarded of body) b rest r'
+      Form d k.KwWith b ts' r' → ts ≡ ts' → Again (IsStatSeq may (d + 1)) 8 body t5 t6 → Same (s.With p guarded q of body) b rest r'
   same_with w a colon b do' end (f_with w' a' colon' b' do'' body' end') at again =
       let o = unique_word w w' at in
       let p = unique_qualident a a' o.1 (word_loose 1 colon (lit< tt)) (word_loose 1 colon' (lit< tt)) in
@@ -378,7 +390,8 @@ module _ (may : Rule) where
 
     pub unique_stat : {d : ℕ} {a b : Stat} {ts ts' r r' : List Token} → IsStat may d a ts r → IsStat may d b ts' r' → ts ≡ ts' → Loose 7 r → Loose 7 r' → Same a b r r'
     unique_stat g.empty h at l l' = only_empty h at l
-    unique_stat (g.desig (x.named is fits more) value) h at l l' = same_desig (x.named is fits more) value (form_of h (sym at) is (omega arith) l') at l l'
+    unique_stat (g.assign (x.named is fits more) set value) h at l l' = same_assign (x.named is fits more) set value (form_of h (sym at) is (omega arith) l') at l l'
+    unique_stat (g.call (x.named is fits more)) h at l l' = same_call (x.named is fits more) (form_of h (sym at) is (omega arith) l') at l l'
     unique_stat (g.block (g.unmodified (words.word is fits) body end)) h at l l' = same_block (form_of h (sym at) is (omega arith) l') at (λ c us vs q e. unique_block (g.unmodified (words.word is fits) body end) q e)
     unique_stat (g.block (g.modified (words.word is fits) start all body end)) h at l l' = same_block (form_of h (sym at) is (omega arith) l') at (λ c us vs q e. unique_block (g.modified (words.word is fits) start all body end) q e)
     unique_stat (g.exit (words.word is fits)) h at l l' = same_exit (words.word is fits) (form_of h (sym at) is (omega arith) l') at

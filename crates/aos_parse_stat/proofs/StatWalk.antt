@@ -274,6 +274,17 @@ module _ (may : Rule) where
   block_starts (g.unmodified (n.word {t = t} is fits) body end) = is_one k.KwBegin t.kind is
   block_starts (g.modified (n.word {t = t} is fits) start all body end) = is_one k.KwBegin t.kind is
 
+  -- a designator, and what may follow it
+  read_named : {d : ℕ} {a : Desig} {value : Option Expr} {ts mid rest : List Token} → IsDesig may (d + 1) a ts mid → IsOption may (d + 1) k.Becomes value mid rest → Going 7 5 (m.stat d) ts rest
+  read_named {d} {mid = mid} {rest = rest} (x.named {t = t} {ts = us} is fits more) value =
+      let r : Reads 1 (m.desig (d + 1) ∷ []) (t ∷ us) mid = read_desig (x.named is fits more) in
+      let v = read_option 7 1 (omega arith) (omega arith) (omega arith) value in
+      let q = seq (omega arith) r v.0 v.1 in
+      let h = starts_on (one_of k.Ident) r.front v.0.front (begun_by (one_of k.Ident) 1 (m.desig (d + 1)) (d + 1) (t ∷ us) _ refl r (is_one k.Ident t.kind is)) in (
+        w.enter m.table joins may (one_of k.Ident) 7 (m.stat d ∷ []) (m.desig (d + 1) ∷ m.option (d + 1) k.Becomes ∷ []) (t ∷ us) rest (λ c j st. by.stat_ident d c (one_is k.Ident c st) j) q h,
+        above_one 5 k.Ident q.front (lit< tt) h,
+      )
+
   mutual
     read_stats : {d : ℕ} {a : StatSeq} {ts rest : List Token} → IsStatSeq may d a ts rest → (r : Reads 8 (m.stats d) ts rest) × w.Above joins 5 r.front
     read_stats (g.stats a more) =
@@ -290,14 +301,8 @@ module _ (may : Rule) where
 
     read_stat : {d : ℕ} {a : Stat} {ts rest : List Token} → IsStat may d a ts rest → Going 7 5 (m.stat d) ts rest
     read_stat (g.empty {d = d} {ts = ts}) = (leaves 7 (m.stat d) (loose_stat d) refl ts, tt)
-    read_stat (g.desig {d = d} {mid = mid} {rest = rest} (x.named {t = t} {ts = us} is fits more) value) =
-        let r : Reads 1 (m.desig (d + 1) ∷ []) (t ∷ us) mid = read_desig (x.named is fits more) in
-        let v = read_option 7 1 (omega arith) (omega arith) (omega arith) value in
-        let q = seq (omega arith) r v.0 v.1 in
-        let h = starts_on (one_of k.Ident) r.front v.0.front (begun_by (one_of k.Ident) 1 (m.desig (d + 1)) (d + 1) (t ∷ us) _ refl r (is_one k.Ident t.kind is)) in (
-          w.enter m.table joins may (one_of k.Ident) 7 (m.stat d ∷ []) (m.desig (d + 1) ∷ m.option (d + 1) k.Becomes ∷ []) (t ∷ us) rest (λ c j st. by.stat_ident d c (one_is k.Ident c st) j) q h,
-          above_one 5 k.Ident q.front (lit< tt) h,
-        )
+    read_stat (g.assign a set value) = read_named a (g.option set value)
+    read_stat (g.call a) = read_named a g.no_option
     read_stat (g.block {d = d} {ts = ts} {rest = rest} a) =
         let r : Reads 7 (m.block (d + 1) ∷ []) ts rest = wider 7 (omega arith) (read_block a) in
         let h = begun_by (one_of k.KwBegin) 7 (m.block (d + 1)) (d + 1) ts rest refl r (block_starts a) in (

@@ -141,7 +141,8 @@ module _ (may : Rule) where
 
   -- statements, each by the word that begins it
   stat_desig : {d : ℕ} {t : Token} {ts rest : List Token} → t.kind ≡ k.Ident → may (d + 1) ts ≡ true → All (m.part (e.selectors (d + 1)) ∷ m.option (d + 1) k.Becomes ∷ []) ts rest → Yields may (m.stat d) (t ∷ ts) rest
-  stat_desig is fits (next (a_part (expr.some_selectors a)) (next (an_option b) done)) = a_stat (g.desig (x.named is fits a) b)
+  stat_desig is fits (next (a_part (expr.some_selectors a)) (next (an_option (g.option set b)) done)) = a_stat (g.assign (x.named is fits a) set b)
+  stat_desig is fits (next (a_part (expr.some_selectors a)) (next (an_option g.no_option) done)) = a_stat (g.call (x.named is fits a))
 
   stat_block : {d : ℕ} {t : Token} {ts rest : List Token} → t.kind ≡ k.KwBegin → may (d + 1) ts ≡ true → All (m.block_rest (d + 1)) ts rest → Yields may (m.stat d) (t ∷ ts) rest
   stat_block is fits (next (a_marking a) (next (a_stat s) (next (some_more_stats ss) (next end done)))) = a_stat (g.block (block_from is fits a (g.stats s ss) (word_of end).1).1)

@@ -1,10 +1,11 @@
 -- Trees of statements from those of their parts.
-use Rattle.std.proofs.Common.{◌≡◌, ℕ, ◌+◌, ◌≤◌, List, [], ◌∷◌, Option, subst, sym}
+use Rattle.std.proofs.Common.{◌≡◌, ℕ, ◌+◌, ◌≤◌, List, [], ◌∷◌, Option, Some, None, subst, sym}
 use Rattle.std.specs.Prelude.{IfOk, Result, Ok, Err}
 use Rattle.aos_base.specs.declared.text.Pos.{Pos}
 use Rattle.aos_scan.specs.declared.token.Token.{Token}
 use Rattle.aos_scan.specs.declared.token.TokenKind.{TokenKind}
 use Rattle.aos_scan.specs.declared.token.TokenKind.TheVariants as k
+use Rattle.aos_tree.specs.declared.expr.Desig.{Desig}
 use Rattle.aos_tree.specs.declared.expr.Expr.{Expr}
 use Rattle.aos_tree.specs.declared.stat.Stat.{Stat}
 use Rattle.aos_tree.specs.declared.stat.Stat.TheVariants as s
@@ -13,9 +14,9 @@ use Rattle.aos_tree.specs.declared.stat.Case.{Case}
 use Rattle.aos_tree.specs.declared.stat.Block.{roll-Block}
 use Rattle.aos_tree.specs.declared.stat.Modifier.{Modifier}
 use Rattle.aos_tree.specs.Nesting.{Rule, shallow}
-use Rattle.aos_tree.specs.ExprGrammar.{IsExpr}
+use Rattle.aos_tree.specs.ExprGrammar.{IsDesig, IsExpr}
 use Rattle.aos_tree.specs.StatGrammar as g
-use Rattle.aos_tree.specs.StatGrammar.{IsStat, IsStatSeq, IsElse, IsBlock, IsModifiers}
+use Rattle.aos_tree.specs.StatGrammar.{IsOption, IsStat, IsStatSeq, IsElse, IsBlock, IsModifiers}
 use Rattle.aos_tree.specs.Words as words
 use Rattle.aos_tree.specs.Words.{IsWord}
 use Rattle.aos_parse_expr.specs.declared.error.ParseErr.{ParseErr}
@@ -26,6 +27,23 @@ use Rattle.aos_parse_stat.specs.Grammar.{IsCases, IsMarking}
 -- a word that is the first token
 pub word_at : (d : ℕ) {c : TokenKind} {t : Token} {ts us : List Token} → ts ≡ t ∷ us → t.kind ≡ c → d ≤ 200 → IsWord shallow d c t.pos ts us
 word_at d {c} {t} {us = us} whole is le = subst (λ z. IsWord shallow d c t.pos z us) (sym whole) (words.word is (fits_shallow d le))
+
+-- a word, by its token
+pub word_here : {may : Rule} {d : ℕ} {c : TokenKind} {p : Pos} {t : Token} {us ts rest : List Token} → ts ≡ t ∷ us → IsWord may d c p ts rest → IsWord may d c t.pos ts rest
+word_here {may} {d} {c} {t = t} {rest = rest} whole (words.word {t = u} is fits) =
+    subst (λ z. IsWord may d c z.pos (u ∷ rest) rest) (let a : u ≡ t = cc in a) (words.word is fits)
+
+-- an assignment, and a call
+pub assign_by : {may : Rule} {d : ℕ} {a : Desig} {value : Option Expr} {v : Expr} {t : Token} {us ts mid rest : List Token} → IsDesig may (d + 1) a ts mid → mid ≡ t ∷ us →
+    IsOption may (d + 1) k.Becomes value mid rest → value ≡ Some v → IsStat may d (s.Assign a t.pos v) ts rest
+assign_by a whole g.no_option is = absurd (cc)
+assign_by {may} {d} {a = b} {v = v} {t = t} {ts = ts} {rest = rest} a whole (g.option {a = x} w y) is =
+    subst (λ z. IsStat may d (s.Assign b t.pos z) ts rest) (let e : x ≡ v = cc in e) (g.assign a (word_here whole w) y)
+
+pub call_by : {may : Rule} {d : ℕ} {a : Desig} {value : Option Expr} {ts mid rest : List Token} → IsDesig may (d + 1) a ts mid →
+    IsOption may (d + 1) k.Becomes value mid rest → value ≡ None → IsStat may d (s.Call a) ts rest
+call_by a g.no_option is = g.call a
+call_by a (g.option w y) is = absurd (cc)
 
 -- a statement, after the word that begins it
 pub stat_after : {A : Type 0} (stat : A → Stat) (left : A → List Token) (r : Result A ParseErr) (d : ℕ) {c : TokenKind} {p : Pos} {ts us : List Token} → IsWord shallow (d + 1) c p ts us →

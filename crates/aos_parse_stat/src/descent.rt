@@ -97,8 +97,12 @@ fn desig_stat<'a>(
     ensures moves { Moves m.table (λ r. r.1.now) (m.desig (depth + 1) ∷ m.option (depth + 1) TokenKind.Becomes ∷ []) tokens.now result }
 {
     let (target, rest) = designator(alloc, tokens, depth + 1)?;
+    let (token, _) = split(rest);
     let (value, rest) = option(alloc, rest, depth + 1, TokenKind::Becomes)?;
-    Ok((Stat::Desig(target, value), rest))
+    match value {
+        Some(value) => Ok((Stat::Assign(target, token.pos, value), rest)),
+        None => Ok((Stat::Call(target), rest)),
+    }
 }
 
 /// What comes after `RETURN`: `[Expr]`.
@@ -392,13 +396,17 @@ fn for_stat<'a>(
     ensures moves { Moves m.table (λ r. r.1.now) (m.for_rest (depth + 1)) tokens.now result }
 {
     let (name, rest) = ident(tokens, depth + 1)?;
+    let (becomes, _) = split(rest);
     let (first, rest) = word_expr(alloc, rest, depth + 1, TokenKind::Becomes)?;
     let (last, rest) = word_expr(alloc, rest, depth + 1, TokenKind::KwTo)?;
     let (by, rest) = option(alloc, rest, depth + 1, TokenKind::KwBy)?;
     let rest = word(rest, depth + 1, TokenKind::KwDo)?;
     let (body, rest) = stats(alloc, rest, depth + 1)?;
     let rest = word(rest, depth + 1, TokenKind::KwEnd)?;
-    Ok((Stat::For(start, name, first, last, by, body), rest))
+    Ok((
+        Stat::For(start, name, becomes.pos, first, last, by, body),
+        rest,
+    ))
 }
 
 /// What comes after `WITH`: `Qualident ":" Qualident DO StatSeq END`.
@@ -417,12 +425,13 @@ fn with_stat<'a>(
     ensures moves { Moves m.table (λ r. r.1.now) (m.with_rest (depth + 1)) tokens.now result }
 {
     let (guarded, rest) = qualident(tokens, depth + 1)?;
+    let (colon, _) = split(rest);
     let rest = word(rest, depth + 1, TokenKind::Colon)?;
     let (extension, rest) = qualident(rest, depth + 1)?;
     let rest = word(rest, depth + 1, TokenKind::KwDo)?;
     let (body, rest) = stats(alloc, rest, depth + 1)?;
     let rest = word(rest, depth + 1, TokenKind::KwEnd)?;
-    Ok((Stat::With(start, guarded, extension, body), rest))
+    Ok((Stat::With(start, guarded, colon.pos, extension, body), rest))
 }
 
 #[cycle(descent)]

@@ -429,7 +429,7 @@ for_stat-returns-clause-moves t c =
 
 pub for_stat-returns-clause-tree : goal.for_stat-returns-clause-tree
 for_stat-returns-clause-tree t c =
-    λ before w. g.for w c.in_ok-name.ensures.tree c.in_ok-first.ensures.tree.2 c.in_ok-first.ensures.tree.3 c.in_ok-last.ensures.tree.2 c.in_ok-last.ensures.tree.3 c.in_ok-by.ensures.tree c.in_ok-rest.ensures.tree.1 c.in_ok-body.ensures.tree c.in_ok-rest-2.ensures.tree.1
+    λ before w. g.for w c.in_ok-name.ensures.tree (trees.word_here c.split.ensures.whole c.in_ok-first.ensures.tree.2) c.in_ok-first.ensures.tree.3 c.in_ok-last.ensures.tree.2 c.in_ok-last.ensures.tree.3 c.in_ok-by.ensures.tree c.in_ok-rest.ensures.tree.1 c.in_ok-body.ensures.tree c.in_ok-rest-2.ensures.tree.1
 
 pub with_stat-returns-in_err-guarded-clause-moves : goal.with_stat-returns-in_err-guarded-clause-moves
 with_stat-returns-in_err-guarded-clause-moves t c =
@@ -461,7 +461,7 @@ with_stat-returns-clause-moves t c =
 
 pub with_stat-returns-clause-tree : goal.with_stat-returns-clause-tree
 with_stat-returns-clause-tree t c =
-    λ before w. g.with w c.in_ok-guarded.ensures.tree c.in_ok-rest.ensures.tree.1 c.in_ok-extension.ensures.tree c.in_ok-rest-2.ensures.tree.1 c.in_ok-body.ensures.tree c.in_ok-rest-3.ensures.tree.1
+    λ before w. g.with w c.in_ok-guarded.ensures.tree (trees.word_here c.split.ensures.whole c.in_ok-rest.ensures.tree.1) c.in_ok-extension.ensures.tree c.in_ok-rest-2.ensures.tree.1 c.in_ok-body.ensures.tree c.in_ok-rest-3.ensures.tree.1
 
 pub block-returns-in_err-rest-clause-moves : goal.block-returns-in_err-rest-clause-moves
 block-returns-in_err-rest-clause-moves t c =
