@@ -4,8 +4,8 @@ use Rattle.std.proofs.Common.{◌≡◌, ℕ, ◌≤◌, ◌<◌, Bool, true, fa
 use Rattle.std.proofs.lemmas.Bool.{eq-eqb}
 use Rattle.aos_scan.specs.declared.token.TokenKind.{TokenKind}
 use Rattle.aos_scan.specs.declared.token.TokenKind.TheVariants as k
-use Rattle.aos_tree.specs.declared.decl.Mark.{Mark}
-use Rattle.aos_tree.specs.Operators.{mark_of}
+use Rattle.aos_tree.specs.declared.decl.Export.{Export}
+use Rattle.aos_tree.specs.Operators.{export_of}
 use Rattle.aos_parse_expr.proofs.ExprWalk as below
 use Rattle.aos_parse_expr.proofs.Words as words
 use Rattle.aos_parse_mod.specs.Symbols.{Stack, by_word}
@@ -72,7 +72,7 @@ word_not d want c xs isnt = ap (λ b. if b then Some (d, xs) else None) (not_tru
 pub loose_word : (l d : ℕ) (want c : TokenKind) (xs : Stack) → joins want ≤ l → l < joins c → by_word d want xs c ≡ None
 loose_word l d want c xs le h = word_not d want c xs (λ is. let a : joins c ≡ joins want = ap joins is in omega arith)
 
-pub mark_joins : (c : TokenKind) (a : Mark) → mark_of c ≡ Some a → joins c ≡ 1
+pub mark_joins : (c : TokenKind) (a : Export) → export_of c ≡ Some a → joins c ≡ 1
 mark_joins k.Star a h = refl
 mark_joins k.Minus a h = refl
 mark_joins _ a h = absurd (cc)

@@ -5,9 +5,9 @@ use Rattle.aos_scan.specs.declared.token.Token.{Token}
 use Rattle.aos_scan.specs.declared.token.TokenKind.{TokenKind}
 use Rattle.aos_scan.specs.declared.token.TokenKind.TheVariants as k
 use Rattle.aos_tree.specs.declared.expr.Expr.{Expr}
-use Rattle.aos_tree.specs.declared.decl.Mark.{Mark}
+use Rattle.aos_tree.specs.declared.decl.Export.{Export}
 use Rattle.aos_tree.specs.Nesting.{Rule}
-use Rattle.aos_tree.specs.Operators.{mark_of}
+use Rattle.aos_tree.specs.Operators.{export_of}
 use Rattle.aos_tree.specs.Words as g
 use Rattle.aos_tree.specs.ExprGrammar.{IsExpr}
 use Rattle.aos_tree.specs.DeclGrammar as declared
@@ -164,7 +164,7 @@ falls_onward : (n d : ℕ) (move : Move) (xs : Stack) → Falls n d move → Fal
 falls_onward n d None xs f h le = tt
 falls_onward n d (Some p) xs f h le = (f.0, falling.falls_on m.table depth_of d d p.1 xs f.1 h le)
 
-falls_mark : (d : ℕ) (o : Option Mark) → Falls d d (by_operator o d [])
+falls_mark : (d : ℕ) (o : Option Export) → Falls d d (by_operator o d [])
 falls_mark d None = tt
 falls_mark d (Some a) = (omega arith, tt)
 
@@ -247,7 +247,7 @@ falls_at (m.option d want) c = falls_word d want c [] tt
 falls_at (m.then_expr d want) c = falls_word d want c (m.of_expr (e.expr d) ∷ []) (omega arith, tt)
 falls_at (m.then_type d want) c = falls_word d want c (m.type d ∷ []) (omega arith, tt)
 falls_at (m.then_name d want) c = falls_word d want c (m.tok d k.Ident ∷ []) (omega arith, tt)
-falls_at (m.mark d) c = falls_mark d (mark_of c)
+falls_at (m.mark d) c = falls_mark d (export_of c)
 falls_at (m.more_names d) c = falls_word d k.Comma c (m.tok d k.Ident ∷ m.more_names d ∷ []) (omega arith, (omega arith, tt))
 falls_at (m.more_defs d) c = falls_word d k.Comma c (m.tok d k.Ident ∷ m.mark d ∷ m.more_defs d ∷ []) (omega arith, (omega arith, (omega arith, tt)))
 falls_at (m.base d) c = falls_word d k.OpenParen c (m.tok d k.Ident ∷ m.then_name d k.Period ∷ m.tok d k.CloseParen ∷ []) (omega arith, (omega arith, (omega arith, tt)))

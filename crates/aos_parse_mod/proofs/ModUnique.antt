@@ -9,7 +9,7 @@ use Rattle.aos_tree.specs.declared.name.Name.{Name}
 use Rattle.aos_tree.specs.declared.name.Qualident.{Qualident}
 use Rattle.aos_tree.specs.declared.expr.Expr.{Expr}
 use Rattle.aos_tree.specs.declared.stat.Block.{Block}
-use Rattle.aos_tree.specs.declared.decl.Mark.{Mark}
+use Rattle.aos_tree.specs.declared.decl.Export.{Export}
 use Rattle.aos_tree.specs.declared.decl.Def.{Def}
 use Rattle.aos_tree.specs.declared.decl.Decl.{Decl}
 use Rattle.aos_tree.specs.declared.decl.ConstDef.{ConstDef}
@@ -23,7 +23,7 @@ use Rattle.aos_tree.specs.declared.decl.Fields.{Fields}
 use Rattle.aos_tree.specs.declared.module.Module.{Module}
 use Rattle.aos_tree.specs.declared.module.Import.{Import}
 use Rattle.aos_tree.specs.Nesting.{Rule, shallow}
-use Rattle.aos_tree.specs.Operators.{mark_of}
+use Rattle.aos_tree.specs.Operators.{export_of}
 use Rattle.aos_tree.specs.Words as g
 use Rattle.aos_tree.specs.Words.{IsWord, IsName, IsNames, IsMoreNames, IsQualident}
 use Rattle.aos_tree.specs.ExprGrammar as expression
@@ -116,15 +116,15 @@ module _ (may : Rule) where
   unique_names : {d : ℕ} {a b : List Name} {ts ts' r r' : List Token} → IsNames may d a ts r → IsNames may d b ts' r' → ts ≡ ts' → Loose 4 r → Loose 4 r' → Same a b r r'
   unique_names (g.names n more) (g.names n' more') at l l' = let p = unique_name n n' at in let q = unique_more_names more more' p.1 l l' in (cc, q.1)
 
-  mark_not : {t : Token} {us ts : List Token} {a : Mark} → Loose 1 us → us ≡ t ∷ ts → mark_of t.kind ≡ Some a → ⊥
+  mark_not : {t : Token} {us ts : List Token} {a : Export} → Loose 1 us → us ≡ t ∷ ts → export_of t.kind ≡ Some a → ⊥
   mark_not {t} {a = a} loose at is = let h : 1 < joins t.kind = subst (λ z. Loose 1 z) at loose in let n = mark_joins t.kind a is in omega arith
 
   unique_def : {d : ℕ} {a b : Def} {ts ts' r r' : List Token} → IsDef may d a ts r → IsDef may d b ts' r' → ts ≡ ts' → Loose 1 r → Loose 1 r' → Same a b r r'
   unique_def (declared.hidden n) (declared.hidden n') at l l' = let p = unique_name n n' at in (cc, p.1)
   unique_def (declared.hidden n) (declared.marked n' is fits) at l l' = let p = unique_name n n' at in absurd (mark_not l p.1 is)
   unique_def (declared.marked n' is fits) (declared.hidden n) at l l' = let p = unique_name n' n at in absurd (mark_not l' (sym p.1) is)
-  unique_def (declared.marked {mark = x} {t = t} n is fits) (declared.marked {mark = y} {t = u} n' is' fits') at l l' =
-      let p = unique_name n n' at in let a : t ≡ u = cc in let b : mark_of t.kind ≡ mark_of u.kind = ap (λ z. mark_of z.kind) a in let same : x ≡ y = cc in (cc, cc)
+  unique_def (declared.marked {export = x} {t = t} n is fits) (declared.marked {export = y} {t = u} n' is' fits') at l l' =
+      let p = unique_name n n' at in let a : t ≡ u = cc in let b : export_of t.kind ≡ export_of u.kind = ap (λ z. export_of z.kind) a in let same : x ≡ y = cc in (cc, cc)
 
   def_name : {d : ℕ} {a : Def} {ts r : List Token} → IsDef may d a ts r → (n : Name) × (mid : List Token) × IsName may d n ts mid
   def_name (declared.hidden n) = (_, _, n)

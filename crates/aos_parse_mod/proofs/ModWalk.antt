@@ -8,7 +8,7 @@ use Rattle.aos_tree.specs.declared.name.Name.{Name}
 use Rattle.aos_tree.specs.declared.name.Qualident.{Qualident}
 use Rattle.aos_tree.specs.declared.expr.Expr.{Expr}
 use Rattle.aos_tree.specs.declared.stat.Block.{Block}
-use Rattle.aos_tree.specs.declared.decl.Mark.{Mark}
+use Rattle.aos_tree.specs.declared.decl.Export.{Export}
 use Rattle.aos_tree.specs.declared.decl.Def.{Def}
 use Rattle.aos_tree.specs.declared.decl.Decl.{Decl}
 use Rattle.aos_tree.specs.declared.decl.ConstDef.{ConstDef}
@@ -21,7 +21,7 @@ use Rattle.aos_tree.specs.declared.decl.Fields.{Fields}
 use Rattle.aos_tree.specs.declared.module.Module.{Module}
 use Rattle.aos_tree.specs.declared.module.Import.{Import}
 use Rattle.aos_tree.specs.Nesting.{Rule}
-use Rattle.aos_tree.specs.Operators.{mark_of}
+use Rattle.aos_tree.specs.Operators.{export_of}
 use Rattle.aos_tree.specs.Words as g
 use Rattle.aos_tree.specs.Words.{IsWord, IsName, IsNames, IsMoreNames, IsQualident}
 use Rattle.aos_tree.specs.ExprGrammar as expression
@@ -46,9 +46,9 @@ use Rattle.aos_parse_stat.proofs.Embedding as lift
 use Rattle.aos_parse_mod.proofs.Starts as by
 
 loose_mark : (d : ℕ) (c : TokenKind) → 1 < joins c → m.after (m.mark d) c ≡ None
-loose_mark d c h = by_mark (mark_of c) (λ a is. let n = mark_joins c a is in omega arith)
+loose_mark d c h = by_mark (export_of c) (λ a is. let n = mark_joins c a is in omega arith)
   where
-    by_mark : (o : Option Mark) → ((a : Mark) → o ≡ Some a → ⊥) → m.by_operator o d [] ≡ None
+    by_mark : (o : Option Export) → ((a : Export) → o ≡ Some a → ⊥) → m.by_operator o d [] ≡ None
     by_mark None no_mark = refl
     by_mark (Some a) no_mark = absurd (no_mark a refl)
 

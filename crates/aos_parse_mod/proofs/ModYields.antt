@@ -9,6 +9,7 @@ use Rattle.aos_tree.specs.declared.name.Name.{Name}
 use Rattle.aos_tree.specs.declared.name.Qualident.{Qualident}
 use Rattle.aos_tree.specs.declared.expr.Expr.{Expr}
 use Rattle.aos_tree.specs.declared.stat.Block.{Block}
+use Rattle.aos_tree.specs.declared.decl.Export.{Export}
 use Rattle.aos_tree.specs.declared.decl.Mark.{Mark}
 use Rattle.aos_tree.specs.declared.decl.Def.{Def}
 use Rattle.aos_tree.specs.declared.decl.Decl.{Decl}
@@ -22,7 +23,7 @@ use Rattle.aos_tree.specs.declared.decl.Fields.{Fields}
 use Rattle.aos_tree.specs.declared.module.Module.{Module}
 use Rattle.aos_tree.specs.declared.module.Import.{Import}
 use Rattle.aos_tree.specs.Nesting.{Rule}
-use Rattle.aos_tree.specs.Operators.{mark_of}
+use Rattle.aos_tree.specs.Operators.{export_of}
 use Rattle.aos_tree.specs.Words as g
 use Rattle.aos_tree.specs.Words.{IsWord, IsName, IsMoreNames, IsQualident}
 use Rattle.aos_tree.specs.ExprGrammar.{IsExpr, IsExprs}
@@ -52,7 +53,7 @@ abbrev pub Yields : Rule → Sym → List Token → List Token → Type 0
 Yields may (m.tok d c) ts rest = (p : Pos) × IsWord may d c p ts rest
 Yields may (m.of_expr x) ts rest = ey.Yields may x ts rest
 Yields may (m.of_stat x) ts rest = sy.Yields may x ts rest
-Yields may (m.option d c) ts rest = (b : Bool) × IsOptional may d c b ts rest
+Yields may (m.option d c) ts rest = (b : Option Pos) × IsOptional may d c b ts rest
 Yields may (m.then_expr d c) ts rest = (p : Pos) × (a : Expr) × (mid : List Token) × IsWord may d c p ts mid × IsExpr may d a mid rest
 Yields may (m.then_type d c) ts rest = (p : Pos) × (a : TypeExpr) × (mid : List Token) × IsWord may d c p ts mid × IsType may d a mid rest
 Yields may (m.then_name d c) ts rest = (a : Option Name) × IsNameOption may d c a ts rest
@@ -124,7 +125,7 @@ module _ (may : Rule) where
   join_then_name : {d : ℕ} {want : TokenKind} {p : Pos} {ts mid rest : List Token} → IsWord may d want p ts mid → All (m.tok d k.Ident ∷ []) mid rest → Yields may (m.then_name d want) ts rest
   join_then_name w (y.next n y.done) = let b = name_of n in (_, part.name w b.1)
 
-  join_mark : {d : ℕ} {a : Mark} {t : Token} {ts rest : List Token} → mark_of t.kind ≡ Some a → may d ts ≡ true → All [] ts rest → Yields may (m.mark d) (t ∷ ts) rest
+  join_mark : {d : ℕ} {a : Export} {t : Token} {ts rest : List Token} → export_of t.kind ≡ Some a → may d ts ≡ true → All [] ts rest → Yields may (m.mark d) (t ∷ ts) rest
   join_mark is fits y.done = (_, part.mark is fits)
 
   join_more_names : {d : ℕ} {p : Pos} {ts mid rest : List Token} → IsWord may d k.Comma p ts mid → All (m.tok d k.Ident ∷ m.more_names d ∷ []) mid rest → Yields may (m.more_names d) ts rest
@@ -140,7 +141,7 @@ module _ (may : Rule) where
   join_arrays w (y.next v (y.next more y.done)) = (_, declared.arrays w v.1 more.1)
 
   -- the rest of a section
-  join_section : {d : ℕ} {b : Bool} {t : Token} {ts us mid rest : List Token} → ts ≡ t ∷ us → IsOptional may d k.KwVar b ts mid → All (m.tok d k.Ident ∷ m.section_rest d []) mid rest → Yields may (m.section d) ts rest
+  join_section : {d : ℕ} {b : Option Pos} {t : Token} {ts us mid rest : List Token} → ts ≡ t ∷ us → IsOptional may d k.KwVar b ts mid → All (m.tok d k.Ident ∷ m.section_rest d []) mid rest → Yields may (m.section d) ts rest
   join_section at o (y.next n (y.next more (y.next v (y.next many (y.next f (y.next a y.done)))))) =
       let b = name_of n in let q = name_of f in (_, tree.section_of at o (g.names b.1 more.1) v.1 many.1 (tree.qualident_of q.1 a.1))
 
@@ -300,7 +301,7 @@ module _ (may : Rule) where
   sound_more_imports d t ts rest k.Semicolon is = λ fits all. end_imports (g.word is fits) all
   sound_more_imports d t ts rest _ is = tt
 
-  sound_mark : (d : ℕ) (t : Token) (ts rest : List Token) (o : Option Mark) → mark_of t.kind ≡ o → Sound (m.mark d) t ts rest (by_operator o d [])
+  sound_mark : (d : ℕ) (t : Token) (ts rest : List Token) (o : Option Export) → export_of t.kind ≡ o → Sound (m.mark d) t ts rest (by_operator o d [])
   sound_mark d t ts rest None is = tt
   sound_mark d t ts rest (Some a) is = λ fits all. join_mark is fits all
 
@@ -316,7 +317,7 @@ module _ (may : Rule) where
   sound_at (m.then_expr d want) t ts rest = worded (m.then_expr d want) d want (m.of_expr (e.expr d) ∷ []) t ts rest (λ w all. join_then_expr w all)
   sound_at (m.then_type d want) t ts rest = worded (m.then_type d want) d want (m.type d ∷ []) t ts rest (λ w all. join_then_type w all)
   sound_at (m.then_name d want) t ts rest = worded (m.then_name d want) d want (m.tok d k.Ident ∷ []) t ts rest (λ w all. join_then_name w all)
-  sound_at (m.mark d) t ts rest = sound_mark d t ts rest (mark_of t.kind) refl
+  sound_at (m.mark d) t ts rest = sound_mark d t ts rest (export_of t.kind) refl
   sound_at (m.section d) t ts rest = sound_section d t ts rest t.kind refl
   sound_at (m.sections d) t ts rest = sound_sections d t ts rest t.kind refl (sections_onward d t ts rest t.kind refl)
   sound_at (m.more_sections d) t ts rest = sound_more_sections d t ts rest t.kind refl

@@ -1,5 +1,6 @@
 -- A production from the parts that are read one after another, some of which may be missing.
-use Rattle.std.proofs.Common.{◌≡◌, ℕ, ◌+◌, List, ◌∷◌, true, false, Bool, Option, ap, subst}
+use Rattle.std.proofs.Common.{◌≡◌, ℕ, ◌+◌, List, ◌∷◌, true, false, Option, ap, subst}
+use Rattle.std.specs.Option.{is_some}
 use Rattle.aos_base.specs.declared.text.Pos.{Pos}
 use Rattle.aos_scan.specs.declared.token.Token.{Token}
 use Rattle.aos_scan.specs.declared.token.TokenKind.{TokenKind}
@@ -55,18 +56,18 @@ module _ {may : Rule} {d : ℕ} where
   name_place : {a : Name} {t : Token} {ts us rest : List Token} → IsName may d a ts rest → ts ≡ t ∷ us → a.pos ≡ t.pos
   name_place {t = t} (g.ident {t = u} is fits) at = let a : u ≡ t = cc in ap (λ q. q.pos) a
 
-  pub section_of : {t : Token} {b : Bool} {names : List Name} {q : Pos} {arrays : List Pos} {of : Qualident} {ts us t0 t1 t2 t3 rest : List Token} → ts ≡ t ∷ us → IsOptional may d k.KwVar b ts t0 → IsNames may d names t0 t1 →
-      IsWord may d k.Colon q t1 t2 → IsArrays may d arrays t2 t3 → IsQualident may d of t3 rest → IsSection may d (record { pos = t.pos; by_reference = b; names = names; arrays = arrays; of = of }) ts rest
+  pub section_of : {t : Token} {b : Option Pos} {names : List Name} {q : Pos} {arrays : List Pos} {of : Qualident} {ts us t0 t1 t2 t3 rest : List Token} → ts ≡ t ∷ us → IsOptional may d k.KwVar b ts t0 → IsNames may d names t0 t1 →
+      IsWord may d k.Colon q t1 t2 → IsArrays may d arrays t2 t3 → IsQualident may d of t3 rest → IsSection may d (record { pos = t.pos; by_reference = is_some b; names = names; arrays = arrays; of = of }) ts rest
   section_of {t = t} {arrays = arrays} {of = of} {ts = ts} {rest = rest} at part.left_out (g.names {a = a} {more = more} n others) x many last =
       subst (λ z. IsSection may d (record { pos = z; by_reference = false; names = a ∷ more; arrays = arrays; of = of }) ts rest) (name_place n at) (declared.by_value (g.names n others) x many last)
   section_of {t = t} {names = names} {arrays = arrays} {of = of} {ts = ts} {rest = rest} at (part.there w) all x many last =
       subst (λ z. IsSection may d (record { pos = z; by_reference = true; names = names; arrays = arrays; of = of }) ts rest) (word_place w at) (declared.by_reference w all x many last)
 
-  pub end_name_of : {b : Bool} {ts rest : List Token} → IsOptional may d k.Ident b ts rest → (a : Option Name) × IsEndName may d a ts rest
+  pub end_name_of : {b : Option Pos} {ts rest : List Token} → IsOptional may d k.Ident b ts rest → (a : Option Name) × IsEndName may d a ts rest
   end_name_of part.left_out = (_, declared.no_end_name)
   end_name_of (part.there (g.word is fits)) = (_, declared.end_name (g.ident is fits))
 
-  pub proc_of : {p q : Pos} {b : Bool} {def : Def} {formals : Option Formals} {decls : List Decl} {body : Option Block} {end : Name} {ts t0 t1 t2 t3 t4 t5 t6 rest : List Token} → IsWord may d k.KwProcedure p ts t0 → IsOptional may d k.Ampersand b t0 t1 →
+  pub proc_of : {p q : Pos} {b : Option Pos} {def : Def} {formals : Option Formals} {decls : List Decl} {body : Option Block} {end : Name} {ts t0 t1 t2 t3 t4 t5 t6 rest : List Token} → IsWord may d k.KwProcedure p ts t0 → IsOptional may d k.Ampersand b t0 t1 →
       IsDef may d def t1 t2 → IsFormalsOption may d formals t2 t3 → IsWord may d k.Semicolon q t3 t4 → IsDecls may true d decls t4 t5 → IsBody may d body t5 t6 → IsName may d end t6 rest →
       IsProc may d (roll-Proc (record { pos = p; initializer = b; def = def; formals = formals; decls = decls; body = body; end = end })) ts rest
   proc_of x part.left_out def heading y decls body end = declared.proper x def heading y decls body end

@@ -3,7 +3,7 @@
 use Rattle.std.specs.Prelude.{ℕ, ◌+◌, ◌++◌, List, [], ◌∷◌, Option, Some, None, Bool, true, false, nat_eq, if◌then◌else◌}
 use Rattle.aos_scan.specs.declared.token.TokenKind.{TokenKind}
 use Rattle.aos_scan.specs.declared.token.TokenKind.TheVariants as k
-use Rattle.aos_tree.specs.Operators.{mark_of}
+use Rattle.aos_tree.specs.Operators.{export_of}
 use Rattle.aos_parse_expr.specs.Machine.{Table}
 use Rattle.aos_parse_expr.specs.Symbols as e
 use Rattle.aos_parse_expr.specs.Symbols.{code}
@@ -164,7 +164,7 @@ after (option d want) c = by_word d want [] c
 after (then_expr d want) c = by_word d want (of_expr (e.expr d) ∷ []) c
 after (then_type d want) c = by_word d want (type d ∷ []) c
 after (then_name d want) c = by_word d want (tok d k.Ident ∷ []) c
-after (mark d) c = by_operator (mark_of c) d []
+after (mark d) c = by_operator (export_of c) d []
 after (more_names d) c = by_word d k.Comma (tok d k.Ident ∷ more_names d ∷ []) c
 after (more_defs d) c = by_word d k.Comma (tok d k.Ident ∷ mark d ∷ more_defs d ∷ []) c
 after (base d) c = by_word d k.OpenParen (tok d k.Ident ∷ then_name d k.Period ∷ tok d k.CloseParen ∷ []) c

@@ -76,7 +76,7 @@ pub fn section<'a>(
     ensures moves { Moves m.table (λ r. r.1.now) (m.section depth ∷ []) tokens.now result }
 {
     let (first, _) = split(tokens);
-    let (by_reference, rest) = option(tokens, depth, TokenKind::KwVar);
+    let (reference, rest) = option(tokens, depth, TokenKind::KwVar);
     let (names, rest) = names(alloc, rest, depth)?;
     let (_, rest) = word(rest, depth, TokenKind::Colon)?;
     let (arrays, rest) = arrays(alloc, rest, depth)?;
@@ -84,7 +84,7 @@ pub fn section<'a>(
     Ok((
         Section {
             pos: first.pos,
-            by_reference,
+            by_reference: reference.is_some(),
             names,
             arrays,
             of,

@@ -3,7 +3,7 @@
 ghost use Rattle.std.specs.Prelude.{◌≡◌, ◌≢◌, ◌≤◌, ◌<◌, ◌∷◌, [], length, IfOk, OnOk};
 ghost use Rattle.aos_tree.specs.Ended.{IsEnded};
 ghost use Rattle.aos_tree.specs.Nesting.{shallow};
-ghost use Rattle.aos_tree.specs.Operators.{mark_of};
+ghost use Rattle.aos_tree.specs.Operators.{export_of};
 ghost use Rattle.aos_tree.specs.Words.{IsName, IsWord};
 ghost use Rattle.aos_parse_expr.specs.Machine.{Moves, run};
 ghost use Rattle.aos_parse_expr.specs.Symbols as e;
@@ -14,7 +14,7 @@ ghost use Rattle.aos_parse_mod.specs.Symbols as m;
 use aos_base::Pos;
 use aos_parse_expr::ParseErr;
 use aos_scan::{Token, TokenKind};
-use aos_tree::{Mark, Name};
+use aos_tree::{Export, Mark, Name};
 
 /// The first token, and those after it.
 pub fn split(tokens: &[Token]) -> (&Token, &[Token])
@@ -77,8 +77,8 @@ pub fn ident(tokens: &[Token], depth: u32) -> Result<(Name, &[Token]), ParseErr>
     }
 }
 
-/// Whether a word of a kind comes, and the tokens after it.
-pub fn option(tokens: &[Token], depth: u32, kind: TokenKind) -> (bool, &[Token])
+/// The place of a word of a kind, where it comes, and the tokens after it.
+pub fn option(tokens: &[Token], depth: u32, kind: TokenKind) -> (Option<Pos>, &[Token])
     requires ended { IsEnded tokens.now }
     requires nested { depth ≤ 200 }
     requires inner { kind ≢ TokenKind.End }
@@ -88,9 +88,9 @@ pub fn option(tokens: &[Token], depth: u32, kind: TokenKind) -> (bool, &[Token])
 {
     let (token, rest) = split(tokens);
     if token.kind == kind {
-        (true, rest)
+        (Some(token.pos), rest)
     } else {
-        (false, tokens)
+        (None, tokens)
     }
 }
 
@@ -116,12 +116,12 @@ pub fn then_name(
     }
 }
 
-fn mark_of_kind(kind: TokenKind) -> Option<Mark>
-    ensures { result ≡ mark_of kind }
+fn export_of_kind(kind: TokenKind) -> Option<Export>
+    ensures { result ≡ export_of kind }
 {
     match kind {
-        TokenKind::Star => Some(Mark::Exported),
-        TokenKind::Minus => Some(Mark::ReadOnly),
+        TokenKind::Star => Some(Export::ReadWrite),
+        TokenKind::Minus => Some(Export::ReadOnly),
         _ => None,
     }
 }
@@ -135,8 +135,14 @@ pub fn mark(tokens: &[Token], depth: u32) -> (Option<Mark>, &[Token])
     ensures moves { (k : m.Stack) → run m.table shallow tokens.now (m.mark depth ∷ k) ≡ run m.table shallow result.1.now k }
 {
     let (token, rest) = split(tokens);
-    match mark_of_kind(token.kind) {
-        Some(found) => (Some(found), rest),
+    match export_of_kind(token.kind) {
+        Some(export) => (
+            Some(Mark {
+                pos: token.pos,
+                export,
+            }),
+            rest,
+        ),
         None => (None, tokens),
     }
 }

@@ -7,11 +7,11 @@ use Rattle.aos_parse_mod.proofs.token.mark.Goals as goal
 
 pub returns-in-Some-clause-tree : goal.returns-in-Some-clause-tree
 returns-in-Some-clause-tree c =
-    rw c.split.ensures.whole (part.mark (sym c.mark_of_kind.ensures ∙ c.in-Some.is) (by.fits_shallow _ c.requires.nested))
+    rw c.split.ensures.whole (part.mark (sym c.export_of_kind.ensures ∙ c.in-Some.is) (by.fits_shallow _ c.requires.nested))
 
 pub returns-in-Some-clause-moves : goal.returns-in-Some-clause-moves
 returns-in-Some-clause-moves c =
-    λ k. by.shifts m.table shallow c.split.ensures.whole (m.mark c.args.depth) c.args.depth ([]) (ap (λ o. m.by_operator o c.args.depth []) (sym c.mark_of_kind.ensures ∙ c.in-Some.is)) (by.fits_shallow _ c.requires.nested) k
+    λ k. by.shifts m.table shallow c.split.ensures.whole (m.mark c.args.depth) c.args.depth ([]) (ap (λ o. m.by_operator o c.args.depth []) (sym c.export_of_kind.ensures ∙ c.in-Some.is)) (by.fits_shallow _ c.requires.nested) k
 
 pub returns-in-None-clause-tree : goal.returns-in-None-clause-tree
 returns-in-None-clause-tree c =
@@ -19,4 +19,4 @@ returns-in-None-clause-tree c =
 
 pub returns-in-None-clause-moves : goal.returns-in-None-clause-moves
 returns-in-None-clause-moves c =
-    λ k. by.skips m.table shallow c.split.ensures.whole (m.mark c.args.depth) (ap (λ o. m.by_operator o c.args.depth []) (sym c.mark_of_kind.ensures ∙ c.in-None.is)) refl k
+    λ k. by.skips m.table shallow c.split.ensures.whole (m.mark c.args.depth) (ap (λ o. m.by_operator o c.args.depth []) (sym c.export_of_kind.ensures ∙ c.in-None.is)) refl k
