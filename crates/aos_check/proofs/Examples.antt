@@ -54,7 +54,7 @@ value at t = Expr' (place at) (Simple' (place at) None t [] end_of-Addition) Exp
 
 -- x := .. at the place 16, whose value begins at 21
 abbrev assigned : Expr → Option Block
-assigned e = body (stat.Desig (record { name = name 16 17; selectors = [] }) (Some e))
+assigned e = body (stat.Assign (record { name = name 16 17; selectors = [] }) (place 18) e)
 
 empty_module : first_breach (codes "MODULE M; END M.") (module_of [] [] None 14) ≡ None
 empty_module = refl
@@ -101,7 +101,7 @@ with_variable a =
     (Some (record { pos = place 26; modifiers = []; body = record { stats = a ∷ [] } })) 50
 
 abbrev set : Expr → Stat
-set e = stat.Desig (record { name = name 32 33; selectors = [] }) (Some e)
+set e = stat.Assign (record { name = name 32 33; selectors = [] }) (place 34) e
 
 accepted_sum : first_breach (codes "MODULE M; VAR x: LONGINT; BEGIN x := 2147483647   END M.") (record (with_variable (set (value 37 (term 37 (f.Number (place 37) (pos 2147483647)))))) { end = name 54 55 }) ≡ None
 unfolding out-Expr out-Simple out-Term out shown-the_row-Product-6 shown-the_row-Addition-5 shown

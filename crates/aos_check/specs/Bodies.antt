@@ -277,15 +277,14 @@ module _ (text : List ℕ) (scope : List Entry) (types : List TType) where
   called (Some (means.Variable k)) d = not_built d.name.pos
   called (Some means.Other) d = not_built d.name.pos
 
-  -- an assignment, or a call
-  abbrev pub desig_breaches : Desig → Option Expr → List Breach
-  desig_breaches d None = called (meaning text scope d.name) d
-  desig_breaches d (Some e) = variable_breaches is_longint d ++ value_breaches e
+  abbrev pub assign_breaches : Desig → Expr → List Breach
+  assign_breaches d e = variable_breaches is_longint d ++ value_breaches e
 
   abbrev mutual
     pub stat_breaches : Stat → List Breach
     stat_breaches stat.Empty = []
-    stat_breaches (stat.Desig d e) = desig_breaches d e
+    stat_breaches (stat.Assign d p e) = assign_breaches d e
+    stat_breaches (stat.Call d) = called (meaning text scope d.name) d
     stat_breaches (stat.While' p c shape row) = condition_breaches p c ++ row_breaches row
     stat_breaches (stat.Block' p ms shape row) = not_built p
     stat_breaches (stat.Exit p) = not_built p
@@ -295,8 +294,8 @@ module _ (text : List ℕ) (scope : List Entry) (types : List TType) where
     stat_breaches (stat.Case' p c shape row otherwise) = not_built p
     stat_breaches (stat.Repeat' p shape row c) = not_built p
     stat_breaches (stat.Loop' p shape row) = not_built p
-    stat_breaches (stat.For' p n from to by shape row) = not_built p
-    stat_breaches (stat.With' p a b shape row) = not_built p
+    stat_breaches (stat.For' p n q from to by shape row) = not_built p
+    stat_breaches (stat.With' p a q b shape row) = not_built p
 
     pub row_breaches : {m : _} → Row_of-Stat m → List Breach
     row_breaches end_of-Stat = []

@@ -174,9 +174,9 @@ module _ (text : List ℕ) (scope : List Entry) (types : List TType) where
 
   mutual
     pub data IsStat : Stat → TStat → Type 0 where
-      assign : {d : Desig} {e : Expr} {k : ℕ} {x : TExpr} → d.selectors ≡ [] → IsVariable d.name k type.LongInt → IsValue e x →
-          IsStat (stat.Desig d (Some e)) (Assign d.name.pos (ModuleVar 0 k) x)
-      called : {d : Desig} {b : TStat} → IsCall d b → IsStat (stat.Desig d None) b
+      assign : {d : Desig} {p : Pos} {e : Expr} {k : ℕ} {x : TExpr} → d.selectors ≡ [] → IsVariable d.name k type.LongInt → IsValue e x →
+          IsStat (stat.Assign d p e) (Assign d.name.pos (ModuleVar 0 k) x)
+      called : {d : Desig} {b : TStat} → IsCall d b → IsStat (stat.Call d) b
       while_do : {p : Pos} {c : Expr} {seq : StatSeq} {x : TExpr} (body : Vec TStat Global) → IsCondition c x → AreStats seq.stats body.items →
           IsStat (stat.While p c seq) (While p x body)
 

@@ -7,7 +7,7 @@ ghost use Rattle.aos_symbols.specs.Scope.{type_defs, entries};
 ghost use Rattle.aos_symbols.specs.Heads.{variable_types};
 ghost use Rattle.aos_check.specs.Bodies as bodies;
 
-use crate::calls::check_desig;
+use crate::calls::{check_assign, check_call};
 use crate::expressions::check_condition;
 use aos_symbols::{Breach, NOT_BUILT, Scope, is_active, note};
 use aos_tree::{Block, Decl, Items, Modifier, Module, Stat, TypeDef, TypeExpr};
@@ -19,7 +19,8 @@ fn check_stat(found: &mut Option<Breach>, scope: &Scope<'_>, types: &[TType], st
 {
     match stat {
         Stat::Empty => {},
-        Stat::Desig(desig, value) => check_desig(found, scope, types, desig, value),
+        Stat::Assign(variable, _, value) => check_assign(found, scope, types, variable, value),
+        Stat::Call(desig) => check_call(found, scope, types, desig),
         Stat::While(at, condition, body) => {
             check_condition(found, scope, types, *at, condition);
             check_stats(found, scope, types, &body.stats);
@@ -32,8 +33,8 @@ fn check_stat(found: &mut Option<Breach>, scope: &Scope<'_>, types: &[TType], st
         Stat::Case(at, _, _, _) => note(found, NOT_BUILT, *at),
         Stat::Repeat(at, _, _) => note(found, NOT_BUILT, *at),
         Stat::Loop(at, _) => note(found, NOT_BUILT, *at),
-        Stat::For(at, _, _, _, _, _) => note(found, NOT_BUILT, *at),
-        Stat::With(at, _, _, _) => note(found, NOT_BUILT, *at),
+        Stat::For(at, _, _, _, _, _, _) => note(found, NOT_BUILT, *at),
+        Stat::With(at, _, _, _, _) => note(found, NOT_BUILT, *at),
     }
 }
 

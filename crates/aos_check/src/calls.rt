@@ -132,7 +132,7 @@ fn check_out(
     }
 }
 
-fn check_call(found: &mut Option<Breach>, scope: &Scope<'_>, types: &[TType], desig: &Desig)
+pub fn check_call(found: &mut Option<Breach>, scope: &Scope<'_>, types: &[TType], desig: &Desig)
     ensures { found.new ≡ first_after found.old (bodies.called scope.now.text scope.now.entries types.now (meaning scope.now.text scope.now.entries desig.now.name) desig.now) }
 {
     let at = desig.name.pos;
@@ -145,20 +145,15 @@ fn check_call(found: &mut Option<Breach>, scope: &Scope<'_>, types: &[TType], de
     }
 }
 
-/// An assignment, or without a value a call.
-pub fn check_desig(
+pub fn check_assign(
     found: &mut Option<Breach>,
     scope: &Scope<'_>,
     types: &[TType],
     desig: &Desig,
-    value: &Option<Expr>,
+    value: &Expr,
 )
-    ensures { found.new ≡ first_after found.old (bodies.desig_breaches scope.now.text scope.now.entries types.now desig.now value.now) }
+    ensures { found.new ≡ first_after found.old (bodies.assign_breaches scope.now.text scope.now.entries types.now desig.now value.now) }
 {
-    let Some(value) = value else {
-        check_call(found, scope, types, desig);
-        return;
-    };
     needs_number(found, types, scope.meaning_of(desig.name), desig.name.pos);
     refuse_selectors(found, desig.selectors.as_slice());
     check_value(found, scope, types, value);

@@ -3,6 +3,7 @@
 ghost use Rattle.std.specs.Prelude.{◌≡◌, [], IfOk, OnOk, Some, false};
 ghost use Rattle.std.specs.String.{string_bytes};
 ghost use Rattle.std.specs.List.{flat_map};
+ghost use Rattle.aos_base.specs.declared.text.Pos.{Pos};
 ghost use Rattle.aos_tree.specs.declared.stat.Stat.TheVariants as stat;
 ghost use Rattle.aos_symbols.specs.Scope.{meaning};
 ghost use Rattle.aos_check.specs.Bodies as bodies;
@@ -156,29 +157,12 @@ fn assign_of(
     desig: &Desig,
     value: &Expr,
 ) -> Result<TStat, AllocError>
-    requires { bodies.desig_breaches scope.now.text scope.now.entries types.now desig.now (Some value.now) ≡ [] }
-    ensures { IfOk result (λ s. typed.IsStat scope.now.text scope.now.entries types.now (stat.Desig desig.now (Some value.now)) s) }
+    requires { bodies.assign_breaches scope.now.text scope.now.entries types.now desig.now value.now ≡ [] }
+    ensures { IfOk result (λ s. (set : Pos) → typed.IsStat scope.now.text scope.now.entries types.now (stat.Assign desig.now set value.now) s) }
 {
     let number = number_variable(scope, types, desig.name);
     let value = value_of(alloc, scope, types, value)?;
     Ok(TStat::Assign(desig.name.pos, TPlace::ModuleVar(0, number), value))
-}
-
-/// An assignment, or without a value a call.
-fn desig_of(
-    alloc: Global,
-    scope: &Scope<'_>,
-    types: &[TType],
-    desig: &Desig,
-    value: &Option<Expr>,
-) -> Result<TStat, AllocError>
-    requires { bodies.desig_breaches scope.now.text scope.now.entries types.now desig.now value.now ≡ [] }
-    ensures { IfOk result (λ s. typed.IsStat scope.now.text scope.now.entries types.now (stat.Desig desig.now value.now) s) }
-{
-    match value {
-        None => call_of(alloc, scope, types, desig),
-        Some(value) => assign_of(alloc, scope, types, desig, value),
-    }
 }
 
 /// Puts a statement behind these.
@@ -195,8 +179,12 @@ fn add_stat(
 {
     match stat {
         Stat::Empty => Ok(()),
-        Stat::Desig(desig, value) => {
-            out.push(desig_of(alloc, scope, types, desig, value)?)?;
+        Stat::Assign(variable, _, value) => {
+            out.push(assign_of(alloc, scope, types, variable, value)?)?;
+            Ok(())
+        },
+        Stat::Call(desig) => {
+            out.push(call_of(alloc, scope, types, desig)?)?;
             Ok(())
         },
         Stat::While(at, condition, body) => {

@@ -21,10 +21,15 @@ pub add_stat-returns-in-Empty : goal.add_stat-returns-in-Empty
 add_stat-returns-in-Empty t c =
     typed.adds_none c.in-Empty.is
 
-pub add_stat-returns-in_ok-push-in-Desig : goal.add_stat-returns-in_ok-push-in-Desig
-add_stat-returns-in_ok-push-in-Desig t c =
-    subst (λ l. typed.AddsStat c.args.scope.now.text c.args.scope.now.entries c.args.types.now c.args.stat.now c.args.out.now.items l) (sym c.in_ok-push-in-Desig.ensures.items)
-    (typed.adds_one (subst (λ z. typed.IsStat c.args.scope.now.text c.args.scope.now.entries c.args.types.now z c.in_ok-desig_of-in-Desig.field-0) (sym c.in-Desig.is) c.in_ok-desig_of-in-Desig.ensures))
+pub add_stat-returns-in_ok-push-in-Assign : goal.add_stat-returns-in_ok-push-in-Assign
+add_stat-returns-in_ok-push-in-Assign t c =
+    subst (λ l. typed.AddsStat c.args.scope.now.text c.args.scope.now.entries c.args.types.now c.args.stat.now c.args.out.now.items l) (sym c.in_ok-push-in-Assign.ensures.items)
+    (typed.adds_one (subst (λ z. typed.IsStat c.args.scope.now.text c.args.scope.now.entries c.args.types.now z c.in_ok-assign_of-in-Assign.field-0) (sym c.in-Assign.is) (c.in_ok-assign_of-in-Assign.ensures _)))
+
+pub add_stat-returns-in_ok-push-in-Call : goal.add_stat-returns-in_ok-push-in-Call
+add_stat-returns-in_ok-push-in-Call t c =
+    subst (λ l. typed.AddsStat c.args.scope.now.text c.args.scope.now.entries c.args.types.now c.args.stat.now c.args.out.now.items l) (sym c.in_ok-push-in-Call.ensures.items)
+    (typed.adds_one (subst (λ z. typed.IsStat c.args.scope.now.text c.args.scope.now.entries c.args.types.now z c.in_ok-call_of-in-Call.field-0) (sym c.in-Call.is) (typed.called c.in_ok-call_of-in-Call.ensures)))
 
 pub add_stat-returns-in_ok-push-in-While : goal.add_stat-returns-in_ok-push-in-While
 add_stat-returns-in_ok-push-in-While t c =

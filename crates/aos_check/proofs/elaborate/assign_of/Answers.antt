@@ -13,5 +13,5 @@ value_of-requires c =
     whole.right (bodies.variable_breaches c.args.scope.now.text c.args.scope.now.entries c.args.types.now bodies.is_longint c.args.desig.now) (bodies.value_breaches c.args.scope.now.text c.args.scope.now.entries c.args.types.now c.args.value.now) c.requires
 
 pub returns : goal.returns
-returns c =
+returns c = λ set.
     typed.assign (whole.no_selectors c.args.desig.now.selectors (whole.right (bodies.needs_variable c.args.types.now bodies.is_longint (meaning c.args.scope.now.text c.args.scope.now.entries c.args.desig.now.name) c.args.desig.now.name.pos) (bodies.selector_breaches c.args.desig.now.selectors) (whole.left (bodies.variable_breaches c.args.scope.now.text c.args.scope.now.entries c.args.types.now bodies.is_longint c.args.desig.now) (bodies.value_breaches c.args.scope.now.text c.args.scope.now.entries c.args.types.now c.args.value.now) c.requires))) c.number_variable-number.ensures c.in_ok-value.ensures
