@@ -1,29 +1,45 @@
--- The clauses of the top call, from the cause of its answer.
-use Rattle.std.proofs.Common.{◌≡◌, ◌≢◌, ℕ, ◌<◌, List, [], ◌∷◌, Option, Some, None, refl, sym, ap, ◌∙◌, subst, arith, inl, inr, ◌⊎◌, ◌↔◌}
-use Rattle.std.specs.Prelude.{IfSome}
+-- The promises of the top call, from the cause of its answer.
+use Rattle.std.proofs.Common.{◌≡◌, ◌≢◌, ℕ, List, [], ◌∷◌, Option, Some, None, Bool, true, false, refl, sym, ap, ◌∙◌, subst, inl, inr, ◌⊎◌}
+use Rattle.std.specs.Prelude.{IsSome, ◌==◌}
+use Rattle.std.proofs.lemmas.Bool.{eq-eqb}
 use Rattle.std.proofs.lemmas.Bool.Decides.{eqb_tells}
 use Rattle.aos_base.specs.declared.kernel.Outcome.{Outcome}
 use Rattle.aos_base.specs.declared.kernel.Outcome.TheVariants.{Going, Ended, Dead, Spent}
+use Rattle.aos_base.specs.declared.text.Refusal.{Refusal}
 use Rattle.aos_base.specs.Book.{TrapRow, outcome}
-use Rattle.aos_base.specs.Machine.{execution}
+use Rattle.aos_base.specs.Machine.{Choice, execution}
 use Rattle.aos_base.specs.Observation.{Observation, observation, status_of}
 use Rattle.aos_typed.specs.declared.tree.Program.{Program}
 use Rattle.aos_typed.specs.Source.{source, first_state}
-use Rattle.aos_dev.specs.Count.{Rose}
+use Rattle.aos_sim.proofs.NeverDead.{never_dead}
 use Rattle.aos_dev.specs.Shelf.{Named}
+use Rattle.aos_report.specs.Texts.{refusal_text}
 use Rattle.aos_script.specs.declared.script.Script.{Script}
 use Rattle.aos_script.specs.declared.error.ScriptErr.{ScriptErr}
 use Rattle.aos_script.specs.Listing.{IsScript, choices_of}
 use Rattle.aos_script.specs.Refusals.{IsRefused as IsRefusedScript}
 use Rattle.aos_script.proofs.Lasting.{not_both}
 use Rattle.aos_script.proofs.Sole.{one_script}
-use Rattle.aos_compile.specs.Elaborates.{Elaborates, IsAccepted}
-use Rattle.aos.specs.declared.answer.Answer.{Answer}
-use Rattle.aos.specs.Words.{Command, Run, Replay, command_of, wanted}
-use Rattle.aos.specs.Fetched.{Fetched, Texts, NoFile, LongFile, fetched}
-use Rattle.aos.specs.Seen.{Seen, default_budget, replayed}
-use Rattle.aos.specs.Cause.{Asks, Had, Takes, alone, by_script, Cause, Causes, wrong_words, unread, absent, too_long, bad_script, refused, ran, ran_by, Wrote, Answered, ShowsText, ShowsReplay, IsAsked, IsAskedBy, IsAbsentOrRefused, is_absent, not_accepted, not_accepted_by, IsTooLong, IsNoScript, HasEnded, IsRunStatus, IsReplayStatus, Undisturbed, SinkFailed, out_failed, err_failed, Stopped, IsWhole, IsStopped}
+use Rattle.aos_compile.specs.Elaborates.{Elaborates, IsAccepted, names_of}
 use Rattle.aos_compile.proofs.Accepted.{never_accepted}
+use Rattle.aos.specs.declared.answer.Answer.{Answer}
+use Rattle.aos.specs.Call.{ShelfUse, Call, Tells, ShelfFailed, GotWhole, GotNothing, SinksWorked, IsUndisturbed}
+use Rattle.aos.specs.Words.{Command, Run, Replay, command_of, Asks, wanted_files}
+use Rattle.aos.specs.Fetched.{Fetched, Texts, NoFile, LongFile, Fetches}
+use Rattle.aos.specs.Report.{report, replay_report, script_line}
+use Rattle.aos.specs.Seen.{Seen, default_budget, seen_of, replay_of}
+use Rattle.aos.specs.Cause.{Runs, RunsBy, Takes, alone, by_script, Cause, wrong_words, unread, absent, too_long, bad_script, refused, ran, ran_by, Answered, PutInPart, out_failed, err_failed, AnsweredInPart}
+use Rattle.aos.specs.Promises.{IsRunStatus, IsReplayStatus, IsAbsentOrRefused, is_absent, is_refused, IsRunnable, IsReplayable, ShowsText, ShowsReplay, IsTooLong, IsNoScript, HasEnded, Promises}
+use Rattle.aos.specs.Shown.{Causes, IsWhole, IsStopped}
+
+-- Numbers that differ
+
+never_both : (b : Bool) → b ≡ true → b ≡ false → ⊥
+never_both true h k = cc
+never_both false h k = cc
+
+differ : {A : Type 0} (m n : ℕ) → (m == n) ≡ false → m ≡ n → A
+differ m n apart same = absurd (never_both (m == n) (eq-eqb m n same) apart)
 
 -- The status of a run
 
@@ -34,72 +50,48 @@ status_over Ended [] over lively = inl refl
 status_over Ended (t ∷ ts) over lively = inr (inl refl)
 status_over Spent traps over lively = inr (inr refl)
 
-status_seen : (o : Observation) (st : _) (p : Program) → o ≡ observation (source p) st → o.outcome ≢ Going → o.outcome ≢ Dead → IsRunStatus o.status
-unfolding observation
-status_seen o st p e over lively =
-    subst (λ (x : Observation). IsRunStatus x.status) (sym e)
-    (status_over (outcome st.book) st.book.traps (λ h. over (ap (λ (x : Observation). x.outcome) e ∙ h)) (λ h. lively (ap (λ (x : Observation). x.outcome) e ∙ h)))
+status_told : (o : Outcome) (traps : List TrapRow) → o ≢ Dead → IsRunStatus (status_of o traps) ⊎ ((status_of o traps ≡ 9) × (o ≡ Going))
+status_told Going traps lively = inr (refl, refl)
+status_told Dead traps lively = absurd (lively refl)
+status_told Ended [] lively = inl (inl refl)
+status_told Ended (t ∷ ts) lively = inl (inr (inl refl))
+status_told Spent traps lively = inl (inr (inr refl))
+
+module _ (p : Program) (budget : ℕ) (schedule : List Choice) where
+  over_status : (seen_of p budget schedule).outcome ≢ Going → IsRunStatus (seen_of p budget schedule).status
+  unfolding seen_of observation
+  over_status over =
+      let st = execution (source p) schedule (first_state p budget) in
+      status_over (outcome st.book) st.book.traps over (never_dead p budget schedule)
+
+  seen_status : IsRunStatus (seen_of p budget schedule).status ⊎ (((seen_of p budget schedule).status ≡ 9) × ((seen_of p budget schedule).outcome ≡ Going))
+  unfolding seen_of observation
+  seen_status =
+      let st = execution (source p) schedule (first_state p budget) in
+      status_told (outcome st.book) st.book.traps (never_dead p budget schedule)
 
 run_status : (p : Program) (o : Observation) → Seen p o → IsRunStatus o.status
-run_status p o s = status_seen o (execution (source p) s.schedule (first_state p default_budget)) p s.seen s.over s.lively
+run_status p o s =
+    subst (λ (x : Observation). IsRunStatus x.status) (sym s.seen)
+    (over_status p default_budget s.schedule (λ h. s.over (ap (λ (x : Observation). x.outcome) s.seen ∙ h)))
 
--- what is seen of a run by a script, with its outcome
-told_status : (o : Outcome) (traps : List TrapRow) → o ≢ Dead → IsRunStatus (status_of o traps) ⊎ ((status_of o traps ≡ 9) × (o ≡ Going))
-told_status Going traps lively = inr (refl, refl)
-told_status Dead traps lively = absurd (lively refl)
-told_status Ended [] lively = inl (inl refl)
-told_status Ended (t ∷ ts) lively = inl (inr (inl refl))
-told_status Spent traps lively = inl (inr (inr refl))
-
-replay_status : (p : Program) (s : Script) → (replayed p s).outcome ≢ Dead → IsRunStatus (replayed p s).status ⊎ (((replayed p s).status ≡ 9) × ((replayed p s).outcome ≡ Going))
-unfolding replayed observation
-replay_status p s lively =
-    let st = execution (source p) (choices_of s) (first_state p s.budget) in
-    told_status (outcome st.book) st.book.traps lively
-
-apart : (m n : ℕ) → (m < n) ⊎ (n < m) → m ≢ n
-apart m n h e = grind arith
+replay_status : (p : Program) (s : Script) → IsRunStatus (replay_of p s).status ⊎ (((replay_of p s).status ≡ 9) × ((replay_of p s).outcome ≡ Going))
+replay_status p s = seen_status p s.budget (choices_of s)
 
 -- a run's status is none of the others
-record IsOther (n : ℕ) : Type 0 where
-  pub not_0 : n ≢ 0
-  pub not_3 : n ≢ 3
-  pub not_5 : n ≢ 5
+no_run : {A : Type 0} (status other : ℕ) → IsRunStatus status → (0 == other) ≡ false → (3 == other) ≡ false → (5 == other) ≡ false → status ≡ other → A
+no_run status other (inl h) zero three five e = differ 0 other zero (sym h ∙ e)
+no_run status other (inr (inl h)) zero three five e = differ 3 other three (sym h ∙ e)
+no_run status other (inr (inr h)) zero three five e = differ 5 other five (sym h ∙ e)
 
-other_status : (status other : ℕ) → IsRunStatus status → IsOther other → status ≢ other
-other_status status other (inl z) n e = n.not_0 (sym e ∙ z)
-other_status status other (inr (inl z)) n e = n.not_3 (sym e ∙ z)
-other_status status other (inr (inr z)) n e = n.not_5 (sym e ∙ z)
-
-other_replay : (p : Program) (s : Script) (other : ℕ) → (replayed p s).outcome ≢ Dead → IsOther other → 9 ≢ other → (replayed p s).status ≢ other
-other_replay p s other lively n nine e =
-    elim (replay_status p s lively) [
-      | inl r ↦ other_status (replayed p s).status other r n e
-      | inr r ↦ nine (sym r.0 ∙ e)
+no_replay : {A : Type 0} (p : Program) (s : Script) (other : ℕ) → (0 == other) ≡ false → (3 == other) ≡ false → (5 == other) ≡ false → (9 == other) ≡ false → (replay_of p s).status ≡ other → A
+no_replay p s other zero three five nine e =
+    elim (replay_status p s) [
+      | inl r ↦ no_run (replay_of p s).status other r zero three five e
+      | inr r ↦ differ 9 other nine (sym r.0 ∙ e)
     ]
 
-is_other_1 : IsOther 1
-is_other_1 = record { not_0 = apart 1 0 (inr (omega arith)); not_3 = apart 1 3 (inl (omega arith)); not_5 = apart 1 5 (inl (omega arith)) }
-
-is_other_2 : IsOther 2
-is_other_2 = record { not_0 = apart 2 0 (inr (omega arith)); not_3 = apart 2 3 (inl (omega arith)); not_5 = apart 2 5 (inl (omega arith)) }
-
-is_other_6 : IsOther 6
-is_other_6 = record { not_0 = apart 6 0 (inr (omega arith)); not_3 = apart 6 3 (inr (omega arith)); not_5 = apart 6 5 (inr (omega arith)) }
-
-is_other_7 : IsOther 7
-is_other_7 = record { not_0 = apart 7 0 (inr (omega arith)); not_3 = apart 7 3 (inr (omega arith)); not_5 = apart 7 5 (inr (omega arith)) }
-
-is_other_8 : IsOther 8
-is_other_8 = record { not_0 = apart 8 0 (inr (omega arith)); not_3 = apart 8 3 (inr (omega arith)); not_5 = apart 8 5 (inr (omega arith)) }
-
-is_other_9 : IsOther 9
-is_other_9 = record { not_0 = apart 9 0 (inr (omega arith)); not_3 = apart 9 3 (inr (omega arith)); not_5 = apart 9 5 (inr (omega arith)) }
-
-is_other_10 : IsOther 10
-is_other_10 = record { not_0 = apart 10 0 (inr (omega arith)); not_3 = apart 10 3 (inr (omega arith)); not_5 = apart 10 5 (inr (omega arith)) }
-
--- What the words ask for, and what comes of fetching it, is one
+-- What the words ask for is one
 
 one_command : (words : List (List ℕ)) (c d : Command) → Asks words c → Asks words d → c ≡ d
 one_command words c d h k = let e : Some c ≡ Some d = sym h ∙ k in injective c d e
@@ -107,336 +99,350 @@ one_command words c d h k = let e : Some c ≡ Some d = sym h ∙ k in injective
     injective : (c d : Command) → Some c ≡ Some d → c ≡ d
     injective c d e = cc
 
-no_command : (words : List (List ℕ)) (c : Command) → command_of words ≡ None → Asks words c → ⊥
-no_command words c n h = let e : None ≡ Some c = sym n ∙ h in none_apart c e
+no_command : {A : Type 0} (words : List (List ℕ)) (c : Command) → command_of words ≡ None → Asks words c → A
+no_command words c n h = let e : None ≡ Some c = sym n ∙ h in absurd (none_apart c e)
   where
     none_apart : (c : Command) → None ≡ Some c → ⊥
     none_apart c e = cc
 
-module _ (texts : List Named) (words : List (List ℕ)) where
-  -- what comes of the command is this
-  pub record Comes (f : Fetched) : Type 0 where
+module _ (words : List (List ℕ)) (shelf : ShelfUse) where
+  run_or_replay : {A : Type 0} {file text listing file' text' : List ℕ} → Runs words shelf file text → RunsBy words shelf listing file' text' → A
+  run_or_replay {A} {file} {text} {listing} {file'} k l = absurd (apart file l.script file' (one_command words (Run file) (Replay l.script file') k.asks l.asks))
+    where
+      apart : (file script file' : List ℕ) → Run file ≡ Replay script file' → ⊥
+      apart file script file' e = cc
+
+  -- this comes of the files that the words ask for
+  record Comes (f : Fetched) : Type 0 where
     pub command : Command
     pub asks : Asks words command
-    pub comes : fetched texts (wanted command) ≡ f
+    pub comes : Fetches shelf.texts (wanted_files command) f
 
-  one_fate : (f g : Fetched) → Comes f → Comes g → f ≡ g
-  one_fate f g h k = sym h.comes ∙ ap (λ c. fetched texts (wanted c)) (one_command words h.command k.command h.asks k.asks) ∙ k.comes
+  of_run : {file text : List ℕ} → Runs words shelf file text → Comes (Texts (text ∷ []))
+  of_run {file} k = record { command = Run file; asks = k.asks; comes = k.had.told }
 
-  not_both_fates : (file : List ℕ) (all : List (List ℕ)) → Comes (NoFile file) → Comes (Texts all) → ⊥
-  not_both_fates file all h k = let e = one_fate (NoFile file) (Texts all) h k in cc
+  of_replay : {listing file text : List ℕ} → RunsBy words shelf listing file text → Comes (Texts (listing ∷ text ∷ []))
+  of_replay {listing} {file} k = record { command = Replay k.script file; asks = k.asks; comes = k.had.told }
 
-  not_long_and_had : (file : List ℕ) (most : ℕ) (all : List (List ℕ)) → Comes (LongFile file most) → Comes (Texts all) → ⊥
-  not_long_and_had file most all h k = let e = one_fate (LongFile file most) (Texts all) h k in cc
+  of_takes : {file text : List ℕ} → Takes words shelf file text → (all : List (List ℕ)) × Comes (Texts all)
+  of_takes (alone {file} {text} k) = (text ∷ [], of_run k)
+  of_takes (by_script {listing} {file} {text} s k read) = (listing ∷ text ∷ [], of_replay k)
 
-  not_long_and_absent : (file other : List ℕ) (most : ℕ) → Comes (LongFile file most) → Comes (NoFile other) → ⊥
-  not_long_and_absent file other most h k = let e = one_fate (LongFile file most) (NoFile other) h k in cc
+  -- Statuses, whether or not the shelf tells its texts
 
-  -- one text, where a run of it is asked for
-  same_alone : (file file' text text' : List ℕ) → Asks words (Run file) → Had (Some texts) (Run file) (text ∷ []) → Asks words (Run file') → fetched texts (wanted (Run file')) ≡ Texts (text' ∷ []) → text ≡ text'
-  same_alone file file' text text' a h b k =
-      let e = one_fate (Texts (text ∷ [])) (Texts (text' ∷ [])) (record { command = Run file; asks = a; comes = h.told }) (record { command = Run file'; asks = b; comes = k }) in cc
+  pub cause_status : {status : ℕ} {out err : List ℕ} → Cause words shelf status out err → (status ≢ 7) × (status ≢ 8)
+  cause_status (wrong_words h) = (differ 2 7 refl, differ 2 8 refl)
+  cause_status (unread h w b f) = (differ 6 7 refl, differ 6 8 refl)
+  cause_status (absent h w n) = (differ 1 7 refl, differ 1 8 refl)
+  cause_status (too_long h w n) = (differ 6 7 refl, differ 6 8 refl)
+  cause_status (bad_script e k n) = (differ 10 7 refl, differ 10 8 refl)
+  cause_status (refused r k n) = (differ 1 7 refl, differ 1 8 refl)
+  cause_status (ran p o k e s) = (no_run o.status 7 (run_status p o s) refl refl refl, no_run o.status 8 (run_status p o s) refl refl refl)
+  cause_status (ran_by s p k r e) = (no_replay p s 7 refl refl refl refl, no_replay p s 8 refl refl refl refl)
 
-  same_said : (script file script' file' said text said' text' : List ℕ) → Asks words (Replay script file) → Had (Some texts) (Replay script file) (said ∷ text ∷ []) → Asks words (Replay script' file') → fetched texts (wanted (Replay script' file')) ≡ Texts (said' ∷ text' ∷ []) → said ≡ said'
-  same_said script file script' file' said text said' text' a h b k =
-      let e = one_fate (Texts (said ∷ text ∷ [])) (Texts (said' ∷ text' ∷ [])) (record { command = Replay script file; asks = a; comes = h.told }) (record { command = Replay script' file'; asks = b; comes = k }) in cc
-
-  same_text : (script file script' file' said text said' text' : List ℕ) → Asks words (Replay script file) → Had (Some texts) (Replay script file) (said ∷ text ∷ []) → Asks words (Replay script' file') → fetched texts (wanted (Replay script' file')) ≡ Texts (said' ∷ text' ∷ []) → text ≡ text'
-  same_text script file script' file' said text said' text' a h b k =
-      let e = one_fate (Texts (said ∷ text ∷ [])) (Texts (said' ∷ text' ∷ [])) (record { command = Replay script file; asks = a; comes = h.told }) (record { command = Replay script' file'; asks = b; comes = k }) in cc
-
-  not_run_and_replay : (file script file' : List ℕ) → Asks words (Run file) → Asks words (Replay script file') → ⊥
-  not_run_and_replay file script file' a b = let e = one_command words (Run file) (Replay script file') a b in cc
-
-  -- all files were had
-  takes_all : (file text : List ℕ) → Takes (Some texts) words file text → (all : List (List ℕ)) × Comes (Texts all)
-  takes_all file text (alone {file = f} {text = t} a h) = (t ∷ [], record { command = Run f; asks = a; comes = h.told })
-  takes_all file text (by_script {script} {file = f} {said} {text = t} s a h r) = (said ∷ t ∷ [], record { command = Replay script f; asks = a; comes = h.told })
-
-module _ (texts : Option (List Named)) (old new : ℕ) (words : List (List ℕ)) where
-  pub cause_status : {status : ℕ} {out err : List ℕ} → Cause texts old new words status out err → (status ≢ 7) × (status ≢ 8)
-  cause_status (wrong_words h) = (apart 2 7 (inl (omega arith)), apart 2 8 (inl (omega arith)))
-  cause_status (unread h w f) = (apart 6 7 (inl (omega arith)), apart 6 8 (inl (omega arith)))
-  cause_status (absent h w n) = (apart 1 7 (inl (omega arith)), apart 1 8 (inl (omega arith)))
-  cause_status (too_long h w n) = (apart 6 7 (inl (omega arith)), apart 6 8 (inl (omega arith)))
-  cause_status (bad_script e h k n) = (apart 10 7 (inr (omega arith)), apart 10 8 (inr (omega arith)))
-  cause_status (refused r h n) = (apart 1 7 (inl (omega arith)), apart 1 8 (inl (omega arith)))
-  cause_status (ran p o h k e s) = (other_status o.status 7 (run_status p o s) is_other_7, other_status o.status 8 (run_status p o s) is_other_8)
-  cause_status (ran_by s p h k r e l) = (other_replay p s 7 l is_other_7 (apart 9 7 (inr (omega arith))), other_replay p s 8 l is_other_8 (apart 9 8 (inr (omega arith))))
-
-  -- 2
-  two_only : {status : ℕ} {out err : List ℕ} → Cause texts old new words status out err → status ≡ 2 → command_of words ≡ None
+  two_only : {status : ℕ} {out err : List ℕ} → Cause words shelf status out err → status ≡ 2 → command_of words ≡ None
   two_only (wrong_words h) e = h
-  two_only (unread h w f) e = absurd (apart 6 2 (inr (omega arith)) e)
-  two_only (absent h w n) e = absurd (apart 1 2 (inl (omega arith)) e)
-  two_only (too_long h w n) e = absurd (apart 6 2 (inr (omega arith)) e)
-  two_only (bad_script x h k n) e = absurd (apart 10 2 (inr (omega arith)) e)
-  two_only (refused r h n) e = absurd (apart 1 2 (inl (omega arith)) e)
-  two_only (ran p o h k el s) e = absurd (other_status o.status 2 (run_status p o s) is_other_2 e)
-  two_only (ran_by s p h k r el l) e = absurd (other_replay p s 2 l is_other_2 (apart 9 2 (inr (omega arith))) e)
+  two_only (unread h w b f) e = differ 6 2 refl e
+  two_only (absent h w n) e = differ 1 2 refl e
+  two_only (too_long h w n) e = differ 6 2 refl e
+  two_only (bad_script x k n) e = differ 10 2 refl e
+  two_only (refused r k n) e = differ 1 2 refl e
+  two_only (ran p o k el s) e = no_run o.status 2 (run_status p o s) refl refl refl e
+  two_only (ran_by s p k r el) e = no_replay p s 2 refl refl refl refl e
 
-  takes_command : (file text : List ℕ) → Takes texts words file text → command_of words ≡ None → ⊥
-  takes_command file text (alone {file = f} a h) n = no_command words (Run f) n a
-  takes_command file text (by_script {script} {file = f} s a h r) n = no_command words (Replay script f) n a
-
-  two_if : {status : ℕ} {out err : List ℕ} → Cause texts old new words status out err → command_of words ≡ None → status ≡ 2
+  two_if : {status : ℕ} {out err : List ℕ} → Cause words shelf status out err → command_of words ≡ None → status ≡ 2
   two_if (wrong_words h) n = refl
-  two_if (unread {c} h w f) n = absurd (no_command words c n h)
-  two_if (absent {c} h w k) n = absurd (no_command words c n h)
-  two_if (too_long {c} h w k) n = absurd (no_command words c n h)
-  two_if (bad_script {script} {file} x h k r) n = absurd (no_command words (Replay script file) n h)
-  two_if (refused {file} {text} r h k) n = absurd (takes_command file text h n)
-  two_if (ran {file} p o h k el s) n = absurd (no_command words (Run file) n h)
-  two_if (ran_by {script} {file} s p h k r el l) n = absurd (no_command words (Replay script file) n h)
+  two_if (unread {c} h w b f) n = no_command words c n h
+  two_if (absent {c} h w k) n = no_command words c n h
+  two_if (too_long {c} h w k) n = no_command words c n h
+  two_if (bad_script {listing} {file} x k r) n = no_command words (Replay k.script file) n k.asks
+  two_if (refused r k x) n = let t = of_takes k in no_command words t.1.command n t.1.asks
+  two_if (ran {file} p o k el s) n = no_command words (Run file) n k.asks
+  two_if (ran_by {listing} {file} s p k r el) n = no_command words (Replay k.script file) n k.asks
 
-module _ (texts : List Named) (old new : ℕ) (words : List (List ℕ)) where
+module _ (call : Call) where
   abbrev Of : ℕ → List ℕ → List ℕ → Type 0
-  Of status out err = Cause (Some texts) old new words status out err
-
-  -- what comes of the command, by the cause of its answer
-  pub data Fate : ℕ → Type 0 where
-    none : command_of words ≡ None → Fate 2
-    failed : Rose old new → Fate 6
-    lacks : (file : List ℕ) → Comes texts words (NoFile file) → Fate 1
-    exceeds : (file : List ℕ) (most : ℕ) → Comes texts words (LongFile file most) → Fate 6
-    has : {status : ℕ} (all : List (List ℕ)) → Comes texts words (Texts all) → Fate status
-
-  fate_of : {status : ℕ} {out err : List ℕ} → Of status out err → Fate status
-  fate_of (wrong_words h) = none h
-  fate_of (unread h w f) = failed f
-  fate_of (absent {c} {w} h k n) = lacks w.file (record { command = c; asks = h; comes = n })
-  fate_of (too_long {c} {w} h k n) = exceeds w.file w.most (record { command = c; asks = h; comes = n })
-  fate_of (bad_script {script} {file} {said} {text} x h k r) = has (said ∷ text ∷ []) (record { command = Replay script file; asks = h; comes = k.told })
-  fate_of (refused {file} {text} r h n) = let t = takes_all texts words file text h in has t.0 t.1
-  fate_of (ran {file} {text} p o h k el s) = has (text ∷ []) (record { command = Run file; asks = h; comes = k.told })
-  fate_of (ran_by {script} {file} {said} {text} s p h k r el l) = has (said ∷ text ∷ []) (record { command = Replay script file; asks = h; comes = k.told })
-
-  if_absent : (status : ℕ) (file : List ℕ) → Fate status → ¬ Rose old new → Comes texts words (NoFile file) → status ≡ 1
-  if_absent status file (none n) calm k = absurd (no_command words k.command n k.asks)
-  if_absent status file (failed f) calm k = absurd (calm f)
-  if_absent status file (lacks other h) calm k = refl
-  if_absent status file (exceeds other most h) calm k = absurd (not_long_and_absent texts words other file most h k)
-  if_absent status file (has all h) calm k = absurd (not_both_fates texts words file all k h)
-
-  if_long : (status : ℕ) (file : List ℕ) (most : ℕ) → Fate status → ¬ Rose old new → Comes texts words (LongFile file most) → status ≡ 6
-  if_long status file most (none n) calm k = absurd (no_command words k.command n k.asks)
-  if_long status file most (failed f) calm k = refl
-  if_long status file most (lacks other h) calm k = absurd (not_long_and_absent texts words file other most k h)
-  if_long status file most (exceeds other m h) calm k = refl
-  if_long status file most (has all h) calm k = absurd (not_long_and_had texts words file most all k h)
-
-  -- of the causes only these are left where all files are had
-  had_only : {status : ℕ} {out err : List ℕ} (P : ℕ → Type 0) (all : List (List ℕ)) → Of status out err → ¬ Rose old new → Comes texts words (Texts all) →
-      ((script file said text : List ℕ) (e : ScriptErr) → Asks words (Replay script file) → Had (Some texts) (Replay script file) (said ∷ text ∷ []) → IsRefusedScript said e → P 10)
-      → ((file text : List ℕ) → Takes (Some texts) words file text → ¬ IsAccepted text → P 1)
-      → ((file text : List ℕ) (p : Program) (o : Observation) → Asks words (Run file) → Had (Some texts) (Run file) (text ∷ []) → Elaborates text p → Seen p o → P o.status)
-      → ((script file said text : List ℕ) (s : Script) (p : Program) → Asks words (Replay script file) → Had (Some texts) (Replay script file) (said ∷ text ∷ []) → IsScript said s → Elaborates text p → (replayed p s).outcome ≢ Dead → P (replayed p s).status)
-      → P status
-  had_only P all (wrong_words n) calm k bad not_one run by = absurd (no_command words k.command n k.asks)
-  had_only P all (unread h w f) calm k bad not_one run by = absurd (calm f)
-  had_only P all (absent {c} {w} h v n) calm k bad not_one run by = absurd (not_both_fates texts words w.file all (record { command = c; asks = h; comes = n }) k)
-  had_only P all (too_long {c} {w} h v n) calm k bad not_one run by = absurd (not_long_and_had texts words w.file w.most all (record { command = c; asks = h; comes = n }) k)
-  had_only P all (bad_script {script} {file} {said} {text} x h v r) calm k bad not_one run by = bad script file said text x h v r
-  had_only P all (refused {file} {text} r h n) calm k bad not_one run by = not_one file text h (never_accepted text r n)
-  had_only P all (ran {file} {text} p o h v el s) calm k bad not_one run by = run file text p o h v el s
-  had_only P all (ran_by {script} {file} {said} {text} s p h v r el l) calm k bad not_one run by = by script file said text s p h v r el l
+  Of status out err = Cause call.words call.shelf status out err
 
   -- 1
-  refused_only : {file text : List ℕ} → Takes (Some texts) words file text → ¬ IsAccepted text → IsAbsentOrRefused texts words
-  refused_only (alone {file} {text} a h) never = not_accepted (record { file = file; asks = a; had = h.told }) never
-  refused_only (by_script {script} {file} {said} {text} s a h r) never = not_accepted_by s (record { script = script; file = file; asks = a; had = h.told }) r never
-
-  one_only : {status : ℕ} {out err : List ℕ} → Of status out err → status ≡ 1 → IsAbsentOrRefused texts words
-  one_only (wrong_words h) e = absurd (apart 2 1 (inr (omega arith)) e)
-  one_only (unread h w f) e = absurd (apart 6 1 (inr (omega arith)) e)
-  one_only (absent h w n) e = is_absent h n
-  one_only (too_long h w n) e = absurd (apart 6 1 (inr (omega arith)) e)
-  one_only (bad_script x h k n) e = absurd (apart 10 1 (inr (omega arith)) e)
-  one_only (refused {file} {text} r h n) e = refused_only h (never_accepted text r n)
-  one_only (ran p o h k el s) e = absurd (other_status o.status 1 (run_status p o s) is_other_1 e)
-  one_only (ran_by s p h k r el l) e = absurd (other_replay p s 1 l is_other_1 (apart 9 1 (inr (omega arith))) e)
-
-  one_if : {status : ℕ} {out err : List ℕ} → Of status out err → IsAbsentOrRefused texts words → ¬ Rose old new → status ≡ 1
-  one_if {status} c (is_absent {c = d} {file} asks lack) calm = if_absent status file (fate_of c) calm (record { command = d; asks = asks; comes = lack })
-  one_if c (not_accepted {text} k never) calm =
-      had_only (λ n. n ≡ 1) (text ∷ []) c calm (record { command = Run k.file; asks = k.asks; comes = k.had })
-      (λ script file said t x h v r. absurd (not_run_and_replay texts words k.file script file k.asks h))
-      (λ file t h n. refl)
-      (λ file t p o h v el s. absurd (never (subst IsAccepted (same_alone texts words file k.file t text h v k.asks k.had) (record { program = p; elaborates = el }))))
-      (λ script file said t s p h v r el l. absurd (not_run_and_replay texts words k.file script file k.asks h))
-  one_if c (not_accepted_by {said} {text} s k read never) calm =
-      had_only (λ n. n ≡ 1) (said ∷ text ∷ []) c calm (record { command = Replay k.script k.file; asks = k.asks; comes = k.had })
-      (λ script file q t x h v r. absurd (not_both q s x (subst (λ y. IsScript y s) (sym (same_said texts words script file k.script k.file q t said text h v k.asks k.had)) read) r))
-      (λ file t h n. refl)
-      (λ file t p o h v el s'. absurd (not_run_and_replay texts words file k.script k.file h k.asks))
-      (λ script file q t s' p h v r el l. absurd (never (subst IsAccepted (same_text texts words script file k.script k.file q t said text h v k.asks k.had) (record { program = p; elaborates = el }))))
+  one_only : {status : ℕ} {out err : List ℕ} → Of status out err → status ≡ 1 → IsAbsentOrRefused call
+  one_only (wrong_words h) e = differ 2 1 refl e
+  one_only (unread h w b f) e = differ 6 1 refl e
+  one_only (absent {c} {w} h v n) e = is_absent w.file h n
+  one_only (too_long h w n) e = differ 6 1 refl e
+  one_only (bad_script x k n) e = differ 10 1 refl e
+  one_only (refused {file} {text} r k n) e = is_refused k (never_accepted text r n)
+  one_only (ran p o k el s) e = no_run o.status 1 (run_status p o s) refl refl refl e
+  one_only (ran_by s p k r el) e = no_replay p s 1 refl refl refl refl e
 
   -- 6
-  six_only : {status : ℕ} {out err : List ℕ} → Of status out err → status ≡ 6 → Rose old new ⊎ IsTooLong texts words
-  six_only (wrong_words h) e = absurd (apart 2 6 (inl (omega arith)) e)
-  six_only (unread h w f) e = inl f
-  six_only (absent h w n) e = absurd (apart 1 6 (inl (omega arith)) e)
+  six_only : {status : ℕ} {out err : List ℕ} → Of status out err → status ≡ 6 → ShelfFailed call.shelf ⊎ IsTooLong call
+  six_only (wrong_words h) e = differ 2 6 refl e
+  six_only (unread h w b f) e = inl f
+  six_only (absent h w n) e = differ 1 6 refl e
   six_only (too_long {c} {w} h v n) e = inr (record { command = c; file = w.file; most = w.most; asks = h; long = n })
-  six_only (bad_script x h k n) e = absurd (apart 10 6 (inr (omega arith)) e)
-  six_only (refused r h n) e = absurd (apart 1 6 (inl (omega arith)) e)
-  six_only (ran p o h k el s) e = absurd (other_status o.status 6 (run_status p o s) is_other_6 e)
-  six_only (ran_by s p h k r el l) e = absurd (other_replay p s 6 l is_other_6 (apart 9 6 (inr (omega arith))) e)
-
-  six_if : {status : ℕ} {out err : List ℕ} → Of status out err → IsTooLong texts words → ¬ Rose old new → status ≡ 6
-  six_if {status} c l calm = if_long status l.file l.most (fate_of c) calm (record { command = l.command; asks = l.asks; comes = l.long })
+  six_only (bad_script x k n) e = differ 10 6 refl e
+  six_only (refused r k n) e = differ 1 6 refl e
+  six_only (ran p o k el s) e = no_run o.status 6 (run_status p o s) refl refl refl e
+  six_only (ran_by s p k r el) e = no_replay p s 6 refl refl refl refl e
 
   -- 9
-  nine_only : {status : ℕ} {out err : List ℕ} → Of status out err → status ≡ 9 → HasEnded texts words
-  nine_only (wrong_words h) e = absurd (apart 2 9 (inl (omega arith)) e)
-  nine_only (unread h w f) e = absurd (apart 6 9 (inl (omega arith)) e)
-  nine_only (absent h w n) e = absurd (apart 1 9 (inl (omega arith)) e)
-  nine_only (too_long h w n) e = absurd (apart 6 9 (inl (omega arith)) e)
-  nine_only (bad_script x h k n) e = absurd (apart 10 9 (inr (omega arith)) e)
-  nine_only (refused r h n) e = absurd (apart 1 9 (inl (omega arith)) e)
-  nine_only (ran p o h k el s) e = absurd (other_status o.status 9 (run_status p o s) is_other_9 e)
-  nine_only (ran_by {script} {file} {said} {text} s p h k r el l) e =
-      elim (replay_status p s l) [
-        | inl x ↦ absurd (other_status (replayed p s).status 9 x is_other_9 e)
-        | inr x ↦ record { said = said; text = text; script = s; program = p; asked = record { script = script; file = file; asks = h; had = k.told }; read = r; elaborates = el; going = x.1 }
+  nine_only : {status : ℕ} {out err : List ℕ} → Of status out err → status ≡ 9 → HasEnded call
+  nine_only (wrong_words h) e = differ 2 9 refl e
+  nine_only (unread h w b f) e = differ 6 9 refl e
+  nine_only (absent h w n) e = differ 1 9 refl e
+  nine_only (too_long h w n) e = differ 6 9 refl e
+  nine_only (bad_script x k n) e = differ 10 9 refl e
+  nine_only (refused r k n) e = differ 1 9 refl e
+  nine_only (ran p o k el s) e = no_run o.status 9 (run_status p o s) refl refl refl e
+  nine_only (ran_by {listing} {file} {text} s p k r el) e =
+      elim (replay_status p s) [
+        | inl x ↦ no_run (replay_of p s).status 9 x refl refl refl e
+        | inr x ↦ record { listing = listing; file = file; text = text; script = s; program = p; runs = k; read = r; elaborates = el; going = x.1 }
       ]
 
   -- 10
-  ten_only : {status : ℕ} {out err : List ℕ} → Of status out err → status ≡ 10 → IsNoScript texts words
-  ten_only (wrong_words h) e = absurd (apart 2 10 (inl (omega arith)) e)
-  ten_only (unread h w f) e = absurd (apart 6 10 (inl (omega arith)) e)
-  ten_only (absent h w n) e = absurd (apart 1 10 (inl (omega arith)) e)
-  ten_only (too_long h w n) e = absurd (apart 6 10 (inl (omega arith)) e)
-  ten_only (bad_script {script} {file} {said} {text} x h k n) e = record { said = said; text = text; error = x; asked = record { script = script; file = file; asks = h; had = k.told }; refused = n }
-  ten_only (refused r h n) e = absurd (apart 1 10 (inl (omega arith)) e)
-  ten_only (ran p o h k el s) e = absurd (other_status o.status 10 (run_status p o s) is_other_10 e)
-  ten_only (ran_by s p h k r el l) e = absurd (other_replay p s 10 l is_other_10 (apart 9 10 (inl (omega arith))) e)
+  ten_only : {status : ℕ} {out err : List ℕ} → Of status out err → status ≡ 10 → IsNoScript call
+  ten_only (wrong_words h) e = differ 2 10 refl e
+  ten_only (unread h w b f) e = differ 6 10 refl e
+  ten_only (absent h w n) e = differ 1 10 refl e
+  ten_only (too_long h w n) e = differ 6 10 refl e
+  ten_only (bad_script {listing} {file} {text} x k n) e = record { listing = listing; file = file; text = text; error = x; runs = k; refused = n }
+  ten_only (refused r k n) e = differ 1 10 refl e
+  ten_only (ran p o k el s) e = no_run o.status 10 (run_status p o s) refl refl refl e
+  ten_only (ran_by s p k r el) e = no_replay p s 10 refl refl refl refl e
 
-  takes_no_script : {file text : List ℕ} (k : IsNoScript texts words) → Takes (Some texts) words file text → ⊥
-  takes_no_script k (alone {file = f} a h) = not_run_and_replay texts words f k.asked.script k.asked.file a k.asked.asks
-  takes_no_script k (by_script {script} {file = f} {said} {text = t} s a h r) =
-      not_both k.said s k.error (subst (λ y. IsScript y s) (same_said texts words script f k.asked.script k.asked.file said t k.said k.text a h k.asked.asks k.asked.had) r) k.refused
+-- Where the shelf tells its texts and didn't fail
 
-  ten_if : {status : ℕ} {out err : List ℕ} → Of status out err → IsNoScript texts words → ¬ Rose old new → status ≡ 10
-  ten_if c k calm =
-      had_only (λ n. n ≡ 10) (k.said ∷ k.text ∷ []) c calm (record { command = Replay k.asked.script k.asked.file; asks = k.asked.asks; comes = k.asked.had })
-      (λ script file said text x h v r. refl)
-      (λ file text h n. absurd (takes_no_script k h))
-      (λ file text p o h v el s. absurd (not_run_and_replay texts words file k.asked.script k.asked.file h k.asked.asks))
-      (λ script file said text s p h v r el l. absurd (takes_no_script k (by_script s h v r)))
+fetches_one : (texts : Option (List Named)) (files : List _) (f g : Fetched) → IsSome texts → Fetches texts files f → Fetches texts files g → f ≡ g
+fetches_one None files f g tells h k = absurd (cc tells)
+fetches_one (Some ts) files f g tells h k = sym h ∙ k
 
-  -- the run of an accepted text
-  shown_if : {status : ℕ} {out err : List ℕ} (text : List ℕ) (o o' e e' : Option (List ℕ)) → Of status out err → IsAsked texts words text → IsAccepted text → ¬ Rose old new → Wrote o o' out → Wrote e e' err → ShowsText text status o o' e e'
-  shown_if text o o' e e' (wrong_words n) k ok calm w x = absurd (no_command words (Run k.file) n k.asks)
-  shown_if text o o' e e' (unread h v f) k ok calm w x = absurd (calm f)
-  shown_if text o o' e e' (absent {c} {w = v} h y n) k ok calm w x =
-      absurd (not_both_fates texts words v.file (text ∷ []) (record { command = c; asks = h; comes = n }) (record { command = Run k.file; asks = k.asks; comes = k.had }))
-  shown_if text o o' e e' (too_long {c} {w = v} h y n) k ok calm w x =
-      absurd (not_long_and_had texts words v.file v.most (text ∷ []) (record { command = c; asks = h; comes = n }) (record { command = Run k.file; asks = k.asks; comes = k.had }))
-  shown_if text o o' e e' (bad_script {script} {file} y h v r) k ok calm w x = absurd (not_run_and_replay texts words k.file script file k.asks h)
-  shown_if text o o' e e' (refused {file} {text = t} r (alone a h) n) k ok calm w x =
-      absurd (never_accepted t r n (subst IsAccepted (sym (same_alone texts words file k.file t text a h k.asks k.had)) ok))
-  shown_if text o o' e e' (refused {file} {text = t} r (by_script {script} s a h q) n) k ok calm w x = absurd (not_run_and_replay texts words k.file script file k.asks a)
-  shown_if text o o' e e' (ran {file} {text = t} p ob h v el s) k ok calm w x = record {
-    program = p;
-    elaborates = subst (λ y. Elaborates y p) (same_alone texts words file k.file t text h v k.asks k.had) el;
-    observation = ob;
-    seen = s;
-    status = refl;
-    on_out = w;
-    on_err = x;
-  }
-  shown_if text o o' e e' (ran_by {script} {file} s p h v r el l) k ok calm w x = absurd (not_run_and_replay texts words k.file script file k.asks h)
+module _ (words : List (List ℕ)) (shelf : ShelfUse) (tells : Tells shelf) where
+  -- what comes of the files is one
+  one_fate : {f g : Fetched} → Comes words shelf f → Comes words shelf g → f ≡ g
+  one_fate {f} {g} h k =
+      fetches_one shelf.texts (wanted_files k.command) f g tells
+      (subst (λ c. Fetches shelf.texts (wanted_files c) f) (one_command words h.command k.command h.asks k.asks) h.comes) k.comes
 
-  -- the run of an accepted text by a script
-  replay_if : {status : ℕ} {out err : List ℕ} (said text : List ℕ) (s : Script) (o o' e e' : Option (List ℕ)) → Of status out err → IsAskedBy texts words said text → IsScript said s → IsAccepted text → ¬ Rose old new → Wrote o o' out → Wrote e e' err → IsReplayStatus status × ShowsReplay s text status o o' e e'
-  replay_if said text s o o' e e' (wrong_words n) k read ok calm w x = absurd (no_command words (Replay k.script k.file) n k.asks)
-  replay_if said text s o o' e e' (unread h v f) k read ok calm w x = absurd (calm f)
-  replay_if said text s o o' e e' (absent {c} {w = v} h y n) k read ok calm w x =
-      absurd (not_both_fates texts words v.file (said ∷ text ∷ []) (record { command = c; asks = h; comes = n }) (record { command = Replay k.script k.file; asks = k.asks; comes = k.had }))
-  replay_if said text s o o' e e' (too_long {c} {w = v} h y n) k read ok calm w x =
-      absurd (not_long_and_had texts words v.file v.most (said ∷ text ∷ []) (record { command = c; asks = h; comes = n }) (record { command = Replay k.script k.file; asks = k.asks; comes = k.had }))
-  replay_if said text s o o' e e' (bad_script {script} {file} {said = q} {text = t} y h v r) k read ok calm w x =
-      absurd (not_both q s y (subst (λ z. IsScript z s) (sym (same_said texts words script file k.script k.file q t said text h v k.asks k.had)) read) r)
-  replay_if said text s o o' e e' (refused {file} {text = t} r (alone a h) n) k read ok calm w x = absurd (not_run_and_replay texts words file k.script k.file a k.asks)
-  replay_if said text s o o' e e' (refused {file} {text = t} r (by_script {script} {said = q} s' a h y) n) k read ok calm w x =
-      absurd (never_accepted t r n (subst IsAccepted (sym (same_text texts words script file k.script k.file q t said text a h k.asks k.had)) ok))
-  replay_if said text s o o' e e' (ran {file} p ob h v el z) k read ok calm w x = absurd (not_run_and_replay texts words file k.script k.file h k.asks)
-  replay_if said text s o o' e e' (ran_by {script} {file} {said = q} {text = t} s' p h v r el l) k read ok calm w x =
-      let one : s' ≡ s = one_script said s' s (subst (λ z. IsScript z s') (same_said texts words script file k.script k.file q t said text h v k.asks k.had) r) read in
-      let el' = subst (λ y. Elaborates y p) (same_text texts words script file k.script k.file q t said text h v k.asks k.had) el in (
-        status_is (replay_status p s' l),
-        subst (λ z. ShowsReplay z text (replayed p s').status o o' e e') one (record { program = p; elaborates = el'; status = refl; on_out = w; on_err = x }),
-      )
+  not_absent : {A : Type 0} {file : List ℕ} {all : List (List ℕ)} → Comes words shelf (NoFile file) → Comes words shelf (Texts all) → A
+  not_absent {A} {file} {all} h k = let e : NoFile file ≡ Texts all = one_fate h k in absurd (cc e)
+
+  not_long : {A : Type 0} {file : List ℕ} {most : ℕ} {all : List (List ℕ)} → Comes words shelf (LongFile file most) → Comes words shelf (Texts all) → A
+  not_long {A} {file} {most} {all} h k = let e : LongFile file most ≡ Texts all = one_fate h k in absurd (cc e)
+
+  not_both_lacks : {A : Type 0} {file other : List ℕ} {most : ℕ} → Comes words shelf (LongFile file most) → Comes words shelf (NoFile other) → A
+  not_both_lacks {A} {file} {other} {most} h k = let e : LongFile file most ≡ NoFile other = one_fate h k in absurd (cc e)
+
+  same_run : {file text file' text' : List ℕ} → Runs words shelf file text → Runs words shelf file' text' → text ≡ text'
+  same_run {file} {text} {file'} {text'} h k = let e : Texts (text ∷ []) ≡ Texts (text' ∷ []) = one_fate (of_run words shelf h) (of_run words shelf k) in cc e
+
+  same_listing : {listing file text listing' file' text' : List ℕ} → RunsBy words shelf listing file text → RunsBy words shelf listing' file' text' → listing ≡ listing'
+  same_listing {listing} {file} {text} {listing'} {file'} {text'} h k =
+      let e : Texts (listing ∷ text ∷ []) ≡ Texts (listing' ∷ text' ∷ []) = one_fate (of_replay words shelf h) (of_replay words shelf k) in cc e
+
+  same_text : {listing file text listing' file' text' : List ℕ} → RunsBy words shelf listing file text → RunsBy words shelf listing' file' text' → text ≡ text'
+  same_text {listing} {file} {text} {listing'} {file'} {text'} h k =
+      let e : Texts (listing ∷ text ∷ []) ≡ Texts (listing' ∷ text' ∷ []) = one_fate (of_replay words shelf h) (of_replay words shelf k) in cc e
+
+  module _ (calm : ¬ ShelfFailed shelf) where
+    if_absent : {status : ℕ} {out err file : List ℕ} → Cause words shelf status out err → Comes words shelf (NoFile file) → status ≡ 1
+    if_absent (wrong_words n) k = no_command words k.command n k.asks
+    if_absent (unread h w b f) k = absurd (calm f)
+    if_absent (absent h w n) k = refl
+    if_absent (too_long {c} {w} h v n) k = not_both_lacks (record { command = c; asks = h; comes = n }) k
+    if_absent (bad_script x h r) k = not_absent k (of_replay words shelf h)
+    if_absent (refused r h n) k = not_absent k (of_takes words shelf h).1
+    if_absent (ran p o h el s) k = not_absent k (of_run words shelf h)
+    if_absent (ran_by s p h r el) k = not_absent k (of_replay words shelf h)
+
+    if_long : {status : ℕ} {out err file : List ℕ} {most : ℕ} → Cause words shelf status out err → Comes words shelf (LongFile file most) → status ≡ 6
+    if_long (wrong_words n) k = no_command words k.command n k.asks
+    if_long (unread h w b f) k = absurd (calm f)
+    if_long (absent {c} {w} h v n) k = not_both_lacks k (record { command = c; asks = h; comes = n })
+    if_long (too_long h w n) k = refl
+    if_long (bad_script x h r) k = not_long k (of_replay words shelf h)
+    if_long (refused r h n) k = not_long k (of_takes words shelf h).1
+    if_long (ran p o h el s) k = not_long k (of_run words shelf h)
+    if_long (ran_by s p h r el) k = not_long k (of_replay words shelf h)
+
+    -- of the causes only these are left where all files are had
+    if_had : {status : ℕ} {out err : List ℕ} {all : List (List ℕ)} (P : ℕ → List ℕ → List ℕ → Type 0) → Cause words shelf status out err → Comes words shelf (Texts all) →
+        ((listing file text : List ℕ) (e : ScriptErr) → RunsBy words shelf listing file text → IsRefusedScript listing e → P 10 [] (script_line e))
+        → ((file text : List ℕ) (r : Refusal) → Takes words shelf file text → ¬ IsAccepted text → P 1 [] (refusal_text file r.rule r.pos))
+        → ((file text : List ℕ) (p : Program) (o : Observation) → Runs words shelf file text → Elaborates text p → Seen p o → P o.status o.output (report (names_of p) default_budget o))
+        → ((listing file text : List ℕ) (s : Script) (p : Program) → RunsBy words shelf listing file text → IsScript listing s → Elaborates text p → P (replay_of p s).status (replay_of p s).output (replay_report (names_of p) s (replay_of p s)))
+        → P status out err
+    if_had P (wrong_words n) k bad not_one run by = no_command words k.command n k.asks
+    if_had P (unread h w b f) k bad not_one run by = absurd (calm f)
+    if_had P (absent {c} {w} h v n) k bad not_one run by = not_absent (record { command = c; asks = h; comes = n }) k
+    if_had P (too_long {c} {w} h v n) k bad not_one run by = not_long (record { command = c; asks = h; comes = n }) k
+    if_had P (bad_script {listing} {file} {text} x h r) k bad not_one run by = bad listing file text x h r
+    if_had P (refused {file} {text} r h n) k bad not_one run by = not_one file text r h (never_accepted text r n)
+    if_had P (ran {file} {text} p o h el s) k bad not_one run by = run file text p o h el s
+    if_had P (ran_by {listing} {file} {text} s p h r el) k bad not_one run by = by listing file text s p h r el
+
+    -- an accepted text is run
+    record IsRunOf (text : List ℕ) (status : ℕ) (out err : List ℕ) : Type 0 where
+      pub program : Program
+      pub elaborates : Elaborates text program
+      pub observation : Observation
+      pub seen : Seen program observation
+      pub status_is : status ≡ observation.status
+      pub out_is : out ≡ observation.output
+      pub err_is : err ≡ report (names_of program) default_budget observation
+
+    runs_it : {status : ℕ} {out err file text : List ℕ} → Cause words shelf status out err → Runs words shelf file text → IsAccepted text → IsRunOf text status out err
+    runs_it {status} {out} {err} {file} {text} c k ok =
+        if_had (IsRunOf text) c (of_run words shelf k)
+        (λ listing' file' text' e l bad. run_or_replay words shelf k l)
+        (λ file' text' r t never. absurd (not_run t never))
+        (λ file' text' p o l el s. record { program = p; elaborates = subst (λ y. Elaborates y p) (same_run l k) el; observation = o; seen = s; status_is = refl; out_is = refl; err_is = refl })
+        (λ listing' file' text' s p l read el. run_or_replay words shelf k l)
+      where
+        not_run : {file' text' : List ℕ} → Takes words shelf file' text' → ¬ IsAccepted text' → ⊥
+        not_run (alone l) never = never (subst IsAccepted (same_run k l) ok)
+        not_run (by_script s l read) never = run_or_replay words shelf k l
+
+    record IsReplayOf (s : Script) (text : List ℕ) (status : ℕ) (out err : List ℕ) : Type 0 where
+      pub program : Program
+      pub elaborates : Elaborates text program
+      pub status_is : status ≡ (replay_of program s).status
+      pub out_is : out ≡ (replay_of program s).output
+      pub err_is : err ≡ replay_report (names_of program) s (replay_of program s)
+
+    replays_it : {status : ℕ} {out err listing file text : List ℕ} (s : Script) → Cause words shelf status out err → RunsBy words shelf listing file text → IsScript listing s → IsAccepted text → IsReplayOf s text status out err
+    replays_it {status} {out} {err} {listing} {file} {text} s c k read ok =
+        if_had (IsReplayOf s text) c (of_replay words shelf k)
+        (λ listing' file' text' e l bad. absurd (not_both listing' s e (subst (λ y. IsScript y s) (same_listing k l) read) bad))
+        (λ file' text' r t never. absurd (not_replay t never))
+        (λ file' text' p o l el seen. run_or_replay words shelf l k)
+        (λ listing' file' text' s' p l read' el. along p (same_text l k) el (one_script listing s' s (subst (λ y. IsScript y s') (same_listing l k) read') read))
+      where
+        not_replay : {file' text' : List ℕ} → Takes words shelf file' text' → ¬ IsAccepted text' → ⊥
+        not_replay (alone l) never = run_or_replay words shelf l k
+        not_replay (by_script s' l read') never = never (subst IsAccepted (same_text k l) ok)
+
+        along : {text' : List ℕ} {s' : Script} (p : Program) → text' ≡ text → Elaborates text' p → s' ≡ s → IsReplayOf s text (replay_of p s').status (replay_of p s').output (replay_report (names_of p) s' (replay_of p s'))
+        along {text'} {s'} p e el same = record {
+          program = p;
+          elaborates = subst (λ y. Elaborates y p) e el;
+          status_is = ap (λ z. (replay_of p z).status) same;
+          out_is = ap (λ z. (replay_of p z).output) same;
+          err_is = ap (λ z. replay_report (names_of p) z (replay_of p z)) same;
+        }
+
+module _ (call : Call) (tells : Tells call.shelf) (calm : ¬ ShelfFailed call.shelf) where
+  one_if : {status : ℕ} {out err : List ℕ} → Of call status out err → IsAbsentOrRefused call → status ≡ 1
+  one_if c (is_absent {c = d} file asks lack) = if_absent call.words call.shelf tells calm c (record { command = d; asks = asks; comes = lack })
+  one_if c (is_refused (alone k) never) =
+      if_had call.words call.shelf tells calm (λ n out err. n ≡ 1) c (of_run call.words call.shelf k)
+      (λ listing' file' text' e l bad. run_or_replay call.words call.shelf k l)
+      (λ file' text' r t n. refl)
+      (λ file' text' p o l el seen. absurd (never (subst IsAccepted (same_run call.words call.shelf tells l k) (record { program = p; elaborates = el }))))
+      (λ listing' file' text' s p l read el. run_or_replay call.words call.shelf k l)
+  one_if c (is_refused (by_script s k read) never) =
+      if_had call.words call.shelf tells calm (λ n out err. n ≡ 1) c (of_replay call.words call.shelf k)
+      (λ listing' file' text' e l bad. absurd (not_both listing' s e (subst (λ y. IsScript y s) (same_listing call.words call.shelf tells k l) read) bad))
+      (λ file' text' r t n. refl)
+      (λ file' text' p o l el seen. run_or_replay call.words call.shelf l k)
+      (λ listing' file' text' s' p l read' el. absurd (never (subst IsAccepted (same_text call.words call.shelf tells l k) (record { program = p; elaborates = el }))))
+
+  six_if : {status : ℕ} {out err : List ℕ} → Of call status out err → ShelfFailed call.shelf ⊎ IsTooLong call → status ≡ 6
+  six_if c (inl f) = absurd (calm f)
+  six_if c (inr l) = if_long call.words call.shelf tells calm c (record { command = l.command; asks = l.asks; comes = l.long })
+
+  ten_if : {status : ℕ} {out err : List ℕ} → Of call status out err → IsNoScript call → status ≡ 10
+  ten_if c k =
+      if_had call.words call.shelf tells calm (λ n out err. n ≡ 10) c (of_replay call.words call.shelf k.runs)
+      (λ listing' file' text' e l bad. refl)
+      (λ file' text' r t n. absurd (no_takes t))
+      (λ file' text' p o l el seen. run_or_replay call.words call.shelf l k.runs)
+      (λ listing' file' text' s p l read el. absurd (no_takes (by_script s l read)))
     where
-      status_is : {n : ℕ} {Q : Type 0} → IsRunStatus n ⊎ ((n ≡ 9) × Q) → IsReplayStatus n
-      status_is (inl a) = inl a
-      status_is (inr b) = inr b.0
+      no_takes : {file text : List ℕ} → Takes call.words call.shelf file text → ⊥
+      no_takes (alone l) = run_or_replay call.words call.shelf l k.runs
+      no_takes (by_script s l read) = not_both k.listing s k.error (subst (λ y. IsScript y s) (same_listing call.words call.shelf tells l k.runs) read) k.refused
 
--- The clauses
+-- The promises
 
-module _ (old new : ℕ) (words : List (List ℕ)) (r : ℕ) (o o' e e' : Option (List ℕ)) where
-  pub answered : (texts : Option (List Named)) (a : Answer) → Causes texts old new words a → (r ≢ 7 → IsWhole a r o o' e e') → Undisturbed r (Answered texts old new words r o o' e e')
-  answered texts a cause whole h7 h8 =
-      let w = whole h7 in
-      record { out = a.out.items; err = a.err.items; cause = subst (λ s. Cause texts old new words s a.out.items a.err.items) (sym w.same) cause; on_out = w.on_out; on_err = w.on_err }
+module _ (call : Call) (answered : IsUndisturbed call → Answered call) (in_part : call.status ≡ 7 → AnsweredInPart call) (nothing : call.status ≡ 8 → GotNothing call.out × GotNothing call.err) where
+  shows : (text : List ℕ) → IsRunnable call text → IsUndisturbed call → ShowsText call text
+  shows text k u =
+      let a = answered u in
+      let r = runs_it call.words call.shelf k.tells k.worked a.cause k.runs k.accepted in
+      record {
+        program = r.program;
+        elaborates = r.elaborates;
+        observation = r.observation;
+        seen = r.seen;
+        status = r.status_is;
+        on_out = subst (GotWhole call.out) r.out_is a.on_out;
+        on_err = subst (GotWhole call.err) r.err_is a.on_err;
+      }
 
-  abbrev Once : Option (List Named) → Type 0
-  Once texts = Undisturbed r (Answered texts old new words r o o' e e')
+  shows_replay : (s : Script) (text : List ℕ) → IsReplayable call s text → IsUndisturbed call → ShowsReplay call s text
+  shows_replay s text k u =
+      let a = answered u in
+      let r = replays_it call.words call.shelf k.tells k.worked s a.cause k.runs k.script k.accepted in
+      record {
+        program = r.program;
+        elaborates = r.elaborates;
+        status = r.status_is;
+        on_out = subst (GotWhole call.out) r.out_is a.on_out;
+        on_err = subst (GotWhole call.err) r.err_is a.on_err;
+      }
 
-  pub wrong_words_clause : (texts : Option (List Named)) → Once texts → Undisturbed r ((r ≡ 2) ↔ (command_of words ≡ None))
-  wrong_words_clause texts u h7 h8 = let a = u h7 h8 in ((λ q. two_only texts old new words a.cause q), (λ q. two_if texts old new words a.cause q))
+  none_failed : {out err : List ℕ} → PutInPart call.out call.err out err → SinksWorked call → ⊥
+  none_failed (out_failed f w k) worked = worked.out f
+  none_failed (err_failed f w k) worked = worked.err f
 
-  pub refused_clause : (texts : Option (List Named)) → Once texts → IfSome texts (λ ts. Undisturbed r ((r ≡ 1 → IsAbsentOrRefused ts words) × (IsAbsentOrRefused ts words → ¬ Rose old new → r ≡ 1)))
-  refused_clause None u = tt
-  refused_clause (Some ts) u = λ h7 h8. ((λ q. one_only ts old new words (u h7 h8).cause q), (λ k calm. one_if ts old new words (u h7 h8).cause k calm))
-
-  pub too_long_clause : (texts : Option (List Named)) → Once texts → IfSome texts (λ ts. Undisturbed r ((r ≡ 6 → Rose old new ⊎ IsTooLong ts words) × (IsTooLong ts words → ¬ Rose old new → r ≡ 6)))
-  too_long_clause None u = tt
-  too_long_clause (Some ts) u = λ h7 h8. ((λ q. six_only ts old new words (u h7 h8).cause q), (λ k calm. six_if ts old new words (u h7 h8).cause k calm))
-
-  pub ended_clause : (texts : Option (List Named)) → Once texts → IfSome texts (λ ts. Undisturbed r (r ≡ 9 → HasEnded ts words))
-  ended_clause None u = tt
-  ended_clause (Some ts) u = λ h7 h8 q. nine_only ts old new words (u h7 h8).cause q
-
-  pub no_script_clause : (texts : Option (List Named)) → Once texts → IfSome texts (λ ts. Undisturbed r ((r ≡ 10 → IsNoScript ts words) × (IsNoScript ts words → ¬ Rose old new → r ≡ 10)))
-  no_script_clause None u = tt
-  no_script_clause (Some ts) u = λ h7 h8. ((λ q. ten_only ts old new words (u h7 h8).cause q), (λ k calm. ten_if ts old new words (u h7 h8).cause k calm))
-
-  pub headline_clause : (texts : Option (List Named)) → Once texts → IfSome texts (λ ts. (text : List ℕ) → IsAsked ts words text → IsAccepted text → ¬ Rose old new → Undisturbed r (ShowsText text r o o' e e'))
-  headline_clause None u = tt
-  headline_clause (Some ts) u = λ text k ok calm h7 h8. let a = u h7 h8 in shown_if ts old new words text o o' e e' a.cause k ok calm a.on_out a.on_err
-
-  pub replays_clause : (texts : Option (List Named)) → Once texts → IfSome texts (λ ts. (said text : List ℕ) (s : Script) → IsAskedBy ts words said text → IsScript said s → IsAccepted text → ¬ Rose old new → Undisturbed r (ShowsReplay s text r o o' e e'))
-  replays_clause None u = tt
-  replays_clause (Some ts) u = λ said text s k read ok calm h7 h8. let a = u h7 h8 in (replay_if ts old new words said text s o o' e e' a.cause k read ok calm a.on_out a.on_err).1
-
-  module _ (count count' other other' : ℕ) where
-    abbrev Failed : Option (List Named) → Type 0
-    Failed texts = r ≡ 7 → Stopped texts old new words o o' e e' count count' other other'
-
-    pub stopped_clause : (texts : Option (List Named)) (a : Answer) → Causes texts old new words a → (r ≡ 7 → IsStopped a o o' e e' count count' other other') → Failed texts
-    stopped_clause texts a cause stopped q = record { status = a.status; out = a.out.items; err = a.err.items; cause = cause; failed = stopped q }
-
-    none_failed : {out err : List ℕ} → SinkFailed o o' e e' count count' other other' out err → ¬ Rose count count' → ¬ Rose other other' → ⊥
-    none_failed (out_failed f w k) calm calm' = calm f
-    none_failed (err_failed f w k) calm calm' = calm' f
-
-    -- where no sink failed, memory was wanted or a fact on an undisturbed answer holds
-    whole_or_memory : (texts : Option (List Named)) (P : Type 0) → Failed texts → ¬ Rose count count' → ¬ Rose other other' → Undisturbed r P → (r ≡ 8) ⊎ P
-    whole_or_memory texts P stopped calm_out calm_err u =
-        elim (eqb_tells r 7) [
-          | inl h ↦ absurd (none_failed (stopped h.1).failed calm_out calm_err)
-          | inr h7 ↦ elim (eqb_tells r 8) [ inl h ↦ inl h.1 | inr h8 ↦ inr (u h7.1 h8.1) ]
+  -- where no sink failed, memory was wanted or a fact on an undisturbed answer holds
+  whole_or_memory : (P : Type 0) → SinksWorked call → (IsUndisturbed call → P) → (call.status ≡ 8) ⊎ P
+  whole_or_memory P worked u =
+      elim (eqb_tells call.status 7) [
+        | inl h ↦ absurd (none_failed (in_part h.1).in_part worked)
+        | inr h7 ↦ elim (eqb_tells call.status 8) [
+          | inl h ↦ inl h.1
+          | inr h8 ↦ inr (u (record { no_sink_failed = h7.1; no_memory_wanted = h8.1 }))
         ]
+      ]
 
-    pub complete_clause : (texts : Option (List Named)) → Once texts → Failed texts → IfSome texts (λ ts. (text : List ℕ) → IsAsked ts words text → IsAccepted text → ¬ Rose old new → ¬ Rose count count' → ¬ Rose other other' → (r ≡ 8) ⊎ (IsRunStatus r × ShowsText text r o o' e e'))
-    complete_clause None u stopped = tt
-    complete_clause (Some ts) u stopped = λ text k ok calm calm_out calm_err.
-        whole_or_memory (Some ts) (IsRunStatus r × ShowsText text r o o' e e') stopped calm_out calm_err
-        (λ h7 h8. let x = u h7 h8 in let s = shown_if ts old new words text o o' e e' x.cause k ok calm x.on_out x.on_err in (subst IsRunStatus (sym s.status) (run_status s.program s.observation s.seen), s))
+  run_answer : (text : List ℕ) → IsRunnable call text → IsUndisturbed call → IsRunStatus call.status × ShowsText call text
+  run_answer text k u = let s = shows text k u in (subst IsRunStatus (sym s.status) (run_status s.program s.observation s.seen), s)
 
-    pub replays_complete_clause : (texts : Option (List Named)) → Once texts → Failed texts → IfSome texts (λ ts. (said text : List ℕ) (s : Script) → IsAskedBy ts words said text → IsScript said s → IsAccepted text → ¬ Rose old new → ¬ Rose count count' → ¬ Rose other other' → (r ≡ 8) ⊎ (IsReplayStatus r × ShowsReplay s text r o o' e e'))
-    replays_complete_clause None u stopped = tt
-    replays_complete_clause (Some ts) u stopped = λ said text s k read ok calm calm_out calm_err.
-        whole_or_memory (Some ts) (IsReplayStatus r × ShowsReplay s text r o o' e e') stopped calm_out calm_err
-        (λ h7 h8. let x = u h7 h8 in replay_if ts old new words said text s o o' e e' x.cause k read ok calm x.on_out x.on_err)
+  replay_answer : (s : Script) (text : List ℕ) → IsReplayable call s text → IsUndisturbed call → IsReplayStatus call.status × ShowsReplay call s text
+  replay_answer s text k u =
+      let r = shows_replay s text k u in (
+        subst IsReplayStatus (sym r.status) (elim (replay_status r.program s) as (λ v. IsReplayStatus (replay_of r.program s).status) [ inl h ↦ inl h | inr h ↦ inr h.0 ]),
+        r,
+      )
+
+  pub promises : Promises call
+  promises = record {
+    answers = answered;
+    headline = shows;
+    complete = λ text k worked. whole_or_memory (IsRunStatus call.status × ShowsText call text) worked (run_answer text k);
+    replays = shows_replay;
+    replays_complete = λ s text k worked. whole_or_memory (IsReplayStatus call.status × ShowsReplay call s text) worked (replay_answer s text k);
+    absent_or_refused = record { only = λ u e. one_only call (answered u).cause e; as_well = λ tells u fact calm. one_if call tells calm (answered u).cause fact };
+    wrong_words = λ u. ((λ e. two_only call.words call.shelf (answered u).cause e), (λ n. two_if call.words call.shelf (answered u).cause n));
+    unread_or_too_long = record { only = λ u e. six_only call (answered u).cause e; as_well = λ tells u fact calm. six_if call tells calm (answered u).cause fact };
+    script_ended = λ u e. nine_only call (answered u).cause e;
+    no_script = record { only = λ u e. ten_only call (answered u).cause e; as_well = λ tells u fact calm. ten_if call tells calm (answered u).cause fact };
+    sink_failed = in_part;
+    no_memory = nothing;
+  }
+
+-- an answer with its cause keeps them
+pub of_answer : (call : Call) (a : Answer) → Causes call.words call.shelf a → (call.status ≢ 7 → IsWhole a call.status call.out call.err) → (call.status ≡ 7 → IsStopped a call.out call.err) → call.status ≢ 8 → Promises call
+of_answer call a cause whole stopped memory =
+    promises call
+    (λ u. let w = whole u.no_sink_failed in record { out = a.out.items; err = a.err.items; cause = subst (λ s. Cause call.words call.shelf s a.out.items a.err.items) (sym w.same) cause; on_out = w.on_out; on_err = w.on_err })
+    (λ e. record { status = a.status; out = a.out.items; err = a.err.items; cause = cause; in_part = stopped e })
+    (λ e. absurd (memory e))
+
+-- so does want of memory before anything was put
+pub of_no_memory : (call : Call) → call.status ≡ 8 → GotNothing call.out → GotNothing call.err → Promises call
+of_no_memory call eight out err =
+    promises call (λ u. absurd (u.no_memory_wanted eight)) (λ e. differ 8 7 refl (sym eight ∙ e)) (λ e. (out, err))

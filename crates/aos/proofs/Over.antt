@@ -17,9 +17,9 @@ use Rattle.aos.specs.declared.answer.Answer.{Answer}
 use Rattle.aos_code.specs.declared.image.Image.{Image}
 use Rattle.aos_script.specs.declared.script.Script.{Script}
 use Rattle.aos_script.specs.Listing.{choices_of}
-use Rattle.aos.specs.Report.{row_of, report, spent_text, ended_text}
-use Rattle.aos.specs.Seen.{default_budget, worker_of, OfWorkers, names_in, observed, replayed_of}
-use Rattle.aos.specs.Shown.{ShowsRun, ShowsReplayOf, TellsOf}
+use Rattle.aos.specs.Report.{report, spent_text, ended_text}
+use Rattle.aos.specs.Seen.{default_budget, worker_of, OfWorkers}
+use Rattle.aos.specs.Shown.{row_of, names_in, image_seen_of, image_replay_of, kernel_seen_of, ShowsRun, ShowsReplayOf, TellsOf}
 
 of_steps : (n w k : ℕ) → w < n → OfWorkers n (replicate k (Step w))
 of_steps n w zero lt = All-nil (λ c. worker_of c < n)
@@ -54,7 +54,7 @@ spent_told Spent a = refl
 
 -- what the kernel hands out is the observation of its state
 pub tells : (r : Run) (a : Answer) → a.status ≡ status_of (outcome (state_of r).book) (map row_of (traps_of r)) → a.out.items ≡ (state_of r).book.output → a.err.items ≡ rows_text (names_in r.image) (map row_of (traps_of r)) ++ spent_text (spent_of r) r.budget → TellsOf r a
-unfolding observed observation
+unfolding kernel_seen_of image_seen_of observation
 tells r a status out err =
     let st = state_of r in
     record {
@@ -63,31 +63,29 @@ tells r a status out err =
       err = err ∙ ap (λ l. l ++ spent_text (spent_of r) r.budget) (rows_told (names_in r.image) st.book.traps) ∙ ap (λ s. rows_text (names_in r.image) st.book.traps ++ spent_text s r.budget) (spent_told (outcome st.book) st.book.spent);
     }
 
-pub shows_run : (r : Run) (a : Answer) → r.workers ≡ 1 → r.budget ≡ default_budget → outcome (state_of r).book ≢ Going → outcome (state_of r).book ≢ Dead → All (IsEntry r.workers) r.log → TellsOf r a → ShowsRun r.image a
-unfolding observed observation
-shows_run r a one budget over lively entries told =
+pub shows_run : (r : Run) (a : Answer) → r.workers ≡ 1 → r.budget ≡ default_budget → outcome (state_of r).book ≢ Going → All (IsEntry r.workers) r.log → TellsOf r a → ShowsRun r.image a
+unfolding kernel_seen_of image_seen_of observation
+shows_run r a one budget over entries told =
     record {
-      observation = observed r;
+      observation = kernel_seen_of r;
       seen = record {
         schedule = choices r.log;
         workers = subst (λ n. OfWorkers n (choices r.log)) one (of_log r.workers r.log entries);
         over = over;
-        lively = lively;
         seen = ap (λ b. observation (machine r.image) (execution (machine r.image) (choices r.log) (first_state r.image b))) budget;
       };
       status = told.status;
       out = told.out;
-      err = told.err ∙ ap (λ b. report (names_in r.image) b (observed r)) budget;
+      err = told.err ∙ ap (λ b. report (names_in r.image) b (kernel_seen_of r)) budget;
     }
 
 -- the kernel of a script, and the line of one that has ended
-pub shows_replay : (image : Image) (s : Script) (r : Run) (a b : Answer) (line : List ℕ) → r.image ≡ image → r.budget ≡ s.budget → state_of r ≡ execution (machine image) (choices_of s) (first_state image s.budget) → outcome (state_of r).book ≢ Dead → TellsOf r a →
+pub shows_replay : (image : Image) (s : Script) (r : Run) (a b : Answer) (line : List ℕ) → r.image ≡ image → r.budget ≡ s.budget → state_of r ≡ execution (machine image) (choices_of s) (first_state image s.budget) → TellsOf r a →
     b.status ≡ a.status → b.out.items ≡ a.out.items → b.err.items ≡ a.err.items ++ line → line ≡ ended_text (outcome (state_of r).book) (length (choices_of s)) → ShowsReplayOf image s b
-unfolding observed replayed_of observation
-shows_replay image s r a b line here budget state lively told status out err ended =
-    let same : observed r ≡ replayed_of image s = (λ i. observation (machine (here i)) (state i)) in
+unfolding kernel_seen_of image_seen_of observation
+shows_replay image s r a b line here budget state told status out err ended =
+    let same : kernel_seen_of r ≡ image_replay_of image s = (λ i. observation (machine (here i)) (state i)) in
     record {
-      lively = λ e. lively (ap (λ (o : Observation). o.outcome) same ∙ e);
       status = status ∙ told.status ∙ ap (λ (o : Observation). o.status) same;
       out = out ∙ told.out ∙ ap (λ (o : Observation). o.output) same;
       err = err ∙ (λ i. told.err i ++ ended i) ∙ (λ i. report (names_in (here i)) (budget i) (same i) ++ ended_text (same i).outcome (length (choices_of s)));

@@ -6,7 +6,7 @@ use Rattle.std.proofs.lemmas.List.{take_more, map-append, take_min, take-append-
 use Rattle.aos_dev.specs.Sink.{appended, WrotePart}
 use Rattle.aos_dev.proofs.SinkLemmas.{appended-appended}
 use Rattle.aos_code.specs.declared.report.TrapRec.{TrapRec}
-use Rattle.aos.specs.Report.{row_of}
+use Rattle.aos.specs.Shown.{row_of}
 use Rattle.aos_base.specs.Book.{TrapRow}
 use Rattle.aos_report.specs.Texts.{row_text, rows_text}
 

@@ -3,7 +3,7 @@ use Rattle.std.proofs.Common.{◌≡◌, ℕ, Bool, true, false, refl, ◌∙◌
 use Rattle.aos_kernel.specs.declared.log.Stepped.{Stepped}
 use Rattle.aos_kernel.specs.declared.log.Stepped.TheVariants.{Turned, Dispatched, Idle, Over}
 use Rattle.aos_kernel.specs.Run.{Run, after_step, after_tick}
-use Rattle.aos.specs.Seen.{SameSetting}
+use Rattle.aos.specs.Shown.{SameSetting}
 
 pub same_setting : (r : Run) → SameSetting r r
 same_setting r = record { image = refl; workers = refl; budget = refl }

@@ -4,23 +4,12 @@ use Rattle.aos_base.specs.declared.kernel.Outcome.{Outcome}
 use Rattle.aos_base.specs.declared.kernel.Outcome.TheVariants.{Going, Ended, Dead, Spent}
 use Rattle.aos_base.specs.Book.{TrapRow}
 use Rattle.aos_base.specs.Observation.{Observation}
-use Rattle.aos_code.specs.declared.report.TrapRec.{TrapRec}
-use Rattle.aos_report.specs.Texts.{rows_text, budget_text, script_ended_text, script_refused_text, no_worker_text}
+use Rattle.aos_report.specs.Texts.{rows_text, budget_text}
+use Rattle.aos_report.specs.Texts.{script_ended_text, script_refused_text, no_worker_text}
 use Rattle.aos_script.specs.declared.script.Script.{Script}
 use Rattle.aos_script.specs.declared.error.ScriptErr.{ScriptErr}
 use Rattle.aos_script.specs.declared.error.ScriptErr.TheVariants.{BadLine, BadWorker, NoMemory}
 use Rattle.aos_script.specs.Listing.{choices_of}
-
--- a trap as the kernel tells it
-abbrev pub row_of : TrapRec → TrapRow
-row_of t =
-    record {
-      number = t.number;
-      code = t.code;
-      activity = t.activity;
-      at = record { module_ = t.module; pos = t.pos };
-      restart = 0;
-    }
 
 abbrev pub spent_text : Option ℕ → ℕ → List ℕ
 spent_text None budget = []
@@ -42,7 +31,8 @@ ended_text Spent steps = []
 
 -- the same of a run by a script
 abbrev pub replay_report : List (List ℕ) → Script → Observation → List ℕ
-replay_report names s o = report names s.budget o ++ ended_text o.outcome (length (choices_of s))
+replay_report names s o =
+    report names s.budget o ++ ended_text o.outcome (length (choices_of s))
 
 -- the line of a text that is no script
 abbrev pub script_line : ScriptErr → List ℕ

@@ -1,22 +1,17 @@
 // From the words and the shelf to an answer.
 
-ghost use Rattle.std.specs.Prelude.{ℕ, ◌≡◌, ◌≤◌, ◌^◌, ◌≢◌, List, [], ◌∷◌, length, map, IfOk, Option};
-ghost use Rattle.std.specs.String.{string_bytes};
+ghost use Rattle.std.specs.Prelude.{◌≡◌, ◌≤◌, ◌^◌, [], ◌∷◌, length, IfOk};
 ghost use Rattle.aos_base.specs.declared.text.Refusal.{Refusal};
-ghost use Rattle.aos_dev.specs.Shelf.{Named};
-ghost use Rattle.aos_sim.specs.Shows.{Shows};
 ghost use Rattle.aos_script.specs.Listing.{IsScript};
-ghost use Rattle.aos_script.specs.declared.script.Script.{Script};
-ghost use Rattle.aos_compile.specs.Elaborates.{Elaborates, IsRefused, names_of};
 ghost use Rattle.aos_report.specs.Texts.{refusal_text};
-ghost use Rattle.aos.specs.Words.{Command, Run, Replay, words_of, text_limit, script_limit};
+ghost use Rattle.aos.specs.Call.{shelf_use};
+ghost use Rattle.aos.specs.Words.{Run, Replay, words_of, text_limit, script_limit};
 ghost use Rattle.aos.specs.Report.{script_line};
-ghost use Rattle.aos.specs.Cause.{Asks, Had, Takes, Causes};
-ghost use Rattle.aos.specs.Shown.{ShowsRun, ShowsReplayOf, IsFetched, IsAnswer};
+ghost use Rattle.aos.specs.Shown.{IsFetched, IsAnswer, Causes, Serves, ServesTexts};
 
 use crate::answer::Answer;
 use crate::run::{replay_image, run_image};
-use crate::words::{Command, asked};
+use crate::words::{Command, command_of};
 use aos_base::{NoMemory, Pos, Refusal};
 use aos_code::Image;
 use aos_compile::{CompileErr, compile};
@@ -46,7 +41,8 @@ fn message(alloc: Global, status: u8, err: Vec<u8>) -> Answer
 
 // The refusal of a file by a rule.
 fn refuse(alloc: Global, file: &str, r: &Refusal) -> Result<Answer, NoMemory>
-    ensures { IfOk result (λ a. IsAnswer a 1 [] (refusal_text file.now r.now.rule r.now.pos)) }
+    ensures { IfOk result (λ a.
+        IsAnswer a 1 [] (refusal_text file.now r.now.rule r.now.pos)) }
 {
     Ok(message(alloc, 1, refusal(alloc, r, file)?))
 }
@@ -73,7 +69,8 @@ pub enum Fetched {
 
 // Fetches a file of at most so many bytes.
 fn fetch<F: Shelf>(alloc: Global, file: &str, most: u64, shelf: &mut F) -> Result<Fetched, NoMemory>
-    ensures fetched { IfOk result (IsFetched (F.texts shelf.old) (F.faults shelf.old) (F.faults shelf.new) (record { file = file.now; most = most })) }
+    ensures fetched { IfOk result (IsFetched
+        (shelf_use F.Shelf shelf.old shelf.new) (record { file = file.now; most = most })) }
     ensures texts { F.texts shelf.new ≡ F.texts shelf.old }
     ensures faults { F.faults shelf.old ≤ F.faults shelf.new }
 {
@@ -97,7 +94,7 @@ fn fetch<F: Shelf>(alloc: Global, file: &str, most: u64, shelf: &mut F) -> Resul
 // The answer for a file that has this text, where the words ask for it alone.
 fn run_text<R: Wait>(rt: &R, alloc: Global, file: &str, text: &[u8]) -> Result<Answer, NoMemory>
     requires { length text.now ≤ text_limit }
-    ensures { IfOk result (λ a. (texts : Option (List Named)) (old new : ℕ) (words : List (List ℕ)) → Asks words (Run file.now) → Had texts (Run file.now) (text.now ∷ []) → Causes texts old new words a) }
+    ensures { IfOk result (ServesTexts (Run file.now) (text.now ∷ [])) }
 {
     match compile(alloc, text) {
         Ok((program, image)) => run_image(rt, alloc, image),
@@ -113,7 +110,7 @@ fn run_file<R: Wait, F: Shelf>(
     file: &str,
     shelf: &mut F,
 ) -> Result<Answer, NoMemory>
-    ensures { IfOk result (λ a. (words : List (List ℕ)) → Asks words (Run file.now) → Causes (F.texts shelf.old) (F.faults shelf.old) (F.faults shelf.new) words a) }
+    ensures { IfOk result (Serves (Run file.now) (shelf_use F.Shelf shelf.old shelf.new)) }
 {
     match fetch(alloc, file, TEXT_LIMIT, shelf)? {
         Fetched::Text(text) => run_text(rt, alloc, file, &text),
@@ -125,15 +122,16 @@ fn run_file<R: Wait, F: Shelf>(
 fn replay_text(
     alloc: Global,
     name: &str,
-    said: &[u8],
+    listing: &[u8],
     script: &Script,
     file: &str,
     text: &[u8],
 ) -> Result<Answer, NoMemory>
     requires limit { length text.now ≤ text_limit }
-    requires read { IsScript said.now script.now }
+    requires read { IsScript listing.now script.now }
     requires few { length script.now.runs ≤ 2 ^ 27 }
-    ensures { IfOk result (λ a. (texts : Option (List Named)) (old new : ℕ) (words : List (List ℕ)) → Asks words (Replay name.now file.now) → Had texts (Replay name.now file.now) (said.now ∷ text.now ∷ []) → Causes texts old new words a) }
+    ensures { IfOk result
+        (ServesTexts (Replay name.now file.now) (listing.now ∷ text.now ∷ [])) }
 {
     match compile(alloc, text) {
         Ok((program, image)) => replay_image(alloc, image, script),
@@ -143,19 +141,20 @@ fn replay_text(
 }
 
 // The answer for a file that has this text, by a script whose text is this.
-fn replay_said(
+fn replay_listing(
     alloc: Global,
     name: &str,
-    said: &[u8],
+    listing: &[u8],
     file: &str,
     text: &[u8],
 ) -> Result<Answer, NoMemory>
-    requires script { length said.now ≤ script_limit }
+    requires script { length listing.now ≤ script_limit }
     requires limit { length text.now ≤ text_limit }
-    ensures { IfOk result (λ a. (texts : Option (List Named)) (old new : ℕ) (words : List (List ℕ)) → Asks words (Replay name.now file.now) → Had texts (Replay name.now file.now) (said.now ∷ text.now ∷ []) → Causes texts old new words a) }
+    ensures { IfOk result
+        (ServesTexts (Replay name.now file.now) (listing.now ∷ text.now ∷ [])) }
 {
-    match read_script(alloc, said) {
-        Ok(script) => replay_text(alloc, name, said, &script, file, text),
+    match read_script(alloc, listing) {
+        Ok(script) => replay_text(alloc, name, listing, &script, file, text),
         Err(e) => refuse_script(alloc, e),
     }
 }
@@ -167,16 +166,18 @@ fn replay_file<F: Shelf>(
     file: &str,
     shelf: &mut F,
 ) -> Result<Answer, NoMemory>
-    ensures { IfOk result (λ a. (words : List (List ℕ)) → Asks words (Replay name.now file.now) → Causes (F.texts shelf.old) (F.faults shelf.old) (F.faults shelf.new) words a) }
+    ensures { IfOk result
+        (Serves (Replay name.now file.now) (shelf_use F.Shelf shelf.old shelf.new)) }
 {
-    let said = match fetch(alloc, name, SCRIPT_LIMIT, shelf)? {
-        Fetched::Text(said) => said,
+    let listing = match fetch(alloc, name, SCRIPT_LIMIT, shelf)? {
+        Fetched::Text(listing) => listing,
         Fetched::Stopped(answer) => return Ok(answer),
     };
-    match fetch(alloc, file, TEXT_LIMIT, shelf)? {
-        Fetched::Text(text) => replay_said(alloc, name, &said, file, &text),
-        Fetched::Stopped(answer) => Ok(answer),
-    }
+    let text = match fetch(alloc, file, TEXT_LIMIT, shelf)? {
+        Fetched::Text(text) => text,
+        Fetched::Stopped(answer) => return Ok(answer),
+    };
+    replay_listing(alloc, name, &listing, file, &text)
 }
 
 /// The answer to the words, from the shelf's texts. Want of memory is the only error.
@@ -186,9 +187,10 @@ pub fn answer<R: Wait, F: Shelf>(
     words: &[String],
     shelf: &mut F,
 ) -> Result<Answer, NoMemory>
-    ensures { IfOk result (λ a. Causes (F.texts shelf.old) (F.faults shelf.old) (F.faults shelf.new) (words_of words.now) a) }
+    ensures { IfOk result
+        (Causes (words_of words.now) (shelf_use F.Shelf shelf.old shelf.new)) }
 {
-    match asked(words) {
+    match command_of(words) {
         Some(Command::Run(file)) => run_file(rt, alloc, file, shelf),
         Some(Command::Replay(script, file)) => replay_file(alloc, script, file, shelf),
         None => Ok(message(alloc, 2, usage(alloc)?)),

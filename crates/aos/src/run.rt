@@ -1,7 +1,6 @@
 // An image's run by one worker, and what is seen of it.
 
-ghost use Rattle.std.specs.Prelude.{[], ◌≡◌, ◌≢◌, ◌≤◌, ◌++◌, map, IfOk, OnOk};
-ghost use Rattle.std.specs.String.{string_bytes};
+ghost use Rattle.std.specs.Prelude.{[], ◌≡◌, ◌≢◌, ◌≤◌, map, IfOk, OnOk};
 ghost use Rattle.std.specs.Arc.{arc_value};
 ghost use Rattle.aos_base.specs.declared.kernel.Outcome.{Outcome};
 ghost use Rattle.aos_base.specs.Book.{outcome};
@@ -9,9 +8,10 @@ ghost use Rattle.aos_base.specs.Observation.{Observation, status_of};
 ghost use Rattle.aos_code.specs.declared.image.Image.{Image};
 ghost use Rattle.aos_kernel.specs.Run.{state_of};
 ghost use Rattle.aos_report.specs.Texts.{rows_text};
-ghost use Rattle.aos.specs.Report.{row_of, report, spent_text, ended_text};
-ghost use Rattle.aos.specs.Seen.{SameSetting, default_budget};
-ghost use Rattle.aos.specs.Shown.{ShowsRun, ShowsReplayOf, TellsOf, IsReady};
+ghost use Rattle.aos.specs.Report.{spent_text, ended_text};
+ghost use Rattle.aos.specs.Seen.{default_budget};
+ghost use Rattle.aos.specs.Shown.{row_of, module_names, SameSetting, IsReady};
+ghost use Rattle.aos.specs.Shown.{ShowsRun, ShowsReplayOf, TellsOf};
 
 use crate::answer::Answer;
 use aos_base::{NoMemory, Outcome};
@@ -71,7 +71,8 @@ fn run<R: Wait>(rt: &R, kernel: &mut Kernel) -> Result<(), NoMemory>
 
 // The lines of the traps, in their order.
 fn trap_lines(alloc: Global, traps: &[TrapRec], modules: &[ModuleDesc]) -> Result<Vec<u8>, NoMemory>
-    ensures { IfOk result (λ lines. lines.items ≡ rows_text (map (λ d. string_bytes d.name) modules.now) (map row_of traps.now)) }
+    ensures { IfOk result (λ lines.
+        lines.items ≡ rows_text (module_names modules.now) (map row_of traps.now)) }
 {
     let mut lines = Vec::new(alloc);
     for trap in traps {
@@ -112,8 +113,8 @@ fn ended_line(alloc: Global, outcome: Outcome, steps: u64) -> Result<Vec<u8>, No
     }
 }
 
-// What is seen of a kernel whose activities may begin so many statements.
-fn seen(alloc: Global, kernel: &Kernel) -> Result<Answer, NoMemory>
+// The answer that tells what is seen of a kernel.
+fn answer_of(alloc: Global, kernel: &Kernel) -> Result<Answer, NoMemory>
     ensures { IfOk result (TellsOf kernel.now) }
 {
     let modules = kernel.image().modules.as_slice();
@@ -134,13 +135,13 @@ fn run_to_end<R: Wait>(rt: &R, alloc: Global, kernel: &mut Kernel) -> Result<Ans
     ensures { IfOk result (λ a. ShowsRun kernel.old.image a) }
 {
     run(rt, kernel)?;
+    // Called for the proof's sake: its clause says that each entry is of a worker of the kernel.
     let _log = kernel.log();
-    let _outcome = kernel.outcome();
-    seen(alloc, kernel)
+    answer_of(alloc, kernel)
 }
 
 // An image that the kernel shares.
-fn shared(alloc: Global, image: Image) -> Result<Arc<Image>, NoMemory>
+fn shared_image(alloc: Global, image: Image) -> Result<Arc<Image>, NoMemory>
     ensures { IfOk result (λ a. arc_value a ≡ image) }
 {
     match Arc::new(alloc, image) {
@@ -153,19 +154,24 @@ fn shared(alloc: Global, image: Image) -> Result<Arc<Image>, NoMemory>
 pub fn run_image<R: Wait>(rt: &R, alloc: Global, image: Image) -> Result<Answer, NoMemory>
     ensures { IfOk result (λ a. ShowsRun image a) }
 {
-    let mut kernel = Kernel::new(alloc, shared(alloc, image)?, 1, BUDGET)?;
+    let image = shared_image(alloc, image)?;
+    let mut kernel = Kernel::new(alloc, image, 1, BUDGET)?;
     run_to_end(rt, alloc, &mut kernel)
 }
 
 // Drives a kernel in which nothing has happened yet by a script, and tells what is seen.
 fn replay_all(alloc: Global, kernel: &mut Kernel, script: &Script) -> Result<Answer, NoMemory>
     requires script { IsReady script.now }
-    requires first { kernel.old ≡ record { image = kernel.old.image; workers = script.now.workers; budget = script.now.budget; log = [] } }
+    requires first { kernel.old ≡ record kernel.old {
+      workers = script.now.workers;
+      budget = script.now.budget;
+      log = [];
+    } }
     ensures { IfOk result (ShowsReplayOf kernel.old.image script.now) }
 {
     replay(kernel, script)?;
     let outcome = kernel.outcome();
-    let mut answer = seen(alloc, kernel)?;
+    let mut answer = answer_of(alloc, kernel)?;
     let ended = ended_line(alloc, outcome, script.steps())?;
     answer.err.extend_from_slice(&ended)?;
     Ok(answer)
@@ -176,6 +182,7 @@ pub fn replay_image(alloc: Global, image: Image, script: &Script) -> Result<Answ
     requires { IsReady script.now }
     ensures { IfOk result (ShowsReplayOf image script.now) }
 {
-    let mut kernel = Kernel::new(alloc, shared(alloc, image)?, script.workers, script.budget)?;
+    let image = shared_image(alloc, image)?;
+    let mut kernel = Kernel::new(alloc, image, script.workers, script.budget)?;
     replay_all(alloc, &mut kernel, script)
 }

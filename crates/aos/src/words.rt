@@ -13,9 +13,9 @@ pub enum Command<'a> {
     Replay(&'a str, &'a str),
 }
 
-/// The command of `run FILE` or `replay --script S FILE`, where no file's name begins with `-`; None where the words are
-/// no command.
-pub fn asked(words: &[String]) -> Option<Command<'_>>
+/// The command of `run FILE` or `replay --script S FILE`, where no file's name begins with `-`;
+/// None where the words are no command.
+pub fn command_of(words: &[String]) -> Option<Command<'_>>
     ensures { command_in result ≡ command_of (words_of words.now) }
 {
     match words {

@@ -1,23 +1,24 @@
-use Rattle.std.proofs.Common.{ℕ, List, [], ◌∷◌, Option, subst}
+use Rattle.std.proofs.Common.{[], ◌∷◌, subst}
 use Rattle.aos_base.specs.declared.text.Refusal.{Refusal}
-use Rattle.aos_dev.specs.Shelf.{Named}
 use Rattle.aos_report.specs.Texts.{refusal_text}
 use Rattle.aos_compile.specs.Elaborates.{OnRefused, IsRefused}
 use Rattle.aos.specs.Words.{Replay}
-use Rattle.aos.specs.Cause.{Asks, Had, Causes, refused, by_script}
-use Rattle.aos.specs.Shown.{ShowsReplayOf, IsAnswer}
+use Rattle.aos.specs.Cause.{refused, by_script}
+use Rattle.aos.specs.Shown.{ShowsReplayOf, IsAnswer, ServesTexts}
 use Rattle.aos.proofs.Causes.{ready, replay_causes, causes_along, on_answer}
 use Rattle.aos.proofs.command.replay_text.Goals as goal
 
 pub replay_image-requires : goal.replay_image-requires
-replay_image-requires c = ready c.args.said.now c.args.script.now c.requires.read c.requires.few
+replay_image-requires c = ready c.args.listing.now c.args.script.now c.requires.read c.requires.few
 
 pub returns-in-Ok : goal.returns-in-Ok
 returns-in-Ok c =
     let name = c.args.name.now in
     let file = c.args.file.now in
-    on_answer (ShowsReplayOf c.in-Ok.image c.args.script.now) (λ a. (texts : Option (List Named)) (old new : ℕ) (words : List (List ℕ)) → Asks words (Replay name file) → Had texts (Replay name file) (c.args.said.now ∷ c.args.text.now ∷ []) → Causes texts old new words a) c.replay_image.result
-    (λ a run. λ texts old new words asks had. replay_causes texts old new words name file c.args.said.now c.args.text.now c.args.script.now c.in-Ok.program c.in-Ok.image a c.requires.read c.in-Ok.ensures.elaborates c.in-Ok.ensures.shows c.in-Ok.ensures.names run asks had)
+    let listing = c.args.listing.now in
+    let text = c.args.text.now in
+    on_answer (ShowsReplayOf c.in-Ok.image c.args.script.now) (ServesTexts (Replay name file) (listing ∷ text ∷ [])) c.replay_image.result
+    (λ a run. λ shelf had words asks. replay_causes words shelf listing file text c.args.script.now c.in-Ok.program c.in-Ok.image a c.requires.read c.in-Ok.ensures.elaborates c.in-Ok.ensures.shows c.in-Ok.ensures.names run (record { script = name; asks = asks; had = had }))
     c.replay_image.ensures
 
 pub returns-in-Err-Refused : goal.returns-in-Err-Refused
@@ -27,6 +28,6 @@ returns-in-Err-Refused c =
     let text = c.args.text.now in
     let r : Refusal = c.in-Err-Refused.r in
     let why = subst (λ e. OnRefused e (IsRefused text)) c.in-Err-Refused.field-0-is c.in-Err-Refused.ensures.refused in
-    on_answer (λ a. IsAnswer a 1 [] (refusal_text file r.rule r.pos)) (λ a. (texts : Option (List Named)) (old new : ℕ) (words : List (List ℕ)) → Asks words (Replay name file) → Had texts (Replay name file) (c.args.said.now ∷ text ∷ []) → Causes texts old new words a) c.refuse.result
-    (λ a h. λ texts old new words asks had. causes_along texts old new words a 1 [] (refusal_text file r.rule r.pos) h (refused r (by_script c.args.script.now asks had c.requires.read) why))
+    on_answer (λ a. IsAnswer a 1 [] (refusal_text file r.rule r.pos)) (ServesTexts (Replay name file) (c.args.listing.now ∷ text ∷ [])) c.refuse.result
+    (λ a h. λ shelf had words asks. causes_along words shelf a 1 [] (refusal_text file r.rule r.pos) h (refused r (by_script c.args.script.now (record { script = name; asks = asks; had = had }) c.requires.read) why))
     c.refuse.ensures

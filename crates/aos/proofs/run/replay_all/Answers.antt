@@ -18,6 +18,6 @@ returns c =
     shows_replay k.image s r c.in_ok-answer.answer _ c.in_ok-ended.ended.items
     (ap (λ (x : Run). x.image) same) (ap (λ (x : Run). x.budget) same ∙ ap (λ (x : Run). x.budget) c.requires.first)
     (c.in_ok-replay.ensures.state ∙ ap (λ st. execution (machine k.image) (choices_of s) st) begun)
-    (λ e. c.outcome-outcome.ensures.lively (c.outcome-outcome.ensures.outcome ∙ e)) c.in_ok-answer.ensures refl refl
+    c.in_ok-answer.ensures refl refl
     (c.in_ok-extend_from_slice.ensures.items ∙ ap (λ l. c.in_ok-answer.answer.err.items ++ l) c.deref.ensures.value)
     (c.in_ok-ended.ensures ∙ (λ i. ended_text (c.outcome-outcome.ensures.outcome i) (c.steps.ensures i)))

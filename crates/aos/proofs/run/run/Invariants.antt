@@ -1,4 +1,4 @@
-use Rattle.aos.specs.Seen.{SameSetting}
+use Rattle.aos.specs.Shown.{SameSetting}
 use Rattle.aos.proofs.run.run.Given as goal
 
 abbrev pub invariant-loop : goal.invariant-loop

@@ -12,8 +12,8 @@ pub returns : goal.returns
 returns g c =
     let r = c.run.new.kernel in
     let same = c.in_ok-run.ensures.same in
-    on_answer (TellsOf r) (ShowsRun c.args.kernel.now.image) c.seen.result
+    on_answer (TellsOf r) (ShowsRun c.args.kernel.now.image) c.answer_of.result
     (λ a told. subst (λ (i : Image). ShowsRun i a) same.image
-    (shows_run r a (same.workers ∙ c.requires.workers) (same.budget ∙ c.requires.budget) c.in_ok-run.ensures.over (λ e. c.outcome-outcome.ensures.lively (c.outcome-outcome.ensures.outcome ∙ e))
+    (shows_run r a (same.workers ∙ c.requires.workers) (same.budget ∙ c.requires.budget) c.in_ok-run.ensures.over
     (subst (λ (l : List Sched). All (IsEntry r.workers) l) c.log-log.ensures.log c.log-log.ensures.entries) told))
-    c.seen.ensures
+    c.answer_of.ensures

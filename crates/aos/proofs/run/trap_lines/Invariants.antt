@@ -1,7 +1,7 @@
 use Rattle.std.proofs.Common.{◌≡◌, map, take}
 use Rattle.std.specs.String.{string_bytes}
 use Rattle.aos_report.specs.Texts.{rows_text}
-use Rattle.aos.specs.Report.{row_of}
+use Rattle.aos.specs.Shown.{row_of}
 use Rattle.aos.proofs.run.trap_lines.Given as goal
 
 -- the lines of the traps so far

@@ -6,9 +6,10 @@ use Rattle.aos_base.specs.Book.{outcome}
 use Rattle.aos_code.specs.declared.image.Image.{Image}
 use Rattle.aos_report.specs.Texts.{rows_text}
 use Rattle.aos_base.specs.Observation.{status_of}
-use Rattle.aos.specs.Report.{row_of, spent_text}
+use Rattle.aos.specs.Report.{spent_text}
+use Rattle.aos.specs.Shown.{row_of}
 use Rattle.aos.proofs.Over.{tells}
-use Rattle.aos.proofs.run.seen.Goals as goal
+use Rattle.aos.proofs.run.answer_of.Goals as goal
 
 pub returns : goal.returns
 returns c =

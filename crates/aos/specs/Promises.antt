@@ -1,0 +1,159 @@
+-- What the program promises of every call.
+use Rattle.std.specs.Prelude.{◌≡◌, ℕ, ◌⊎◌, ◌↔◌, List, None}
+use Rattle.aos_base.specs.declared.kernel.Outcome.TheVariants.{Going}
+use Rattle.aos_base.specs.Observation.{Observation}
+use Rattle.aos_typed.specs.declared.tree.Program.{Program}
+use Rattle.aos_script.specs.declared.script.Script.{Script}
+use Rattle.aos_script.specs.declared.error.ScriptErr.{ScriptErr}
+use Rattle.aos_script.specs.Listing.{IsScript}
+use Rattle.aos_script.specs.Refusals.{IsRefused as IsRefusedScript}
+use Rattle.aos_compile.specs.Elaborates.{Elaborates, IsAccepted, names_of}
+use Rattle.aos.specs.Call.{Call, Tells, ShelfFailed, GotWhole, GotNothing, SinksWorked}
+use Rattle.aos.specs.Call.{IsUndisturbed}
+use Rattle.aos.specs.Words.{Command, command_of, Asks, wanted_files}
+use Rattle.aos.specs.Fetched.{NoFile, LongFile, Fetches}
+use Rattle.aos.specs.Report.{report, replay_report}
+use Rattle.aos.specs.Seen.{default_budget, Seen, replay_of}
+use Rattle.aos.specs.Cause.{Runs, RunsBy, Takes, Answered, AnsweredInPart}
+
+-- the status of a run that is over: ended without a trap, ended with one, or spent
+abbrev pub IsRunStatus : ℕ → Type 0
+IsRunStatus status = (status ≡ 0) ⊎ ((status ≡ 3) ⊎ (status ≡ 5))
+
+-- or of one that was still going on as its script ended
+abbrev pub IsReplayStatus : ℕ → Type 0
+IsReplayStatus status = IsRunStatus status ⊎ (status ≡ 9)
+
+-- the first file that isn't had is absent; or all are had, a listing is a script, and the text
+-- isn't accepted
+pub data IsAbsentOrRefused (call : Call) : Type 0 where
+  is_absent : {c : Command} (file : List ℕ) → Asks call.words c
+      → Fetches call.shelf.texts (wanted_files c) (NoFile file) → IsAbsentOrRefused call
+  is_refused : {file text : List ℕ} → Takes call.words call.shelf file text
+      → ¬ IsAccepted text → IsAbsentOrRefused call
+
+module _ (call : Call) where
+  -- the words ask for a run of a file that has this text, which is accepted; the shelf tells its
+  -- texts, and didn't fail
+  pub record IsRunnable (text : List ℕ) : Type 0 where
+    pub file : List ℕ
+    pub runs : Runs call.words call.shelf file text
+    pub accepted : IsAccepted text
+    pub tells : Tells call.shelf
+    pub worked : ¬ ShelfFailed call.shelf
+
+  -- the same of its run by a file that is this script
+  pub record IsReplayable (s : Script) (text : List ℕ) : Type 0 where
+    pub file : List ℕ
+    pub listing : List ℕ
+    pub runs : RunsBy call.words call.shelf listing file text
+    pub script : IsScript listing s
+    pub accepted : IsAccepted text
+    pub tells : Tells call.shelf
+    pub worked : ¬ ShelfFailed call.shelf
+
+  -- the status and what the sinks got are those of an execution of the text's program
+  pub record ShowsText (text : List ℕ) : Type 0 where
+    pub program : Program
+    pub elaborates : Elaborates text program
+    pub observation : Observation
+    pub seen : Seen program observation
+    pub status : call.status ≡ observation.status
+    pub on_out : GotWhole call.out observation.output
+    pub on_err : GotWhole call.err (report (names_of program) default_budget observation)
+
+  -- they are those of the execution under a script
+  pub record ShowsReplay (s : Script) (text : List ℕ) : Type 0 where
+    pub program : Program
+    pub elaborates : Elaborates text program
+    pub status : call.status ≡ (replay_of program s).status
+    pub on_out : GotWhole call.out (replay_of program s).output
+    pub on_err : GotWhole call.err (replay_report (names_of program) s (replay_of program s))
+
+  -- the first file that isn't had has more bytes than it may have
+  pub record IsTooLong : Type 0 where
+    pub command : Command
+    pub file : List ℕ
+    pub most : ℕ
+    pub asks : Asks call.words command
+    pub long : Fetches call.shelf.texts (wanted_files command) (LongFile file most)
+
+  -- the files are had, and the listing is no script
+  pub record IsNoScript : Type 0 where
+    pub listing : List ℕ
+    pub file : List ℕ
+    pub text : List ℕ
+    pub error : ScriptErr
+    pub runs : RunsBy call.words call.shelf listing file text
+    pub refused : IsRefusedScript listing error
+
+  -- the script ended while the run of the text's program was going on
+  pub record HasEnded : Type 0 where
+    pub listing : List ℕ
+    pub file : List ℕ
+    pub text : List ℕ
+    pub script : Script
+    pub program : Program
+    pub runs : RunsBy call.words call.shelf listing file text
+    pub read : IsScript listing script
+    pub elaborates : Elaborates text program
+    pub going : (replay_of program script).outcome ≡ Going
+
+  -- unless a sink or memory failed: the status is this only where the fact holds; and it is where
+  -- the fact holds, the shelf tells its texts, and the shelf didn't fail
+  pub record IsStatusWhere (status : ℕ) (fact : Type 0) : Type 0 where
+    pub only : IsUndisturbed call → call.status ≡ status → fact
+    pub as_well : Tells call.shelf → IsUndisturbed call → fact → ¬ ShelfFailed call.shelf
+        → call.status ≡ status
+
+  abbrev pub Headline : Type 0
+  Headline = (text : List ℕ) → IsRunnable text → IsUndisturbed call → ShowsText text
+
+  abbrev pub Complete : Type 0
+  Complete =
+      (text : List ℕ) → IsRunnable text → SinksWorked call
+      → (call.status ≡ 8) ⊎ (IsRunStatus call.status × ShowsText text)
+
+  abbrev pub Replays : Type 0
+  Replays =
+      (s : Script) (text : List ℕ) → IsReplayable s text → IsUndisturbed call → ShowsReplay s text
+
+  abbrev pub ReplaysComplete : Type 0
+  ReplaysComplete =
+      (s : Script) (text : List ℕ) → IsReplayable s text → SinksWorked call
+      → (call.status ≡ 8) ⊎ (IsReplayStatus call.status × ShowsReplay s text)
+
+  abbrev pub WrongWords : Type 0
+  WrongWords = IsUndisturbed call → ((call.status ≡ 2) ↔ (command_of call.words ≡ None))
+
+  abbrev pub ScriptEnded : Type 0
+  ScriptEnded = IsUndisturbed call → call.status ≡ 9 → HasEnded
+
+  -- what `aos` promises
+  pub record Promises : Type 0 where
+    -- where neither a sink nor memory failed, the answer has a cause, and both sinks got its whole
+    -- texts
+    pub answers : IsUndisturbed call → Answered call
+    -- an accepted text is run: for some schedule of one worker, the status and what the sinks got
+    -- are those of the execution of its program
+    pub headline : Headline
+    -- and where no count rose, that is the answer, or memory was wanted
+    pub complete : Complete
+    -- by a script: they are those of the execution of the text's program under the script
+    pub replays : Replays
+    -- and where no count rose, that is the answer, or memory was wanted
+    pub replays_complete : ReplaysComplete
+    -- 1: a file is absent, or the text is refused
+    pub absent_or_refused : IsStatusWhere 1 (IsAbsentOrRefused call)
+    -- 2: the words are no command
+    pub wrong_words : WrongWords
+    -- 6: the shelf failed, or a file is too long
+    pub unread_or_too_long : IsStatusWhere 6 (ShelfFailed call.shelf ⊎ IsTooLong)
+    -- 9: the script ended while the run was going on
+    pub script_ended : ScriptEnded
+    -- 10: the text that is to be a script is none
+    pub no_script : IsStatusWhere 10 IsNoScript
+    -- 7: a sink failed, and nothing more was put
+    pub sink_failed : call.status ≡ 7 → AnsweredInPart call
+    -- 8: nothing was put
+    pub no_memory : call.status ≡ 8 → GotNothing call.out × GotNothing call.err
