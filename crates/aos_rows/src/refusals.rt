@@ -77,17 +77,32 @@ fn refuses_texts(rt: HostRuntime) -> Result<(), Fail> {
     Ok(())
 }
 
+// The number inside 99 brackets stands in 201 productions: a Stat, and 100 times Expr and Factor.
+#[test]
+fn refuses_deep_nesting(rt: HostRuntime) -> Result<(), Fail> {
+    let alloc = rt.alloc();
+    let mut text = String::from_str(alloc, "MODULE M; VAR x: LONGINT; BEGIN x := ")?;
+    for _ in 0..99 {
+        text.push('(')?;
+    }
+    text.push_str("1")?;
+    let want = ("", "M.Mod:1:137: rule 7: nesting too deep\n", 1);
+    expect_run(&rt, alloc, &text, want)?;
+    Ok(())
+}
+
 // A module of each production, with one blank between any two tokens.
 const WHOLE: &str =
-    "MODULE M ; IMPORT Out , N := O ; CONST c * = 1 ; d - = 2 ; TYPE T = RECORD ( B . C ) x , y * : \
-     LONGINT ; END ; P = POINTER TO T ; A = ARRAY 2 , 3 OF CHAR ; Q = PROCEDURE { DELEGATE } ( VAR a , b \
-     : T ; c : ARRAY OF CHAR ) : LONGINT ; W = OBJECT ( T ) VAR z : LONGINT ; PROCEDURE & Init ( ) ; \
-     BEGIN { EXCLUSIVE } RETURN END Init ; BEGIN { ACTIVE , PRIORITY ( 2 ) } AWAIT ( z > 0 ) END W ; VAR \
-     v : T ; PROCEDURE F * ( x : SET ) : BOOLEAN ; BEGIN RETURN x = { 1 .. 2 , 3 } END F ; BEGIN IF a \
-     THEN b := c ELSIF d THEN e ( f , g ) ELSE END ; CASE x OF 1 , 2 .. 3 : y | 4 : z ELSE w END ; WHILE \
-     a DO END ; REPEAT UNTIL b ; FOR i := 0 TO 9 BY 2 DO END ; LOOP EXIT END ; WITH v : T DO END ; BEGIN \
-     { EXCLUSIVE } END ; x := - a + b * ~ c & NIL OR d DIV ( e MOD f ) ; s [ 1 , 2 ] . y ^ := 'c' ; t := \
-     41X ; u := { } END M .";
+    "MODULE M ; IMPORT Out , N := O ; CONST c * = 1 ; d - = 2 ; TYPE T = RECORD ( B . C ) x \
+     , y * : LONGINT ; END ; P = POINTER TO T ; A = ARRAY 2 , 3 OF CHAR ; Q = PROCEDURE { \
+     DELEGATE } ( VAR a , b : T ; c : ARRAY OF CHAR ) : LONGINT ; W = OBJECT ( T ) VAR z : \
+     LONGINT ; PROCEDURE & Init ( ) ; BEGIN { EXCLUSIVE } RETURN END Init ; BEGIN { ACTIVE \
+     , PRIORITY ( 2 ) } AWAIT ( z > 0 ) END W ; VAR v : T ; PROCEDURE F * ( x : SET ) : \
+     BOOLEAN ; BEGIN RETURN x = { 1 .. 2 , 3 } END F ; BEGIN IF a THEN b := c ELSIF d THEN \
+     e ( f , g ) ELSE END ; CASE x OF 1 , 2 .. 3 : y | 4 : z ELSE w END ; WHILE a DO END ; \
+     REPEAT UNTIL b ; FOR i := 0 TO 9 BY 2 DO END ; LOOP EXIT END ; WITH v : T DO END ; \
+     BEGIN { EXCLUSIVE } END ; x := - a + b * ~ c & NIL OR d DIV ( e MOD f ) ; s [ 1 , 2 ] \
+     . y ^ := 'c' ; t := 41X ; u := { } END M .";
 
 // A module that breaks off is expected to go on at its end.
 #[test]

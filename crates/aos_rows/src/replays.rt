@@ -1,4 +1,5 @@
-// Each row is a script and a text, with what replaying the text by the script writes, and the status.
+// Each row is a script and a text, with what replaying the text by the script writes, and the
+// status.
 use crate::rows::{SEVEN, expect_replay};
 use std::alloc::{AllocError, Global};
 use std::test::Fail;
@@ -125,8 +126,8 @@ fn in_turns(alloc: Global, times: u32, steps: u32) -> Result<String, AllocError>
     Ok(script)
 }
 
-// The module makes so many objects whose activities end at once. Of activities 1,024 live at a time, that of the module's
-// body among them, and 65,536 are made in all.
+// The module makes so many objects whose activities end at once. Of activities 1,024 live at a
+// time, that of the module's body among them, and 65,536 are made in all.
 #[test]
 fn counts_activities(rt: HostRuntime) -> Result<(), Fail> {
     let alloc = rt.alloc();

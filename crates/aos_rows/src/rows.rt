@@ -20,10 +20,18 @@ pub fn owned(alloc: Global, words: &[&str]) -> Result<Vec<String>, AllocError> {
     Ok(all)
 }
 
-// A shelf with one file, M.Mod, that works.
-pub fn shelf_with(alloc: Global, text: Vec<u8>) -> Result<MemShelf, AllocError> {
-    let files = vec![in alloc; (String::from_str(alloc, "M.Mod")?, text)]?;
-    Ok(MemShelf::new(files, Vec::new(alloc)))
+// A shelf of these files, whose calls with these numbers fail.
+pub fn shelf_of(
+    alloc: Global,
+    files: &[(&str, &str)],
+    fails: &[u64],
+) -> Result<MemShelf, AllocError> {
+    let mut all = Vec::new(alloc);
+    for (name, text) in files {
+        let name = String::from_str(alloc, name)?;
+        all.push((name, Vec::from_slice(alloc, text.as_bytes())?))?;
+    }
+    Ok(MemShelf::new(all, Vec::from_slice(alloc, fails)?))
 }
 
 // Answers the words over the shelf, and wants these texts and this status.
@@ -58,23 +66,12 @@ pub fn expect_run<R: Abort + Wait>(
     text: &str,
     want: (&str, &str, u8),
 ) -> Result<(), NoMemory> {
-    let shelf = shelf_with(alloc, Vec::from_slice(alloc, text.as_bytes())?)?;
+    let shelf = shelf_of(alloc, &[("M.Mod", text)], &[])?;
     expect_answer(rt, alloc, &["run", "M.Mod"], shelf, want)
 }
 
-// A file for a shelf.
-fn file(alloc: Global, name: &str, text: &str) -> Result<(String, Vec<u8>), AllocError> {
-    Ok((
-        String::from_str(alloc, name)?,
-        Vec::from_slice(alloc, text.as_bytes())?,
-    ))
-}
-
-// A shelf with the text as M.Mod and the script as S, that works.
-fn shelf_with_script(alloc: Global, text: &str, script: &str) -> Result<MemShelf, AllocError> {
-    let files = vec![in alloc; file(alloc, "M.Mod", text)?, file(alloc, "S", script)?]?;
-    Ok(MemShelf::new(files, Vec::new(alloc)))
-}
+// The words that ask for a run of M.Mod by S.
+pub const REPLAY: &[&str] = &["replay", "--script", "S", "M.Mod"];
 
 // Replays the text by the script.
 pub fn expect_replay<R: Abort + Wait>(
@@ -83,12 +80,6 @@ pub fn expect_replay<R: Abort + Wait>(
     (script, text): (&str, &str),
     want: (&str, &str, u8),
 ) -> Result<(), NoMemory> {
-    let shelf = shelf_with_script(alloc, text, script)?;
-    expect_answer(
-        rt,
-        alloc,
-        &["replay", "--script", "S", "M.Mod"],
-        shelf,
-        want,
-    )
+    let shelf = shelf_of(alloc, &[("M.Mod", text), ("S", script)], &[])?;
+    expect_answer(rt, alloc, REPLAY, shelf, want)
 }
