@@ -425,11 +425,11 @@ module _ (call : Call) (answered : IsUndisturbed call → Answered call) (in_par
     complete = λ text k worked. whole_or_memory (IsRunStatus call.status × ShowsText call text) worked (run_answer text k);
     replays = shows_replay;
     replays_complete = λ s text k worked. whole_or_memory (IsReplayStatus call.status × ShowsReplay call s text) worked (replay_answer s text k);
-    absent_or_refused = record { only = λ u e. one_only call (answered u).cause e; as_well = λ tells u fact calm. one_if call tells calm (answered u).cause fact };
+    absent_or_refused = record { only_where = λ u e. one_only call (answered u).cause e; wherever = λ tells u fact calm. one_if call tells calm (answered u).cause fact };
     wrong_words = λ u. ((λ e. two_only call.words call.shelf (answered u).cause e), (λ n. two_if call.words call.shelf (answered u).cause n));
-    unread_or_too_long = record { only = λ u e. six_only call (answered u).cause e; as_well = λ tells u fact calm. six_if call tells calm (answered u).cause fact };
+    unread_or_too_long = record { only_where = λ u e. six_only call (answered u).cause e; wherever = λ tells u fact calm. six_if call tells calm (answered u).cause fact };
     script_ended = λ u e. nine_only call (answered u).cause e;
-    no_script = record { only = λ u e. ten_only call (answered u).cause e; as_well = λ tells u fact calm. ten_if call tells calm (answered u).cause fact };
+    no_script = record { only_where = λ u e. ten_only call (answered u).cause e; wherever = λ tells u fact calm. ten_if call tells calm (answered u).cause fact };
     sink_failed = in_part;
     no_memory = nothing;
   }

@@ -102,8 +102,8 @@ module _ (call : Call) where
   -- unless a sink or memory failed: the status is this only where the fact holds; and it is where
   -- the fact holds, the shelf tells its texts, and the shelf didn't fail
   pub record IsStatusWhere (status : ℕ) (fact : Type 0) : Type 0 where
-    pub only : IsUndisturbed call → call.status ≡ status → fact
-    pub as_well : Tells call.shelf → IsUndisturbed call → fact → ¬ ShelfFailed call.shelf
+    pub only_where : IsUndisturbed call → call.status ≡ status → fact
+    pub wherever : Tells call.shelf → IsUndisturbed call → fact → ¬ ShelfFailed call.shelf
         → call.status ≡ status
 
   abbrev pub Headline : Type 0

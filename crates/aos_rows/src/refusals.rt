@@ -4,6 +4,7 @@ use std::test::Fail;
 
 #[test]
 fn refuses_texts(rt: HostRuntime) -> Result<(), Fail> {
+    let alloc = rt.alloc();
     for (text, err) in [
         (
             "MODULE M; BEGIN ? END M.",
@@ -72,22 +73,17 @@ fn refuses_texts(rt: HostRuntime) -> Result<(), Fail> {
             "M.Mod:1:28: rule 12: end name differs\n",
         ),
     ] {
-        expect_run(&rt, rt.alloc(), text, ("", err, 1))?;
+        expect_run(&rt, alloc, text, ("", err, 1))?;
     }
-    Ok(())
-}
 
-// The number inside 99 brackets stands in 201 productions: a Stat, and 100 times Expr and Factor.
-#[test]
-fn refuses_deep_nesting(rt: HostRuntime) -> Result<(), Fail> {
-    let alloc = rt.alloc();
-    let mut text = String::from_str(alloc, "MODULE M; VAR x: LONGINT; BEGIN x := ")?;
+    // The number inside 99 brackets stands in 201 productions: a Stat, and 100 times Expr and Factor.
+    let mut deep = String::from_str(alloc, "MODULE M; VAR x: LONGINT; BEGIN x := ")?;
     for _ in 0..99 {
-        text.push('(')?;
+        deep.push('(')?;
     }
-    text.push_str("1")?;
+    deep.push_str("1")?;
     let want = ("", "M.Mod:1:137: rule 7: nesting too deep\n", 1);
-    expect_run(&rt, alloc, &text, want)?;
+    expect_run(&rt, alloc, &deep, want)?;
     Ok(())
 }
 

@@ -6,19 +6,19 @@ use std::alloc::{AllocError, Global};
 use std::test::Fail;
 
 #[test]
-fn prints(rt: HostRuntime) -> Result<(), Fail> {
-    for (text, out) in [
-        (SEVEN, "  7\n"),
+fn runs(rt: HostRuntime) -> Result<(), Fail> {
+    for (text, want) in [
+        (SEVEN, ("  7\n", "", 0)),
         (
             "MODULE M; IMPORT Out; VAR i, s: LONGINT; BEGIN i := 1; \
              WHILE i < 11 DO s := s + i; i := i + 1 END; Out.Int(s, 4); Out.Ln END M.",
-            "  55\n",
+            ("  55\n", "", 0),
         ),
         // a variable that was never assigned is 0
         (
             "MODULE M; IMPORT Out; VAR a, b: LONGINT; BEGIN a := 40; a := a + 1 + 1; \
              Out.Int(a, 0); Out.Int(b, 2) END M.",
-            "42 0",
+            ("42 0", "", 0),
         ),
         // three loops, one in the other
         (
@@ -29,35 +29,27 @@ fn prints(rt: HostRuntime) -> Result<(), Fail> {
              j := j + 1 END; \
              i := i + 1 END; \
              Out.Int(n, 0); Out.Ln END M.",
-            "8\n",
+            ("8\n", "", 0),
         ),
         // the smallest value
         (
             "MODULE M; IMPORT Out; VAR i: LONGINT; BEGIN \
              i := i - 2147483647; i := i - 1; Out.Int(i, 0) END M.",
-            "-2147483648",
+            ("-2147483648", "", 0),
         ),
-    ] {
-        expect_run(&rt, rt.alloc(), text, (out, "", 0))?;
-    }
-    Ok(())
-}
-
-#[test]
-fn traps(rt: HostRuntime) -> Result<(), Fail> {
-    for (text, err) in [
+        // one more than the greatest value, and one less than the smallest
         (
             "MODULE M;\nIMPORT Out;\nVAR i: LONGINT;\n\
              BEGIN\n  i := 2147483647;\n  i := i + 1\nEND M.\n",
-            "trap 5 0 activity 0 at M:6:3\n",
+            ("", "trap 5 0 activity 0 at M:6:3\n", 3),
         ),
         (
             "MODULE M;\nIMPORT Out;\nVAR i: LONGINT;\n\
              BEGIN\n  i := i - 2147483647;\n  i := i - 2\nEND M.\n",
-            "trap 5 0 activity 0 at M:6:3\n",
+            ("", "trap 5 0 activity 0 at M:6:3\n", 3),
         ),
     ] {
-        expect_run(&rt, rt.alloc(), text, ("", err, 3))?;
+        expect_run(&rt, rt.alloc(), text, want)?;
     }
     Ok(())
 }
