@@ -13,3 +13,5 @@ mod modules;
 mod texts;
 #[cfg(test)]
 mod tokens;
+#[cfg(test)]
+mod trees;
