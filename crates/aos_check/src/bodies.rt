@@ -15,7 +15,9 @@ use aos_typed::TType;
 
 #[cycle(check_statements)]
 fn check_stat(found: &mut Option<Breach>, scope: &Scope<'_>, types: &[TType], stat: &Stat)
-    ensures { found.new ≡ first_after found.old (bodies.stat_breaches scope.now.text scope.now.entries types.now stat.now) }
+    ensures { found.new ≡
+        first_after found.old
+        (bodies.stat_breaches scope.now.text scope.now.entries types.now stat.now) }
 {
     match stat {
         Stat::Empty => {},
@@ -40,7 +42,9 @@ fn check_stat(found: &mut Option<Breach>, scope: &Scope<'_>, types: &[TType], st
 
 #[cycle(check_statements)]
 fn check_stats(found: &mut Option<Breach>, scope: &Scope<'_>, types: &[TType], stats: &Items<Stat>)
-    ensures { found.new ≡ first_after found.old (flat_map (bodies.stat_breaches scope.now.text scope.now.entries types.now) stats.now) }
+    ensures { found.new ≡
+        first_after found.old
+        (flat_map (bodies.stat_breaches scope.now.text scope.now.entries types.now) stats.now) }
 {
     for stat in stats.as_slice() {
         check_stat(found, scope, types, stat);
@@ -53,7 +57,8 @@ fn check_modifiers(
     may_be_active: bool,
     modifiers: &[Modifier],
 )
-    ensures { found.new ≡ first_after found.old (bodies.modifier_breaches text.now may_be_active modifiers.now) }
+    ensures { found.new ≡
+        first_after found.old (bodies.modifier_breaches text.now may_be_active modifiers.now) }
 {
     let mut may_be_active = may_be_active;
     for modifier in modifiers {
@@ -71,7 +76,10 @@ fn check_body(
     may_be_active: bool,
     body: &Option<Block>,
 )
-    ensures { found.new ≡ first_after found.old (bodies.body_breaches scope.now.text scope.now.entries types.now may_be_active body.now) }
+    ensures { found.new ≡
+        first_after found.old
+        (bodies.body_breaches scope.now.text scope.now.entries types.now may_be_active
+        body.now) }
 {
     if let Some(block) = body {
         check_modifiers(
@@ -85,7 +93,9 @@ fn check_body(
 }
 
 fn check_object_type(found: &mut Option<Breach>, scope: &Scope<'_>, types: &[TType], def: &TypeDef)
-    ensures { found.new ≡ first_after found.old (bodies.object_breaches_of scope.now.text scope.now.entries types.now def.now) }
+    ensures { found.new ≡
+        first_after found.old
+        (bodies.object_breaches_of scope.now.text scope.now.entries types.now def.now) }
 {
     if let TypeExpr::Object(_, _, _, body, _) = &def.value {
         check_body(found, scope, types, true, body);
@@ -93,7 +103,10 @@ fn check_object_type(found: &mut Option<Breach>, scope: &Scope<'_>, types: &[TTy
 }
 
 fn check_objects(found: &mut Option<Breach>, scope: &Scope<'_>, types: &[TType], defs: &[TypeDef])
-    ensures { found.new ≡ first_after found.old (flat_map (bodies.object_breaches_of scope.now.text scope.now.entries types.now) defs.now) }
+    ensures { found.new ≡
+        first_after found.old
+        (flat_map (bodies.object_breaches_of scope.now.text scope.now.entries types.now)
+        defs.now) }
 {
     for def in defs {
         check_object_type(found, scope, types, def);
@@ -101,7 +114,10 @@ fn check_objects(found: &mut Option<Breach>, scope: &Scope<'_>, types: &[TType],
 }
 
 fn check_types(found: &mut Option<Breach>, scope: &Scope<'_>, types: &[TType], decls: &[Decl])
-    ensures { found.new ≡ first_after found.old (flat_map (bodies.object_breaches_of scope.now.text scope.now.entries types.now) (type_defs decls.now)) }
+    ensures { found.new ≡
+        first_after found.old
+        (flat_map (bodies.object_breaches_of scope.now.text scope.now.entries types.now)
+        (type_defs decls.now)) }
 {
     for decl in decls {
         if let Decl::Types(_, defs) = decl {

@@ -22,7 +22,9 @@ fn check_int_arguments(
     at: Pos,
     arguments: &[Expr],
 )
-    ensures { found.new ≡ first_after found.old (bodies.int_arguments scope.now.text scope.now.entries types.now at arguments.now) }
+    ensures { found.new ≡
+        first_after found.old
+        (bodies.int_arguments scope.now.text scope.now.entries types.now at arguments.now) }
 {
     match arguments {
         [value, places] => {
@@ -40,7 +42,9 @@ fn check_new_arguments(
     at: Pos,
     arguments: &[Expr],
 )
-    ensures { found.new ≡ first_after found.old (bodies.new_arguments scope.now.text scope.now.entries types.now at arguments.now) }
+    ensures { found.new ≡
+        first_after found.old
+        (bodies.new_arguments scope.now.text scope.now.entries types.now at arguments.now) }
 {
     match arguments {
         [object] => check_object(found, scope, types, object),
@@ -55,7 +59,9 @@ fn check_int(
     at: Pos,
     selectors: &[Selector],
 )
-    ensures { found.new ≡ first_after found.old (bodies.int_breaches scope.now.text scope.now.entries types.now at selectors.now) }
+    ensures { found.new ≡
+        first_after found.old
+        (bodies.int_breaches scope.now.text scope.now.entries types.now at selectors.now) }
 {
     let Some((selector, more)) = selectors.split_first() else {
         note(found, NOT_BUILT, at);
@@ -77,7 +83,9 @@ fn check_new(
     at: Pos,
     selectors: &[Selector],
 )
-    ensures { found.new ≡ first_after found.old (bodies.new_breaches scope.now.text scope.now.entries types.now at selectors.now) }
+    ensures { found.new ≡
+        first_after found.old
+        (bodies.new_breaches scope.now.text scope.now.entries types.now at selectors.now) }
 {
     let Some((selector, more)) = selectors.split_first() else {
         note(found, NOT_BUILT, at);
@@ -100,7 +108,9 @@ fn check_member(
     name: Name,
     more: &[Selector],
 )
-    ensures { found.new ≡ first_after found.old (bodies.member_call scope.now.text scope.now.entries types.now at name more.now) }
+    ensures { found.new ≡
+        first_after found.old
+        (bodies.member_call scope.now.text scope.now.entries types.now at name more.now) }
 {
     if is_word(scope.text(), "Int", name) {
         check_int(found, scope, types, at, more);
@@ -120,7 +130,9 @@ fn check_out(
     at: Pos,
     selectors: &[Selector],
 )
-    ensures { found.new ≡ first_after found.old (bodies.out_breaches scope.now.text scope.now.entries types.now at selectors.now) }
+    ensures { found.new ≡
+        first_after found.old
+        (bodies.out_breaches scope.now.text scope.now.entries types.now at selectors.now) }
 {
     let Some((selector, more)) = selectors.split_first() else {
         note(found, NOT_BUILT, at);
@@ -133,7 +145,10 @@ fn check_out(
 }
 
 pub fn check_call(found: &mut Option<Breach>, scope: &Scope<'_>, types: &[TType], desig: &Desig)
-    ensures { found.new ≡ first_after found.old (bodies.called scope.now.text scope.now.entries types.now (meaning scope.now.text scope.now.entries desig.now.name) desig.now) }
+    ensures { found.new ≡
+        first_after found.old
+        (bodies.called scope.now.text scope.now.entries types.now
+        (meaning scope.now.text scope.now.entries desig.now.name) desig.now) }
 {
     let at = desig.name.pos;
     let selectors = desig.selectors.as_slice();
@@ -152,7 +167,9 @@ pub fn check_assign(
     desig: &Desig,
     value: &Expr,
 )
-    ensures { found.new ≡ first_after found.old (bodies.assign_breaches scope.now.text scope.now.entries types.now desig.now value.now) }
+    ensures { found.new ≡
+        first_after found.old
+        (bodies.assign_breaches scope.now.text scope.now.entries types.now desig.now value.now) }
 {
     needs_number(found, types, scope.meaning_of(desig.name), desig.name.pos);
     refuse_selectors(found, desig.selectors.as_slice());

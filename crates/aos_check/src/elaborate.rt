@@ -31,8 +31,11 @@ fn int_arguments_of(
     at: Pos,
     arguments: &[Expr],
 ) -> Result<TStat, AllocError>
-    requires { bodies.int_arguments scope.now.text scope.now.entries types.now at arguments.now ≡ [] }
-    ensures { IfOk result (λ s. typed.IsIntArguments scope.now.text scope.now.entries types.now at arguments.now s) }
+    requires { bodies.int_arguments scope.now.text scope.now.entries types.now at arguments.now ≡
+        [] }
+    ensures { IfOk result
+        (λ s. typed.IsIntArguments scope.now.text scope.now.entries types.now at arguments.now
+        s) }
 {
     match arguments {
         [value, places] => {
@@ -46,8 +49,10 @@ fn int_arguments_of(
 
 /// NEW of one argument, in a call that begins at a place.
 fn new_arguments_of(scope: &Scope<'_>, types: &[TType], at: Pos, arguments: &[Expr]) -> TStat
-    requires { bodies.new_arguments scope.now.text scope.now.entries types.now at arguments.now ≡ [] }
-    ensures { typed.IsNewArguments scope.now.text scope.now.entries types.now at arguments.now result }
+    requires { bodies.new_arguments scope.now.text scope.now.entries types.now at arguments.now ≡
+        [] }
+    ensures { typed.IsNewArguments scope.now.text scope.now.entries types.now at arguments.now
+        result }
 {
     match arguments {
         [object] => {
@@ -65,8 +70,10 @@ fn int_call_of(
     at: Pos,
     selectors: &[Selector],
 ) -> Result<TStat, AllocError>
-    requires { bodies.int_breaches scope.now.text scope.now.entries types.now at selectors.now ≡ [] }
-    ensures { IfOk result (λ s. typed.IsIntCall scope.now.text scope.now.entries types.now at selectors.now s) }
+    requires { bodies.int_breaches scope.now.text scope.now.entries types.now at selectors.now ≡
+        [] }
+    ensures { IfOk result
+        (λ s. typed.IsIntCall scope.now.text scope.now.entries types.now at selectors.now s) }
 {
     let Some((selector, _)) = selectors.split_first() else {
         unreachable!()
@@ -80,7 +87,8 @@ fn int_call_of(
 }
 
 fn new_call_of(scope: &Scope<'_>, types: &[TType], at: Pos, selectors: &[Selector]) -> TStat
-    requires { bodies.new_breaches scope.now.text scope.now.entries types.now at selectors.now ≡ [] }
+    requires { bodies.new_breaches scope.now.text scope.now.entries types.now at selectors.now ≡
+        [] }
     ensures { typed.IsNewCall scope.now.text scope.now.entries types.now at selectors.now result }
 {
     let Some((selector, _)) = selectors.split_first() else {
@@ -104,7 +112,8 @@ fn member_call_of(
     more: &[Selector],
 ) -> Result<TStat, AllocError>
     requires { bodies.member_call scope.now.text scope.now.entries types.now at name more.now ≡ [] }
-    ensures { IfOk result (λ s. typed.IsMemberCall scope.now.text scope.now.entries types.now at name more.now s) }
+    ensures { IfOk result
+        (λ s. typed.IsMemberCall scope.now.text scope.now.entries types.now at name more.now s) }
 {
     if is_word(scope.text(), "Int", name) {
         int_call_of(alloc, scope, types, at, more)
@@ -120,8 +129,10 @@ fn out_call_of(
     at: Pos,
     selectors: &[Selector],
 ) -> Result<TStat, AllocError>
-    requires { bodies.out_breaches scope.now.text scope.now.entries types.now at selectors.now ≡ [] }
-    ensures { IfOk result (λ s. typed.IsOutCall scope.now.text scope.now.entries types.now at selectors.now s) }
+    requires { bodies.out_breaches scope.now.text scope.now.entries types.now at selectors.now ≡
+        [] }
+    ensures { IfOk result
+        (λ s. typed.IsOutCall scope.now.text scope.now.entries types.now at selectors.now s) }
 {
     let Some((selector, more)) = selectors.split_first() else {
         unreachable!()
@@ -138,8 +149,10 @@ fn call_of(
     types: &[TType],
     desig: &Desig,
 ) -> Result<TStat, AllocError>
-    requires { bodies.called scope.now.text scope.now.entries types.now (meaning scope.now.text scope.now.entries desig.now.name) desig.now ≡ [] }
-    ensures { IfOk result (λ s. typed.IsCall scope.now.text scope.now.entries types.now desig.now s) }
+    requires { bodies.called scope.now.text scope.now.entries types.now
+        (meaning scope.now.text scope.now.entries desig.now.name) desig.now ≡ [] }
+    ensures { IfOk result
+        (λ s. typed.IsCall scope.now.text scope.now.entries types.now desig.now s) }
 {
     let at = desig.name.pos;
     let selectors = desig.selectors.as_slice();
@@ -157,8 +170,11 @@ fn assign_of(
     desig: &Desig,
     value: &Expr,
 ) -> Result<TStat, AllocError>
-    requires { bodies.assign_breaches scope.now.text scope.now.entries types.now desig.now value.now ≡ [] }
-    ensures { IfOk result (λ s. (set : Pos) → typed.IsStat scope.now.text scope.now.entries types.now (stat.Assign desig.now set value.now) s) }
+    requires { bodies.assign_breaches scope.now.text scope.now.entries types.now desig.now
+        value.now ≡ [] }
+    ensures { IfOk result (λ s. (set : Pos) →
+        typed.IsStat scope.now.text scope.now.entries types.now
+        (stat.Assign desig.now set value.now) s) }
 {
     let number = number_variable(scope, types, desig.name);
     let value = value_of(alloc, scope, types, value)?;
@@ -175,7 +191,9 @@ fn add_stat(
     types: &[TType],
 ) -> Result<(), AllocError>
     requires { bodies.stat_breaches scope.now.text scope.now.entries types.now stat.now ≡ [] }
-    ensures { OnOk result (typed.AddsStat scope.now.text scope.now.entries types.now stat.now out.old.items out.new.items) }
+    ensures { OnOk result
+        (typed.AddsStat scope.now.text scope.now.entries types.now stat.now out.old.items
+        out.new.items) }
 {
     match stat {
         Stat::Empty => Ok(()),
@@ -204,8 +222,10 @@ pub fn stats_of(
     types: &[TType],
     stats: &Items<Stat>,
 ) -> Result<Vec<TStat>, AllocError>
-    requires { flat_map (bodies.stat_breaches scope.now.text scope.now.entries types.now) stats.now ≡ [] }
-    ensures { IfOk result (λ out. typed.AreStats scope.now.text scope.now.entries types.now stats.now out.items) }
+    requires { flat_map (bodies.stat_breaches scope.now.text scope.now.entries types.now) stats.now
+        ≡ [] }
+    ensures { IfOk result
+        (λ out. typed.AreStats scope.now.text scope.now.entries types.now stats.now out.items) }
 {
     let mut out = Vec::new(alloc);
     for stat in stats.as_slice() {
@@ -221,7 +241,8 @@ pub fn body_of(
     body: &Option<Block>,
 ) -> Result<Vec<TStat>, AllocError>
     requires { bodies.body_breaches scope.now.text scope.now.entries types.now false body.now ≡ [] }
-    ensures { IfOk result (λ out. typed.IsBody scope.now.text scope.now.entries types.now body.now out.items) }
+    ensures { IfOk result
+        (λ out. typed.IsBody scope.now.text scope.now.entries types.now body.now out.items) }
 {
     match body {
         None => Ok(Vec::new(alloc)),

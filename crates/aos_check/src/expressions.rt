@@ -148,7 +148,8 @@ fn is_object(of: Option<TType>) -> bool
 
 /// A name that must be one of a LONGINT variable.
 pub fn needs_number(found: &mut Option<Breach>, types: &[TType], means: Option<Meaning>, at: Pos)
-    ensures { found.new ≡ first_after found.old (bodies.needs_variable types.now bodies.is_longint means at) }
+    ensures { found.new ≡
+        first_after found.old (bodies.needs_variable types.now bodies.is_longint means at) }
 {
     match means {
         Some(Meaning::Variable(number)) => {
@@ -162,7 +163,8 @@ pub fn needs_number(found: &mut Option<Breach>, types: &[TType], means: Option<M
 
 /// A name that must be one of an object variable.
 fn needs_object(found: &mut Option<Breach>, types: &[TType], means: Option<Meaning>, at: Pos)
-    ensures { found.new ≡ first_after found.old (bodies.needs_variable types.now bodies.is_object means at) }
+    ensures { found.new ≡
+        first_after found.old (bodies.needs_variable types.now bodies.is_object means at) }
 {
     match means {
         Some(Meaning::Variable(number)) => {
@@ -183,7 +185,9 @@ fn check_number(found: &mut Option<Breach>, number: i64, most: i64, at: Pos)
 }
 
 fn check_factor(found: &mut Option<Breach>, scope: &Scope<'_>, types: &[TType], factor: &Factor)
-    ensures { found.new ≡ first_after found.old (bodies.factor_breaches scope.now.text scope.now.entries types.now factor.now) }
+    ensures { found.new ≡
+        first_after found.old
+        (bodies.factor_breaches scope.now.text scope.now.entries types.now factor.now) }
 {
     match factor {
         Factor::Number(at, number) => check_number(found, *number, GREATEST, *at),
@@ -196,7 +200,9 @@ fn check_factor(found: &mut Option<Breach>, scope: &Scope<'_>, types: &[TType], 
 }
 
 fn check_term(found: &mut Option<Breach>, scope: &Scope<'_>, types: &[TType], term: &Term)
-    ensures { found.new ≡ first_after found.old (bodies.term_breaches scope.now.text scope.now.entries types.now term.now) }
+    ensures { found.new ≡
+        first_after found.old
+        (bodies.term_breaches scope.now.text scope.now.entries types.now term.now) }
 {
     check_factor(found, scope, types, &term.first);
     refuse_products(found, term.rest.as_slice());
@@ -209,7 +215,10 @@ fn check_addition(
     after_number: bool,
     addition: &Addition,
 )
-    ensures { found.new ≡ first_after found.old (bodies.addition_breaches scope.now.text scope.now.entries types.now after_number addition.now) }
+    ensures { found.new ≡
+        first_after found.old
+        (bodies.addition_breaches scope.now.text scope.now.entries types.now after_number
+        addition.now) }
 {
     if after_number || !is_built(addition.op) {
         note(found, NOT_BUILT, addition.pos);
@@ -224,7 +233,10 @@ fn check_additions(
     after_number: bool,
     additions: &[Addition],
 )
-    ensures { found.new ≡ first_after found.old (flat_map (bodies.addition_breaches scope.now.text scope.now.entries types.now after_number) additions.now) }
+    ensures { found.new ≡
+        first_after found.old
+        (flat_map (bodies.addition_breaches scope.now.text scope.now.entries types.now
+        after_number) additions.now) }
 {
     for addition in additions {
         check_addition(found, scope, types, after_number, addition);
@@ -232,7 +244,9 @@ fn check_additions(
 }
 
 fn check_sum(found: &mut Option<Breach>, scope: &Scope<'_>, types: &[TType], sum: &Simple)
-    ensures { found.new ≡ first_after found.old (bodies.sum_breaches scope.now.text scope.now.entries types.now sum.now) }
+    ensures { found.new ≡
+        first_after found.old
+        (bodies.sum_breaches scope.now.text scope.now.entries types.now sum.now) }
 {
     refuse_sign(found, sum.sign, sum.pos);
     check_term(found, scope, types, &sum.first);
@@ -242,7 +256,9 @@ fn check_sum(found: &mut Option<Breach>, scope: &Scope<'_>, types: &[TType], sum
 
 /// An expression that is a sum.
 pub fn check_value(found: &mut Option<Breach>, scope: &Scope<'_>, types: &[TType], value: &Expr)
-    ensures { found.new ≡ first_after found.old (bodies.value_breaches scope.now.text scope.now.entries types.now value.now) }
+    ensures { found.new ≡
+        first_after found.old
+        (bodies.value_breaches scope.now.text scope.now.entries types.now value.now) }
 {
     check_sum(found, scope, types, &value.left);
     refuse_relation(found, &value.right);
@@ -255,7 +271,9 @@ fn check_compared(
     relation: &Option<Relation>,
     at: Pos,
 )
-    ensures { found.new ≡ first_after found.old (bodies.compared scope.now.text scope.now.entries types.now relation.now at) }
+    ensures { found.new ≡
+        first_after found.old
+        (bodies.compared scope.now.text scope.now.entries types.now relation.now at) }
 {
     match relation {
         None => note(found, NOT_BUILT, at),
@@ -276,14 +294,18 @@ pub fn check_condition(
     at: Pos,
     condition: &Expr,
 )
-    ensures { found.new ≡ first_after found.old (bodies.condition_breaches scope.now.text scope.now.entries types.now at condition.now) }
+    ensures { found.new ≡
+        first_after found.old
+        (bodies.condition_breaches scope.now.text scope.now.entries types.now at condition.now) }
 {
     check_sum(found, scope, types, &condition.left);
     check_compared(found, scope, types, &condition.right, at);
 }
 
 fn check_places_factor(found: &mut Option<Breach>, scope: &Scope<'_>, factor: &Factor)
-    ensures { found.new ≡ first_after found.old (bodies.places_factor scope.now.text scope.now.entries factor.now) }
+    ensures { found.new ≡
+        first_after found.old
+        (bodies.places_factor scope.now.text scope.now.entries factor.now) }
 {
     match factor {
         Factor::Number(at, number) => check_number(found, *number, PLACES, *at),
@@ -296,7 +318,9 @@ fn check_places_factor(found: &mut Option<Breach>, scope: &Scope<'_>, factor: &F
 
 /// An expression that is a number of places.
 pub fn check_places(found: &mut Option<Breach>, scope: &Scope<'_>, places: &Expr)
-    ensures { found.new ≡ first_after found.old (bodies.places_breaches scope.now.text scope.now.entries places.now) }
+    ensures { found.new ≡
+        first_after found.old
+        (bodies.places_breaches scope.now.text scope.now.entries places.now) }
 {
     refuse_operators(found, &places.left);
     check_places_factor(found, scope, &places.left.first.first);
@@ -309,7 +333,9 @@ fn check_object_factor(
     types: &[TType],
     factor: &Factor,
 )
-    ensures { found.new ≡ first_after found.old (bodies.object_factor scope.now.text scope.now.entries types.now factor.now) }
+    ensures { found.new ≡
+        first_after found.old
+        (bodies.object_factor scope.now.text scope.now.entries types.now factor.now) }
 {
     match factor {
         Factor::Desig(desig) => {
@@ -322,7 +348,9 @@ fn check_object_factor(
 
 /// An expression that is the plain name of an object variable.
 pub fn check_object(found: &mut Option<Breach>, scope: &Scope<'_>, types: &[TType], object: &Expr)
-    ensures { found.new ≡ first_after found.old (bodies.object_breaches scope.now.text scope.now.entries types.now object.now) }
+    ensures { found.new ≡
+        first_after found.old
+        (bodies.object_breaches scope.now.text scope.now.entries types.now object.now) }
 {
     refuse_operators(found, &object.left);
     check_object_factor(found, scope, types, &object.left.first.first);

@@ -16,5 +16,6 @@ pub fn law_of_typing()
 
 /// Names of ASCII letters, digits and `_` are in the program as they stand in the text.
 pub fn law_of_spelling()
-    ensures { (text : List ℕ) (m : Module) → NamesLieIn text m → All (λ n. spelling text n ≡ word text n) (program_names m) }
+    ensures { (text : List ℕ) (m : Module) → NamesLieIn text m →
+        All (λ n. spelling text n ≡ word text n) (program_names m) }
 {}

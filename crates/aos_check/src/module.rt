@@ -40,7 +40,8 @@ fn refused(file: u32, breach: Breach) -> CheckErr
 pub fn check(alloc: Global, text: &[u8], tree: &Module, file: u32) -> Result<Program, CheckErr>
     ensures accepted { IfOk result (λ p. elaborate.IsAccepted text.now tree.now) }
     ensures program { IfOk result (λ p. typed.IsProgram text.now tree.now p) }
-    ensures refused { IfErr result (λ e. (e ≡ err.NoMemory) ⊎ elaborate.IsErr text.now tree.now file e) }
+    ensures refused { IfErr result (λ e. (e ≡ err.NoMemory) ⊎
+        elaborate.IsErr text.now tree.now file e) }
 {
     if is_word(text, "Out", tree.name) {
         return Err(refused(

@@ -40,8 +40,10 @@ fn object_of_def(
     def: &TypeDef,
 ) -> Result<TObject, AllocError>
     requires head { heads.defined_type scope.now.text scope.now.entries def.now.value ≡ [] }
-    requires body { bodies.object_breaches_of scope.now.text scope.now.entries types.now def.now ≡ [] }
-    ensures { IfOk result (λ o. typed.IsObject scope.now.text scope.now.entries types.now def.now o) }
+    requires body { bodies.object_breaches_of scope.now.text scope.now.entries types.now def.now ≡
+        [] }
+    ensures { IfOk result
+        (λ o. typed.IsObject scope.now.text scope.now.entries types.now def.now o) }
 {
     let block = block_of(scope, &def.value);
     let body = stats_of(alloc, scope, types, &block.body.stats)?;
@@ -62,8 +64,11 @@ fn add_objects(
     defs: &[TypeDef],
 ) -> Result<(), AllocError>
     requires heads { flat_map (heads.type_def scope.now.text scope.now.entries at) defs.now ≡ [] }
-    requires bodies { flat_map (bodies.object_breaches_of scope.now.text scope.now.entries types.now) defs.now ≡ [] }
-    ensures { OnOk result (typed.AddsObjects scope.now.text scope.now.entries types.now defs.now out.old.items out.new.items) }
+    requires bodies { flat_map
+        (bodies.object_breaches_of scope.now.text scope.now.entries types.now) defs.now ≡ [] }
+    ensures { OnOk result
+        (typed.AddsObjects scope.now.text scope.now.entries types.now defs.now out.old.items
+        out.new.items) }
 {
     for def in defs {
         out.push(object_of_def(alloc, scope, types, def)?)?;
@@ -79,8 +84,12 @@ fn add_decl(
     decl: &Decl,
 ) -> Result<(), AllocError>
     requires heads { heads.decl_breaches scope.now.text scope.now.entries decl.now ≡ [] }
-    requires bodies { flat_map (bodies.object_breaches_of scope.now.text scope.now.entries types.now) (types_in decl.now) ≡ [] }
-    ensures { OnOk result (typed.AddsObjects scope.now.text scope.now.entries types.now (types_in decl.now) out.old.items out.new.items) }
+    requires bodies { flat_map
+        (bodies.object_breaches_of scope.now.text scope.now.entries types.now)
+        (types_in decl.now) ≡ [] }
+    ensures { OnOk result
+        (typed.AddsObjects scope.now.text scope.now.entries types.now
+        (types_in decl.now) out.old.items out.new.items) }
 {
     match decl {
         Decl::Types(at, defs) => { add_objects(alloc, out, scope, types, *at, defs.as_slice()) },
@@ -96,9 +105,14 @@ fn objects_of(
     types: &[TType],
     decls: &[Decl],
 ) -> Result<Vec<TObject>, AllocError>
-    requires heads { flat_map (heads.decl_breaches scope.now.text scope.now.entries) decls.now ≡ [] }
-    requires bodies { flat_map (bodies.object_breaches_of scope.now.text scope.now.entries types.now) (type_defs decls.now) ≡ [] }
-    ensures { IfOk result (λ os. typed.AddsObjects scope.now.text scope.now.entries types.now (type_defs decls.now) [] os.items) }
+    requires heads { flat_map (heads.decl_breaches scope.now.text scope.now.entries) decls.now ≡
+        [] }
+    requires bodies { flat_map
+        (bodies.object_breaches_of scope.now.text scope.now.entries types.now)
+        (type_defs decls.now) ≡ [] }
+    ensures { IfOk result
+        (λ os. typed.AddsObjects scope.now.text scope.now.entries types.now
+        (type_defs decls.now) [] os.items) }
 {
     let mut out = Vec::new(alloc);
     for decl in decls {
@@ -131,11 +145,17 @@ pub fn program_of(
     types: &[TType],
     tree: &Module,
 ) -> Result<Program, AllocError>
-    requires types { types.now ≡ heads.variable_types scope.now.text scope.now.entries tree.now.decls }
-    requires heads { flat_map (heads.decl_breaches scope.now.text scope.now.entries) tree.now.decls ≡ [] }
-    requires objects { flat_map (bodies.object_breaches_of scope.now.text scope.now.entries types.now) (type_defs tree.now.decls) ≡ [] }
-    requires body { bodies.body_breaches scope.now.text scope.now.entries types.now false tree.now.body ≡ [] }
-    ensures { IfOk result (λ p. typed.IsProgramUnder scope.now.text scope.now.entries types.now tree.now p) }
+    requires types { types.now ≡
+        heads.variable_types scope.now.text scope.now.entries tree.now.decls }
+    requires heads { flat_map
+        (heads.decl_breaches scope.now.text scope.now.entries) tree.now.decls ≡ [] }
+    requires objects { flat_map
+        (bodies.object_breaches_of scope.now.text scope.now.entries types.now)
+        (type_defs tree.now.decls) ≡ [] }
+    requires body { bodies.body_breaches scope.now.text scope.now.entries types.now false
+        tree.now.body ≡ [] }
+    ensures { IfOk result
+        (λ p. typed.IsProgramUnder scope.now.text scope.now.entries types.now tree.now p) }
 {
     let decls = tree.decls.as_slice();
     let names = variable_names(alloc, decls)?;

@@ -48,7 +48,8 @@ fn order(op: RelationOp) -> Order
 
 /// The number of the LONGINT variable that a name is.
 pub fn number_variable(scope: &Scope<'_>, types: &[TType], name: Name) -> u32
-    requires { bodies.needs_variable types.now bodies.is_longint (meaning scope.now.text scope.now.entries name) name.pos ≡ [] }
+    requires { bodies.needs_variable types.now bodies.is_longint
+        (meaning scope.now.text scope.now.entries name) name.pos ≡ [] }
     ensures { typed.IsVariable scope.now.text scope.now.entries types.now name result type.LongInt }
 {
     match scope.meaning_of(name) {
@@ -59,8 +60,10 @@ pub fn number_variable(scope: &Scope<'_>, types: &[TType], name: Name) -> u32
 
 /// The numbers of the object variable that a name is, and of its type.
 pub fn object_variable(scope: &Scope<'_>, types: &[TType], name: Name) -> (u32, u32)
-    requires { bodies.needs_variable types.now bodies.is_object (meaning scope.now.text scope.now.entries name) name.pos ≡ [] }
-    ensures { typed.IsVariable scope.now.text scope.now.entries types.now name result.0 (type.Object result.1) }
+    requires { bodies.needs_variable types.now bodies.is_object
+        (meaning scope.now.text scope.now.entries name) name.pos ≡ [] }
+    ensures { typed.IsVariable scope.now.text scope.now.entries types.now name result.0
+        (type.Object result.1) }
 {
     let Some(Meaning::Variable(number)) = scope.meaning_of(name) else {
         unreachable!()
@@ -119,7 +122,8 @@ fn extended(
     addition: &Addition,
 ) -> Result<TExpr, AllocError>
     requires { bodies.joined_breaches scope.now.text scope.now.entries types.now addition.now ≡ [] }
-    ensures { IfOk result (λ e. typed.IsJoined scope.now.text scope.now.entries types.now left addition.now e) }
+    ensures { IfOk result
+        (λ e. typed.IsJoined scope.now.text scope.now.entries types.now left addition.now e) }
 {
     let right = plain_term(scope, types, &addition.right);
     joined(alloc, operator(addition.op), left, right)
@@ -132,8 +136,10 @@ fn chain(
     first: TExpr,
     additions: &[Addition],
 ) -> Result<TExpr, AllocError>
-    requires { flat_map (bodies.joined_breaches scope.now.text scope.now.entries types.now) additions.now ≡ [] }
-    ensures { IfOk result (λ e. typed.IsChain scope.now.text scope.now.entries types.now first additions.now e) }
+    requires { flat_map (bodies.joined_breaches scope.now.text scope.now.entries types.now)
+        additions.now ≡ [] }
+    ensures { IfOk result
+        (λ e. typed.IsChain scope.now.text scope.now.entries types.now first additions.now e) }
 {
     let mut whole = first;
     for addition in additions {
@@ -158,7 +164,8 @@ pub fn value_of(
     value: &Expr,
 ) -> Result<TExpr, AllocError>
     requires { bodies.value_breaches scope.now.text scope.now.entries types.now value.now ≡ [] }
-    ensures { IfOk result (λ e. typed.IsValue scope.now.text scope.now.entries types.now value.now e) }
+    ensures { IfOk result
+        (λ e. typed.IsValue scope.now.text scope.now.entries types.now value.now e) }
 {
     sum(alloc, scope, types, &value.left)
 }
@@ -171,8 +178,10 @@ pub fn condition_of(
     at: Pos,
     condition: &Expr,
 ) -> Result<TExpr, AllocError>
-    requires { bodies.condition_breaches scope.now.text scope.now.entries types.now at condition.now ≡ [] }
-    ensures { IfOk result (λ e. typed.IsCondition scope.now.text scope.now.entries types.now condition.now e) }
+    requires { bodies.condition_breaches scope.now.text scope.now.entries types.now at
+        condition.now ≡ [] }
+    ensures { IfOk result
+        (λ e. typed.IsCondition scope.now.text scope.now.entries types.now condition.now e) }
 {
     let Some(relation) = &condition.right else {
         unreachable!()
@@ -202,7 +211,8 @@ pub fn places_of(scope: &Scope<'_>, places: &Expr) -> TExpr
 
 fn object_in(scope: &Scope<'_>, types: &[TType], factor: &Factor) -> (u32, u32)
     requires { bodies.object_factor scope.now.text scope.now.entries types.now factor.now ≡ [] }
-    ensures { typed.IsObjectFactor scope.now.text scope.now.entries types.now factor.now result.0 result.1 }
+    ensures { typed.IsObjectFactor scope.now.text scope.now.entries types.now factor.now result.0
+        result.1 }
 {
     match factor {
         Factor::Desig(desig) => object_variable(scope, types, desig.name),
@@ -213,7 +223,8 @@ fn object_in(scope: &Scope<'_>, types: &[TType], factor: &Factor) -> (u32, u32)
 /// The numbers of the object variable that an expression names, and of its type.
 pub fn object_of(scope: &Scope<'_>, types: &[TType], object: &Expr) -> (u32, u32)
     requires { bodies.object_breaches scope.now.text scope.now.entries types.now object.now ≡ [] }
-    ensures { typed.IsObjectName scope.now.text scope.now.entries types.now object.now result.0 result.1 }
+    ensures { typed.IsObjectName scope.now.text scope.now.entries types.now object.now result.0
+        result.1 }
 {
     object_in(scope, types, &object.left.first.first)
 }

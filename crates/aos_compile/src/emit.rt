@@ -52,7 +52,8 @@ fn emit_begin(code: &mut Vec<Instr>, at: Pos) -> Result<(), AllocError>
 }
 
 fn emit_place(code: &mut Vec<Instr>, place: &TPlace) -> Result<(), AllocError>
-    ensures { OnOk result (code.new.items ≡ code.old.items ++ place_code place.now (length code.old.items)) }
+    ensures { OnOk result
+        (code.new.items ≡ code.old.items ++ place_code place.now (length code.old.items)) }
 {
     match place {
         TPlace::ModuleVar(module, variable) => put(code, Instr::Module(*module, *variable)),
@@ -87,7 +88,8 @@ fn emit_back(code: &mut Vec<Instr>, value: &TExpr) -> Result<(), AllocError>
 }
 
 fn emit_value(alloc: Global, code: &mut Vec<Instr>, value: &TExpr) -> Result<(), AllocError>
-    ensures { OnOk result (code.new.items ≡ code.old.items ++ value_code value.now (length code.old.items)) }
+    ensures { OnOk result
+        (code.new.items ≡ code.old.items ++ value_code value.now (length code.old.items)) }
 {
     let mut back = Vec::new(alloc);
     emit_back(&mut back, value)?;
@@ -98,7 +100,8 @@ fn emit_value(alloc: Global, code: &mut Vec<Instr>, value: &TExpr) -> Result<(),
 }
 
 fn emit_out(alloc: Global, code: &mut Vec<Instr>, call: &OutCall) -> Result<(), AllocError>
-    ensures { OnOk result (code.new.items ≡ code.old.items ++ out_code call.now (length code.old.items)) }
+    ensures { OnOk result
+        (code.new.items ≡ code.old.items ++ out_code call.now (length code.old.items)) }
 {
     match call {
         OutCall::Int(value, places) => {
@@ -113,7 +116,8 @@ fn emit_out(alloc: Global, code: &mut Vec<Instr>, call: &OutCall) -> Result<(), 
 // The object is stored before its activity is started.
 fn emit_new(code: &mut Vec<Instr>, place: &TPlace, object: u32) -> Result<(), AllocError>
     requires { object + 1 < 2 ^ 32 }
-    ensures { OnOk result (code.new.items ≡ code.old.items ++ new_code place.now object (length code.old.items)) }
+    ensures { OnOk result
+        (code.new.items ≡ code.old.items ++ new_code place.now object (length code.old.items)) }
 {
     put(code, Instr::NewObject(object + 1))?;
     put(code, Instr::Dup)?;
@@ -126,7 +130,8 @@ fn emit_new(code: &mut Vec<Instr>, place: &TPlace, object: u32) -> Result<(), Al
 #[cycle(emit_stat)]
 fn emit_stat(alloc: Global, code: &mut Vec<Instr>, statement: &TStat) -> Result<(), AllocError>
     requires { IsTyped statement.now }
-    ensures { OnOk result (code.new.items ≡ code.old.items ++ stat_code statement.now (length code.old.items)) }
+    ensures { OnOk result
+        (code.new.items ≡ code.old.items ++ stat_code statement.now (length code.old.items)) }
 {
     match statement {
         TStat::Assign(at, place, value) => {
@@ -161,7 +166,8 @@ fn emit_stat(alloc: Global, code: &mut Vec<Instr>, statement: &TStat) -> Result<
 #[cycle(emit_stat)]
 fn emit_stats(alloc: Global, code: &mut Vec<Instr>, statements: &[TStat]) -> Result<(), AllocError>
     requires { AreTyped statements.now }
-    ensures { OnOk result (code.new.items ≡ code.old.items ++ stats_code statements.now (length code.old.items)) }
+    ensures { OnOk result
+        (code.new.items ≡ code.old.items ++ stats_code statements.now (length code.old.items)) }
 {
     for statement in statements {
         emit_stat(alloc, code, statement)?;

@@ -33,7 +33,8 @@ fn first_cells(alloc: Global, variables: &[TVariable]) -> Result<Vec<Cell>, Allo
 // A module whose body is the procedure of this number.
 fn describe(alloc: Global, module: &TModule, body: u32) -> Result<ModuleDesc, AllocError>
     ensures name { IfOk result (λ d. string_bytes d.name ≡ string_bytes module.now.name) }
-    ensures cells { IfOk result (λ d. d.cells.items ≡ map (λ v. zero_cell v.of) module.now.variables.items) }
+    ensures cells { IfOk result
+        (λ d. d.cells.items ≡ map (λ v. zero_cell v.of) module.now.variables.items) }
     ensures start { IfOk result (λ d. d.body ≡ body) }
 {
     Ok(ModuleDesc {
@@ -85,7 +86,8 @@ pub fn image_of(alloc: Global, program: &Program) -> Result<Image, NoMemory>
     requires typed { IsWellTyped program.now }
     ensures shows { IfOk result (λ image. Shows program.now image) }
     ensures names { IfOk result (λ image.
-        map (λ d. string_bytes d.name) image.modules.items ≡ map (λ m. string_bytes m.name) program.now.modules.items) }
+        map (λ d. string_bytes d.name) image.modules.items ≡
+        map (λ m. string_bytes m.name) program.now.modules.items) }
 {
     image_shows_program();
     Ok(code_of(alloc, program)?)

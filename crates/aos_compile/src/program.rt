@@ -22,7 +22,8 @@ fn linked(alloc: Global, text: &[u8], program: Program) -> Result<(Program, Imag
     requires { Elaborates text.now program }
     ensures elaborates { IfOk result (λ r. Elaborates text.now r.0) }
     ensures shows { IfOk result (λ r. Shows r.0 r.1) }
-    ensures names { IfOk result (λ r. map (λ d. string_bytes d.name) r.1.modules.items ≡ names_of r.0) }
+    ensures names { IfOk result
+        (λ r. map (λ d. string_bytes d.name) r.1.modules.items ≡ names_of r.0) }
     ensures refused { IfErr result (λ e. e ≡ CompileErr.NoMemory) }
 {
     law_of_typing();
@@ -39,7 +40,8 @@ pub fn compile(alloc: Global, text: &[u8]) -> Result<(Program, Image), CompileEr
     requires { length text.now ≤ 2 ^ 20 }
     ensures elaborates { IfOk result (λ r. Elaborates text.now r.0) }
     ensures shows { IfOk result (λ r. Shows r.0 r.1) }
-    ensures names { IfOk result (λ r. map (λ d. string_bytes d.name) r.1.modules.items ≡ names_of r.0) }
+    ensures names { IfOk result
+        (λ r. map (λ d. string_bytes d.name) r.1.modules.items ≡ names_of r.0) }
     ensures refused { IfErr result (λ e. OnRefused e (IsRefused text.now)) }
 {
     let program = elaborate(alloc, text)?;

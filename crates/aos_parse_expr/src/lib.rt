@@ -39,8 +39,10 @@ pub fn expr(
     requires nested { depth ≤ 200 }
     ensures place { IfOk result (λ r. (at < r.1) × (r.1 < length tokens.now)) }
     // The tree reads the tokens up to the place after it, none of them too deep, and the next does not go on with them.
-    ensures tree { IfOk result (λ r. expr_at depth shallow r.0 (drop at tokens.now) (drop r.1 tokens.now)) }
-    ensures longest { IfOk result (λ r. CeasesAt (expr_at depth) (drop at tokens.now) (drop r.1 tokens.now)) }
+    ensures tree { IfOk result
+        (λ r. expr_at depth shallow r.0 (drop at tokens.now) (drop r.1 tokens.now)) }
+    ensures longest { IfOk result
+        (λ r. CeasesAt (expr_at depth) (drop at tokens.now) (drop r.1 tokens.now)) }
     ensures expected { (p : Pos) → result ≡ Err (ParseErr.Expected p) →
         ExpectsAt (expr_at depth) (drop at tokens.now) p }
     ensures deep { (p : Pos) → result ≡ Err (ParseErr.Deep p) →
@@ -62,8 +64,10 @@ pub fn desig(
     requires inside { at < length tokens.now }
     requires nested { depth ≤ 200 }
     ensures place { IfOk result (λ r. (at < r.1) × (r.1 < length tokens.now)) }
-    ensures tree { IfOk result (λ r. desig_at depth shallow r.0 (drop at tokens.now) (drop r.1 tokens.now)) }
-    ensures longest { IfOk result (λ r. CeasesAt (desig_at depth) (drop at tokens.now) (drop r.1 tokens.now)) }
+    ensures tree { IfOk result
+        (λ r. desig_at depth shallow r.0 (drop at tokens.now) (drop r.1 tokens.now)) }
+    ensures longest { IfOk result
+        (λ r. CeasesAt (desig_at depth) (drop at tokens.now) (drop r.1 tokens.now)) }
     ensures expected { (p : Pos) → result ≡ Err (ParseErr.Expected p) →
         ExpectsAt (desig_at depth) (drop at tokens.now) p }
     ensures deep { (p : Pos) → result ≡ Err (ParseErr.Deep p) →

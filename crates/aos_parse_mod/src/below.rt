@@ -46,7 +46,8 @@ pub fn statements<'a>(
     requires nested { depth ≤ 200 }
     ensures tree { IfOk result (λ r. IsBlock shallow depth r.0 tokens.now r.1.now) }
     ensures rest { IfOk result (λ r. IsEnded r.1.now × (length r.1.now < length tokens.now)) }
-    ensures moves { Moves m.table (λ r. r.1.now) (m.of_stat (s.block depth) ∷ []) tokens.now result }
+    ensures moves { Moves m.table (λ r. r.1.now)
+        (m.of_stat (s.block depth) ∷ []) tokens.now result }
 {
     let (tree, next) = block(alloc, tokens, 0, depth)?;
     Ok((tree, &tokens[next..]))
@@ -81,7 +82,8 @@ pub fn then_expr<'a>(
     requires ended { IsEnded tokens.now }
     requires nested { depth ≤ 200 }
     requires inner { kind ≢ TokenKind.End }
-    ensures tree { IfOk result (λ r. (p : Pos) × (mid : List Token) × IsWord shallow depth kind p tokens.now mid × IsExpr shallow depth r.0 mid r.1.now) }
+    ensures tree { IfOk result (λ r. (p : Pos) × (mid : List Token) ×
+        IsWord shallow depth kind p tokens.now mid × IsExpr shallow depth r.0 mid r.1.now) }
     ensures rest { IfOk result (λ r. IsEnded r.1.now × (length r.1.now < length tokens.now)) }
     ensures moves { Moves m.table (λ r. r.1.now) (m.then_expr depth kind ∷ []) tokens.now result }
 {
@@ -103,7 +105,8 @@ pub fn exprs<'a>(
     requires nested { depth ≤ 200 }
     ensures tree { IfOk result (λ r. IsExprs shallow depth r.0 tokens.now r.1.now) }
     ensures rest { IfOk result (λ r. IsEnded r.1.now × (length r.1.now < length tokens.now)) }
-    ensures moves { Moves m.table (λ r. r.1.now) (m.of_expr (e.exprs depth) ∷ []) tokens.now result }
+    ensures moves { Moves m.table (λ r. r.1.now)
+        (m.of_expr (e.exprs depth) ∷ []) tokens.now result }
 {
     let mut found = Items::new(alloc);
     let (first, next) = expression(alloc, tokens, depth)?;

@@ -29,7 +29,8 @@ pub fn end_name<'a>(
     requires nested { depth ≤ 200 }
     ensures tree { IfOk result (λ r. IsEndName shallow depth r.0 tokens.now r.1.now) }
     ensures rest { IfOk result (λ r. IsEnded r.1.now × (length r.1.now ≤ length tokens.now)) }
-    ensures moves { Moves m.table (λ r. r.1.now) (m.option depth TokenKind.Ident ∷ []) tokens.now result }
+    ensures moves { Moves m.table (λ r. r.1.now)
+        (m.option depth TokenKind.Ident ∷ []) tokens.now result }
 {
     let (token, _) = split(tokens);
     match token.kind {
@@ -143,7 +144,9 @@ pub fn proc<'a>(
     requires nested { depth ≤ 200 }
     ensures tree { IfOk result (λ r. IsDecl shallow false depth r.0 tokens.now r.1.now) }
     ensures rest { IfOk result (λ r. IsEnded r.1.now × (length r.1.now < length tokens.now)) }
-    ensures moves { Moves m.table (λ r. r.1.now) (m.tok depth TokenKind.KwProcedure ∷ m.proc_rest depth (m.tok depth TokenKind.Semicolon ∷ [])) tokens.now result }
+    ensures moves { Moves m.table (λ r. r.1.now)
+        (m.tok depth TokenKind.KwProcedure ∷
+        m.proc_rest depth (m.tok depth TokenKind.Semicolon ∷ [])) tokens.now result }
 {
     let (place, rest) = word(tokens, depth, TokenKind::KwProcedure)?;
     let (initializer, rest) = option(rest, depth, TokenKind::Ampersand);
@@ -233,7 +236,9 @@ pub fn var_def<'a>(
     requires nested { depth ≤ 200 }
     ensures tree { IfOk result (λ r. IsVarDef shallow depth r.0 tokens.now r.1.now) }
     ensures rest { IfOk result (λ r. IsEnded r.1.now × (length r.1.now < length tokens.now)) }
-    ensures moves { Moves m.table (λ r. r.1.now) (m.tok depth TokenKind.Ident ∷ m.mark depth ∷ m.more_defs depth ∷ m.then_type depth TokenKind.Colon ∷ []) tokens.now result }
+    ensures moves { Moves m.table (λ r. r.1.now)
+        (m.tok depth TokenKind.Ident ∷ m.mark depth ∷ m.more_defs depth ∷
+        m.then_type depth TokenKind.Colon ∷ []) tokens.now result }
 {
     let (defs, rest) = defs(alloc, tokens, depth)?;
     let (of, rest) = then_type(alloc, rest, depth, TokenKind::Colon)?;
@@ -251,7 +256,8 @@ pub fn then_type<'a>(
     requires ended { IsEnded tokens.now }
     requires nested { depth ≤ 200 }
     requires inner { kind ≢ TokenKind.End }
-    ensures tree { IfOk result (λ r. (p : Pos) × (mid : List Token) × IsWord shallow depth kind p tokens.now mid × IsType shallow depth r.0 mid r.1.now) }
+    ensures tree { IfOk result (λ r. (p : Pos) × (mid : List Token) ×
+        IsWord shallow depth kind p tokens.now mid × IsType shallow depth r.0 mid r.1.now) }
     ensures rest { IfOk result (λ r. IsEnded r.1.now × (length r.1.now < length tokens.now)) }
     ensures moves { Moves m.table (λ r. r.1.now) (m.then_type depth kind ∷ []) tokens.now result }
 {
@@ -316,7 +322,9 @@ pub fn record<'a>(
     requires nested { depth < 200 }
     ensures tree { IfOk result (λ r. IsType shallow depth r.0 tokens.now r.1.now) }
     ensures rest { IfOk result (λ r. IsEnded r.1.now × (length r.1.now < length tokens.now)) }
-    ensures moves { Moves m.table (λ r. r.1.now) (m.tok (depth + 1) TokenKind.KwRecord ∷ m.base (depth + 1) ∷ m.fields (depth + 1) ∷ m.more_fields (depth + 1) ∷ m.tok (depth + 1) TokenKind.KwEnd ∷ []) tokens.now result }
+    ensures moves { Moves m.table (λ r. r.1.now)
+        (m.tok (depth + 1) TokenKind.KwRecord ∷ m.base (depth + 1) ∷ m.fields (depth + 1) ∷
+        m.more_fields (depth + 1) ∷ m.tok (depth + 1) TokenKind.KwEnd ∷ []) tokens.now result }
 {
     let (place, rest) = word(tokens, depth + 1, TokenKind::KwRecord)?;
     let (base, rest) = base(rest, depth + 1)?;
@@ -335,7 +343,10 @@ pub fn object<'a>(
     requires nested { depth < 200 }
     ensures tree { IfOk result (λ r. IsType shallow depth r.0 tokens.now r.1.now) }
     ensures rest { IfOk result (λ r. IsEnded r.1.now × (length r.1.now < length tokens.now)) }
-    ensures moves { Moves m.table (λ r. r.1.now) (m.tok (depth + 1) TokenKind.KwObject ∷ m.base (depth + 1) ∷ m.decls false (depth + 1) ∷ m.body (depth + 1) ∷ m.option (depth + 1) TokenKind.Ident ∷ []) tokens.now result }
+    ensures moves { Moves m.table (λ r. r.1.now)
+        (m.tok (depth + 1) TokenKind.KwObject ∷ m.base (depth + 1) ∷
+        m.decls false (depth + 1) ∷ m.body (depth + 1) ∷ m.option (depth + 1) TokenKind.Ident ∷
+        []) tokens.now result }
 {
     let (place, rest) = word(tokens, depth + 1, TokenKind::KwObject)?;
     let (base, rest) = base(rest, depth + 1)?;
@@ -355,7 +366,8 @@ pub fn field_list<'a>(
     requires nested { depth ≤ 200 }
     ensures tree { IfOk result (λ r. IsFieldList shallow depth r.0 tokens.now r.1.now) }
     ensures rest { IfOk result (λ r. IsEnded r.1.now × (length r.1.now ≤ length tokens.now)) }
-    ensures moves { Moves m.table (λ r. r.1.now) (m.fields depth ∷ m.more_fields depth ∷ []) tokens.now result }
+    ensures moves { Moves m.table (λ r. r.1.now)
+        (m.fields depth ∷ m.more_fields depth ∷ []) tokens.now result }
 {
     let mut found = Items::new(alloc);
     let (first, next) = fields(alloc, tokens, depth)?;

@@ -34,7 +34,8 @@ pub fn module(alloc: Global, tokens: &[Token]) -> Result<Module, ParseErr>
     requires ended { IsEnded tokens.now }
     // The tree reads all the tokens, none of them too deep.
     ensures tree { IfOk result (λ tree. Reads tree tokens.now) }
-    ensures expected { (p : Pos) → result ≡ Err (ParseErr.Expected p) → ExpectsAt module_at tokens.now p }
+    ensures expected { (p : Pos) → result ≡ Err (ParseErr.Expected p) →
+        ExpectsAt module_at tokens.now p }
     ensures deep { (p : Pos) → result ≡ Err (ParseErr.Deep p) → TooDeepAt module_at tokens.now p }
 {
     text::text(alloc, tokens)

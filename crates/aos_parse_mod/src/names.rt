@@ -35,7 +35,8 @@ pub fn names<'a>(
     requires nested { depth ≤ 200 }
     ensures tree { IfOk result (λ r. IsNames shallow depth r.0 tokens.now r.1.now) }
     ensures rest { IfOk result (λ r. IsEnded r.1.now × (length r.1.now < length tokens.now)) }
-    ensures moves { Moves m.table (λ r. r.1.now) (m.tok depth TokenKind.Ident ∷ m.more_names depth ∷ []) tokens.now result }
+    ensures moves { Moves m.table (λ r. r.1.now)
+        (m.tok depth TokenKind.Ident ∷ m.more_names depth ∷ []) tokens.now result }
 {
     let mut found = Items::new(alloc);
     let (first, next) = ident(tokens, depth)?;
@@ -59,7 +60,8 @@ pub fn def<'a>(tokens: &'a [Token], depth: u32) -> Result<(Def, &'a [Token]), Pa
     requires nested { depth ≤ 200 }
     ensures tree { IfOk result (λ r. IsDef shallow depth r.0 tokens.now r.1.now) }
     ensures rest { IfOk result (λ r. IsEnded r.1.now × (length r.1.now < length tokens.now)) }
-    ensures moves { Moves m.table (λ r. r.1.now) (m.tok depth TokenKind.Ident ∷ m.mark depth ∷ []) tokens.now result }
+    ensures moves { Moves m.table (λ r. r.1.now)
+        (m.tok depth TokenKind.Ident ∷ m.mark depth ∷ []) tokens.now result }
 {
     let (name, rest) = ident(tokens, depth)?;
     let (mark, rest) = mark(rest, depth);
@@ -75,7 +77,9 @@ pub fn defs<'a>(
     requires nested { depth ≤ 200 }
     ensures tree { IfOk result (λ r. IsDefs shallow depth r.0 tokens.now r.1.now) }
     ensures rest { IfOk result (λ r. IsEnded r.1.now × (length r.1.now < length tokens.now)) }
-    ensures moves { Moves m.table (λ r. r.1.now) (m.tok depth TokenKind.Ident ∷ m.mark depth ∷ m.more_defs depth ∷ []) tokens.now result }
+    ensures moves { Moves m.table (λ r. r.1.now)
+        (m.tok depth TokenKind.Ident ∷ m.mark depth ∷ m.more_defs depth ∷
+        []) tokens.now result }
 {
     let mut found = Items::new(alloc);
     let (first, next) = def(tokens, depth)?;

@@ -20,7 +20,9 @@ pub fn import<'a>(tokens: &'a [Token], depth: u32) -> Result<(Import, &'a [Token
     requires nested { depth ≤ 200 }
     ensures tree { IfOk result (λ r. IsImport shallow depth r.0 tokens.now r.1.now) }
     ensures rest { IfOk result (λ r. IsEnded r.1.now × (length r.1.now < length tokens.now)) }
-    ensures moves { Moves m.table (λ r. r.1.now) (m.tok depth TokenKind.Ident ∷ m.then_name depth TokenKind.Becomes ∷ []) tokens.now result }
+    ensures moves { Moves m.table (λ r. r.1.now)
+        (m.tok depth TokenKind.Ident ∷ m.then_name depth TokenKind.Becomes ∷
+        []) tokens.now result }
 {
     let (name, rest) = ident(tokens, depth)?;
     let (of, rest) = then_name(rest, depth, TokenKind::Becomes)?;
@@ -37,7 +39,9 @@ pub fn imports<'a>(
     requires nested { depth ≤ 200 }
     ensures tree { IfOk result (λ r. IsImports shallow depth r.0 tokens.now r.1.now) }
     ensures rest { IfOk result (λ r. IsEnded r.1.now × (length r.1.now < length tokens.now)) }
-    ensures moves { Moves m.table (λ r. r.1.now) (m.tok depth TokenKind.Ident ∷ m.then_name depth TokenKind.Becomes ∷ m.more_imports depth ∷ []) tokens.now result }
+    ensures moves { Moves m.table (λ r. r.1.now)
+        (m.tok depth TokenKind.Ident ∷ m.then_name depth TokenKind.Becomes ∷
+        m.more_imports depth ∷ []) tokens.now result }
 {
     let mut found = Items::new(alloc);
     let (first, next) = import(tokens, depth)?;

@@ -61,7 +61,8 @@ pub fn ident(tokens: &[Token], depth: u32) -> Result<(Name, &[Token]), ParseErr>
     requires nested { depth ≤ 200 }
     ensures tree { IfOk result (λ r. IsName shallow depth r.0 tokens.now r.1.now) }
     ensures rest { IfOk result (λ r. IsEnded r.1.now × (length r.1.now < length tokens.now)) }
-    ensures moves { Moves m.table (λ r. r.1.now) (m.tok depth TokenKind.Ident ∷ []) tokens.now result }
+    ensures moves { Moves m.table (λ r. r.1.now)
+        (m.tok depth TokenKind.Ident ∷ []) tokens.now result }
 {
     let (token, rest) = split(tokens);
     match token.kind {
@@ -84,7 +85,9 @@ pub fn option(tokens: &[Token], depth: u32, kind: TokenKind) -> (Option<Pos>, &[
     requires inner { kind ≢ TokenKind.End }
     ensures tree { IsOptional shallow depth kind result.0 tokens.now result.1.now }
     ensures rest { IsEnded result.1.now × (length result.1.now ≤ length tokens.now) }
-    ensures moves { (k : m.Stack) → run m.table shallow tokens.now (m.option depth kind ∷ k) ≡ run m.table shallow result.1.now k }
+    ensures moves { (k : m.Stack) →
+        run m.table shallow tokens.now (m.option depth kind ∷ k) ≡
+        run m.table shallow result.1.now k }
 {
     let (token, rest) = split(tokens);
     if token.kind == kind {
@@ -132,7 +135,8 @@ pub fn mark(tokens: &[Token], depth: u32) -> (Option<Mark>, &[Token])
     requires nested { depth ≤ 200 }
     ensures tree { IsMark shallow depth result.0 tokens.now result.1.now }
     ensures rest { IsEnded result.1.now × (length result.1.now ≤ length tokens.now) }
-    ensures moves { (k : m.Stack) → run m.table shallow tokens.now (m.mark depth ∷ k) ≡ run m.table shallow result.1.now k }
+    ensures moves { (k : m.Stack) →
+        run m.table shallow tokens.now (m.mark depth ∷ k) ≡ run m.table shallow result.1.now k }
 {
     let (token, rest) = split(tokens);
     match export_of_kind(token.kind) {

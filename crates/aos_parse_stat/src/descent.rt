@@ -94,7 +94,8 @@ fn desig_stat<'a>(
     requires nested { depth < 200 }
     ensures tree { IfOk result (λ r. IsStat shallow depth r.0 tokens.now r.1.now) }
     ensures rest { IfOk result (λ r. IsEnded r.1.now × (length r.1.now < length tokens.now)) }
-    ensures moves { Moves m.table (λ r. r.1.now) (m.desig (depth + 1) ∷ m.option (depth + 1) TokenKind.Becomes ∷ []) tokens.now result }
+    ensures moves { Moves m.table (λ r. r.1.now)
+        (m.desig (depth + 1) ∷ m.option (depth + 1) TokenKind.Becomes ∷ []) tokens.now result }
 {
     let (target, rest) = designator(alloc, tokens, depth + 1)?;
     let (token, _) = split(rest);
@@ -115,7 +116,8 @@ fn return_stat<'a>(
     requires ended { IsEnded tokens.now }
     requires nested { depth < 200 }
     ensures tree { IfOk result (λ r. (before : List Token) →
-        IsWord shallow (depth + 1) TokenKind.KwReturn start before tokens.now → IsStat shallow depth r.0 before r.1.now) }
+        IsWord shallow (depth + 1) TokenKind.KwReturn start before tokens.now →
+        IsStat shallow depth r.0 before r.1.now) }
     ensures rest { IfOk result (λ r. IsEnded r.1.now × (length r.1.now ≤ length tokens.now)) }
     ensures moves { Moves m.table (λ r. r.1.now) (m.returned (depth + 1) ∷ []) tokens.now result }
 {
@@ -137,7 +139,8 @@ fn await_stat<'a>(
     requires ended { IsEnded tokens.now }
     requires nested { depth < 200 }
     ensures tree { IfOk result (λ r. (before : List Token) →
-        IsWord shallow (depth + 1) TokenKind.KwAwait start before tokens.now → IsStat shallow depth r.0 before r.1.now) }
+        IsWord shallow (depth + 1) TokenKind.KwAwait start before tokens.now →
+        IsStat shallow depth r.0 before r.1.now) }
     ensures rest { IfOk result (λ r. IsEnded r.1.now × (length r.1.now < length tokens.now)) }
     ensures moves { Moves m.table (λ r. r.1.now) (m.await_rest (depth + 1)) tokens.now result }
 {
@@ -157,7 +160,8 @@ fn if_stat<'a>(
     requires ended { IsEnded tokens.now }
     requires nested { depth < 200 }
     ensures tree { IfOk result (λ r. (before : List Token) →
-        IsWord shallow (depth + 1) TokenKind.KwIf start before tokens.now → IsStat shallow depth r.0 before r.1.now) }
+        IsWord shallow (depth + 1) TokenKind.KwIf start before tokens.now →
+        IsStat shallow depth r.0 before r.1.now) }
     ensures rest { IfOk result (λ r. IsEnded r.1.now × (length r.1.now < length tokens.now)) }
     ensures moves { Moves m.table (λ r. r.1.now) (m.if_rest (depth + 1)) tokens.now result }
 {
@@ -208,7 +212,8 @@ fn elsif<'a>(
     requires ended { IsEnded tokens.now }
     requires nested { depth ≤ 200 }
     ensures tree { IfOk result (λ r. (before end : List Token) (more : List Elsif) →
-        IsWord shallow depth TokenKind.KwElsif start before tokens.now → IsElsifs shallow depth more r.1.now end →
+        IsWord shallow depth TokenKind.KwElsif start before tokens.now →
+        IsElsifs shallow depth more r.1.now end →
         IsElsifs shallow depth (r.0 ∷ more) before end) }
     ensures rest { IfOk result (λ r. IsEnded r.1.now × (length r.1.now < length tokens.now)) }
     ensures moves { Moves m.table (λ r. r.1.now) (m.branch depth) tokens.now result }
@@ -259,7 +264,8 @@ fn case_stat<'a>(
     requires ended { IsEnded tokens.now }
     requires nested { depth < 200 }
     ensures tree { IfOk result (λ r. (before : List Token) →
-        IsWord shallow (depth + 1) TokenKind.KwCase start before tokens.now → IsStat shallow depth r.0 before r.1.now) }
+        IsWord shallow (depth + 1) TokenKind.KwCase start before tokens.now →
+        IsStat shallow depth r.0 before r.1.now) }
     ensures rest { IfOk result (λ r. IsEnded r.1.now × (length r.1.now < length tokens.now)) }
     ensures moves { Moves m.table (λ r. r.1.now) (m.case_rest (depth + 1)) tokens.now result }
 {
@@ -329,7 +335,8 @@ fn while_stat<'a>(
     requires ended { IsEnded tokens.now }
     requires nested { depth < 200 }
     ensures tree { IfOk result (λ r. (before : List Token) →
-        IsWord shallow (depth + 1) TokenKind.KwWhile start before tokens.now → IsStat shallow depth r.0 before r.1.now) }
+        IsWord shallow (depth + 1) TokenKind.KwWhile start before tokens.now →
+        IsStat shallow depth r.0 before r.1.now) }
     ensures rest { IfOk result (λ r. IsEnded r.1.now × (length r.1.now < length tokens.now)) }
     ensures moves { Moves m.table (λ r. r.1.now) (m.while_rest (depth + 1)) tokens.now result }
 {
@@ -351,7 +358,8 @@ fn repeat_stat<'a>(
     requires ended { IsEnded tokens.now }
     requires nested { depth < 200 }
     ensures tree { IfOk result (λ r. (before : List Token) →
-        IsWord shallow (depth + 1) TokenKind.KwRepeat start before tokens.now → IsStat shallow depth r.0 before r.1.now) }
+        IsWord shallow (depth + 1) TokenKind.KwRepeat start before tokens.now →
+        IsStat shallow depth r.0 before r.1.now) }
     ensures rest { IfOk result (λ r. IsEnded r.1.now × (length r.1.now < length tokens.now)) }
     ensures moves { Moves m.table (λ r. r.1.now) (m.repeat_rest (depth + 1)) tokens.now result }
 {
@@ -371,7 +379,8 @@ fn loop_stat<'a>(
     requires ended { IsEnded tokens.now }
     requires nested { depth < 200 }
     ensures tree { IfOk result (λ r. (before : List Token) →
-        IsWord shallow (depth + 1) TokenKind.KwLoop start before tokens.now → IsStat shallow depth r.0 before r.1.now) }
+        IsWord shallow (depth + 1) TokenKind.KwLoop start before tokens.now →
+        IsStat shallow depth r.0 before r.1.now) }
     ensures rest { IfOk result (λ r. IsEnded r.1.now × (length r.1.now < length tokens.now)) }
     ensures moves { Moves m.table (λ r. r.1.now) (m.body_rest (depth + 1)) tokens.now result }
 {
@@ -391,7 +400,8 @@ fn for_stat<'a>(
     requires ended { IsEnded tokens.now }
     requires nested { depth < 200 }
     ensures tree { IfOk result (λ r. (before : List Token) →
-        IsWord shallow (depth + 1) TokenKind.KwFor start before tokens.now → IsStat shallow depth r.0 before r.1.now) }
+        IsWord shallow (depth + 1) TokenKind.KwFor start before tokens.now →
+        IsStat shallow depth r.0 before r.1.now) }
     ensures rest { IfOk result (λ r. IsEnded r.1.now × (length r.1.now < length tokens.now)) }
     ensures moves { Moves m.table (λ r. r.1.now) (m.for_rest (depth + 1)) tokens.now result }
 {
@@ -420,7 +430,8 @@ fn with_stat<'a>(
     requires ended { IsEnded tokens.now }
     requires nested { depth < 200 }
     ensures tree { IfOk result (λ r. (before : List Token) →
-        IsWord shallow (depth + 1) TokenKind.KwWith start before tokens.now → IsStat shallow depth r.0 before r.1.now) }
+        IsWord shallow (depth + 1) TokenKind.KwWith start before tokens.now →
+        IsStat shallow depth r.0 before r.1.now) }
     ensures rest { IfOk result (λ r. IsEnded r.1.now × (length r.1.now < length tokens.now)) }
     ensures moves { Moves m.table (λ r. r.1.now) (m.with_rest (depth + 1)) tokens.now result }
 {

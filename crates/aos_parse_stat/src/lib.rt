@@ -38,8 +38,10 @@ pub fn block(
     requires nested { depth ≤ 200 }
     ensures place { IfOk result (λ r. (at < r.1) × (r.1 < length tokens.now)) }
     // The tree reads the tokens up to the place after it, none of them too deep, and the next does not go on with them.
-    ensures tree { IfOk result (λ r. block_at depth shallow r.0 (drop at tokens.now) (drop r.1 tokens.now)) }
-    ensures longest { IfOk result (λ r. CeasesAt (block_at depth) (drop at tokens.now) (drop r.1 tokens.now)) }
+    ensures tree { IfOk result
+        (λ r. block_at depth shallow r.0 (drop at tokens.now) (drop r.1 tokens.now)) }
+    ensures longest { IfOk result
+        (λ r. CeasesAt (block_at depth) (drop at tokens.now) (drop r.1 tokens.now)) }
     ensures expected { (p : Pos) → result ≡ Err (ParseErr.Expected p) →
         ExpectsAt (block_at depth) (drop at tokens.now) p }
     ensures deep { (p : Pos) → result ≡ Err (ParseErr.Deep p) →

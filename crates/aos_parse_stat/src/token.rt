@@ -45,7 +45,8 @@ pub fn ident(tokens: &[Token], depth: u32) -> Result<(Name, &[Token]), ParseErr>
     requires nested { depth ≤ 200 }
     ensures tree { IfOk result (λ r. IsName shallow depth r.0 tokens.now r.1.now) }
     ensures rest { IfOk result (λ r. IsEnded r.1.now × (length r.1.now < length tokens.now)) }
-    ensures moves { Moves m.table (λ r. r.1.now) (m.tok depth TokenKind.Ident ∷ []) tokens.now result }
+    ensures moves { Moves m.table (λ r. r.1.now)
+        (m.tok depth TokenKind.Ident ∷ []) tokens.now result }
 {
     let (token, rest) = split(tokens);
     match token.kind {

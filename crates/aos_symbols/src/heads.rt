@@ -41,7 +41,8 @@ fn check_import(found: &mut Option<Breach>, text: &[u8], import: &Import)
 }
 
 fn check_imports(found: &mut Option<Breach>, text: &[u8], imports: &[Import])
-    ensures { found.new ≡ first_after found.old (flat_map (heads.import_breaches text.now) imports.now) }
+    ensures { found.new ≡
+        first_after found.old (flat_map (heads.import_breaches text.now) imports.now) }
 {
     for import in imports {
         check_import(found, text, import);
@@ -58,7 +59,8 @@ fn check_def(found: &mut Option<Breach>, text: &[u8], at: Pos, def: &Def)
 }
 
 fn check_defs(found: &mut Option<Breach>, text: &[u8], at: Pos, defs: &[Def])
-    ensures { found.new ≡ first_after found.old (flat_map (heads.def_breaches text.now at) defs.now) }
+    ensures { found.new ≡
+        first_after found.old (flat_map (heads.def_breaches text.now at) defs.now) }
 {
     for def in defs {
         check_def(found, text, at, def);
@@ -117,7 +119,8 @@ pub fn no_meaning(found: &mut Option<Breach>, means: Option<Meaning>, at: Pos)
 }
 
 fn check_defined(found: &mut Option<Breach>, scope: &Scope<'_>, of: &TypeExpr)
-    ensures { found.new ≡ first_after found.old (heads.defined_type scope.now.text scope.now.entries of.now) }
+    ensures { found.new ≡
+        first_after found.old (heads.defined_type scope.now.text scope.now.entries of.now) }
 {
     match of {
         TypeExpr::Object(at, base, decls, body, _) => {
@@ -140,7 +143,9 @@ fn check_defined(found: &mut Option<Breach>, scope: &Scope<'_>, of: &TypeExpr)
 }
 
 fn check_type_defs(found: &mut Option<Breach>, scope: &Scope<'_>, at: Pos, defs: &[TypeDef])
-    ensures { found.new ≡ first_after found.old (flat_map (heads.type_def scope.now.text scope.now.entries at) defs.now) }
+    ensures { found.new ≡
+        first_after found.old
+        (flat_map (heads.type_def scope.now.text scope.now.entries at) defs.now) }
 {
     for def in defs {
         check_def(found, scope.text(), at, &def.def);
@@ -174,8 +179,10 @@ fn plain_type(found: &mut Option<Breach>, means: Option<Meaning>, at: Pos) -> Op
 }
 
 fn named_type(found: &mut Option<Breach>, scope: &Scope<'_>, name: &Qualident) -> Option<TType>
-    ensures breaches { found.new ≡ first_after found.old (heads.named_type scope.now.text scope.now.entries name.now) }
-    ensures typed { IsListed result (heads.qualident_type scope.now.text scope.now.entries name.now) }
+    ensures breaches { found.new ≡
+        first_after found.old (heads.named_type scope.now.text scope.now.entries name.now) }
+    ensures typed { IsListed result
+        (heads.qualident_type scope.now.text scope.now.entries name.now) }
 {
     let means = scope.meaning_of(name.first);
     let Some(second) = name.second else {
@@ -190,7 +197,8 @@ fn named_type(found: &mut Option<Breach>, scope: &Scope<'_>, name: &Qualident) -
 
 /// The type of variables, where it is built.
 fn variable_type(found: &mut Option<Breach>, scope: &Scope<'_>, of: &TypeExpr) -> Option<TType>
-    ensures breaches { found.new ≡ first_after found.old (heads.variable_type scope.now.text scope.now.entries of.now) }
+    ensures breaches { found.new ≡
+        first_after found.old (heads.variable_type scope.now.text scope.now.entries of.now) }
     ensures typed { IsListed result (heads.type_of scope.now.text scope.now.entries of.now) }
 {
     match of {
@@ -221,8 +229,12 @@ fn check_variable_def(
     at: Pos,
     def: &VarDef,
 ) -> Result<(), AllocError>
-    ensures breaches { OnOk result (found.new ≡ first_after found.old (heads.variable_def scope.now.text scope.now.entries at def.now)) }
-    ensures types { OnOk result (types.new.items ≡ types.old.items ++ heads.types_of_def scope.now.text scope.now.entries def.now) }
+    ensures breaches { OnOk result
+        (found.new ≡ first_after found.old
+        (heads.variable_def scope.now.text scope.now.entries at def.now)) }
+    ensures types { OnOk result
+        (types.new.items ≡ types.old.items ++ heads.types_of_def scope.now.text
+        scope.now.entries def.now) }
 {
     check_defs(found, scope.text(), at, def.defs.as_slice());
     if let Some(of) = variable_type(found, scope, &def.of) {
@@ -238,8 +250,12 @@ fn check_variable_defs(
     at: Pos,
     defs: &[VarDef],
 ) -> Result<(), AllocError>
-    ensures breaches { OnOk result (found.new ≡ first_after found.old (flat_map (heads.variable_def scope.now.text scope.now.entries at) defs.now)) }
-    ensures types { OnOk result (types.new.items ≡ types.old.items ++ flat_map (heads.types_of_def scope.now.text scope.now.entries) defs.now) }
+    ensures breaches { OnOk result
+        (found.new ≡ first_after found.old
+        (flat_map (heads.variable_def scope.now.text scope.now.entries at) defs.now)) }
+    ensures types { OnOk result
+        (types.new.items ≡ types.old.items ++ flat_map
+        (heads.types_of_def scope.now.text scope.now.entries) defs.now) }
 {
     for def in defs {
         check_variable_def(found, types, scope, at, def)?;
@@ -253,8 +269,12 @@ fn check_decl(
     scope: &Scope<'_>,
     decl: &Decl,
 ) -> Result<(), AllocError>
-    ensures breaches { OnOk result (found.new ≡ first_after found.old (heads.decl_breaches scope.now.text scope.now.entries decl.now)) }
-    ensures types { OnOk result (types.new.items ≡ types.old.items ++ flat_map (heads.types_of_def scope.now.text scope.now.entries) (variables_in decl.now)) }
+    ensures breaches { OnOk result
+        (found.new ≡ first_after found.old
+        (heads.decl_breaches scope.now.text scope.now.entries decl.now)) }
+    ensures types { OnOk result
+        (types.new.items ≡ types.old.items ++ flat_map
+        (heads.types_of_def scope.now.text scope.now.entries) (variables_in decl.now)) }
 {
     match decl {
         Decl::Consts(at, _) => note(found, NOT_BUILT, *at),
@@ -273,8 +293,12 @@ fn check_decls(
     scope: &Scope<'_>,
     decls: &[Decl],
 ) -> Result<(), AllocError>
-    ensures breaches { OnOk result (found.new ≡ first_after found.old (flat_map (heads.decl_breaches scope.now.text scope.now.entries) decls.now)) }
-    ensures types { OnOk result (types.new.items ≡ types.old.items ++ heads.variable_types scope.now.text scope.now.entries decls.now) }
+    ensures breaches { OnOk result
+        (found.new ≡ first_after found.old
+        (flat_map (heads.decl_breaches scope.now.text scope.now.entries) decls.now)) }
+    ensures types { OnOk result
+        (types.new.items ≡ types.old.items ++ heads.variable_types scope.now.text
+        scope.now.entries decls.now) }
 {
     for decl in decls {
         check_decl(found, types, scope, decl)?;
@@ -289,8 +313,10 @@ pub fn check_heads(
     tree: &Module,
 ) -> Result<(Option<Breach>, Vec<TType>), AllocError>
     requires { scope.now.entries ≡ entries_of scope.now.text tree.now }
-    ensures breaches { IfOk result (λ r. r.0 ≡ first (heads.head_breaches scope.now.text tree.now)) }
-    ensures types { IfOk result (λ r. r.1.items ≡ heads.variable_types scope.now.text scope.now.entries tree.now.decls) }
+    ensures breaches { IfOk result
+        (λ r. r.0 ≡ first (heads.head_breaches scope.now.text tree.now)) }
+    ensures types { IfOk result
+        (λ r. r.1.items ≡ heads.variable_types scope.now.text scope.now.entries tree.now.decls) }
 {
     let mut found = None;
     let mut types = Vec::new(alloc);

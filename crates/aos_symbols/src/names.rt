@@ -16,7 +16,10 @@ use std::alloc::{AllocError, Global};
 
 /// Rule 13 at a name that was met before in its scope, or wasn't.
 fn declared_again(found: &mut Option<Breach>, text: &[u8], was_met: bool, name: Name)
-    ensures { found.new ≡ first_after found.old (breach_unless (not (spelling.is_word text.now (codes "SELF") name || was_met)) 13 name.pos) }
+    ensures { found.new ≡
+        first_after found.old
+        (breach_unless (not (spelling.is_word text.now (codes "SELF") name || was_met)) 13
+        name.pos) }
 {
     if is_word(text, "SELF", name) || was_met {
         note(found, TWICE, name.pos);
@@ -78,7 +81,8 @@ fn add_formals(names: &mut Vec<Name>, formals: &Option<Formals>) -> Result<(), A
 
 /// Puts the names of a record's fields behind these.
 fn add_fields(names: &mut Vec<Name>, fields: &[Fields]) -> Result<(), AllocError>
-    ensures { OnOk result (names.new.items ≡ names.old.items ++ flat_map rules.field_names fields.now) }
+    ensures { OnOk result
+        (names.new.items ≡ names.old.items ++ flat_map rules.field_names fields.now) }
 {
     for field in fields {
         if let Fields::Of(def) = field {
@@ -96,7 +100,9 @@ fn procedure_scope(
     formals: &Option<Formals>,
     decls: &[Decl],
 ) -> Result<(), AllocError>
-    ensures { OnOk result (found.new ≡ first_after found.old (rules.twice text.now (rules.formal_names formals.now ++ declared_names decls.now))) }
+    ensures { OnOk result
+        (found.new ≡ first_after found.old
+        (rules.twice text.now (rules.formal_names formals.now ++ declared_names decls.now))) }
 {
     let mut names = Vec::new(alloc);
     add_formals(&mut names, formals)?;
@@ -111,7 +117,9 @@ fn record_scope(
     text: &[u8],
     fields: &[Fields],
 ) -> Result<(), AllocError>
-    ensures { OnOk result (found.new ≡ first_after found.old (rules.twice text.now (flat_map rules.field_names fields.now))) }
+    ensures { OnOk result
+        (found.new ≡ first_after found.old
+        (rules.twice text.now (flat_map rules.field_names fields.now))) }
 {
     let mut names = Vec::new(alloc);
     add_fields(&mut names, fields)?;
@@ -125,7 +133,8 @@ fn within_decls(
     text: &[u8],
     decls: &Items<Decl>,
 ) -> Result<(), AllocError>
-    ensures { OnOk result (found.new ≡ first_after found.old (flat_map (rules.within_decl text.now) decls.now)) }
+    ensures { OnOk result
+        (found.new ≡ first_after found.old (flat_map (rules.within_decl text.now) decls.now)) }
 {
     for decl in decls.as_slice() {
         within_decl(alloc, found, text, decl)?;
@@ -140,7 +149,8 @@ fn within_decl(
     text: &[u8],
     decl: &Decl,
 ) -> Result<(), AllocError>
-    ensures { OnOk result (found.new ≡ first_after found.old (rules.within_decl text.now decl.now)) }
+    ensures { OnOk result
+        (found.new ≡ first_after found.old (rules.within_decl text.now decl.now)) }
 {
     match decl {
         Decl::Consts(_, _) => Ok(()),
@@ -162,7 +172,9 @@ fn within_types(
     text: &[u8],
     defs: &Items<TypeDef>,
 ) -> Result<(), AllocError>
-    ensures { OnOk result (found.new ≡ first_after found.old (flat_map (λ d. rules.within_type text.now (Some d.def.name) d.value) defs.now)) }
+    ensures { OnOk result
+        (found.new ≡ first_after found.old
+        (flat_map (λ d. rules.within_type text.now (Some d.def.name) d.value) defs.now)) }
 {
     for def in defs.as_slice() {
         within_type(alloc, found, text, Some(def.def.name), &def.value)?;
@@ -177,7 +189,9 @@ fn within_variables(
     text: &[u8],
     defs: &Items<VarDef>,
 ) -> Result<(), AllocError>
-    ensures { OnOk result (found.new ≡ first_after found.old (flat_map (λ v. rules.within_type text.now None v.of) defs.now)) }
+    ensures { OnOk result
+        (found.new ≡ first_after found.old
+        (flat_map (λ v. rules.within_type text.now None v.of) defs.now)) }
 {
     for def in defs.as_slice() {
         within_type(alloc, found, text, None, &def.of)?;
@@ -192,7 +206,9 @@ fn within_fields(
     text: &[u8],
     fields: &Items<Fields>,
 ) -> Result<(), AllocError>
-    ensures { OnOk result (found.new ≡ first_after found.old (flat_map (rules.within_field text.now) fields.now)) }
+    ensures { OnOk result
+        (found.new ≡ first_after found.old
+        (flat_map (rules.within_field text.now) fields.now)) }
 {
     for field in fields.as_slice() {
         if let Fields::Of(def) = field {
@@ -210,7 +226,8 @@ fn within_type(
     name: Option<Name>,
     of: &TypeExpr,
 ) -> Result<(), AllocError>
-    ensures { OnOk result (found.new ≡ first_after found.old (rules.within_type text.now name of.now)) }
+    ensures { OnOk result
+        (found.new ≡ first_after found.old (rules.within_type text.now name of.now)) }
 {
     match of {
         TypeExpr::Named(_) => Ok(()),
@@ -237,7 +254,9 @@ fn module_scope(
     text: &[u8],
     tree: &Module,
 ) -> Result<(), AllocError>
-    ensures { OnOk result (found.new ≡ first_after found.old (rules.twice text.now (rules.module_names tree.now))) }
+    ensures { OnOk result
+        (found.new ≡ first_after found.old
+        (rules.twice text.now (rules.module_names tree.now))) }
 {
     let mut names = Vec::new(alloc);
     for import in tree.imports.as_slice() {

@@ -154,7 +154,8 @@ fn add_types(names: &mut Vec<Name>, defs: &[TypeDef]) -> Result<(), AllocError>
 }
 
 fn add_variables(names: &mut Vec<Name>, defs: &[VarDef]) -> Result<(), AllocError>
-    ensures { OnOk result (names.new.items ≡ names.old.items ++ flat_map (λ v. scope.def_names v.defs) defs.now) }
+    ensures { OnOk result
+        (names.new.items ≡ names.old.items ++ flat_map (λ v. scope.def_names v.defs) defs.now) }
 {
     for def in defs {
         add_defs(names, def.defs.as_slice())?;
@@ -246,7 +247,9 @@ fn enter_imports(
     text: &[u8],
     imports: &[Import],
 ) -> Result<(), AllocError>
-    ensures { OnOk result (entries.new.items ≡ entries.old.items ++ map (scope.import_entry text.now) imports.now) }
+    ensures { OnOk result
+        (entries.new.items ≡
+        entries.old.items ++ map (scope.import_entry text.now) imports.now) }
 {
     for import in imports {
         entries.push(Entry {
@@ -259,7 +262,8 @@ fn enter_imports(
 
 fn enter_types(entries: &mut Vec<Entry>, names: &[Name]) -> Result<(), AllocError>
     requires { length names.now ≤ 2 ^ 32 }
-    ensures { OnOk result (entries.new.items ≡ entries.old.items ++ scope.type_entries 0 names.now) }
+    ensures { OnOk result
+        (entries.new.items ≡ entries.old.items ++ scope.type_entries 0 names.now) }
 {
     for (number, name) in names.iter().enumerate() {
         entries.push(Entry {
@@ -272,7 +276,8 @@ fn enter_types(entries: &mut Vec<Entry>, names: &[Name]) -> Result<(), AllocErro
 
 fn enter_variables(entries: &mut Vec<Entry>, names: &[Name]) -> Result<(), AllocError>
     requires { length names.now ≤ 2 ^ 32 }
-    ensures { OnOk result (entries.new.items ≡ entries.old.items ++ scope.variable_entries 0 names.now) }
+    ensures { OnOk result
+        (entries.new.items ≡ entries.old.items ++ scope.variable_entries 0 names.now) }
 {
     for (number, name) in names.iter().enumerate() {
         entries.push(Entry {
@@ -284,7 +289,8 @@ fn enter_variables(entries: &mut Vec<Entry>, names: &[Name]) -> Result<(), Alloc
 }
 
 fn enter_others(entries: &mut Vec<Entry>, names: &[Name]) -> Result<(), AllocError>
-    ensures { OnOk result (entries.new.items ≡ entries.old.items ++ map scope.other_entry names.now) }
+    ensures { OnOk result
+        (entries.new.items ≡ entries.old.items ++ map scope.other_entry names.now) }
 {
     for name in names {
         entries.push(Entry {
