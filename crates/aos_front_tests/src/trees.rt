@@ -62,6 +62,9 @@ fn tree_of(alloc: Global, inner: &str) -> Result<Module, Fail> {
     text.push_str("MODULE M; ")?;
     text.push_str(inner)?;
     text.push_str(" END M.")?;
+    if text.len() > 1048576 {
+        return Err("too long")?;
+    }
     let Ok(tokens) = scan(alloc, text.as_bytes()) else {
         return Err("no tokens")?;
     };
