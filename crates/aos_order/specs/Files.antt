@@ -1,0 +1,36 @@
+-- What the load order reads of files: the name of each module, and the names of those that it imports (Oberon-2 report,
+-- section on modules: `X := M` imports M under the name X).
+use Rattle.std.specs.Prelude.{ℕ, List, Vec, map, unwrap_or}
+use Rattle.std.specs.List.{slice_range, zip}
+use Rattle.std.specs.declared.alloc.Global.{Global}
+use Rattle.aos_base.specs.declared.text.Pos.{Pos}
+use Rattle.aos_tree.specs.declared.name.Name.{Name}
+use Rattle.aos_tree.specs.declared.module.Import.{Import}
+use Rattle.aos_tree.specs.declared.module.Module.{Module}
+
+-- an imported module's name, and where it stands
+pub record Wanted : Type 0 where
+  pub name : List ℕ
+  pub at : Pos
+
+-- a module's name, and the modules that it imports
+pub record File : Type 0 where
+  pub name : List ℕ
+  pub imports : List Wanted
+
+-- the bytes of a name in its text
+abbrev pub word : List ℕ → Name → List ℕ
+word text n = slice_range text n.start n.end
+
+abbrev pub imported : Import → Name
+imported i = unwrap_or i.of i.name
+
+abbrev pub wanted : List ℕ → Import → Wanted
+wanted text i = record { name = word text (imported i); at = (imported i).pos }
+
+abbrev pub file : List ℕ → Module → File
+file text m = record { name = word text m.name; imports = map (wanted text) m.imports }
+
+-- modules with their texts, in command order
+abbrev pub files : List Module → List (Vec ℕ Global) → List File
+files modules texts = map (λ p. file p.1.items p.0) (zip modules texts)
