@@ -17,11 +17,13 @@ names files = map (λ f. f.name) files
 abbrev pub is_again : List (List ℕ) → ℕ → Bool
 is_again names k = list_any (bytes_eq (slice_index_or names k [])) (take k names)
 
--- rule 8: the first file whose name an earlier one has, behind that one
+-- the earlier file that has it, and this one
+abbrev pub repetition : List (List ℕ) → ℕ → ℕ × ℕ
+repetition names k = (position_or_len (bytes_eq (slice_index_or names k [])) (take k names), k)
+
+-- rule 8: the first file whose name an earlier one has
 abbrev pub twice : List (List ℕ) → Option (ℕ × ℕ)
-twice names =
-    option_map (λ k. (position_or_len (bytes_eq (slice_index_or names k [])) (take k names), k))
-        (find (is_again names) (range_with_len 0 (length names)))
+twice names = option_map (repetition names) (find (is_again names) (range_with_len 0 (length names)))
 
 abbrev pub is_out : List ℕ → Bool
 is_out name = bytes_eq (codes "Out") name
@@ -38,13 +40,17 @@ is_absent names w = not (is_out w.name || is_some (file_of names w.name))
 abbrev pub first_absent : List (List ℕ) → File → Option Wanted
 first_absent names f = find (is_absent names) f.imports
 
+-- the file that imports it, and where its name stands
+abbrev pub absence : ℕ → Wanted → ℕ × Pos
+absence k w = (k, w.at)
+
 abbrev pub absent_in : List File → ℕ → Option Wanted
 absent_in files k = option_and_then (first_absent (names files)) (slice_get files k)
 
 -- rule 9: the first file that imports a module that isn't given, with the place of that module's name
 abbrev pub absent : List File → Option (ℕ × Pos)
 absent files =
-    option_and_then (λ k. option_map (λ w. (k, w.at)) (absent_in files k))
+    option_and_then (λ k. option_map (absence k) (absent_in files k))
         (find (λ k. is_some (absent_in files k)) (range_with_len 0 (length files)))
 
 -- the file that an import needs; Out needs none

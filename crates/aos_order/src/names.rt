@@ -44,7 +44,7 @@ fn file_needs(
     ensures needs { IfOk result (λ needs. needs.items
         ≡ filter_map (order.needed (map (λ k. k.now) names.now.keys)) (file text.now tree.now).imports) }
     ensures absent { IfErr result (IsRefused None
-        (option_map (λ w. (number, w.at)) (order.first_absent (map (λ k. k.now) names.now.keys) (file text.now tree.now)))) }
+        (option_map (order.absence number) (order.first_absent (map (λ k. k.now) names.now.keys) (file text.now tree.now)))) }
 {
     let mut needs = Vec::new(alloc);
     for import in imports_of(tree) {

@@ -44,7 +44,7 @@ pub fn place(alloc: Global, needs: &[Vec<usize>]) -> Result<IndexSet<usize>, All
 {
     let mut known = vec![in alloc; 0; needs.len()]?;
     let mut placed = IndexSet::new(alloc);
-    for _ in needs {
+    for (count, _) in needs.iter().enumerate() {
         if let Some(file) = next(needs, &mut known, &placed) {
             placed.insert(file)?;
         }

@@ -4,4 +4,4 @@ use Rattle.aos_order.specs.Placing.{is_among}
 use Rattle.aos_order.proofs.placing.unplaced.Given as goal
 
 abbrev pub invariant-loop-file : goal.invariant-loop-file
-invariant-loop-file l = l.left.items ≡ filter (λ k. not (is_among l.placed.keys k)) (range_with_len 0 l.file)
+invariant-loop-file l = l.left.items ≡ filter (λ k. not (is_among l.placed.keys k)) (range_with_len 0 l.file-counter)

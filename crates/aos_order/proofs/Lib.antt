@@ -1,0 +1,5 @@
+pub mod Searches
+pub mod Reading
+pub mod Needing
+pub mod Steps
+pub mod Answering
