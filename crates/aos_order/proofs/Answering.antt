@@ -1,5 +1,5 @@
 -- The answer, put together from its parts.
-use Rattle.std.proofs.Common.{◌≡◌, ℕ, suc, ◌<◌, List, [], ◌∷◌, length, take, get_or, map, Option, Some, None, Err, Ok, Vec, Global, is_some, Bool, true, false, not, ◌==◌, refl, sym, ap, subst, ◌∙◌, arith, bytes_eq}
+use Rattle.std.proofs.Common.{◌≡◌, ℕ, suc, ◌<◌, List, [], ◌∷◌, length, take, get_or, map, Option, Some, None, Err, Vec, Global, is_some, Bool, true, false, not, ◌==◌, refl, sym, ap, subst, ◌∙◌, arith, bytes_eq}
 use Rattle.std.specs.List.{All, find, filter, filter_map, position_or_len, range_with_len}
 use Rattle.std.specs.Option.{option_map, option_and_then}
 use Rattle.std.proofs.lemmas.List.{length-map, length-take}
@@ -9,7 +9,7 @@ use Rattle.aos_base.specs.declared.text.Pos.{Pos}
 use Rattle.aos_order.specs.declared.order_err.OrderErr.{OrderErr}
 use Rattle.aos_order.specs.declared.order_err.OrderErr.TheVariants as err
 use Rattle.aos_order.specs.Files.{File, Wanted}
-use Rattle.aos_order.specs.Order.{Answer, Order, Cycle, IsRefused, NamesFiles, absence, absent, absent_in, answer, first_of, is_again, names, needed, needs, repetition, twice}
+use Rattle.aos_order.specs.Order.{Order, Cycle, IsRefused, NamesFiles, absence, absent, absent_in, answer, first_of, is_again, names, needed, needs, repetition, twice}
 use Rattle.aos_order.specs.Placing.{is_among, placed, unplaced}
 use Rattle.aos_order.proofs.Steps.{placed_within, unplaced_within}
 use Rattle.aos_order.proofs.Searches.{found, position_within}
@@ -57,6 +57,10 @@ absent_within all (err.Twice i k) h = cc
 absent_within all (err.Absent k at) h = absent_by all _ k at refl h
 absent_within all (err.Cycle left) h = absurd h
 absent_within all err.NoMemory h = tt
+
+-- the placed files, told of what was passed on
+pub placed_are : (all : List File) (keys : List ℕ) (passed items : List (Vec ℕ Global)) → keys ≡ placed (map (λ v. v.items) passed) → passed ≡ items → map (λ v. v.items) items ≡ needs all → keys ≡ placed (needs all)
+placed_are all keys passed items at same are = at ∙ ap (λ l. placed (map (λ v. v.items) l)) same ∙ ap placed are
 
 module _ (all : List File) (n : ℕ) (size : length all ≡ n) (keys left : List ℕ) (placed_is : keys ≡ placed (needs all))
     (left_is : left ≡ filter (λ k. not (is_among keys k)) (range_with_len 0 n)) (once : twice (names all) ≡ None) (given : absent all ≡ None) where

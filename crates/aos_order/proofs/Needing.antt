@@ -1,6 +1,6 @@
 -- The imports of one file, read one after another, and the files one after another.
 use Rattle.std.proofs.Common.{◌≡◌, ℕ, ◌+◌, ◌<◌, List, [], ◌∷◌, ◌++◌, length, take, get_or, map, Bool, true, false, not, ◌||◌, Option, Some, None, Bor, Vec, Global, refl, sym, ap, ◌∙◌, arith, bytes_eq, is_some, if◌then◌else◌}
-use Rattle.std.specs.List.{find, filter_map, cons_option, position, slice_get, range_with_len}
+use Rattle.std.specs.List.{find, filter_map, cons_option, position}
 use Rattle.std.specs.Option.{option_map, option_and_then}
 use Rattle.std.proofs.lemmas.List.{append-nil, take_more, get_or-map, length-map, map-append}
 use Rattle.std.proofs.lemmas.Option.{slice_get-get_or}
@@ -58,7 +58,7 @@ module _ (ns : List (List ℕ)) (text : List ℕ) (imports : List Import) (found
   absent_read f number are out at =
       ap (λ l. option_map (absence number) (find (is_absent ns) l)) are
       ∙ ap (option_map (absence number)) (find-map (wanted text) (is_absent ns) imports
-          ∙ ap (option_map (wanted text)) (find_here (λ x. is_absent ns (wanted text x)) imports i d lt before.given (absent_by false false out (ap is_some at))))
+      ∙ ap (option_map (wanted text)) (find_here (λ x. is_absent ns (wanted text x)) imports i d lt before.given (absent_by false false out (ap is_some at))))
       ∙ ap (λ m. Some (number, m.pos)) (sym is_n)
 
 -- all imports of a file are read
@@ -95,14 +95,14 @@ module _ (all : List File) where
       let within : i < length (needs all) = omega (arith, length-map all (λ f. filter_map (needed (names all)) f.imports)) in
       ap (map (λ v. v.items)) pushed ∙ map-append (λ v. v.items) old (v ∷ []) ∙ ap (λ l. l ++ v.items ∷ []) before
       ∙ ap (λ n. take i (needs all) ++ n ∷ [])
-          (items ∙ ap (λ g. filter_map (needed (names all)) g.imports) (sym is)
-           ∙ sym (get_or-map (λ f. filter_map (needed (names all)) f.imports) all i f [] lt))
+      (items ∙ ap (λ g. filter_map (needed (names all)) g.imports) (sym is)
+      ∙ sym (get_or-map (λ f. filter_map (needed (names all)) f.imports) all i f [] lt))
       ∙ sym (take_more (needs all) i [] within)
 
   pub none_absent : AreGiven (length all) → absent all ≡ None
   none_absent given =
       ap (option_and_then (λ k. option_map (absence k) (absent_in all k)))
-          (find_none (λ k. is_some (absent_in all k)) (length all) (λ j lt. ap is_some (given j lt)))
+      (find_none (λ k. is_some (absent_in all k)) (length all) (λ j lt. ap is_some (given j lt)))
 
   pub refused_here : (i : ℕ) (e : OrderErr) → i < length all → AreGiven i → IsRefused None (option_map (absence i) (absent_in all i)) e → IsRefused None (absent all) e
   refused_here i (err.Twice a b) lt given h = h
@@ -110,5 +110,5 @@ module _ (all : List File) where
   refused_here i err.NoMemory lt given h = h
   refused_here i (err.Absent k at) lt given h =
       ap (option_and_then (λ j. option_map (absence j) (absent_in all j)))
-          (find_first (λ j. is_some (absent_in all j)) (length all) i lt (some_of (absence i) (absent_in all i) (k, at) h) (λ j le. ap is_some (given j le)))
+      (find_first (λ j. is_some (absent_in all j)) (length all) i lt (some_of (absence i) (absent_in all i) (k, at) h) (λ j le. ap is_some (given j le)))
       ∙ h

@@ -1,5 +1,5 @@
 -- The names of files, and where a name is met again.
-use Rattle.std.proofs.Common.{◌≡◌, ℕ, ◌+◌, ◌<◌, ◌≤◌, List, [], ◌∷◌, ◌++◌, length, take, get_or, map, Bool, true, false, Some, None, Bor, Vec, Global, refl, sym, ap, ◌∙◌, arith, bytes_eq, below_more, if◌then◌else◌}
+use Rattle.std.proofs.Common.{◌≡◌, ℕ, ◌+◌, ◌<◌, List, [], ◌∷◌, ◌++◌, length, take, get_or, map, Bool, true, false, Some, None, Bor, Vec, Global, sym, ap, ◌∙◌, arith, bytes_eq, if◌then◌else◌}
 use Rattle.std.specs.List.{list_any, position_or_len, zip}
 use Rattle.std.specs.Option.{option_map}
 use Rattle.std.proofs.lemmas.List.{take_more, get_or-map, length-map, map-append}
@@ -49,7 +49,7 @@ module _ (all : List (List ℕ)) (ks : List (Bor (List ℕ))) (i : ℕ) (are : m
   twice_here w first is at again before =
       ap (option_map _) (find_first (is_again all) (length all) i lt again before)
       ∙ ap (λ n. Some (n, i)) (sym (at ∙ sym (position_or_len-map (λ k. k.now) (bytes_eq w) ks) ∙ ap (position_or_len (bytes_eq w)) are
-          ∙ ap (λ v. position_or_len (bytes_eq v) (take i all)) is))
+      ∙ ap (λ v. position_or_len (bytes_eq v) (take i all)) is))
 
 pub once : (all : List (List ℕ)) → ((j : ℕ) → j < length all → is_again all j ≡ false) → twice all ≡ None
 once all before = ap (option_map _) (find_none (is_again all) (length all) before)

@@ -9,7 +9,7 @@ use Rattle.std.proofs.lemmas.List.Sums.{position_or_len_is}
 use Rattle.std.proofs.lemmas.List.FromFn.{get_or-range_with_len, length-range_with_len}
 use Rattle.std.proofs.lemmas.Option.{slice_get-get_or, slice_get_cases}
 
-in_range : (n j : ℕ) → j < n → get_or (range_with_len 0 n) j 0 ≡ j
+pub in_range : (n j : ℕ) → j < n → get_or (range_with_len 0 n) j 0 ≡ j
 in_range n j lt = get_or-range_with_len 0 n j 0 lt ∙ zero-add j
 
 module _ (p : ℕ → Bool) (n : ℕ) where
@@ -17,8 +17,8 @@ module _ (p : ℕ → Bool) (n : ℕ) where
   place k le before here =
       let size = length-range_with_len 0 n in
       position_or_len_is p (range_with_len 0 n) k 0 (omega arith)
-          (λ j lt. let m : j < n = omega arith in ap p (in_range n j m) ∙ before j lt)
-          (λ lt. let m : k < n = omega arith in ap p (in_range n k m) ∙ here m)
+      (λ j lt. let m : j < n = omega arith in ap p (in_range n j m) ∙ before j lt)
+      (λ lt. let m : k < n = omega arith in ap p (in_range n k m) ∙ here m)
 
   -- the first number below n that passes
   pub find_first : (k : ℕ) → k < n → p k ≡ true → ((j : ℕ) → j < k → p j ≡ false) → find p (range_with_len 0 n) ≡ Some k

@@ -2,11 +2,16 @@
 -- section on modules: `X := M` imports M under the name X).
 use Rattle.std.specs.Prelude.{ℕ, List, Vec, map, unwrap_or}
 use Rattle.std.specs.List.{slice_range, zip}
+use Rattle.std.specs.Borrow.{Bor}
 use Rattle.std.specs.declared.alloc.Global.{Global}
 use Rattle.aos_base.specs.declared.text.Pos.{Pos}
 use Rattle.aos_tree.specs.declared.name.Name.{Name}
 use Rattle.aos_tree.specs.declared.module.Import.{Import}
 use Rattle.aos_tree.specs.declared.module.Module.{Module}
+
+-- the words of a table
+abbrev pub words : List (Bor (List ℕ)) → List (List ℕ)
+words keys = map (λ k. k.now) keys
 
 -- an imported module's name, and where it stands
 pub record Wanted : Type 0 where

@@ -1,3 +1,4 @@
 pub mod Files
 pub mod Placing
 pub mod Order
+pub mod Laws

@@ -1,6 +1,6 @@
 -- The load order of files, or the first of the rules 8 to 10 that they break. A module is loaded behind those that it
 -- imports; Out is always there (Oberon-2 report, section on modules; Oakwood Guidelines, module Out).
-use Rattle.std.specs.Prelude.{◌≡◌, ◌≢◌, ℕ, ◌<◌, Bool, not, ◌||◌, List, [], ◌∷◌, Option, Some, None, Result, Ok, Err, is_some, codes, if◌then◌else◌, map, length, take, find, position, slice_get, slice_index_or, option_map, option_and_then, filter_map, All, Vec}
+use Rattle.std.specs.Prelude.{◌≡◌, ℕ, ◌<◌, Bool, not, ◌||◌, List, [], ◌∷◌, Option, Some, None, Result, Ok, Err, is_some, codes, if◌then◌else◌, map, length, take, find, position, slice_get, slice_index_or, option_map, option_and_then, filter_map, All, Vec}
 use Rattle.std.specs.List.{list_any, position_or_len, range_with_len}
 use Rattle.std.specs.Str.{bytes_eq}
 use Rattle.std.specs.declared.alloc.Global.{Global}
@@ -51,7 +51,7 @@ absent_in files k = option_and_then (first_absent (names files)) (slice_get file
 abbrev pub absent : List File → Option (ℕ × Pos)
 absent files =
     option_and_then (λ k. option_map (absence k) (absent_in files k))
-        (find (λ k. is_some (absent_in files k)) (range_with_len 0 (length files)))
+    (find (λ k. is_some (absent_in files k)) (range_with_len 0 (length files)))
 
 -- the file that an import needs; Out needs none
 abbrev pub needed : List (List ℕ) → Wanted → Option ℕ

@@ -1,9 +1,16 @@
 // The names of modules, and the files that imports name.
 
 ghost use Rattle.std.specs.Prelude.{◌≡◌, None, length, map, option_map, IfOk, IfErr, filter_map};
-ghost use Rattle.aos_order.specs.Files.{files, file};
+ghost use Rattle.aos_order.specs.Files.{file, files, words};
 ghost use Rattle.aos_order.specs.Order as order;
-ghost use Rattle.aos_order.specs.Order.{IsRefused};
+ghost use Rattle.aos_order.specs.Order.{
+  IsRefused,
+  absence,
+  absent,
+  first_absent,
+  needed,
+  twice,
+};
 
 use crate::file::{imported, imports_of, word};
 use crate::order_err::OrderErr;
@@ -18,9 +25,11 @@ pub fn module_names<'a>(
     texts: &'a [Vec<u8>],
 ) -> Result<IndexSet<&'a [u8]>, OrderErr>
     requires { length modules.now ≡ length texts.now }
-    ensures names { IfOk result (λ names. map (λ k. k.now) names.keys ≡ order.names (files modules.now texts.now)) }
-    ensures once { IfOk result (λ _. order.twice (order.names (files modules.now texts.now)) ≡ None) }
-    ensures again { IfErr result (IsRefused (order.twice (order.names (files modules.now texts.now))) None) }
+    ensures names { IfOk result (λ names. words names.keys
+        ≡ order.names (files modules.now texts.now)) }
+    ensures once { IfOk result (λ _. twice (order.names (files modules.now texts.now)) ≡ None) }
+    ensures again { IfErr result
+        (IsRefused (twice (order.names (files modules.now texts.now))) None) }
 {
     let mut names = IndexSet::new(alloc);
     for (file, tree) in modules.iter().enumerate() {
@@ -40,11 +49,12 @@ fn file_needs(
     text: &[u8],
     tree: &Module,
 ) -> Result<Vec<usize>, OrderErr>
-    ensures given { IfOk result (λ _. order.first_absent (map (λ k. k.now) names.now.keys) (file text.now tree.now) ≡ None) }
+    ensures given { IfOk result
+        (λ _. first_absent (words names.now.keys) (file text.now tree.now) ≡ None) }
     ensures needs { IfOk result (λ needs. needs.items
-        ≡ filter_map (order.needed (map (λ k. k.now) names.now.keys)) (file text.now tree.now).imports) }
-    ensures absent { IfErr result (IsRefused None
-        (option_map (order.absence number) (order.first_absent (map (λ k. k.now) names.now.keys) (file text.now tree.now)))) }
+        ≡ filter_map (needed (words names.now.keys)) (file text.now tree.now).imports) }
+    ensures absent { IfErr result (IsRefused None (option_map (absence number)
+        (first_absent (words names.now.keys) (file text.now tree.now)))) }
 {
     let mut needs = Vec::new(alloc);
     for import in imports_of(tree) {
@@ -69,10 +79,11 @@ pub fn needs_of(
     texts: &[Vec<u8>],
 ) -> Result<Vec<Vec<usize>>, OrderErr>
     requires texts { length modules.now ≡ length texts.now }
-    requires names { map (λ k. k.now) names.now.keys ≡ order.names (files modules.now texts.now) }
-    ensures given { IfOk result (λ _. order.absent (files modules.now texts.now) ≡ None) }
-    ensures needs { IfOk result (λ needs. map (λ v. v.items) needs.items ≡ order.needs (files modules.now texts.now)) }
-    ensures absent { IfErr result (IsRefused None (order.absent (files modules.now texts.now))) }
+    requires names { words names.now.keys ≡ order.names (files modules.now texts.now) }
+    ensures given { IfOk result (λ _. absent (files modules.now texts.now) ≡ None) }
+    ensures needs { IfOk result (λ needs. map (λ v. v.items) needs.items
+        ≡ order.needs (files modules.now texts.now)) }
+    ensures absent { IfErr result (IsRefused None (absent (files modules.now texts.now))) }
 {
     let mut needs = Vec::new(alloc);
     for (number, tree) in modules.iter().enumerate() {

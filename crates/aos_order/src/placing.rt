@@ -8,7 +8,8 @@ ghost use Rattle.aos_order.specs.Placing.{is_among, AreKnown};
 use indexmap::IndexSet;
 use std::alloc::{AllocError, Global};
 
-/// Whether all needed files are placed. So many of them are known to be: the number grows, so that each is met once.
+/// Whether all needed files are placed. So many of them are known to be: the number grows, so that
+/// each is met once.
 fn are_placed(needed: &[usize], known: &mut usize, placed: &IndexSet<usize>) -> bool
     requires { list_all (is_among placed.now.keys) (take known.old needed.now) ≡ true }
     ensures all { result ≡ list_all (is_among placed.now.keys) needed.now }
@@ -44,10 +45,11 @@ pub fn place(alloc: Global, needs: &[Vec<usize>]) -> Result<IndexSet<usize>, All
 {
     let mut known = vec![in alloc; 0; needs.len()]?;
     let mut placed = IndexSet::new(alloc);
-    for (count, _) in needs.iter().enumerate() {
-        if let Some(file) = next(needs, &mut known, &placed) {
-            placed.insert(file)?;
-        }
+    while placed.len() < needs.len() {
+        let Some(file) = next(needs, &mut known, &placed) else {
+            break;
+        };
+        placed.insert(file)?;
     }
     Ok(placed)
 }
@@ -58,7 +60,8 @@ pub fn unplaced(
     placed: &IndexSet<usize>,
     files: usize,
 ) -> Result<Vec<usize>, AllocError>
-    ensures { IfOk result (λ left. left.items ≡ filter (λ k. not (is_among placed.now.keys k)) (range_with_len 0 files)) }
+    ensures { IfOk result (λ left. left.items
+        ≡ filter (λ k. not (is_among placed.now.keys k)) (range_with_len 0 files)) }
 {
     let mut left = Vec::new(alloc);
     for file in 0..files {

@@ -1,11 +1,10 @@
-use Rattle.std.proofs.Common.{◌≡◌, ◌<◌, ℕ, Err, length, map, vec_len, arith, sym, ap, subst, ◌∙◌}
+use Rattle.std.proofs.Common.{◌<◌, Err, length, vec_len, arith, sym, ap, subst, ◌∙◌}
 use Rattle.std.proofs.lemmas.Result.{err_from_is_err_and}
 use Rattle.aos_order.specs.Files.{files}
-use Rattle.aos_order.specs.Order.{NamesFiles, Order, names, needs}
-use Rattle.aos_order.specs.Placing.{placed}
+use Rattle.aos_order.specs.Order.{NamesFiles, Order, names}
 use Rattle.std.specs.List.{All}
 use Rattle.aos_order.proofs.Reading.{length-files, length-names}
-use Rattle.aos_order.proofs.Answering.{twice_within, absent_within, order_is, cycle_is, order_within, cycle_within, has_some, has_none}
+use Rattle.aos_order.proofs.Answering.{placed_are, twice_within, absent_within, order_is, cycle_is, order_within, cycle_within, has_some, has_none}
 use Rattle.aos_order.proofs.order.Goals as goal
 
 pub returns-in_err-names-clause-within : goal.returns-in_err-names-clause-within
@@ -30,9 +29,9 @@ returns-then-not-is_empty-clause-exact c =
     let ts = c.args.texts.now in
     let left = c.in_ok-left.left in
     let keys = c.in_ok-placed.placed.keys in
-    let keys_are : keys ≡ placed (needs (files ms ts)) = c.in_ok-placed.ensures ∙ ap (λ l. placed (map (λ v. v.items) l)) c.deref.ensures.value ∙ ap placed c.in_ok-needs.ensures.needs in
+    let keys_are = placed_are (files ms ts) keys c.deref.result.now c.in_ok-needs.needs.items c.in_ok-placed.ensures c.deref.ensures.value c.in_ok-needs.ensures.needs in
     cycle_is (files ms ts) (length ms) (length-files ms ts c.requires) keys left.items keys_are c.in_ok-left.ensures c.in_ok-names.ensures.once c.in_ok-needs.ensures.given
-        (has_some left.items (vec_len left) c.is_empty.result (omega arith) c.is_empty.ensures c.if-not-is_empty.true)
+    (has_some left.items (vec_len left) c.is_empty.result (omega arith) c.is_empty.ensures c.if-not-is_empty.true)
 
 pub returns-then-not-is_empty-clause-within : goal.returns-then-not-is_empty-clause-within
 returns-then-not-is_empty-clause-within c =
@@ -40,9 +39,10 @@ returns-then-not-is_empty-clause-within c =
     let ts = c.args.texts.now in
     let left = c.in_ok-left.left in
     let keys = c.in_ok-placed.placed.keys in
-    let keys_are : keys ≡ placed (needs (files ms ts)) = c.in_ok-placed.ensures ∙ ap (λ l. placed (map (λ v. v.items) l)) c.deref.ensures.value ∙ ap placed c.in_ok-needs.ensures.needs in
-    (has_some left.items (vec_len left) c.is_empty.result (omega arith) c.is_empty.ensures c.if-not-is_empty.true,
-     cycle_within (files ms ts) (length ms) (length-files ms ts c.requires) keys left.items keys_are c.in_ok-left.ensures c.in_ok-names.ensures.once c.in_ok-needs.ensures.given)
+    let keys_are = placed_are (files ms ts) keys c.deref.result.now c.in_ok-needs.needs.items c.in_ok-placed.ensures c.deref.ensures.value c.in_ok-needs.ensures.needs in (
+      (has_some left.items (vec_len left) c.is_empty.result (omega arith) c.is_empty.ensures c.if-not-is_empty.true),
+      cycle_within (files ms ts) (length ms) (length-files ms ts c.requires) keys left.items keys_are c.in_ok-left.ensures c.in_ok-names.ensures.once c.in_ok-needs.ensures.given,
+    )
 
 pub returns-clause-exact : goal.returns-clause-exact
 returns-clause-exact c =
@@ -50,9 +50,9 @@ returns-clause-exact c =
     let ts = c.args.texts.now in
     let left = c.in_ok-left.left in
     let keys = c.in_ok-placed.placed.keys in
-    let keys_are : keys ≡ placed (needs (files ms ts)) = c.in_ok-placed.ensures ∙ ap (λ l. placed (map (λ v. v.items) l)) c.deref.ensures.value ∙ ap placed c.in_ok-needs.ensures.needs in
+    let keys_are = placed_are (files ms ts) keys c.deref.result.now c.in_ok-needs.needs.items c.in_ok-placed.ensures c.deref.ensures.value c.in_ok-needs.ensures.needs in
     order_is (files ms ts) (length ms) (length-files ms ts c.requires) keys left.items keys_are c.in_ok-left.ensures c.in_ok-names.ensures.once c.in_ok-needs.ensures.given
-        (has_none left.items (vec_len left) c.is_empty.result (omega arith) c.is_empty.ensures c.if-not-is_empty.false)
+    (has_none left.items (vec_len left) c.is_empty.result (omega arith) c.is_empty.ensures c.if-not-is_empty.false)
     ∙ ap Order (sym (c.in_ok-to_vec.ensures.items_if_clones_equal (λ x y same. same) ∙ c.as_slice.ensures.keys))
 
 pub returns-clause-within : goal.returns-clause-within
@@ -61,6 +61,6 @@ returns-clause-within c =
     let ts = c.args.texts.now in
     let left = c.in_ok-left.left in
     let keys = c.in_ok-placed.placed.keys in
-    let keys_are : keys ≡ placed (needs (files ms ts)) = c.in_ok-placed.ensures ∙ ap (λ l. placed (map (λ v. v.items) l)) c.deref.ensures.value ∙ ap placed c.in_ok-needs.ensures.needs in
+    let keys_are = placed_are (files ms ts) keys c.deref.result.now c.in_ok-needs.needs.items c.in_ok-placed.ensures c.deref.ensures.value c.in_ok-needs.ensures.needs in
     subst (λ l. All (λ k. k < length ms) l) (sym (c.in_ok-to_vec.ensures.items_if_clones_equal (λ x y same. same) ∙ c.as_slice.ensures.keys))
-        (order_within (files ms ts) (length ms) (length-files ms ts c.requires) keys left.items keys_are c.in_ok-left.ensures c.in_ok-names.ensures.once c.in_ok-needs.ensures.given)
+    (order_within (files ms ts) (length ms) (length-files ms ts c.requires) keys left.items keys_are c.in_ok-left.ensures c.in_ok-names.ensures.once c.in_ok-needs.ensures.given)

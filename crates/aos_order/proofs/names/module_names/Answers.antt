@@ -1,4 +1,4 @@
-use Rattle.std.proofs.Common.{◌≡◌, ◌<◌, length, take, true, false, arith, sym, ◌∙◌, below_more}
+use Rattle.std.proofs.Common.{◌<◌, length, true, false, arith, sym, ◌∙◌, below_more}
 use Rattle.std.proofs.lemmas.List.{take_all}
 use Rattle.aos_order.specs.Files.{files}
 use Rattle.aos_order.specs.Order.{names}
@@ -14,11 +14,11 @@ returns-then-not-is_new-clause-again c =
     let i = c.loop-file.file in
     let ks = c.loop-file.names.keys in
     let word = name_at ms ts c.requires i c.index-modules-file.result c.index-texts-file.result c.deref.result.now c.word.result.now c.loop-file-test.true
-        c.index-modules-file.is c.index-texts-file.is c.deref.ensures.value c.word.ensures in
+    c.index-modules-file.is c.index-texts-file.is c.deref.ensures.value c.word.ensures in
     let lt : i < length all = omega (arith, length-names ms ts c.requires) in
     twice_here all ks i c.loop-file.invariant.names lt c.word.result.now c.in_ok-first.first word c.in_ok-first.ensures.index
-        (sym (met all ks i c.loop-file.invariant.names lt c.word.result.now word) ∙ negated c.in_ok-first.is_new _ false c.in_ok-first.ensures.added c.if-not-is_new.true)
-        c.loop-file.invariant.once
+    (sym (met all ks i c.loop-file.invariant.names lt c.word.result.now word) ∙ negated c.in_ok-first.is_new _ false c.in_ok-first.ensures.added c.if-not-is_new.true)
+    c.loop-file.invariant.once
 
 pub loop-file-preserved : goal.loop-file-preserved
 loop-file-preserved c =
@@ -28,7 +28,7 @@ loop-file-preserved c =
     let i = c.loop-file.file in
     let ks = c.loop-file.names.keys in
     let word = name_at ms ts c.requires i c.index-modules-file.result c.index-texts-file.result c.deref.result.now c.word.result.now c.loop-file-test.true
-        c.index-modules-file.is c.index-texts-file.is c.deref.ensures.value c.word.ensures in
+    c.index-modules-file.is c.index-texts-file.is c.deref.ensures.value c.word.ensures in
     let lt : i < length all = omega (arith, length-names ms ts c.requires) in
     let new = negated c.in_ok-first.is_new _ true c.in_ok-first.ensures.added c.if-not-is_new.false in
     record {

@@ -1,4 +1,4 @@
-use Rattle.std.proofs.Common.{◌≡◌, ◌<◌, [], length, map, get_or, true, not, ◌&&◌, arith, sym, ap, ◌∙◌}
+use Rattle.std.proofs.Common.{◌≡◌, [], length, map, get_or, true, not, ◌&&◌, arith, sym, ap, ◌∙◌}
 use Rattle.std.specs.List.{list_all}
 use Rattle.std.proofs.lemmas.List.{length-map, get_or-map}
 use Rattle.aos_order.specs.Placing.{is_among, is_ready}
@@ -13,9 +13,9 @@ returns-then-are_placed-clause-next c =
     let i = c.loop-file.file-counter in
     let v = c.index-needs-file.result in
     let ready : is_ready all keys i ≡ true =
-        ap (λ b. not b && list_all (is_among keys) (get_or all i [])) (sym c.contains.ensures ∙ c.if-not-contains.true)
-        ∙ ap (list_all (is_among keys)) (get_or-map (λ v. v.items) needs i v [] c.loop-file-test.true ∙ ap (λ v. v.items) (sym c.index-needs-file.is) ∙ sym c.deref.ensures.value)
-        ∙ sym c.are_placed.ensures.all ∙ c.if-are_placed.true in
+    ap (λ b. not b && list_all (is_among keys) (get_or all i [])) (sym c.contains.ensures ∙ c.if-not-contains.true)
+    ∙ ap (list_all (is_among keys)) (get_or-map (λ v. v.items) needs i v [] c.loop-file-test.true ∙ ap (λ v. v.items) (sym c.index-needs-file.is) ∙ sym c.deref.ensures.value)
+    ∙ sym c.are_placed.ensures.all ∙ c.if-are_placed.true in
     sym (find_first (is_ready all keys) (length all) i (omega (arith, length-map needs (λ v. v.items))) ready c.loop-file.invariant.not_before)
 
 pub returns-clause-next : goal.returns-clause-next
