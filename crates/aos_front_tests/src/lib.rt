@@ -8,6 +8,8 @@ mod checks;
 #[cfg(test)]
 mod expressions;
 #[cfg(test)]
+mod load_order;
+#[cfg(test)]
 mod modules;
 #[cfg(test)]
 mod texts;
