@@ -4,7 +4,7 @@ use Rattle.std.specs.Prelude.{Option, Some, None, slice_get}
 use Rattle.std.specs.List.{Contains}
 use Rattle.aos_queue.specs.declared.links.Links.{Links}
 use Rattle.aos_queue.specs.declared.queue.Queue.{Queue}
-use Rattle.aos_queue.specs.Lists.{run, without, IsRun, IsOnce, last_of, next_in, list_in, Stands, Belongs, Apart, KeepsOthers}
+use Rattle.aos_queue.specs.Lists.{run, without, IsRun, IsOnce, last_of, next_in, list_in, Stands, Belongs, Apart, KeepsOthers, room_of}
 use Rattle.std.proofs.Common.{append_assoc, length-append}
 use Rattle.std.specs.Option.{unwrap_or, option_eq}
 use Rattle.std.specs.Prelude.{true}
@@ -32,6 +32,14 @@ stands_list links queue ns h = run_is _ _ queue.first ns h.run (length_bound ns 
 pub stands_belongs : (links : Links) (queue : Queue) (ns : List ℕ) → Stands (next_in links.nodes.items) (length links.nodes.items) queue.first queue.last ns → Belongs links queue
 stands_belongs links queue ns h =
     record { stands = subst (λ (ms : List ℕ). Stands (next_in links.nodes.items) (length links.nodes.items) queue.first queue.last ms) (sym (stands_list links queue ns h)) h }
+
+-- what belonging says of the numbers
+pub is_reserved : (links : Links) (queue : Queue) (n : ℕ) → Belongs links queue → Contains (list_in links queue) n → n < room_of links
+unfolding room_of
+is_reserved links queue n h i = h.stands.reserved n i
+
+pub is_once : (links : Links) (queue : Queue) → Belongs links queue → IsOnce (list_in links queue)
+is_once links queue h = h.stands.once
 
 -- new links that have the same behind each number that isn't touched
 kept_stands : (old new : Links) (touched : List ℕ) → length old.nodes.items ≤ length new.nodes.items

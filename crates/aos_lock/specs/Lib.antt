@@ -1,0 +1,2 @@
+pub mod Heirs
+pub mod Waits

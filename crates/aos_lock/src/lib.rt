@@ -1,0 +1,10 @@
+//! Locks with those who wait for them, entrants and waiters in one order, and the release that gives a lock to its heir.
+#![tactic(auto)]
+
+mod lock;
+mod locks;
+mod test;
+
+pub use lock::{Entered, Passed};
+pub use locks::Locks;
+pub use test::Test;
