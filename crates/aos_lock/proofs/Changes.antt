@@ -19,10 +19,11 @@ pub keeps_both : (old mid new : Links) (touched more : List ℕ) → KeepsOthers
     → ((n : ℕ) → Contains more n → Contains touched n) → KeepsOthers old new touched
 keeps_both old mid new touched more one two within =
     let still : (other : Queue) → Belongs old other → Apart (list_in old other) touched → Apart (list_in mid other) more =
-        λ other h a. record { apart = λ n i j. a.apart n (subst (λ ns. Contains ns n) (one.list other h a) i) (within n j) } in
+    λ other h a. record { apart = λ n i j. a.apart n (subst (λ ns. Contains ns n) (one.list other h a) i) (within n j) } in
     record {
       belongs = λ other h a. two.belongs other (one.belongs other h a) (still other h a);
-      list = λ other h a. two.list other (one.belongs other h a) (still other h a) ∙ one.list other h a }
+      list = λ other h a. two.list other (one.belongs other h a) (still other h a) ∙ one.list other h a;
+    }
 
 -- one lock is another one, and numbers are touched that wait for it or for none
 pub record Changes (before : Links) (old : Locks) (after : Links) (lock : ℕ) (with : Lock) (touched : List ℕ) : Type 0 where
@@ -52,9 +53,10 @@ module _ (before : Links) (old : Locks) (after : Links) (lock : ℕ) (with : Loc
 
   belongs_at : (k : ℕ) → Belongs after (lock_at (changed old lock with) k).queue
   belongs_at k = elim (eqb_tells k lock) [
-      inl e ↦ subst (λ j. Belongs after (lock_at (changed old lock with) j).queue) (sym e.1)
-          (subst (λ (l : Lock). Belongs after l.queue) (sym (at_lock old lock with c.added)) c.belongs)
-    | inr h ↦ subst (λ (l : Lock). Belongs after l.queue) (sym (at_other old lock k with h.1)) (c.queues.belongs _ (c.belong.belongs k) (apart_from k h.1)) ]
+    | inl e ↦ subst (λ j. Belongs after (lock_at (changed old lock with) j).queue) (sym e.1)
+        (subst (λ (l : Lock). Belongs after l.queue) (sym (at_lock old lock with c.added)) c.belongs)
+    | inr h ↦ subst (λ (l : Lock). Belongs after l.queue) (sym (at_other old lock k with h.1)) (c.queues.belongs _ (c.belong.belongs k) (apart_from k h.1))
+  ]
 
   -- a number in another queue stood in it before
   stood : (other n : ℕ) → other ≢ lock → Contains (list_in after (lock_at (changed old lock with) other).queue) n → Contains (list_in before (lock_at old other).queue) n
@@ -66,12 +68,16 @@ module _ (before : Links) (old : Locks) (after : Links) (lock : ℕ) (with : Loc
   stands n i = c.within n (subst (λ (l : Lock). Contains (list_in after l.queue) n) (at_lock old lock with c.added) i)
 
   pub apart_at : (j k : ℕ) → j ≢ k → Apart (list_in after (lock_at (changed old lock with) j).queue) (list_in after (lock_at (changed old lock with) k).queue)
-  apart_at j k d = record { apart = λ n p q. elim (eqb_tells j lock) [
-      inl e ↦ c.nowhere k n (λ s. d (e.1 ∙ sym s)) (stood k n (λ s. d (e.1 ∙ sym s)) q)
+  apart_at j k d = record {
+    apart = λ n p q. elim (eqb_tells j lock) [
+      | inl e ↦ c.nowhere k n (λ s. d (e.1 ∙ sym s)) (stood k n (λ s. d (e.1 ∙ sym s)) q)
           (stands n (subst (λ i. Contains (list_in after (lock_at (changed old lock with) i).queue) n) e.1 p))
-    | inr h ↦ elim (eqb_tells k lock) [
-          inl e ↦ c.nowhere j n h.1 (stood j n h.1 p) (stands n (subst (λ i. Contains (list_in after (lock_at (changed old lock with) i).queue) n) e.1 q))
-        | inr f ↦ (c.belong.apart j k d).apart n (stood j n h.1 p) (stood k n f.1 q) ] ] }
+      | inr h ↦ elim (eqb_tells k lock) [
+        | inl e ↦ c.nowhere j n h.1 (stood j n h.1 p) (stands n (subst (λ i. Contains (list_in after (lock_at (changed old lock with) i).queue) n) e.1 q))
+        | inr f ↦ (c.belong.apart j k d).apart n (stood j n h.1 p) (stood k n f.1 q)
+      ]
+    ];
+  }
 
   pub belong_after : Belong after (changed old lock with)
   belong_after = record { belongs = belongs_at; apart = apart_at }
@@ -79,11 +85,12 @@ module _ (before : Links) (old : Locks) (after : Links) (lock : ℕ) (with : Loc
   pub others_kept : KeepsLocks before old after (changed old lock with) lock
   unfolding count_of owner_of waiting_in
   others_kept = record {
-      count = length-set old.locks.items lock with;
-      owners = λ other h. ap (λ (l : Lock). l.owner) (at_other old lock other with h);
-      lists = λ other h. ap (λ (l : Lock). waits_in after l.queue) (at_other old lock other with h)
-          ∙ ap (map (waits_of after)) (other_list other h)
-          ∙ map_same before after (list_in before (lock_at old other).queue) (λ n i. c.marks n (λ j. c.nowhere other n h i j)) }
+    count = length-set old.locks.items lock with;
+    owners = λ other h. ap (λ (l : Lock). l.owner) (at_other old lock other with h);
+    lists = λ other h. ap (λ (l : Lock). waits_in after l.queue) (at_other old lock other with h)
+        ∙ ap (map (waits_of after)) (other_list other h)
+        ∙ map_same before after (list_in before (lock_at old other).queue) (λ n i. c.marks n (λ j. c.nowhere other n h i j));
+  }
 
   pub owner_after : owner_of (changed old lock with) lock ≡ with.owner
   unfolding owner_of
@@ -126,11 +133,14 @@ pub leave_changes : (before after : Links) (old : Locks) (lock : ℕ) (l with : 
     → ((n : ℕ) → mark_of after n ≡ mark_of before n)
     → Changes before old after lock with (list_in before l.queue)
 leave_changes before after old lock l with added is belong keeps belongs within marks = record {
-    added = added; belong = belong; queues = keeps;
-    nowhere = λ other n d i j. (belong.apart other lock d).apart n i (subst (λ (x : Lock). Contains (list_in before x.queue) n) (sym is) j);
-    belongs = belongs;
-    within = numbers_within before after l with (list_in before l.queue) within;
-    marks = λ n out. marks n }
+  added = added;
+  belong = belong;
+  queues = keeps;
+  nowhere = λ other n d i j. (belong.apart other lock d).apart n i (subst (λ (x : Lock). Contains (list_in before x.queue) n) (sym is) j);
+  belongs = belongs;
+  within = numbers_within before after l with (list_in before l.queue) within;
+  marks = λ n out. marks n;
+}
 
 -- one who joins them is touched too
 pub join_changes : (before after : Links) (old : Locks) (lock a : ℕ) (l with : Lock) → lock < length old.locks.items → lock_at old lock ≡ l → Belong before old
@@ -139,13 +149,36 @@ pub join_changes : (before after : Links) (old : Locks) (lock a : ℕ) (l with :
     → ((n : ℕ) → n ≢ a → mark_of after n ≡ mark_of before n)
     → Changes before old after lock with (a ∷ list_in before l.queue)
 join_changes before after old lock a l with added is belong idle keeps belongs within marks = record {
-    added = added; belong = belong; queues = keeps;
-    nowhere = λ other n d i j. elim (among a n (list_in before l.queue) j) [
-        inl e ↦ not_in before old a other idle (subst (λ k. Contains (list_in before (lock_at old other).queue) k) (sym e) i)
-      | inr k ↦ (belong.apart other lock d).apart n i (subst (λ (x : Lock). Contains (list_in before x.queue) n) (sym is) k) ];
-    belongs = belongs;
-    within = numbers_within before after l with (a ∷ list_in before l.queue) within;
-    marks = λ n out. marks n (λ e. out (subst (λ k. Contains (a ∷ list_in before l.queue) k) (sym e) (here a (list_in before l.queue)))) }
+  added = added;
+  belong = belong;
+  queues = keeps;
+  nowhere = λ other n d i j. elim (among a n (list_in before l.queue) j) [
+    | inl e ↦ not_in before old a other idle (subst (λ k. Contains (list_in before (lock_at old other).queue) k) (sym e) i)
+    | inr k ↦ (belong.apart other lock d).apart n i (subst (λ (x : Lock). Contains (list_in before x.queue) n) (sym is) k)
+  ];
+  belongs = belongs;
+  within = numbers_within before after l with (a ∷ list_in before l.queue) within;
+  marks = λ n out. marks n (λ e. out (subst (λ k. Contains (a ∷ list_in before l.queue) k) (sym e) (here a (list_in before l.queue))));
+}
+
+-- links that touch nobody who waits
+module _ (old new : Links) (locks : Locks) (touched : List ℕ) (keeps : KeepsOthers old new touched) (h : Belong old locks)
+  (idle : (a : ℕ) → Contains touched a → WaitsNowhere old locks a) where
+  untouched : (lock : ℕ) → Apart (list_in old (lock_at locks lock).queue) touched
+  untouched lock = record { apart = λ n i j. not_in old locks n lock (idle n j) i }
+
+  same_list : (lock : ℕ) → list_in new (lock_at locks lock).queue ≡ list_in old (lock_at locks lock).queue
+  same_list lock = keeps.list _ (h.belongs lock) (untouched lock)
+
+  pub still_belong : Belong new locks
+  still_belong = record {
+      belongs = λ lock. keeps.belongs _ (h.belongs lock) (untouched lock);
+      apart = λ lock other d. record { apart = λ n i j.
+          (h.apart lock other d).apart n (subst (λ ns. Contains ns n) (same_list lock) i) (subst (λ ns. Contains ns n) (same_list other) j) } }
+
+  pub still_waiting : ((n : ℕ) → mark_of new n ≡ mark_of old n) → (lock : ℕ) → waiting_in new locks lock ≡ waiting_in old locks lock
+  unfolding waiting_in
+  still_waiting marks lock = ap (map (waits_of new)) (same_list lock) ∙ map_same old new (list_in old (lock_at locks lock).queue) (λ n i. marks n)
 
 -- locks that are added
 free_stands : (links : Links) → Belongs links free.queue
@@ -156,9 +189,12 @@ at_none links locks lock e = ap (λ (ls : List Lock). slice_index_or ls lock fre
 
 pub none_belong : (links : Links) (locks : Locks) → locks.locks.items ≡ [] → Belong links locks
 none_belong links locks e = record {
-    belongs = λ lock. subst (λ (l : Lock). Belongs links l.queue) (sym (at_none links locks lock e)) (free_stands links);
-    apart = λ lock other d. record { apart = λ n i j.
-        none n (subst (λ ns. Contains ns n) (ap (λ (l : Lock). list_in links l.queue) (at_none links locks lock e) ∙ stands_list links free.queue [] (nobody_stands _ _ 0)) i) } }
+  belongs = λ lock. subst (λ (l : Lock). Belongs links l.queue) (sym (at_none links locks lock e)) (free_stands links);
+  apart = λ lock other d. record {
+    apart = λ n i j.
+        none n (subst (λ ns. Contains ns n) (ap (λ (l : Lock). list_in links l.queue) (at_none links locks lock e) ∙ stands_list links free.queue [] (nobody_stands _ _ 0)) i);
+  };
+}
 
 at_push : (ls : List Lock) (l : Lock) (k : ℕ) → (slice_index_or (ls ++ l ∷ []) k free ≡ slice_index_or ls k free) ⊎ (slice_index_or (ls ++ l ∷ []) k free ≡ l)
 at_push [] l zero = inr refl
@@ -172,12 +208,15 @@ module _ (links : Links) (old new : Locks) (l : Lock) (is : new.locks.items ≡ 
 
   list_added : (k n : ℕ) → Contains (list_in links (lock_at new k).queue) n → Contains (list_in links (lock_at old k).queue) n
   list_added k n i = elim (at_added k) [
-      inl e ↦ subst (λ (x : Lock). Contains (list_in links x.queue) n) e i
-    | inr e ↦ absurd (none n (subst (λ ns. Contains ns n) empty (subst (λ (x : Lock). Contains (list_in links x.queue) n) e i))) ]
+    | inl e ↦ subst (λ (x : Lock). Contains (list_in links x.queue) n) e i
+    | inr e ↦ absurd (none n (subst (λ ns. Contains ns n) empty (subst (λ (x : Lock). Contains (list_in links x.queue) n) e i)))
+  ]
 
   pub added_belong : Belong links new
   added_belong = record {
-      belongs = λ k. elim (at_added k) [
-          inl e ↦ subst (λ (x : Lock). Belongs links x.queue) (sym e) (h.belongs k)
-        | inr e ↦ subst (λ (x : Lock). Belongs links x.queue) (sym e) fits ];
-      apart = λ j k d. record { apart = λ n p q. (h.apart j k d).apart n (list_added j n p) (list_added k n q) } }
+    belongs = λ k. elim (at_added k) [
+      | inl e ↦ subst (λ (x : Lock). Belongs links x.queue) (sym e) (h.belongs k)
+      | inr e ↦ subst (λ (x : Lock). Belongs links x.queue) (sym e) fits
+    ];
+    apart = λ j k d. record { apart = λ n p q. (h.apart j k d).apart n (list_added j n p) (list_added k n q) };
+  }

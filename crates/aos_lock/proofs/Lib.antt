@@ -1,3 +1,4 @@
 pub mod Rows
 pub mod Walks
 pub mod Changes
+pub mod Owns

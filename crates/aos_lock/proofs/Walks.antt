@@ -78,7 +78,8 @@ walk_on verdict links ns a entrant at h fails next =
       waiters = h.waiters ∙ ap (λ ms. first_waiter (by_waiter verdict) (map (waits_of links) ms)) o.1
           ∙ passed_over verdict (mark_of links a) a (first_waiter (by_waiter verdict) (map (waits_of links) o.0)) fails;
       entrants = h.entrants ∙ ap (λ ms. or_else (met entrant) (first_entrant (map (waits_of links) ms))) o.1
-          ∙ meets (mark_of links a) a entrant (first_entrant (map (waits_of links) o.0)) }
+          ∙ meets (mark_of links a) a entrant (first_entrant (map (waits_of links) o.0));
+    }
 
 -- one who is served is the heir
 holds_served : (v : Verdict) (a : ℕ) (others entrants : Heir) → is_waiter_served true v ≡ true → passed_to (or_else (served v a others) entrants) ≡ ToWaiter a
@@ -98,7 +99,7 @@ walk_serves verdict links ns a entrant h serve =
     let entrants = first_entrant (map (waits_of links) ns) in
     let first = h.waiters ∙ ap (λ ms. first_waiter (by_waiter verdict) (map (waits_of links) ms)) o.1 in
     sym (ap (λ w. passed_to (or_else w entrants)) first
-        ∙ serves verdict (mark_of links a) a (first_waiter (by_waiter verdict) (map (waits_of links) o.0)) entrants serve)
+    ∙ serves verdict (mark_of links a) a (first_waiter (by_waiter verdict) (map (waits_of links) o.0)) entrants serve)
 
 -- with nobody left the heir is the entrant that was met
 or_nobody : (entrant : Option ℕ) → or_else (met entrant) Nobody ≡ met entrant
@@ -115,7 +116,7 @@ walk_ends verdict links ns entrant h =
     let end : h.rest ≡ [] = emptied h.rest h.place in
     let waiter : first_waiter (by_waiter verdict) (map (waits_of links) ns) ≡ Nobody = h.waiters ∙ ap (λ ms. first_waiter (by_waiter verdict) (map (waits_of links) ms)) end in
     let entering : first_entrant (map (waits_of links) ns) ≡ met entrant =
-        h.entrants ∙ ap (λ ms. or_else (met entrant) (first_entrant (map (waits_of links) ms))) end ∙ or_nobody entrant in
+    h.entrants ∙ ap (λ ms. or_else (met entrant) (first_entrant (map (waits_of links) ms))) end ∙ or_nobody entrant in
     sym (ap (λ w. passed_to (or_else w (first_entrant (map (waits_of links) ns)))) waiter ∙ ap passed_to entering)
 
 -- how many are left to walk along
@@ -189,7 +190,7 @@ pub reserved_at : (verdict : ℕ → Verdict) (links : Links) (queue : Queue) (a
     → Walked verdict links (list_in links queue) at entrant → a < room_of links
 reserved_at verdict links queue at entrant a h e w =
     is_reserved links queue a h (is_within verdict links (list_in links queue) a entrant
-      (subst (λ (p : Option ℕ). Walked verdict links (list_in links queue) p entrant) e w))
+    (subst (λ (p : Option ℕ). Walked verdict links (list_in links queue) p entrant) e w))
 
 -- who gets the lock is one of those who wait, and leaves them
 pub chosen : (h : Heir) (ns : List ℕ) (a : ℕ) → IsOf h ns → new_owner (passed_to h) ≡ Some a → Contains ns a

@@ -1,8 +1,8 @@
 -- What a lock answers: to one who asks for it, and where it goes when its owner leaves it.
-use Rattle.std.specs.Prelude.{◌++◌, ℕ, List, [], ◌∷◌, Option, Some, None, Bool, true, false}
+use Rattle.std.specs.Prelude.{◌++◌, ℕ, List, map, [], ◌∷◌, Option, Some, None, Bool, true, false}
 use Rattle.aos_base.specs.declared.kernel.Verdict.{Verdict}
 use Rattle.aos_base.specs.declared.kernel.Verdict.TheVariants.{Holds, Fails, Traps}
-use Rattle.aos_base.specs.Lock.{Waiting, Wants, Entry, Condition, Heir, Nobody, Entrant, Waiter, Trapping}
+use Rattle.aos_base.specs.Lock.{Waiting, Wants, Entry, Condition, Heir, Nobody, Entrant, Waiter, Trapping, heir}
 use Rattle.aos_lock.specs.declared.lock.Entered.{Entered}
 use Rattle.aos_lock.specs.declared.lock.Entered.TheVariants.{Taken, Waits, Recursive}
 use Rattle.aos_lock.specs.declared.lock.Passed.{Passed}
@@ -19,6 +19,10 @@ waiter a = record { activity = a; wants = Condition a }
 -- what a waiter's condition comes to, by the waiter's number alone
 abbrev pub by_waiter : (ℕ → Verdict) → ℕ → ℕ → Verdict
 by_waiter verdict a condition = verdict a
+
+-- who gets a lock for which these wait
+abbrev pub heir_by : (ℕ → Verdict) → List Waiting → Heir
+heir_by verdict es = heir (by_waiter verdict) es
 
 -- the answer where this heir gets the lock; one whose condition traps gets it as a waiter
 abbrev pub passed_to : Heir → Passed
@@ -57,3 +61,11 @@ abbrev pub entered_list : Entered → ℕ → List Waiting → List Waiting
 entered_list Taken a es = es
 entered_list Waits a es = es ++ entrant a ∷ []
 entered_list Recursive a es = es
+
+-- the same list, whose conditions go by their waiters' numbers
+abbrev pub own_wants : ℕ → Wants → Wants
+own_wants a Entry = Entry
+own_wants a (Condition number) = Condition a
+
+abbrev pub own : List Waiting → List Waiting
+own es = map (λ e. record { activity = e.activity; wants = own_wants e.activity e.wants }) es

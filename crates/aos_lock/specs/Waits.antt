@@ -15,8 +15,11 @@ abbrev pub wants_of : Bool → ℕ → Wants
 wants_of true a = Condition a
 wants_of false a = Entry
 
+abbrev pub joins : Bool → ℕ → Waiting
+joins awaits a = record { activity = a; wants = wants_of awaits a }
+
 abbrev pub waits_of : Links → ℕ → Waiting
-waits_of links a = record { activity = a; wants = wants_of (mark_of links a) a }
+waits_of links a = joins (mark_of links a) a
 
 abbrev pub waits_in : Links → Queue → List Waiting
 waits_in links queue = map (waits_of links) (list_in links queue)
@@ -49,14 +52,16 @@ waiting_in links locks lock = waits_in links (lock_at locks lock).queue
 -- all queues of the locks belong to the links, and nobody waits for two locks
 pub record Belong (links : Links) (locks : Locks) : Type 0 where
   pub belongs : (lock : ℕ) → Belongs links (lock_at locks lock).queue
-  pub apart : (lock other : ℕ) → lock ≢ other → Apart (list_in links (lock_at locks lock).queue) (list_in links (lock_at locks other).queue)
+  pub apart : (lock other : ℕ) → lock ≢ other →
+      Apart (list_in links (lock_at locks lock).queue) (list_in links (lock_at locks other).queue)
 
 -- an activity that waits for no lock
 pub record WaitsNowhere (links : Links) (locks : Locks) (a : ℕ) : Type 0 where
   pub nowhere : (lock : ℕ) → Contains (numbers (waiting_in links locks lock)) a → ⊥
 
 -- each other lock keeps its owner and those who wait for it
-pub record KeepsLocks (before : Links) (old : Locks) (after : Links) (new : Locks) (lock : ℕ) : Type 0 where
+pub record KeepsLocks (before : Links) (old : Locks) (after : Links) (new : Locks) (lock : ℕ)
+    : Type 0 where
   pub count : count_of new ≡ count_of old
   pub owners : (other : ℕ) → other ≢ lock → owner_of new other ≡ owner_of old other
   pub lists : (other : ℕ) → other ≢ lock → waiting_in after new other ≡ waiting_in before old other

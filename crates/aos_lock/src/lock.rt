@@ -3,10 +3,10 @@
 ghost use Rattle.std.specs.Prelude.{◌≡◌, ◌≢◌, ◌↔◌, ℕ, ◌<◌, ◌++◌, ◌∷◌, [], Some, None, Bool, not};
 ghost use Rattle.std.specs.List.{Contains};
 ghost use Rattle.aos_base.specs.declared.kernel.Verdict.{Verdict};
-ghost use Rattle.aos_base.specs.Lock.{heir, after_heir};
+ghost use Rattle.aos_base.specs.Lock.{after_heir};
 ghost use Rattle.aos_queue.specs.Lists.{list_in, room_of, mark_of, Belongs, KeepsOthers, SameTable};
-ghost use Rattle.aos_lock.specs.Heirs.{by_waiter, passed_to, new_owner, entered_owner, entered_list, waiter, is_waiter_served, sooner};
-ghost use Rattle.aos_lock.specs.Waits.{waits_in, wants_of, KeepsMarks};
+ghost use Rattle.aos_lock.specs.Heirs.{heir_by, passed_to, new_owner, entered_owner, entered_list, waiter, is_waiter_served, sooner};
+ghost use Rattle.aos_lock.specs.Waits.{waits_in, joins, KeepsMarks};
 
 use crate::test::Test;
 use aos_base::Verdict;
@@ -44,8 +44,8 @@ impl Passed {
         ensures { result ≡ new_owner self }
     {
         match self {
-            Passed::Waiter(a) => Some(a),
-            Passed::Entrant(a) => Some(a),
+            Passed::Waiter(activity) => Some(activity),
+            Passed::Entrant(activity) => Some(activity),
             Passed::Free => None,
         }
     }
@@ -53,46 +53,49 @@ impl Passed {
 
 impl Lock {
     /// Puts one who waits behind all others: for a condition, or else to enter.
-    fn join(&mut self, links: &mut Links, a: u32, awaits: bool)
+    fn join(&mut self, links: &mut Links, activity: u32, awaits: bool)
         requires belongs { Belongs links.old self.old.queue }
-        requires reserved { a < room_of links.old }
-        requires elsewhere { Contains (list_in links.old self.old.queue) a → ⊥ }
+        requires reserved { activity < room_of links.old }
+        requires elsewhere { Contains (list_in links.old self.old.queue) activity → ⊥ }
         ensures owner { self.new.owner ≡ self.old.owner }
         ensures list { waits_in links.new self.new.queue ≡
-            waits_in links.old self.old.queue ++ record { activity = a; wants = wants_of awaits a } ∷ [] }
+            waits_in links.old self.old.queue ++ joins awaits activity ∷ [] }
         ensures belongs { Belongs links.new self.new.queue }
-        ensures others { KeepsOthers links.old links.new (a ∷ list_in links.old self.old.queue) }
-        ensures marks { KeepsMarks links.old links.new a }
+        ensures others { let touched = activity ∷ list_in links.old self.old.queue in
+            KeepsOthers links.old links.new touched }
+        ensures marks { KeepsMarks links.old links.new activity }
     {
-        links.set_mark(a, awaits);
-        links.put_last(&mut self.queue, a);
+        links.set_mark(activity, awaits);
+        links.put_last(&mut self.queue, activity);
     }
 
-    /// Takes the lock for `a` where nobody owns it; else, where another one owns it, `a` waits behind all others.
-    pub(crate) fn enter(&mut self, links: &mut Links, a: u32) -> Entered
+    /// Takes the lock for one who asks for it, where nobody owns it. Where another one owns it, it waits behind all others.
+    pub(crate) fn enter(&mut self, links: &mut Links, activity: u32) -> Entered
         requires belongs { Belongs links.old self.old.queue }
-        requires reserved { a < room_of links.old }
-        requires elsewhere { Contains (list_in links.old self.old.queue) a → ⊥ }
-        ensures recursive { (result ≡ Entered.Recursive) ↔ (self.old.owner ≡ Some a) }
+        requires reserved { activity < room_of links.old }
+        requires elsewhere { Contains (list_in links.old self.old.queue) activity → ⊥ }
+        ensures recursive { (result ≡ Entered.Recursive) ↔ (self.old.owner ≡ Some activity) }
         ensures taken { (result ≡ Entered.Taken) ↔ (self.old.owner ≡ None) }
-        ensures unchanged { result ≡ Entered.Recursive → (self.new ≡ self.old) × (links.new ≡ links.old) }
-        ensures owner { self.new.owner ≡ entered_owner result a self.old.owner }
+        ensures unchanged { result ≡ Entered.Recursive →
+            (self.new ≡ self.old) × (links.new ≡ links.old) }
+        ensures owner { self.new.owner ≡ entered_owner result activity self.old.owner }
         ensures list { waits_in links.new self.new.queue ≡
-            entered_list result a (waits_in links.old self.old.queue) }
+            entered_list result activity (waits_in links.old self.old.queue) }
         ensures belongs { Belongs links.new self.new.queue }
-        ensures others { KeepsOthers links.old links.new (a ∷ list_in links.old self.old.queue) }
-        ensures marks { KeepsMarks links.old links.new a }
+        ensures others { let touched = activity ∷ list_in links.old self.old.queue in
+            KeepsOthers links.old links.new touched }
+        ensures marks { KeepsMarks links.old links.new activity }
     {
         match self.owner {
             None => {
-                self.owner = Some(a);
+                self.owner = Some(activity);
                 Entered::Taken
             },
             Some(owner) => {
-                if owner == a {
+                if owner == activity {
                     return Entered::Recursive;
                 }
-                self.join(links, a, false);
+                self.join(links, activity, false);
                 Entered::Waits
             },
         }
@@ -101,78 +104,84 @@ impl Lock {
     /// Gives the lock to its heir, who no longer waits then.
     pub(crate) fn release<T: Test>(&mut self, links: &mut Links, test: &mut T) -> Passed
         requires { Belongs links.old self.old.queue }
-        ensures heir { result ≡ passed_to (heir (by_waiter (T.verdict_of test.old)) (waits_in links.old self.old.queue)) }
+        ensures heir { let es = waits_in links.old self.old.queue in
+            result ≡ passed_to (heir_by (T.verdict_of test.old) es) }
         ensures owner { self.new.owner ≡ new_owner result }
-        ensures list { waits_in links.new self.new.queue ≡
-            after_heir (heir (by_waiter (T.verdict_of test.old)) (waits_in links.old self.old.queue))
-                (waits_in links.old self.old.queue) }
+        ensures list { let es = waits_in links.old self.old.queue in
+            waits_in links.new self.new.queue ≡ after_heir (heir_by (T.verdict_of test.old) es) es }
         ensures belongs { Belongs links.new self.new.queue }
         ensures others { KeepsOthers links.old links.new (list_in links.old self.old.queue) }
         ensures table { SameTable links.old links.new }
-        ensures verdicts { (a : ℕ) → T.verdict_of test.new a ≡ T.verdict_of test.old a }
+        ensures verdicts { (other : ℕ) → T.verdict_of test.new other ≡ T.verdict_of test.old other }
     {
         let passed = heir(links, &self.queue, test);
         self.owner = passed.owner();
-        if let Some(a) = self.owner {
-            links.take(&mut self.queue, a);
+        if let Some(activity) = self.owner {
+            links.take(&mut self.queue, activity);
         }
         passed
     }
 
-    /// Puts `a` behind all others, as a waiter, and gives the lock to its heir.
-    pub(crate) fn wait<T: Test>(&mut self, links: &mut Links, a: u32, test: &mut T) -> Passed
+    /// Puts one who awaits a condition behind all others, and gives the lock to its heir.
+    pub(crate) fn wait<T: Test>(&mut self, links: &mut Links, activity: u32, test: &mut T) -> Passed
         requires belongs { Belongs links.old self.old.queue }
-        requires reserved { a < room_of links.old }
-        requires elsewhere { Contains (list_in links.old self.old.queue) a → ⊥ }
-        ensures heir { result ≡ passed_to (heir (by_waiter (T.verdict_of test.old))
-            (waits_in links.old self.old.queue ++ waiter a ∷ [])) }
+        requires reserved { activity < room_of links.old }
+        requires elsewhere { Contains (list_in links.old self.old.queue) activity → ⊥ }
+        ensures heir { let es = waits_in links.old self.old.queue ++ waiter activity ∷ [] in
+            result ≡ passed_to (heir_by (T.verdict_of test.old) es) }
         ensures owner { self.new.owner ≡ new_owner result }
-        ensures list { waits_in links.new self.new.queue ≡
-            after_heir (heir (by_waiter (T.verdict_of test.old)) (waits_in links.old self.old.queue ++ waiter a ∷ []))
-                (waits_in links.old self.old.queue ++ waiter a ∷ []) }
+        ensures list { let es = waits_in links.old self.old.queue ++ waiter activity ∷ [] in
+            waits_in links.new self.new.queue ≡ after_heir (heir_by (T.verdict_of test.old) es) es }
         ensures belongs { Belongs links.new self.new.queue }
-        ensures others { KeepsOthers links.old links.new (a ∷ list_in links.old self.old.queue) }
-        ensures marks { KeepsMarks links.old links.new a }
-        ensures verdicts { (b : ℕ) → T.verdict_of test.new b ≡ T.verdict_of test.old b }
+        ensures others { let touched = activity ∷ list_in links.old self.old.queue in
+            KeepsOthers links.old links.new touched }
+        ensures marks { KeepsMarks links.old links.new activity }
+        ensures verdicts { (other : ℕ) → T.verdict_of test.new other ≡ T.verdict_of test.old other }
     {
-        self.join(links, a, true);
+        self.join(links, activity, true);
         self.release(links, test)
     }
 }
 
 /// Whether one who waits is a waiter whose condition doesn't fail.
-fn is_served<T: Test>(links: &Links, a: u32, test: &mut T) -> bool
-    requires { a < room_of links.now }
-    ensures served { result ≡ is_waiter_served (mark_of links.now a) (T.verdict_of test.old a) }
-    ensures verdicts { (b : ℕ) → T.verdict_of test.new b ≡ T.verdict_of test.old b }
+fn is_served<T: Test>(links: &Links, activity: u32, test: &mut T) -> bool
+    requires { activity < room_of links.now }
+    ensures served { let verdict = T.verdict_of test.old activity in
+        result ≡ is_waiter_served (mark_of links.now activity) verdict }
+    ensures verdicts { (other : ℕ) → T.verdict_of test.new other ≡ T.verdict_of test.old other }
 {
-    links.mark(a) && test.verdict(a) != Verdict::Fails
+    links.mark(activity) && test.verdict(activity) != Verdict::Fails
 }
 
 /// The first entrant so far.
-fn first_of(entrant: Option<u32>, a: u32, awaits: bool) -> Option<u32>
-    ensures { result ≡ sooner entrant a awaits }
+fn first_of(entrant: Option<u32>, activity: u32, awaits: bool) -> Option<u32>
+    ensures { result ≡ sooner entrant activity awaits }
 {
-    if awaits { entrant } else { entrant.or(Some(a)) }
+    if awaits {
+        entrant
+    } else {
+        entrant.or(Some(activity))
+    }
 }
 
 /// To whom a release gives the lock.
 fn heir<T: Test>(links: &Links, queue: &Queue, test: &mut T) -> Passed
     requires { Belongs links.now queue.now }
-    ensures heir { result ≡ passed_to (heir (by_waiter (T.verdict_of test.old)) (waits_in links.now queue.now)) }
-    ensures verdicts { (a : ℕ) → T.verdict_of test.new a ≡ T.verdict_of test.old a }
+    ensures heir { let es = waits_in links.now queue.now in
+        result ≡ passed_to (heir_by (T.verdict_of test.old) es) }
+    ensures verdicts { (other : ℕ) → T.verdict_of test.new other ≡ T.verdict_of test.old other }
 {
     let mut entrant = None;
     let mut at = queue.first();
-    while let Some(a) = at {
-        if is_served(links, a, test) {
-            return Passed::Waiter(a);
+    while let Some(activity) = at {
+        if is_served(links, activity, test) {
+            return Passed::Waiter(activity);
         }
-        entrant = first_of(entrant, a, links.mark(a));
-        at = links.behind(a);
+        entrant = first_of(entrant, activity, links.mark(activity));
+        at = links.behind(activity);
     }
     match entrant {
-        Some(a) => Passed::Entrant(a),
+        Some(activity) => Passed::Entrant(activity),
         None => Passed::Free,
     }
 }

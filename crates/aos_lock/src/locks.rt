@@ -1,10 +1,10 @@
 // All locks, by their numbers.
 
 ghost use Rattle.std.specs.Prelude.{◌≡◌, ◌≢◌, ◌↔◌, ℕ, ◌<◌, ◌+◌, ◌-◌, ◌^◌, ◌++◌, ◌∷◌, [], Some, None, IfOk, OnOk, OnErr};
-ghost use Rattle.aos_base.specs.Lock.{heir, after_heir};
+ghost use Rattle.aos_base.specs.Lock.{after_heir};
 ghost use Rattle.aos_queue.specs.declared.links.Links.{Links};
 ghost use Rattle.aos_queue.specs.Lists.{room_of, mark_of, KeepsOthers, SameTable};
-ghost use Rattle.aos_lock.specs.Heirs.{by_waiter, passed_to, new_owner, entered_owner, entered_list, waiter};
+ghost use Rattle.aos_lock.specs.Heirs.{heir_by, passed_to, new_owner, entered_owner, entered_list, waiter};
 ghost use Rattle.aos_lock.specs.Waits.{owner_of, waiting_in, count_of, numbers, Belong, WaitsNowhere, KeepsLocks, KeepsMarks};
 
 use crate::lock::{Entered, Lock, Passed};
@@ -21,36 +21,42 @@ pub struct Locks {
 
 impl Locks {
     /// No locks. They take no memory.
-    #[tactic(auto, unfolding(crate::specs::Waits::count_of, crate::specs::Waits::owner_of, crate::specs::Waits::waiting_in))]
+    #[tactic(auto, unfolding(crate::specs::Waits::count_of))]
     pub fn new(alloc: Global) -> Self
         ensures count { count_of result ≡ 0 }
         ensures belong { (links : Links) → Belong links result }
     {
-        Locks { locks: Vec::new(alloc) }
+        Locks {
+            locks: Vec::new(alloc),
+        }
     }
 
     /// Adds a free lock, whose number is the next one. Where memory is wanted, nothing changes.
-    #[tactic(auto, unfolding(crate::specs::Waits::count_of, crate::specs::Waits::owner_of, crate::specs::Waits::waiting_in))]
+    #[tactic(auto, unfolding(crate::specs::Waits::count_of, crate::specs::Waits::owner_of))]
     pub fn add(&mut self) -> Result<u32, NoMemory>
         requires { count_of self.old < 2 ^ 32 - 1 }
         ensures number { IfOk result (λ lock. lock ≡ count_of self.old) }
         ensures ok { OnOk result (count_of self.new ≡ count_of self.old + 1) }
         ensures free { IfOk result (λ lock. owner_of self.new lock ≡ None) }
-        ensures awaited { IfOk result (λ lock. (links : Links) → waiting_in links self.new lock ≡ []) }
+        ensures awaited { (links : Links) → IfOk result (λ lock. waiting_in links self.new lock ≡ []) }
         ensures err { OnErr result (count_of self.new ≡ count_of self.old) }
-        ensures owners { (other : ℕ) → other < count_of self.old → owner_of self.new other ≡ owner_of self.old other }
+        ensures owners { (other : ℕ) → other < count_of self.old →
+            owner_of self.new other ≡ owner_of self.old other }
         ensures lists { (links : Links) (other : ℕ) → other < count_of self.old →
             waiting_in links self.new other ≡ waiting_in links self.old other }
         ensures belong { (links : Links) → Belong links self.old → Belong links self.new }
     {
         self.locks.reserve(1)?;
         let lock = self.locks.len() as u32;
-        self.locks.push_reserved(Lock { owner: None, queue: Queue::new() });
+        self.locks.push_reserved(Lock {
+            owner: None,
+            queue: Queue::new(),
+        });
         Ok(lock)
     }
 
     /// A lock's owner, or None where nobody owns it.
-    #[tactic(auto, unfolding(crate::specs::Waits::count_of, crate::specs::Waits::owner_of, crate::specs::Waits::waiting_in))]
+    #[tactic(auto, unfolding(crate::specs::Waits::count_of, crate::specs::Waits::owner_of))]
     pub fn owner(&self, lock: u32) -> Option<u32>
         requires { lock < count_of self.now }
         ensures { result ≡ owner_of self.now lock }
@@ -61,63 +67,84 @@ impl Locks {
     /// An activity asks for a lock: it takes it where nobody owns it, and else waits, as an entrant behind all others.
     /// Where it owns the lock already, nothing changes.
     #[tactic(auto, unfolding(crate::specs::Waits::count_of))]
-    pub fn enter(&mut self, links: &mut Links, lock: u32, a: u32) -> Entered
+    pub fn enter(&mut self, links: &mut Links, lock: u32, activity: u32) -> Entered
         requires added { lock < count_of self.old }
         requires belong { Belong links.old self.old }
-        requires reserved { a < room_of links.old }
-        requires elsewhere { WaitsNowhere links.old self.old a }
-        ensures recursive { (result ≡ Entered.Recursive) ↔ (owner_of self.old lock ≡ Some a) }
+        requires reserved { activity < room_of links.old }
+        requires elsewhere { WaitsNowhere links.old self.old activity }
+        ensures recursive { let owner = owner_of self.old lock in
+            (result ≡ Entered.Recursive) ↔ (owner ≡ Some activity) }
         ensures taken { (result ≡ Entered.Taken) ↔ (owner_of self.old lock ≡ None) }
         ensures unchanged { result ≡ Entered.Recursive → links.new ≡ links.old }
-        ensures owner { owner_of self.new lock ≡ entered_owner result a (owner_of self.old lock) }
-        ensures list { waiting_in links.new self.new lock ≡ entered_list result a (waiting_in links.old self.old lock) }
+        ensures owner { owner_of self.new lock ≡
+            entered_owner result activity (owner_of self.old lock) }
+        ensures list { waiting_in links.new self.new lock ≡
+            entered_list result activity (waiting_in links.old self.old lock) }
         ensures belong { Belong links.new self.new }
         ensures others { KeepsLocks links.old self.old links.new self.new lock }
-        ensures queues { KeepsOthers links.old links.new (a ∷ numbers (waiting_in links.old self.old lock)) }
-        ensures marks { KeepsMarks links.old links.new a }
+        ensures queues { let touched = activity ∷ numbers (waiting_in links.old self.old lock) in
+            KeepsOthers links.old links.new touched }
+        ensures marks { KeepsMarks links.old links.new activity }
     {
-        self.locks[lock as usize].enter(links, a)
+        self.locks[lock as usize].enter(links, activity)
     }
 
     /// The owner leaves the lock, which passes to its heir: to the first waiter whose condition holds or traps, else to
     /// the first entrant, else to nobody (Muller 2002, on monitors).
     #[tactic(auto, unfolding(crate::specs::Waits::count_of))]
-    pub fn leave<T: Test>(&mut self, links: &mut Links, lock: u32, _a: u32, test: &mut T) -> Passed
+    pub fn leave<T: Test>(
+        &mut self,
+        links: &mut Links,
+        lock: u32,
+        _activity: u32,
+        test: &mut T,
+    ) -> Passed
         requires added { lock < count_of self.old }
         requires belong { Belong links.old self.old }
-        requires owner { owner_of self.old lock ≡ Some _a }
-        ensures heir { result ≡ passed_to (heir (by_waiter (T.verdict_of test.old)) (waiting_in links.old self.old lock)) }
+        requires owner { owner_of self.old lock ≡ Some _activity }
+        ensures heir { let es = waiting_in links.old self.old lock in
+            result ≡ passed_to (heir_by (T.verdict_of test.old) es) }
         ensures owner { owner_of self.new lock ≡ new_owner result }
         ensures list { let es = waiting_in links.old self.old lock in
-            waiting_in links.new self.new lock ≡ after_heir (heir (by_waiter (T.verdict_of test.old)) es) es }
+            waiting_in links.new self.new lock ≡
+            after_heir (heir_by (T.verdict_of test.old) es) es }
         ensures belong { Belong links.new self.new }
         ensures others { KeepsLocks links.old self.old links.new self.new lock }
-        ensures queues { KeepsOthers links.old links.new (numbers (waiting_in links.old self.old lock)) }
+        ensures queues { let touched = numbers (waiting_in links.old self.old lock) in
+            KeepsOthers links.old links.new touched }
         ensures table { SameTable links.old links.new }
-        ensures verdicts { (b : ℕ) → T.verdict_of test.new b ≡ T.verdict_of test.old b }
+        ensures verdicts { (other : ℕ) → T.verdict_of test.new other ≡ T.verdict_of test.old other }
     {
         self.locks[lock as usize].release(links, test)
     }
 
     /// The owner begins to wait for a condition, behind all others, and the lock passes to its heir as in `leave`.
     #[tactic(auto, unfolding(crate::specs::Waits::count_of))]
-    pub fn wait<T: Test>(&mut self, links: &mut Links, lock: u32, a: u32, test: &mut T) -> Passed
+    pub fn wait<T: Test>(
+        &mut self,
+        links: &mut Links,
+        lock: u32,
+        activity: u32,
+        test: &mut T,
+    ) -> Passed
         requires added { lock < count_of self.old }
         requires belong { Belong links.old self.old }
-        requires owner { owner_of self.old lock ≡ Some a }
-        requires reserved { a < room_of links.old }
-        requires elsewhere { WaitsNowhere links.old self.old a }
-        ensures heir { let es = waiting_in links.old self.old lock ++ waiter a ∷ [] in
-            result ≡ passed_to (heir (by_waiter (T.verdict_of test.old)) es) }
+        requires owner { owner_of self.old lock ≡ Some activity }
+        requires reserved { activity < room_of links.old }
+        requires elsewhere { WaitsNowhere links.old self.old activity }
+        ensures heir { let es = waiting_in links.old self.old lock ++ waiter activity ∷ [] in
+            result ≡ passed_to (heir_by (T.verdict_of test.old) es) }
         ensures owner { owner_of self.new lock ≡ new_owner result }
-        ensures list { let es = waiting_in links.old self.old lock ++ waiter a ∷ [] in
-            waiting_in links.new self.new lock ≡ after_heir (heir (by_waiter (T.verdict_of test.old)) es) es }
+        ensures list { let es = waiting_in links.old self.old lock ++ waiter activity ∷ [] in
+            waiting_in links.new self.new lock ≡
+            after_heir (heir_by (T.verdict_of test.old) es) es }
         ensures belong { Belong links.new self.new }
         ensures others { KeepsLocks links.old self.old links.new self.new lock }
-        ensures queues { KeepsOthers links.old links.new (a ∷ numbers (waiting_in links.old self.old lock)) }
-        ensures marks { KeepsMarks links.old links.new a }
-        ensures verdicts { (b : ℕ) → T.verdict_of test.new b ≡ T.verdict_of test.old b }
+        ensures queues { let touched = activity ∷ numbers (waiting_in links.old self.old lock) in
+            KeepsOthers links.old links.new touched }
+        ensures marks { KeepsMarks links.old links.new activity }
+        ensures verdicts { (other : ℕ) → T.verdict_of test.new other ≡ T.verdict_of test.old other }
     {
-        self.locks[lock as usize].wait(links, a, test)
+        self.locks[lock as usize].wait(links, activity, test)
     }
 }

@@ -69,7 +69,8 @@ impl Links {
     fn link(&mut self, n: u32, next: Option<u32>)
         requires { n < room_of self.old }
         ensures linked { next_in self.new.nodes.items n ≡ next }
-        ensures others { (m : ℕ) → m ≢ n → next_in self.new.nodes.items m ≡ next_in self.old.nodes.items m }
+        ensures others { (m : ℕ) → m ≢ n →
+            next_in self.new.nodes.items m ≡ next_in self.old.nodes.items m }
         ensures table { SameTable self.old self.new }
     {
         self.nodes[n as usize].next = next;
@@ -98,7 +99,8 @@ impl Links {
     /// keeps its list.
     pub fn take_first(&mut self, queue: &mut Queue) -> Option<u32>
         requires { Belongs self.old queue.old }
-        ensures first { IfSome result (λ n. list_in self.old queue.old ≡ n ∷ list_in self.new queue.new) }
+        ensures first { let rest = list_in self.new queue.new in
+            IfSome result (λ n. list_in self.old queue.old ≡ n ∷ rest) }
         ensures empty { IsNone result ↔ (list_in self.old queue.old ≡ []) }
         ensures unchanged { IfNone result (list_in self.new queue.new ≡ []) }
         ensures belongs { Belongs self.new queue.new }
@@ -139,7 +141,8 @@ impl Links {
         requires belongs { Belongs self.now queue.now }
         requires within { Contains (list_in self.now queue.now) n }
         requires later { slice_get (list_in self.now queue.now) 0 ≢ Some n }
-        ensures { (front : List ℕ) × (back : List ℕ) × (list_in self.now queue.now ≡ front ++ result ∷ n ∷ back) }
+        ensures { (front : List ℕ) × (back : List ℕ) ×
+            (list_in self.now queue.now ≡ front ++ result ∷ n ∷ back) }
     {
         let mut at = queue.first.unwrap_or(n);
         while let Some(next) = self.next(at) {

@@ -27,7 +27,8 @@ impl Queue {
 
     /// The first number, or None where the queue is empty.
     pub fn first(&self) -> Option<u32>
-        ensures { (links : Links) → Belongs links self.now → result ≡ slice_get (list_in links self.now) 0 }
+        ensures { (links : Links) → Belongs links self.now →
+            result ≡ slice_get (list_in links self.now) 0 }
     {
         self.first
     }

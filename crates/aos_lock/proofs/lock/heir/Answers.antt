@@ -19,37 +19,38 @@ pub returns-then-is_served-clause-heir : goal.returns-then-is_served-clause-heir
 returns-then-is_served-clause-heir g c =
     let links = c.args.links.now in
     let verdict = g.T.Test.verdict_of c.args.test.now in
-    let a = c.in-Some.a in
+    let a = c.in-Some.activity in
     let served : is_waiter_served (mark_of links a) (verdict a) ≡ true =
-        ap (is_waiter_served (mark_of links a)) (sym (c.loop-at.invariant.verdicts a)) ∙ sym c.is_served.ensures.served ∙ c.if-is_served.true in
+    ap (is_waiter_served (mark_of links a)) (sym (c.loop-at.invariant.verdicts a)) ∙ sym c.is_served.ensures.served ∙ c.if-is_served.true in
     walk_serves verdict links (list_in links c.args.queue.now) a c.loop-at.entrant
-      (subst (λ (at : Option ℕ). Walked verdict links (list_in links c.args.queue.now) at c.loop-at.entrant) c.in-Some.is c.loop-at.invariant.walked) served
+    (subst (λ (at : Option ℕ). Walked verdict links (list_in links c.args.queue.now) at c.loop-at.entrant) c.in-Some.is c.loop-at.invariant.walked) served
 
 pub loop-at-preserved : goal.loop-at-preserved
 loop-at-preserved g c =
     let links = c.args.links.now in
     let ns = list_in links c.args.queue.now in
     let verdict = g.T.Test.verdict_of c.args.test.now in
-    let a = c.in-Some.a in
+    let a = c.in-Some.activity in
     let fails : is_waiter_served (mark_of links a) (verdict a) ≡ false =
-        ap (is_waiter_served (mark_of links a)) (sym (c.loop-at.invariant.verdicts a)) ∙ sym c.is_served.ensures.served ∙ c.if-is_served.false in
+    ap (is_waiter_served (mark_of links a)) (sym (c.loop-at.invariant.verdicts a)) ∙ sym c.is_served.ensures.served ∙ c.if-is_served.false in
     let on : Walked verdict links ns c.behind-at.result (sooner c.loop-at.entrant a (mark_of links a)) =
-        walk_on verdict links ns a c.loop-at.entrant c.behind-at.result
-          (subst (λ (at : Option ℕ). Walked verdict links ns at c.loop-at.entrant) c.in-Some.is c.loop-at.invariant.walked)
-          fails (λ front back e. c.behind-at.ensures c.args.queue.now front back c.requires e) in
+    walk_on verdict links ns a c.loop-at.entrant c.behind-at.result
+    (subst (λ (at : Option ℕ). Walked verdict links ns at c.loop-at.entrant) c.in-Some.is c.loop-at.invariant.walked)
+    fails (λ front back e. c.behind-at.ensures c.args.queue.now front back c.requires e) in
     record {
       walked = subst (λ (e : Option ℕ). Walked verdict links ns c.behind-at.result e) (ap (sooner c.loop-at.entrant a) (sym c.mark.ensures) ∙ sym c.first_of-entrant.ensures) on;
-      verdicts = λ b. c.is_served.ensures.verdicts b ∙ c.loop-at.invariant.verdicts b }
+      verdicts = λ b. c.is_served.ensures.verdicts b ∙ c.loop-at.invariant.verdicts b;
+    }
 
 pub loop-at-smaller : goal.loop-at-smaller
 loop-at-smaller g c =
     let links = c.args.links.now in
     let q = c.args.queue.now in
     let ns = list_in links q in
-    let s = stands_at _ links ns c.in-Some.a c.loop-at.entrant
-        (subst (λ (at : Option ℕ). Walked (g.T.Test.verdict_of c.args.test.now) links ns at c.loop-at.entrant) c.in-Some.is c.loop-at.invariant.walked) in
+    let s = stands_at _ links ns c.in-Some.activity c.loop-at.entrant
+    (subst (λ (at : Option ℕ). Walked (g.T.Test.verdict_of c.args.test.now) links ns at c.loop-at.entrant) c.in-Some.is c.loop-at.invariant.walked) in
     subst (λ (p : Option ℕ). left_at c.behind-at.result ns < left_at p ns) (sym c.in-Some.is)
-      (walk_falls ns s.0 c.in-Some.a s.1 c.behind-at.result (is_once links q c.requires) s.2 (c.behind-at.ensures q s.0 s.1 c.requires s.2))
+    (walk_falls ns s.0 c.in-Some.activity s.1 c.behind-at.result (is_once links q c.requires) s.2 (c.behind-at.ensures q s.0 s.1 c.requires s.2))
 
 pub returns-in-Some-entrant-clause-heir : goal.returns-in-Some-entrant-clause-heir
 returns-in-Some-entrant-clause-heir g c =

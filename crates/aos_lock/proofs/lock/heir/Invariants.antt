@@ -5,8 +5,9 @@ use Rattle.aos_lock.proofs.lock.heir.Given as goal
 
 abbrev pub invariant-loop-at : goal.invariant-loop-at
 invariant-loop-at g l = record {
-    walked : Walked (g.T.Test.verdict_of l.fn.test) l.links (list_in l.links l.queue) l.at l.entrant;
-    verdicts : (b : ℕ) → g.T.Test.verdict_of l.test b ≡ g.T.Test.verdict_of l.fn.test b }
+  walked : Walked (g.T.Test.verdict_of l.fn.test) l.links (list_in l.links l.queue) l.at l.entrant;
+  verdicts : (b : ℕ) → g.T.Test.verdict_of l.test b ≡ g.T.Test.verdict_of l.fn.test b;
+}
 
 abbrev pub decreases-loop-at : goal.decreases-loop-at
 decreases-loop-at g l = left_at l.at (list_in l.links l.queue)

@@ -10,9 +10,9 @@ returns-clause-list c =
     let old = c.args.links.now in
     let new = c.put_last.new.self in
     let q = c.args.self.now.queue in
-    let a = c.args.a in
+    let a = c.args.activity in
     let apart : Apart (list_in old q) [] = record { apart = λ n i j. none n j } in
     let kept : list_in c.set_mark.new.self q ≡ list_in old q = c.set_mark.ensures.queues.list q c.requires.belongs apart in
     ap (map (waits_of new)) (c.put_last.ensures.last ∙ ap (λ ns. ns ++ a ∷ []) kept)
     ∙ map_joined old new (list_in old q) a c.args.awaits c.requires.elsewhere
-      (λ n h. c.put_last.ensures.table.marks n ∙ c.set_mark.ensures.marks n h) (c.put_last.ensures.table.marks a ∙ c.set_mark.ensures.set)
+    (λ n h. c.put_last.ensures.table.marks n ∙ c.set_mark.ensures.marks n h) (c.put_last.ensures.table.marks a ∙ c.set_mark.ensures.set)

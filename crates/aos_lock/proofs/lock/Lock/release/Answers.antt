@@ -13,19 +13,19 @@ take-requires-clause-within g c =
     let links = c.args.links.now in
     let ns = list_in links c.args.self.now.queue in
     let verdict = by_waiter (g.T.Test.verdict_of c.args.test.now) in
-    let o : new_owner (passed_to (heir verdict (map (waits_of links) ns))) ≡ Some c.in-Some.a =
-        ap new_owner (sym c.heir-passed.ensures.heir) ∙ sym c.owner-self.ensures ∙ c.in-Some.is in
-    chosen _ ns c.in-Some.a (heir_within verdict links ns) o
+    let o : new_owner (passed_to (heir verdict (map (waits_of links) ns))) ≡ Some c.in-Some.activity =
+    ap new_owner (sym c.heir-passed.ensures.heir) ∙ sym c.owner-self.ensures ∙ c.in-Some.is in
+    chosen _ ns c.in-Some.activity (heir_within verdict links ns) o
 
 pub returns-in-Some-clause-list : goal.returns-in-Some-clause-list
 returns-in-Some-clause-list g c =
     let links = c.args.links.now in
     let new = c.take.new.self in
-    let a = c.in-Some.a in
+    let a = c.in-Some.activity in
     let ns = list_in links c.args.self.now.queue in
     let verdict = by_waiter (g.T.Test.verdict_of c.args.test.now) in
     let o : new_owner (passed_to (heir verdict (map (waits_of links) ns))) ≡ Some a =
-        ap new_owner (sym c.heir-passed.ensures.heir) ∙ sym c.owner-self.ensures ∙ c.in-Some.is in
+    ap new_owner (sym c.heir-passed.ensures.heir) ∙ sym c.owner-self.ensures ∙ c.in-Some.is in
     ap (map (waits_of new)) c.take.ensures.taken
     ∙ map_same links new (without a ns) (λ n i. c.take.ensures.table.marks n)
     ∙ sym (without-map links a ns)

@@ -10,8 +10,8 @@ pub returns-clause-others : goal.returns-clause-others
 returns-clause-others g c =
     let old = c.args.links.now in
     let mid = c.join.new.links in
-    let a = c.args.a in
+    let a = c.args.activity in
     let ns = list_in old c.args.self.now.queue in
     let joined : list_in mid c.join.new.self.queue ≡ ns ++ a ∷ [] =
-        sym (numbers_are mid _) ∙ ap numbers c.join.ensures.list ∙ numbers-joined (waits_in old c.args.self.now.queue) (waiter a) ∙ ap (λ ms. ms ++ a ∷ []) (numbers_are old ns) in
+    sym (numbers_are mid _) ∙ ap numbers c.join.ensures.list ∙ numbers-joined (waits_in old c.args.self.now.queue) (waiter a) ∙ ap (λ ms. ms ++ a ∷ []) (numbers_are old ns) in
     keeps_both old mid c.release.new.links (a ∷ ns) _ c.join.ensures.others c.release.ensures.others (λ n i. joined_within ns a n (subst (λ ms. Contains ms n) joined i))

@@ -17,7 +17,7 @@ enter-requires-clause-belongs c =
 pub enter-requires-clause-elsewhere : goal.enter-requires-clause-elsewhere
 unfolding count_of
 enter-requires-clause-elsewhere c =
-    not_in_lock c.args.links.now c.args.self.now c.args.a c.args.lock _ (read_lock c.args.self.now c.args.lock _ c.requires.added c.index_mut.ensures.value) c.requires.elsewhere
+    not_in_lock c.args.links.now c.args.self.now c.args.activity c.args.lock _ (read_lock c.args.self.now c.args.lock _ c.requires.added c.index_mut.ensures.value) c.requires.elsewhere
 
 pub returns : goal.returns
 unfolding count_of
@@ -26,17 +26,17 @@ returns c =
     let after : Links = c.enter.new.links in
     let old = c.args.self.now in
     let lock = c.args.lock in
-    let a = c.args.a in
+    let a = c.args.activity in
     let l : Lock = c.index_mut.result.now in
     let with : Lock = c.enter.new.self in
     let is : lock_at old lock ≡ l = read_lock old lock l c.requires.added c.index_mut.ensures.value in
     let owner : owner_of old lock ≡ l.owner = owner_is old lock l is in
     let waits : waiting_in before old lock ≡ waits_in before l.queue = waiting_is before old lock l is in
     let h : Changes before old after lock with (a ∷ list_in before l.queue) =
-        join_changes before after old lock a l with c.requires.added is c.requires.belong c.requires.elsewhere c.enter.ensures.others c.enter.ensures.belongs
-          (λ n i. subst (λ ns. Contains (a ∷ ns) n) (numbers_are before (list_in before l.queue))
-            (entered_within c.enter.result a (waits_in before l.queue) n (subst (λ es. Contains (numbers es) n) c.enter.ensures.list i)))
-          c.enter.ensures.marks.marks in
+    join_changes before after old lock a l with c.requires.added is c.requires.belong c.requires.elsewhere c.enter.ensures.others c.enter.ensures.belongs
+    (λ n i. subst (λ ns. Contains (a ∷ ns) n) (numbers_are before (list_in before l.queue))
+    (entered_within c.enter.result a (waits_in before l.queue) n (subst (λ es. Contains (numbers es) n) c.enter.ensures.list i)))
+    c.enter.ensures.marks.marks in
     record {
       recursive = ((λ e. owner ∙ c.enter.ensures.recursive.0 e), (λ e. c.enter.ensures.recursive.1 (sym owner ∙ e)));
       taken = ((λ e. owner ∙ c.enter.ensures.taken.0 e), (λ e. c.enter.ensures.taken.1 (sym owner ∙ e)));
@@ -46,4 +46,5 @@ returns c =
       belong = belong_after before old after lock with _ h;
       others = others_kept before old after lock with _ h;
       queues = subst (λ (ns : List ℕ). KeepsOthers before after (a ∷ ns)) (sym (numbers_waiting before old lock l is)) c.enter.ensures.others;
-      marks = c.enter.ensures.marks }
+      marks = c.enter.ensures.marks;
+    }

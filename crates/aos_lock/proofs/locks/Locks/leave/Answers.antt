@@ -27,10 +27,10 @@ returns g c =
     let is : lock_at old lock ≡ l = read_lock old lock l c.requires.added c.index_mut.ensures.value in
     let waits : waiting_in before old lock ≡ waits_in before l.queue = waiting_is before old lock l is in
     let h : Changes before old after lock with (list_in before l.queue) =
-        leave_changes before after old lock l with c.requires.added is c.requires.belong c.release.ensures.others c.release.ensures.belongs
-          (λ n i. subst (λ ns. Contains ns n) (numbers_are before (list_in before l.queue))
-            (left_within (chosen (waits_in before l.queue)) (waits_in before l.queue) n (subst (λ es. Contains (numbers es) n) c.release.ensures.list i)))
-          c.release.ensures.table.marks in
+    leave_changes before after old lock l with c.requires.added is c.requires.belong c.release.ensures.others c.release.ensures.belongs
+    (λ n i. subst (λ ns. Contains ns n) (numbers_are before (list_in before l.queue))
+    (left_within (chosen (waits_in before l.queue)) (waits_in before l.queue) n (subst (λ es. Contains (numbers es) n) c.release.ensures.list i)))
+    c.release.ensures.table.marks in
     record {
       heir = c.release.ensures.heir ∙ ap (λ es. passed_to (chosen es)) (sym waits);
       owner = owner_after before old after lock with _ h ∙ c.release.ensures.owner;
@@ -39,4 +39,5 @@ returns g c =
       others = others_kept before old after lock with _ h;
       queues = subst (λ (ns : List ℕ). KeepsOthers before after ns) (sym (numbers_waiting before old lock l is)) c.release.ensures.others;
       table = c.release.ensures.table;
-      verdicts = c.release.ensures.verdicts }
+      verdicts = c.release.ensures.verdicts;
+    }

@@ -17,7 +17,7 @@ wait-requires-clause-belongs g c =
 pub wait-requires-clause-elsewhere : goal.wait-requires-clause-elsewhere
 unfolding count_of
 wait-requires-clause-elsewhere g c =
-    not_in_lock c.args.links.now c.args.self.now c.args.a c.args.lock _ (read_lock c.args.self.now c.args.lock _ c.requires.added c.index_mut.ensures.value) c.requires.elsewhere
+    not_in_lock c.args.links.now c.args.self.now c.args.activity c.args.lock _ (read_lock c.args.self.now c.args.lock _ c.requires.added c.index_mut.ensures.value) c.requires.elsewhere
 
 pub returns : goal.returns
 unfolding count_of
@@ -26,7 +26,7 @@ returns g c =
     let after : Links = c.wait.new.links in
     let old = c.args.self.now in
     let lock = c.args.lock in
-    let a = c.args.a in
+    let a = c.args.activity in
     let l : Lock = c.index_mut.result.now in
     let with : Lock = c.wait.new.self in
     let es : List Waiting = waits_in before l.queue in
@@ -34,11 +34,11 @@ returns g c =
     let is : lock_at old lock ≡ l = read_lock old lock l c.requires.added c.index_mut.ensures.value in
     let waits : waiting_in before old lock ≡ es = waiting_is before old lock l is in
     let h : Changes before old after lock with (a ∷ list_in before l.queue) =
-        join_changes before after old lock a l with c.requires.added is c.requires.belong c.requires.elsewhere c.wait.ensures.others c.wait.ensures.belongs
-          (λ n i. joined_within (list_in before l.queue) a n
-            (subst (λ ns. Contains ns n) (numbers-joined es (waiter a) ∙ ap (λ ns. ns ++ a ∷ []) (numbers_are before (list_in before l.queue)))
-              (left_within (chosen es) (es ++ waiter a ∷ []) n (subst (λ fs. Contains (numbers fs) n) c.wait.ensures.list i))))
-          c.wait.ensures.marks.marks in
+    join_changes before after old lock a l with c.requires.added is c.requires.belong c.requires.elsewhere c.wait.ensures.others c.wait.ensures.belongs
+    (λ n i. joined_within (list_in before l.queue) a n
+    (subst (λ ns. Contains ns n) (numbers-joined es (waiter a) ∙ ap (λ ns. ns ++ a ∷ []) (numbers_are before (list_in before l.queue)))
+    (left_within (chosen es) (es ++ waiter a ∷ []) n (subst (λ fs. Contains (numbers fs) n) c.wait.ensures.list i))))
+    c.wait.ensures.marks.marks in
     record {
       heir = c.wait.ensures.heir ∙ ap (λ fs. passed_to (chosen fs)) (sym waits);
       owner = owner_after before old after lock with _ h ∙ c.wait.ensures.owner;
@@ -47,4 +47,5 @@ returns g c =
       others = others_kept before old after lock with _ h;
       queues = subst (λ (ns : List ℕ). KeepsOthers before after (a ∷ ns)) (sym (numbers_waiting before old lock l is)) c.wait.ensures.others;
       marks = c.wait.ensures.marks;
-      verdicts = c.wait.ensures.verdicts }
+      verdicts = c.wait.ensures.verdicts;
+    }
