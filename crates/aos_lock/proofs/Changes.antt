@@ -1,8 +1,9 @@
 -- What a change of one lock leaves as it was.
-use Rattle.std.proofs.Common.{◌≡◌, ◌≢◌, ◌<◌, ℕ, zero, suc, List, [], ◌∷◌, ◌++◌, length, map, refl, sym, ap, subst, ◌∙◌, ◌⊎◌, inl, inr, Contains, arith}
+use Rattle.std.proofs.Common.{◌≡◌, ◌≢◌, ◌<◌, ◌≤◌, ℕ, zero, suc, List, [], ◌∷◌, ◌++◌, length, map, refl, sym, ap, subst, ◌∙◌, ◌⊎◌, inl, inr, Contains, arith}
 use Rattle.std.specs.Prelude.{Option, slice_set, slice_index_or}
 use Rattle.std.specs.Vec.{with_item}
-use Rattle.std.proofs.lemmas.List.{get_or-set_same, get_or-set_other, length-set, get_or_read}
+use Rattle.std.proofs.lemmas.List.{get_or-set_same, get_or-set_other, length-set, get_or_read, get_or_past}
+use Rattle.std.proofs.lemmas.Bool.{cases_lt}
 use Rattle.std.proofs.lemmas.Bool.Decides.{eqb_tells}
 use Rattle.aos_base.specs.Lock.{Waiting}
 use Rattle.aos_queue.specs.declared.links.Links.{Links}
@@ -115,8 +116,16 @@ owner_is old lock l e = ap (λ (x : Lock). x.owner) e
 pub numbers_waiting : (links : Links) (old : Locks) (lock : ℕ) (l : Lock) → lock_at old lock ≡ l → numbers (waiting_in links old lock) ≡ list_in links l.queue
 numbers_waiting links old lock l e = ap numbers (waiting_is links old lock l e) ∙ numbers_are links (list_in links l.queue)
 
+not_added : (links : Links) (locks : Locks) (lock a : ℕ) → length locks.locks.items ≤ lock → Contains (list_in links (lock_at locks lock).queue) a → ⊥
+not_added links locks lock a past i =
+    none a (subst (λ ns. Contains ns a) (ap (λ (l : Lock). list_in links l.queue) (get_or_past locks.locks.items lock free past) ∙ stands_list links free.queue [] (nobody_stands _ _ 0)) i)
+
 pub not_in : (links : Links) (locks : Locks) (a lock : ℕ) → WaitsNowhere links locks a → Contains (list_in links (lock_at locks lock).queue) a → ⊥
-not_in links locks a lock h i = h.nowhere lock (subst (λ ns. Contains ns a) (sym (numbers_waiting links locks lock (lock_at locks lock) refl)) i)
+unfolding count_of
+not_in links locks a lock h i = elim (cases_lt lock (length locks.locks.items)) [
+  | inl l ↦ h.nowhere lock l (subst (λ ns. Contains ns a) (sym (numbers_waiting links locks lock (lock_at locks lock) refl)) i)
+  | inr p ↦ not_added links locks lock a p i
+]
 
 pub not_in_lock : (links : Links) (locks : Locks) (a lock : ℕ) (l : Lock) → lock_at locks lock ≡ l → WaitsNowhere links locks a → Contains (list_in links l.queue) a → ⊥
 not_in_lock links locks a lock l e h i = not_in links locks a lock h (subst (λ (x : Lock). Contains (list_in links x.queue) a) (sym e) i)
@@ -163,7 +172,7 @@ join_changes before after old lock a l with added is belong idle keeps belongs w
 
 -- links that touch nobody who waits
 module _ (old new : Links) (locks : Locks) (touched : List ℕ) (keeps : KeepsOthers old new touched) (h : Belong old locks)
-  (idle : (a : ℕ) → Contains touched a → WaitsNowhere old locks a) where
+    (idle : (a : ℕ) → Contains touched a → WaitsNowhere old locks a) where
   untouched : (lock : ℕ) → Apart (list_in old (lock_at locks lock).queue) touched
   untouched lock = record { apart = λ n i j. not_in old locks n lock (idle n j) i }
 
@@ -172,9 +181,12 @@ module _ (old new : Links) (locks : Locks) (touched : List ℕ) (keeps : KeepsOt
 
   pub still_belong : Belong new locks
   still_belong = record {
-      belongs = λ lock. keeps.belongs _ (h.belongs lock) (untouched lock);
-      apart = λ lock other d. record { apart = λ n i j.
-          (h.apart lock other d).apart n (subst (λ ns. Contains ns n) (same_list lock) i) (subst (λ ns. Contains ns n) (same_list other) j) } }
+    belongs = λ lock. keeps.belongs _ (h.belongs lock) (untouched lock);
+    apart = λ lock other d. record {
+      apart = λ n i j.
+          (h.apart lock other d).apart n (subst (λ ns. Contains ns n) (same_list lock) i) (subst (λ ns. Contains ns n) (same_list other) j);
+    };
+  }
 
   pub still_waiting : ((n : ℕ) → mark_of new n ≡ mark_of old n) → (lock : ℕ) → waiting_in new locks lock ≡ waiting_in old locks lock
   unfolding waiting_in

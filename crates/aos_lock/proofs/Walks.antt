@@ -15,7 +15,7 @@ use Rattle.aos_queue.proofs.Members.{here, there, in_middle, differ}
 use Rattle.aos_lock.specs.declared.lock.Passed.{Passed}
 use Rattle.aos_lock.specs.declared.lock.Passed.TheVariants.{Waiter as ToWaiter, Entrant as ToEntrant, Free}
 use Rattle.aos_lock.specs.Heirs.{by_waiter, passed_to, new_owner, is_waiter_served, sooner}
-use Rattle.aos_lock.specs.Waits.{wants_of, waits_of}
+use Rattle.aos_lock.specs.Waits.{wants_of, waits_of, numbers}
 
 -- the entrant that the walk has met
 abbrev pub met : Option ℕ → Heir
@@ -169,13 +169,13 @@ of_entering : (w : Wants) (n : ℕ) (others : Heir) (ns : List ℕ) → IsOf oth
 of_entering Entry n others ns i = here n ns
 of_entering (Condition c) n others ns i = of_more others n ns i
 
-of_first_waiter : (verdict : ℕ → ℕ → Verdict) (links : Links) (ns : List ℕ) → IsOf (first_waiter verdict (map (waits_of links) ns)) ns
-of_first_waiter verdict links [] = tt
-of_first_waiter verdict links (n ∷ ns) = of_served (judged verdict n (wants_of (mark_of links n) n)) n _ ns (of_first_waiter verdict links ns)
+of_first_waiter : (verdict : ℕ → ℕ → Verdict) (es : List Waiting) → IsOf (first_waiter verdict es) (numbers es)
+of_first_waiter verdict [] = tt
+of_first_waiter verdict (e ∷ es) = of_served (judged verdict e.activity e.wants) e.activity _ (numbers es) (of_first_waiter verdict es)
 
-of_first_entrant : (links : Links) (ns : List ℕ) → IsOf (first_entrant (map (waits_of links) ns)) ns
-of_first_entrant links [] = tt
-of_first_entrant links (n ∷ ns) = of_entering (wants_of (mark_of links n) n) n _ ns (of_first_entrant links ns)
+of_first_entrant : (es : List Waiting) → IsOf (first_entrant es) (numbers es)
+of_first_entrant [] = tt
+of_first_entrant (e ∷ es) = of_entering e.wants e.activity _ (numbers es) (of_first_entrant es)
 
 of_either : (h other : Heir) (ns : List ℕ) → IsOf h ns → IsOf other ns → IsOf (or_else h other) ns
 of_either Nobody other ns i j = j
@@ -183,8 +183,8 @@ of_either (Entrant a) other ns i j = i
 of_either (Waiter a) other ns i j = i
 of_either (Trapping a n) other ns i j = i
 
-pub heir_within : (verdict : ℕ → ℕ → Verdict) (links : Links) (ns : List ℕ) → IsOf (heir verdict (map (waits_of links) ns)) ns
-heir_within verdict links ns = of_either _ _ ns (of_first_waiter verdict links ns) (of_first_entrant links ns)
+pub heir_within : (verdict : ℕ → ℕ → Verdict) (es : List Waiting) → IsOf (heir verdict es) (numbers es)
+heir_within verdict es = of_either _ _ (numbers es) (of_first_waiter verdict es) (of_first_entrant es)
 
 pub reserved_at : (verdict : ℕ → Verdict) (links : Links) (queue : Queue) (at entrant : Option ℕ) (a : ℕ) → Belongs links queue → at ≡ Some a
     → Walked verdict links (list_in links queue) at entrant → a < room_of links
@@ -193,11 +193,14 @@ reserved_at verdict links queue at entrant a h e w =
     (subst (λ (p : Option ℕ). Walked verdict links (list_in links queue) p entrant) e w))
 
 -- who gets the lock is one of those who wait, and leaves them
-pub chosen : (h : Heir) (ns : List ℕ) (a : ℕ) → IsOf h ns → new_owner (passed_to h) ≡ Some a → Contains ns a
-chosen Nobody ns a i e = absurd (cc)
-chosen (Entrant b) ns a i e = subst (λ k. Contains ns k) (same_Some b a e) i
-chosen (Waiter b) ns a i e = subst (λ k. Contains ns k) (same_Some b a e) i
-chosen (Trapping b n) ns a i e = subst (λ k. Contains ns k) (same_Some b a e) i
+of_owner : (h : Heir) (ns : List ℕ) (a : ℕ) → IsOf h ns → new_owner (passed_to h) ≡ Some a → Contains ns a
+of_owner Nobody ns a i e = absurd (cc)
+of_owner (Entrant b) ns a i e = subst (λ k. Contains ns k) (same_Some b a e) i
+of_owner (Waiter b) ns a i e = subst (λ k. Contains ns k) (same_Some b a e) i
+of_owner (Trapping b n) ns a i e = subst (λ k. Contains ns k) (same_Some b a e) i
+
+pub chosen : (verdict : ℕ → ℕ → Verdict) (es : List Waiting) (a : ℕ) → new_owner (passed_to (heir verdict es)) ≡ Some a → Contains (numbers es) a
+chosen verdict es a e = of_owner (heir verdict es) (numbers es) a (heir_within verdict es) e
 
 pub leaves : (h : Heir) (a : ℕ) (es : List Waiting) → new_owner (passed_to h) ≡ Some a → after_heir h es ≡ without a es
 leaves Nobody a es e = absurd (cc)

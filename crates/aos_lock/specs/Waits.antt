@@ -1,5 +1,5 @@
 -- Who waits for locks, and what a call on one lock leaves as it was.
-use Rattle.std.specs.Prelude.{◌≡◌, ◌≢◌, ℕ, List, [], ◌∷◌, length, map, Option, None, Bool, true, false, slice_index_or}
+use Rattle.std.specs.Prelude.{◌≡◌, ◌≢◌, ◌<◌, ℕ, List, [], ◌∷◌, length, map, Option, None, Bool, true, false, slice_index_or}
 use Rattle.std.specs.List.{Contains}
 use Rattle.aos_base.specs.Lock.{Waiting, Wants, Entry, Condition}
 use Rattle.aos_queue.specs.declared.links.Links.{Links}
@@ -57,7 +57,7 @@ pub record Belong (links : Links) (locks : Locks) : Type 0 where
 
 -- an activity that waits for no lock
 pub record WaitsNowhere (links : Links) (locks : Locks) (a : ℕ) : Type 0 where
-  pub nowhere : (lock : ℕ) → Contains (numbers (waiting_in links locks lock)) a → ⊥
+  pub nowhere : (lock : ℕ) → lock < count_of locks → Contains (numbers (waiting_in links locks lock)) a → ⊥
 
 -- each other lock keeps its owner and those who wait for it
 pub record KeepsLocks (before : Links) (old : Locks) (after : Links) (new : Locks) (lock : ℕ)

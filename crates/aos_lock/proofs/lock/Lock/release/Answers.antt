@@ -1,11 +1,11 @@
-use Rattle.std.proofs.Common.{◌≡◌, ◌∙◌, ℕ, List, ap, map, sym}
+use Rattle.std.proofs.Common.{◌≡◌, ◌∙◌, ℕ, List, ap, map, sym, subst, Contains}
 use Rattle.std.specs.Prelude.{Option, Some}
 use Rattle.aos_base.specs.Lock.{Heir, heir}
 use Rattle.aos_queue.specs.Lists.{list_in, without}
 use Rattle.aos_lock.specs.Heirs.{by_waiter, new_owner, passed_to}
 use Rattle.aos_lock.specs.Waits.{waits_of, waits_in}
-use Rattle.aos_lock.proofs.Rows.{map_same, without-map}
-use Rattle.aos_lock.proofs.Walks.{chosen, leaves, heir_within}
+use Rattle.aos_lock.proofs.Rows.{map_same, numbers_are, without-map}
+use Rattle.aos_lock.proofs.Walks.{chosen, leaves}
 use Rattle.aos_lock.proofs.lock.Lock.release.Goals as goal
 
 pub take-requires-clause-within : goal.take-requires-clause-within
@@ -15,7 +15,7 @@ take-requires-clause-within g c =
     let verdict = by_waiter (g.T.Test.verdict_of c.args.test.now) in
     let o : new_owner (passed_to (heir verdict (map (waits_of links) ns))) ≡ Some c.in-Some.activity =
     ap new_owner (sym c.heir-passed.ensures.heir) ∙ sym c.owner-self.ensures ∙ c.in-Some.is in
-    chosen _ ns c.in-Some.activity (heir_within verdict links ns) o
+    subst (λ ms. Contains ms c.in-Some.activity) (numbers_are links ns) (chosen verdict (map (waits_of links) ns) c.in-Some.activity o)
 
 pub returns-in-Some-clause-list : goal.returns-in-Some-clause-list
 returns-in-Some-clause-list g c =
