@@ -1,15 +1,14 @@
 -- What a change of one lock leaves as it was.
-use Rattle.std.proofs.Common.{◌≡◌, ◌≢◌, ◌<◌, ◌≤◌, ℕ, zero, suc, List, [], ◌∷◌, ◌++◌, length, map, refl, sym, ap, subst, ◌∙◌, ◌⊎◌, inl, inr, Contains, arith}
-use Rattle.std.specs.Prelude.{Option, slice_set, slice_index_or}
+use Rattle.std.proofs.Common.{◌≡◌, ◌≢◌, ◌<◌, ◌≤◌, ℕ, zero, suc, List, [], ◌∷◌, ◌++◌, length, map, refl, sym, ap, subst, ◌∙◌, ◌⊎◌, inl, inr, Contains}
+use Rattle.std.specs.Prelude.{slice_index_or}
 use Rattle.std.specs.Vec.{with_item}
 use Rattle.std.proofs.lemmas.List.{get_or-set_same, get_or-set_other, length-set, get_or_read, get_or_past}
 use Rattle.std.proofs.lemmas.Bool.{cases_lt}
 use Rattle.std.proofs.lemmas.Bool.Decides.{eqb_tells}
-use Rattle.aos_base.specs.Lock.{Waiting}
 use Rattle.aos_queue.specs.declared.links.Links.{Links}
 use Rattle.aos_queue.specs.declared.queue.Queue.{Queue}
 use Rattle.aos_queue.specs.Lists.{list_in, mark_of, Belongs, Apart, KeepsOthers}
-use Rattle.aos_queue.proofs.Members.{here, there, among, none}
+use Rattle.aos_queue.proofs.Members.{here, among, none}
 use Rattle.aos_queue.proofs.Runs.{stands_belongs, stands_list, nobody_stands}
 use Rattle.aos_lock.specs.declared.lock.Lock.{Lock}
 use Rattle.aos_lock.specs.declared.locks.Locks.{Locks}

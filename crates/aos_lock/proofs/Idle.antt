@@ -1,17 +1,16 @@
 -- Who waits for no lock after a call.
-use Rattle.std.proofs.Common.{◌≡◌, ◌≢◌, ◌<◌, ℕ, List, [], ◌∷◌, refl, sym, ap, subst, ◌∙◌, ◌⊎◌, inl, inr, Contains}
+use Rattle.std.proofs.Common.{◌≡◌, ◌≢◌, ◌<◌, ℕ, List, [], ◌∷◌, refl, sym, subst, ◌∙◌, inl, inr, Contains}
 use Rattle.std.specs.Prelude.{Bool, true, false, Some, ◌==◌, not, cond}
 use Rattle.std.proofs.lemmas.Bool.{eq-eqb, false≢true}
 use Rattle.std.proofs.lemmas.Bool.Decides.{eqb_tells}
 use Rattle.aos_base.specs.declared.kernel.Verdict.{Verdict}
-use Rattle.aos_base.specs.Lock.{Waiting, Heir, heir, after_heir, without}
+use Rattle.aos_base.specs.Lock.{Waiting, after_heir, without}
 use Rattle.aos_queue.specs.declared.links.Links.{Links}
-use Rattle.aos_queue.specs.Lists.{list_in}
 use Rattle.aos_queue.proofs.Members.{none, among}
 use Rattle.aos_lock.specs.declared.lock.Entered.{Entered}
 use Rattle.aos_lock.specs.declared.locks.Locks.{Locks}
 use Rattle.aos_lock.specs.Heirs.{by_waiter, heir_by, passed_to, new_owner, entered_list}
-use Rattle.aos_lock.specs.Waits.{numbers, lock_at, count_of, waiting_in, waits_of, Belong, WaitsNowhere, KeepsLocks}
+use Rattle.aos_lock.specs.Waits.{numbers, lock_at, count_of, waiting_in, Belong, WaitsNowhere, KeepsLocks}
 use Rattle.aos_lock.proofs.Rows.{entered_within}
 use Rattle.aos_lock.proofs.Walks.{chosen, leaves}
 use Rattle.aos_lock.proofs.Changes.{numbers_waiting}

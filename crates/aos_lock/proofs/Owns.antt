@@ -1,5 +1,5 @@
 -- Lists whose conditions go by their waiters' numbers.
-use Rattle.std.proofs.Common.{◌≡◌, ℕ, zero, suc, List, [], ◌∷◌, map, refl, sym, ap, ◌∙◌, Contains, arith}
+use Rattle.std.proofs.Common.{◌≡◌, ℕ, zero, suc, List, [], ◌∷◌, refl, sym, ap, ◌∙◌, Contains, arith}
 use Rattle.std.specs.Prelude.{◌==◌, not}
 use Rattle.aos_base.specs.declared.kernel.Verdict.{Verdict}
 use Rattle.aos_base.specs.Lock.{Waiting, Wants, Entry, Condition, Heir, Nobody, Entrant, Waiter, Trapping, served, judged, first_waiter, entering, first_entrant, or_else, heir, after_heir, without}

@@ -1,5 +1,5 @@
 -- Rows of those who wait, by their numbers.
-use Rattle.std.proofs.Common.{◌≡◌, ◌≢◌, ℕ, List, [], ◌∷◌, ◌++◌, map, filter, refl, sym, ap, subst, ◌∙◌, ◌⊎◌, inl, inr, Contains}
+use Rattle.std.proofs.Common.{◌≡◌, ◌≢◌, ℕ, List, [], ◌∷◌, ◌++◌, map, filter, refl, ap, subst, ◌∙◌, inl, inr, Contains}
 use Rattle.std.specs.Prelude.{Bool, ◌==◌, not, cond, true, false}
 use Rattle.std.proofs.lemmas.List.{map-append}
 use Rattle.std.proofs.lemmas.List.Elements.{Contains-push_cases}
@@ -9,7 +9,7 @@ use Rattle.aos_lock.specs.declared.lock.Entered.TheVariants.{Taken, Waits, Recur
 use Rattle.aos_lock.specs.Heirs.{entrant, entered_list}
 use Rattle.aos_queue.specs.declared.links.Links.{Links}
 use Rattle.aos_queue.specs.Lists.{mark_of, without as number_without}
-use Rattle.aos_queue.proofs.Members.{here, there, among, none}
+use Rattle.aos_queue.proofs.Members.{here, there, among}
 use Rattle.aos_lock.specs.Waits.{wants_of, waits_of, numbers}
 
 pub map_same : (old new : Links) (ns : List ℕ) → ((n : ℕ) → Contains ns n → mark_of new n ≡ mark_of old n) → map (waits_of new) ns ≡ map (waits_of old) ns

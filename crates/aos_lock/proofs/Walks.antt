@@ -1,5 +1,5 @@
 -- The walk along those who wait, to the heir.
-use Rattle.std.proofs.Common.{◌≡◌, ◌≢◌, ℕ, suc, ◌<◌, List, [], ◌∷◌, ◌++◌, map, length, refl, sym, ap, subst, ◌∙◌, ◌⊎◌, inl, inr, Contains, arith}
+use Rattle.std.proofs.Common.{◌≡◌, ◌≢◌, ℕ, suc, ◌<◌, List, [], ◌∷◌, ◌++◌, map, length, refl, sym, ap, subst, ◌∙◌, Contains, arith}
 use Rattle.std.specs.Prelude.{Bool, true, false, ◌==◌, cond, Option, Some, None, slice_get}
 use Rattle.std.proofs.Common.{append_assoc}
 use Rattle.std.proofs.lemmas.Bool.{eq-eqb}
@@ -12,8 +12,7 @@ use Rattle.aos_queue.specs.Lists.{list_in, mark_of, room_of, IsOnce, Belongs}
 use Rattle.aos_queue.specs.declared.queue.Queue.{Queue}
 use Rattle.aos_queue.proofs.Runs.{is_reserved}
 use Rattle.aos_queue.proofs.Members.{here, there, in_middle, differ}
-use Rattle.aos_lock.specs.declared.lock.Passed.{Passed}
-use Rattle.aos_lock.specs.declared.lock.Passed.TheVariants.{Waiter as ToWaiter, Entrant as ToEntrant, Free}
+use Rattle.aos_lock.specs.declared.lock.Passed.TheVariants.{Waiter as ToWaiter}
 use Rattle.aos_lock.specs.Heirs.{by_waiter, passed_to, new_owner, is_waiter_served, sooner}
 use Rattle.aos_lock.specs.Waits.{wants_of, waits_of, numbers}
 

@@ -1,10 +1,10 @@
 -- Who waits for locks, and what a call on one lock leaves as it was.
-use Rattle.std.specs.Prelude.{◌≡◌, ◌≢◌, ◌<◌, ℕ, List, [], ◌∷◌, length, map, Option, None, Bool, true, false, slice_index_or}
+use Rattle.std.specs.Prelude.{◌≡◌, ◌≢◌, ◌<◌, ℕ, List, length, map, Option, None, Bool, true, false, slice_index_or}
 use Rattle.std.specs.List.{Contains}
 use Rattle.aos_base.specs.Lock.{Waiting, Wants, Entry, Condition}
 use Rattle.aos_queue.specs.declared.links.Links.{Links}
 use Rattle.aos_queue.specs.declared.queue.Queue.{Queue}
-use Rattle.aos_queue.specs.Lists.{list_in, mark_of, room_of, Belongs, Apart, KeepsOthers}
+use Rattle.aos_queue.specs.Lists.{list_in, mark_of, room_of, Belongs, Apart}
 use Rattle.aos_lock.specs.declared.lock.Lock.{Lock}
 use Rattle.aos_lock.specs.declared.locks.Locks.{Locks}
 

@@ -1,7 +1,7 @@
 -- Numbers in lists.
-use Rattle.std.proofs.Common.{◌≡◌, ℕ, zero, suc, ◌<◌, ◌≤◌, ◌+◌, List, [], ◌∷◌, ◌++◌, length, refl, sym, ap, subst, ◌∙◌, arith, ◌⊎◌, inl, inr, ◌≢◌}
-use Rattle.std.specs.List.{Contains, list_any, IsDistinct, AllByRecursion, filter}
-use Rattle.std.specs.Prelude.{Bool, true, false, ◌||◌, ◌==◌, not, cond}
+use Rattle.std.proofs.Common.{◌≡◌, ℕ, zero, suc, ◌<◌, ◌≤◌, List, [], ◌∷◌, ◌++◌, length, refl, sym, ap, subst, ◌∙◌, arith, ◌⊎◌, inl, inr, ◌≢◌}
+use Rattle.std.specs.List.{Contains, list_any, IsDistinct, AllByRecursion}
+use Rattle.std.specs.Prelude.{Bool, true, false, ◌||◌, not, cond}
 use Rattle.std.proofs.lemmas.Bool.{eqb-true, eq-eqb}
 use Rattle.std.proofs.lemmas.Bool.Decides.{eqb_tells}
 use Rattle.std.proofs.lemmas.Map.Steps.{length-le_from_distinct_below}

@@ -63,7 +63,7 @@ pub record Apart (ns ms : List ℕ) : Type 0 where
 
 -- by the links a queue is this list: its numbers are reserved, and each stands in it once
 pub record Stands (next : ℕ → Option ℕ) (room : ℕ) (first : Option ℕ) (last : ℕ) (ns : List ℕ)
-  : Type 0 where
+    : Type 0 where
   pub run : IsRun next first ns
   pub ends : last ≡ last_of last ns
   pub once : IsOnce ns
@@ -72,14 +72,14 @@ pub record Stands (next : ℕ → Option ℕ) (room : ℕ) (first : Option ℕ) 
 -- a queue belongs to links: by them it is its list
 pub record Belongs (links : Links) (queue : Queue) : Type 0 where
   pub stands :
-    Stands (next_in links.nodes.items) (length links.nodes.items) queue.first queue.last (list_in links queue)
+      Stands (next_in links.nodes.items) (length links.nodes.items) queue.first queue.last (list_in links queue)
 
 -- a queue that shares no number with these keeps its list and belongs to the links still
 pub record KeepsOthers (old new : Links) (touched : List ℕ) : Type 0 where
   pub belongs : (other : Queue) → Belongs old other → Apart (list_in old other) touched →
-    Belongs new other
+      Belongs new other
   pub list : (other : Queue) → Belongs old other → Apart (list_in old other) touched →
-    list_in new other ≡ list_in old other
+      list_in new other ≡ list_in old other
 
 -- the same numbers are reserved, and each has its mark
 pub record SameTable (old new : Links) : Type 0 where

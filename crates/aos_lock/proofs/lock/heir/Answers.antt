@@ -1,7 +1,7 @@
-use Rattle.std.proofs.Common.{◌≡◌, ◌∙◌, ◌++◌, ◌∷◌, ◌<◌, ℕ, List, ap, sym, subst, Contains}
-use Rattle.std.specs.Prelude.{Option, Some, None, Bool, true, false}
+use Rattle.std.proofs.Common.{◌≡◌, ◌∙◌, ◌<◌, ℕ, ap, sym, subst}
+use Rattle.std.specs.Prelude.{Option, true, false}
 use Rattle.aos_queue.specs.Lists.{list_in, mark_of}
-use Rattle.aos_queue.proofs.Runs.{is_reserved, is_once}
+use Rattle.aos_queue.proofs.Runs.{is_once}
 use Rattle.aos_lock.specs.Heirs.{is_waiter_served, sooner, passed_to}
 use Rattle.aos_lock.proofs.Walks.{Walked, met, walk_on, walk_serves, walk_ends, walk_falls, left_at, stands_at, reserved_at}
 use Rattle.aos_lock.proofs.lock.heir.Goals as goal

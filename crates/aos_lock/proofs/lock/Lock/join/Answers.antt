@@ -1,4 +1,4 @@
-use Rattle.std.proofs.Common.{◌≡◌, ◌∙◌, ◌∷◌, [], ◌++◌, ℕ, List, ap, map, sym, subst, Contains}
+use Rattle.std.proofs.Common.{◌≡◌, ◌∙◌, ◌∷◌, [], ◌++◌, ap, map}
 use Rattle.aos_queue.specs.Lists.{list_in, Apart}
 use Rattle.aos_queue.proofs.Members.{none}
 use Rattle.aos_lock.specs.Waits.{waits_of}

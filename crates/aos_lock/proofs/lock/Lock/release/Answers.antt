@@ -1,9 +1,9 @@
-use Rattle.std.proofs.Common.{◌≡◌, ◌∙◌, ℕ, List, ap, map, sym, subst, Contains}
-use Rattle.std.specs.Prelude.{Option, Some}
-use Rattle.aos_base.specs.Lock.{Heir, heir}
+use Rattle.std.proofs.Common.{◌≡◌, ◌∙◌, ap, map, sym, subst, Contains}
+use Rattle.std.specs.Prelude.{Some}
+use Rattle.aos_base.specs.Lock.{heir}
 use Rattle.aos_queue.specs.Lists.{list_in, without}
 use Rattle.aos_lock.specs.Heirs.{by_waiter, new_owner, passed_to}
-use Rattle.aos_lock.specs.Waits.{waits_of, waits_in}
+use Rattle.aos_lock.specs.Waits.{waits_of}
 use Rattle.aos_lock.proofs.Rows.{map_same, numbers_are, without-map}
 use Rattle.aos_lock.proofs.Walks.{chosen, leaves}
 use Rattle.aos_lock.proofs.lock.Lock.release.Goals as goal

@@ -1,4 +1,4 @@
-use Rattle.std.proofs.Common.{◌≡◌, ◌∙◌, ◌∷◌, [], ◌++◌, ℕ, List, ap, sym, subst, Contains}
+use Rattle.std.proofs.Common.{◌≡◌, ◌∙◌, ◌∷◌, [], ◌++◌, ap, sym, subst, Contains}
 use Rattle.aos_queue.specs.Lists.{list_in}
 use Rattle.aos_lock.specs.Heirs.{waiter}
 use Rattle.aos_lock.specs.Waits.{numbers, waits_in}

@@ -1,12 +1,11 @@
-use Rattle.std.proofs.Common.{◌≡◌, ◌∙◌, ◌<◌, ◌∷◌, ℕ, List, ap, sym, subst, Contains, length}
-use Rattle.std.specs.Prelude.{Option, Some, None}
+use Rattle.std.proofs.Common.{◌≡◌, ◌∙◌, ◌∷◌, ℕ, List, ap, sym, subst, Contains}
 use Rattle.aos_queue.specs.declared.links.Links.{Links}
 use Rattle.aos_queue.specs.Lists.{list_in, Belongs, KeepsOthers}
 use Rattle.aos_lock.specs.declared.lock.Lock.{Lock}
 use Rattle.aos_lock.specs.Heirs.{entered_owner, entered_list}
 use Rattle.aos_lock.specs.Waits.{count_of, owner_of, waiting_in, waits_in, lock_at, numbers}
 use Rattle.aos_lock.proofs.Rows.{entered_within, numbers_are}
-use Rattle.aos_lock.proofs.Changes.{Changes, changed, read_lock, not_in_lock, join_changes, belong_after, others_kept, owner_after, list_after, waiting_is, owner_is, numbers_waiting}
+use Rattle.aos_lock.proofs.Changes.{Changes, read_lock, not_in_lock, join_changes, belong_after, others_kept, owner_after, list_after, waiting_is, owner_is, numbers_waiting}
 use Rattle.aos_lock.proofs.locks.Locks.enter.Goals as goal
 
 pub enter-requires-clause-belongs : goal.enter-requires-clause-belongs

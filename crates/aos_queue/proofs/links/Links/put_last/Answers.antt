@@ -1,5 +1,5 @@
-use Rattle.std.proofs.Common.{◌≡◌, ◌≢◌, ◌∙◌, ◌<◌, ◌≤◌, ◌++◌, ◌∷◌, [], ℕ, List, length, subst, sym, ap, arith, Contains}
-use Rattle.std.specs.Prelude.{Some, Option}
+use Rattle.std.proofs.Common.{◌≡◌, ◌≢◌, ◌∙◌, ◌<◌, ◌≤◌, ◌++◌, ◌∷◌, [], ℕ, List, length, subst, sym, arith, Contains}
+use Rattle.std.specs.Prelude.{Some}
 use Rattle.aos_queue.specs.Lists.{Stands, list_in, next_in, room_of}
 use Rattle.aos_queue.proofs.Members.{here, there}
 use Rattle.aos_queue.proofs.Runs.{stands_list, stands_belongs, keeps_others, nobody, put_alone, put_behind, last_in}

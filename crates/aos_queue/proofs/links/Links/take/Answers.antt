@@ -1,9 +1,7 @@
-use Rattle.std.proofs.Common.{◌≡◌, ◌≢◌, ◌∙◌, ◌<◌, ◌≤◌, ◌++◌, ◌∷◌, [], ℕ, List, length, subst, sym, ap, arith, Contains, refl}
-use Rattle.std.specs.Prelude.{Some, Option}
-use Rattle.aos_queue.specs.Lists.{Stands, list_in, next_in, room_of, without}
-use Rattle.aos_queue.proofs.Members.{here, in_middle}
+use Rattle.std.proofs.Common.{◌∙◌, ◌∷◌, ℕ, List, subst, sym, arith, Contains, refl}
+use Rattle.aos_queue.specs.Lists.{room_of}
+use Rattle.aos_queue.proofs.Members.{in_middle}
 use Rattle.aos_queue.proofs.Runs.{stands_list, stands_belongs, first_left, HasLeft, has_left}
-use Rattle.aos_queue.proofs.Tables.{same_table}
 use Rattle.aos_queue.proofs.links.Links.take.Goals as goal
 
 pub next-next-requires : goal.next-next-requires
