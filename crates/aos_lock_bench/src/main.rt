@@ -1,0 +1,104 @@
+//! Measures how fast a lock passes from one to the next: so many times its owner leaves it and asks for it again, while so
+//! many others wait. Beside it a `VecDeque` does the same. Prints who comes last.
+#![tactic(auto)]
+
+ghost use Rattle.std.specs.Prelude.{◌≡◌, ◌+◌, ◌-◌, ◌^◌, ◌<◌, ◌≤◌};
+ghost use Rattle.aos_queue.specs.Lists.{room_of};
+ghost use Rattle.aos_lock_bench.specs.Holder.{Holds, IdleFrom};
+
+use aos_base::{NoMemory, Verdict};
+use aos_lock::{Locks, Test};
+use aos_queue::Links;
+use std::alloc::{AllocError, Global};
+use std::collections::VecDeque;
+use std::{env, io};
+
+/// Nobody awaits a condition.
+#[derive(Clone, Copy)]
+struct Never;
+
+impl Test for Never {
+    ghost use Rattle.aos_base.specs.declared.kernel.Verdict.TheVariants.{Fails};
+
+    ghost verdict_of = { λ _ _. Fails };
+
+    fn verdict(&mut self, _waiter: u32) -> Verdict {
+        Verdict::Fails
+    }
+}
+
+/// The owner leaves the lock and asks for it again. Answers who owns it then.
+fn pass_on(links: &mut Links, locks: &mut Locks, lock: u32, owner: u32) -> u32
+    requires { Holds links.old locks.old lock owner }
+    ensures { Holds links.new locks.new lock result }
+{
+    let heir = locks.leave(links, lock, owner, &mut Never).owner();
+    locks.enter(links, lock, owner);
+    heir.unwrap_or(owner)
+}
+
+/// The activities from 1 on ask for the lock, which 0 owns.
+fn join(links: &mut Links, locks: &mut Locks, lock: u32, waiting: u32)
+    requires holds { Holds links.old locks.old lock 0 }
+    requires idle { IdleFrom links.old locks.old 1 }
+    requires reserved { waiting < room_of links.old }
+    ensures { Holds links.new locks.new lock 0 }
+{
+    for activity in 0..waiting {
+        locks.enter(links, lock, activity + 1);
+    }
+}
+
+fn with_locks(alloc: Global, waiting: u32, times: u32) -> Result<u32, NoMemory>
+    requires { waiting < 2 ^ 32 - 1 }
+{
+    let mut links = Links::new(alloc);
+    links.reserve(waiting + 1)?;
+    let mut locks = Locks::new(alloc);
+    let lock = locks.add()?;
+    let mut owner = 0;
+    locks.enter(&mut links, lock, owner);
+    join(&mut links, &mut locks, lock, waiting);
+    for _ in 0..times {
+        owner = pass_on(&mut links, &mut locks, lock, owner);
+    }
+    Ok(owner)
+}
+
+fn with_deque(alloc: Global, waiting: u32, times: u32) -> Result<u32, AllocError>
+    requires { waiting < 2 ^ 32 - 1 }
+{
+    let mut queue = VecDeque::new(alloc);
+    queue.reserve(waiting as usize + 1)?;
+    for activity in 0..waiting {
+        queue.push_back(activity + 1)?;
+    }
+    let mut owner = 0;
+    for _ in 0..times {
+        queue.push_back(owner)?;
+        owner = queue.pop_front().unwrap_or(owner);
+    }
+    Ok(owner)
+}
+
+fn main(rt: HostRuntime) -> io::Result<()> {
+    let mut words = env::args(&rt)?.skip(1);
+    let (Some(kind), Some(waiting), Some(times)) = (words.next(), words.next(), words.next()) else {
+        return Err(io::Error::from(io::ErrorKind::InvalidInput));
+    };
+    let (Ok(waiting), Ok(times)) = (waiting.parse::<u32>(), times.parse::<u32>()) else {
+        return Err(io::Error::from(io::ErrorKind::InvalidInput));
+    };
+    if waiting == u32::MAX {
+        return Err(io::Error::from(io::ErrorKind::InvalidInput));
+    }
+    let last = if kind.as_str() == "locks" {
+        with_locks(rt.alloc(), waiting, times).ok()
+    } else {
+        with_deque(rt.alloc(), waiting, times).ok()
+    };
+    match last {
+        Some(last) => println!(rt; "{last}"),
+        None => Err(io::Error::from(io::ErrorKind::OutOfMemory)),
+    }
+}
