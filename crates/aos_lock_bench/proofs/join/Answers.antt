@@ -22,7 +22,11 @@ loop-activity-preserved c =
         owner = c.enter.ensures.owner ∙ ap (entered_owner c.enter.result a) h.owner
             ∙ owner_again c.enter.result a 0 (λ e. let n = stays e in let s = h.owner in absurd (cc));
         reserved = subst (λ n. 0 < n) (sym room) h.reserved;
-        idle = idle_entered _ _ _ _ c.args.lock a 0 c.enter.result h.added keeps c.enter.ensures.list (λ e. absurd (omega (arith, e))) h.idle };
-      idle = record { idle = λ b l. idle_entered _ _ _ _ c.args.lock a b c.enter.result h.added keeps c.enter.ensures.list (λ e. absurd (omega (arith, e, l)))
-          (c.loop-activity.invariant.idle.idle b (omega (arith, l))) };
-      room = room ∙ c.loop-activity.invariant.room }
+        idle = idle_entered _ _ _ _ c.args.lock a 0 c.enter.result h.added keeps c.enter.ensures.list (λ e. absurd (omega (arith, e))) h.idle;
+      };
+      idle = record {
+        idle = λ b l. idle_entered _ _ _ _ c.args.lock a b c.enter.result h.added keeps c.enter.ensures.list (λ e. absurd (omega (arith, e, l)))
+            (c.loop-activity.invariant.idle.idle b (omega (arith, l)));
+      };
+      room = room ∙ c.loop-activity.invariant.room;
+    }

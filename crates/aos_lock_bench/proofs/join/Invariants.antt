@@ -5,6 +5,7 @@ use Rattle.aos_lock_bench.proofs.join.Given as goal
 
 abbrev pub invariant-loop-activity : goal.invariant-loop-activity
 invariant-loop-activity l = record {
-    holds : Holds l.links l.locks l.lock 0;
-    idle : IdleFrom l.links l.locks (l.activity + 1);
-    room : room_of l.links ≡ room_of l.fn.links }
+  holds : Holds l.links l.locks l.lock 0;
+  idle : IdleFrom l.links l.locks (l.activity + 1);
+  room : room_of l.links ≡ room_of l.fn.links;
+}
