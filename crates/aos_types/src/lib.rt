@@ -1,0 +1,11 @@
+//! Types of the language as rows of one table, by themselves: which types extend, are, fit and contain which, and how many
+//! scalars they have (Active Oberon Language Report, Reali 2002; Oberon-2 report, Mossenbock and Wirth, appendix A).
+#![tactic(auto)]
+
+mod items;
+mod row;
+mod table;
+
+pub use items::Items;
+pub use row::{Basic, TypeId, TypeRow};
+pub use table::Types;
