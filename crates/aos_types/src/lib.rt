@@ -2,8 +2,11 @@
 //! scalars they have (Active Oberon Language Report, Reali 2002; Oberon-2 report, Mossenbock and Wirth, appendix A).
 #![tactic(auto)]
 
+mod extension;
+mod fit;
 mod items;
 mod row;
+mod sameness;
 mod table;
 
 pub use items::Items;
