@@ -5,3 +5,4 @@ pub mod Fit
 pub mod Shape
 pub mod Contents
 pub mod Chain
+pub mod Walk

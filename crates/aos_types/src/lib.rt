@@ -2,6 +2,7 @@
 //! scalars they have (Active Oberon Language Report, Reali 2002; Oberon-2 report, Mossenbock and Wirth, appendix A).
 #![tactic(auto)]
 
+mod chain;
 mod extension;
 mod fit;
 mod items;

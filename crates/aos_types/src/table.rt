@@ -1,8 +1,12 @@
 // The table of types.
 
 ghost use Rattle.std.specs.Prelude.{◌≡◌, ◌<◌, ◌^◌, ◌++◌, ◌∷◌, [], length, slice_get, slice_set, IfOk, OnOk, OnErr};
+ghost use Rattle.aos_types.specs.Extension.{extends as extends_of};
+ghost use Rattle.aos_types.specs.Sameness.{same as same_of};
+ghost use Rattle.aos_types.specs.Fit.{fits as fits_of};
 
 use crate::row::{TypeId, TypeRow};
+use crate::{extension, fit, sameness};
 use aos_base::NoMemory;
 use std::alloc::Global;
 use std::marker::Model;
@@ -60,5 +64,27 @@ impl Types {
         ensures { slice_get self.now id.0 ≡ Some result.now }
     {
         &self.rows[id.0 as usize]
+    }
+    /// Whether a type extends another: it is the other, or bases lead from it to the other. A pointer type extends another
+    /// where the record type that it leads to extends the other's (Oberon-2 report, 6.3 and 6.4).
+    pub fn extends(&self, a: TypeId, b: TypeId) -> bool
+        ensures { result ≡ extends_of self.now a b }
+    {
+        extension::extends(&self.rows, a, b)
+    }
+
+    /// Whether two types are the same (Oberon-2 report, appendix A).
+    pub fn same(&self, a: TypeId, b: TypeId) -> bool
+        ensures { result ≡ same_of self.now a b }
+    {
+        sameness::same(&self.rows, a, b)
+    }
+
+    /// Whether a value of one type fits a variable of another (Oberon-2 report, appendix A, assignment compatible). What may
+    /// be passed for an open array parameter is no part of it.
+    pub fn fits(&self, from: TypeId, to: TypeId) -> bool
+        ensures { result ≡ fits_of self.now from to }
+    {
+        fit::fits(&self.rows, from, to)
     }
 }
