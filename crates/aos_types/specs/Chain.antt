@@ -37,10 +37,13 @@ abbrev pub IsChain : List TypeRow → TypeId → List TypeId → Type 0
 IsChain rows t [] = Unit {0}
 IsChain rows t (p ∷ ps) = IsPartOf rows p t × IsChain rows p ps
 
--- a chain leads from the type back to it
-pub record ContainsItself (rows : List TypeRow) (t : TypeId) : Type 0 where
+-- a chain leads from one type to the other
+pub record LeadsTo (rows : List TypeRow) (t p : TypeId) : Type 0 where
   pub between : List TypeId
-  pub chain : IsChain rows t (between ++ t ∷ [])
+  pub chain : IsChain rows t (between ++ p ∷ [])
+
+abbrev pub ContainsItself : List TypeRow → TypeId → Type 0
+ContainsItself rows t = LeadsTo rows t t
 
 -- no type contains itself
 abbrev pub NoneContainsItself : List TypeRow → Type 0

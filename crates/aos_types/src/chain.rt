@@ -1,6 +1,6 @@
 // Which types contain themselves.
 
-ghost use Rattle.std.specs.Prelude.{◌≡◌, ◌↔◌, List, OnOk, IfOk, IsTrue, length};
+ghost use Rattle.std.specs.Prelude.{◌≡◌, ◌↔◌, ◌+◌, ◌<◌, ◌^◌, List, OnSome, OnOk, IfOk, IsTrue, length, slice_get};
 ghost use Rattle.std.specs.List.{flat_map};
 ghost use Rattle.aos_types.specs.Table as table;
 ghost use Rattle.aos_types.specs.Chain as chain;
@@ -90,4 +90,46 @@ impl Walk {
             _ => Ok(()),
         }
     }
+    /// A type by its place in the order.
+    fn at(&self, place: usize) -> Option<TypeId>
+        ensures value { result ≡ slice_get self.now.order place }
+        ensures not_last { OnSome result (place + 1 < 2 ^ 64) }
+    {
+        self.order.get(place).copied()
+    }
+
+    /// Whether a type was noted.
+    fn has(&self, t: TypeId) -> bool
+        ensures { result ≡ walk.is_seen (slice_get self.now.seen t.0) }
+    {
+        self.seen.get(t.0 as usize).copied().unwrap_or(false)
+    }
+}
+
+/// A walk that hasn't begun.
+fn unbegun(alloc: Global, types: usize) -> Result<Walk, AllocError>
+    ensures { IfOk result (λ w. w ≡ walk.unbegun types) }
+{
+    Ok(Walk {
+        seen: vec![in alloc; false; types]?,
+        order: Vec::new(alloc),
+    })
+}
+
+/// Whether a type contains itself.
+pub(crate) fn contains_itself(
+    alloc: Global,
+    rows: &[TypeRow],
+    t: TypeId,
+) -> Result<bool, AllocError>
+    ensures { IfOk result (λ found. IsTrue found ↔ chain.ContainsItself rows.now t) }
+{
+    let mut walk = unbegun(alloc, rows.len())?;
+    walk.note_parts(rows, t)?;
+    let mut next = 0;
+    while let Some(reached) = walk.at(next) {
+        walk.note_parts(rows, reached)?;
+        next += 1;
+    }
+    Ok(walk.has(t))
 }

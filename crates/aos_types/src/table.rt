@@ -1,12 +1,13 @@
 // The table of types.
 
-ghost use Rattle.std.specs.Prelude.{◌≡◌, ◌<◌, ◌^◌, ◌++◌, ◌∷◌, [], length, slice_get, slice_set, IfOk, OnOk, OnErr};
+ghost use Rattle.std.specs.Prelude.{◌≡◌, ◌↔◌, ◌<◌, ◌^◌, ◌++◌, ◌∷◌, [], length, slice_get, slice_set, IfOk, OnOk, OnErr, IsTrue};
+ghost use Rattle.aos_types.specs.Chain.{ContainsItself};
 ghost use Rattle.aos_types.specs.Extension.{extends as extends_of};
 ghost use Rattle.aos_types.specs.Sameness.{same as same_of};
 ghost use Rattle.aos_types.specs.Fit.{fits as fits_of};
 
 use crate::row::{TypeId, TypeRow};
-use crate::{extension, fit, sameness};
+use crate::{chain, extension, fit, sameness};
 use aos_base::NoMemory;
 use std::alloc::Global;
 use std::marker::Model;
@@ -86,5 +87,13 @@ impl Types {
         ensures { result ≡ fits_of self.now from to }
     {
         fit::fits(&self.rows, from, to)
+    }
+    /// Whether a type contains itself: a chain of elements, fields and bases leads from it back to it. Pointers, and elements
+    /// and fields of an object type, end a chain (Oberon-2 report, 6.3; Reali 2002).
+    pub fn contains_itself(&self, alloc: Global, t: TypeId) -> Result<bool, NoMemory>
+        ensures { IfOk result (λ found. IsTrue found ↔ ContainsItself self.now t) }
+    {
+        let found = chain::contains_itself(alloc, &self.rows, t)?;
+        Ok(found)
     }
 }
