@@ -1,6 +1,6 @@
 -- Extension: the closure of the base relation (Oberon-2 report, 6.3; Reali 2002, object types). A pointer type extends another
 -- where the record type that it leads to extends the other's (Oberon-2 report, 6.4).
-use Rattle.std.specs.Prelude.{ℕ, zero, suc, ◌==◌, ◌||◌, if◌then◌else◌, List, length, Bool, true, false, Option, Some, None}
+use Rattle.std.specs.Prelude.{◌≡◌, ℕ, zero, suc, ◌==◌, ◌||◌, if◌then◌else◌, List, [], ◌∷◌, length, Bool, true, false, Option, Some, None}
 use Rattle.aos_types.specs.declared.row.TypeId.{TypeId}
 use Rattle.aos_types.specs.declared.row.TypeRow.{TypeRow}
 use Rattle.aos_types.specs.declared.row.TypeRow.TheVariants as row
@@ -24,7 +24,21 @@ abbrev pub record_below : List TypeRow → Option TypeRow → Option TypeId
 record_below rows (Some (row.Pointer t)) = (if is_record (row_of rows t) then Some t else None)
 record_below rows _ = None
 
--- whether one type extends the other, as each type extends itself
+-- whether one type extends the other, whose row this is. Each type extends itself
+abbrev pub extends_row : List TypeRow → TypeId → TypeId → Option TypeRow → Bool
+extends_row rows a b (Some (row.Pointer t)) =
+    (a.0 == b.0) || on_both (comes_to rows) (record_below rows (row_of rows a)) (record_below rows (row_of rows b))
+extends_row rows a b _ = comes_to rows a b
+
 abbrev pub extends : List TypeRow → TypeId → TypeId → Bool
-extends rows a b =
-    comes_to rows a b || on_both (comes_to rows) (record_below rows (row_of rows a)) (record_below rows (row_of rows b))
+extends rows a b = extends_row rows a b (row_of rows b)
+
+-- each is the base of the one before it, and the last is this one
+abbrev pub AreBases : List TypeRow → TypeId → List TypeId → TypeId → Type 0
+AreBases rows a [] b = a ≡ b
+AreBases rows a (x ∷ xs) b = (base_of (row_of rows a) ≡ Some x) × AreBases rows x xs b
+
+-- the closure of the base relation
+pub record BasesLead (rows : List TypeRow) (a b : TypeId) : Type 0 where
+  pub bases : List TypeId
+  pub are : AreBases rows a bases b

@@ -6,3 +6,4 @@ pub mod Shape
 pub mod Contents
 pub mod Chain
 pub mod Walk
+pub mod Laws

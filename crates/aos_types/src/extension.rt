@@ -1,7 +1,8 @@
 // Which types extend which.
 
-ghost use Rattle.std.specs.Prelude.{◌≡◌, ◌==◌, length};
+ghost use Rattle.std.specs.Prelude.{◌≡◌, ◌==◌, ◌||◌};
 ghost use Rattle.std.specs.Option.{option_copied};
+ghost use Rattle.aos_types.specs.Table.{on_both};
 ghost use Rattle.aos_types.specs.Table as table;
 ghost use Rattle.aos_types.specs.Extension as extension;
 
@@ -54,15 +55,25 @@ fn record_below(rows: &[TypeRow], t: TypeId) -> Option<TypeId>
     }
 }
 
-/// Whether one type extends the other.
-pub(crate) fn extends(rows: &[TypeRow], a: TypeId, b: TypeId) -> bool
-    ensures { result ≡ extension.extends rows.now a b }
+/// Whether a pointer type extends another one.
+fn extends_pointer(rows: &[TypeRow], a: TypeId, b: TypeId) -> bool
+    ensures { result ≡ ((a.0 == b.0) || on_both (extension.comes_to rows.now) (extension.record_below rows.now (table.row_of rows.now a)) (extension.record_below rows.now (table.row_of rows.now b))) }
 {
-    if comes_to(rows, a, b) {
+    if a.0 == b.0 {
         return true;
     }
     match (record_below(rows, a), record_below(rows, b)) {
         (Some(a), Some(b)) => comes_to(rows, a, b),
         _ => false,
+    }
+}
+
+/// Whether one type extends the other.
+pub(crate) fn extends(rows: &[TypeRow], a: TypeId, b: TypeId) -> bool
+    ensures { result ≡ extension.extends rows.now a b }
+{
+    match row_of(rows, b) {
+        Some(TypeRow::Pointer(_)) => extends_pointer(rows, a, b),
+        _ => comes_to(rows, a, b),
     }
 }

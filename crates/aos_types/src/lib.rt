@@ -6,10 +6,14 @@ mod chain;
 mod extension;
 mod fit;
 mod items;
+mod laws;
 mod row;
 mod sameness;
 mod table;
 
 pub use items::Items;
+pub use laws::{
+    law_of_bases, law_of_contents, law_of_fronts, law_of_offsets, law_of_ranks,
+};
 pub use row::{Basic, TypeId, TypeRow};
 pub use table::Types;

@@ -1,0 +1,35 @@
+// Laws of the definitions.
+
+ghost use Rattle.std.specs.Prelude.{◌≡◌, ◌↔◌, ℕ, List, IsTrue};
+ghost use Rattle.aos_types.specs.declared.row.TypeId.{TypeId};
+ghost use Rattle.aos_types.specs.declared.row.TypeRow.{TypeRow};
+ghost use Rattle.aos_types.specs.Table.{row_of};
+ghost use Rattle.aos_types.specs.Contents.{contents, with_parts};
+ghost use Rattle.aos_types.specs.Chain.{NoneContainsItself, IsRanked};
+ghost use Rattle.aos_types.specs.Extension.{comes_to, BasesLead};
+ghost use Rattle.aos_types.specs.Laws.{BeginsWith, IsScalar, AreApart};
+
+/// Where no type contains itself, types stand above their parts.
+pub fn law_of_ranks()
+    ensures { (rows : List TypeRow) → NoneContainsItself rows → IsRanked rows }
+{}
+
+/// The contents of a type are those of its parts.
+pub fn law_of_contents()
+    ensures { (rows : List TypeRow) (t : TypeId) → NoneContainsItself rows → contents rows t ≡ with_parts (contents rows) rows t (row_of rows t) }
+{}
+
+/// Extension by bases is the closure of the base relation.
+pub fn law_of_bases()
+    ensures { (rows : List TypeRow) (a b : TypeId) → NoneContainsItself rows → IsTrue (comes_to rows a b) ↔ BasesLead rows a b }
+{}
+
+/// The contents of an extension begin with those of its base.
+pub fn law_of_fronts()
+    ensures { (rows : List TypeRow) (a b : TypeId) → NoneContainsItself rows → IsTrue (comes_to rows a b) → BeginsWith (contents rows a) (contents rows b) }
+{}
+
+/// Different scalars of a type have different offsets, below its size.
+pub fn law_of_offsets()
+    ensures { (rows : List TypeRow) (t : TypeId) (p q : List ℕ) → IsScalar (contents rows t) p → IsScalar (contents rows t) q → AreApart (contents rows t) p q }
+{}
