@@ -65,7 +65,7 @@ join_assoc (shape.One k) b c = refl
 join_assoc shape.Nothing b c = refl
 join_assoc (shape.Pair x y) b c = ap (shape.Pair x) (join_assoc y b c)
 
-is_it : (a b : TypeId) → (a.0 == b.0) ≡ true → a ≡ b
+pub is_it : (a b : TypeId) → (a.0 == b.0) ≡ true → a ≡ b
 is_it a b e = let f = eqb-true a.0 b.0 e in λ i. record { 0 = f i }
 
 -- bases lead where so many of them come

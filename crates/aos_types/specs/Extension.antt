@@ -4,7 +4,7 @@ use Rattle.std.specs.Prelude.{◌≡◌, ℕ, zero, suc, ◌==◌, ◌||◌, if�
 use Rattle.aos_types.specs.declared.row.TypeId.{TypeId}
 use Rattle.aos_types.specs.declared.row.TypeRow.{TypeRow}
 use Rattle.aos_types.specs.declared.row.TypeRow.TheVariants as row
-use Rattle.aos_types.specs.Table.{row_of, is_record, base_of, on_both}
+use Rattle.aos_types.specs.Table.{row_of, is_record, is_pointer, base_of, on_both}
 
 abbrev pub on_base : (TypeId → Bool) → Option TypeId → Bool
 on_base f None = false
@@ -24,14 +24,14 @@ abbrev pub record_below : List TypeRow → Option TypeRow → Option TypeId
 record_below rows (Some (row.Pointer t)) = (if is_record (row_of rows t) then Some t else None)
 record_below rows _ = None
 
--- whether one type extends the other, whose row this is. Each type extends itself
-abbrev pub extends_row : List TypeRow → TypeId → TypeId → Option TypeRow → Bool
-extends_row rows a b (Some (row.Pointer t)) =
+-- whether a pointer type extends another
+abbrev pub extends_pointer : List TypeRow → TypeId → TypeId → Bool
+extends_pointer rows a b =
     (a.0 == b.0) || on_both (comes_to rows) (record_below rows (row_of rows a)) (record_below rows (row_of rows b))
-extends_row rows a b _ = comes_to rows a b
 
+-- whether one type extends the other. Each type extends itself
 abbrev pub extends : List TypeRow → TypeId → TypeId → Bool
-extends rows a b = extends_row rows a b (row_of rows b)
+extends rows a b = (if is_pointer (row_of rows b) then extends_pointer rows a b else comes_to rows a b)
 
 -- each is the base of the one before it, and the last is this one
 abbrev pub AreBases : List TypeRow → TypeId → List TypeId → TypeId → Type 0

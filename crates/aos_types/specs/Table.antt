@@ -18,6 +18,10 @@ abbrev pub is_object : Option TypeRow → Bool
 is_object (Some (row.Object base fields)) = true
 is_object _ = false
 
+abbrev pub is_pointer : Option TypeRow → Bool
+is_pointer (Some (row.Pointer t)) = true
+is_pointer _ = false
+
 abbrev pub is_char : Option TypeRow → Bool
 is_char (Some (row.Basic basic.Char)) = true
 is_char _ = false

@@ -1,8 +1,7 @@
 // Which types extend which.
 
-ghost use Rattle.std.specs.Prelude.{◌≡◌, ◌==◌, ◌||◌};
+ghost use Rattle.std.specs.Prelude.{◌≡◌};
 ghost use Rattle.std.specs.Option.{option_copied};
-ghost use Rattle.aos_types.specs.Table.{on_both};
 ghost use Rattle.aos_types.specs.Table as table;
 ghost use Rattle.aos_types.specs.Extension as extension;
 
@@ -57,7 +56,7 @@ fn record_below(rows: &[TypeRow], t: TypeId) -> Option<TypeId>
 
 /// Whether a pointer type extends another one.
 fn extends_pointer(rows: &[TypeRow], a: TypeId, b: TypeId) -> bool
-    ensures { result ≡ ((a.0 == b.0) || on_both (extension.comes_to rows.now) (extension.record_below rows.now (table.row_of rows.now a)) (extension.record_below rows.now (table.row_of rows.now b))) }
+    ensures { result ≡ extension.extends_pointer rows.now a b }
 {
     if a.0 == b.0 {
         return true;

@@ -6,7 +6,7 @@ ghost use Rattle.aos_types.specs.declared.row.TypeRow.{TypeRow};
 ghost use Rattle.aos_types.specs.Table.{row_of};
 ghost use Rattle.aos_types.specs.Contents.{contents, with_parts};
 ghost use Rattle.aos_types.specs.Chain.{NoneContainsItself, IsRanked};
-ghost use Rattle.aos_types.specs.Extension.{comes_to, BasesLead};
+ghost use Rattle.aos_types.specs.Extension.{comes_to, extends, BasesLead};
 ghost use Rattle.aos_types.specs.Laws.{BeginsWith, IsScalar, AreApart};
 
 /// Where no type contains itself, types stand above their parts.
@@ -22,6 +22,11 @@ pub fn law_of_contents()
 /// Extension by bases is the closure of the base relation.
 pub fn law_of_bases()
     ensures { (rows : List TypeRow) (a b : TypeId) → NoneContainsItself rows → IsTrue (comes_to rows a b) ↔ BasesLead rows a b }
+{}
+
+/// Extension is transitive.
+pub fn law_of_extension()
+    ensures { (rows : List TypeRow) (a b c : TypeId) → NoneContainsItself rows → IsTrue (extends rows a b) → IsTrue (extends rows b c) → IsTrue (extends rows a c) }
 {}
 
 /// The contents of an extension begin with those of its base.

@@ -13,7 +13,7 @@ mod table;
 
 pub use items::Items;
 pub use laws::{
-    law_of_bases, law_of_contents, law_of_fronts, law_of_offsets, law_of_ranks,
+    law_of_bases, law_of_contents, law_of_extension, law_of_fronts, law_of_offsets, law_of_ranks,
 };
 pub use row::{Basic, TypeId, TypeRow};
 pub use table::Types;
