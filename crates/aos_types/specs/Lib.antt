@@ -6,4 +6,5 @@ pub mod Shape
 pub mod Contents
 pub mod Chain
 pub mod Walk
+pub mod Count
 pub mod Laws

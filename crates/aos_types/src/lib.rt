@@ -3,6 +3,7 @@
 #![tactic(auto)]
 
 mod chain;
+mod count;
 mod extension;
 mod fit;
 mod items;
@@ -10,6 +11,9 @@ mod laws;
 mod row;
 mod sameness;
 mod table;
+
+/// The most scalars that a type may have.
+pub const MOST_SCALARS: u32 = 16_777_216;
 
 pub use items::Items;
 pub use laws::{

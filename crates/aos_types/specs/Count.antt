@@ -1,0 +1,65 @@
+-- Counts of scalars that are kept beside the rows, each up to one more than a type may have: a count that isn't made yet is None.
+use Rattle.std.specs.Prelude.{◌≡◌, ℕ, ◌+◌, ◌*◌, ◌<◌, min, List, length, sum_by, Bool, true, false, if◌then◌else◌, Option, Some, None, slice_get}
+use Rattle.std.specs.List.{find}
+use Rattle.aos_types.specs.declared.TheConstants.{MOST_SCALARS}
+use Rattle.aos_types.specs.declared.row.TypeId.{TypeId}
+use Rattle.aos_types.specs.declared.row.TypeRow.{TypeRow}
+use Rattle.aos_types.specs.declared.row.TypeRow.TheVariants as row
+use Rattle.aos_types.specs.Table.{row_of, is_object}
+use Rattle.aos_types.specs.Contents.{scalars}
+use Rattle.aos_types.specs.Chain.{parts_of, NoneContainsItself}
+
+abbrev pub capped : ℕ → ℕ
+capped n = min n (MOST_SCALARS + 1)
+
+abbrev pub count_of : Option (Option ℕ) → ℕ
+count_of (Some (Some n)) = n
+count_of (Some None) = 0
+count_of None = 0
+
+abbrev pub is_missing : Option (Option ℕ) → Bool
+is_missing (Some None) = true
+is_missing (Some (Some n)) = false
+is_missing None = false
+
+-- the count of an element, a field or a variable, where those of types are these
+abbrev pub of_variable : (TypeId → ℕ) → List TypeRow → TypeId → ℕ
+of_variable counts rows t = (if is_object (row_of rows t) then 1 else counts t)
+
+abbrev pub of_base : (TypeId → ℕ) → Option TypeId → ℕ
+of_base counts None = 0
+of_base counts (Some b) = counts b
+
+-- the count of a row, where those of its parts are these
+abbrev pub of_row : (TypeId → ℕ) → List TypeRow → Option TypeRow → ℕ
+of_row counts rows None = 0
+of_row counts rows (Some (row.Basic b)) = 1
+of_row counts rows (Some (row.Array n of)) = n * of_variable counts rows of
+of_row counts rows (Some (row.Open of)) = 0
+of_row counts rows (Some (row.Record base fields)) = of_base counts base + sum_by (of_variable counts rows) fields
+of_row counts rows (Some (row.Pointer to)) = 1
+of_row counts rows (Some (row.Object base fields)) = of_base counts base + sum_by (of_variable counts rows) fields
+of_row counts rows (Some (row.Procedure formals r)) = 1
+of_row counts rows (Some row.Any) = 1
+
+module _ (rows : List TypeRow) (counts : List (Option ℕ)) where
+  -- the counts that are made, by the types' numbers
+  abbrev pub made : TypeId → ℕ
+  made t = count_of (slice_get counts t.0)
+
+  -- the first part of a type whose count isn't made
+  abbrev pub missing_part : TypeId → Option TypeId
+  missing_part t = find (λ p. is_missing (slice_get counts p.0)) (parts_of rows (row_of rows t))
+
+-- each count that is made is that of the type's row, whose parts have theirs
+pub record IsMade (rows : List TypeRow) (counts : List (Option ℕ)) (t : TypeId) (n : ℕ) : Type 0 where
+  pub parts : missing_part rows counts t ≡ None
+  pub is : n ≡ capped (of_row (made rows counts) rows (row_of rows t))
+
+abbrev pub AreMade : List TypeRow → List (Option ℕ) → Type 0
+AreMade rows counts = (t : TypeId) (n : ℕ) → slice_get counts t.0 ≡ Some (Some n) → IsMade rows counts t n
+
+-- the count of each type is made and is right, where no type contains itself
+abbrev pub AreCounts : List TypeRow → List (Option ℕ) → Type 0
+AreCounts rows counts =
+    NoneContainsItself rows → (t : TypeId) → t.0 < length rows → slice_get counts t.0 ≡ Some (Some (capped (scalars rows t)))

@@ -1,0 +1,153 @@
+// How many scalars types have. The counts are kept beside the rows, since without them a type that is named twice by each of
+// many others would be looked at over and over.
+
+ghost use Rattle.std.specs.Prelude.{◌≡◌, ◌+◌, ◌<◌, ◌≤◌, ◌++◌, length, slice_get, vec_capacity, IsTrue, sum_by};
+ghost use Rattle.std.specs.List.{find, flat_map};
+ghost use Rattle.aos_types.specs.Table as table;
+ghost use Rattle.aos_types.specs.Chain as chain;
+ghost use Rattle.aos_types.specs.Count as count;
+
+use crate::MOST_SCALARS;
+use crate::extension::row_of;
+use crate::row::{TypeId, TypeRow};
+
+/// A count, up to one more than a type may have.
+fn capped(scalars: u64) -> u32
+    ensures { result ≡ count.capped scalars }
+{
+    scalars.min(u64::from(MOST_SCALARS) + 1) as u32
+}
+
+/// The count of a type, 0 where it isn't made.
+fn made(counts: &[Option<u32>], t: TypeId) -> u32
+    ensures { result ≡ count.count_of (slice_get counts.now t.0) }
+{
+    match counts.get(t.0 as usize) {
+        Some(Some(count)) => *count,
+        _ => 0,
+    }
+}
+
+fn is_missing(counts: &[Option<u32>], t: TypeId) -> bool
+    ensures { result ≡ count.is_missing (slice_get counts.now t.0) }
+{
+    matches!(counts.get(t.0 as usize), Some(None))
+}
+
+/// The count of an element or a field.
+fn of_variable(rows: &[TypeRow], counts: &[Option<u32>], t: TypeId) -> u32
+    ensures { result ≡ count.of_variable (count.made rows.now counts.now) rows.now t }
+{
+    match row_of(rows, t) {
+        Some(TypeRow::Object(_, _)) => 1,
+        _ => made(counts, t),
+    }
+}
+
+fn of_base(rows: &[TypeRow], counts: &[Option<u32>], base: Option<TypeId>) -> u32
+    ensures { result ≡ count.of_base (count.made rows.now counts.now) base }
+{
+    match base {
+        Some(base) => made(counts, base),
+        None => 0,
+    }
+}
+
+/// The count of fields behind a base.
+#[tactic(auto, using(crate::proofs::Counting::sum_more))]
+fn of_fields(
+    rows: &[TypeRow],
+    counts: &[Option<u32>],
+    base: Option<TypeId>,
+    fields: &[TypeId],
+) -> u32
+    ensures { result ≡ count.capped (count.of_base (count.made rows.now counts.now) base + sum_by (count.of_variable (count.made rows.now counts.now) rows.now) fields.now) }
+{
+    let mut all = capped(u64::from(of_base(rows, counts, base)));
+    for field in fields {
+        all = capped(u64::from(all) + u64::from(of_variable(rows, counts, *field)));
+    }
+    all
+}
+
+/// The count of a type, by those of its parts.
+fn of_type(rows: &[TypeRow], counts: &[Option<u32>], t: TypeId) -> u32
+    ensures { result ≡ count.capped (count.of_row (count.made rows.now counts.now) rows.now (table.row_of rows.now t)) }
+{
+    match row_of(rows, t) {
+        None => 0,
+        Some(TypeRow::Array(length, element)) => {
+            capped(u64::from(*length) * u64::from(of_variable(rows, counts, *element)))
+        },
+        Some(TypeRow::Open(_)) => 0,
+        Some(TypeRow::Record(base, fields)) => {
+            of_fields(rows, counts, *base, fields.as_slice())
+        },
+        Some(TypeRow::Object(base, fields)) => {
+            of_fields(rows, counts, *base, fields.as_slice())
+        },
+        _ => 1,
+    }
+}
+
+/// The type of an element or a field, where it is held by value and its count isn't made.
+fn missing_held(rows: &[TypeRow], counts: &[Option<u32>], t: TypeId) -> Option<TypeId>
+    ensures { result ≡ find (λ p. count.is_missing (slice_get counts.now p.0)) (chain.held rows.now t) }
+{
+    match row_of(rows, t) {
+        Some(TypeRow::Object(_, _)) => None,
+        _ => {
+            if is_missing(counts, t) {
+                Some(t)
+            } else {
+                None
+            }
+        },
+    }
+}
+
+fn missing_field(rows: &[TypeRow], counts: &[Option<u32>], fields: &[TypeId]) -> Option<TypeId>
+    ensures { result ≡ find (λ p. count.is_missing (slice_get counts.now p.0)) (flat_map (chain.held rows.now) fields.now) }
+{
+    for field in fields {
+        if let Some(part) = missing_held(rows, counts, *field) {
+            return Some(part);
+        }
+    }
+    None
+}
+
+/// The first of a base and fields whose count isn't made.
+#[tactic(auto, using(crate::proofs::Counting::found_behind))]
+fn missing_of(
+    rows: &[TypeRow],
+    counts: &[Option<u32>],
+    base: Option<TypeId>,
+    fields: &[TypeId],
+) -> Option<TypeId>
+    ensures { result ≡ find (λ p. count.is_missing (slice_get counts.now p.0)) (chain.base_list base ++ flat_map (chain.held rows.now) fields.now) }
+{
+    if let Some(base) = base {
+        if is_missing(counts, base) {
+            return Some(base);
+        }
+    }
+    missing_field(rows, counts, fields)
+}
+
+/// The first part of a type whose count isn't made.
+fn missing_part(rows: &[TypeRow], counts: &[Option<u32>], t: TypeId) -> Option<TypeId>
+    ensures { result ≡ count.missing_part rows.now counts.now t }
+{
+    match row_of(rows, t) {
+        Some(TypeRow::Array(_, element)) => missing_held(rows, counts, *element),
+        Some(TypeRow::Open(element)) => missing_held(rows, counts, *element),
+        Some(TypeRow::Record(base, fields)) => {
+            missing_of(rows, counts, *base, fields.as_slice())
+        },
+        Some(TypeRow::Object(base, fields)) => {
+            missing_of(rows, counts, *base, fields.as_slice())
+        },
+        _ => None,
+    }
+}
