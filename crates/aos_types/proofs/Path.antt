@@ -235,7 +235,7 @@ module _ (rows : List TypeRow) where
       at_first p (inr h) = absurd h
 
   module _ (first : List (Option ℕ)) (t : TypeId) (counts : List (Option ℕ)) (ts : List TypeId) (top : TypeId) (w : IsWalking first t counts (ts ++ top ∷ [])) where
-    top_waits : slice_get counts top.0 ≡ Some None
+    pub top_waits : slice_get counts top.0 ≡ Some None
     top_waits = w.waits top (one_of_right top ts (top ∷ []) (inl refl))
 
     -- a part whose count isn't made is next

@@ -1,8 +1,9 @@
 // How many scalars types have. The counts are kept beside the rows, since without them a type that is named twice by each of
 // many others would be looked at over and over.
 
-ghost use Rattle.std.specs.Prelude.{◌≡◌, ◌+◌, ◌<◌, ◌≤◌, ◌++◌, length, slice_get, vec_capacity, IsTrue, sum_by};
+ghost use Rattle.std.specs.Prelude.{◌≡◌, ◌+◌, ◌<◌, ◌++◌, ℕ, length, slice_get, vec_capacity, IsTrue, false, sum_by};
 ghost use Rattle.std.specs.List.{find, flat_map};
+ghost use Rattle.aos_types.specs.declared.row.TypeId.{TypeId};
 ghost use Rattle.aos_types.specs.Table as table;
 ghost use Rattle.aos_types.specs.Chain as chain;
 ghost use Rattle.aos_types.specs.Count as count;
@@ -150,4 +151,43 @@ fn missing_part(rows: &[TypeRow], counts: &[Option<u32>], t: TypeId) -> Option<T
         },
         _ => None,
     }
+}
+
+/// Makes the count of a type, and before it those of all that it is made of: by a walk along their parts, on which each type
+/// is a part of the one before it. False only where a type contains itself, which the walk would never leave.
+fn count_from(
+    rows: &[TypeRow],
+    counts: &mut [Option<u32>],
+    path: &mut Vec<TypeId>,
+    t: TypeId,
+) -> bool
+    requires long { length counts.old ≡ length rows.now }
+    requires room { length rows.now < vec_capacity path.old }
+    ensures made { count.AreMade rows.now counts.old → count.AreMade rows.now counts.new }
+    ensures kept { (p : TypeId) (n : ℕ) → slice_get counts.old p.0 ≡ Some (Some n) → slice_get counts.new p.0 ≡ Some (Some n) }
+    ensures own { IsTrue result → count.is_missing (slice_get counts.new t.0) ≡ false }
+    ensures otherwise { result ≡ false → chain.NoneContainsItself rows.now → ⊥ }
+    ensures capacity { vec_capacity path.new ≡ vec_capacity path.old }
+{
+    path.clear();
+    if !is_missing(counts, t) {
+        return true;
+    }
+    path.push_reserved(t);
+    while let Some(top) = path.pop() {
+        match missing_part(rows, counts, top) {
+            Some(part) => {
+                path.push_reserved(top);
+                if path.len() > rows.len() {
+                    return false;
+                }
+                path.push_reserved(part);
+            },
+            None => {
+                let own = of_type(rows, counts, top);
+                counts[top.0 as usize] = Some(own);
+            },
+        }
+    }
+    true
 }
