@@ -8,7 +8,7 @@ use Rattle.std.proofs.lemmas.Bool.{eqb-true, eq-eqb}
 use Rattle.aos_types.specs.declared.row.TypeId.{TypeId}
 use Rattle.aos_types.specs.declared.row.TypeRow.{TypeRow}
 use Rattle.aos_types.specs.declared.row.TypeRow.TheVariants as row
-use Rattle.aos_types.specs.Table.{row_of, is_object, base_of, on_both}
+use Rattle.aos_types.specs.Table.{row_of, is_object, has_fields, base_of}
 use Rattle.aos_types.specs.Shape as shape
 use Rattle.aos_types.specs.Shape.{Shape, join}
 use Rattle.aos_types.specs.Contents.{of_variable, of_base, with_parts, unfolded, levels, contents}
@@ -55,10 +55,38 @@ module _ (rows : List TypeRow) (f g : TypeId → Shape TypeId) where
   same_parts t (Some (row.Procedure fs r)) h = refl
   same_parts t (Some row.Any) h = refl
 
-join_nothing : (s : Shape TypeId) → join s shape.Nothing ≡ s
-join_nothing (shape.One k) = refl
-join_nothing shape.Nothing = refl
-join_nothing (shape.Pair a b) = ap (shape.Pair a) (join_nothing b)
+-- fields, behind those of a base, are a row that ends
+abbrev Ends : Shape TypeId → Type 0
+Ends (shape.One k) = ⊥
+Ends shape.Nothing = Unit {0}
+Ends (shape.Pair a b) = Ends b
+
+join_nothing : (s : Shape TypeId) → Ends s → join s shape.Nothing ≡ s
+join_nothing (shape.One k) e = absurd e
+join_nothing shape.Nothing e = refl
+join_nothing (shape.Pair a b) e = ap (shape.Pair a) (join_nothing b e)
+
+row_ends : (ss : List (Shape TypeId)) → Ends (shape.row ss)
+row_ends [] = tt
+row_ends (s ∷ ss) = row_ends ss
+
+join_ends : (a b : Shape TypeId) → Ends b → Ends (join a b)
+join_ends (shape.One k) b e = e
+join_ends shape.Nothing b e = e
+join_ends (shape.Pair x y) b e = join_ends y b e
+
+fields_end : (rows : List TypeRow) (f : TypeId → Shape TypeId) (t : TypeId) (o : Option TypeRow) → has_fields o ≡ true → Ends (with_parts f rows t o)
+fields_end rows f t None h = absurd (cc)
+fields_end rows f t (Some (row.Basic b)) h = absurd (cc)
+fields_end rows f t (Some (row.Array n of)) h = absurd (cc)
+fields_end rows f t (Some (row.Open of)) h = absurd (cc)
+fields_end rows f t (Some (row.Record b fs)) h =
+    join_ends (of_base f b) (shape.row (map (of_variable f rows) fs)) (row_ends (map (of_variable f rows) fs))
+fields_end rows f t (Some (row.Pointer to)) h = absurd (cc)
+fields_end rows f t (Some (row.Object b fs)) h =
+    join_ends (of_base f b) (shape.row (map (of_variable f rows) fs)) (row_ends (map (of_variable f rows) fs))
+fields_end rows f t (Some (row.Procedure fs r)) h = absurd (cc)
+fields_end rows f t (Some row.Any) h = absurd (cc)
 
 join_assoc : (a b c : Shape TypeId) → join (join a b) c ≡ join a (join b c)
 join_assoc (shape.One k) b c = refl
@@ -158,13 +186,16 @@ module _ (rows : List TypeRow) (h : IsRanked rows) where
       behind : (fs : List TypeId) (c b : TypeId) → c ≡ b → BeginsWith (join (contents rows c) (shape.row (map (of_variable (contents rows) rows) fs))) (contents rows b)
       behind fs c b s = record { more = shape.row (map (of_variable (contents rows) rows) fs); is = ap (λ x. join (contents rows x) (shape.row (map (of_variable (contents rows) rows) fs))) s }
 
-  front_of : (bs : List TypeId) (a b : TypeId) → AreBases rows a bs b → BeginsWith (contents rows a) (contents rows b)
-  front_of [] a b e = record { more = shape.Nothing; is = ap (contents rows) e ∙ sym (join_nothing (contents rows b)) }
-  front_of (x ∷ bs) a b e =
-      let r = front_of bs x b e.1 in
+  front_of : (bs : List TypeId) (a b : TypeId) → Ends (contents rows b) → AreBases rows a bs b → BeginsWith (contents rows a) (contents rows b)
+  front_of [] a b n e = record { more = shape.Nothing; is = ap (contents rows) e ∙ sym (join_nothing (contents rows b) n) }
+  front_of (x ∷ bs) a b n e =
+      let r = front_of bs x b n e.1 in
       let k = own a (row_of rows a) x e.0 in
       record { more = join r.more k.more; is = by_parts a ∙ k.is ∙ ap (λ s. join s k.more) r.is ∙ join_assoc (contents rows b) r.more k.more }
 
   -- the contents of an extension begin with those of what it extends
-  pub front : (a b : TypeId) → comes_to rows a b ≡ true → BeginsWith (contents rows a) (contents rows b)
-  front a b e = let r = bases_of rows (length rows) a b e in front_of r.bases a b r.are
+  pub front : (a b : TypeId) → has_fields (row_of rows b) ≡ true → comes_to rows a b ≡ true → BeginsWith (contents rows a) (contents rows b)
+  front a b h e =
+      let r = bases_of rows (length rows) a b e in
+      let n = subst Ends (sym (by_parts b)) (fields_end rows (contents rows) b (row_of rows b) h) in
+      front_of r.bases a b n r.are

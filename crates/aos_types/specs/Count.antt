@@ -1,12 +1,12 @@
 -- Counts of scalars that are kept beside the rows, each up to one more than a type may have: a count that isn't made yet is None.
-use Rattle.std.specs.Prelude.{◌≡◌, ℕ, ◌+◌, ◌*◌, ◌<◌, min, List, length, sum_by, Bool, true, false, if◌then◌else◌, Option, Some, None, slice_get}
+use Rattle.std.specs.Prelude.{◌≡◌, ℕ, ◌+◌, ◌*◌, ◌^◌, ◌<◌, ◌≤◌, min, List, length, sum_by, Bool, true, false, if◌then◌else◌, Option, Some, None, slice_get}
 use Rattle.std.specs.List.{find}
 use Rattle.aos_types.specs.declared.TheConstants.{MOST_SCALARS}
 use Rattle.aos_types.specs.declared.row.TypeId.{TypeId}
 use Rattle.aos_types.specs.declared.row.TypeRow.{TypeRow}
 use Rattle.aos_types.specs.declared.row.TypeRow.TheVariants as row
 use Rattle.aos_types.specs.Table.{row_of, is_object}
-use Rattle.aos_types.specs.Contents.{scalars}
+use Rattle.aos_types.specs.Contents.{scalars, at_most}
 use Rattle.aos_types.specs.Chain.{parts_of, NoneContainsItself}
 
 abbrev pub capped : ℕ → ℕ
@@ -21,6 +21,11 @@ abbrev pub is_missing : Option (Option ℕ) → Bool
 is_missing (Some None) = true
 is_missing (Some (Some n)) = false
 is_missing None = false
+
+-- a count that isn't past what a type may have
+abbrev pub within_limit : Option ℕ → Option ℕ
+within_limit None = None
+within_limit (Some n) = at_most MOST_SCALARS n
 
 -- the count of an element, a field or a variable, where those of types are these
 abbrev pub of_variable : (TypeId → ℕ) → List TypeRow → TypeId → ℕ
@@ -63,3 +68,10 @@ AreMade rows counts = (t : TypeId) (n : ℕ) → slice_get counts t.0 ≡ Some (
 abbrev pub AreCounts : List TypeRow → List (Option ℕ) → Type 0
 AreCounts rows counts =
     NoneContainsItself rows → (t : TypeId) → t.0 < length rows → slice_get counts t.0 ≡ Some (Some (capped (scalars rows t)))
+
+-- what is kept of a table: a count for each row, and room for a walk over all of them
+pub record IsTable (rows : List TypeRow) (counts : List (Option ℕ)) (room : ℕ) : Type 0 where
+  pub few : length rows ≤ 2 ^ 32
+  pub long : length counts ≡ length rows
+  pub fits : length rows < room
+  pub right : AreCounts rows counts

@@ -14,9 +14,9 @@ module _ {S : Type 0} where
   size Nothing = 0
   size (Pair a b) = size a + size b
 
-  -- two rows, one behind the other
+  -- two rows, one behind the other; a scalar is a row of its own
   abbrev pub join : Shape S → Shape S → Shape S
-  join (One k) c = One k
+  join (One k) c = Pair (One k) c
   join Nothing c = c
   join (Pair a b) c = Pair a (join b c)
 

@@ -18,6 +18,11 @@ abbrev pub is_object : Option TypeRow → Bool
 is_object (Some (row.Object base fields)) = true
 is_object _ = false
 
+abbrev pub has_fields : Option TypeRow → Bool
+has_fields (Some (row.Record base fields)) = true
+has_fields (Some (row.Object base fields)) = true
+has_fields _ = false
+
 abbrev pub is_pointer : Option TypeRow → Bool
 is_pointer (Some (row.Pointer t)) = true
 is_pointer _ = false

@@ -1,7 +1,7 @@
 // How many scalars types have. The counts are kept beside the rows, since without them a type that is named twice by each of
 // many others would be looked at over and over.
 
-ghost use Rattle.std.specs.Prelude.{◌≡◌, ◌+◌, ◌<◌, ◌++◌, ℕ, length, slice_get, vec_capacity, IsTrue, false, sum_by};
+ghost use Rattle.std.specs.Prelude.{◌≡◌, ◌+◌, ◌<◌, ◌≤◌, ◌^◌, ◌++◌, ℕ, length, slice_get, vec_capacity, IsTrue, OnSome, false, sum_by};
 ghost use Rattle.std.specs.List.{find, flat_map};
 ghost use Rattle.aos_types.specs.declared.row.TypeId.{TypeId};
 ghost use Rattle.aos_types.specs.Table as table;
@@ -190,4 +190,80 @@ fn count_from(
         }
     }
     true
+}
+
+/// Makes all counts anew. Where a type contains itself some are left out.
+pub(crate) fn count_all(rows: &[TypeRow], counts: &mut [Option<u32>], path: &mut Vec<TypeId>)
+    requires few { length rows.now ≤ 2 ^ 32 }
+    requires long { length counts.old ≡ length rows.now }
+    requires room { length rows.now < vec_capacity path.old }
+    ensures counts { count.AreCounts rows.now counts.new }
+    ensures capacity { vec_capacity path.new ≡ vec_capacity path.old }
+{
+    counts.fill(None);
+    for number in 0..rows.len() {
+        if !count_from(rows, counts, path, TypeId(number as u32)) {
+            return;
+        }
+    }
+}
+
+/// Whether a row is an array of its own type.
+fn is_array_of_itself(rows: &[TypeRow], t: TypeId) -> bool
+    ensures { IsTrue result → chain.IsPartOf rows.now t t }
+{
+    match row_of(rows, t) {
+        Some(TypeRow::Array(_, element)) => element.0 == t.0,
+        Some(TypeRow::Open(element)) => element.0 == t.0,
+        _ => false,
+    }
+}
+
+/// A type between two numbers whose row is an array of itself.
+fn array_of_itself(rows: &[TypeRow], from: usize, to: usize) -> Option<usize>
+    requires { length rows.now ≤ 2 ^ 32 }
+    ensures { OnSome result (chain.NoneContainsItself rows.now → ⊥) }
+{
+    for number in from..to.min(rows.len()) {
+        if is_array_of_itself(rows, TypeId(number as u32)) {
+            return Some(number);
+        }
+    }
+    None
+}
+
+/// Makes all counts anew where none of the types is an array of itself. Else it remembers which one is, and looks there first
+/// the next time: while a row stands for one that is to come, no count is made.
+pub(crate) fn recount(
+    rows: &[TypeRow],
+    counts: &mut [Option<u32>],
+    path: &mut Vec<TypeId>,
+    waiting: &mut usize,
+)
+    requires few { length rows.now ≤ 2 ^ 32 }
+    requires long { length counts.old ≡ length rows.now }
+    requires room { length rows.now < vec_capacity path.old }
+    ensures counts { count.AreCounts rows.now counts.new }
+    ensures capacity { vec_capacity path.new ≡ vec_capacity path.old }
+{
+    let from = *waiting;
+    if let Some(number) = array_of_itself(rows, from, rows.len()) {
+        *waiting = number;
+        return;
+    }
+    if let Some(number) = array_of_itself(rows, 0, from) {
+        *waiting = number;
+        return;
+    }
+    count_all(rows, counts, path);
+}
+
+/// A count that isn't past what a type may have.
+pub(crate) fn within_limit(made: Option<u32>) -> Option<u32>
+    ensures { result ≡ count.within_limit made }
+{
+    match made {
+        Some(scalars) if scalars <= MOST_SCALARS => Some(scalars),
+        _ => None,
+    }
 }

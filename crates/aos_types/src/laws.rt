@@ -3,7 +3,7 @@
 ghost use Rattle.std.specs.Prelude.{◌≡◌, ◌↔◌, ℕ, List, IsTrue};
 ghost use Rattle.aos_types.specs.declared.row.TypeId.{TypeId};
 ghost use Rattle.aos_types.specs.declared.row.TypeRow.{TypeRow};
-ghost use Rattle.aos_types.specs.Table.{row_of};
+ghost use Rattle.aos_types.specs.Table.{row_of, has_fields};
 ghost use Rattle.aos_types.specs.Contents.{contents, with_parts};
 ghost use Rattle.aos_types.specs.Chain.{NoneContainsItself, IsRanked};
 ghost use Rattle.aos_types.specs.Extension.{comes_to, extends, BasesLead};
@@ -29,9 +29,9 @@ pub fn law_of_extension()
     ensures { (rows : List TypeRow) (a b c : TypeId) → NoneContainsItself rows → IsTrue (extends rows a b) → IsTrue (extends rows b c) → IsTrue (extends rows a c) }
 {}
 
-/// The contents of an extension begin with those of its base.
+/// The contents of an extension begin with those of the record or object type that it extends.
 pub fn law_of_fronts()
-    ensures { (rows : List TypeRow) (a b : TypeId) → NoneContainsItself rows → IsTrue (comes_to rows a b) → BeginsWith (contents rows a) (contents rows b) }
+    ensures { (rows : List TypeRow) (a b : TypeId) → NoneContainsItself rows → IsTrue (has_fields (row_of rows b)) → IsTrue (comes_to rows a b) → BeginsWith (contents rows a) (contents rows b) }
 {}
 
 /// Different scalars of a type have different offsets, below its size.

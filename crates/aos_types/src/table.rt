@@ -1,30 +1,39 @@
 // The table of types.
 
 ghost use Rattle.std.specs.Prelude.{◌≡◌, ◌↔◌, ◌<◌, ◌^◌, ◌++◌, ◌∷◌, [], length, slice_get, slice_set, IfOk, OnOk, OnErr, IsTrue};
-ghost use Rattle.aos_types.specs.Chain.{ContainsItself};
+ghost use Rattle.aos_types.specs.Chain.{ContainsItself, NoneContainsItself};
+ghost use Rattle.aos_types.specs.Contents.{at_most, scalars};
+ghost use Rattle.aos_types.specs.declared.TheConstants.{MOST_SCALARS};
 ghost use Rattle.aos_types.specs.Extension.{extends as extends_of};
 ghost use Rattle.aos_types.specs.Sameness.{same as same_of};
 ghost use Rattle.aos_types.specs.Fit.{fits as fits_of};
 
 use crate::row::{TypeId, TypeRow};
+use crate::count::{recount, within_limit};
 use crate::{chain, extension, fit, sameness};
 use aos_base::NoMemory;
 use std::alloc::Global;
 use std::marker::Model;
 
-/// The table of types, which contracts see as the list of its rows.
+/// The table of types, which contracts see as the list of its rows. Beside each row stands how many scalars its type has.
 #[derive(Drop)]
 pub struct Types {
     rows: Vec<TypeRow>,
+    counts: Vec<Option<u32>>,
+    path: Vec<TypeId>,
+    waiting: usize,
 }
 
 impl Model for Types {
-    ghost use Rattle.std.specs.Prelude.{List};
+    ghost use Rattle.std.specs.Prelude.{List, vec_capacity};
     ghost use Rattle.aos_types.specs.declared.row.TypeRow.{TypeRow};
+    ghost use Rattle.aos_types.specs.Count.{IsTable};
 
     ghost Value = { List TypeRow };
 
     ghost view = { λ t. t.rows.items };
+
+    ghost invariant = { λ t. IsTable t.rows.items t.counts.items (vec_capacity t.path) };
 }
 
 impl Types {
@@ -34,6 +43,9 @@ impl Types {
     {
         Ok(Types {
             rows: Vec::new(alloc),
+            counts: Vec::new(alloc),
+            path: Vec::with_capacity(alloc, 1)?,
+            waiting: 0,
         })
     }
 
@@ -44,19 +56,35 @@ impl Types {
         ensures ok { OnOk result (self.new ≡ self.old ++ row ∷ []) }
         ensures err { OnErr result (self.new ≡ self.old) }
     {
+        self.rows.reserve(1)?;
+        self.counts.reserve(1)?;
+        self.path.clear();
+        self.path.reserve(self.rows.len() + 2)?;
         let id = TypeId(self.rows.len() as u32);
-        match self.rows.push(row) {
-            Ok(()) => Ok(id),
-            Err(_) => Err(NoMemory),
-        }
+        self.rows.push_reserved(row);
+        self.counts.push_reserved(None);
+        recount(
+            &self.rows,
+            &mut self.counts,
+            &mut self.path,
+            &mut self.waiting,
+        );
+        Ok(id)
     }
 
-    /// Puts another row in a type's place, so that types may name later ones.
+    /// Puts another row in a type's place, so that types may name later ones. It takes no memory. The counts of scalars are made
+    /// anew, except while a row is an array of its own type: let that be the row of a type that is to come.
     pub fn set(&mut self, id: TypeId, row: TypeRow)
         requires { id.0 < length self.old }
         ensures { self.new ≡ slice_set self.old id.0 row }
     {
         self.rows[id.0 as usize] = row;
+        recount(
+            &self.rows,
+            &mut self.counts,
+            &mut self.path,
+            &mut self.waiting,
+        );
     }
 
     /// The row of a type.
@@ -95,5 +123,14 @@ impl Types {
     {
         let found = chain::contains_itself(alloc, &self.rows, t)?;
         Ok(found)
+    }
+    /// How many scalars a type has: None exactly past 2^24. Of an object type it counts those of an object's fields, its
+    /// base's included; an element, a field or a variable of an object type is one scalar.
+    pub fn leaves(&self, t: TypeId) -> Option<u32>
+        requires added { t.0 < length self.now }
+        requires none_contains_itself { NoneContainsItself self.now }
+        ensures { result ≡ at_most MOST_SCALARS (scalars self.now t) }
+    {
+        within_limit(self.counts[t.0 as usize])
     }
 }

@@ -6,4 +6,4 @@ use Rattle.aos_types.proofs.Offsets.{apart}
 use Rattle.aos_types.proofs.laws.law_of_fronts.Goals as goal
 
 pub returns : goal.returns
-returns c = λ rows a b free e. front rows (ranked rows free) a b e
+returns c = λ rows a b free h e. front rows (ranked rows free) a b h e
