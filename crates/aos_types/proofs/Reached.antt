@@ -168,6 +168,14 @@ has_row rows t p part = at_row (slice_get rows t.0) refl part
     at_row None e h = absurd h
     at_row (Some r) e h = slice_get_within rows t.0 r e
 
+-- what leads to something was added
+pub begins_added : (rows : List TypeRow) (t p : TypeId) → LeadsTo rows t p → t.0 < length rows
+begins_added rows t p way = begins way.between way.chain
+  where
+    begins : (ps : List TypeId) → IsChain rows t (ps ++ p ∷ []) → t.0 < length rows
+    begins [] c = has_row rows t p c.0
+    begins (x ∷ ps) c = has_row rows t x c.0
+
 one_at : (xs : List TypeId) (n : ℕ) (x : TypeId) → slice_get xs n ≡ Some x → IsOneOf x xs
 one_at [] n x e = absurd (cc)
 one_at (y ∷ xs) zero x e = inl (let f : y ≡ x = cc in f)
@@ -284,9 +292,5 @@ module _ (rows : List TypeRow) (t : TypeId) where
       mark None h = absurd (cc)
       mark (Some b) h = ap (λ z. Some z) h
 
-      begins : (ps : List TypeId) → IsChain rows t (ps ++ t ∷ []) → t.0 < length rows
-      begins [] c = has_row rows t t c.0
-      begins (x ∷ ps) c = has_row rows t x c.0
-
       comes : ContainsItself rows t → is_seen (slice_get m.seen t.0) ≡ true
-      comes c = ap is_seen (closed m (ended next m w e) t c.between t w.first c.chain (begins c.between c.chain))
+      comes c = ap is_seen (closed m (ended next m w e) t c.between t w.first c.chain (begins_added rows t t c))

@@ -87,6 +87,13 @@ impl Types {
         );
     }
 
+    /// How many types were added.
+    pub fn len(&self) -> usize
+        ensures { result ≡ length self.now }
+    {
+        self.rows.len()
+    }
+
     /// The row of a type.
     pub fn row(&self, id: TypeId) -> &TypeRow
         requires { id.0 < length self.now }
@@ -124,6 +131,19 @@ impl Types {
         let found = chain::contains_itself(alloc, &self.rows, t)?;
         Ok(found)
     }
+    /// Whether no type of the table contains itself.
+    pub fn none_contains_itself(&self, alloc: Global) -> Result<bool, NoMemory>
+        ensures { IfOk result (λ none. IsTrue none ↔ NoneContainsItself self.now) }
+    {
+        let rows = self.rows.as_slice();
+        for number in 0..rows.len() {
+            if chain::contains_itself(alloc, rows, TypeId(number as u32))? {
+                return Ok(false);
+            }
+        }
+        Ok(true)
+    }
+
     /// How many scalars a type has: None exactly past 2^24. Of an object type it counts those of an object's fields, its
     /// base's included; an element, a field or a variable of an object type is one scalar.
     pub fn leaves(&self, t: TypeId) -> Option<u32>
