@@ -17,3 +17,5 @@ mod texts;
 mod tokens;
 #[cfg(test)]
 mod trees;
+#[cfg(test)]
+mod type_tables;

@@ -84,15 +84,15 @@ module _ (rows : List TypeRow) where
         on_chain : Both (comes_to rows) (below b) (below c) → Both (comes_to rows) (below a) (below b) → extends rows a c ≡ true
         on_chain k l =
             pointers (
-              both_are (comes_to rows) (below a) (below c) (
-                record {
-                  x = l.x;
-                  y = k.y;
-                  first = l.first;
-                  second = k.second;
-                  holds = further l.x k.y l.y k.x (one_some l.y k.x (sym l.second ∙ k.first)) l.holds k.holds;
-                }
-              )
+            both_are (comes_to rows) (below a) (below c) (
+            record {
+              x = l.x;
+              y = k.y;
+              first = l.first;
+              second = k.second;
+              holds = further l.x k.y l.y k.x (one_some l.y k.x (sym l.second ∙ k.first)) l.holds k.holds;
+            }
+            )
             )
 
         by_first : Both (comes_to rows) (below b) (below c) → (a.0 == b.0 ≡ true) ⊎ (on_both (comes_to rows) (record_below rows (row_of rows a)) (record_below rows (row_of rows b)) ≡ true) → extends rows a c ≡ true
@@ -102,8 +102,8 @@ module _ (rows : List TypeRow) where
         from_pointer : Both (comes_to rows) (below b) (below c) → extends rows a c ≡ true
         from_pointer k =
             by_first k (
-              or_cases (a.0 == b.0) (on_both (comes_to rows) (record_below rows (row_of rows a)) (record_below rows (row_of rows b)))
-              (sym (at_true (is_pointer (row_of rows b)) (extends_pointer rows a b) (comes_to rows a b) (below_pointer (row_of rows b) k.x k.first)) ∙ e)
+            or_cases (a.0 == b.0) (on_both (comes_to rows) (record_below rows (row_of rows a)) (record_below rows (row_of rows b)))
+            (sym (at_true (is_pointer (row_of rows b)) (extends_pointer rows a b) (comes_to rows a b) (below_pointer (row_of rows b) k.x k.first)) ∙ e)
             )
 
     to_other : is_pointer (row_of rows c) ≡ false → comes_to rows b c ≡ true → (is_pointer (row_of rows b) ≡ true) ⊎ (is_pointer (row_of rows b) ≡ false) → extends rows a c ≡ true
@@ -121,8 +121,8 @@ module _ (rows : List TypeRow) where
         by_row : (is_pointer (row_of rows c) ≡ true) ⊎ (is_pointer (row_of rows c) ≡ false) → extends rows a c ≡ true
         by_row (inl p) =
             to_pointer p (
-              or_cases (b.0 == c.0) (on_both (comes_to rows) (record_below rows (row_of rows b)) (record_below rows (row_of rows c)))
-              (sym (at_true (is_pointer (row_of rows c)) (extends_pointer rows b c) (comes_to rows b c) p) ∙ f)
+            or_cases (b.0 == c.0) (on_both (comes_to rows) (record_below rows (row_of rows b)) (record_below rows (row_of rows c)))
+            (sym (at_true (is_pointer (row_of rows c)) (extends_pointer rows b c) (comes_to rows b c) p) ∙ f)
             )
         by_row (inr n) =
             to_other n (sym (at_false (is_pointer (row_of rows c)) (extends_pointer rows b c) (comes_to rows b c) n) ∙ f) (cases_Bool (is_pointer (row_of rows b)))

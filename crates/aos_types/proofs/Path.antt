@@ -117,7 +117,7 @@ module _ (rows : List TypeRow) (counts : List (Option ℕ)) (top : TypeId) (v : 
       let none = none_found (λ q. is_missing (slice_get counts q.0)) (parts_of rows (row_of rows p)) m.parts in
       record {
         parts = found_none (λ q. is_missing (slice_get after q.0)) (parts_of rows (row_of rows p)) (λ q o. ap is_missing (still q (none q o)) ∙ none q o);
-        is = m.is ∙ ap capped (same_row rows (made rows counts) (made rows after) (row_of rows p) (λ q o. sym (ap count_of (still q (none q o)))));
+        is = m.is ∙ ap capped (same_row rows (made counts) (made after) (row_of rows p) (λ q o. sym (ap count_of (still q (none q o)))));
       }
 
   are_made : AreMade rows counts → IsMade rows counts top v → AreMade rows after
@@ -262,7 +262,7 @@ module _ (rows : List TypeRow) where
         from_first (x ∷ ts) h = h
 
     -- or the count of the last one is made
-    pub walk_back : (v : ℕ) → missing_part rows counts top ≡ None → v ≡ capped (of_row (made rows counts) rows (row_of rows top)) → IsWalking first t (slice_set counts top.0 (Some v)) ts
+    pub walk_back : (v : ℕ) → missing_part rows counts top ≡ None → v ≡ capped (of_row (made counts) rows (row_of rows top)) → IsWalking first t (slice_set counts top.0 (Some v)) ts
     walk_back v e n =
         let none = none_found (λ q. is_missing (slice_get counts q.0)) (parts_of rows (row_of rows top)) e in
         record {

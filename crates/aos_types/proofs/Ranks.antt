@@ -127,7 +127,7 @@ module _ (rows : List TypeRow) where
       rank = depth (levels rows);
       bound = shallow;
       falls = λ t p o.
-        let d = part_depth (depth (levels rows)) p (parts t) o in
-        let s = stable (levels rows) t (shallow t) in
-        omega (arith, d, s);
+          let d = part_depth (depth (levels rows)) p (parts t) o in
+          let s = stable (levels rows) t (shallow t) in
+          omega (arith, d, s);
     }

@@ -152,17 +152,17 @@ module _ (rows : List TypeRow) (counts : List (Option ℕ)) (long : length count
           absurd (no_count (slice_get counts t.0) (get_or counts t.0 None) e (slice_get-get_or counts t.0 None (omega (arith, l, long))))
       at_case (inr g) = slice_get_past rows t.0 g
 
-  right : (n : ℕ) (t : TypeId) → r.rank t < n → capped (made rows counts t) ≡ capped (scalars rows t)
+  right : (n : ℕ) (t : TypeId) → r.rank t < n → capped (made counts t) ≡ capped (scalars rows t)
   right zero t l = absurd (omega arith)
   right (suc n) t l = at_count (slice_get counts t.0) refl (λ p o. right n p (let f = r.falls t p o in omega (arith, f, l)))
     where
-      at_count : (o : Option (Option ℕ)) → slice_get counts t.0 ≡ o → ((p : TypeId) → IsPartOf rows p t → capped (made rows counts p) ≡ capped (scalars rows p)) → capped (made rows counts t) ≡ capped (scalars rows t)
+      at_count : (o : Option (Option ℕ)) → slice_get counts t.0 ≡ o → ((p : TypeId) → IsPartOf rows p t → capped (made counts p) ≡ capped (scalars rows p)) → capped (made counts t) ≡ capped (scalars rows t)
       at_count None e below =
           ap (λ z. capped (count_of z)) e ∙ sym (ap capped (scalars_row t ∙ ap (λ o. of_row (scalars rows) rows o) (unadded t e)))
       at_count (Some None) e below = absurd (there t e)
       at_count (Some (Some m)) e below =
           let i = all t m e in
-          ap (λ z. capped (count_of z)) e ∙ ap capped i.is ∙ capped_twice (of_row (made rows counts) rows (row_of rows t)) ∙ like_row rows (made rows counts) (scalars rows) (row_of rows t) below ∙ sym (ap capped (scalars_row t))
+          ap (λ z. capped (count_of z)) e ∙ ap capped i.is ∙ capped_twice (of_row (made counts) rows (row_of rows t)) ∙ like_row rows (made counts) (scalars rows) (row_of rows t) below ∙ sym (ap capped (scalars_row t))
 
   pub settled : (t : TypeId) → t.0 < length rows → slice_get counts t.0 ≡ Some (Some (capped (scalars rows t)))
   settled t l = at_count (slice_get counts t.0) refl
@@ -173,7 +173,7 @@ module _ (rows : List TypeRow) (counts : List (Option ℕ)) (long : length count
       at_count (Some None) e = absurd (there t e)
       at_count (Some (Some m)) e =
           let i = all t m e in
-          let x = of_row (made rows counts) rows (row_of rows t) in
+          let x = of_row (made counts) rows (row_of rows t) in
           let k : m ≡ capped m = i.is ∙ sym (capped_twice x) ∙ ap capped (sym i.is) in
           e ∙ ap (λ z. Some (Some z)) (k ∙ sym (ap (λ z. capped (count_of z)) e) ∙ right (suc (r.rank t)) t (omega arith))
 

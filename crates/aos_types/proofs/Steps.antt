@@ -37,5 +37,5 @@ pub same_within : (n : ℕ) (rows : List TypeRow) (a b : TypeId) → 0 < n → a
 same_within zero rows a b l e = absurd (omega arith)
 same_within (suc n) rows a b l e =
     simp unary_clauses (
-      false_or (are_one rows a b) (on_both (same_by n rows) (element_of (row_of rows a)) (element_of (row_of rows b))) e
+    false_or (are_one rows a b) (on_both (same_by n rows) (element_of (row_of rows a)) (element_of (row_of rows b))) e
     )

@@ -47,19 +47,22 @@ of_row counts rows (Some (row.Object base fields)) = of_base counts base + sum_b
 of_row counts rows (Some (row.Procedure formals r)) = 1
 of_row counts rows (Some row.Any) = 1
 
-module _ (rows : List TypeRow) (counts : List (Option ℕ)) where
-  -- the counts that are made, by the types' numbers
-  abbrev pub made : TypeId → ℕ
-  made t = count_of (slice_get counts t.0)
+-- the counts that are made, by the types' numbers
+abbrev pub made : List (Option ℕ) → TypeId → ℕ
+made counts t = count_of (slice_get counts t.0)
 
-  -- the first part of a type whose count isn't made
-  abbrev pub missing_part : TypeId → Option TypeId
-  missing_part t = find (λ p. is_missing (slice_get counts p.0)) (parts_of rows (row_of rows t))
+-- the first of some types whose count isn't made
+abbrev pub first_missing : List (Option ℕ) → List TypeId → Option TypeId
+first_missing counts ts = find (λ p. is_missing (slice_get counts p.0)) ts
+
+-- the first part of a type whose count isn't made
+abbrev pub missing_part : List TypeRow → List (Option ℕ) → TypeId → Option TypeId
+missing_part rows counts t = first_missing counts (parts_of rows (row_of rows t))
 
 -- each count that is made is that of the type's row, whose parts have theirs
 pub record IsMade (rows : List TypeRow) (counts : List (Option ℕ)) (t : TypeId) (n : ℕ) : Type 0 where
   pub parts : missing_part rows counts t ≡ None
-  pub is : n ≡ capped (of_row (made rows counts) rows (row_of rows t))
+  pub is : n ≡ capped (of_row (made counts) rows (row_of rows t))
 
 abbrev pub AreMade : List TypeRow → List (Option ℕ) → Type 0
 AreMade rows counts = (t : TypeId) (n : ℕ) → slice_get counts t.0 ≡ Some (Some n) → IsMade rows counts t n

@@ -63,7 +63,8 @@ impl Walk {
 
     #[tactic(auto, using(crate::proofs::Noting::all_noted_more))]
     fn note_fields(&mut self, rows: &[TypeRow], fields: &[TypeId]) -> Result<(), AllocError>
-        ensures { OnOk result (self.new ≡ walk.all_noted (flat_map (chain.held rows.now) fields.now) self.old) }
+        ensures { OnOk result (self.new ≡
+            walk.all_noted (flat_map (chain.held rows.now) fields.now) self.old) }
     {
         for field in fields {
             self.note_held(rows, *field)?;
@@ -74,7 +75,8 @@ impl Walk {
     /// Notes the parts of a type.
     #[tactic(auto, using(crate::proofs::Noting::all_noted_append))]
     fn note_parts(&mut self, rows: &[TypeRow], t: TypeId) -> Result<(), AllocError>
-        ensures { OnOk result (self.new ≡ walk.all_noted (chain.parts_of rows.now (table.row_of rows.now t)) self.old) }
+        ensures { OnOk result (self.new ≡
+            walk.all_noted (chain.parts_of rows.now (table.row_of rows.now t)) self.old) }
     {
         match row_of(rows, t) {
             Some(TypeRow::Array(_, element)) => self.note_held(rows, *element),

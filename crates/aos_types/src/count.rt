@@ -2,7 +2,7 @@
 // many others would be looked at over and over.
 
 ghost use Rattle.std.specs.Prelude.{◌≡◌, ◌+◌, ◌<◌, ◌≤◌, ◌^◌, ◌++◌, ℕ, length, slice_get, vec_capacity, IsTrue, OnSome, false, sum_by};
-ghost use Rattle.std.specs.List.{find, flat_map};
+ghost use Rattle.std.specs.List.{flat_map};
 ghost use Rattle.aos_types.specs.declared.row.TypeId.{TypeId};
 ghost use Rattle.aos_types.specs.Table as table;
 ghost use Rattle.aos_types.specs.Chain as chain;
@@ -37,7 +37,7 @@ fn is_missing(counts: &[Option<u32>], t: TypeId) -> bool
 
 /// The count of an element or a field.
 fn of_variable(rows: &[TypeRow], counts: &[Option<u32>], t: TypeId) -> u32
-    ensures { result ≡ count.of_variable (count.made rows.now counts.now) rows.now t }
+    ensures { result ≡ count.of_variable (count.made counts.now) rows.now t }
 {
     match row_of(rows, t) {
         Some(TypeRow::Object(_, _)) => 1,
@@ -46,7 +46,7 @@ fn of_variable(rows: &[TypeRow], counts: &[Option<u32>], t: TypeId) -> u32
 }
 
 fn of_base(rows: &[TypeRow], counts: &[Option<u32>], base: Option<TypeId>) -> u32
-    ensures { result ≡ count.of_base (count.made rows.now counts.now) base }
+    ensures { result ≡ count.of_base (count.made counts.now) base }
 {
     match base {
         Some(base) => made(counts, base),
@@ -62,7 +62,8 @@ fn of_fields(
     base: Option<TypeId>,
     fields: &[TypeId],
 ) -> u32
-    ensures { result ≡ count.capped (count.of_base (count.made rows.now counts.now) base + sum_by (count.of_variable (count.made rows.now counts.now) rows.now) fields.now) }
+    ensures { result ≡ count.capped (count.of_base (count.made counts.now) base +
+        sum_by (count.of_variable (count.made counts.now) rows.now) fields.now) }
 {
     let mut all = capped(u64::from(of_base(rows, counts, base)));
     for field in fields {
@@ -73,7 +74,8 @@ fn of_fields(
 
 /// The count of a type, by those of its parts.
 fn of_type(rows: &[TypeRow], counts: &[Option<u32>], t: TypeId) -> u32
-    ensures { result ≡ count.capped (count.of_row (count.made rows.now counts.now) rows.now (table.row_of rows.now t)) }
+    ensures { result ≡ count.capped
+        (count.of_row (count.made counts.now) rows.now (table.row_of rows.now t)) }
 {
     match row_of(rows, t) {
         None => 0,
@@ -93,22 +95,16 @@ fn of_type(rows: &[TypeRow], counts: &[Option<u32>], t: TypeId) -> u32
 
 /// The type of an element or a field, where it is held by value and its count isn't made.
 fn missing_held(rows: &[TypeRow], counts: &[Option<u32>], t: TypeId) -> Option<TypeId>
-    ensures { result ≡ find (λ p. count.is_missing (slice_get counts.now p.0)) (chain.held rows.now t) }
+    ensures { result ≡ count.first_missing counts.now (chain.held rows.now t) }
 {
     match row_of(rows, t) {
         Some(TypeRow::Object(_, _)) => None,
-        _ => {
-            if is_missing(counts, t) {
-                Some(t)
-            } else {
-                None
-            }
-        },
+        _ => { if is_missing(counts, t) { Some(t) } else { None } },
     }
 }
 
 fn missing_field(rows: &[TypeRow], counts: &[Option<u32>], fields: &[TypeId]) -> Option<TypeId>
-    ensures { result ≡ find (λ p. count.is_missing (slice_get counts.now p.0)) (flat_map (chain.held rows.now) fields.now) }
+    ensures { result ≡ count.first_missing counts.now (flat_map (chain.held rows.now) fields.now) }
 {
     for field in fields {
         if let Some(part) = missing_held(rows, counts, *field) {
@@ -126,7 +122,8 @@ fn missing_of(
     base: Option<TypeId>,
     fields: &[TypeId],
 ) -> Option<TypeId>
-    ensures { result ≡ find (λ p. count.is_missing (slice_get counts.now p.0)) (chain.base_list base ++ flat_map (chain.held rows.now) fields.now) }
+    ensures { result ≡ count.first_missing counts.now
+        (chain.base_list base ++ flat_map (chain.held rows.now) fields.now) }
 {
     if let Some(base) = base {
         if is_missing(counts, base) {
@@ -164,7 +161,8 @@ fn count_from(
     requires long { length counts.old ≡ length rows.now }
     requires room { length rows.now < vec_capacity path.old }
     ensures made { count.AreMade rows.now counts.old → count.AreMade rows.now counts.new }
-    ensures kept { (p : TypeId) (n : ℕ) → slice_get counts.old p.0 ≡ Some (Some n) → slice_get counts.new p.0 ≡ Some (Some n) }
+    ensures kept { (p : TypeId) (n : ℕ) → slice_get counts.old p.0 ≡ Some (Some n) →
+        slice_get counts.new p.0 ≡ Some (Some n) }
     ensures own { IsTrue result → count.is_missing (slice_get counts.new t.0) ≡ false }
     ensures otherwise { result ≡ false → chain.NoneContainsItself rows.now → ⊥ }
     ensures capacity { vec_capacity path.new ≡ vec_capacity path.old }

@@ -16,25 +16,32 @@ pub fn law_of_ranks()
 
 /// The contents of a type are those of its parts.
 pub fn law_of_contents()
-    ensures { (rows : List TypeRow) (t : TypeId) → NoneContainsItself rows → contents rows t ≡ with_parts (contents rows) rows t (row_of rows t) }
+    ensures { (rows : List TypeRow) (t : TypeId) → NoneContainsItself rows →
+        contents rows t ≡ with_parts (contents rows) rows t (row_of rows t) }
 {}
 
 /// Extension by bases is the closure of the base relation.
 pub fn law_of_bases()
-    ensures { (rows : List TypeRow) (a b : TypeId) → NoneContainsItself rows → IsTrue (comes_to rows a b) ↔ BasesLead rows a b }
+    ensures { (rows : List TypeRow) (a b : TypeId) → NoneContainsItself rows →
+        IsTrue (comes_to rows a b) ↔ BasesLead rows a b }
 {}
 
 /// Extension is transitive.
 pub fn law_of_extension()
-    ensures { (rows : List TypeRow) (a b c : TypeId) → NoneContainsItself rows → IsTrue (extends rows a b) → IsTrue (extends rows b c) → IsTrue (extends rows a c) }
+    ensures { (rows : List TypeRow) (a b c : TypeId) → NoneContainsItself rows →
+        IsTrue (extends rows a b) → IsTrue (extends rows b c) → IsTrue (extends rows a c) }
 {}
 
 /// The contents of an extension begin with those of the record or object type that it extends.
 pub fn law_of_fronts()
-    ensures { (rows : List TypeRow) (a b : TypeId) → NoneContainsItself rows → IsTrue (has_fields (row_of rows b)) → IsTrue (comes_to rows a b) → BeginsWith (contents rows a) (contents rows b) }
+    ensures { (rows : List TypeRow) (a b : TypeId) → NoneContainsItself rows →
+        IsTrue (has_fields (row_of rows b)) → IsTrue (comes_to rows a b) →
+        BeginsWith (contents rows a) (contents rows b) }
 {}
 
 /// Different scalars of a type have different offsets, below its size.
 pub fn law_of_offsets()
-    ensures { (rows : List TypeRow) (t : TypeId) (p q : List ℕ) → IsScalar (contents rows t) p → IsScalar (contents rows t) q → AreApart (contents rows t) p q }
+    ensures { (rows : List TypeRow) (t : TypeId) (p q : List ℕ) →
+        IsScalar (contents rows t) p → IsScalar (contents rows t) q →
+        AreApart (contents rows t) p q }
 {}

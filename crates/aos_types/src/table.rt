@@ -8,8 +8,8 @@ ghost use Rattle.aos_types.specs.Extension.{extends as extends_of};
 ghost use Rattle.aos_types.specs.Sameness.{same as same_of};
 ghost use Rattle.aos_types.specs.Fit.{fits as fits_of};
 
-use crate::row::{TypeId, TypeRow};
 use crate::count::{recount, within_limit};
+use crate::row::{TypeId, TypeRow};
 use crate::{chain, extension, fit, sameness};
 use aos_base::NoMemory;
 use std::alloc::Global;

@@ -21,9 +21,9 @@ loop-reached-smaller c =
 pub loop-reached-preserved : goal.loop-reached-preserved
 loop-reached-preserved c =
     rw c.in_ok-note_parts-2.ensures (
-      rw add-one (
-        step c.args.rows.now c.args.t c.loop-reached.next c.loop-reached.walk c.in-Some.reached c.loop-reached.invariant (sym c.in-Some.ensures.value)
-      )
+    rw add-one (
+    step c.args.rows.now c.args.t c.loop-reached.next c.loop-reached.walk c.in-Some.reached c.loop-reached.invariant (sym c.in-Some.ensures.value)
+    )
     )
 
 pub returns : goal.returns

@@ -10,12 +10,11 @@ loop-number-preserved c =
     let a = c.loop-number.auto.counts in
     let b = c.requires.long in
     let d = c.fill.ensures.len in
-    let t = c.loop-number-test.true in
-    (
+    let t = c.loop-number-test.true in (
       c.count_from.ensures.made c.loop-number.invariant.0,
       below_more _ _
-      (λ k l. kept_made c.loop-number.counts c.count_from.new.counts c.count_from.ensures.kept k (omega (arith, a, b, d, t, l)) (c.loop-number.invariant.1 k l))
-      (c.if-not-count_from.ensures.own refl),
+          (λ k l. kept_made c.loop-number.counts c.count_from.new.counts c.count_from.ensures.kept k (omega (arith, a, b, d, t, l)) (c.loop-number.invariant.1 k l))
+          (c.if-not-count_from.ensures.own refl),
       c.count_from.ensures.capacity ∙ c.loop-number.invariant.2,
     )
 

@@ -12,8 +12,7 @@ nothing (x ∷ xs) e = absurd (omega arith)
 
 pub loop-top-init : goal.loop-top-init
 loop-top-init c =
-    let b = walk_begins c.args.rows.now c.args.counts.now c.args.t c.requires.long (sym c.is_missing.ensures ∙ c.if-not-is_missing.false) in
-    (
+    let b = walk_begins c.args.rows.now c.args.counts.now c.args.t c.requires.long (sym c.is_missing.ensures ∙ c.if-not-is_missing.false) in (
       subst (λ z. IsWalking c.args.rows.now c.args.counts.now c.args.t c.args.counts.now z) (sym (c.push_reserved.ensures.items ∙ ap (λ z. z ++ c.args.t ∷ []) c.clear.ensures.items)) b,
       c.push_reserved.ensures.capacity ∙ c.clear.ensures.capacity,
     )
@@ -52,8 +51,7 @@ loop-top-preserved-in-Some-missing_part c =
     let o = c.push_reserved-in-Some-missing_part.new.self.ok in
     let t = c.if-len-rows.false in
     let e = ap length c.push_reserved-in-Some-missing_part.ensures.items in
-    let n = walk_on c.args.rows.now c.args.counts.now c.args.t c.loop-top.counts c.pop.new.self.items c.in-Some.top w c.in-Some-missing_part.part (sym c.in-Some-missing_part.ensures) (omega (arith, l, o, t, e)) in
-    (
+    let n = walk_on c.args.rows.now c.args.counts.now c.args.t c.loop-top.counts c.pop.new.self.items c.in-Some.top w c.in-Some-missing_part.part (sym c.in-Some-missing_part.ensures) (omega (arith, l, o, t, e)) in (
       subst (λ z. IsWalking c.args.rows.now c.args.counts.now c.args.t c.loop-top.counts z) (sym (c.push_reserved-in-Some-missing_part-2.ensures.items ∙ ap (λ z. z ++ c.in-Some-missing_part.part ∷ []) c.push_reserved-in-Some-missing_part.ensures.items)) n,
       c.push_reserved-in-Some-missing_part-2.ensures.capacity ∙ c.push_reserved-in-Some-missing_part.ensures.capacity ∙ c.pop.ensures.capacity ∙ c.loop-top.invariant.1,
     )
@@ -71,8 +69,7 @@ loop-top-smaller c =
 
 pub loop-top-preserved : goal.loop-top-preserved
 loop-top-preserved c =
-    let w = subst (λ z. IsWalking c.args.rows.now c.args.counts.now c.args.t c.loop-top.counts z) c.in-Some.ensures.items c.loop-top.invariant.0 in
-    (
+    let w = subst (λ z. IsWalking c.args.rows.now c.args.counts.now c.args.t c.loop-top.counts z) c.in-Some.ensures.items c.loop-top.invariant.0 in (
       walk_back c.args.rows.now c.args.counts.now c.args.t c.loop-top.counts c.pop.new.self.items c.in-Some.top w c.of_type-own.result (sym c.in-None.ensures) c.of_type-own.ensures,
       c.pop.ensures.capacity ∙ c.loop-top.invariant.1,
     )

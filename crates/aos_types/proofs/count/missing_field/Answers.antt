@@ -7,7 +7,7 @@ use Rattle.aos_types.proofs.count.missing_field.Goals as goal
 pub returns-in-Some : goal.returns-in-Some
 returns-in-Some c =
     sym (
-      found_in (λ p. count.is_missing (slice_get c.args.counts.now p.0)) (chain.held c.args.rows.now) c.args.fields.now c.loop-field.field-index _ c.in-Some.part c.loop-field-test.true c.loop-field.invariant (sym c.in-Some.ensures)
+    found_in (λ p. count.is_missing (slice_get c.args.counts.now p.0)) (chain.held c.args.rows.now) c.args.fields.now c.loop-field.field-index _ c.in-Some.part c.loop-field-test.true c.loop-field.invariant (sym c.in-Some.ensures)
     )
 
 pub loop-field-preserved : goal.loop-field-preserved
