@@ -1,12 +1,12 @@
 -- Extension is transitive, that of pointer types too.
-use Rattle.std.proofs.Common.{◌≡◌, ℕ, List, [], ◌∷◌, length, Option, Some, None, refl, sym, ap, ◌∙◌, subst}
+use Rattle.std.proofs.Common.{◌≡◌, List, [], ◌∷◌, length, Option, Some, None, refl, sym, ap, ◌∙◌, subst}
 use Rattle.std.specs.Prelude.{Bool, true, false, ◌==◌, ◌||◌, if◌then◌else◌}
 use mathlib.Core.Logic.{◌⊎◌, inl, inr}
-use Rattle.std.proofs.lemmas.Bool.{cases_Bool, eqb-true, or_cases}
+use Rattle.std.proofs.lemmas.Bool.{cases_Bool, or_cases}
 use Rattle.aos_types.specs.declared.row.TypeId.{TypeId}
 use Rattle.aos_types.specs.declared.row.TypeRow.{TypeRow}
 use Rattle.aos_types.specs.declared.row.TypeRow.TheVariants as row
-use Rattle.aos_types.specs.Table.{row_of, is_record, is_pointer, base_of, on_both}
+use Rattle.aos_types.specs.Table.{row_of, is_pointer, base_of, on_both}
 use Rattle.aos_types.specs.Chain.{IsRanked}
 use Rattle.aos_types.specs.Extension.{comes_to, record_below, extends_pointer, extends, AreBases}
 use Rattle.aos_types.proofs.Tables.{bases_of, comes_on, is_it}

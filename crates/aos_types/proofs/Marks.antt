@@ -1,5 +1,5 @@
 -- Marks: what a new one leaves of the others, and how many are left to make.
-use Rattle.std.proofs.Common.{◌≡◌, ℕ, zero, suc, ◌+◌, List, [], ◌∷◌, length, Option, Some, None, refl, sym, ap, ◌∙◌, arith}
+use Rattle.std.proofs.Common.{◌≡◌, ℕ, zero, suc, List, [], ◌∷◌, Some, refl, ap}
 use Rattle.std.specs.Prelude.{Bool, true, false, slice_get, slice_set, replicate}
 use mathlib.Core.Logic.{◌⊎◌, inl, inr}
 

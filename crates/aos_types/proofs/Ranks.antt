@@ -1,7 +1,7 @@
 -- Where no type contains itself the types have ranks: the depth of a type is less than the levels, since the types of a longer
 -- chain would be more than there are.
-use Rattle.std.proofs.Common.{◌≡◌, ℕ, zero, suc, ◌<◌, ◌≤◌, max, List, [], ◌∷◌, ◌++◌, length, Option, Some, None, true, false, refl, sym, ap, subst, arith}
-use Rattle.std.specs.Prelude.{slice_get, eqb}
+use Rattle.std.proofs.Common.{◌≡◌, ℕ, zero, suc, ◌<◌, ◌≤◌, max, List, [], ◌∷◌, length, true, false, refl, sym, ap, subst, arith}
+use Rattle.std.specs.Prelude.{eqb}
 use Rattle.std.specs.List.{IsDistinct, AllByRecursion, list_any}
 use Rattle.std.proofs.lemmas.Map.Steps.{length-le_from_distinct_below}
 use Rattle.std.proofs.lemmas.Bool.{cases_lt, cases_Bool, eqb-true, or_cases}
@@ -10,7 +10,7 @@ use Rattle.aos_types.specs.declared.row.TypeId.{TypeId}
 use Rattle.aos_types.specs.declared.row.TypeRow.{TypeRow}
 use Rattle.aos_types.specs.Table.{row_of}
 use Rattle.aos_types.specs.Contents.{levels}
-use Rattle.aos_types.specs.Chain.{parts_of, IsOneOf, IsPartOf, IsChain, LeadsTo, ContainsItself, NoneContainsItself, IsRanked}
+use Rattle.aos_types.specs.Chain.{parts_of, IsOneOf, IsPartOf, IsChain, LeadsTo, NoneContainsItself, IsRanked}
 use Rattle.aos_types.proofs.Reached.{has_row}
 
 abbrev deepest : (TypeId → ℕ) → List TypeId → ℕ

@@ -1,9 +1,9 @@
 -- Where no type contains itself, the contents of a type are those of its parts (the levels are enough); extension is the closure
 -- of the base relation, is transitive, and the contents of an extension begin with those of what it extends.
 use Rattle.std.proofs.Common.{◌≡◌, ℕ, zero, suc, ◌<◌, ◌≤◌, List, [], ◌∷◌, ◌++◌, length, map, Option, Some, None, refl, sym, ap, ◌∙◌, subst, arith}
-use Rattle.std.specs.Prelude.{◌↔◌, slice_get, Bool, true, false, ◌==◌, ◌||◌, if◌then◌else◌}
+use Rattle.std.specs.Prelude.{Bool, true, false, ◌==◌, ◌||◌, if◌then◌else◌}
 use Rattle.std.specs.List.{flat_map}
-use mathlib.Core.Logic.{◌⊎◌, inl, inr}
+use mathlib.Core.Logic.{inl}
 use Rattle.std.proofs.lemmas.Bool.{eqb-true, eq-eqb}
 use Rattle.aos_types.specs.declared.row.TypeId.{TypeId}
 use Rattle.aos_types.specs.declared.row.TypeRow.{TypeRow}
@@ -12,7 +12,7 @@ use Rattle.aos_types.specs.Table.{row_of, is_object, has_fields, base_of}
 use Rattle.aos_types.specs.Shape as shape
 use Rattle.aos_types.specs.Shape.{Shape, join}
 use Rattle.aos_types.specs.Contents.{of_variable, of_base, with_parts, unfolded, levels, contents}
-use Rattle.aos_types.specs.Chain.{held, base_list, parts_of, IsOneOf, IsPartOf, IsRanked}
+use Rattle.aos_types.specs.Chain.{held, base_list, parts_of, IsOneOf, IsRanked}
 use Rattle.aos_types.specs.Extension.{on_base, comes_by, comes_to, AreBases, BasesLead}
 use Rattle.aos_types.specs.Laws.{BeginsWith}
 use Rattle.aos_types.proofs.Reached.{one_of_left, one_of_right}

@@ -1,7 +1,7 @@
 -- Which types contain themselves: a chain of elements, fields and bases leads from one back to it (Oberon-2 report, 6.3, and
 -- Reali 2002). Pointers, and what is of an object type, end a chain.
-use Rattle.std.specs.Prelude.{◌≡◌, ℕ, ◌<◌, ◌==◌, List, [], ◌∷◌, ◌++◌, length, Bool, true, false, if◌then◌else◌, Option, Some, None}
-use Rattle.std.specs.List.{flat_map, All}
+use Rattle.std.specs.Prelude.{◌≡◌, ℕ, ◌<◌, List, [], ◌∷◌, ◌++◌, if◌then◌else◌, Option, Some, None}
+use Rattle.std.specs.List.{flat_map}
 use mathlib.Core.Logic.{◌⊎◌}
 use Rattle.aos_types.specs.declared.row.TypeId.{TypeId}
 use Rattle.aos_types.specs.declared.row.TypeRow.{TypeRow}

@@ -1,6 +1,6 @@
 -- What a type is made of: the table unfolded to shapes, and how many scalars a type has. A record or an object has its base's
 -- fields before its own; what is of an object type is one scalar. An open array has no contents until it is made.
-use Rattle.std.specs.Prelude.{ℕ, zero, suc, nat_le, if◌then◌else◌, List, length, map, Bool, true, false, Option, Some, None}
+use Rattle.std.specs.Prelude.{ℕ, zero, suc, nat_le, if◌then◌else◌, List, length, map, Option, Some, None}
 use Rattle.aos_types.specs.declared.row.TypeId.{TypeId}
 use Rattle.aos_types.specs.declared.row.TypeRow.{TypeRow}
 use Rattle.aos_types.specs.declared.row.TypeRow.TheVariants as row

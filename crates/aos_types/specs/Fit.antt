@@ -1,6 +1,6 @@
 -- Fit: whether a value of one type may be assigned to a variable of another (Oberon-2 report, appendix A, assignment
 -- compatible; Reali 2002, object types and procedure types).
-use Rattle.std.specs.Prelude.{ℕ, ◌==◌, ◌&&◌, ◌||◌, not, nat_lt, nat_le, List, length, Bool, true, false, Option, Some, None, is_some, is_none}
+use Rattle.std.specs.Prelude.{ℕ, ◌==◌, ◌&&◌, ◌||◌, not, nat_lt, nat_le, List, length, Bool, true, false, Option, Some, None, is_some}
 use Rattle.std.specs.List.{list_all, zip}
 use Rattle.aos_types.specs.declared.row.TypeId.{TypeId}
 use Rattle.aos_types.specs.declared.row.Basic.{Basic}

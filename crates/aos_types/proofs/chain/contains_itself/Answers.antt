@@ -1,9 +1,7 @@
-use Rattle.std.proofs.Common.{◌≡◌, subst, sym, ap, ◌∙◌, arith, ◌-◌, ◌+◌, ◌<◌, length, add-one}
-use Rattle.std.specs.Prelude.{slice_get}
+use Rattle.std.proofs.Common.{subst, sym, ap, ◌∙◌, add-one}
 use Rattle.aos_types.specs.Table as table
 use Rattle.aos_types.specs.Chain as chain
 use Rattle.aos_types.specs.Walk as walk
-use Rattle.aos_types.proofs.Marks.{unmarked}
 use Rattle.aos_types.proofs.Reached.{IsWalk, begun, step, nearer, found}
 use Rattle.aos_types.proofs.chain.contains_itself.Goals as goal
 

@@ -1,6 +1,4 @@
-use Rattle.std.proofs.Common.{◌≡◌, ◌<◌, ◌+◌, ℕ, length, refl, sym, ◌∙◌, arith, below_more, slice_get}
-use Rattle.std.specs.Prelude.{false}
-use Rattle.aos_types.specs.Count.{is_missing}
+use Rattle.std.proofs.Common.{refl, ◌∙◌, arith, below_more}
 use Rattle.aos_types.proofs.Ranks.{ranked}
 use Rattle.aos_types.proofs.Settled.{settled, kept_made}
 use Rattle.aos_types.proofs.count.count_all.Goals as goal

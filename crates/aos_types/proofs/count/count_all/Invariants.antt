@@ -1,4 +1,4 @@
-use Rattle.std.proofs.Common.{◌≡◌, ◌<◌, ℕ, length, vec_capacity, slice_get}
+use Rattle.std.proofs.Common.{◌≡◌, ◌<◌, ℕ, vec_capacity, slice_get}
 use Rattle.std.specs.Prelude.{false}
 use Rattle.aos_types.specs.Count.{AreMade, is_missing}
 use Rattle.aos_types.proofs.count.count_all.Given as goal

@@ -1,9 +1,7 @@
-use Rattle.std.proofs.Common.{◌≡◌, ℕ, ◌+◌, ◌*◌, ◌-◌, ◌<◌, ◌≤◌, suc, List, [], ◌∷◌, ◌++◌, length, vec_len, vec_capacity, Some, None, slice_get, slice_set, sym, ap, ◌∙◌, subst, refl, arith, length-append}
+use Rattle.std.proofs.Common.{◌≡◌, List, [], ◌∷◌, ◌++◌, length, None, sym, ap, ◌∙◌, subst, refl, arith}
 use Rattle.aos_types.specs.declared.row.TypeId.{TypeId}
-use Rattle.aos_types.specs.Chain as chain
-use Rattle.aos_types.specs.Count as count
 use Rattle.std.proofs.lemmas.Option.{slice_get_within}
-use Rattle.aos_types.proofs.Path.{IsWalking, absent, top_waits, walk_ends, walk_begins, walk_on, walk_back, walk_round, nearer_on, nearer_back}
+use Rattle.aos_types.proofs.Path.{IsWalking, top_waits, walk_ends, walk_begins, walk_on, walk_back, walk_round, nearer_back}
 use Rattle.aos_types.proofs.count.count_from.Goals as goal
 
 nothing : (xs : List TypeId) → length xs ≡ 0 → xs ≡ []

@@ -1,4 +1,4 @@
-use Rattle.std.proofs.Common.{◌≡◌, Some, None, sym, ◌∙◌, slice_get}
+use Rattle.std.proofs.Common.{sym, ◌∙◌, slice_get}
 use Rattle.aos_types.specs.Chain as chain
 use Rattle.aos_types.specs.Count as count
 use Rattle.aos_types.proofs.Counting.{found_more, found_in}

@@ -1,7 +1,4 @@
-use Rattle.std.proofs.Common.{length}
 use Rattle.aos_types.specs.Contents.{contents}
-use Rattle.aos_types.proofs.Ranks.{ranked}
-use Rattle.aos_types.proofs.Tables.{by_parts, bases_of, comes_by_bases, front}
 use Rattle.aos_types.proofs.Offsets.{apart}
 use Rattle.aos_types.proofs.laws.law_of_offsets.Goals as goal
 

@@ -1,4 +1,4 @@
-use Rattle.std.proofs.Common.{◌≡◌, ◌<◌, ◌≤◌, ◌^◌, ◌+◌, ◌∙◌, sym, ap, length, vec_capacity, subst, arith, length-append, List, ◌++◌, ◌∷◌, [], Option, None}
+use Rattle.std.proofs.Common.{◌<◌, ◌^◌, ◌∙◌, sym, ap, length, vec_capacity, subst, arith, length-append, ◌++◌, ◌∷◌, [], None}
 use Rattle.aos_types.specs.Count.{AreCounts}
 use Rattle.aos_types.proofs.Settled.{table_is}
 use Rattle.aos_types.proofs.table.Types.add.Goals as goal

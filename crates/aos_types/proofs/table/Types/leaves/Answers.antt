@@ -1,4 +1,4 @@
-use Rattle.std.proofs.Common.{◌≡◌, ◌<◌, ◌∙◌, sym, ap, length, subst}
+use Rattle.std.proofs.Common.{◌<◌, ◌∙◌, sym, length, subst}
 use Rattle.aos_types.specs.Chain.{NoneContainsItself}
 use Rattle.aos_types.proofs.Settled.{limited}
 use Rattle.aos_types.proofs.table.Types.leaves.Goals as goal

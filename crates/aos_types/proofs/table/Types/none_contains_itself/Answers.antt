@@ -1,4 +1,4 @@
-use Rattle.std.proofs.Common.{◌≡◌, ◌<◌, ◌∙◌, sym, refl, length, subst, arith}
+use Rattle.std.proofs.Common.{◌∙◌, sym, refl, subst, arith}
 use Rattle.aos_types.specs.Chain.{ContainsItself}
 use Rattle.aos_types.proofs.Reached.{begins_added}
 use Rattle.aos_types.proofs.table.Types.none_contains_itself.Goals as goal

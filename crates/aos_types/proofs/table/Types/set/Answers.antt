@@ -1,4 +1,4 @@
-use Rattle.std.proofs.Common.{◌≡◌, ◌<◌, ◌≤◌, ◌^◌, ◌∙◌, sym, ap, length, slice_set, vec_capacity, subst, arith}
+use Rattle.std.proofs.Common.{slice_set, vec_capacity, subst, arith}
 use Rattle.aos_types.specs.Count.{AreCounts}
 use Rattle.std.proofs.lemmas.List.{length-set}
 use Rattle.aos_types.proofs.Settled.{table_is}
