@@ -263,7 +263,10 @@ fn types_that_contain_themselves(rt: HostRuntime) -> Result<(), Fail> {
         let found = types.contains_itself(rt.alloc(), number(at))?;
         assert_eq!(rt; found, want == b'1', "{at}");
     }
-    assert_eq!(rt; types.contains_itself(rt.alloc(), TypeId(4_000_000_000))?, false);
+    assert_eq!(rt;
+        types.contains_itself(rt.alloc(), TypeId(4_000_000_000))?,
+        false
+    );
     Ok(())
 }
 
@@ -272,7 +275,10 @@ fn a_long_chain(rt: HostRuntime) -> Result<(), Fail> {
     let mut types = Types::new(rt.alloc())?;
     let mut last = put(&mut types, TypeRow::Array(1, TypeId(0)))?;
     for _ in 0..100_000 {
-        last = put(&mut types, TypeRow::Record(Some(last), fields(rt.alloc(), &[])?))?;
+        last = put(
+            &mut types,
+            TypeRow::Record(Some(last), fields(rt.alloc(), &[])?),
+        )?;
     }
     assert_eq!(rt; types.contains_itself(rt.alloc(), TypeId(0))?, true);
     if types.len() > 0 {

@@ -38,7 +38,8 @@ impl Locks {
         ensures number { IfOk result (λ lock. lock ≡ count_of self.old) }
         ensures ok { OnOk result (count_of self.new ≡ count_of self.old + 1) }
         ensures free { IfOk result (λ lock. owner_of self.new lock ≡ None) }
-        ensures awaited { (links : Links) → IfOk result (λ lock. waiting_in links self.new lock ≡ []) }
+        ensures awaited { (links : Links) →
+            IfOk result (λ lock. waiting_in links self.new lock ≡ []) }
         ensures err { OnErr result (count_of self.new ≡ count_of self.old) }
         ensures owners { (other : ℕ) → other < count_of self.old →
             owner_of self.new other ≡ owner_of self.old other }

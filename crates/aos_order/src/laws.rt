@@ -7,7 +7,8 @@ ghost use Rattle.aos_order.specs.Laws.{IsKnot, IsLoadOrder};
 
 /// Each file is in a load order once, behind all that its module imports.
 pub fn law_of_order()
-    ensures { (all : List File) (order : List ℕ) → answer all ≡ Order order → IsLoadOrder all order }
+    ensures { (all : List File) (order : List ℕ) → answer all ≡ Order order →
+        IsLoadOrder all order }
 {}
 
 /// Each of the files that can't be placed imports the module of one of them.
