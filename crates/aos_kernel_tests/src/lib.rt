@@ -1,8 +1,10 @@
-//! Tests of what a run stands on: arithmetic, shelves and sinks, scripts, the kernel, and replays.
+//! Tests of what a run stands on: arithmetic, locks, shelves and sinks, scripts, the kernel, and replays.
 #![tactic(auto)]
 
 #[cfg(test)]
 mod arithmetic;
+#[cfg(test)]
+mod handovers;
 #[cfg(test)]
 mod images;
 #[cfg(test)]
