@@ -38,7 +38,7 @@ found_is q (x ∷ xs) p e = at_test (λ h. found_is q xs p h) (q x) refl e
     at_test deeper true w h = let s : x ≡ p = cc in (inl s, subst (λ z. q z ≡ true) s w)
     at_test deeper false w h = let r = deeper h in (inr r.0, r.1)
 
-none_found : (q : TypeId → Bool) (xs : List TypeId) → find q xs ≡ None → (p : TypeId) → IsOneOf p xs → q p ≡ false
+pub none_found : (q : TypeId → Bool) (xs : List TypeId) → find q xs ≡ None → (p : TypeId) → IsOneOf p xs → q p ≡ false
 none_found q [] e p h = absurd h
 none_found q (x ∷ xs) e p h = at_test (λ k. none_found q xs k p) (q x) refl e h
   where
@@ -47,7 +47,7 @@ none_found q (x ∷ xs) e p h = at_test (λ k. none_found q xs k p) (q x) refl e
     at_test deeper false w k (inl s) = subst (λ z. q z ≡ false) s w
     at_test deeper false w k (inr o) = deeper k o
 
-found_none : (q : TypeId → Bool) (xs : List TypeId) → ((p : TypeId) → IsOneOf p xs → q p ≡ false) → find q xs ≡ None
+pub found_none : (q : TypeId → Bool) (xs : List TypeId) → ((p : TypeId) → IsOneOf p xs → q p ≡ false) → find q xs ≡ None
 found_none q [] h = refl
 found_none q (x ∷ xs) h = at_test (q x) (h x (inl refl)) (found_none q xs (λ p o. h p (inr o)))
   where

@@ -18,8 +18,9 @@ use Rattle.aos_types.specs.Shape.{Shape, size, join}
 use Rattle.aos_types.specs.Contents as contents
 use Rattle.aos_types.specs.Contents.{with_parts, scalars, at_most}
 use Rattle.aos_types.specs.Chain.{held, base_list, parts_of, IsOneOf, IsPartOf, IsRanked, NoneContainsItself}
-use Rattle.aos_types.specs.Count.{capped, count_of, is_missing, of_variable, of_base, of_row, made, AreMade, AreCounts, IsTable, within_limit}
+use Rattle.aos_types.specs.Count.{capped, count_of, is_missing, of_variable, of_base, of_row, made, AreMade, AreSettled, AreBelow, IsTable, within_limit}
 use Rattle.aos_types.proofs.Reached.{one_of_left, one_of_right}
+use Rattle.aos_types.proofs.Ranks.{ranked}
 use Rattle.aos_types.proofs.Tables.{by_parts}
 
 -- the size of what is put together
@@ -190,9 +191,9 @@ taken [] ys n e = subst (λ m. take m ys ≡ []) (sym e) refl
 taken (x ∷ xs) ys n e = subst (λ m. take m (x ∷ (xs ++ ys)) ≡ x ∷ xs) (sym e) (ap (λ z. x ∷ z) (taken xs ys (length xs) refl))
 
 -- what is kept after the counts were written
-pub table_is : (rows : List TypeRow) (counts old : List (Option ℕ)) (n room : ℕ) → length rows ≤ 2 ^ 32 → length counts ≡ length rows → length rows < room → AreCounts rows counts → n ≡ length counts → IsTable rows (take n (counts ++ drop (length counts) old)) room
-table_is rows counts old n room few long fits right e =
-    subst (λ z. IsTable rows z room) (sym (taken counts (drop (length counts) old) n e)) (record { few = few; long = long; fits = fits; right = right })
+pub table_is : (rows : List TypeRow) (counts old : List (Option ℕ)) (n room above : ℕ) → length rows ≤ 2 ^ 32 → length counts ≡ length rows → length rows < room → ((k : ℕ) (r : TypeRow) → slice_get rows k ≡ Some r → AreBelow above r) → (NoneContainsItself rows → AreSettled rows counts (length rows)) → n ≡ length counts → IsTable rows (take n (counts ++ drop (length counts) old)) room above
+table_is rows counts old n room above few long fits below settled e =
+    subst (λ z. IsTable rows z room above) (sym (taken counts (drop (length counts) old) n e)) (record { few = few; long = long; fits = fits; below = below; settled = settled })
 
 at_most_capped : (n : ℕ) → at_most MOST_SCALARS (capped n) ≡ at_most MOST_SCALARS n
 at_most_capped n = at_case (cases_lt n (MOST_SCALARS + 1))
@@ -205,10 +206,11 @@ at_most_capped n = at_case (cases_lt n (MOST_SCALARS + 1))
     at_case (inr g) = past (capped n) (omega (arith, g)) ∙ sym (past n (omega (arith, g)))
 
 -- what a count that is read comes to
-pub limited : (rows : List TypeRow) (counts : List (Option ℕ)) (t : TypeId) (o : Option ℕ) → length counts ≡ length rows → AreCounts rows counts → NoneContainsItself rows → t.0 < length rows → o ≡ get_or counts t.0 o → within_limit o ≡ at_most MOST_SCALARS (scalars rows t)
+pub limited : (rows : List TypeRow) (counts : List (Option ℕ)) (t : TypeId) (o : Option ℕ) → length counts ≡ length rows → (NoneContainsItself rows → AreSettled rows counts (length rows)) → NoneContainsItself rows → t.0 < length rows → o ≡ get_or counts t.0 o → within_limit o ≡ at_most MOST_SCALARS (scalars rows t)
 limited rows counts t o long right free l e =
     let g = slice_get_read counts (length rows) t.0 o (sym long) l e in
-    let r = right free t l in
+    let m = right free in
+    let r = settled rows counts long m.made m.whole (ranked rows free) t l in
     let f : Some o ≡ Some (Some (capped (scalars rows t))) = sym g ∙ r in
     let h : o ≡ Some (capped (scalars rows t)) = cc in
     ap within_limit h ∙ at_most_capped (scalars rows t)

@@ -1,13 +1,13 @@
 -- Counts of scalars that are kept beside the rows, each up to one more than a type may have: a count that isn't made yet is None.
-use Rattle.std.specs.Prelude.{◌≡◌, ℕ, ◌+◌, ◌*◌, ◌^◌, ◌<◌, ◌≤◌, min, List, length, sum_by, Bool, true, false, if◌then◌else◌, Option, Some, None, slice_get}
+use Rattle.std.specs.Prelude.{◌≡◌, ℕ, ◌+◌, ◌*◌, ◌^◌, ◌<◌, ◌≤◌, min, List, [], ◌∷◌, ◌++◌, length, sum_by, Bool, true, false, if◌then◌else◌, Option, Some, None, slice_get}
 use Rattle.std.specs.List.{find}
 use Rattle.aos_types.specs.declared.TheConstants.{MOST_SCALARS}
 use Rattle.aos_types.specs.declared.row.TypeId.{TypeId}
 use Rattle.aos_types.specs.declared.row.TypeRow.{TypeRow}
 use Rattle.aos_types.specs.declared.row.TypeRow.TheVariants as row
 use Rattle.aos_types.specs.Table.{row_of, is_object}
-use Rattle.aos_types.specs.Contents.{scalars, at_most}
-use Rattle.aos_types.specs.Chain.{parts_of, NoneContainsItself}
+use Rattle.aos_types.specs.Contents.{at_most}
+use Rattle.aos_types.specs.Chain.{parts_of, base_list, IsOneOf, NoneContainsItself}
 
 abbrev pub capped : ℕ → ℕ
 capped n = min n (MOST_SCALARS + 1)
@@ -67,14 +67,27 @@ pub record IsMade (rows : List TypeRow) (counts : List (Option ℕ)) (t : TypeId
 abbrev pub AreMade : List TypeRow → List (Option ℕ) → Type 0
 AreMade rows counts = (t : TypeId) (n : ℕ) → slice_get counts t.0 ≡ Some (Some n) → IsMade rows counts t n
 
--- the count of each type is made and is right, where no type contains itself
-abbrev pub AreCounts : List TypeRow → List (Option ℕ) → Type 0
-AreCounts rows counts =
-    NoneContainsItself rows → (t : TypeId) → t.0 < length rows → slice_get counts t.0 ≡ Some (Some (capped (scalars rows t)))
+-- the first so many types have their counts, where no type contains itself
+pub record AreSettled (rows : List TypeRow) (counts : List (Option ℕ)) (n : ℕ) : Type 0 where
+  pub made : AreMade rows counts
+  pub whole : (t : TypeId) → t.0 < n → is_missing (slice_get counts t.0) ≡ false
 
--- what is kept of a table: a count for each row, and room for a walk over all of them
-pub record IsTable (rows : List TypeRow) (counts : List (Option ℕ)) (room : ℕ) : Type 0 where
+-- the types that a row names as elements or fields, and its base
+abbrev pub named_in : TypeRow → List TypeId
+named_in (row.Array n of) = of ∷ []
+named_in (row.Open of) = of ∷ []
+named_in (row.Record base fields) = base_list base ++ fields
+named_in (row.Object base fields) = base_list base ++ fields
+named_in _ = []
+
+-- each type that a row names so is below this number
+abbrev pub AreBelow : ℕ → TypeRow → Type 0
+AreBelow n r = (p : TypeId) → IsOneOf p (named_in r) → p.0 < n
+
+-- what is kept of a table: a count for each row, room for a walk over all of them, and a number above all types that are named
+pub record IsTable (rows : List TypeRow) (counts : List (Option ℕ)) (room above : ℕ) : Type 0 where
   pub few : length rows ≤ 2 ^ 32
   pub long : length counts ≡ length rows
   pub fits : length rows < room
-  pub right : AreCounts rows counts
+  pub below : (k : ℕ) (r : TypeRow) → slice_get rows k ≡ Some r → AreBelow above r
+  pub settled : NoneContainsItself rows → AreSettled rows counts (length rows)

@@ -1,7 +1,7 @@
 // How many scalars types have. The counts are kept beside the rows, since without them a type that is named twice by each of
 // many others would be looked at over and over.
 
-ghost use Rattle.std.specs.Prelude.{◌≡◌, ◌+◌, ◌<◌, ◌≤◌, ◌^◌, ◌++◌, ℕ, length, slice_get, vec_capacity, IsTrue, OnSome, false, sum_by};
+ghost use Rattle.std.specs.Prelude.{◌≡◌, ◌+◌, ◌-◌, ◌<◌, ◌≤◌, ◌^◌, ◌++◌, ℕ, length, slice_get, vec_capacity, IsTrue, OnSome, false, sum_by};
 ghost use Rattle.std.specs.List.{flat_map};
 ghost use Rattle.aos_types.specs.declared.row.TypeId.{TypeId};
 ghost use Rattle.aos_types.specs.Table as table;
@@ -195,7 +195,8 @@ pub(crate) fn count_all(rows: &[TypeRow], counts: &mut [Option<u32>], path: &mut
     requires few { length rows.now ≤ 2 ^ 32 }
     requires long { length counts.old ≡ length rows.now }
     requires room { length rows.now < vec_capacity path.old }
-    ensures counts { count.AreCounts rows.now counts.new }
+    ensures settled { chain.NoneContainsItself rows.now →
+        count.AreSettled rows.now counts.new (length rows.now) }
     ensures capacity { vec_capacity path.new ≡ vec_capacity path.old }
 {
     counts.fill(None);
@@ -218,13 +219,14 @@ fn is_array_of_itself(rows: &[TypeRow], t: TypeId) -> bool
 }
 
 /// A type between two numbers whose row is an array of itself.
-fn array_of_itself(rows: &[TypeRow], from: usize, to: usize) -> Option<usize>
+fn array_of_itself(rows: &[TypeRow], from: usize, to: usize) -> Option<TypeId>
     requires { length rows.now ≤ 2 ^ 32 }
     ensures { OnSome result (chain.NoneContainsItself rows.now → ⊥) }
 {
     for number in from..to.min(rows.len()) {
-        if is_array_of_itself(rows, TypeId(number as u32)) {
-            return Some(number);
+        let t = TypeId(number as u32);
+        if is_array_of_itself(rows, t) {
+            return Some(t);
         }
     }
     None
@@ -236,15 +238,16 @@ pub(crate) fn recount(
     rows: &[TypeRow],
     counts: &mut [Option<u32>],
     path: &mut Vec<TypeId>,
-    waiting: &mut usize,
+    waiting: &mut TypeId,
 )
     requires few { length rows.now ≤ 2 ^ 32 }
     requires long { length counts.old ≡ length rows.now }
     requires room { length rows.now < vec_capacity path.old }
-    ensures counts { count.AreCounts rows.now counts.new }
+    ensures settled { chain.NoneContainsItself rows.now →
+        count.AreSettled rows.now counts.new (length rows.now) }
     ensures capacity { vec_capacity path.new ≡ vec_capacity path.old }
 {
-    let from = *waiting;
+    let from = waiting.0 as usize;
     if let Some(number) = array_of_itself(rows, from, rows.len()) {
         *waiting = number;
         return;
@@ -254,6 +257,78 @@ pub(crate) fn recount(
         return;
     }
     count_all(rows, counts, path);
+}
+
+/// Makes the count of the last type, which no other names where it is new.
+pub(crate) fn count_last(
+    rows: &[TypeRow],
+    counts: &mut [Option<u32>],
+    path: &mut Vec<TypeId>,
+    waiting: &mut TypeId,
+    is_new: bool,
+)
+    requires some { 0 < length rows.now }
+    requires few { length rows.now ≤ 2 ^ 32 }
+    requires long { length counts.old ≡ length rows.now }
+    requires room { length rows.now < vec_capacity path.old }
+    requires before { IsTrue is_new → chain.NoneContainsItself rows.now →
+        count.AreSettled rows.now counts.old (length rows.now - 1) }
+    ensures settled { chain.NoneContainsItself rows.now →
+        count.AreSettled rows.now counts.new (length rows.now) }
+    ensures capacity { vec_capacity path.new ≡ vec_capacity path.old }
+{
+    let last = TypeId((rows.len() - 1) as u32);
+    if is_array_of_itself(rows, *waiting) {
+        return;
+    }
+    if is_array_of_itself(rows, last) {
+        *waiting = last;
+        return;
+    }
+    if !is_new {
+        count_all(rows, counts, path);
+        return;
+    }
+    let _is_made = count_from(rows, counts, path, last);
+}
+
+/// A number above these types, and not below another.
+fn above_all(types: &[TypeId], least: u64) -> u64
+    ensures below { (p : TypeId) → chain.IsOneOf p types.now → p.0 < result }
+    ensures least { least ≤ result }
+{
+    let mut above = least;
+    for t in types {
+        above = above.max(u64::from(t.0) + 1);
+    }
+    above
+}
+
+fn above_both(base: Option<TypeId>, fields: &[TypeId], least: u64) -> u64
+    ensures below { (p : TypeId) → chain.IsOneOf p (chain.base_list base ++ fields.now) → p.0 < result }
+    ensures least { least ≤ result }
+{
+    match base {
+        Some(base) => above_all(fields, least.max(u64::from(base.0) + 1)),
+        None => above_all(fields, least),
+    }
+}
+
+/// A number above all types that a row names as elements or fields, and above its base.
+pub(crate) fn above(row: &TypeRow, least: u64) -> u64
+    ensures below { count.AreBelow result row.now }
+    ensures least { least ≤ result }
+{
+    match row {
+        TypeRow::Array(_, element) => least.max(u64::from(element.0) + 1),
+        TypeRow::Open(element) => least.max(u64::from(element.0) + 1),
+        TypeRow::Record(base, fields) => above_both(*base, fields.as_slice(), least),
+        TypeRow::Object(base, fields) => above_both(*base, fields.as_slice(), least),
+        TypeRow::Basic(_) => least,
+        TypeRow::Pointer(_) => least,
+        TypeRow::Procedure(_, _) => least,
+        TypeRow::Any => least,
+    }
 }
 
 /// A count that isn't past what a type may have.

@@ -8,7 +8,7 @@ ghost use Rattle.aos_types.specs.Extension.{extends as extends_of};
 ghost use Rattle.aos_types.specs.Sameness.{same as same_of};
 ghost use Rattle.aos_types.specs.Fit.{fits as fits_of};
 
-use crate::count::{recount, within_limit};
+use crate::count::{above, count_last, recount, within_limit};
 use crate::row::{TypeId, TypeRow};
 use crate::{chain, extension, fit, sameness};
 use aos_base::NoMemory;
@@ -21,7 +21,8 @@ pub struct Types {
     rows: Vec<TypeRow>,
     counts: Vec<Option<u32>>,
     path: Vec<TypeId>,
-    waiting: usize,
+    waiting: TypeId,
+    above: u64,
 }
 
 impl Model for Types {
@@ -33,7 +34,7 @@ impl Model for Types {
 
     ghost view = { λ t. t.rows.items };
 
-    ghost invariant = { λ t. IsTable t.rows.items t.counts.items (vec_capacity t.path) };
+    ghost invariant = { λ t. IsTable t.rows.items t.counts.items (vec_capacity t.path) t.above };
 }
 
 impl Types {
@@ -45,7 +46,8 @@ impl Types {
             rows: Vec::new(alloc),
             counts: Vec::new(alloc),
             path: Vec::with_capacity(alloc, 1)?,
-            waiting: 0,
+            waiting: TypeId(0),
+            above: 0,
         })
     }
 
@@ -61,23 +63,27 @@ impl Types {
         self.path.clear();
         self.path.reserve(self.rows.len() + 2)?;
         let id = TypeId(self.rows.len() as u32);
+        let is_new = self.above <= u64::from(id.0);
+        self.above = above(&row, self.above);
         self.rows.push_reserved(row);
         self.counts.push_reserved(None);
-        recount(
+        count_last(
             &self.rows,
             &mut self.counts,
             &mut self.path,
             &mut self.waiting,
+            is_new,
         );
         Ok(id)
     }
 
-    /// Puts another row in a type's place, so that types may name later ones. It takes no memory. The counts of scalars are made
-    /// anew, except while a row is an array of its own type: let that be the row of a type that is to come.
+    /// Puts another row in a type's place, so that types may name later ones. It takes no memory. All counts of scalars are
+    /// made anew, except while a row is an array of its own type: let that be the row of a type that is to come.
     pub fn set(&mut self, id: TypeId, row: TypeRow)
         requires { id.0 < length self.old }
         ensures { self.new ≡ slice_set self.old id.0 row }
     {
+        self.above = above(&row, self.above);
         self.rows[id.0 as usize] = row;
         recount(
             &self.rows,

@@ -3,4 +3,4 @@ use Rattle.aos_types.proofs.count.array_of_itself.Goals as goal
 
 pub returns-then-is_array_of_itself : goal.returns-then-is_array_of_itself
 returns-then-is_array_of_itself c =
-    λ free. free (record { 0 = c.loop-number.number }) (record { between = []; chain = (c.if-is_array_of_itself.ensures refl, tt) })
+    λ free. free _ (record { between = []; chain = (c.if-is_array_of_itself.ensures refl, tt) })

@@ -1,6 +1,5 @@
 use Rattle.std.proofs.Common.{refl, ◌∙◌, arith, below_more}
-use Rattle.aos_types.proofs.Ranks.{ranked}
-use Rattle.aos_types.proofs.Settled.{settled, kept_made}
+use Rattle.aos_types.proofs.Settled.{kept_made}
 use Rattle.aos_types.proofs.count.count_all.Goals as goal
 
 pub loop-number-preserved : goal.loop-number-preserved
@@ -16,10 +15,7 @@ loop-number-preserved c =
       c.count_from.ensures.capacity ∙ c.loop-number.invariant.2,
     )
 
-pub returns-clause-counts : goal.returns-clause-counts
-returns-clause-counts c =
-    let a = c.loop-number.auto.counts in
-    let b = c.requires.long in
-    let d = c.fill.ensures.len in
-    let n = c.loop-number.auto.number-end in
-    λ free t l. settled c.args.rows.now c.loop-number.counts (omega (arith, a, b, d)) c.loop-number.invariant.0 (λ q k. c.loop-number.invariant.1 q.0 (let e = c.loop-number-test.false in omega (arith, e, k))) (ranked c.args.rows.now free) t l
+pub returns-clause-settled : goal.returns-clause-settled
+returns-clause-settled c =
+    let e = c.loop-number-test.false in
+    λ _. record { made = c.loop-number.invariant.0; whole = λ q k. c.loop-number.invariant.1 q.0 (omega (arith, e, k)) }

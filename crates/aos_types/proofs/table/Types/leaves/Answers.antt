@@ -8,4 +8,4 @@ returns c =
     let rows = c.self.inside.rows.items in
     let free = subst (λ z. NoneContainsItself z) (sym c.self.view_is) c.requires.none_contains_itself in
     let l = subst (λ z. c.args.t.0 < length z) (sym c.self.view_is) c.requires.added in
-    rw (← c.self.view_is) (c.within_limit.ensures ∙ limited rows c.self.inside.counts.items c.args.t c.index.result.now c.self.invariant.long c.self.invariant.right free l c.index.ensures)
+    rw (← c.self.view_is) (c.within_limit.ensures ∙ limited rows c.self.inside.counts.items c.args.t c.index.result.now c.self.invariant.long c.self.invariant.settled free l c.index.ensures)
