@@ -305,7 +305,8 @@ fn above_all(types: &[TypeId], least: u64) -> u64
 }
 
 fn above_both(base: Option<TypeId>, fields: &[TypeId], least: u64) -> u64
-    ensures below { (p : TypeId) → chain.IsOneOf p (chain.base_list base ++ fields.now) → p.0 < result }
+    ensures below { (p : TypeId) → chain.IsOneOf p (chain.base_list base ++ fields.now) →
+        p.0 < result }
     ensures least { least ≤ result }
 {
     match base {
