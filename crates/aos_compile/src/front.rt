@@ -57,7 +57,7 @@ fn tree_of(alloc: Global, text: &[u8], tokens: &[Token]) -> Result<Module, Compi
 }
 
 /// The program of a text's tree.
-fn checked(alloc: Global, text: &[u8], tree: &Module) -> Result<Program, CompileErr>
+fn check_tree(alloc: Global, text: &[u8], tree: &Module) -> Result<Program, CompileErr>
     requires { IsTreeOf text.now tree.now }
     ensures elaborates { IfOk result (Elaborates text.now) }
     ensures refused { IfErr result (λ e. OnRefused e (IsRefused text.now)) }
@@ -77,5 +77,5 @@ pub fn elaborate(alloc: Global, text: &[u8]) -> Result<Program, CompileErr>
 {
     let tokens = tokens_of(alloc, text)?;
     let tree = tree_of(alloc, text, &tokens)?;
-    checked(alloc, text, &tree)
+    check_tree(alloc, text, &tree)
 }

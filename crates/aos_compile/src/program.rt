@@ -18,7 +18,7 @@ use std::alloc::Global;
 const MOST_OBJECT_TYPES: usize = 67_108_864;
 
 // The program of a text, and its image.
-fn linked(alloc: Global, text: &[u8], program: Program) -> Result<(Program, Image), CompileErr>
+fn with_image(alloc: Global, text: &[u8], program: Program) -> Result<(Program, Image), CompileErr>
     requires { Elaborates text.now program }
     ensures elaborates { IfOk result (λ r. Elaborates text.now r.0) }
     ensures shows { IfOk result (λ r. Shows r.0 r.1) }
@@ -45,7 +45,7 @@ pub fn compile(alloc: Global, text: &[u8]) -> Result<(Program, Image), CompileEr
     ensures refused { IfErr result (λ e. OnRefused e (IsRefused text.now)) }
 {
     let program = elaborate(alloc, text)?;
-    linked(alloc, text, program)
+    with_image(alloc, text, program)
 }
 
 /// The law: a text that a rule refuses has no program.

@@ -1,5 +1,5 @@
 use Rattle.aos_compile.proofs.Refusals.{checked}
-use Rattle.aos_compile.proofs.front.checked.Goals as goal
+use Rattle.aos_compile.proofs.front.check_tree.Goals as goal
 
 pub returns-in-Err-Refused-clause-refused : goal.returns-in-Err-Refused-clause-refused
 returns-in-Err-Refused-clause-refused c =

@@ -1,4 +1,4 @@
-use Rattle.aos_compile.proofs.program.linked.Goals as goal
+use Rattle.aos_compile.proofs.program.with_image.Goals as goal
 
 pub image_of-requires-clause-typed : goal.image_of-requires-clause-typed
 image_of-requires-clause-typed c =
