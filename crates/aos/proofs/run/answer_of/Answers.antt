@@ -19,6 +19,6 @@ returns c =
     let lines = c.in_ok-err.ensures ∙ ap (λ ds. rows_text (names ds) (map row_of c.traps-traps.result.now)) modules ∙ ap (λ ts. rows_text (names r.image.modules.items) (map row_of ts)) c.traps-traps.ensures in
     let last = c.deref-2.ensures.value ∙ c.in_ok-spent_line.ensures ∙ (λ i. spent_text (c.spent.ensures i) (c.budget.ensures.budget i)) in
     tells r _
-    (c.status.ensures ∙ ap (λ o. status_of o (map row_of c.traps-traps.result.now)) c.outcome.ensures.outcome ∙ ap (λ ts. status_of (outcome (state_of r).book) (map row_of ts)) c.traps-traps.ensures)
+    (c.status.ensures ∙ ap (λ o. status_of o (map row_of c.traps-traps.result.now)) c.outcome.ensures ∙ ap (λ ts. status_of (outcome (state_of r).book) (map row_of ts)) c.traps-traps.ensures)
     (c.in_ok-from_slice.ensures.items ∙ c.output.ensures)
     (c.in_ok-extend_from_slice.ensures.items ∙ ap (λ l. c.in_ok-err.err.items ++ l) last ∙ ap (λ l. l ++ spent_text (spent_of r) r.budget) lines)

@@ -20,4 +20,4 @@ returns c =
     (c.in_ok-replay.ensures.state ∙ ap (λ st. execution (machine k.image) (choices_of s) st) begun)
     c.in_ok-answer.ensures refl refl
     (c.in_ok-extend_from_slice.ensures.items ∙ ap (λ l. c.in_ok-answer.answer.err.items ++ l) c.deref.ensures.value)
-    (c.in_ok-ended.ensures ∙ (λ i. ended_text (c.outcome-outcome.ensures.outcome i) (c.steps.ensures i)))
+    (c.in_ok-ended.ensures ∙ (λ i. ended_text (c.outcome-outcome.ensures i) (c.steps.ensures i)))
