@@ -1,3 +1,5 @@
+pub mod Program
+pub mod Seen
 pub mod Value
 pub mod Store
 pub mod Meaning

@@ -8,16 +8,12 @@ use Rattle.aos_base.specs.Number.{places_of, justified}
 use Rattle.aos_base.specs.Book.{Where}
 use Rattle.aos_base.specs.Machine.{Turn, Machine, State, start_of}
 use Rattle.aos_base.specs.Question.{Val, Asks, Traps, feed, Reads, Stores, Ends, Makes, Starts, PutsInt, PutsLn}
-use Rattle.aos_typed.specs.declared.tree.TModule.{TModule}
-use Rattle.aos_typed.specs.declared.tree.TVariable.{TVariable}
 use Rattle.aos_typed.specs.declared.tree.TType.{TType}
 use Rattle.aos_typed.specs.declared.tree.TType.TheVariants as type
-use Rattle.aos_typed.specs.declared.tree.TObject.{TObject}
-use Rattle.aos_typed.specs.declared.tree.Program.{Program}
-use Rattle.aos_typed.specs.declared.tree.TStat.{TStat}
+use Rattle.aos_typed.specs.Program.{Stats, Variable, ObjectType, Module, Program}
 use Rattle.aos_typed.specs.Value.{Value, Int, Flag, Object}
 use Rattle.aos_typed.specs.Store.{Content, Scalar, Store, read, write, type_of_object, with_object, new_number, has_room}
-use Rattle.aos_typed.specs.Meaning.{Question, Doing, Item, Do, do_each, item_of, pos_of}
+use Rattle.aos_typed.specs.Meaning.{Question, Doing, Item, Do, items_of, item_of, pos_of}
 
 -- a frame: the module of its text, the statement last begun, the items that remain, and the answers that the first of
 -- them has had, if it has begun
@@ -145,16 +141,16 @@ past [] = []
 past (f ∷ fs) = answered done f ∷ fs
 
 -- the frame of a body: of this module, and with these statements
-abbrev pub body_frame : ℕ → List TStat → Frame
-body_frame home ss = record { home = home; at = None; items = do_each ss; answers = None }
+abbrev pub body_frame : ℕ → Stats → Frame
+body_frame home ss = record { home = home; at = None; items = items_of ss; answers = None }
 
-abbrev pub object_frames : Option TObject → Frames
+abbrev pub object_frames : Option ObjectType → Frames
 object_frames None = []
-object_frames (Some t) = body_frame t.home t.body.items ∷ []
+object_frames (Some t) = body_frame t.home t.body ∷ []
 
 -- the frames with which an object's activity begins
 abbrev pub body_of : Program → Store → ℕ → Frames
-body_of p s o = object_frames (option_and_then (slice_get p.objects.items) (type_of_object o s))
+body_of p s o = object_frames (option_and_then (slice_get p.objects) (type_of_object o s))
 
 -- a program as a machine under the kernel
 abbrev pub source : Program → Machine Store Frames
@@ -175,20 +171,20 @@ abbrev pub first_value : TType → Value
 first_value type.LongInt = Int (pos 0)
 first_value (type.Object t) = Object 0
 
-abbrev pub first_contents : List TVariable → List Content
+abbrev pub first_contents : List Variable → List Content
 first_contents vs = map (λ v. Scalar (first_value v.of)) vs
 
 abbrev pub first_store : Program → Store
-first_store p = record { modules = map (λ m. first_contents m.variables.items) p.modules.items; objects = [] }
+first_store p = record { modules = map (λ m. first_contents m.variables) p.modules; objects = [] }
 
 -- the frames of the bodies, in load order; the first module has the number `from`
-abbrev pub bodies_from : ℕ → List TModule → Frames
+abbrev pub bodies_from : ℕ → List Module → Frames
 bodies_from from [] = []
-bodies_from from (m ∷ ms) = body_frame from m.body.items ∷ bodies_from (suc from) ms
+bodies_from from (m ∷ ms) = body_frame from m.body ∷ bodies_from (suc from) ms
 
 -- activity 0 runs the bodies of the modules
 abbrev pub first_frames : Program → Frames
-first_frames p = bodies_from 0 p.modules.items
+first_frames p = bodies_from 0 p.modules
 
 abbrev pub first_state : Program → ℕ → State Store Frames
 first_state p budget = start_of (first_store p) (first_frames p) budget

@@ -1,0 +1,56 @@
+-- The typed program as clauses see it: trees and lists, whatever memory the code keeps it in.
+-- Literals, operators and types have no parts in memory, so they are the code's own.
+use Rattle.std.specs.Prelude.{ℕ, List}
+use Rattle.aos_base.specs.declared.text.Pos.{Pos}
+use Rattle.aos_base.specs.declared.number.Relation.{Relation}
+use Rattle.aos_typed.specs.declared.tree.Literal.{Literal}
+use Rattle.aos_typed.specs.declared.tree.Binary.{Binary as Operator}
+use Rattle.aos_typed.specs.declared.tree.TType.{TType}
+
+-- a designator: a variable of a module, by the module's number in load order and the variable's number
+pub data Place : Type 0 where
+  ModuleVar : (home number : ℕ) → Place
+
+pub data Expr : Type 0 where
+  Lit : Literal → Expr
+  Read : Place → Expr
+  Binary : Operator → Expr → Expr → Expr
+  Compare : Relation → Expr → Expr → Expr
+
+-- a call of a procedure of module Out: the number, and in how many places it stands
+pub data Call : Type 0 where
+  Int : Expr → Expr → Call
+  Ln : Call
+
+-- a statement with its place in the text, and a sequence of them
+mutual
+  pub data Stat : Type 0 where
+    Assign : Pos → Place → Expr → Stat
+    While : Pos → Expr → Stats → Stat
+    New : Pos → Place → ℕ → Stat
+    Out : Pos → Call → Stat
+
+  pub data Stats : Type 0 where
+    Nothing : Stats
+    Then : Stat → Stats → Stats
+
+-- names are lists of bytes
+pub record Variable : Type 0 where
+  pub name : List ℕ
+  pub of : TType
+
+-- an object type whose objects are active, with the number of its module and the statements of its body
+pub record ObjectType : Type 0 where
+  pub name : List ℕ
+  pub home : ℕ
+  pub body : Stats
+
+pub record Module : Type 0 where
+  pub name : List ℕ
+  pub variables : List Variable
+  pub body : Stats
+
+-- the modules in load order, and the object types
+pub record Program : Type 0 where
+  pub modules : List Module
+  pub objects : List ObjectType

@@ -1,0 +1,58 @@
+-- What the code's program is seen as: boxes and vectors are left out, and names are their bytes.
+use Rattle.std.specs.Prelude.{List, [], ◌∷◌, map}
+use Rattle.std.specs.String.{string_bytes}
+use Rattle.aos_typed.specs.declared.tree.TPlace.{TPlace}
+use Rattle.aos_typed.specs.declared.tree.TPlace.TheVariants as place
+use Rattle.aos_typed.specs.declared.tree.TExpr.{TExpr}
+use Rattle.aos_typed.specs.declared.tree.TExpr.TheVariants as expr
+use Rattle.aos_typed.specs.declared.tree.OutCall.{OutCall}
+use Rattle.aos_typed.specs.declared.tree.OutCall.TheVariants as call
+use Rattle.aos_typed.specs.declared.tree.TStat.{TStat, Row_of-TStat, end_of-TStat, more_of-TStat}
+use Rattle.aos_typed.specs.declared.tree.TStat.TheVariants as stat
+use Rattle.aos_typed.specs.declared.tree.TVariable.{TVariable}
+use Rattle.aos_typed.specs.declared.tree.TObject.{TObject}
+use Rattle.aos_typed.specs.declared.tree.TModule.{TModule}
+use Rattle.aos_typed.specs.declared.tree.Program.{Program as TProgram}
+use Rattle.aos_typed.specs.Program.{Place, ModuleVar, Expr, Lit, Read, Binary, Compare, Call, Int, Ln, Stat, Assign, While, New, Out, Stats, Nothing, Then, Variable, ObjectType, Module, Program}
+
+abbrev pub seen_place : TPlace → Place
+seen_place (place.ModuleVar m k) = ModuleVar m k
+
+abbrev pub seen_expr : TExpr → Expr
+seen_expr (expr.Lit l) = Lit l
+seen_expr (expr.Read p) = Read (seen_place p)
+seen_expr (expr.Binary' op p a q b) = Binary op (seen_expr a) (seen_expr b)
+seen_expr (expr.Compare' r p a q b) = Compare r (seen_expr a) (seen_expr b)
+
+abbrev pub seen_call : OutCall → Call
+seen_call (call.Int e n) = Int (seen_expr e) (seen_expr n)
+seen_call call.Ln = Ln
+
+abbrev mutual
+  pub seen_stat : TStat → Stat
+  seen_stat (stat.Assign at p e) = Assign at (seen_place p) (seen_expr e)
+  seen_stat (stat.While' at e shape body) = While at (seen_expr e) (seen_row body)
+  seen_stat (stat.New at p t) = New at (seen_place p) t
+  seen_stat (stat.Out at c) = Out at (seen_call c)
+
+  pub seen_row : {m : _} → Row_of-TStat m → Stats
+  seen_row end_of-TStat = Nothing
+  seen_row (more_of-TStat s ss) = Then (seen_stat s) (seen_row ss)
+
+-- a row of statements is seen as their list is
+abbrev pub seen_stats : List TStat → Stats
+seen_stats [] = Nothing
+seen_stats (s ∷ ss) = Then (seen_stat s) (seen_stats ss)
+
+abbrev pub seen_variable : TVariable → Variable
+seen_variable v = record { name = string_bytes v.name; of = v.of }
+
+abbrev pub seen_object : TObject → ObjectType
+seen_object o = record { name = string_bytes o.name; home = o.home; body = seen_stats o.body.items }
+
+abbrev pub seen_module : TModule → Module
+seen_module m =
+    record { name = string_bytes m.name; variables = map seen_variable m.variables.items; body = seen_stats m.body.items }
+
+abbrev pub seen_program : TProgram → Program
+seen_program p = record { modules = map seen_module p.modules.items; objects = map seen_object p.objects.items }
