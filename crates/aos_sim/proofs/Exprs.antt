@@ -4,15 +4,11 @@ use Rattle.std.specs.Prelude.{ℤ, option_map, ◌+ℤ◌, ◌-ℤ◌}
 use Rattle.aos_base.specs.Number.{if_within, holds}
 use Rattle.aos_base.specs.Question.{Val, Asks, Traps, bind, Reads, Stores, Ends, Makes, Starts, PutsInt, PutsLn}
 use Rattle.aos_typed.specs.declared.tree.Literal.TheVariants.{Int as IntLiteral}
-use Rattle.aos_typed.specs.declared.tree.Binary.{Binary}
+use Rattle.aos_typed.specs.declared.tree.Binary.{Binary as Operator}
 use Rattle.aos_typed.specs.declared.tree.Binary.TheVariants.{Add as AddOf, Sub as SubOf}
-use Rattle.aos_typed.specs.declared.tree.TPlace.{TPlace}
-use Rattle.aos_typed.specs.declared.tree.TPlace.TheVariants.{ModuleVar}
-use Rattle.aos_typed.specs.declared.tree.TExpr.{TExpr}
-use Rattle.aos_typed.specs.declared.tree.TExpr.TheVariants.{Lit, Read, Binary', Compare'}
 use Rattle.aos_typed.specs.declared.tree.TType.{TType}
 use Rattle.aos_typed.specs.declared.tree.TType.TheVariants as type
-use Rattle.aos_typed.specs.declared.tree.Program.{Program}
+use Rattle.aos_typed.specs.Program.{Place as Designator, ModuleVar, Expr, Lit, Read, Binary, Compare, Program}
 use Rattle.aos_typed.specs.Value.{Value, Int, Flag, Object, binary, or_overflow, compare}
 use Rattle.aos_typed.specs.Store.{Spot, Root, ModuleRoot}
 use Rattle.aos_typed.specs.Meaning as source
@@ -170,7 +166,7 @@ module _ (program : Program) (code : List Instr) where
   overflow_does None rest at s m e = e
   overflow_does (Some z) rest at s m e = record { kind = refl; run = e }
 
-  binary_does : (op : Binary) (a b : ℤ) (rest : List Instr) (at : ℕ) (s : Stack) (m : Run) → m ≡ runs code (binary_code op ∷ rest) 0 at (Num b ∷ (Num a ∷ s)) → Does program (Pushed code Number rest (at + 1) s) m (binary op (Int a) (Int b))
+  binary_does : (op : Operator) (a b : ℤ) (rest : List Instr) (at : ℕ) (s : Stack) (m : Run) → m ≡ runs code (binary_code op ∷ rest) 0 at (Num b ∷ (Num a ∷ s)) → Does program (Pushed code Number rest (at + 1) s) m (binary op (Int a) (Int b))
   binary_does (AddOf w) a b rest at s m e = overflow_does (if_within w (a +ℤ b)) rest at s m e
   binary_does (SubOf w) a b rest at s m e = overflow_does (if_within w (a -ℤ b)) rest at s m e
 
@@ -178,29 +174,29 @@ module _ (program : Program) (code : List Instr) where
   behind_operands : (ca cb : List Instr) (x : Instr) (at : ℕ) → at + length ca + length cb + 1 ≡ at + length (operands_code ca cb x)
   behind_operands ca cb x at = omega (arith, length-append ca (cb ++ x ∷ []), length-append cb (x ∷ []))
 
-  pub place_does : (p : TPlace) (at : ℕ) (rest : List Instr) (s : Stack) → Does program (Named (place_type program p) rest (at + length (place_code p at)) s) (runs code (place_code p at ++ rest) 0 at s) (place_of p)
+  pub place_does : (p : Designator) (at : ℕ) (rest : List Instr) (s : Stack) → Does program (Named (place_type program p) rest (at + length (place_code p at)) s) (runs code (place_code p at ++ rest) 0 at s) (place_of p)
   place_does (ModuleVar m k) at rest s = record { of = refl; run = refl }
 
   mutual
-    pub integer_does : (e : TExpr) → IsInteger program e → (at : ℕ) → Evaluates Number (value_code e at) (value_of e) at
+    pub integer_does : (e : Expr) → IsInteger program e → (at : ℕ) → Evaluates Number (value_code e at) (value_of e) at
     integer_does (Lit (IntLiteral n)) ok at rest s = record { kind = refl; run = refl }
     integer_does (Read (ModuleVar m k)) ok at rest s =
         let n : at + 1 + 1 ≡ at + 2 = omega arith in
         subst (λ n. Does program (Pushed code Number rest n s) (runs code (i.Module m k ∷ (i.Load N ∷ rest)) 0 at s) (value_of (Read (ModuleVar m k)))) n
         ((λ x. runs code rest 0 (at + 1 + 1) (x ∷ s)), refl, tt, λ v c. record { kind = is_number (variable_type program m k) v ok c; run = refl })
-    integer_does (Binary' op p a q b) ok at rest s =
+    integer_does (Binary op a b) ok at rest s =
         let ca = value_code a at in
         let cb = value_code b (at + length ca) in
         operands_do (Pushed code Number rest (at + length (operands_code ca cb (binary_code op))) s) (binary_code op) (binary op) ca cb (value_of a) (value_of b) at rest s
         (integer_does a ok.0 at) (integer_does b ok.1 (at + length ca))
         (λ x y m e. subst (λ n. Does program (Pushed code Number rest n s) m (binary op (Int x) (Int y))) (behind_operands ca cb (binary_code op) at) (binary_does op x y rest (at + length ca + length cb) s m e))
-    integer_does (Compare' r p a q b) ok at rest s = absurd ok
+    integer_does (Compare r a b) ok at rest s = absurd ok
 
-  pub boolean_does : (e : TExpr) → IsBoolean program e → (at : ℕ) → Evaluates Truth (value_code e at) (value_of e) at
+  pub boolean_does : (e : Expr) → IsBoolean program e → (at : ℕ) → Evaluates Truth (value_code e at) (value_of e) at
   boolean_does (Lit l) ok at rest s = absurd ok
   boolean_does (Read p) ok at rest s = absurd ok
-  boolean_does (Binary' op p a q b) ok at rest s = absurd ok
-  boolean_does (Compare' r p a q b) ok at rest s =
+  boolean_does (Binary op a b) ok at rest s = absurd ok
+  boolean_does (Compare r a b) ok at rest s =
       let ca = value_code a at in
       let cb = value_code b (at + length ca) in
       operands_do (Pushed code Truth rest (at + length (operands_code ca cb (i.Cmp r))) s) (i.Cmp r) (compare r) ca cb (value_of a) (value_of b) at rest s

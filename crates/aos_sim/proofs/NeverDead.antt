@@ -5,7 +5,7 @@ use Rattle.aos_base.specs.declared.kernel.Outcome.TheVariants.{Dead}
 use Rattle.aos_base.specs.Machine.{Choice, execution}
 use Rattle.aos_base.specs.Observation.{observation}
 use Rattle.aos_base.specs.Question.{Val, Asks, Traps, feed, Reads, Stores, Ends, Makes, Starts, PutsInt, PutsLn}
-use Rattle.aos_typed.specs.declared.tree.Program.{Program}
+use Rattle.aos_typed.specs.Program.{Program}
 use Rattle.aos_typed.specs.Value.{Value, Int, Flag, Object}
 use Rattle.aos_typed.specs.Store.{Store, read, has_room}
 use Rattle.aos_typed.specs.Meaning.{Question, Doing, Item, Do, item_of}

@@ -6,17 +6,13 @@ use Rattle.std.proofs.lemmas.List.Elements.{All-tail}
 use Rattle.std.proofs.lemmas.Option.{slice_get-map}
 use Rattle.aos_base.specs.Book.{Where}
 use Rattle.aos_base.specs.Machine.{Choice, execution}
-use Rattle.aos_typed.specs.declared.tree.Program.{Program}
-use Rattle.aos_typed.specs.declared.tree.TModule.{TModule}
-use Rattle.aos_typed.specs.declared.tree.TObject.{TObject}
-use Rattle.aos_typed.specs.declared.tree.TStat.{TStat}
+use Rattle.aos_typed.specs.Program.{Stats, Variable, ObjectType, Module, Program}
 use Rattle.aos_typed.specs.declared.tree.TType.{TType}
 use Rattle.aos_typed.specs.declared.tree.TType.TheVariants as type
-use Rattle.aos_typed.specs.declared.tree.TVariable.{TVariable}
 use Rattle.aos_typed.specs.Value.{Value}
 use Rattle.aos_typed.specs.Store.{Store, value_in}
 use Rattle.aos_typed.specs.Source as S
-use Rattle.aos_typed.specs.WellTyped.{IsStatement, IsWellTyped}
+use Rattle.aos_typed.specs.WellTyped.{AreStatements, IsWellTyped}
 use Rattle.aos_code.specs.declared.instr.Instr.{Instr}
 use Rattle.aos_code.specs.declared.instr.Instr.TheVariants as i
 use Rattle.aos_code.specs.declared.image.Image.{Image}
@@ -35,7 +31,7 @@ use Rattle.aos_sim.specs.Code.{stats_code, body_code, zero_cell}
 use Rattle.aos_sim.specs.Shows.{numbers_from, IsCodeOf, Shows}
 use Rattle.aos_sim.proofs.Runs.{Stands}
 use Rattle.aos_sim.proofs.Exprs.{cell_of, sort_of, sort_of_type}
-use Rattle.aos_sim.proofs.Stats.{carries_list}
+use Rattle.aos_sim.proofs.Stats.{carries_body}
 use Rattle.aos_sim.proofs.Stores.{SameStore}
 use Rattle.aos_sim.proofs.Turns.{SameFrame, SameFrames, Together, turn_alike}
 
@@ -83,11 +79,11 @@ length-numbers k (x ∷ xs) = ap (λ n. suc n) (length-numbers (suc k) xs)
 -- The beginning
 
 -- what is known of each variable's first value by its type
-first_values : {A : Type 0} (f : TType → A) (g : Value → A) → ((t : TType) → f t ≡ g (S.first_value t)) → (ms : List TModule) → map (λ (m : TModule). map (λ (v : TVariable). f v.of) m.variables.items) ms ≡ map (λ vs. map (λ c. g (value_in c)) vs) (map (λ (m : TModule). S.first_contents m.variables.items) ms)
+first_values : {A : Type 0} (f : TType → A) (g : Value → A) → ((t : TType) → f t ≡ g (S.first_value t)) → (ms : List Module) → map (λ (m : Module). map (λ (v : Variable). f v.of) m.variables) ms ≡ map (λ vs. map (λ c. g (value_in c)) vs) (map (λ (m : Module). S.first_contents m.variables) ms)
 first_values f g e [] = refl
-first_values f g e (m ∷ ms) = λ j. in_module m.variables.items j ∷ first_values f g e ms j
+first_values f g e (m ∷ ms) = λ j. in_module m.variables j ∷ first_values f g e ms j
   where
-    in_module : (vs : List TVariable) → map (λ (v : TVariable). f v.of) vs ≡ map (λ c. g (value_in c)) (S.first_contents vs)
+    in_module : (vs : List Variable) → map (λ (v : Variable). f v.of) vs ≡ map (λ c. g (value_in c)) (S.first_contents vs)
     in_module [] = refl
     in_module (v ∷ vs) = λ j. e v.of j ∷ in_module vs j
 
@@ -108,23 +104,23 @@ home_found None k e = absurd (cc)
 home_found (Some b) k e = cc
 
 module _ (p : Program) (image : Image) (well : IsWellTyped p) (ok : IsCodeOf p image) where
-  abbrev ms : List TModule
-  ms = p.modules.items
+  abbrev ms : List Module
+  ms = p.modules
 
-  abbrev os : List TObject
-  os = p.objects.items
+  abbrev os : List ObjectType
+  os = p.objects
 
   first_store_same : SameStore p (S.first_store p) (I.first_memory image)
   first_store_same =
       record { cells = ok.cells ∙ first_values zero_cell cell_of zero_first ms; sorts = sym (first_values sort_of_type sort_of sort_first ms); objects = refl }
 
   -- what is known of the procedure of number k, counted from 0: the body of these statements, in this module
-  record Linked (k m : ℕ) (ss : List TStat) : Type 0 where
+  record Linked (k m : ℕ) (ss : Stats) : Type 0 where
     pub home : home_of image (suc k) ≡ m
     pub code : code_of image (suc k) ≡ body_code ss
-    pub typed : All (IsStatement p) ss
+    pub typed : AreStatements p ss
 
-  linked : (k home : ℕ) (ss : List TStat) → slice_get (numbers_from 0 ms ++ map (λ o. o.home) os) k ≡ Some home → slice_get (map (λ m. body_code m.body.items) ms ++ map (λ o. body_code o.body.items) os) k ≡ Some (body_code ss) → All (IsStatement p) ss → Linked k home ss
+  linked : (k home : ℕ) (ss : Stats) → slice_get (numbers_from 0 ms ++ map (λ o. o.home) os) k ≡ Some home → slice_get (map (λ m. body_code m.body) ms ++ map (λ o. body_code o.body) os) k ≡ Some (body_code ss) → AreStatements p ss → Linked k home ss
   linked k home ss eh ec typed =
       record {
         home = home_found (slice_get image.shapes.items k) home (sym (slice_get-map (λ (s : ProcShape). s.module) image.shapes.items k) ∙ ap (λ l. slice_get l k) ok.homes ∙ eh);
@@ -132,30 +128,30 @@ module _ (p : Program) (image : Image) (well : IsWellTyped p) (ok : IsCodeOf p i
         typed = typed;
       }
 
-  linked_module : (k : ℕ) (m : TModule) → slice_get ms k ≡ Some m → Linked k k m.body.items
+  linked_module : (k : ℕ) (m : Module) → slice_get ms k ≡ Some m → Linked k k m.body
   linked_module k m e =
       let z : 0 + k ≡ k = omega arith in
-      linked k k m.body.items
+      linked k k m.body
       (get_left (numbers_from 0 ms) (map (λ o. o.home) os) k k (number_at 0 k ms ∙ ap (option_map (λ x. 0 + k)) e ∙ ap (λ j. Some j) z))
-      (get_left (map (λ m. body_code m.body.items) ms) (map (λ o. body_code o.body.items) os) k (body_code m.body.items) (slice_get-map (λ (x : TModule). body_code x.body.items) ms k ∙ ap (option_map (λ (x : TModule). body_code x.body.items)) e))
-      (all_get (λ x. All (IsStatement p) x.body.items) ms k m well.bodies e)
+      (get_left (map (λ m. body_code m.body) ms) (map (λ o. body_code o.body) os) k (body_code m.body) (slice_get-map (λ (x : Module). body_code x.body) ms k ∙ ap (option_map (λ (x : Module). body_code x.body)) e))
+      (all_get (λ x. AreStatements p x.body) ms k m well.bodies e)
 
-  linked_object : (t : ℕ) (o : TObject) → slice_get os t ≡ Some o → Linked (length ms + t) o.home o.body.items
+  linked_object : (t : ℕ) (o : ObjectType) → slice_get os t ≡ Some o → Linked (length ms + t) o.home o.body
   linked_object t o e =
       let n : length ms + t ≡ length (numbers_from 0 ms) + t = ap (λ j. j + t) (sym (length-numbers 0 ms)) in
-      let c : length ms + t ≡ length (map (λ (m : TModule). body_code m.body.items) ms) + t = ap (λ j. j + t) (sym (length-map ms (λ (m : TModule). body_code m.body.items))) in
-      linked (length ms + t) o.home o.body.items
-      (get_right (numbers_from 0 ms) (map (λ o. o.home) os) (length ms + t) t n ∙ slice_get-map (λ (x : TObject). x.home) os t ∙ ap (option_map (λ (x : TObject). x.home)) e)
-      (get_right (map (λ m. body_code m.body.items) ms) (map (λ o. body_code o.body.items) os) (length ms + t) t c ∙ slice_get-map (λ (x : TObject). body_code x.body.items) os t ∙ ap (option_map (λ (x : TObject). body_code x.body.items)) e)
-      (all_get (λ x. All (IsStatement p) x.body.items) os t o well.objects e)
+      let c : length ms + t ≡ length (map (λ (m : Module). body_code m.body) ms) + t = ap (λ j. j + t) (sym (length-map ms (λ (m : Module). body_code m.body))) in
+      linked (length ms + t) o.home o.body
+      (get_right (numbers_from 0 ms) (map (λ o. o.home) os) (length ms + t) t n ∙ slice_get-map (λ (x : ObjectType). x.home) os t ∙ ap (option_map (λ (x : ObjectType). x.home)) e)
+      (get_right (map (λ m. body_code m.body) ms) (map (λ o. body_code o.body) os) (length ms + t) t c ∙ slice_get-map (λ (x : ObjectType). body_code x.body) os t ∙ ap (option_map (λ (x : ObjectType). body_code x.body)) e)
+      (all_get (λ x. AreStatements p x.body) os t o well.objects e)
 
-  first_frame_same : (k home : ℕ) (ss : List TStat) → Linked k home ss → SameFrame p image (S.body_frame home ss) (frame_of (suc k))
+  first_frame_same : (k home : ℕ) (ss : Stats) → Linked k home ss → SameFrame p image (S.body_frame home ss) (frame_of (suc k))
   first_frame_same k home ss l =
       let code = code_of image (suc k) in
       let stands : Stands code 0 (stats_code ss 0 ++ i.Return ∷ []) = record { rest = []; here = l.code ∙ sym (append-nil (body_code ss)) } in
-      record { home = l.home; at = refl; remains = (refl, carries_list p code ss 0 l.typed stands) }
+      record { home = l.home; at = refl; remains = (refl, carries_body p code ss 0 l.typed stands) }
 
-  frames_same : (k : ℕ) (ms : List TModule) (ds : List ModuleDesc) → ((j : ℕ) (m : TModule) → slice_get ms j ≡ Some m → Linked (k + j) (k + j) m.body.items) → map (λ (d : ModuleDesc). d.body) ds ≡ numbers_from (suc k) ms → SameFrames p image (S.bodies_from k ms) (flat_map (λ (d : ModuleDesc). body_frames d.body) ds)
+  frames_same : (k : ℕ) (ms : List Module) (ds : List ModuleDesc) → ((j : ℕ) (m : Module) → slice_get ms j ≡ Some m → Linked (k + j) (k + j) m.body) → map (λ (d : ModuleDesc). d.body) ds ≡ numbers_from (suc k) ms → SameFrames p image (S.bodies_from k ms) (flat_map (λ (d : ModuleDesc). body_frames d.body) ds)
   frames_same k [] [] each e = tt
   frames_same k [] (d ∷ ds) each e = absurd (cc)
   frames_same k (m ∷ ms) [] each e = absurd (cc)
@@ -163,22 +159,22 @@ module _ (p : Program) (image : Image) (well : IsWellTyped p) (ok : IsCodeOf p i
       let here : d.body ≡ suc k = cc in
       let rest : map (λ (x : ModuleDesc). x.body) ds ≡ numbers_from (suc (suc k)) ms = cc in
       let n : k + 0 ≡ k = omega arith in
-      let now = first_frame_same k k m.body.items (subst (λ j. Linked j j m.body.items) n (each 0 m refl)) in
-      let below = frames_same (suc k) ms ds (λ j x at. let n' : k + suc j ≡ suc k + j = omega arith in subst (λ q. Linked q q x.body.items) n' (each (suc j) x at)) rest in
+      let now = first_frame_same k k m.body (subst (λ j. Linked j j m.body) n (each 0 m refl)) in
+      let below = frames_same (suc k) ms ds (λ j x at. let n' : k + suc j ≡ suc k + j = omega arith in subst (λ q. Linked q q x.body) n' (each (suc j) x at)) rest in
       subst (λ b. SameFrames p image (S.bodies_from k (m ∷ ms)) (body_frames b ++ flat_map (λ (x : ModuleDesc). body_frames x.body) ds)) (sym here) (now, below)
 
   -- the frames of an object's activity, by the object's type on both sides
-  object_same : (t : ℕ) (o : Option TObject) (d : Option TypeDesc) → slice_get os t ≡ o → slice_get image.types.items t ≡ d → SameFrames p image (S.object_frames o) (body_in d)
+  object_same : (t : ℕ) (o : Option ObjectType) (d : Option TypeDesc) → slice_get os t ≡ o → slice_get image.types.items t ≡ d → SameFrames p image (S.object_frames o) (body_in d)
   object_same t o d eo ed = by_case o d eo (ap (option_map (λ (x : TypeDesc). x.body)) (sym ed) ∙ sym (slice_get-map (λ (x : TypeDesc). x.body) image.types.items t) ∙ ap (λ l. slice_get l t) ok.types ∙ number_at (suc (length ms)) t os ∙ ap (option_map (λ x. suc (length ms) + t)) eo)
     where
-      by_case : (o : Option TObject) (d : Option TypeDesc) → slice_get os t ≡ o → option_map (λ (x : TypeDesc). x.body) d ≡ option_map (λ x. suc (length ms) + t) o → SameFrames p image (S.object_frames o) (body_in d)
+      by_case : (o : Option ObjectType) (d : Option TypeDesc) → slice_get os t ≡ o → option_map (λ (x : TypeDesc). x.body) d ≡ option_map (λ x. suc (length ms) + t) o → SameFrames p image (S.object_frames o) (body_in d)
       by_case None None eo e = tt
       by_case None (Some d) eo e = absurd (cc)
       by_case (Some o) None eo e = absurd (cc)
       by_case (Some o) (Some d) eo e =
           let here : d.body ≡ suc (length ms) + t = cc in
           let n : suc (length ms) + t ≡ suc (length ms + t) = omega arith in
-          subst (λ b. SameFrames p image (S.object_frames (Some o)) (body_frames b)) (sym (here ∙ n)) (first_frame_same (length ms + t) o.home o.body.items (linked_object t o eo), tt)
+          subst (λ b. SameFrames p image (S.object_frames (Some o)) (body_frames b)) (sym (here ∙ n)) (first_frame_same (length ms + t) o.home o.body (linked_object t o eo), tt)
 
   body_same : (s : Store) (mem : Memory) (o : ℕ) → SameStore p s mem → SameFrames p image (S.body_of p s o) (I.body_of image mem o)
   body_same s mem zero stores = tt
@@ -212,7 +208,7 @@ module _ (p : Program) (image : Image) (well : IsWellTyped p) (ok : IsCodeOf p i
   matched budget choices =
       execution_matches (SameStore p) (Together p image) Anyone (S.source p) (machine image) simulates choices (S.first_state p budget) (I.first_state image budget) (λ later a l asks. tt)
       (start_matches (SameStore p) (Together p image) Anyone (S.source p) (machine image) simulates (S.first_store p) (I.first_memory image) (S.first_frames p) (I.first_frames image) budget first_store_same
-      (record { now = frames_same 0 ms image.modules.items (λ j m e. let n : j ≡ 0 + j = omega arith in subst (λ q. Linked q q m.body.items) n (linked_module j m e)) ok.starts; behind = λ k. absurd k }))
+      (record { now = frames_same 0 ms image.modules.items (λ j m e. let n : j ≡ 0 + j = omega arith in subst (λ q. Linked q q m.body) n (linked_module j m e)) ok.starts; behind = λ k. absurd k }))
 
   pub shown : Shows p image
   shown = record {

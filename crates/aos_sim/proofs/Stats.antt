@@ -1,29 +1,21 @@
 -- The code of a statement does what the statement does, and what is left of a body is carried out from the place that it leaves.
-use Rattle.std.proofs.Common.{◌≡◌, ℕ, suc, ◌+◌, ◌-◌, ◌<◌, ◌≤◌, true, false, List, [], ◌∷◌, ◌++◌, length, drop, Some, refl, sym, ap, ◌∙◌, subst, arith, append_assoc, length-append}
-use Rattle.std.specs.Prelude.{slice_get, option_map, All}
+use Rattle.std.proofs.Common.{◌≡◌, ℕ, suc, ◌+◌, ◌-◌, ◌<◌, ◌≤◌, true, false, List, [], ◌∷◌, ◌++◌, length, drop, Some, refl, sym, ap, ◌∙◌, subst, arith, append-nil, append_assoc, length-append}
+use Rattle.std.specs.Prelude.{slice_get, option_map}
 use Rattle.std.proofs.lemmas.Bool.{le-ltb, lt-ltb}
-use Rattle.std.proofs.lemmas.List.Elements.{All-tail}
 use Rattle.aos_base.specs.declared.text.Pos.{Pos}
 use Rattle.aos_base.specs.Question.{Val, Asks, bind, ask, Stores, Starts, PutsInt, PutsLn}
-use Rattle.aos_typed.specs.declared.tree.TPlace.{TPlace}
-use Rattle.aos_typed.specs.declared.tree.TPlace.TheVariants.{ModuleVar}
-use Rattle.aos_typed.specs.declared.tree.TExpr.{TExpr}
-use Rattle.aos_typed.specs.declared.tree.OutCall.{OutCall}
-use Rattle.aos_typed.specs.declared.tree.OutCall.TheVariants.{Int as OutInt, Ln as OutLn}
-use Rattle.aos_typed.specs.declared.tree.TStat.{TStat, Row_of-TStat, end_of-TStat, more_of-TStat}
-use Rattle.aos_typed.specs.declared.tree.TStat.TheVariants.{Assign, While', New, Out}
 use Rattle.aos_typed.specs.declared.tree.TType.TheVariants as type
-use Rattle.aos_typed.specs.declared.tree.Program.{Program}
+use Rattle.aos_typed.specs.Program.{Place, ModuleVar, Expr, Call, Int as OutInt, Ln as OutLn, Stat, Assign, While, New, Out, Stats, Nothing, Then, Program}
 use Rattle.aos_typed.specs.Value.{Value, Int, Flag, Object}
 use Rattle.aos_typed.specs.Store.{Spot, ModuleRoot}
 use Rattle.aos_typed.specs.Meaning as source
-use Rattle.aos_typed.specs.Meaning.{Doing, Item, Do, items_of, do_each, if_flag, place_of, value_of, stat_of, pos_of, out_of}
+use Rattle.aos_typed.specs.Meaning.{Doing, Item, Do, items_of, if_flag, place_of, value_of, stat_of, pos_of, out_of}
 use Rattle.aos_typed.specs.WellTyped.{place_type, IsBoolean, IsStatement, AreStatements, IsCall}
 use Rattle.aos_code.specs.declared.instr.Instr.{Instr}
 use Rattle.aos_code.specs.declared.instr.Instr.TheVariants as i
 use Rattle.aos_code.specs.declared.instr.Kind.TheVariants.{N, R}
 use Rattle.aos_code.specs.Silent.{Stack, jumps, lands}
-use Rattle.aos_sim.specs.Code.{begin, place_code, operands_code, value_code, while_code, stat_code, row_code, stats_code}
+use Rattle.aos_sim.specs.Code.{begin, place_code, operands_code, value_code, while_code, stat_code, stats_code}
 use Rattle.aos_sim.proofs.Runs.{Run, AtBegin, on_run, runs, run, drop_next, drop_past, get_at, Stands}
 use Rattle.aos_sim.proofs.Exprs.{cell_of, place_in, placed, Number, Truth, Reference, sort_of_type, Is, type_at, IsAsk, Does, along, does_bind, Pushed, Named, passed, operands_do, place_does, integer_does, boolean_does}
 
@@ -41,25 +33,25 @@ module _ (program : Program) (code : List Instr) where
   carries_from [] p q same c = (c.0, (λ s. same s ∙ c.1 s), c.2)
   carries_from (Do st ∷ is) p q same c = (c.0, (λ s. same s ∙ c.1 s), c.2, c.3, c.4)
 
-  carries_row : {m : _} (row : Row_of-TStat m) (p : ℕ) (after : List Item) → AreStatements program row → Stands code p (row_code row p) → Carries after (p + length (row_code row p)) → Carries (items_of row ++ after) p
-  carries_row end_of-TStat p after ok st c = let e : p + 0 ≡ p = omega arith in subst (Carries after) e c
-  carries_row (more_of-TStat s ss) p after ok st c =
+  pub carries_all : (ss : Stats) (p : ℕ) (after : List Item) → AreStatements program ss → Stands code p (stats_code ss p) → Carries after (p + length (stats_code ss p)) → Carries (items_of ss ++ after) p
+  carries_all Nothing p after ok st c = let e : p + 0 ≡ p = omega arith in subst (Carries after) e c
+  carries_all (Then s ss) p after ok st c =
       let cs = stat_code s p in
-      let cr = row_code ss (p + length cs) in
+      let cr = stats_code ss (p + length cs) in
       let split : drop p code ≡ cs ++ (cr ++ st.rest) = st.here ∙ append_assoc cs cr st.rest in
       let next : Stands code (p + length cs) cr = record { rest = st.rest; here = drop_past cs p code (cr ++ st.rest) split } in
       let len : p + length (cs ++ cr) ≡ p + length cs + length cr = omega (arith, length-append cs cr) in
-      (p, (λ s'. refl), record { rest = cr ++ st.rest; here = split }, ok.0, carries_row ss (p + length cs) after ok.1 next (subst (Carries after) len c))
+      (p, (λ s'. refl), record { rest = cr ++ st.rest; here = split }, ok.0, carries_all ss (p + length cs) after ok.1 next (subst (Carries after) len c))
 
-  pub carries_list : (ss : List TStat) (p : ℕ) → All (IsStatement program) ss → Stands code p (stats_code ss p ++ i.Return ∷ []) → Carries (do_each ss) p
-  carries_list [] p ok st = (p, (λ s. refl), st)
-  carries_list (s ∷ ss) p ok st =
-      let cs = stat_code s p in
-      let cr = stats_code ss (p + length cs) in
+  -- a body
+  pub carries_body : (ss : Stats) (p : ℕ) → AreStatements program ss → Stands code p (stats_code ss p ++ i.Return ∷ []) → Carries (items_of ss) p
+  carries_body ss p ok st =
+      let cs = stats_code ss p in
       let last = i.Return ∷ [] in
-      let split : drop p code ≡ cs ++ ((cr ++ last) ++ st.rest) = st.here ∙ simp append_assoc in
-      let next : Stands code (p + length cs) (cr ++ last) = record { rest = st.rest; here = drop_past cs p code ((cr ++ last) ++ st.rest) split } in
-      (p, (λ s'. refl), record { rest = (cr ++ last) ++ st.rest; here = split }, ok 0 s (omega arith), carries_list ss (p + length cs) (All-tail (IsStatement program) s ss ok) next)
+      let split : drop p code ≡ cs ++ (last ++ st.rest) = st.here ∙ append_assoc cs last st.rest in
+      let last_stands : Stands code (p + length cs) last = record { rest = st.rest; here = drop_past cs p code (last ++ st.rest) split } in
+      let all = carries_all ss p [] ok (record { rest = last ++ st.rest; here = split }) (p + length cs, (λ s. refl), last_stands) in
+      subst (λ is. Carries is p) (append-nil (items_of ss)) all
 
   -- where these items take the place of a statement, the code goes on with them and those after them
   abbrev pub Into : List Item → List Item → Run → Type 0
@@ -81,7 +73,7 @@ module _ (program : Program) (code : List Instr) where
   last_asks : (q : source.Question) (m : Run) (p : ℕ) (rest : List Instr) (after : List Item) → m ≡ Asks (placed q) (λ x. runs code rest 0 (p + 1) []) → IsAsk program q → drop (p + 1) code ≡ rest → Carries after (p + 1) → Does program (Into after) m (bind (ask q) (λ _. Val []))
   last_asks q m p rest after e ok here c = ((λ x. runs code rest 0 (p + 1) []), e, ok, λ v a. (p + 1, sym (from_here (p + 1) rest [] here), c))
 
-  assign_does : (pl : TPlace) (e : TExpr) (here : Pos) (at : ℕ) (after : List Item) → IsStatement program (Assign here pl e) → Stands code at (stat_code (Assign here pl e) at) → Carries after (at + length (stat_code (Assign here pl e) at)) → Does program (Into after) (run code (at + 1) []) (stat_of (Assign here pl e))
+  assign_does : (pl : Place) (e : Expr) (here : Pos) (at : ℕ) (after : List Item) → IsStatement program (Assign here pl e) → Stands code at (stat_code (Assign here pl e) at) → Carries after (at + length (stat_code (Assign here pl e) at)) → Does program (Into after) (run code (at + 1) []) (stat_of (Assign here pl e))
   assign_does pl e here at after ok st c =
       let cp = place_code pl (at + 1) in
       let pe = at + 1 + length cp in
@@ -105,7 +97,7 @@ module _ (program : Program) (code : List Instr) where
       stored s (Object n) m p rest o k e' h c' = absurd (cc)
 
   -- the object stays below the place while it's stored, and is started then
-  new_does : (pl : TPlace) (t : ℕ) (here : Pos) (at : ℕ) (after : List Item) → IsStatement program (New here pl t) → Stands code at (stat_code (New here pl t) at) → Carries after (at + length (stat_code (New here pl t) at)) → Does program (Into after) (run code (at + 1) []) (stat_of (New here pl t))
+  new_does : (pl : Place) (t : ℕ) (here : Pos) (at : ℕ) (after : List Item) → IsStatement program (New here pl t) → Stands code at (stat_code (New here pl t) at) → Carries after (at + length (stat_code (New here pl t) at)) → Does program (Into after) (run code (at + 1) []) (stat_of (New here pl t))
   new_does (ModuleVar m k) t here at after ok st c =
       let p = at + 1 + 1 + 1 + 1 + 1 in
       let s5 = i.Start ∷ st.rest in
@@ -132,7 +124,7 @@ module _ (program : Program) (code : List Instr) where
       made (Int z) spot p rest is suits h c' = absurd (cc)
       made (Flag b) spot p rest is suits h c' = absurd (cc)
 
-  out_does : (call : OutCall) (here : Pos) (at : ℕ) (after : List Item) → IsCall program call → Stands code at (stat_code (Out here call) at) → Carries after (at + length (stat_code (Out here call) at)) → Does program (Into after) (run code (at + 1) []) (out_of call)
+  out_does : (call : Call) (here : Pos) (at : ℕ) (after : List Item) → IsCall program call → Stands code at (stat_code (Out here call) at) → Carries after (at + length (stat_code (Out here call) at)) → Does program (Into after) (run code (at + 1) []) (out_of call)
   out_does OutLn here at after ok st c =
       let h1 : drop (at + 1) code ≡ i.OutLn ∷ st.rest = drop_next at code (begin here) (i.OutLn ∷ st.rest) st.here in
       let len : at + 2 ≡ at + 1 + 1 = omega arith in
@@ -158,12 +150,12 @@ module _ (program : Program) (code : List Instr) where
   chosen then otherwise to on p rest after (Int z) m k e en ey cy cn = absurd (cc)
   chosen then otherwise to on p rest after (Object o) m k e en ey cy cn = absurd (cc)
 
-  while_does : (w : TStat) (e : TExpr) {m : _} (b : Row_of-TStat m) (here : Pos) (at : ℕ) (after : List Item) → let c1 = value_code e (at + 1) in let b1 = row_code b (at + 1 + length c1 + 1) in stat_code w at ≡ while_code here c1 b1 at → IsStatement program w → IsBoolean program e → AreStatements program b → Stands code at (stat_code w at) → Carries after (at + length (stat_code w at)) → Does program (Into after) (run code (at + 1) []) (bind (value_of e) (λ v. if_flag v (items_of b ++ Do w ∷ []) []))
+  while_does : (w : Stat) (e : Expr) (b : Stats) (here : Pos) (at : ℕ) (after : List Item) → let c1 = value_code e (at + 1) in let b1 = stats_code b (at + 1 + length c1 + 1) in stat_code w at ≡ while_code here c1 b1 at → IsStatement program w → IsBoolean program e → AreStatements program b → Stands code at (stat_code w at) → Carries after (at + length (stat_code w at)) → Does program (Into after) (run code (at + 1) []) (bind (value_of e) (λ v. if_flag v (items_of b ++ Do w ∷ []) []))
   while_does w e b here at after hw okw oke okb st c =
       let c1 = value_code e (at + 1) in
       let p = at + 1 + length c1 in
       let pb = p + 1 in
-      let b1 = row_code b pb in
+      let b1 = stats_code b pb in
       let pj = pb + length b1 in
       let end = pj + 1 in
       let tail = i.JumpFalse end ∷ (b1 ++ (i.Jump at ∷ st.rest)) in
@@ -178,14 +170,14 @@ module _ (program : Program) (code : List Instr) where
       let le : at ≤ pj = omega arith in
       let back : Same pj at = λ s. from_here pj (i.Jump at ∷ st.rest) s h4 ∙ lands_back at pj here st.rest s le (get_at at code (begin here) (c1 ++ tail) h0) ∙ sym (from_here at (begin here ∷ (c1 ++ tail)) s h0) in
       let again : Carries (Do w ∷ after) pj = (at, back, st, okw, c) in
-      let to_b : Carries ((items_of b ++ Do w ∷ []) ++ after) pb = subst (λ l. Carries l pb) (sym (append_assoc (items_of b) (Do w ∷ []) after)) (carries_row b pb (Do w ∷ after) okb (record { rest = i.Jump at ∷ st.rest; here = h3 }) again) in
+      let to_b : Carries ((items_of b ++ Do w ∷ []) ++ after) pb = subst (λ l. Carries l pb) (sym (append_assoc (items_of b) (Do w ∷ []) after)) (carries_all b pb (Do w ∷ after) okb (record { rest = i.Jump at ∷ st.rest; here = h3 }) again) in
       let over : on_run (jumps code end p []) (runs code (b1 ++ (i.Jump at ∷ st.rest))) p ≡ run code end [] = jump_on (b1 ++ (i.Jump at ∷ st.rest)) end p (length b1 + 1) [] (omega arith) ∙ passed code b1 (i.Jump at ∷ st.rest) 1 (p + 1) [] ∙ sym (from_here end st.rest [] h5) in
       along program (Into after) _ _ (bind (value_of e) (λ v. if_flag v (items_of b ++ Do w ∷ []) [])) (from_here (at + 1) (c1 ++ tail) [] h1)
       (does_bind program (Pushed code Truth tail p []) (Into after) _ (value_of e) (λ v. if_flag v (items_of b ++ Do w ∷ []) []) (boolean_does program code e oke (at + 1) tail [])
       (λ v m h. chosen (items_of b ++ Do w ∷ []) [] end pb p (b1 ++ (i.Jump at ∷ st.rest)) after v m h.kind h.run over (sym (from_here pb (b1 ++ (i.Jump at ∷ st.rest)) [] h3)) to_b (subst (Carries after) len c)))
 
-  pub stat_does : (s : TStat) (at : ℕ) (after : List Item) → IsStatement program s → Stands code at (stat_code s at) → Carries after (at + length (stat_code s at)) → Does program (Into after) (run code (at + 1) []) (stat_of s)
+  pub stat_does : (s : Stat) (at : ℕ) (after : List Item) → IsStatement program s → Stands code at (stat_code s at) → Carries after (at + length (stat_code s at)) → Does program (Into after) (run code (at + 1) []) (stat_of s)
   stat_does (Assign here pl e) at after ok st c = assign_does pl e here at after ok st c
-  stat_does (While' here e shape b) at after ok st c = while_does (While' here e shape b) e b here at after refl ok ok.0 ok.1 st c
+  stat_does (While here e b) at after ok st c = while_does (While here e b) e b here at after refl ok ok.0 ok.1 st c
   stat_does (New here pl t) at after ok st c = new_does pl t here at after ok st c
   stat_does (Out here call) at after ok st c = out_does call here at after ok st c

@@ -3,7 +3,7 @@ use Rattle.std.proofs.Common.{◌≡◌, ℕ, zero, suc, ◌+◌, List, [], ◌�
 use Rattle.std.specs.Prelude.{slice_get, slice_set, option_map, option_and_then}
 use Rattle.std.proofs.lemmas.List.{map-set, map-append}
 use Rattle.std.proofs.lemmas.Option.{slice_get-map}
-use Rattle.aos_typed.specs.declared.tree.Program.{Program}
+use Rattle.aos_typed.specs.Program.{Program}
 use Rattle.aos_typed.specs.Value.{Value}
 use Rattle.aos_typed.specs.Store.{Content, Scalar, Root, ModuleRoot, Spot, Store, value_in, read, write, put_in, with_object}
 use Rattle.aos_code.specs.declared.instr.Cell.{Cell}
@@ -21,7 +21,7 @@ sort_in c = sort_of (value_in c)
 -- each cell holds its variable's value, which is of the variable's type, and the objects have the same types
 pub record SameStore (program : Program) (s : Store) (mem : Memory) : Type 0 where
   pub cells : mem.modules ≡ map (λ vs. map cell_in vs) s.modules
-  pub sorts : map (λ vs. map sort_in vs) s.modules ≡ map (λ m. map (λ v. sort_of_type v.of) m.variables.items) program.modules.items
+  pub sorts : map (λ vs. map sort_in vs) s.modules ≡ map (λ m. map (λ v. sort_of_type v.of) m.variables) program.modules
   pub objects : mem.objects ≡ map (λ t. t + 1) s.objects
 
 -- one element of one row, of which another row has the image
@@ -56,7 +56,7 @@ read_same program p s mem h = by_root p.root
 sort_read : (program : Program) (m k : ℕ) (s : Store) (mem : Memory) → SameStore program s mem → option_and_then (λ r. slice_get r k) (slice_get (map (λ vs. map sort_in vs) s.modules) m) ≡ option_map sort_of_type (type_at program (ModuleRoot m) k)
 sort_read program m k s mem h =
     ap (λ ms. option_and_then (λ r. slice_get r k) (slice_get ms m)) h.sorts
-    ∙ in_rows (λ x. x.variables.items) (λ v. v.of) sort_of_type program.modules.items m k
+    ∙ in_rows (λ x. x.variables) (λ v. v.of) sort_of_type program.modules m k
 
 pub read_suits : (program : Program) (p : Spot) (s : Store) (mem : Memory) (v : Value) → SameStore program s mem → read p s ≡ Some v → Suits program p v
 read_suits program p s mem v h e = by_root p.root e

@@ -6,9 +6,7 @@ use Rattle.aos_base.specs.declared.text.Pos.{Pos}
 use Rattle.aos_base.specs.declared.kernel.Did.{Did}
 use Rattle.aos_base.specs.declared.kernel.Did.TheVariants.{Trapped}
 use Rattle.aos_base.specs.Question.{Val, Asks, Traps, feed, Reads, Stores, Ends, Makes, Starts, PutsInt, PutsLn}
-use Rattle.aos_typed.specs.declared.tree.TStat.{TStat}
-use Rattle.aos_typed.specs.declared.tree.TStat.TheVariants.{Assign, While', New, Out}
-use Rattle.aos_typed.specs.declared.tree.Program.{Program}
+use Rattle.aos_typed.specs.Program.{Stat, Assign, While, New, Out, Program}
 use Rattle.aos_typed.specs.Value.{Value, Int, Flag, Object}
 use Rattle.aos_typed.specs.Store.{Spot, Store, read, has_room, new_number}
 use Rattle.aos_typed.specs.Meaning as source
@@ -56,7 +54,7 @@ module _ (program : Program) where
   does_feed R (v ∷ t) m (Traps n e) c d = absurd c
 
   -- a statement has begun at a place of the code, and on its answers the code has come to another place
-  pub record Begun (code : List Instr) (x : TStat) (is : List Item) (t : List Value) (next : ℕ) (s : Stack) : Type 0 where
+  pub record Begun (code : List Instr) (x : Stat) (is : List Item) (t : List Value) (next : ℕ) (s : Stack) : Type 0 where
     pub start : ℕ
     pub stands : Stands code start (stat_code x start)
     pub typed : IsStatement program x
@@ -97,9 +95,9 @@ module _ (program : Program) (image : Image) where
   AtNext code (Do x ∷ is) m = (at : ℕ) × (m ≡ Val (AtBegin at (pos_of x) [])) × Stands code at (stat_code x at) × IsStatement program x × Carries program code is (at + length (stat_code x at))
 
   -- a statement's code begins with its Begin
-  begins_with : (x : TStat) (code : List Instr) (at : ℕ) → Stands code at (stat_code x at) → run code at [] ≡ Val (AtBegin at (pos_of x) [])
+  begins_with : (x : Stat) (code : List Instr) (at : ℕ) → Stands code at (stat_code x at) → run code at [] ≡ Val (AtBegin at (pos_of x) [])
   begins_with (Assign here p e) code at st = ap (λ l. runs code l 0 at []) st.here
-  begins_with (While' here e shape b) code at st = ap (λ l. runs code l 0 at []) st.here
+  begins_with (While here e b) code at st = ap (λ l. runs code l 0 at []) st.here
   begins_with (New here p t) code at st = ap (λ l. runs code l 0 at []) st.here
   begins_with (Out here call) code at st = ap (λ l. runs code l 0 at []) st.here
 
@@ -126,7 +124,7 @@ module _ (program : Program) (image : Image) where
     ends_alike g (Ended (Fails n c)) k e = absurd (cc)
 
     -- the next statement begins
-    begins_alike : (x : TStat) (is items : List Item) (answers : Option (List Value)) (next : ℕ) (stack : Stack) (stop : Stop) (start : ℕ) → Stands code start (stat_code x start) → IsStatement program x → Carries program code is (start + length (stat_code x start)) → resume code stop ≡ Val (AtBegin start (pos_of x) []) → Alike (S.settles (Do x ∷ is) (upper items answers) fs s) (I.goes stop (lower next stack) gs mem)
+    begins_alike : (x : Stat) (is items : List Item) (answers : Option (List Value)) (next : ℕ) (stack : Stack) (stop : Stop) (start : ℕ) → Stands code start (stat_code x start) → IsStatement program x → Carries program code is (start + length (stat_code x start)) → resume code stop ≡ Val (AtBegin start (pos_of x) []) → Alike (S.settles (Do x ∷ is) (upper items answers) fs s) (I.goes stop (lower next stack) gs mem)
     begins_alike x is items answers next stack (Work q p st) start stands typed after e = absurd (cc)
     begins_alike x is items answers next stack (Ended (Fails n c)) start stands typed after e = absurd (cc)
     begins_alike x is items answers next stack (Ended (Begins p w st)) start stands typed after e =
@@ -145,7 +143,7 @@ module _ (program : Program) (image : Image) where
     settles_alike (Do x ∷ is) items answers next stack stop a = begins_alike x is items answers next stack stop a.0 a.2 a.3 a.4 a.1
 
     -- the questions of a statement that has begun
-    module _ (x : TStat) (is : List Item) (t : List Value) (next : ℕ) (stack : Stack) (b : Begun program code x is t next stack) where
+    module _ (x : Stat) (is : List Item) (t : List Value) (next : ℕ) (stack : Stack) (b : Begun program code x is t next stack) where
       abbrev start : Run
       start = run code (b.start + 1) []
 

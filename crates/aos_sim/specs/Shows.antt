@@ -3,10 +3,8 @@ use Rattle.std.specs.Prelude.{◌≡◌, ℕ, suc, List, [], ◌∷◌, ◌++◌
 use Rattle.std.specs.String.{string_bytes}
 use Rattle.aos_base.specs.Machine.{Choice, execution}
 use Rattle.aos_base.specs.Observation.{observation}
-use Rattle.aos_typed.specs.declared.tree.Program.{Program}
+use Rattle.aos_typed.specs.Program.{Module, ObjectType, Program}
 use Rattle.aos_typed.specs.Source.{source, first_state}
-use Rattle.aos_typed.specs.declared.tree.TModule.{TModule}
-use Rattle.aos_typed.specs.declared.tree.TObject.{TObject}
 use Rattle.aos_code.specs.declared.image.Body.{Body}
 use Rattle.aos_code.specs.declared.image.ProcShape.{ProcShape}
 use Rattle.aos_code.specs.declared.image.ModuleDesc.{ModuleDesc}
@@ -22,17 +20,17 @@ numbers_from k (x ∷ xs) = k ∷ numbers_from (suc k) xs
 
 -- These bodies, shapes and descriptions are the code of these modules and object types: procedure k, counted from 1, is
 -- the body of the k-th module, and behind those of the modules come those of the object types.
-pub record IsCode (ms : List TModule) (os : List TObject) (bs : List Body) (ss : List ProcShape) (ds : List ModuleDesc) (ts : List TypeDesc) : Type 0 where
-  pub bodies : map (λ b. b.code.items) bs ≡ map (λ m. body_code m.body.items) ms ++ map (λ o. body_code o.body.items) os
+pub record IsCode (ms : List Module) (os : List ObjectType) (bs : List Body) (ss : List ProcShape) (ds : List ModuleDesc) (ts : List TypeDesc) : Type 0 where
+  pub bodies : map (λ b. b.code.items) bs ≡ map (λ m. body_code m.body) ms ++ map (λ o. body_code o.body) os
   pub homes : map (λ s. s.module) ss ≡ numbers_from 0 ms ++ map (λ o. o.home) os
   pub starts : map (λ d. d.body) ds ≡ numbers_from 1 ms
   pub types : map (λ t. t.body) ts ≡ numbers_from (suc (length ms)) os
-  pub cells : map (λ d. d.cells.items) ds ≡ map (λ m. map (λ v. zero_cell v.of) m.variables.items) ms
-  pub names : map (λ d. string_bytes d.name) ds ≡ map (λ m. string_bytes m.name) ms
+  pub cells : map (λ d. d.cells.items) ds ≡ map (λ m. map (λ v. zero_cell v.of) m.variables) ms
+  pub names : map (λ d. string_bytes d.name) ds ≡ map (λ m. m.name) ms
 
 -- the image has the program's code
 abbrev pub IsCodeOf : Program → Image → Type 0
-IsCodeOf p image = IsCode p.modules.items p.objects.items image.bodies.items image.shapes.items image.modules.items image.types.items
+IsCodeOf p image = IsCode p.modules p.objects image.bodies.items image.shapes.items image.modules.items image.types.items
 
 -- for every budget and schedule both executions have the same observation and the same events
 pub record Shows (p : Program) (image : Image) : Type 0 where

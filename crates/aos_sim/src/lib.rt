@@ -2,7 +2,7 @@
 //! Its functions do no work; their contracts are the laws.
 #![tactic(auto)]
 
-ghost use Rattle.aos_typed.specs.declared.tree.Program.{Program};
+ghost use Rattle.aos_typed.specs.Program.{Program};
 ghost use Rattle.aos_code.specs.declared.image.Image.{Image};
 ghost use Rattle.aos_typed.specs.WellTyped.{IsWellTyped};
 ghost use Rattle.aos_sim.specs.Shows.{IsCodeOf, Shows};
