@@ -7,9 +7,9 @@ use Rattle.aos_tree.specs.declared.expr.Selector.{Selector, items_hidden-the_row
 use Rattle.aos_tree.specs.declared.expr.Selector.TheVariants as s
 use Rattle.aos_tree.specs.declared.stat.Stat.{Stat}
 use Rattle.aos_typed.specs.declared.tree.TType.{TType}
-use Rattle.aos_typed.specs.declared.tree.OutCall.TheVariants as call
 use Rattle.aos_typed.specs.declared.tree.TStat.{TStat}
-use Rattle.aos_typed.specs.declared.tree.TStat.TheVariants.{Out}
+use Rattle.aos_typed.specs.Program as plain
+use Rattle.aos_typed.specs.Seen.{seen_stats}
 use Rattle.aos_symbols.specs.declared.breach.Breach.{Breach}
 use Rattle.aos_symbols.specs.declared.scope.Entry.{Entry}
 use Rattle.aos_symbols.specs.Breaches.{breach, not_built}
@@ -58,25 +58,25 @@ module _ (text : List ℕ) (scope : List Entry) (types : List TType) (at : Pos) 
       (left first (bodies.selector_breaches more) parts, shown ∙ ap (λ z. s.Paren p es ∷ z) (no_selectors more (right first (bodies.selector_breaches more) parts)))
 
   pub member_line : (n : Name) (more : List Selector) → is_word text (codes "Int") n ≡ false → bodies.member_call text scope types at n more ≡ [] →
-      typed.IsMemberCall text scope types at n more (Out at call.Ln)
+      typed.IsMemberCall text scope types at n more (plain.Out at plain.Ln)
   member_line n more other e =
       let parts = line_parts (is_word text (codes "Int") n) (is_word text (codes "Ln") n) (is_among procedures_of_out (word text n))
       (bodies.int_breaches text scope types at more) (bodies.selector_breaches more) n.pos other e in
-      subst (λ z. typed.IsMemberCall text scope types at n z (Out at call.Ln)) (sym (no_selectors more parts.1)) (typed.line parts.0)
+      subst (λ z. typed.IsMemberCall text scope types at n z (plain.Out at plain.Ln)) (sym (no_selectors more parts.1)) (typed.line parts.0)
 
 module _ (text : List ℕ) (scope : List Entry) (types : List TType) where
   -- one statement more of those that were gone through
   pub stats_step : (all : List Stat) (i : ℕ) (a : Stat) (before after : List TStat) → i < length all → a ≡ get_or all i a →
       typed.AddsStat text scope types a before after →
-      ((more : List TStat) → typed.AreStats text scope types (drop i all) more → typed.AreStats text scope types all (before ++ more)) →
-      (more : List TStat) → typed.AreStats text scope types (drop (i + 1) all) more → typed.AreStats text scope types all (after ++ more)
+      ((more : List TStat) → typed.AreStats text scope types (drop i all) (seen_stats more) → typed.AreStats text scope types all (seen_stats (before ++ more))) →
+      (more : List TStat) → typed.AreStats text scope types (drop (i + 1) all) (seen_stats more) → typed.AreStats text scope types all (seen_stats (after ++ more))
   stats_step all i a before after lt is (typed.adds_none none) so_far more rest =
-      so_far more (subst (λ l. typed.AreStats text scope types l more) (sym (drop-cons all i a lt ∙ ap (λ y. y ∷ drop (suc i) all) (sym is ∙ none)))
-      (typed.empty (subst (λ j. typed.AreStats text scope types (drop j all) more) (add-one i) rest)))
-  stats_step all i a before after lt is (typed.adds_one {b} one) so_far more rest =
-      subst (λ l. typed.AreStats text scope types all l) (sym (append_assoc before (b ∷ []) more))
-      (so_far (b ∷ more) (subst (λ l. typed.AreStats text scope types l (b ∷ more)) (sym (drop-cons all i a lt ∙ ap (λ y. y ∷ drop (suc i) all) (sym is)))
-      (typed.more one (subst (λ j. typed.AreStats text scope types (drop j all) more) (add-one i) rest))))
+      so_far more (subst (λ l. typed.AreStats text scope types l (seen_stats more)) (sym (drop-cons all i a lt ∙ ap (λ y. y ∷ drop (suc i) all) (sym is ∙ none)))
+      (typed.empty (subst (λ j. typed.AreStats text scope types (drop j all) (seen_stats more)) (add-one i) rest)))
+  stats_step all i a before after lt is (typed.adds_one b one) so_far more rest =
+      subst (λ l. typed.AreStats text scope types all (seen_stats l)) (sym (append_assoc before (b ∷ []) more))
+      (so_far (b ∷ more) (subst (λ l. typed.AreStats text scope types l (seen_stats (b ∷ more))) (sym (drop-cons all i a lt ∙ ap (λ y. y ∷ drop (suc i) all) (sym is)))
+      (typed.more one (subst (λ j. typed.AreStats text scope types (drop j all) (seen_stats more)) (add-one i) rest))))
 
-  pub stats_end : (all : List Stat) (i : ℕ) → length all ≤ i → typed.AreStats text scope types (drop i all) []
-  stats_end all i h = subst (λ l. typed.AreStats text scope types l []) (sym (past all i h)) typed.none
+  pub stats_end : (all : List Stat) (i : ℕ) → length all ≤ i → typed.AreStats text scope types (drop i all) plain.Nothing
+  stats_end all i h = subst (λ l. typed.AreStats text scope types l plain.Nothing) (sym (past all i h)) typed.none

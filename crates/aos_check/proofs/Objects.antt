@@ -18,7 +18,7 @@ use Rattle.aos_tree.specs.declared.decl.VarDef.{VarDef}
 use Rattle.aos_tree.specs.declared.decl.TypeExpr.{TypeExpr}
 use Rattle.aos_tree.specs.declared.decl.TypeExpr.TheVariants as type
 use Rattle.aos_typed.specs.declared.tree.TType.{TType}
-use Rattle.aos_typed.specs.declared.tree.TObject.{TObject}
+use Rattle.aos_typed.specs.Program.{ObjectType}
 use Rattle.aos_symbols.specs.declared.breach.Breach.{Breach}
 use Rattle.aos_symbols.specs.declared.scope.Entry.{Entry}
 use Rattle.aos_symbols.specs.declared.scope.Meaning.{Meaning}
@@ -30,10 +30,10 @@ use Rattle.aos_check.proofs.Unbroken as whole
 use Rattle.aos_check.proofs.Unbroken.{left, right}
 
 module _ (text : List ℕ) (scope : List Entry) (types : List TType) where
-  pub adds_nothing : (before : List TObject) → typed.AddsObjects text scope types [] before before
+  pub adds_nothing : (before : List ObjectType) → typed.AddsObjects text scope types [] before before
   adds_nothing before = record { added = []; all = sym (append-nil before); are = typed.no_objects }
 
-  both : (xs ys : List TypeDef) (os ps : List TObject) → typed.AreObjects text scope types xs os → typed.AreObjects text scope types ys ps →
+  both : (xs ys : List TypeDef) (os ps : List ObjectType) → typed.AreObjects text scope types xs os → typed.AreObjects text scope types ys ps →
       typed.AreObjects text scope types (xs ++ ys) (os ++ ps)
   both [] ys [] ps typed.no_objects q = q
   both [] ys (o ∷ os) ps none q = elim none [ ]
@@ -41,7 +41,7 @@ module _ (text : List ℕ) (scope : List Entry) (types : List TType) where
   both (x ∷ xs) ys (o ∷ os) ps (typed.objects is are) q = typed.objects is (both xs ys os ps are q)
 
   -- more objects behind those that were added
-  pub adds_more : (xs ys : List TypeDef) (before mid after : List TObject) → typed.AddsObjects text scope types xs before mid →
+  pub adds_more : (xs ys : List TypeDef) (before mid after : List ObjectType) → typed.AddsObjects text scope types xs before mid →
       typed.AddsObjects text scope types ys mid after → typed.AddsObjects text scope types (xs ++ ys) before after
   adds_more xs ys before mid after a b = record {
     added = a.added ++ b.added;
@@ -49,7 +49,7 @@ module _ (text : List ℕ) (scope : List Entry) (types : List TType) where
     are = both xs ys a.added b.added a.are b.are;
   }
 
-  pub adds_one : (d : TypeDef) (o : TObject) (before after : List TObject) → typed.IsObject text scope types d o → after ≡ before ++ o ∷ [] →
+  pub adds_one : (d : TypeDef) (o : ObjectType) (before after : List ObjectType) → typed.IsObject text scope types d o → after ≡ before ++ o ∷ [] →
       typed.AddsObjects text scope types (d ∷ []) before after
   adds_one d o before after is e = record { added = o ∷ []; all = e; are = typed.objects is typed.no_objects }
 

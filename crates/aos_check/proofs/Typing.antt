@@ -1,8 +1,6 @@
 -- The program of a tree is well typed.
 use Rattle.std.proofs.Common.{◌≡◌, ◌<◌, ◌≤◌, ◌+◌, ℕ, suc, zero, List, [], ◌∷◌, ◌++◌, length, map, Option, Some, None, refl, ap, sym, ◌∙◌, subst, slice_get, option_map, option_and_then, arith, lit<, replicate, codes, Bool, true, false, if◌then◌else◌}
 use Rattle.std.proofs.lemmas.List.{length-map}
-use Rattle.std.specs.declared.vec.Vec.{Vec}
-use Rattle.std.specs.declared.alloc.Global.{Global}
 use Rattle.std.proofs.lemmas.Option.{slice_get-map}
 use Rattle.aos_tree.specs.declared.expr.Addition.{Addition}
 use Rattle.aos_tree.specs.declared.expr.Expr.{Expr}
@@ -12,11 +10,8 @@ use Rattle.aos_tree.specs.declared.stat.Stat.{Stat}
 use Rattle.aos_tree.specs.declared.decl.TypeDef.{TypeDef}
 use Rattle.aos_typed.specs.declared.tree.TType.{TType}
 use Rattle.aos_typed.specs.declared.tree.TType.TheVariants as type
-use Rattle.aos_typed.specs.declared.tree.TExpr.{TExpr}
-use Rattle.aos_typed.specs.declared.tree.TStat.{TStat, Row_of-TStat, end_of-TStat, more_of-TStat}
-use Rattle.aos_typed.specs.declared.tree.TStat.TheBlock.{items_hidden-the_row-TStat-0, hidden-the_row-TStat-0, items-the_row-TStat}
-use Rattle.aos_typed.specs.declared.tree.TObject.{TObject}
-use Rattle.aos_typed.specs.declared.tree.Program.{Program}
+use Rattle.aos_typed.specs.Program as plain
+use Rattle.aos_typed.specs.Program.{Program}
 use Rattle.aos_typed.specs.WellTyped.{variable_type, IsInteger, IsBoolean, IsStatement, AreStatements, IsWellTyped}
 use Rattle.aos_symbols.specs.declared.scope.Entry.{Entry}
 use Rattle.std.specs.List.{All, flat_map}
@@ -38,60 +33,49 @@ use Rattle.aos_check.specs.Typed as typed
 use Rattle.aos_symbols.proofs.Each.{Each, all_of, joined, repeated, in_all}
 
 module _ (p : Program) where
-  typed_row : {m : _} (row : Row_of-TStat m) → Each (IsStatement p) (items-the_row-TStat m row) → AreStatements p row
-  typed_row end_of-TStat each = tt
-  typed_row (more_of-TStat s ss) each = (each.0, typed_row ss each.1)
-
-  typed_body : (body : Vec TStat Global) → Each (IsStatement p) body.items → AreStatements p (hidden-the_row-TStat-0 body)
-  typed_body body each = typed_row (hidden-the_row-TStat-0 body) (subst (λ ss. Each (IsStatement p) ss) (sym (items_hidden-the_row-TStat-0 body)) each)
-
   module _ (text : List ℕ) (scope : List Entry) (types : List TType)
       (places : (k : ℕ) → variable_type p 0 k ≡ slice_get types k)
-      (made : (k t : ℕ) → slice_get types k ≡ Some (type.Object t) → t < length p.objects.items) where
-    typed_operand : {x : Factor} {e : TExpr} → typed.IsOperand text scope types x e → IsInteger p e
+      (made : (k t : ℕ) → slice_get types k ≡ Some (type.Object t) → t < length p.objects) where
+    typed_operand : {x : Factor} {e : plain.Expr} → typed.IsOperand text scope types x e → IsInteger p e
     typed_operand (typed.number bound) = tt
     typed_operand (typed.variable {d} {k} plain is) = places k ∙ is.typed
 
-    typed_chain : {a e : TExpr} {more : List Addition} → typed.IsChain text scope types a more e → IsInteger p a → IsInteger p e
+    typed_chain : {a e : plain.Expr} {more : List Addition} → typed.IsChain text scope types a more e → IsInteger p a → IsInteger p e
     typed_chain typed.ends first = first
-    typed_chain (typed.goes_on (typed.joined op right typed.binary) rest) first = typed_chain rest (first, typed_operand right.operand)
+    typed_chain (typed.goes_on (typed.joined op right) rest) first = typed_chain rest (first, typed_operand right.operand)
 
-    typed_sum : {a : Simple} {e : TExpr} → typed.IsSum text scope types a e → IsInteger p e
+    typed_sum : {a : Simple} {e : plain.Expr} → typed.IsSum text scope types a e → IsInteger p e
     typed_sum is = typed_chain is.goes_on (typed_operand is.begins.operand)
 
-    typed_condition : {c : Expr} {e : TExpr} → typed.IsCondition text scope types c e → IsBoolean p e
-    typed_condition (typed.compared right op a b typed.compare) = (typed_sum a, typed_sum b)
+    typed_condition : {c : Expr} {e : plain.Expr} → typed.IsCondition text scope types c e → IsBoolean p e
+    typed_condition (typed.compared right op a b) = (typed_sum a, typed_sum b)
 
-    typed_places : {x : Factor} {e : TExpr} → typed.IsPlacesFactor x e → IsInteger p e
+    typed_places : {x : Factor} {e : plain.Expr} → typed.IsPlacesFactor x e → IsInteger p e
     typed_places (typed.number bound) = tt
 
-    typed_new : {x : Factor} (k t : ℕ) → typed.IsObjectFactor text scope types x k t → (variable_type p 0 k ≡ Some (type.Object t)) × (t < length p.objects.items)
+    typed_new : {x : Factor} (k t : ℕ) → typed.IsObjectFactor text scope types x k t → (variable_type p 0 k ≡ Some (type.Object t)) × (t < length p.objects)
     typed_new k t (typed.object plain is) = (places k ∙ is.typed, made k t is.typed)
 
     mutual
-      typed_stat : {a : Stat} {s : TStat} → typed.IsStat text scope types a s → IsStatement p s
+      typed_stat : {a : Stat} {s : plain.Stat} → typed.IsStat text scope types a s → IsStatement p s
       typed_stat (typed.assign {d} {e} {k} plain is value) = (places k ∙ is.typed, typed_sum value.sum)
       typed_stat (typed.called (typed.out means (typed.member (typed.int word (typed.int_call (typed.two value number)))))) = (typed_sum value.sum, typed_places number.number)
       typed_stat (typed.called (typed.out means (typed.member (typed.line word)))) = tt
       typed_stat (typed.called (typed.make means (typed.new_call (typed.one {a} {k} {t} object)))) = typed_new k t object.object
-      typed_stat (typed.while_do body condition stats) = (typed_condition condition, typed_body body (typed_stats stats))
+      typed_stat (typed.while_do condition stats) = (typed_condition condition, typed_stats stats)
 
-      typed_stats : {ss : List Stat} {ts : List TStat} → typed.AreStats text scope types ss ts → Each (IsStatement p) ts
+      typed_stats : {ss : List Stat} {ts : plain.Stats} → typed.AreStats text scope types ss ts → AreStatements p ts
       typed_stats typed.none = tt
       typed_stats (typed.empty rest) = typed_stats rest
       typed_stats (typed.more one rest) = (typed_stat one, typed_stats rest)
 
-    typed_main : (b : Option Block) (ss : List TStat) → typed.IsBody text scope types b ss → Each (IsStatement p) ss
-    typed_main None ss none = subst (λ l. Each (IsStatement p) l) (sym none) tt
+    typed_main : (b : Option Block) (ss : plain.Stats) → typed.IsBody text scope types b ss → AreStatements p ss
+    typed_main None ss none = subst (AreStatements p) (sym none) tt
     typed_main (Some b) ss are = typed_stats are
 
-    pub typed_objects : {ds : List TypeDef} {os : List TObject} → typed.AreObjects text scope types ds os → Each (λ o. Each (IsStatement p) o.body.items) os
+    pub typed_objects : {ds : List TypeDef} {os : List plain.ObjectType} → typed.AreObjects text scope types ds os → Each (λ o. AreStatements p o.body) os
     typed_objects typed.no_objects = tt
     typed_objects (typed.objects is are) = (typed_stats is.body, typed_objects are)
-
-each_body : (p : Program) (os : List TObject) → Each (λ o. Each (IsStatement p) o.body.items) os → Each (λ o. All (IsStatement p) o.body.items) os
-each_body p [] each = tt
-each_body p (o ∷ os) each = (all_of (IsStatement p) o.body.items each.0, each_body p os each.1)
 
 some_inj : (x y : TType) → Some x ≡ Some y → x ≡ y
 some_inj x y e = cc
@@ -197,11 +181,11 @@ module _ (n : ℕ) where
       (joined P (a ++ b) c (joined P a b (imports_made text m.imports) (type_entries_made 0 (type_names m.decls) (omega arith))) (variable_entries_made 0 (variable_names m.decls)))
       (other_entries_made (flat_map others_in m.decls))
 
-same_number : (text : List ℕ) (scope : List Entry) (types : List TType) {ds : List TypeDef} {os : List TObject} → typed.AreObjects text scope types ds os → length ds ≡ length os
+same_number : (text : List ℕ) (scope : List Entry) (types : List TType) {ds : List TypeDef} {os : List plain.ObjectType} → typed.AreObjects text scope types ds os → length ds ≡ length os
 same_number text scope types typed.no_objects = refl
 same_number text scope types (typed.objects is are) = ap suc (same_number text scope types are)
 
-at_home : (text : List ℕ) (scope : List Entry) (types : List TType) (n : ℕ) → 0 < n → {ds : List TypeDef} {os : List TObject} → typed.AreObjects text scope types ds os → Each (λ o. o.home < n) os
+at_home : (text : List ℕ) (scope : List Entry) (types : List TType) (n : ℕ) → 0 < n → {ds : List TypeDef} {os : List plain.ObjectType} → typed.AreObjects text scope types ds os → Each (λ o. o.home < n) os
 at_home text scope types n h typed.no_objects = tt
 at_home text scope types n h (typed.objects is are) = (subst (λ k. k < n) (sym is.home) h, at_home text scope types n h are)
 
@@ -211,14 +195,14 @@ well_typed text m p is =
     let types = variable_types text scope m.decls in
     let home = is.home in
     let places : (k : ℕ) → variable_type p 0 k ≡ slice_get types k = λ k.
-    ap (λ ms. option_and_then (λ x. option_map (λ v. v.of) (slice_get x.variables.items k)) (slice_get ms 0)) is.alone
-    ∙ sym (slice_get-map (λ v. v.of) home.variables.items k) ∙ ap (λ ts. slice_get ts k) is.is.variables_are.typed in
-    let n = length p.objects.items in
+    ap (λ ms. option_and_then (λ x. option_map (λ v. v.of) (slice_get x.variables k)) (slice_get ms 0)) is.alone
+    ∙ sym (slice_get-map (λ v. v.of) home.variables k) ∙ ap (λ ts. slice_get ts k) is.is.variables_are.typed in
+    let n = length p.objects in
     let few : length (type_names m.decls) ≤ n = omega (arith, length-map (type_defs m.decls) (λ d. d.def.name), same_number text scope types is.objects) in
     let made : (k t : ℕ) → slice_get types k ≡ Some (type.Object t) → t < n = λ k t e. at_made n types k (type.Object t) (types_made n text scope (entries_made n text m few) m.decls) e in
-    let body = typed_main p text scope types places made m.body home.body.items is.is.body in
+    let body = typed_main p text scope types places made m.body home.body is.is.body in
     record {
-      bodies = subst (λ ms. All (λ x. All (IsStatement p) x.body.items) ms) (sym is.alone) (all_of (λ x. All (IsStatement p) x.body.items) (home ∷ []) (all_of (IsStatement p) home.body.items body, tt));
-      objects = all_of (λ o. All (IsStatement p) o.body.items) p.objects.items (each_body p p.objects.items (typed_objects p text scope types places made is.objects));
-      homes = all_of (λ o. o.home < length p.modules.items) p.objects.items (at_home text scope types (length p.modules.items) (subst (λ ms. 0 < length ms) (sym is.alone) (lit< tt)) is.objects);
+      bodies = subst (λ ms. All (λ x. AreStatements p x.body) ms) (sym is.alone) (all_of (λ x. AreStatements p x.body) (home ∷ []) (body, tt));
+      objects = all_of (λ o. AreStatements p o.body) p.objects (typed_objects p text scope types places made is.objects);
+      homes = all_of (λ o. o.home < length p.modules) p.objects (at_home text scope types (length p.modules) (subst (λ ms. 0 < length ms) (sym is.alone) (lit< tt)) is.objects);
     }

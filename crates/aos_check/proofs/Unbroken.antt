@@ -21,8 +21,7 @@ use Rattle.aos_symbols.specs.Scope.{meaning}
 use Rattle.aos_check.specs.Bodies as bodies
 use Rattle.aos_check.specs.Bodies.{first_factor}
 use Rattle.aos_typed.specs.declared.tree.Literal.TheVariants.{Int}
-use Rattle.aos_typed.specs.declared.tree.TExpr.{TExpr}
-use Rattle.aos_typed.specs.declared.tree.TExpr.TheVariants.{Lit}
+use Rattle.aos_typed.specs.Program as plain
 use Rattle.aos_symbols.specs.declared.scope.Meaning.{Meaning}
 use Rattle.aos_symbols.specs.Heads.{no_meaning}
 use Rattle.aos_check.specs.Typed as typed
@@ -99,7 +98,7 @@ only_numbers text scope (f.Set' p shape row) e not = cc
 only_numbers text scope (f.Paren' p shape row) e not = cc
 only_numbers text scope (f.Not' p shape row) e not = cc
 
-pub number_places : (text : List ℕ) (scope : List Entry) (x : Factor) (e : TExpr) (p : Pos) (n : ℤ) → x ≡ f.Number p n → e ≡ Lit (Int n) →
+pub number_places : (text : List ℕ) (scope : List Entry) (x : Factor) (e : plain.Expr) (p : Pos) (n : ℤ) → x ≡ f.Number p n → e ≡ plain.Lit (Int n) →
     bodies.places_factor text scope x ≡ [] → IsPlacesFactor x e
 number_places text scope x e p n is lit whole =
     subst (λ y. IsPlacesFactor y e) (sym is) (subst (λ z. IsPlacesFactor (f.Number p n) z) (sym lit)
@@ -121,7 +120,7 @@ module _ (text : List ℕ) (scope : List Entry) (types : List TType) where
   behind_name true [] e = refl
   behind_name true (x ∷ xs) e = cc
 
-  pub number_operand : (x : Factor) (e : TExpr) (p : Pos) (n : ℤ) → x ≡ f.Number p n → e ≡ Lit (Int n) →
+  pub number_operand : (x : Factor) (e : plain.Expr) (p : Pos) (n : ℤ) → x ≡ f.Number p n → e ≡ plain.Lit (Int n) →
       bodies.factor_breaches text scope types x ≡ [] → IsOperand text scope types x e
   number_operand x e p n is lit whole =
       subst (λ y. IsOperand text scope types y e) (sym is) (subst (λ z. IsOperand text scope types (f.Number p n) z) (sym lit)
@@ -160,11 +159,11 @@ module _ (text : List ℕ) (scope : List Entry) (types : List TType) where
       (kept (bodies.is_built_relation (out-Relation r).op) 99 (out-Relation r).pos (left op s both), right op s both)
 
   -- one operand more, from the end of a chain to its beginning
-  pub chain_step : (xs : List Addition) (i : ℕ) (a : Addition) (first next e : TExpr) → i < length xs → a ≡ get_or xs i a →
+  pub chain_step : (xs : List Addition) (i : ℕ) (a : Addition) (first next e : plain.Expr) → i < length xs → a ≡ get_or xs i a →
       typed.IsJoined text scope types first a next → typed.IsChain text scope types next (drop (i + 1) xs) e → typed.IsChain text scope types first (drop i xs) e
   chain_step xs i a first next e lt is one further =
       subst (λ l. typed.IsChain text scope types first l e) (sym (drop-cons xs i a lt ∙ ap (λ y. y ∷ drop (suc i) xs) (sym is)))
       (typed.goes_on one (subst (λ j. typed.IsChain text scope types next (drop j xs) e) (add-one i) further))
 
-  pub chain_end : (xs : List Addition) (i : ℕ) (e : TExpr) → length xs ≤ i → typed.IsChain text scope types e (drop i xs) e
+  pub chain_end : (xs : List Addition) (i : ℕ) (e : plain.Expr) → length xs ≤ i → typed.IsChain text scope types e (drop i xs) e
   chain_end xs i e h = subst (λ l. typed.IsChain text scope types e l e) (sym (past xs i h)) typed.ends

@@ -1,9 +1,6 @@
 -- The typed program of a tree that breaks no rule.
 use Rattle.std.specs.Prelude.{◌≡◌, ℕ, ℤ, int_le, IsTrue, List, [], ◌∷◌, ◌++◌, codes, map, Option, Some, None, slice_get}
 use Rattle.std.specs.Str.Lossy.{utf8_lossy}
-use Rattle.std.specs.String.{string_bytes}
-use Rattle.std.specs.declared.vec.Vec.{Vec}
-use Rattle.std.specs.declared.alloc.Global.{Global}
 use Rattle.aos_base.specs.declared.text.Pos.{Pos}
 use Rattle.aos_base.specs.declared.number.Width.TheVariants.{W32}
 use Rattle.aos_base.specs.declared.number.Relation.{Relation}
@@ -34,17 +31,9 @@ use Rattle.aos_typed.specs.declared.tree.Binary.{Binary}
 use Rattle.aos_typed.specs.declared.tree.Binary.TheVariants.{Add, Sub}
 use Rattle.aos_typed.specs.declared.tree.TType.{TType}
 use Rattle.aos_typed.specs.declared.tree.TType.TheVariants as type
-use Rattle.aos_typed.specs.declared.tree.TPlace.TheVariants.{ModuleVar}
-use Rattle.aos_typed.specs.declared.tree.TExpr.{TExpr}
-use Rattle.aos_typed.specs.declared.tree.TExpr.TheVariants.{Lit, Read, Binary', Compare'}
-use Rattle.aos_typed.specs.declared.tree.OutCall.TheVariants as call
 use Rattle.aos_typed.specs.declared.tree.TStat.{TStat}
-use Rattle.aos_typed.specs.declared.tree.TStat.TheVariants.{Assign, New, Out}
-use Rattle.aos_typed.specs.declared.tree.TStat.TheViews.{While}
-use Rattle.aos_typed.specs.declared.tree.TVariable.{TVariable}
-use Rattle.aos_typed.specs.declared.tree.TObject.{TObject}
-use Rattle.aos_typed.specs.declared.tree.TModule.{TModule}
-use Rattle.aos_typed.specs.declared.tree.Program.{Program}
+use Rattle.aos_typed.specs.Program as plain
+use Rattle.aos_typed.specs.Seen.{seen_stat}
 use Rattle.aos_symbols.specs.declared.scope.Entry.{Entry}
 use Rattle.aos_symbols.specs.declared.scope.Meaning.TheVariants as means
 use Rattle.aos_symbols.specs.Spelling.{word, is_word}
@@ -80,23 +69,16 @@ pub record IsAlone (a : Expr) : Type 0 where
   pub no_products : (out-Term (out-Simple (out-Expr a).left).first).rest ≡ []
 
 -- a number of places
-pub data IsPlacesFactor : Factor → TExpr → Type 0 where
-  number : {p : Pos} {n : ℤ} → IsTrue (int_le n greatest_places) → IsPlacesFactor (f.Number p n) (Lit (literal.Int n))
+pub data IsPlacesFactor : Factor → plain.Expr → Type 0 where
+  number : {p : Pos} {n : ℤ} → IsTrue (int_le n greatest_places) → IsPlacesFactor (f.Number p n) (plain.Lit (literal.Int n))
 
-pub record IsPlaces (a : Expr) (e : TExpr) : Type 0 where
+pub record IsPlaces (a : Expr) (e : plain.Expr) : Type 0 where
   pub alone : IsAlone a
   pub number : IsPlacesFactor (first_factor (out-Expr a).left) e
 
--- an operator and a relation over two operands, wherever these lie in memory
-pub data IsBinary (op : Binary) (a b : TExpr) : TExpr → Type 0 where
-  binary : {p q : _} → IsBinary op a b (Binary' op p a q b)
-
-pub data IsCompare (op : Relation) (a b : TExpr) : TExpr → Type 0 where
-  compare : {p q : _} → IsCompare op a b (Compare' op p a q b)
-
 -- variables with these names and types
-pub record AreVariables (text : List ℕ) (types : List TType) (names : List Name) (vs : List TVariable) : Type 0 where
-  pub names_are : map (λ v. string_bytes v.name) vs ≡ map (spelling text) names
+pub record AreVariables (text : List ℕ) (types : List TType) (names : List Name) (vs : List plain.Variable) : Type 0 where
+  pub names_are : map (λ v. v.name) vs ≡ map (spelling text) names
   pub typed : map (λ v. v.of) vs ≡ types
 
 module _ (text : List ℕ) (scope : List Entry) (types : List TType) where
@@ -105,39 +87,39 @@ module _ (text : List ℕ) (scope : List Entry) (types : List TType) where
     pub means : meaning text scope n ≡ Some (means.Variable k)
     pub typed : slice_get types k ≡ Some t
 
-  pub data IsOperand : Factor → TExpr → Type 0 where
-    number : {p : Pos} {n : ℤ} → IsTrue (int_le n greatest_number) → IsOperand (f.Number p n) (Lit (literal.Int n))
-    variable : {d : Desig} {k : ℕ} → d.selectors ≡ [] → IsVariable d.name k type.LongInt → IsOperand (f.Desig d) (Read (ModuleVar 0 k))
+  pub data IsOperand : Factor → plain.Expr → Type 0 where
+    number : {p : Pos} {n : ℤ} → IsTrue (int_le n greatest_number) → IsOperand (f.Number p n) (plain.Lit (literal.Int n))
+    variable : {d : Desig} {k : ℕ} → d.selectors ≡ [] → IsVariable d.name k type.LongInt → IsOperand (f.Desig d) (plain.Read (plain.ModuleVar 0 k))
 
-  pub record IsPlainTerm (t : Term) (e : TExpr) : Type 0 where
+  pub record IsPlainTerm (t : Term) (e : plain.Expr) : Type 0 where
     pub alone : (out-Term t).rest ≡ []
     pub operand : IsOperand (out-Term t).first e
 
   -- one further operand
-  pub data IsJoined : TExpr → Addition → TExpr → Type 0 where
-    joined : {left right whole : TExpr} {op : Binary} {a : Addition} → operator_of (out-Addition a).op ≡ Some op →
-        IsPlainTerm (out-Addition a).right right → IsBinary op left right whole → IsJoined left a whole
+  pub data IsJoined : plain.Expr → Addition → plain.Expr → Type 0 where
+    joined : {left right : plain.Expr} {op : Binary} {a : Addition} → operator_of (out-Addition a).op ≡ Some op →
+        IsPlainTerm (out-Addition a).right right → IsJoined left a (plain.Binary op left right)
 
   -- further operands, to the right of what they are added to
-  pub data IsChain : TExpr → List Addition → TExpr → Type 0 where
-    ends : {left : TExpr} → IsChain left [] left
-    goes_on : {left next whole : TExpr} {a : Addition} {more : List Addition} →
+  pub data IsChain : plain.Expr → List Addition → plain.Expr → Type 0 where
+    ends : {left : plain.Expr} → IsChain left [] left
+    goes_on : {left next whole : plain.Expr} {a : Addition} {more : List Addition} →
         IsJoined left a next → IsChain next more whole → IsChain left (a ∷ more) whole
 
-  pub record IsSum (a : Simple) (e : TExpr) : Type 0 where
+  pub record IsSum (a : Simple) (e : plain.Expr) : Type 0 where
     pub unsigned : (out-Simple a).sign ≡ None
-    pub first : TExpr
+    pub first : plain.Expr
     pub begins : IsPlainTerm (out-Simple a).first first
     pub goes_on : IsChain first (out-Simple a).rest e
 
-  pub record IsValue (a : Expr) (e : TExpr) : Type 0 where
+  pub record IsValue (a : Expr) (e : plain.Expr) : Type 0 where
     pub no_relation : (out-Expr a).right ≡ None
     pub sum : IsSum (out-Expr a).left e
 
-  pub data IsCondition : Expr → TExpr → Type 0 where
-    compared : {c : Expr} {r : TreeRelation} {op : Relation} {a b whole : TExpr} → (out-Expr c).right ≡ Some r →
+  pub data IsCondition : Expr → plain.Expr → Type 0 where
+    compared : {c : Expr} {r : TreeRelation} {op : Relation} {a b : plain.Expr} → (out-Expr c).right ≡ Some r →
         relation_of (out-Relation r).op ≡ Some op → IsSum (out-Expr c).left a → IsSum (out-Relation r).right b →
-        IsCompare op a b whole → IsCondition c whole
+        IsCondition c (plain.Compare op a b)
 
   -- the plain name of the variable with this number, of this object type
   pub data IsObjectFactor : Factor → ℕ → ℕ → Type 0 where
@@ -148,82 +130,82 @@ module _ (text : List ℕ) (scope : List Entry) (types : List TType) where
     pub object : IsObjectFactor (first_factor (out-Expr a).left) k t
 
   -- the arguments of Out.Int, and of NEW, in a call that begins at a place
-  pub data IsIntArguments (at : Pos) : List Expr → TStat → Type 0 where
-    two : {a b : Expr} {x places : TExpr} → IsValue a x → IsPlaces b places → IsIntArguments at (a ∷ b ∷ []) (Out at (call.Int x places))
+  pub data IsIntArguments (at : Pos) : List Expr → plain.Stat → Type 0 where
+    two : {a b : Expr} {x places : plain.Expr} → IsValue a x → IsPlaces b places → IsIntArguments at (a ∷ b ∷ []) (plain.Out at (plain.Int x places))
 
-  pub data IsNewArguments (at : Pos) : List Expr → TStat → Type 0 where
-    one : {a : Expr} {k t : ℕ} → IsObjectName a k t → IsNewArguments at (a ∷ []) (New at (ModuleVar 0 k) t)
+  pub data IsNewArguments (at : Pos) : List Expr → plain.Stat → Type 0 where
+    one : {a : Expr} {k t : ℕ} → IsObjectName a k t → IsNewArguments at (a ∷ []) (plain.New at (plain.ModuleVar 0 k) t)
 
   -- what stands behind Out.Int, behind NEW and behind Out
-  pub data IsIntCall (at : Pos) : List Selector → TStat → Type 0 where
-    int_call : {q : Pos} {arguments : List Expr} {b : TStat} → IsIntArguments at arguments b → IsIntCall at (s.Paren q arguments ∷ []) b
+  pub data IsIntCall (at : Pos) : List Selector → plain.Stat → Type 0 where
+    int_call : {q : Pos} {arguments : List Expr} {b : plain.Stat} → IsIntArguments at arguments b → IsIntCall at (s.Paren q arguments ∷ []) b
 
-  pub data IsNewCall (at : Pos) : List Selector → TStat → Type 0 where
-    new_call : {q : Pos} {arguments : List Expr} {b : TStat} → IsNewArguments at arguments b → IsNewCall at (s.Paren q arguments ∷ []) b
+  pub data IsNewCall (at : Pos) : List Selector → plain.Stat → Type 0 where
+    new_call : {q : Pos} {arguments : List Expr} {b : plain.Stat} → IsNewArguments at arguments b → IsNewCall at (s.Paren q arguments ∷ []) b
 
-  pub data IsMemberCall (at : Pos) (n : Name) : List Selector → TStat → Type 0 where
-    int : {more : List Selector} {b : TStat} → IsTrue (is_word text (codes "Int") n) → IsIntCall at more b → IsMemberCall at n more b
-    line : IsTrue (is_word text (codes "Ln") n) → IsMemberCall at n [] (Out at call.Ln)
+  pub data IsMemberCall (at : Pos) (n : Name) : List Selector → plain.Stat → Type 0 where
+    int : {more : List Selector} {b : plain.Stat} → IsTrue (is_word text (codes "Int") n) → IsIntCall at more b → IsMemberCall at n more b
+    line : IsTrue (is_word text (codes "Ln") n) → IsMemberCall at n [] (plain.Out at plain.Ln)
 
-  pub data IsOutCall (at : Pos) : List Selector → TStat → Type 0 where
-    member : {p : Pos} {n : Name} {more : List Selector} {b : TStat} → IsMemberCall at n more b → IsOutCall at (s.Field p n ∷ more) b
+  pub data IsOutCall (at : Pos) : List Selector → plain.Stat → Type 0 where
+    member : {p : Pos} {n : Name} {more : List Selector} {b : plain.Stat} → IsMemberCall at n more b → IsOutCall at (s.Field p n ∷ more) b
 
-  pub data IsCall (d : Desig) : TStat → Type 0 where
-    out : {b : TStat} → meaning text scope d.name ≡ Some means.Out → IsOutCall d.name.pos d.selectors b → IsCall d b
-    make : {b : TStat} → meaning text scope d.name ≡ Some means.New → IsNewCall d.name.pos d.selectors b → IsCall d b
+  pub data IsCall (d : Desig) : plain.Stat → Type 0 where
+    out : {b : plain.Stat} → meaning text scope d.name ≡ Some means.Out → IsOutCall d.name.pos d.selectors b → IsCall d b
+    make : {b : plain.Stat} → meaning text scope d.name ≡ Some means.New → IsNewCall d.name.pos d.selectors b → IsCall d b
 
   mutual
-    pub data IsStat : Stat → TStat → Type 0 where
-      assign : {d : Desig} {p : Pos} {e : Expr} {k : ℕ} {x : TExpr} → d.selectors ≡ [] → IsVariable d.name k type.LongInt → IsValue e x →
-          IsStat (stat.Assign d p e) (Assign d.name.pos (ModuleVar 0 k) x)
-      called : {d : Desig} {b : TStat} → IsCall d b → IsStat (stat.Call d) b
-      while_do : {p : Pos} {c : Expr} {seq : StatSeq} {x : TExpr} (body : Vec TStat Global) → IsCondition c x → AreStats seq.stats body.items →
-          IsStat (stat.While p c seq) (While p x body)
+    pub data IsStat : Stat → plain.Stat → Type 0 where
+      assign : {d : Desig} {p : Pos} {e : Expr} {k : ℕ} {x : plain.Expr} → d.selectors ≡ [] → IsVariable d.name k type.LongInt → IsValue e x →
+          IsStat (stat.Assign d p e) (plain.Assign d.name.pos (plain.ModuleVar 0 k) x)
+      called : {d : Desig} {b : plain.Stat} → IsCall d b → IsStat (stat.Call d) b
+      while_do : {p : Pos} {c : Expr} {seq : StatSeq} {x : plain.Expr} {body : plain.Stats} → IsCondition c x → AreStats seq.stats body →
+          IsStat (stat.While p c seq) (plain.While p x body)
 
     -- the empty statement does nothing
-    pub data AreStats : List Stat → List TStat → Type 0 where
-      none : AreStats [] []
-      empty : {ss : List Stat} {ts : List TStat} → AreStats ss ts → AreStats (stat.Empty ∷ ss) ts
-      more : {a : Stat} {b : TStat} {ss : List Stat} {ts : List TStat} → IsStat a b → AreStats ss ts → AreStats (a ∷ ss) (b ∷ ts)
+    pub data AreStats : List Stat → plain.Stats → Type 0 where
+      none : AreStats [] plain.Nothing
+      empty : {ss : List Stat} {ts : plain.Stats} → AreStats ss ts → AreStats (stat.Empty ∷ ss) ts
+      more : {a : Stat} {b : plain.Stat} {ss : List Stat} {ts : plain.Stats} → IsStat a b → AreStats ss ts → AreStats (a ∷ ss) (plain.Then b ts)
 
   -- a statement's, behind those before it
   pub data AddsStat (a : Stat) (before : List TStat) : List TStat → Type 0 where
     adds_none : a ≡ stat.Empty → AddsStat a before before
-    adds_one : {b : TStat} → IsStat a b → AddsStat a before (before ++ b ∷ [])
+    adds_one : (b : TStat) → IsStat a (seen_stat b) → AddsStat a before (before ++ b ∷ [])
 
   -- a body that is END alone has no statements
-  abbrev pub IsBody : Option Block → List TStat → Type 0
-  IsBody None ts = ts ≡ []
+  abbrev pub IsBody : Option Block → plain.Stats → Type 0
+  IsBody None ts = ts ≡ plain.Nothing
   IsBody (Some b) ts = AreStats b.body.stats ts
 
-  pub record IsObject (d : TypeDef) (o : TObject) : Type 0 where
-    pub name : string_bytes o.name ≡ spelling text d.def.name
+  pub record IsObject (d : TypeDef) (o : plain.ObjectType) : Type 0 where
+    pub name : o.name ≡ spelling text d.def.name
     pub home : o.home ≡ 0
     pub block : Block
     pub has_body : object_body d.value ≡ Some block
-    pub body : AreStats block.body.stats o.body.items
+    pub body : AreStats block.body.stats o.body
 
-  pub data AreObjects : List TypeDef → List TObject → Type 0 where
+  pub data AreObjects : List TypeDef → List plain.ObjectType → Type 0 where
     no_objects : AreObjects [] []
-    objects : {d : TypeDef} {o : TObject} {ds : List TypeDef} {os : List TObject} → IsObject d o → AreObjects ds os → AreObjects (d ∷ ds) (o ∷ os)
+    objects : {d : TypeDef} {o : plain.ObjectType} {ds : List TypeDef} {os : List plain.ObjectType} → IsObject d o → AreObjects ds os → AreObjects (d ∷ ds) (o ∷ os)
 
   -- the objects of definitions, behind those before them
-  pub record AddsObjects (ds : List TypeDef) (before after : List TObject) : Type 0 where
-    pub added : List TObject
+  pub record AddsObjects (ds : List TypeDef) (before after : List plain.ObjectType) : Type 0 where
+    pub added : List plain.ObjectType
     pub all : after ≡ before ++ added
     pub are : AreObjects ds added
 
-  pub record IsTypedModule (m : Module) (t : TModule) : Type 0 where
-    pub name : string_bytes t.name ≡ spelling text m.name
-    pub variables_are : AreVariables text types (variable_names m.decls) t.variables.items
-    pub body : IsBody m.body t.body.items
+  pub record IsTypedModule (m : Module) (t : plain.Module) : Type 0 where
+    pub name : t.name ≡ spelling text m.name
+    pub variables_are : AreVariables text types (variable_names m.decls) t.variables
+    pub body : IsBody m.body t.body
 
 -- the program of a text's tree, under what its names stand for and the types of its variables
-pub record IsProgramUnder (text : List ℕ) (scope : List Entry) (types : List TType) (m : Module) (p : Program) : Type 0 where
-  pub home : TModule
-  pub alone : p.modules.items ≡ home ∷ []
+pub record IsProgramUnder (text : List ℕ) (scope : List Entry) (types : List TType) (m : Module) (p : plain.Program) : Type 0 where
+  pub home : plain.Module
+  pub alone : p.modules ≡ home ∷ []
   pub is : IsTypedModule text scope types m home
-  pub objects : AreObjects text scope types (type_defs m.decls) p.objects.items
+  pub objects : AreObjects text scope types (type_defs m.decls) p.objects
 
-abbrev pub IsProgram : List ℕ → Module → Program → Type 0
+abbrev pub IsProgram : List ℕ → Module → plain.Program → Type 0
 IsProgram text m p = IsProgramUnder text (entries text m) (variable_types text (entries text m) m.decls) m p

@@ -6,6 +6,7 @@ ghost use Rattle.std.specs.List.{flat_map};
 ghost use Rattle.aos_base.specs.declared.text.Pos.{Pos};
 ghost use Rattle.aos_tree.specs.declared.stat.Stat.TheVariants as stat;
 ghost use Rattle.aos_symbols.specs.Scope.{meaning};
+ghost use Rattle.aos_typed.specs.Seen.{seen_stat, seen_stats};
 ghost use Rattle.aos_check.specs.Bodies as bodies;
 ghost use Rattle.aos_check.specs.Typed as typed;
 
@@ -35,7 +36,7 @@ fn int_arguments_of(
         [] }
     ensures { IfOk result
         (λ s. typed.IsIntArguments scope.now.text scope.now.entries types.now at arguments.now
-        s) }
+        (seen_stat s)) }
 {
     match arguments {
         [value, places] => {
@@ -52,7 +53,7 @@ fn new_arguments_of(scope: &Scope<'_>, types: &[TType], at: Pos, arguments: &[Ex
     requires { bodies.new_arguments scope.now.text scope.now.entries types.now at arguments.now ≡
         [] }
     ensures { typed.IsNewArguments scope.now.text scope.now.entries types.now at arguments.now
-        result }
+        (seen_stat result) }
 {
     match arguments {
         [object] => {
@@ -73,7 +74,8 @@ fn int_call_of(
     requires { bodies.int_breaches scope.now.text scope.now.entries types.now at selectors.now ≡
         [] }
     ensures { IfOk result
-        (λ s. typed.IsIntCall scope.now.text scope.now.entries types.now at selectors.now s) }
+        (λ s. typed.IsIntCall scope.now.text scope.now.entries types.now at selectors.now
+        (seen_stat s)) }
 {
     let Some((selector, _)) = selectors.split_first() else {
         unreachable!()
@@ -89,7 +91,8 @@ fn int_call_of(
 fn new_call_of(scope: &Scope<'_>, types: &[TType], at: Pos, selectors: &[Selector]) -> TStat
     requires { bodies.new_breaches scope.now.text scope.now.entries types.now at selectors.now ≡
         [] }
-    ensures { typed.IsNewCall scope.now.text scope.now.entries types.now at selectors.now result }
+    ensures { typed.IsNewCall scope.now.text scope.now.entries types.now at selectors.now
+        (seen_stat result) }
 {
     let Some((selector, _)) = selectors.split_first() else {
         unreachable!()
@@ -113,7 +116,8 @@ fn member_call_of(
 ) -> Result<TStat, AllocError>
     requires { bodies.member_call scope.now.text scope.now.entries types.now at name more.now ≡ [] }
     ensures { IfOk result
-        (λ s. typed.IsMemberCall scope.now.text scope.now.entries types.now at name more.now s) }
+        (λ s. typed.IsMemberCall scope.now.text scope.now.entries types.now at name more.now
+        (seen_stat s)) }
 {
     if is_word(scope.text(), "Int", name) {
         int_call_of(alloc, scope, types, at, more)
@@ -132,7 +136,8 @@ fn out_call_of(
     requires { bodies.out_breaches scope.now.text scope.now.entries types.now at selectors.now ≡
         [] }
     ensures { IfOk result
-        (λ s. typed.IsOutCall scope.now.text scope.now.entries types.now at selectors.now s) }
+        (λ s. typed.IsOutCall scope.now.text scope.now.entries types.now at selectors.now
+        (seen_stat s)) }
 {
     let Some((selector, more)) = selectors.split_first() else {
         unreachable!()
@@ -152,7 +157,8 @@ fn call_of(
     requires { bodies.called scope.now.text scope.now.entries types.now
         (meaning scope.now.text scope.now.entries desig.now.name) desig.now ≡ [] }
     ensures { IfOk result
-        (λ s. typed.IsCall scope.now.text scope.now.entries types.now desig.now s) }
+        (λ s. typed.IsCall scope.now.text scope.now.entries types.now desig.now
+        (seen_stat s)) }
 {
     let at = desig.name.pos;
     let selectors = desig.selectors.as_slice();
@@ -174,7 +180,7 @@ fn assign_of(
         value.now ≡ [] }
     ensures { IfOk result (λ s. (set : Pos) →
         typed.IsStat scope.now.text scope.now.entries types.now
-        (stat.Assign desig.now set value.now) s) }
+        (stat.Assign desig.now set value.now) (seen_stat s)) }
 {
     let number = number_variable(scope, types, desig.name);
     let value = value_of(alloc, scope, types, value)?;
@@ -225,7 +231,8 @@ pub fn stats_of(
     requires { flat_map (bodies.stat_breaches scope.now.text scope.now.entries types.now) stats.now
         ≡ [] }
     ensures { IfOk result
-        (λ out. typed.AreStats scope.now.text scope.now.entries types.now stats.now out.items) }
+        (λ out. typed.AreStats scope.now.text scope.now.entries types.now stats.now
+        (seen_stats out.items)) }
 {
     let mut out = Vec::new(alloc);
     for stat in stats.as_slice() {
@@ -242,7 +249,8 @@ pub fn body_of(
 ) -> Result<Vec<TStat>, AllocError>
     requires { bodies.body_breaches scope.now.text scope.now.entries types.now false body.now ≡ [] }
     ensures { IfOk result
-        (λ out. typed.IsBody scope.now.text scope.now.entries types.now body.now out.items) }
+        (λ out. typed.IsBody scope.now.text scope.now.entries types.now body.now
+        (seen_stats out.items)) }
 {
     match body {
         None => Ok(Vec::new(alloc)),

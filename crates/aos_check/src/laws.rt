@@ -2,7 +2,7 @@
 
 ghost use Rattle.std.specs.Prelude.{◌≡◌, ℕ, List};
 ghost use Rattle.aos_tree.specs.declared.module.Module.{Module};
-ghost use Rattle.aos_typed.specs.declared.tree.Program.{Program};
+ghost use Rattle.aos_typed.specs.Program.{Program};
 ghost use Rattle.aos_typed.specs.WellTyped.{IsWellTyped};
 ghost use Rattle.std.specs.List.{All};
 ghost use Rattle.aos_check.specs.Laws.{NamesLieIn, program_names};

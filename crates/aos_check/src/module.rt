@@ -3,6 +3,7 @@
 ghost use Rattle.std.specs.Prelude.{◌≡◌, ◌⊎◌, IfOk, IfErr};
 ghost use Rattle.aos_base.specs.declared.text.Refusal.{Refusal};
 ghost use Rattle.aos_check.specs.declared.module.CheckErr.TheVariants as err;
+ghost use Rattle.aos_typed.specs.Seen.{seen_program};
 ghost use Rattle.aos_check.specs.Elaborate as elaborate;
 ghost use Rattle.aos_check.specs.Typed as typed;
 
@@ -39,7 +40,7 @@ fn refused(file: u32, breach: Breach) -> CheckErr
 /// Names in the program are the bytes of the text, as UTF-8.
 pub fn check(alloc: Global, text: &[u8], tree: &Module, file: u32) -> Result<Program, CheckErr>
     ensures accepted { IfOk result (λ p. elaborate.IsAccepted text.now tree.now) }
-    ensures program { IfOk result (λ p. typed.IsProgram text.now tree.now p) }
+    ensures program { IfOk result (λ p. typed.IsProgram text.now tree.now (seen_program p)) }
     ensures refused { IfErr result (λ e. (e ≡ err.NoMemory) ⊎
         elaborate.IsErr text.now tree.now file e) }
 {

@@ -1,9 +1,10 @@
 // The typed program of a module that breaks no rule.
 
-ghost use Rattle.std.specs.Prelude.{◌≡◌, [], IfOk, OnOk, Some, false, length};
+ghost use Rattle.std.specs.Prelude.{◌≡◌, [], IfOk, OnOk, Some, false, length, map};
 ghost use Rattle.std.specs.List.{flat_map};
 ghost use Rattle.aos_symbols.specs.Scope.{type_defs, types_in};
 ghost use Rattle.aos_symbols.specs.Heads as heads;
+ghost use Rattle.aos_typed.specs.Seen.{seen_variable, seen_object, seen_program};
 ghost use Rattle.aos_check.specs.Bodies as bodies;
 ghost use Rattle.aos_check.specs.Typed as typed;
 
@@ -43,7 +44,7 @@ fn object_of_def(
     requires body { bodies.object_breaches_of scope.now.text scope.now.entries types.now def.now ≡
         [] }
     ensures { IfOk result
-        (λ o. typed.IsObject scope.now.text scope.now.entries types.now def.now o) }
+        (λ o. typed.IsObject scope.now.text scope.now.entries types.now def.now (seen_object o)) }
 {
     let block = block_of(scope, &def.value);
     let body = stats_of(alloc, scope, types, &block.body.stats)?;
@@ -67,8 +68,8 @@ fn add_objects(
     requires bodies { flat_map
         (bodies.object_breaches_of scope.now.text scope.now.entries types.now) defs.now ≡ [] }
     ensures { OnOk result
-        (typed.AddsObjects scope.now.text scope.now.entries types.now defs.now out.old.items
-        out.new.items) }
+        (typed.AddsObjects scope.now.text scope.now.entries types.now defs.now
+        (map seen_object out.old.items) (map seen_object out.new.items)) }
 {
     for def in defs {
         out.push(object_of_def(alloc, scope, types, def)?)?;
@@ -89,7 +90,7 @@ fn add_decl(
         (types_in decl.now) ≡ [] }
     ensures { OnOk result
         (typed.AddsObjects scope.now.text scope.now.entries types.now
-        (types_in decl.now) out.old.items out.new.items) }
+        (types_in decl.now) (map seen_object out.old.items) (map seen_object out.new.items)) }
 {
     match decl {
         Decl::Types(at, defs) => { add_objects(alloc, out, scope, types, *at, defs.as_slice()) },
@@ -112,7 +113,7 @@ fn objects_of(
         (type_defs decls.now) ≡ [] }
     ensures { IfOk result
         (λ os. typed.AddsObjects scope.now.text scope.now.entries types.now
-        (type_defs decls.now) [] os.items) }
+        (type_defs decls.now) [] (map seen_object os.items)) }
 {
     let mut out = Vec::new(alloc);
     for decl in decls {
@@ -128,7 +129,8 @@ fn variables_of(
     types: &[TType],
 ) -> Result<Vec<TVariable>, AllocError>
     requires { length types.now ≡ length names.now }
-    ensures { IfOk result (λ vs. typed.AreVariables text.now types.now names.now vs.items) }
+    ensures { IfOk result
+        (λ vs. typed.AreVariables text.now types.now names.now (map seen_variable vs.items)) }
 {
     let mut out = Vec::new(alloc);
     for i in 0..names.len() {
@@ -155,7 +157,8 @@ pub fn program_of(
     requires body { bodies.body_breaches scope.now.text scope.now.entries types.now false
         tree.now.body ≡ [] }
     ensures { IfOk result
-        (λ p. typed.IsProgramUnder scope.now.text scope.now.entries types.now tree.now p) }
+        (λ p. typed.IsProgramUnder scope.now.text scope.now.entries types.now tree.now
+        (seen_program p)) }
 {
     let decls = tree.decls.as_slice();
     let names = variable_names(alloc, decls)?;

@@ -4,7 +4,8 @@ ghost use Rattle.std.specs.Prelude.{◌≡◌, [], true, IfOk, Some};
 ghost use Rattle.std.specs.List.{flat_map};
 ghost use Rattle.aos_tree.specs.declared.expr.Addition.{out-Addition};
 ghost use Rattle.aos_typed.specs.declared.tree.Literal.TheVariants.{Int};
-ghost use Rattle.aos_typed.specs.declared.tree.TExpr.TheVariants.{Lit};
+ghost use Rattle.aos_typed.specs.Program as plain;
+ghost use Rattle.aos_typed.specs.Seen.{seen_expr};
 ghost use Rattle.aos_typed.specs.declared.tree.TType.TheVariants as type;
 ghost use Rattle.aos_symbols.specs.Scope.{meaning};
 ghost use Rattle.aos_check.specs.Bodies as bodies;
@@ -19,7 +20,7 @@ use std::alloc::{AllocError, Global};
 
 /// A number as an expression.
 fn literal(number: &i64) -> TExpr
-    ensures { result ≡ Lit (Int number.now) }
+    ensures { seen_expr result ≡ plain.Lit (Int number.now) }
 {
     TExpr::Lit(Literal::Int(*number))
 }
@@ -76,7 +77,8 @@ pub fn object_variable(scope: &Scope<'_>, types: &[TType], name: Name) -> (u32, 
 
 fn operand(scope: &Scope<'_>, types: &[TType], factor: &Factor) -> TExpr
     requires { bodies.factor_breaches scope.now.text scope.now.entries types.now factor.now ≡ [] }
-    ensures { typed.IsOperand scope.now.text scope.now.entries types.now factor.now result }
+    ensures { typed.IsOperand scope.now.text scope.now.entries types.now factor.now
+        (seen_expr result) }
 {
     match factor {
         Factor::Number(_, number) => literal(number),
@@ -90,14 +92,15 @@ fn operand(scope: &Scope<'_>, types: &[TType], factor: &Factor) -> TExpr
 
 fn plain_term(scope: &Scope<'_>, types: &[TType], term: &Term) -> TExpr
     requires { bodies.term_breaches scope.now.text scope.now.entries types.now term.now ≡ [] }
-    ensures { typed.IsPlainTerm scope.now.text scope.now.entries types.now term.now result }
+    ensures { typed.IsPlainTerm scope.now.text scope.now.entries types.now term.now
+        (seen_expr result) }
 {
     operand(scope, types, &term.first)
 }
 
 /// An operator over two operands.
 fn joined(alloc: Global, op: Binary, left: TExpr, right: TExpr) -> Result<TExpr, AllocError>
-    ensures { IfOk result (λ e. typed.IsBinary op left right e) }
+    ensures { IfOk result (λ e. seen_expr e ≡ plain.Binary op (seen_expr left) (seen_expr right)) }
 {
     let left = Box::new(alloc, left)?;
     let right = Box::new(alloc, right)?;
@@ -106,7 +109,8 @@ fn joined(alloc: Global, op: Binary, left: TExpr, right: TExpr) -> Result<TExpr,
 
 /// A relation of two operands.
 fn compared(alloc: Global, op: Order, left: TExpr, right: TExpr) -> Result<TExpr, AllocError>
-    ensures { IfOk result (λ e. typed.IsCompare op left right e) }
+    ensures { IfOk result
+        (λ e. seen_expr e ≡ plain.Compare op (seen_expr left) (seen_expr right)) }
 {
     let left = Box::new(alloc, left)?;
     let right = Box::new(alloc, right)?;
@@ -123,7 +127,8 @@ fn extended(
 ) -> Result<TExpr, AllocError>
     requires { bodies.joined_breaches scope.now.text scope.now.entries types.now addition.now ≡ [] }
     ensures { IfOk result
-        (λ e. typed.IsJoined scope.now.text scope.now.entries types.now left addition.now e) }
+        (λ e. typed.IsJoined scope.now.text scope.now.entries types.now (seen_expr left)
+        addition.now (seen_expr e)) }
 {
     let right = plain_term(scope, types, &addition.right);
     joined(alloc, operator(addition.op), left, right)
@@ -139,7 +144,8 @@ fn chain(
     requires { flat_map (bodies.joined_breaches scope.now.text scope.now.entries types.now)
         additions.now ≡ [] }
     ensures { IfOk result
-        (λ e. typed.IsChain scope.now.text scope.now.entries types.now first additions.now e) }
+        (λ e. typed.IsChain scope.now.text scope.now.entries types.now (seen_expr first)
+        additions.now (seen_expr e)) }
 {
     let mut whole = first;
     for addition in additions {
@@ -150,7 +156,8 @@ fn chain(
 
 fn sum(alloc: Global, scope: &Scope<'_>, types: &[TType], sum: &Simple) -> Result<TExpr, AllocError>
     requires { bodies.sum_breaches scope.now.text scope.now.entries types.now sum.now ≡ [] }
-    ensures { IfOk result (λ e. typed.IsSum scope.now.text scope.now.entries types.now sum.now e) }
+    ensures { IfOk result
+        (λ e. typed.IsSum scope.now.text scope.now.entries types.now sum.now (seen_expr e)) }
 {
     let first = plain_term(scope, types, &sum.first);
     chain(alloc, scope, types, first, sum.rest.as_slice())
@@ -165,7 +172,8 @@ pub fn value_of(
 ) -> Result<TExpr, AllocError>
     requires { bodies.value_breaches scope.now.text scope.now.entries types.now value.now ≡ [] }
     ensures { IfOk result
-        (λ e. typed.IsValue scope.now.text scope.now.entries types.now value.now e) }
+        (λ e. typed.IsValue scope.now.text scope.now.entries types.now value.now
+        (seen_expr e)) }
 {
     sum(alloc, scope, types, &value.left)
 }
@@ -181,7 +189,8 @@ pub fn condition_of(
     requires { bodies.condition_breaches scope.now.text scope.now.entries types.now at
         condition.now ≡ [] }
     ensures { IfOk result
-        (λ e. typed.IsCondition scope.now.text scope.now.entries types.now condition.now e) }
+        (λ e. typed.IsCondition scope.now.text scope.now.entries types.now condition.now
+        (seen_expr e)) }
 {
     let Some(relation) = &condition.right else {
         unreachable!()
@@ -193,7 +202,7 @@ pub fn condition_of(
 
 fn places_in(scope: &Scope<'_>, factor: &Factor) -> TExpr
     requires { bodies.places_factor scope.now.text scope.now.entries factor.now ≡ [] }
-    ensures { typed.IsPlacesFactor factor.now result }
+    ensures { typed.IsPlacesFactor factor.now (seen_expr result) }
 {
     match factor {
         Factor::Number(_, number) => literal(number),
@@ -204,7 +213,7 @@ fn places_in(scope: &Scope<'_>, factor: &Factor) -> TExpr
 /// A number of places.
 pub fn places_of(scope: &Scope<'_>, places: &Expr) -> TExpr
     requires { bodies.places_breaches scope.now.text scope.now.entries places.now ≡ [] }
-    ensures { typed.IsPlaces places.now result }
+    ensures { typed.IsPlaces places.now (seen_expr result) }
 {
     places_in(scope, &places.left.first.first)
 }

@@ -1,6 +1,9 @@
 use Rattle.std.proofs.Common.{◌≡◌, [], ap, sym, ◌∙◌, subst, length, get_or, append-nil, ◌<◌, ◌≤◌, rules}
 use Rattle.std.specs.List.{flat_map}
 use Rattle.aos_typed.specs.declared.tree.TStat.TheViews.{While}
+use Rattle.aos_typed.specs.Program as plain
+use Rattle.aos_typed.specs.Seen.{seen_expr, seen_stat, seen_stats}
+use Rattle.aos_typed.proofs.Seen.{while_seen}
 use Rattle.aos_tree.specs.declared.stat.Stat.{the_lemmas}
 use Rattle.aos_check.specs.Bodies as bodies
 use Rattle.aos_check.specs.Typed as typed
@@ -24,18 +27,18 @@ add_stat-returns-in-Empty t c =
 pub add_stat-returns-in_ok-push-in-Assign : goal.add_stat-returns-in_ok-push-in-Assign
 add_stat-returns-in_ok-push-in-Assign t c =
     subst (λ l. typed.AddsStat c.args.scope.now.text c.args.scope.now.entries c.args.types.now c.args.stat.now c.args.out.now.items l) (sym c.in_ok-push-in-Assign.ensures.items)
-    (typed.adds_one (subst (λ z. typed.IsStat c.args.scope.now.text c.args.scope.now.entries c.args.types.now z c.in_ok-assign_of-in-Assign.field-0) (sym c.in-Assign.is) (c.in_ok-assign_of-in-Assign.ensures _)))
+    (typed.adds_one c.in_ok-assign_of-in-Assign.field-0 (subst (λ z. typed.IsStat c.args.scope.now.text c.args.scope.now.entries c.args.types.now z (seen_stat c.in_ok-assign_of-in-Assign.field-0)) (sym c.in-Assign.is) (c.in_ok-assign_of-in-Assign.ensures _)))
 
 pub add_stat-returns-in_ok-push-in-Call : goal.add_stat-returns-in_ok-push-in-Call
 add_stat-returns-in_ok-push-in-Call t c =
     subst (λ l. typed.AddsStat c.args.scope.now.text c.args.scope.now.entries c.args.types.now c.args.stat.now c.args.out.now.items l) (sym c.in_ok-push-in-Call.ensures.items)
-    (typed.adds_one (subst (λ z. typed.IsStat c.args.scope.now.text c.args.scope.now.entries c.args.types.now z c.in_ok-call_of-in-Call.field-0) (sym c.in-Call.is) (typed.called c.in_ok-call_of-in-Call.ensures)))
+    (typed.adds_one c.in_ok-call_of-in-Call.field-0 (subst (λ z. typed.IsStat c.args.scope.now.text c.args.scope.now.entries c.args.types.now z (seen_stat c.in_ok-call_of-in-Call.field-0)) (sym c.in-Call.is) (typed.called c.in_ok-call_of-in-Call.ensures)))
 
 pub add_stat-returns-in_ok-push-in-While : goal.add_stat-returns-in_ok-push-in-While
 add_stat-returns-in_ok-push-in-While t c =
     subst (λ l. typed.AddsStat c.args.scope.now.text c.args.scope.now.entries c.args.types.now c.args.stat.now c.args.out.now.items l) (sym c.in_ok-push-in-While.ensures.items)
-    (typed.adds_one (subst (λ z. typed.IsStat c.args.scope.now.text c.args.scope.now.entries c.args.types.now z (While c.in-While.at c.in_ok-condition-in-While.condition c.in_ok-body-in-While.body)) (sym c.in-While.is)
-    (typed.while_do c.in_ok-body-in-While.body c.in_ok-condition-in-While.ensures c.in_ok-body-in-While.ensures)))
+    (typed.adds_one (While c.in-While.at c.in_ok-condition-in-While.condition c.in_ok-body-in-While.body) (subst (λ z. typed.IsStat c.args.scope.now.text c.args.scope.now.entries c.args.types.now c.args.stat.now z) (sym (while_seen c.in-While.at c.in_ok-condition-in-While.condition c.in_ok-body-in-While.body))
+    (subst (λ z. typed.IsStat c.args.scope.now.text c.args.scope.now.entries c.args.types.now z (plain.While c.in-While.at (seen_expr c.in_ok-condition-in-While.condition) (seen_stats c.in_ok-body-in-While.body.items))) (sym c.in-While.is) (typed.while_do c.in_ok-condition-in-While.ensures c.in_ok-body-in-While.ensures))))
 
 pub stats_of-add_stat-requires : goal.stats_of-add_stat-requires
 stats_of-add_stat-requires t c =
@@ -47,5 +50,5 @@ stats_of-loop-stat-preserved t c =
 
 pub stats_of-returns : goal.stats_of-returns
 stats_of-returns t c =
-    subst (λ l. typed.AreStats c.args.scope.now.text c.args.scope.now.entries c.args.types.now c.args.stats.now l) (append-nil c.loop-stat.out.items)
+    subst (λ l. typed.AreStats c.args.scope.now.text c.args.scope.now.entries c.args.types.now c.args.stats.now (seen_stats l)) (append-nil c.loop-stat.out.items)
     (c.loop-stat.invariant [] (calls.stats_end c.args.scope.now.text c.args.scope.now.entries c.args.types.now c.args.stats.now c.loop-stat.stat-index (subst (λ xs. length xs ≤ c.loop-stat.stat-index) c.as_slice-stat-items.ensures c.loop-stat-test.false)))

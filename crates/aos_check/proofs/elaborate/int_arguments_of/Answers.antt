@@ -1,6 +1,6 @@
 use Rattle.std.proofs.Common.{ap, sym, ◌∙◌, subst}
-use Rattle.aos_typed.specs.declared.tree.OutCall.TheVariants as call
-use Rattle.aos_typed.specs.declared.tree.TStat.TheVariants.{Out}
+use Rattle.aos_typed.specs.Program as plain
+use Rattle.aos_typed.specs.Seen.{seen_expr}
 use Rattle.aos_check.specs.Bodies as bodies
 use Rattle.aos_check.specs.Typed as typed
 use Rattle.aos_check.proofs.Unbroken as whole
@@ -19,5 +19,5 @@ value_of-requires c =
 
 pub returns : goal.returns
 returns c =
-    subst (λ xs. typed.IsIntArguments c.args.scope.now.text c.args.scope.now.entries c.args.types.now c.args.at xs (Out c.args.at (call.Int c.in_ok-value-in-len2.value c.places_of-places.result))) (sym (calls.two_items c.args.arguments.now c.value-item.result c.places-item.result c.in-len2.len_at_least c.in-len2.len_below c.value-item.is c.places-item.is))
+    subst (λ xs. typed.IsIntArguments c.args.scope.now.text c.args.scope.now.entries c.args.types.now c.args.at xs (plain.Out c.args.at (plain.Int (seen_expr c.in_ok-value-in-len2.value) (seen_expr c.places_of-places.result)))) (sym (calls.two_items c.args.arguments.now c.value-item.result c.places-item.result c.in-len2.len_at_least c.in-len2.len_below c.value-item.is c.places-item.is))
     (typed.two c.in_ok-value-in-len2.ensures c.places_of-places.ensures)

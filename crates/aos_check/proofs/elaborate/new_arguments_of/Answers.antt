@@ -1,6 +1,5 @@
 use Rattle.std.proofs.Common.{sym, subst}
-use Rattle.aos_typed.specs.declared.tree.TPlace.TheVariants.{ModuleVar}
-use Rattle.aos_typed.specs.declared.tree.TStat.TheVariants.{New}
+use Rattle.aos_typed.specs.Program.{ModuleVar, New}
 use Rattle.aos_check.specs.Typed as typed
 use Rattle.aos_check.proofs.CallParts as calls
 use Rattle.aos_check.proofs.elaborate.new_arguments_of.Goals as goal

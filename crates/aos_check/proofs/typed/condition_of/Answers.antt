@@ -1,4 +1,7 @@
+use Rattle.std.proofs.Common.{◌≡◌, sym, subst}
 use Rattle.aos_tree.specs.declared.expr.Expr.{out-Expr}
+use Rattle.aos_typed.specs.Program.{Compare}
+use Rattle.aos_typed.specs.Seen.{seen_expr}
 use Rattle.aos_check.specs.Bodies as bodies
 use Rattle.aos_check.specs.Typed as typed
 use Rattle.aos_check.proofs.Unbroken as whole
@@ -19,5 +22,6 @@ order-requires c =
 
 pub returns : goal.returns
 returns c =
-    if_ok (λ e. typed.IsCompare c.order.result c.in_ok-left.left c.in_ok-right.right e) (λ e. typed.IsCondition c.args.scope.now.text c.args.scope.now.entries c.args.types.now c.args.condition.now e) c.compared.result
-    (λ e is. typed.compared c.in-Some.is c.order.ensures c.in_ok-left.ensures c.in_ok-right.ensures is) c.compared.ensures
+    let Condition = typed.IsCondition c.args.scope.now.text c.args.scope.now.entries c.args.types.now c.args.condition.now in
+    if_ok (λ e. seen_expr e ≡ Compare c.order.result (seen_expr c.in_ok-left.left) (seen_expr c.in_ok-right.right)) (λ e. Condition (seen_expr e)) c.compared.result
+    (λ e is. subst Condition (sym is) (typed.compared c.in-Some.is c.order.ensures c.in_ok-left.ensures c.in_ok-right.ensures)) c.compared.ensures

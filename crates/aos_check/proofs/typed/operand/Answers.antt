@@ -3,8 +3,8 @@ use Rattle.aos_symbols.specs.Scope.{meaning}
 use Rattle.aos_check.specs.Bodies as bodies
 use Rattle.aos_check.specs.Typed as typed
 use Rattle.aos_check.proofs.Unbroken as whole
-use Rattle.aos_typed.specs.declared.tree.TExpr.TheVariants.{Read}
-use Rattle.aos_typed.specs.declared.tree.TPlace.TheVariants.{ModuleVar}
+use Rattle.aos_typed.specs.Program.{Read, ModuleVar}
+use Rattle.aos_typed.specs.Seen.{seen_expr}
 use Rattle.aos_check.proofs.typed.operand.Goals as goal
 
 pub number_variable-number-requires : goal.number_variable-number-requires
@@ -22,4 +22,4 @@ returns-in-Desig c =
 
 pub returns-in-Number : goal.returns-in-Number
 returns-in-Number c =
-    whole.number_operand c.args.scope.now.text c.args.scope.now.entries c.args.types.now c.args.factor.now c.literal.result c.in-Number.field-0 c.in-Number.number c.in-Number.is c.literal.ensures c.requires
+    whole.number_operand c.args.scope.now.text c.args.scope.now.entries c.args.types.now c.args.factor.now (seen_expr c.literal.result) c.in-Number.field-0 c.in-Number.number c.in-Number.is c.literal.ensures c.requires

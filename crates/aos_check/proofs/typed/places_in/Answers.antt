@@ -1,3 +1,4 @@
+use Rattle.aos_typed.specs.Seen.{seen_expr}
 use Rattle.aos_check.proofs.Unbroken as whole
 use Rattle.aos_check.proofs.typed.places_in.Goals as goal
 
@@ -7,4 +8,4 @@ unreachable-requires c =
 
 pub returns : goal.returns
 returns c =
-    whole.number_places c.args.scope.now.text c.args.scope.now.entries c.args.factor.now c.literal.result c.in-Number.field-0 c.in-Number.number c.in-Number.is c.literal.ensures c.requires
+    whole.number_places c.args.scope.now.text c.args.scope.now.entries c.args.factor.now (seen_expr c.literal.result) c.in-Number.field-0 c.in-Number.number c.in-Number.is c.literal.ensures c.requires

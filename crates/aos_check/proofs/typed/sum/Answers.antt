@@ -1,5 +1,6 @@
 use Rattle.std.proofs.Common.{◌≡◌, [], sym, subst}
 use Rattle.std.specs.List.{flat_map}
+use Rattle.aos_typed.specs.Seen.{seen_expr}
 use Rattle.aos_check.specs.Bodies as bodies
 use Rattle.aos_check.specs.Typed as typed
 use Rattle.aos_check.proofs.Unbroken as whole
@@ -17,5 +18,5 @@ chain-requires c =
 pub returns : goal.returns
 returns c =
     let p = whole.sum_parts c.args.scope.now.text c.args.scope.now.entries c.args.types.now c.args.sum.now c.requires in
-    if_ok (λ e. typed.IsChain c.args.scope.now.text c.args.scope.now.entries c.args.types.now c.plain_term-first.result c.as_slice.result.now e) (λ e. typed.IsSum c.args.scope.now.text c.args.scope.now.entries c.args.types.now c.args.sum.now e) c.chain.result
-    (λ e is. record { unsigned = p.unsigned; first = c.plain_term-first.result; begins = c.plain_term-first.ensures; goes_on = subst (λ xs. typed.IsChain c.args.scope.now.text c.args.scope.now.entries c.args.types.now c.plain_term-first.result xs e) c.as_slice.ensures is }) c.chain.ensures
+    if_ok (λ e. typed.IsChain c.args.scope.now.text c.args.scope.now.entries c.args.types.now (seen_expr c.plain_term-first.result) c.as_slice.result.now (seen_expr e)) (λ e. typed.IsSum c.args.scope.now.text c.args.scope.now.entries c.args.types.now c.args.sum.now (seen_expr e)) c.chain.result
+    (λ e is. record { unsigned = p.unsigned; first = seen_expr c.plain_term-first.result; begins = c.plain_term-first.ensures; goes_on = subst (λ xs. typed.IsChain c.args.scope.now.text c.args.scope.now.entries c.args.types.now (seen_expr c.plain_term-first.result) xs (seen_expr e)) c.as_slice.ensures is }) c.chain.ensures
