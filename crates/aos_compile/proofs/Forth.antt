@@ -2,9 +2,7 @@
 use Rattle.std.proofs.Common.{◌≡◌, ℕ, ◌+◌, List, [], ◌∷◌, ◌++◌, length, refl, ap, ◌∙◌, append_assoc}
 use Rattle.std.specs.Prelude.{reverse}
 use Rattle.std.proofs.lemmas.List.{reverse-append}
-use Rattle.aos_typed.specs.declared.tree.TPlace.TheVariants.{ModuleVar}
-use Rattle.aos_typed.specs.declared.tree.TExpr.{TExpr}
-use Rattle.aos_typed.specs.declared.tree.TExpr.TheVariants.{Lit, Read, Binary', Compare'}
+use Rattle.aos_typed.specs.Program.{ModuleVar, Expr, Lit, Read, Binary, Compare}
 use Rattle.aos_code.specs.declared.instr.Instr.{Instr}
 use Rattle.aos_code.specs.declared.instr.Instr.TheVariants.{Cmp}
 use Rattle.aos_sim.specs.Code.{binary_code, operands_code, value_code}
@@ -15,13 +13,13 @@ behind : (x : Instr) (a b ca cb : List Instr) → reverse a ≡ ca → reverse b
 behind x a b ca cb ha hb =
     reverse-append (x ∷ []) (b ++ a) ∙ ap (λ l. l ++ x ∷ []) (reverse-append b a ∙ (λ j. ha j ++ hb j)) ∙ append_assoc ca cb (x ∷ [])
 
-pub forth : (e : TExpr) (at : ℕ) → reverse (back_code e) ≡ value_code e at
+pub forth : (e : Expr) (at : ℕ) → reverse (back_code e) ≡ value_code e at
 forth (Lit l) at = refl
 forth (Read (ModuleVar m k)) at = refl
-forth (Binary' op p a q b) at =
+forth (Binary op a b) at =
     let ca = value_code a at in
     behind (binary_code op) (back_code a) (back_code b) ca (value_code b (at + length ca)) (forth a at) (forth b (at + length ca))
-forth (Compare' r p a q b) at =
+forth (Compare r a b) at =
     let ca = value_code a at in
     behind (Cmp r) (back_code a) (back_code b) ca (value_code b (at + length ca)) (forth a at) (forth b (at + length ca))
 

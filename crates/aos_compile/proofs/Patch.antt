@@ -1,28 +1,21 @@
 -- A loop's code, of which the jump behind the test is written after the instructions that it passes.
-use Rattle.std.proofs.Common.{◌≡◌, ℕ, ◌+◌, List, [], ◌∷◌, ◌++◌, length, refl, ap, ◌∙◌, arith, append_assoc, length-append}
+use Rattle.std.proofs.Common.{◌≡◌, ℕ, ◌+◌, List, [], ◌∷◌, ◌++◌, length, ap, ◌∙◌, arith, append_assoc, length-append}
 use Rattle.std.specs.Prelude.{slice_set}
 use Rattle.std.specs.declared.vec.Vec.{Vec}
 use Rattle.std.specs.declared.alloc.Global.{Global}
 use Rattle.std.proofs.Math.Seq.{set-append_seam}
 use Rattle.aos_base.specs.declared.text.Pos.{Pos}
 use Rattle.aos_typed.specs.declared.tree.TExpr.{TExpr}
-use Rattle.aos_typed.specs.declared.tree.TStat.{TStat, Row_of-TStat, end_of-TStat, more_of-TStat}
-use Rattle.aos_typed.specs.declared.tree.TStat.TheViews.{While}
-use Rattle.aos_typed.specs.declared.tree.TStat.TheBlock.{items_hidden-the_row-TStat-0, hidden-the_row-TStat-0, items-the_row-TStat}
+use Rattle.aos_typed.specs.declared.tree.TStat.{TStat}
+use Rattle.aos_typed.specs.declared.tree.TStat.TheViews as code
+use Rattle.aos_typed.specs.Seen.{seen_expr, seen_stat, seen_stats}
+use Rattle.aos_typed.proofs.Seen.{while_seen}
 use Rattle.aos_code.specs.declared.instr.Instr.{Instr}
 use Rattle.aos_code.specs.declared.instr.Instr.TheVariants.{JumpFalse, Jump}
-use Rattle.aos_sim.specs.Code.{begin, value_code, while_code, stat_code, row_code, stats_code}
+use Rattle.aos_sim.specs.Code.{begin, value_code, while_code, stat_code, stats_code}
 
--- the statements in a row are those in its list
-stats_row : {m : _} (row : Row_of-TStat m) (at : ℕ) → row_code row at ≡ stats_code (items-the_row-TStat m row) at
-stats_row end_of-TStat at = refl
-stats_row (more_of-TStat s ss) at = ap (λ l. stat_code s at ++ l) (stats_row ss (at + length (stat_code s at)))
-
-pub while_is : (here : Pos) (e : TExpr) (b : Vec TStat Global) (at : ℕ) → let c1 = value_code e (at + 1) in stat_code (While here e b) at ≡ while_code here c1 (stats_code b.items (at + 1 + length c1 + 1)) at
-while_is here e b at =
-    let c1 = value_code e (at + 1) in
-    let pb = at + 1 + length c1 + 1 in
-    ap (λ b1. while_code here c1 b1 at) (stats_row (hidden-the_row-TStat-0 b) pb ∙ ap (λ l. stats_code l pb) (items_hidden-the_row-TStat-0 b))
+pub while_is : (here : Pos) (e : TExpr) (b : Vec TStat Global) (at : ℕ) → let c1 = value_code (seen_expr e) (at + 1) in stat_code (seen_stat (code.While here e b)) at ≡ while_code here c1 (stats_code (seen_stats b.items) (at + 1 + length c1 + 1)) at
+while_is here e b at = ap (λ s. stat_code s at) (while_seen here e b)
 
 pub patch_while : (base : List Instr) (here : Pos) (ce cb : ℕ → List Instr) (c1 c2 c3 c4 c5 : List Instr) (x : Instr) (n0 n1 n2 : ℕ) → n0 ≡ length base → c1 ≡ base ++ begin here ∷ [] → c2 ≡ c1 ++ ce (length c1) → n1 ≡ length c2 → c3 ≡ c2 ++ x ∷ [] → c4 ≡ c3 ++ cb (length c3) → c5 ≡ c4 ++ Jump n0 ∷ [] → n2 ≡ length c5 → let e = ce (length base + 1) in slice_set c5 n1 (JumpFalse n2) ≡ base ++ while_code here e (cb (length base + 1 + length e + 1)) (length base)
 patch_while base here ce cb c1 c2 c3 c4 c5 x n0 n1 n2 m0 e1 e2' m1 e3 e4' e5 m2 =

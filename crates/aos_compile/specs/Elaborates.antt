@@ -1,6 +1,5 @@
 -- The typed program that a text stands for, and why a text has none.
 use Rattle.std.specs.Prelude.{◌≡◌, ℕ, List, map, Some, None}
-use Rattle.std.specs.String.{string_bytes}
 use Rattle.aos_base.specs.declared.text.Pos.{Pos}
 use Rattle.aos_base.specs.declared.text.Refusal.{Refusal}
 use Rattle.aos_scan.specs.declared.token.Token.{Token}
@@ -15,7 +14,7 @@ use Rattle.aos_parse_mod.specs.Text.{module_at}
 use Rattle.aos_symbols.specs.declared.breach.Breach.{Breach}
 use Rattle.aos_check.specs.Elaborate.{first_breach, refusal_of}
 use Rattle.aos_check.specs.Typed.{IsProgram}
-use Rattle.aos_typed.specs.declared.tree.Program.{Program}
+use Rattle.aos_typed.specs.Program.{Program}
 use Rattle.aos_compile.specs.declared.compile_err.CompileErr.{CompileErr}
 use Rattle.aos_compile.specs.declared.compile_err.CompileErr.TheVariants.{Refused, NoMemory}
 
@@ -39,7 +38,7 @@ pub record IsAccepted (text : List ℕ) : Type 0 where
 
 -- the names of a program's modules, in load order
 abbrev pub names_of : Program → List (List ℕ)
-names_of p = map (λ m. string_bytes m.name) p.modules.items
+names_of p = map (λ m. m.name) p.modules
 
 -- a rule that is broken at a place of the first file
 abbrev pub refused_by : ℕ → Pos → Refusal

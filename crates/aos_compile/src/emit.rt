@@ -1,6 +1,7 @@
 // From typed statements to instructions: what is emitted is the code that the definitions give.
 
 ghost use Rattle.std.specs.Prelude.{◌≡◌, ◌+◌, ◌<◌, ◌^◌, [], ◌∷◌, ◌++◌, length, IfOk, OnOk};
+ghost use Rattle.aos_typed.specs.Seen.{seen_place, seen_expr, seen_call, seen_stat, seen_stats};
 ghost use Rattle.aos_compile.specs.Back.{back_code};
 ghost use Rattle.aos_compile.specs.Typed.{IsTyped, AreTyped};
 ghost use Rattle.aos_sim.specs.Code.{begin, literal_code, binary_code, place_code, value_code, out_code, new_code, stat_code, stats_code, body_code};
@@ -53,7 +54,7 @@ fn emit_begin(code: &mut Vec<Instr>, at: Pos) -> Result<(), AllocError>
 
 fn emit_place(code: &mut Vec<Instr>, place: &TPlace) -> Result<(), AllocError>
     ensures { OnOk result
-        (code.new.items ≡ code.old.items ++ place_code place.now (length code.old.items)) }
+        (code.new.items ≡ code.old.items ++ place_code (seen_place place.now) (length code.old.items)) }
 {
     match place {
         TPlace::ModuleVar(module, variable) => put(code, Instr::Module(*module, *variable)),
@@ -63,7 +64,7 @@ fn emit_place(code: &mut Vec<Instr>, place: &TPlace) -> Result<(), AllocError>
 // The code of an expression, from its last instruction to its first. A long sum has as many left operands, one in
 // another: the loop over them takes no stack.
 fn emit_back(code: &mut Vec<Instr>, value: &TExpr) -> Result<(), AllocError>
-    ensures { OnOk result (code.new.items ≡ code.old.items ++ back_code value.now) }
+    ensures { OnOk result (code.new.items ≡ code.old.items ++ back_code (seen_expr value.now)) }
 {
     let mut rest = value;
     loop {
@@ -89,7 +90,7 @@ fn emit_back(code: &mut Vec<Instr>, value: &TExpr) -> Result<(), AllocError>
 
 fn emit_value(alloc: Global, code: &mut Vec<Instr>, value: &TExpr) -> Result<(), AllocError>
     ensures { OnOk result
-        (code.new.items ≡ code.old.items ++ value_code value.now (length code.old.items)) }
+        (code.new.items ≡ code.old.items ++ value_code (seen_expr value.now) (length code.old.items)) }
 {
     let mut back = Vec::new(alloc);
     emit_back(&mut back, value)?;
@@ -101,7 +102,7 @@ fn emit_value(alloc: Global, code: &mut Vec<Instr>, value: &TExpr) -> Result<(),
 
 fn emit_out(alloc: Global, code: &mut Vec<Instr>, call: &OutCall) -> Result<(), AllocError>
     ensures { OnOk result
-        (code.new.items ≡ code.old.items ++ out_code call.now (length code.old.items)) }
+        (code.new.items ≡ code.old.items ++ out_code (seen_call call.now) (length code.old.items)) }
 {
     match call {
         OutCall::Int(value, places) => {
@@ -117,7 +118,8 @@ fn emit_out(alloc: Global, code: &mut Vec<Instr>, call: &OutCall) -> Result<(), 
 fn emit_new(code: &mut Vec<Instr>, place: &TPlace, object: u32) -> Result<(), AllocError>
     requires { object + 1 < 2 ^ 32 }
     ensures { OnOk result
-        (code.new.items ≡ code.old.items ++ new_code place.now object (length code.old.items)) }
+        (code.new.items ≡ code.old.items ++ new_code (seen_place place.now) object
+        (length code.old.items)) }
 {
     put(code, Instr::NewObject(object + 1))?;
     put(code, Instr::Dup)?;
@@ -129,9 +131,10 @@ fn emit_new(code: &mut Vec<Instr>, place: &TPlace, object: u32) -> Result<(), Al
 
 #[cycle(emit_stat)]
 fn emit_stat(alloc: Global, code: &mut Vec<Instr>, statement: &TStat) -> Result<(), AllocError>
-    requires { IsTyped statement.now }
+    requires { IsTyped (seen_stat statement.now) }
     ensures { OnOk result
-        (code.new.items ≡ code.old.items ++ stat_code statement.now (length code.old.items)) }
+        (code.new.items ≡ code.old.items ++ stat_code (seen_stat statement.now)
+        (length code.old.items)) }
 {
     match statement {
         TStat::Assign(at, place, value) => {
@@ -165,9 +168,10 @@ fn emit_stat(alloc: Global, code: &mut Vec<Instr>, statement: &TStat) -> Result<
 
 #[cycle(emit_stat)]
 fn emit_stats(alloc: Global, code: &mut Vec<Instr>, statements: &[TStat]) -> Result<(), AllocError>
-    requires { AreTyped statements.now }
+    requires { AreTyped (seen_stats statements.now) }
     ensures { OnOk result
-        (code.new.items ≡ code.old.items ++ stats_code statements.now (length code.old.items)) }
+        (code.new.items ≡ code.old.items ++ stats_code (seen_stats statements.now)
+        (length code.old.items)) }
 {
     for statement in statements {
         emit_stat(alloc, code, statement)?;
@@ -177,8 +181,8 @@ fn emit_stats(alloc: Global, code: &mut Vec<Instr>, statements: &[TStat]) -> Res
 
 /// The code of a body with these statements, which are well typed in a program of fewer than 2^32 object types.
 pub fn emit_body(alloc: Global, statements: &[TStat]) -> Result<Body, AllocError>
-    requires { AreTyped statements.now }
-    ensures { IfOk result (λ body. body.code.items ≡ body_code statements.now) }
+    requires { AreTyped (seen_stats statements.now) }
+    ensures { IfOk result (λ body. body.code.items ≡ body_code (seen_stats statements.now)) }
 {
     let mut code = Vec::new(alloc);
     emit_stats(alloc, &mut code, statements)?;

@@ -4,6 +4,7 @@ ghost use Rattle.std.specs.Prelude.{◌≡◌, ◌≤◌, ◌^◌, length, IfOk,
 ghost use Rattle.aos_base.specs.declared.text.Refusal.{Refusal};
 ghost use Rattle.aos_scan.specs.TokenList.{IsTokenList};
 ghost use Rattle.aos_tree.specs.Ended.{IsEnded};
+ghost use Rattle.aos_typed.specs.Seen.{seen_program};
 ghost use Rattle.aos_compile.specs.declared.compile_err.CompileErr.{CompileErr};
 ghost use Rattle.aos_compile.specs.Elaborates.{IsTreeOf, Elaborates, IsRefused, refused_by, OnRefused};
 
@@ -59,7 +60,7 @@ fn tree_of(alloc: Global, text: &[u8], tokens: &[Token]) -> Result<Module, Compi
 /// The program of a text's tree.
 fn check_tree(alloc: Global, text: &[u8], tree: &Module) -> Result<Program, CompileErr>
     requires { IsTreeOf text.now tree.now }
-    ensures elaborates { IfOk result (Elaborates text.now) }
+    ensures elaborates { IfOk result (λ p. Elaborates text.now (seen_program p)) }
     ensures refused { IfErr result (λ e. OnRefused e (IsRefused text.now)) }
 {
     match check(alloc, text, tree, 0) {
@@ -72,7 +73,7 @@ fn check_tree(alloc: Global, text: &[u8], tree: &Module) -> Result<Program, Comp
 /// The typed program of a text of at most 2^20 bytes, or the first rule that the text breaks.
 pub fn elaborate(alloc: Global, text: &[u8]) -> Result<Program, CompileErr>
     requires { length text.now ≤ 2 ^ 20 }
-    ensures elaborates { IfOk result (Elaborates text.now) }
+    ensures elaborates { IfOk result (λ p. Elaborates text.now (seen_program p)) }
     ensures refused { IfErr result (λ e. OnRefused e (IsRefused text.now)) }
 {
     let tokens = tokens_of(alloc, text)?;

@@ -2,6 +2,7 @@
 
 ghost use Rattle.std.specs.Prelude.{◌≡◌, ◌≤◌, ◌<◌, ◌^◌, ◌+◌, length, map, IfOk};
 ghost use Rattle.std.specs.String.{string_bytes};
+ghost use Rattle.aos_typed.specs.Seen.{seen_program};
 ghost use Rattle.aos_typed.specs.WellTyped.{IsWellTyped};
 ghost use Rattle.aos_sim.specs.Code.{zero_cell};
 ghost use Rattle.aos_sim.specs.Shows.{IsCodeOf, Shows};
@@ -48,8 +49,8 @@ fn describe(alloc: Global, module: &TModule, body: u32) -> Result<ModuleDesc, Al
 fn code_of(alloc: Global, program: &Program) -> Result<Image, AllocError>
     requires few { length program.now.modules.items ≤ 64 }
     requires few_types { length program.now.objects.items ≤ 2 ^ 26 }
-    requires typed { IsWellTyped program.now }
-    ensures { IfOk result (λ image. IsCodeOf program.now image) }
+    requires typed { IsWellTyped (seen_program program.now) }
+    ensures { IfOk result (λ image. IsCodeOf (seen_program program.now) image) }
 {
     let mut modules = Vec::new(alloc);
     let mut types = Vec::new(alloc);
@@ -83,11 +84,11 @@ fn code_of(alloc: Global, program: &Program) -> Result<Image, AllocError>
 pub fn image_of(alloc: Global, program: &Program) -> Result<Image, NoMemory>
     requires few { length program.now.modules.items ≤ 64 }
     requires few_types { length program.now.objects.items ≤ 2 ^ 26 }
-    requires typed { IsWellTyped program.now }
-    ensures shows { IfOk result (λ image. Shows program.now image) }
+    requires typed { IsWellTyped (seen_program program.now) }
+    ensures shows { IfOk result (λ image. Shows (seen_program program.now) image) }
     ensures names { IfOk result (λ image.
         map (λ d. string_bytes d.name) image.modules.items ≡
-        map (λ m. string_bytes m.name) program.now.modules.items) }
+        map (λ m. m.name) (seen_program program.now).modules) }
 {
     image_shows_program();
     Ok(code_of(alloc, program)?)

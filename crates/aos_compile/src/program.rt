@@ -3,6 +3,7 @@
 ghost use Rattle.std.specs.Prelude.{◌≡◌, ◌≤◌, ◌^◌, ℕ, List, length, map, IfOk, IfErr};
 ghost use Rattle.std.specs.String.{string_bytes};
 ghost use Rattle.aos_base.specs.declared.text.Refusal.{Refusal};
+ghost use Rattle.aos_typed.specs.Seen.{seen_program};
 ghost use Rattle.aos_sim.specs.Shows.{Shows};
 ghost use Rattle.aos_compile.specs.Elaborates.{Elaborates, IsAccepted, IsRefused, names_of, OnRefused};
 
@@ -19,11 +20,11 @@ const MOST_OBJECT_TYPES: usize = 67_108_864;
 
 // The program of a text, and its image.
 fn with_image(alloc: Global, text: &[u8], program: Program) -> Result<(Program, Image), CompileErr>
-    requires { Elaborates text.now program }
-    ensures elaborates { IfOk result (λ r. Elaborates text.now r.0) }
-    ensures shows { IfOk result (λ r. Shows r.0 r.1) }
+    requires { Elaborates text.now (seen_program program) }
+    ensures elaborates { IfOk result (λ r. Elaborates text.now (seen_program r.0)) }
+    ensures shows { IfOk result (λ r. Shows (seen_program r.0) r.1) }
     ensures names { IfOk result
-        (λ r. map (λ d. string_bytes d.name) r.1.modules.items ≡ names_of r.0) }
+        (λ r. map (λ d. string_bytes d.name) r.1.modules.items ≡ names_of (seen_program r.0)) }
     ensures refused { IfErr result (λ e. e ≡ CompileErr.NoMemory) }
 {
     law_of_typing();
@@ -38,10 +39,10 @@ fn with_image(alloc: Global, text: &[u8], program: Program) -> Result<(Program, 
 /// image's execution is seen as the program's. Refused by the first rule that the text breaks, at its place.
 pub fn compile(alloc: Global, text: &[u8]) -> Result<(Program, Image), CompileErr>
     requires { length text.now ≤ 2 ^ 20 }
-    ensures elaborates { IfOk result (λ r. Elaborates text.now r.0) }
-    ensures shows { IfOk result (λ r. Shows r.0 r.1) }
+    ensures elaborates { IfOk result (λ r. Elaborates text.now (seen_program r.0)) }
+    ensures shows { IfOk result (λ r. Shows (seen_program r.0) r.1) }
     ensures names { IfOk result
-        (λ r. map (λ d. string_bytes d.name) r.1.modules.items ≡ names_of r.0) }
+        (λ r. map (λ d. string_bytes d.name) r.1.modules.items ≡ names_of (seen_program r.0)) }
     ensures refused { IfErr result (λ e. OnRefused e (IsRefused text.now)) }
 {
     let program = elaborate(alloc, text)?;
