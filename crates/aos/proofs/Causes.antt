@@ -5,7 +5,7 @@ use Rattle.std.specs.declared.alloc.Global.{Global}
 use Rattle.std.proofs.lemmas.Bool.{lt-leb}
 use Rattle.aos_base.specs.declared.text.NoMemory.{NoMemory}
 use Rattle.aos_base.specs.Observation.{Observation}
-use Rattle.aos_typed.specs.declared.tree.Program.{Program}
+use Rattle.aos_typed.specs.Program.{Program}
 use Rattle.aos_code.specs.declared.image.Image.{Image}
 use Rattle.aos_sim.specs.Shows.{Shows}
 use Rattle.aos_dev.specs.Shelf.{Named, text_of}

@@ -9,7 +9,7 @@ use Rattle.aos_base.specs.declared.text.Refusal.{Refusal}
 use Rattle.aos_base.specs.Book.{TrapRow, outcome}
 use Rattle.aos_base.specs.Machine.{Choice, execution}
 use Rattle.aos_base.specs.Observation.{Observation, observation, status_of}
-use Rattle.aos_typed.specs.declared.tree.Program.{Program}
+use Rattle.aos_typed.specs.Program.{Program}
 use Rattle.aos_typed.specs.Source.{source, first_state}
 use Rattle.aos_sim.proofs.NeverDead.{never_dead}
 use Rattle.aos_dev.specs.Shelf.{Named}

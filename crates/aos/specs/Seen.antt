@@ -3,7 +3,7 @@ use Rattle.std.specs.Prelude.{◌≡◌, ◌≢◌, ℕ, ◌<◌, List, All}
 use Rattle.aos_base.specs.declared.kernel.Outcome.TheVariants.{Going}
 use Rattle.aos_base.specs.Machine.{Choice, Step, Tick, execution}
 use Rattle.aos_base.specs.Observation.{Observation, observation}
-use Rattle.aos_typed.specs.declared.tree.Program.{Program}
+use Rattle.aos_typed.specs.Program.{Program}
 use Rattle.aos_typed.specs.Source.{source, first_state}
 use Rattle.aos_script.specs.declared.script.Script.{Script}
 use Rattle.aos_script.specs.Listing.{choices_of}

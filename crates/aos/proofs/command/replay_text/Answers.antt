@@ -1,5 +1,6 @@
 use Rattle.std.proofs.Common.{[], ◌∷◌, subst}
 use Rattle.aos_base.specs.declared.text.Refusal.{Refusal}
+use Rattle.aos_typed.specs.Seen.{seen_program}
 use Rattle.aos_report.specs.Texts.{refusal_text}
 use Rattle.aos_compile.specs.Elaborates.{OnRefused, IsRefused}
 use Rattle.aos.specs.Words.{Replay}
@@ -18,7 +19,7 @@ returns-in-Ok c =
     let listing = c.args.listing.now in
     let text = c.args.text.now in
     on_answer (ShowsReplayOf c.in-Ok.image c.args.script.now) (ServesTexts (Replay name file) (listing ∷ text ∷ [])) c.replay_image.result
-    (λ a run. λ shelf had words asks. replay_causes words shelf listing file text c.args.script.now c.in-Ok.program c.in-Ok.image a c.requires.read c.in-Ok.ensures.elaborates c.in-Ok.ensures.shows c.in-Ok.ensures.names run (record { script = name; asks = asks; had = had }))
+    (λ a run. λ shelf had words asks. replay_causes words shelf listing file text c.args.script.now (seen_program c.in-Ok.program) c.in-Ok.image a c.requires.read c.in-Ok.ensures.elaborates c.in-Ok.ensures.shows c.in-Ok.ensures.names run (record { script = name; asks = asks; had = had }))
     c.replay_image.ensures
 
 pub returns-in-Err-Refused : goal.returns-in-Err-Refused

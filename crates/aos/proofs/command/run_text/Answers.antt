@@ -1,5 +1,6 @@
 use Rattle.std.proofs.Common.{[], ◌∷◌, subst}
 use Rattle.aos_base.specs.declared.text.Refusal.{Refusal}
+use Rattle.aos_typed.specs.Seen.{seen_program}
 use Rattle.aos_report.specs.Texts.{refusal_text}
 use Rattle.aos_compile.specs.Elaborates.{OnRefused, IsRefused}
 use Rattle.aos.specs.Words.{Run}
@@ -13,7 +14,7 @@ returns-in-Ok g c =
     let file = c.args.file.now in
     let text = c.args.text.now in
     on_answer (ShowsRun c.in-Ok.image) (ServesTexts (Run file) (text ∷ [])) c.run_image.result
-    (λ a run. λ shelf had words asks. ran_causes words shelf file text c.in-Ok.program c.in-Ok.image a c.in-Ok.ensures.elaborates c.in-Ok.ensures.shows c.in-Ok.ensures.names run (record { asks = asks; had = had }))
+    (λ a run. λ shelf had words asks. ran_causes words shelf file text (seen_program c.in-Ok.program) c.in-Ok.image a c.in-Ok.ensures.elaborates c.in-Ok.ensures.shows c.in-Ok.ensures.names run (record { asks = asks; had = had }))
     c.run_image.ensures
 
 pub returns-in-Err-Refused : goal.returns-in-Err-Refused
