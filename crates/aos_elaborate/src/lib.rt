@@ -1,0 +1,2 @@
+//! What texts stand for, or the one rule that they break: elaboration as one judgement over the modules of all texts.
+#![tactic(auto)]

@@ -1,0 +1,7 @@
+pub mod Keeping
+pub mod Rows
+pub mod Each
+pub mod Least
+pub mod Words
+pub mod Table
+pub mod Paths

@@ -1,0 +1,63 @@
+-- The names that declarations declare, in the order of the text.
+use Rattle.std.specs.Prelude.{ℕ, List, [], ◌∷◌, map}
+use Rattle.std.specs.List.{flat_map}
+use Rattle.aos_tree.specs.declared.name.Name.{Name}
+use Rattle.aos_tree.specs.declared.decl.Def.{Def}
+use Rattle.aos_tree.specs.declared.decl.TypeDef.{TypeDef}
+use Rattle.aos_tree.specs.declared.decl.VarDef.{VarDef}
+use Rattle.aos_tree.specs.declared.decl.Decl.{Decl, items-the_row-TypeDef, items-the_row-VarDef}
+use Rattle.aos_tree.specs.declared.decl.Decl.TheVariants.{Consts, Types', Vars', Proc'}
+
+abbrev pub def_names : List Def → List Name
+def_names ds = map (λ d. d.name) ds
+
+-- the constants, the types, the variables and the procedures that a declaration defines
+abbrev pub constants_in : Decl → List Def
+constants_in (Consts p cs) = map (λ c. c.def) cs
+constants_in (Types' p shape row) = []
+constants_in (Vars' p shape row) = []
+constants_in (Proc' p i def formals shape row body end) = []
+
+abbrev pub types_in : Decl → List TypeDef
+types_in (Types' p shape row) = items-the_row-TypeDef _ row
+types_in (Consts p cs) = []
+types_in (Vars' p shape row) = []
+types_in (Proc' p i def formals shape row body end) = []
+
+abbrev pub variables_in : Decl → List VarDef
+variables_in (Vars' p shape row) = items-the_row-VarDef _ row
+variables_in (Consts p cs) = []
+variables_in (Types' p shape row) = []
+variables_in (Proc' p i def formals shape row body end) = []
+
+abbrev pub procedures_in : Decl → List Def
+procedures_in (Proc' p i def formals shape row body end) = def ∷ []
+procedures_in (Consts p cs) = []
+procedures_in (Types' p shape row) = []
+procedures_in (Vars' p shape row) = []
+
+abbrev pub constant_defs : List Decl → List Def
+constant_defs ds = flat_map constants_in ds
+
+abbrev pub type_defs : List Decl → List TypeDef
+type_defs ds = flat_map types_in ds
+
+abbrev pub variable_defs : List Decl → List VarDef
+variable_defs ds = flat_map variables_in ds
+
+abbrev pub procedure_defs : List Decl → List Def
+procedure_defs ds = flat_map procedures_in ds
+
+-- each variable by itself
+abbrev pub single_variables : List Decl → List Def
+single_variables ds = flat_map (λ v. v.defs) (variable_defs ds)
+
+-- all names of a declaration, in the order of the text
+abbrev pub names_in : Decl → List Name
+names_in (Consts p cs) = map (λ c. c.def.name) cs
+names_in (Types' p shape row) = map (λ d. d.def.name) (items-the_row-TypeDef _ row)
+names_in (Vars' p shape row) = flat_map (λ v. def_names v.defs) (items-the_row-VarDef _ row)
+names_in (Proc' p i def formals shape row body end) = def.name ∷ []
+
+abbrev pub declared_names : List Decl → List Name
+declared_names ds = flat_map names_in ds

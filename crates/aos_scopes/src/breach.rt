@@ -1,0 +1,58 @@
+// Broken rules.
+
+ghost use Rattle.std.specs.Prelude.{◌≡◌};
+ghost use Rattle.aos_scopes.specs.Breaches.{is_before, sooner};
+
+use aos_base::Pos;
+
+/// The rule that a tree breaks at a place.
+#[derive(Clone, Copy, PartialEq, Eq, Debug)]
+pub struct Breach {
+    pub rule: u16,
+    pub pos: Pos,
+}
+
+/// A module is named Out.
+pub const NAMED_OUT: u16 = 11;
+/// The end name differs.
+pub const OTHER_END: u16 = 12;
+/// A name is declared twice in one scope, or SELF is declared.
+pub const TWICE: u16 = 13;
+/// A name that no scope has.
+pub const UNKNOWN: u16 = 14;
+/// A name of another module that has no export mark.
+pub const NOT_EXPORTED: u16 = 15;
+/// A variable that may only be read.
+pub const READ_ONLY: u16 = 33;
+/// A construct that isn't built yet.
+pub const NOT_BUILT: u16 = 99;
+
+/// Whether a place is before another: by lines, then by columns, then by the rules' numbers.
+fn is_before(a: Breach, b: Breach) -> bool
+    ensures { result ≡ is_before a b }
+{
+    if a.pos.line != b.pos.line {
+        return a.pos.line < b.pos.line;
+    }
+    if a.pos.col != b.pos.col {
+        return a.pos.col < b.pos.col;
+    }
+    a.rule < b.rule
+}
+
+/// Takes a breach down, where it comes before the first so far.
+pub fn note(first: &mut Option<Breach>, rule: u16, at: Pos)
+    ensures { first.new ≡ sooner first.old (record { rule = rule; pos = at }) }
+{
+    let breach = Breach { rule, pos: at };
+    *first = match *first {
+        None => Some(breach),
+        Some(so_far) => {
+            if is_before(breach, so_far) {
+                Some(breach)
+            } else {
+                Some(so_far)
+            }
+        },
+    };
+}

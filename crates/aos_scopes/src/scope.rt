@@ -1,0 +1,125 @@
+// Scopes: names by their bytes, and what they stand for.
+
+ghost use Rattle.std.specs.Prelude.{◌≡◌, OnErr, OnOk, IfOk, not, slice_get};
+ghost use Rattle.aos_scopes.specs.Scope as names;
+
+
+use aos_tree::Export;
+use aos_typed::Literal;
+use aos_types::TypeId;
+use indexmap::IndexMap;
+use std::alloc::{AllocError, Global};
+use std::marker::Model;
+
+/// What a name stands for. Constants, variables and procedures are numbered in their scope in the order of the text, types in
+/// the table of types, modules in load order, each from 0.
+#[derive(Clone, Copy, PartialEq, Eq, Debug)]
+pub enum Meaning {
+    Constant(u32),
+    /// A type; none is known where its definition only names another, or breaks a rule.
+    Type(Option<TypeId>),
+    /// A variable, a field, or a parameter.
+    Variable(u32),
+    /// A procedure or a method.
+    Procedure(u32),
+    Module(u32),
+    /// Module Out.
+    Out,
+    /// The predeclared procedure NEW.
+    New,
+    /// Something that isn't built yet.
+    Other,
+}
+
+/// What a declared name stands for, with its export mark.
+#[derive(Clone, Copy, PartialEq, Eq, Debug)]
+pub struct Entry {
+    pub mark: Option<Export>,
+    pub means: Meaning,
+}
+
+/// The names of a scope, the values of its constants and the types of its variables, so far as they are declared. A name is
+/// looked up in a hashed table, by its bytes.
+#[derive(Drop)]
+pub struct Scope<'a> {
+    table: IndexMap<&'a [u8], Entry>,
+    constants: Vec<Option<Literal>>,
+    variables: Vec<Option<TypeId>>,
+}
+
+impl<'a> Model for Scope<'a> {
+    ghost use Rattle.aos_scopes.specs.Scope as names;
+
+    ghost Value = { names.Scope };
+
+    ghost view = { λ s. record {
+        entries = names.seen_names s.table.entries; constants = s.constants.items;
+        variables = s.variables.items } };
+}
+
+impl<'a> Scope<'a> {
+    /// The scope without names.
+    pub fn new(alloc: Global) -> Scope<'a>
+        ensures { result ≡ names.empty }
+    {
+        Scope {
+            table: IndexMap::new(alloc),
+            constants: Vec::new(alloc),
+            variables: Vec::new(alloc),
+        }
+    }
+
+    /// What a word stands for in this scope, if anything.
+    pub fn find(&self, word: &[u8]) -> Option<Entry>
+        ensures { result ≡ names.find self.now word.now }
+    {
+        self.table.get(word).copied()
+    }
+
+    /// Declares a name, and tells whether it is new; one that is there stays as it is. Without memory the scope stays as it was.
+    pub fn declare(&mut self, word: &'a [u8], entry: Entry) -> Result<bool, AllocError>
+        ensures is_new { IfOk result (λ is_new. is_new ≡ not (names.has self.old word.now)) }
+        ensures declared { OnOk result (self.new ≡ names.with_name self.old (word.now, entry)) }
+        ensures err { OnErr result (self.new ≡ self.old) }
+    {
+        if self.find(word).is_some() {
+            return Ok(false);
+        }
+        self.table.insert(word, entry)?;
+        Ok(true)
+    }
+
+    /// The value of the constant with a number: none where the constant is declared later, and no value where its declaration
+    /// breaks a rule.
+    pub fn constant(&self, number: u32) -> Option<Option<Literal>>
+        ensures { result ≡ slice_get self.now.constants number }
+    {
+        self.constants.get(number as usize).copied()
+    }
+
+    /// The type of the variable with a number: none where the variable is declared later, and no type where its declaration
+    /// breaks a rule.
+    pub fn variable(&self, number: u32) -> Option<Option<TypeId>>
+        ensures { result ≡ slice_get self.now.variables number }
+    {
+        self.variables.get(number as usize).copied()
+    }
+
+    /// The value of the next constant. Without memory the scope stays as it was.
+    pub fn add_constant(&mut self, value: Option<Literal>) -> Result<(), AllocError>
+        ensures ok { OnOk result (self.new ≡ names.with_constant self.old value) }
+        ensures err { OnErr result (self.new ≡ self.old) }
+    {
+        self.constants.push(value)?;
+        Ok(())
+    }
+
+    /// The type of the next variable. Without memory the scope stays as it was.
+    pub fn add_variable(&mut self, of: Option<TypeId>) -> Result<(), AllocError>
+        ensures ok { OnOk result (self.new ≡ names.with_variable self.old of) }
+        ensures err { OnErr result (self.new ≡ self.old) }
+    {
+        self.variables.push(of)?;
+        Ok(())
+    }
+}

@@ -1,0 +1,61 @@
+// The bytes of names, and names that are predeclared.
+
+ghost use Rattle.std.specs.Prelude.{◌≡◌};
+ghost use Rattle.std.specs.List.{list_any};
+ghost use Rattle.std.specs.Str.{bytes_eq};
+ghost use Rattle.aos_scopes.specs.Spelling as spelling;
+
+use aos_tree::Name;
+
+/// The predeclared names.
+const PREDECLARED: [&str; 30] = [
+    "ANY", "BOOLEAN", "CHAR", "FALSE", "HUGEINT", "INTEGER", "LONGINT", "SELF", "SET", "SHORTINT",
+    "TRUE", "ABS", "ASH", "CAP", "CHR", "LONG", "MAX", "MIN", "ODD", "ORD", "SHORT", "LEN",
+    "ASSERT", "COPY", "DEC", "EXCL", "HALT", "INC", "INCL", "NEW",
+];
+
+/// The procedures of module Out.
+const PROCEDURES_OF_OUT: [&str; 5] = ["Open", "Char", "String", "Int", "Ln"];
+
+/// The bytes of a name in its text.
+pub fn word<'a>(text: &'a [u8], name: Name) -> &'a [u8]
+    ensures { result.now ≡ spelling.word text.now name }
+{
+    let end = text.len().min(name.end as usize);
+    let start = end.min(name.start as usize);
+    &text[start..end]
+}
+
+/// Whether a name is spelled so.
+pub fn is_word(text: &[u8], spelled: &str, name: Name) -> bool
+    ensures { result ≡ spelling.is_word text.now spelled.now name }
+{
+    spelled.as_bytes() == word(text, name)
+}
+
+/// Whether two names are spelled alike.
+pub fn are_same(text: &[u8], a: Name, b: Name) -> bool
+    ensures { result ≡ spelling.are_same text.now a b }
+{
+    word(text, a) == word(text, b)
+}
+
+fn is_among(table: &[&str], word: &[u8]) -> bool
+    ensures { result ≡ list_any (λ t. bytes_eq t.now word.now) table.now }
+{
+    table.iter().any(|spelled| spelled.as_bytes() == word)
+}
+
+/// Whether a word is a predeclared name.
+pub fn is_predeclared(word: &[u8]) -> bool
+    ensures { result ≡ spelling.is_among spelling.predeclared word.now }
+{
+    is_among(&PREDECLARED, word)
+}
+
+/// Whether a word is the name of a procedure of module Out.
+pub fn is_procedure_of_out(word: &[u8]) -> bool
+    ensures { result ≡ spelling.is_among spelling.procedures_of_out word.now }
+{
+    is_among(&PROCEDURES_OF_OUT, word)
+}
