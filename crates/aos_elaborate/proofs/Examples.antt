@@ -1,5 +1,6 @@
 -- Small texts with their trees, and what they come to. The trees are those that a parser gives.
 use Rattle.std.proofs.Common.{◌≡◌, ℕ, ◌+◌, pos, List, [], ◌∷◌, Option, Some, None, refl, codes}
+use Rattle.std.specs.Str.Lossy.{utf8_lossy}
 use denote.Hole.Carrier.{out, shown}
 use Rattle.aos_tree.specs.declared.expr.Factor.TheBlock.{shown-the_row-Product-6, shown-the_row-Addition-5}
 use Rattle.aos_base.specs.declared.text.Pos.{Pos}
@@ -46,7 +47,7 @@ module_of imports decls body end =
 
 -- no program but that of modules without anything
 abbrev bare : List ℕ → Module
-bare n = record { name = n; variables = []; body = Nothing }
+bare n = record { name = utf8_lossy n; variables = []; body = Nothing }
 
 abbrev only_modules : List Module → Program
 only_modules ms = record { modules = ms; objects = [] }
@@ -123,8 +124,8 @@ unfolding out-Expr out-Simple out-Term out shown-the_row-Product-6 shown-the_row
 marked_read_only = refl
 
 marked : assigned (codes "MODULE B; VAR n*: LONGINT; END B.") (with_variable (Some ReadWrite) 18)
-    ≡ went (only_modules (record { name = codes "B"; variables = record { name = codes "n"; of = ttype.LongInt } ∷ []; body = Nothing }
-    ∷ record { name = codes "A"; variables = []; body = Then (Assign (place 26) (ModuleVar 0 0) (Lit (literal.Int (pos 1)))) Nothing } ∷ []))
+    ≡ went (only_modules (record { name = utf8_lossy (codes "B"); variables = record { name = utf8_lossy (codes "n"); of = ttype.LongInt } ∷ []; body = Nothing }
+    ∷ record { name = utf8_lossy (codes "A"); variables = []; body = Then (Assign (place 26) (ModuleVar 0 0) (Lit (literal.Int (pos 1)))) Nothing } ∷ []))
 unfolding out-Expr out-Simple out-Term out shown-the_row-Product-6 shown-the_row-Addition-5 shown
 marked = refl
 
@@ -133,8 +134,8 @@ renamed : elaborate (codes "MODULE A; IMPORT X := B; BEGIN X.n := 1 END A." ∷ 
     (tree (module_of (record { name = letter 17; of = Some (letter 22) } ∷ []) []
     (body (stat.Assign (record { name = letter 31; selectors = s.Field (place 32) (letter 33) ∷ [] }) (place 35) (number 38))) 44)
     ∷ tree (with_variable (Some ReadWrite) 18) ∷ [])
-    ≡ went (only_modules (record { name = codes "B"; variables = record { name = codes "n"; of = ttype.LongInt } ∷ []; body = Nothing }
-    ∷ record { name = codes "A"; variables = []; body = Then (Assign (place 31) (ModuleVar 0 0) (Lit (literal.Int (pos 1)))) Nothing } ∷ []))
+    ≡ went (only_modules (record { name = utf8_lossy (codes "B"); variables = record { name = utf8_lossy (codes "n"); of = ttype.LongInt } ∷ []; body = Nothing }
+    ∷ record { name = utf8_lossy (codes "A"); variables = []; body = Then (Assign (place 31) (ModuleVar 0 0) (Lit (literal.Int (pos 1)))) Nothing } ∷ []))
 unfolding out-Expr out-Simple out-Term out shown-the_row-Product-6 shown-the_row-Addition-5 shown
 renamed = refl
 

@@ -104,16 +104,16 @@ module _ (e : Env) where
   out_selectors at (s.Index' p shape row ∷ more) = not_yet p
   out_selectors at (s.Follow p ∷ more) = not_yet p
 
+  abbrev pub called_meaning : Meaning → Desig → Judged (Option Stat)
+  called_meaning means.Out d = out_selectors d.name.pos d.selectors
+  called_meaning means.New d = new_selectors d.name.pos d.selectors
+  called_meaning m d = not_yet d.name.pos
+
   -- a call, by what its first name stands for
   abbrev pub called : Lookup → Desig → Judged (Option Stat)
   called Unknown d = refused 14 d.name.pos
   called NotExported d = refused 15 d.name.pos
-  called (Found x) d = by_meaning x.means
-    where
-      by_meaning : Meaning → Judged (Option Stat)
-      by_meaning means.Out = out_selectors d.name.pos d.selectors
-      by_meaning means.New = new_selectors d.name.pos d.selectors
-      by_meaning m = not_yet d.name.pos
+  called (Found x) d = called_meaning x.means d
 
   abbrev mutual
     -- a statement

@@ -95,14 +95,14 @@ module _ (e : Env) where
   of_module m at (s.Follow p ∷ more) = refused 99 at
   of_module m at (s.Paren' p shape row ∷ more) = refused 99 at
 
+  abbrev pub by_meaning : Symbol → Meaning → Pos → List Selector → Judged Spot
+  by_meaning x (means.Module m) at ss = of_module m at ss
+  by_meaning x m at ss = behind ss (meant x m at)
+
   abbrev pub by_name : Lookup → Pos → List Selector → Judged Spot
-  by_name (Found x) at ss = by_meaning x.means
-    where
-      by_meaning : Meaning → Judged Spot
-      by_meaning (means.Module m) = of_module m at ss
-      by_meaning m = behind ss (meant x m at)
   by_name Unknown at ss = behind ss (refused 14 at)
   by_name NotExported at ss = behind ss (refused 15 at)
+  by_name (Found x) at ss = by_meaning x x.means at ss
 
   abbrev pub designator : Name → List Selector → Judged Spot
   designator n ss = by_name (env.lookup e n) n.pos ss

@@ -40,9 +40,11 @@ pub data IsReading (text : List ℕ) : Reading → Type 0 where
   by_nesting : {tokens : List Token} (p : Pos) → IsTokenList text tokens → TooDeepAt module_at tokens p → IsReading text (broken (breach_at 7 p))
 
 -- each of the texts has its reading
-pub data AreReadings : List (List ℕ) → List Reading → Type 0 where
-  no_readings : AreReadings [] []
-  readings : {text : List ℕ} {r : Reading} {texts : List (List ℕ)} {rs : List Reading} → IsReading text r → AreReadings texts rs → AreReadings (text ∷ texts) (r ∷ rs)
+abbrev pub AreReadings : List (List ℕ) → List Reading → Type 0
+AreReadings [] [] = Unit {0}
+AreReadings [] (r ∷ rs) = ⊥
+AreReadings (text ∷ texts) [] = ⊥
+AreReadings (text ∷ texts) (r ∷ rs) = IsReading text r × AreReadings texts rs
 
 -- the texts, in the order of the command, come to this
 pub record ComesTo (texts : List (List ℕ)) (o : Outcome Program) : Type 0 where

@@ -126,14 +126,14 @@ abbrev pub with_variable : Env → Option TypeId → Env
 with_variable e of = record e { here = add_variable e.here 0 of }
 
 -- the number that a defined type's name stands for
+abbrev pub slot_meant : Meaning → Option TypeId
+slot_meant (means.Type of) = of
+slot_meant m = None
+
 abbrev pub slot_in : Lookup → Option TypeId
 slot_in Unknown = None
 slot_in NotExported = None
 slot_in (Found x) = slot_meant x.means
-  where
-    slot_meant : Meaning → Option TypeId
-    slot_meant (means.Type of) = of
-    slot_meant m = None
 
 abbrev pub type_def : Env → TypeDef → Judged Env
 type_def e d = bind (defined_row e d.value) (λ r. kept (with_row e (slot_in (env.lookup e d.def.name)) r))

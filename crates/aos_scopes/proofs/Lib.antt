@@ -5,3 +5,4 @@ pub mod Least
 pub mod Words
 pub mod Table
 pub mod Paths
+pub mod Entered

@@ -1,5 +1,5 @@
 -- One more scope of a path.
-use Rattle.std.proofs.Common.{◌≡◌, ◌<◌, ◌≤◌, ℕ, zero, suc, List, [], ◌∷◌, ◌+◌, length, get_or, drop, drop-cons, add-one, Option, None, refl, ap, ◌∙◌, sym, arith}
+use Rattle.std.proofs.Common.{◌≡◌, ◌<◌, ◌≤◌, ℕ, zero, suc, List, [], ◌∷◌, ◌+◌, length, get_or, drop, drop-cons, add-one, None, refl, ap, ◌∙◌, sym, arith}
 use Rattle.std.specs.Option.{option_or}
 use Rattle.aos_scopes.specs.declared.env.Open.{Open}
 use Rattle.aos_scopes.specs.declared.env.Env.{Env}

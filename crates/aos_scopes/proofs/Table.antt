@@ -1,5 +1,5 @@
 -- A table of names, seen by their bytes: a look into it, and one name more.
-use Rattle.std.proofs.Common.{◌≡◌, ℕ, List, [], ◌∷◌, ◌++◌, Bool, true, false, cond, Option, Some, None, is_some, Bor, refl, sym, ap, ◌∙◌, bytes_eq, if◌then◌else◌}
+use Rattle.std.proofs.Common.{◌≡◌, ℕ, List, [], ◌∷◌, ◌++◌, Bool, true, false, cond, Option, Some, None, is_some, Bor, refl, ap, bytes_eq, if◌then◌else◌}
 use Rattle.std.specs.Map.{lookup}
 use Rattle.indexmap.specs.IndexMap.{insert_entry}
 use Rattle.aos_scopes.specs.declared.scope.Entry.{Entry}
@@ -14,8 +14,8 @@ module _ (k : Bor (List ℕ)) (x : Entry) where
   named_by : (b : Bool) (e : Bor (List ℕ) × Entry) (es more : List (Bor (List ℕ) × Entry)) (rest : Option Entry) → cond b (Some e.1) rest ≡ None →
       (rest ≡ None → seen_names more ≡ seen_names es ++ (k.now, x) ∷ []) →
       seen_names (if b then (e.0, x) ∷ es else e ∷ more) ≡ named e ∷ (seen_names es ++ (k.now, x) ∷ [])
-  named_by true e es more rest none then = cc
-  named_by false e es more rest none then = ap (λ z. named e ∷ z) (then none)
+  named_by true e es more rest none more_is = cc
+  named_by false e es more rest none more_is = ap (λ z. named e ∷ z) (more_is none)
 
   pub named_more : (es : List (Bor (List ℕ) × Entry)) → lookup (λ q. bytes_eq k.now q) (seen_names es) ≡ None →
       seen_names (insert_entry (λ a b. bytes_eq a.now b.now) es k x) ≡ seen_names es ++ (k.now, x) ∷ []

@@ -1,5 +1,5 @@
 -- The names that declarations declare, in the order of the text.
-use Rattle.std.specs.Prelude.{ℕ, List, [], ◌∷◌, map}
+use Rattle.std.specs.Prelude.{List, [], ◌∷◌, map}
 use Rattle.std.specs.List.{flat_map}
 use Rattle.aos_tree.specs.declared.name.Name.{Name}
 use Rattle.aos_tree.specs.declared.decl.Def.{Def}
@@ -49,8 +49,14 @@ abbrev pub procedure_defs : List Decl → List Def
 procedure_defs ds = flat_map procedures_in ds
 
 -- each variable by itself
+abbrev pub singles_in : Decl → List Def
+singles_in (Vars' p shape row) = flat_map (λ v. v.defs) (items-the_row-VarDef _ row)
+singles_in (Consts p cs) = []
+singles_in (Types' p shape row) = []
+singles_in (Proc' p i def formals shape row body end) = []
+
 abbrev pub single_variables : List Decl → List Def
-single_variables ds = flat_map (λ v. v.defs) (variable_defs ds)
+single_variables ds = flat_map singles_in ds
 
 -- all names of a declaration, in the order of the text
 abbrev pub names_in : Decl → List Name

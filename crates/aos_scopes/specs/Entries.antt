@@ -1,10 +1,8 @@
 -- The scopes of a module, as its declarations make them. All names are there before any declaration is looked at, so a name
 -- may be used before it is declared. Constants, variables and procedures are numbered in their scope in the order of the text,
 -- and the types that a module defines have the next numbers in the table; a name for another type has none of its own.
-use Rattle.std.specs.Prelude.{ℕ, suc, List, [], ◌∷◌, ◌++◌, codes, length, map, Bool, true, false, Option, Some, None, if◌then◌else◌, position, unwrap_or}
-use Rattle.std.specs.Option.{option_map_or}
+use Rattle.std.specs.Prelude.{ℕ, suc, List, [], ◌∷◌, ◌++◌, codes, map, Bool, true, false, Option, Some, None, if◌then◌else◌, unwrap_or}
 use Rattle.std.specs.Str.{bytes_eq}
-use Rattle.aos_tree.specs.declared.name.Name.{Name}
 use Rattle.aos_tree.specs.declared.decl.Export.{Export}
 use Rattle.aos_tree.specs.declared.decl.Mark.{Mark}
 use Rattle.aos_tree.specs.declared.decl.Def.{Def}
@@ -17,6 +15,8 @@ use Rattle.aos_tree.specs.declared.module.Module.{Module}
 use Rattle.aos_types.specs.declared.row.TypeId.{TypeId}
 use Rattle.aos_scopes.specs.declared.scope.Meaning.{Meaning}
 use Rattle.aos_scopes.specs.declared.scope.Meaning.TheVariants as means
+use Rattle.aos_scopes.specs.declared.entries.Sort.{Sort}
+use Rattle.aos_scopes.specs.declared.entries.Sort.TheVariants as sort
 use Rattle.aos_scopes.specs.Spelling.{word}
 use Rattle.aos_scopes.specs.Declarations.{constant_defs, type_defs, single_variables, procedure_defs}
 use Rattle.aos_scopes.specs.Scope.{Named, Scope, empty, with_names}
@@ -50,6 +50,11 @@ slot next d = if is_alias d.value then None else Some (record { 0 = next })
 abbrev pub after : ℕ → TypeDef → ℕ
 after next d = if is_alias d.value then next else suc next
 
+-- the next number behind types
+abbrev pub after_all : ℕ → List TypeDef → ℕ
+after_all next [] = next
+after_all next (d ∷ ds) = after_all (after next d) ds
+
 -- what is declared in an object type; it has no number of its own yet where it is a type
 abbrev pub inner_decls : TypeExpr → List Decl
 inner_decls (type.Object' p base shape row body end) = items-the_row-Decl _ row
@@ -59,20 +64,28 @@ inner_decls (type.Record' p base shape row) = []
 inner_decls (type.Pointer' p shape row) = []
 inner_decls (type.Proc p flag formals) = []
 
--- the module that an import names: Out, or one of those before this one
+-- the module that an import names: Out, or one of those before this one, of which the first has this number
+abbrev pub among : List ℕ → ℕ → List Home → Meaning
+among w k [] = means.Other
+among w k (h ∷ hs) = if bytes_eq w h.name then means.Module k else among w (suc k) hs
+
 abbrev pub module_named : List Home → List ℕ → Meaning
-module_named homes w =
-    if bytes_eq (codes "Out") w then means.Out
-    else option_map_or means.Module (position (bytes_eq w) (map (λ h. h.name) homes)) means.Other
+module_named homes w = if bytes_eq (codes "Out") w then means.Out else among w 0 homes
+
+-- of what sort a numbered declaration is
+abbrev pub meant : Sort → ℕ → Meaning
+meant sort.Constant k = means.Constant k
+meant sort.Variable k = means.Variable k
+meant sort.Procedure k = means.Procedure k
 
 module _ (text : List ℕ) where
   abbrev pub entry : Def → Meaning → Named
   entry d m = (word text d.name, record { mark = export_of d; means = m })
 
   -- one after another, from this number on
-  abbrev pub numbered : (ℕ → Meaning) → ℕ → List Def → List Named
-  numbered f k [] = []
-  numbered f k (d ∷ ds) = entry d (f k) ∷ numbered f (suc k) ds
+  abbrev pub numbered : Sort → ℕ → List Def → List Named
+  numbered of k [] = []
+  numbered of k (d ∷ ds) = entry d (meant of k) ∷ numbered of (suc k) ds
 
   abbrev pub type_entries : ℕ → List TypeDef → List Named
   type_entries next [] = []
@@ -85,18 +98,19 @@ module _ (text : List ℕ) where
   abbrev pub import_entry : List Home → Import → Named
   import_entry homes i = (word text i.name, record { mark = None; means = module_named homes (word text (unwrap_or i.of i.name)) })
 
-  -- the names of declarations, whose types have these entries
-  abbrev pub declared_entries : List Named → List Decl → List Named
-  declared_entries types ds =
-      numbered means.Constant 0 (constant_defs ds) ++ types ++ numbered means.Variable 0 (single_variables ds)
-      ++ numbered means.Procedure 0 (procedure_defs ds)
+  -- the names of declarations but those of types
+  abbrev pub other_entries : List Decl → List Named
+  other_entries ds =
+      numbered sort.Constant 0 (constant_defs ds) ++ numbered sort.Variable 0 (single_variables ds)
+      ++ numbered sort.Procedure 0 (procedure_defs ds)
 
+  -- a name is declared once, so the order doesn't matter
   abbrev pub own_scope : List Home → ℕ → Module → Scope
   own_scope homes next m =
-      with_names empty (map (import_entry homes) m.imports ++ declared_entries (type_entries next (type_defs m.decls)) m.decls)
+      with_names empty (map (import_entry homes) m.imports ++ type_entries next (type_defs m.decls) ++ other_entries m.decls)
 
   abbrev pub inner_scope : TypeDef → Scope
-  inner_scope d = let ds = inner_decls d.value in with_names empty (declared_entries (map inner_type (type_defs ds)) ds)
+  inner_scope d = let ds = inner_decls d.value in with_names empty (map inner_type (type_defs ds) ++ other_entries ds)
 
   -- where the modules before are these, and the next type has this number
   abbrev pub scopes : List Home → ℕ → Module → List Scope

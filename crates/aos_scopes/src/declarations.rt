@@ -69,4 +69,3 @@ pub fn add_declared(names: &mut Vec<Name>, decls: &[Decl]) -> Result<(), AllocEr
     }
     Ok(())
 }
-

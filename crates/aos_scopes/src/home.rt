@@ -5,7 +5,6 @@ ghost use Rattle.std.specs.Option.{option_copied};
 ghost use Rattle.aos_scopes.specs.Home as home;
 
 use crate::scope::Scope;
-
 use aos_typed::Literal;
 use aos_types::TypeId;
 use std::alloc::AllocError;

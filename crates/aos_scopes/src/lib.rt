@@ -3,6 +3,7 @@
 
 pub mod breach;
 mod declarations;
+pub mod entries;
 pub mod env;
 pub mod home;
 mod laws;
@@ -13,6 +14,7 @@ mod spelling;
 pub use breach::{
     Breach, NAMED_OUT, NOT_BUILT, NOT_EXPORTED, OTHER_END, READ_ONLY, TWICE, UNKNOWN, note,
 };
+pub use entries::home_of;
 pub use env::{Env, Lookup, Open, Symbol};
 pub use home::Home;
 pub use laws::law_of_first;

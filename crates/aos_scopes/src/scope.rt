@@ -3,7 +3,6 @@
 ghost use Rattle.std.specs.Prelude.{◌≡◌, OnErr, OnOk, IfOk, not, slice_get};
 ghost use Rattle.aos_scopes.specs.Scope as names;
 
-
 use aos_tree::Export;
 use aos_typed::Literal;
 use aos_types::TypeId;
@@ -53,8 +52,10 @@ impl<'a> Model for Scope<'a> {
     ghost Value = { names.Scope };
 
     ghost view = { λ s. record {
-        entries = names.seen_names s.table.entries; constants = s.constants.items;
-        variables = s.variables.items } };
+      entries = names.seen_names s.table.entries;
+      constants = s.constants.items;
+      variables = s.variables.items;
+    } };
 }
 
 impl<'a> Scope<'a> {

@@ -5,7 +5,7 @@ use Rattle.aos_scopes.proofs.scope.Scope.declare.Goals as goal
 
 pub returns-clause-declared : goal.returns-clause-declared
 returns-clause-declared c =
-    let n = (c.args.word.now, c.args.entry) in
+    let n : names.Named = (c.args.word.now, c.args.entry) in
     let inside : names.Scope = record { entries = names.seen_names c.self.inside.table.entries; constants = c.self.inside.constants.items; variables = c.self.inside.variables.items } in
     let none : names.find c.args.self.now c.args.word.now ≡ None = sym c.find.ensures ∙ none_of c.find.result (sym c.is_some.ensures ∙ c.if-is_some.false) in
     let lacking : names.has c.args.self.now c.args.word.now ≡ false = ap (λ o. is_some o) none in

@@ -1,4 +1,4 @@
-use Rattle.std.proofs.Common.{◌≡◌, ◌∙◌, ap}
+use Rattle.std.proofs.Common.{◌∙◌, ap}
 use Rattle.aos_scopes.specs.Scope as names
 use Rattle.aos_scopes.proofs.Table.{find_named}
 use Rattle.aos_scopes.proofs.scope.Scope.find.Goals as goal
