@@ -1,7 +1,7 @@
 -- Small texts with their trees, and what they come to. The trees are those that a parser gives.
 use Rattle.std.proofs.Common.{◌≡◌, ℕ, ◌+◌, pos, List, [], ◌∷◌, Option, Some, None, refl, codes}
 use Rattle.std.specs.Str.Lossy.{utf8_lossy}
-use denote.Hole.Carrier.{out, shown}
+use denote.Hole.Carrier.{out, shown, hidden}
 use Rattle.aos_tree.specs.declared.expr.Factor.TheBlock.{shown-the_row-Product-6, shown-the_row-Addition-5}
 use Rattle.aos_base.specs.declared.text.Pos.{Pos}
 use Rattle.aos_tree.specs.declared.name.Name.{Name}
@@ -14,7 +14,7 @@ use Rattle.aos_tree.specs.declared.expr.Selector.TheVariants as s
 use Rattle.aos_tree.specs.declared.stat.Stat.{Stat as TreeStat}
 use Rattle.aos_tree.specs.declared.stat.Stat.TheVariants as stat
 use Rattle.aos_tree.specs.declared.stat.Block.{Block}
-use Rattle.aos_tree.specs.declared.decl.Decl.{Decl, end_of-VarDef, more_of-VarDef}
+use Rattle.aos_tree.specs.declared.decl.Decl.{Decl, end_of-VarDef, more_of-VarDef, end_of-TypeDef, more_of-TypeDef, end_of-Decl}
 use Rattle.aos_tree.specs.declared.decl.Decl.TheVariants as decl
 use Rattle.aos_tree.specs.declared.decl.Def.{Def}
 use Rattle.aos_tree.specs.declared.decl.Export.{Export}
@@ -24,7 +24,7 @@ use Rattle.aos_tree.specs.declared.module.Import.{Import}
 use Rattle.aos_tree.specs.declared.module.Module.{Module as Tree}
 use Rattle.aos_typed.specs.declared.tree.Literal.TheVariants as literal
 use Rattle.aos_typed.specs.declared.tree.TType.TheVariants as ttype
-use Rattle.aos_typed.specs.Program.{ModuleVar, Lit, Read, Assign, Nothing, Then, Module, Program}
+use Rattle.aos_typed.specs.Program.{ModuleVar, Lit, Assign, New, Nothing, Then, Module, Program}
 use Rattle.aos_scopes.specs.Outcome.{Outcome, refused, went, refusal}
 use Rattle.aos_elaborate.specs.Files.{tree, elaborate}
 
@@ -101,6 +101,12 @@ with_variable mark at = module_of [] (variable mark at ∷ []) None (at + 13)
 abbrev number : ℕ → TreeExpr
 number at = Expr' (place at) (Simple' (place at) None (Term' (place at) (f.Number (place at) (pos 1)) [] end_of-Product) [] end_of-Addition) Expr-right-None'
 
+-- B.p, where B stands here
+abbrev read : ℕ → TreeExpr
+read at =
+    Expr' (place at) (Simple' (place at) None (Term' (place at) (f.Desig' (letter at) (tt ∷ []) (more_of-Selector (s.Field (place (at + 1)) (letter (at + 2))) end_of-Selector)) [] end_of-Product) [] end_of-Addition)
+    Expr-right-None'
+
 -- a body of one statement
 abbrev body : TreeStat → Option Block
 body x = Some (record { pos = place 20; modifiers = []; body = record { stats = x ∷ [] } })
@@ -143,3 +149,41 @@ unknown_member : elaborate (codes "MODULE A; IMPORT B; BEGIN B.n := 1 END A." �
     ≡ refused (refusal 14 0 (place 28))
 unfolding out-Expr out-Simple out-Term out shown-the_row-Product-6 shown-the_row-Addition-5 shown
 unknown_member = refl
+
+-- MODULE B; TYPE T*= OBJECT BEGIN {ACTIVE} END T; VAR p*: T; END B.
+abbrev active : Option Block
+active = Some (record { pos = place 26; modifiers = record { name = name 33 39; value = None } ∷ []; body = record { stats = stat.Empty ∷ [] } })
+
+abbrev with_object : Tree
+with_object =
+    module_of []
+    (decl.Types' (place 10) (tt ∷ []) (more_of-TypeDef (def 15 (Some ReadWrite)) (type.Object' (place 19) None [] end_of-Decl active (Some (letter 45))) end_of-TypeDef)
+    ∷ decl.Vars' (place 48) (tt ∷ []) (more_of-VarDef (def 52 (Some ReadWrite) ∷ []) (type.Named (record { first = letter 56; second = None })) end_of-VarDef) ∷ []) None 63
+
+-- MODULE A; IMPORT B; BEGIN NEW(B.p) END A.
+abbrev making : Tree
+making =
+    module_of (plain 17 ∷ []) []
+    (body (stat.Call (record { name = name 26 29; selectors = s.Paren (place 29) (read 30 ∷ []) ∷ [] }))) 39
+
+an_object_of_another_module : elaborate (codes "MODULE A; IMPORT B; BEGIN NEW(B.p) END A." ∷ codes "MODULE B; TYPE T*= OBJECT BEGIN {ACTIVE} END T; VAR p*: T; END B." ∷ [])
+    (tree making ∷ tree with_object ∷ [])
+    ≡ went (record {
+      modules = record { name = utf8_lossy (codes "B"); variables = record { name = utf8_lossy (codes "p"); of = ttype.Object 0 } ∷ []; body = Nothing }
+          ∷ record { name = utf8_lossy (codes "A"); variables = []; body = Then (New (place 26) (ModuleVar 0 0) 0) Nothing } ∷ [];
+      objects = record { name = utf8_lossy (codes "T"); home = 0; body = Nothing } ∷ [];
+    })
+unfolding out-Expr out-Simple out-Term out shown-the_row-Product-6 shown-the_row-Addition-5 shown hidden
+an_object_of_another_module = refl
+
+-- a declared name goes before a predeclared one
+declared_anew : elaborate (codes "MODULE B; VAR n: LONGINT; NEW: LONGINT; BEGIN NEW := 1 END B." ∷ [])
+    (tree (module_of []
+    (decl.Vars' (place 10) (tt ∷ tt ∷ []) (more_of-VarDef (def 14 None ∷ []) (type.Named (record { first = name 17 24; second = None }))
+    (more_of-VarDef (record { name = name 26 29; mark = None } ∷ []) (type.Named (record { first = name 31 38; second = None })) end_of-VarDef)) ∷ [])
+    (body (stat.Assign (record { name = name 46 49; selectors = [] }) (place 50) (number 53))) 59) ∷ [])
+    ≡ went (only_modules (record { name = utf8_lossy (codes "B");
+      variables = record { name = utf8_lossy (codes "n"); of = ttype.LongInt } ∷ record { name = utf8_lossy (codes "NEW"); of = ttype.LongInt } ∷ [];
+      body = Then (Assign (place 46) (ModuleVar 0 1) (Lit (literal.Int (pos 1)))) Nothing } ∷ []))
+unfolding out-Expr out-Simple out-Term out shown-the_row-Product-6 shown-the_row-Addition-5 shown
+declared_anew = refl

@@ -114,6 +114,6 @@ extended w e m b =
 -- the module of a file, whose text this is
 abbrev pub elaborated : World → ℕ → List ℕ → Tree → Outcome World
 elaborated w file text m =
-    then (passed file (judged (name_breaches text m) tt)) (λ names.
+    then (passed file (judged (name_breaches text m) (tt {0}))) (λ names.
     then (passed file (headings (entered w text m) m.decls)) (λ e.
     then (passed file (bodies e m)) (λ b. went (extended w e m b))))
