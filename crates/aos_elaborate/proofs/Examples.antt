@@ -7,8 +7,8 @@ use Rattle.aos_base.specs.declared.text.Pos.{Pos}
 use Rattle.aos_tree.specs.declared.name.Name.{Name}
 use Rattle.aos_tree.specs.declared.expr.Expr.{Expr as TreeExpr, Expr', Expr-right-None', out-Expr}
 use Rattle.aos_tree.specs.declared.expr.Simple.{Simple', end_of-Addition, out-Simple}
-use Rattle.aos_tree.specs.declared.expr.Term.{Term, Term', end_of-Product, out-Term}
-use Rattle.aos_tree.specs.declared.expr.Factor.{Factor, end_of-Expr, more_of-Expr, end_of-Selector, more_of-Selector}
+use Rattle.aos_tree.specs.declared.expr.Term.{Term', end_of-Product, out-Term}
+use Rattle.aos_tree.specs.declared.expr.Factor.{end_of-Selector, more_of-Selector}
 use Rattle.aos_tree.specs.declared.expr.Factor.TheVariants as f
 use Rattle.aos_tree.specs.declared.expr.Selector.TheVariants as s
 use Rattle.aos_tree.specs.declared.stat.Stat.{Stat as TreeStat}
@@ -182,8 +182,10 @@ declared_anew : elaborate (codes "MODULE B; VAR n: LONGINT; NEW: LONGINT; BEGIN 
     (decl.Vars' (place 10) (tt ∷ tt ∷ []) (more_of-VarDef (def 14 None ∷ []) (type.Named (record { first = name 17 24; second = None }))
     (more_of-VarDef (record { name = name 26 29; mark = None } ∷ []) (type.Named (record { first = name 31 38; second = None })) end_of-VarDef)) ∷ [])
     (body (stat.Assign (record { name = name 46 49; selectors = [] }) (place 50) (number 53))) 59) ∷ [])
-    ≡ went (only_modules (record { name = utf8_lossy (codes "B");
+    ≡ went (only_modules (record {
+      name = utf8_lossy (codes "B");
       variables = record { name = utf8_lossy (codes "n"); of = ttype.LongInt } ∷ record { name = utf8_lossy (codes "NEW"); of = ttype.LongInt } ∷ [];
-      body = Then (Assign (place 46) (ModuleVar 0 1) (Lit (literal.Int (pos 1)))) Nothing } ∷ []))
+      body = Then (Assign (place 46) (ModuleVar 0 1) (Lit (literal.Int (pos 1)))) Nothing;
+    } ∷ []))
 unfolding out-Expr out-Simple out-Term out shown-the_row-Product-6 shown-the_row-Addition-5 shown
 declared_anew = refl

@@ -35,7 +35,7 @@ one_tree : {text : List ℕ} (m n : Tree) → IsTreeOf text m → IsTreeOf text 
 one_tree m n t u = unique_reads m n t.tokens t.reads (over (Reads n) u.scanned t.scanned u.reads)
 
 pub one_reading : (text : List ℕ) (r s : Reading) → IsReading text r → IsReading text s → r ≡ s
-one_reading text r s (by_tree {m} t) (by_tree {n} u) = ap tree (one_tree m n t u)
+one_reading text r s (by_tree {m = a} t) (by_tree {m = b} u) = ap tree (one_tree a b t u)
 one_reading text r s (by_tree t) (by_scanner f k) = absurd (not_both text t.tokens f t.scanned k)
 one_reading text r s (by_tree t) (by_syntax q list at) = absurd (syntax_or_tree q list at t)
 one_reading text r s (by_tree t) (by_nesting q list at) = absurd (nesting_or_tree q list at t)

@@ -1,7 +1,6 @@
 -- The third pass: bodies. Built are assignments to LONGINT variables, WHILE, NEW of an object variable, Out.Int and Out.Ln, and
 -- of the modifiers ACTIVE on an object's body. A statement that isn't built is refused at its first token, a modifier at itself.
-use Rattle.std.specs.Prelude.{ℕ, zero, suc, List, [], ◌∷◌, ◌++◌, codes, length, map, Bool, true, false, not, ◌&&◌, Option, Some, None, if◌then◌else◌}
-use Rattle.std.specs.List.{flat_map}
+use Rattle.std.specs.Prelude.{ℕ, List, [], ◌∷◌, ◌++◌, codes, Bool, not, ◌&&◌, Option, Some, None, if◌then◌else◌}
 use Rattle.std.specs.Option.{is_none}
 use Rattle.aos_base.specs.declared.text.Pos.{Pos}
 use Rattle.aos_tree.specs.declared.name.Name.{Name}
@@ -13,14 +12,14 @@ use Rattle.aos_tree.specs.declared.stat.Block.{Block}
 use Rattle.aos_tree.specs.declared.stat.Modifier.{Modifier}
 use Rattle.aos_tree.specs.declared.stat.Stat.{Stat as TreeStat, Row_of-Stat, end_of-Stat, more_of-Stat}
 use Rattle.aos_tree.specs.declared.stat.Stat.TheVariants as stat
-use Rattle.aos_typed.specs.Program.{Place, Expr, Stat, Assign, While, New, Out, Int, Ln, Stats, Nothing, Then}
+use Rattle.aos_typed.specs.Program.{Stat, Assign, While, New, Out, Int, Ln, Stats, Nothing, Then}
 use Rattle.aos_scopes.specs.declared.breach.Breach.{Breach}
 use Rattle.aos_scopes.specs.declared.scope.Meaning.{Meaning}
 use Rattle.aos_scopes.specs.declared.scope.Meaning.TheVariants as means
 use Rattle.aos_scopes.specs.declared.env.Lookup.{Lookup}
 use Rattle.aos_scopes.specs.declared.env.Lookup.TheVariants.{Unknown, NotExported, Found}
 use Rattle.aos_scopes.specs.declared.env.Env.{Env}
-use Rattle.aos_scopes.specs.Breaches.{breach, breach_unless, not_built}
+use Rattle.aos_scopes.specs.Breaches.{breach, breach_unless}
 use Rattle.aos_scopes.specs.Judged.{Judged, judged, kept, bind, walk}
 use Rattle.aos_scopes.specs.Spelling.{word, is_word, is_among, procedures_of_out}
 use Rattle.aos_scopes.specs.Env as env

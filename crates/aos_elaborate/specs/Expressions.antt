@@ -1,6 +1,6 @@
 -- Expressions: which rules they break, and what they are in the typed program. Built are sums of LONGINT variables and numbers,
 -- and the relations `<` and `#` of two sums. A factor that isn't built is refused at its first token, an operator at itself.
-use Rattle.std.specs.Prelude.{ℤ, pos, List, [], ◌∷◌, ◌++◌, Bool, true, false, not, ◌&&◌, Option, Some, None, int_le}
+use Rattle.std.specs.Prelude.{ℤ, pos, List, [], ◌++◌, Bool, true, false, not, ◌&&◌, Option, Some, None, int_le}
 use Rattle.std.specs.List.{flat_map}
 use Rattle.std.specs.Option.{is_none}
 use Rattle.aos_base.specs.declared.text.Pos.{Pos}

@@ -1,6 +1,6 @@
 -- The second pass: constants, types and headings, and the environment behind them. What isn't built is refused by rule 99, a
 -- declaration or type at its first token; nothing behind that in it is looked at.
-use Rattle.std.specs.Prelude.{ℕ, zero, suc, List, [], ◌∷◌, ◌++◌, codes, length, replicate, Bool, true, false, Option, Some, None, slice_set, if◌then◌else◌}
+use Rattle.std.specs.Prelude.{ℕ, zero, suc, List, [], ◌++◌, codes, length, replicate, Bool, true, false, Option, Some, None, slice_set, if◌then◌else◌}
 use Rattle.std.specs.List.{flat_map, list_any}
 use Rattle.std.specs.Option.{is_none}
 use Rattle.aos_base.specs.declared.text.Pos.{Pos}

@@ -5,7 +5,6 @@ use Rattle.std.specs.List.{zip}
 use Rattle.std.specs.Str.Lossy.{utf8_lossy}
 use Rattle.aos_tree.specs.declared.name.Name.{Name}
 use Rattle.aos_tree.specs.declared.stat.Block.{Block}
-use Rattle.aos_tree.specs.declared.decl.Decl.{Decl}
 use Rattle.aos_tree.specs.declared.decl.Def.{Def}
 use Rattle.aos_tree.specs.declared.decl.TypeDef.{TypeDef}
 use Rattle.aos_tree.specs.declared.decl.TypeExpr.{TypeExpr}
@@ -14,7 +13,6 @@ use Rattle.aos_tree.specs.declared.module.Module.{Module as Tree}
 use Rattle.aos_types.specs.declared.row.TypeId.{TypeId}
 use Rattle.aos_types.specs.declared.row.TypeRow.{TypeRow}
 use Rattle.aos_typed.specs.Program.{Stat, Variable, ObjectType, Module, Program}
-use Rattle.aos_scopes.specs.declared.env.Open.{Open}
 use Rattle.aos_scopes.specs.declared.env.Env.{Env}
 use Rattle.aos_scopes.specs.Judged.{Judged, judged, kept, bind, walk}
 use Rattle.aos_scopes.specs.Outcome.{Outcome, went, then, passed}
