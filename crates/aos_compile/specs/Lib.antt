@@ -1,3 +1,4 @@
+pub mod Modules
+pub mod Files
 pub mod Elaborates
-pub mod Back
-pub mod Typed
+pub mod Seen

@@ -1,11 +1,11 @@
-//! From a text to its typed program and the image that shows it.
+//! From the texts of modules to their typed program and the image that shows it.
 #![tactic(auto)]
 
 pub mod compile_err;
-mod emit;
-mod front;
-mod image;
+mod laws;
+pub mod modules;
 pub mod program;
 
 pub use compile_err::CompileErr;
-pub use program::{compile, one_refusal, refused_or_accepted};
+pub use laws::law_of_outcome;
+pub use program::compile;

@@ -4,3 +4,5 @@ pub mod Each
 pub mod Least
 pub mod Words
 pub mod Table
+pub mod Paths
+pub mod Entered

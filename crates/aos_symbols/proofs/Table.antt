@@ -1,33 +1,31 @@
--- A table from words to what they stand for, filled from the last entry to the first, and a look into it.
-use Rattle.std.proofs.Common.{◌≡◌, ℕ, ◌<◌, suc, List, length, drop, get_or, Bool, true, false, cond, Option, Some, Bor, refl, sym, ap, ◌∙◌, bytes_eq, drop-cons, if◌then◌else◌}
+-- A table of names, seen by their bytes: a look into it, and one name more.
+use Rattle.std.proofs.Common.{◌≡◌, ℕ, List, [], ◌∷◌, ◌++◌, Bool, true, false, cond, Option, Some, None, is_some, Bor, refl, ap, bytes_eq, if◌then◌else◌}
 use Rattle.std.specs.Map.{lookup}
-use Rattle.std.specs.Option.{option_or}
-use Rattle.aos_tree.specs.declared.name.Name.{Name}
+use Rattle.indexmap.specs.IndexMap.{insert_entry}
 use Rattle.aos_symbols.specs.declared.scope.Entry.{Entry}
-use Rattle.aos_symbols.specs.declared.scope.Meaning.{Meaning}
-use Rattle.aos_symbols.specs.Spelling.{word}
-use Rattle.aos_symbols.specs.Scope.{declared_meaning, predeclared_meaning, meaning}
-use Rattle.aos_symbols.specs.Environment.{IsTableOf}
+use Rattle.aos_symbols.specs.Scope.{Named, Scope, has, named, seen_names, with_name}
 
-by_test : {X : Type 0} (b : Bool) (x y : X) → cond b x y ≡ (if b then x else y)
-by_test true x y = refl
-by_test false x y = refl
+pub find_named : (w : List ℕ) (es : List (Bor (List ℕ) × Entry)) → lookup (λ k. bytes_eq w k.now) es ≡ lookup (λ k. bytes_eq w k) (seen_names es)
+find_named w [] = refl
+find_named w (e ∷ es) = ap (λ z. cond (bytes_eq w e.0.now) (Some e.1) z) (find_named w es)
 
-module _ (text : List ℕ) (es : List Entry) where
-  -- one entry more at the front
-  pub table_more : (i j : ℕ) (d : Entry) (v : List ℕ) (old new : List (Bor (List ℕ) × Meaning)) → i < length es → j ≡ suc i → v ≡ word text (get_or es i d).name →
-      ((w : List ℕ) → lookup (λ k. bytes_eq w k.now) new ≡ cond (bytes_eq v w) (Some (get_or es i d).means) (lookup (λ k. bytes_eq w k.now) old)) →
-      IsTableOf text (drop j es) old → IsTableOf text (drop i es) new
-  table_more i j d v old new lt next same updated is = λ w.
-      let e = get_or es i d in
-      let rest : lookup (λ k. bytes_eq w k.now) old ≡ declared_meaning text (drop (suc i) es) w = is w ∙ ap (λ n. declared_meaning text (drop n es) w) next in
-      updated w ∙ ap (λ z. cond (bytes_eq v w) (Some e.means) z) rest
-      ∙ ap (λ z. cond (bytes_eq z w) (Some e.means) (declared_meaning text (drop (suc i) es) w)) same
-      ∙ by_test (bytes_eq (word text e.name) w) (Some e.means) (declared_meaning text (drop (suc i) es) w)
-      ∙ sym (ap (λ l. declared_meaning text l w) (drop-cons es i d lt))
+module _ (k : Bor (List ℕ)) (x : Entry) where
+  -- the names of a table into which a new one is put
+  named_by : (b : Bool) (e : Bor (List ℕ) × Entry) (es more : List (Bor (List ℕ) × Entry)) (rest : Option Entry) → cond b (Some e.1) rest ≡ None →
+      (rest ≡ None → seen_names more ≡ seen_names es ++ (k.now, x) ∷ []) →
+      seen_names (if b then (e.0, x) ∷ es else e ∷ more) ≡ named e ∷ (seen_names es ++ (k.now, x) ∷ [])
+  named_by true e es more rest none more_is = cc
+  named_by false e es more rest none more_is = ap (λ z. named e ∷ z) (more_is none)
 
-  -- what the table has at a name's word, or else what is predeclared
-  pub looked_up : (table : List (Bor (List ℕ) × Meaning)) (n : Name) (w : List ℕ) (r : Option Meaning) → IsTableOf text es table → w ≡ word text n →
-      r ≡ lookup (λ k. bytes_eq w k.now) table → option_or r (predeclared_meaning w) ≡ meaning text es n
-  looked_up table n w r is same at =
-      ap (λ z. option_or z (predeclared_meaning w)) (at ∙ is w) ∙ ap (λ v. option_or (declared_meaning text es v) (predeclared_meaning v)) same
+  pub named_more : (es : List (Bor (List ℕ) × Entry)) → lookup (λ q. bytes_eq k.now q) (seen_names es) ≡ None →
+      seen_names (insert_entry (λ a b. bytes_eq a.now b.now) es k x) ≡ seen_names es ++ (k.now, x) ∷ []
+  named_more [] none = refl
+  named_more (e ∷ es) none =
+      named_by (bytes_eq k.now e.0.now) e es (insert_entry (λ a b. bytes_eq a.now b.now) es k x) (lookup (λ q. bytes_eq k.now q) (seen_names es)) none (named_more es)
+
+pub none_of : {A : Type 0} (o : Option A) → is_some o ≡ false → o ≡ None
+none_of None e = refl
+none_of (Some a) e = cc
+
+pub new_name : (s : Scope) (n : Named) → has s n.0 ≡ false → with_name s n ≡ record s { entries = s.entries ++ n ∷ [] }
+new_name s n e = ap (λ b. if b then s else record s { entries = s.entries ++ n ∷ [] }) e

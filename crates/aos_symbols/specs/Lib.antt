@@ -1,7 +1,11 @@
 pub mod Breaches
 pub mod Spelling
+pub mod Judged
+pub mod Outcome
+pub mod Declarations
 pub mod Scope
-pub mod Environment
+pub mod Home
+pub mod Env
+pub mod Entries
 pub mod Names
-pub mod Heads
 pub mod Laws

@@ -14,7 +14,7 @@ use Rattle.aos_tree.specs.declared.module.Module.{Module}
 use Rattle.aos_symbols.specs.declared.breach.Breach.{Breach}
 use Rattle.aos_symbols.specs.Breaches.{breach, breach_unless}
 use Rattle.aos_symbols.specs.Spelling.{is_word, are_same}
-use Rattle.aos_symbols.specs.Scope.{def_names, declared_names}
+use Rattle.aos_symbols.specs.Declarations.{def_names, declared_names}
 
 abbrev pub formal_names : Option Formals → List Name
 formal_names None = []

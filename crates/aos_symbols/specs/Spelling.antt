@@ -4,6 +4,7 @@ use Rattle.std.specs.Prelude.{ℕ, List, [], ◌∷◌, Bool, codes}
 use Rattle.std.specs.List.{list_any, slice_range}
 use Rattle.std.specs.Str.{bytes_eq}
 use Rattle.aos_tree.specs.declared.name.Name.{Name}
+use Rattle.aos_tree.specs.declared.stat.Modifier.{Modifier}
 
 -- the bytes of a name in its text
 abbrev pub word : List ℕ → Name → List ℕ
@@ -31,3 +32,7 @@ predeclared =
 -- the procedures of module Out
 abbrev pub procedures_of_out : List (List ℕ)
 procedures_of_out = codes "Open" ∷ codes "Char" ∷ codes "String" ∷ codes "Int" ∷ codes "Ln" ∷ []
+
+-- the modifier ACTIVE of a body
+abbrev pub is_active : List ℕ → Modifier → Bool
+is_active text m = is_word text (codes "ACTIVE") m.name

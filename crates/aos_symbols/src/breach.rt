@@ -20,6 +20,10 @@ pub const OTHER_END: u16 = 12;
 pub const TWICE: u16 = 13;
 /// A name that no scope has.
 pub const UNKNOWN: u16 = 14;
+/// A name of another module that has no export mark.
+pub const NOT_EXPORTED: u16 = 15;
+/// A variable that may only be read.
+pub const READ_ONLY: u16 = 33;
 /// A construct that isn't built yet.
 pub const NOT_BUILT: u16 = 99;
 

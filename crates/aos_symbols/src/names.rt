@@ -4,11 +4,11 @@ ghost use Rattle.std.specs.Prelude.{◌≡◌, ◌++◌, ◌||◌, not, codes, O
 ghost use Rattle.std.specs.List.{flat_map};
 ghost use Rattle.aos_symbols.specs.Breaches.{breach_unless, first_after, first};
 ghost use Rattle.aos_symbols.specs.Spelling as spelling;
-ghost use Rattle.aos_symbols.specs.Scope.{declared_names};
+ghost use Rattle.aos_symbols.specs.Declarations.{declared_names};
 ghost use Rattle.aos_symbols.specs.Names as rules;
 
 use crate::breach::{Breach, OTHER_END, TWICE, note};
-use crate::scope::{add_declared, add_defs};
+use crate::declarations::{add_declared, add_defs};
 use crate::spelling::{are_same, is_word, word};
 use aos_tree::{Decl, Fields, Formals, Items, Module, Name, TypeDef, TypeExpr, VarDef};
 use indexmap::IndexSet;

@@ -5,7 +5,7 @@ ghost use Rattle.std.specs.List.{list_any};
 ghost use Rattle.std.specs.Str.{bytes_eq};
 ghost use Rattle.aos_symbols.specs.Spelling as spelling;
 
-use aos_tree::Name;
+use aos_tree::{Modifier, Name};
 
 /// The predeclared names.
 const PREDECLARED: [&str; 30] = [
@@ -58,4 +58,11 @@ pub fn is_procedure_of_out(word: &[u8]) -> bool
     ensures { result ≡ spelling.is_among spelling.procedures_of_out word.now }
 {
     is_among(&PROCEDURES_OF_OUT, word)
+}
+
+/// Whether a modifier of a body is ACTIVE.
+pub fn is_active(text: &[u8], modifier: &Modifier) -> bool
+    ensures { result ≡ spelling.is_active text.now modifier.now }
+{
+    is_word(text, "ACTIVE", modifier.name)
 }

@@ -1,6 +1,8 @@
 -- Programs whose expressions have the types that their places ask for: each operand is an integer, what a loop tests is a
 -- truth value, and NEW makes an object of its variable's type.
-use Rattle.std.specs.Prelude.{◌≡◌, ℕ, ◌<◌, length, All, Option, Some, slice_get, option_map, option_and_then}
+use Rattle.std.specs.Prelude.{◌≡◌, ◌≢◌, ℕ, ◌≤◌, ◌<◌, ◌==◌, List, [], ◌∷◌, length, All, Bool, true, false, ◌&&◌, ◌||◌, Option, Some, slice_get, option_map, option_and_then}
+use Rattle.std.specs.List.{AllPairs, list_all}
+use Rattle.std.specs.Char.{is_ascii_digit, is_ascii_alphabetic}
 use Rattle.aos_typed.specs.declared.tree.Literal.TheVariants as literal
 use Rattle.aos_typed.specs.declared.tree.TType.{TType}
 use Rattle.aos_typed.specs.declared.tree.TType.TheVariants as type
@@ -45,8 +47,21 @@ module _ (p : Program) where
     AreStatements Nothing = Unit {0}
     AreStatements (Then s ss) = IsStatement s × AreStatements ss
 
--- all statements of all bodies are well typed, and each object type is one of a module of the program
+-- a module's name: a letter, and then letters, digits and `_`
+abbrev pub is_in_name : ℕ → Bool
+is_in_name c = (is_ascii_alphabetic c || is_ascii_digit c) || c == 95
+
+abbrev pub is_ident : List ℕ → Bool
+is_ident [] = false
+is_ident (c ∷ cs) = is_ascii_alphabetic c && list_all is_in_name cs
+
+-- A program has 1 to 64 modules, whose names are idents and differ; all statements of all bodies are well typed, and each
+-- object type is one of a module of the program.
 pub record IsWellTyped (p : Program) : Type 0 where
+  pub some : 1 ≤ length p.modules
+  pub few : length p.modules ≤ 64
+  pub names : All (λ m. is_ident m.name ≡ true) p.modules
+  pub differ : AllPairs (λ m n. m.name ≢ n.name) p.modules
   pub bodies : All (λ m. AreStatements p m.body) p.modules
   pub objects : All (λ o. AreStatements p o.body) p.objects
   pub homes : All (λ o. o.home < length p.modules) p.objects

@@ -1,5 +1,0 @@
-use Rattle.aos_check.proofs.Typing.{well_typed}
-use Rattle.aos_check.proofs.laws.law_of_typing.Goals as goal
-
-pub returns : goal.returns
-returns c = well_typed

@@ -1,4 +1,0 @@
-pub mod Bodies
-pub mod Typed
-pub mod Elaborate
-pub mod Laws

@@ -1,0 +1,3 @@
+pub mod Designators
+pub mod Expressions
+pub mod Seen

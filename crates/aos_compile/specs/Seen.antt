@@ -1,0 +1,15 @@
+-- What the code's modules are seen as.
+use Rattle.std.specs.Prelude.{map}
+use Rattle.aos_typed.specs.Seen.{seen_module, seen_object}
+use Rattle.aos_compile.specs.declared.modules.World.{World as CodeWorld}
+use Rattle.aos_compile.specs.Modules.{World}
+
+abbrev pub seen_world : CodeWorld → World
+seen_world w =
+    record {
+      before = w.before;
+      types = w.types;
+      broken = w.broken;
+      modules = map seen_module w.modules.items;
+      objects = map seen_object w.objects.items;
+    }

@@ -1,5 +1,0 @@
-use Rattle.aos_elaborate.proofs.OneReading.{one_outcome}
-use Rattle.aos_elaborate.proofs.laws.law_of_outcome.Goals as goal
-
-pub returns : goal.returns
-returns c = one_outcome

@@ -1,0 +1,5 @@
+pub mod Patch
+pub mod Codes
+pub mod Forth
+pub mod Parts
+pub mod Heights

@@ -1,5 +1,0 @@
-use Rattle.std.proofs.Common.{◌≡◌, ◌++◌, replicate}
-use Rattle.aos_symbols.proofs.heads.add_types.Given as goal
-
-abbrev pub invariant-loop : goal.invariant-loop
-invariant-loop l = l.types.items ≡ l.initial.types.items ++ replicate l.counter l.of

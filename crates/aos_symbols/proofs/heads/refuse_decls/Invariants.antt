@@ -1,8 +1,0 @@
-use Rattle.std.proofs.Common.{◌≡◌, take}
-use Rattle.std.specs.List.{flat_map}
-use Rattle.aos_symbols.specs.Breaches.{first_after}
-use Rattle.aos_symbols.specs.Heads as heads
-use Rattle.aos_symbols.proofs.heads.refuse_decls.Given as goal
-
-abbrev pub invariant-loop-decl : goal.invariant-loop-decl
-invariant-loop-decl l = l.found ≡ first_after l.initial.found (flat_map (heads.refused_decl) (take l.decl-index l.decls))

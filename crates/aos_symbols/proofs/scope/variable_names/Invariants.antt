@@ -1,6 +1,0 @@
-use Rattle.std.proofs.Common.{◌≡◌, take}
-use Rattle.aos_symbols.specs.Scope as scope
-use Rattle.aos_symbols.proofs.scope.variable_names.Given as goal
-
-abbrev pub invariant-loop-decl : goal.invariant-loop-decl
-invariant-loop-decl l = l.names.items ≡ scope.variable_names (take l.decl-index l.decls)

@@ -1,0 +1,120 @@
+-- The scopes of a module, as its declarations make them. All names are there before any declaration is looked at, so a name
+-- may be used before it is declared. Constants, variables and procedures are numbered in their scope in the order of the text,
+-- and the types that a module defines have the next numbers in the table; a name for another type has none of its own.
+use Rattle.std.specs.Prelude.{ℕ, suc, List, [], ◌∷◌, ◌++◌, codes, map, Bool, true, false, Option, Some, None, if◌then◌else◌, unwrap_or}
+use Rattle.std.specs.Str.{bytes_eq}
+use Rattle.aos_tree.specs.declared.decl.Export.{Export}
+use Rattle.aos_tree.specs.declared.decl.Mark.{Mark}
+use Rattle.aos_tree.specs.declared.decl.Def.{Def}
+use Rattle.aos_tree.specs.declared.decl.Decl.{Decl, items-the_row-Decl}
+use Rattle.aos_tree.specs.declared.decl.TypeDef.{TypeDef}
+use Rattle.aos_tree.specs.declared.decl.TypeExpr.{TypeExpr}
+use Rattle.aos_tree.specs.declared.decl.TypeExpr.TheVariants as type
+use Rattle.aos_tree.specs.declared.module.Import.{Import}
+use Rattle.aos_tree.specs.declared.module.Module.{Module}
+use Rattle.aos_types.specs.declared.row.TypeId.{TypeId}
+use Rattle.aos_symbols.specs.declared.scope.Meaning.{Meaning}
+use Rattle.aos_symbols.specs.declared.scope.Meaning.TheVariants as means
+use Rattle.aos_symbols.specs.declared.entries.Sort.{Sort}
+use Rattle.aos_symbols.specs.declared.entries.Sort.TheVariants as sort
+use Rattle.aos_symbols.specs.Spelling.{word}
+use Rattle.aos_symbols.specs.Declarations.{constant_defs, type_defs, single_variables, procedure_defs}
+use Rattle.aos_symbols.specs.Scope.{Named, Scope, empty, with_names}
+use Rattle.aos_symbols.specs.Home.{Home}
+
+abbrev pub export_of : Def → Option Export
+export_of d = marked d.mark
+  where
+    marked : Option Mark → Option Export
+    marked None = None
+    marked (Some m) = Some m.export
+
+-- a name for a type that is defined elsewhere
+abbrev pub is_alias : TypeExpr → Bool
+is_alias (type.Named q) = true
+is_alias (type.Array' p lengths shape row) = false
+is_alias (type.Record' p base shape row) = false
+is_alias (type.Pointer' p shape row) = false
+is_alias (type.Proc p flag formals) = false
+is_alias (type.Object' p base shape row body end) = false
+
+-- how many of these types have a number of their own
+abbrev pub own_types : List TypeDef → ℕ
+own_types [] = 0
+own_types (d ∷ ds) = if is_alias d.value then own_types ds else suc (own_types ds)
+
+-- the number of the type, where the next one is this
+abbrev pub slot : ℕ → TypeDef → Option TypeId
+slot next d = if is_alias d.value then None else Some (record { 0 = next })
+
+abbrev pub after : ℕ → TypeDef → ℕ
+after next d = if is_alias d.value then next else suc next
+
+-- the next number behind types
+abbrev pub after_all : ℕ → List TypeDef → ℕ
+after_all next [] = next
+after_all next (d ∷ ds) = after_all (after next d) ds
+
+-- what is declared in an object type; it has no number of its own yet where it is a type
+abbrev pub inner_decls : TypeExpr → List Decl
+inner_decls (type.Object' p base shape row body end) = items-the_row-Decl _ row
+inner_decls (type.Named q) = []
+inner_decls (type.Array' p lengths shape row) = []
+inner_decls (type.Record' p base shape row) = []
+inner_decls (type.Pointer' p shape row) = []
+inner_decls (type.Proc p flag formals) = []
+
+-- the module that an import names: Out, or one of those before this one, of which the first has this number
+abbrev pub among : List ℕ → ℕ → List Home → Meaning
+among w k [] = means.Other
+among w k (h ∷ hs) = if bytes_eq w h.name then means.Module k else among w (suc k) hs
+
+abbrev pub module_named : List Home → List ℕ → Meaning
+module_named homes w = if bytes_eq (codes "Out") w then means.Out else among w 0 homes
+
+-- of what sort a numbered declaration is
+abbrev pub meant : Sort → ℕ → Meaning
+meant sort.Constant k = means.Constant k
+meant sort.Variable k = means.Variable k
+meant sort.Procedure k = means.Procedure k
+
+module _ (text : List ℕ) where
+  abbrev pub entry : Def → Meaning → Named
+  entry d m = (word text d.name, record { mark = export_of d; means = m })
+
+  -- one after another, from this number on
+  abbrev pub numbered : Sort → ℕ → List Def → List Named
+  numbered of k [] = []
+  numbered of k (d ∷ ds) = entry d (meant of k) ∷ numbered of (suc k) ds
+
+  abbrev pub type_entries : ℕ → List TypeDef → List Named
+  type_entries next [] = []
+  type_entries next (d ∷ ds) = entry d.def (means.Type (slot next d)) ∷ type_entries (after next d) ds
+
+  abbrev pub inner_type : TypeDef → Named
+  inner_type d = entry d.def (means.Type None)
+
+  -- `X := M` imports M under the name X
+  abbrev pub import_entry : List Home → Import → Named
+  import_entry homes i = (word text i.name, record { mark = None; means = module_named homes (word text (unwrap_or i.of i.name)) })
+
+  -- the names of declarations but those of types
+  abbrev pub other_entries : List Decl → List Named
+  other_entries ds =
+      numbered sort.Constant 0 (constant_defs ds) ++ numbered sort.Variable 0 (single_variables ds)
+      ++ numbered sort.Procedure 0 (procedure_defs ds)
+
+  -- a name is declared once, so the order doesn't matter
+  abbrev pub own_scope : List Home → ℕ → Module → Scope
+  own_scope homes next m =
+      with_names empty (map (import_entry homes) m.imports ++ type_entries next (type_defs m.decls) ++ other_entries m.decls)
+
+  abbrev pub inner_scope : TypeDef → Scope
+  inner_scope d = let ds = inner_decls d.value in with_names empty (map inner_type (type_defs ds) ++ other_entries ds)
+
+  -- where the modules before are these, and the next type has this number
+  abbrev pub scopes : List Home → ℕ → Module → List Scope
+  scopes homes next m = own_scope homes next m ∷ map inner_scope (type_defs m.decls)
+
+  abbrev pub home_of : List Home → ℕ → Module → Home
+  home_of homes next m = record { name = word text m.name; text = text; scopes = scopes homes next m }

@@ -1,0 +1,118 @@
+-- What a name stands for at a place of a module (Active Oberon Language Report, Reali 2002, section on declarations and scope
+-- rules): the scopes of the place's path are searched, the innermost first, then what is predeclared. A name of another module
+-- is seen where it has an export mark.
+use Rattle.std.specs.Prelude.{ℕ, List, [], ◌∷◌, Bool, true, false, ◌==◌, ◌||◌, codes, Option, Some, None, is_some, unwrap_or, option_map, option_and_then, if◌then◌else◌, slice_get}
+use Rattle.std.specs.Option.{option_or}
+use Rattle.std.specs.Str.{bytes_eq}
+use Rattle.aos_tree.specs.declared.name.Name.{Name}
+use Rattle.aos_types.specs.declared.row.TypeId.{TypeId}
+use Rattle.aos_types.specs.declared.row.Basic.TheVariants as basic
+use Rattle.aos_types.specs.declared.row.TypeRow.{TypeRow}
+use Rattle.aos_types.specs.declared.row.TypeRow.TheVariants as kind
+use Rattle.aos_typed.specs.declared.tree.Literal.{Literal}
+use Rattle.aos_symbols.specs.declared.scope.Meaning.{Meaning}
+use Rattle.aos_symbols.specs.declared.scope.Meaning.TheVariants as means
+use Rattle.aos_symbols.specs.declared.scope.Entry.{Entry}
+use Rattle.aos_symbols.specs.declared.env.Open.{Open}
+use Rattle.aos_symbols.specs.declared.env.Symbol.{Symbol}
+use Rattle.aos_symbols.specs.declared.env.Lookup.{Lookup}
+use Rattle.aos_symbols.specs.declared.env.Lookup.TheVariants.{Unknown, NotExported, Found}
+use Rattle.aos_symbols.specs.declared.env.Env.{Env}
+use Rattle.aos_symbols.specs.Spelling.{word, is_among, predeclared as predeclared_names}
+use Rattle.aos_symbols.specs.Scope.{Scope, find}
+use Rattle.aos_symbols.specs.Home.{Home}
+
+-- the types that stand first in each table; those that modules declare come behind them
+abbrev pub basic_rows : List TypeRow
+basic_rows =
+    kind.Basic basic.ShortInt ∷ kind.Basic basic.Integer ∷ kind.Basic basic.LongInt ∷ kind.Basic basic.HugeInt
+    ∷ kind.Basic basic.Boolean ∷ kind.Basic basic.Char ∷ kind.Basic basic.Set ∷ kind.Basic basic.Nil ∷ kind.Any ∷ []
+
+abbrev pub longint : TypeId
+longint = record { 0 = 2 }
+
+-- what the module with a number has declared
+abbrev pub home : Env → ℕ → Option Home
+home e m = if m == e.number then Some e.here else slice_get e.before m
+
+abbrev pub scope : Env → Open → Option Scope
+scope e o = option_and_then (λ h. slice_get h.scopes o.scope) (home e o.home)
+
+-- a module's own scope
+abbrev pub own : ℕ → Open
+own m = record { home = m; scope = 0 }
+
+abbrev pub declared_at : Open → Entry → Symbol
+declared_at o x = record { at = o; mark = x.mark; means = x.means }
+
+abbrev pub in_scope : Env → Open → List ℕ → Option Symbol
+in_scope e o w = option_map (declared_at o) (option_and_then (λ s. find s w) (scope e o))
+
+-- in the first scope that has the word
+abbrev pub in_path : Env → List Open → List ℕ → Option Symbol
+in_path e [] w = None
+in_path e (o ∷ os) w = option_or (in_scope e o w) (in_path e os w)
+
+abbrev pub is_import : Meaning → Bool
+is_import (means.Module m) = true
+is_import means.Out = true
+is_import (means.Constant k) = false
+is_import (means.Type of) = false
+is_import (means.Variable k) = false
+is_import (means.Procedure k) = false
+is_import means.New = false
+is_import means.Other = false
+
+-- a name of another module has a mark
+abbrev pub if_seen : Env → Symbol → Lookup
+if_seen e s = if s.at.home == e.number || is_some s.mark then Found s else NotExported
+
+abbrev pub predeclared_meaning : List ℕ → Option Meaning
+predeclared_meaning w =
+    if bytes_eq (codes "LONGINT") w then Some (means.Type (Some longint))
+    else if bytes_eq (codes "NEW") w then Some means.New
+    else if is_among predeclared_names w then Some means.Other
+    else None
+
+-- a predeclared name lies in no scope
+abbrev pub predeclared_symbol : Env → Option Meaning → Lookup
+predeclared_symbol e None = Unknown
+predeclared_symbol e (Some m) = Found (record { at = own e.number; mark = None; means = m })
+
+abbrev pub looked_up : Env → List ℕ → Option Symbol → Lookup
+looked_up e w None = predeclared_symbol e (predeclared_meaning w)
+looked_up e w (Some s) = if_seen e s
+
+-- a plain name
+abbrev pub lookup : Env → Name → Lookup
+lookup e n = let w = word e.here.text n in looked_up e w (in_path e e.path w)
+
+-- what a module imports is no name of it
+abbrev pub if_declared : Env → Option Symbol → Lookup
+if_declared e None = Unknown
+if_declared e (Some s) = if is_import s.means then Unknown else if_seen e s
+
+-- a name of the module with a number
+abbrev pub member : Env → ℕ → Name → Lookup
+member e m n = if_declared e (in_scope e (own m) (word e.here.text n))
+
+abbrev pub joined : {A : Type 0} → Option (Option A) → Option A
+joined None = None
+joined (Some a) = a
+
+-- the type of the variable with a number of a scope, where it is known
+abbrev pub variable_type : Env → Open → ℕ → Option TypeId
+variable_type e o k = joined (option_and_then (λ s. slice_get s.variables k) (scope e o))
+
+-- the constant with a number of a scope: nothing where it is declared later, no value where its declaration breaks a rule
+abbrev pub constant : Env → Open → ℕ → Option (Option Literal)
+constant e o k = option_and_then (λ s. slice_get s.constants k) (scope e o)
+
+-- the type's definition isn't told yet, or breaks a rule
+abbrev pub is_broken : Env → TypeId → Bool
+is_broken e t = unwrap_or (slice_get e.broken t.0) true
+
+-- the row of a type; nothing where its definition breaks a rule
+abbrev pub row_of : Env → Option TypeId → Option TypeRow
+row_of e None = None
+row_of e (Some t) = if is_broken e t then None else slice_get e.types t.0

@@ -1,0 +1,26 @@
+-- What a module has declared: its name, its text, and its scopes. The first scope is the module's own; behind it come those of
+-- the types that it defines, in the order of the text, in which the names within an object type stand.
+use Rattle.std.specs.Prelude.{ℕ, List, Option, Some, None, slice_get, slice_set}
+use Rattle.aos_types.specs.declared.row.TypeId.{TypeId}
+use Rattle.aos_typed.specs.declared.tree.Literal.{Literal}
+use Rattle.aos_symbols.specs.Scope.{Scope, with_constant, with_variable}
+
+pub record Home : Type 0 where
+  pub name : List ℕ
+  pub text : List ℕ
+  pub scopes : List Scope
+
+-- with another scope in the place of the one with this number
+abbrev pub with_scope : Home → ℕ → Scope → Home
+with_scope h k s = record h { scopes = slice_set h.scopes k s }
+
+abbrev pub changed : (Scope → Scope) → Home → ℕ → Option Scope → Home
+changed f h k None = h
+changed f h k (Some s) = with_scope h k (f s)
+
+-- with the value of one more constant in a scope, and with the type of one more variable
+abbrev pub add_constant : Home → ℕ → Option Literal → Home
+add_constant h k v = changed (λ s. with_constant s v) h k (slice_get h.scopes k)
+
+abbrev pub add_variable : Home → ℕ → Option TypeId → Home
+add_variable h k of = changed (λ s. with_variable s of) h k (slice_get h.scopes k)
