@@ -5,7 +5,8 @@ use Rattle.std.specs.Option.{option_map}
 use Rattle.std.proofs.lemmas.List.{take_more, get_or-map, length-map, map-append}
 use Rattle.std.proofs.lemmas.Slice.Zip.{length-zip, get_or-zip}
 use Rattle.aos_tree.specs.declared.module.Module.{Module}
-use Rattle.aos_order.specs.Files.{File, file, files, word}
+use Rattle.aos_symbols.specs.Spelling.{word}
+use Rattle.aos_order.specs.Files.{File, file, files}
 use Rattle.aos_order.specs.Order.{names, is_again, twice}
 use Rattle.aos_order.proofs.Searches.{find_first, find_none, list_any-map, position_or_len-map}
 

@@ -1,13 +1,14 @@
 -- What the load order reads of files: the name of each module, and the names of those that it imports (Oberon-2 report,
 -- section on modules: `X := M` imports M under the name X).
 use Rattle.std.specs.Prelude.{ℕ, List, Vec, map, unwrap_or}
-use Rattle.std.specs.List.{slice_range, zip}
+use Rattle.std.specs.List.{zip}
 use Rattle.std.specs.Borrow.{Bor}
 use Rattle.std.specs.declared.alloc.Global.{Global}
 use Rattle.aos_base.specs.declared.text.Pos.{Pos}
 use Rattle.aos_tree.specs.declared.name.Name.{Name}
 use Rattle.aos_tree.specs.declared.module.Import.{Import}
 use Rattle.aos_tree.specs.declared.module.Module.{Module}
+use Rattle.aos_symbols.specs.Spelling.{word}
 
 -- the words of a table
 abbrev pub words : List (Bor (List ℕ)) → List (List ℕ)
@@ -22,10 +23,6 @@ pub record Wanted : Type 0 where
 pub record File : Type 0 where
   pub name : List ℕ
   pub imports : List Wanted
-
--- the bytes of a name in its text
-abbrev pub word : List ℕ → Name → List ℕ
-word text n = slice_range text n.start n.end
 
 abbrev pub imported : Import → Name
 imported i = unwrap_or i.of i.name

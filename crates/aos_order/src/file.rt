@@ -5,15 +5,6 @@ ghost use Rattle.aos_order.specs.Files as files;
 
 use aos_tree::{Import, Module, Name};
 
-/// The bytes of a name in its text.
-pub fn word<'a>(text: &'a [u8], name: Name) -> &'a [u8]
-    ensures { result.now ≡ files.word text.now name }
-{
-    let end = text.len().min(name.end as usize);
-    let start = end.min(name.start as usize);
-    &text[start..end]
-}
-
 /// The name of the imported module.
 pub fn imported(import: &Import) -> Name
     ensures { result ≡ files.imported import.now }

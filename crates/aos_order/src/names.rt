@@ -12,8 +12,9 @@ ghost use Rattle.aos_order.specs.Order.{
   twice,
 };
 
-use crate::file::{imported, imports_of, word};
+use crate::file::{imported, imports_of};
 use crate::order_err::OrderErr;
+use aos_symbols::word;
 use aos_tree::Module;
 use indexmap::IndexSet;
 use std::alloc::Global;

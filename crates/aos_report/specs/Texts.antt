@@ -11,11 +11,11 @@ name_of names m = unwrap_or (slice_get names m) []
 abbrev pub place_text : List ℕ → Pos → List ℕ
 place_text name at = name ++ codes ":" ++ decimal at.line ++ codes ":" ++ decimal at.col
 
--- what a rule is called
 -- the name of a rule of this number, or else another text
 abbrev pub named : (number : ℕ) → List ℕ → ℕ → List ℕ → List ℕ
 named number text rule other = if rule == number then text else other
 
+-- what a rule is called
 abbrev pub rule_text : ℕ → List ℕ
 rule_text rule =
     named 1 (codes "file not found") rule (
@@ -32,7 +32,9 @@ rule_text rule =
     named 12 (codes "end name differs") rule (
     named 13 (codes "name declared twice") rule (
     named 14 (codes "unknown name") rule (
-    codes "not built yet"))))))))))))))
+    named 15 (codes "name not exported") rule (
+    named 33 (codes "read only") rule (
+    codes "not built yet"))))))))))))))))
 
 -- FILE:LINE:COL: rule N: TEXT
 abbrev pub refusal_text : List ℕ → ℕ → Pos → List ℕ

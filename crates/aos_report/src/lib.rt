@@ -65,6 +65,10 @@ fn rule_name(rule: u16) -> &'static str
         "name declared twice"
     } else if rule == 14 {
         "unknown name"
+    } else if rule == 15 {
+        "name not exported"
+    } else if rule == 33 {
+        "read only"
     } else {
         "not built yet"
     }

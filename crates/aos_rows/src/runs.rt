@@ -138,11 +138,12 @@ fn answers_wrong_words(rt: HostRuntime) -> Result<(), Fail> {
         &["run"],
         &["run", "--x", "M.Mod"],
         &["run", "-M.Mod"],
-        &["run", "M.Mod", "N.Mod"],
+        &["run", "M.Mod", "-N.Mod"],
         &["replay", "M.Mod"],
         &["replay", "--script", "S"],
         &["replay", "--scripts", "S", "M.Mod"],
         &["replay", "--script", "-S", "M.Mod"],
+        &["replay", "--script", "S", "M.Mod", "-N.Mod"],
     ] {
         let shelf = shelf_of(alloc, &[("M.Mod", SEVEN)], &[])?;
         let want = ("", "usage: aos run|replay|check|list|gen\n", 2);
