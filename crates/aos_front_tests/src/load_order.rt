@@ -58,7 +58,7 @@ fn text_of(alloc: Global, file: &str) -> Result<String, Fail> {
 }
 
 /// The tree of a text.
-fn tree_of(rt: &impl Abort, alloc: Global, text: &[u8]) -> Result<Module, Fail> {
+pub fn tree_of(rt: &impl Abort, alloc: Global, text: &[u8]) -> Result<Module, Fail> {
     assert!(rt; text.len() <= 1048576);
     let Ok(tokens) = scan(alloc, text) else {
         return Err("not scanned")?;
