@@ -1,0 +1,4 @@
+MODULE Counter;
+VAR n-: LONGINT;
+BEGIN n := 21
+END Counter.
