@@ -109,6 +109,12 @@ alone_breaches a =
     sign_breaches s.sign s.pos ++ product_breaches (out-Term s.first).rest ++ flat_map addition_refused s.rest
     ++ relation_breaches (out-Expr a).right
 
+-- a name in the place of a number of places
+abbrev pub no_places : Lookup → Pos → List Breach
+no_places Unknown at = breach 14 at
+no_places NotExported at = breach 15 at
+no_places (Found x) at = not_built at
+
 -- The parts of a tree.
 
 module _ (e : Env) where
@@ -150,12 +156,6 @@ module _ (e : Env) where
   -- what a WHILE that begins here tests; a test without relation makes the WHILE one that isn't built
   abbrev pub condition : Pos → TreeExpr → Judged Expr
   condition at a = bind (sum (out-Expr a).left) (λ left. compared at left (out-Expr a).right)
-
-  -- a name in the place of a number of places
-  abbrev pub no_places : Lookup → Pos → List Breach
-  no_places Unknown at = breach 14 at
-  no_places NotExported at = breach 15 at
-  no_places (Found x) at = not_built at
 
   abbrev pub places_factor : Factor → Judged Expr
   places_factor (f.Number p n) = number greatest_places n p

@@ -13,6 +13,8 @@ use aos_types::{TypeId, TypeRow, Types};
 
 /// The number of the type LONGINT, which is the same in each table.
 pub const LONGINT: TypeId = TypeId(2);
+/// How many types stand first in each table; those that modules declare come behind them.
+pub const BASIC_TYPES: u32 = 9;
 
 /// A scope: the number of its module in load order, and its own number in that module.
 #[derive(Clone, Copy, PartialEq, Eq, Debug)]

@@ -15,7 +15,7 @@ pub use breach::{
     Breach, NAMED_OUT, NOT_BUILT, NOT_EXPORTED, OTHER_END, READ_ONLY, TWICE, UNKNOWN, note,
 };
 pub use entries::home_of;
-pub use env::{Env, Lookup, Open, Symbol};
+pub use env::{BASIC_TYPES, Env, LONGINT, Lookup, Open, Symbol};
 pub use home::Home;
 pub use laws::law_of_first;
 pub use names::check_names;
