@@ -6,7 +6,7 @@ use Rattle.aos_tree.specs.declared.expr.Desig.{Desig, items_hidden-the_row-Selec
 use Rattle.aos_typed.specs.Program.{Read}
 use Rattle.aos_symbols.specs.declared.env.Env.{Env}
 use Rattle.aos_symbols.specs.Judged.{kept, bind}
-use Rattle.aos_check_expr.specs.Designators.{Spot, tested_designator, is_longint, is_object, written}
+use Rattle.aos_check_expr.specs.Designators.{tested_designator, is_longint, is_object, written}
 use Rattle.aos_check_expr.specs.Expressions.{factor, object_factor}
 
 module _ (e : Env) where
