@@ -1,6 +1,7 @@
 //! Which rules constants, types and headings break, and the environment behind them.
 #![tactic(auto)]
 
-pub mod headings;
+mod declarations;
+mod types;
 
-pub use headings::{add_types, headings};
+pub use declarations::{add_types, headings};
