@@ -2,5 +2,7 @@
 #![tactic(auto)]
 
 pub mod bodies;
+mod calls;
+mod statements;
 
 pub use bodies::body_of;

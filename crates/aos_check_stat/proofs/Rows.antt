@@ -1,0 +1,29 @@
+-- The statements of a row, read as a list.
+use Rattle.std.proofs.Common.{◌≡◌, List, [], Option, Some, refl, ap, ◌∙◌}
+use Rattle.aos_base.specs.declared.text.Pos.{Pos}
+use Rattle.aos_tree.specs.declared.expr.Expr.{Expr as TreeExpr}
+use Rattle.aos_tree.specs.declared.stat.StatSeq.{StatSeq}
+use Rattle.aos_tree.specs.declared.stat.Stat.{Stat as TreeStat, Row_of-Stat, end_of-Stat, more_of-Stat, items-the_row-Stat, items_hidden-the_row-Stat-0}
+use Rattle.aos_tree.specs.declared.stat.Stat.TheVariants as stat
+use Rattle.aos_tree.specs.declared.stat.Case.TheBlock.{hidden-the_row-Stat-0}
+use Rattle.aos_typed.specs.Program.{Expr, Stat, While}
+use Rattle.aos_symbols.specs.declared.env.Env.{Env}
+use Rattle.aos_symbols.specs.Judged.{Judged, kept, bind, walk}
+use Rattle.aos_check_expr.specs.Expressions.{condition}
+use Rattle.aos_check_stat.specs.Bodies.{listed, stat_of, stat_in, stats_in}
+
+module _ (e : Env) where
+  -- WHILE, with its statements as a list
+  abbrev pub round : Pos → Expr → List TreeStat → Judged (Option Stat)
+  round p test ss = bind (walk (stat_in e) [] ss) (λ body. kept (Some (While p test (listed body))))
+
+  stats_row : (n : _) (ts : List Stat) (r : Row_of-Stat n) → stats_in e ts r ≡ walk (stat_in e) ts (items-the_row-Stat n r)
+  stats_row _ ts end_of-Stat = refl
+  stats_row _ ts (more_of-Stat x xs) = ap (λ z. bind (stat_in e ts x) (λ b. z)) (stats_row _ (stat_in e ts x).answer xs)
+
+  pub stat_while : (x : TreeStat) (p : Pos) (c : TreeExpr) (body : StatSeq) → x ≡ stat.While p c body →
+      stat_of e x ≡ bind (condition e p c) (λ test. round p test body.stats)
+  stat_while x p c body is =
+      ap (λ z. stat_of e z) is
+      ∙ ap (λ z. bind (condition e p c) (λ test. bind z (λ us. kept (Some (While p test (listed us))))))
+      (stats_row _ [] (hidden-the_row-Stat-0 body.stats) ∙ ap (λ ss. walk (stat_in e) [] ss) (items_hidden-the_row-Stat-0 body.stats))

@@ -1,0 +1,101 @@
+// Statements.
+
+ghost use Rattle.std.specs.Prelude.{◌≡◌, [], OnOk, IfOk, map, option_map};
+ghost use Rattle.aos_typed.specs.Seen.{seen_stat};
+ghost use Rattle.aos_symbols.specs.Breaches.{first_after};
+ghost use Rattle.aos_symbols.specs.Judged.{walk};
+ghost use Rattle.aos_check_stat.specs.Bodies as judge;
+
+use crate::calls::{called, not_yet};
+use aos_check_expr::{assigned, condition, value};
+use aos_symbols::{Breach, Env};
+use aos_tree::{Desig, Expr, Stat};
+use aos_typed::TStat;
+use std::alloc::{AllocError, Global};
+
+/// An assignment.
+#[tactic(auto, using(crate::proofs::Steps::after_more))]
+fn assign(
+    alloc: Global,
+    found: &mut Option<Breach>,
+    env: &Env<'_>,
+    desig: &Desig,
+    expr: &Expr,
+) -> Result<Option<TStat>, AllocError>
+    ensures noted { OnOk result (found.new ≡
+        first_after found.old (judge.assign env.now desig.now expr.now).breaches) }
+    ensures answer { IfOk result
+        (λ s. option_map seen_stat s ≡ (judge.assign env.now desig.now expr.now).answer) }
+{
+    let spot = assigned(alloc, found, env, desig)?;
+    let number = value(alloc, found, env, expr)?;
+    Ok(Some(TStat::Assign(desig.name.pos, spot.place, number)))
+}
+
+/// Puts a statement behind those before it, if it is one.
+fn put(stats: &mut Vec<TStat>, one: Option<TStat>) -> Result<(), AllocError>
+    ensures { OnOk result (map seen_stat stats.new.items ≡
+        judge.put (map seen_stat stats.old.items) (option_map seen_stat one)) }
+{
+    if let Some(one) = one {
+        stats.push(one)?;
+    }
+    Ok(())
+}
+
+/// The statement of the typed program that a statement is; the empty one is none.
+#[cycle(statements)]
+fn stat_of(
+    alloc: Global,
+    found: &mut Option<Breach>,
+    env: &Env<'_>,
+    stat: &Stat,
+) -> Result<Option<TStat>, AllocError>
+    ensures noted { OnOk result (found.new ≡
+        first_after found.old (judge.stat_of env.now stat.now).breaches) }
+    ensures answer { IfOk result
+        (λ s. option_map seen_stat s ≡ (judge.stat_of env.now stat.now).answer) }
+{
+    match stat {
+        Stat::Empty => Ok(None),
+        Stat::Assign(desig, _, expr) => assign(alloc, found, env, desig, expr),
+        Stat::Call(desig) => called(alloc, found, env, desig),
+        Stat::While(at, expr, body) => {
+            let test = condition(alloc, found, env, *at, expr)?;
+            let all = stats_in(alloc, found, env, body.stats.as_slice())?;
+            Ok(Some(TStat::While(*at, test, all)))
+        },
+        Stat::Block(block) => Ok(not_yet(found, block.pos)),
+        Stat::Exit(at) => Ok(not_yet(found, *at)),
+        Stat::Return(at, _) => Ok(not_yet(found, *at)),
+        Stat::Await(at, _) => Ok(not_yet(found, *at)),
+        Stat::If(at, _, _, _, _) => Ok(not_yet(found, *at)),
+        Stat::Case(at, _, _, _) => Ok(not_yet(found, *at)),
+        Stat::Repeat(at, _, _) => Ok(not_yet(found, *at)),
+        Stat::Loop(at, _) => Ok(not_yet(found, *at)),
+        Stat::For(at, _, _, _, _, _, _) => Ok(not_yet(found, *at)),
+        Stat::With(at, _, _, _, _) => Ok(not_yet(found, *at)),
+    }
+}
+
+/// The statements of a sequence.
+#[cycle(statements)]
+#[tactic(auto, using(crate::proofs::Steps::after_more, crate::proofs::Steps::walk_step, crate::proofs::Steps::walk_end))]
+pub fn stats_in(
+    alloc: Global,
+    found: &mut Option<Breach>,
+    env: &Env<'_>,
+    stats: &[Stat],
+) -> Result<Vec<TStat>, AllocError>
+    ensures noted { OnOk result (found.new ≡
+        first_after found.old (walk (judge.stat_in env.now) [] stats.now).breaches) }
+    ensures answer { IfOk result (λ ss.
+        map seen_stat ss.items ≡ (walk (judge.stat_in env.now) [] stats.now).answer) }
+{
+    let mut all = Vec::new(alloc);
+    for stat in stats {
+        let one = stat_of(alloc, found, env, stat)?;
+        put(&mut all, one)?;
+    }
+    Ok(all)
+}
