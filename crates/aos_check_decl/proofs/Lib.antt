@@ -1,2 +1,3 @@
 pub mod Steps
 pub mod Rows
+pub mod Typing

@@ -6,3 +6,6 @@ pub mod Words
 pub mod Table
 pub mod Paths
 pub mod Entered
+pub mod Holds
+pub mod Found
+pub mod Told

@@ -1,0 +1,165 @@
+-- A module's own scope: each of its types has its number, and each variable.
+use Rattle.std.proofs.Common.{◌≡◌, ℕ, zero, suc, ◌+◌, ◌<◌, ◌≤◌, List, [], ◌∷◌, ◌++◌, length, map, Bool, true, false, Option, Some, None, replicate, refl, sym, ap, ◌∙◌, subst, arith, codes, bytes_eq, unwrap_or, if◌then◌else◌}
+use Rattle.std.proofs.lemmas.Option.{none-some, same_Some}
+use Rattle.aos_tree.specs.declared.decl.Def.{Def}
+use Rattle.aos_tree.specs.declared.decl.Decl.{Decl}
+use Rattle.aos_tree.specs.declared.decl.TypeDef.{TypeDef}
+use Rattle.aos_tree.specs.declared.module.Import.{Import}
+use Rattle.aos_tree.specs.declared.module.Module.{Module as Tree}
+use Rattle.aos_types.specs.declared.row.TypeId.{TypeId}
+use Rattle.aos_symbols.specs.declared.scope.Entry.{Entry}
+use Rattle.aos_symbols.specs.declared.scope.Meaning.{Meaning}
+use Rattle.aos_symbols.specs.declared.scope.Meaning.TheVariants as means
+use Rattle.aos_symbols.specs.declared.entries.Sort.{Sort}
+use Rattle.aos_symbols.specs.declared.entries.Sort.TheVariants as sort
+use Rattle.aos_symbols.specs.Spelling.{word}
+use Rattle.aos_symbols.specs.Declarations.{constant_defs, type_defs, single_variables, procedure_defs}
+use Rattle.aos_symbols.specs.Scope.{Named, Scope, empty, find, has, with_name, with_names}
+use Rattle.aos_symbols.specs.Home.{Home}
+use Rattle.aos_symbols.specs.Entries.{is_alias, own_types, slot, after, among, module_named, meant, entry, numbered, type_entries, import_entry, other_entries, own_scope}
+use Rattle.aos_symbols.proofs.Each.{Each, joined}
+use Rattle.aos_symbols.proofs.Found.{found_is, each_found, some_found}
+use Rattle.aos_symbols.proofs.Told.{IsTold, IsKnown}
+use Rattle.aos_check_decl.specs.Headings.{slot_meant}
+
+front : {X : Type 0} (P : X → Type 0) (xs ys : List X) → Each P (xs ++ ys) → Each P xs
+front P [] ys all = tt
+front P (x ∷ xs) ys all = (all.0, front P xs ys all.1)
+
+back : {X : Type 0} (P : X → Type 0) (xs ys : List X) → Each P (xs ++ ys) → Each P ys
+back P [] ys all = all
+back P (x ∷ xs) ys all = back P xs ys all.1
+
+-- no variable has its type yet
+pub no_variables : (ns : List Named) (s : Scope) → (with_names s ns).variables ≡ s.variables
+no_variables [] s = refl
+no_variables (n ∷ ns) s = no_variables ns (with_name s n) ∙ by (has s n.0)
+  where
+    by : (b : Bool) → (if b then s else record s { entries = s.entries ++ n ∷ [] }).variables ≡ s.variables
+    by true = refl
+    by false = refl
+
+-- a meaning that is no type and no variable
+abbrev IsOther : Meaning → Type 0
+IsOther m = ((of : Option TypeId) → m ≡ means.Type of → ⊥) × ((k : ℕ) → m ≡ means.Variable k → ⊥)
+
+other_constant : (k : ℕ) → IsOther (means.Constant k)
+other_constant k = (type_no, variable_no)
+  where
+    type_no : (of : Option TypeId) → means.Constant k ≡ means.Type of → ⊥
+    type_no of e = cc
+    variable_no : (n : ℕ) → means.Constant k ≡ means.Variable n → ⊥
+    variable_no n e = cc
+
+other_procedure : (k : ℕ) → IsOther (means.Procedure k)
+other_procedure k = (type_no, variable_no)
+  where
+    type_no : (of : Option TypeId) → means.Procedure k ≡ means.Type of → ⊥
+    type_no of e = cc
+    variable_no : (n : ℕ) → means.Procedure k ≡ means.Variable n → ⊥
+    variable_no n e = cc
+
+other_module : (k : ℕ) → IsOther (means.Module k)
+other_module k = (type_no, variable_no)
+  where
+    type_no : (of : Option TypeId) → means.Module k ≡ means.Type of → ⊥
+    type_no of e = cc
+    variable_no : (n : ℕ) → means.Module k ≡ means.Variable n → ⊥
+    variable_no n e = cc
+
+other_out : IsOther means.Out
+other_out = (type_no, variable_no)
+  where
+    type_no : (of : Option TypeId) → means.Out ≡ means.Type of → ⊥
+    type_no of e = cc
+    variable_no : (n : ℕ) → means.Out ≡ means.Variable n → ⊥
+    variable_no n e = cc
+
+other_other : IsOther means.Other
+other_other = (type_no, variable_no)
+  where
+    type_no : (of : Option TypeId) → means.Other ≡ means.Type of → ⊥
+    type_no of e = cc
+    variable_no : (n : ℕ) → means.Other ≡ means.Variable n → ⊥
+    variable_no n e = cc
+
+variable_type_no : (k : ℕ) (of : Option TypeId) → means.Variable k ≡ means.Type of → ⊥
+variable_type_no k of e = cc
+
+type_variable_no : (of : Option TypeId) (k : ℕ) → means.Type of ≡ means.Variable k → ⊥
+type_variable_no of k e = cc
+
+same_variable : (k n : ℕ) → means.Variable k ≡ means.Variable n → k ≡ n
+same_variable k n e = cc
+
+same_type : (of by : Option TypeId) → means.Type of ≡ means.Type by → of ≡ by
+same_type of by e = cc
+
+either : (b : Bool) (m n : Meaning) → IsOther m → IsOther n → IsOther (if b then m else n)
+either true m n a c = a
+either false m n a c = c
+
+among_other : (w : List ℕ) (k : ℕ) (hs : List Home) → IsOther (among w k hs)
+among_other w k [] = other_other
+among_other w k (h ∷ hs) = either (bytes_eq w h.name) (means.Module k) (among w (suc k) hs) (other_module k) (among_other w (suc k) hs)
+
+named_other : (hs : List Home) (w : List ℕ) → IsOther (module_named hs w)
+named_other hs w = either (bytes_eq (codes "Out") w) means.Out (among w 0 hs) other_out (among_other w 0 hs)
+
+module _ (text : List ℕ) where
+  -- what holds of all that a module's scope declares, by its kind
+  all_entries : (P : Named → Type 0) (hs : List Home) (next : ℕ) (m : Tree) → ((n : Named) → IsOther n.1.means → P n) →
+      Each P (type_entries text next (type_defs m.decls)) → Each P (numbered text sort.Variable 0 (single_variables m.decls)) →
+      Each P (map (import_entry text hs) m.imports ++ type_entries text next (type_defs m.decls) ++ other_entries text m.decls)
+  all_entries P hs next m other types variables =
+      let constants = numbered text sort.Constant 0 (constant_defs m.decls) in
+      let vs = numbered text sort.Variable 0 (single_variables m.decls) in
+      let procedures = numbered text sort.Procedure 0 (procedure_defs m.decls) in
+      let is = map (import_entry text hs) m.imports in
+      let ts = type_entries text next (type_defs m.decls) in
+      joined P (is ++ ts) (constants ++ vs ++ procedures) (joined P is ts (imported m.imports) types)
+      (joined P (constants ++ vs) procedures (joined P constants vs (constants_are 0 (constant_defs m.decls)) variables) (procedures_are 0 (procedure_defs m.decls)))
+    where
+      imported : (is : List Import) → Each P (map (import_entry text hs) is)
+      imported [] = tt
+      imported (i ∷ is) = (other (import_entry text hs i) (named_other hs (word text (unwrap_or i.of i.name))), imported is)
+      constants_are : (k : ℕ) (ds : List Def) → Each P (numbered text sort.Constant k ds)
+      constants_are k [] = tt
+      constants_are k (d ∷ ds) = (other (entry text d (means.Constant k)) (other_constant k), constants_are (suc k) ds)
+      procedures_are : (k : ℕ) (ds : List Def) → Each P (numbered text sort.Procedure k ds)
+      procedures_are k [] = tt
+      procedures_are k (d ∷ ds) = (other (entry text d (means.Procedure k)) (other_procedure k), procedures_are (suc k) ds)
+
+  -- the numbers of types are those behind the ones before
+  abbrev IsWithin : ℕ → ℕ → Named → Type 0
+  IsWithin from to n = (t : TypeId) → slot_meant n.1.means ≡ Some t → (from ≤ t.0) × (t.0 < to)
+
+  no_slot : {t : TypeId} → None ≡ Some t → ⊥
+  no_slot e = cc
+
+  other_within : (from to : ℕ) (n : Named) → IsOther n.1.means → IsWithin from to n
+  other_within from to n other t e = absurd (by n.1.means other e)
+    where
+      by : (m : Meaning) → IsOther m → slot_meant m ≡ Some t → ⊥
+      by (means.Type of) other e = other.0 of refl
+      by (means.Constant k) other e = no_slot e
+      by (means.Variable k) other e = no_slot e
+      by (means.Procedure k) other e = no_slot e
+      by (means.Module k) other e = no_slot e
+      by means.Out other e = no_slot e
+      by means.New other e = no_slot e
+      by means.Other other e = no_slot e
+
+  types_within : (from to next : ℕ) (ds : List TypeDef) → from ≤ next → next + own_types ds ≤ to → Each (IsWithin from to) (type_entries text next ds)
+  types_within from to next [] a b = tt
+  types_within from to next (d ∷ ds) a b = by (is_alias d.value) b (types_within from to)
+    where
+      by : (w : Bool) → next + (if w then own_types ds else suc (own_types ds)) ≤ to →
+          ((next : ℕ) (ds : List TypeDef) → from ≤ next → next + own_types ds ≤ to → Each (IsWithin from to) (type_entries text next ds)) →
+          IsWithin from to (entry text d.def (means.Type (if w then None else Some (record { 0 = next }))))
+          × Each (IsWithin from to) (type_entries text (if w then next else suc next) ds)
+      by true b more = (λ t e. absurd (no_slot e), more next ds a b)
+      by false b more =
+          (λ t e. let is = ap (λ (u : TypeId). u.0) (same_Some (record { 0 = next }) t e) in within t next (own_types ds) is b, more (suc next) ds (omega arith) (omega arith))
+      within : (t : TypeId) (next own : ℕ) → next ≡ t.0 → next + suc own ≤ to → (from ≤ t.0) × (t.0 < to)
+      within t next own is b = ?
