@@ -155,34 +155,37 @@ module _ (p : Program) (e : Env) (whole : IsWhole p e) where
 
   -- Designators.
 
+  refused_sound : (rule : ℕ) (at : Pos) → Holds IsSound (desig.refused rule at)
+  refused_sound rule at = broken IsSound (record { rule = rule; pos = at }) [] (desig.nowhere at)
+
   meant_sound : (x : Symbol) → IsVariable x → (m : Meaning) → x.means ≡ m → (at : Pos) → Holds IsSound (desig.meant e x m at)
   meant_sound x sound (means.Variable k) is at = by (x.at.scope == 0) refl
     where
       by : (b : Bool) → (x.at.scope == 0) ≡ b → Holds IsSound (if b then kept (desig.variable e x k at) else desig.refused 99 at)
-      by true own h = sound k is (eqb-true x.at.scope 0 own)
-      by false own = broken IsSound _ [] _
-  meant_sound x sound (means.Constant k) is at = broken IsSound _ [] _
-  meant_sound x sound (means.Type of) is at = broken IsSound _ [] _
-  meant_sound x sound (means.Procedure k) is at = broken IsSound _ [] _
-  meant_sound x sound (means.Module m) is at = broken IsSound _ [] _
-  meant_sound x sound means.Out is at = broken IsSound _ [] _
-  meant_sound x sound means.New is at = broken IsSound _ [] _
-  meant_sound x sound means.Other is at = broken IsSound _ [] _
+      by true own = λ h. sound k is (eqb-true x.at.scope 0 own)
+      by false own = refused_sound 99 at
+  meant_sound x sound (means.Constant k) is at = refused_sound 99 at
+  meant_sound x sound (means.Type of) is at = refused_sound 99 at
+  meant_sound x sound (means.Procedure k) is at = refused_sound 99 at
+  meant_sound x sound (means.Module m) is at = refused_sound 99 at
+  meant_sound x sound means.Out is at = refused_sound 99 at
+  meant_sound x sound means.New is at = refused_sound 99 at
+  meant_sound x sound means.Other is at = refused_sound 99 at
 
   found_sound : (l : Lookup) → MayFind l → (at : Pos) → Holds IsSound (desig.found e l at)
-  found_sound Unknown sound at = broken IsSound _ [] _
-  found_sound NotExported sound at = broken IsSound _ [] _
+  found_sound Unknown sound at = refused_sound 14 at
+  found_sound NotExported sound at = refused_sound 15 at
   found_sound (Found x) sound at = meant_sound x (sound x refl) x.means refl at
 
   behind_sound : (ss : List Selector) (j : Judged Spot) → Holds IsSound j → Holds IsSound (desig.behind e ss j)
   behind_sound ss j sound = holds_bind IsSound IsSound j (λ a. judged (selector_breaches ss) a) sound (λ a x h. x)
 
   of_module_sound : (m : ℕ) (at : Pos) (ss : List Selector) → Holds IsSound (desig.of_module e m at ss)
-  of_module_sound m at [] = broken IsSound _ [] _
+  of_module_sound m at [] = refused_sound 99 at
   of_module_sound m at (s.Field q n ∷ more) = behind_sound more (desig.found e (env.member e m n) n.pos) (found_sound (env.member e m n) (member_sound m n) n.pos)
-  of_module_sound m at (s.Index' q shape row ∷ more) = broken IsSound _ [] _
-  of_module_sound m at (s.Follow q ∷ more) = broken IsSound _ [] _
-  of_module_sound m at (s.Paren' q shape row ∷ more) = broken IsSound _ [] _
+  of_module_sound m at (s.Index' q shape row ∷ more) = refused_sound 99 at
+  of_module_sound m at (s.Follow q ∷ more) = refused_sound 99 at
+  of_module_sound m at (s.Paren' q shape row ∷ more) = refused_sound 99 at
 
   by_meaning_sound : (x : Symbol) → IsVariable x → (m : Meaning) → x.means ≡ m → (at : Pos) (ss : List Selector) → Holds IsSound (desig.by_meaning e x m at ss)
   by_meaning_sound x sound (means.Module m) is at ss = of_module_sound m at ss
@@ -195,8 +198,8 @@ module _ (p : Program) (e : Env) (whole : IsWhole p e) where
   by_meaning_sound x sound means.Other is at ss = behind_sound ss (desig.meant e x means.Other at) (meant_sound x sound means.Other is at)
 
   by_name_sound : (l : Lookup) → MayFind l → (at : Pos) (ss : List Selector) → Holds IsSound (desig.by_name e l at ss)
-  by_name_sound Unknown sound at ss = behind_sound ss (desig.refused 14 at) (broken IsSound _ [] _)
-  by_name_sound NotExported sound at ss = behind_sound ss (desig.refused 15 at) (broken IsSound _ [] _)
+  by_name_sound Unknown sound at ss = behind_sound ss (desig.refused 14 at) (refused_sound 14 at)
+  by_name_sound NotExported sound at ss = behind_sound ss (desig.refused 15 at) (refused_sound 15 at)
   by_name_sound (Found x) sound at ss = by_meaning_sound x (sound x refl) x.means refl at ss
 
   pub designator_sound : (n : Name) (ss : List Selector) → Holds IsSound (desig.designator e n ss)
