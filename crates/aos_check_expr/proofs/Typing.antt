@@ -219,7 +219,7 @@ module _ (p : Program) (e : Env) (whole : IsWhole p e) where
       (λ a x h. (x, test_is (test (env.row_of e a.of)) 99 a.at h))
 
   -- a number
-  abbrev IsNumber : Spot → Type 0
+  abbrev pub IsNumber : Spot → Type 0
   IsNumber a = place_type p a.place ≡ Some type.LongInt
 
   number_type : (of : Option TypeId) → IsKnown e.types e.broken of → is_longint (env.row_of e of) ≡ true → type_of of ≡ type.LongInt

@@ -19,7 +19,7 @@ use Rattle.aos_symbols.specs.declared.env.Env.{Env}
 use Rattle.aos_symbols.specs.Judged.{Judged, judged, kept, bind, walk}
 use Rattle.aos_symbols.specs.Spelling.{word, is_word, is_among, procedures_of_out}
 use Rattle.aos_symbols.specs.Env as env
-use Rattle.aos_symbols.proofs.Holds.{Holds, holds_bind, holds_walk, broken}
+use Rattle.aos_symbols.proofs.Holds.{Holds, holds_bind, holds_walk}
 use Rattle.aos_check_expr.specs.Designators.{Spot, assigned, selector_breaches}
 use Rattle.aos_check_expr.specs.Expressions.{value, condition, places, object}
 use Rattle.aos_check_expr.proofs.Typing.{IsWhole, IsNumber, IsMade, MayBeMade, assigned_sound, value_sound, condition_sound, places_sound, made_sound}
@@ -49,39 +49,39 @@ module _ (p : Program) (e : Env) (whole : IsWhole p e) where
       (λ a is. holds_bind (IsInteger p) MayBe (value e x) (λ v. kept (Some (Assign d.name.pos a.place v))) (value_sound p e whole x) (λ v y h. (is, y)))
 
   int_sound : (at : Pos) (xs : List TreeExpr) → Holds MayBe (judge.int_call e at xs)
-  int_sound at [] = broken MayBe _ [] _
-  int_sound at (a ∷ []) = broken MayBe _ [] _
+  int_sound at [] = λ h. tt
+  int_sound at (a ∷ []) = λ h. tt
   int_sound at (a ∷ b ∷ []) =
       holds_bind (IsInteger p) MayBe (value e a) (λ x. bind (places e b) (λ n. kept (Some (Out at (Int x n))))) (value_sound p e whole a)
       (λ x is. holds_bind (IsInteger p) MayBe (places e b) (λ n. kept (Some (Out at (Int x n)))) (places_sound p e whole b) (λ n y h. (is, y)))
-  int_sound at (a ∷ b ∷ c ∷ xs) = broken MayBe _ [] _
+  int_sound at (a ∷ b ∷ c ∷ xs) = λ h. tt
 
   new_is : (at : Pos) (o : Option Spot) → MayBeMade p e whole o → MayBe (made at o)
   new_is at None is = tt
   new_is at (Some a) is = (is.0, is.1)
 
   new_sound : (at : Pos) (xs : List TreeExpr) → Holds MayBe (judge.new_call e at xs)
-  new_sound at [] = broken MayBe _ [] _
+  new_sound at [] = λ h. tt
   new_sound at (a ∷ []) =
       holds_bind (MayBeMade p e whole) MayBe (object e a) (λ x. kept (made at x)) (made_sound p e whole a) (λ x is h. new_is at x is)
-  new_sound at (a ∷ b ∷ xs) = broken MayBe _ [] _
+  new_sound at (a ∷ b ∷ xs) = λ h. tt
 
   no_more_sound : (more : List Selector) (j : Judged (Option Stat)) → Holds MayBe j → Holds MayBe (with_no_more more j)
   no_more_sound more j sound = holds_bind MayBe MayBe j (λ x. judged (selector_breaches more) x) sound (λ x is h. is)
 
   int_selectors_sound : (at : Pos) (ss : List Selector) → Holds MayBe (judge.int_selectors e at ss)
-  int_selectors_sound at [] = broken MayBe _ [] _
+  int_selectors_sound at [] = λ h. tt
   int_selectors_sound at (s.Paren' q shape row ∷ more) = no_more_sound more (judge.int_call e at (items-the_row-Expr _ row)) (int_sound at (items-the_row-Expr _ row))
-  int_selectors_sound at (s.Field q n ∷ more) = broken MayBe _ [] _
-  int_selectors_sound at (s.Index' q shape row ∷ more) = broken MayBe _ [] _
-  int_selectors_sound at (s.Follow q ∷ more) = broken MayBe _ [] _
+  int_selectors_sound at (s.Field q n ∷ more) = λ h. tt
+  int_selectors_sound at (s.Index' q shape row ∷ more) = λ h. tt
+  int_selectors_sound at (s.Follow q ∷ more) = λ h. tt
 
   new_selectors_sound : (at : Pos) (ss : List Selector) → Holds MayBe (judge.new_selectors e at ss)
-  new_selectors_sound at [] = broken MayBe _ [] _
+  new_selectors_sound at [] = λ h. tt
   new_selectors_sound at (s.Paren' q shape row ∷ more) = no_more_sound more (judge.new_call e at (items-the_row-Expr _ row)) (new_sound at (items-the_row-Expr _ row))
-  new_selectors_sound at (s.Field q n ∷ more) = broken MayBe _ [] _
-  new_selectors_sound at (s.Index' q shape row ∷ more) = broken MayBe _ [] _
-  new_selectors_sound at (s.Follow q ∷ more) = broken MayBe _ [] _
+  new_selectors_sound at (s.Field q n ∷ more) = λ h. tt
+  new_selectors_sound at (s.Index' q shape row ∷ more) = λ h. tt
+  new_selectors_sound at (s.Follow q ∷ more) = λ h. tt
 
   either : (b : Bool) (i j : Judged (Option Stat)) → Holds MayBe i → Holds MayBe j → Holds MayBe (if b then i else j)
   either true i j x y = x
@@ -94,28 +94,28 @@ module _ (p : Program) (e : Env) (whole : IsWhole p e) where
       let other = judge.refused (if is_among procedures_of_out (word e.here.text n) then 99 else 14) n.pos in
       either int (judge.int_selectors e at more) (if line then with_no_more more (kept (Some (Out at Ln))) else other)
       (int_selectors_sound at more)
-      (either line (with_no_more more (kept (Some (Out at Ln)))) other (no_more_sound more (kept (Some (Out at Ln))) (λ h. tt)) (broken MayBe _ [] _))
+      (either line (with_no_more more (kept (Some (Out at Ln)))) other (no_more_sound more (kept (Some (Out at Ln))) (λ h. tt)) (λ h. tt))
 
   out_selectors_sound : (at : Pos) (ss : List Selector) → Holds MayBe (judge.out_selectors e at ss)
-  out_selectors_sound at [] = broken MayBe _ [] _
+  out_selectors_sound at [] = λ h. tt
   out_selectors_sound at (s.Field q n ∷ more) = out_call_sound at n more
-  out_selectors_sound at (s.Paren' q shape row ∷ more) = broken MayBe _ [] _
-  out_selectors_sound at (s.Index' q shape row ∷ more) = broken MayBe _ [] _
-  out_selectors_sound at (s.Follow q ∷ more) = broken MayBe _ [] _
+  out_selectors_sound at (s.Paren' q shape row ∷ more) = λ h. tt
+  out_selectors_sound at (s.Index' q shape row ∷ more) = λ h. tt
+  out_selectors_sound at (s.Follow q ∷ more) = λ h. tt
 
   called_meaning_sound : (m : Meaning) (d : Desig) → Holds MayBe (judge.called_meaning e m d)
   called_meaning_sound means.Out d = out_selectors_sound d.name.pos d.selectors
   called_meaning_sound means.New d = new_selectors_sound d.name.pos d.selectors
-  called_meaning_sound (means.Constant k) d = broken MayBe _ [] _
-  called_meaning_sound (means.Type of) d = broken MayBe _ [] _
-  called_meaning_sound (means.Variable k) d = broken MayBe _ [] _
-  called_meaning_sound (means.Procedure k) d = broken MayBe _ [] _
-  called_meaning_sound (means.Module m) d = broken MayBe _ [] _
-  called_meaning_sound means.Other d = broken MayBe _ [] _
+  called_meaning_sound (means.Constant k) d = λ h. tt
+  called_meaning_sound (means.Type of) d = λ h. tt
+  called_meaning_sound (means.Variable k) d = λ h. tt
+  called_meaning_sound (means.Procedure k) d = λ h. tt
+  called_meaning_sound (means.Module m) d = λ h. tt
+  called_meaning_sound means.Other d = λ h. tt
 
   called_sound : (l : Lookup) (d : Desig) → Holds MayBe (judge.called e l d)
-  called_sound Unknown d = broken MayBe _ [] _
-  called_sound NotExported d = broken MayBe _ [] _
+  called_sound Unknown d = λ h. tt
+  called_sound NotExported d = λ h. tt
   called_sound (Found x) d = called_meaning_sound x.means d
 
   mutual
@@ -127,16 +127,16 @@ module _ (p : Program) (e : Env) (whole : IsWhole p e) where
         holds_bind (IsBoolean p) MayBe (condition e q c) (λ test. bind (judge.stats_in e [] row) (λ body. kept (Some (While q test (listed body)))))
         (condition_sound p e whole q c)
         (λ test is. holds_bind Are MayBe (judge.stats_in e [] row) (λ body. kept (Some (While q test (listed body)))) (stats_sound [] tt row) (λ body are h. (is, are)))
-    stat_sound (stat.Block' q ms shape row) = broken MayBe _ [] _
-    stat_sound (stat.Exit q) = broken MayBe _ [] _
-    stat_sound (stat.Return q x) = broken MayBe _ [] _
-    stat_sound (stat.Await q x) = broken MayBe _ [] _
-    stat_sound (stat.If' q c shape row shapes rows otherwise) = broken MayBe _ [] _
-    stat_sound (stat.Case' q c shape row otherwise) = broken MayBe _ [] _
-    stat_sound (stat.Repeat' q shape row c) = broken MayBe _ [] _
-    stat_sound (stat.Loop' q shape row) = broken MayBe _ [] _
-    stat_sound (stat.For' q n r from to by shape row) = broken MayBe _ [] _
-    stat_sound (stat.With' q a r b shape row) = broken MayBe _ [] _
+    stat_sound (stat.Block' q ms shape row) = λ h. tt
+    stat_sound (stat.Exit q) = λ h. tt
+    stat_sound (stat.Return q x) = λ h. tt
+    stat_sound (stat.Await q x) = λ h. tt
+    stat_sound (stat.If' q c shape row shapes rows otherwise) = λ h. tt
+    stat_sound (stat.Case' q c shape row otherwise) = λ h. tt
+    stat_sound (stat.Repeat' q shape row c) = λ h. tt
+    stat_sound (stat.Loop' q shape row) = λ h. tt
+    stat_sound (stat.For' q n r from to by shape row) = λ h. tt
+    stat_sound (stat.With' q a r b shape row) = λ h. tt
 
     stats_sound : {m : _} (ts : List Stat) → Are ts → (r : Row_of-Stat m) → Holds Are (judge.stats_in e ts r)
     stats_sound ts are end_of-Stat = λ h. are

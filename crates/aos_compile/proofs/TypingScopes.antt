@@ -7,6 +7,7 @@ use Rattle.aos_tree.specs.declared.decl.TypeDef.{TypeDef}
 use Rattle.aos_tree.specs.declared.module.Import.{Import}
 use Rattle.aos_tree.specs.declared.module.Module.{Module as Tree}
 use Rattle.aos_types.specs.declared.row.TypeId.{TypeId}
+use Rattle.aos_types.specs.declared.row.TypeRow.{TypeRow}
 use Rattle.aos_symbols.specs.declared.scope.Entry.{Entry}
 use Rattle.aos_symbols.specs.declared.scope.Meaning.{Meaning}
 use Rattle.aos_symbols.specs.declared.scope.Meaning.TheVariants as means
@@ -154,12 +155,101 @@ module _ (text : List ℕ) where
   types_within from to next [] a b = tt
   types_within from to next (d ∷ ds) a b = by (is_alias d.value) b (types_within from to)
     where
+      within : (t : TypeId) → next ≡ t.0 → next + suc (own_types ds) ≤ to → (from ≤ t.0) × (t.0 < to)
+      within t is b = (omega arith, omega arith)
       by : (w : Bool) → next + (if w then own_types ds else suc (own_types ds)) ≤ to →
           ((next : ℕ) (ds : List TypeDef) → from ≤ next → next + own_types ds ≤ to → Each (IsWithin from to) (type_entries text next ds)) →
           IsWithin from to (entry text d.def (means.Type (if w then None else Some (record { 0 = next }))))
           × Each (IsWithin from to) (type_entries text (if w then next else suc next) ds)
       by true b more = (λ t e. absurd (no_slot e), more next ds a b)
       by false b more =
-          (λ t e. let is = ap (λ (u : TypeId). u.0) (same_Some (record { 0 = next }) t e) in within t next (own_types ds) is b, more (suc next) ds (omega arith) (omega arith))
-      within : (t : TypeId) (next own : ℕ) → next ≡ t.0 → next + suc own ≤ to → (from ≤ t.0) × (t.0 < to)
-      within t next own is b = ?
+          (λ t e. within t (ap (λ (u : TypeId). u.0) (same_Some (record { 0 = next }) t e)) b, more (suc next) ds (omega arith) (omega arith))
+
+  variables_within : (from to k : ℕ) (ds : List Def) → Each (IsWithin from to) (numbered text sort.Variable k ds)
+  variables_within from to k [] = tt
+  variables_within from to k (d ∷ ds) = (λ t e. absurd (no_slot e), variables_within from to (suc k) ds)
+
+  -- the numbers of variables are below how many there are
+  abbrev IsBelow : ℕ → Named → Type 0
+  IsBelow to n = (k : ℕ) → n.1.means ≡ means.Variable k → k < to
+
+  variables_below : (to k : ℕ) (ds : List Def) → k + length ds ≤ to → Each (IsBelow to) (numbered text sort.Variable k ds)
+  variables_below to k [] h = tt
+  variables_below to k (d ∷ ds) h = (λ n e. below n (same_variable k n e), variables_below to (suc k) ds (omega arith))
+    where
+      below : (n : ℕ) → k ≡ n → n < to
+      below n is = omega arith
+
+  types_below : (to next : ℕ) (ds : List TypeDef) → Each (IsBelow to) (type_entries text next ds)
+  types_below to next [] = tt
+  types_below to next (d ∷ ds) = (λ k e. absurd (type_variable_no (slot next d) k e), types_below to (after next d) ds)
+
+  module _ (hs : List Home) (next : ℕ) (m : Tree) where
+    abbrev own : Scope
+    own = own_scope text hs next m
+
+    abbrev names : List Named
+    names = map (import_entry text hs) m.imports ++ type_entries text next (type_defs m.decls) ++ other_entries text m.decls
+
+    -- each type's name is found, and its number is one of the module's own
+    abbrev IsOwn : ℕ → ℕ → TypeDef → Type 0
+    IsOwn from to d = (x : Entry) × (find own (word text d.def.name) ≡ Some x)
+        × ((t : TypeId) → slot_meant x.means ≡ Some t → (from ≤ t.0) × (t.0 < to))
+
+    pub types_listed : (from to : ℕ) → from ≤ next → next + own_types (type_defs m.decls) ≤ to → Each (IsOwn from to) (type_defs m.decls)
+    types_listed from to a b = listed next (type_defs m.decls) there
+      where
+        all : Each (IsWithin from to) names
+        all = all_entries (IsWithin from to) hs next m (other_within from to) (types_within from to next (type_defs m.decls) a b) (variables_within from to 0 (single_variables m.decls))
+        there : Each (λ n. has own n.0 ≡ true) (type_entries text next (type_defs m.decls))
+        there =
+            let is = map (import_entry text hs) m.imports in
+            let ts = type_entries text next (type_defs m.decls) in
+            back (λ n. has own n.0 ≡ true) is ts (front (λ n. has own n.0 ≡ true) (is ++ ts) (other_entries text m.decls) (each_found names empty))
+        listed : (next : ℕ) (ds : List TypeDef) → Each (λ n. has own n.0 ≡ true) (type_entries text next ds) → Each (IsOwn from to) ds
+        listed next [] there = tt
+        listed next (d ∷ ds) there =
+            let x = some_found (find own (word text d.def.name)) there.0 in
+            ((x.0, x.1, λ t e. found_is (IsWithin from to) names (word text d.def.name) x.0 all x.1 t e), listed (after next d) ds there.1)
+
+    pub variables_are : (w : List ℕ) (x : Entry) (k : ℕ) → find own w ≡ Some x → x.means ≡ means.Variable k → k < length (single_variables m.decls)
+    variables_are w x k found means =
+        let n = length (single_variables m.decls) in
+        found_is (IsBelow n) names w x
+        (all_entries (IsBelow n) hs next m (λ e other k is. absurd (other.1 k is)) (types_below n next (type_defs m.decls)) (variables_below n 0 (single_variables m.decls) (omega arith)))
+        found k means
+
+    -- where the types that have names are told, each type that is found is
+    module _ (types : List TypeRow) (broken : List Bool) where
+      abbrev pub IsDefined : TypeDef → Type 0
+      IsDefined d = (is_alias d.value ≡ false)
+          × ((x : Entry) (t : TypeId) → find own (word text d.def.name) ≡ Some x → slot_meant x.means ≡ Some t → IsTold types broken t)
+
+      abbrev IsRight : Named → Type 0
+      IsRight n = find own n.0 ≡ Some n.1 → (of : Option TypeId) → n.1.means ≡ means.Type of → IsKnown types broken of
+
+      types_right : (next : ℕ) (ds : List TypeDef) → Each IsDefined ds → Each IsRight (type_entries text next ds)
+      types_right next [] all = tt
+      types_right next (d ∷ ds) all = (λ found of is. right found of (same_type (slot next d) of is), types_right (after next d) ds all.1)
+        where
+          u : TypeId
+          u = record { 0 = next }
+          number : slot next d ≡ Some u
+          number = ap (λ b. if b then None else Some (record { 0 = next })) all.0.0
+          right : find own (word text d.def.name) ≡ Some (entry text d.def (means.Type (slot next d))).1 → (of : Option TypeId) → slot next d ≡ of → IsKnown types broken of
+          right found of is = subst (IsKnown types broken) (sym number ∙ is) (all.0.1 (entry text d.def (means.Type (slot next d))).1 u found number)
+
+      variables_right : (k : ℕ) (ds : List Def) → Each IsRight (numbered text sort.Variable k ds)
+      variables_right k [] = tt
+      variables_right k (d ∷ ds) = (λ found of is. absurd (variable_type_no k of is), variables_right (suc k) ds)
+
+      pub types_are : Each IsDefined (type_defs m.decls) → (w : List ℕ) (x : Entry) (of : Option TypeId) → find own w ≡ Some x → x.means ≡ means.Type of → IsKnown types broken of
+      types_are all w x of found means =
+          found_is IsRight names w x
+          (all_entries IsRight hs next m (λ e other found of is. absurd (other.0 of is)) (types_right next (type_defs m.decls) all) (variables_right 0 (single_variables m.decls)))
+          found found of means
+
+-- types that are no other names have each a number
+pub own_count : (ds : List TypeDef) → Each (λ d. is_alias d.value ≡ false) ds → own_types ds ≡ length ds
+own_count [] all = refl
+own_count (d ∷ ds) all = ap (λ b. if b then own_types ds else suc (own_types ds)) all.0 ∙ ap suc (own_count ds all.1)

@@ -64,7 +64,7 @@ none_first : (bs : List Breach) → first bs ≡ None → bs ≡ []
 none_first [] e = refl
 none_first (b ∷ bs) e = absurd (met_stays bs b e)
 
-same_went : {A : Type 0} (a b : A) → went a ≡ went b → a ≡ b
+pub same_went : {A : Type 0} (a b : A) → went a ≡ went b → a ≡ b
 same_went a b e = cc
 
 refused_went : {A : Type 0} (r : Refusal) (a : A) → refused r ≡ went a → ⊥

@@ -1,0 +1,36 @@
+-- The program that texts come to is well typed.
+use Rattle.std.proofs.Common.{◌≡◌, ℕ, ◌<◌, List, [], ◌∷◌, length, Option, Some, None, slice_get, All, refl, subst}
+use Rattle.aos_typed.specs.WellTyped.{AreStatements}
+use Rattle.aos_symbols.specs.Outcome.{went, in_turn}
+use Rattle.aos_symbols.proofs.Each.{all_of}
+use Rattle.aos_symbols.proofs.Holds.{then_went, same_went}
+use Rattle.aos_compile.specs.Modules.{World, no_modules, program_of}
+use Rattle.aos_compile.specs.Files.{Source, loaded, load_order, modules}
+use Rattle.aos_compile.proofs.TypingModules.{IsWorld, begins, module_sound}
+
+loaded_sound : (ss : List Source) (k : ℕ) (w v : World) → IsWorld w → loaded ss w k ≡ went v → IsWorld v
+loaded_sound ss k w v sound h = by (slice_get ss k) refl
+  where
+    by : (s : Option Source) → slice_get ss k ≡ s → IsWorld v
+    by None is = subst IsWorld (same_went w v (rw is at h)) sound
+    by (Some s) is = module_sound w sound s.0 s.1 k v (rw is at h)
+
+in_turn_sound : (ss : List Source) (ks : List ℕ) (w v : World) → IsWorld w → in_turn (loaded ss) w ks ≡ went v → IsWorld v
+in_turn_sound ss [] w v sound h = subst IsWorld (same_went w v h) sound
+in_turn_sound ss (k ∷ ks) w v sound h =
+    let one = then_went (loaded ss w k) (λ u. in_turn (loaded ss) u ks) v h in
+    in_turn_sound ss ks one.0 v (loaded_sound ss k w one.0 sound one.1) one.2
+
+pub world_sound : (ss : List Source) (w : World) → modules ss ≡ went w → IsWorld w
+world_sound ss w h =
+    let one = then_went (load_order ss) (λ order. in_turn (loaded ss) no_modules order) w h in
+    in_turn_sound ss one.0 no_modules w begins one.2
+
+pub typed_bodies : (ss : List Source) (w : World) → modules ss ≡ went w → All (λ m. AreStatements (program_of w) m.body) (program_of w).modules
+typed_bodies ss w h = all_of (λ m. AreStatements (program_of w) m.body) w.modules (world_sound ss w h).bodies
+
+pub typed_objects : (ss : List Source) (w : World) → modules ss ≡ went w → All (λ o. AreStatements (program_of w) o.body) (program_of w).objects
+typed_objects ss w h = all_of (λ o. AreStatements (program_of w) o.body) w.objects (world_sound ss w h).objects
+
+pub object_homes : (ss : List Source) (w : World) → modules ss ≡ went w → All (λ o. o.home < length (program_of w).modules) (program_of w).objects
+object_homes ss w h = all_of (λ o. o.home < length w.modules) w.objects (world_sound ss w h).places
