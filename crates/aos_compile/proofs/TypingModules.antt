@@ -122,16 +122,16 @@ no_scope e = cc
 whole : (p : Program) (e : Env) (hs : List Home) → AreHomes e.types e.broken hs p.modules → ((m : ℕ) (h : Home) → env.home e m ≡ Some h → slice_get hs m ≡ Some h) →
     length e.types ≡ 9 + length p.objects → IsWhole p e
 whole p e hs are at count = record {
-  variables = λ o s w x k zero there found means. by_home o s w x k zero found means there (env.home e o.home) refl there;
+  variables = λ o s w x k first there found means. by_home o s w x k first found means there (env.home e o.home) refl there;
   objects = count;
 }
   where
     by_home : (o : Open) (s : Scope) (w : List ℕ) (x : Entry) (k : ℕ) → o.scope ≡ 0 → find s w ≡ Some x → x.means ≡ means.Variable k → env.scope e o ≡ Some s →
         (h : Option Home) → env.home e o.home ≡ h → option_and_then (λ h. slice_get h.scopes o.scope) h ≡ Some s → IsTyped p e (ModuleVar o.home k) (env.variable_type e o k)
-    by_home o s w x k zero found means there None home here = absurd (no_scope here)
-    by_home o s w x k zero found means there (Some h) home here =
+    by_home o s w x k first found means there None home here = absurd (no_scope here)
+    by_home o s w x k first found means there (Some h) home here =
         let one = home_at e.types e.broken hs p.modules are o.home h (at o.home h home) in
-        let same : one.2.scope ≡ s = same_Some one.2.scope s (sym one.2.is ∙ ap (slice_get h.scopes) (sym zero) ∙ here) in
+        let same : one.2.scope ≡ s = same_Some one.2.scope s (sym one.2.is ∙ ap (slice_get h.scopes) (sym first) ∙ here) in
         let below : k < length s.variables =
             subst (λ (z : Scope). k < length z.variables) same (one.2.numbers w x k (ap (λ z. find z w) same ∙ found) means) in
         let of = some_at s.variables k below in

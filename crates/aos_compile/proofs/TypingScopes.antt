@@ -153,17 +153,17 @@ module _ (text : List ℕ) where
 
   types_within : (from to next : ℕ) (ds : List TypeDef) → from ≤ next → next + own_types ds ≤ to → Each (IsWithin from to) (type_entries text next ds)
   types_within from to next [] a b = tt
-  types_within from to next (d ∷ ds) a b = by (is_alias d.value) b (types_within from to)
+  types_within from to next (d ∷ ds) a b = by (is_alias d.value) b (λ next a b. types_within from to next ds a b)
     where
       within : (t : TypeId) → next ≡ t.0 → next + suc (own_types ds) ≤ to → (from ≤ t.0) × (t.0 < to)
       within t is b = (omega arith, omega arith)
       by : (w : Bool) → next + (if w then own_types ds else suc (own_types ds)) ≤ to →
-          ((next : ℕ) (ds : List TypeDef) → from ≤ next → next + own_types ds ≤ to → Each (IsWithin from to) (type_entries text next ds)) →
+          ((next : ℕ) → from ≤ next → next + own_types ds ≤ to → Each (IsWithin from to) (type_entries text next ds)) →
           IsWithin from to (entry text d.def (means.Type (if w then None else Some (record { 0 = next }))))
           × Each (IsWithin from to) (type_entries text (if w then next else suc next) ds)
-      by true b more = (λ t e. absurd (no_slot e), more next ds a b)
+      by true b more = (λ t e. absurd (no_slot e), more next a b)
       by false b more =
-          (λ t e. within t (ap (λ (u : TypeId). u.0) (same_Some (record { 0 = next }) t e)) b, more (suc next) ds (omega arith) (omega arith))
+          (λ t e. within t (ap (λ (u : TypeId). u.0) (same_Some (record { 0 = next }) t e)) b, more (suc next) (omega arith) (omega arith))
 
   variables_within : (from to k : ℕ) (ds : List Def) → Each (IsWithin from to) (numbered text sort.Variable k ds)
   variables_within from to k [] = tt
@@ -185,10 +185,10 @@ module _ (text : List ℕ) where
   types_below to next (d ∷ ds) = (λ k e. absurd (type_variable_no (slot next d) k e), types_below to (after next d) ds)
 
   module _ (hs : List Home) (next : ℕ) (m : Tree) where
-    abbrev own : Scope
+    abbrev pub own : Scope
     own = own_scope text hs next m
 
-    abbrev names : List Named
+    abbrev pub names : List Named
     names = map (import_entry text hs) m.imports ++ type_entries text next (type_defs m.decls) ++ other_entries text m.decls
 
     -- each type's name is found, and its number is one of the module's own
