@@ -31,8 +31,9 @@ use Rattle.aos_symbols.specs.Scope.{Scope, find}
 use Rattle.aos_symbols.specs.Home.{Home}
 use Rattle.aos_symbols.specs.Entries.{is_alias}
 use Rattle.aos_symbols.specs.Env as env
-use Rattle.aos_symbols.proofs.Each.{Each, joined}
+use Rattle.aos_symbols.proofs.Each.{Each, joined, front, back, implied}
 use Rattle.aos_symbols.proofs.Holds.{Holds, holds_bind, broken}
+use Rattle.aos_symbols.proofs.Lookups.{IsPredeclared, a_type, a_procedure, another, IsOfAll, lookup_is, member_is}
 use Rattle.aos_symbols.proofs.Told.{IsTold, IsKnown, GoOn, told_set, newly_told}
 use Rattle.aos_check_decl.specs.Headings as judge
 use Rattle.aos_check_decl.specs.Headings.{slot_meant, slot_in, alias_breaches}
@@ -107,29 +108,23 @@ module _ (c : Start) where
     pub goes_on : GoOn a.types a.broken behind.types behind.broken
     pub done : Each (IsDone behind) ds
 
-no_symbol : {A : Type 0} {x : A} → None ≡ Some x → ⊥
-no_symbol e = cc
+no_type : {t : TypeId} → None ≡ Some t → ⊥
+no_type e = cc
 
-found_same : (a b : Symbol) → Found a ≡ Found b → a ≡ b
-found_same a b e = cc
-
-not_found : {x : Symbol} → Unknown ≡ Found x → ⊥
-not_found e = cc
-
-not_seen : {x : Symbol} → NotExported ≡ Found x → ⊥
-not_seen e = cc
-
-front : {X : Type 0} (P : X → Type 0) (xs ys : List X) → Each P (xs ++ ys) → Each P xs
-front P [] ys all = tt
-front P (x ∷ xs) ys all = (all.0, front P xs ys all.1)
-
-back : {X : Type 0} (P : X → Type 0) (xs ys : List X) → Each P (xs ++ ys) → Each P ys
-back P [] ys all = all
-back P (x ∷ xs) ys all = back P xs ys all.1
-
-pub mapped : {X : Type 0} (P Q : X → Type 0) → ((x : X) → P x → Q x) → (xs : List X) → Each P xs → Each Q xs
-mapped P Q f [] all = tt
-mapped P Q f (x ∷ xs) all = (f x all.0, mapped P Q f xs all.1)
+-- of what is predeclared LONGINT alone is a type
+type_only : (m : Meaning) → IsPredeclared m → (of : Option TypeId) → m ≡ means.Type of → Some env.longint ≡ of
+type_only m a_type of e = same of e
+  where
+    same : (of : Option TypeId) → means.Type (Some env.longint) ≡ means.Type of → Some env.longint ≡ of
+    same of e = cc
+type_only m a_procedure of e = no_new of e
+  where
+    no_new : (of : Option TypeId) → means.New ≡ means.Type of → Some env.longint ≡ of
+    no_new of e = cc
+type_only m another of e = no_other of e
+  where
+    no_other : (of : Option TypeId) → means.Other ≡ means.Type of → Some env.longint ≡ of
+    no_other of e = cc
 
 flat_none : {X Y : Type 0} (xs : List X) → flat_map (λ (x : X). let none : List Y = [] in none) xs ≡ []
 flat_none [] = refl
@@ -142,87 +137,38 @@ flat_each (x ∷ xs) = ap (λ z. x ∷ z) (flat_each xs)
 module _ (c : Start) (ready : IsReady c) where
   -- What a name stands for.
 
+  abbrev IsOwn : Open → Type 0
+  IsOwn o = o.scope ≡ 0
+
+  abbrev Names : Symbol → Type 0
+  Names x = (of : Option TypeId) → x.means ≡ means.Type of → IsNamed c of
+
   abbrev MayName : Lookup → Type 0
-  MayName l = (x : Symbol) (of : Option TypeId) → l ≡ Found x → x.means ≡ means.Type of → IsNamed c of
+  MayName l = (x : Symbol) → l ≡ Found x → Names x
 
-  abbrev Names : Option Symbol → Type 0
-  Names o = (x : Symbol) (of : Option TypeId) → o ≡ Some x → x.means ≡ means.Type of → IsNamed c of
+  module _ (a : Tables) where
+    entries_named : (o : Open) (s : Scope) (w : List ℕ) (x : Entry) → IsOwn o → env.scope (reached c a) o ≡ Some s → find s w ≡ Some x → Names (env.declared_at o x)
+    entries_named o s w x own there is of means =
+        by_home (o.home == c.number) (ap (λ k. option_and_then (λ h. slice_get h.scopes k) (env.home (reached c a) o.home)) (sym own) ∙ there)
+      where
+        by_before : (h : Option Home) → slice_get c.before o.home ≡ h → option_and_then (λ h. slice_get h.scopes 0) h ≡ Some s → IsNamed c of
+        by_before None at there = absurd (none-some s there)
+        by_before (Some h) at there = inl (ready.names o.home h s w x of at there is means)
+        by_home : (b : Bool) → option_and_then (λ h. slice_get h.scopes 0) (if b then Some (reached c a).here else slice_get c.before o.home) ≡ Some s → IsNamed c of
+        by_home true there = inr (w, x, ap (λ (z : Scope). find z w) (same_Some (scope_with c a) s there) ∙ is, means)
+        by_home false there = by_before (slice_get c.before o.home) refl there
 
-  in_scope_named : (a : Tables) (m : ℕ) (w : List ℕ) → Names (env.in_scope (reached c a) (env.own m) w)
-  in_scope_named a m w x of h means = by_home (m == c.number) h
-    where
-      by_own : (y : Option Entry) → find c.own w ≡ y → option_map (env.declared_at (env.own m)) y ≡ Some x → IsNamed c of
-      by_own None is h = absurd (no_symbol h)
-      by_own (Some y) is h = inr (w, y, is, ap (λ z. z.means) (same_Some (env.declared_at (env.own m) y) x h) ∙ means)
-      by_entry : (n : Home) (s : Scope) → slice_get c.before m ≡ Some n → slice_get n.scopes 0 ≡ Some s → (y : Option Entry) → find s w ≡ y →
-          option_map (env.declared_at (env.own m)) y ≡ Some x → IsNamed c of
-      by_entry n s at there None is h = absurd (no_symbol h)
-      by_entry n s at there (Some y) is h =
-          inl (ready.names m n s w y of at there is (ap (λ z. z.means) (same_Some (env.declared_at (env.own m) y) x h) ∙ means))
-      by_scope : (n : Home) → slice_get c.before m ≡ Some n → (s : Option Scope) → slice_get n.scopes 0 ≡ s →
-          option_map (env.declared_at (env.own m)) (option_and_then (λ s. find s w) s) ≡ Some x → IsNamed c of
-      by_scope n at None there h = absurd (no_symbol h)
-      by_scope n at (Some s) there h = by_entry n s at there (find s w) refl h
-      by_before : (n : Option Home) → slice_get c.before m ≡ n →
-          option_map (env.declared_at (env.own m)) (option_and_then (λ s. find s w) (option_and_then (λ h. slice_get h.scopes 0) n)) ≡ Some x → IsNamed c of
-      by_before None at h = absurd (no_symbol h)
-      by_before (Some n) at h = by_scope n at (slice_get n.scopes 0) refl h
-      by_home : (b : Bool) →
-          option_map (env.declared_at (env.own m)) (option_and_then (λ s. find s w)
-          (option_and_then (λ h. slice_get h.scopes 0) (if b then Some (reached c a).here else slice_get c.before m))) ≡ Some x → IsNamed c of
-      by_home true h = by_own (find c.own w) refl h
-      by_home false h = by_before (slice_get c.before m) refl h
+    all_named : IsOfAll (reached c a) IsOwn Names
+    all_named = record {
+      entries = entries_named;
+      others = λ m is of means. inl (subst (IsKnown c.types c.broken) (type_only m is of means) ready.longint);
+    }
 
-  seen_named : (a : Tables) (y : Symbol) → ((of : Option TypeId) → y.means ≡ means.Type of → IsNamed c of) → MayName (env.if_seen (reached c a) y)
-  seen_named a y named x of h is = by (y.at.home == c.number || is_some y.mark) h
-    where
-      by : (b : Bool) → (if b then Found y else NotExported) ≡ Found x → IsNamed c of
-      by true h = named of (ap (λ z. z.means) (found_same y x h) ∙ is)
-      by false h = absurd (not_seen h)
+    lookup_named : (n : Name) → MayName (env.lookup (reached c a) n)
+    lookup_named n = lookup_is (reached c a) IsOwn Names all_named (refl, tt) n
 
-  -- of what is predeclared LONGINT alone is a type
-  abbrev IsLongInt : Option Meaning → Type 0
-  IsLongInt None = Unit {0}
-  IsLongInt (Some m) = (of : Option TypeId) → m ≡ means.Type of → of ≡ Some env.longint
-
-  either : (b : Bool) (m : Meaning) (o : Option Meaning) → IsLongInt (Some m) → IsLongInt o → IsLongInt (if b then Some m else o)
-  either true m o a c = a
-  either false m o a c = c
-
-  predeclared_is : (w : List ℕ) → IsLongInt (env.predeclared_meaning w)
-  predeclared_is w =
-      either (bytes_eq (codes "LONGINT") w) (means.Type (Some env.longint)) _ type_only
-      (either (bytes_eq (codes "NEW") w) means.New _ new_only (either (is_among predeclared w) means.Other None other_only tt))
-    where
-      type_only : (of : Option TypeId) → means.Type (Some env.longint) ≡ means.Type of → of ≡ Some env.longint
-      type_only of e = cc
-      new_only : (of : Option TypeId) → means.New ≡ means.Type of → of ≡ Some env.longint
-      new_only of e = cc
-      other_only : (of : Option TypeId) → means.Other ≡ means.Type of → of ≡ Some env.longint
-      other_only of e = cc
-
-  lookup_named : (a : Tables) (n : Name) → MayName (env.lookup (reached c a) n)
-  lookup_named a n x of h is = by_scope (env.in_scope (reached c a) (env.own c.number) (word c.text n)) refl h
-    where
-      by_meaning : (m : Option Meaning) → IsLongInt m → env.predeclared_symbol (reached c a) m ≡ Found x → IsNamed c of
-      by_meaning None long h = absurd (not_found h)
-      by_meaning (Some m) long h =
-          inl (subst (IsKnown c.types c.broken) (sym (long of (ap (λ z. z.means) (found_same (record { at = env.own c.number; mark = None; means = m }) x h) ∙ is))) ready.longint)
-      by_scope : (y : Option Symbol) → env.in_scope (reached c a) (env.own c.number) (word c.text n) ≡ y →
-          env.looked_up (reached c a) (word c.text n) (option_or y None) ≡ Found x → IsNamed c of
-      by_scope None at h = by_meaning (env.predeclared_meaning (word c.text n)) (predeclared_is (word c.text n)) h
-      by_scope (Some y) at h = seen_named a y (λ of is. in_scope_named a c.number (word c.text n) y of at is) x of h is
-
-  member_named : (a : Tables) (m : ℕ) (n : Name) → MayName (env.member (reached c a) m n)
-  member_named a m n x of h is = by_scope (env.in_scope (reached c a) (env.own m) (word c.text n)) refl h
-    where
-      by_import : (y : Symbol) → ((of : Option TypeId) → y.means ≡ means.Type of → IsNamed c of) → (b : Bool) →
-          (if b then Unknown else env.if_seen (reached c a) y) ≡ Found x → IsNamed c of
-      by_import y named true h = absurd (not_found h)
-      by_import y named false h = seen_named a y named x of h is
-      by_scope : (y : Option Symbol) → env.in_scope (reached c a) (env.own m) (word c.text n) ≡ y → env.if_declared (reached c a) y ≡ Found x → IsNamed c of
-      by_scope None at h = absurd (not_found h)
-      by_scope (Some y) at h = by_import y (λ of is. in_scope_named a m (word c.text n) y of at is) (env.is_import y.means) h
+    member_named : (m : ℕ) (n : Name) → MayName (env.member (reached c a) m n)
+    member_named m n = member_is (reached c a) IsOwn Names all_named m refl n
 
   -- The types of variables.
 
@@ -239,7 +185,7 @@ module _ (c : Start) (ready : IsReady c) where
   type_found_sound : (l : Lookup) → MayName l → (at : Pos) → Holds (IsNamed c) (judge.type_found l at)
   type_found_sound Unknown named at = broken (IsNamed c) _ [] _
   type_found_sound NotExported named at = broken (IsNamed c) _ [] _
-  type_found_sound (Found x) named at = type_meant_sound x.means (λ of is. named x of refl is) at
+  type_found_sound (Found x) named at = type_meant_sound x.means (λ of is. named x refl of is) at
 
   in_module_sound : (a : Tables) (m : Meaning) (at : Pos) (n : Name) → Holds (IsNamed c) (judge.type_in_module (reached c a) m at n)
   in_module_sound a (means.Module m) at n = type_found_sound (env.member (reached c a) m n) (member_named a m n) n.pos
@@ -341,7 +287,7 @@ module _ (c : Start) (ready : IsReady c) where
         fit = fit;
         more = omega arith;
         goes_on = λ t told. told;
-        done = ((alias, λ x t is slot. absurd (no_symbol (sym none ∙ ap (λ y. slot_meant y.means) (same x is) ∙ slot))), tt);
+        done = ((alias, λ x t is slot. absurd (no_type (sym none ∙ ap (λ y. slot_meant y.means) (same x is) ∙ slot))), tt);
       }
       by (Some t) some alias =
           let range = listed.2 t some in
@@ -373,7 +319,7 @@ module _ (c : Start) (ready : IsReady c) where
     fit = two.fit;
     more = omega (arith, one.more, two.more, length-append vs ws);
     goes_on = λ t told. two.goes_on t (one.goes_on t told);
-    done = joined (IsDone c two.behind) ds es (mapped (IsDone c one.behind) (IsDone c two.behind) (done_on one.behind two.behind two.goes_on) ds one.done) two.done;
+    done = joined (IsDone c two.behind) ds es (implied (IsDone c one.behind) (IsDone c two.behind) (done_on one.behind two.behind two.goes_on) ds one.done) two.done;
   }
 
   walked : {X : Type 0} (step : Env → X → Judged Env) (vs : X → List Def) (ds : X → List TypeDef) →

@@ -40,6 +40,8 @@ use Rattle.aos_symbols.specs.Spelling.{word, is_among, predeclared}
 use Rattle.aos_symbols.specs.Scope.{Scope, find}
 use Rattle.aos_symbols.specs.Env as env
 use Rattle.aos_symbols.proofs.Holds.{Holds, holds_bind, holds_walk, broken, test_is}
+use Rattle.aos_symbols.proofs.Each.{Each}
+use Rattle.aos_symbols.proofs.Lookups.{IsPredeclared, a_type, a_procedure, another, IsOfAll, lookup_is, member_is}
 use Rattle.aos_symbols.proofs.Told.{IsTold, IsKnown, number, object}
 use Rattle.aos_check_expr.specs.Designators as desig
 use Rattle.aos_check_expr.specs.Designators.{Spot, is_longint, is_object, object_number, type_of, selector_breaches}
@@ -60,38 +62,27 @@ pub record IsWhole (p : Program) (e : Env) : Type 0 where
 not_both : false ≡ true → ⊥
 not_both e = cc
 
-no_symbol : {A : Type 0} {x : A} → None ≡ Some x → ⊥
-no_symbol e = cc
-
 -- what is predeclared is no variable
-abbrev IsNone : Option Meaning → Type 0
-IsNone None = Unit {0}
-IsNone (Some m) = (k : ℕ) → m ≡ means.Variable k → ⊥
-
-either : (b : Bool) (m : Meaning) (o : Option Meaning) → IsNone (Some m) → IsNone o → IsNone (if b then Some m else o)
-either true m o a c = a
-either false m o a c = c
-
-none_predeclared : (w : List ℕ) → IsNone (env.predeclared_meaning w)
-none_predeclared w =
-    either (bytes_eq (codes "LONGINT") w) (means.Type (Some env.longint)) _ type_only
-    (either (bytes_eq (codes "NEW") w) means.New _ new_only (either (is_among predeclared w) means.Other None other_only tt))
+no_variable : (m : Meaning) → IsPredeclared m → (k : ℕ) → m ≡ means.Variable k → ⊥
+no_variable m a_type k e = type_only k e
   where
     type_only : (k : ℕ) → means.Type (Some env.longint) ≡ means.Variable k → ⊥
     type_only k e = cc
+no_variable m a_procedure k e = new_only k e
+  where
     new_only : (k : ℕ) → means.New ≡ means.Variable k → ⊥
     new_only k e = cc
+no_variable m another k e = other_only k e
+  where
     other_only : (k : ℕ) → means.Other ≡ means.Variable k → ⊥
     other_only k e = cc
 
-found_same : (a b : Symbol) → Found a ≡ Found b → a ≡ b
-found_same a b e = cc
+abbrev AnyScope : Open → Type 0
+AnyScope o = Unit {0}
 
-not_found : {x : Symbol} → Unknown ≡ Found x → ⊥
-not_found e = cc
-
-not_seen : {x : Symbol} → NotExported ≡ Found x → ⊥
-not_seen e = cc
+any_scope : (os : List Open) → Each AnyScope os
+any_scope [] = tt
+any_scope (o ∷ os) = (tt, any_scope os)
 
 module _ (p : Program) (e : Env) (whole : IsWhole p e) where
   abbrev IsSound : Spot → Type 0
@@ -105,53 +96,17 @@ module _ (p : Program) (e : Env) (whole : IsWhole p e) where
   abbrev MayFind : Lookup → Type 0
   MayFind l = (x : Symbol) → l ≡ Found x → IsVariable x
 
-  abbrev MayBe : Option Symbol → Type 0
-  MayBe o = (x : Symbol) → o ≡ Some x → IsVariable x
-
-  in_scope_sound : (o : Open) (w : List ℕ) → MayBe (env.in_scope e o w)
-  in_scope_sound o w x h = by_scope (env.scope e o) refl h
-    where
-      by_entry : (s : Scope) → env.scope e o ≡ Some s → (y : Option Entry) → find s w ≡ y → option_map (env.declared_at o) y ≡ Some x → IsVariable x
-      by_entry s there None is h = absurd (no_symbol h)
-      by_entry s there (Some y) is h = subst IsVariable (same_Some (env.declared_at o y) x h) (λ k means at. whole.variables o s w y k at there is means)
-      by_scope : (s : Option Scope) → env.scope e o ≡ s → option_map (env.declared_at o) (option_and_then (λ s. find s w) s) ≡ Some x → IsVariable x
-      by_scope None there h = absurd (no_symbol h)
-      by_scope (Some s) there h = by_entry s there (find s w) refl h
-
-  in_path_sound : (os : List Open) (w : List ℕ) → MayBe (env.in_path e os w)
-  in_path_sound [] w x h = absurd (no_symbol h)
-  in_path_sound (o ∷ os) w x h = by (env.in_scope e o w) refl (in_path_sound os w x) h
-    where
-      by : (y : Option Symbol) → env.in_scope e o w ≡ y → (env.in_path e os w ≡ Some x → IsVariable x) → option_or y (env.in_path e os w) ≡ Some x → IsVariable x
-      by None is more h = more h
-      by (Some y) is more h = in_scope_sound o w x (is ∙ h)
-
-  seen_sound : (y : Symbol) → IsVariable y → MayFind (env.if_seen e y)
-  seen_sound y sound x h = by (y.at.home == e.number || is_some y.mark) h
-    where
-      by : (b : Bool) → (if b then Found y else NotExported) ≡ Found x → IsVariable x
-      by true h = subst IsVariable (found_same y x h) sound
-      by false h = absurd (not_seen h)
+  all_variables : IsOfAll e AnyScope IsVariable
+  all_variables = record {
+    entries = λ o s w x any there is k means at. whole.variables o s w x k at there is means;
+    others = λ m is k means at. absurd (no_variable m is k means);
+  }
 
   lookup_sound : (n : Name) → MayFind (env.lookup e n)
-  lookup_sound n x h = by_symbol (env.in_path e e.path (word e.here.text n)) refl h
-    where
-      by_meaning : (m : Option Meaning) → IsNone m → env.predeclared_symbol e m ≡ Found x → IsVariable x
-      by_meaning None none h = absurd (not_found h)
-      by_meaning (Some m) none h = subst IsVariable (found_same (record { at = env.own e.number; mark = None; means = m }) x h) (λ k is at. absurd (none k is))
-      by_symbol : (y : Option Symbol) → env.in_path e e.path (word e.here.text n) ≡ y → env.looked_up e (word e.here.text n) y ≡ Found x → IsVariable x
-      by_symbol None is h = by_meaning (env.predeclared_meaning (word e.here.text n)) (none_predeclared (word e.here.text n)) h
-      by_symbol (Some y) is h = seen_sound y (in_path_sound e.path (word e.here.text n) y is) x h
+  lookup_sound n = lookup_is e AnyScope IsVariable all_variables (any_scope e.path) n
 
   member_sound : (m : ℕ) (n : Name) → MayFind (env.member e m n)
-  member_sound m n x h = by_symbol (env.in_scope e (env.own m) (word e.here.text n)) refl h
-    where
-      by_import : (y : Symbol) → IsVariable y → (b : Bool) → (if b then Unknown else env.if_seen e y) ≡ Found x → IsVariable x
-      by_import y sound true h = absurd (not_found h)
-      by_import y sound false h = seen_sound y sound x h
-      by_symbol : (y : Option Symbol) → env.in_scope e (env.own m) (word e.here.text n) ≡ y → env.if_declared e y ≡ Found x → IsVariable x
-      by_symbol None is h = absurd (not_found h)
-      by_symbol (Some y) is h = by_import y (in_scope_sound (env.own m) (word e.here.text n) y is) (env.is_import y.means) h
+  member_sound m n = member_is e AnyScope IsVariable all_variables m tt n
 
   -- Designators.
 

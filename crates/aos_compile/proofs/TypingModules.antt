@@ -25,13 +25,13 @@ use Rattle.aos_symbols.specs.Home.{Home}
 use Rattle.aos_symbols.specs.Names.{name_breaches}
 use Rattle.aos_symbols.specs.Entries.{is_alias, own_types, own_scope, inner_scope}
 use Rattle.aos_symbols.specs.Env as env
-use Rattle.aos_symbols.proofs.Each.{Each, joined}
+use Rattle.aos_symbols.proofs.Each.{Each, joined, implied, each_at}
 use Rattle.aos_symbols.proofs.Holds.{Holds, holds_bind, holds_walk, passed_went, then_went, same_went}
 use Rattle.aos_symbols.proofs.Told.{IsTold, IsKnown, GoOn, number, known_on, get_front, get_end, told_behind}
 use Rattle.aos_check_expr.specs.Designators.{type_of}
 use Rattle.aos_check_expr.proofs.Typing.{IsTyped, IsWhole}
 use Rattle.aos_check_decl.specs.Headings.{headings}
-use Rattle.aos_check_decl.proofs.Typing.{Start, Tables, scope_with, reached, begun, IsReady, IsNamed, IsFit, IsBehind, IsDone, mapped, headings_sound}
+use Rattle.aos_check_decl.proofs.Typing.{Start, Tables, scope_with, reached, begun, IsReady, IsNamed, IsFit, IsBehind, IsDone, headings_sound}
 use Rattle.aos_check_stat.specs.Bodies.{listed, body_of}
 use Rattle.aos_check_stat.proofs.Typing.{body_sound}
 use Rattle.aos_compile.specs.Modules.{World, no_modules, program_of, spelling, entered, within, object_body, object_in, Bodies, bodies, variable_of, module_of, extended, elaborated}
@@ -100,16 +100,11 @@ homes_on ts bs us cs on (g ∷ hs) (x ∷ ms) are =
       is = are.0.is;
       names = λ w x of found means. known_on ts bs us cs on of (are.0.names w x of found means);
       numbers = are.0.numbers;
-      known = mapped (IsKnown ts bs) (IsKnown us cs) (known_on ts bs us cs on) are.0.scope.variables are.0.known;
+      known = implied (IsKnown ts bs) (IsKnown us cs) (known_on ts bs us cs on) are.0.scope.variables are.0.known;
       typed = are.0.typed;
     }, homes_on ts bs us cs on hs ms are.1)
 
 -- The environment of bodies.
-
-each_at : {X : Type 0} (P : X → Type 0) (xs : List X) (k : ℕ) (x : X) → Each P xs → slice_get xs k ≡ Some x → P x
-each_at P [] k x all e = absurd (none-some x e)
-each_at P (y ∷ ys) zero x all e = subst P (same_Some y x e) all.0
-each_at P (y ∷ ys) (suc k) x all e = each_at P ys k x all.1 e
 
 some_at : {X : Type 0} (xs : List X) (k : ℕ) → k < length xs → (x : X) × (slice_get xs k ≡ Some x)
 some_at [] k h = absurd (omega arith)
@@ -153,7 +148,7 @@ whole p e hs are at count = record {
 module _ (p : Program) (e : Env) (is_whole : IsWhole p e) where
   inside : (k : ℕ) → IsWhole p (within e k)
   inside k = record {
-    variables = λ o s w x n zero there found means. let is = is_whole.variables o s w x n zero there found means in record { typed = is.typed; known = is.known };
+    variables = λ o s w x n own there found means. let is = is_whole.variables o s w x n own there found means in record { typed = is.typed; known = is.known };
     objects = is_whole.objects;
   }
 
@@ -270,7 +265,7 @@ module _ (w : World) (sound : IsWorld w) (text : List ℕ) (m : Tree) where
       is = refl;
       names = known_names;
       numbers = λ v x k found means. subst (λ n. k < n) (sym count_variables) (variables_are text w.before (length w.types) m v x k found means);
-      known = mapped (IsNamed start) (IsKnown tables.types tables.broken) known_type tables.variables is.fit.named;
+      known = implied (IsNamed start) (IsKnown tables.types tables.broken) known_type tables.variables is.fit.named;
       typed = types_beside text (single_variables m.decls) tables.variables count_variables;
     }
 
@@ -295,7 +290,7 @@ module _ (w : World) (sound : IsWorld w) (text : List ℕ) (m : Tree) where
 
       count_objects : length tables.types ≡ 9 + length world.objects
       count_objects =
-          omega (arith, is.fit.types, size, sound.count, own_count (type_defs m.decls) (mapped (λ d. IsDone start tables d) (λ d. is_alias d.value ≡ false) (λ d done. done.0) (type_defs m.decls) is.done),
+          omega (arith, is.fit.types, size, sound.count, own_count (type_defs m.decls) (implied (λ d. IsDone start tables d) (λ d. is_alias d.value ≡ false) (λ d done. done.0) (type_defs m.decls) is.done),
           count, length-append w.objects b.objects)
 
       bodies_whole : IsWhole (program_of world) last
@@ -315,16 +310,16 @@ module _ (w : World) (sound : IsWorld w) (text : List ℕ) (m : Tree) where
         count = count_objects;
         bodies =
             joined (λ m. AreStatements (program_of world) m.body) w.modules (module_of last m b.own ∷ [])
-            (mapped (λ m. AreStatements (program_of w) m.body) (λ m. AreStatements (program_of world) m.body) (λ m is. statements_grow (program_of w) (program_of world) grows m.body is) w.modules sound.bodies)
+            (implied (λ m. AreStatements (program_of w) m.body) (λ m. AreStatements (program_of world) m.body) (λ m is. statements_grow (program_of w) (program_of world) grows m.body is) w.modules sound.bodies)
             (are.1, tt);
         objects =
             joined (λ o. AreStatements (program_of world) o.body) w.objects b.objects
-            (mapped (λ o. AreStatements (program_of w) o.body) (λ o. AreStatements (program_of world) o.body) (λ o is. statements_grow (program_of w) (program_of world) grows o.body is) w.objects sound.objects)
+            (implied (λ o. AreStatements (program_of w) o.body) (λ o. AreStatements (program_of world) o.body) (λ o is. statements_grow (program_of w) (program_of world) grows o.body is) w.objects sound.objects)
             are.0.0;
         places =
             joined (λ o. o.home < length world.modules) w.objects b.objects
-            (mapped (λ o. o.home < length w.modules) (λ o. o.home < length world.modules) (λ o is. before o.home is) w.objects sound.places)
-            (mapped (λ o. o.home ≡ length w.before) (λ o. o.home < length world.modules) (λ o is. here o.home is) b.objects are.0.1);
+            (implied (λ o. o.home < length w.modules) (λ o. o.home < length world.modules) (λ o is. before o.home is) w.objects sound.places)
+            (implied (λ o. o.home ≡ length w.before) (λ o. o.home < length world.modules) (λ o is. here o.home is) b.objects are.0.1);
       }
         where
           before : (k : ℕ) → k < length w.modules → k < length world.modules

@@ -18,18 +18,10 @@ use Rattle.aos_symbols.specs.Declarations.{constant_defs, type_defs, single_vari
 use Rattle.aos_symbols.specs.Scope.{Named, Scope, empty, find, has, with_name, with_names}
 use Rattle.aos_symbols.specs.Home.{Home}
 use Rattle.aos_symbols.specs.Entries.{is_alias, own_types, slot, after, among, module_named, meant, entry, numbered, type_entries, import_entry, other_entries, own_scope}
-use Rattle.aos_symbols.proofs.Each.{Each, joined}
+use Rattle.aos_symbols.proofs.Each.{Each, joined, front, back}
 use Rattle.aos_symbols.proofs.Found.{found_is, each_found, some_found}
 use Rattle.aos_symbols.proofs.Told.{IsTold, IsKnown}
 use Rattle.aos_check_decl.specs.Headings.{slot_meant}
-
-front : {X : Type 0} (P : X → Type 0) (xs ys : List X) → Each P (xs ++ ys) → Each P xs
-front P [] ys all = tt
-front P (x ∷ xs) ys all = (all.0, front P xs ys all.1)
-
-back : {X : Type 0} (P : X → Type 0) (xs ys : List X) → Each P (xs ++ ys) → Each P ys
-back P [] ys all = all
-back P (x ∷ xs) ys all = back P xs ys all.1
 
 -- no variable has its type yet
 pub no_variables : (ns : List Named) (s : Scope) → (with_names s ns).variables ≡ s.variables

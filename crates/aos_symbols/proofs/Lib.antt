@@ -9,3 +9,4 @@ pub mod Entered
 pub mod Holds
 pub mod Found
 pub mod Told
+pub mod Lookups
