@@ -1,11 +1,10 @@
 -- Headings that break no rule leave an environment in which each type that has a name is told, and each variable has a type.
-use Rattle.std.proofs.Common.{◌≡◌, ℕ, zero, suc, ◌+◌, ◌<◌, ◌≤◌, ◌==◌, ◌⊎◌, inl, inr, List, [], ◌∷◌, ◌++◌, length, Bool, true, false, ◌||◌, not, Option, Some, None, is_some, is_none, option_map, option_and_then, slice_get, slice_set, refl, sym, ap, ◌∙◌, subst, eq-eqb, arith, codes, bytes_eq, length-append, length-set, append-nil, if◌then◌else◌}
+use Rattle.std.proofs.Common.{◌≡◌, ℕ, zero, suc, ◌+◌, ◌<◌, ◌≤◌, ◌==◌, ◌⊎◌, inl, inr, List, [], ◌∷◌, ◌++◌, length, Bool, true, false, ◌||◌, Option, Some, None, is_some, option_map, option_and_then, slice_get, slice_set, refl, sym, ap, ◌∙◌, subst, eq-eqb, arith, length-append, length-set, if◌then◌else◌}
 use Rattle.std.specs.Option.{option_or}
 use Rattle.std.specs.List.{flat_map}
 use Rattle.std.proofs.lemmas.Option.{none-some, same_Some}
 use Rattle.aos_base.specs.declared.text.Pos.{Pos}
 use Rattle.aos_tree.specs.declared.name.Name.{Name}
-use Rattle.aos_tree.specs.declared.name.Qualident.{Qualident}
 use Rattle.aos_tree.specs.declared.decl.Def.{Def}
 use Rattle.aos_tree.specs.declared.decl.Decl.{Decl, items-the_row-TypeDef, items-the_row-VarDef}
 use Rattle.aos_tree.specs.declared.decl.Decl.TheVariants as decl
@@ -24,8 +23,8 @@ use Rattle.aos_symbols.specs.declared.env.Symbol.{Symbol}
 use Rattle.aos_symbols.specs.declared.env.Lookup.{Lookup}
 use Rattle.aos_symbols.specs.declared.env.Lookup.TheVariants.{Unknown, NotExported, Found}
 use Rattle.aos_symbols.specs.declared.env.Env.{Env}
-use Rattle.aos_symbols.specs.Judged.{Judged, judged, kept, bind, walk}
-use Rattle.aos_symbols.specs.Spelling.{word, is_among, predeclared}
+use Rattle.aos_symbols.specs.Judged.{Judged, kept, walk}
+use Rattle.aos_symbols.specs.Spelling.{word}
 use Rattle.aos_symbols.specs.Declarations.{types_in, type_defs, singles_in, single_variables}
 use Rattle.aos_symbols.specs.Scope.{Scope, find}
 use Rattle.aos_symbols.specs.Home.{Home}
@@ -154,6 +153,7 @@ module _ (c : Start) (ready : IsReady c) where
         by_before : (h : Option Home) → slice_get c.before o.home ≡ h → option_and_then (λ h. slice_get h.scopes 0) h ≡ Some s → IsNamed c of
         by_before None at there = absurd (none-some s there)
         by_before (Some h) at there = inl (ready.names o.home h s w x of at there is means)
+
         by_home : (b : Bool) → option_and_then (λ h. slice_get h.scopes 0) (if b then Some (reached c a).here else slice_get c.before o.home) ≡ Some s → IsNamed c of
         by_home true there = inr (w, x, ap (λ (z : Scope). find z w) (same_Some (scope_with c a) s there) ∙ is, means)
         by_home false there = by_before (slice_get c.before o.home) refl there
@@ -279,6 +279,7 @@ module _ (c : Start) (ready : IsReady c) where
     where
       same : (x : Entry) → find c.own (word c.text d.def.name) ≡ Some x → listed.0 ≡ x
       same x is = same_Some listed.0 x (sym listed.1 ∙ is)
+
       by : (s : Option TypeId) → slot_meant listed.0.means ≡ s → is_alias d.value ≡ false →
           IsBehind c a [] (d ∷ []) (judge.with_row (reached c a) s (Some (row.Object None [])))
       by None none alias = record {
@@ -299,8 +300,14 @@ module _ (c : Start) (ready : IsReady c) where
             fit = record { named = fit.named; types = length-set a.types t.0 (row.Object None []) ∙ fit.types; broken = length-set a.broken t.0 false ∙ fit.broken };
             more = omega arith;
             goes_on = told_set a.types a.broken t range.0;
-            done = ((alias, λ x u is slot. subst (λ (v : TypeId). IsTold types' broken' v) (same_Some t u (sym some ∙ ap (λ y. slot_meant y.means) (same x is) ∙ slot))
-            (newly_told a.types a.broken t range.0 (omega (arith, fit.types)) (omega (arith, fit.broken)))), tt);
+            done = (
+              (
+                alias,
+                λ x u is slot. subst (λ (v : TypeId). IsTold types' broken' v) (same_Some t u (sym some ∙ ap (λ y. slot_meant y.means) (same x is) ∙ slot))
+                    (newly_told a.types a.broken t range.0 (omega (arith, fit.types)) (omega (arith, fit.broken))),
+              ),
+              tt,
+            );
           }
 
   -- Declarations one after another.

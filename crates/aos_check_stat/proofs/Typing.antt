@@ -1,5 +1,5 @@
 -- Statements that break no rule are well typed, where the types of all variables are known.
-use Rattle.std.proofs.Common.{◌≡◌, ℕ, List, [], ◌∷◌, ◌++◌, Bool, true, false, codes, Option, Some, None, if◌then◌else◌}
+use Rattle.std.proofs.Common.{List, [], ◌∷◌, ◌++◌, Bool, true, false, codes, Option, Some, None, if◌then◌else◌}
 use Rattle.aos_base.specs.declared.text.Pos.{Pos}
 use Rattle.aos_tree.specs.declared.name.Name.{Name}
 use Rattle.aos_tree.specs.declared.expr.Expr.{Expr as TreeExpr}
@@ -9,7 +9,7 @@ use Rattle.aos_tree.specs.declared.expr.Selector.TheVariants as s
 use Rattle.aos_tree.specs.declared.stat.Block.{Block}
 use Rattle.aos_tree.specs.declared.stat.Stat.{Stat as TreeStat, Row_of-Stat, end_of-Stat, more_of-Stat}
 use Rattle.aos_tree.specs.declared.stat.Stat.TheVariants as stat
-use Rattle.aos_typed.specs.Program.{Program, Expr, Stat, Assign, While, Out, Int, Ln, Stats, Nothing, Then}
+use Rattle.aos_typed.specs.Program.{Program, Stat, Assign, While, Out, Int, Ln}
 use Rattle.aos_typed.specs.WellTyped.{IsInteger, IsBoolean, IsStatement, AreStatements}
 use Rattle.aos_symbols.specs.declared.scope.Meaning.{Meaning}
 use Rattle.aos_symbols.specs.declared.scope.Meaning.TheVariants as means
@@ -22,7 +22,7 @@ use Rattle.aos_symbols.specs.Env as env
 use Rattle.aos_symbols.proofs.Holds.{Holds, holds_bind, holds_walk}
 use Rattle.aos_check_expr.specs.Designators.{Spot, assigned, selector_breaches}
 use Rattle.aos_check_expr.specs.Expressions.{value, condition, places, object}
-use Rattle.aos_check_expr.proofs.Typing.{IsWhole, IsNumber, IsMade, MayBeMade, assigned_sound, value_sound, condition_sound, places_sound, made_sound}
+use Rattle.aos_check_expr.proofs.Typing.{IsWhole, IsNumber, MayBeMade, assigned_sound, value_sound, condition_sound, places_sound, made_sound}
 use Rattle.aos_check_stat.specs.Bodies as judge
 use Rattle.aos_check_stat.specs.Bodies.{listed, put, made, modifier_breaches, with_no_more}
 

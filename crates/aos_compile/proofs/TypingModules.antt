@@ -1,21 +1,20 @@
 -- One module more: where those before it are well typed and it breaks no rule, all are well typed.
-use Rattle.std.proofs.Common.{◌≡◌, ℕ, zero, suc, ◌+◌, ◌<◌, ◌≤◌, ◌==◌, ◌⊎◌, ⊎_elim, List, [], ◌∷◌, ◌++◌, length, map, replicate, Bool, true, false, Option, Some, None, option_map, option_and_then, slice_get, zip, refl, sym, ap, ◌∙◌, inl, inr, subst, arith, zero-add, eqb-true, length-append, if◌then◌else◌}
-use Rattle.std.proofs.lemmas.List.{length-replicate, length-map}
-use Rattle.std.proofs.lemmas.Option.{none-some, same_Some, slice_get-map, slice_get_within, slice_get_past}
+use Rattle.std.proofs.Common.{◌≡◌, ℕ, zero, suc, ◌+◌, ◌<◌, ◌==◌, List, [], ◌∷◌, ◌++◌, length, map, replicate, Bool, true, false, Option, Some, None, option_map, option_and_then, slice_get, zip, refl, sym, ap, ◌∙◌, inl, inr, subst, arith, zero-add, eqb-true, length-append, if◌then◌else◌}
+use Rattle.std.proofs.lemmas.List.{length-replicate}
+use Rattle.std.proofs.lemmas.Option.{none-some, same_Some, slice_get-map}
 use Rattle.aos_tree.specs.declared.decl.Def.{Def}
 use Rattle.aos_tree.specs.declared.decl.TypeDef.{TypeDef}
 use Rattle.aos_tree.specs.declared.module.Module.{Module as Tree}
 use Rattle.aos_types.specs.declared.row.TypeId.{TypeId}
 use Rattle.aos_types.specs.declared.row.TypeRow.{TypeRow}
 use Rattle.aos_types.specs.declared.row.TypeRow.TheVariants as row
-use Rattle.aos_typed.specs.declared.tree.TType.{TType}
 use Rattle.aos_typed.specs.Program.{ModuleVar, Stat, ObjectType, Module, Program}
-use Rattle.aos_typed.specs.WellTyped.{place_type, AreStatements}
+use Rattle.aos_typed.specs.WellTyped.{AreStatements}
 use Rattle.aos_symbols.specs.declared.scope.Entry.{Entry}
 use Rattle.aos_symbols.specs.declared.scope.Meaning.TheVariants as means
 use Rattle.aos_symbols.specs.declared.env.Open.{Open}
 use Rattle.aos_symbols.specs.declared.env.Env.{Env}
-use Rattle.aos_symbols.specs.Judged.{Judged, judged, kept, bind, walk}
+use Rattle.aos_symbols.specs.Judged.{judged, kept, bind, walk}
 use Rattle.aos_symbols.specs.Outcome.{Outcome, went, passed}
 use Rattle.aos_symbols.specs.Outcome as outcome
 use Rattle.aos_symbols.specs.Spelling.{word}
@@ -94,15 +93,17 @@ homes_on : (ts : List TypeRow) (bs : List Bool) (us : List TypeRow) (cs : List B
 homes_on ts bs us cs on [] [] are = tt
 homes_on ts bs us cs on [] (x ∷ ms) are = absurd are
 homes_on ts bs us cs on (g ∷ hs) [] are = absurd are
-homes_on ts bs us cs on (g ∷ hs) (x ∷ ms) are =
-    (record {
-      scope = are.0.scope;
-      is = are.0.is;
-      names = λ w x of found means. known_on ts bs us cs on of (are.0.names w x of found means);
-      numbers = are.0.numbers;
-      known = implied (IsKnown ts bs) (IsKnown us cs) (known_on ts bs us cs on) are.0.scope.variables are.0.known;
-      typed = are.0.typed;
-    }, homes_on ts bs us cs on hs ms are.1)
+homes_on ts bs us cs on (g ∷ hs) (x ∷ ms) are = (
+  record {
+    scope = are.0.scope;
+    is = are.0.is;
+    names = λ w x of found means. known_on ts bs us cs on of (are.0.names w x of found means);
+    numbers = are.0.numbers;
+    known = implied (IsKnown ts bs) (IsKnown us cs) (known_on ts bs us cs on) are.0.scope.variables are.0.known;
+    typed = are.0.typed;
+  },
+  homes_on ts bs us cs on hs ms are.1,
+)
 
 -- The environment of bodies.
 
@@ -128,7 +129,7 @@ whole p e hs are at count = record {
         let one = home_at e.types e.broken hs p.modules are o.home h (at o.home h home) in
         let same : one.2.scope ≡ s = same_Some one.2.scope s (sym one.2.is ∙ ap (slice_get h.scopes) (sym first) ∙ here) in
         let below : k < length s.variables =
-            subst (λ (z : Scope). k < length z.variables) same (one.2.numbers w x k (ap (λ z. find z w) same ∙ found) means) in
+        subst (λ (z : Scope). k < length z.variables) same (one.2.numbers w x k (ap (λ z. find z w) same ∙ found) means) in
         let of = some_at s.variables k below in
         let is : env.variable_type e o k ≡ of.0 = ap (λ z. env.joined (option_and_then (λ s. slice_get s.variables k) z)) there ∙ ap env.joined of.1 in
         record {
@@ -290,8 +291,15 @@ module _ (w : World) (sound : IsWorld w) (text : List ℕ) (m : Tree) where
 
       count_objects : length tables.types ≡ 9 + length world.objects
       count_objects =
-          omega (arith, is.fit.types, size, sound.count, own_count (type_defs m.decls) (implied (λ d. IsDone start tables d) (λ d. is_alias d.value ≡ false) (λ d done. done.0) (type_defs m.decls) is.done),
-          count, length-append w.objects b.objects)
+          omega (
+            arith,
+            is.fit.types,
+            size,
+            sound.count,
+            own_count (type_defs m.decls) (implied (λ d. IsDone start tables d) (λ d. is_alias d.value ≡ false) (λ d done. done.0) (type_defs m.decls) is.done),
+            count,
+            length-append w.objects b.objects,
+          )
 
       bodies_whole : IsWhole (program_of world) last
       bodies_whole = whole (program_of world) last world.before homes_more at_home count_objects
@@ -324,6 +332,7 @@ module _ (w : World) (sound : IsWorld w) (text : List ℕ) (m : Tree) where
         where
           before : (k : ℕ) → k < length w.modules → k < length world.modules
           before k h = omega (arith, longer)
+
           here : (k : ℕ) → k ≡ length w.before → k < length world.modules
           here k h = omega (arith, longer, same_length w.types w.broken w.before w.modules sound.homes)
 
@@ -336,7 +345,7 @@ module _ (w : World) (sound : IsWorld w) (text : List ℕ) (m : Tree) where
   pub module_sound : (file : ℕ) (v : World) → elaborated w file text m ≡ went v → IsWorld v
   module_sound file v is =
       let one = then_went (passed file (judged (name_breaches text m) (tt {0})))
-          (λ names. outcome.then (passed file (headings (entered w text m) m.decls)) (λ e. outcome.then (passed file (bodies e m)) (λ b. went (extended w e m b)))) v is in
+      (λ names. outcome.then (passed file (headings (entered w text m) m.decls)) (λ e. outcome.then (passed file (bodies e m)) (λ b. went (extended w e m b)))) v is in
       let two = then_went (passed file (headings (entered w text m) m.decls)) (λ e. outcome.then (passed file (bodies e m)) (λ b. went (extended w e m b))) v one.2 in
       let e = two.0 in
       let three = then_went (passed file (bodies e m)) (λ b. went (extended w e m b)) v two.2 in

@@ -1,6 +1,5 @@
 -- A program with more modules and more objects: what is well typed stays so.
-use Rattle.std.proofs.Common.{◌≡◌, ℕ, ◌<◌, ◌≤◌, List, [], ◌∷◌, ◌++◌, length, Option, Some, None, option_map, option_and_then, slice_get, refl, ap, ◌∙◌, sym, length-append, arith}
-use Rattle.std.proofs.lemmas.Option.{none-some}
+use Rattle.std.proofs.Common.{◌≡◌, ℕ, ◌<◌, ◌≤◌, List, ◌++◌, length, Option, Some, None, option_map, option_and_then, slice_get, refl, ap, ◌∙◌, length-append, arith}
 use Rattle.aos_typed.specs.declared.tree.Literal.TheVariants as literal
 use Rattle.aos_typed.specs.declared.tree.TType.{TType}
 use Rattle.aos_typed.specs.Program.{Place, ModuleVar, Expr, Lit, Read, Binary, Compare, Call, Int, Ln, Stat, Assign, While, New, Out, Stats, Nothing, Then, Module, ObjectType, Program}

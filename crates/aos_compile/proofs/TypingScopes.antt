@@ -1,8 +1,7 @@
 -- A module's own scope: each of its types has its number, and each variable.
-use Rattle.std.proofs.Common.{◌≡◌, ℕ, zero, suc, ◌+◌, ◌<◌, ◌≤◌, List, [], ◌∷◌, ◌++◌, length, map, Bool, true, false, Option, Some, None, replicate, refl, sym, ap, ◌∙◌, subst, arith, codes, bytes_eq, unwrap_or, if◌then◌else◌}
-use Rattle.std.proofs.lemmas.Option.{none-some, same_Some}
+use Rattle.std.proofs.Common.{◌≡◌, ℕ, suc, ◌+◌, ◌<◌, ◌≤◌, List, [], ◌∷◌, ◌++◌, length, map, Bool, true, false, Option, Some, None, refl, sym, ap, ◌∙◌, subst, arith, codes, bytes_eq, unwrap_or, if◌then◌else◌}
+use Rattle.std.proofs.lemmas.Option.{same_Some}
 use Rattle.aos_tree.specs.declared.decl.Def.{Def}
-use Rattle.aos_tree.specs.declared.decl.Decl.{Decl}
 use Rattle.aos_tree.specs.declared.decl.TypeDef.{TypeDef}
 use Rattle.aos_tree.specs.declared.module.Import.{Import}
 use Rattle.aos_tree.specs.declared.module.Module.{Module as Tree}
@@ -11,13 +10,12 @@ use Rattle.aos_types.specs.declared.row.TypeRow.{TypeRow}
 use Rattle.aos_symbols.specs.declared.scope.Entry.{Entry}
 use Rattle.aos_symbols.specs.declared.scope.Meaning.{Meaning}
 use Rattle.aos_symbols.specs.declared.scope.Meaning.TheVariants as means
-use Rattle.aos_symbols.specs.declared.entries.Sort.{Sort}
 use Rattle.aos_symbols.specs.declared.entries.Sort.TheVariants as sort
 use Rattle.aos_symbols.specs.Spelling.{word}
 use Rattle.aos_symbols.specs.Declarations.{constant_defs, type_defs, single_variables, procedure_defs}
 use Rattle.aos_symbols.specs.Scope.{Named, Scope, empty, find, has, with_name, with_names}
 use Rattle.aos_symbols.specs.Home.{Home}
-use Rattle.aos_symbols.specs.Entries.{is_alias, own_types, slot, after, among, module_named, meant, entry, numbered, type_entries, import_entry, other_entries, own_scope}
+use Rattle.aos_symbols.specs.Entries.{is_alias, own_types, slot, after, among, module_named, entry, numbered, type_entries, import_entry, other_entries, own_scope}
 use Rattle.aos_symbols.proofs.Each.{Each, joined, front, back}
 use Rattle.aos_symbols.proofs.Found.{found_is, each_found, some_found}
 use Rattle.aos_symbols.proofs.Told.{IsTold, IsKnown}
@@ -41,6 +39,7 @@ other_constant k = (type_no, variable_no)
   where
     type_no : (of : Option TypeId) → means.Constant k ≡ means.Type of → ⊥
     type_no of e = cc
+
     variable_no : (n : ℕ) → means.Constant k ≡ means.Variable n → ⊥
     variable_no n e = cc
 
@@ -49,6 +48,7 @@ other_procedure k = (type_no, variable_no)
   where
     type_no : (of : Option TypeId) → means.Procedure k ≡ means.Type of → ⊥
     type_no of e = cc
+
     variable_no : (n : ℕ) → means.Procedure k ≡ means.Variable n → ⊥
     variable_no n e = cc
 
@@ -57,6 +57,7 @@ other_module k = (type_no, variable_no)
   where
     type_no : (of : Option TypeId) → means.Module k ≡ means.Type of → ⊥
     type_no of e = cc
+
     variable_no : (n : ℕ) → means.Module k ≡ means.Variable n → ⊥
     variable_no n e = cc
 
@@ -65,6 +66,7 @@ other_out = (type_no, variable_no)
   where
     type_no : (of : Option TypeId) → means.Out ≡ means.Type of → ⊥
     type_no of e = cc
+
     variable_no : (n : ℕ) → means.Out ≡ means.Variable n → ⊥
     variable_no n e = cc
 
@@ -73,6 +75,7 @@ other_other = (type_no, variable_no)
   where
     type_no : (of : Option TypeId) → means.Other ≡ means.Type of → ⊥
     type_no of e = cc
+
     variable_no : (n : ℕ) → means.Other ≡ means.Variable n → ⊥
     variable_no n e = cc
 
@@ -116,9 +119,11 @@ module _ (text : List ℕ) where
       imported : (is : List Import) → Each P (map (import_entry text hs) is)
       imported [] = tt
       imported (i ∷ is) = (other (import_entry text hs i) (named_other hs (word text (unwrap_or i.of i.name))), imported is)
+
       constants_are : (k : ℕ) (ds : List Def) → Each P (numbered text sort.Constant k ds)
       constants_are k [] = tt
       constants_are k (d ∷ ds) = (other (entry text d (means.Constant k)) (other_constant k), constants_are (suc k) ds)
+
       procedures_are : (k : ℕ) (ds : List Def) → Each P (numbered text sort.Procedure k ds)
       procedures_are k [] = tt
       procedures_are k (d ∷ ds) = (other (entry text d (means.Procedure k)) (other_procedure k), procedures_are (suc k) ds)
@@ -149,6 +154,7 @@ module _ (text : List ℕ) where
     where
       within : (t : TypeId) → next ≡ t.0 → next + suc (own_types ds) ≤ to → (from ≤ t.0) × (t.0 < to)
       within t is b = (omega arith, omega arith)
+
       by : (w : Bool) → next + (if w then own_types ds else suc (own_types ds)) ≤ to →
           ((next : ℕ) → from ≤ next → next + own_types ds ≤ to → Each (IsWithin from to) (type_entries text next ds)) →
           IsWithin from to (entry text d.def (means.Type (if w then None else Some (record { 0 = next }))))
@@ -193,11 +199,13 @@ module _ (text : List ℕ) where
       where
         all : Each (IsWithin from to) names
         all = all_entries (IsWithin from to) hs next m (other_within from to) (types_within from to next (type_defs m.decls) a b) (variables_within from to 0 (single_variables m.decls))
+
         there : Each (λ n. has own n.0 ≡ true) (type_entries text next (type_defs m.decls))
         there =
             let is = map (import_entry text hs) m.imports in
             let ts = type_entries text next (type_defs m.decls) in
             back (λ n. has own n.0 ≡ true) is ts (front (λ n. has own n.0 ≡ true) (is ++ ts) (other_entries text m.decls) (each_found names empty))
+
         listed : (next : ℕ) (ds : List TypeDef) → Each (λ n. has own n.0 ≡ true) (type_entries text next ds) → Each (IsOwn from to) ds
         listed next [] there = tt
         listed next (d ∷ ds) there =
@@ -226,8 +234,10 @@ module _ (text : List ℕ) where
         where
           u : TypeId
           u = record { 0 = next }
+
           number : slot next d ≡ Some u
           number = ap (λ b. if b then None else Some (record { 0 = next })) all.0.0
+
           right : find own (word text d.def.name) ≡ Some (entry text d.def (means.Type (slot next d))).1 → (of : Option TypeId) → slot next d ≡ of → IsKnown types broken of
           right found of is = subst (IsKnown types broken) (sym number ∙ is) (all.0.1 (entry text d.def (means.Type (slot next d))).1 u found number)
 

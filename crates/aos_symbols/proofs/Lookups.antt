@@ -8,7 +8,6 @@ use Rattle.aos_symbols.specs.declared.scope.Meaning.{Meaning}
 use Rattle.aos_symbols.specs.declared.scope.Meaning.TheVariants as means
 use Rattle.aos_symbols.specs.declared.env.Open.{Open}
 use Rattle.aos_symbols.specs.declared.env.Symbol.{Symbol}
-use Rattle.aos_symbols.specs.declared.env.Lookup.{Lookup}
 use Rattle.aos_symbols.specs.declared.env.Lookup.TheVariants.{Unknown, NotExported, Found}
 use Rattle.aos_symbols.specs.declared.env.Env.{Env}
 use Rattle.aos_symbols.specs.Spelling.{word, is_among, predeclared as predeclared_names}
@@ -56,6 +55,7 @@ module _ (e : Env) (Searched : Open → Type 0) (P : Symbol → Type 0) (all : I
       by_entry : (s : Scope) → scope e o ≡ Some s → (y : Option Entry) → find s w ≡ y → option_map (declared_at o) y ≡ Some x → P x
       by_entry s there None is h = absurd (none-some x h)
       by_entry s there (Some y) is h = subst P (same_Some (declared_at o y) x h) (all.entries o s w y searched there is)
+
       by_scope : (s : Option Scope) → scope e o ≡ s → option_map (declared_at o) (option_and_then (λ s. find s w) s) ≡ Some x → P x
       by_scope None there h = absurd (none-some x h)
       by_scope (Some s) there h = by_entry s there (find s w) refl h
@@ -82,6 +82,7 @@ module _ (e : Env) (Searched : Open → Type 0) (P : Symbol → Type 0) (all : I
       by_meaning : (m : Option Meaning) → MayBePredeclared m → predeclared_symbol e m ≡ Found x → P x
       by_meaning None is h = absurd (not_found h)
       by_meaning (Some m) is h = subst P (found_same (record { at = own e.number; mark = None; means = m }) x h) (all.others m is)
+
       by_symbol : (y : Option Symbol) → in_path e e.path (word e.here.text n) ≡ y → looked_up e (word e.here.text n) y ≡ Found x → P x
       by_symbol None is h = by_meaning (predeclared_meaning (word e.here.text n)) (all_predeclared (word e.here.text n)) h
       by_symbol (Some y) is h = seen_is y (in_path_is e.path searched (word e.here.text n) y is) x h
@@ -93,6 +94,7 @@ module _ (e : Env) (Searched : Open → Type 0) (P : Symbol → Type 0) (all : I
       by_import : (y : Symbol) → P y → (b : Bool) → (if b then Unknown else if_seen e y) ≡ Found x → P x
       by_import y is true h = absurd (not_found h)
       by_import y is false h = seen_is y is x h
+
       by_symbol : (y : Option Symbol) → in_scope e (own m) (word e.here.text n) ≡ y → if_declared e y ≡ Found x → P x
       by_symbol None is h = absurd (not_found h)
       by_symbol (Some y) is h = by_import y (in_scope_is (own m) searched (word e.here.text n) y is) (is_import y.means) h
