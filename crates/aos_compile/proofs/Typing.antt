@@ -1,11 +1,13 @@
 -- The program that texts come to is well typed.
-use Rattle.std.proofs.Common.{◌≡◌, ℕ, ◌<◌, List, [], ◌∷◌, length, Option, Some, None, slice_get, All, refl, subst}
+use Rattle.std.proofs.Common.{◌≡◌, ℕ, ◌<◌, List, [], ◌∷◌, length, Option, Some, None, slice_get, zip, All, refl, subst}
+use Rattle.aos_typed.specs.Program.{Program}
 use Rattle.aos_typed.specs.WellTyped.{AreStatements}
+use Rattle.aos_symbols.specs.Outcome as outcome
 use Rattle.aos_symbols.specs.Outcome.{went, in_turn}
 use Rattle.aos_symbols.proofs.Each.{all_of}
 use Rattle.aos_symbols.proofs.Holds.{then_went, same_went}
 use Rattle.aos_compile.specs.Modules.{World, no_modules, program_of}
-use Rattle.aos_compile.specs.Files.{Source, loaded, load_order, modules}
+use Rattle.aos_compile.specs.Files.{Reading, Source, trees_from, loaded, load_order, modules, elaborate}
 use Rattle.aos_compile.proofs.TypingModules.{IsWorld, begins, module_sound}
 
 loaded_sound : (ss : List Source) (k : ℕ) (w v : World) → IsWorld w → loaded ss w k ≡ went v → IsWorld v
@@ -34,3 +36,19 @@ typed_objects ss w h = all_of (λ o. AreStatements (program_of w) o.body) w.obje
 
 pub object_homes : (ss : List Source) (w : World) → modules ss ≡ went w → All (λ o. o.home < length (program_of w).modules) (program_of w).objects
 object_homes ss w h = all_of (λ o. o.home < length w.modules) w.objects (world_sound ss w h).places
+
+-- all that is typed of a program
+pub record TypedWell (p : Program) : Type 0 where
+  pub bodies : All (λ m. AreStatements p m.body) p.modules
+  pub objects : All (λ o. AreStatements p o.body) p.objects
+  pub homes : All (λ o. o.home < length p.modules) p.objects
+
+pub typed_well : (texts : List (List ℕ)) (rs : List Reading) (p : Program) → elaborate texts rs ≡ went p → TypedWell p
+typed_well texts rs p h =
+    let one = then_went (trees_from 0 rs) (λ ms. outcome.then (modules (zip texts ms)) (λ w. went (program_of w))) p h in
+    let two = then_went (modules (zip texts one.0)) (λ w. went (program_of w)) p one.2 in
+    subst TypedWell (same_went (program_of two.0) p two.2) (record {
+      bodies = typed_bodies (zip texts one.0) two.0 two.1;
+      objects = typed_objects (zip texts one.0) two.0 two.1;
+      homes = object_homes (zip texts one.0) two.0 two.1;
+    })
