@@ -4,3 +4,4 @@ pub mod TypingPrograms
 pub mod TypingScopes
 pub mod TypingModules
 pub mod Typing
+pub mod Idents
