@@ -5,3 +5,5 @@ pub mod TypingScopes
 pub mod TypingModules
 pub mod Typing
 pub mod Idents
+pub mod Texts
+pub mod Loaded
