@@ -7,3 +7,4 @@ pub mod Typing
 pub mod Idents
 pub mod Texts
 pub mod Loaded
+pub mod Names
