@@ -20,16 +20,17 @@ use Rattle.aos_script.specs.Listing.{IsScript, choices_of}
 use Rattle.aos_script.specs.Refusals.{IsRefused as IsRefusedScript}
 use Rattle.aos_script.proofs.Lasting.{not_both}
 use Rattle.aos_script.proofs.Sole.{one_script}
-use Rattle.aos_compile.specs.Elaborates.{Elaborates, IsAccepted, names_of}
-use Rattle.aos_compile.proofs.Accepted.{never_accepted}
+use Rattle.aos_symbols.specs.Outcome.{went, refused as refused_by}
+use Rattle.aos_compile.specs.Elaborates.{ComesTo, IsAccepted, names_of}
+use Rattle.aos_compile.proofs.OneReading.{one_outcome}
 use Rattle.aos.specs.declared.answer.Answer.{Answer}
 use Rattle.aos.specs.Call.{ShelfUse, Call, Tells, ShelfFailed, GotWhole, GotNothing, SinksWorked, IsUndisturbed}
-use Rattle.aos.specs.Words.{Command, Run, Replay, command_of, Asks, wanted_files}
+use Rattle.aos.specs.Words.{Command, Run, Replay, command_of, Asks, wanted_files, name_of}
 use Rattle.aos.specs.Fetched.{Fetched, Texts, NoFile, LongFile, Fetches}
 use Rattle.aos.specs.Report.{report, replay_report, script_line}
 use Rattle.aos.specs.Seen.{Seen, default_budget, seen_of, replay_of}
 use Rattle.aos.specs.Cause.{Runs, RunsBy, Takes, alone, by_script, Cause, wrong_words, unread, absent, too_long, bad_script, refused, ran, ran_by, Answered, PutInPart, out_failed, err_failed, AnsweredInPart}
-use Rattle.aos.specs.Promises.{IsRunStatus, IsReplayStatus, IsAbsentOrRefused, is_absent, is_refused, IsRunnable, IsReplayable, ShowsText, ShowsReplay, IsTooLong, IsNoScript, HasEnded, Promises}
+use Rattle.aos.specs.Promises.{IsRunStatus, IsReplayStatus, IsAbsentOrRefused, is_absent, is_refused, IsRunnable, IsReplayable, IsRefusable, ShowsTexts, ShowsReplay, ShowsRefusal, IsTooLong, IsNoScript, HasEnded, Promises}
 use Rattle.aos.specs.Shown.{Causes, IsWhole, IsStopped}
 
 -- Numbers that differ
@@ -70,6 +71,12 @@ module _ (p : Program) (budget : ℕ) (schedule : List Choice) where
       let st = execution (source p) schedule (first_state p budget) in
       status_told (outcome st.book) st.book.traps (never_dead p budget schedule)
 
+  going_status : (seen_of p budget schedule).outcome ≡ Going → (seen_of p budget schedule).status ≡ 9
+  unfolding seen_of observation
+  going_status going =
+      let st = execution (source p) schedule (first_state p budget) in
+      ap (λ o. status_of o st.book.traps) going
+
 run_status : (p : Program) (o : Observation) → Seen p o → IsRunStatus o.status
 run_status p o s =
     subst (λ (x : Observation). IsRunStatus x.status) (sym s.seen)
@@ -91,6 +98,26 @@ no_replay p s other zero three five nine e =
       | inr r ↦ differ 9 other nine (sym r.0 ∙ e)
     ]
 
+-- What texts come to is one
+
+never_accepted : (texts : List (List ℕ)) (r : Refusal) → ComesTo texts (refused_by r) → ¬ IsAccepted texts
+never_accepted texts r h ok = apart r ok.program (one_outcome texts (refused_by r) (went ok.program) h ok.comes)
+  where
+    apart : (r : Refusal) (p : Program) → refused_by r ≡ went p → ⊥
+    apart r p e = cc
+
+one_program : (texts : List (List ℕ)) (p q : Program) → ComesTo texts (went p) → ComesTo texts (went q) → p ≡ q
+one_program texts p q h k = injective p q (one_outcome texts (went p) (went q) h k)
+  where
+    injective : (p q : Program) → went p ≡ went q → p ≡ q
+    injective p q e = cc
+
+one_refusal : (texts : List (List ℕ)) (r s : Refusal) → ComesTo texts (refused_by r) → ComesTo texts (refused_by s) → r ≡ s
+one_refusal texts r s h k = injective r s (one_outcome texts (refused_by r) (refused_by s) h k)
+  where
+    injective : (r s : Refusal) → refused_by r ≡ refused_by s → r ≡ s
+    injective r s e = cc
+
 -- What the words ask for is one
 
 one_command : (words : List (List ℕ)) (c d : Command) → Asks words c → Asks words d → c ≡ d
@@ -106,11 +133,11 @@ no_command words c n h = let e : None ≡ Some c = sym n ∙ h in absurd (none_a
     none_apart c e = cc
 
 module _ (words : List (List ℕ)) (shelf : ShelfUse) where
-  run_or_replay : {A : Type 0} {file text listing file' text' : List ℕ} → Runs words shelf file text → RunsBy words shelf listing file' text' → A
-  run_or_replay {A} {file} {text} {listing} {file'} k l = absurd (apart file l.script file' (one_command words (Run file) (Replay l.script file') k.asks l.asks))
+  run_or_replay : {A : Type 0} {listing : List ℕ} {files texts files' texts' : List (List ℕ)} → Runs words shelf files texts → RunsBy words shelf listing files' texts' → A
+  run_or_replay {A} {listing} {files} {texts} {files'} k l = absurd (apart files l.script files' (one_command words (Run files) (Replay l.script files') k.asks l.asks))
     where
-      apart : (file script file' : List ℕ) → Run file ≡ Replay script file' → ⊥
-      apart file script file' e = cc
+      apart : (files : List (List ℕ)) (script : List ℕ) (files' : List (List ℕ)) → Run files ≡ Replay script files' → ⊥
+      apart files script files' e = cc
 
   -- this comes of the files that the words ask for
   record Comes (f : Fetched) : Type 0 where
@@ -118,15 +145,15 @@ module _ (words : List (List ℕ)) (shelf : ShelfUse) where
     pub asks : Asks words command
     pub comes : Fetches shelf.texts (wanted_files command) f
 
-  of_run : {file text : List ℕ} → Runs words shelf file text → Comes (Texts (text ∷ []))
-  of_run {file} k = record { command = Run file; asks = k.asks; comes = k.had.told }
+  of_run : {files texts : List (List ℕ)} → Runs words shelf files texts → Comes (Texts texts)
+  of_run {files} k = record { command = Run files; asks = k.asks; comes = k.had.told }
 
-  of_replay : {listing file text : List ℕ} → RunsBy words shelf listing file text → Comes (Texts (listing ∷ text ∷ []))
-  of_replay {listing} {file} k = record { command = Replay k.script file; asks = k.asks; comes = k.had.told }
+  of_replay : {listing : List ℕ} {files texts : List (List ℕ)} → RunsBy words shelf listing files texts → Comes (Texts (listing ∷ texts))
+  of_replay {listing} {files} k = record { command = Replay k.script files; asks = k.asks; comes = k.had.told }
 
-  of_takes : {file text : List ℕ} → Takes words shelf file text → (all : List (List ℕ)) × Comes (Texts all)
-  of_takes (alone {file} {text} k) = (text ∷ [], of_run k)
-  of_takes (by_script {listing} {file} {text} s k read) = (listing ∷ text ∷ [], of_replay k)
+  of_takes : {files texts : List (List ℕ)} → Takes words shelf files texts → (all : List (List ℕ)) × Comes (Texts all)
+  of_takes (alone {files} {texts} k) = (texts, of_run k)
+  of_takes (by_script {listing} {files} {texts} s k read) = (listing ∷ texts, of_replay k)
 
   -- Statuses, whether or not the shelf tells its texts
 
@@ -155,10 +182,10 @@ module _ (words : List (List ℕ)) (shelf : ShelfUse) where
   two_if (unread {c} h w b f) n = no_command words c n h
   two_if (absent {c} h w k) n = no_command words c n h
   two_if (too_long {c} h w k) n = no_command words c n h
-  two_if (bad_script {listing} {file} x k r) n = no_command words (Replay k.script file) n k.asks
+  two_if (bad_script {listing} {files} x k r) n = no_command words (Replay k.script files) n k.asks
   two_if (refused r k x) n = let t = of_takes k in no_command words t.1.command n t.1.asks
-  two_if (ran {file} p o k el s) n = no_command words (Run file) n k.asks
-  two_if (ran_by {listing} {file} s p k r el) n = no_command words (Replay k.script file) n k.asks
+  two_if (ran {files} p o k el s) n = no_command words (Run files) n k.asks
+  two_if (ran_by {listing} {files} s p k r el) n = no_command words (Replay k.script files) n k.asks
 
 module _ (call : Call) where
   abbrev Of : ℕ → List ℕ → List ℕ → Type 0
@@ -171,7 +198,7 @@ module _ (call : Call) where
   one_only (absent {c} {w} h v n) e = is_absent w.file h n
   one_only (too_long h w n) e = differ 6 1 refl e
   one_only (bad_script x k n) e = differ 10 1 refl e
-  one_only (refused {file} {text} r k n) e = is_refused k (never_accepted text r n)
+  one_only (refused {files} {texts} r k n) e = is_refused k (never_accepted texts r n)
   one_only (ran p o k el s) e = no_run o.status 1 (run_status p o s) refl refl refl e
   one_only (ran_by s p k r el) e = no_replay p s 1 refl refl refl refl e
 
@@ -195,10 +222,10 @@ module _ (call : Call) where
   nine_only (bad_script x k n) e = differ 10 9 refl e
   nine_only (refused r k n) e = differ 1 9 refl e
   nine_only (ran p o k el s) e = no_run o.status 9 (run_status p o s) refl refl refl e
-  nine_only (ran_by {listing} {file} {text} s p k r el) e =
+  nine_only (ran_by {listing} {files} {texts} s p k r comes) e =
       elim (replay_status p s) [
         | inl x ↦ no_run (replay_of p s).status 9 x refl refl refl e
-        | inr x ↦ record { listing = listing; file = file; text = text; script = s; program = p; runs = k; read = r; elaborates = el; going = x.1 }
+        | inr x ↦ record { listing = listing; files = files; texts = texts; script = s; program = p; runs = k; read = r; comes = comes; going = x.1 }
       ]
 
   -- 10
@@ -207,7 +234,7 @@ module _ (call : Call) where
   ten_only (unread h w b f) e = differ 6 10 refl e
   ten_only (absent h w n) e = differ 1 10 refl e
   ten_only (too_long h w n) e = differ 6 10 refl e
-  ten_only (bad_script {listing} {file} {text} x k n) e = record { listing = listing; file = file; text = text; error = x; runs = k; refused = n }
+  ten_only (bad_script {listing} {files} {texts} x k n) e = record { listing = listing; files = files; texts = texts; error = x; runs = k; refused = n }
   ten_only (refused r k n) e = differ 1 10 refl e
   ten_only (ran p o k el s) e = no_run o.status 10 (run_status p o s) refl refl refl e
   ten_only (ran_by s p k r el) e = no_replay p s 10 refl refl refl refl e
@@ -234,16 +261,31 @@ module _ (words : List (List ℕ)) (shelf : ShelfUse) (tells : Tells shelf) wher
   not_both_lacks : {A : Type 0} {file other : List ℕ} {most : ℕ} → Comes words shelf (LongFile file most) → Comes words shelf (NoFile other) → A
   not_both_lacks {A} {file} {other} {most} h k = let e : LongFile file most ≡ NoFile other = one_fate h k in absurd (cc e)
 
-  same_run : {file text file' text' : List ℕ} → Runs words shelf file text → Runs words shelf file' text' → text ≡ text'
-  same_run {file} {text} {file'} {text'} h k = let e : Texts (text ∷ []) ≡ Texts (text' ∷ []) = one_fate (of_run words shelf h) (of_run words shelf k) in cc e
+  same_run : {files texts files' texts' : List (List ℕ)} → Runs words shelf files texts → Runs words shelf files' texts' → (files ≡ files') × (texts ≡ texts')
+  same_run {files} {texts} {files'} {texts'} h k =
+      let e : Run files ≡ Run files' = one_command words (Run files) (Run files') h.asks k.asks in
+      let e' : Texts texts ≡ Texts texts' = one_fate (of_run words shelf h) (of_run words shelf k) in
+      (cc e, cc e')
 
-  same_listing : {listing file text listing' file' text' : List ℕ} → RunsBy words shelf listing file text → RunsBy words shelf listing' file' text' → listing ≡ listing'
-  same_listing {listing} {file} {text} {listing'} {file'} {text'} h k =
-      let e : Texts (listing ∷ text ∷ []) ≡ Texts (listing' ∷ text' ∷ []) = one_fate (of_replay words shelf h) (of_replay words shelf k) in cc e
+  same_replay : {listing listing' : List ℕ} {files texts files' texts' : List (List ℕ)} → RunsBy words shelf listing files texts → RunsBy words shelf listing' files' texts' → (listing ≡ listing') × (files ≡ files') × (texts ≡ texts')
+  same_replay {listing} {listing'} {files} {texts} {files'} {texts'} h k =
+      let e : Replay h.script files ≡ Replay k.script files' = one_command words (Replay h.script files) (Replay k.script files') h.asks k.asks in
+      let e' : Texts (listing ∷ texts) ≡ Texts (listing' ∷ texts') = one_fate (of_replay words shelf h) (of_replay words shelf k) in
+      (cc e', cc e, cc e')
 
-  same_text : {listing file text listing' file' text' : List ℕ} → RunsBy words shelf listing file text → RunsBy words shelf listing' file' text' → text ≡ text'
-  same_text {listing} {file} {text} {listing'} {file'} {text'} h k =
-      let e : Texts (listing ∷ text ∷ []) ≡ Texts (listing' ∷ text' ∷ []) = one_fate (of_replay words shelf h) (of_replay words shelf k) in cc e
+  same_takes : {files texts files' texts' : List (List ℕ)} → Takes words shelf files texts → Takes words shelf files' texts' → (files ≡ files') × (texts ≡ texts')
+  same_takes (alone h) (alone k) = same_run h k
+  same_takes (alone h) (by_script s k read) = run_or_replay words shelf h k
+  same_takes (by_script s h read) (alone k) = run_or_replay words shelf k h
+  same_takes (by_script s h read) (by_script s' k read') = let e = same_replay h k in (e.1, e.2)
+
+  -- a listing that is a script is never refused
+  no_bad : {A : Type 0} {files texts files' texts' : List (List ℕ)} {listing : List ℕ} (e : ScriptErr) → Takes words shelf files texts → RunsBy words shelf listing files' texts' → IsRefusedScript listing e → A
+  no_bad e (alone h) k bad = run_or_replay words shelf h k
+  no_bad {listing} e (by_script s h read) k bad = absurd (not_both listing s e (subst (λ y. IsScript y s) (same_replay h k).0 read) bad)
+
+  same_script : {listing listing' : List ℕ} {files texts files' texts' : List (List ℕ)} (s s' : Script) → RunsBy words shelf listing files texts → IsScript listing s → RunsBy words shelf listing' files' texts' → IsScript listing' s' → s' ≡ s
+  same_script {listing} s s' h read k read' = one_script listing s' s (subst (λ y. IsScript y s') (same_replay k h).0 read') read
 
   module _ (calm : ¬ ShelfFailed shelf) where
     if_absent : {status : ℕ} {out err file : List ℕ} → Cause words shelf status out err → Comes words shelf (NoFile file) → status ≡ 1
@@ -266,114 +308,118 @@ module _ (words : List (List ℕ)) (shelf : ShelfUse) (tells : Tells shelf) wher
     if_long (ran p o h el s) k = not_long k (of_run words shelf h)
     if_long (ran_by s p h r el) k = not_long k (of_replay words shelf h)
 
-    -- of the causes only these are left where all files are had
-    if_had : {status : ℕ} {out err : List ℕ} {all : List (List ℕ)} (P : ℕ → List ℕ → List ℕ → Type 0) → Cause words shelf status out err → Comes words shelf (Texts all) →
-        ((listing file text : List ℕ) (e : ScriptErr) → RunsBy words shelf listing file text → IsRefusedScript listing e → P 10 [] (script_line e))
-        → ((file text : List ℕ) (r : Refusal) → Takes words shelf file text → ¬ IsAccepted text → P 1 [] (refusal_text file r.rule r.pos))
-        → ((file text : List ℕ) (p : Program) (o : Observation) → Runs words shelf file text → Elaborates text p → Seen p o → P o.status o.output (report (names_of p) default_budget o))
-        → ((listing file text : List ℕ) (s : Script) (p : Program) → RunsBy words shelf listing file text → IsScript listing s → Elaborates text p → P (replay_of p s).status (replay_of p s).output (replay_report (names_of p) s (replay_of p s)))
+    -- of the causes only these are left where all files are had, and a listing is a script
+    if_takes : {status : ℕ} {out err : List ℕ} {files texts : List (List ℕ)} (P : ℕ → List ℕ → List ℕ → Type 0) → Cause words shelf status out err → Takes words shelf files texts →
+        ((r : Refusal) → ComesTo texts (refused_by r) → P 1 [] (refusal_text (name_of files r.file) r.rule r.pos))
+        → ((files' texts' : List (List ℕ)) (p : Program) (o : Observation) → Runs words shelf files' texts' → ComesTo texts (went p) → Seen p o → P o.status o.output (report (names_of p) default_budget o))
+        → ((listing : List ℕ) (files' texts' : List (List ℕ)) (s : Script) (p : Program) → RunsBy words shelf listing files' texts' → IsScript listing s → ComesTo texts (went p) → P (replay_of p s).status (replay_of p s).output (replay_report (names_of p) s (replay_of p s)))
         → P status out err
-    if_had P (wrong_words n) k bad not_one run by = no_command words k.command n k.asks
-    if_had P (unread h w b f) k bad not_one run by = absurd (calm f)
-    if_had P (absent {c} {w} h v n) k bad not_one run by = not_absent (record { command = c; asks = h; comes = n }) k
-    if_had P (too_long {c} {w} h v n) k bad not_one run by = not_long (record { command = c; asks = h; comes = n }) k
-    if_had P (bad_script {listing} {file} {text} x h r) k bad not_one run by = bad listing file text x h r
-    if_had P (refused {file} {text} r h n) k bad not_one run by = not_one file text r h (never_accepted text r n)
-    if_had P (ran {file} {text} p o h el s) k bad not_one run by = run file text p o h el s
-    if_had P (ran_by {listing} {file} {text} s p h r el) k bad not_one run by = by listing file text s p h r el
+    if_takes P (wrong_words n) k not_one run by = let t = of_takes words shelf k in no_command words t.1.command n t.1.asks
+    if_takes P (unread h w b f) k not_one run by = absurd (calm f)
+    if_takes P (absent {c} {w} h v n) k not_one run by = not_absent (record { command = c; asks = h; comes = n }) (of_takes words shelf k).1
+    if_takes P (too_long {c} {w} h v n) k not_one run by = not_long (record { command = c; asks = h; comes = n }) (of_takes words shelf k).1
+    if_takes P (bad_script x h r) k not_one run by = no_bad x k h r
+    if_takes P (refused r h comes) k not_one run by =
+        let e = same_takes h k in
+        subst (λ fs. P 1 [] (refusal_text (name_of fs r.file) r.rule r.pos)) (sym e.0) (not_one r (subst (λ ts. ComesTo ts (refused_by r)) e.1 comes))
+    if_takes P (ran {files} {texts} p o h comes s) k not_one run by = run files texts p o h (subst (λ ts. ComesTo ts (went p)) (same_takes (alone h) k).1 comes) s
+    if_takes P (ran_by {listing} {files} {texts} s p h read comes) k not_one run by = by listing files texts s p h read (subst (λ ts. ComesTo ts (went p)) (same_takes (by_script s h read) k).1 comes)
 
-    -- an accepted text is run
-    record IsRunOf (text : List ℕ) (status : ℕ) (out err : List ℕ) : Type 0 where
+    -- accepted texts are run
+    record IsRunOf (texts : List (List ℕ)) (status : ℕ) (out err : List ℕ) : Type 0 where
       pub program : Program
-      pub elaborates : Elaborates text program
+      pub comes : ComesTo texts (went program)
       pub observation : Observation
       pub seen : Seen program observation
       pub status_is : status ≡ observation.status
       pub out_is : out ≡ observation.output
       pub err_is : err ≡ report (names_of program) default_budget observation
 
-    runs_it : {status : ℕ} {out err file text : List ℕ} → Cause words shelf status out err → Runs words shelf file text → IsAccepted text → IsRunOf text status out err
-    runs_it {status} {out} {err} {file} {text} c k ok =
-        if_had (IsRunOf text) c (of_run words shelf k)
-        (λ listing' file' text' e l bad. run_or_replay words shelf k l)
-        (λ file' text' r t never. absurd (not_run t never))
-        (λ file' text' p o l el s. record { program = p; elaborates = subst (λ y. Elaborates y p) (same_run l k) el; observation = o; seen = s; status_is = refl; out_is = refl; err_is = refl })
-        (λ listing' file' text' s p l read el. run_or_replay words shelf k l)
-      where
-        not_run : {file' text' : List ℕ} → Takes words shelf file' text' → ¬ IsAccepted text' → ⊥
-        not_run (alone l) never = never (subst IsAccepted (same_run k l) ok)
-        not_run (by_script s l read) never = run_or_replay words shelf k l
+    runs_it : {status : ℕ} {out err : List ℕ} {files texts : List (List ℕ)} → Cause words shelf status out err → Runs words shelf files texts → IsAccepted texts → IsRunOf texts status out err
+    runs_it {status} {out} {err} {files} {texts} c k ok =
+        if_takes (IsRunOf texts) c (alone k)
+        (λ r comes. absurd (never_accepted texts r comes ok))
+        (λ files' texts' p o l comes seen. record { program = p; comes = comes; observation = o; seen = seen; status_is = refl; out_is = refl; err_is = refl })
+        (λ listing' files' texts' s p l read comes. run_or_replay words shelf k l)
 
-    record IsReplayOf (s : Script) (text : List ℕ) (status : ℕ) (out err : List ℕ) : Type 0 where
+    record IsReplayOf (s : Script) (texts : List (List ℕ)) (status : ℕ) (out err : List ℕ) : Type 0 where
       pub program : Program
-      pub elaborates : Elaborates text program
+      pub comes : ComesTo texts (went program)
       pub status_is : status ≡ (replay_of program s).status
       pub out_is : out ≡ (replay_of program s).output
       pub err_is : err ≡ replay_report (names_of program) s (replay_of program s)
 
-    replays_it : {status : ℕ} {out err listing file text : List ℕ} (s : Script) → Cause words shelf status out err → RunsBy words shelf listing file text → IsScript listing s → IsAccepted text → IsReplayOf s text status out err
-    replays_it {status} {out} {err} {listing} {file} {text} s c k read ok =
-        if_had (IsReplayOf s text) c (of_replay words shelf k)
-        (λ listing' file' text' e l bad. absurd (not_both listing' s e (subst (λ y. IsScript y s) (same_listing k l) read) bad))
-        (λ file' text' r t never. absurd (not_replay t never))
-        (λ file' text' p o l el seen. run_or_replay words shelf l k)
-        (λ listing' file' text' s' p l read' el. along p (same_text l k) el (one_script listing s' s (subst (λ y. IsScript y s') (same_listing l k) read') read))
-      where
-        not_replay : {file' text' : List ℕ} → Takes words shelf file' text' → ¬ IsAccepted text' → ⊥
-        not_replay (alone l) never = run_or_replay words shelf l k
-        not_replay (by_script s' l read') never = never (subst IsAccepted (same_text k l) ok)
+    replays_it : {status : ℕ} {out err listing : List ℕ} {files texts : List (List ℕ)} (s : Script) → Cause words shelf status out err → RunsBy words shelf listing files texts → IsScript listing s → IsAccepted texts → IsReplayOf s texts status out err
+    replays_it {status} {out} {err} {listing} {files} {texts} s c k read ok =
+        if_takes (IsReplayOf s texts) c (by_script s k read)
+        (λ r comes. absurd (never_accepted texts r comes ok))
+        (λ files' texts' p o l comes seen. run_or_replay words shelf l k)
+        (λ listing' files' texts' s' p l read' comes.
+          let same = same_script s s' k read l read' in
+          record {
+            program = p;
+            comes = comes;
+            status_is = ap (λ z. (replay_of p z).status) same;
+            out_is = ap (λ z. (replay_of p z).output) same;
+            err_is = ap (λ z. replay_report (names_of p) z (replay_of p z)) same;
+          })
 
-        along : {text' : List ℕ} {s' : Script} (p : Program) → text' ≡ text → Elaborates text' p → s' ≡ s → IsReplayOf s text (replay_of p s').status (replay_of p s').output (replay_report (names_of p) s' (replay_of p s'))
-        along {text'} {s'} p e el same = record {
-          program = p;
-          elaborates = subst (λ y. Elaborates y p) e el;
-          status_is = ap (λ z. (replay_of p z).status) same;
-          out_is = ap (λ z. (replay_of p z).output) same;
-          err_is = ap (λ z. replay_report (names_of p) z (replay_of p z)) same;
-        }
+    -- refused texts are told of
+    record IsRefusalOf (files : List (List ℕ)) (r : Refusal) (status : ℕ) (out err : List ℕ) : Type 0 where
+      pub status_is : status ≡ 1
+      pub out_is : out ≡ []
+      pub err_is : err ≡ refusal_text (name_of files r.file) r.rule r.pos
+
+    refuses_it : {status : ℕ} {out err : List ℕ} {files texts : List (List ℕ)} (r : Refusal) → Cause words shelf status out err → Takes words shelf files texts → ComesTo texts (refused_by r) → IsRefusalOf files r status out err
+    refuses_it {status} {out} {err} {files} {texts} r c k comes =
+        if_takes (IsRefusalOf files r) c k
+        (λ r' comes'. record { status_is = refl; out_is = refl; err_is = ap (λ (x : Refusal). refusal_text (name_of files x.file) x.rule x.pos) (one_refusal texts r' r comes' comes) })
+        (λ files' texts' p o l comes' seen. absurd (never_accepted texts r comes (record { program = p; comes = comes' })))
+        (λ listing' files' texts' s p l read comes'. absurd (never_accepted texts r comes (record { program = p; comes = comes' })))
 
 module _ (call : Call) (tells : Tells call.shelf) (calm : ¬ ShelfFailed call.shelf) where
   one_if : {status : ℕ} {out err : List ℕ} → Of call status out err → IsAbsentOrRefused call → status ≡ 1
   one_if c (is_absent {c = d} file asks lack) = if_absent call.words call.shelf tells calm c (record { command = d; asks = asks; comes = lack })
-  one_if c (is_refused (alone k) never) =
-      if_had call.words call.shelf tells calm (λ n out err. n ≡ 1) c (of_run call.words call.shelf k)
-      (λ listing' file' text' e l bad. run_or_replay call.words call.shelf k l)
-      (λ file' text' r t n. refl)
-      (λ file' text' p o l el seen. absurd (never (subst IsAccepted (same_run call.words call.shelf tells l k) (record { program = p; elaborates = el }))))
-      (λ listing' file' text' s p l read el. run_or_replay call.words call.shelf k l)
-  one_if c (is_refused (by_script s k read) never) =
-      if_had call.words call.shelf tells calm (λ n out err. n ≡ 1) c (of_replay call.words call.shelf k)
-      (λ listing' file' text' e l bad. absurd (not_both listing' s e (subst (λ y. IsScript y s) (same_listing call.words call.shelf tells k l) read) bad))
-      (λ file' text' r t n. refl)
-      (λ file' text' p o l el seen. run_or_replay call.words call.shelf l k)
-      (λ listing' file' text' s' p l read' el. absurd (never (subst IsAccepted (same_text call.words call.shelf tells l k) (record { program = p; elaborates = el }))))
+  one_if c (is_refused k never) =
+      if_takes call.words call.shelf tells calm (λ n out err. n ≡ 1) c k
+      (λ r comes. refl)
+      (λ files' texts' p o l comes seen. absurd (never (record { program = p; comes = comes })))
+      (λ listing' files' texts' s p l read comes. absurd (never (record { program = p; comes = comes })))
 
   six_if : {status : ℕ} {out err : List ℕ} → Of call status out err → ShelfFailed call.shelf ⊎ IsTooLong call → status ≡ 6
   six_if c (inl f) = absurd (calm f)
   six_if c (inr l) = if_long call.words call.shelf tells calm c (record { command = l.command; asks = l.asks; comes = l.long })
 
+  nine_if : {status : ℕ} {out err : List ℕ} → Of call status out err → HasEnded call → status ≡ 9
+  nine_if c k =
+      if_takes call.words call.shelf tells calm (λ n out err. n ≡ 9) c (by_script k.script k.runs k.read)
+      (λ r comes. absurd (never_accepted k.texts r comes (record { program = k.program; comes = k.comes })))
+      (λ files' texts' p o l comes seen. run_or_replay call.words call.shelf l k.runs)
+      (λ listing' files' texts' s p l read comes.
+        subst (λ (q : Program). (replay_of q s).status ≡ 9) (sym (one_program k.texts p k.program comes k.comes))
+        (subst (λ (z : Script). (replay_of k.program z).status ≡ 9) (sym (same_script call.words call.shelf tells k.script s k.runs k.read l read))
+        (going_status k.program k.script.budget (choices_of k.script) k.going)))
+
   ten_if : {status : ℕ} {out err : List ℕ} → Of call status out err → IsNoScript call → status ≡ 10
-  ten_if c k =
-      if_had call.words call.shelf tells calm (λ n out err. n ≡ 10) c (of_replay call.words call.shelf k.runs)
-      (λ listing' file' text' e l bad. refl)
-      (λ file' text' r t n. absurd (no_takes t))
-      (λ file' text' p o l el seen. run_or_replay call.words call.shelf l k.runs)
-      (λ listing' file' text' s p l read el. absurd (no_takes (by_script s l read)))
-    where
-      no_takes : {file text : List ℕ} → Takes call.words call.shelf file text → ⊥
-      no_takes (alone l) = run_or_replay call.words call.shelf l k.runs
-      no_takes (by_script s l read) = not_both k.listing s k.error (subst (λ y. IsScript y s) (same_listing call.words call.shelf tells l k.runs) read) k.refused
+  ten_if (wrong_words n) k = no_command call.words (Replay k.runs.script k.files) n k.runs.asks
+  ten_if (unread h w b f) k = absurd (calm f)
+  ten_if (absent {c} {w} h v n) k = not_absent call.words call.shelf tells (record { command = c; asks = h; comes = n }) (of_replay call.words call.shelf k.runs)
+  ten_if (too_long {c} {w} h v n) k = not_long call.words call.shelf tells (record { command = c; asks = h; comes = n }) (of_replay call.words call.shelf k.runs)
+  ten_if (bad_script x h r) k = refl
+  ten_if (refused r t comes) k = no_bad call.words call.shelf tells k.error t k.runs k.refused
+  ten_if (ran p o h comes seen) k = run_or_replay call.words call.shelf h k.runs
+  ten_if (ran_by s p h read comes) k = no_bad call.words call.shelf tells k.error (by_script s h read) k.runs k.refused
 
 -- The promises
 
 module _ (call : Call) (answered : IsUndisturbed call → Answered call) (in_part : call.status ≡ 7 → AnsweredInPart call) (nothing : call.status ≡ 8 → GotNothing call.out × GotNothing call.err) where
-  shows : (text : List ℕ) → IsRunnable call text → IsUndisturbed call → ShowsText call text
-  shows text k u =
+  shows : (texts : List (List ℕ)) → IsRunnable call texts → IsUndisturbed call → ShowsTexts call texts
+  shows texts k u =
       let a = answered u in
       let r = runs_it call.words call.shelf k.tells k.worked a.cause k.runs k.accepted in
       record {
         program = r.program;
-        elaborates = r.elaborates;
+        comes = r.comes;
         observation = r.observation;
         seen = r.seen;
         status = r.status_is;
@@ -381,16 +427,26 @@ module _ (call : Call) (answered : IsUndisturbed call → Answered call) (in_par
         on_err = subst (GotWhole call.err) r.err_is a.on_err;
       }
 
-  shows_replay : (s : Script) (text : List ℕ) → IsReplayable call s text → IsUndisturbed call → ShowsReplay call s text
-  shows_replay s text k u =
+  shows_replay : (s : Script) (texts : List (List ℕ)) → IsReplayable call s texts → IsUndisturbed call → ShowsReplay call s texts
+  shows_replay s texts k u =
       let a = answered u in
       let r = replays_it call.words call.shelf k.tells k.worked s a.cause k.runs k.script k.accepted in
       record {
         program = r.program;
-        elaborates = r.elaborates;
+        comes = r.comes;
         status = r.status_is;
         on_out = subst (GotWhole call.out) r.out_is a.on_out;
         on_err = subst (GotWhole call.err) r.err_is a.on_err;
+      }
+
+  shows_refusal : (files : List (List ℕ)) (r : Refusal) → IsRefusable call files r → IsUndisturbed call → ShowsRefusal call files r
+  shows_refusal files r k u =
+      let a = answered u in
+      let t = refuses_it call.words call.shelf k.tells k.worked r a.cause k.takes k.comes in
+      record {
+        status = t.status_is;
+        on_out = subst (GotWhole call.out) t.out_is a.on_out;
+        on_err = subst (GotWhole call.err) t.err_is a.on_err;
       }
 
   none_failed : {out err : List ℕ} → PutInPart call.out call.err out err → SinksWorked call → ⊥
@@ -408,12 +464,12 @@ module _ (call : Call) (answered : IsUndisturbed call → Answered call) (in_par
         ]
       ]
 
-  run_answer : (text : List ℕ) → IsRunnable call text → IsUndisturbed call → IsRunStatus call.status × ShowsText call text
-  run_answer text k u = let s = shows text k u in (subst IsRunStatus (sym s.status) (run_status s.program s.observation s.seen), s)
+  run_answer : (texts : List (List ℕ)) → IsRunnable call texts → IsUndisturbed call → IsRunStatus call.status × ShowsTexts call texts
+  run_answer texts k u = let s = shows texts k u in (subst IsRunStatus (sym s.status) (run_status s.program s.observation s.seen), s)
 
-  replay_answer : (s : Script) (text : List ℕ) → IsReplayable call s text → IsUndisturbed call → IsReplayStatus call.status × ShowsReplay call s text
-  replay_answer s text k u =
-      let r = shows_replay s text k u in (
+  replay_answer : (s : Script) (texts : List (List ℕ)) → IsReplayable call s texts → IsUndisturbed call → IsReplayStatus call.status × ShowsReplay call s texts
+  replay_answer s texts k u =
+      let r = shows_replay s texts k u in (
         subst IsReplayStatus (sym r.status) (elim (replay_status r.program s) as (λ v. IsReplayStatus (replay_of r.program s).status) [ inl h ↦ inl h | inr h ↦ inr h.0 ]),
         r,
       )
@@ -422,13 +478,14 @@ module _ (call : Call) (answered : IsUndisturbed call → Answered call) (in_par
   promises = record {
     answers = answered;
     headline = shows;
-    complete = λ text k worked. whole_or_memory (IsRunStatus call.status × ShowsText call text) worked (run_answer text k);
+    complete = λ texts k worked. whole_or_memory (IsRunStatus call.status × ShowsTexts call texts) worked (run_answer texts k);
     replays = shows_replay;
-    replays_complete = λ s text k worked. whole_or_memory (IsReplayStatus call.status × ShowsReplay call s text) worked (replay_answer s text k);
+    replays_complete = λ s texts k worked. whole_or_memory (IsReplayStatus call.status × ShowsReplay call s texts) worked (replay_answer s texts k);
+    refuses = shows_refusal;
     absent_or_refused = record { only_where = λ u e. one_only call (answered u).cause e; wherever = λ tells u fact calm. one_if call tells calm (answered u).cause fact };
     wrong_words = λ u. ((λ e. two_only call.words call.shelf (answered u).cause e), (λ n. two_if call.words call.shelf (answered u).cause n));
     unread_or_too_long = record { only_where = λ u e. six_only call (answered u).cause e; wherever = λ tells u fact calm. six_if call tells calm (answered u).cause fact };
-    script_ended = λ u e. nine_only call (answered u).cause e;
+    script_ended = record { only_where = λ u e. nine_only call (answered u).cause e; wherever = λ tells u fact calm. nine_if call tells calm (answered u).cause fact };
     no_script = record { only_where = λ u e. ten_only call (answered u).cause e; wherever = λ tells u fact calm. ten_if call tells calm (answered u).cause fact };
     sink_failed = in_part;
     no_memory = nothing;

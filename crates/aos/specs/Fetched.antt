@@ -2,7 +2,7 @@
 use Rattle.std.specs.Prelude.{◌≡◌, ℕ, ◌≤◌, nat_le, List, [], ◌∷◌, length, if◌then◌else◌}
 use Rattle.std.specs.Prelude.{Option, Some, None, IfSome}
 use Rattle.aos_dev.specs.Shelf.{Named, text_of}
-use Rattle.aos.specs.Words.{Command, Wanted, wanted_files}
+use Rattle.aos.specs.Words.{Wanted}
 
 -- the texts of all of them; or the first that is absent, or has more bytes than it may have
 pub data Fetched : Type 0 where
@@ -43,7 +43,8 @@ abbrev pub AreHad : Option (List Named) → List Wanted → Type 0
 AreHad texts files =
     IfSome texts (λ ts. (all : List (List ℕ)) × (fetch_all ts files ≡ Texts all))
 
--- the files that the command wants have these texts, as far as the shelf tells
-pub record Had (texts : Option (List Named)) (c : Command) (all : List (List ℕ)) : Type 0 where
-  pub told : Fetches texts (wanted_files c) (Texts all)
-  pub fits : AreWithin (wanted_files c) all
+-- these files have these texts, as far as the shelf tells
+pub record Had (texts : Option (List Named)) (files : List Wanted) (all : List (List ℕ))
+    : Type 0 where
+  pub told : Fetches texts files (Texts all)
+  pub fits : AreWithin files all

@@ -1,16 +1,19 @@
 -- What the program promises of every call.
-use Rattle.std.specs.Prelude.{◌≡◌, ℕ, ◌⊎◌, ◌↔◌, List, None}
+use Rattle.std.specs.Prelude.{◌≡◌, ℕ, ◌⊎◌, ◌↔◌, List, [], None}
 use Rattle.aos_base.specs.declared.kernel.Outcome.TheVariants.{Going}
+use Rattle.aos_base.specs.declared.text.Refusal.{Refusal}
 use Rattle.aos_base.specs.Observation.{Observation}
 use Rattle.aos_typed.specs.Program.{Program}
 use Rattle.aos_script.specs.declared.script.Script.{Script}
 use Rattle.aos_script.specs.declared.error.ScriptErr.{ScriptErr}
 use Rattle.aos_script.specs.Listing.{IsScript}
 use Rattle.aos_script.specs.Refusals.{IsRefused as IsRefusedScript}
-use Rattle.aos_compile.specs.Elaborates.{Elaborates, IsAccepted, names_of}
+use Rattle.aos_report.specs.Texts.{refusal_text}
+use Rattle.aos_symbols.specs.Outcome.{went, refused}
+use Rattle.aos_compile.specs.Elaborates.{ComesTo, IsAccepted, names_of}
 use Rattle.aos.specs.Call.{Call, Tells, ShelfFailed, GotWhole, GotNothing, SinksWorked}
 use Rattle.aos.specs.Call.{IsUndisturbed}
-use Rattle.aos.specs.Words.{Command, command_of, Asks, wanted_files}
+use Rattle.aos.specs.Words.{Words, Command, command_of, Asks, wanted_files, name_of}
 use Rattle.aos.specs.Fetched.{NoFile, LongFile, Fetches}
 use Rattle.aos.specs.Report.{report, replay_report}
 use Rattle.aos.specs.Seen.{default_budget, Seen, replay_of}
@@ -24,38 +27,47 @@ IsRunStatus status = (status ≡ 0) ⊎ ((status ≡ 3) ⊎ (status ≡ 5))
 abbrev pub IsReplayStatus : ℕ → Type 0
 IsReplayStatus status = IsRunStatus status ⊎ (status ≡ 9)
 
--- the first file that isn't had is absent; or all are had, a listing is a script, and the text
--- isn't accepted
+-- the first file that isn't had is absent; or all are had, a listing is a script, and the texts
+-- aren't accepted
 pub data IsAbsentOrRefused (call : Call) : Type 0 where
   is_absent : {c : Command} (file : List ℕ) → Asks call.words c
       → Fetches call.shelf.texts (wanted_files c) (NoFile file) → IsAbsentOrRefused call
-  is_refused : {file text : List ℕ} → Takes call.words call.shelf file text
-      → ¬ IsAccepted text → IsAbsentOrRefused call
+  is_refused : {files texts : List (List ℕ)} → Takes call.words call.shelf files texts
+      → ¬ IsAccepted texts → IsAbsentOrRefused call
 
 module _ (call : Call) where
-  -- the words ask for a run of a file that has this text, which is accepted; the shelf tells its
+  -- the words ask for a run of files that have these texts, which are accepted; the shelf tells its
   -- texts, and didn't fail
-  pub record IsRunnable (text : List ℕ) : Type 0 where
-    pub file : List ℕ
-    pub runs : Runs call.words call.shelf file text
-    pub accepted : IsAccepted text
+  pub record IsRunnable (texts : List (List ℕ)) : Type 0 where
+    pub files : Words
+    pub runs : Runs call.words call.shelf files texts
+    pub accepted : IsAccepted texts
     pub tells : Tells call.shelf
     pub worked : ¬ ShelfFailed call.shelf
 
-  -- the same of its run by a file that is this script
-  pub record IsReplayable (s : Script) (text : List ℕ) : Type 0 where
-    pub file : List ℕ
+  -- the same of their run by a file that is this script
+  pub record IsReplayable (s : Script) (texts : List (List ℕ)) : Type 0 where
+    pub files : Words
     pub listing : List ℕ
-    pub runs : RunsBy call.words call.shelf listing file text
+    pub runs : RunsBy call.words call.shelf listing files texts
     pub script : IsScript listing s
-    pub accepted : IsAccepted text
+    pub accepted : IsAccepted texts
     pub tells : Tells call.shelf
     pub worked : ¬ ShelfFailed call.shelf
 
-  -- the status and what the sinks got are those of an execution of the text's program
-  pub record ShowsText (text : List ℕ) : Type 0 where
+  -- the words ask for a run of these files, or for their run by a script, and their texts come to
+  -- this refusal; the shelf tells its texts, and didn't fail
+  pub record IsRefusable (files : Words) (r : Refusal) : Type 0 where
+    pub texts : List (List ℕ)
+    pub takes : Takes call.words call.shelf files texts
+    pub comes : ComesTo texts (refused r)
+    pub tells : Tells call.shelf
+    pub worked : ¬ ShelfFailed call.shelf
+
+  -- the status and what the sinks got are those of an execution of the texts' program
+  pub record ShowsTexts (texts : List (List ℕ)) : Type 0 where
     pub program : Program
-    pub elaborates : Elaborates text program
+    pub comes : ComesTo texts (went program)
     pub observation : Observation
     pub seen : Seen program observation
     pub status : call.status ≡ observation.status
@@ -63,12 +75,18 @@ module _ (call : Call) where
     pub on_err : GotWhole call.err (report (names_of program) default_budget observation)
 
   -- they are those of the execution under a script
-  pub record ShowsReplay (s : Script) (text : List ℕ) : Type 0 where
+  pub record ShowsReplay (s : Script) (texts : List (List ℕ)) : Type 0 where
     pub program : Program
-    pub elaborates : Elaborates text program
+    pub comes : ComesTo texts (went program)
     pub status : call.status ≡ (replay_of program s).status
     pub on_out : GotWhole call.out (replay_of program s).output
     pub on_err : GotWhole call.err (replay_report (names_of program) s (replay_of program s))
+
+  -- the status is that of a refusal, and the line names the file that the refusal tells
+  pub record ShowsRefusal (files : Words) (r : Refusal) : Type 0 where
+    pub status : call.status ≡ 1
+    pub on_out : GotWhole call.out []
+    pub on_err : GotWhole call.err (refusal_text (name_of files r.file) r.rule r.pos)
 
   -- the first file that isn't had has more bytes than it may have
   pub record IsTooLong : Type 0 where
@@ -81,22 +99,22 @@ module _ (call : Call) where
   -- the files are had, and the listing is no script
   pub record IsNoScript : Type 0 where
     pub listing : List ℕ
-    pub file : List ℕ
-    pub text : List ℕ
+    pub files : Words
+    pub texts : List (List ℕ)
     pub error : ScriptErr
-    pub runs : RunsBy call.words call.shelf listing file text
+    pub runs : RunsBy call.words call.shelf listing files texts
     pub refused : IsRefusedScript listing error
 
-  -- the script ended while the run of the text's program was going on
+  -- the script leaves the execution of the texts' program going on
   pub record HasEnded : Type 0 where
     pub listing : List ℕ
-    pub file : List ℕ
-    pub text : List ℕ
+    pub files : Words
+    pub texts : List (List ℕ)
     pub script : Script
     pub program : Program
-    pub runs : RunsBy call.words call.shelf listing file text
+    pub runs : RunsBy call.words call.shelf listing files texts
     pub read : IsScript listing script
-    pub elaborates : Elaborates text program
+    pub comes : ComesTo texts (went program)
     pub going : (replay_of program script).outcome ≡ Going
 
   -- unless a sink or memory failed: the status is this only where the fact holds; and it is where
@@ -107,50 +125,55 @@ module _ (call : Call) where
         → call.status ≡ status
 
   abbrev pub Headline : Type 0
-  Headline = (text : List ℕ) → IsRunnable text → IsUndisturbed call → ShowsText text
+  Headline = (texts : List (List ℕ)) → IsRunnable texts → IsUndisturbed call → ShowsTexts texts
 
   abbrev pub Complete : Type 0
   Complete =
-      (text : List ℕ) → IsRunnable text → SinksWorked call
-      → (call.status ≡ 8) ⊎ (IsRunStatus call.status × ShowsText text)
+      (texts : List (List ℕ)) → IsRunnable texts → SinksWorked call
+      → (call.status ≡ 8) ⊎ (IsRunStatus call.status × ShowsTexts texts)
 
   abbrev pub Replays : Type 0
   Replays =
-      (s : Script) (text : List ℕ) → IsReplayable s text → IsUndisturbed call → ShowsReplay s text
+      (s : Script) (texts : List (List ℕ)) → IsReplayable s texts → IsUndisturbed call
+      → ShowsReplay s texts
 
   abbrev pub ReplaysComplete : Type 0
   ReplaysComplete =
-      (s : Script) (text : List ℕ) → IsReplayable s text → SinksWorked call
-      → (call.status ≡ 8) ⊎ (IsReplayStatus call.status × ShowsReplay s text)
+      (s : Script) (texts : List (List ℕ)) → IsReplayable s texts → SinksWorked call
+      → (call.status ≡ 8) ⊎ (IsReplayStatus call.status × ShowsReplay s texts)
+
+  abbrev pub Refuses : Type 0
+  Refuses =
+      (files : Words) (r : Refusal) → IsRefusable files r → IsUndisturbed call
+      → ShowsRefusal files r
 
   abbrev pub WrongWords : Type 0
   WrongWords = IsUndisturbed call → ((call.status ≡ 2) ↔ (command_of call.words ≡ None))
-
-  abbrev pub ScriptEnded : Type 0
-  ScriptEnded = IsUndisturbed call → call.status ≡ 9 → HasEnded
 
   -- what `aos` promises
   pub record Promises : Type 0 where
     -- where neither a sink nor memory failed, the answer has a cause, and both sinks got its whole
     -- texts
     pub answers : IsUndisturbed call → Answered call
-    -- an accepted text is run: for some schedule of one worker, the status and what the sinks got
-    -- are those of the execution of its program
+    -- accepted texts are run: for some schedule of one worker, the status and what the sinks got
+    -- are those of the execution of their program
     pub headline : Headline
     -- and where no count rose, that is the answer, or memory was wanted
     pub complete : Complete
-    -- by a script: they are those of the execution of the text's program under the script
+    -- by a script: they are those of the execution of the texts' program under the script
     pub replays : Replays
     -- and where no count rose, that is the answer, or memory was wanted
     pub replays_complete : ReplaysComplete
-    -- 1: a file is absent, or the text is refused
+    -- the line of refused texts names the file in which the rule is broken
+    pub refuses : Refuses
+    -- 1: a file is absent, or the texts are refused
     pub absent_or_refused : IsStatusWhere 1 (IsAbsentOrRefused call)
     -- 2: the words are no command
     pub wrong_words : WrongWords
     -- 6: the shelf failed, or a file is too long
     pub unread_or_too_long : IsStatusWhere 6 (ShelfFailed call.shelf ⊎ IsTooLong)
-    -- 9: the script ended while the run was going on
-    pub script_ended : ScriptEnded
+    -- 9: the script leaves the execution going on
+    pub script_ended : IsStatusWhere 9 HasEnded
     -- 10: the text that is to be a script is none
     pub no_script : IsStatusWhere 10 IsNoScript
     -- 7: a sink failed, and nothing more was put

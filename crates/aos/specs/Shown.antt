@@ -1,6 +1,7 @@
 -- Answers that show an image's run: for proofs and private functions alone.
 use Rattle.std.specs.Prelude.{◌≡◌, ◌≢◌, ℕ, ◌≤◌, List, [], ◌∷◌, length, map, All, Option, Some, None}
-use Rattle.std.specs.Prelude.{string_bytes}
+use Rattle.std.specs.Prelude.{string_bytes, Vec}
+use Rattle.std.specs.declared.alloc.Global.{Global}
 use Rattle.aos_base.specs.declared.kernel.Outcome.TheVariants.{Going}
 use Rattle.aos_base.specs.Book.{TrapRow}
 use Rattle.aos_base.specs.Machine.{Choice, execution}
@@ -17,11 +18,14 @@ use Rattle.aos_script.specs.Listing.{choices_of}
 use Rattle.aos.specs.declared.answer.Answer.{Answer}
 use Rattle.aos.specs.declared.words.Command.{Command as Given}
 use Rattle.aos.specs.declared.words.Command.TheVariants.{Run as GivenRun, Replay as GivenReplay}
-use Rattle.aos.specs.declared.command.Fetched.{Fetched as Came}
-use Rattle.aos.specs.declared.command.Fetched.TheVariants.{Text as CameText, Stopped as CameStopped}
+use Rattle.aos.specs.declared.fetch.FetchedFile.{FetchedFile}
+use Rattle.aos.specs.declared.fetch.FetchedFile.TheVariants.{Text as FileText, Stopped as FileStopped}
+use Rattle.aos.specs.declared.fetch.FetchedFiles.{FetchedFiles}
+use Rattle.aos.specs.declared.fetch.FetchedFiles.TheVariants.{Texts as FilesTexts, Stopped as FilesStopped}
 use Rattle.aos.specs.Call.{ShelfUse, SinkUse, ShelfFailed, GotWhole}
-use Rattle.aos.specs.Words.{Words, Command, Run, Replay, Asks, Wanted}
-use Rattle.aos.specs.Fetched.{Texts, NoFile, LongFile, Fetches, Had}
+use Rattle.aos.specs.Words.{Words, words_of, Command, Run, Replay, Asks}
+use Rattle.aos.specs.Words.{Wanted, wanted_files, IsWanted}
+use Rattle.aos.specs.Fetched.{NoFile, LongFile, Fetches, AreHad, Had}
 use Rattle.aos.specs.Report.{report, replay_report}
 use Rattle.aos.specs.Seen.{default_budget, OfWorkers}
 use Rattle.aos.specs.Cause.{Cause, PutInPart, whole}
@@ -116,30 +120,39 @@ Serves c shelf a = (words : Words) → Asks words c → Causes words shelf a
 
 -- and the files that it wants have these texts
 abbrev pub ServesTexts : Command → List (List ℕ) → Answer → Type 0
-ServesTexts c all a = (shelf : ShelfUse) → Had shelf.texts c all → Serves c shelf a
+ServesTexts c all a =
+    (shelf : ShelfUse) → Had shelf.texts (wanted_files c) all → Serves c shelf a
 
 -- the command that the code found in the words
 abbrev pub command_in : Option Given → Option Command
 command_in None = None
-command_in (Some (GivenRun file)) = Some (Run file.now)
-command_in (Some (GivenReplay script file)) = Some (Replay script.now file.now)
+command_in (Some (GivenRun files)) = Some (Run (words_of files.now))
+command_in (Some (GivenReplay script files)) = Some (Replay script.now (words_of files.now))
 
--- what a fetched file comes to where it isn't had
-pub data StopsBy (shelf : ShelfUse) (w : Wanted) : (status : ℕ) → (out err : List ℕ) → Type 0 where
-  by_fault : ShelfFailed shelf → StopsBy shelf w 6 [] (unread_text w.file)
-  by_absence : Fetches shelf.texts (w ∷ []) (NoFile w.file)
-      → StopsBy shelf w 1 [] (refusal_text w.file 1 whole)
-  by_length : Fetches shelf.texts (w ∷ []) (LongFile w.file w.most)
-      → StopsBy shelf w 6 [] (too_long_text w.file w.most)
+-- texts as lists of bytes
+abbrev pub texts_of : List (Vec ℕ Global) → List (List ℕ)
+texts_of texts = map (λ t. t.items) texts
 
--- a file is had by itself
-abbrev pub IsHad : ShelfUse → Wanted → List ℕ → Type 0
-IsHad shelf w text = Fetches shelf.texts (w ∷ []) (Texts (text ∷ [])) × (length text ≤ w.most)
+-- what wanted files come to where one of them isn't had
+pub data StopsBy (shelf : ShelfUse) (files : List Wanted)
+    : (status : ℕ) → (out err : List ℕ) → Type 0 where
+  by_fault : {w : Wanted} → (is : IsWanted files w) → AreHad shelf.texts is.before
+      → ShelfFailed shelf → StopsBy shelf files 6 [] (unread_text w.file)
+  by_absence : {w : Wanted} → IsWanted files w → Fetches shelf.texts files (NoFile w.file)
+      → StopsBy shelf files 1 [] (refusal_text w.file 1 whole)
+  by_length : {w : Wanted} → IsWanted files w
+      → Fetches shelf.texts files (LongFile w.file w.most)
+      → StopsBy shelf files 6 [] (too_long_text w.file w.most)
 
 -- what came of fetching a file: its text, or an answer with its cause
-abbrev pub IsFetched : ShelfUse → Wanted → Came → Type 0
-IsFetched shelf w (CameText text) = IsHad shelf w text.items
-IsFetched shelf w (CameStopped a) = StopsBy shelf w a.status a.out.items a.err.items
+abbrev pub IsFetched : ShelfUse → Wanted → FetchedFile → Type 0
+IsFetched shelf w (FileText text) = Had shelf.texts (w ∷ []) (text.items ∷ [])
+IsFetched shelf w (FileStopped a) = StopsBy shelf (w ∷ []) a.status a.out.items a.err.items
+
+-- what came of fetching files, one after another
+abbrev pub AreFetched : ShelfUse → List Wanted → FetchedFiles → Type 0
+AreFetched shelf files (FilesTexts texts) = Had shelf.texts files (texts_of texts.items)
+AreFetched shelf files (FilesStopped a) = StopsBy shelf files a.status a.out.items a.err.items
 
 -- the sinks got an answer's whole texts, and this is its status
 pub record IsWhole (a : Answer) (status : ℕ) (out err : SinkUse) : Type 0 where

@@ -1,9 +1,36 @@
 // What the program answers: a status, and the texts for the two sinks.
 
+ghost use Rattle.std.specs.Prelude.{[], IfOk};
+ghost use Rattle.aos_report.specs.Texts.{refusal_text};
+ghost use Rattle.aos.specs.Shown.{IsAnswer};
+
+use aos_base::{NoMemory, Refusal};
+use aos_report::refusal;
+use std::alloc::Global;
+
 /// A status, and the whole texts for `out` and `err`.
 #[derive(Drop)]
 pub struct Answer {
     pub status: u8,
     pub out: Vec<u8>,
     pub err: Vec<u8>,
+}
+
+/// An answer with nothing for `out`.
+pub fn message(alloc: Global, status: u8, err: Vec<u8>) -> Answer
+    ensures { IsAnswer result status [] err.items }
+{
+    Answer {
+        status,
+        out: Vec::new(alloc),
+        err,
+    }
+}
+
+/// The refusal of a file by a rule.
+pub fn refuse(alloc: Global, file: &str, r: &Refusal) -> Result<Answer, NoMemory>
+    ensures { IfOk result (λ a.
+        IsAnswer a 1 [] (refusal_text file.now r.now.rule r.now.pos)) }
+{
+    Ok(message(alloc, 1, refusal(alloc, r, file)?))
 }

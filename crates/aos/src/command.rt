@@ -1,50 +1,46 @@
 // From the words and the shelf to an answer.
 
-ghost use Rattle.std.specs.Prelude.{◌≡◌, ◌≤◌, ◌^◌, [], ◌∷◌, length, IfOk};
-ghost use Rattle.aos_base.specs.declared.text.Refusal.{Refusal};
+ghost use Rattle.std.specs.Prelude.{◌≡◌, ◌≤◌, ◌^◌, [], ◌∷◌, length, All, IfOk};
 ghost use Rattle.aos_script.specs.Listing.{IsScript};
 ghost use Rattle.aos_report.specs.Texts.{refusal_text};
 ghost use Rattle.aos.specs.Call.{shelf_use};
-ghost use Rattle.aos.specs.Words.{Run, Replay, words_of, text_limit, script_limit};
+ghost use Rattle.aos.specs.Words.{Run, Replay, words_of, text_limit, script_limit, name_of};
 ghost use Rattle.aos.specs.Report.{script_line};
-ghost use Rattle.aos.specs.Shown.{IsFetched, IsAnswer, Causes, Serves, ServesTexts};
+ghost use Rattle.aos.specs.Shown.{IsAnswer, texts_of, Causes, Serves, ServesTexts};
 
-use crate::answer::Answer;
+use crate::answer::{Answer, message, refuse};
+use crate::fetch::{FetchedFile, FetchedFiles, fetch_file, fetch_files};
 use crate::run::{replay_image, run_image};
 use crate::words::{Command, command_of};
-use aos_base::{NoMemory, Pos, Refusal};
+use aos_base::{NoMemory, Refusal};
 use aos_code::Image;
 use aos_compile::{CompileErr, compile};
-use aos_dev::{Got, Shelf};
-use aos_report::{no_worker, refusal, script_refused, too_long, unread, usage};
+use aos_dev::Shelf;
+use aos_report::{no_worker, script_refused, usage};
 use aos_script::{Script, ScriptErr, read_script};
 use aos_typed::Program;
 use std::alloc::Global;
 use std::sync::Wait;
 
-// The most bytes of a module's text.
-const TEXT_LIMIT: u64 = 1_048_576;
-
 // The most bytes of a script.
 const SCRIPT_LIMIT: u64 = 67_108_864;
 
-// An answer with nothing for `out`.
-fn message(alloc: Global, status: u8, err: Vec<u8>) -> Answer
-    ensures { IsAnswer result status [] err.items }
+// The name of the file with this number, counted from 0 in the order of the command.
+fn file_name(files: &[String], number: u32) -> &str
+    ensures { result.now ≡ name_of (words_of files.now) number }
 {
-    Answer {
-        status,
-        out: Vec::new(alloc),
-        err,
+    match files.get(number as usize) {
+        Some(file) => file.as_str(),
+        None => "",
     }
 }
 
-// The refusal of a file by a rule.
-fn refuse(alloc: Global, file: &str, r: &Refusal) -> Result<Answer, NoMemory>
-    ensures { IfOk result (λ a.
-        IsAnswer a 1 [] (refusal_text file.now r.now.rule r.now.pos)) }
+// The refusal of files whose texts break a rule: its line names the file in which they do.
+fn refuse_texts(alloc: Global, files: &[String], r: &Refusal) -> Result<Answer, NoMemory>
+    ensures { IfOk result (λ a. IsAnswer a 1 []
+        (refusal_text (name_of (words_of files.now) r.now.file) r.now.rule r.now.pos)) }
 {
-    Ok(message(alloc, 1, refusal(alloc, r, file)?))
+    refuse(alloc, file_name(files, r.file), r)
 }
 
 // The refusal of a text that is no script.
@@ -59,125 +55,109 @@ fn refuse_script(alloc: Global, e: ScriptErr) -> Result<Answer, NoMemory>
     }
 }
 
-// What comes of fetching a file.
-pub enum Fetched {
-    // Its text.
-    Text(Vec<u8>),
-    // It isn't had, and this is the answer.
-    Stopped(Answer),
-}
-
-// Fetches a file of at most so many bytes.
-fn fetch<F: Shelf>(alloc: Global, file: &str, most: u64, shelf: &mut F) -> Result<Fetched, NoMemory>
-    ensures fetched { IfOk result (IsFetched
-        (shelf_use F.Shelf shelf.old shelf.new) (record { file = file.now; most = most })) }
-    ensures texts { F.texts shelf.new ≡ F.texts shelf.old }
-    ensures faults { F.faults shelf.old ≤ F.faults shelf.new }
+// The answer for files that have these texts, where the words ask for them alone.
+fn run_texts<R: Wait>(
+    rt: &R,
+    alloc: Global,
+    files: &[String],
+    texts: &[Vec<u8>],
+) -> Result<Answer, NoMemory>
+    requires some { 1 ≤ length texts.now }
+    requires few { length texts.now ≤ 64 }
+    requires limits { All (λ t. length t.items ≤ text_limit) texts.now }
+    ensures { IfOk result (ServesTexts (Run (words_of files.now)) (texts_of texts.now)) }
 {
-    let mut text = Vec::new(alloc);
-    match shelf.fetch(file, most, &mut text) {
-        Got::Text => Ok(Fetched::Text(text)),
-        Got::Absent => {
-            let absent = Refusal {
-                rule: 1,
-                file: 0,
-                pos: Pos { line: 0, col: 0 },
-            };
-            Ok(Fetched::Stopped(refuse(alloc, file, &absent)?))
-        }
-        Got::TooLong => Ok(Fetched::Stopped(message(alloc, 6, too_long(alloc, file, most)?))),
-        Got::Failed => Ok(Fetched::Stopped(message(alloc, 6, unread(alloc, file)?))),
-        Got::NoMemory => Err(NoMemory),
-    }
-}
-
-// The answer for a file that has this text, where the words ask for it alone.
-fn run_text<R: Wait>(rt: &R, alloc: Global, file: &str, text: &[u8]) -> Result<Answer, NoMemory>
-    requires { length text.now ≤ text_limit }
-    ensures { IfOk result (ServesTexts (Run file.now) (text.now ∷ [])) }
-{
-    match compile(alloc, text) {
+    match compile(alloc, texts) {
         Ok((program, image)) => run_image(rt, alloc, image),
-        Err(CompileErr::Refused(r)) => refuse(alloc, file, &r),
+        Err(CompileErr::Refused(r)) => refuse_texts(alloc, files, &r),
         Err(CompileErr::NoMemory) => Err(NoMemory),
     }
 }
 
-// The answer where the words ask for a run of this file.
-fn run_file<R: Wait, F: Shelf>(
+// The answer where the words ask for a run of these files.
+fn run_files<R: Wait, F: Shelf>(
     rt: &R,
     alloc: Global,
-    file: &str,
+    files: &[String],
     shelf: &mut F,
 ) -> Result<Answer, NoMemory>
-    ensures { IfOk result (Serves (Run file.now) (shelf_use F.Shelf shelf.old shelf.new)) }
+    requires some { 1 ≤ length files.now }
+    requires few { length files.now ≤ 64 }
+    ensures { IfOk result
+        (Serves (Run (words_of files.now)) (shelf_use F.Shelf shelf.old shelf.new)) }
 {
-    match fetch(alloc, file, TEXT_LIMIT, shelf)? {
-        Fetched::Text(text) => run_text(rt, alloc, file, &text),
-        Fetched::Stopped(answer) => Ok(answer),
+    match fetch_files(alloc, files, shelf)? {
+        FetchedFiles::Texts(texts) => run_texts(rt, alloc, files, &texts),
+        FetchedFiles::Stopped(answer) => Ok(answer),
     }
 }
 
-// The answer for a file that has this text, by this script.
-fn replay_text(
+// The answer for files that have these texts, by this script.
+fn replay_texts(
     alloc: Global,
     name: &str,
     listing: &[u8],
     script: &Script,
-    file: &str,
-    text: &[u8],
+    files: &[String],
+    texts: &[Vec<u8>],
 ) -> Result<Answer, NoMemory>
-    requires limit { length text.now ≤ text_limit }
+    requires some { 1 ≤ length texts.now }
+    requires few { length texts.now ≤ 64 }
+    requires limits { All (λ t. length t.items ≤ text_limit) texts.now }
     requires read { IsScript listing.now script.now }
-    requires few { length script.now.runs ≤ 2 ^ 27 }
-    ensures { IfOk result
-        (ServesTexts (Replay name.now file.now) (listing.now ∷ text.now ∷ [])) }
+    requires runs { length script.now.runs ≤ 2 ^ 27 }
+    ensures { IfOk result (ServesTexts
+        (Replay name.now (words_of files.now)) (listing.now ∷ texts_of texts.now)) }
 {
-    match compile(alloc, text) {
+    match compile(alloc, texts) {
         Ok((program, image)) => replay_image(alloc, image, script),
-        Err(CompileErr::Refused(r)) => refuse(alloc, file, &r),
+        Err(CompileErr::Refused(r)) => refuse_texts(alloc, files, &r),
         Err(CompileErr::NoMemory) => Err(NoMemory),
     }
 }
 
-// The answer for a file that has this text, by a script whose text is this.
+// The answer for files that have these texts, by a script whose text is this.
 fn replay_listing(
     alloc: Global,
     name: &str,
     listing: &[u8],
-    file: &str,
-    text: &[u8],
+    files: &[String],
+    texts: &[Vec<u8>],
 ) -> Result<Answer, NoMemory>
+    requires some { 1 ≤ length texts.now }
+    requires few { length texts.now ≤ 64 }
+    requires limits { All (λ t. length t.items ≤ text_limit) texts.now }
     requires script { length listing.now ≤ script_limit }
-    requires limit { length text.now ≤ text_limit }
-    ensures { IfOk result
-        (ServesTexts (Replay name.now file.now) (listing.now ∷ text.now ∷ [])) }
+    ensures { IfOk result (ServesTexts
+        (Replay name.now (words_of files.now)) (listing.now ∷ texts_of texts.now)) }
 {
     match read_script(alloc, listing) {
-        Ok(script) => replay_text(alloc, name, listing, &script, file, text),
+        Ok(script) => replay_texts(alloc, name, listing, &script, files, texts),
         Err(e) => refuse_script(alloc, e),
     }
 }
 
-// The answer where the words ask for a run of the second file by the first.
-fn replay_file<F: Shelf>(
+// The answer where the words ask for a run of these files by a script.
+fn replay_files<F: Shelf>(
     alloc: Global,
     name: &str,
-    file: &str,
+    files: &[String],
     shelf: &mut F,
 ) -> Result<Answer, NoMemory>
-    ensures { IfOk result
-        (Serves (Replay name.now file.now) (shelf_use F.Shelf shelf.old shelf.new)) }
+    requires some { 1 ≤ length files.now }
+    requires few { length files.now ≤ 64 }
+    ensures { IfOk result (Serves
+        (Replay name.now (words_of files.now)) (shelf_use F.Shelf shelf.old shelf.new)) }
 {
-    let listing = match fetch(alloc, name, SCRIPT_LIMIT, shelf)? {
-        Fetched::Text(listing) => listing,
-        Fetched::Stopped(answer) => return Ok(answer),
+    let listing = match fetch_file(alloc, name, SCRIPT_LIMIT, shelf)? {
+        FetchedFile::Text(listing) => listing,
+        FetchedFile::Stopped(answer) => return Ok(answer),
     };
-    let text = match fetch(alloc, file, TEXT_LIMIT, shelf)? {
-        Fetched::Text(text) => text,
-        Fetched::Stopped(answer) => return Ok(answer),
+    let texts = match fetch_files(alloc, files, shelf)? {
+        FetchedFiles::Texts(texts) => texts,
+        FetchedFiles::Stopped(answer) => return Ok(answer),
     };
-    replay_listing(alloc, name, &listing, file, &text)
+    replay_listing(alloc, name, &listing, files, &texts)
 }
 
 /// The answer to the words, from the shelf's texts. Want of memory is the only error.
@@ -191,8 +171,8 @@ pub fn answer<R: Wait, F: Shelf>(
         (Causes (words_of words.now) (shelf_use F.Shelf shelf.old shelf.new)) }
 {
     match command_of(words) {
-        Some(Command::Run(file)) => run_file(rt, alloc, file, shelf),
-        Some(Command::Replay(script, file)) => replay_file(alloc, script, file, shelf),
+        Some(Command::Run(files)) => run_files(rt, alloc, files, shelf),
+        Some(Command::Replay(script, files)) => replay_files(alloc, script, files, shelf),
         None => Ok(message(alloc, 2, usage(alloc)?)),
     }
 }

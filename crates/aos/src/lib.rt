@@ -3,6 +3,7 @@
 
 mod answer;
 mod command;
+mod fetch;
 mod run;
 pub mod top;
 mod words;

@@ -38,13 +38,13 @@ fn put_answer<O: Sink, E: Sink>(answer: &Answer, out: &mut O, err: &mut E) -> u8
     answer.status
 }
 
-/// What the program does. `run FILE`: the shelf gives the file's text, the text is checked,
-/// compiled and run by one worker; what the run wrote goes to `out`, and its reports to `err`.
-/// `replay --script S FILE`: the same, but the run goes by the script, with its workers and its
-/// budget.
+/// What the program does. `run FILE ..`, with 1 to 64 files: the shelf gives the files' texts, in
+/// this order, the texts are checked, compiled and run by one worker; what the run wrote goes to
+/// `out`, and its reports to `err`. `replay --script S FILE ..`: the same, but the run goes by the
+/// script, with its workers and its budget.
 ///
 /// The status is 0 where the run ended, 3 where it ended with a trap, 5 where it used up the
-/// budget, 9 where the script ended first; 1 where a file is absent or the text is refused, 2 where
+/// budget, 9 where the script ended first; 1 where a file is absent or the texts are refused, 2 where
 /// the words are no command, 6 where the shelf failed or a file is too long, 10 where the script is
 /// none. Where a sink failed it is 7 in the place of any of these, and 8, with nothing put, where
 /// memory was wanted.
