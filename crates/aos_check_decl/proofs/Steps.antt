@@ -1,28 +1,9 @@
--- One more step of walks and of loops.
-use Rattle.std.proofs.Common.{◌≡◌, ◌<◌, ◌≤◌, ℕ, zero, suc, List, [], ◌∷◌, ◌++◌, ◌+◌, true, length, get_or, drop, drop-cons, add-one, append_assoc, replicate, Option, refl, ap, ◌∙◌, sym}
-use Rattle.std.proofs.lemmas.List.Sums.{fold-append}
+-- One more type, and one more variable.
+use Rattle.std.proofs.Common.{◌≡◌, ℕ, zero, suc, List, [], ◌∷◌, ◌++◌, ◌+◌, true, add-one, append_assoc, replicate, Option, refl, ap, ◌∙◌, sym}
 use Rattle.aos_types.specs.declared.row.TypeId.{TypeId}
 use Rattle.aos_types.specs.declared.row.TypeRow.TheVariants as row
-use Rattle.aos_symbols.specs.declared.breach.Breach.{Breach}
 use Rattle.aos_symbols.specs.declared.env.Env.{Env}
-use Rattle.aos_symbols.specs.Breaches.{sooner, first_after}
-use Rattle.aos_symbols.specs.Judged.{Judged, kept, bind, walk}
-use Rattle.aos_symbols.proofs.Paths.{past}
 use Rattle.aos_check_decl.specs.Headings.{with_types, with_variable, with_variables}
-
--- one list of breaches after another
-pub after_more : (met : Option Breach) (xs ys : List Breach) → first_after met (xs ++ ys) ≡ first_after (first_after met xs) ys
-after_more met xs ys = fold-append sooner met xs ys
-
--- one more part of a walk
-pub walk_step : {A X : Type 0} (step : A → X → Judged A) (a : A) (xs : List X) (i : ℕ) (d : X) → i < length xs →
-    walk step a (drop i xs) ≡ bind (step a (get_or xs i d)) (λ b. walk step b (drop (i + 1) xs))
-walk_step step a xs i d lt =
-    ap (λ l. walk step a l) (drop-cons xs i d lt)
-    ∙ ap (λ j. bind (step a (get_or xs i d)) (λ b. walk step b (drop j xs))) (sym (add-one i))
-
-pub walk_end : {A X : Type 0} (step : A → X → Judged A) (a : A) (xs : List X) (i : ℕ) → length xs ≤ i → walk step a (drop i xs) ≡ kept a
-walk_end step a xs i le = ap (λ l. walk step a l) (past xs i le)
 
 replicate_more : {X : Type 0} (n : ℕ) (x : X) → replicate n x ++ x ∷ [] ≡ replicate (n + 1) x
 replicate_more n x = again n x ∙ ap (λ k. replicate k x) (sym (add-one n))

@@ -71,7 +71,7 @@ fn slot_in(lookup: Lookup) -> Option<TypeId>
     }
 }
 
-#[tactic(auto, using(crate::proofs::Steps::after_more))]
+#[tactic(auto, using(aos_symbols::proofs::Keeping::after_more))]
 fn type_def(alloc: Global, found: &mut Option<Breach>, env: &mut Env<'_>, def: &TypeDef)
     ensures noted { found.new ≡ first_after found.old (judge.type_def env.old def.now).breaches }
     ensures env { env.new ≡ (judge.type_def env.old def.now).answer }
@@ -81,7 +81,7 @@ fn type_def(alloc: Global, found: &mut Option<Breach>, env: &mut Env<'_>, def: &
     define(alloc, env, slot, row);
 }
 
-#[tactic(auto, using(crate::proofs::Steps::after_more, crate::proofs::Steps::walk_step, crate::proofs::Steps::walk_end))]
+#[tactic(auto, using(aos_symbols::proofs::Keeping::after_more, aos_symbols::proofs::Steps::walk_step, aos_symbols::proofs::Steps::walk_end))]
 fn type_defs(alloc: Global, found: &mut Option<Breach>, env: &mut Env<'_>, defs: &[TypeDef])
     ensures noted { found.new ≡
         first_after found.old (walk judge.type_def env.old defs.now).breaches }
@@ -103,7 +103,7 @@ fn add_variables(env: &mut Env<'_>, count: usize, of: Option<TypeId>) -> Result<
     Ok(())
 }
 
-#[tactic(auto, using(crate::proofs::Steps::after_more))]
+#[tactic(auto, using(aos_symbols::proofs::Keeping::after_more))]
 fn variable_def(found: &mut Option<Breach>, env: &mut Env<'_>, def: &VarDef) -> Result<(), NoMemory>
     ensures noted { OnOk result (found.new ≡
         first_after found.old (judge.variable_def env.old def.now).breaches) }
@@ -113,7 +113,7 @@ fn variable_def(found: &mut Option<Breach>, env: &mut Env<'_>, def: &VarDef) -> 
     add_variables(env, def.defs.len(), of)
 }
 
-#[tactic(auto, using(crate::proofs::Steps::after_more, crate::proofs::Steps::walk_step, crate::proofs::Steps::walk_end))]
+#[tactic(auto, using(aos_symbols::proofs::Keeping::after_more, aos_symbols::proofs::Steps::walk_step, aos_symbols::proofs::Steps::walk_end))]
 fn variable_defs(
     found: &mut Option<Breach>,
     env: &mut Env<'_>,
@@ -158,7 +158,7 @@ fn declare(
 }
 
 /// The environment behind all declarations of a module.
-#[tactic(auto, using(crate::proofs::Steps::after_more, crate::proofs::Steps::walk_step, crate::proofs::Steps::walk_end))]
+#[tactic(auto, using(aos_symbols::proofs::Keeping::after_more, aos_symbols::proofs::Steps::walk_step, aos_symbols::proofs::Steps::walk_end))]
 pub fn headings(
     alloc: Global,
     found: &mut Option<Breach>,

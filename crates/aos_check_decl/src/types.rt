@@ -173,7 +173,7 @@ fn refuse_alias(found: &mut Option<Breach>, lookup: Lookup, at: Pos)
 }
 
 /// The row of a type that is defined.
-#[tactic(auto, using(crate::proofs::Steps::after_more, crate::proofs::Rows::object_row))]
+#[tactic(auto, using(aos_symbols::proofs::Keeping::after_more, crate::proofs::Rows::object_row))]
 pub(crate) fn defined_row(
     alloc: Global,
     found: &mut Option<Breach>,

@@ -116,7 +116,7 @@ fn looked_up(found: &mut Option<Breach>, env: &Env<'_>, lookup: Lookup, at: Pos)
 }
 
 /// What stands behind the name of a module, of which this is the first.
-#[tactic(auto, using(crate::proofs::Steps::after_more))]
+#[tactic(auto, using(aos_symbols::proofs::Keeping::after_more))]
 fn member(
     found: &mut Option<Breach>,
     env: &Env<'_>,
@@ -157,7 +157,7 @@ fn of_module(
     }
 }
 
-#[tactic(auto, using(crate::proofs::Steps::after_more))]
+#[tactic(auto, using(aos_symbols::proofs::Keeping::after_more))]
 fn by_meaning(
     found: &mut Option<Breach>,
     env: &Env<'_>,
@@ -181,7 +181,7 @@ fn by_meaning(
     }
 }
 
-#[tactic(auto, using(crate::proofs::Steps::after_more))]
+#[tactic(auto, using(aos_symbols::proofs::Keeping::after_more))]
 fn by_name(
     found: &mut Option<Breach>,
     env: &Env<'_>,
@@ -251,7 +251,7 @@ fn written(found: &mut Option<Breach>, first: Pos, spot: &Spot)
 }
 
 /// A LONGINT variable.
-#[tactic(auto, using(crate::proofs::Steps::after_more))]
+#[tactic(auto, using(aos_symbols::proofs::Keeping::after_more))]
 pub(crate) fn number_variable(
     found: &mut Option<Breach>,
     env: &Env<'_>,
@@ -269,7 +269,7 @@ pub(crate) fn number_variable(
 }
 
 /// An object variable that a statement writes.
-#[tactic(auto, using(crate::proofs::Steps::after_more))]
+#[tactic(auto, using(aos_symbols::proofs::Keeping::after_more))]
 pub(crate) fn written_object(
     found: &mut Option<Breach>,
     env: &Env<'_>,
@@ -290,7 +290,7 @@ pub(crate) fn written_object(
 }
 
 /// A variable that a statement assigns a number, by its designator.
-#[tactic(auto, using(crate::proofs::Steps::after_more))]
+#[tactic(auto, using(aos_symbols::proofs::Keeping::after_more))]
 pub fn assigned(found: &mut Option<Breach>, env: &Env<'_>, desig: &Desig) -> Spot
     ensures noted { found.new ≡ first_after found.old
         (judge.assigned env.now desig.now.name desig.now.selectors).breaches }

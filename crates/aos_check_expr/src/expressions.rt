@@ -158,7 +158,7 @@ fn factor_place(factor: &Factor) -> Pos
 }
 
 /// The operators round the first factor of an expression, of which none is built.
-#[tactic(auto, using(crate::proofs::Steps::after_more))]
+#[tactic(auto, using(aos_symbols::proofs::Keeping::after_more))]
 fn refuse_operators(found: &mut Option<Breach>, expr: &Expr)
     ensures { found.new ≡ first_after found.old (judge.alone_breaches expr.now) }
 {
@@ -169,7 +169,7 @@ fn refuse_operators(found: &mut Option<Breach>, expr: &Expr)
     refuse_relation(found, &expr.right);
 }
 
-#[tactic(auto, using(crate::proofs::Rows::factor_desig, crate::proofs::Steps::after_more))]
+#[tactic(auto, using(crate::proofs::Rows::factor_desig, aos_symbols::proofs::Keeping::after_more))]
 fn factor(found: &mut Option<Breach>, env: &Env<'_>, part: &Factor) -> TExpr
     ensures noted { found.new ≡ first_after found.old (judge.factor env.now part.now).breaches }
     ensures answer { seen_expr result ≡ (judge.factor env.now part.now).answer }
@@ -184,7 +184,7 @@ fn factor(found: &mut Option<Breach>, env: &Env<'_>, part: &Factor) -> TExpr
     }
 }
 
-#[tactic(auto, using(crate::proofs::Steps::after_more))]
+#[tactic(auto, using(aos_symbols::proofs::Keeping::after_more))]
 fn term(found: &mut Option<Breach>, env: &Env<'_>, part: &Term) -> TExpr
     ensures noted { found.new ≡ first_after found.old (judge.term env.now part.now).breaches }
     ensures answer { seen_expr result ≡ (judge.term env.now part.now).answer }
@@ -195,7 +195,7 @@ fn term(found: &mut Option<Breach>, env: &Env<'_>, part: &Term) -> TExpr
 }
 
 /// An operator and its right operand behind its left one.
-#[tactic(auto, using(crate::proofs::Steps::after_more))]
+#[tactic(auto, using(aos_symbols::proofs::Keeping::after_more))]
 fn addition(
     alloc: Global,
     found: &mut Option<Breach>,
@@ -216,7 +216,7 @@ fn addition(
     added(alloc, part.op, left, right)
 }
 
-#[tactic(auto, using(crate::proofs::Steps::after_more, crate::proofs::Steps::walk_step, crate::proofs::Steps::walk_end))]
+#[tactic(auto, using(aos_symbols::proofs::Keeping::after_more, aos_symbols::proofs::Steps::walk_step, aos_symbols::proofs::Steps::walk_end))]
 fn additions(
     alloc: Global,
     found: &mut Option<Breach>,
@@ -237,7 +237,7 @@ fn additions(
     Ok(whole)
 }
 
-#[tactic(auto, using(crate::proofs::Steps::after_more))]
+#[tactic(auto, using(aos_symbols::proofs::Keeping::after_more))]
 fn sum(
     alloc: Global,
     found: &mut Option<Breach>,
@@ -255,7 +255,7 @@ fn sum(
 }
 
 /// An expression that is a sum of LONGINT variables and numbers.
-#[tactic(auto, using(crate::proofs::Steps::after_more))]
+#[tactic(auto, using(aos_symbols::proofs::Keeping::after_more))]
 pub fn value(
     alloc: Global,
     found: &mut Option<Breach>,
@@ -271,7 +271,7 @@ pub fn value(
     Ok(whole)
 }
 
-#[tactic(auto, using(crate::proofs::Steps::after_more))]
+#[tactic(auto, using(aos_symbols::proofs::Keeping::after_more))]
 fn compared(
     alloc: Global,
     found: &mut Option<Breach>,
@@ -301,7 +301,7 @@ fn compared(
 }
 
 /// What a WHILE that begins here tests.
-#[tactic(auto, using(crate::proofs::Steps::after_more))]
+#[tactic(auto, using(aos_symbols::proofs::Keeping::after_more))]
 pub fn condition(
     alloc: Global,
     found: &mut Option<Breach>,
@@ -344,7 +344,7 @@ fn places_factor(found: &mut Option<Breach>, env: &Env<'_>, part: &Factor) -> TE
 }
 
 /// In how many places a number is written.
-#[tactic(auto, using(crate::proofs::Steps::after_more))]
+#[tactic(auto, using(aos_symbols::proofs::Keeping::after_more))]
 pub fn places(found: &mut Option<Breach>, env: &Env<'_>, expr: &Expr) -> TExpr
     ensures noted { found.new ≡ first_after found.old (judge.places env.now expr.now).breaches }
     ensures answer { seen_expr result ≡ (judge.places env.now expr.now).answer }
@@ -354,7 +354,7 @@ pub fn places(found: &mut Option<Breach>, env: &Env<'_>, expr: &Expr) -> TExpr
     whole
 }
 
-#[tactic(auto, using(crate::proofs::Rows::object_desig, crate::proofs::Steps::after_more))]
+#[tactic(auto, using(crate::proofs::Rows::object_desig, aos_symbols::proofs::Keeping::after_more))]
 fn object_factor(found: &mut Option<Breach>, env: &Env<'_>, part: &Factor) -> Option<Spot>
     ensures noted { found.new ≡ first_after found.old
         (judge.object_factor env.now part.now).breaches }
@@ -373,7 +373,7 @@ fn object_factor(found: &mut Option<Breach>, env: &Env<'_>, part: &Factor) -> Op
 }
 
 /// The variable that NEW makes an object for; none where the argument is no designator.
-#[tactic(auto, using(crate::proofs::Steps::after_more))]
+#[tactic(auto, using(aos_symbols::proofs::Keeping::after_more))]
 pub fn object(found: &mut Option<Breach>, env: &Env<'_>, expr: &Expr) -> Option<Spot>
     ensures noted { found.new ≡ first_after found.old (judge.object env.now expr.now).breaches }
     ensures answer { option_map seen_spot result ≡ (judge.object env.now expr.now).answer }

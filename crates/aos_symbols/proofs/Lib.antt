@@ -10,3 +10,4 @@ pub mod Holds
 pub mod Found
 pub mod Told
 pub mod Lookups
+pub mod Steps

@@ -9,7 +9,7 @@ use Rattle.aos_symbols.specs.declared.breach.Breach.{Breach}
 use Rattle.aos_symbols.specs.Breaches.{first_after, breach_unless}
 use Rattle.aos_symbols.specs.Spelling.{word, is_word, are_same}
 use Rattle.aos_symbols.specs.Names.{declared_again, twice_after}
-use Rattle.aos_symbols.proofs.Keeping.{first_after-append}
+use Rattle.aos_symbols.proofs.Keeping.{after_more}
 
 -- a key with these bytes
 abbrev pub key : List ℕ → Bor (List ℕ)
@@ -60,5 +60,5 @@ module _ (text : List ℕ) where
       ap (λ b. first_after (first_after met (breach_unless (not (is_word text (codes "SELF") n || b)) 13 n.pos)) (twice_after text (take (i + 1) ns) (drop (i + 1) ns))) is
       ∙ ap (λ z. first_after (first_after met here) (twice_after text z (drop (i + 1) ns))) (take_more ns i d lt)
       ∙ ap (λ j. first_after (first_after met here) (twice_after text (take i ns ++ n ∷ []) (drop j ns))) (add-one i)
-      ∙ sym (first_after-append met here (twice_after text (take i ns ++ n ∷ []) (drop (suc i) ns)))
+      ∙ sym (after_more met here (twice_after text (take i ns ++ n ∷ []) (drop (suc i) ns)))
       ∙ ap (λ z. first_after met (twice_after text (take i ns) z)) (sym (drop-cons ns i d lt))

@@ -1,14 +1,7 @@
 -- One more step of walks over lists.
-use Rattle.std.proofs.Common.{◌≡◌, ◌<◌, ◌≤◌, ℕ, List, ◌++◌, ◌+◌, length, get_or, drop, drop-cons, add-one, Option, ap, ◌∙◌, sym}
-use Rattle.aos_symbols.specs.declared.breach.Breach.{Breach}
-use Rattle.aos_symbols.specs.Breaches.{first_after}
+use Rattle.std.proofs.Common.{◌≡◌, ◌<◌, ◌≤◌, ℕ, List, ◌+◌, length, get_or, drop, drop-cons, add-one, ap, ◌∙◌, sym}
 use Rattle.aos_symbols.specs.Judged.{Judged, kept, bind, walk}
-use Rattle.aos_symbols.proofs.Keeping.{first_after-append}
 use Rattle.aos_symbols.proofs.Paths.{past}
-
--- one list of breaches after another
-pub after_more : (met : Option Breach) (xs ys : List Breach) → first_after met (xs ++ ys) ≡ first_after (first_after met xs) ys
-after_more met xs ys = first_after-append met xs ys
 
 -- one more part of a walk
 pub walk_step : {A X : Type 0} (step : A → X → Judged A) (a : A) (xs : List X) (i : ℕ) (d : X) → i < length xs →
