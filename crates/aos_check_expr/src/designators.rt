@@ -46,7 +46,8 @@ fn refused(found: &mut Option<Breach>, rule: u16, at: Pos) -> Spot
     nowhere(at)
 }
 
-fn selector_place(selector: &Selector) -> Pos
+/// The first token of a selector.
+pub fn selector_place(selector: &Selector) -> Pos
     ensures { result ≡ judge.selector_place selector.now }
 {
     match selector {
@@ -58,7 +59,7 @@ fn selector_place(selector: &Selector) -> Pos
 }
 
 /// Selectors that aren't built.
-fn refuse_selectors(found: &mut Option<Breach>, selectors: &[Selector])
+pub fn refuse_selectors(found: &mut Option<Breach>, selectors: &[Selector])
     ensures { found.new ≡ first_after found.old (judge.selector_breaches selectors.now) }
 {
     for selector in selectors {

@@ -4,5 +4,5 @@
 pub mod designators;
 pub mod expressions;
 
-pub use designators::{Spot, assigned, object_number, type_of};
+pub use designators::{Spot, assigned, object_number, refuse_selectors, selector_place, type_of};
 pub use expressions::{condition, object, places, value};

@@ -1,12 +1,14 @@
--- The statements of a row, read as a list.
-use Rattle.std.proofs.Common.{◌≡◌, List, [], Option, Some, refl, ap, ◌∙◌}
+-- Statements read as a list: those of a row, and those of the code.
+use Rattle.std.proofs.Common.{◌≡◌, List, [], ◌∷◌, map, Option, Some, refl, ap, ◌∙◌}
 use Rattle.aos_base.specs.declared.text.Pos.{Pos}
 use Rattle.aos_tree.specs.declared.expr.Expr.{Expr as TreeExpr}
 use Rattle.aos_tree.specs.declared.stat.StatSeq.{StatSeq}
 use Rattle.aos_tree.specs.declared.stat.Stat.{Stat as TreeStat, Row_of-Stat, end_of-Stat, more_of-Stat, items-the_row-Stat, items_hidden-the_row-Stat-0}
 use Rattle.aos_tree.specs.declared.stat.Stat.TheVariants as stat
 use Rattle.aos_tree.specs.declared.stat.Case.TheBlock.{hidden-the_row-Stat-0}
-use Rattle.aos_typed.specs.Program.{Expr, Stat, While}
+use Rattle.aos_typed.specs.declared.tree.TStat.{TStat}
+use Rattle.aos_typed.specs.Program.{Expr, Stat, While, Then}
+use Rattle.aos_typed.specs.Seen.{seen_stat, seen_stats}
 use Rattle.aos_symbols.specs.declared.env.Env.{Env}
 use Rattle.aos_symbols.specs.Judged.{Judged, kept, bind, walk}
 use Rattle.aos_check_expr.specs.Expressions.{condition}
@@ -27,3 +29,8 @@ module _ (e : Env) where
       ap (λ z. stat_of e z) is
       ∙ ap (λ z. bind (condition e p c) (λ test. bind z (λ us. kept (Some (While p test (listed us))))))
       (stats_row _ [] (hidden-the_row-Stat-0 body.stats) ∙ ap (λ ss. walk (stat_in e) [] ss) (items_hidden-the_row-Stat-0 body.stats))
+
+-- the code's statements are seen as the list of what each is seen as
+pub stats_seen : (ss : List TStat) → seen_stats ss ≡ listed (map seen_stat ss)
+stats_seen [] = refl
+stats_seen (x ∷ xs) = ap (λ z. Then (seen_stat x) z) (stats_seen xs)

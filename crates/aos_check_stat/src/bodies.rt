@@ -11,6 +11,7 @@ use aos_tree::{Block, Modifier};
 use aos_typed::TStat;
 use std::alloc::{AllocError, Global};
 
+/// Modifiers of which none is built but one ACTIVE, without a value, on a body that may be active.
 fn refuse_modifiers(
     found: &mut Option<Breach>,
     text: &[u8],
@@ -30,7 +31,7 @@ fn refuse_modifiers(
 }
 
 /// The statements of a body, which may be active or not. A body that is END alone has none.
-#[tactic(auto, using(crate::proofs::Steps::after_more, crate::proofs::Steps::stats_seen))]
+#[tactic(auto, using(aos_check_expr::proofs::Steps::after_more, crate::proofs::Rows::stats_seen))]
 pub fn body_of(
     alloc: Global,
     found: &mut Option<Breach>,

@@ -5,11 +5,12 @@ ghost use Rattle.aos_typed.specs.Seen.{seen_stat};
 ghost use Rattle.aos_symbols.specs.Breaches.{first_after};
 ghost use Rattle.aos_symbols.specs.Env as scopes;
 ghost use Rattle.aos_check_expr.specs.Seen.{seen_spot};
-ghost use Rattle.aos_check_expr.specs.Designators as places;
 ghost use Rattle.aos_check_stat.specs.Bodies as judge;
 
 use aos_base::Pos;
-use aos_check_expr::{Spot, object, object_number, places, value};
+use aos_check_expr::{
+    Spot, object, object_number, places, refuse_selectors, selector_place, value,
+};
 use aos_symbols::{
     Breach, Env, Lookup, Meaning, NOT_BUILT, NOT_EXPORTED, UNKNOWN, is_procedure_of_out, is_word,
     note, word,
@@ -35,28 +36,8 @@ pub fn not_yet(found: &mut Option<Breach>, at: Pos) -> Option<TStat>
     refused(found, NOT_BUILT, at)
 }
 
-fn selector_place(selector: &Selector) -> Pos
-    ensures { result ≡ places.selector_place selector.now }
-{
-    match selector {
-        Selector::Field(at, _) => *at,
-        Selector::Index(at, _) => *at,
-        Selector::Follow(at) => *at,
-        Selector::Paren(at, _) => *at,
-    }
-}
-
-/// Selectors of which none is built.
-fn refuse_selectors(found: &mut Option<Breach>, selectors: &[Selector])
-    ensures { found.new ≡ first_after found.old (places.selector_breaches selectors.now) }
-{
-    for selector in selectors {
-        note(found, NOT_BUILT, selector_place(selector));
-    }
-}
-
 /// Out.Int of these arguments, in a call that begins at a place.
-#[tactic(auto, using(crate::proofs::Steps::after_more))]
+#[tactic(auto, using(aos_check_expr::proofs::Steps::after_more))]
 fn int_call(
     alloc: Global,
     found: &mut Option<Breach>,
@@ -72,7 +53,7 @@ fn int_call(
     match arguments {
         [number, width] => {
             let number = value(alloc, found, env, number)?;
-            let width = places(alloc, found, env, width)?;
+            let width = places(found, env, width);
             Ok(Some(TStat::Out(at, OutCall::Int(number, width))))
         },
         _ => Ok(not_yet(found, at)),
@@ -90,27 +71,21 @@ fn made(at: Pos, spot: Option<Spot>) -> Option<TStat>
 }
 
 /// NEW of these arguments, in a call that begins at a place.
-#[tactic(auto, using(crate::proofs::Steps::after_more))]
-fn new_call(
-    alloc: Global,
-    found: &mut Option<Breach>,
-    env: &Env<'_>,
-    at: Pos,
-    arguments: &[Expr],
-) -> Result<Option<TStat>, AllocError>
-    ensures noted { OnOk result (found.new ≡
-        first_after found.old (judge.new_call env.now at arguments.now).breaches) }
-    ensures answer { IfOk result
-        (λ s. option_map seen_stat s ≡ (judge.new_call env.now at arguments.now).answer) }
+#[tactic(auto, using(aos_check_expr::proofs::Steps::after_more))]
+fn new_call(found: &mut Option<Breach>, env: &Env<'_>, at: Pos, arguments: &[Expr]) -> Option<TStat>
+    ensures noted { found.new ≡
+        first_after found.old (judge.new_call env.now at arguments.now).breaches }
+    ensures answer { option_map seen_stat result ≡
+        (judge.new_call env.now at arguments.now).answer }
 {
     match arguments {
-        [variable] => Ok(made(at, object(alloc, found, env, variable)?)),
-        _ => Ok(not_yet(found, at)),
+        [variable] => made(at, object(found, env, variable)),
+        _ => not_yet(found, at),
     }
 }
 
 /// What stands behind `Out.Int`.
-#[tactic(auto, using(crate::proofs::Steps::after_more))]
+#[tactic(auto, using(aos_check_expr::proofs::Steps::after_more))]
 fn int_selectors(
     alloc: Global,
     found: &mut Option<Breach>,
@@ -137,34 +112,33 @@ fn int_selectors(
 }
 
 /// What stands behind `NEW`.
-#[tactic(auto, using(crate::proofs::Steps::after_more))]
+#[tactic(auto, using(aos_check_expr::proofs::Steps::after_more))]
 fn new_selectors(
-    alloc: Global,
     found: &mut Option<Breach>,
     env: &Env<'_>,
     at: Pos,
     selectors: &[Selector],
-) -> Result<Option<TStat>, AllocError>
-    ensures noted { OnOk result (found.new ≡
-        first_after found.old (judge.new_selectors env.now at selectors.now).breaches) }
-    ensures answer { IfOk result
-        (λ s. option_map seen_stat s ≡ (judge.new_selectors env.now at selectors.now).answer) }
+) -> Option<TStat>
+    ensures noted { found.new ≡
+        first_after found.old (judge.new_selectors env.now at selectors.now).breaches }
+    ensures answer { option_map seen_stat result ≡
+        (judge.new_selectors env.now at selectors.now).answer }
 {
     let Some((selector, more)) = selectors.split_first() else {
-        return Ok(not_yet(found, at));
+        return not_yet(found, at);
     };
     match selector {
         Selector::Paren(_, arguments) => {
-            let call = new_call(alloc, found, env, at, arguments.as_slice())?;
+            let call = new_call(found, env, at, arguments.as_slice());
             refuse_selectors(found, more);
-            Ok(call)
+            call
         },
-        _ => Ok(not_yet(found, selector_place(selector))),
+        _ => not_yet(found, selector_place(selector)),
     }
 }
 
 /// A call of Out's procedure of this name.
-#[tactic(auto, using(crate::proofs::Steps::after_more))]
+#[tactic(auto, using(aos_check_expr::proofs::Steps::after_more))]
 fn out_call(
     alloc: Global,
     found: &mut Option<Breach>,
@@ -231,7 +205,7 @@ fn called_meaning(
     let at = desig.name.pos;
     match means {
         Meaning::Out => out_selectors(alloc, found, env, at, desig.selectors.as_slice()),
-        Meaning::New => new_selectors(alloc, found, env, at, desig.selectors.as_slice()),
+        Meaning::New => Ok(new_selectors(found, env, at, desig.selectors.as_slice())),
         _ => Ok(not_yet(found, at)),
     }
 }

@@ -14,7 +14,7 @@ use aos_typed::TStat;
 use std::alloc::{AllocError, Global};
 
 /// An assignment.
-#[tactic(auto, using(crate::proofs::Steps::after_more))]
+#[tactic(auto, using(aos_check_expr::proofs::Steps::after_more))]
 fn assign(
     alloc: Global,
     found: &mut Option<Breach>,
@@ -27,7 +27,7 @@ fn assign(
     ensures answer { IfOk result
         (λ s. option_map seen_stat s ≡ (judge.assign env.now desig.now expr.now).answer) }
 {
-    let spot = assigned(alloc, found, env, desig)?;
+    let spot = assigned(found, env, desig);
     let number = value(alloc, found, env, expr)?;
     Ok(Some(TStat::Assign(desig.name.pos, spot.place, number)))
 }
@@ -80,7 +80,7 @@ fn stat_of(
 
 /// The statements of a sequence.
 #[cycle(statements)]
-#[tactic(auto, using(crate::proofs::Steps::after_more, crate::proofs::Steps::walk_step, crate::proofs::Steps::walk_end))]
+#[tactic(auto, using(aos_check_expr::proofs::Steps::after_more, aos_check_expr::proofs::Steps::walk_step, aos_check_expr::proofs::Steps::walk_end))]
 pub fn stats_in(
     alloc: Global,
     found: &mut Option<Breach>,

@@ -6,9 +6,9 @@ use Rattle.aos_typed.proofs.Seen.{while_seen}
 use Rattle.aos_symbols.specs.Breaches.{first_after}
 use Rattle.aos_symbols.specs.Judged.{walk}
 use Rattle.aos_check_expr.specs.Expressions.{condition}
+use Rattle.aos_check_expr.proofs.Steps.{after_more}
 use Rattle.aos_check_stat.specs.Bodies.{listed, stat_in}
-use Rattle.aos_check_stat.proofs.Steps.{after_more, stats_seen}
-use Rattle.aos_check_stat.proofs.Rows.{stat_while}
+use Rattle.aos_check_stat.proofs.Rows.{stat_while, stats_seen}
 use Rattle.aos_check_stat.proofs.statements.+statements.Goals as goal
 
 pub stat_of-returns-in_ok-all-in-While-clause-noted : goal.stat_of-returns-in_ok-all-in-While-clause-noted
