@@ -31,7 +31,7 @@ fn refuse_modifiers(
 }
 
 /// The statements of a body, which may be active or not. A body that is END alone has none.
-#[tactic(auto, using(aos_check_expr::proofs::Steps::after_more, crate::proofs::Rows::stats_seen))]
+#[tactic(auto, using(aos_symbols::proofs::Keeping::after_more, crate::proofs::Rows::stats_seen))]
 pub fn body_of(
     alloc: Global,
     found: &mut Option<Breach>,

@@ -37,7 +37,7 @@ pub fn not_yet(found: &mut Option<Breach>, at: Pos) -> Option<TStat>
 }
 
 /// Out.Int of these arguments, in a call that begins at a place.
-#[tactic(auto, using(aos_check_expr::proofs::Steps::after_more))]
+#[tactic(auto, using(aos_symbols::proofs::Keeping::after_more))]
 fn int_call(
     alloc: Global,
     found: &mut Option<Breach>,
@@ -71,7 +71,7 @@ fn made(at: Pos, spot: Option<Spot>) -> Option<TStat>
 }
 
 /// NEW of these arguments, in a call that begins at a place.
-#[tactic(auto, using(aos_check_expr::proofs::Steps::after_more))]
+#[tactic(auto, using(aos_symbols::proofs::Keeping::after_more))]
 fn new_call(found: &mut Option<Breach>, env: &Env<'_>, at: Pos, arguments: &[Expr]) -> Option<TStat>
     ensures noted { found.new ≡
         first_after found.old (judge.new_call env.now at arguments.now).breaches }
@@ -85,7 +85,7 @@ fn new_call(found: &mut Option<Breach>, env: &Env<'_>, at: Pos, arguments: &[Exp
 }
 
 /// What stands behind `Out.Int`.
-#[tactic(auto, using(aos_check_expr::proofs::Steps::after_more))]
+#[tactic(auto, using(aos_symbols::proofs::Keeping::after_more))]
 fn int_selectors(
     alloc: Global,
     found: &mut Option<Breach>,
@@ -112,7 +112,7 @@ fn int_selectors(
 }
 
 /// What stands behind `NEW`.
-#[tactic(auto, using(aos_check_expr::proofs::Steps::after_more))]
+#[tactic(auto, using(aos_symbols::proofs::Keeping::after_more))]
 fn new_selectors(
     found: &mut Option<Breach>,
     env: &Env<'_>,
@@ -138,7 +138,7 @@ fn new_selectors(
 }
 
 /// A call of Out's procedure of this name.
-#[tactic(auto, using(aos_check_expr::proofs::Steps::after_more))]
+#[tactic(auto, using(aos_symbols::proofs::Keeping::after_more))]
 fn out_call(
     alloc: Global,
     found: &mut Option<Breach>,

@@ -14,7 +14,7 @@ use aos_typed::TStat;
 use std::alloc::{AllocError, Global};
 
 /// An assignment.
-#[tactic(auto, using(aos_check_expr::proofs::Steps::after_more))]
+#[tactic(auto, using(aos_symbols::proofs::Keeping::after_more))]
 fn assign(
     alloc: Global,
     found: &mut Option<Breach>,
@@ -80,7 +80,7 @@ fn stat_of(
 
 /// The statements of a sequence.
 #[cycle(statements)]
-#[tactic(auto, using(aos_check_expr::proofs::Steps::after_more, aos_check_expr::proofs::Steps::walk_step, aos_check_expr::proofs::Steps::walk_end))]
+#[tactic(auto, using(aos_symbols::proofs::Keeping::after_more, aos_symbols::proofs::Steps::walk_step, aos_symbols::proofs::Steps::walk_end))]
 pub fn stats_in(
     alloc: Global,
     found: &mut Option<Breach>,

@@ -6,7 +6,7 @@ use Rattle.aos_typed.proofs.Seen.{while_seen}
 use Rattle.aos_symbols.specs.Breaches.{first_after}
 use Rattle.aos_symbols.specs.Judged.{walk}
 use Rattle.aos_check_expr.specs.Expressions.{condition}
-use Rattle.aos_check_expr.proofs.Steps.{after_more}
+use Rattle.aos_symbols.proofs.Keeping.{after_more}
 use Rattle.aos_check_stat.specs.Bodies.{listed, stat_in}
 use Rattle.aos_check_stat.proofs.Rows.{stat_while, stats_seen}
 use Rattle.aos_check_stat.proofs.statements.+statements.Goals as goal
