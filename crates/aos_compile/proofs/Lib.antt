@@ -1,5 +1,9 @@
 pub mod Examples
 pub mod OneReading
+pub mod Readings
+pub mod Orders
+pub mod Loads
+pub mod Composed
 pub mod TypingPrograms
 pub mod TypingScopes
 pub mod TypingModules

@@ -2,3 +2,4 @@ pub mod Modules
 pub mod Files
 pub mod Elaborates
 pub mod Seen
+pub mod Sources

@@ -4,7 +4,7 @@ ghost use Rattle.std.specs.Prelude.{◌≡◌};
 ghost use Rattle.aos_compile.specs.declared.compile_err.CompileErr.{CompileErr};
 
 use aos_base::{NoMemory, Refusal};
-use std::alloc::AllocError;
+use std::alloc::{AllocError, AllocFailed};
 
 /// Why a text isn't compiled.
 #[derive(Clone, Copy, PartialEq, Eq, Debug)]
@@ -27,6 +27,14 @@ impl From<AllocError> for CompileErr {
     ghost from_gives = { λ _ e. e ≡ CompileErr.NoMemory };
 
     fn from(_: AllocError) -> CompileErr {
+        CompileErr::NoMemory
+    }
+}
+
+impl<T: Drop> From<AllocFailed<T>> for CompileErr {
+    ghost from_gives = { λ _ e. e ≡ CompileErr.NoMemory };
+
+    fn from(_: AllocFailed<T>) -> CompileErr {
         CompileErr::NoMemory
     }
 }

@@ -1,12 +1,19 @@
 // Laws of elaboration.
 
-ghost use Rattle.std.specs.Prelude.{◌≡◌, ℕ, List};
+ghost use Rattle.std.specs.Prelude.{◌≡◌, ◌≤◌, ℕ, List, length};
 ghost use Rattle.aos_typed.specs.Program.{Program};
-ghost use Rattle.aos_symbols.specs.Outcome.{Outcome};
+ghost use Rattle.aos_typed.specs.WellTyped.{IsWellTyped};
+ghost use Rattle.aos_symbols.specs.Outcome.{Outcome, went};
 ghost use Rattle.aos_compile.specs.Elaborates.{ComesTo};
 
 /// Texts come to one thing alone: one program, or one refusal.
 pub fn law_of_outcome()
     ensures { (texts : List (List ℕ)) (a b : Outcome Program) → ComesTo texts a → ComesTo texts b →
         a ≡ b }
+{}
+
+/// The program that 1 to 64 texts come to is well typed.
+pub fn law_of_typing()
+    ensures { (texts : List (List ℕ)) (p : Program) → ComesTo texts (went p) → 1 ≤ length texts →
+        length texts ≤ 64 → IsWellTyped p }
 {}

@@ -2,10 +2,12 @@
 #![tactic(auto)]
 
 pub mod compile_err;
+mod files;
+mod front;
 mod laws;
 pub mod modules;
 pub mod program;
 
 pub use compile_err::CompileErr;
-pub use laws::law_of_outcome;
+pub use laws::{law_of_outcome, law_of_typing};
 pub use program::compile;

@@ -6,15 +6,46 @@ ghost use Rattle.aos_typed.specs.Seen.{seen_program};
 ghost use Rattle.aos_sim.specs.Shows.{Shows};
 ghost use Rattle.aos_symbols.specs.Outcome.{went, refused};
 ghost use Rattle.aos_compile.specs.Elaborates.{ComesTo, names_of, OnRefused};
+ghost use Rattle.aos_compile.specs.Sources.{bytes_of};
 
 use crate::compile_err::CompileErr;
+use crate::files::elaborate;
+use crate::laws::law_of_typing;
 use aos_code::Image;
+use aos_emit::image_of;
 use aos_typed::Program;
 use std::alloc::Global;
 
-/// STUB: the typed program of the texts of 1 to 64 modules, each of at most 2^20 bytes, in the order of the command, and an
-/// image that shows it: for every budget and schedule the image's execution is seen as the program's. Refused by the first
-/// rule that the texts break, with the file and the place.
+/// The most object types of which an image is made. No texts that are compiled have as many.
+const MOST_OBJECT_TYPES: usize = 67_108_864;
+
+/// The program of texts, and its image.
+fn with_image(
+    alloc: Global,
+    texts: &[Vec<u8>],
+    program: Program,
+) -> Result<(Program, Image), CompileErr>
+    requires some { 1 ≤ length texts.now }
+    requires few { length texts.now ≤ 64 }
+    requires modules { length program.modules.items ≤ 64 }
+    requires program { ComesTo (bytes_of texts.now) (went (seen_program program)) }
+    ensures went { IfOk result (λ r. ComesTo (bytes_of texts.now) (went (seen_program r.0))) }
+    ensures shows { IfOk result (λ r. Shows (seen_program r.0) r.1) }
+    ensures names { IfOk result
+        (λ r. map (λ d. string_bytes d.name) r.1.modules.items ≡ names_of (seen_program r.0)) }
+    ensures memory { IfErr result (λ e. e ≡ CompileErr.NoMemory) }
+{
+    law_of_typing();
+    if program.objects.len() > MOST_OBJECT_TYPES {
+        return Err(CompileErr::NoMemory);
+    }
+    let image = image_of(alloc, &program)?;
+    Ok((program, image))
+}
+
+/// The typed program of the texts of 1 to 64 modules, each of at most 2^20 bytes, in the order of the command, and an image
+/// that shows it: for every budget and schedule the image's execution is seen as the program's. Refused by the first rule
+/// that the texts break, with the file and the place.
 pub fn compile(alloc: Global, texts: &[Vec<u8>]) -> Result<(Program, Image), CompileErr>
     requires some { 1 ≤ length texts.now }
     requires few { length texts.now ≤ 64 }
@@ -27,5 +58,6 @@ pub fn compile(alloc: Global, texts: &[Vec<u8>]) -> Result<(Program, Image), Com
     ensures refused { IfErr result (λ e. OnRefused e (λ r.
         ComesTo (map (λ t. t.items) texts.now) (refused r))) }
 {
-    Err(CompileErr::NoMemory)
+    let program = elaborate(alloc, texts)?;
+    with_image(alloc, texts, program)
 }

@@ -1,0 +1,57 @@
+-- What the passes over all files come to together.
+use Rattle.std.proofs.Common.{◌≡◌, ℕ, List, refl, sym, ap, ◌∙◌, subst}
+use Rattle.std.specs.List.{zip}
+use Rattle.aos_base.specs.declared.text.Refusal.{Refusal}
+use Rattle.aos_tree.specs.declared.module.Module.{Module as Tree}
+use Rattle.aos_typed.specs.Program.{Program}
+use Rattle.aos_symbols.specs.Outcome.{Outcome, refused, went, then, in_turn}
+use Rattle.aos_compile.specs.declared.compile_err.CompileErr.{CompileErr}
+use Rattle.aos_compile.specs.declared.compile_err.CompileErr.TheVariants.{Refused, NoMemory}
+use Rattle.aos_compile.specs.Modules.{World, no_modules, program_of}
+use Rattle.aos_compile.specs.Files.{Source, Reading, trees_from, load_order, loaded, modules, elaborate}
+use Rattle.aos_compile.specs.Elaborates.{AreReadings, ComesTo, OnRefused}
+
+-- what is told of a part, told of the whole
+on_refused : {A B : Type 0} (said : CompileErr) (o : Outcome A) (f : A → Outcome B) → OnRefused said (λ r. o ≡ refused r) → OnRefused said (λ r. then o f ≡ refused r)
+on_refused (Refused r) o f e = ap (λ x. then x f) e
+on_refused NoMemory o f e = tt
+
+module _ (texts : List (List ℕ)) (rs : List Reading) (are : AreReadings texts rs) where
+  comes : (said : CompileErr) → OnRefused said (λ r. elaborate texts rs ≡ refused r) → OnRefused said (λ r. ComesTo texts (refused r))
+  comes (Refused r) e = record { readings = rs; are_readings = are; is = e }
+  comes NoMemory e = tt
+
+  abbrev behind_trees : List Tree → Outcome Program
+  behind_trees ms = then (modules (zip texts ms)) (λ w. went (program_of w))
+
+  pub broken_text : (said : CompileErr) → OnRefused said (λ r. trees_from 0 rs ≡ refused r) → OnRefused said (λ r. ComesTo texts (refused r))
+  broken_text said h = comes said (on_refused said (trees_from 0 rs) behind_trees h)
+
+  module _ (ms : List Tree) (read : trees_from 0 rs ≡ went ms) where
+    abbrev files : List Source
+    files = zip texts ms
+
+    read_so : elaborate texts rs ≡ behind_trees ms
+    read_so = ap (λ x. then x behind_trees) read
+
+    over : (said : CompileErr) → OnRefused said (λ r. behind_trees ms ≡ refused r) → OnRefused said (λ r. ComesTo texts (refused r))
+    over said h = comes said (subst (λ o. OnRefused said (λ r. o ≡ refused r)) (sym read_so) h)
+
+    pub no_order : (said : CompileErr) → OnRefused said (λ r. load_order files ≡ refused r) → OnRefused said (λ r. ComesTo texts (refused r))
+    no_order said h =
+        over said (on_refused said (modules files) (λ w. went (program_of w)) (on_refused said (load_order files) (λ order. in_turn (loaded files) no_modules order) h))
+
+    module _ (order : List ℕ) (ordered : load_order files ≡ went order) where
+      ordered_so : modules files ≡ in_turn (loaded files) no_modules order
+      ordered_so = ap (λ x. then x (λ order. in_turn (loaded files) no_modules order)) ordered
+
+      pub broken_module : (said : CompileErr) → OnRefused said (λ r. in_turn (loaded files) no_modules order ≡ refused r) → OnRefused said (λ r. ComesTo texts (refused r))
+      broken_module said h =
+          over said (on_refused said (modules files) (λ w. went (program_of w)) (subst (λ o. OnRefused said (λ r. o ≡ refused r)) (sym ordered_so) h))
+
+      pub whole : (w : World) (p : Program) → in_turn (loaded files) no_modules order ≡ went w → p ≡ program_of w → ComesTo texts (went p)
+      whole w p e is = record {
+        readings = rs;
+        are_readings = are;
+        is = read_so ∙ ap (λ x. then x (λ w. went (program_of w))) (ordered_so ∙ e) ∙ ap went (sym is);
+      }

@@ -1,0 +1,47 @@
+-- Modules one behind another.
+use Rattle.std.proofs.Common.{◌≡◌, ℕ, ◌+◌, List, [], ◌∷◌, ◌++◌, length, Option, Some, None, refl, sym, ap, ◌∙◌, subst, arith}
+use Rattle.std.specs.List.{slice_get}
+use Rattle.std.proofs.lemmas.List.{length-append}
+use Rattle.aos_tree.specs.declared.module.Module.{Module as Tree}
+use Rattle.aos_symbols.specs.declared.env.Env.{Env}
+use Rattle.aos_symbols.specs.Judged.{judged}
+use Rattle.aos_symbols.specs.Names.{name_breaches}
+use Rattle.aos_symbols.specs.Outcome.{Outcome, refused, went, then, passed}
+use Rattle.aos_check_decl.specs.Headings.{headings}
+use Rattle.aos_compile.specs.Modules.{World, Bodies, bodies, entered, extended, module_of, elaborated}
+use Rattle.aos_compile.specs.Files.{Source, loaded}
+
+-- what the first of two came to, where both went
+pub went_first : {A B : Type 0} (o : Outcome A) (f : A → Outcome B) (b : B) → then o f ≡ went b → (a : A) × (f a ≡ went b)
+went_first (refused r) f b e = absurd (cc)
+went_first (went a) f b e = (a, e)
+
+-- one module more
+pub record IsLonger (w v : World) : Type 0 where
+  pub before : length v.before ≡ length w.before + 1
+  pub modules : length v.modules ≡ length w.modules + 1
+
+by_extended : (w v : World) (e : Env) (m : Tree) (b : Bodies) → went (extended w e m b) ≡ went v → IsLonger w v
+by_extended w v e m b same =
+    let is : extended w e m b ≡ v = cc in
+    record {
+      before = ap (λ x. length x.before) (sym is) ∙ length-append w.before (e.here ∷ []);
+      modules = ap (λ x. length x.modules) (sym is) ∙ length-append w.modules (module_of e m b.own ∷ []);
+    }
+
+module _ (w : World) (k : ℕ) (text : List ℕ) (m : Tree) where
+  abbrev with_bodies : Env → Outcome World
+  with_bodies e = then (passed k (bodies e m)) (λ b. went (extended w e m b))
+
+  abbrev with_headings : Unit {0} → Outcome World
+  with_headings names = then (passed k (headings (entered w text m) m.decls)) with_bodies
+
+  pub longer : (v : World) → elaborated w k text m ≡ went v → IsLonger w v
+  longer v is =
+      let h = went_first (passed k (judged (name_breaches text m) tt)) with_headings v is in
+      let e = went_first (passed k (headings (entered w text m) m.decls)) with_bodies v h.1 in
+      let b = went_first (passed k (bodies e.0 m)) (λ b. went (extended w e.0 m b)) v e.1 in
+      by_extended w v e.0 m b.0 b.1
+
+pub loaded_at : (ss : List Source) (w : World) (k : ℕ) (text : List ℕ) (m : Tree) → slice_get ss k ≡ Some (text, m) → loaded ss w k ≡ elaborated w k text m
+loaded_at ss w k text m is = rw is refl
