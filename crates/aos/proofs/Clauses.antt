@@ -20,7 +20,7 @@ use Rattle.aos_script.specs.Listing.{IsScript, choices_of}
 use Rattle.aos_script.specs.Refusals.{IsRefused as IsRefusedScript}
 use Rattle.aos_script.proofs.Lasting.{not_both}
 use Rattle.aos_script.proofs.Sole.{one_script}
-use Rattle.aos_symbols.specs.Outcome.{went, refused as refused_by}
+use Rattle.aos_symbols.specs.Outcome.{Outcome as Coming, went, refused as refused_by}
 use Rattle.aos_compile.specs.Elaborates.{ComesTo, IsAccepted, names_of}
 use Rattle.aos_compile.proofs.OneReading.{one_outcome}
 use Rattle.aos.specs.declared.answer.Answer.{Answer}
@@ -113,10 +113,10 @@ one_program texts p q h k = injective p q (one_outcome texts (went p) (went q) h
     injective p q e = cc
 
 one_refusal : (texts : List (List ℕ)) (r s : Refusal) → ComesTo texts (refused_by r) → ComesTo texts (refused_by s) → r ≡ s
-one_refusal texts r s h k = injective r s (one_outcome texts (refused_by r) (refused_by s) h k)
+one_refusal texts r s h k = injective r s (refused_by r) refl (one_outcome texts (refused_by r) (refused_by s) h k)
   where
-    injective : (r s : Refusal) → refused_by r ≡ refused_by s → r ≡ s
-    injective r s e = cc
+    injective : (r s : Refusal) (o : Coming Program) → o ≡ refused_by r → o ≡ refused_by s → r ≡ s
+    injective r s o e e' = cc
 
 -- What the words ask for is one
 

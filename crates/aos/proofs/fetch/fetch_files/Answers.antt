@@ -1,4 +1,4 @@
-use Rattle.std.proofs.Common.{arith, ◌+◌, List, [], ◌∷◌, Option, sym, subst, ◌∙◌, take}
+use Rattle.std.proofs.Common.{arith, ℕ, ◌+◌, List, Vec, Global, [], ◌∷◌, Option, sym, subst, ◌∙◌, take}
 use Rattle.std.specs.Prelude.{string_bytes}
 use Rattle.aos_dev.specs.Shelf.{Named}
 use Rattle.aos.specs.Call.{shelf_use}
@@ -35,7 +35,7 @@ loop-file-preserved g c =
     let fetched = subst (λ (t : Option (List Named)). IsFetched (record { texts = t; faults_before = mid; faults_after = new }) (text_file (string_bytes file)) came) c.loop-file.invariant.1 named in
     let one = came_text (record { texts = texts; faults_before = mid; faults_after = new }) (text_file (string_bytes file)) came c.in-Text.text fetched c.in-Text.is in
     let more = had_more files texts k file c.loop-file.texts.items c.in-Text.text c.loop-file-test.true c.file-item.is c.loop-file.invariant.0 one in (
-      subst (λ xs. Had texts (text_files (words_of (take (k + 1) files))) (texts_of xs)) (sym c.in_ok-keep-in-Text.ensures) more,
+      subst (λ xs. Had texts (text_files (words_of (take (k + 1) files))) (texts_of xs)) (sym {A = List (Vec ℕ Global)} c.in_ok-keep-in-Text.ensures) more,
       c.in_ok-text.ensures.texts ∙ c.loop-file.invariant.1,
       omega (arith, c.loop-file.invariant.2, c.in_ok-text.ensures.faults),
     )
