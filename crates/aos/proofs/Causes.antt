@@ -1,5 +1,5 @@
 -- Answers with their causes.
-use Rattle.std.proofs.Common.{◌≡◌, ℕ, ◌≤◌, List, [], ◌∷◌, ◌++◌, length, refl, sym, ap, ◌∙◌, subst, inl, inr}
+use Rattle.std.proofs.Common.{◌≡◌, ℕ, ◌≤◌, List, [], length, sym, ap, ◌∙◌, subst, inl, inr}
 use Rattle.std.specs.Prelude.{◌⊎◌, ◌^◌, Result, Ok, Err, IfOk}
 use Rattle.aos_base.specs.declared.text.NoMemory.{NoMemory}
 use Rattle.aos_base.specs.declared.text.Refusal.{Refusal}

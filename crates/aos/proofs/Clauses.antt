@@ -27,7 +27,7 @@ use Rattle.aos.specs.declared.answer.Answer.{Answer}
 use Rattle.aos.specs.Call.{ShelfUse, Call, Tells, ShelfFailed, GotWhole, GotNothing, SinksWorked, IsUndisturbed}
 use Rattle.aos.specs.Words.{Command, Run, Replay, command_of, Asks, wanted_files, name_of}
 use Rattle.aos.specs.Fetched.{Fetched, Texts, NoFile, LongFile, Fetches}
-use Rattle.aos.specs.Report.{report, replay_report, script_line}
+use Rattle.aos.specs.Report.{report, replay_report}
 use Rattle.aos.specs.Seen.{Seen, default_budget, seen_of, replay_of}
 use Rattle.aos.specs.Cause.{Runs, RunsBy, Takes, alone, by_script, Cause, wrong_words, unread, absent, too_long, bad_script, refused, ran, ran_by, Answered, PutInPart, out_failed, err_failed, AnsweredInPart}
 use Rattle.aos.specs.Promises.{IsRunStatus, IsReplayStatus, IsAbsentOrRefused, is_absent, is_refused, IsRunnable, IsReplayable, IsRefusable, ShowsTexts, ShowsReplay, ShowsRefusal, IsTooLong, IsNoScript, HasEnded, Promises}
@@ -355,14 +355,14 @@ module _ (words : List (List ℕ)) (shelf : ShelfUse) (tells : Tells shelf) wher
         (λ r comes. absurd (never_accepted texts r comes ok))
         (λ files' texts' p o l comes seen. run_or_replay words shelf l k)
         (λ listing' files' texts' s' p l read' comes.
-          let same = same_script s s' k read l read' in
-          record {
-            program = p;
-            comes = comes;
-            status_is = ap (λ z. (replay_of p z).status) same;
-            out_is = ap (λ z. (replay_of p z).output) same;
-            err_is = ap (λ z. replay_report (names_of p) z (replay_of p z)) same;
-          })
+        let same = same_script s s' k read l read' in
+        record {
+          program = p;
+          comes = comes;
+          status_is = ap (λ z. (replay_of p z).status) same;
+          out_is = ap (λ z. (replay_of p z).output) same;
+          err_is = ap (λ z. replay_report (names_of p) z (replay_of p z)) same;
+        })
 
     -- refused texts are told of
     record IsRefusalOf (files : List (List ℕ)) (r : Refusal) (status : ℕ) (out err : List ℕ) : Type 0 where
@@ -396,9 +396,9 @@ module _ (call : Call) (tells : Tells call.shelf) (calm : ¬ ShelfFailed call.sh
       (λ r comes. absurd (never_accepted k.texts r comes (record { program = k.program; comes = k.comes })))
       (λ files' texts' p o l comes seen. run_or_replay call.words call.shelf l k.runs)
       (λ listing' files' texts' s p l read comes.
-        subst (λ (q : Program). (replay_of q s).status ≡ 9) (sym (one_program k.texts p k.program comes k.comes))
-        (subst (λ (z : Script). (replay_of k.program z).status ≡ 9) (sym (same_script call.words call.shelf tells k.script s k.runs k.read l read))
-        (going_status k.program k.script.budget (choices_of k.script) k.going)))
+      subst (λ (q : Program). (replay_of q s).status ≡ 9) (sym (one_program k.texts p k.program comes k.comes))
+      (subst (λ (z : Script). (replay_of k.program z).status ≡ 9) (sym (same_script call.words call.shelf tells k.script s k.runs k.read l read))
+      (going_status k.program k.script.budget (choices_of k.script) k.going)))
 
   ten_if : {status : ℕ} {out err : List ℕ} → Of call status out err → IsNoScript call → status ≡ 10
   ten_if (wrong_words n) k = no_command call.words (Replay k.runs.script k.files) n k.runs.asks

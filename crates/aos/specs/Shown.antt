@@ -19,9 +19,11 @@ use Rattle.aos.specs.declared.answer.Answer.{Answer}
 use Rattle.aos.specs.declared.words.Command.{Command as Given}
 use Rattle.aos.specs.declared.words.Command.TheVariants.{Run as GivenRun, Replay as GivenReplay}
 use Rattle.aos.specs.declared.fetch.FetchedFile.{FetchedFile}
-use Rattle.aos.specs.declared.fetch.FetchedFile.TheVariants.{Text as FileText, Stopped as FileStopped}
+use Rattle.aos.specs.declared.fetch.FetchedFile.TheVariants.{Text as FileText}
+use Rattle.aos.specs.declared.fetch.FetchedFile.TheVariants.{Stopped as FileStopped}
 use Rattle.aos.specs.declared.fetch.FetchedFiles.{FetchedFiles}
-use Rattle.aos.specs.declared.fetch.FetchedFiles.TheVariants.{Texts as FilesTexts, Stopped as FilesStopped}
+use Rattle.aos.specs.declared.fetch.FetchedFiles.TheVariants.{Texts as FilesTexts}
+use Rattle.aos.specs.declared.fetch.FetchedFiles.TheVariants.{Stopped as FilesStopped}
 use Rattle.aos.specs.Call.{ShelfUse, SinkUse, ShelfFailed, GotWhole}
 use Rattle.aos.specs.Words.{Words, words_of, Command, Run, Replay, Asks}
 use Rattle.aos.specs.Words.{Wanted, wanted_files, IsWanted}

@@ -53,11 +53,7 @@ pub fn fetch_file<F: Shelf>(
             };
             Ok(FetchedFile::Stopped(refuse(alloc, file, &absent)?))
         }
-        Got::TooLong => Ok(FetchedFile::Stopped(message(
-            alloc,
-            6,
-            too_long(alloc, file, most)?,
-        ))),
+        Got::TooLong => Ok(FetchedFile::Stopped(message(alloc, 6, too_long(alloc, file, most)?))),
         Got::Failed => Ok(FetchedFile::Stopped(message(alloc, 6, unread(alloc, file)?))),
         Got::NoMemory => Err(NoMemory),
     }

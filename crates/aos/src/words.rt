@@ -54,10 +54,7 @@ pub fn command_of(words: &[String]) -> Option<Command<'_>>
             if replay.as_str() == "replay"
                 && option.as_str() == "--script"
                 && is_name(script.as_str())
-                && are_files(files) =>
-        {
-            Some(Command::Replay(script.as_str(), files))
-        }
+                && are_files(files) => { Some(Command::Replay(script.as_str(), files)) }
         _ => None,
     }
 }
