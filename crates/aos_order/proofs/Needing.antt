@@ -9,7 +9,8 @@ use Rattle.aos_tree.specs.declared.name.Name.{Name}
 use Rattle.aos_tree.specs.declared.module.Import.{Import}
 use Rattle.aos_order.specs.declared.order_err.OrderErr.{OrderErr}
 use Rattle.aos_order.specs.declared.order_err.OrderErr.TheVariants as err
-use Rattle.aos_order.specs.Files.{File, wanted, imported, word}
+use Rattle.aos_symbols.specs.Spelling.{word}
+use Rattle.aos_order.specs.Files.{File, wanted, imported}
 use Rattle.aos_order.specs.Order.{IsRefused, absence, absent, absent_in, file_of, first_absent, is_absent, is_out, names, needed, needs}
 use Rattle.aos_order.proofs.Searches.{find_first, find_none, find_here, find_further, find-map, filter_map-map, filter_map_more, position-map}
 
