@@ -12,3 +12,6 @@ pub mod Idents
 pub mod Texts
 pub mod Loaded
 pub mod Names
+pub mod Passes
+pub mod Counts
+pub mod Pairs

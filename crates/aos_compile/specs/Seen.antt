@@ -1,8 +1,9 @@
 -- What the code's modules are seen as.
 use Rattle.std.specs.Prelude.{map}
-use Rattle.aos_typed.specs.Seen.{seen_module, seen_object}
+use Rattle.aos_typed.specs.Seen.{seen_stat, seen_module, seen_object}
 use Rattle.aos_compile.specs.declared.modules.World.{World as CodeWorld}
-use Rattle.aos_compile.specs.Modules.{World}
+use Rattle.aos_compile.specs.declared.objects.Bodies.{Bodies as CodeBodies}
+use Rattle.aos_compile.specs.Modules.{World, Bodies}
 
 abbrev pub seen_world : CodeWorld → World
 seen_world w =
@@ -13,3 +14,6 @@ seen_world w =
       modules = map seen_module w.modules.items;
       objects = map seen_object w.objects.items;
     }
+
+abbrev pub seen_bodies : CodeBodies → Bodies
+seen_bodies b = record { objects = map seen_object b.objects.items; own = map seen_stat b.own.items }

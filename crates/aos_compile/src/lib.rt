@@ -6,7 +6,9 @@ mod files;
 mod front;
 mod laws;
 pub mod modules;
+mod objects;
 pub mod program;
+mod variables;
 
 pub use compile_err::CompileErr;
 pub use laws::{law_of_outcome, law_of_typing};

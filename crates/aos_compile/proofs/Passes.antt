@@ -1,0 +1,135 @@
+-- What the passes of a module give, one after another.
+use Rattle.std.proofs.Common.{◌≡◌, ◌<◌, ◌≤◌, ℕ, zero, suc, List, [], ◌∷◌, ◌++◌, ◌+◌, length, map, Option, Some, None, get_or, drop, drop-cons, add-one, append_assoc, refl, ap, ◌∙◌, sym}
+use Rattle.std.proofs.lemmas.List.{length-map}
+use Rattle.aos_tree.specs.declared.decl.Decl.{Decl, items-the_row-TypeDef, items-the_row-VarDef}
+use Rattle.aos_tree.specs.declared.decl.Decl.TheVariants as decl
+use Rattle.aos_tree.specs.declared.module.Module.{Module as Tree}
+use Rattle.aos_types.specs.declared.row.TypeId.{TypeId}
+use Rattle.aos_types.specs.declared.row.TypeRow.{TypeRow}
+use Rattle.aos_typed.specs.declared.tree.TStat.{TStat}
+use Rattle.aos_typed.specs.declared.tree.TObject.{TObject}
+use Rattle.aos_typed.specs.Program.{Then, ObjectType}
+use Rattle.aos_typed.specs.Seen.{seen_stat, seen_stats, seen_object}
+use Rattle.aos_symbols.specs.declared.breach.Breach.{Breach}
+use Rattle.aos_symbols.specs.declared.env.Env.{Env}
+use Rattle.aos_symbols.specs.Env as env
+use Rattle.aos_symbols.specs.Judged.{Judged, kept, bind, walk, judged}
+use Rattle.aos_symbols.specs.Breaches.{first, first_after}
+use Rattle.aos_symbols.specs.Outcome.{Outcome, went, then, passed, decided}
+use Rattle.aos_symbols.specs.Declarations.{types_in, type_defs}
+use Rattle.aos_symbols.specs.Names.{name_breaches}
+use Rattle.aos_symbols.proofs.Paths.{past}
+use Rattle.aos_check_decl.specs.Headings.{headings, declared, type_def, variable_def, defined_row, variable_type, with_row, with_variables, with_variable, slot_in}
+use Rattle.aos_check_decl.proofs.Steps.{after_more}
+use Rattle.aos_check_stat.specs.Bodies.{listed}
+use Rattle.aos_compile.specs.Modules.{World, Bodies, entered, bodies, within, object_in, extended, elaborated}
+
+-- statements are seen in their order
+pub stats_listed : (ss : List TStat) → seen_stats ss ≡ listed (map seen_stat ss)
+stats_listed [] = refl
+stats_listed (s ∷ ss) = ap (λ z. Then (seen_stat s) z) (stats_listed ss)
+
+pub within_seen : (e : Env) (os : List TObject) → within e (length (map seen_object os)) ≡ within e (length os)
+within_seen e os = ap (λ k. within e k) (length-map os seen_object)
+
+-- a walk over two lists, one behind the other
+walk_both : {A X : Type 0} (step : A → X → Judged A) (a : A) (xs ys : List X) →
+    walk step a (xs ++ ys) ≡ bind (walk step a xs) (λ b. walk step b ys)
+walk_both step a [] ys = refl
+walk_both step a (x ∷ xs) ys =
+    let s = step a x in
+    let b = walk step s.answer xs in
+    ap (λ z. bind s (λ c. z)) (walk_both step s.answer xs ys)
+    ∙ ap (λ bs. judged bs (walk step b.answer ys).answer) (sym (append_assoc s.breaches b.breaches (walk step b.answer ys).breaches))
+
+pub types_step : (e : Env) (os : List ObjectType) (ds : List Decl) (i : ℕ) (d : Decl) → i < length ds →
+    walk (object_in e) os (type_defs (drop i ds)) ≡ bind (walk (object_in e) os (types_in (get_or ds i d))) (λ b. walk (object_in e) b (type_defs (drop (i + 1) ds)))
+types_step e os ds i d lt =
+    ap (λ l. walk (object_in e) os (type_defs l)) (drop-cons ds i d lt)
+    ∙ walk_both (object_in e) os (types_in (get_or ds i d)) (type_defs (drop (suc i) ds))
+    ∙ ap (λ j. bind (walk (object_in e) os (types_in (get_or ds i d))) (λ b. walk (object_in e) b (type_defs (drop j ds)))) (sym (add-one i))
+
+pub types_end : (e : Env) (os : List ObjectType) (ds : List Decl) (i : ℕ) → length ds ≤ i → walk (object_in e) os (type_defs (drop i ds)) ≡ kept os
+types_end e os ds i le = ap (λ l. walk (object_in e) os (type_defs l)) (past ds i le)
+
+-- the types of one declaration, and those of the others behind it
+module _ (e : Env) (os new : List ObjectType) (ds : List Decl) (i : ℕ) (x : Decl) where
+  types_next : i < length ds → x ≡ get_or ds i x → new ≡ (walk (object_in e) os (types_in x)).answer →
+      walk (object_in e) os (type_defs (drop i ds))
+      ≡ judged ((walk (object_in e) os (types_in x)).breaches ++ (walk (object_in e) new (type_defs (drop (i + 1) ds))).breaches)
+      (walk (object_in e) new (type_defs (drop (i + 1) ds))).answer
+  types_next lt is told =
+      types_step e os ds i x lt
+      ∙ ap (λ d. bind (walk (object_in e) os (types_in d)) (λ b. walk (object_in e) b (type_defs (drop (i + 1) ds)))) (sym is)
+      ∙ ap (λ b. judged ((walk (object_in e) os (types_in x)).breaches ++ (walk (object_in e) b (type_defs (drop (i + 1) ds))).breaches) (walk (object_in e) b (type_defs (drop (i + 1) ds))).answer)
+      (sym told)
+
+  pub types_noted : (met behind : Option Breach) → i < length ds → x ≡ get_or ds i x → new ≡ (walk (object_in e) os (types_in x)).answer →
+      behind ≡ first_after met (walk (object_in e) os (types_in x)).breaches →
+      first_after behind (walk (object_in e) new (type_defs (drop (i + 1) ds))).breaches ≡ first_after met (walk (object_in e) os (type_defs (drop i ds))).breaches
+  types_noted met behind lt is told noted =
+      ap (λ z. first_after z (walk (object_in e) new (type_defs (drop (i + 1) ds))).breaches) noted
+      ∙ sym (after_more met (walk (object_in e) os (types_in x)).breaches (walk (object_in e) new (type_defs (drop (i + 1) ds))).breaches)
+      ∙ ap (λ (z : Judged (List ObjectType)). first_after met z.breaches) (sym (types_next lt is told))
+
+  pub types_answer : i < length ds → x ≡ get_or ds i x → new ≡ (walk (object_in e) os (types_in x)).answer →
+      (walk (object_in e) new (type_defs (drop (i + 1) ds))).answer ≡ (walk (object_in e) os (type_defs (drop i ds))).answer
+  types_answer lt is told = ap (λ (z : Judged (List ObjectType)). z.answer) (sym (types_next lt is told))
+
+-- declarations leave the modules before alone
+row_kept : (e : Env) (of : Option TypeId) (r : Option TypeRow) → (with_row e of r).before ≡ e.before
+row_kept e (Some t) (Some r) = refl
+row_kept e (Some t) None = refl
+row_kept e None r = refl
+
+variables_kept : (e : Env) (n : ℕ) (of : Option TypeId) → (with_variables e n of).before ≡ e.before
+variables_kept e zero of = refl
+variables_kept e (suc n) of = variables_kept (with_variable e of) n of
+
+walk_kept : {X : Type 0} (step : Env → X → Judged Env) → ((e : Env) (x : X) → (step e x).answer.before ≡ e.before) →
+    (e : Env) (xs : List X) → (walk step e xs).answer.before ≡ e.before
+walk_kept step each e [] = refl
+walk_kept step each e (x ∷ xs) = walk_kept step each (step e x).answer xs ∙ each e x
+
+decl_kept : (e : Env) (d : Decl) → (declared e d).answer.before ≡ e.before
+decl_kept e (decl.Consts p cs) = refl
+decl_kept e (decl.Types' p shape row) = walk_kept type_def (λ e d. row_kept e (slot_in (env.lookup e d.def.name)) (defined_row e d.value).answer) e (items-the_row-TypeDef _ row)
+decl_kept e (decl.Vars' p shape row) = walk_kept variable_def (λ e v. variables_kept e (length v.defs) (variable_type e v.of).answer) e (items-the_row-VarDef _ row)
+decl_kept e (decl.Proc' p i def formals shape row body end) = refl
+
+pub headings_kept : (e : Env) (ds : List Decl) → (headings e ds).answer.before ≡ e.before
+headings_kept e ds = walk_kept declared decl_kept e ds
+
+-- a pass that goes gives its answer
+decided_is : {A : Type 0} (file : ℕ) (found : Option Breach) (a b : A) → decided file found a ≡ went b → a ≡ b
+decided_is file None a b h = cc
+decided_is file (Some x) a b h = absurd cc
+
+passed_is : {A : Type 0} (file : ℕ) (j : Judged A) (b : A) → passed file j ≡ went b → j.answer ≡ b
+passed_is file j b h = decided_is file (first j.breaches) j.answer b h
+
+module _ (w : World) (file : ℕ) (text : List ℕ) (m : Tree) where
+  abbrev behind_headings : Env → Outcome World
+  behind_headings e = then (passed file (bodies e m)) (λ b. went (extended w e m b))
+
+  abbrev behind_names : Outcome World
+  behind_names = then (passed file (headings (entered w text m) m.decls)) behind_headings
+
+  names_told : first (name_breaches text m) ≡ None → elaborated w file text m ≡ behind_names
+  names_told h = ap (λ f. then (decided file f (tt {0})) (λ names. behind_names)) h
+
+  headings_told : (e : Env) → first (name_breaches text m) ≡ None → passed file (headings (entered w text m) m.decls) ≡ went e →
+      elaborated w file text m ≡ behind_headings e
+  headings_told e a b = names_told a ∙ ap (λ o. then o behind_headings) b
+
+  -- the modules before are those of the environment
+  before_kept : (v : Env) → passed file (headings (entered w text m) m.decls) ≡ went v → v.before ≡ w.before
+  before_kept v h = ap (λ (z : Env). z.before) (sym (passed_is file (headings (entered w text m) m.decls) v h)) ∙ headings_kept (entered w text m) m.decls
+
+  pub all_went : (v : Env) (b : Bodies) (x : World) → first (name_breaches text m) ≡ None → passed file (headings (entered w text m) m.decls) ≡ went v →
+      passed file (bodies v m) ≡ went b →
+      x ≡ extended (record { before = v.before; types = []; broken = []; modules = w.modules; objects = w.objects }) v m b →
+      elaborated w file text m ≡ went x
+  all_went v b x p q r is =
+      headings_told v p q ∙ ap (λ o. then o (λ c. went (extended w v m c))) r
+      ∙ sym (ap (λ z. went z) (is ∙ ap (λ hs. extended (record { before = hs; types = []; broken = []; modules = w.modules; objects = w.objects }) v m b) (before_kept v q)))
