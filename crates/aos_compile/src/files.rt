@@ -90,11 +90,7 @@ fn named_out(texts: &[Vec<u8>], trees: &[Module]) -> Option<CompileErr>
 
 /// The order in which the modules of files are loaded, by their numbers in the order of the command; or the first of the
 /// rules 8, 11, 9 and 10 that they break.
-fn load_order(
-    alloc: Global,
-    texts: &[Vec<u8>],
-    trees: &[Module],
-) -> Result<Vec<usize>, CompileErr>
+fn load_order(alloc: Global, texts: &[Vec<u8>], trees: &[Module]) -> Result<Vec<usize>, CompileErr>
     requires same { length trees.now ≡ length texts.now }
     requires few { length trees.now ≤ 64 }
     ensures went { IfOk result (λ order.

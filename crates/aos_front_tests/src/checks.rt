@@ -13,16 +13,8 @@ use std::test::Fail;
 
 /// Texts, the number of types that each defines, and what its names, its headings and its body come to.
 const MODULES: [(&str, usize, &str); 5] = [
-    (
-        "MODULE M; END M.",
-        0,
-        "kept, kept, kept: []",
-    ),
-    (
-        "MODULE M; END N.",
-        0,
-        "12 at 15, kept, kept: []",
-    ),
+    ("MODULE M; END M.", 0, "kept, kept, kept: []"),
+    ("MODULE M; END N.", 0, "12 at 15, kept, kept: []"),
     (
         "MODULE M; VAR a: LONGINT; b: U; BEGIN a := 2 END M.",
         0,

@@ -46,9 +46,10 @@ const ROWS: [Row<'_>; 22] = [
         ("5", "", 0),
     ),
     (
-        &[
-            ("A.Mod", "MODULE A; IMPORT X := Out; BEGIN X.Int(7, 0) END A."),
-        ],
+        &[(
+            "A.Mod",
+            "MODULE A; IMPORT X := Out; BEGIN X.Int(7, 0) END A.",
+        )],
         ("7", "", 0),
     ),
     (
@@ -96,10 +97,7 @@ const ROWS: [Row<'_>; 22] = [
         ("", "B.Mod:1:17: rule 14: unknown name\n", 1),
     ),
     (
-        &[
-            ("A.Mod", "MODULE A; END X."),
-            ("B.Mod", "MODULE B; END"),
-        ],
+        &[("A.Mod", "MODULE A; END X."), ("B.Mod", "MODULE B; END")],
         ("", "B.Mod:1:14: rule 6: syntax\n", 1),
     ),
     // a module named Out is refused before an absent one, and behind one that is given twice
@@ -135,7 +133,10 @@ const ROWS: [Row<'_>; 22] = [
     ),
     (
         &[
-            ("B.Mod", "MODULE B; TYPE T = OBJECT BEGIN {ACTIVE} END T; END B."),
+            (
+                "B.Mod",
+                "MODULE B; TYPE T = OBJECT BEGIN {ACTIVE} END T; END B.",
+            ),
             ("A.Mod", "MODULE A; IMPORT B; VAR q: B.T; END A."),
         ],
         ("", "A.Mod:1:30: rule 15: name not exported\n", 1),
@@ -150,20 +151,24 @@ const ROWS: [Row<'_>; 22] = [
     // a trap in a module that isn't the first
     (
         &[
-            ("B.Mod", "MODULE B; VAR n*: LONGINT; BEGIN n := 2147483647 END B."),
-            ("A.Mod", "MODULE A;\nIMPORT B;\nBEGIN\n  B.n := B.n + 1\nEND A."),
+            (
+                "B.Mod",
+                "MODULE B; VAR n*: LONGINT; BEGIN n := 2147483647 END B.",
+            ),
+            (
+                "A.Mod",
+                "MODULE A;\nIMPORT B;\nBEGIN\n  B.n := B.n + 1\nEND A.",
+            ),
         ],
         ("", "trap 5 0 activity 0 at A:4:3\n", 3),
     ),
     // names that are predeclared, or that of module Out, may be declared anew
     (
-        &[
-            (
-                "A.Mod",
-                "MODULE A; IMPORT O := Out; VAR NEW, Out: LONGINT; \
+        &[(
+            "A.Mod",
+            "MODULE A; IMPORT O := Out; VAR NEW, Out: LONGINT; \
                  BEGIN NEW := 3; Out := NEW + 1; O.Int(Out, 0) END A.",
-            ),
-        ],
+        )],
         ("4", "", 0),
     ),
     (
@@ -195,7 +200,13 @@ fn modules_by_a_script(rt: HostRuntime) -> Result<(), Fail> {
     let script = "aos-script 1\nworkers 1\nbudget 1000000\ns 0 9\nend\n";
     let files: &[(&str, &str)] = &[("S", script), ("A.Mod", READING), ("B.Mod", COUNTER)];
     let words = ["replay", "--script", "S", "A.Mod", "B.Mod"];
-    expect_answer(&rt, alloc, &words, shelf_of(alloc, files, &[])?, ("21", "", 0))?;
+    expect_answer(
+        &rt,
+        alloc,
+        &words,
+        shelf_of(alloc, files, &[])?,
+        ("21", "", 0),
+    )?;
     Ok(())
 }
 
