@@ -1,7 +1,6 @@
 -- What the passes over all files come to together.
-use Rattle.std.proofs.Common.{◌≡◌, ℕ, List, refl, sym, ap, ◌∙◌, subst}
+use Rattle.std.proofs.Common.{◌≡◌, ℕ, List, sym, ap, ◌∙◌, subst}
 use Rattle.std.specs.List.{zip}
-use Rattle.aos_base.specs.declared.text.Refusal.{Refusal}
 use Rattle.aos_tree.specs.declared.module.Module.{Module as Tree}
 use Rattle.aos_typed.specs.Program.{Program}
 use Rattle.aos_symbols.specs.Outcome.{Outcome, refused, went, then, in_turn}

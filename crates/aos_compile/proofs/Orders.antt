@@ -1,22 +1,21 @@
 -- Files with their trees, and the order in which their modules are loaded.
-use Rattle.std.proofs.Common.{◌≡◌, ℕ, zero, suc, ◌+◌, ◌<◌, ◌≤◌, List, [], ◌∷◌, ◌++◌, length, map, get_or, Option, Some, None, Bool, true, false, Vec, Global, refl, sym, ap, ◌∙◌, subst, arith}
+use Rattle.std.proofs.Common.{◌≡◌, ℕ, zero, suc, ◌<◌, ◌≤◌, List, [], ◌∷◌, ◌++◌, length, map, get_or, Option, Some, None, true, false, Vec, Global, refl, sym, ap, ◌∙◌, subst, arith}
 use Rattle.std.specs.Prelude.{unwrap_or}
-use Rattle.std.specs.List.{find, filter_map, range_with_len, zip, slice_get}
+use Rattle.std.specs.List.{filter_map, slice_get}
 use Rattle.std.specs.Option.{option_map, option_to_list}
 use Rattle.std.proofs.lemmas.List.{length-map, length-append, get_or-map}
 use Rattle.std.proofs.lemmas.Option.{slice_get-get_or}
 use Rattle.std.proofs.lemmas.Slice.Zip.{length-zip, get_or-zip}
 use Rattle.aos_base.specs.declared.text.Pos.{Pos}
-use Rattle.aos_base.specs.declared.text.Refusal.{Refusal}
 use Rattle.aos_tree.specs.declared.module.Module.{Module as Tree}
 use Rattle.aos_order.specs.Files.{File, file, files}
 use Rattle.aos_order.specs.Order.{Answer, Order, Twice, Absent, Cycle, absent, answer, first_of, names, needed, needs, twice}
 use Rattle.aos_order.specs.Placing.{next, placed, placed_after, unplaced}
 use Rattle.aos_order.proofs.Searches.{find_first, find_none}
-use Rattle.aos_symbols.specs.Outcome.{Outcome, refused, went, refusal}
+use Rattle.aos_symbols.specs.Outcome.{refused, went, refusal}
 use Rattle.aos_compile.specs.declared.compile_err.CompileErr.{CompileErr}
 use Rattle.aos_compile.specs.declared.compile_err.CompileErr.TheVariants.{Refused}
-use Rattle.aos_compile.specs.Files.{Source, name_place, is_named_out, named_out, at_name, refused_cycle, decided_order, file_of, load_order}
+use Rattle.aos_compile.specs.Files.{Source, name_place, is_named_out, named_out, at_name, decided_order, file_of, load_order}
 use Rattle.aos_compile.specs.Elaborates.{OnRefused}
 use Rattle.aos_compile.specs.Sources.{bytes_of, sources}
 

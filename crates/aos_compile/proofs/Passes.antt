@@ -20,7 +20,7 @@ use Rattle.aos_symbols.specs.Declarations.{types_in, type_defs}
 use Rattle.aos_symbols.specs.Names.{name_breaches}
 use Rattle.aos_symbols.proofs.Paths.{past}
 use Rattle.aos_check_decl.specs.Headings.{headings, declared, type_def, variable_def, defined_row, variable_type, with_row, with_variables, with_variable, slot_in}
-use Rattle.aos_check_decl.proofs.Steps.{after_more}
+use Rattle.aos_symbols.proofs.Keeping.{after_more}
 use Rattle.aos_check_stat.specs.Bodies.{listed}
 use Rattle.aos_compile.specs.Modules.{World, Bodies, entered, bodies, within, object_in, extended, elaborated}
 

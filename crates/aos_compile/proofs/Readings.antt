@@ -1,10 +1,9 @@
 -- What texts are read as, one by one.
-use Rattle.std.proofs.Common.{◌≡◌, ◌≢◌, ℕ, suc, ◌+◌, ◌<◌, ◌≤◌, List, [], ◌∷◌, ◌++◌, length, map, take, drop, get_or, Vec, Global, refl, sym, ap, ◌∙◌, subst, ⊎_elim, append-nil, append_assoc, add-one, arith}
-use Rattle.std.specs.Prelude.{◌⊎◌}
+use Rattle.std.proofs.Common.{◌≡◌, ℕ, suc, ◌+◌, ◌<◌, ◌≤◌, List, [], ◌∷◌, ◌++◌, length, map, take, drop, get_or, Vec, Global, refl, sym, ap, ◌∙◌, subst, ⊎_elim, append-nil, append_assoc, add-one, arith}
+use Rattle.std.specs.Prelude.{◌⊎◌, Some}
 use Rattle.std.proofs.lemmas.List.{take_more, map-append, get_or-map, length-map, drop_more, drop_all}
-use Rattle.aos_base.specs.declared.text.Refusal.{Refusal}
 use Rattle.aos_scan.specs.declared.refusal.ScanErr.{ScanErr}
-use Rattle.aos_scan.specs.declared.refusal.ScanErr.TheVariants.{NoMemory as ScanNoMemory}
+use Rattle.aos_scan.specs.declared.refusal.ScanErr.TheVariants as scan
 use Rattle.aos_scan.specs.Refusal.{IsRefused as IsRefusedByScanner}
 use Rattle.aos_tree.specs.declared.module.Module.{Module as Tree}
 use Rattle.aos_symbols.specs.declared.breach.Breach.{Breach}
@@ -14,15 +13,19 @@ use Rattle.aos_compile.specs.declared.compile_err.CompileErr.TheVariants.{Refuse
 use Rattle.aos_compile.specs.declared.front.Reading.{Reading as CodeReading}
 use Rattle.aos_compile.specs.declared.front.Reading.TheVariants as code
 use Rattle.aos_compile.specs.Files.{Reading, tree, broken, trees_from}
-use Rattle.aos_compile.specs.Elaborates.{IsReading, AreReadings, by_scanner, scan_breach, OnRefused}
-use Rattle.aos_compile.specs.Sources.{seen_reading, bytes_of}
+use Rattle.aos_compile.specs.Elaborates.{IsReading, AreReadings, by_scanner, OnRefused}
+use Rattle.aos_compile.specs.Sources.{breach_of_scan, seen_reading, bytes_of}
+
+some_is : {a b : Breach} → Some a ≡ Some b → a ≡ b
+some_is e = cc
 
 -- the scanner's refusal of a text is its reading
-pub scanned : (text : List ℕ) (was is : ScanErr) (r : Reading) → (was ≡ ScanNoMemory) ⊎ IsRefusedByScanner text was → was ≡ is → is ≢ ScanNoMemory →
-    r ≡ broken (scan_breach is) → IsReading text r
-scanned text was is r why same other told =
-    subst (IsReading text) (sym told)
-    (⊎_elim (λ memory. absurd (other (sym same ∙ memory))) (λ h. by_scanner is (subst (IsRefusedByScanner text) same h)) why)
+pub scanned : (text : List ℕ) (e : ScanErr) (b : Breach) → (e ≡ scan.NoMemory) ⊎ IsRefusedByScanner text e → breach_of_scan e ≡ Some b → IsReading text (broken b)
+scanned text (scan.Bad p) b why is = subst (λ x. IsReading text (broken x)) (some_is is) (by_scanner (scan.Bad p) (⊎_elim (λ memory. absurd (cc)) (λ h. h) why))
+scanned text (scan.OpenComment p) b why is = subst (λ x. IsReading text (broken x)) (some_is is) (by_scanner (scan.OpenComment p) (⊎_elim (λ memory. absurd (cc)) (λ h. h) why))
+scanned text (scan.OpenString p) b why is = subst (λ x. IsReading text (broken x)) (some_is is) (by_scanner (scan.OpenString p) (⊎_elim (λ memory. absurd (cc)) (λ h. h) why))
+scanned text (scan.TooBig p) b why is = subst (λ x. IsReading text (broken x)) (some_is is) (by_scanner (scan.TooBig p) (⊎_elim (λ memory. absurd (cc)) (λ h. h) why))
+scanned text scan.NoMemory b why is = absurd (cc)
 
 readings_more : (texts : List (List ℕ)) (rs : List Reading) (text : List ℕ) (r : Reading) → AreReadings texts rs → IsReading text r → AreReadings (texts ++ text ∷ []) (rs ++ r ∷ [])
 readings_more [] [] text r h k = (k, tt)

@@ -1,15 +1,27 @@
 -- What the code's readings and files are seen as.
-use Rattle.std.specs.Prelude.{ℕ, List, Vec, map}
+use Rattle.std.specs.Prelude.{ℕ, List, Vec, map, Option, Some, None}
 use Rattle.std.specs.List.{zip}
 use Rattle.std.specs.declared.alloc.Global.{Global}
+use Rattle.aos_scan.specs.declared.refusal.ScanErr.{ScanErr}
+use Rattle.aos_scan.specs.declared.refusal.ScanErr.TheVariants as scan
 use Rattle.aos_tree.specs.declared.module.Module.{Module as Tree}
 use Rattle.aos_compile.specs.declared.front.Reading.{Reading as CodeReading}
 use Rattle.aos_compile.specs.declared.front.Reading.TheVariants as code
+use Rattle.aos_symbols.specs.declared.breach.Breach.{Breach}
 use Rattle.aos_compile.specs.Files.{Reading, tree, broken, Source}
+use Rattle.aos_compile.specs.Elaborates.{breach_at}
 
 abbrev pub seen_reading : CodeReading → Reading
 seen_reading (code.Tree m) = tree m
 seen_reading (code.Broken b) = broken b
+
+-- the rule that the scanner found broken; none where memory was wanted
+abbrev pub breach_of_scan : ScanErr → Option Breach
+breach_of_scan (scan.Bad p) = Some (breach_at 2 p)
+breach_of_scan (scan.OpenComment p) = Some (breach_at 3 p)
+breach_of_scan (scan.OpenString p) = Some (breach_at 4 p)
+breach_of_scan (scan.TooBig p) = Some (breach_at 5 p)
+breach_of_scan scan.NoMemory = None
 
 -- texts by their bytes
 abbrev pub bytes_of : List (Vec ℕ Global) → List (List ℕ)

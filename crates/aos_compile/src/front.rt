@@ -5,7 +5,7 @@ ghost use Rattle.aos_scan.specs.TokenList.{IsTokenList};
 ghost use Rattle.aos_tree.specs.Ended.{IsEnded};
 ghost use Rattle.aos_compile.specs.Files.{broken};
 ghost use Rattle.aos_compile.specs.Elaborates.{IsReading, breach_at};
-ghost use Rattle.aos_compile.specs.Sources.{seen_reading};
+ghost use Rattle.aos_compile.specs.Sources.{breach_of_scan, seen_reading};
 
 use aos_base::Pos;
 use aos_parse_expr::ParseErr;
@@ -56,17 +56,39 @@ fn parsed(alloc: Global, text: &[u8], tokens: &[Token]) -> Result<Reading, Alloc
     }
 }
 
+/// The rule that the scanner found broken; none where memory was wanted.
+fn scan_breach(e: ScanErr) -> Option<Breach>
+    ensures { result ≡ breach_of_scan e }
+{
+    match e {
+        ScanErr::Bad(pos) => Some(Breach {
+            rule: BAD_BYTE,
+            pos,
+        }),
+        ScanErr::OpenComment(pos) => Some(Breach {
+            rule: OPEN_COMMENT,
+            pos,
+        }),
+        ScanErr::OpenString(pos) => Some(Breach {
+            rule: OPEN_STRING,
+            pos,
+        }),
+        ScanErr::TooBig(pos) => Some(Breach { rule: TOO_BIG, pos }),
+        ScanErr::NoMemory => None,
+    }
+}
+
 /// The reading of a text of at most 2^20 bytes.
+#[tactic(auto, using(crate::proofs::Readings::scanned))]
 pub fn read(alloc: Global, text: &[u8]) -> Result<Reading, AllocError>
     requires { length text.now ≤ 2 ^ 20 }
     ensures { IfOk result (λ r. IsReading text.now (seen_reading r)) }
 {
     match scan(alloc, text) {
         Ok(tokens) => parsed(alloc, text, &tokens),
-        Err(ScanErr::Bad(pos)) => Ok(broken(BAD_BYTE, pos)),
-        Err(ScanErr::OpenComment(pos)) => Ok(broken(OPEN_COMMENT, pos)),
-        Err(ScanErr::OpenString(pos)) => Ok(broken(OPEN_STRING, pos)),
-        Err(ScanErr::TooBig(pos)) => Ok(broken(TOO_BIG, pos)),
-        Err(ScanErr::NoMemory) => Err(AllocError),
+        Err(e) => match scan_breach(e) {
+            Some(breach) => Ok(Reading::Broken(breach)),
+            None => Err(AllocError),
+        },
     }
 }

@@ -90,7 +90,7 @@ fn inner_statements(
 }
 
 /// The object type of a definition, behind those before it.
-#[tactic(auto, using(aos_check_decl::proofs::Steps::after_more, crate::proofs::Passes::within_seen))]
+#[tactic(auto, using(aos_symbols::proofs::Keeping::after_more, crate::proofs::Passes::within_seen))]
 fn add_object(
     alloc: Global,
     found: &mut Option<Breach>,
@@ -114,7 +114,7 @@ fn add_object(
     Ok(())
 }
 
-#[tactic(auto, using(aos_check_decl::proofs::Steps::after_more, aos_check_decl::proofs::Steps::walk_step, aos_check_decl::proofs::Steps::walk_end))]
+#[tactic(auto, using(aos_symbols::proofs::Keeping::after_more, aos_symbols::proofs::Steps::walk_step, aos_symbols::proofs::Steps::walk_end))]
 fn add_objects(
     alloc: Global,
     found: &mut Option<Breach>,
@@ -154,7 +154,7 @@ fn add_objects_in(
 }
 
 /// The object types that declarations define.
-#[tactic(auto, using(aos_check_decl::proofs::Steps::after_more, crate::proofs::Passes::types_step, crate::proofs::Passes::types_end))]
+#[tactic(auto, using(aos_symbols::proofs::Keeping::after_more, crate::proofs::Passes::types_step, crate::proofs::Passes::types_end))]
 fn objects_of(
     alloc: Global,
     found: &mut Option<Breach>,
@@ -175,7 +175,7 @@ fn objects_of(
 }
 
 /// The bodies of a module, in which names stand for what the environment says.
-#[tactic(auto, using(aos_check_decl::proofs::Steps::after_more))]
+#[tactic(auto, using(aos_symbols::proofs::Keeping::after_more))]
 pub fn bodies_of(
     alloc: Global,
     found: &mut Option<Breach>,

@@ -63,15 +63,19 @@ fn basic_types(alloc: Global) -> Result<Types, NoMemory> {
 
 /// The environment of a module that imports none, before any declaration is met.
 fn env_of<'a>(alloc: Global, text: &'a [u8], tree: &Module) -> Result<Env<'a>, NoMemory> {
-    let broken = vec![in alloc; false; 9]?;
-    let path = vec![in alloc; Open { home: 0, scope: 0 }]?;
+    let mut broken = Items::new(alloc);
+    for _ in 0..9 {
+        broken.push(false)?;
+    }
+    let mut path = Items::new(alloc);
+    path.push(Open { home: 0, scope: 0 })?;
     Ok(Env {
         number: 0,
         before: Items::new(alloc),
         here: home_of(alloc, &[], 9, text, tree)?,
-        path: Items::from_vec(path),
+        path,
         types: basic_types(alloc)?,
-        broken: Items::from_vec(broken),
+        broken,
     })
 }
 
