@@ -180,14 +180,23 @@ const ROWS: [Row<'_>; 22] = [
     ),
 ];
 
+// The words that run the files of a row.
+fn words_of_row<'a>(
+    alloc: Global,
+    files: &'a [(&'a str, &'a str)],
+) -> Result<Vec<&'a str>, AllocError> {
+    let mut words = vec![in alloc; "run"]?;
+    for (name, _) in files {
+        words.push(*name)?;
+    }
+    Ok(words)
+}
+
 #[test]
 fn modules_that_import(rt: HostRuntime) -> Result<(), Fail> {
     let alloc = rt.alloc();
     for (files, want) in ROWS {
-        let mut words = vec![in alloc; "run"]?;
-        for (name, _) in files {
-            words.push(name)?;
-        }
+        let words = words_of_row(alloc, files)?;
         expect_answer(&rt, alloc, &words, shelf_of(alloc, files, &[])?, want)?;
     }
     Ok(())
