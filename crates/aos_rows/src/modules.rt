@@ -206,7 +206,7 @@ fn modules_that_import(rt: HostRuntime) -> Result<(), Fail> {
 #[test]
 fn modules_by_a_script(rt: HostRuntime) -> Result<(), Fail> {
     let alloc = rt.alloc();
-    let script = "aos-script 1\nworkers 1\nbudget 1000000\ns 0 9\nend\n";
+    let script = "aos-script 1\nworkers 1\nbudget 1000000\ns 0 11\nend\n";
     let files: &[(&str, &str)] = &[("S", script), ("A.Mod", READING), ("B.Mod", COUNTER)];
     let words = ["replay", "--script", "S", "A.Mod", "B.Mod"];
     expect_answer(
