@@ -15,3 +15,4 @@ pub mod Names
 pub mod Passes
 pub mod Counts
 pub mod Pairs
+pub mod FileNumbers

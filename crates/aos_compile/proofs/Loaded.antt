@@ -13,24 +13,18 @@ use Rattle.aos_symbols.specs.Breaches.{first}
 use Rattle.aos_symbols.specs.Outcome.{Outcome, refused, went, then, decided, passed, in_turn}
 use Rattle.aos_symbols.specs.Judged.{judged}
 use Rattle.aos_symbols.specs.Names.{name_breaches}
+use Rattle.aos_symbols.proofs.Holds.{same_went, then_went}
 use Rattle.aos_check_decl.specs.Headings.{headings}
 use Rattle.aos_compile.specs.Modules.{World, Bodies, spelling, entered, bodies, module_of, extended, elaborated}
 use Rattle.aos_compile.specs.Files.{Source, loaded}
 use Rattle.aos_compile.proofs.Texts.{headings_text}
 
--- an outcome that went was refused nowhere
-pub went_same : {A : Type 0} (a b : A) → ◌≡◌ {A = Outcome A} (went a) (went b) → a ≡ b
-went_same a b e = cc
-
+-- what is refused never went
 pub never_went : {A : Type 0} (r : Refusal) (a : A) → ◌≡◌ {A = Outcome A} (refused r) (went a) → ⊥
 never_went r a e = cc
 
-pub then_went : {A B : Type 0} (o : Outcome A) (f : A → Outcome B) (b : B) → then o f ≡ went b → (a : A) × (o ≡ went a) × (f a ≡ went b)
-then_went (refused r) f b e = absurd (never_went r b e)
-then_went (went a) f b e = (a, refl, e)
-
 decided_went : {A : Type 0} (file : ℕ) (o : Option Breach) (x a : A) → decided file o x ≡ went a → x ≡ a
-decided_went file None x a e = went_same x a e
+decided_went file None x a e = same_went x a e
 decided_went file (Some b) x a e = absurd (never_went _ a e)
 
 -- the names of the modules so far
@@ -58,7 +52,7 @@ elaborated_names a w file text m is =
     let three = then_went (passed file (bodies two.0 m)) (last two.0) w two.2 in
     let env = decided_went file (first (headings (entered a text m) m.decls).breaches) (headings (entered a text m) m.decls).answer two.0 two.1 in
     let same : two.0.here.text ≡ text = ap (λ (e : Env). e.here.text) (sym env) ∙ headings_text (entered a text m) m.decls in
-    ap names (sym (went_same (extended a two.0 m three.0) w three.2)) ∙ extended_names a text m two.0 three.0 same
+    ap names (sym (same_went (extended a two.0 m three.0) w three.2)) ∙ extended_names a text m two.0 three.0 same
 
 loaded_at : (ss : List Source) (a : World) (k : ℕ) (s : Source) → slice_get ss k ≡ Some s → loaded ss a k ≡ elaborated a k s.0 s.1
 loaded_at ss a k s is = rw is refl
@@ -70,7 +64,7 @@ step_names ss a b k lt is = elim (slice_get_cases ss k).1 [
 ]
 
 pub loaded_names : (ss : List Source) (order : List ℕ) (a w : World) → All (λ k. k < length ss) order → in_turn (loaded ss) a order ≡ went w → names w ≡ names a ++ map (name_in ss) order
-loaded_names ss [] a w within is = ap names (sym (went_same a w is)) ∙ sym (append-nil (names a))
+loaded_names ss [] a w within is = ap names (sym (same_went a w is)) ∙ sym (append-nil (names a))
 loaded_names ss (k ∷ ks) a w within is =
     let P : ℕ → Type 0 = λ j. j < length ss in
     let step = then_went (loaded ss a k) (λ b. in_turn (loaded ss) b ks) w is in

@@ -29,7 +29,8 @@ use Rattle.aos_compile.specs.Modules.{no_modules, program_of}
 use Rattle.aos_compile.specs.Files.{Reading, tree, broken, Source, trees_from, file_of, named_out, decided_order, load_order, loaded, modules}
 use Rattle.aos_compile.specs.Elaborates.{IsTreeOf, IsReading, AreReadings, ComesTo, by_tree, by_scanner, by_syntax, by_nesting}
 use Rattle.aos_compile.proofs.Idents.{name_is_ident, spelled_alike}
-use Rattle.aos_compile.proofs.Loaded.{went_same, never_went, then_went, name_of, name_in, loaded_names}
+use Rattle.aos_symbols.proofs.Holds.{same_went, then_went}
+use Rattle.aos_compile.proofs.Loaded.{never_went, name_of, name_in, loaded_names}
 
 -- The trees of the texts.
 
@@ -55,7 +56,7 @@ are_trees (text ∷ texts) (broken b ∷ rs) k ms h e = absurd (never_went _ ms 
 are_trees (text ∷ texts) (tree m ∷ rs) k ms h e =
     let more = then_went (trees_from (suc k) rs) (λ ns. went (m ∷ ns)) ms e in
     let rest = are_trees texts rs (suc k) more.0 h.1 more.1 in
-    subst (λ ns. (length (zip (text ∷ texts) ns) ≡ length (text ∷ texts)) × All IsRead (zip (text ∷ texts) ns)) (went_same (m ∷ more.0) ms more.2)
+    subst (λ ns. (length (zip (text ∷ texts) ns) ≡ length (text ∷ texts)) × All IsRead (zip (text ∷ texts) ns)) (same_went (m ∷ more.0) ms more.2)
     (ap suc rest.0, All-cons IsRead (text, m) (zip texts more.0) (tree_of text (tree m) h.0) rest.1)
 
 -- The load order.
@@ -69,7 +70,7 @@ order_parts ss (Some o) None None so_far [] ks e = absurd (never_went _ ks e)
 order_parts ss (Some o) None None so_far (j ∷ js) ks e = absurd (never_went _ ks e)
 order_parts ss None None (Some p) so_far left ks e = absurd (never_went _ ks e)
 order_parts ss None None None so_far (j ∷ js) ks e = absurd (never_went _ ks e)
-order_parts ss None None None so_far [] ks e = let same = went_same so_far ks e in (refl, same, ap Order same)
+order_parts ss None None None so_far [] ks e = let same = same_went so_far ks e in (refl, same, ap Order same)
 
 map_none : {X Y : Type 0} (f : X → Y) (o : Option X) → option_map f o ≡ None → o ≡ None
 map_none f None e = refl
@@ -178,7 +179,7 @@ are_named texts p c =
     let ms = made.0.modules in
     let same : map (λ (m : Module). m.name) ms ≡ map (name_in ss) ks =
     loaded_names ss ks no_modules made.0 (within ss trees.1 ks ordered.1) ordered.2 in
-    subst (AreNamed texts) (went_same (program_of made.0) p made.2) (record {
+    subst (AreNamed texts) (same_went (program_of made.0) p made.2) (record {
       as_many = ms_long ss trees.1 ks ordered.1 ms same ∙ ks_long ss trees.1 ks ordered.1 ∙ trees.0;
       names = are_idents ss trees.1 ks ordered.1 ms same;
       differ = are_apart ss trees.1 ks ordered.1 ms same;

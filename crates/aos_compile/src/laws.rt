@@ -1,9 +1,10 @@
 // Laws of elaboration.
 
-ghost use Rattle.std.specs.Prelude.{◌≡◌, ◌≤◌, ℕ, List, length};
+ghost use Rattle.std.specs.Prelude.{◌≡◌, ◌<◌, ◌≤◌, ℕ, List, length};
+ghost use Rattle.aos_base.specs.declared.text.Refusal.{Refusal};
 ghost use Rattle.aos_typed.specs.Program.{Program};
 ghost use Rattle.aos_typed.specs.WellTyped.{IsWellTyped};
-ghost use Rattle.aos_symbols.specs.Outcome.{Outcome, went};
+ghost use Rattle.aos_symbols.specs.Outcome.{Outcome, refused, went};
 ghost use Rattle.aos_compile.specs.Elaborates.{ComesTo};
 
 /// Texts come to one thing alone: one program, or one refusal.
@@ -16,4 +17,10 @@ pub fn law_of_outcome()
 pub fn law_of_typing()
     ensures { (texts : List (List ℕ)) (p : Program) → ComesTo texts (went p) → 1 ≤ length texts →
         length texts ≤ 64 → IsWellTyped p }
+{}
+
+/// A refusal of texts tells the number of one of them.
+pub fn law_of_files()
+    ensures { (texts : List (List ℕ)) (r : Refusal) → ComesTo texts (refused r) →
+        r.file < length texts }
 {}
