@@ -148,5 +148,5 @@ file_within texts r h =
     by_then (trees_from 0 rs) (λ ms. then (modules (zip texts ms)) (λ w. went (program_of w))) r (λ n. n < length texts) h.is
     (λ s is. let lt = trees_within 0 rs s is in omega (arith, lt, size))
     (λ ms is e. by_then (modules (zip texts ms)) (λ w. went (program_of w)) r (λ n. n < length texts) e
-      (λ s is'. let lt = modules_within (zip texts ms) s is' in let most = length-zip texts ms in omega (arith, lt, most))
-      (λ w is' e'. no_refusal (program_of w) r e'))
+    (λ s is'. let lt = modules_within (zip texts ms) s is' in let most = length-zip texts ms in omega (arith, lt, most))
+    (λ w is' e'. no_refusal (program_of w) r e'))
