@@ -1,5 +1,6 @@
 pub mod Number
 pub mod Set
+pub mod Operators
 pub mod Lock
 pub mod Book
 pub mod Machine

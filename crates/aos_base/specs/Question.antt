@@ -32,4 +32,6 @@ pub data Ask (P V : Type 0) : Type 0 where
   Makes : (type : ℕ) → Ask P V  -- a new object of this type, which is the answer
   Starts : (object : V) → Ask P V  -- the activity of an object
   PutsInt : (value places : V) → Ask P V
+  PutsChar : (code : V) → Ask P V
+  PutsNothing : Ask P V  -- a call that writes nothing
   PutsLn : Ask P V

@@ -5,9 +5,10 @@ use Rattle.aos_base.specs.declared.kernel.Did.{Did}
 use Rattle.aos_base.specs.declared.kernel.Did.TheVariants.{Went, Ended as NoFrame, Start, Trapped}
 use Rattle.aos_base.specs.declared.kernel.Verdict.TheVariants.{Fails as NeverHolds}
 use Rattle.aos_base.specs.Number.{places_of, justified}
+use Rattle.aos_base.specs.Operators.{natural}
 use Rattle.aos_base.specs.Book.{Where}
 use Rattle.aos_base.specs.Machine.{Turn, Machine, State, start_of}
-use Rattle.aos_base.specs.Question.{Reads, Stores, Ends, Makes, Starts, PutsInt, PutsLn}
+use Rattle.aos_base.specs.Question.{Reads, Stores, Ends, Makes, Starts, PutsInt, PutsChar, PutsNothing, PutsLn}
 use Rattle.aos_code.specs.declared.instr.Cell.{Cell}
 use Rattle.aos_code.specs.declared.instr.Cell.TheVariants.{Num, Ref, Place}
 use Rattle.aos_code.specs.declared.instr.Instr.{Instr}
@@ -54,6 +55,12 @@ written (Num z) (Place root cell type) = None
 written (Ref o) v = None
 written (Place root cell type) v = None
 
+-- the byte that OutChar writes, where the code is one of a character
+abbrev pub character : Cell → Option ℕ
+character (Num z) = natural 256 z
+character (Ref o) = None
+character (Place root cell type) = None
+
 -- the frame goes on behind the instruction at this place, with these operands
 abbrev pub behind : ℕ → Stack → Frame → Frame
 behind at s f = record f { next = at + 1; stack = s }
@@ -65,6 +72,10 @@ loads (Some v) at s f fs mem = goes_on (behind at (v ∷ s) f ∷ fs) mem
 abbrev pub prints : Option (List ℕ) → ℕ → Stack → Frame → Frames → Memory → Turned
 prints None at s f fs mem = leaves (Trapped 14 0) (f ∷ fs) mem
 prints (Some bytes) at s f fs mem = puts bytes (behind at s f ∷ fs) mem
+
+abbrev pub puts_char : Option ℕ → ℕ → Stack → Frame → Frames → Memory → Turned
+puts_char None at s f fs mem = leaves (Trapped 16 0) (f ∷ fs) mem
+puts_char (Some byte) at s f fs mem = puts (byte ∷ []) (behind at s f ∷ fs) mem
 
 -- an object is made, where the heap has room for it
 abbrev pub makes : Bool → ℕ → ℕ → Stack → Frame → Frames → Memory → Turned
@@ -86,6 +97,8 @@ answer (Ends result) at s f fs mem = ends fs mem
 answer (Makes t) at s f fs mem = makes (has_room mem) t at s f fs mem
 answer (Starts v) at s f fs mem = starts v f fs mem
 answer (PutsInt v n) at s f fs mem = prints (written v n) at s f fs mem
+answer (PutsChar v) at s f fs mem = puts_char (character v) at s f fs mem
+answer PutsNothing at s f fs mem = puts [] (behind at s f ∷ fs) mem
 answer PutsLn at s f fs mem = puts (10 ∷ []) (behind at s f ∷ fs) mem
 
 abbrev pub goes : Stop → Frame → Frames → Memory → Turned

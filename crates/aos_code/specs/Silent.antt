@@ -1,20 +1,18 @@
 -- What each instruction does, and the silent work up to the next visible instruction.
-use Rattle.std.specs.Prelude.{ℕ, zero, suc, ℤ, pos, negsuc, ◌+◌, ◌-◌, ◌+ℤ◌, ◌-ℤ◌, List, [], ◌∷◌, Option, Some, None, nat_lt, if◌then◌else◌, slice_get, drop}
+use Rattle.std.specs.Prelude.{ℕ, zero, suc, ℤ, pos, negsuc, ◌+◌, ◌-◌, List, [], ◌∷◌, Option, Some, None, nat_lt, if◌then◌else◌, slice_get, drop}
 use Rattle.aos_base.specs.declared.text.Pos.{Pos}
-use Rattle.aos_base.specs.Number.{if_within, holds}
-use Rattle.aos_base.specs.Question.{Ask, Reads, Stores, Ends, Makes, Starts, PutsInt, PutsLn}
+use Rattle.aos_base.specs.Question.{Ask, Reads, Stores, Ends, Makes, Starts, PutsInt, PutsChar, PutsNothing, PutsLn}
 use Rattle.aos_code.specs.declared.instr.Cell.{Cell}
 use Rattle.aos_code.specs.declared.instr.Cell.TheVariants.{Num, Ref, Place}
 use Rattle.aos_code.specs.declared.instr.Kind.{Kind}
 use Rattle.aos_code.specs.declared.instr.Kind.TheVariants.{N, R}
 use Rattle.aos_code.specs.declared.instr.Root.TheVariants.{Module as ModuleRoot}
 use Rattle.aos_code.specs.declared.instr.Instr.{Instr}
-use Rattle.aos_code.specs.declared.instr.Instr.TheVariants.{Num as NumInstr, Dup, Swap, Module, Add, Sub, Cmp, Unary, Binary, Fail, Assert, Halt, Jump, JumpFalse, Begin, Load, Store, NewObject, Start, Return, OutInt, OutLn}
-use Rattle.aos_code.specs.declared.instr.Given.{Given}
-use Rattle.aos_code.specs.declared.instr.Given.TheVariants.{Number, Trap}
+use Rattle.aos_code.specs.declared.instr.Instr.TheVariants.{Num as NumInstr, Dup, Swap, Module, Unary, Binary, Fail, Assert, Halt, Jump, JumpFalse, Begin, Load, Store, NewObject, Start, Return, OutChar, OutInt, OutLn, OutOpen}
+use Rattle.aos_base.specs.declared.operator.Given.{Given}
+use Rattle.aos_base.specs.declared.operator.Given.TheVariants.{Number, Trap, Undefined}
 use Rattle.aos_code.specs.Memory.{Addr}
-use Rattle.aos_code.specs.Operators.{unary, binary}
-pub use Rattle.aos_code.specs.Operators.{flag}
+use Rattle.aos_base.specs.Operators.{unary, binary}
 
 -- the operands, the topmost first
 abbrev pub Stack : Type 0
@@ -82,13 +80,10 @@ abbrev pub stores : Kind → Stack → Act
 stores N s = on_number (λ v s1. on_place (λ p s2. Sees (Stores p (Num v)) s2) s1) s
 stores R s = on_object (λ o s1. on_place (λ p s2. Sees (Stores p (Ref o)) s2) s1) s
 
-abbrev pub or_overflow : Option ℤ → Stack → Act
-or_overflow None s = Stops (Fails 5 0)
-or_overflow (Some z) s = gives (Num z) s
-
 abbrev pub given : Given → Stack → Act
 given (Number z) s = gives (Num z) s
 given (Trap n) s = Stops (Fails n 0)
+given Undefined s = Stops lost
 
 abbrev pub asserts : ℕ → ℤ → Stack → Act
 asserts code (pos zero) s = Stops (Fails 7 code)
@@ -116,9 +111,6 @@ act (NumInstr n) code at s = gives (Num n) s
 act Dup code at s = duplicates s
 act Swap code at s = swaps s
 act (Module m c) code at s = gives (Place (ModuleRoot m) c 0) s
-act (Add w) code at s = on_numbers (λ a b s'. or_overflow (if_within w (a +ℤ b)) s') s
-act (Sub w) code at s = on_numbers (λ a b s'. or_overflow (if_within w (a -ℤ b)) s') s
-act (Cmp relation) code at s = on_numbers (λ a b s'. gives (Num (flag (holds relation a b))) s') s
 act (Unary op) code at s = on_number (λ a s'. given (unary op a) s') s
 act (Binary op) code at s = on_numbers (λ a b s'. given (binary op a b) s') s
 act (Fail n) code at s = Stops (Fails n 0)
@@ -132,8 +124,10 @@ act (Store kind) code at s = stores kind s
 act (NewObject t) code at s = Sees (Makes t) s
 act Start code at s = on_object (λ o s'. Sees (Starts (Ref o)) s') s
 act Return code at s = Sees (Ends None) s
+act OutChar code at s = on_number (λ a s'. Sees (PutsChar (Num a)) s') s
 act OutInt code at s = on_numbers (λ a n s'. Sees (PutsInt (Num a) (Num n)) s') s
 act OutLn code at s = Sees PutsLn s
+act OutOpen code at s = Sees PutsNothing s
 
 abbrev pub on_act : Act → (ℕ → ℕ → Stack → Stop) → ℕ → Stop
 on_act (Goes over s) next at = next over (at + 1) s

@@ -6,5 +6,5 @@ pub mod instr;
 pub mod report;
 
 pub use image::{Body, Image, ModuleDesc, ProcShape, TypeDesc};
-pub use instr::{Binary, Cell, Given, Instr, Kind, Root, Unary};
+pub use instr::{Cell, Instr, Kind, Root};
 pub use report::TrapRec;

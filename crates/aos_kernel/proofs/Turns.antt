@@ -5,15 +5,15 @@ use Rattle.aos_base.specs.declared.text.Pos.{Pos}
 use Rattle.aos_base.specs.declared.kernel.Did.{Did}
 use Rattle.aos_base.specs.declared.kernel.Did.TheVariants.{Ended as NoFrame, Went as WentOn, Start as StartOf, Enter as EnterOf, Leave as LeaveOf, Await as AwaitOf, Trapped as TrappedBy}
 use Rattle.aos_base.specs.Book.{Where}
-use Rattle.aos_base.specs.Question.{Reads, Stores, Ends, Makes as MakesOf, Starts, PutsInt, PutsLn}
+use Rattle.aos_base.specs.Question.{Reads, Stores, Ends, Makes as MakesOf, Starts, PutsInt, PutsChar, PutsNothing, PutsLn}
 use Rattle.aos_code.specs.declared.instr.Cell.{Cell}
 use Rattle.aos_code.specs.declared.instr.Cell.TheVariants.{Num, Ref, Place}
 use Rattle.aos_code.specs.declared.image.Image.{Image}
 use Rattle.aos_code.specs.Memory.{Memory, load, has_room, new_number}
 use Rattle.aos_code.specs.Silent.{Stack, Question, Begins, Fails, Stop, Work, Ended, silent}
-use Rattle.aos_code.specs.Machine.{Frame, Frames, Turned, code_of, loads, prints, makes, starts, written, answer, past, behind_stop, goes, turn, position, position_or, or_below, home_of}
+use Rattle.aos_code.specs.Machine.{Frame, Frames, Turned, code_of, loads, prints, puts_char, makes, starts, written, character, answer, past, behind_stop, goes, turn, position, position_or, or_below, home_of}
 use Rattle.aos_kernel.specs.declared.cpu.Question.{Question as KeptQuestion}
-use Rattle.aos_kernel.specs.declared.cpu.Question.TheVariants.{Reads as AsksRead, Stores as AsksStore, Makes as AsksNew, Starts as AsksStart, PutsInt as AsksInt, PutsLn as AsksLn}
+use Rattle.aos_kernel.specs.declared.cpu.Question.TheVariants.{Reads as AsksRead, Stores as AsksStore, Makes as AsksNew, Starts as AsksStart, PutsInt as AsksInt, PutsChar as AsksChar, PutsNothing as AsksNothing, PutsLn as AsksLn}
 use Rattle.aos_kernel.specs.Cpu.{Seen, seen, Alike, Makes, Shown, IsBefore, question_in, operands_of}
 use Rattle.aos_kernel.specs.Shows.{IsServed}
 
@@ -58,6 +58,10 @@ module _ (image : Image) (f g : Frame) (fs gs : Frames) (mem : Memory) where
       printed None at s = record { store = refl; alike = both image f g fs gs e h; output = refl; begun = refl; left = refl }
       printed (Some bytes) at s = record { store = refl; alike = moved (at + 1) f.at g.at s p q h; output = refl; begun = refl; left = refl }
 
+      put_char : (v : Option ℕ) (at : ℕ) (s : Stack) → Similar image (puts_char v at s f fs mem) (puts_char v at s g gs mem)
+      put_char None at s = record { store = refl; alike = both image f g fs gs e h; output = refl; begun = refl; left = refl }
+      put_char (Some byte) at s = record { store = refl; alike = moved (at + 1) f.at g.at s p q h; output = refl; begun = refl; left = refl }
+
       made : (room : Bool) (t at : ℕ) (s : Stack) → Similar image (makes room t at s f fs mem) (makes room t at s g gs mem)
       made true t at s = record { store = refl; alike = moved (at + 1) f.at g.at (Ref (new_number mem) ∷ s) p q h; output = refl; begun = refl; left = refl }
       made false t at s = record { store = refl; alike = both image f g fs gs e h; output = refl; begun = refl; left = refl }
@@ -75,6 +79,8 @@ module _ (image : Image) (f g : Frame) (fs gs : Frames) (mem : Memory) where
       answered (MakesOf t) at s = made (has_room mem) t at s
       answered (Starts v) at s = started v
       answered (PutsInt v n) at s = printed (written v n) at s
+      answered (PutsChar v) at s = put_char (character v) at s
+      answered PutsNothing at s = record { store = refl; alike = moved (at + 1) f.at g.at s p (ap (λ (x : Seen). x.at) e) h; output = refl; begun = refl; left = refl }
       answered PutsLn at s = record { store = refl; alike = moved (at + 1) f.at g.at s p (ap (λ (x : Seen). x.at) e) h; output = refl; begun = refl; left = refl }
 
       by_stop : (x : Stop) → Similar image (goes x f fs mem) (goes x g gs mem)
@@ -116,6 +122,10 @@ turn_served image mem (f ∷ fs) = by_stop (silent (code_of image f.procedure) f
     printed None at s = tt
     printed (Some bytes) at s = tt
 
+    put_char : (v : Option ℕ) (at : ℕ) (s : Stack) → IsServed (puts_char v at s f fs mem).left
+    put_char None at s = tt
+    put_char (Some byte) at s = tt
+
     made : (room : Bool) (t at : ℕ) (s : Stack) → IsServed (makes room t at s f fs mem).left
     made true t at s = tt
     made false t at s = tt
@@ -133,6 +143,8 @@ turn_served image mem (f ∷ fs) = by_stop (silent (code_of image f.procedure) f
     by_stop (Work (MakesOf t) at s) = made (has_room mem) t at s
     by_stop (Work (Starts v) at s) = started v
     by_stop (Work (PutsInt v n) at s) = printed (written v n) at s
+    by_stop (Work (PutsChar v) at s) = put_char (character v) at s
+    by_stop (Work PutsNothing at s) = tt
     by_stop (Work PutsLn at s) = tt
     by_stop (Ended (Begins at p1 s)) = tt
     by_stop (Ended (Fails n c)) = tt
@@ -195,6 +207,10 @@ before_work image q at g rest mem left after next small stops is frames = by_que
     printed None s o = λ e. absurd (cc e)
     printed (Some v) s o = λ e. absurd (cc e)
 
+    put_char : (v : Option ℕ) (s : Stack) (o : ℕ) → (puts_char v at s g rest mem).left ≢ StartOf o
+    put_char None s o = λ e. absurd (cc e)
+    put_char (Some v) s o = λ e. absurd (cc e)
+
     made : (room : Bool) (t : ℕ) (s : Stack) (o : ℕ) → (makes room t at s g rest mem).left ≢ StartOf o
     made true t s o = λ e. absurd (cc e)
     made false t s o = λ e. absurd (cc e)
@@ -212,4 +228,6 @@ before_work image q at g rest mem left after next small stops is frames = by_que
     by_question (AsksNew t) e f h = calm (makes (has_room mem) t at (drop 0 g.stack) g rest mem) (made (has_room mem) t (drop 0 g.stack)) f
     by_question (AsksStart o) e f h = started o e f h
     by_question (AsksInt a n) e f h = calm (prints (written (Num a) (Num n)) at (drop 2 g.stack) g rest mem) (printed (written (Num a) (Num n)) (drop 2 g.stack)) f
+    by_question (AsksChar a) e f h = calm (puts_char (character (Num a)) at (drop 1 g.stack) g rest mem) (put_char (character (Num a)) (drop 1 g.stack)) f
+    by_question AsksNothing e f h = calm (answer PutsNothing at (drop 0 g.stack) g rest mem) (λ o x. absurd (cc x)) f
     by_question AsksLn e f h = calm (answer PutsLn at (drop 0 g.stack) g rest mem) (λ o x. absurd (cc x)) f

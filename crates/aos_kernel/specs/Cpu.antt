@@ -6,7 +6,7 @@ use Rattle.aos_base.specs.declared.kernel.Did.{Did}
 use Rattle.aos_base.specs.declared.kernel.Did.TheVariants.{Went, Ended as NoFrame, Enter, Leave, Await, Start, Trapped}
 use Rattle.aos_base.specs.Book.{Where}
 use Rattle.aos_base.specs.Machine.{Turn}
-use Rattle.aos_base.specs.Question.{Reads, Stores, Makes as MakesOf, Starts, PutsInt, PutsLn, Ends}
+use Rattle.aos_base.specs.Question.{Reads, Stores, Makes as MakesOf, Starts, PutsInt, PutsChar, PutsNothing, PutsLn, Ends}
 use Rattle.aos_code.specs.declared.instr.Cell.{Cell}
 use Rattle.aos_code.specs.declared.instr.Cell.TheVariants.{Num, Ref, Place}
 use Rattle.aos_code.specs.declared.instr.Root.{Root}
@@ -19,7 +19,7 @@ use Rattle.aos_code.specs.Machine.{Frame, Frames, code_of, answer, turn}
 use Rattle.aos_kernel.specs.declared.cpu.Frame.{Frame as Kept}
 use Rattle.aos_kernel.specs.declared.cpu.Shared.{Shared}
 use Rattle.aos_kernel.specs.declared.cpu.Question.{Question as KeptQuestion}
-use Rattle.aos_kernel.specs.declared.cpu.Question.TheVariants.{Reads as AsksRead, Stores as AsksStore, Makes as AsksNew, Starts as AsksStart, PutsInt as AsksInt, PutsLn as AsksLn}
+use Rattle.aos_kernel.specs.declared.cpu.Question.TheVariants.{Reads as AsksRead, Stores as AsksStore, Makes as AsksNew, Starts as AsksStart, PutsInt as AsksInt, PutsChar as AsksChar, PutsNothing as AsksNothing, PutsLn as AsksLn}
 use Rattle.aos_kernel.specs.declared.cpu.Stop.{Stop as KeptStop}
 use Rattle.aos_kernel.specs.declared.cpu.Stop.TheVariants.{Work as AtWork, Ends as AtEnd, Begins as AtBegin, Fails as AtFault}
 use Rattle.aos_kernel.specs.declared.cpu.Act.{Act as KeptAct}
@@ -45,6 +45,8 @@ question_in (AsksStore root cell v) = Stores (record { root = root; cell = cell 
 question_in (AsksNew t) = MakesOf t
 question_in (AsksStart o) = Starts (Ref o)
 question_in (AsksInt a n) = PutsInt (Num a) (Num n)
+question_in (AsksChar a) = PutsChar (Num a)
+question_in AsksNothing = PutsNothing
 question_in AsksLn = PutsLn
 
 -- how many operands a question has
@@ -54,6 +56,8 @@ operands_of (AsksStore root cell v) = 2
 operands_of (AsksNew t) = 0
 operands_of (AsksStart o) = 1
 operands_of (AsksInt a n) = 2
+operands_of (AsksChar a) = 1
+operands_of AsksNothing = 0
 operands_of AsksLn = 0
 
 -- an act, where the operands after it are s; those of a question lie there still

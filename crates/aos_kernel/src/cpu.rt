@@ -1,18 +1,17 @@
 // One turn of an activity: the silent work of its topmost frame, and the visible work that follows.
-ghost use Rattle.std.specs.Prelude.{◌≡◌, ℕ, ◌+◌, ◌<◌, ◌≤◌, ◌^◌, ◌+ℤ◌, ◌-ℤ◌, ℤ, ◌++◌, ◌∷◌, List, false, length, map, reverse, drop, slice_get, vec_len, vec_capacity, IfOk, OnErr};
+ghost use Rattle.std.specs.Prelude.{◌≡◌, ℕ, ◌+◌, ◌<◌, ◌≤◌, ◌^◌, ℤ, ◌++◌, ◌∷◌, List, false, length, map, reverse, drop, slice_get, vec_len, vec_capacity, IfOk, OnErr};
 ghost use Rattle.std.specs.Option.{option_map, option_copied};
-ghost use Rattle.aos_base.specs.Number.{if_within, holds, right_justified};
-ghost use Rattle.aos_base.specs.Question.{Reads, Makes as MakesOf, Starts, PutsInt};
+ghost use Rattle.aos_base.specs.Number.{right_justified};
+ghost use Rattle.aos_base.specs.Question.{Reads, Makes as MakesOf, Starts, PutsInt, PutsChar};
 ghost use Rattle.aos_code.specs.Numbered.{numbered as numbered_of};
 ghost use Rattle.aos_code.specs.Memory.{Memory, load as load_of, store as store_of};
-ghost use Rattle.aos_code.specs.Silent.{Stack, Act as ActOf, Sees, given, asserts, on_number, on_numbers, on_place, on_object, or_overflow, gives, duplicates, swaps, flag, stores, lands, jumps, jumps_on_false, act, silent};
-ghost use Rattle.aos_code.specs.Operators.{unary as unary_of, binary as binary_of};
-ghost use Rattle.aos_code.specs.Machine.{Frames, past, behind, body_frames, code_of as code_at, home_of as home_at, position as position_at, position_or, answer as answer_of, turn as turn_of};
+ghost use Rattle.aos_code.specs.Silent.{Stack, Act as ActOf, Sees, given, asserts, on_number, on_numbers, on_place, on_object, gives, duplicates, swaps, stores, lands, jumps, jumps_on_false, act, silent};
+ghost use Rattle.aos_base.specs.Operators.{unary as unary_of, binary as binary_of};
+ghost use Rattle.aos_code.specs.Machine.{Frames, past, behind, body_frames, character as character_of, code_of as code_at, home_of as home_at, position as position_at, position_or, answer as answer_of, turn as turn_of};
 ghost use Rattle.aos_kernel.specs.Cpu.{frame_in, frames_in, memory_in, operands_in, question_in, act_in, stop_in, addr_in, where_in, IsStopWithin, IsBeginOf, IsStay, IsJump, WhereStays, WhereWork, number_in, place_in, or_lost, Alike, IsAnswered, IsTurned, IsBefore, WhereAt, object_in, operands_of};
 
-use crate::arith::{binary, truth, unary};
-use aos_base::{Did, NoMemory, Pos, Relation, Width, add, related, sub};
-use aos_code::{Binary, Cell, Given, Image, Instr, Kind, Root, Unary};
+use aos_base::{Binary, Did, Given, NoMemory, Pos, Unary, apply_binary, apply_unary};
+use aos_code::{Cell, Image, Instr, Kind, Root};
 use itoa::Buffer;
 use std::alloc::Global;
 
@@ -44,6 +43,8 @@ pub enum Question {
     Makes(u32),
     Starts(u32),
     PutsInt(i64, i64),
+    PutsChar(i64),
+    PutsNothing,
     PutsLn,
 }
 
@@ -148,46 +149,6 @@ fn take(stack: &mut Vec<Cell>, taken: usize)
 
 // What one instruction does ----------------------------------------------------------------
 
-/// A result in place of two numbers, or trap 5 where it is outside its width.
-fn result_of(stack: &mut Vec<Cell>, value: Option<i64>) -> Act
-    requires { vec_len stack.old < vec_capacity stack.old }
-    ensures kept { WhereStays result (stack.new ≡ stack.old) }
-    ensures act { act_in result (operands_in stack.new) ≡
-        or_overflow value (drop 2 (operands_in stack.old)) }
-{
-    match value {
-        None => Act::Fails(5, 0),
-        Some(z) => {
-            replace(stack, 2, Cell::Num(z));
-            Act::Goes(0)
-        }
-    }
-}
-
-fn add_numbers(w: Width, stack: &mut Vec<Cell>) -> Act
-    requires { vec_len stack.old < vec_capacity stack.old }
-    ensures kept { WhereStays result (stack.new ≡ stack.old) }
-    ensures act { act_in result (operands_in stack.new) ≡
-        on_numbers (λ a b s. or_overflow (if_within w (a +ℤ b)) s) (operands_in stack.old) }
-{
-    match numbers(stack) {
-        None => LOST,
-        Some((a, b)) => result_of(stack, add(w, a, b)),
-    }
-}
-
-fn subtract_numbers(w: Width, stack: &mut Vec<Cell>) -> Act
-    requires { vec_len stack.old < vec_capacity stack.old }
-    ensures kept { WhereStays result (stack.new ≡ stack.old) }
-    ensures act { act_in result (operands_in stack.new) ≡
-        on_numbers (λ a b s. or_overflow (if_within w (a -ℤ b)) s) (operands_in stack.old) }
-{
-    match numbers(stack) {
-        None => LOST,
-        Some((a, b)) => result_of(stack, sub(w, a, b)),
-    }
-}
-
 /// What an operator gives, in place of the operands that it took.
 fn put_given(stack: &mut Vec<Cell>, taken: usize, value: Given) -> Act
     requires { vec_len stack.old < vec_capacity stack.old }
@@ -201,6 +162,7 @@ fn put_given(stack: &mut Vec<Cell>, taken: usize, value: Given) -> Act
             Act::Goes(0)
         }
         Given::Trap(n) => Act::Fails(n, 0),
+        Given::Undefined => LOST,
     }
 }
 
@@ -212,7 +174,7 @@ fn operate_on_one(operator: Unary, stack: &mut Vec<Cell>) -> Act
 {
     match number(stack, 0) {
         None => LOST,
-        Some(a) => put_given(stack, 1, unary(operator, a)),
+        Some(a) => put_given(stack, 1, apply_unary(operator, a)),
     }
 }
 
@@ -224,7 +186,7 @@ fn operate_on_two(operator: Binary, stack: &mut Vec<Cell>) -> Act
 {
     match numbers(stack) {
         None => LOST,
-        Some((a, b)) => put_given(stack, 2, binary(operator, a, b)),
+        Some((a, b)) => put_given(stack, 2, apply_binary(operator, a, b)),
     }
 }
 
@@ -241,22 +203,6 @@ fn assert_true(code: u8, stack: &mut Vec<Cell>) -> Act
             Act::Goes(0)
         }
         _ => LOST,
-    }
-}
-
-fn compare(relation: Relation, stack: &mut Vec<Cell>) -> Act
-    requires { vec_len stack.old < vec_capacity stack.old }
-    ensures kept { WhereStays result (stack.new ≡ stack.old) }
-    ensures act { act_in result (operands_in stack.new) ≡
-        on_numbers (λ a b s. gives (Cell.Num (flag (holds relation a b))) s)
-        (operands_in stack.old) }
-{
-    match numbers(stack) {
-        None => LOST,
-        Some((a, b)) => {
-            replace(stack, 2, Cell::Num(truth(related(relation, a, b))));
-            Act::Goes(0)
-        }
     }
 }
 
@@ -417,6 +363,17 @@ fn ask_int(stack: &[Cell]) -> Act
     }
 }
 
+fn ask_char(stack: &[Cell]) -> Act
+    ensures act { act_in result (reverse stack.now) ≡
+        on_number (λ a s. Sees (PutsChar (Cell.Num a)) s) (reverse stack.now) }
+    ensures stays { IsStay result }
+{
+    match number(stack, 0) {
+        None => LOST,
+        Some(a) => Act::Sees(Question::PutsChar(a)),
+    }
+}
+
 /// What the instruction at this place of the code does. It takes no operand of a question, or before a trap.
 fn act_on(instr: Instr, code: &[Instr], at: usize, stack: &mut Vec<Cell>) -> Act
     requires place { slice_get code.now at ≡ Some instr }
@@ -431,9 +388,6 @@ fn act_on(instr: Instr, code: &[Instr], at: usize, stack: &mut Vec<Cell>) -> Act
         Instr::Dup => duplicate(stack),
         Instr::Swap => swap(stack),
         Instr::Module(m, c) => give(stack, Cell::Place(Root::Module(m), c, 0)),
-        Instr::Add(w) => add_numbers(w, stack),
-        Instr::Sub(w) => subtract_numbers(w, stack),
-        Instr::Cmp(relation) => compare(relation, stack),
         Instr::Unary(operator) => operate_on_one(operator, stack),
         Instr::Binary(operator) => operate_on_two(operator, stack),
         Instr::Fail(n) => Act::Fails(n, 0),
@@ -448,8 +402,10 @@ fn act_on(instr: Instr, code: &[Instr], at: usize, stack: &mut Vec<Cell>) -> Act
         Instr::NewObject(t) => Act::Sees(Question::Makes(t)),
         Instr::Start => ask_start(stack),
         Instr::Return => Act::Ends,
+        Instr::OutChar => ask_char(stack),
         Instr::OutInt => ask_int(stack),
         Instr::OutLn => Act::Sees(Question::PutsLn),
+        Instr::OutOpen => Act::Sees(Question::PutsNothing),
     }
 }
 
@@ -571,6 +527,30 @@ fn put_int(output: &mut Vec<u8>, a: i64, places: i64, at: usize, frame: &mut Fra
     Did::Went
 }
 
+/// The byte of a character, by its code.
+fn character(code: i64) -> Option<u8>
+    ensures { result ≡ character_of (Cell.Num code) }
+{
+    u8::try_from(code).ok()
+}
+
+fn put_char(output: &mut Vec<u8>, code: i64, at: usize, frame: &mut Frame) -> Did
+    requires place { at + 1 < 2 ^ 64 }
+    requires room { vec_len output.old + MAX_BYTES ≤ vec_capacity output.old }
+    ensures { (mem : Memory) →
+        IsAnswered (PutsChar (Cell.Num code)) at 1 frame.old frame.new mem mem result
+        output.old.items output.new.items }
+{
+    match character(code) {
+        None => Did::Trapped(16, 0),
+        Some(byte) => {
+            output.push_reserved(byte);
+            go_behind(frame, at, 1);
+            Did::Went
+        }
+    }
+}
+
 /// The most scalars in the heap. An object without fields counts as one.
 const MAX_SCALARS: usize = 16_777_216;
 
@@ -630,6 +610,11 @@ fn answer(
         Question::Makes(of) => make(shared, of, at, frame),
         Question::Starts(object) => start(object),
         Question::PutsInt(a, places) => put_int(output, a, places, at, frame),
+        Question::PutsChar(code) => put_char(output, code, at, frame),
+        Question::PutsNothing => {
+            go_behind(frame, at, 0);
+            Did::Went
+        }
         Question::PutsLn => {
             output.push_reserved(b'\n');
             go_behind(frame, at, 0);

@@ -3,17 +3,8 @@
 use aos_code::{Body, Image, Instr, ModuleDesc, ProcShape};
 use std::alloc::{AllocError, Global};
 
-/// One module, whose body writes 7 in three places and ends the line.
-pub fn sample(alloc: Global) -> Result<Image, AllocError> {
-    let code = vec![in alloc;
-        Instr::Begin(1, 1),
-        Instr::Num(7),
-        Instr::Num(3),
-        Instr::OutInt,
-        Instr::Begin(2, 1),
-        Instr::OutLn,
-        Instr::Return,
-    ]?;
+/// One module, whose body has this code.
+pub fn of_code(alloc: Global, code: Vec<Instr>) -> Result<Image, AllocError> {
     let module = ModuleDesc {
         name: String::from_str(alloc, "M")?,
         cells: Vec::new(alloc),
@@ -25,4 +16,18 @@ pub fn sample(alloc: Global) -> Result<Image, AllocError> {
         shapes: vec![in alloc; ProcShape { module: 0 }]?,
         bodies: vec![in alloc; Body { code }]?,
     })
+}
+
+/// One module, whose body writes 7 in three places and ends the line.
+pub fn sample(alloc: Global) -> Result<Image, AllocError> {
+    let code = vec![in alloc;
+        Instr::Begin(1, 1),
+        Instr::Num(7),
+        Instr::Num(3),
+        Instr::OutInt,
+        Instr::Begin(2, 1),
+        Instr::OutLn,
+        Instr::Return,
+    ]?;
+    of_code(alloc, code)
 }

@@ -1,5 +1,5 @@
 -- The lines that the program writes beside a run's output. Each ends with the byte 10; numbers are decimal.
-use Rattle.std.specs.Prelude.{ℕ, List, [], ◌∷◌, ◌++◌, ◌==◌, if◌then◌else◌, codes, decimal, slice_get, unwrap_or}
+use Rattle.std.specs.Prelude.{ℕ, List, [], ◌∷◌, ◌++◌, codes, decimal, slice_get, unwrap_or}
 use Rattle.aos_base.specs.declared.text.Pos.{Pos}
 use Rattle.aos_base.specs.Book.{TrapRow, Where}
 
@@ -11,30 +11,64 @@ name_of names m = unwrap_or (slice_get names m) []
 abbrev pub place_text : List ℕ → Pos → List ℕ
 place_text name at = name ++ codes ":" ++ decimal at.line ++ codes ":" ++ decimal at.col
 
--- the name of a rule of this number, or else another text
-abbrev pub named : (number : ℕ) → List ℕ → ℕ → List ℕ → List ℕ
-named number text rule other = if rule == number then text else other
+-- what the rules are called, by their numbers from 0
+abbrev pub rule_texts : List (List ℕ)
+rule_texts =
+    codes "not built yet"
+    ∷ codes "file not found"
+    ∷ codes "character not allowed"
+    ∷ codes "comment not closed"
+    ∷ codes "string not closed"
+    ∷ codes "number too large"
+    ∷ codes "syntax"
+    ∷ codes "nesting too deep"
+    ∷ codes "module given twice"
+    ∷ codes "imported module not given"
+    ∷ codes "import cycle"
+    ∷ codes "module named Out"
+    ∷ codes "end name differs"
+    ∷ codes "name declared twice"
+    ∷ codes "unknown name"
+    ∷ codes "name not exported"
+    ∷ codes "name of another kind"
+    ∷ codes "wrong base type"
+    ∷ codes "type contains itself"
+    ∷ codes "too many scalars"
+    ∷ codes "constant expression refused"
+    ∷ codes "open array not allowed"
+    ∷ codes "override differs"
+    ∷ codes "name stands in the base type"
+    ∷ codes "wrong initializer"
+    ∷ codes "type not allowed"
+    ∷ codes "object type not at module level"
+    ∷ codes "not built yet"
+    ∷ codes "not built yet"
+    ∷ codes "not built yet"
+    ∷ codes "operand types"
+    ∷ codes "value doesn't fit"
+    ∷ codes "not a variable"
+    ∷ codes "read only"
+    ∷ codes "number of arguments"
+    ∷ codes "argument type"
+    ∷ codes "wrong call"
+    ∷ codes "condition not BOOLEAN"
+    ∷ codes "wrong case"
+    ∷ codes "EXIT outside LOOP"
+    ∷ codes "wrong RETURN"
+    ∷ codes "wrong type test"
+    ∷ codes "wrong selector"
+    ∷ codes "AWAIT outside a region"
+    ∷ codes "call in AWAIT"
+    ∷ codes "wrong modifier"
+    ∷ codes "wrong SELF or ^"
+    ∷ codes "wrong NEW"
+    ∷ codes "wrong FOR"
+    ∷ codes "wrong WITH"
+    ∷ []
 
--- what a rule is called
+-- what a rule is called; each that has no other text is of what isn't built
 abbrev pub rule_text : ℕ → List ℕ
-rule_text rule =
-    named 1 (codes "file not found") rule (
-    named 2 (codes "character not allowed") rule (
-    named 3 (codes "comment not closed") rule (
-    named 4 (codes "string not closed") rule (
-    named 5 (codes "number too large") rule (
-    named 6 (codes "syntax") rule (
-    named 7 (codes "nesting too deep") rule (
-    named 8 (codes "module given twice") rule (
-    named 9 (codes "imported module not given") rule (
-    named 10 (codes "import cycle") rule (
-    named 11 (codes "module named Out") rule (
-    named 12 (codes "end name differs") rule (
-    named 13 (codes "name declared twice") rule (
-    named 14 (codes "unknown name") rule (
-    named 15 (codes "name not exported") rule (
-    named 33 (codes "read only") rule (
-    codes "not built yet"))))))))))))))))
+rule_text rule = unwrap_or (slice_get rule_texts rule) (codes "not built yet")
 
 -- FILE:LINE:COL: rule N: TEXT
 abbrev pub refusal_text : List ℕ → ℕ → Pos → List ℕ

@@ -1,7 +1,7 @@
 //! The texts that the program writes beside a run's output: each function gives one line.
 #![tactic(auto)]
 
-ghost use Rattle.std.specs.Prelude.{◌≡◌, ◌++◌, IfOk, OnOk, map, codes, decimal};
+ghost use Rattle.std.specs.Prelude.{◌≡◌, ◌++◌, IfOk, OnOk, map, codes, decimal, slice_get, unwrap_or};
 ghost use Rattle.std.specs.String.{string_bytes};
 ghost use Rattle.aos_report.specs.Texts.{name_of, rule_text, place_text, refusal_text, usage_text, unread_text, too_long_text, trap_text, budget_text, script_ended_text, script_refused_text, no_worker_text};
 
@@ -9,6 +9,60 @@ use aos_base::{NoMemory, Pos, Refusal};
 use aos_code::{ModuleDesc, TrapRec};
 use itoa::Buffer;
 use std::alloc::Global;
+
+// What the rules are called, by their numbers from 0.
+const RULES: [&str; 50] = [
+    "not built yet",
+    "file not found",
+    "character not allowed",
+    "comment not closed",
+    "string not closed",
+    "number too large",
+    "syntax",
+    "nesting too deep",
+    "module given twice",
+    "imported module not given",
+    "import cycle",
+    "module named Out",
+    "end name differs",
+    "name declared twice",
+    "unknown name",
+    "name not exported",
+    "name of another kind",
+    "wrong base type",
+    "type contains itself",
+    "too many scalars",
+    "constant expression refused",
+    "open array not allowed",
+    "override differs",
+    "name stands in the base type",
+    "wrong initializer",
+    "type not allowed",
+    "object type not at module level",
+    "not built yet",
+    "not built yet",
+    "not built yet",
+    "operand types",
+    "value doesn't fit",
+    "not a variable",
+    "read only",
+    "number of arguments",
+    "argument type",
+    "wrong call",
+    "condition not BOOLEAN",
+    "wrong case",
+    "EXIT outside LOOP",
+    "wrong RETURN",
+    "wrong type test",
+    "wrong selector",
+    "AWAIT outside a region",
+    "call in AWAIT",
+    "wrong modifier",
+    "wrong SELF or ^",
+    "wrong NEW",
+    "wrong FOR",
+    "wrong WITH",
+];
 
 fn put(line: &mut Vec<u8>, text: &str) -> Result<(), NoMemory>
     ensures { OnOk result (line.new.items ≡ line.old.items ++ text.now) }
@@ -34,44 +88,19 @@ fn put_place(line: &mut Vec<u8>, name: &str, at: Pos) -> Result<(), NoMemory>
     put_number(line, u64::from(at.col))
 }
 
+fn text_at(texts: &[&'static str], number: u16) -> &'static str
+    ensures { result.now ≡ unwrap_or (slice_get (map (λ t. t.now) texts.now) number) (codes "not built yet") }
+{
+    texts
+        .get(number as usize)
+        .copied()
+        .unwrap_or("not built yet")
+}
+
 fn rule_name(rule: u16) -> &'static str
     ensures { result.now ≡ rule_text rule }
 {
-    if rule == 1 {
-        "file not found"
-    } else if rule == 2 {
-        "character not allowed"
-    } else if rule == 3 {
-        "comment not closed"
-    } else if rule == 4 {
-        "string not closed"
-    } else if rule == 5 {
-        "number too large"
-    } else if rule == 6 {
-        "syntax"
-    } else if rule == 7 {
-        "nesting too deep"
-    } else if rule == 8 {
-        "module given twice"
-    } else if rule == 9 {
-        "imported module not given"
-    } else if rule == 10 {
-        "import cycle"
-    } else if rule == 11 {
-        "module named Out"
-    } else if rule == 12 {
-        "end name differs"
-    } else if rule == 13 {
-        "name declared twice"
-    } else if rule == 14 {
-        "unknown name"
-    } else if rule == 15 {
-        "name not exported"
-    } else if rule == 33 {
-        "read only"
-    } else {
-        "not built yet"
-    }
+    text_at(&RULES, rule)
 }
 
 /// The line of a refusal, with the file's name: `FILE:LINE:COL: rule N: TEXT`.

@@ -1,15 +1,15 @@
 -- What the operators on numbers give (Oberon-2 report, 8.2 and 10.3).
-use Rattle.std.specs.Prelude.{ℕ, ◌-◌, ◌^◌, ◌&&◌, ℤ, pos, negsuc, ◌*ℤ◌, neg_ℤ, unsigned_abs, int_lt, int_le, Bool, true, false, Option, Some, None, nat_lt, if◌then◌else◌, bit_and, bit_or, bit_xor}
+use Rattle.std.specs.Prelude.{ℕ, ◌-◌, ◌^◌, ◌&&◌, ℤ, pos, negsuc, ◌+ℤ◌, ◌-ℤ◌, ◌*ℤ◌, neg_ℤ, unsigned_abs, int_lt, int_le, Bool, true, false, Option, Some, None, nat_lt, if◌then◌else◌, bit_and, bit_or, bit_xor}
 use Rattle.std.specs.Option.{option_map, option_zip}
 use Rattle.std.specs.Int.{w32, int_div_euclid, int_rem_euclid, bit_not, is_in_range}
-use Rattle.aos_base.specs.Number.{if_within, shifted}
+use Rattle.aos_base.specs.Number.{if_within, holds, shifted}
 use Rattle.aos_base.specs.Set.{span_of, has_of}
-use Rattle.aos_code.specs.declared.instr.Unary.{Unary}
-use Rattle.aos_code.specs.declared.instr.Unary.TheVariants.{Neg, Abs, Not, Odd, Cap, Compl, Range}
-use Rattle.aos_code.specs.declared.instr.Binary.{Binary}
-use Rattle.aos_code.specs.declared.instr.Binary.TheVariants.{Mul, Div, Mod, Ash, Union, Minus, Meet, Xor, SetSpan, In}
-use Rattle.aos_code.specs.declared.instr.Given.{Given}
-use Rattle.aos_code.specs.declared.instr.Given.TheVariants.{Number, Trap}
+use Rattle.aos_base.specs.declared.operator.Unary.{Unary}
+use Rattle.aos_base.specs.declared.operator.Unary.TheVariants.{Neg, Abs, Not, Odd, Cap, Compl, Range}
+use Rattle.aos_base.specs.declared.operator.Binary.{Binary}
+use Rattle.aos_base.specs.declared.operator.Binary.TheVariants.{Add, Sub, Mul, Div, Mod, Ash, Cmp, Union, Minus, Meet, Xor, SetSpan, In}
+use Rattle.aos_base.specs.declared.operator.Given.{Given}
+use Rattle.aos_base.specs.declared.operator.Given.TheVariants.{Number, Trap, Undefined}
 
 -- TRUE is 1 and FALSE is 0
 abbrev pub flag : Bool → ℤ
@@ -29,16 +29,16 @@ abbrev pub natural : ℕ → ℤ → Option ℕ
 natural bound (pos n) = if nat_lt n bound then Some n else None
 natural bound (negsuc n) = None
 
--- code that finds another operand than it takes is lost
-abbrev pub or_lost : {A : Type 0} → Option A → (A → Given) → Given
-or_lost None k = Trap 16
-or_lost (Some x) k = k x
+-- an operator isn't defined for each number, as negation isn't for 2
+abbrev pub or_undefined : {A : Type 0} → Option A → (A → Given) → Given
+or_undefined None k = Undefined
+or_undefined (Some x) k = k x
 
 abbrev pub set_of : ℤ → Option ℕ
 set_of a = natural (2 ^ 32) a
 
 abbrev pub on_sets : (ℕ → ℕ → ℕ) → ℤ → ℤ → Given
-on_sets f a b = or_lost (option_zip (set_of a) (set_of b)) (λ p. Number (pos (f p.0 p.1)))
+on_sets f a b = or_undefined (option_zip (set_of a) (set_of b)) (λ p. Number (pos (f p.0 p.1)))
 
 -- the letters from a to z are 97 to 122, and each capital is 32 before its letter
 abbrev pub capital : ℕ → ℕ
@@ -47,20 +47,23 @@ capital n = if is_in_range 97 122 n then n - 32 else n
 abbrev pub unary : Unary → ℤ → Given
 unary (Neg w) a = or_trap 5 (if_within w (neg_ℤ a))
 unary (Abs w) a = or_trap 5 (if_within w (pos (unsigned_abs a)))
-unary Not a = or_lost (natural 2 a) (λ n. Number (pos (1 - n)))
+unary Not a = or_undefined (natural 2 a) (λ n. Number (pos (1 - n)))
 unary Odd a = Number (int_rem_euclid a (pos 2))
-unary Cap a = or_lost (natural 256 a) (λ n. Number (pos (capital n)))
-unary Compl a = or_lost (set_of a) (λ x. Number (pos (bit_not w32 x)))
+unary Cap a = or_undefined (natural 256 a) (λ n. Number (pos (capital n)))
+unary Compl a = or_undefined (set_of a) (λ x. Number (pos (bit_not w32 x)))
 unary (Range low high) a = if int_le low a && int_le a high then Number a else Trap 14
 
 abbrev pub binary : Binary → ℤ → ℤ → Given
+binary (Add w) a b = or_trap 5 (if_within w (a +ℤ b))
+binary (Sub w) a b = or_trap 5 (if_within w (a -ℤ b))
 binary (Mul w) a b = or_trap 5 (if_within w (a *ℤ b))
 binary (Div w) a b = or_divisor b (if_within w (int_div_euclid a b))
 binary (Mod w) a b = or_divisor b (if_within w (int_rem_euclid a b))
 binary (Ash w) a b = or_trap 5 (if_within w (shifted a b))
+binary (Cmp relation) a b = Number (flag (holds relation a b))
 binary Union a b = on_sets bit_or a b
 binary Minus a b = on_sets (λ x y. bit_and x (bit_not w32 y)) a b
 binary Meet a b = on_sets bit_and a b
 binary Xor a b = on_sets bit_xor a b
 binary SetSpan a b = or_trap 14 (option_map pos (span_of a b))
-binary In a b = or_lost (set_of b) (λ x. or_trap 14 (option_map flag (has_of x a)))
+binary In a b = or_undefined (set_of b) (λ x. or_trap 14 (option_map flag (has_of x a)))
