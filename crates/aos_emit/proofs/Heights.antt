@@ -12,7 +12,7 @@ use Rattle.aos_typed.proofs.Seen.{while_seen}
 
 abbrev mutual
   pub height : Stat → ℕ
-  height (Assign at p e) = 0
+  height (Assign at t p e) = 0
   height (While at e body) = suc (heights body)
   height (New at p t) = 0
   height (Out at call) = 0

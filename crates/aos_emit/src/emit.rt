@@ -1,14 +1,14 @@
 // From typed statements to instructions: what is emitted is the code that the definitions give.
 
-ghost use Rattle.std.specs.Prelude.{◌≡◌, ◌+◌, ◌<◌, ◌^◌, [], ◌∷◌, ◌++◌, length, IfOk, OnOk};
+ghost use Rattle.std.specs.Prelude.{◌≡◌, ◌+◌, ◌<◌, ◌^◌, [], ◌∷◌, ◌++◌, length, pos, IfOk, OnOk};
 ghost use Rattle.aos_typed.specs.Seen.{seen_place, seen_expr, seen_call, seen_stat, seen_stats};
-ghost use Rattle.aos_emit.specs.Back.{back_code};
+ghost use Rattle.aos_emit.specs.Back.{back_code, placed};
 ghost use Rattle.aos_emit.specs.Typed.{IsTyped, AreTyped};
-ghost use Rattle.aos_sim.specs.Code.{begin, literal_code, binary_code, place_code, value_code, out_code, new_code, stat_code, stats_code, body_code};
+ghost use Rattle.aos_sim.specs.Code.{begin, literal_code, kind_of, place_code, value_code, out_code, new_code, stat_code, stats_code, body_code};
 
-use aos_base::Pos;
+use aos_base::{Binary, Pos, Unary, truth};
 use aos_code::{Body, Instr, Kind};
-use aos_typed::{Binary, Literal, OutCall, TExpr, TPlace, TStat};
+use aos_typed::{Literal, OutCall, TExpr, TPlace, TStat, TType};
 use std::alloc::{AllocError, Global};
 
 // One more instruction.
@@ -19,13 +19,33 @@ fn put(code: &mut Vec<Instr>, instr: Instr) -> Result<(), AllocError>
     Ok(())
 }
 
-// The number of the next instruction. Code of 2^32 instructions and more is want of memory.
+// The number of an instruction. Code of 2^32 instructions and more is want of memory.
+fn number_of(place: usize) -> Result<u32, AllocError>
+    ensures { IfOk result (λ n. n ≡ place) }
+{
+    match u32::try_from(place) {
+        Ok(number) => Ok(number),
+        Err(_) => Err(AllocError),
+    }
+}
+
+// The number of the next instruction.
 fn next_place(code: &[Instr]) -> Result<u32, AllocError>
     ensures { IfOk result (λ n. n ≡ length code.now) }
 {
-    match u32::try_from(code.len()) {
-        Ok(number) => Ok(number),
-        Err(_) => Err(AllocError),
+    number_of(code.len())
+}
+
+/// The kind of what a variable of this type holds.
+pub fn cell_kind(of: TType) -> Kind
+    ensures { result ≡ kind_of of }
+{
+    match of {
+        TType::Integer(_) => Kind::N,
+        TType::Boolean => Kind::N,
+        TType::Char => Kind::N,
+        TType::Set => Kind::N,
+        TType::Object(_) => Kind::R,
     }
 }
 
@@ -34,15 +54,9 @@ fn literal_instr(literal: Literal) -> Instr
 {
     match literal {
         Literal::Int(n) => Instr::Num(n),
-    }
-}
-
-fn binary_instr(operator: Binary) -> Instr
-    ensures { result ≡ binary_code operator }
-{
-    match operator {
-        Binary::Add(w) => Instr::Add(w),
-        Binary::Sub(w) => Instr::Sub(w),
+        Literal::Bool(b) => Instr::Num(truth(b)),
+        Literal::Char(c) => Instr::Num(i64::from(c)),
+        Literal::Set(s) => Instr::Num(i64::from(s)),
     }
 }
 
@@ -61,30 +75,95 @@ fn emit_place(code: &mut Vec<Instr>, place: &TPlace) -> Result<(), AllocError>
     }
 }
 
+fn emit_read_back(code: &mut Vec<Instr>, of: TType, place: &TPlace) -> Result<(), AllocError>
+    ensures { OnOk result
+        (code.new.items ≡ code.old.items ++ Instr.Load (kind_of of) ∷ place_code (seen_place place.now) 0) }
+{
+    put(code, Instr::Load(cell_kind(of)))?;
+    emit_place(code, place)
+}
+
+// The second operand of `&` with what stands around it, from the last instruction to the first.
+#[cycle(emit_back)]
+fn emit_and_back(code: &mut Vec<Instr>, second: &TExpr) -> Result<(), AllocError>
+    ensures { OnOk result
+        (code.new.items ≡ back_code (seen_expr second.now)
+        (code.old.items ++ Instr.Num (pos 0) ∷ Instr.Jump (length code.old.items) ∷ []) ++ Instr.JumpFalse
+        (length code.old.items + 1) ∷ []) }
+{
+    let past = next_place(code)?;
+    put(code, Instr::Num(0))?;
+    let from_false = next_place(code)?;
+    put(code, Instr::Jump(past))?;
+    emit_back(code, second)?;
+    put(code, Instr::JumpFalse(from_false))
+}
+
+// The second operand of OR with what stands before it, from the last instruction to the first.
+#[cycle(emit_back)]
+fn emit_or_back(code: &mut Vec<Instr>, second: &TExpr) -> Result<(), AllocError>
+    ensures { OnOk result (let all = back_code (seen_expr second.now) code.old.items in
+        code.new.items ≡ all ++ Instr.Jump (length code.old.items) ∷ Instr.Num (pos 1) ∷ Instr.JumpFalse (length all) ∷ []) }
+{
+    let behind = next_place(code)?;
+    emit_back(code, second)?;
+    let from_second = next_place(code)?;
+    put(code, Instr::Jump(behind))?;
+    put(code, Instr::Num(1))?;
+    put(code, Instr::JumpFalse(from_second))
+}
+
 // The code of an expression, from its last instruction to its first. A long sum has as many left operands, one in
-// another: the loop over them takes no stack.
+// another: the loop over them takes no stack. A jump is given the number of instructions from its target to the end.
+#[cycle(emit_back)]
 fn emit_back(code: &mut Vec<Instr>, value: &TExpr) -> Result<(), AllocError>
-    ensures { OnOk result (code.new.items ≡ code.old.items ++ back_code (seen_expr value.now)) }
+    ensures { OnOk result (code.new.items ≡ back_code (seen_expr value.now) code.old.items) }
 {
     let mut rest = value;
     loop {
         match rest {
             TExpr::Lit(literal) => return put(code, literal_instr(*literal)),
-            TExpr::Read(place) => {
-                put(code, Instr::Load(Kind::N))?;
-                return emit_place(code, place);
+            TExpr::Read(of, place) => return emit_read_back(code, *of, place),
+            TExpr::Unary(operator, operand) => {
+                put(code, Instr::Unary(*operator))?;
+                rest = operand;
             }
             TExpr::Binary(operator, left, right) => {
-                put(code, binary_instr(*operator))?;
+                put(code, Instr::Binary(*operator))?;
                 emit_back(code, right)?;
                 rest = left;
             }
-            TExpr::Compare(relation, left, right) => {
-                put(code, Instr::Cmp(*relation))?;
-                emit_back(code, right)?;
+            TExpr::And(left, right) => {
+                emit_and_back(code, right)?;
                 rest = left;
+            }
+            TExpr::Or(left, right) => {
+                emit_or_back(code, right)?;
+                rest = left;
+            }
+            TExpr::Element(operand) => {
+                put(code, Instr::Binary(Binary::SetSpan))?;
+                put(code, Instr::Dup)?;
+                rest = operand;
+            }
+            TExpr::Ord(operand) => rest = operand,
+            TExpr::Chr(operand) => {
+                put(code, Instr::Unary(Unary::Range(0, 255)))?;
+                rest = operand;
             }
         }
+    }
+}
+
+// The same instruction, where the code ends at this place: a jump is given its target's place. No target has more
+// instructions to the end than there are, so the difference isn't below 0.
+fn place_jump(instr: Instr, end: u32) -> Instr
+    ensures { result ≡ placed end instr }
+{
+    match instr {
+        Instr::Jump(behind) => Instr::Jump(end.saturating_sub(behind)),
+        Instr::JumpFalse(behind) => Instr::JumpFalse(end.saturating_sub(behind)),
+        _ => instr,
     }
 }
 
@@ -94,8 +173,9 @@ fn emit_value(alloc: Global, code: &mut Vec<Instr>, value: &TExpr) -> Result<(),
 {
     let mut back = Vec::new(alloc);
     emit_back(&mut back, value)?;
+    let end = number_of(code.len() + back.len())?;
     while let Some(instr) = back.pop() {
-        put(code, instr)?;
+        put(code, place_jump(instr, end))?;
     }
     Ok(())
 }
@@ -105,6 +185,11 @@ fn emit_out(alloc: Global, code: &mut Vec<Instr>, call: &OutCall) -> Result<(), 
         (code.new.items ≡ code.old.items ++ out_code (seen_call call.now) (length code.old.items)) }
 {
     match call {
+        OutCall::Open => put(code, Instr::OutOpen),
+        OutCall::Char(value) => {
+            emit_value(alloc, code, value)?;
+            put(code, Instr::OutChar)
+        }
         OutCall::Int(value, places) => {
             emit_value(alloc, code, value)?;
             emit_value(alloc, code, places)?;
@@ -137,11 +222,11 @@ fn emit_stat(alloc: Global, code: &mut Vec<Instr>, statement: &TStat) -> Result<
         (length code.old.items)) }
 {
     match statement {
-        TStat::Assign(at, place, value) => {
+        TStat::Assign(at, of, place, value) => {
             emit_begin(code, *at)?;
             emit_place(code, place)?;
             emit_value(alloc, code, value)?;
-            put(code, Instr::Store(Kind::N))
+            put(code, Instr::Store(cell_kind(*of)))
         }
         TStat::While(at, condition, body) => {
             let start = next_place(code)?;

@@ -7,9 +7,9 @@ ghost use Rattle.aos_typed.specs.WellTyped.{IsWellTyped};
 ghost use Rattle.aos_sim.specs.Code.{zero_cell};
 ghost use Rattle.aos_sim.specs.Shows.{IsCodeOf, Shows};
 
-use crate::emit::emit_body;
+use crate::emit::{cell_kind, emit_body};
 use aos_base::NoMemory;
-use aos_code::{Cell, Image, ModuleDesc, ProcShape, TypeDesc};
+use aos_code::{Cell, Image, Kind, ModuleDesc, ProcShape, TypeDesc};
 use aos_sim::image_shows_program;
 use aos_typed::{Program, TModule, TType, TVariable};
 use std::alloc::{AllocError, Global};
@@ -18,9 +18,9 @@ use std::alloc::{AllocError, Global};
 fn first_cell(of: TType) -> Cell
     ensures { result ≡ zero_cell of }
 {
-    match of {
-        TType::LongInt => Cell::Num(0),
-        TType::Object(_) => Cell::Ref(0),
+    match cell_kind(of) {
+        Kind::N => Cell::Num(0),
+        Kind::R => Cell::Ref(0),
     }
 }
 

@@ -1,204 +1,131 @@
--- The code of a well-typed expression does what the expression does, for all answers of the right kinds.
-use Rattle.std.proofs.Common.{◌≡◌, ℕ, suc, ◌+◌, Option, Some, None, List, [], ◌∷◌, ◌++◌, length, refl, sym, ap, ◌∙◌, subst, arith, append_assoc, length-append}
-use Rattle.std.specs.Prelude.{ℤ, option_map, ◌+ℤ◌, ◌-ℤ◌}
-use Rattle.aos_base.specs.Number.{if_within, holds}
-use Rattle.aos_base.specs.Question.{Val, Asks, Traps, bind, Reads, Stores, Ends, Makes, Starts, PutsInt, PutsLn}
-use Rattle.aos_typed.specs.declared.tree.Literal.TheVariants.{Int as IntLiteral}
-use Rattle.aos_typed.specs.declared.tree.Binary.{Binary as Operator}
-use Rattle.aos_typed.specs.declared.tree.Binary.TheVariants.{Add as AddOf, Sub as SubOf}
+-- The code of a well-typed expression does what the expression does, for all answers of the right types.
+use Rattle.std.proofs.Common.{◌≡◌, ℕ, pos, ◌+◌, List, [], ◌∷◌, ◌++◌, length, refl, sym, ap, ◌∙◌, subst, arith, length-append}
+use Rattle.std.proofs.lemmas.Int.{ints}
+use Rattle.aos_base.specs.declared.number.Width.TheVariants.{W16, W64}
+use Rattle.aos_base.specs.declared.operator.Unary.{Unary as UnaryOperator}
+use Rattle.aos_base.specs.declared.operator.Unary.TheVariants.{Range}
+use Rattle.aos_base.specs.declared.operator.Binary.{Binary as BinaryOperator}
+use Rattle.aos_base.specs.declared.operator.Binary.TheVariants.{SetSpan}
+use Rattle.aos_base.specs.declared.operator.Given.{Given}
+use Rattle.aos_base.specs.declared.operator.Given.TheVariants.{Number, Trap, Undefined}
+use Rattle.aos_base.specs.Operators.{unary as unary_of, binary as binary_of}
+use Rattle.aos_base.specs.Question.{Val, bind}
+use Rattle.aos_typed.specs.declared.tree.Literal.{Literal}
+use Rattle.aos_typed.specs.declared.tree.Literal.TheVariants as literal
 use Rattle.aos_typed.specs.declared.tree.TType.{TType}
 use Rattle.aos_typed.specs.declared.tree.TType.TheVariants as type
-use Rattle.aos_typed.specs.Program.{Place as Designator, ModuleVar, Expr, Lit, Read, Binary, Compare, Program}
-use Rattle.aos_typed.specs.Value.{Value, Int, Flag, Object, binary, or_overflow, compare}
-use Rattle.aos_typed.specs.Store.{Spot, Root, ModuleRoot}
-use Rattle.aos_typed.specs.Meaning as source
+use Rattle.aos_typed.specs.Program.{Place as Designator, ModuleVar, Expr, Lit, Read, Unary, Binary, And, Or, Element, Ord, Chr, Program}
+use Rattle.aos_typed.specs.Value.{Value, Sort, Character, literal_value, number_of, given as given_value, unary_sort, binary_sort, binary, element, ord}
 use Rattle.aos_typed.specs.Meaning.{Doing, place_of, value_of}
-use Rattle.aos_typed.specs.WellTyped.{variable_type, place_type, IsInteger, IsBoolean}
-use Rattle.aos_code.specs.declared.instr.Cell.{Cell}
-use Rattle.aos_code.specs.declared.instr.Cell.TheVariants.{Num, Ref, Place}
-use Rattle.aos_code.specs.declared.instr.Root.{Root as CodeRoot}
-use Rattle.aos_code.specs.declared.instr.Root.TheVariants.{Module as CodeModule}
+use Rattle.aos_typed.specs.WellTyped.{place_type, taken, GivesOfTwo, IsOf}
 use Rattle.aos_code.specs.declared.instr.Instr.{Instr}
 use Rattle.aos_code.specs.declared.instr.Instr.TheVariants as i
-use Rattle.aos_code.specs.declared.instr.Kind.TheVariants.{N}
-use Rattle.aos_code.specs.Memory.{Addr}
-use Rattle.aos_code.specs.Silent.{Stack, Question, flag, or_overflow as or_trap}
-use Rattle.aos_sim.specs.Code.{binary_code, place_code, operands_code, value_code}
+use Rattle.aos_code.specs.Silent.{Stack, given}
+use Rattle.aos_sim.specs.Code.{literal_code, kind_of, place_code, operands_code, value_code}
 use Rattle.aos_sim.proofs.Runs.{Run, on_run, runs}
+use Rattle.aos_sim.proofs.Types.{cell_of, Is, IsNumber, basic_number, included, literal_is}
+use Rattle.aos_sim.proofs.Operators.{taken_number, unary_agrees, Suit, operands_suit, operands_numbers, binary_agrees}
+use Rattle.aos_sim.proofs.Does.{Does, along, does_bind, Pushed, Named, Evaluates, ends_at, operand_does}
+use Rattle.aos_sim.proofs.Results.{Agrees, chr_agrees}
+use Rattle.aos_sim.proofs.Shortcuts.{and_does, or_does}
 
--- the cell that holds a value
-abbrev pub cell_of : Value → Cell
-cell_of (Int z) = Num z
-cell_of (Flag b) = Num (flag b)
-cell_of (Object o) = Ref o
-
-abbrev pub root_of : Root → CodeRoot
-root_of (ModuleRoot m) = CodeModule m
-
-abbrev pub addr_of : Spot → Addr
-addr_of p = record { root = root_of p.root; cell = p.variable }
-
--- an operand that is a place
-abbrev pub place_in : Spot → Cell
-place_in p = Place (root_of p.root) p.variable 0
-
--- the question that the code asks where the source asks this one
-abbrev pub placed : source.Question → Question
-placed (Reads p) = Reads (addr_of p)
-placed (Stores p v) = Stores (addr_of p) (cell_of v)
-placed (Ends r) = Ends (option_map cell_of r)
-placed (Makes t) = Makes (t + 1)
-placed (Starts v) = Starts (cell_of v)
-placed (PutsInt v n) = PutsInt (cell_of v) (cell_of n)
-placed PutsLn = PutsLn
-
--- what a value is: a number, a truth value, or an object or NIL
-pub data Sort : Type 0 where
-  Number : Sort
-  Truth : Sort
-  Reference : Sort
-
-abbrev pub sort_of : Value → Sort
-sort_of (Int z) = Number
-sort_of (Flag b) = Truth
-sort_of (Object o) = Reference
-
-abbrev pub sort_of_type : TType → Sort
-sort_of_type type.LongInt = Number
-sort_of_type (type.Object t) = Reference
-
-abbrev pub Is : Sort → Value → Type 0
-Is k v = sort_of v ≡ k
-
-module _ (program : Program) where
-  -- the type of the variable at a place
-  abbrev pub type_at : Root → ℕ → Option TType
-  type_at (ModuleRoot m) k = variable_type program m k
-
-  -- a value is of the sort of the variable at a place
-  abbrev pub Suits : Spot → Value → Type 0
-  Suits p v = option_map sort_of_type (type_at p.root p.variable) ≡ Some (sort_of v)
-
-  -- a question's values are of the sorts that it takes
-  abbrev pub IsAsk : source.Question → Type 0
-  IsAsk (Reads p) = Unit {0}
-  IsAsk (Stores p v) = Suits p v
-  IsAsk (Ends r) = Unit {0}
-  IsAsk (Makes t) = Unit {0}
-  IsAsk (Starts v) = Is Reference v
-  IsAsk (PutsInt v n) = Is Number v × Is Number n
-  IsAsk PutsLn = Unit {0}
-
-  -- an answer of the sort that the question has, where the answer matters
-  abbrev pub IsAnswer : source.Question → Value → Type 0
-  IsAnswer (Reads p) v = Suits p v
-  IsAnswer (Stores p w) v = Unit {0}
-  IsAnswer (Ends r) v = Unit {0}
-  IsAnswer (Makes t) v = Is Reference v
-  IsAnswer (Starts w) v = Unit {0}
-  IsAnswer (PutsInt w n) v = Unit {0}
-  IsAnswer PutsLn v = Unit {0}
-
-  -- the code does what the source does, for all answers of the right sorts: it asks the same questions and traps alike,
-  -- and where the source comes to a value a, the run that is left is related to a by R
-  abbrev pub Does : {A : Type 0} → (A → Run → Type 0) → Run → Doing A → Type 0
-  Does R m (Val a) = R a m
-  Does R m (Asks q f) = (g : Cell → Run) × (m ≡ Asks (placed q) g) × IsAsk q × ((v : Value) → IsAnswer q v → Does R (g (cell_of v)) (f v))
-  Does R m (Traps n c) = m ≡ Traps n c
-
-  -- `Does` along equal runs, where R is kept along them
-  pub along : {A : Type 0} (R : A → Run → Type 0) (m m' : Run) (r : Doing A) → m ≡ m' → Does R m' r → Does R m r
-  along R m m' r e d = subst (λ x. Does R x r) (sym e) d
-
-  pub does_bind : {A C : Type 0} (R : A → Run → Type 0) (Q : C → Run → Type 0) (m : Run) (r : Doing A) (f : A → Doing C) → Does R m r → ((a : A) (m' : Run) → R a m' → Does Q m' (f a)) → Does Q m (bind r f)
-  does_bind R Q m (Val a) f d go = go a m d
-  does_bind R Q m (Asks q g) f d go = (d.0, d.1, d.2, λ v c. does_bind R Q (d.0 (cell_of v)) (g v) f (d.3 v c) go)
-  does_bind R Q m (Traps n c) f d go = d
-
-is_number : (o : Option TType) (v : Value) → o ≡ Some type.LongInt → option_map sort_of_type o ≡ Some (sort_of v) → Is Number v
-is_number o v e c = let k : Some Number ≡ Some (sort_of v) = sym (ap (option_map sort_of_type) e) ∙ c in cc
-
-module _ (code : List Instr) where
-  -- with a value of this sort on the stack, the code goes on with the rest at this place
-  pub record Pushed (k : Sort) (rest : List Instr) (at : ℕ) (s : Stack) (v : Value) (m : Run) : Type 0 where
-    pub kind : Is k v
-    pub run : m ≡ runs code rest 0 at (cell_of v ∷ s)
-
-  pub passed : (xs rest : List Instr) (n at : ℕ) (s : Stack) → runs code (xs ++ rest) (length xs + n) at s ≡ runs code rest n (at + length xs) s
-  passed [] rest n at s =
-      let e : 0 + n ≡ n = omega arith in
-      let f : at ≡ at + 0 = omega arith in
-      ap (λ m. runs code rest m at s) e ∙ ap (λ m. runs code rest n m s) f
-  passed (x ∷ xs) rest n at s =
-      let e : suc (length xs) + n ≡ suc (length xs + n) = omega arith in
-      let f : at + 1 + length xs ≡ at + suc (length xs) = omega arith in
-      ap (λ m. runs code (x ∷ (xs ++ rest)) m at s) e ∙ passed xs rest n (at + 1) s ∙ ap (λ m. runs code rest n m s) f
+-- the code of a character is an integer
+ord_is : (v : Value) → Is type.Char v → Is (type.Integer W16) (ord v)
+ord_is v h = subst (λ x. Is (type.Integer W16) (ord x)) (sym h.1) (pos h.0, refl, record { low = omega (arith, ints, h.2); high = omega (arith, ints, h.2) })
 
 module _ (program : Program) (code : List Instr) where
-  -- the same with the place of a variable of this type
-  pub record Named (o : Option TType) (rest : List Instr) (at : ℕ) (s : Stack) (p : Spot) (m : Run) : Type 0 where
-    pub of : type_at program p.root p.variable ≡ o
-    pub run : m ≡ runs code rest 0 at (place_in p ∷ s)
+  -- two operands of these types and an instruction on them
+  pub operands_do : {C : Type 0} (Q : C → Run → Type 0) (t u : TType) (x : Instr) (f : Value → Value → Doing C) (ca cb : List Instr) (ra rb : Doing Value) (at : ℕ) (rest : List Instr) (s : Stack) → Evaluates program code t ca ra at → Evaluates program code u cb rb (at + length ca) → ((a b : Value) (m : Run) → Is t a → Is u b → m ≡ runs code (x ∷ rest) 0 (at + length ca + length cb) (cell_of b ∷ (cell_of a ∷ s)) → Does program Q m (f a b)) → Does program Q (runs code (operands_code ca cb x ++ rest) 0 at s) (bind ra (λ a. bind rb (λ b. f a b)))
+  operands_do Q t u x f ca cb ra rb at rest s ha hb op =
+      operand_does program code Q t (λ a. bind rb (λ b. f a b)) ca (cb ++ x ∷ []) ra at rest s ha
+      (λ a m p e. along program Q m _ (bind rb (λ b. f a b)) e
+      (operand_does program code Q u (λ b. f a b) cb (x ∷ []) rb (at + length ca) rest (cell_of a ∷ s) hb
+      (λ b m' q e'. op a b m' p q e')))
 
-  -- this piece of code, at this place, evaluates an expression of this sort and goes on behind itself
-  abbrev pub Evaluates : Sort → List Instr → Doing Value → ℕ → Type 0
-  Evaluates k xs r at = (rest : List Instr) (s : Stack) → Does program (Pushed code k rest (at + length xs) s) (runs code (xs ++ rest) 0 at s) r
+  -- what an operator gives
+  given_does : (t : TType) (k : Sort) (g : Given) → Agrees t k g → (rest : List Instr) (at : ℕ) (s : Stack) (m : Run) → m ≡ on_run (given g s) (runs code rest) at → Does program (Pushed code t rest (at + 1) s) m (given_value k g)
+  given_does t k (Number z) a rest at s m e = record { is = a.0; run = e ∙ ap (λ c. runs code rest 0 (at + 1) (c ∷ s)) (sym a.1) }
+  given_does t k (Trap n) a rest at s m e = (e, a)
+  given_does t k Undefined a rest at s m e = absurd a
 
-  -- two operands that are integers and an instruction on them
-  pub operands_do : {C : Type 0} (Q : C → Run → Type 0) (x : Instr) (f : Value → Value → Doing C) (ca cb : List Instr) (ra rb : Doing Value) (at : ℕ) (rest : List Instr) (s : Stack) → Evaluates Number ca ra at → Evaluates Number cb rb (at + length ca) → ((a b : ℤ) (m : Run) → m ≡ runs code (x ∷ rest) 0 (at + length ca + length cb) (Num b ∷ (Num a ∷ s)) → Does program Q m (f (Int a) (Int b))) → Does program Q (runs code (operands_code ca cb x ++ rest) 0 at s) (bind ra (λ a. bind rb (λ b. f a b)))
-  operands_do Q x f ca cb ra rb at rest s ha hb op =
-      let flat : operands_code ca cb x ++ rest ≡ ca ++ (cb ++ (x ∷ rest)) = simp append_assoc in
-      along program Q _ _ (bind ra (λ a. bind rb (λ b. f a b))) (ap (λ l. runs code l 0 at s) flat)
-      (does_bind program (Pushed code Number (cb ++ (x ∷ rest)) (at + length ca) s) Q _ ra (λ a. bind rb (λ b. f a b)) (ha (cb ++ (x ∷ rest)) s)
-      (λ a m h. along program Q m _ (bind rb (λ b. f a b)) h.run
-      (does_bind program (Pushed code Number (x ∷ rest) (at + length ca + length cb) (cell_of a ∷ s)) Q _ rb (λ b. f a b) (hb (x ∷ rest) (cell_of a ∷ s))
-      (λ b m' h'. on_ints a b h.kind h'.kind m' h'.run))))
-    where
-      on_ints : (a b : Value) → Is Number a → Is Number b → (m : Run) → m ≡ runs code (x ∷ rest) 0 (at + length ca + length cb) (cell_of b ∷ (cell_of a ∷ s)) → Does program Q m (f a b)
-      on_ints (Int a) (Int b) ha' hb' m e = op a b m e
-      on_ints (Int a) (Flag b) ha' hb' m e = absurd (cc)
-      on_ints (Int a) (Object o) ha' hb' m e = absurd (cc)
-      on_ints (Flag a) b ha' hb' m e = absurd (cc)
-      on_ints (Object o) b ha' hb' m e = absurd (cc)
+  on_number_does : (op : UnaryOperator) (t : TType) (k : Sort) (v : Value) → IsNumber v → Agrees t k (unary_of op (number_of v)) → (rest : List Instr) (at : ℕ) (s : Stack) (m : Run) → m ≡ runs code (i.Unary op ∷ rest) 0 at (cell_of v ∷ s) → Does program (Pushed code t rest (at + 1) s) m (given_value k (unary_of op (number_of v)))
+  on_number_does op t k v n a rest at s m e =
+      given_does t k (unary_of op (number_of v)) a rest at s m (e ∙ ap (λ c. runs code (i.Unary op ∷ rest) 0 at (c ∷ s)) n)
 
-  -- a sum or a difference
-  overflow_does : (o : Option ℤ) (rest : List Instr) (at : ℕ) (s : Stack) (m : Run) → m ≡ on_run (or_trap o s) (runs code rest) at → Does program (Pushed code Number rest (at + 1) s) m (or_overflow o)
-  overflow_does None rest at s m e = e
-  overflow_does (Some z) rest at s m e = record { kind = refl; run = e }
+  on_numbers_does : (op : BinaryOperator) (t : TType) (a b : Value) → Suit op a b → GivesOfTwo op t → (rest : List Instr) (at : ℕ) (s : Stack) (m : Run) → m ≡ runs code (i.Binary op ∷ rest) 0 at (cell_of b ∷ (cell_of a ∷ s)) → Does program (Pushed code t rest (at + 1) s) m (binary op a b)
+  on_numbers_does op t a b h g rest at s m e =
+      let n = operands_numbers op a b h in
+      given_does t (binary_sort op) (binary_of op (number_of a) (number_of b)) (binary_agrees op t a b h g) rest at s m
+      (e ∙ λ j. runs code (i.Binary op ∷ rest) 0 at (n.1 j ∷ (n.0 j ∷ s)))
 
-  binary_does : (op : Operator) (a b : ℤ) (rest : List Instr) (at : ℕ) (s : Stack) (m : Run) → m ≡ runs code (binary_code op ∷ rest) 0 at (Num b ∷ (Num a ∷ s)) → Does program (Pushed code Number rest (at + 1) s) m (binary op (Int a) (Int b))
-  binary_does (AddOf w) a b rest at s m e = overflow_does (if_within w (a +ℤ b)) rest at s m e
-  binary_does (SubOf w) a b rest at s m e = overflow_does (if_within w (a -ℤ b)) rest at s m e
-
-  -- an operator's code is behind its operands'
-  behind_operands : (ca cb : List Instr) (x : Instr) (at : ℕ) → at + length ca + length cb + 1 ≡ at + length (operands_code ca cb x)
-  behind_operands ca cb x at = omega (arith, length-append ca (cb ++ x ∷ []), length-append cb (x ∷ []))
-
-  pub place_does : (p : Designator) (at : ℕ) (rest : List Instr) (s : Stack) → Does program (Named (place_type program p) rest (at + length (place_code p at)) s) (runs code (place_code p at ++ rest) 0 at s) (place_of p)
+  pub place_does : (p : Designator) (at : ℕ) (rest : List Instr) (s : Stack) → Does program (Named program code (place_type program p) rest (at + length (place_code p at)) s) (runs code (place_code p at ++ rest) 0 at s) (place_of p)
   place_does (ModuleVar m k) at rest s = record { of = refl; run = refl }
 
-  mutual
-    pub integer_does : (e : Expr) → IsInteger program e → (at : ℕ) → Evaluates Number (value_code e at) (value_of e) at
-    integer_does (Lit (IntLiteral n)) ok at rest s = record { kind = refl; run = refl }
-    integer_does (Read (ModuleVar m k)) ok at rest s =
-        let n : at + 1 + 1 ≡ at + 2 = omega arith in
-        subst (λ n. Does program (Pushed code Number rest n s) (runs code (i.Module m k ∷ (i.Load N ∷ rest)) 0 at s) (value_of (Read (ModuleVar m k)))) n
-        ((λ x. runs code rest 0 (at + 1 + 1) (x ∷ s)), refl, tt, λ v c. record { kind = is_number (variable_type program m k) v ok c; run = refl })
-    integer_does (Binary op a b) ok at rest s =
-        let ca = value_code a at in
-        let cb = value_code b (at + length ca) in
-        operands_do (Pushed code Number rest (at + length (operands_code ca cb (binary_code op))) s) (binary_code op) (binary op) ca cb (value_of a) (value_of b) at rest s
-        (integer_does a ok.0 at) (integer_does b ok.1 (at + length ca))
-        (λ x y m e. subst (λ n. Does program (Pushed code Number rest n s) m (binary op (Int x) (Int y))) (behind_operands ca cb (binary_code op) at) (binary_does op x y rest (at + length ca + length cb) s m e))
-    integer_does (Compare r a b) ok at rest s = absurd ok
+  read_does : (t u : TType) (p : Designator) (at : ℕ) → IsOf program (Read u p) t → Evaluates program code t (value_code (Read u p) at) (value_of (Read u p)) at
+  read_does t u (ModuleVar m k) at ok rest s =
+      ends_at program code t rest (at + 1 + 1) (at + 2) s (runs code (i.Module m k ∷ (i.Load (kind_of u) ∷ rest)) 0 at s) (value_of (Read u (ModuleVar m k))) (omega arith)
+      ((λ x. runs code rest 0 (at + 1 + 1) (x ∷ s)), refl, (u, ok.0), λ v c. record { is = included t u v ok.1 (c u ok.0); run = refl })
 
-  pub boolean_does : (e : Expr) → IsBoolean program e → (at : ℕ) → Evaluates Truth (value_code e at) (value_of e) at
-  boolean_does (Lit l) ok at rest s = absurd ok
-  boolean_does (Read p) ok at rest s = absurd ok
-  boolean_does (Binary op a b) ok at rest s = absurd ok
-  boolean_does (Compare r a b) ok at rest s =
+  literal_does : (t : TType) (l : Literal) (at : ℕ) → IsOf program (Lit l) t → Evaluates program code t (value_code (Lit l) at) (value_of (Lit l)) at
+  literal_does t l at ok rest s = record { is = literal_is l t ok; run = loaded l }
+    where
+      loaded : (l : Literal) → runs code (literal_code l ∷ rest) 0 at s ≡ runs code rest 0 (at + 1) (cell_of (literal_value l) ∷ s)
+      loaded (literal.Int n) = refl
+      loaded (literal.Bool b) = refl
+      loaded (literal.Char c) = refl
+      loaded (literal.Set n) = refl
+
+  unary_does : (t u : TType) (op : UnaryOperator) (k : Sort) (xs : List Instr) (r : Doing Value) (at : ℕ) → ((v : Value) → Is u v → IsNumber v × Agrees t k (unary_of op (number_of v))) → Evaluates program code u xs r at → Evaluates program code t (xs ++ i.Unary op ∷ []) (bind r (λ v. given_value k (unary_of op (number_of v)))) at
+  unary_does t u op k xs r at of h rest s =
+      let f : Value → Doing Value = λ v. given_value k (unary_of op (number_of v)) in
+      let n : at + length xs + 1 ≡ at + length (xs ++ i.Unary op ∷ []) = omega (arith, length-append xs (i.Unary op ∷ [])) in
+      operand_does program code (Pushed code t rest (at + length (xs ++ i.Unary op ∷ [])) s) u f xs (i.Unary op ∷ []) r at rest s h
+      (λ v m is e. ends_at program code t rest (at + length xs + 1) (at + length (xs ++ i.Unary op ∷ [])) s m (f v) n
+      (on_number_does op t k v (of v is).0 (of v is).1 rest (at + length xs) s m e))
+
+  binary_does : (t u w : TType) (op : BinaryOperator) (ca cb : List Instr) (ra rb : Doing Value) (at : ℕ) → ((a b : Value) → Is u a → Is w b → Suit op a b) → GivesOfTwo op t → Evaluates program code u ca ra at → Evaluates program code w cb rb (at + length ca) → Evaluates program code t (operands_code ca cb (i.Binary op)) (bind ra (λ a. bind rb (λ b. binary op a b))) at
+  binary_does t u w op ca cb ra rb at suit g ha hb rest s =
+      let x = i.Binary op in
+      let n : at + length ca + length cb + 1 ≡ at + length (operands_code ca cb x) = omega (arith, length-append ca (cb ++ x ∷ []), length-append cb (x ∷ [])) in
+      operands_do (Pushed code t rest (at + length (operands_code ca cb x)) s) u w x (binary op) ca cb ra rb at rest s ha hb
+      (λ a b m p q e. ends_at program code t rest (at + length ca + length cb + 1) (at + length (operands_code ca cb x)) s m (binary op a b) n
+      (on_numbers_does op t a b (suit a b p q) g rest (at + length ca + length cb) s m e))
+
+  element_does : (xs : List Instr) (r : Doing Value) (at : ℕ) → Evaluates program code (type.Integer W64) xs r at → Evaluates program code type.Set (xs ++ (i.Dup ∷ (i.Binary SetSpan ∷ []))) (bind r (λ v. element v)) at
+  element_does xs r at h rest s =
+      let tail = i.Dup ∷ (i.Binary SetSpan ∷ []) in
+      let n : at + length xs + 1 + 1 ≡ at + length (xs ++ tail) = omega (arith, length-append xs tail) in
+      operand_does program code (Pushed code type.Set rest (at + length (xs ++ tail)) s) (type.Integer W64) (λ v. element v) xs tail r at rest s h
+      (λ v m is e. ends_at program code type.Set rest (at + length xs + 1 + 1) (at + length (xs ++ tail)) s m (element v) n
+      (on_numbers_does SetSpan type.Set v v (is, is) refl rest (at + length xs + 1) s m e))
+
+  ord_does : (t : TType) (xs : List Instr) (r : Doing Value) (at : ℕ) → ((v : Value) → Is (type.Integer W16) v → Is t v) → Evaluates program code type.Char xs r at → Evaluates program code t xs (bind r (λ v. Val (ord v))) at
+  ord_does t xs r at more h rest s =
+      does_bind program (Pushed code type.Char rest (at + length xs) s) (Pushed code t rest (at + length xs) s) (runs code (xs ++ rest) 0 at s) r (λ v. Val (ord v)) (h rest s)
+      (λ v m p. record { is = more (ord v) (ord_is v p.is); run = p.run ∙ ap (λ c. runs code rest 0 (at + length xs) (c ∷ s)) (basic_number type.Char v refl p.is) })
+
+  pub value_does : (e : Expr) (t : TType) → IsOf program e t → (at : ℕ) → Evaluates program code t (value_code e at) (value_of e) at
+  value_does (Lit l) t ok at = literal_does t l at ok
+  value_does (Read u p) t ok at = read_does t u p at ok
+  value_does (Unary op a) t ok at =
+      unary_does t (taken op) op (unary_sort op) (value_code a at) (value_of a) at (λ v h. (taken_number op v h, unary_agrees op t v h ok.1)) (value_does a (taken op) ok.0 at)
+  value_does (Binary op a b) t ok at =
+      let o = operands_suit op (IsOf program a) (IsOf program b) ok.0 in
+      let pb = at + length (value_code a at) in
+      binary_does t o.0 o.1 op (value_code a at) (value_code b pb) (value_of a) (value_of b) at o.4 ok.1 (value_does a o.0 o.2 at) (value_does b o.1 o.3 pb)
+  value_does (And a b) t ok at =
       let ca = value_code a at in
-      let cb = value_code b (at + length ca) in
-      operands_do (Pushed code Truth rest (at + length (operands_code ca cb (i.Cmp r))) s) (i.Cmp r) (compare r) ca cb (value_of a) (value_of b) at rest s
-      (integer_does a ok.0 at) (integer_does b ok.1 (at + length ca))
-      (λ x y m e. record { kind = refl; run = e ∙ ap (λ n. runs code rest 0 n (Num (flag (holds r x y)) ∷ s)) (behind_operands ca cb (i.Cmp r) at) })
+      let pb = at + length ca + 1 in
+      subst (λ x. Evaluates program code x (value_code (And a b) at) (value_of (And a b)) at) (sym ok.2)
+      (and_does program code ca (value_code b pb) (value_of a) (value_of b) at (value_does a type.Boolean ok.0 at) (value_does b type.Boolean ok.1 pb))
+  value_does (Or a b) t ok at =
+      let ca = value_code a at in
+      let pb = at + length ca + 3 in
+      subst (λ x. Evaluates program code x (value_code (Or a b) at) (value_of (Or a b)) at) (sym ok.2)
+      (or_does program code ca (value_code b pb) (value_of a) (value_of b) at (value_does a type.Boolean ok.0 at) (value_does b type.Boolean ok.1 pb))
+  value_does (Element a) t ok at =
+      subst (λ x. Evaluates program code x (value_code (Element a) at) (value_of (Element a)) at) (sym ok.1) (element_does (value_code a at) (value_of a) at (value_does a (type.Integer W64) ok.0 at))
+  value_does (Ord a) t ok at = ord_does t (value_code a at) (value_of a) at (λ v. included t (type.Integer W16) v ok.1) (value_does a type.Char ok.0 at)
+  value_does (Chr a) t ok at =
+      subst (λ x. Evaluates program code x (value_code (Chr a) at) (value_of (Chr a)) at) (sym ok.1)
+      (unary_does type.Char (type.Integer W64) (Range (pos 0) (pos 255)) Character (value_code a at) (value_of a) at (λ v h. (basic_number (type.Integer W64) v refl h, chr_agrees (number_of v))) (value_does a (type.Integer W64) ok.0 at))

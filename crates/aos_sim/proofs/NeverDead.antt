@@ -4,12 +4,12 @@ use Rattle.std.specs.Prelude.{Option, Some, None}
 use Rattle.aos_base.specs.declared.kernel.Outcome.TheVariants.{Dead}
 use Rattle.aos_base.specs.Machine.{Choice, execution}
 use Rattle.aos_base.specs.Observation.{observation}
-use Rattle.aos_base.specs.Question.{Val, Asks, Traps, feed, Reads, Stores, Ends, Makes, Starts, PutsInt, PutsLn}
+use Rattle.aos_base.specs.Question.{Val, Asks, Traps, feed, Reads, Stores, Ends, Makes, Starts, PutsInt, PutsChar, PutsLn, PutsNothing}
 use Rattle.aos_typed.specs.Program.{Program}
-use Rattle.aos_typed.specs.Value.{Value, Int, Flag, Object}
-use Rattle.aos_typed.specs.Store.{Store, read, has_room}
+use Rattle.aos_typed.specs.Value.{Value, Int, Flag, Char, Set, Object}
+use Rattle.aos_typed.specs.Store.{Store, has_room}
 use Rattle.aos_typed.specs.Meaning.{Question, Doing, Item, Do, item_of}
-use Rattle.aos_typed.specs.Source.{Frame, Frames, Turned, settles, written, reads, prints, makes, starts, answer, goes, turn_at, turn, source, first_state, first_store, first_frames}
+use Rattle.aos_typed.specs.Source.{Frame, Frames, Turned, settles, written, prints, makes, starts, answer, goes, turn_at, turn, source, first_state, first_store, first_frames}
 use Rattle.aos_concurrency.specs.Spot.{NoOne}
 use Rattle.aos_concurrency.specs.Waits.{MayWait}
 use Rattle.aos_concurrency.proofs.Itself.{Any, anything}
@@ -21,10 +21,6 @@ Lively t = MayWait t.left → ⊥
 settles_lively : (is : List Item) (f : Frame) (fs : Frames) (s : Store) → Lively (settles is f fs s)
 settles_lively [] f fs s h = h
 settles_lively (Do st ∷ is) f fs s h = h
-
-reads_lively : (v : Option Value) (f : Frame) (fs : Frames) (s : Store) → Lively (reads v f fs s)
-reads_lively None f fs s h = h
-reads_lively (Some v) f fs s h = h
 
 prints_lively : (bytes : Option (List ℕ)) (f : Frame) (fs : Frames) (s : Store) → Lively (prints bytes f fs s)
 prints_lively None f fs s h = h
@@ -39,14 +35,18 @@ starts_lively (Object zero) f fs s h = h
 starts_lively (Object (suc k)) f fs s h = h
 starts_lively (Int z) f fs s h = h
 starts_lively (Flag b) f fs s h = h
+starts_lively (Char c) f fs s h = h
+starts_lively (Set x) f fs s h = h
 
 answer_lively : (q : Question) (f : Frame) (fs : Frames) (s : Store) → Lively (answer q f fs s)
-answer_lively (Reads p) f fs s = reads_lively (read p s) f fs s
+answer_lively (Reads p) f fs s = λ h. h
 answer_lively (Stores p v) f fs s = λ h. h
 answer_lively (Ends result) f fs s = λ h. h
 answer_lively (Makes t) f fs s = makes_lively (has_room s) t f fs s
 answer_lively (Starts v) f fs s = starts_lively v f fs s
 answer_lively (PutsInt v n) f fs s = prints_lively (written v n) f fs s
+answer_lively (PutsChar v) f fs s = λ h. h
+answer_lively PutsNothing f fs s = λ h. h
 answer_lively PutsLn f fs s = λ h. h
 
 goes_lively : (d : Doing (List Item)) (rest : List Item) (f : Frame) (fs : Frames) (s : Store) → Lively (goes d rest f fs s)

@@ -1,164 +1,160 @@
 -- To answer an expression's reads is to replace them by literals.
-use Rattle.std.proofs.Common.{◌≡◌, ℕ, suc, ◌+◌, ◌<◌, ◌≤◌, List, [], ◌∷◌, map, length, Bool, true, false, refl, sym, ap, ◌∙◌, subst, arith, inl, inr}
-use Rattle.std.specs.Prelude.{ℤ, ◌+ℤ◌, ◌-ℤ◌, Option, Some, None, nat_eq, if◌then◌else◌}
-use Rattle.std.proofs.lemmas.Bool.Decides.{eqb_tells}
+use Rattle.std.proofs.Common.{◌≡◌, List, [], ◌∷◌, map, Bool, true, false, refl, sym, ap, ◌∙◌}
+use Rattle.std.specs.Prelude.{pos, if◌then◌else◌}
 use Rattle.aos_base.specs.declared.text.Pos.{Pos}
-use Rattle.aos_base.specs.Number.{if_within, holds}
+use Rattle.aos_base.specs.declared.operator.Unary.{Unary as UnaryOperator}
+use Rattle.aos_base.specs.declared.operator.Unary.TheVariants.{Range}
+use Rattle.aos_base.specs.declared.operator.Binary.{Binary as BinaryOperator}
+use Rattle.aos_base.specs.declared.operator.Binary.TheVariants.{SetSpan}
+use Rattle.aos_base.specs.declared.operator.Given.{Given}
+use Rattle.aos_base.specs.declared.operator.Given.TheVariants.{Number, Trap, Undefined}
+use Rattle.aos_base.specs.Operators.{unary as unary_of, binary as binary_of}
 use Rattle.aos_base.specs.Question.{Tree, Val, Asks, Traps, bind, feed}
 use Rattle.aos_typed.specs.declared.tree.Literal.{Literal}
-use Rattle.aos_typed.specs.declared.tree.Binary.{Binary as Arithmetic}
-use Rattle.aos_typed.specs.declared.tree.Binary.TheVariants.{Add, Sub}
-use Rattle.aos_typed.specs.Program.{Place, ModuleVar, Expr, Lit, Read, Binary, Compare, Assign}
-use Rattle.aos_typed.specs.Value.{Value, Int, Flag, Object, literal, or_overflow, result_of, on_integers, binary, compare}
-use Rattle.aos_typed.specs.Meaning.{Doing, Item, value_of, stat_of}
-use Rattle.aos_sim.specs.Rewriting.{reads, with_first, rewritten}
-use Rattle.aos_sim.proofs.Runs.{feed-append}
+use Rattle.aos_typed.specs.declared.tree.TType.{TType}
+use Rattle.aos_typed.specs.Program.{Place, ModuleVar, Expr, Lit, Read, Unary, Binary, And, Or, Element, Ord, Chr, Assign}
+use Rattle.aos_typed.specs.Value.{Value, Flag, literal_value, number_of, Sort, Character, given, unary_sort, binary_sort, unary, binary, element, ord, chr, is_true}
+use Rattle.aos_typed.specs.Meaning.{Question, Doing, Item, value_of, stat_of}
+use Rattle.aos_sim.specs.Rewriting.{is_asking, are_asked, with_first, rewritten}
 
--- Trees that ask or trap, and those that ask nothing
+module _ {Q V A : Type 0} where
+  -- the first of several answers
+  first_fed : (v : V) (vs : List V) (t : Tree Q V A) → is_asking t ≡ true → feed (v ∷ vs) t ≡ feed vs (feed (v ∷ []) t)
+  first_fed v vs (Val a) asks = absurd (cc asks)
+  first_fed v vs (Asks q f) asks = refl
+  first_fed v vs (Traps n c) asks = absurd (cc asks)
 
-abbrev Opens : {Q V A : Type 0} → Tree Q V A → Type 0
-Opens (Val a) = ⊥
-Opens (Asks q f) = Unit {0}
-Opens (Traps n c) = Unit {0}
+  asks_now : (v : V) (vs : List V) (t : Tree Q V A) → are_asked (v ∷ vs) t ≡ true → is_asking t ≡ true
+  asks_now v vs (Val a) asked = absurd (cc asked)
+  asks_now v vs (Asks q f) asked = refl
+  asks_now v vs (Traps n c) asked = absurd (cc asked)
 
-abbrev Closed : {Q V A : Type 0} → Tree Q V A → Type 0
-Closed (Val a) = Unit {0}
-Closed (Asks q f) = ⊥
-Closed (Traps n c) = Unit {0}
+  asks_then : (v : V) (vs : List V) (t : Tree Q V A) → are_asked (v ∷ vs) t ≡ true → are_asked vs (feed (v ∷ []) t) ≡ true
+  asks_then v vs (Val a) asked = absurd (cc asked)
+  asks_then v vs (Asks q f) asked = asked
+  asks_then v vs (Traps n c) asked = absurd (cc asked)
 
 module _ {Q V A B : Type 0} where
-  -- an answer goes to the first piece, unless that is a value
-  feed-bind : (v : V) (t : Tree Q V A) (k : A → Tree Q V B) → Opens t → feed (v ∷ []) (bind t k) ≡ bind (feed (v ∷ []) t) k
-  feed-bind v (Val a) k asks = absurd asks
-  feed-bind v (Asks q f) k asks = refl
-  feed-bind v (Traps n c) k asks = refl
+  asks_before : (t : Tree Q V A) (k : A → Tree Q V B) → is_asking t ≡ true → is_asking (bind t k) ≡ true
+  asks_before (Val a) k asks = absurd (cc asks)
+  asks_before (Asks q f) k asks = refl
+  asks_before (Traps n c) k asks = absurd (cc asks)
 
-  opens-bind : (t : Tree Q V A) (k : A → Tree Q V B) → Opens t → Opens (bind t k)
-  opens-bind (Val a) k asks = absurd asks
-  opens-bind (Asks q f) k asks = tt
-  opens-bind (Traps n c) k asks = tt
+  -- what goes on without a question leaves the first piece to ask
+  asks_first : (t : Tree Q V A) (k : A → Tree Q V B) → ((a : A) → is_asking (k a) ≡ false) → is_asking (bind t k) ≡ true → is_asking t ≡ true
+  asks_first (Val a) k silent asks = absurd (let h = silent a in cc (h, asks))
+  asks_first (Asks q f) k silent asks = refl
+  asks_first (Traps n c) k silent asks = absurd (cc asks)
 
-  opens_behind : (t : Tree Q V A) (k : A → Tree Q V B) → Closed t → ((a : A) → Opens (k a)) → Opens (bind t k)
-  opens_behind (Val a) k closed asks = asks a
-  opens_behind (Asks q f) k closed asks = absurd closed
-  opens_behind (Traps n c) k closed asks = tt
+  -- an answer goes to the first piece, where that asks
+  fed_before : (v : V) (t : Tree Q V A) (k : A → Tree Q V B) → is_asking t ≡ true → feed (v ∷ []) (bind t k) ≡ bind (feed (v ∷ []) t) k
+  fed_before v (Val a) k asks = absurd (cc asks)
+  fed_before v (Asks q f) k asks = refl
+  fed_before v (Traps n c) k asks = absurd (cc asks)
 
-  closed-bind : (t : Tree Q V A) (k : A → Tree Q V B) → Closed t → ((a : A) → Closed (k a)) → Closed (bind t k)
-  closed-bind (Val a) k closed then_ = then_ a
-  closed-bind (Asks q f) k closed then_ = absurd closed
-  closed-bind (Traps n c) k closed then_ = tt
-
--- behind a piece that asks nothing it goes to the second
-feed_behind : {Q V A B C : Type 0} (v : V) (t : Tree Q V A) (u : Tree Q V B) (k : A → B → Tree Q V C) → Closed t → Opens u → feed (v ∷ []) (bind t (λ a. bind u (λ b. k a b))) ≡ bind t (λ a. bind (feed (v ∷ []) u) (λ b. k a b))
-feed_behind v (Val a) u k closed asks = feed-bind v u (λ b. k a b) asks
-feed_behind v (Asks q f) u k closed asks = absurd closed
-feed_behind v (Traps n c) u k closed asks = refl
+  -- and behind a value to what goes on
+  fed_behind : (v : V) (t : Tree Q V A) (k k' : A → Tree Q V B) → is_asking t ≡ false → is_asking (bind t k) ≡ true → ((a : A) → is_asking (k a) ≡ true → feed (v ∷ []) (k a) ≡ k' a) → feed (v ∷ []) (bind t k) ≡ bind t k'
+  fed_behind v (Val a) k k' none asks fed = fed a asks
+  fed_behind v (Asks q f) k k' none asks fed = absurd (cc none)
+  fed_behind v (Traps n c) k k' none asks fed = absurd (cc asks)
 
 -- Operators ask nothing
 
-closed_integers : (k : ℤ → ℤ → Doing Value) → ((a b : ℤ) → Closed (k a b)) → (x y : Value) → Closed (on_integers k x y)
-closed_integers k each (Int a) (Int b) = each a b
-closed_integers k each (Int a) (Flag b) = tt
-closed_integers k each (Int a) (Object o) = tt
-closed_integers k each (Flag a) y = tt
-closed_integers k each (Object o) y = tt
+given_silent : (s : Sort) (g : Given) → is_asking {Q = Question} {V = Value} (given s g) ≡ false
+given_silent s (Number z) = refl
+given_silent s (Trap n) = refl
+given_silent s Undefined = refl
 
-abbrev or_trap : Option ℤ → Doing Value
-or_trap o = or_overflow o
+abbrev on_operand : UnaryOperator → Value → Doing Value
+on_operand op x = unary op x
 
-closed_overflow : (o : Option ℤ) → Closed (or_trap o)
-closed_overflow None = tt
-closed_overflow (Some z) = tt
+abbrev on_operands : BinaryOperator → Value → Value → Doing Value
+on_operands op x y = binary op x y
 
-abbrev result : Arithmetic → ℤ → ℤ → Doing Value
-result op a b = result_of op a b
+unary_silent : (op : UnaryOperator) (x : Value) → is_asking (on_operand op x) ≡ false
+unary_silent op x = given_silent (unary_sort op) (unary_of op (number_of x))
 
-closed_result : (op : Arithmetic) (a b : ℤ) → Closed (result op a b)
-closed_result (Add w) a b = closed_overflow (if_within w (a +ℤ b))
-closed_result (Sub w) a b = closed_overflow (if_within w (a -ℤ b))
+binary_silent : (op : BinaryOperator) (x y : Value) → is_asking (on_operands op x y) ≡ false
+binary_silent op x y = given_silent (binary_sort op) (binary_of op (number_of x) (number_of y))
 
-closed : (e : Expr) → reads e ≡ 0 → Closed (value_of e)
-closed (Lit l) none = tt
-closed (Read p) none = absurd (omega (arith, none))
-closed (Binary op a b) none =
-    closed-bind (value_of a) _ (closed a (omega (arith, none))) (λ x. closed-bind (value_of b) _ (closed b (omega (arith, none))) (λ y. closed_integers (result op) (closed_result op) x y))
-closed (Compare r a b) none =
-    closed-bind (value_of a) _ (closed a (omega (arith, none))) (λ x. closed-bind (value_of b) _ (closed b (omega (arith, none))) (λ y. closed_integers (λ m n. Val (Flag (holds r m n))) (λ m n. tt) x y))
-
--- Expressions with a read ask or trap
-
-by_reads : (P : Bool → Type 0) (n : ℕ) → (n ≡ 0 → P true) → (0 < n → P false) → P (nat_eq n 0)
-by_reads P n none some =
-    elim (eqb_tells n 0) [ inl h ↦ subst P (sym h.0) (none h.1) | inr h ↦ subst P (sym h.0) (some (let ne = h.1 in omega arith)) ]
-
-abbrev Operator : Type 0
-Operator = Value → Value → Doing Value
-
-abbrev both : Doing Value → Doing Value → Operator → Doing Value
-both t u k = bind t (λ x. bind u (λ y. k x y))
-
-opens_both : (a b : Expr) (k : Operator) → 0 < reads a + reads b → (0 < reads a → Opens (value_of a)) → (0 < reads b → Opens (value_of b)) → Opens (both (value_of a) (value_of b) k)
-opens_both a b k some first second =
-    by_reads (λ _. Opens (both (value_of a) (value_of b) k)) (reads a)
-    (λ none. opens_behind (value_of a) _ (closed a none) (λ x. opens-bind (value_of b) _ (second (omega (arith, some, none)))))
-    (λ reads_first. opens-bind (value_of a) _ (first reads_first))
-
-opens : (e : Expr) → 0 < reads e → Opens (value_of e)
-opens (Lit l) some = absurd (omega (arith, some))
-opens (Read (ModuleVar m i)) some = tt
-opens (Binary op a b) some = opens_both a b (binary op) some (opens a) (opens b)
-opens (Compare r a b) some = opens_both a b (compare r) some (opens a) (opens b)
+chr_silent : (x : Value) → is_asking {Q = Question} {V = Value} (chr x) ≡ false
+chr_silent x = given_silent Character (unary_of (Range (pos 0) (pos 255)) (number_of x))
 
 -- One answer
 
-module _ (v : Value) (k : Operator) (a b : Expr) where
-  to_first : (t : Doing Value) → 0 < reads a → feed (v ∷ []) (value_of a) ≡ t → feed (v ∷ []) (both (value_of a) (value_of b) k) ≡ both t (value_of b) k
-  to_first t some fed = feed-bind v (value_of a) _ (opens a some) ∙ ap (λ u. both u (value_of b) k) fed
+abbrev Rewrites : Literal → Expr → Type 0
+Rewrites l e = is_asking (value_of e) ≡ true → feed (literal_value l ∷ []) (value_of e) ≡ value_of (with_first l e)
 
-  to_second : (t : Doing Value) → reads a ≡ 0 → 0 < reads b → feed (v ∷ []) (value_of b) ≡ t → feed (v ∷ []) (both (value_of a) (value_of b) k) ≡ both (value_of a) t k
-  to_second t none some fed = feed_behind v (value_of a) (value_of b) k (closed a none) (opens b some) ∙ ap (λ u. both (value_of a) u k) fed
+-- an operand, and an operator on its value
+on_one : (l : Literal) (a : Expr) (k : Value → Doing Value) → ((x : Value) → is_asking (k x) ≡ false) → Rewrites l a → is_asking (bind (value_of a) k) ≡ true → feed (literal_value l ∷ []) (bind (value_of a) k) ≡ bind (value_of (with_first l a)) k
+on_one l a k silent one asks =
+    let first = asks_first (value_of a) k silent asks in
+    fed_before (literal_value l) (value_of a) k first ∙ ap (λ t. bind t k) (one first)
 
-one_read : (l : Literal) (e : Expr) → 0 < reads e → feed (literal l ∷ []) (value_of e) ≡ value_of (with_first l e)
-one_read l (Lit m) some = absurd (omega (arith, some))
-one_read l (Read (ModuleVar m i)) some = refl
-one_read l (Binary op a b) some =
-    by_reads (λ c. feed (literal l ∷ []) (value_of (Binary op a b)) ≡ value_of (if c then Binary op a (with_first l b) else Binary op (with_first l a) b)) (reads a)
-    (λ none. let second : 0 < reads b = omega (arith, some, none) in to_second (literal l) (binary op) a b (value_of (with_first l b)) none second (one_read l b second))
-    (λ first. to_first (literal l) (binary op) a b (value_of (with_first l a)) first (one_read l a first))
-one_read l (Compare r a b) some =
-    by_reads (λ c. feed (literal l ∷ []) (value_of (Compare r a b)) ≡ value_of (if c then Compare r a (with_first l b) else Compare r (with_first l a) b)) (reads a)
-    (λ none. let second : 0 < reads b = omega (arith, some, none) in to_second (literal l) (compare r) a b (value_of (with_first l b)) none second (one_read l b second))
-    (λ first. to_first (literal l) (compare r) a b (value_of (with_first l a)) first (one_read l a first))
+-- two operands: `both` is what is done with them, `second` the choice behind the value of the first
+module _ (l : Literal) (a b : Expr) (both : Expr → Expr → Expr) (second : Expr → Value → Doing Value) (is : (c d : Expr) → value_of (both c d) ≡ bind (value_of c) (second d)) where
+  on_two : Rewrites l a
+      → ((x : Value) → is_asking (second b x) ≡ true → feed (literal_value l ∷ []) (second b x) ≡ second (with_first l b) x)
+      → (c : Bool) → is_asking (value_of a) ≡ c → is_asking (bind (value_of a) (second b)) ≡ true
+      → feed (literal_value l ∷ []) (bind (value_of a) (second b)) ≡ value_of (if c then both (with_first l a) b else both a (with_first l b))
+  on_two one other true first asks =
+      fed_before (literal_value l) (value_of a) (second b) first ∙ ap (λ t. bind t (second b)) (one first) ∙ sym (is (with_first l a) b)
+  on_two one other false none asks =
+      fed_behind (literal_value l) (value_of a) (second b) (second (with_first l b)) none asks other ∙ sym (is a (with_first l b))
 
-one_less : (l : Literal) (e : Expr) → 0 < reads e → suc (reads (with_first l e)) ≡ reads e
-one_less l (Lit m) some = absurd (omega (arith, some))
-one_less l (Read p) some = omega arith
-one_less l (Binary op a b) some =
-    by_reads (λ c. suc (reads (if c then Binary op a (with_first l b) else Binary op (with_first l a) b)) ≡ reads a + reads b) (reads a)
-    (λ none. let h = one_less l b (omega (arith, some, none)) in omega (arith, none, h))
-    (λ first. let h = one_less l a first in omega (arith, h))
-one_less l (Compare r a b) some =
-    by_reads (λ c. suc (reads (if c then Compare r a (with_first l b) else Compare r (with_first l a) b)) ≡ reads a + reads b) (reads a)
-    (λ none. let h = one_less l b (omega (arith, some, none)) in omega (arith, none, h))
-    (λ first. let h = one_less l a first in omega (arith, h))
+-- where the first operand of & is TRUE the second one tells, and where that of OR is FALSE
+if_true : (l : Literal) (b : Expr) (c : Bool) → Rewrites l b → is_asking (if c then value_of b else Val (Flag false)) ≡ true
+    → feed (literal_value l ∷ []) (if c then value_of b else Val (Flag false)) ≡ (if c then value_of (with_first l b) else Val (Flag false))
+if_true l b true one asks = one asks
+if_true l b false one asks = absurd (cc asks)
+
+if_false : (l : Literal) (b : Expr) (c : Bool) → Rewrites l b → is_asking (if c then Val (Flag true) else value_of b) ≡ true
+    → feed (literal_value l ∷ []) (if c then Val (Flag true) else value_of b) ≡ (if c then Val (Flag true) else value_of (with_first l b))
+if_false l b true one asks = absurd (cc asks)
+if_false l b false one asks = one asks
+
+one_read : (l : Literal) (e : Expr) → Rewrites l e
+one_read l (Lit m) asks = absurd (cc asks)
+one_read l (Read t (ModuleVar m i)) asks = refl
+one_read l (Unary op a) asks = on_one l a (on_operand op) (unary_silent op) (one_read l a) asks
+one_read l (Binary op a b) asks =
+    on_two l a b (Binary op) (λ d x. bind (value_of d) (on_operands op x)) (λ c d. refl) (one_read l a)
+    (λ x. on_one l b (on_operands op x) (binary_silent op x) (one_read l b)) (is_asking (value_of a)) refl asks
+one_read l (And a b) asks =
+    on_two l a b And (λ d x. if is_true x then value_of d else Val (Flag false)) (λ c d. refl) (one_read l a)
+    (λ x. if_true l b (is_true x) (one_read l b)) (is_asking (value_of a)) refl asks
+one_read l (Or a b) asks =
+    on_two l a b Or (λ d x. if is_true x then Val (Flag true) else value_of d) (λ c d. refl) (one_read l a)
+    (λ x. if_false l b (is_true x) (one_read l b)) (is_asking (value_of a)) refl asks
+one_read l (Element a) asks = on_one l a (λ x. element x) (λ x. binary_silent SetSpan x x) (one_read l a) asks
+one_read l (Ord a) asks = on_one l a (λ x. Val (ord x)) (λ x. refl) (one_read l a) asks
+one_read l (Chr a) asks = on_one l a (λ x. chr x) chr_silent (one_read l a) asks
 
 -- One answer after another
 
-pub expression_rewrites : (e : Expr) (ls : List Literal) → length ls ≤ reads e → feed (map literal ls) (value_of e) ≡ value_of (rewritten ls e)
-expression_rewrites e [] enough = refl
-expression_rewrites e (l ∷ ls) enough =
-    let some : 0 < reads e = omega (arith, enough) in
-    let less = one_less l e some in
-    feed-append (literal l ∷ []) (map literal ls) (value_of e) ∙ ap (feed (map literal ls)) (one_read l e some) ∙ expression_rewrites (with_first l e) ls (omega (arith, enough, less))
+-- the first one, and that the others are asked for behind it
+module _ (l : Literal) (ls : List Literal) (e : Expr) (asked : are_asked (map literal_value (l ∷ ls)) (value_of e) ≡ true) where
+  asks_read : is_asking (value_of e) ≡ true
+  asks_read = asks_now (literal_value l) (map literal_value ls) (value_of e) asked
 
-pub statement_rewrites : (e : Expr) (onward : Value → Doing (List Item)) (ls : List Literal) → length ls ≤ reads e → feed (map literal ls) (bind (value_of e) onward) ≡ bind (value_of (rewritten ls e)) onward
-statement_rewrites e onward [] enough = refl
-statement_rewrites e onward (l ∷ ls) enough =
-    let some : 0 < reads e = omega (arith, enough) in
-    let less = one_less l e some in
-    feed-append (literal l ∷ []) (map literal ls) (bind (value_of e) onward)
-    ∙ ap (feed (map literal ls)) (feed-bind (literal l) (value_of e) onward (opens e some) ∙ ap (λ t. bind t onward) (one_read l e some))
-    ∙ statement_rewrites (with_first l e) onward ls (omega (arith, enough, less))
+  rest_asked : are_asked (map literal_value ls) (value_of (with_first l e)) ≡ true
+  rest_asked =
+      ap (are_asked (map literal_value ls)) (sym (one_read l e asks_read)) ∙ asks_then (literal_value l) (map literal_value ls) (value_of e) asked
 
-pub assignment_rewrites : (at : Pos) (p : Place) (e : Expr) (ls : List Literal) → length ls ≤ reads e → feed (map literal ls) (stat_of (Assign at p e)) ≡ stat_of (Assign at p (rewritten ls e))
-assignment_rewrites at (ModuleVar m i) e ls enough = statement_rewrites e _ ls enough
+pub expression_rewrites : (e : Expr) (ls : List Literal) → are_asked (map literal_value ls) (value_of e) ≡ true → feed (map literal_value ls) (value_of e) ≡ value_of (rewritten ls e)
+expression_rewrites e [] asked = refl
+expression_rewrites e (l ∷ ls) asked =
+    let asks = asks_read l ls e asked in
+    first_fed (literal_value l) (map literal_value ls) (value_of e) asks ∙ ap (feed (map literal_value ls)) (one_read l e asks)
+    ∙ expression_rewrites (with_first l e) ls (rest_asked l ls e asked)
+
+pub statement_rewrites : (e : Expr) (onward : Value → Doing (List Item)) (ls : List Literal) → are_asked (map literal_value ls) (value_of e) ≡ true → feed (map literal_value ls) (bind (value_of e) onward) ≡ bind (value_of (rewritten ls e)) onward
+statement_rewrites e onward [] asked = refl
+statement_rewrites e onward (l ∷ ls) asked =
+    let asks = asks_read l ls e asked in
+    first_fed (literal_value l) (map literal_value ls) (bind (value_of e) onward) (asks_before (value_of e) onward asks)
+    ∙ ap (feed (map literal_value ls)) (fed_before (literal_value l) (value_of e) onward asks ∙ ap (λ t. bind t onward) (one_read l e asks))
+    ∙ statement_rewrites (with_first l e) onward ls (rest_asked l ls e asked)
+
+pub assignment_rewrites : (at : Pos) (t : TType) (p : Place) (e : Expr) (ls : List Literal) → are_asked (map literal_value ls) (value_of e) ≡ true → feed (map literal_value ls) (stat_of (Assign at t p e)) ≡ stat_of (Assign at t p (rewritten ls e))
+assignment_rewrites at t (ModuleVar m i) e ls asked = statement_rewrites e _ ls asked

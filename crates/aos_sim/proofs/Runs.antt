@@ -2,7 +2,7 @@
 use Rattle.std.proofs.Common.{◌≡◌, ℕ, zero, suc, ◌+◌, List, [], ◌∷◌, ◌++◌, Some, length, drop, refl, sym, ap, ◌∙◌, arith}
 use Rattle.std.specs.Prelude.{slice_get}
 use Rattle.aos_base.specs.declared.text.Pos.{Pos}
-use Rattle.aos_base.specs.Question.{Tree, Val, Asks, Traps, feed, Reads, Stores, Ends, Makes, Starts, PutsInt, PutsLn}
+use Rattle.aos_base.specs.Question.{Tree, Val, Asks, Traps, feed, Reads, Stores, Ends, Makes, Starts, PutsInt, PutsChar, PutsNothing, PutsLn}
 use Rattle.aos_code.specs.declared.instr.Cell.{Cell}
 use Rattle.aos_code.specs.declared.instr.Instr.{Instr}
 use Rattle.aos_code.specs.Silent.{Stack, Question, End, Begins, Fails, Stop, Work, Ended, Act, Goes, Sees, Stops, act, on_act, walk, silent}
@@ -29,6 +29,8 @@ past (Ends r) x at s next = Traps 0 0
 past (Makes t) x at s next = next 0 (at + 1) (x ∷ s)
 past (Starts v) x at s next = next 0 (at + 1) s
 past (PutsInt v n) x at s next = next 0 (at + 1) s
+past (PutsChar v) x at s next = next 0 (at + 1) s
+past PutsNothing x at s next = next 0 (at + 1) s
 past PutsLn x at s next = next 0 (at + 1) s
 
 abbrev pub at_work : Question → ℕ → Stack → Onward → Run
@@ -85,6 +87,8 @@ past_same (Ends r) x at s next next' e = refl
 past_same (Makes t) x at s next next' e = e (x ∷ s)
 past_same (Starts v) x at s next next' e = e s
 past_same (PutsInt v n) x at s next next' e = e s
+past_same (PutsChar v) x at s next next' e = e s
+past_same PutsNothing x at s next next' e = e s
 past_same PutsLn x at s next next' e = e s
 
 -- one instruction, where the rest is known

@@ -1,16 +1,12 @@
 -- An image that has a well-typed program's code shows the program.
 use Rattle.std.proofs.Common.{◌≡◌, ℕ, zero, suc, ◌+◌, List, [], ◌∷◌, ◌++◌, map, length, Option, Some, None, refl, sym, ap, ◌∙◌, subst, arith, append-nil}
-use Rattle.std.specs.Prelude.{slice_get, flat_map, option_map, option_and_then, All}
+use Rattle.std.specs.Prelude.{slice_get, flat_map, option_map, option_and_then}
 use Rattle.std.proofs.lemmas.List.{length-map}
-use Rattle.std.proofs.lemmas.List.Elements.{All-tail}
 use Rattle.std.proofs.lemmas.Option.{slice_get-map}
 use Rattle.aos_base.specs.Book.{Where}
 use Rattle.aos_base.specs.Machine.{Choice, execution}
-use Rattle.aos_typed.specs.Program.{Stats, Variable, ObjectType, Module, Program}
-use Rattle.aos_typed.specs.declared.tree.TType.{TType}
-use Rattle.aos_typed.specs.declared.tree.TType.TheVariants as type
-use Rattle.aos_typed.specs.Value.{Value}
-use Rattle.aos_typed.specs.Store.{Store, value_in}
+use Rattle.aos_typed.specs.Program.{Stats, ObjectType, Module, Program}
+use Rattle.aos_typed.specs.Store.{Store}
 use Rattle.aos_typed.specs.Source as S
 use Rattle.aos_typed.specs.WellTyped.{AreStatements, IsWellTyped}
 use Rattle.aos_code.specs.declared.instr.Instr.{Instr}
@@ -27,13 +23,13 @@ use Rattle.aos_code.specs.Machine.{machine, code_in, home_in, body_in, body_fram
 use Rattle.aos_concurrency.specs.Simulates.{Simulates, Matches}
 use Rattle.aos_concurrency.specs.Spot.{Anyone}
 use Rattle.aos_concurrency.proofs.Matching.{execution_matches, start_matches, observation_matches, events_match}
-use Rattle.aos_sim.specs.Code.{stats_code, body_code, zero_cell}
+use Rattle.aos_sim.specs.Code.{stats_code, body_code}
 use Rattle.aos_sim.specs.Shows.{numbers_from, IsCodeOf, Shows}
 use Rattle.aos_sim.proofs.Runs.{Stands}
-use Rattle.aos_sim.proofs.Exprs.{cell_of, sort_of, sort_of_type}
 use Rattle.aos_sim.proofs.Stats.{carries_body}
 use Rattle.aos_sim.proofs.Stores.{SameStore}
 use Rattle.aos_sim.proofs.Turns.{SameFrame, SameFrames, Together, turn_alike}
+use Rattle.aos_sim.proofs.First.{all_get, get_left, get_right, number_at, length-numbers, first_rows, first_typed}
 
 module _ (program : Program) (image : Image) where
   position_or_same : (none : Where) (fs : S.Frames) (gs : I.Frames) → SameFrames program image fs gs → S.position_or none fs ≡ I.position_or image none gs
@@ -49,51 +45,6 @@ module _ (program : Program) (image : Image) where
   position_same (f ∷ fs) (g ∷ gs) h =
       position_or_same (record { module_ = f.home; pos = record { line = 0; col = 0 } }) (f ∷ fs) (g ∷ gs) h
       ∙ ap (λ k. I.position_or image (record { module_ = k; pos = record { line = 0; col = 0 } }) (g ∷ gs)) (sym h.0.home)
-
--- Lists
-
-all_get : {X : Type 0} (P : X → Type 0) (xs : List X) (i : ℕ) (x : X) → All P xs → slice_get xs i ≡ Some x → P x
-all_get P [] i x h e = absurd (cc)
-all_get P (y ∷ ys) zero x h e = let q : y ≡ x = cc in subst P q (h 0 y (omega arith))
-all_get P (y ∷ ys) (suc i) x h e = all_get P ys i x (All-tail P y ys h) e
-
-get_left : {X : Type 0} (xs ys : List X) (i : ℕ) (x : X) → slice_get xs i ≡ Some x → slice_get (xs ++ ys) i ≡ Some x
-get_left [] ys i x e = absurd (cc)
-get_left (y ∷ xs) ys zero x e = e
-get_left (y ∷ xs) ys (suc i) x e = get_left xs ys i x e
-
-get_right : {X : Type 0} (xs ys : List X) (n i : ℕ) → n ≡ length xs + i → slice_get (xs ++ ys) n ≡ slice_get ys i
-get_right [] ys n i e = let h : n ≡ i = omega arith in ap (slice_get ys) h
-get_right (x ∷ xs) ys zero i e = absurd (omega arith)
-get_right (x ∷ xs) ys (suc n) i e = get_right xs ys n i (omega arith)
-
-number_at : {A : Type 0} (k j : ℕ) (xs : List A) → slice_get (numbers_from k xs) j ≡ option_map (λ x. k + j) (slice_get xs j)
-number_at k j [] = refl
-number_at k zero (y ∷ ys) = let n : k ≡ k + 0 = omega arith in ap (λ m. Some m) n
-number_at k (suc j) (y ∷ ys) = let n : suc k + j ≡ k + suc j = omega arith in number_at (suc k) j ys ∙ ap (λ m. option_map (λ x. m) (slice_get ys j)) n
-
-length-numbers : {A : Type 0} (k : ℕ) (xs : List A) → length (numbers_from k xs) ≡ length xs
-length-numbers k [] = refl
-length-numbers k (x ∷ xs) = ap (λ n. suc n) (length-numbers (suc k) xs)
-
--- The beginning
-
--- what is known of each variable's first value by its type
-first_values : {A : Type 0} (f : TType → A) (g : Value → A) → ((t : TType) → f t ≡ g (S.first_value t)) → (ms : List Module) → map (λ (m : Module). map (λ (v : Variable). f v.of) m.variables) ms ≡ map (λ vs. map (λ c. g (value_in c)) vs) (map (λ (m : Module). S.first_contents m.variables) ms)
-first_values f g e [] = refl
-first_values f g e (m ∷ ms) = λ j. in_module m.variables j ∷ first_values f g e ms j
-  where
-    in_module : (vs : List Variable) → map (λ (v : Variable). f v.of) vs ≡ map (λ c. g (value_in c)) (S.first_contents vs)
-    in_module [] = refl
-    in_module (v ∷ vs) = λ j. e v.of j ∷ in_module vs j
-
-zero_first : (t : TType) → zero_cell t ≡ cell_of (S.first_value t)
-zero_first type.LongInt = refl
-zero_first (type.Object t) = refl
-
-sort_first : (t : TType) → sort_of_type t ≡ sort_of (S.first_value t)
-sort_first type.LongInt = refl
-sort_first (type.Object t) = refl
 
 code_found : (o : Option Body) (is : List Instr) → option_map (λ (b : Body). b.code.items) o ≡ Some is → code_in o ≡ is
 code_found None is e = absurd (cc)
@@ -112,7 +63,7 @@ module _ (p : Program) (image : Image) (well : IsWellTyped p) (ok : IsCodeOf p i
 
   first_store_same : SameStore p (S.first_store p) (I.first_memory image)
   first_store_same =
-      record { cells = ok.cells ∙ first_values zero_cell cell_of zero_first ms; sorts = sym (first_values sort_of_type sort_of sort_first ms); objects = refl }
+      record { cells = ok.cells ∙ first_rows ms; typed = first_typed ms; objects = refl }
 
   -- what is known of the procedure of number k, counted from 0: the body of these statements, in this module
   record Linked (k m : ℕ) (ss : Stats) : Type 0 where

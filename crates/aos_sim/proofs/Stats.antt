@@ -1,23 +1,28 @@
 -- The code of a statement does what the statement does, and what is left of a body is carried out from the place that it leaves.
-use Rattle.std.proofs.Common.{◌≡◌, ℕ, suc, ◌+◌, ◌-◌, ◌<◌, ◌≤◌, true, false, List, [], ◌∷◌, ◌++◌, length, drop, Some, refl, sym, ap, ◌∙◌, subst, arith, append-nil, append_assoc, length-append}
-use Rattle.std.specs.Prelude.{slice_get, option_map}
-use Rattle.std.proofs.lemmas.Bool.{le-ltb, lt-ltb}
+use Rattle.std.proofs.Common.{◌≡◌, ℕ, suc, ◌+◌, ◌≤◌, Bool, true, false, List, [], ◌∷◌, ◌++◌, length, drop, Some, if◌then◌else◌, refl, sym, ap, ◌∙◌, subst, arith, append-nil, append_assoc, length-append}
+use Rattle.std.specs.Prelude.{slice_get}
+use Rattle.std.proofs.lemmas.Bool.{le-ltb}
+use Rattle.aos_base.specs.declared.number.Width.TheVariants.{W64}
 use Rattle.aos_base.specs.declared.text.Pos.{Pos}
-use Rattle.aos_base.specs.Question.{Val, Asks, bind, ask, Stores, Starts, PutsInt, PutsLn}
+use Rattle.aos_base.specs.Question.{Val, Asks, bind, ask, Stores, Starts, PutsInt, PutsChar, PutsNothing, PutsLn}
+use Rattle.aos_typed.specs.declared.tree.TType.{TType}
 use Rattle.aos_typed.specs.declared.tree.TType.TheVariants as type
-use Rattle.aos_typed.specs.Program.{Place, ModuleVar, Expr, Call, Int as OutInt, Ln as OutLn, Stat, Assign, While, New, Out, Stats, Nothing, Then, Program}
-use Rattle.aos_typed.specs.Value.{Value, Int, Flag, Object}
+use Rattle.aos_typed.specs.Program.{Place, ModuleVar, Expr, Call, Open as OutOpen, Char as OutChar, Int as OutInt, Ln as OutLn, Stat, Assign, While, New, Out, Stats, Nothing, Then, Program}
+use Rattle.aos_typed.specs.Value.{Value, Flag, Object, is_true}
 use Rattle.aos_typed.specs.Store.{Spot, ModuleRoot}
 use Rattle.aos_typed.specs.Meaning as source
-use Rattle.aos_typed.specs.Meaning.{Doing, Item, Do, items_of, if_flag, place_of, value_of, stat_of, pos_of, out_of}
-use Rattle.aos_typed.specs.WellTyped.{place_type, IsBoolean, IsStatement, AreStatements, IsCall}
+use Rattle.aos_typed.specs.Meaning.{Doing, Item, Do, items_of, place_of, value_of, stat_of, out_of}
+use Rattle.aos_typed.specs.WellTyped.{place_type, IsOf, IsStatement, AreStatements, IsCall}
+use Rattle.aos_code.specs.declared.instr.Cell.TheVariants.{Num}
 use Rattle.aos_code.specs.declared.instr.Instr.{Instr}
 use Rattle.aos_code.specs.declared.instr.Instr.TheVariants as i
-use Rattle.aos_code.specs.declared.instr.Kind.TheVariants.{N, R}
+use Rattle.aos_code.specs.declared.instr.Kind.TheVariants.{R}
 use Rattle.aos_code.specs.Silent.{Stack, jumps, lands}
-use Rattle.aos_sim.specs.Code.{begin, place_code, operands_code, value_code, while_code, stat_code, stats_code}
+use Rattle.aos_sim.specs.Code.{begin, kind_of, place_code, operands_code, value_code, while_code, stat_code, stats_code}
 use Rattle.aos_sim.proofs.Runs.{Run, AtBegin, on_run, runs, run, drop_next, drop_past, get_at, Stands}
-use Rattle.aos_sim.proofs.Exprs.{cell_of, place_in, placed, Number, Truth, Reference, sort_of_type, Is, type_at, IsAsk, Does, along, does_bind, Pushed, Named, passed, operands_do, place_does, integer_does, boolean_does}
+use Rattle.aos_sim.proofs.Types.{cell_of, Is}
+use Rattle.aos_sim.proofs.Does.{addr_of, place_in, placed, IsMade, type_at, IsAsk, Does, along, does_bind, Pushed, Named, passed, jump_on, operand_does}
+use Rattle.aos_sim.proofs.Exprs.{operands_do, place_does, value_does}
 
 module _ (program : Program) (code : List Instr) where
   -- from both places the code does the same
@@ -60,12 +65,6 @@ module _ (program : Program) (code : List Instr) where
   from_here : (at : ℕ) (xs : List Instr) (s : Stack) → drop at code ≡ xs → run code at s ≡ runs code xs 0 at s
   from_here at xs s e = ap (λ l. runs code l 0 at s) e
 
-  jump_on : (rest : List Instr) (to at n : ℕ) (s : Stack) → to ≡ at + 1 + n → on_run (jumps code to at s) (runs code rest) at ≡ runs code rest n (at + 1) s
-  jump_on rest to at n s e =
-      let lt : at < to = omega arith in
-      let d : to - (at + 1) ≡ n = omega arith in
-      rw (lt-ltb at to lt) (ap (λ m. runs code rest m (at + 1) s) d)
-
   lands_back : (to p : ℕ) (at : Pos) (rest : List Instr) (s : Stack) → to ≤ p → slice_get code to ≡ Some (begin at) → runs code (i.Jump to ∷ rest) 0 p s ≡ Val (AtBegin to at s)
   lands_back to p at rest s le here = rw (le-ltb p to le) (ap (λ o. on_run (lands o to s) (runs code rest) p) here)
 
@@ -73,28 +72,35 @@ module _ (program : Program) (code : List Instr) where
   last_asks : (q : source.Question) (m : Run) (p : ℕ) (rest : List Instr) (after : List Item) → m ≡ Asks (placed q) (λ x. runs code rest 0 (p + 1) []) → IsAsk program q → drop (p + 1) code ≡ rest → Carries after (p + 1) → Does program (Into after) m (bind (ask q) (λ _. Val []))
   last_asks q m p rest after e ok here c = ((λ x. runs code rest 0 (p + 1) []), e, ok, λ v a. (p + 1, sym (from_here (p + 1) rest [] here), c))
 
-  assign_does : (pl : Place) (e : Expr) (here : Pos) (at : ℕ) (after : List Item) → IsStatement program (Assign here pl e) → Stands code at (stat_code (Assign here pl e) at) → Carries after (at + length (stat_code (Assign here pl e) at)) → Does program (Into after) (run code (at + 1) []) (stat_of (Assign here pl e))
-  assign_does pl e here at after ok st c =
+  -- a value of the type above the place that it's stored at
+  abbrev StoreAsks : TType → Spot → List Instr → ℕ → Value → Type 0
+  StoreAsks t s rest p v = runs code (i.Store (kind_of t) ∷ rest) 0 p (cell_of v ∷ (place_in s ∷ [])) ≡ Asks (Stores (addr_of s) (cell_of v)) (λ x. runs code rest 0 (p + 1) [])
+
+  store_asks : (t : TType) (s : Spot) (rest : List Instr) (p : ℕ) (v : Value) → Is t v → StoreAsks t s rest p v
+  store_asks (type.Integer w) s rest p v is = subst (StoreAsks (type.Integer w) s rest p) (sym is.1) refl
+  store_asks type.Boolean s rest p v is = subst (StoreAsks type.Boolean s rest p) (sym is.1) refl
+  store_asks type.Char s rest p v is = subst (StoreAsks type.Char s rest p) (sym is.1) refl
+  store_asks type.Set s rest p v is = subst (StoreAsks type.Set s rest p) (sym is.1) refl
+  store_asks (type.Object u) s rest p v is = subst (StoreAsks (type.Object u) s rest p) (sym is.1) refl
+
+  assign_does : (t : TType) (pl : Place) (e : Expr) (here : Pos) (at : ℕ) (after : List Item) → IsStatement program (Assign here t pl e) → Stands code at (stat_code (Assign here t pl e) at) → Carries after (at + length (stat_code (Assign here t pl e) at)) → Does program (Into after) (run code (at + 1) []) (stat_of (Assign here t pl e))
+  assign_does t pl e here at after ok st c =
+      let x = i.Store (kind_of t) in
       let cp = place_code pl (at + 1) in
       let pe = at + 1 + length cp in
       let ce = value_code e pe in
       let p = pe + length ce in
-      let tail = i.Store N ∷ st.rest in
-      let flat : operands_code cp ce (i.Store N) ++ st.rest ≡ cp ++ (ce ++ tail) = simp append_assoc in
-      let h1 : drop (at + 1) code ≡ cp ++ (ce ++ tail) = drop_next at code (begin here) (operands_code cp ce (i.Store N) ++ st.rest) st.here ∙ flat in
+      let tail = x ∷ st.rest in
+      let flat : operands_code cp ce x ++ st.rest ≡ cp ++ (ce ++ tail) = simp append_assoc in
+      let h1 : drop (at + 1) code ≡ cp ++ (ce ++ tail) = drop_next at code (begin here) (operands_code cp ce x ++ st.rest) st.here ∙ flat in
       let h2 : drop p code ≡ tail = drop_past ce pe code tail (drop_past cp (at + 1) code (ce ++ tail) h1) in
-      let len : at + suc (length (operands_code cp ce (i.Store N))) ≡ p + 1 = omega (arith, length-append cp (ce ++ i.Store N ∷ []), length-append ce (i.Store N ∷ [])) in
+      let len : at + suc (length (operands_code cp ce x)) ≡ p + 1 = omega (arith, length-append cp (ce ++ x ∷ []), length-append ce (x ∷ [])) in
       let onward : Spot → Doing (List Item) = λ s. bind (value_of e) (λ v. bind (ask (Stores s v)) (λ _. Val [])) in
       along program (Into after) _ _ (bind (place_of pl) onward) (from_here (at + 1) (cp ++ (ce ++ tail)) [] h1)
       (does_bind program (Named program code (place_type program pl) (ce ++ tail) pe []) (Into after) _ (place_of pl) onward (place_does program code pl (at + 1) (ce ++ tail) [])
       (λ s m h. along program (Into after) m _ (onward s) h.run
-      (does_bind program (Pushed code Number tail p (place_in s ∷ [])) (Into after) _ (value_of e) (λ v. bind (ask (Stores s v)) (λ _. Val [])) (integer_does program code e ok.1 pe tail (place_in s ∷ []))
-      (λ v m' h'. stored s v m' p st.rest (h.of ∙ ok.0) h'.kind h'.run (drop_next p code (i.Store N) st.rest h2) (subst (Carries after) len c)))))
-    where
-      stored : (s : Spot) (v : Value) (m : Run) (p : ℕ) (rest : List Instr) → type_at program s.root s.variable ≡ Some type.LongInt → Is Number v → m ≡ runs code (i.Store N ∷ rest) 0 p (cell_of v ∷ (place_in s ∷ [])) → drop (p + 1) code ≡ rest → Carries after (p + 1) → Does program (Into after) m (bind (ask (Stores s v)) (λ _. Val []))
-      stored s (Int z) m p rest o k e' h c' = last_asks (Stores s (Int z)) m p rest after e' (ap (option_map sort_of_type) o) h c'
-      stored s (Flag b) m p rest o k e' h c' = absurd (cc)
-      stored s (Object n) m p rest o k e' h c' = absurd (cc)
+      (does_bind program (Pushed code t tail p (place_in s ∷ [])) (Into after) _ (value_of e) (λ v. bind (ask (Stores s v)) (λ _. Val [])) (value_does program code e t ok.1 pe tail (place_in s ∷ []))
+      (λ v m' h'. last_asks (Stores s v) m' p st.rest after (h'.run ∙ store_asks t s st.rest p v h'.is) (t, h.of ∙ ok.0, h'.is) (drop_next p code x st.rest h2) (subst (Carries after) len c)))))
 
   -- the object stays below the place while it's stored, and is started then
   new_does : (pl : Place) (t : ℕ) (here : Pos) (at : ℕ) (after : List Item) → IsStatement program (New here pl t) → Stands code at (stat_code (New here pl t) at) → Carries after (at + length (stat_code (New here pl t) at)) → Does program (Into after) (run code (at + 1) []) (stat_of (New here pl t))
@@ -116,13 +122,12 @@ module _ (program : Program) (code : List Instr) where
       let len : at + 7 ≡ p + 1 + 1 = omega arith in
       let spot : Spot = record { root = ModuleRoot m; variable = k } in
       along program (Into after) _ _ (stat_of (New here (ModuleVar m k) t)) (from_here (at + 1) s0 [] h1)
-      ((λ x. runs code s1 0 (at + 1 + 1) (x ∷ [])), refl, tt, λ o is. made o spot p st.rest is (ap (option_map sort_of_type) ok.0) h7 (subst (Carries after) len c))
+      ((λ x. runs code s1 0 (at + 1 + 1) (x ∷ [])), refl, tt, λ o is. made o spot p st.rest is ok.0 h7 (subst (Carries after) len c))
     where
-      made : (o : Value) (spot : Spot) (p : ℕ) (rest : List Instr) → Is Reference o → option_map sort_of_type (type_at program spot.root spot.variable) ≡ Some Reference → drop (p + 1 + 1) code ≡ rest → Carries after (p + 1 + 1) → Does program (Into after) (runs code (i.Store R ∷ (i.Start ∷ rest)) 0 p (cell_of o ∷ (place_in spot ∷ (cell_of o ∷ [])))) (bind (ask (Stores spot o)) (λ _. bind (ask (Starts o)) (λ _. Val [])))
-      made (Object n) spot p rest is suits h c' =
-          ((λ x. runs code (i.Start ∷ rest) 0 (p + 1) (cell_of (Object n) ∷ [])), refl, suits, λ v a. last_asks (Starts (Object n)) _ (p + 1) rest after refl refl h c')
-      made (Int z) spot p rest is suits h c' = absurd (cc)
-      made (Flag b) spot p rest is suits h c' = absurd (cc)
+      made : (o : Value) (spot : Spot) (p : ℕ) (rest : List Instr) → IsMade o → type_at program spot ≡ Some (type.Object t) → drop (p + 1 + 1) code ≡ rest → Carries after (p + 1 + 1) → Does program (Into after) (runs code (i.Store R ∷ (i.Start ∷ rest)) 0 p (cell_of o ∷ (place_in spot ∷ (cell_of o ∷ [])))) (bind (ask (Stores spot o)) (λ _. bind (ask (Starts o)) (λ _. Val [])))
+      made o spot p rest is of h c' =
+          subst (λ o. Does program (Into after) (runs code (i.Store R ∷ (i.Start ∷ rest)) 0 p (cell_of o ∷ (place_in spot ∷ (cell_of o ∷ [])))) (bind (ask (Stores spot o)) (λ _. bind (ask (Starts o)) (λ _. Val [])))) (sym is.1)
+          ((λ x. runs code (i.Start ∷ rest) 0 (p + 1) (cell_of (Object (suc is.0)) ∷ [])), refl, (type.Object t, of, (suc is.0, refl)), λ v a. last_asks (Starts (Object (suc is.0))) _ (p + 1) rest after refl (is.0, refl) h c')
 
   out_does : (call : Call) (here : Pos) (at : ℕ) (after : List Item) → IsCall program call → Stands code at (stat_code (Out here call) at) → Carries after (at + length (stat_code (Out here call) at)) → Does program (Into after) (run code (at + 1) []) (out_of call)
   out_does OutLn here at after ok st c =
@@ -130,6 +135,23 @@ module _ (program : Program) (code : List Instr) where
       let len : at + 2 ≡ at + 1 + 1 = omega arith in
       along program (Into after) _ _ (out_of OutLn) (from_here (at + 1) (i.OutLn ∷ st.rest) [] h1)
       (last_asks PutsLn _ (at + 1) st.rest after refl tt (drop_next (at + 1) code i.OutLn st.rest h1) (subst (Carries after) len c))
+  out_does OutOpen here at after ok st c =
+      let h1 : drop (at + 1) code ≡ i.OutOpen ∷ st.rest = drop_next at code (begin here) (i.OutOpen ∷ st.rest) st.here in
+      let len : at + 2 ≡ at + 1 + 1 = omega arith in
+      along program (Into after) _ _ (out_of OutOpen) (from_here (at + 1) (i.OutOpen ∷ st.rest) [] h1)
+      (last_asks PutsNothing _ (at + 1) st.rest after refl tt (drop_next (at + 1) code i.OutOpen st.rest h1) (subst (Carries after) len c))
+  out_does (OutChar e) here at after ok st c =
+      let ce = value_code e (at + 1) in
+      let p = at + 1 + length ce in
+      let h1 : drop (at + 1) code ≡ (ce ++ i.OutChar ∷ []) ++ st.rest = drop_next at code (begin here) ((ce ++ i.OutChar ∷ []) ++ st.rest) st.here in
+      let h2 : drop p code ≡ i.OutChar ∷ st.rest = drop_past ce (at + 1) code (i.OutChar ∷ st.rest) (h1 ∙ append_assoc ce (i.OutChar ∷ []) st.rest) in
+      let len : at + suc (length (ce ++ i.OutChar ∷ [])) ≡ p + 1 = omega (arith, length-append ce (i.OutChar ∷ [])) in
+      along program (Into after) _ _ (out_of (OutChar e)) (from_here (at + 1) ((ce ++ i.OutChar ∷ []) ++ st.rest) [] h1)
+      (operand_does program code (Into after) type.Char (λ x. bind (ask (PutsChar x)) (λ _. Val [])) ce (i.OutChar ∷ []) (value_of e) (at + 1) st.rest [] (value_does program code e type.Char ok (at + 1))
+      (λ v m is e'. last_asks (PutsChar v) m p st.rest after (e' ∙ char_asks v is p st.rest) is (drop_next p code i.OutChar st.rest h2) (subst (Carries after) len c)))
+    where
+      char_asks : (v : Value) → Is type.Char v → (p : ℕ) (rest : List Instr) → runs code (i.OutChar ∷ rest) 0 p (cell_of v ∷ []) ≡ Asks (PutsChar (cell_of v)) (λ x. runs code rest 0 (p + 1) [])
+      char_asks v is p rest = subst (λ x. runs code (i.OutChar ∷ rest) 0 p (cell_of x ∷ []) ≡ Asks (PutsChar (cell_of x)) (λ x. runs code rest 0 (p + 1) [])) (sym is.1) refl
   out_does (OutInt e n) here at after ok st c =
       let ca = value_code e (at + 1) in
       let cb = value_code n (at + 1 + length ca) in
@@ -139,18 +161,25 @@ module _ (program : Program) (code : List Instr) where
       let h2 : drop p code ≡ i.OutInt ∷ st.rest = drop_past cb (at + 1 + length ca) code (i.OutInt ∷ st.rest) (drop_past ca (at + 1) code (cb ++ (i.OutInt ∷ st.rest)) (h1 ∙ flat)) in
       let len : at + suc (length (operands_code ca cb i.OutInt)) ≡ p + 1 = omega (arith, length-append ca (cb ++ i.OutInt ∷ []), length-append cb (i.OutInt ∷ [])) in
       along program (Into after) _ _ (out_of (OutInt e n)) (from_here (at + 1) (operands_code ca cb i.OutInt ++ st.rest) [] h1)
-      (operands_do program code (Into after) i.OutInt (λ x y. bind (ask (PutsInt x y)) (λ _. Val [])) ca cb (value_of e) (value_of n) (at + 1) st.rest []
-      (integer_does program code e ok.0 (at + 1)) (integer_does program code n ok.1 (at + 1 + length ca))
-      (λ a b m e'. last_asks (PutsInt (Int a) (Int b)) m p st.rest after e' (refl, refl) (drop_next p code i.OutInt st.rest h2) (subst (Carries after) len c)))
+      (operands_do program code (Into after) (type.Integer W64) (type.Integer W64) i.OutInt (λ x y. bind (ask (PutsInt x y)) (λ _. Val [])) ca cb (value_of e) (value_of n) (at + 1) st.rest []
+      (value_does program code e (type.Integer W64) ok.0 (at + 1)) (value_does program code n (type.Integer W64) ok.1 (at + 1 + length ca))
+      (λ a b m ia ib e'. last_asks (PutsInt a b) m p st.rest after (e' ∙ ints_ask a b ia ib p st.rest) (ia, ib) (drop_next p code i.OutInt st.rest h2) (subst (Carries after) len c)))
+    where
+      ints_ask : (a b : Value) → Is (type.Integer W64) a → Is (type.Integer W64) b → (p : ℕ) (rest : List Instr) → runs code (i.OutInt ∷ rest) 0 p (cell_of b ∷ (cell_of a ∷ [])) ≡ Asks (PutsInt (cell_of a) (cell_of b)) (λ x. runs code rest 0 (p + 1) [])
+      ints_ask a b ia ib p rest =
+          subst (λ a. runs code (i.OutInt ∷ rest) 0 p (cell_of b ∷ (cell_of a ∷ [])) ≡ Asks (PutsInt (cell_of a) (cell_of b)) (λ x. runs code rest 0 (p + 1) [])) (sym ia.1)
+          (subst (λ b. runs code (i.OutInt ∷ rest) 0 p (cell_of b ∷ (Num ia.0 ∷ [])) ≡ Asks (PutsInt (Num ia.0) (cell_of b)) (λ x. runs code rest 0 (p + 1) [])) (sym ib.1) refl)
 
   -- a test and the jump that it decides
-  chosen : (then otherwise : List Item) (to on p : ℕ) (rest : List Instr) (after : List Item) (v : Value) (m : Run) → Is Truth v → m ≡ runs code (i.JumpFalse to ∷ rest) 0 p (cell_of v ∷ []) → on_run (jumps code to p []) (runs code rest) p ≡ run code to [] → runs code rest 0 (p + 1) [] ≡ run code on [] → Carries (then ++ after) on → Carries (otherwise ++ after) to → Does program (Into after) m (if_flag v then otherwise)
-  chosen then otherwise to on p rest after (Flag true) m k e en ey cy cn = (on, e ∙ ey, cy)
-  chosen then otherwise to on p rest after (Flag false) m k e en ey cy cn = (to, e ∙ en, cn)
-  chosen then otherwise to on p rest after (Int z) m k e en ey cy cn = absurd (cc)
-  chosen then otherwise to on p rest after (Object o) m k e en ey cy cn = absurd (cc)
+  chosen : (inside behind : List Item) (to on p : ℕ) (rest : List Instr) (after : List Item) (v : Value) (m : Run) → Is type.Boolean v → m ≡ runs code (i.JumpFalse to ∷ rest) 0 p (cell_of v ∷ []) → on_run (jumps code to p []) (runs code rest) p ≡ run code to [] → runs code rest 0 (p + 1) [] ≡ run code on [] → Carries (inside ++ after) on → Carries (behind ++ after) to → Into after (if is_true v then inside else behind) m
+  chosen inside behind to on p rest after v m is e en ey cy cn =
+      subst (λ x. m ≡ runs code (i.JumpFalse to ∷ rest) 0 p (cell_of x ∷ []) → Into after (if is_true x then inside else behind) m) (sym is.1) (by is.0) e
+    where
+      by : (b : Bool) → m ≡ runs code (i.JumpFalse to ∷ rest) 0 p (cell_of (Flag b) ∷ []) → Into after (if is_true (Flag b) then inside else behind) m
+      by true e' = (on, e' ∙ ey, cy)
+      by false e' = (to, e' ∙ en, cn)
 
-  while_does : (w : Stat) (e : Expr) (b : Stats) (here : Pos) (at : ℕ) (after : List Item) → let c1 = value_code e (at + 1) in let b1 = stats_code b (at + 1 + length c1 + 1) in stat_code w at ≡ while_code here c1 b1 at → IsStatement program w → IsBoolean program e → AreStatements program b → Stands code at (stat_code w at) → Carries after (at + length (stat_code w at)) → Does program (Into after) (run code (at + 1) []) (bind (value_of e) (λ v. if_flag v (items_of b ++ Do w ∷ []) []))
+  while_does : (w : Stat) (e : Expr) (b : Stats) (here : Pos) (at : ℕ) (after : List Item) → let c1 = value_code e (at + 1) in let b1 = stats_code b (at + 1 + length c1 + 1) in stat_code w at ≡ while_code here c1 b1 at → IsStatement program w → IsOf program e type.Boolean → AreStatements program b → Stands code at (stat_code w at) → Carries after (at + length (stat_code w at)) → Does program (Into after) (run code (at + 1) []) (bind (value_of e) (λ v. Val (if is_true v then items_of b ++ Do w ∷ [] else [])))
   while_does w e b here at after hw okw oke okb st c =
       let c1 = value_code e (at + 1) in
       let p = at + 1 + length c1 in
@@ -171,13 +200,13 @@ module _ (program : Program) (code : List Instr) where
       let back : Same pj at = λ s. from_here pj (i.Jump at ∷ st.rest) s h4 ∙ lands_back at pj here st.rest s le (get_at at code (begin here) (c1 ++ tail) h0) ∙ sym (from_here at (begin here ∷ (c1 ++ tail)) s h0) in
       let again : Carries (Do w ∷ after) pj = (at, back, st, okw, c) in
       let to_b : Carries ((items_of b ++ Do w ∷ []) ++ after) pb = subst (λ l. Carries l pb) (sym (append_assoc (items_of b) (Do w ∷ []) after)) (carries_all b pb (Do w ∷ after) okb (record { rest = i.Jump at ∷ st.rest; here = h3 }) again) in
-      let over : on_run (jumps code end p []) (runs code (b1 ++ (i.Jump at ∷ st.rest))) p ≡ run code end [] = jump_on (b1 ++ (i.Jump at ∷ st.rest)) end p (length b1 + 1) [] (omega arith) ∙ passed code b1 (i.Jump at ∷ st.rest) 1 (p + 1) [] ∙ sym (from_here end st.rest [] h5) in
-      along program (Into after) _ _ (bind (value_of e) (λ v. if_flag v (items_of b ++ Do w ∷ []) [])) (from_here (at + 1) (c1 ++ tail) [] h1)
-      (does_bind program (Pushed code Truth tail p []) (Into after) _ (value_of e) (λ v. if_flag v (items_of b ++ Do w ∷ []) []) (boolean_does program code e oke (at + 1) tail [])
-      (λ v m h. chosen (items_of b ++ Do w ∷ []) [] end pb p (b1 ++ (i.Jump at ∷ st.rest)) after v m h.kind h.run over (sym (from_here pb (b1 ++ (i.Jump at ∷ st.rest)) [] h3)) to_b (subst (Carries after) len c)))
+      let over : on_run (jumps code end p []) (runs code (b1 ++ (i.Jump at ∷ st.rest))) p ≡ run code end [] = jump_on code (b1 ++ (i.Jump at ∷ st.rest)) end p (length b1 + 1) [] (omega arith) ∙ passed code b1 (i.Jump at ∷ st.rest) 1 (p + 1) [] ∙ sym (from_here end st.rest [] h5) in
+      along program (Into after) _ _ (bind (value_of e) (λ v. Val (if is_true v then items_of b ++ Do w ∷ [] else []))) (from_here (at + 1) (c1 ++ tail) [] h1)
+      (does_bind program (Pushed code type.Boolean tail p []) (Into after) _ (value_of e) (λ v. Val (if is_true v then items_of b ++ Do w ∷ [] else [])) (value_does program code e type.Boolean oke (at + 1) tail [])
+      (λ v m h. chosen (items_of b ++ Do w ∷ []) [] end pb p (b1 ++ (i.Jump at ∷ st.rest)) after v m h.is h.run over (sym (from_here pb (b1 ++ (i.Jump at ∷ st.rest)) [] h3)) to_b (subst (Carries after) len c)))
 
   pub stat_does : (s : Stat) (at : ℕ) (after : List Item) → IsStatement program s → Stands code at (stat_code s at) → Carries after (at + length (stat_code s at)) → Does program (Into after) (run code (at + 1) []) (stat_of s)
-  stat_does (Assign here pl e) at after ok st c = assign_does pl e here at after ok st c
+  stat_does (Assign here t pl e) at after ok st c = assign_does t pl e here at after ok st c
   stat_does (While here e b) at after ok st c = while_does (While here e b) e b here at after refl ok ok.0 ok.1 st c
   stat_does (New here pl t) at after ok st c = new_does pl t here at after ok st c
   stat_does (Out here call) at after ok st c = out_does call here at after ok st c

@@ -3,92 +3,144 @@ use Rattle.std.proofs.Common.{◌≡◌, ℕ, zero, suc, ◌+◌, List, [], ◌�
 use Rattle.std.specs.Prelude.{slice_get, slice_set, option_map, option_and_then}
 use Rattle.std.proofs.lemmas.List.{map-set, map-append}
 use Rattle.std.proofs.lemmas.Option.{slice_get-map}
-use Rattle.aos_typed.specs.Program.{Program}
+use Rattle.aos_typed.specs.declared.tree.TType.{TType}
+use Rattle.aos_typed.specs.Program.{Variable, Module, Program}
 use Rattle.aos_typed.specs.Value.{Value}
-use Rattle.aos_typed.specs.Store.{Content, Scalar, Root, ModuleRoot, Spot, Store, value_in, read, write, put_in, with_object}
+use Rattle.aos_typed.specs.Store.{Content, Scalar, Root, ModuleRoot, Spot, Store, value_in, held, read, write, put_in, with_object}
+use Rattle.aos_typed.specs.WellTyped.{variable_type}
 use Rattle.aos_code.specs.declared.instr.Cell.{Cell}
 use Rattle.aos_code.specs.Memory.{Memory, load, store, put_in as put_cells, with_object as with_one}
-use Rattle.aos_sim.proofs.Exprs.{cell_of, addr_of, Sort, sort_of, sort_of_type, type_at, Suits}
+use Rattle.aos_sim.proofs.Types.{cell_of, Is}
+use Rattle.aos_sim.proofs.Does.{addr_of, type_at}
+
+-- lists whose elements are related, one by one
+abbrev pub Each : {X Y : Type 0} → (X → Y → Type 0) → List X → List Y → Type 0
+Each R [] [] = Unit {0}
+Each R [] (y ∷ ys) = ⊥
+Each R (x ∷ xs) [] = ⊥
+Each R (x ∷ xs) (y ∷ ys) = R x y × Each R xs ys
+
+pub each_map : {X Y : Type 0} (R : X → Y → Type 0) (f : X → Y) → ((x : X) → R x (f x)) → (xs : List X) → Each R xs (map f xs)
+each_map R f h [] = tt
+each_map R f h (x ∷ xs) = (h x, each_map R f h xs)
+
+-- what a related list has at a place of the first one, and a change of it there
+each_get : {X Y : Type 0} (R : X → Y → Type 0) (xs : List X) (ys : List Y) (k : ℕ) (x : X) → Each R xs ys → slice_get xs k ≡ Some x → (y : Y) × (slice_get ys k ≡ Some y) × R x y
+each_get R [] ys k x h e = absurd (cc)
+each_get R (x' ∷ xs) [] k x h e = absurd h
+each_get R (x' ∷ xs) (y ∷ ys) zero x h e = let q : x' ≡ x = cc in (y, refl, subst (λ z. R z y) q h.0)
+each_get R (x' ∷ xs) (y ∷ ys) (suc k) x h e = each_get R xs ys k x h.1 e
+
+each_set : {X Y : Type 0} (R : X → Y → Type 0) (xs : List X) (ys : List Y) (k : ℕ) (x : X) (y : Y) → Each R xs ys → slice_get xs k ≡ Some x → R x y → Each R xs (slice_set ys k y)
+each_set R [] ys k x y h e r = absurd (cc)
+each_set R (x' ∷ xs) [] k x y h e r = absurd h
+each_set R (x' ∷ xs) (y' ∷ ys) zero x y h e r = let q : x ≡ x' = cc in (subst (λ z. R z y) q r, h.1)
+each_set R (x' ∷ xs) (y' ∷ ys) (suc k) x y h e r = (h.0, each_set R xs ys k x y h.1 e r)
 
 -- the cell of a variable
 abbrev pub cell_in : Content → Cell
 cell_in c = cell_of (value_in c)
 
--- what kind of value it holds
-abbrev pub sort_in : Content → Sort
-sort_in c = sort_of (value_in c)
+-- a variable holds a value of its type, and so does each of a module
+abbrev pub Holds : Variable → Content → Type 0
+Holds v c = Is v.of (value_in c)
+
+abbrev pub AllHold : Module → List Content → Type 0
+AllHold m cs = Each Holds m.variables cs
 
 -- each cell holds its variable's value, which is of the variable's type, and the objects have the same types
 pub record SameStore (program : Program) (s : Store) (mem : Memory) : Type 0 where
   pub cells : mem.modules ≡ map (λ vs. map cell_in vs) s.modules
-  pub sorts : map (λ vs. map sort_in vs) s.modules ≡ map (λ m. map (λ v. sort_of_type v.of) m.variables) program.modules
+  pub typed : Each AllHold program.modules s.modules
   pub objects : mem.objects ≡ map (λ t. t + 1) s.objects
 
--- one element of one row, of which another row has the image
-in_rows : {X Y Z A : Type 0} (row : X → List Y) (g : Y → Z) (f : Z → A) (xs : List X) (m i : ℕ) → option_and_then (λ r. slice_get r i) (slice_get (map (λ x. map (λ y. f (g y)) (row x)) xs) m) ≡ option_map f (option_and_then (λ x. option_map g (slice_get (row x) i)) (slice_get xs m))
-in_rows row g f xs m i =
-    ap (option_and_then (λ r. slice_get r i)) (slice_get-map (λ x. map (λ y. f (g y)) (row x)) xs m) ∙ in_row (slice_get xs m)
+-- the variable of a module that has a type
+record Declared (program : Program) (m k : ℕ) (t : TType) : Type 0 where
+  home : Module
+  variable : Variable
+  there : slice_get program.modules m ≡ Some home
+  here : slice_get home.variables k ≡ Some variable
+  of : variable.of ≡ t
+
+declared : (program : Program) (m k : ℕ) (t : TType) → variable_type program m k ≡ Some t → Declared program m k t
+declared program m k t e = by_module (slice_get program.modules m) refl e
   where
-    at_element : (o : Option _) → option_map (λ y. f (g y)) o ≡ option_map f (option_map g o)
-    at_element None = refl
-    at_element (Some y) = refl
+    by_variable : (x : Module) → slice_get program.modules m ≡ Some x → (o : Option Variable) → slice_get x.variables k ≡ o → option_map (λ v. v.of) o ≡ Some t → Declared program m k t
+    by_variable x ex None eo e' = absurd (cc)
+    by_variable x ex (Some v) eo e' = let q : v.of ≡ t = cc in record { home = x; variable = v; there = ex; here = eo; of = q }
 
-    in_row : (o : Option _) → option_and_then (λ r. slice_get r i) (option_map (λ x. map (λ y. f (g y)) (row x)) o) ≡ option_map f (option_and_then (λ x. option_map g (slice_get (row x) i)) o)
-    in_row None = refl
-    in_row (Some x) = slice_get-map (λ y. f (g y)) (row x) i ∙ at_element (slice_get (row x) i)
+    by_module : (o : Option Module) → slice_get program.modules m ≡ o → option_and_then (λ x. option_map (λ v. v.of) (slice_get x.variables k)) o ≡ Some t → Declared program m k t
+    by_module None eo e' = absurd (cc)
+    by_module (Some x) eo e' = by_variable x eo (slice_get x.variables k) refl e'
 
--- an element is replaced by one that f can't tell from it
-set_kept : {X Y : Type 0} (f : X → Y) (xs : List X) (i : ℕ) (x : X) → option_map f (slice_get xs i) ≡ Some (f x) → map f (slice_set xs i x) ≡ map f xs
-set_kept f [] i x e = absurd (cc)
-set_kept f (y ∷ ys) zero x e = cc
-set_kept f (y ∷ ys) (suc i) x e = ap (λ l. f y ∷ l) (set_kept f ys i x e)
+module _ (program : Program) (s : Store) (mem : Memory) (h : SameStore program s mem) where
+  -- what a module and a variable of it hold
+  record Found (m k : ℕ) (t : TType) : Type 0 where
+    by : Declared program m k t
+    contents : List Content
+    content : Content
+    all : AllHold by.home contents
+    is : Is t (value_in content)
+    has_contents : slice_get s.modules m ≡ Some contents
+    has_content : slice_get contents k ≡ Some content
 
--- a read gives the value's cell
-pub read_same : (program : Program) (p : Spot) (s : Store) (mem : Memory) → SameStore program s mem → load (addr_of p) mem ≡ option_map cell_of (read p s)
-read_same program p s mem h = by_root p.root
-  where
-    by_root : (r : Root) → load (addr_of (record { root = r; variable = p.variable })) mem ≡ option_map cell_of (read (record { root = r; variable = p.variable }) s)
-    by_root (ModuleRoot m) =
-        ap (λ ms. option_and_then (λ cells. slice_get cells p.variable) (slice_get ms m)) h.cells
-        ∙ in_rows (λ vs. vs) value_in cell_of s.modules m p.variable
+  found : (m k : ℕ) (t : TType) → variable_type program m k ≡ Some t → Found m k t
+  found m k t e =
+      let d = declared program m k t e in
+      let row = each_get AllHold program.modules s.modules m d.home h.typed d.there in
+      let one = each_get Holds d.home.variables row.0 k d.variable row.2 d.here in
+      record {
+        by = d;
+        contents = row.0;
+        content = one.0;
+        all = row.2;
+        is = subst (λ x. Is x (value_in one.0)) d.of one.2;
+        has_contents = row.1;
+        has_content = one.1;
+      }
 
--- the sort of a variable's value is that of its type
-sort_read : (program : Program) (m k : ℕ) (s : Store) (mem : Memory) → SameStore program s mem → option_and_then (λ r. slice_get r k) (slice_get (map (λ vs. map sort_in vs) s.modules) m) ≡ option_map sort_of_type (type_at program (ModuleRoot m) k)
-sort_read program m k s mem h =
-    ap (λ ms. option_and_then (λ r. slice_get r k) (slice_get ms m)) h.sorts
-    ∙ in_rows (λ x. x.variables) (λ v. v.of) sort_of_type program.modules m k
+  -- the cells of a module
+  cells_at : (m : ℕ) → slice_get mem.modules m ≡ option_map (λ vs. map cell_in vs) (slice_get s.modules m)
+  cells_at m = ap (λ ms. slice_get ms m) h.cells ∙ slice_get-map (λ vs. map cell_in vs) s.modules m
 
-pub read_suits : (program : Program) (p : Spot) (s : Store) (mem : Memory) (v : Value) → SameStore program s mem → read p s ≡ Some v → Suits program p v
-read_suits program p s mem v h e = by_root p.root e
-  where
-    by_root : (r : Root) → read (record { root = r; variable = p.variable }) s ≡ Some v → Suits program (record { root = r; variable = p.variable }) v
-    by_root (ModuleRoot m) e' =
-        sym (sort_read program m p.variable s mem h) ∙ in_rows (λ vs. vs) value_in sort_of s.modules m p.variable ∙ ap (option_map sort_of) e'
+  -- a read gives the value's cell, and a value of the variable's type
+  pub read_same : (p : Spot) (t : TType) → type_at program p ≡ Some t → (load (addr_of p) mem ≡ Some (cell_of (read p s))) × Is t (read p s)
+  read_same p t e = by_root p.root e
+    where
+      by_root : (r : Root) → type_at program (record { root = r; variable = p.variable }) ≡ Some t → (load (addr_of (record { root = r; variable = p.variable })) mem ≡ Some (cell_of (read (record { root = r; variable = p.variable }) s))) × Is t (read (record { root = r; variable = p.variable }) s)
+      by_root (ModuleRoot m) e' =
+          let k = p.variable in
+          let f = found m k t e' in
+          let value : read (record { root = ModuleRoot m; variable = k }) s ≡ value_in f.content =
+          ap (λ o. held (option_and_then (λ vs. slice_get vs k) o)) f.has_contents ∙ ap held f.has_content in
+          let loaded : load (addr_of (record { root = ModuleRoot m; variable = k })) mem ≡ Some (cell_in f.content) =
+          ap (option_and_then (λ cells. slice_get cells k)) (cells_at m ∙ ap (option_map (λ vs. map cell_in vs)) f.has_contents)
+          ∙ slice_get-map cell_in f.contents k ∙ ap (option_map cell_in) f.has_content in
+          (loaded ∙ ap (λ v. Some (cell_of v)) (sym value), subst (Is t) (sym value) f.is)
 
--- a store of what suits keeps them alike
-pub write_same : (program : Program) (p : Spot) (v : Value) (s : Store) (mem : Memory) → Suits program p v → SameStore program s mem → SameStore program (write p v s) (store (addr_of p) (cell_of v) mem)
-write_same program p v s mem k h = by_root p.root k
-  where
-    in_module : (m i : ℕ) (o : Option (List Content)) → slice_get s.modules m ≡ o → option_and_then (λ r. slice_get r i) (option_map (λ vs. map sort_in vs) o) ≡ Some (sort_of v) → SameStore program (put_in o m i v s) (put_cells (option_map (λ vs. map cell_in vs) o) m i (cell_of v) mem)
-    in_module m i None at suits = h
-    in_module m i (Some vs) at suits =
-        let row : map sort_in (slice_set vs i (Scalar v)) ≡ map sort_in vs = set_kept sort_in vs i (Scalar v) (sym (slice_get-map sort_in vs i) ∙ suits) in
-        record {
-          cells = ap (λ ms. slice_set ms m (slice_set (map cell_in vs) i (cell_of v))) h.cells
-              ∙ ap (λ r. slice_set (map (λ ws. map cell_in ws) s.modules) m r) (sym (map-set cell_in vs i (Scalar v)))
-              ∙ sym (map-set (λ ws. map cell_in ws) s.modules m (slice_set vs i (Scalar v)));
-          sorts = set_kept (λ ws. map sort_in ws) s.modules m (slice_set vs i (Scalar v)) (ap (option_map (λ ws. map sort_in ws)) at ∙ ap (λ r. Some r) (sym row)) ∙ h.sorts;
-          objects = h.objects;
-        }
+  -- a store of a value of the variable's type keeps them alike
+  pub write_same : (p : Spot) (t : TType) (v : Value) → type_at program p ≡ Some t → Is t v → SameStore program (write p v s) (store (addr_of p) (cell_of v) mem)
+  write_same p t v e is = by_root p.root e
+    where
+      by_root : (r : Root) → type_at program (record { root = r; variable = p.variable }) ≡ Some t → SameStore program (write (record { root = r; variable = p.variable }) v s) (store (addr_of (record { root = r; variable = p.variable })) (cell_of v) mem)
+      by_root (ModuleRoot m) e' =
+          let k = p.variable in
+          let f = found m k t e' in
+          let cs = f.contents in
+          let new = slice_set cs k (Scalar v) in
+          let d = f.by in
+          let row : AllHold d.home new = each_set Holds d.home.variables cs k d.variable (Scalar v) f.all d.here (subst (λ x. Is x v) (sym d.of) is) in
+          let at_cells : slice_get mem.modules m ≡ Some (map cell_in cs) = cells_at m ∙ ap (option_map (λ vs. map cell_in vs)) f.has_contents in
+          let both : SameStore program (put_in (Some cs) m k v s) (put_cells (Some (map cell_in cs)) m k (cell_of v) mem) = record {
+            cells = ap (λ ms. slice_set ms m (slice_set (map cell_in cs) k (cell_of v))) h.cells
+                ∙ ap (λ r. slice_set (map (λ ws. map cell_in ws) s.modules) m r) (sym (map-set cell_in cs k (Scalar v)))
+                ∙ sym (map-set (λ ws. map cell_in ws) s.modules m new);
+            typed = each_set AllHold program.modules s.modules m d.home new h.typed d.there row;
+            objects = h.objects;
+          } in
+          subst (λ o. SameStore program (put_in o m k v s) (put_cells (slice_get mem.modules m) m k (cell_of v) mem)) (sym f.has_contents)
+          (subst (λ o. SameStore program (put_in (Some cs) m k v s) (put_cells o m k (cell_of v) mem)) (sym at_cells) both)
 
-    by_root : (r : Root) → Suits program (record { root = r; variable = p.variable }) v → SameStore program (write (record { root = r; variable = p.variable }) v s) (store (addr_of (record { root = r; variable = p.variable })) (cell_of v) mem)
-    by_root (ModuleRoot m) suits =
-        subst (λ o. SameStore program (put_in (slice_get s.modules m) m p.variable v s) (put_cells o m p.variable (cell_of v) mem))
-        (sym (ap (λ ms. slice_get ms m) h.cells ∙ slice_get-map (λ vs. map cell_in vs) s.modules m))
-        (in_module m p.variable (slice_get s.modules m) refl
-        (ap (option_and_then (λ r. slice_get r p.variable)) (sym (slice_get-map (λ vs. map sort_in vs) s.modules m)) ∙ sort_read program m p.variable s mem h ∙ suits))
-
--- an object of the same type on both sides
-pub made_same : (program : Program) (t : ℕ) (s : Store) (mem : Memory) → SameStore program s mem → SameStore program (with_object t s) (with_one (t + 1) mem)
-made_same program t s mem h =
-    record { cells = h.cells; sorts = h.sorts; objects = ap (λ l. l ++ (t + 1) ∷ []) h.objects ∙ sym (map-append (λ x. x + 1) s.objects (t ∷ [])) }
+  -- an object of the same type on both sides
+  pub made_same : (t : ℕ) → SameStore program (with_object t s) (with_one (t + 1) mem)
+  made_same t = record { cells = h.cells; typed = h.typed; objects = ap (λ l. l ++ (t + 1) ∷ []) h.objects ∙ sym (map-append (λ x. x + 1) s.objects (t ∷ [])) }

@@ -1,13 +1,15 @@
 -- One turn of each side from related frames gives related frames, with the same work left to the kernel.
-use Rattle.std.proofs.Common.{◌≡◌, ℕ, ◌+◌, List, [], ◌∷◌, ◌++◌, length, map, drop, Option, Some, None, refl, sym, ap, ◌∙◌, subst}
-use Rattle.std.specs.Prelude.{option_map, Bool, true, false, zero, suc, nat_lt}
+use Rattle.std.proofs.Common.{◌≡◌, ℕ, ◌+◌, ◌<◌, List, [], ◌∷◌, ◌++◌, length, map, drop, Option, Some, None, refl, sym, ap, ◌∙◌, subst}
+use Rattle.std.specs.Prelude.{Bool, true, false, suc, nat_lt}
 use Rattle.std.proofs.lemmas.List.{map-append, length-map}
+use Rattle.aos_base.specs.declared.number.Width.TheVariants.{W64}
 use Rattle.aos_base.specs.declared.text.Pos.{Pos}
 use Rattle.aos_base.specs.declared.kernel.Did.{Did}
 use Rattle.aos_base.specs.declared.kernel.Did.TheVariants.{Trapped}
-use Rattle.aos_base.specs.Question.{Val, Asks, Traps, feed, Reads, Stores, Ends, Makes, Starts, PutsInt, PutsLn}
+use Rattle.aos_base.specs.Question.{Val, Asks, Traps, feed, Reads, Stores, Ends, Makes, Starts, PutsInt, PutsChar, PutsNothing, PutsLn}
+use Rattle.aos_typed.specs.declared.tree.TType.TheVariants as type
 use Rattle.aos_typed.specs.Program.{Stat, Assign, While, New, Out, Program}
-use Rattle.aos_typed.specs.Value.{Value, Int, Flag, Object}
+use Rattle.aos_typed.specs.Value.{Value, Char, Object}
 use Rattle.aos_typed.specs.Store.{Spot, Store, read, has_room, new_number}
 use Rattle.aos_typed.specs.Meaning as source
 use Rattle.aos_typed.specs.Meaning.{Doing, Item, Do, stat_of, pos_of}
@@ -17,7 +19,7 @@ use Rattle.aos_code.specs.declared.instr.Cell.{Cell}
 use Rattle.aos_code.specs.declared.instr.Cell.TheVariants.{Ref}
 use Rattle.aos_code.specs.declared.instr.Instr.{Instr}
 use Rattle.aos_code.specs.declared.image.Image.{Image}
-use Rattle.aos_code.specs.Memory.{Memory, has_room as has_room_in, new_number as new_number_in, with_object as with_one}
+use Rattle.aos_code.specs.Memory.{Memory, load, has_room as has_room_in, new_number as new_number_in, with_object as with_one}
 use Rattle.aos_code.specs.Silent.{Stack, Begins, Fails, Stop, Work, Ended, silent}
 use Rattle.aos_code.specs.Machine as I
 use Rattle.aos_code.specs.Machine.{code_of, home_of}
@@ -25,48 +27,12 @@ use Rattle.aos_concurrency.specs.Spot.{Anyone, GoesPast}
 use Rattle.aos_concurrency.specs.Simulates.{SameTurn}
 use Rattle.aos_sim.specs.Code.{stat_code}
 use Rattle.aos_sim.proofs.Runs.{Run, AtBegin, at_work, past, runs, run, resume, run_by_silent, feed-append, Stands}
-use Rattle.aos_sim.proofs.Exprs.{cell_of, placed, Number, Reference, Is, IsAsk, IsAnswer, Does, along}
+use Rattle.aos_sim.proofs.Types.{cell_of, Is, integer_number}
+use Rattle.aos_sim.proofs.Results.{natural_is}
+use Rattle.aos_sim.proofs.Does.{placed, addr_of, IsAsk, IsAnswer, Does, along}
 use Rattle.aos_sim.proofs.Stats.{Carries, Into, stat_does}
-use Rattle.aos_sim.proofs.Stores.{SameStore, read_same, read_suits, write_same, made_same}
-
-module _ (program : Program) where
-  -- the answers so far are of the kinds of the questions that they answer
-  abbrev pub Conforms : {A : Type 0} → List Value → Doing A → Type 0
-  Conforms [] r = Unit {0}
-  Conforms (v ∷ t) (Val a) = ⊥
-  Conforms (v ∷ t) (Asks q f) = IsAnswer program q v × Conforms t (f v)
-  Conforms (v ∷ t) (Traps n c) = ⊥
-
-  conforms_more : {A : Type 0} (t : List Value) (r : Doing A) (q : source.Question) (f : Value → Doing A) (v : Value) → Conforms t r → feed t r ≡ Asks q f → IsAnswer program q v → Conforms (t ++ v ∷ []) r
-  conforms_more [] (Val a) q f v c e k = absurd (cc)
-  conforms_more [] (Asks q' f') q f v c e k = let h : q ≡ q' = cc in (subst (λ x. IsAnswer program x v) h k, tt)
-  conforms_more [] (Traps n m) q f v c e k = absurd (cc)
-  conforms_more (w ∷ t) (Val a) q f v c e k = c
-  conforms_more (w ∷ t) (Asks q' f') q f v c e k = (c.0, conforms_more t (f' w) q f v c.1 e k)
-  conforms_more (w ∷ t) (Traps n m) q f v c e k = c
-
-  -- on the same answers both go on alike
-  does_feed : {A : Type 0} (R : A → Run → Type 0) (t : List Value) (m : Run) (r : Doing A) → Conforms t r → Does program R m r → Does program R (feed (map cell_of t) m) (feed t r)
-  does_feed R [] m r c d = d
-  does_feed R (v ∷ t) m (Val a) c d = absurd c
-  does_feed R (v ∷ t) m (Asks q f) c d =
-      along program R _ _ (feed t (f v)) (ap (feed (cell_of v ∷ map cell_of t)) d.1) (does_feed R t (d.0 (cell_of v)) (f v) c.1 (d.3 v c.0))
-  does_feed R (v ∷ t) m (Traps n e) c d = absurd c
-
-  -- a statement has begun at a place of the code, and on its answers the code has come to another place
-  pub record Begun (code : List Instr) (x : Stat) (is : List Item) (t : List Value) (next : ℕ) (s : Stack) : Type 0 where
-    pub start : ℕ
-    pub stands : Stands code start (stat_code x start)
-    pub typed : IsStatement program x
-    pub after : Carries program code is (start + length (stat_code x start))
-    pub conforms : Conforms t (stat_of x)
-    pub reached : feed (map cell_of t) (run code (start + 1) []) ≡ run code next s
-
-  -- what remains of a frame's items is what its code goes on with
-  abbrev pub Remains : List Instr → Option (List Value) → List Item → ℕ → Stack → Type 0
-  Remains code None is next s = (s ≡ []) × Carries program code is next
-  Remains code (Some t) [] next s = ⊥
-  Remains code (Some t) (Do x ∷ is) next s = Begun code x is t next s
+use Rattle.aos_sim.proofs.Stores.{SameStore, read_same, write_same, made_same}
+use Rattle.aos_sim.proofs.Begun.{conforms_more, does_feed, Begun, Remains}
 
 module _ (program : Program) (image : Image) where
   pub record SameFrame (f : S.Frame) (g : I.Frame) : Type 0 where
@@ -96,7 +62,7 @@ module _ (program : Program) (image : Image) where
 
   -- a statement's code begins with its Begin
   begins_with : (x : Stat) (code : List Instr) (at : ℕ) → Stands code at (stat_code x at) → run code at [] ≡ Val (AtBegin at (pos_of x) [])
-  begins_with (Assign here p e) code at st = ap (λ l. runs code l 0 at []) st.here
+  begins_with (Assign here t p e) code at st = ap (λ l. runs code l 0 at []) st.here
   begins_with (While here e b) code at st = ap (λ l. runs code l 0 at []) st.here
   begins_with (New here p t) code at st = ap (λ l. runs code l 0 at []) st.here
   begins_with (Out here call) code at st = ap (λ l. runs code l 0 at []) st.here
@@ -164,52 +130,57 @@ module _ (program : Program) (image : Image) where
       prints_alike None p st k = record { stores = stores; frames = record { now = (same, below); behind = λ k. absurd k }; left = refl; output = refl; begun = refl }
       prints_alike (Some bytes) p st k = record { stores = stores; frames = record { now = (k, below); behind = λ k. absurd k }; left = refl; output = refl; begun = refl }
 
-      reads_alike : (a : Spot) (f : Value → Doing (List Item)) (p : ℕ) (st : Stack) (o : Option Value) → read a s ≡ o → feed t (stat_of x) ≡ Asks (Reads a) f → feed (map cell_of t) start ≡ at_work (placed (Reads a)) p st onward → Alike (S.reads o (upper (Do x ∷ is) (Some t)) fs s) (I.loads (option_map cell_of o) p st (lower next stack) gs mem)
-      reads_alike a f p st None r asks e = record { stores = stores; frames = record { now = (same, below); behind = λ k. absurd k }; left = refl; output = refl; begun = refl }
-      reads_alike a f p st (Some v) r asks e =
-          record { stores = stores; frames = record { now = (more (Reads a) f v p st (cell_of v ∷ st) asks (read_suits program a s mem v stores r) e refl, below); behind = λ k. absurd k }; left = refl; output = refl; begun = refl }
+      reads_alike : (a : Spot) (f : Value → Doing (List Item)) (p : ℕ) (st : Stack) → IsAsk program (Reads a) → feed t (stat_of x) ≡ Asks (Reads a) f → feed (map cell_of t) start ≡ at_work (placed (Reads a)) p st onward → Alike (S.reads (read a s) (upper (Do x ∷ is) (Some t)) fs s) (I.loads (load (addr_of a) mem) p st (lower next stack) gs mem)
+      reads_alike a f p st ok asks e =
+          let v = read a s in
+          let is_answer : IsAnswer program (Reads a) v = λ u of. (read_same program s mem stores a u of).1 in
+          subst (λ o. Alike (S.reads v (upper (Do x ∷ is) (Some t)) fs s) (I.loads o p st (lower next stack) gs mem)) (sym (read_same program s mem stores a ok.0 ok.1).0)
+          (record { stores = stores; frames = record { now = (more (Reads a) f v p st (cell_of v ∷ st) asks is_answer e refl, below); behind = λ k. absurd k }; left = refl; output = refl; begun = refl })
 
-      written_alike : (v n : Value) → Is Number v → Is Number n → S.written v n ≡ I.written (cell_of v) (cell_of n)
-      written_alike (Int z) (Int n) kv kn = refl
-      written_alike (Int z) (Flag c) kv kn = absurd (cc)
-      written_alike (Int z) (Object o) kv kn = absurd (cc)
-      written_alike (Flag c) n kv kn = absurd (cc)
-      written_alike (Object o) n kv kn = absurd (cc)
+      written_alike : (v n : Value) → Is (type.Integer W64) v → Is (type.Integer W64) n → S.written v n ≡ I.written (cell_of v) (cell_of n)
+      written_alike v n kv kn = λ j. I.written (sym (integer_number W64 v kv) j) (sym (integer_number W64 n kn) j)
+
+      puts_alike : (bytes : List ℕ) (p : ℕ) (st : Stack) → SameFrame (upper (Do x ∷ is) (Some (t ++ S.done ∷ []))) (lower (p + 1) st) → Alike (S.puts bytes (S.answered S.done (upper (Do x ∷ is) (Some t)) ∷ fs) s) (I.puts bytes (I.behind p st (lower next stack) ∷ gs) mem)
+      puts_alike bytes p st k = record { stores = stores; frames = record { now = (k, below); behind = λ k. absurd k }; left = refl; output = refl; begun = refl }
+
+      chars_alike : (c p : ℕ) (st : Stack) → c < 256 → SameFrame (upper (Do x ∷ is) (Some (t ++ S.done ∷ []))) (lower (p + 1) st) → Alike (S.answer (PutsChar (Char c)) (upper (Do x ∷ is) (Some t)) fs s) (I.answer (placed (PutsChar (Char c))) p st (lower next stack) gs mem)
+      chars_alike c p st lt k =
+          subst (λ o. Alike (S.answer (PutsChar (Char c)) (upper (Do x ∷ is) (Some t)) fs s) (I.puts_char o p st (lower next stack) gs mem)) (sym (natural_is 256 c lt)) (puts_alike (c ∷ []) p st k)
 
       makes_alike : (made : ℕ) (f : Value → Doing (List Item)) (p : ℕ) (st : Stack) (room : Bool) → feed t (stat_of x) ≡ Asks (Makes made) f → feed (map cell_of t) start ≡ at_work (placed (Makes made)) p st onward → Alike (S.makes room made (upper (Do x ∷ is) (Some t)) fs s) (I.makes room (made + 1) p st (lower next stack) gs mem)
       makes_alike made f p st false asks e = record { stores = stores; frames = record { now = (same, below); behind = λ k. absurd k }; left = refl; output = refl; begun = refl }
       makes_alike made f p st true asks e =
           let number : new_number s ≡ new_number_in mem = ap (λ n. suc n) (sym (ap length stores.objects ∙ length-map s.objects (λ k. k + 1))) in
           subst (λ n. Alike (S.makes true made (upper (Do x ∷ is) (Some t)) fs s) (I.goes_on (I.behind p (Ref n ∷ st) (lower next stack) ∷ gs) (with_one (made + 1) mem))) number
-          (record { stores = made_same program made s mem stores; frames = record { now = (more (Makes made) f (Object (new_number s)) p st (Ref (new_number s) ∷ st) asks refl e refl, below); behind = λ k. absurd k }; left = refl; output = refl; begun = refl })
+          (record { stores = made_same program s mem stores made; frames = record { now = (more (Makes made) f (Object (new_number s)) p st (Ref (new_number s) ∷ st) asks (length s.objects, refl) e refl, below); behind = λ k. absurd k }; left = refl; output = refl; begun = refl })
 
       -- the frames stand before the work, and past it the code is behind the instruction
-      starts_alike : (v : Value) (f : Value → Doing (List Item)) (p : ℕ) (st : Stack) → Is Reference v → feed t (stat_of x) ≡ Asks (Starts v) f → feed (map cell_of t) start ≡ at_work (placed (Starts v)) p st onward → silent code next stack ≡ Work (placed (Starts v)) p st → Alike (S.starts v (upper (Do x ∷ is) (Some t)) fs s) (I.starts (cell_of v) (lower next stack) gs mem)
-      starts_alike (Object zero) f p st ok asks e here = record { stores = stores; frames = record { now = (same, below); behind = λ k. absurd k }; left = refl; output = refl; begun = refl }
-      starts_alike (Object (suc o)) f p st ok asks e here =
+      starts_alike : (o : ℕ) (f : Value → Doing (List Item)) (p : ℕ) (st : Stack) → feed t (stat_of x) ≡ Asks (Starts (Object (suc o))) f → feed (map cell_of t) start ≡ at_work (placed (Starts (Object (suc o)))) p st onward → silent code next stack ≡ Work (placed (Starts (Object (suc o)))) p st → Alike (S.starts (Object (suc o)) (upper (Do x ∷ is) (Some t)) fs s) (I.starts (Ref (suc o)) (lower next stack) gs mem)
+      starts_alike o f p st asks e here =
           let past = subst (λ w. SameFrame (upper (Do x ∷ is) (Some (t ++ S.done ∷ []))) (I.behind_stop w (lower next stack))) (sym here) (more (Starts (Object (suc o))) f S.done p st st asks tt e refl) in
           record { stores = stores; frames = record { now = (same, below); behind = λ k. (past, below) }; left = refl; output = refl; begun = refl }
-      starts_alike (Int z) f p st ok asks e here = absurd (cc)
-      starts_alike (Flag c) f p st ok asks e here = absurd (cc)
 
       -- a question is answered
       work_alike : (q : source.Question) (f : Value → Doing (List Item)) (p : ℕ) (st : Stack) → IsAsk program q → feed t (stat_of x) ≡ Asks q f → feed (map cell_of t) start ≡ at_work (placed q) p st onward → silent code next stack ≡ Work (placed q) p st → Alike (S.answer q (upper (Do x ∷ is) (Some t)) fs s) (I.answer (placed q) p st (lower next stack) gs mem)
-      work_alike (Reads a) f p st ok asks e here =
-          subst (λ o. Alike (S.reads (read a s) (upper (Do x ∷ is) (Some t)) fs s) (I.loads o p st (lower next stack) gs mem)) (sym (read_same program a s mem stores))
-          (reads_alike a f p st (read a s) refl asks e)
+      work_alike (Reads a) f p st ok asks e here = reads_alike a f p st ok asks e
       work_alike (Stores a v) f p st ok asks e here =
-          record { stores = write_same program a v s mem ok stores; frames = record { now = (more (Stores a v) f S.done p st st asks tt e refl, below); behind = λ k. absurd k }; left = refl; output = refl; begun = refl }
+          record { stores = write_same program s mem stores a ok.0 v ok.1 ok.2; frames = record { now = (more (Stores a v) f S.done p st st asks tt e refl, below); behind = λ k. absurd k }; left = refl; output = refl; begun = refl }
       work_alike (Ends r) f p st ok asks e here = record { stores = stores; frames = record { now = below; behind = λ k. absurd k }; left = refl; output = refl; begun = refl }
       work_alike (Makes made) f p st ok asks e here =
           let room : has_room s ≡ has_room_in mem = ap (λ n. nat_lt n 16777216) (sym (ap length stores.objects ∙ length-map s.objects (λ k. k + 1))) in
           subst (λ r. Alike (S.makes (has_room s) made (upper (Do x ∷ is) (Some t)) fs s) (I.makes r (made + 1) p st (lower next stack) gs mem)) room
           (makes_alike made f p st (has_room s) asks e)
-      work_alike (Starts v) f p st ok asks e here = starts_alike v f p st ok asks e here
+      work_alike (Starts v) f p st ok asks e here =
+          subst (λ v. feed t (stat_of x) ≡ Asks (Starts v) f → feed (map cell_of t) start ≡ at_work (placed (Starts v)) p st onward → silent code next stack ≡ Work (placed (Starts v)) p st → Alike (S.starts v (upper (Do x ∷ is) (Some t)) fs s) (I.starts (cell_of v) (lower next stack) gs mem)) (sym ok.1)
+          (starts_alike ok.0 f p st) asks e here
       work_alike (PutsInt v n) f p st ok asks e here =
           subst (λ o. Alike (S.prints (S.written v n) (upper (Do x ∷ is) (Some t)) fs s) (I.prints o p st (lower next stack) gs mem)) (written_alike v n ok.0 ok.1)
           (prints_alike (S.written v n) p st (more (PutsInt v n) f S.done p st st asks tt e refl))
-      work_alike PutsLn f p st ok asks e here =
-          record { stores = stores; frames = record { now = (more PutsLn f S.done p st st asks tt e refl, below); behind = λ k. absurd k }; left = refl; output = refl; begun = refl }
+      work_alike (PutsChar v) f p st ok asks e here =
+          subst (λ v. Alike (S.answer (PutsChar v) (upper (Do x ∷ is) (Some t)) fs s) (I.answer (placed (PutsChar v)) p st (lower next stack) gs mem)) (sym ok.1)
+          (chars_alike ok.0 p st ok.2 (more (PutsChar v) f S.done p st st asks tt e refl))
+      work_alike PutsNothing f p st ok asks e here = puts_alike [] p st (more PutsNothing f S.done p st st asks tt e refl)
+      work_alike PutsLn f p st ok asks e here = puts_alike (10 ∷ []) p st (more PutsLn f S.done p st st asks tt e refl)
 
       -- a question of the statement is the code's
       asks_alike : (q : source.Question) (f : Value → Doing (List Item)) (stop : Stop) (k : Cell → Run) → IsAsk program q → feed t (stat_of x) ≡ Asks q f → feed (map cell_of t) start ≡ resume code stop → resume code stop ≡ Asks (placed q) k → silent code next stack ≡ stop → Alike (S.answer q (upper (Do x ∷ is) (Some t)) fs s) (I.goes stop (lower next stack) gs mem)
@@ -233,7 +204,7 @@ module _ (program : Program) (image : Image) where
       goes_alike : (r : Doing (List Item)) (stop : Stop) → feed t (stat_of x) ≡ r → feed (map cell_of t) start ≡ resume code stop → Does program (Into program code is) (resume code stop) r → silent code next stack ≡ stop → Alike (S.goes r is (upper (Do x ∷ is) (Some t)) fs s) (I.goes stop (lower next stack) gs mem)
       goes_alike (Val new) stop asks e d here = settles_alike (new ++ is) (Do x ∷ is) (Some t) next stack stop (at_next code (new ++ is) d.0 (resume code stop) d.1 d.2)
       goes_alike (Asks q f) stop asks e d here = asks_alike q f stop d.0 d.2 asks e d.1 here
-      goes_alike (Traps n c) stop asks e d here = traps_alike n c stop d
+      goes_alike (Traps n c) stop asks e d here = traps_alike n c stop d.0
 
       begun_alike : Alike (S.goes (feed t (stat_of x)) is (upper (Do x ∷ is) (Some t)) fs s) (I.goes (silent code next stack) (lower next stack) gs mem)
       begun_alike =

@@ -1,28 +1,38 @@
 -- The code of a program. A jump names its target, so each piece of code is told where it stands.
 use Rattle.std.specs.Prelude.{ℕ, pos, ◌+◌, List, [], ◌∷◌, ◌++◌, length}
 use Rattle.aos_base.specs.declared.text.Pos.{Pos}
+use Rattle.aos_base.specs.declared.operator.Unary.TheVariants.{Range}
+use Rattle.aos_base.specs.declared.operator.Binary.TheVariants.{SetSpan}
+use Rattle.aos_base.specs.Operators.{flag}
 use Rattle.aos_typed.specs.declared.tree.Literal.{Literal}
-use Rattle.aos_typed.specs.declared.tree.Literal.TheVariants.{Int as IntLiteral}
-use Rattle.aos_typed.specs.declared.tree.Binary.{Binary as Operator}
-use Rattle.aos_typed.specs.declared.tree.Binary.TheVariants.{Add as AddOf, Sub as SubOf}
-use Rattle.aos_typed.specs.Program.{Place, ModuleVar, Expr, Lit, Read, Binary, Compare, Call, Int, Ln, Stat, Assign, While, New, Out, Stats, Nothing, Then}
+use Rattle.aos_typed.specs.declared.tree.Literal.TheVariants as literal
+use Rattle.aos_typed.specs.Program.{Place, ModuleVar, Expr, Lit, Read, Unary, Binary, And, Or, Element, Ord, Chr, Call, Open, Char, Int, Ln, Stat, Assign, While, New, Out, Stats, Nothing, Then}
 use Rattle.aos_code.specs.declared.instr.Cell.{Cell}
 use Rattle.aos_typed.specs.declared.tree.TType.{TType}
 use Rattle.aos_typed.specs.declared.tree.TType.TheVariants as type
+use Rattle.aos_code.specs.declared.instr.Kind.{Kind}
 use Rattle.aos_code.specs.declared.instr.Kind.TheVariants.{N, R}
 use Rattle.aos_code.specs.declared.instr.Cell.TheVariants as cell
 use Rattle.aos_code.specs.declared.instr.Instr.{Instr}
-use Rattle.aos_code.specs.declared.instr.Instr.TheVariants.{Num, Dup, Swap, Module, Add, Sub, Cmp, Jump, JumpFalse, Begin, Load, Store, NewObject, Start, Return, OutInt, OutLn}
+use Rattle.aos_code.specs.declared.instr.Instr.TheVariants.{Num, Dup, Swap, Module, Unary as OnOne, Binary as OnTwo, Jump, JumpFalse, Begin, Load, Store, NewObject, Start, Return, OutChar, OutInt, OutLn, OutOpen}
 
 abbrev pub begin : Pos → Instr
 begin at = Begin at.line at.col
 
+-- a value is given as a number: TRUE as 1, FALSE as 0, a character as its code, and a set by its bits
 abbrev pub literal_code : Literal → Instr
-literal_code (IntLiteral n) = Num n
+literal_code (literal.Int n) = Num n
+literal_code (literal.Bool b) = Num (flag b)
+literal_code (literal.Char c) = Num (pos c)
+literal_code (literal.Set s) = Num (pos s)
 
-abbrev pub binary_code : Operator → Instr
-binary_code (AddOf w) = Add w
-binary_code (SubOf w) = Sub w
+-- an object variable's cell has a reference, each other one's a number
+abbrev pub kind_of : TType → Kind
+kind_of (type.Integer w) = N
+kind_of type.Boolean = N
+kind_of type.Char = N
+kind_of type.Set = N
+kind_of (type.Object t) = R
 
 -- a variable's cell has the variable's number
 abbrev pub place_code : Place → ℕ → List Instr
@@ -32,15 +42,32 @@ place_code (ModuleVar m i) at = Module m i ∷ []
 abbrev pub operands_code : List Instr → List Instr → Instr → List Instr
 operands_code a b operator = a ++ (b ++ operator ∷ [])
 
+-- a first operand that may tell, at this place: where it is FALSE so is the whole, which the code goes on with behind the
+-- second operand
+abbrev pub and_code : List Instr → List Instr → ℕ → List Instr
+and_code a b at =
+    a ++ (JumpFalse (at + length a + 1 + length b + 1) ∷ (b ++ (Jump (at + length a + 1 + length b + 2) ∷ (Num (pos 0) ∷ []))))
+
+-- where it is TRUE so is the whole, and else the second operand is
+abbrev pub or_code : List Instr → List Instr → ℕ → List Instr
+or_code a b at =
+    a ++ (JumpFalse (at + length a + 3) ∷ (Num (pos 1) ∷ (Jump (at + length a + 3 + length b) ∷ b)))
+
 abbrev pub value_code : Expr → ℕ → List Instr
 value_code (Lit l) at = literal_code l ∷ []
-value_code (Read p) at = place_code p at ++ Load N ∷ []
+value_code (Read t p) at = place_code p at ++ Load (kind_of t) ∷ []
+value_code (Unary op a) at = value_code a at ++ OnOne op ∷ []
 value_code (Binary op a b) at =
-    operands_code (value_code a at) (value_code b (at + length (value_code a at))) (binary_code op)
-value_code (Compare r a b) at =
-    operands_code (value_code a at) (value_code b (at + length (value_code a at))) (Cmp r)
+    operands_code (value_code a at) (value_code b (at + length (value_code a at))) (OnTwo op)
+value_code (And a b) at = and_code (value_code a at) (value_code b (at + length (value_code a at) + 1)) at
+value_code (Or a b) at = or_code (value_code a at) (value_code b (at + length (value_code a at) + 3)) at
+value_code (Element a) at = value_code a at ++ (Dup ∷ (OnTwo SetSpan ∷ []))
+value_code (Ord a) at = value_code a at
+value_code (Chr a) at = value_code a at ++ OnOne (Range (pos 0) (pos 255)) ∷ []
 
 abbrev pub out_code : Call → ℕ → List Instr
+out_code Open at = OutOpen ∷ []
+out_code (Char e) at = value_code e at ++ OutChar ∷ []
 out_code (Int e n) at = operands_code (value_code e at) (value_code n (at + length (value_code e at))) OutInt
 out_code Ln at = OutLn ∷ []
 
@@ -56,8 +83,9 @@ while_code here c b at =
 
 abbrev mutual
   pub stat_code : Stat → ℕ → List Instr
-  stat_code (Assign here p e) at =
-      begin here ∷ operands_code (place_code p (at + 1)) (value_code e (at + 1 + length (place_code p (at + 1)))) (Store N)
+  stat_code (Assign here t p e) at =
+      begin here
+      ∷ operands_code (place_code p (at + 1)) (value_code e (at + 1 + length (place_code p (at + 1)))) (Store (kind_of t))
   stat_code (While here e body) at =
       let c = value_code e (at + 1) in while_code here c (stats_code body (at + 1 + length c + 1)) at
   stat_code (New here p t) at = begin here ∷ new_code p t (at + 1)
@@ -72,6 +100,9 @@ abbrev pub body_code : Stats → List Instr
 body_code ss = stats_code ss 0 ++ Return ∷ []
 
 -- a variable's cell at first
+abbrev pub cell_of_kind : Kind → Cell
+cell_of_kind N = cell.Num (pos 0)
+cell_of_kind R = cell.Ref 0
+
 abbrev pub zero_cell : TType → Cell
-zero_cell type.LongInt = cell.Num (pos 0)
-zero_cell (type.Object t) = cell.Ref 0
+zero_cell t = cell_of_kind (kind_of t)

@@ -1,5 +1,5 @@
 -- When an image has a program's code, and when it shows the program.
-use Rattle.std.specs.Prelude.{◌≡◌, ℕ, suc, List, [], ◌∷◌, ◌++◌, map, length}
+use Rattle.std.specs.Prelude.{◌≡◌, ◌<◌, ℕ, suc, All, List, [], ◌∷◌, ◌++◌, map, length}
 use Rattle.std.specs.String.{string_bytes}
 use Rattle.aos_base.specs.Machine.{Choice, execution}
 use Rattle.aos_base.specs.Observation.{observation}
@@ -36,3 +36,10 @@ IsCodeOf p image = IsCode p.modules p.objects image.bodies.items image.shapes.it
 pub record Shows (p : Program) (image : Image) : Type 0 where
   pub observation : (budget : ℕ) (choices : List Choice) → observation (machine image) (execution (machine image) choices (first_of image budget)) ≡ observation (source p) (execution (source p) choices (first_state p budget))
   pub events : (budget : ℕ) (choices : List Choice) → (execution (machine image) choices (first_of image budget)).book.events ≡ (execution (source p) choices (first_state p budget)).book.events
+
+-- no execution has a trap of code that finds another operand than it takes, or a place that isn't there: that is trap 16, and
+-- those of the language are below it
+abbrev pub NeverLost : Image → Type 0
+NeverLost image =
+    (budget : ℕ) (choices : List Choice)
+    → All (λ t. t.number < 16) (observation (machine image) (execution (machine image) choices (first_of image budget))).traps

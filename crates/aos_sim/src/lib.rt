@@ -5,7 +5,7 @@
 ghost use Rattle.aos_typed.specs.Program.{Program};
 ghost use Rattle.aos_code.specs.declared.image.Image.{Image};
 ghost use Rattle.aos_typed.specs.WellTyped.{IsWellTyped};
-ghost use Rattle.aos_sim.specs.Shows.{IsCodeOf, Shows};
+ghost use Rattle.aos_sim.specs.Shows.{IsCodeOf, Shows, NeverLost};
 ghost use Rattle.aos_sim.specs.Rewriting.{ExpressionRewrites, StatementRewrites, AssignmentRewrites};
 
 /// An image that has a well-typed program's code shows the program: for every budget and every
@@ -13,6 +13,12 @@ ghost use Rattle.aos_sim.specs.Rewriting.{ExpressionRewrites, StatementRewrites,
 /// events.
 pub fn image_shows_program()
     ensures { (p : Program) (image : Image) → IsWellTyped p → IsCodeOf p image → Shows p image }
+{}
+
+/// No execution of an image that has a well-typed program's code comes to trap 16, that of code
+/// which finds another operand than it takes, or a place that isn't there.
+pub fn image_is_never_lost()
+    ensures { (p : Program) (image : Image) → IsWellTyped p → IsCodeOf p image → NeverLost image }
 {}
 
 /// An expression whose first reads have been answered means the same as the one in which each of

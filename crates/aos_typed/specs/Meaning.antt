@@ -1,9 +1,9 @@
 -- What expressions and statements do, as trees of questions.
-use Rattle.std.specs.Prelude.{List, [], ◌∷◌, ◌++◌, true, false}
+use Rattle.std.specs.Prelude.{List, [], ◌∷◌, ◌++◌, true, false, if◌then◌else◌}
 use Rattle.aos_base.specs.declared.text.Pos.{Pos}
-use Rattle.aos_base.specs.Question.{Tree, Val, bind, ask, Ask, Reads, Stores, Makes, Starts, PutsInt, PutsLn}
-use Rattle.aos_typed.specs.Program.{Place, ModuleVar, Expr, Lit, Read, Binary, Compare, Call, Int as OutInt, Ln as OutLn, Stat, Assign, While, New, Out, Stats, Nothing, Then}
-use Rattle.aos_typed.specs.Value.{Value, Flag, Object, literal, binary, compare, wrong_kind, Int as IntValue}
+use Rattle.aos_base.specs.Question.{Tree, Val, bind, ask, Ask, Reads, Stores, Makes, Starts, PutsInt, PutsChar, PutsLn, PutsNothing}
+use Rattle.aos_typed.specs.Program.{Place, ModuleVar, Expr, Lit, Read, Unary, Binary, And, Or, Element, Ord, Chr, Call, Open as OutOpen, Char as OutChar, Int as OutInt, Ln as OutLn, Stat, Assign, While, New, Out, Stats, Nothing, Then}
+use Rattle.aos_typed.specs.Value.{Value, Flag, literal_value, unary, binary, element, ord, chr, is_true}
 use Rattle.aos_typed.specs.Store.{Spot, ModuleRoot}
 
 abbrev pub Question : Type 0
@@ -16,12 +16,18 @@ Doing A = Tree Question Value A
 abbrev pub place_of : Place → Doing Spot
 place_of (ModuleVar m i) = Val (record { root = ModuleRoot m; variable = i })
 
--- operands are evaluated from left to right, and reading a scalar is visible
+-- operands are evaluated from left to right, and reading a scalar is visible; & and OR evaluate their second operand where
+-- the first doesn't tell
 abbrev pub value_of : Expr → Doing Value
-value_of (Lit l) = Val (literal l)
-value_of (Read p) = bind (place_of p) (λ s. ask (Reads s))
+value_of (Lit l) = Val (literal_value l)
+value_of (Read t p) = bind (place_of p) (λ s. ask (Reads s))
+value_of (Unary op a) = bind (value_of a) (λ x. unary op x)
 value_of (Binary op a b) = bind (value_of a) (λ x. bind (value_of b) (λ y. binary op x y))
-value_of (Compare r a b) = bind (value_of a) (λ x. bind (value_of b) (λ y. compare r x y))
+value_of (And a b) = bind (value_of a) (λ x. if is_true x then value_of b else Val (Flag false))
+value_of (Or a b) = bind (value_of a) (λ x. if is_true x then Val (Flag true) else value_of b)
+value_of (Element a) = bind (value_of a) (λ x. element x)
+value_of (Ord a) = bind (value_of a) (λ x. Val (ord x))
+value_of (Chr a) = bind (value_of a) (λ x. chr x)
 
 -- what remains of a frame's statements
 pub data Item : Type 0 where
@@ -31,29 +37,25 @@ abbrev pub items_of : Stats → List Item
 items_of Nothing = []
 items_of (Then s ss) = Do s ∷ items_of ss
 
-abbrev pub if_flag : {A : Type 0} → Value → A → A → Doing A
-if_flag (Flag true) then otherwise = Val then
-if_flag (Flag false) then otherwise = Val otherwise
-if_flag (IntValue n) then otherwise = wrong_kind
-if_flag (Object o) then otherwise = wrong_kind
-
 abbrev pub out_of : Call → Doing (List Item)
+out_of OutOpen = bind (ask PutsNothing) (λ _. Val [])
+out_of (OutChar e) = bind (value_of e) (λ x. bind (ask (PutsChar x)) (λ _. Val []))
 out_of (OutInt e n) =
     bind (value_of e) (λ x. bind (value_of n) (λ y. bind (ask (PutsInt x y)) (λ _. Val [])))
 out_of OutLn = bind (ask PutsLn) (λ _. Val [])
 
 -- what a statement that has begun does, and the items that take its place
 abbrev pub stat_of : Stat → Doing (List Item)
-stat_of (Assign at p e) = bind (place_of p) (λ s. bind (value_of e) (λ v. bind (ask (Stores s v)) (λ _. Val [])))
+stat_of (Assign at t p e) = bind (place_of p) (λ s. bind (value_of e) (λ v. bind (ask (Stores s v)) (λ _. Val [])))
 stat_of (While at e body) =
-    bind (value_of e) (λ v. if_flag v (items_of body ++ Do (While at e body) ∷ []) [])
+    bind (value_of e) (λ v. Val (if is_true v then items_of body ++ Do (While at e body) ∷ [] else []))
 -- the object is made, then stored, and then its activity is started
 stat_of (New at p t) =
     bind (place_of p) (λ s. bind (ask (Makes t)) (λ o. bind (ask (Stores s o)) (λ _. bind (ask (Starts o)) (λ _. Val []))))
 stat_of (Out at call) = out_of call
 
 abbrev pub pos_of : Stat → Pos
-pos_of (Assign at p e) = at
+pos_of (Assign at t p e) = at
 pos_of (While at e body) = at
 pos_of (New at p t) = at
 pos_of (Out at call) = at

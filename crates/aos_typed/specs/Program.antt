@@ -2,9 +2,9 @@
 -- Literals, operators and types have no parts in memory, so they are the code's own.
 use Rattle.std.specs.Prelude.{ℕ, List}
 use Rattle.aos_base.specs.declared.text.Pos.{Pos}
-use Rattle.aos_base.specs.declared.number.Relation.{Relation}
+use Rattle.aos_base.specs.declared.operator.Unary.{Unary as UnaryOperator}
+use Rattle.aos_base.specs.declared.operator.Binary.{Binary as BinaryOperator}
 use Rattle.aos_typed.specs.declared.tree.Literal.{Literal}
-use Rattle.aos_typed.specs.declared.tree.Binary.{Binary as Operator}
 use Rattle.aos_typed.specs.declared.tree.TType.{TType}
 
 -- a designator: a variable of a module, by the module's number in load order and the variable's number
@@ -13,19 +13,26 @@ pub data Place : Type 0 where
 
 pub data Expr : Type 0 where
   Lit : Literal → Expr
-  Read : Place → Expr
-  Binary : Operator → Expr → Expr → Expr
-  Compare : Relation → Expr → Expr → Expr
+  Read : TType → Place → Expr
+  Unary : UnaryOperator → Expr → Expr
+  Binary : BinaryOperator → Expr → Expr → Expr
+  And : Expr → Expr → Expr
+  Or : Expr → Expr → Expr
+  Element : Expr → Expr
+  Ord : Expr → Expr
+  Chr : Expr → Expr
 
 -- a call of a procedure of module Out: the number, and in how many places it stands
 pub data Call : Type 0 where
+  Open : Call
+  Char : Expr → Call
   Int : Expr → Expr → Call
   Ln : Call
 
 -- a statement with its place in the text, and a sequence of them
 mutual
   pub data Stat : Type 0 where
-    Assign : Pos → Place → Expr → Stat
+    Assign : Pos → TType → Place → Expr → Stat
     While : Pos → Expr → Stats → Stat
     New : Pos → Place → ℕ → Stat
     Out : Pos → Call → Stat

@@ -1,5 +1,5 @@
 -- A program as a machine: its store, its frames, and the turns of an activity.
-use Rattle.std.specs.Prelude.{ℕ, zero, suc, ◌++◌, List, [], ◌∷◌, Bool, true, false, Option, Some, None, map, pos, slice_get, option_and_then}
+use Rattle.std.specs.Prelude.{ℕ, suc, ◌++◌, List, [], ◌∷◌, Bool, true, false, Option, Some, None, map, pos, unsigned_abs, slice_get, option_and_then}
 use Rattle.aos_base.specs.declared.text.Pos.{Pos}
 use Rattle.aos_base.specs.declared.kernel.Did.{Did}
 use Rattle.aos_base.specs.declared.kernel.Did.TheVariants.{Went, Ended, Start, Trapped}
@@ -7,11 +7,11 @@ use Rattle.aos_base.specs.declared.kernel.Verdict.TheVariants.{Fails}
 use Rattle.aos_base.specs.Number.{places_of, justified}
 use Rattle.aos_base.specs.Book.{Where}
 use Rattle.aos_base.specs.Machine.{Turn, Machine, State, start_of}
-use Rattle.aos_base.specs.Question.{Val, Asks, Traps, feed, Reads, Stores, Ends, Makes, Starts, PutsInt, PutsLn}
+use Rattle.aos_base.specs.Question.{Val, Asks, Traps, feed, Reads, Stores, Ends, Makes, Starts, PutsInt, PutsChar, PutsLn, PutsNothing}
 use Rattle.aos_typed.specs.declared.tree.TType.{TType}
 use Rattle.aos_typed.specs.declared.tree.TType.TheVariants as type
 use Rattle.aos_typed.specs.Program.{Stats, Variable, ObjectType, Module, Program}
-use Rattle.aos_typed.specs.Value.{Value, Int, Flag, Object}
+use Rattle.aos_typed.specs.Value.{Value, Int, Flag, Char, Set, Object, number_of}
 use Rattle.aos_typed.specs.Store.{Content, Scalar, Store, read, write, type_of_object, with_object, new_number, has_room}
 use Rattle.aos_typed.specs.Meaning.{Question, Doing, Item, Do, items_of, item_of, pos_of}
 
@@ -70,15 +70,10 @@ settles (Do st ∷ is) f fs s =
 
 -- the text that Out.Int writes, where the number of places is 0 to 255
 abbrev pub written : Value → Value → Option (List ℕ)
-written (Int z) (Int n) = justified z (places_of n)
-written (Int z) (Flag b) = None
-written (Int z) (Object o) = None
-written (Flag b) v = None
-written (Object o) v = None
+written v n = justified (number_of v) (places_of (number_of n))
 
-abbrev pub reads : Option Value → Frame → Frames → Store → Turned
-reads None f fs s = leaves (Trapped 16 0) (f ∷ fs) s
-reads (Some v) f fs s = goes_on (answered v f ∷ fs) s
+abbrev pub reads : Value → Frame → Frames → Store → Turned
+reads v f fs s = goes_on (answered v f ∷ fs) s
 
 abbrev pub prints : Option (List ℕ) → Frame → Frames → Store → Turned
 prints None f fs s = leaves (Trapped 14 0) (f ∷ fs) s
@@ -89,12 +84,10 @@ abbrev pub makes : Bool → ℕ → Frame → Frames → Store → Turned
 makes true t f fs s = goes_on (answered (Object (new_number s)) f ∷ fs) (with_object t s)
 makes false t f fs s = leaves (Trapped 12 0) (f ∷ fs) s
 
--- an object's activity is left to the kernel
+-- an object's activity is left to the kernel; nothing is where there is no object, to which no well-typed program comes
 abbrev pub starts : Value → Frame → Frames → Store → Turned
-starts (Object zero) f fs s = leaves (Trapped 16 0) (f ∷ fs) s
 starts (Object (suc k)) f fs s = leaves (Start (suc k)) (f ∷ fs) s
-starts (Int z) f fs s = leaves (Trapped 16 0) (f ∷ fs) s
-starts (Flag b) f fs s = leaves (Trapped 16 0) (f ∷ fs) s
+starts v f fs s = goes_on (answered done f ∷ fs) s
 
 -- a question is answered
 abbrev pub answer : Question → Frame → Frames → Store → Turned
@@ -104,6 +97,8 @@ answer (Ends result) f fs s = ends fs s
 answer (Makes t) f fs s = makes (has_room s) t f fs s
 answer (Starts v) f fs s = starts v f fs s
 answer (PutsInt v n) f fs s = prints (written v n) f fs s
+answer (PutsChar v) f fs s = puts (unsigned_abs (number_of v) ∷ []) (answered done f ∷ fs) s
+answer PutsNothing f fs s = puts [] (answered done f ∷ fs) s
 answer PutsLn f fs s = puts (10 ∷ []) (answered done f ∷ fs) s
 
 abbrev pub goes : Doing (List Item) → List Item → Frame → Frames → Store → Turned
@@ -166,9 +161,12 @@ source p =
       anew = λ fs. None;
     }
 
--- a number begins as 0, an object variable as NIL
+-- a variable begins as 0, FALSE, 0X, {} or NIL
 abbrev pub first_value : TType → Value
-first_value type.LongInt = Int (pos 0)
+first_value (type.Integer w) = Int (pos 0)
+first_value type.Boolean = Flag false
+first_value type.Char = Char 0
+first_value type.Set = Set 0
 first_value (type.Object t) = Object 0
 
 abbrev pub first_contents : List Variable → List Content

@@ -1,6 +1,6 @@
 -- The store: below each root stand contents, which a path reads and writes.
-use Rattle.std.specs.Prelude.{ℕ, zero, suc, List, [], ◌∷◌, ◌++◌, length, nat_lt, Bool, Option, Some, None, slice_get, slice_set, option_and_then, option_map}
-use Rattle.aos_typed.specs.Value.{Value}
+use Rattle.std.specs.Prelude.{ℕ, zero, suc, List, [], ◌∷◌, ◌++◌, length, nat_lt, Bool, Option, Some, None, slice_get, slice_set, option_and_then, pos}
+use Rattle.aos_typed.specs.Value.{Value, Int}
 
 -- what a variable holds: a scalar
 pub data Content : Type 0 where
@@ -38,9 +38,13 @@ has_room s = nat_lt (length s.objects) 16777216
 abbrev pub value_in : Content → Value
 value_in (Scalar v) = v
 
--- what a place holds, where there is such a place
-abbrev pub read_at : Root → ℕ → Store → Option Value
-read_at (ModuleRoot m) i s = option_and_then (λ vs. option_map value_in (slice_get vs i)) (slice_get s.modules m)
+-- what a place holds; a place that isn't there holds some value, and no well-typed program comes to it
+abbrev pub held : Option Content → Value
+held None = Int (pos 0)
+held (Some c) = value_in c
+
+abbrev pub read_at : Root → ℕ → Store → Value
+read_at (ModuleRoot m) i s = held (option_and_then (λ vs. slice_get vs i) (slice_get s.modules m))
 
 abbrev pub put_in : Option (List Content) → ℕ → ℕ → Value → Store → Store
 put_in None m i v s = s
@@ -49,7 +53,7 @@ put_in (Some vs) m i v s = record s { modules = slice_set s.modules m (slice_set
 abbrev pub store_at : Root → ℕ → Value → Store → Store
 store_at (ModuleRoot m) i v s = put_in (slice_get s.modules m) m i v s
 
-abbrev pub read : Spot → Store → Option Value
+abbrev pub read : Spot → Store → Value
 read p s = read_at p.root p.variable s
 
 abbrev pub write : Spot → Value → Store → Store

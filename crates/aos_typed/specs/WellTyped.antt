@@ -1,12 +1,124 @@
--- Programs whose expressions have the types that their places ask for: each operand is an integer, what a loop tests is a
--- truth value, and NEW makes an object of its variable's type.
-use Rattle.std.specs.Prelude.{◌≡◌, ◌≢◌, ℕ, ◌≤◌, ◌<◌, ◌==◌, List, [], ◌∷◌, length, All, Bool, true, false, ◌&&◌, ◌||◌, Option, Some, slice_get, option_map, option_and_then}
+-- Programs whose expressions have the types that their places ask for (Oberon-2 report, 8.2 and 9.1; Reali 2002, section on
+-- basic types): each operator has operands of the types that it takes, an assigned value is of the variable's type, what a
+-- loop tests is a truth value, and NEW makes an object of its variable's type.
+use Rattle.std.specs.Prelude.{◌≡◌, ◌≢◌, ℕ, ℤ, ◌≤◌, ◌<◌, ◌==◌, ◌^◌, nat_le, List, [], ◌∷◌, length, All, Bool, true, false, ◌&&◌, ◌||◌, Option, Some, slice_get, option_map, option_and_then}
 use Rattle.std.specs.List.{AllPairs, list_all}
 use Rattle.std.specs.Char.{is_ascii_digit, is_ascii_alphabetic}
+use Rattle.aos_base.specs.declared.number.Width.{Width}
+use Rattle.aos_base.specs.declared.number.Width.TheVariants.{W8, W16, W32, W64}
+use Rattle.aos_base.specs.declared.number.Relation.{Relation}
+use Rattle.aos_base.specs.declared.number.Relation.TheVariants as relation
+use Rattle.aos_base.specs.declared.operator.Unary.{Unary as UnaryOperator}
+use Rattle.aos_base.specs.declared.operator.Unary.TheVariants.{Neg, Abs, Not, Odd, Cap, Compl, Range}
+use Rattle.aos_base.specs.declared.operator.Binary.{Binary as BinaryOperator}
+use Rattle.aos_base.specs.declared.operator.Binary.TheVariants.{Add, Sub, Mul, Div, Mod, Ash, Cmp, Union, Minus, Meet, Xor, SetSpan, In}
+use Rattle.aos_base.specs.Number.{IsWithin}
+use Rattle.aos_typed.specs.declared.tree.Literal.{Literal}
 use Rattle.aos_typed.specs.declared.tree.Literal.TheVariants as literal
 use Rattle.aos_typed.specs.declared.tree.TType.{TType}
-use Rattle.aos_typed.specs.declared.tree.TType.TheVariants as type
-use Rattle.aos_typed.specs.Program.{Place, ModuleVar, Expr, Lit, Read, Binary, Compare, Call, Int, Ln, Stat, Assign, While, New, Out, Stats, Nothing, Then, Program}
+use Rattle.aos_typed.specs.declared.tree.TType.TheVariants.{Integer, Boolean, Char, Set, Object}
+use Rattle.aos_typed.specs.Program.{Place, ModuleVar, Expr, Lit, Read, Unary, Binary, And, Or, Element, Ord, Chr, Call, Open as OutOpen, Char as OutChar, Int as OutInt, Ln as OutLn, Stat, Assign, While, New, Out, Stats, Nothing, Then, Program}
+
+-- Types.
+
+abbrev pub bits : Width → ℕ
+bits W8 = 8
+bits W16 = 16
+bits W32 = 32
+bits W64 = 64
+
+-- a type has all values of another: an integer type includes those of fewer bits, and each other type itself alone
+abbrev pub includes : TType → TType → Bool
+includes (Integer v) (Integer w) = nat_le (bits w) (bits v)
+includes Boolean Boolean = true
+includes Char Char = true
+includes Set Set = true
+includes (Object t) (Object u) = t == u
+includes _ _ = false
+
+abbrev pub Includes : TType → TType → Type 0
+Includes t u = includes t u ≡ true
+
+-- a literal is of a type
+abbrev pub IsLiteral : Literal → TType → Type 0
+IsLiteral (literal.Int n) (Integer w) = IsWithin w n
+IsLiteral (literal.Bool b) Boolean = Unit {0}
+IsLiteral (literal.Char c) Char = c < 256
+IsLiteral (literal.Set s) Set = s < 2 ^ 32
+IsLiteral _ _ = ⊥
+
+-- all integers from the first of these to the second are of a type
+abbrev pub HasRange : TType → ℤ → ℤ → Type 0
+HasRange (Integer w) low high = IsWithin w low × IsWithin w high
+HasRange _ low high = ⊥
+
+-- Operators: what they take, and what they give.
+
+abbrev pub taken : UnaryOperator → TType
+taken (Neg w) = Integer w
+taken (Abs w) = Integer w
+taken Not = Boolean
+taken Odd = Integer W64
+taken Cap = Char
+taken Compl = Set
+taken (Range low high) = Integer W64
+
+abbrev pub Gives : UnaryOperator → TType → Type 0
+Gives (Neg w) t = Includes t (Integer w)
+Gives (Abs w) t = Includes t (Integer w)
+Gives Not t = t ≡ Boolean
+Gives Odd t = t ≡ Boolean
+Gives Cap t = t ≡ Char
+Gives Compl t = t ≡ Set
+Gives (Range low high) t = HasRange t low high
+
+-- integers and characters have an order; all values of basic types are the same or differ
+abbrev pub is_ordered : TType → Bool
+is_ordered (Integer w) = true
+is_ordered Char = true
+is_ordered _ = false
+
+abbrev pub is_basic : TType → Bool
+is_basic (Object t) = false
+is_basic _ = true
+
+abbrev pub is_compared : Relation → TType → Bool
+is_compared relation.Equal t = is_basic t
+is_compared relation.NotEqual t = is_basic t
+is_compared _ t = is_ordered t
+
+-- an operator takes a left operand, which is of each type of which A says so, and a right one, of which B does
+abbrev pub Takes : BinaryOperator → (TType → Type 0) → (TType → Type 0) → Type 0
+Takes (Add w) A B = A (Integer w) × B (Integer w)
+Takes (Sub w) A B = A (Integer w) × B (Integer w)
+Takes (Mul w) A B = A (Integer w) × B (Integer w)
+Takes (Div w) A B = A (Integer w) × B (Integer w)
+Takes (Mod w) A B = A (Integer w) × B (Integer w)
+Takes (Ash w) A B = A (Integer w) × B (Integer W64)
+Takes (Cmp r) A B = (t : TType) × (is_compared r t ≡ true) × A t × B t
+Takes Union A B = A Set × B Set
+Takes Minus A B = A Set × B Set
+Takes Meet A B = A Set × B Set
+Takes Xor A B = A Set × B Set
+Takes SetSpan A B = A (Integer W64) × B (Integer W64)
+Takes In A B = A (Integer W64) × B Set
+
+abbrev pub GivesOfTwo : BinaryOperator → TType → Type 0
+GivesOfTwo (Add w) t = Includes t (Integer w)
+GivesOfTwo (Sub w) t = Includes t (Integer w)
+GivesOfTwo (Mul w) t = Includes t (Integer w)
+GivesOfTwo (Div w) t = Includes t (Integer w)
+GivesOfTwo (Mod w) t = Includes t (Integer w)
+GivesOfTwo (Ash w) t = Includes t (Integer w)
+GivesOfTwo (Cmp r) t = t ≡ Boolean
+GivesOfTwo Union t = t ≡ Set
+GivesOfTwo Minus t = t ≡ Set
+GivesOfTwo Meet t = t ≡ Set
+GivesOfTwo Xor t = t ≡ Set
+GivesOfTwo SetSpan t = t ≡ Set
+GivesOfTwo In t = t ≡ Boolean
+
+-- Programs.
 
 module _ (p : Program) where
   -- the type of a module's variable, by the numbers of both
@@ -16,31 +128,30 @@ module _ (p : Program) where
   abbrev pub place_type : Place → Option TType
   place_type (ModuleVar m k) = variable_type m k
 
-  -- an expression is an integer
-  abbrev pub IsInteger : Expr → Type 0
-  IsInteger (Lit (literal.Int n)) = Unit {0}
-  IsInteger (Read place) = place_type place ≡ Some type.LongInt
-  IsInteger (Binary op a b) = IsInteger a × IsInteger b
-  IsInteger (Compare relation a b) = ⊥
+  -- each value of an expression is of a type
+  abbrev pub IsOf : Expr → TType → Type 0
+  IsOf (Lit l) t = IsLiteral l t
+  IsOf (Read u place) t = (place_type place ≡ Some u) × Includes t u
+  IsOf (Unary op a) t = IsOf a (taken op) × Gives op t
+  IsOf (Binary op a b) t = Takes op (IsOf a) (IsOf b) × GivesOfTwo op t
+  IsOf (And a b) t = IsOf a Boolean × IsOf b Boolean × (t ≡ Boolean)
+  IsOf (Or a b) t = IsOf a Boolean × IsOf b Boolean × (t ≡ Boolean)
+  IsOf (Element a) t = IsOf a (Integer W64) × (t ≡ Set)
+  IsOf (Ord a) t = IsOf a Char × Includes t (Integer W16)
+  IsOf (Chr a) t = IsOf a (Integer W64) × (t ≡ Char)
 
-  -- an expression is a truth value
-  abbrev pub IsBoolean : Expr → Type 0
-  IsBoolean (Compare relation a b) = IsInteger a × IsInteger b
-  IsBoolean (Lit l) = ⊥
-  IsBoolean (Read place) = ⊥
-  IsBoolean (Binary op a b) = ⊥
-
-  -- what a call of module Out writes is an integer
   abbrev pub IsCall : Call → Type 0
-  IsCall (Int a b) = IsInteger a × IsInteger b
-  IsCall Ln = Unit {0}
+  IsCall OutOpen = Unit {0}
+  IsCall (OutChar e) = IsOf e Char
+  IsCall (OutInt a b) = IsOf a (Integer W64) × IsOf b (Integer W64)
+  IsCall OutLn = Unit {0}
 
   -- a statement is well typed, and so is each of a sequence
   abbrev mutual
     pub IsStatement : Stat → Type 0
-    IsStatement (Assign at place e) = (place_type place ≡ Some type.LongInt) × IsInteger e
-    IsStatement (While at e body) = IsBoolean e × AreStatements body
-    IsStatement (New at place t) = (place_type place ≡ Some (type.Object t)) × (t < length p.objects)
+    IsStatement (Assign at t place e) = (place_type place ≡ Some t) × IsOf e t
+    IsStatement (While at e body) = IsOf e Boolean × AreStatements body
+    IsStatement (New at place t) = (place_type place ≡ Some (Object t)) × (t < length p.objects)
     IsStatement (Out at call) = IsCall call
 
     pub AreStatements : Stats → Type 0

@@ -5,5 +5,5 @@
 pub mod tree;
 
 pub use tree::{
-    Binary, Literal, OutCall, Program, TExpr, TModule, TObject, TPlace, TStat, TType, TVariable,
+    Literal, OutCall, Program, TExpr, TModule, TObject, TPlace, TStat, TType, TVariable,
 };

@@ -1,18 +1,16 @@
 // The typed program.
 
-use aos_base::{Pos, Relation, Width};
+use aos_base::{Binary, Pos, Unary, Width};
 
 /// A value that is written in the text.
 #[derive(Clone, Copy, PartialEq, Eq, Debug)]
 pub enum Literal {
     Int(i64),
-}
-
-/// An operator of two integers: its result is of this width, and outside it the trap 5.
-#[derive(Clone, Copy, PartialEq, Eq, Debug)]
-pub enum Binary {
-    Add(Width),
-    Sub(Width),
+    Bool(bool),
+    /// A character, by its code.
+    Char(u8),
+    /// A set, whose elements are the bits that are 1.
+    Set(u32),
 }
 
 /// A designator: a variable of a module, by the module's number in load order and the variable's number, each from 0.
@@ -25,9 +23,20 @@ pub enum TPlace {
 #[derive(Debug)]
 pub enum TExpr {
     Lit(Literal),
-    Read(TPlace),
+    /// A variable of this type.
+    Read(TType, TPlace),
+    Unary(Unary, Box<TExpr>),
     Binary(Binary, Box<TExpr>, Box<TExpr>),
-    Compare(Relation, Box<TExpr>, Box<TExpr>),
+    /// The second operand is evaluated where the first is TRUE alone.
+    And(Box<TExpr>, Box<TExpr>),
+    /// The second operand is evaluated where the first is FALSE alone.
+    Or(Box<TExpr>, Box<TExpr>),
+    /// The set of one element; trap 14 where that isn't 0 to 31.
+    Element(Box<TExpr>),
+    /// The code of a character.
+    Ord(Box<TExpr>),
+    /// The character of a code; trap 14 where that isn't 0 to 255.
+    Chr(Box<TExpr>),
 }
 
 // A long sum has as many left operands, one in another: it is dropped by a loop, which takes no stack.
@@ -36,12 +45,20 @@ impl Drop for TExpr {
         loop {
             match self {
                 TExpr::Lit(_) => return,
-                TExpr::Read(_) => return,
+                TExpr::Read(_, _) => return,
+                TExpr::Unary(_, operand) => self = Box::into_inner(operand),
+                TExpr::Element(operand) => self = Box::into_inner(operand),
+                TExpr::Ord(operand) => self = Box::into_inner(operand),
+                TExpr::Chr(operand) => self = Box::into_inner(operand),
                 TExpr::Binary(_, left, right) => {
                     drop(right);
                     self = Box::into_inner(left);
                 }
-                TExpr::Compare(_, left, right) => {
+                TExpr::And(left, right) => {
+                    drop(right);
+                    self = Box::into_inner(left);
+                }
+                TExpr::Or(left, right) => {
                     drop(right);
                     self = Box::into_inner(left);
                 }
@@ -53,6 +70,8 @@ impl Drop for TExpr {
 /// A call of a procedure of module Out.
 #[derive(Drop, Debug)]
 pub enum OutCall {
+    Open,
+    Char(TExpr),
     /// The number, and in how many places it stands.
     Int(TExpr, TExpr),
     Ln,
@@ -61,17 +80,21 @@ pub enum OutCall {
 /// A statement, each with its place in the text.
 #[derive(Drop, Debug)]
 pub enum TStat {
-    Assign(Pos, TPlace, TExpr),
+    /// A value for a variable of this type.
+    Assign(Pos, TType, TPlace, TExpr),
     While(Pos, TExpr, Vec<TStat>),
     /// NEW of a variable: an object of this type, by the type's number in the program, whose activity is started.
     New(Pos, TPlace, u32),
     Out(Pos, OutCall),
 }
 
-/// The type of a variable: LONGINT, or an object type by its number in the program, from 0.
+/// The type of a variable: a basic type, or an object type by its number in the program, from 0.
 #[derive(Clone, Copy, PartialEq, Eq, Debug)]
 pub enum TType {
-    LongInt,
+    Integer(Width),
+    Boolean,
+    Char,
+    Set,
     Object(u32),
 }
 

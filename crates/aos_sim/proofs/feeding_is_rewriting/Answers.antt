@@ -2,10 +2,10 @@ use Rattle.aos_sim.proofs.Rewriting.{expression_rewrites, statement_rewrites, as
 use Rattle.aos_sim.proofs.feeding_is_rewriting.Goals as goal
 
 pub returns-clause-expression : goal.returns-clause-expression
-returns-clause-expression c e ls enough = expression_rewrites e ls enough
+returns-clause-expression c e ls asked = expression_rewrites e ls asked
 
 pub returns-clause-statement : goal.returns-clause-statement
-returns-clause-statement c e onward ls enough = statement_rewrites e onward ls enough
+returns-clause-statement c e onward ls asked = statement_rewrites e onward ls asked
 
 pub returns-clause-assignment : goal.returns-clause-assignment
-returns-clause-assignment c at p e ls enough = assignment_rewrites at p e ls enough
+returns-clause-assignment c at t p e ls asked = assignment_rewrites at t p e ls asked

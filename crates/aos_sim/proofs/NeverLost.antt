@@ -1,0 +1,195 @@
+-- No meaning of a program has trap 16, so no execution of an image that shows the program has one.
+use Rattle.std.proofs.Common.{ℕ, zero, suc, ◌<◌, List, [], ◌∷◌, ◌++◌, Bool, true, false, sym, subst, arith}
+use Rattle.std.specs.Prelude.{All, ℤ, pos, int_lt, ◌&&◌, int_le, if◌then◌else◌, Option, Some, None}
+use Rattle.std.specs.Option.{option_zip}
+use Rattle.aos_base.specs.declared.operator.Unary.{Unary as UnaryOperator}
+use Rattle.aos_base.specs.declared.operator.Unary.TheVariants.{Neg, Abs, Not, Odd, Cap, Compl, Range}
+use Rattle.aos_base.specs.declared.operator.Binary.{Binary as BinaryOperator}
+use Rattle.aos_base.specs.declared.operator.Binary.TheVariants.{Add, Sub, Mul, Div, Mod, Ash, Cmp, Union, Minus, Meet, Xor, SetSpan, In}
+use Rattle.aos_base.specs.declared.operator.Given.{Given}
+use Rattle.aos_base.specs.declared.operator.Given.TheVariants.{Number, Trap, Undefined}
+use Rattle.aos_base.specs.Operators.{or_trap, or_undefined, set_of, on_sets, natural, unary as unary_of, binary as binary_of}
+use Rattle.aos_base.specs.Machine.{Choice, execution}
+use Rattle.aos_base.specs.Observation.{Observation, observation}
+use Rattle.aos_base.specs.Question.{Val, Asks, Traps, bind, feed, Reads, Stores, Ends, Makes, Starts, PutsInt, PutsChar, PutsLn, PutsNothing}
+use Rattle.aos_code.specs.declared.image.Image.{Image}
+use Rattle.aos_typed.specs.Program.{Place, ModuleVar, Expr, Lit, Read, Unary, Binary, And, Or, Element, Ord, Chr, Call, Open as OutOpen, Char as OutChar, Int as OutInt, Ln as OutLn, Stat, Assign, While, New, Out, Program}
+use Rattle.aos_typed.specs.Value.{Value, Int, Flag, Char, Set, Object, number_of, Sort, Character, Elements, given, unary_sort, binary_sort, is_true}
+use Rattle.aos_typed.specs.Store.{Store, has_room}
+use Rattle.aos_typed.specs.Meaning.{Question, Doing, Item, Do, place_of, value_of, out_of, stat_of, item_of}
+use Rattle.aos_typed.specs.Source.{Frame, Frames, Turned, settles, written, prints, makes, starts, answer, goes, turn_at, turn, source, first_state, first_store, first_frames}
+use Rattle.aos_sim.specs.Shows.{Shows, NeverLost}
+use Rattle.aos_sim.proofs.Traps.{Leaves, traps_with}
+
+-- the number of a trap of the language
+abbrev IsKnown : ℕ → Type 0
+IsKnown n = n < 16
+
+-- Operators
+
+abbrev Gives : Given → Type 0
+Gives (Number z) = Unit {0}
+Gives (Trap n) = IsKnown n
+Gives Undefined = Unit {0}
+
+trap_gives : (n : ℕ) (o : Option ℤ) → IsKnown n → Gives (or_trap n o)
+trap_gives n None known = known
+trap_gives n (Some z) known = tt
+
+divisor_gives : (positive : Bool) (o : Option ℤ) → Gives (if positive then or_trap 5 o else Trap 6)
+divisor_gives true o = trap_gives 5 o (omega arith)
+divisor_gives false o = omega arith
+
+undefined_gives : {A : Type 0} (o : Option A) (k : A → Given) → ((x : A) → Gives (k x)) → Gives (or_undefined o k)
+undefined_gives None k each = tt
+undefined_gives (Some x) k each = each x
+
+range_gives : (within : Bool) (a : ℤ) → Gives (if within then Number a else Trap 14)
+range_gives true a = tt
+range_gives false a = omega arith
+
+unary_gives : (op : UnaryOperator) (a : ℤ) → Gives (unary_of op a)
+unary_gives (Neg w) a = trap_gives 5 _ (omega arith)
+unary_gives (Abs w) a = trap_gives 5 _ (omega arith)
+unary_gives Not a = undefined_gives (natural 2 a) _ (λ n. tt)
+unary_gives Odd a = tt
+unary_gives Cap a = undefined_gives (natural 256 a) _ (λ n. tt)
+unary_gives Compl a = undefined_gives (set_of a) _ (λ x. tt)
+unary_gives (Range low high) a = range_gives (int_le low a && int_le a high) a
+
+sets_give : (f : ℕ → ℕ → ℕ) (a b : ℤ) → Gives (on_sets f a b)
+sets_give f a b = undefined_gives (option_zip (set_of a) (set_of b)) _ (λ p. tt)
+
+binary_gives : (op : BinaryOperator) (a b : ℤ) → Gives (binary_of op a b)
+binary_gives (Add w) a b = trap_gives 5 _ (omega arith)
+binary_gives (Sub w) a b = trap_gives 5 _ (omega arith)
+binary_gives (Mul w) a b = trap_gives 5 _ (omega arith)
+binary_gives (Div w) a b = divisor_gives (int_lt (pos 0) b) _
+binary_gives (Mod w) a b = divisor_gives (int_lt (pos 0) b) _
+binary_gives (Ash w) a b = trap_gives 5 _ (omega arith)
+binary_gives (Cmp relation) a b = tt
+binary_gives Union a b = sets_give _ a b
+binary_gives Minus a b = sets_give _ a b
+binary_gives Meet a b = sets_give _ a b
+binary_gives Xor a b = sets_give _ a b
+binary_gives SetSpan a b = trap_gives 14 _ (omega arith)
+binary_gives In a b = undefined_gives (set_of b) _ (λ x. trap_gives 14 _ (omega arith))
+
+-- Expressions and statements
+
+-- whatever is answered, it comes to no other trap
+abbrev Comes : {A : Type 0} → Doing A → Type 0
+Comes (Val a) = Unit {0}
+Comes (Asks q f) = (v : Value) → Comes (f v)
+Comes (Traps n c) = IsKnown n
+
+comes_then : {A B : Type 0} (t : Doing A) (k : A → Doing B) → Comes t → ((a : A) → Comes (k a)) → Comes (bind t k)
+comes_then (Val a) k first each = each a
+comes_then (Asks q f) k first each = λ v. comes_then (f v) k (first v) each
+comes_then (Traps n c) k first each = first
+
+comes_fed : {A : Type 0} (vs : List Value) (t : Doing A) → Comes t → Comes (feed vs t)
+comes_fed [] t h = h
+comes_fed (v ∷ vs) (Val a) h = omega arith
+comes_fed (v ∷ vs) (Asks q f) h = comes_fed vs (f v) (h v)
+comes_fed (v ∷ vs) (Traps n c) h = h
+
+given_comes : (s : Sort) (g : Given) → Gives g → Comes (given s g)
+given_comes s (Number z) h = tt
+given_comes s (Trap n) h = h
+given_comes s Undefined h = tt
+
+either_comes : {A : Type 0} (c : Bool) (t u : Doing A) → Comes t → Comes u → Comes (if c then t else u)
+either_comes true t u h k = h
+either_comes false t u h k = k
+
+place_comes : (p : Place) → Comes (place_of p)
+place_comes (ModuleVar m i) = tt
+
+value_comes : (e : Expr) → Comes (value_of e)
+value_comes (Lit l) = tt
+value_comes (Read t p) = comes_then (place_of p) _ (place_comes p) (λ s v. tt)
+value_comes (Unary op a) = comes_then (value_of a) _ (value_comes a) (λ x. given_comes (unary_sort op) _ (unary_gives op (number_of x)))
+value_comes (Binary op a b) =
+    comes_then (value_of a) _ (value_comes a) (λ x. comes_then (value_of b) _ (value_comes b) (λ y. given_comes (binary_sort op) _ (binary_gives op (number_of x) (number_of y))))
+value_comes (And a b) =
+    comes_then (value_of a) _ (value_comes a) (λ x. either_comes (is_true x) (value_of b) (Val (Flag false)) (value_comes b) tt)
+value_comes (Or a b) =
+    comes_then (value_of a) _ (value_comes a) (λ x. either_comes (is_true x) (Val (Flag true)) (value_of b) tt (value_comes b))
+value_comes (Element a) = comes_then (value_of a) _ (value_comes a) (λ x. given_comes Elements _ (binary_gives SetSpan (number_of x) (number_of x)))
+value_comes (Ord a) = comes_then (value_of a) _ (value_comes a) (λ x. tt)
+value_comes (Chr a) = comes_then (value_of a) _ (value_comes a) (λ x. given_comes Character _ (unary_gives (Range (pos 0) (pos 255)) (number_of x)))
+
+out_comes : (call : Call) → Comes (out_of call)
+out_comes OutOpen = λ v. tt
+out_comes (OutChar e) = comes_then (value_of e) _ (value_comes e) (λ x v. tt)
+out_comes (OutInt e n) = comes_then (value_of e) _ (value_comes e) (λ x. comes_then (value_of n) _ (value_comes n) (λ y v. tt))
+out_comes OutLn = λ v. tt
+
+stat_comes : (s : Stat) → Comes (stat_of s)
+stat_comes (Assign at t p e) = comes_then (place_of p) _ (place_comes p) (λ s. comes_then (value_of e) _ (value_comes e) (λ x v. tt))
+stat_comes (While at e body) = comes_then (value_of e) _ (value_comes e) (λ x. tt)
+stat_comes (New at p t) = comes_then (place_of p) _ (place_comes p) (λ s o v w. tt)
+stat_comes (Out at call) = out_comes call
+
+item_comes : (i : Item) → Comes (item_of i)
+item_comes (Do s) = stat_comes s
+
+-- Turns
+
+abbrev Known : Turned → Type 0
+Known t = Leaves IsKnown t.left
+
+settles_known : (is : List Item) (f : Frame) (fs : Frames) (s : Store) → Known (settles is f fs s)
+settles_known [] f fs s = tt
+settles_known (Do st ∷ is) f fs s = tt
+
+prints_known : (bytes : Option (List ℕ)) (f : Frame) (fs : Frames) (s : Store) → Known (prints bytes f fs s)
+prints_known None f fs s = omega arith
+prints_known (Some bytes) f fs s = tt
+
+makes_known : (room : Bool) (t : ℕ) (f : Frame) (fs : Frames) (s : Store) → Known (makes room t f fs s)
+makes_known true t f fs s = tt
+makes_known false t f fs s = omega arith
+
+starts_known : (v : Value) (f : Frame) (fs : Frames) (s : Store) → Known (starts v f fs s)
+starts_known (Object zero) f fs s = tt
+starts_known (Object (suc k)) f fs s = tt
+starts_known (Int z) f fs s = tt
+starts_known (Flag b) f fs s = tt
+starts_known (Char c) f fs s = tt
+starts_known (Set x) f fs s = tt
+
+answer_known : (q : Question) (f : Frame) (fs : Frames) (s : Store) → Known (answer q f fs s)
+answer_known (Reads p) f fs s = tt
+answer_known (Stores p v) f fs s = tt
+answer_known (Ends result) f fs s = tt
+answer_known (Makes t) f fs s = makes_known (has_room s) t f fs s
+answer_known (Starts v) f fs s = starts_known v f fs s
+answer_known (PutsInt v n) f fs s = prints_known (written v n) f fs s
+answer_known (PutsChar v) f fs s = tt
+answer_known PutsNothing f fs s = tt
+answer_known PutsLn f fs s = tt
+
+goes_known : (d : Doing (List Item)) (rest : List Item) (f : Frame) (fs : Frames) (s : Store) → Comes d → Known (goes d rest f fs s)
+goes_known (Val is) rest f fs s h = settles_known (is ++ rest) f fs s
+goes_known (Asks q k) rest f fs s h = answer_known q f fs s
+goes_known (Traps n c) rest f fs s h = h
+
+turn_at_known : (answers : Option (List Value)) (is : List Item) (f : Frame) (fs : Frames) (s : Store) → Known (turn_at answers is f fs s)
+turn_at_known None is f fs s = settles_known is f fs s
+turn_at_known (Some vs) [] f fs s = tt
+turn_at_known (Some vs) (i ∷ is) f fs s = goes_known (feed vs (item_of i)) is f fs s (comes_fed vs (item_of i) (item_comes i))
+
+turn_known : (s : Store) (fs : Frames) → Known (turn s fs)
+turn_known s [] = tt
+turn_known s (f ∷ fs) = turn_at_known f.answers f.items f fs s
+
+source_traps : (p : Program) (budget : ℕ) (cs : List Choice) → All (λ t. t.number < 16) (observation (source p) (execution (source p) cs (first_state p budget))).traps
+unfolding observation
+source_traps p budget cs =
+    traps_with IsKnown (source p) (omega arith) (omega arith) (record { turn = turn_known; verdict = λ s f c. tt }) (first_store p) (first_frames p) budget cs
+
+pub never_lost : (p : Program) (image : Image) → Shows p image → NeverLost image
+never_lost p image shows budget cs =
+    subst (λ (o : Observation). All (λ t. t.number < 16) o.traps) (sym (shows.observation budget cs)) (source_traps p budget cs)
