@@ -1,7 +1,9 @@
--- Headings that break no rule leave an environment in which each type that has a name is told, and each variable has a type.
-use Rattle.std.proofs.Common.{◌≡◌, ℕ, zero, suc, ◌+◌, ◌<◌, ◌≤◌, ◌==◌, ◌⊎◌, inl, inr, List, [], ◌∷◌, ◌++◌, length, Bool, true, false, ◌||◌, Option, Some, None, is_some, option_map, option_and_then, slice_get, slice_set, refl, sym, ap, ◌∙◌, subst, eq-eqb, arith, length-append, length-set, if◌then◌else◌}
+-- Headings that break no rule leave an environment in which each type that has a name is told, each variable has a type, and
+-- each constant has a value that is good.
+use Rattle.std.proofs.Common.{◌≡◌, ℕ, zero, suc, ◌+◌, ◌<◌, ◌≤◌, ◌==◌, ◌⊎◌, inl, inr, List, [], ◌∷◌, ◌++◌, length, Bool, true, false, ◌||◌, Option, Some, None, is_some, option_map, option_and_then, slice_get, slice_set, refl, sym, ap, ◌∙◌, subst, subst₂, eq-eqb, arith, length-append, length-set, if◌then◌else◌}
 use Rattle.std.specs.Option.{option_or}
 use Rattle.std.specs.List.{flat_map}
+use Rattle.std.proofs.lemmas.Bool.{eqb-false}
 use Rattle.std.proofs.lemmas.Option.{none-some, same_Some}
 use Rattle.aos_base.specs.declared.text.Pos.{Pos}
 use Rattle.aos_tree.specs.declared.name.Name.{Name}
@@ -10,11 +12,14 @@ use Rattle.aos_tree.specs.declared.decl.Decl.{Decl, items-the_row-TypeDef, items
 use Rattle.aos_tree.specs.declared.decl.Decl.TheVariants as decl
 use Rattle.aos_tree.specs.declared.decl.TypeDef.{TypeDef}
 use Rattle.aos_tree.specs.declared.decl.VarDef.{VarDef}
+use Rattle.aos_tree.specs.declared.decl.ConstDef.{ConstDef}
 use Rattle.aos_tree.specs.declared.decl.TypeExpr.{TypeExpr}
 use Rattle.aos_tree.specs.declared.decl.TypeExpr.TheVariants as type
 use Rattle.aos_types.specs.declared.row.TypeId.{TypeId}
 use Rattle.aos_types.specs.declared.row.TypeRow.{TypeRow}
 use Rattle.aos_types.specs.declared.row.TypeRow.TheVariants as row
+use Rattle.aos_typed.specs.declared.tree.Literal.{Literal}
+use Rattle.aos_symbols.specs.declared.scope.Constant.{Constant}
 use Rattle.aos_symbols.specs.declared.scope.Entry.{Entry}
 use Rattle.aos_symbols.specs.declared.scope.Meaning.{Meaning}
 use Rattle.aos_symbols.specs.declared.scope.Meaning.TheVariants as means
@@ -32,8 +37,10 @@ use Rattle.aos_symbols.specs.Entries.{is_alias}
 use Rattle.aos_symbols.specs.Env as env
 use Rattle.aos_symbols.proofs.Each.{Each, joined, front, back, implied}
 use Rattle.aos_symbols.proofs.Holds.{Holds, holds_bind, broken}
-use Rattle.aos_symbols.proofs.Lookups.{IsPredeclared, a_type, a_procedure, another, IsOfAll, lookup_is, member_is}
-use Rattle.aos_symbols.proofs.Told.{IsTold, IsKnown, GoOn, told_set, newly_told}
+use Rattle.aos_symbols.proofs.Lookups.{IsPredeclared, a_type, a_truth, a_function, a_procedure, a_proper, another, IsOfAll, lookup_is, member_is}
+use Rattle.aos_symbols.proofs.Told.{IsTold, basic, IsKnown, GoOn, told_set, newly_told}
+use Rattle.aos_check_expr.specs.Expressions.{constant}
+use Rattle.aos_check_expr.proofs.Typing.{HasGood, GoodConstants, constant_good}
 use Rattle.aos_check_decl.specs.Headings as judge
 use Rattle.aos_check_decl.specs.Headings.{slot_meant, slot_in, alias_breaches}
 
@@ -50,12 +57,13 @@ pub record Start : Type 0 where
 
 -- what its declarations change
 pub record Tables : Type 0 where
+  pub constants : List Constant
   pub variables : List (Option TypeId)
   pub types : List TypeRow
   pub broken : List Bool
 
 abbrev pub scope_with : Start → Tables → Scope
-scope_with c a = record { entries = c.own.entries; constants = c.own.constants; variables = a.variables }
+scope_with c a = record { entries = c.own.entries; constants = a.constants; variables = a.variables }
 
 abbrev pub reached : Start → Tables → Env
 reached c a =
@@ -69,13 +77,17 @@ reached c a =
     }
 
 abbrev pub begun : Start → Tables
-begun c = record { variables = c.own.variables; types = c.types; broken = c.broken }
+begun c = record { constants = c.own.constants; variables = c.own.variables; types = c.types; broken = c.broken }
 
--- the types that the scopes of the modules before name are told, and LONGINT is
+abbrev pub AreGood : List Constant → Type 0
+AreGood cs = Each (λ x. HasGood x.value) cs
+
+-- the types that the scopes of the modules before name are told, and the constants of all scopes but the own one are good
 pub record IsReady (c : Start) : Type 0 where
   pub names : (m : ℕ) (h : Home) (s : Scope) (w : List ℕ) (x : Entry) (of : Option TypeId) → slice_get c.before m ≡ Some h →
       slice_get h.scopes 0 ≡ Some s → find s w ≡ Some x → x.means ≡ means.Type of → IsKnown c.types c.broken of
-  pub longint : IsTold c.types c.broken env.longint
+  pub before : (m : ℕ) (h : Home) (k : ℕ) (s : Scope) → slice_get c.before m ≡ Some h → slice_get h.scopes k ≡ Some s → AreGood s.constants
+  pub inner : (k : ℕ) (s : Scope) → slice_get c.inner k ≡ Some s → AreGood s.constants
   pub beside : length c.broken ≡ length c.types
 
 module _ (c : Start) where
@@ -94,6 +106,7 @@ module _ (c : Start) where
       × ((x : Entry) (t : TypeId) → find c.own (word c.text d.def.name) ≡ Some x → slot_meant x.means ≡ Some t → IsTold a.types a.broken t)
 
   pub record IsFit (a : Tables) : Type 0 where
+    pub good : AreGood a.constants
     pub named : Each IsNamed a.variables
     pub types : length a.types ≡ length c.types
     pub broken : length a.broken ≡ length c.types
@@ -110,19 +123,34 @@ module _ (c : Start) where
 no_type : {t : TypeId} → None ≡ Some t → ⊥
 no_type e = cc
 
--- of what is predeclared LONGINT alone is a type
-type_only : (m : Meaning) → IsPredeclared m → (of : Option TypeId) → m ≡ means.Type of → Some env.longint ≡ of
-type_only m a_type of e = same of e
+basic_below : (n : ℕ) → n ≤ 8 → (n ≡ 7 → ⊥) → (n ≡ 8 → ⊥) → n < 7
+basic_below n le not_nil not_any = omega (arith, not_nil, not_any)
+
+-- the types that are predeclared are told, but for ANY
+predeclared_told : (ts : List TypeRow) (bs : List Bool) (m : Meaning) → IsPredeclared m → (of : Option TypeId) → m ≡ means.Type of → judge.is_any of ≡ false → IsKnown ts bs of
+predeclared_told ts bs m (a_type t le other) of e not_any = subst (IsKnown ts bs) (same of e) (basic (basic_below t.0 le other (eqb-false t.0 8 (ap judge.is_any (same of e) ∙ not_any))))
   where
-    same : (of : Option TypeId) → means.Type (Some env.longint) ≡ means.Type of → Some env.longint ≡ of
+    same : (of : Option TypeId) → means.Type (Some t) ≡ means.Type of → Some t ≡ of
     same of e = cc
-type_only m a_procedure of e = no_new of e
+predeclared_told ts bs m (a_truth b) of e not_any = absurd (no_truth of e)
   where
-    no_new : (of : Option TypeId) → means.New ≡ means.Type of → Some env.longint ≡ of
+    no_truth : (of : Option TypeId) → means.Truth b ≡ means.Type of → ⊥
+    no_truth of e = cc
+predeclared_told ts bs m (a_function f) of e not_any = absurd (no_function of e)
+  where
+    no_function : (of : Option TypeId) → means.Function f ≡ means.Type of → ⊥
+    no_function of e = cc
+predeclared_told ts bs m a_procedure of e not_any = absurd (no_new of e)
+  where
+    no_new : (of : Option TypeId) → means.New ≡ means.Type of → ⊥
     no_new of e = cc
-type_only m another of e = no_other of e
+predeclared_told ts bs m a_proper of e not_any = absurd (no_proper of e)
   where
-    no_other : (of : Option TypeId) → means.Other ≡ means.Type of → Some env.longint ≡ of
+    no_proper : (of : Option TypeId) → means.Proper ≡ means.Type of → ⊥
+    no_proper of e = cc
+predeclared_told ts bs m another of e not_any = absurd (no_other of e)
+  where
+    no_other : (of : Option TypeId) → means.Other ≡ means.Type of → ⊥
     no_other of e = cc
 
 flat_none : {X Y : Type 0} (xs : List X) → flat_map (λ (x : X). let none : List Y = [] in none) xs ≡ []
@@ -140,14 +168,14 @@ module _ (c : Start) (ready : IsReady c) where
   IsOwn o = o.scope ≡ 0
 
   abbrev Names : Symbol → Type 0
-  Names x = (of : Option TypeId) → x.means ≡ means.Type of → IsNamed c of
+  Names x = (of : Option TypeId) → x.means ≡ means.Type of → judge.is_any of ≡ false → IsNamed c of
 
   abbrev MayName : Lookup → Type 0
   MayName l = (x : Symbol) → l ≡ Found x → Names x
 
   module _ (a : Tables) where
     entries_named : (o : Open) (s : Scope) (w : List ℕ) (x : Entry) → IsOwn o → env.scope (reached c a) o ≡ Some s → find s w ≡ Some x → Names (env.declared_at o x)
-    entries_named o s w x own there is of means =
+    entries_named o s w x own there is of means not_any =
         by_home (o.home == c.number) (ap (λ k. option_and_then (λ h. slice_get h.scopes k) (env.home (reached c a) o.home)) (sym own) ∙ there)
       where
         by_before : (h : Option Home) → slice_get c.before o.home ≡ h → option_and_then (λ h. slice_get h.scopes 0) h ≡ Some s → IsNamed c of
@@ -161,7 +189,7 @@ module _ (c : Start) (ready : IsReady c) where
     all_named : IsOfAll (reached c a) IsOwn Names
     all_named = record {
       entries = entries_named;
-      others = λ m is of means. inl (subst (IsKnown c.types c.broken) (type_only m is of means) ready.longint);
+      others = λ m is of means not_any. inl (predeclared_told c.types c.broken m is of means not_any);
     }
 
     lookup_named : (n : Name) → MayName (env.lookup (reached c a) n)
@@ -172,20 +200,28 @@ module _ (c : Start) (ready : IsReady c) where
 
   -- The types of variables.
 
-  type_meant_sound : (m : Meaning) → ((of : Option TypeId) → m ≡ means.Type of → IsNamed c of) → (at : Pos) → Holds (IsNamed c) (judge.type_meant m at)
-  type_meant_sound (means.Type of) named at = λ h. named of refl
+  type_meant_sound : (m : Meaning) → ((of : Option TypeId) → m ≡ means.Type of → judge.is_any of ≡ false → IsNamed c of) → (at : Pos) →
+      Holds (IsNamed c) (judge.type_meant m at)
+  type_meant_sound (means.Type of) named at = by (judge.is_any of) refl
+    where
+      by : (b : Bool) → judge.is_any of ≡ b → Holds (IsNamed c) (if b then judge.no_type 99 at else kept of)
+      by true any = broken (IsNamed c) _ [] _
+      by false not_any = λ h. named of refl not_any
   type_meant_sound (means.Constant k) named at = broken (IsNamed c) _ [] _
   type_meant_sound (means.Variable k) named at = broken (IsNamed c) _ [] _
   type_meant_sound (means.Procedure k) named at = broken (IsNamed c) _ [] _
   type_meant_sound (means.Module k) named at = broken (IsNamed c) _ [] _
   type_meant_sound means.Out named at = broken (IsNamed c) _ [] _
+  type_meant_sound (means.Truth b) named at = broken (IsNamed c) _ [] _
+  type_meant_sound (means.Function f) named at = broken (IsNamed c) _ [] _
   type_meant_sound means.New named at = broken (IsNamed c) _ [] _
+  type_meant_sound means.Proper named at = broken (IsNamed c) _ [] _
   type_meant_sound means.Other named at = broken (IsNamed c) _ [] _
 
   type_found_sound : (l : Lookup) → MayName l → (at : Pos) → Holds (IsNamed c) (judge.type_found l at)
   type_found_sound Unknown named at = broken (IsNamed c) _ [] _
   type_found_sound NotExported named at = broken (IsNamed c) _ [] _
-  type_found_sound (Found x) named at = type_meant_sound x.means (λ of is. named x refl of is) at
+  type_found_sound (Found x) named at = type_meant_sound x.means (λ of is not_any. named x refl of is not_any) at
 
   in_module_sound : (a : Tables) (m : Meaning) (at : Pos) (n : Name) → Holds (IsNamed c) (judge.type_in_module (reached c a) m at n)
   in_module_sound a (means.Module m) at n = type_found_sound (env.member (reached c a) m n) (member_named a m n) n.pos
@@ -194,7 +230,10 @@ module _ (c : Start) (ready : IsReady c) where
   in_module_sound a (means.Constant k) at n = broken (IsNamed c) _ [] _
   in_module_sound a (means.Variable k) at n = broken (IsNamed c) _ [] _
   in_module_sound a (means.Procedure k) at n = broken (IsNamed c) _ [] _
+  in_module_sound a (means.Truth b) at n = broken (IsNamed c) _ [] _
+  in_module_sound a (means.Function f) at n = broken (IsNamed c) _ [] _
   in_module_sound a means.New at n = broken (IsNamed c) _ [] _
+  in_module_sound a means.Proper at n = broken (IsNamed c) _ [] _
   in_module_sound a means.Other at n = broken (IsNamed c) _ [] _
 
   qualified_sound : (a : Tables) (l : Lookup) (at : Pos) (n : Name) → Holds (IsNamed c) (judge.qualified_type (reached c a) l at n)
@@ -238,8 +277,49 @@ module _ (c : Start) (ready : IsReady c) where
       (λ of is h. record {
         behind = record a { variables = longer a.variables (length v.defs) of };
         is = longer_is a (length v.defs) of;
-        fit = record { named = longer_named (length v.defs) of is a.variables fit.named; types = fit.types; broken = fit.broken };
+        fit = record {
+          good = fit.good;
+          named = longer_named (length v.defs) of is a.variables fit.named;
+          types = fit.types;
+          broken = fit.broken;
+        };
         more = longer_length (length v.defs) of a.variables;
+        goes_on = λ t told. told;
+        done = tt;
+      })
+
+  -- The values of constants.
+
+  pub good_constants : (a : Tables) → IsFit c a → GoodConstants (reached c a)
+  good_constants a fit o s there = by_home (o.home == c.number) there
+    where
+      by_before : (h : Option Home) → slice_get c.before o.home ≡ h → option_and_then (λ h. slice_get h.scopes o.scope) h ≡ Some s → AreGood s.constants
+      by_before None at there = absurd (none-some s there)
+      by_before (Some h) at there = ready.before o.home h o.scope s at there
+
+      by_own : (k : ℕ) → slice_get (scope_with c a ∷ c.inner) k ≡ Some s → AreGood s.constants
+      by_own zero there = subst (λ (z : Scope). AreGood z.constants) (same_Some (scope_with c a) s there) fit.good
+      by_own (suc k) there = ready.inner k s there
+
+      by_home : (b : Bool) → option_and_then (λ h. slice_get h.scopes o.scope) (if b then Some (reached c a).here else slice_get c.before o.home) ≡ Some s → AreGood s.constants
+      by_home true there = by_own o.scope there
+      by_home false there = by_before (slice_get c.before o.home) refl there
+
+  constant_def_sound : (a : Tables) → IsFit c a → (d : ConstDef) → Holds (IsBehind c a [] []) (judge.constant_def (reached c a) d)
+  constant_def_sound a fit d =
+      let one = λ (v : Option Literal). let k : Constant = record { at = d.def.name.pos; value = v } in k in
+      holds_bind HasGood (IsBehind c a [] []) (constant (reached c a) d.value) (λ v. kept (judge.with_constant (reached c a) d.def.name.pos v))
+      (constant_good (reached c a) (good_constants a fit) d.value)
+      (λ v is h. record {
+        behind = record a { constants = a.constants ++ one v ∷ [] };
+        is = refl;
+        fit = record {
+          good = joined (λ (x : Constant). HasGood x.value) a.constants (one v ∷ []) fit.good (is, tt);
+          named = fit.named;
+          types = fit.types;
+          broken = fit.broken;
+        };
+        more = omega arith;
         goes_on = λ t told. told;
         done = tt;
       })
@@ -256,14 +336,14 @@ module _ (c : Start) (ready : IsReady c) where
   abbrev IsRow : TypeExpr → Option TypeRow → Type 0
   IsRow t r = (is_alias t ≡ false) × (r ≡ Some (row.Object None []))
 
-  alias_broken : (t : TypeExpr) (l : Lookup) (at : Pos) → Holds (IsRow t) (judge.no_row (alias_breaches l at))
-  alias_broken t Unknown at = broken (IsRow t) _ [] _
-  alias_broken t NotExported at = broken (IsRow t) _ [] _
-  alias_broken t (Found x) at = broken (IsRow t) _ [] _
+  alias_broken : (t : TypeExpr) (n : Option Name) (l : Lookup) (at : Pos) → Holds (IsRow t) (judge.no_row (alias_breaches n l at))
+  alias_broken t n Unknown at = broken (IsRow t) _ [] _
+  alias_broken t n NotExported at = broken (IsRow t) _ [] _
+  alias_broken t n (Found x) at = broken (IsRow t) _ [] _
 
   row_sound : (a : Tables) (t : TypeExpr) → Holds (IsRow t) (judge.defined_row (reached c a) t)
   row_sound a (type.Object' p base shape row body end) = λ h. (refl, refl)
-  row_sound a (type.Named q) = alias_broken (type.Named q) (env.lookup (reached c a) q.first) q.first.pos
+  row_sound a (type.Named q) = alias_broken (type.Named q) q.second (env.lookup (reached c a) q.first) q.first.pos
   row_sound a (type.Array' p lengths shape row) = broken (IsRow (type.Array' p lengths shape row)) _ [] _
   row_sound a (type.Record' p base shape row) = broken (IsRow (type.Record' p base shape row)) _ [] _
   row_sound a (type.Pointer' p shape row) = broken (IsRow (type.Pointer' p shape row)) _ [] _
@@ -297,7 +377,7 @@ module _ (c : Start) (ready : IsReady c) where
           record {
             behind = record a { types = types'; broken = broken' };
             is = refl;
-            fit = record { named = fit.named; types = length-set a.types t.0 (row.Object None []) ∙ fit.types; broken = length-set a.broken t.0 false ∙ fit.broken };
+            fit = record { good = fit.good; named = fit.named; types = length-set a.types t.0 (row.Object None []) ∙ fit.types; broken = length-set a.broken t.0 false ∙ fit.broken };
             more = omega arith;
             goes_on = told_set a.types a.broken t range.0;
             done = (
@@ -346,7 +426,10 @@ module _ (c : Start) (ready : IsReady c) where
           (λ h. both a (vs x) (flat_map vs xs) (ds x) (flat_map ds xs) e (walk step (reached c one.behind) xs).answer one (rest h))
 
   declared_sound : (a : Tables) → IsFit c a → (d : Decl) → Each (IsListed c) (types_in d) → Holds (IsBehind c a (singles_in d) (types_in d)) (judge.declared (reached c a) d)
-  declared_sound a fit (decl.Consts p cs) listed = broken (IsBehind c a [] []) _ [] _
+  declared_sound a fit (decl.Consts p cs) listed =
+      subst₂ (λ (vs : List Def) (es : List TypeDef). Holds (IsBehind c a vs es) (walk judge.constant_def (reached c a) cs))
+      (flat_none {X = ConstDef} {Y = Def} cs) (flat_none {X = ConstDef} {Y = TypeDef} cs)
+      (walked judge.constant_def (λ k. []) (λ k. []) (λ a fit k listed. constant_def_sound a fit k) cs (subst (Each (IsListed c)) (sym (flat_none {X = ConstDef} {Y = TypeDef} cs)) tt) a fit)
   declared_sound a fit (decl.Types' p shape row) listed =
       let ds = items-the_row-TypeDef _ row in
       subst (λ (vs : List Def). Holds (IsBehind c a vs ds) (walk judge.type_def (reached c a) ds)) (flat_none {X = TypeDef} {Y = Def} ds)

@@ -1,6 +1,6 @@
 -- The second pass: constants, types and headings, and the environment behind them. What isn't built is refused by rule 99, a
 -- declaration or type at its first token; nothing behind that in it is looked at.
-use Rattle.std.specs.Prelude.{ℕ, zero, suc, List, [], ◌++◌, length, replicate, Bool, true, false, Option, Some, None, slice_set, if◌then◌else◌}
+use Rattle.std.specs.Prelude.{ℕ, zero, suc, List, [], ◌++◌, length, replicate, Bool, true, false, ◌==◌, Option, Some, None, slice_set, if◌then◌else◌}
 use Rattle.std.specs.List.{flat_map, list_any}
 use Rattle.std.specs.Option.{is_none}
 use Rattle.aos_base.specs.declared.text.Pos.{Pos}
@@ -11,6 +11,8 @@ use Rattle.aos_tree.specs.declared.decl.Decl.{Decl, items-the_row-TypeDef, items
 use Rattle.aos_tree.specs.declared.decl.Decl.TheVariants as decl
 use Rattle.aos_tree.specs.declared.decl.TypeDef.{TypeDef}
 use Rattle.aos_tree.specs.declared.decl.VarDef.{VarDef}
+use Rattle.aos_tree.specs.declared.decl.ConstDef.{ConstDef}
+use Rattle.aos_typed.specs.declared.tree.Literal.{Literal}
 use Rattle.aos_tree.specs.declared.decl.TypeExpr.{TypeExpr}
 use Rattle.aos_tree.specs.declared.decl.TypeExpr.TheVariants as type
 use Rattle.aos_types.specs.declared.row.TypeId.{TypeId}
@@ -25,8 +27,9 @@ use Rattle.aos_symbols.specs.declared.env.Env.{Env}
 use Rattle.aos_symbols.specs.Breaches.{breach, breach_unless, not_built}
 use Rattle.aos_symbols.specs.Judged.{Judged, judged, kept, bind, walk}
 use Rattle.aos_symbols.specs.Spelling.{word, is_among, is_active, procedures_of_out}
-use Rattle.aos_symbols.specs.Home.{add_variable}
+use Rattle.aos_symbols.specs.Home.{add_variable, add_constant}
 use Rattle.aos_symbols.specs.Env as env
+use Rattle.aos_check_expr.specs.Expressions.{constant}
 
 -- where a declaration begins
 abbrev pub decl_place : Decl → Pos
@@ -38,14 +41,18 @@ decl_place (decl.Proc' p i def formals shape row body end) = p
 abbrev pub refused_decl : Decl → List Breach
 refused_decl d = not_built (decl_place d)
 
--- Types that are named.
+-- Types that are named; ANY isn't built.
+
+abbrev pub is_any : Option TypeId → Bool
+is_any None = false
+is_any (Some t) = t.0 == env.any.0
 
 abbrev pub no_type : ℕ → Pos → Judged (Option TypeId)
 no_type rule at = judged (breach rule at) None
 
 abbrev pub type_meant : Meaning → Pos → Judged (Option TypeId)
-type_meant (means.Type of) at = kept of
-type_meant m at = no_type 99 at
+type_meant (means.Type of) at = if is_any of then no_type 99 at else kept of
+type_meant m at = no_type 16 at
 
 abbrev pub type_found : Lookup → Pos → Judged (Option TypeId)
 type_found Unknown at = no_type 14 at
@@ -54,12 +61,12 @@ type_found (Found x) at = type_meant x.means at
 
 -- Out has no types
 abbrev pub type_of_out : List ℕ → Name → Judged (Option TypeId)
-type_of_out text n = no_type (if is_among procedures_of_out (word text n) then 99 else 14) n.pos
+type_of_out text n = no_type (if is_among procedures_of_out (word text n) then 16 else 14) n.pos
 
 abbrev pub type_in_module : Env → Meaning → Pos → Name → Judged (Option TypeId)
 type_in_module e (means.Module m) at n = type_found (env.member e m n) n.pos
 type_in_module e means.Out at n = type_of_out e.here.text n
-type_in_module e m at n = no_type 99 at
+type_in_module e m at n = no_type 16 at
 
 abbrev pub qualified_type : Env → Lookup → Pos → Name → Judged (Option TypeId)
 qualified_type e Unknown at n = no_type 14 at
@@ -88,11 +95,18 @@ abbrev pub has_active : List ℕ → Option Block → Bool
 has_active text None = false
 has_active text (Some b) = list_any (is_active text) b.modifiers
 
--- a name for another type isn't built; rule 14 where it stands for nothing
-abbrev pub alias_breaches : Lookup → Pos → List Breach
-alias_breaches Unknown at = breach 14 at
-alias_breaches NotExported at = breach 15 at
-alias_breaches (Found x) at = not_built at
+-- a name for another type isn't built; what stands for something else than a type, or than a module with a name behind it, is
+-- of another kind
+abbrev pub alias_rule : Option Name → Meaning → ℕ
+alias_rule None (means.Type of) = 99
+alias_rule (Some n) (means.Module m) = 99
+alias_rule (Some n) means.Out = 99
+alias_rule n m = 16
+
+abbrev pub alias_breaches : Option Name → Lookup → Pos → List Breach
+alias_breaches n Unknown at = breach 14 at
+alias_breaches n NotExported at = breach 15 at
+alias_breaches n (Found x) at = breach (alias_rule n x.means) at
 
 abbrev pub no_row : List Breach → Judged (Option TypeRow)
 no_row bs = judged bs None
@@ -101,7 +115,7 @@ abbrev pub defined_row : Env → TypeExpr → Judged (Option TypeRow)
 defined_row e (type.Object' p base shape decls body end) =
     judged (breach_unless (is_none base) 99 p ++ breach_unless (has_active e.here.text body) 99 p ++ flat_map refused_decl (items-the_row-Decl _ decls))
     (Some (row.Object None []))
-defined_row e (type.Named q) = no_row (alias_breaches (env.lookup e q.first) q.first.pos)
+defined_row e (type.Named q) = no_row (alias_breaches q.second (env.lookup e q.first) q.first.pos)
 defined_row e (type.Array' p lengths shape row) = no_row (not_built p)
 defined_row e (type.Record' p base shape row) = no_row (not_built p)
 defined_row e (type.Pointer' p shape row) = no_row (not_built p)
@@ -142,8 +156,15 @@ with_variables e (suc n) of = with_variables (with_variable e of) n of
 abbrev pub variable_def : Env → VarDef → Judged Env
 variable_def e v = bind (variable_type e v.of) (λ of. kept (with_variables e (length v.defs) of))
 
+-- a constant, with its value where its expression is constant and breaks no rule
+abbrev pub with_constant : Env → Pos → Option Literal → Env
+with_constant e at v = record e { here = add_constant e.here 0 (record { at = at; value = v }) }
+
+abbrev pub constant_def : Env → ConstDef → Judged Env
+constant_def e d = bind (constant e d.value) (λ v. kept (with_constant e d.def.name.pos v))
+
 abbrev pub declared : Env → Decl → Judged Env
-declared e (decl.Consts p cs) = judged (not_built p) e
+declared e (decl.Consts p cs) = walk constant_def e cs
 declared e (decl.Types' p shape row) = walk type_def e (items-the_row-TypeDef _ row)
 declared e (decl.Vars' p shape row) = walk variable_def e (items-the_row-VarDef _ row)
 declared e (decl.Proc' p i def formals shape row body end) = judged (not_built p) e

@@ -7,8 +7,9 @@ ghost use Rattle.aos_check_decl.specs.Headings as judge;
 
 use crate::types::{defined_row, variable_type};
 use aos_base::NoMemory;
-use aos_symbols::{Breach, Env, Lookup, Meaning, NOT_BUILT, note};
-use aos_tree::{Decl, Items, TypeDef, VarDef};
+use aos_check_expr::constant;
+use aos_symbols::{Breach, Constant, Env, Lookup, Meaning, NOT_BUILT, note};
+use aos_tree::{ConstDef, Decl, Items, TypeDef, VarDef};
 use aos_types::{TypeId, TypeRow};
 use std::alloc::Global;
 use std::mem;
@@ -69,6 +70,41 @@ fn slot_in(lookup: Lookup) -> Option<TypeId>
         },
         _ => None,
     }
+}
+
+/// A constant, with its value where its expression is constant and breaks no rule.
+#[tactic(auto, using(aos_symbols::proofs::Keeping::after_more))]
+fn constant_def(
+    alloc: Global,
+    found: &mut Option<Breach>,
+    env: &mut Env<'_>,
+    def: &ConstDef,
+) -> Result<(), NoMemory>
+    ensures noted { OnOk result (found.new ≡
+        first_after found.old (judge.constant_def env.old def.now).breaches) }
+    ensures env { OnOk result (env.new ≡ (judge.constant_def env.old def.now).answer) }
+{
+    let value = constant(alloc, found, env, &def.value)?;
+    let at = def.def.name.pos;
+    env.here.add_constant(0, Constant { at, value })?;
+    Ok(())
+}
+
+#[tactic(auto, using(aos_symbols::proofs::Keeping::after_more, aos_symbols::proofs::Steps::walk_step, aos_symbols::proofs::Steps::walk_end))]
+fn constant_defs(
+    alloc: Global,
+    found: &mut Option<Breach>,
+    env: &mut Env<'_>,
+    defs: &[ConstDef],
+) -> Result<(), NoMemory>
+    ensures noted { OnOk result (found.new ≡
+        first_after found.old (walk judge.constant_def env.old defs.now).breaches) }
+    ensures env { OnOk result (env.new ≡ (walk judge.constant_def env.old defs.now).answer) }
+{
+    for def in defs {
+        constant_def(alloc, found, env, def)?;
+    }
+    Ok(())
 }
 
 #[tactic(auto, using(aos_symbols::proofs::Keeping::after_more))]
@@ -141,10 +177,7 @@ fn declare(
     ensures env { OnOk result (env.new ≡ (judge.declared env.old decl.now).answer) }
 {
     match decl {
-        Decl::Consts(at, _) => {
-            note(found, NOT_BUILT, *at);
-            Ok(())
-        },
+        Decl::Consts(_, defs) => constant_defs(alloc, found, env, defs.as_slice()),
         Decl::Types(_, defs) => {
             type_defs(alloc, found, env, defs.as_slice());
             Ok(())

@@ -7,8 +7,8 @@ ghost use Rattle.aos_check_decl.specs.Headings as judge;
 
 use aos_base::Pos;
 use aos_symbols::{
-    Breach, Env, Lookup, Meaning, NOT_BUILT, NOT_EXPORTED, UNKNOWN, is_active, is_procedure_of_out,
-    note, word,
+    ANY, Breach, Env, Lookup, Meaning, NOT_BUILT, NOT_EXPORTED, OTHER_KIND, UNKNOWN, is_active,
+    is_procedure_of_out, note, word,
 };
 use aos_tree::{Block, Decl, Name, Qualident, TypeExpr};
 use aos_types::{Items, TypeId, TypeRow};
@@ -44,13 +44,28 @@ fn no_type(found: &mut Option<Breach>, rule: u16, at: Pos) -> Option<TypeId>
     None
 }
 
+/// ANY isn't built.
+fn is_any(of: Option<TypeId>) -> bool
+    ensures { result ≡ judge.is_any of }
+{
+    match of {
+        Some(of) => of.0 == ANY.0,
+        None => false,
+    }
+}
+
 fn type_meant(found: &mut Option<Breach>, means: Meaning, at: Pos) -> Option<TypeId>
     ensures noted { found.new ≡ first_after found.old (judge.type_meant means at).breaches }
     ensures answer { result ≡ (judge.type_meant means at).answer }
 {
     match means {
-        Meaning::Type(of) => of,
-        _ => no_type(found, NOT_BUILT, at),
+        Meaning::Type(of) => {
+            if is_any(of) {
+                return no_type(found, NOT_BUILT, at);
+            }
+            of
+        }
+        _ => no_type(found, OTHER_KIND, at),
     }
 }
 
@@ -72,7 +87,7 @@ fn type_of_out(found: &mut Option<Breach>, text: &[u8], name: Name) -> Option<Ty
     ensures answer { result ≡ (judge.type_of_out text.now name).answer }
 {
     if is_procedure_of_out(word(text, name)) {
-        return no_type(found, NOT_BUILT, name.pos);
+        return no_type(found, OTHER_KIND, name.pos);
     }
     no_type(found, UNKNOWN, name.pos)
 }
@@ -92,7 +107,7 @@ fn type_in_module(
     match means {
         Meaning::Module(number) => type_found(found, env.member(number, name), name.pos),
         Meaning::Out => type_of_out(found, env.here.text(), name),
-        _ => no_type(found, NOT_BUILT, first),
+        _ => no_type(found, OTHER_KIND, first),
     }
 }
 
@@ -161,14 +176,31 @@ fn has_active(text: &[u8], body: &Option<Block>) -> bool
     false
 }
 
+/// The rule that a name for another type breaks, by what its first name means.
+fn alias_rule(second: Option<Name>, means: Meaning) -> u16
+    ensures { result ≡ judge.alias_rule second means }
+{
+    match second {
+        None => match means {
+            Meaning::Type(_) => NOT_BUILT,
+            _ => OTHER_KIND,
+        },
+        Some(_) => match means {
+            Meaning::Module(_) => NOT_BUILT,
+            Meaning::Out => NOT_BUILT,
+            _ => OTHER_KIND,
+        },
+    }
+}
+
 /// A name for another type.
-fn refuse_alias(found: &mut Option<Breach>, lookup: Lookup, at: Pos)
-    ensures { found.new ≡ first_after found.old (judge.alias_breaches lookup at) }
+fn refuse_alias(found: &mut Option<Breach>, second: Option<Name>, lookup: Lookup, at: Pos)
+    ensures { found.new ≡ first_after found.old (judge.alias_breaches second lookup at) }
 {
     match lookup {
         Lookup::Unknown => note(found, UNKNOWN, at),
         Lookup::NotExported => note(found, NOT_EXPORTED, at),
-        Lookup::Found(_) => note(found, NOT_BUILT, at),
+        Lookup::Found(symbol) => note(found, alias_rule(second, symbol.means), at),
     }
 }
 
@@ -195,7 +227,7 @@ pub(crate) fn defined_row(
             return Some(TypeRow::Object(None, Items::new(alloc)));
         },
         TypeExpr::Named(name) => {
-            refuse_alias(found, env.lookup(name.first), name.first.pos);
+            refuse_alias(found, name.second, env.lookup(name.first), name.first.pos);
         },
         TypeExpr::Array(at, _, _) => note(found, NOT_BUILT, *at),
         TypeExpr::Record(at, _, _) => note(found, NOT_BUILT, *at),

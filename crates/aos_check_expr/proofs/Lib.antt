@@ -1,2 +1,10 @@
 pub mod Rows
+pub mod Numbers
+pub mod Told
+pub mod Types
+pub mod Good
+pub mod Sound
+pub mod Parts
+pub mod Spots
+pub mod CallParts
 pub mod Typing

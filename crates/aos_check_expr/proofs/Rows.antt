@@ -1,23 +1,143 @@
--- The forms of a tree that hold rows, read as lists.
-use Rattle.std.proofs.Common.{◌≡◌, Some, ap, ◌∙◌}
-use Rattle.aos_tree.specs.declared.expr.Factor.{Factor}
+-- The parts of a tree, read as lists and as records.
+use Rattle.std.proofs.Common.{◌≡◌, ◌≤◌, ◌<◌, List, [], ◌∷◌, ◌++◌, map, length, get_or, Option, Some, None, refl, ap, ◌∙◌, sym, append-nil, append_assoc, arith}
+use denote.Hole.Carrier.{hidden, out, roll}
+use Rattle.aos_base.specs.declared.text.Pos.{Pos}
+use Rattle.aos_tree.specs.declared.name.Name.{Name}
+use Rattle.aos_tree.specs.declared.expr.Sign.{Sign}
+use Rattle.aos_tree.specs.declared.expr.Expr.{Expr, Expr', out-Expr, Expr-right-None', Expr-right-Some'}
+use Rattle.aos_tree.specs.declared.expr.Relation.{Relation, Relation', out-Relation}
+use Rattle.aos_tree.specs.declared.expr.Simple.{Simple, out-Simple, roll-Simple, roll-out-Simple, Row_of-Addition, end_of-Addition, more_of-Addition, items-the_row-Addition, items_hidden-the_row-Addition-5}
+use Rattle.aos_tree.specs.declared.expr.Addition.{Addition, Addition', out-Addition}
+use Rattle.aos_tree.specs.declared.expr.Term.{Term, out-Term, roll-Term, roll-out-Term, Row_of-Product, end_of-Product, more_of-Product, items-the_row-Product, items_hidden-the_row-Product-6}
+use Rattle.aos_tree.specs.declared.expr.Product.{Product}
+use Rattle.aos_tree.specs.declared.expr.Elem.{Elem, Elem', out-Elem, Elem-last-None', Elem-last-Some'}
+use Rattle.aos_tree.specs.declared.expr.Factor.{Factor, Row_of-Elem, end_of-Elem, more_of-Elem, items-the_row-Elem, items_hidden-the_row-Elem-1}
 use Rattle.aos_tree.specs.declared.expr.Factor.TheVariants as f
-use Rattle.aos_tree.specs.declared.expr.Desig.{Desig, items_hidden-the_row-Selector-0}
-use Rattle.aos_typed.specs.Program.{Read}
+use Rattle.aos_tree.specs.declared.expr.Factor.TheBlock.{hidden-the_row-Selector-0, hidden-the_row-Elem-1, hidden-the_row-Expr-2, shape-the_row-Expr-2, hidden-the_row-Factor-3, shape-the_row-Factor-3, hidden-the_row-Expr-4, hidden-the_row-Addition-5, hidden-the_row-Product-6}
+use Rattle.aos_tree.specs.declared.expr.Desig.{Desig, Row_of-Selector, end_of-Selector, more_of-Selector, items-the_row-Selector, items_hidden-the_row-Selector-0}
+use Rattle.aos_tree.specs.declared.expr.Selector.{Selector, Row_of-Expr, end_of-Expr, more_of-Expr, items-the_row-Expr, items_hidden-the_row-Expr-4}
+use Rattle.aos_tree.specs.declared.expr.Selector.TheVariants as s
 use Rattle.aos_symbols.specs.declared.env.Env.{Env}
-use Rattle.aos_symbols.specs.Judged.{kept, bind}
-use Rattle.aos_check_expr.specs.Designators.{tested_designator, is_longint, is_object, written}
-use Rattle.aos_check_expr.specs.Expressions.{factor, object_factor}
+use Rattle.aos_symbols.specs.Judged.{Judged, judged, kept, bind, walk}
+use Rattle.aos_check_expr.specs.declared.designators.Head.{Head}
+use Rattle.aos_check_expr.specs.Known.{Answer, Spot}
+use Rattle.aos_check_expr.specs.Operations.{no_elements}
+use Rattle.aos_check_expr.specs.Designators.{read, spotted}
+use Rattle.aos_check_expr.specs.Expressions.{expr, relation, relation_if, simple, addition, additions, term, product, products, factor, elements, element, desig_of, selected, designator, selector, arguments, called, ended, added, related_by, signed, opposite, whole_set, with_element, with_span}
+
+-- a list of two
+pub two_items : {X : Type 0} (xs : List X) (x y d d' : X) → 2 ≤ length xs → length xs < 3 → x ≡ get_or xs 0 d → y ≡ get_or xs 1 d' → xs ≡ x ∷ y ∷ []
+two_items [] x y d d' least below a b = absurd (omega arith)
+two_items (u ∷ []) x y d d' least below a b = absurd (omega arith)
+two_items (u ∷ v ∷ []) x y d d' least below a b = ap (λ z. z ∷ v ∷ []) (sym a) ∙ ap (λ z. x ∷ z ∷ []) (sym b)
+two_items (u ∷ v ∷ w ∷ ws) x y d d' least below a b = absurd (omega arith)
+
+pub ended_is : (first : Pos) (j : Judged Answer) (xs : List Selector) → ended first j xs ≡ bind j (λ a. ended first (kept a) xs)
+ended_is first j [] = ap (λ bs. judged bs j.answer) (sym (append-nil j.breaches))
+ended_is first j (s.Field p n ∷ xs) = refl
+ended_is first j (s.Index' p shape row ∷ xs) = refl
+ended_is first j (s.Follow p ∷ xs) = refl
+ended_is first j (s.Paren' p shape row ∷ xs) = refl
 
 module _ (e : Env) where
-  pub factor_desig : (x : Factor) (d : Desig) → x ≡ f.Desig d →
-      factor e x ≡ bind (tested_designator e is_longint d.name d.selectors) (λ a. kept (Read a.place))
+  additions_row : (n : _) (first : Pos) (a : Answer) (r : Row_of-Addition n) → additions e first a r ≡ walk (addition e first) a (items-the_row-Addition n r)
+  additions_row _ first a end_of-Addition = refl
+  additions_row _ first a (more_of-Addition x xs) = ap (λ z. bind (addition e first a x) (λ b. z)) (additions_row _ first (addition e first a x).answer xs)
+
+  products_row : (n : _) (first : Pos) (a : Answer) (r : Row_of-Product n) → products e first a r ≡ walk (product e first) a (items-the_row-Product n r)
+  products_row _ first a end_of-Product = refl
+  products_row _ first a (more_of-Product at op right xs) =
+      let p : Product = record { pos = at; op = op; right = right } in
+      ap (λ z. bind (product e first a p) (λ b. z)) (products_row _ first (product e first a p).answer xs)
+
+  elements_row : (n : _) (at : Pos) (a : Answer) (r : Row_of-Elem n) → elements e at a r ≡ walk (element e at) a (items-the_row-Elem n r)
+  elements_row _ at a end_of-Elem = refl
+  elements_row _ at a (more_of-Elem x xs) = ap (λ z. bind (element e at a x) (λ b. z)) (elements_row _ at (element e at a x).answer xs)
+
+  arguments_row : (n : _) (r : Row_of-Expr n) → arguments e r ≡ map (expr e) (items-the_row-Expr n r)
+  arguments_row _ end_of-Expr = refl
+  arguments_row _ (more_of-Expr x xs) = ap (λ js. expr e x ∷ js) (arguments_row _ xs)
+
+  selectors_row : (n : _) (name : Name) (r : Row_of-Selector n) → desig_of e name r ≡ selected e name (items-the_row-Selector n r)
+  selectors_row _ name end_of-Selector = refl
+  selectors_row _ name (more_of-Selector x end_of-Selector) = refl
+  selectors_row _ name (more_of-Selector x (more_of-Selector y ys)) = refl
+
+  pub expr_is : (x : Expr) → expr e x ≡ bind (simple e (out-Expr x).left) (λ a. relation_if e (out-Expr x).pos a (out-Expr x).right)
+  unfolding out-Expr out
+  expr_is (Expr' at left Expr-right-None') = refl
+  expr_is (Expr' at left (Expr-right-Some' r)) = refl
+
+  pub relation_is : (first : Pos) (a : Answer) (r : Relation) → relation e first a r
+      ≡ bind (simple e (out-Relation r).right) (λ b. related_by first (out-Relation r).pos (out-Relation r).op a b)
+  unfolding out-Relation out
+  relation_is first a (Relation' at op right) = refl
+
+  simple_rolled : (at : Pos) (sign : Option Sign) (first : Term) (rest : List Addition) → simple e (roll-Simple (record { pos = at; sign = sign; first = first; rest = rest }))
+      ≡ bind (bind (term e first) (λ a. signed sign at a)) (λ a. walk (addition e at) a rest)
+  unfolding roll-Simple roll
+  simple_rolled at sign first rest =
+      let a = (signed sign at (term e first).answer).answer in
+      ap (λ z. bind (bind (term e first) (λ a. signed sign at a)) (λ a. z))
+      (additions_row _ at a (hidden-the_row-Addition-5 rest) ∙ ap (λ xs. walk (addition e at) a xs) (items_hidden-the_row-Addition-5 rest))
+
+  pub simple_is : (x : Simple) → simple e x
+      ≡ bind (bind (term e (out-Simple x).first) (λ a. signed (out-Simple x).sign (out-Simple x).pos a)) (λ a. walk (addition e (out-Simple x).pos) a (out-Simple x).rest)
+  simple_is x = ap (λ z. simple e z) (sym (roll-out-Simple x)) ∙ simple_rolled (out-Simple x).pos (out-Simple x).sign (out-Simple x).first (out-Simple x).rest
+
+  pub addition_is : (first : Pos) (a : Answer) (x : Addition) → addition e first a x
+      ≡ bind (term e (out-Addition x).right) (λ b. added first (out-Addition x).pos (out-Addition x).op a b)
+  unfolding out-Addition out
+  addition_is first a (Addition' at op right) = refl
+
+  term_rolled : (at : Pos) (first : Factor) (rest : List Product) → term e (roll-Term (record { pos = at; first = first; rest = rest }))
+      ≡ bind (factor e first) (λ a. walk (product e at) a rest)
+  unfolding roll-Term roll
+  term_rolled at first rest =
+      let a = (factor e first).answer in
+      ap (λ z. bind (factor e first) (λ a. z))
+      (products_row _ at a (hidden-the_row-Product-6 rest) ∙ ap (λ xs. walk (product e at) a xs) (items_hidden-the_row-Product-6 rest))
+
+  pub term_is : (x : Term) → term e x ≡ bind (factor e (out-Term x).first) (λ a. walk (product e (out-Term x).pos) a (out-Term x).rest)
+  term_is x = ap (λ z. term e z) (sym (roll-out-Term x)) ∙ term_rolled (out-Term x).pos (out-Term x).first (out-Term x).rest
+
+  pub factor_desig : (x : Factor) (d : Desig) → x ≡ f.Desig d → factor e x ≡ bind (designator e d) read
   factor_desig x d is =
       ap (λ y. factor e y) is
-      ∙ ap (λ ss. bind (tested_designator e is_longint d.name ss) (λ a. kept (Read a.place))) (items_hidden-the_row-Selector-0 d.selectors)
+      ∙ ap (λ z. bind z read) (selectors_row _ d.name (hidden-the_row-Selector-0 d.selectors) ∙ ap (λ xs. selected e d.name xs) (items_hidden-the_row-Selector-0 d.selectors))
 
-  pub object_desig : (x : Factor) (d : Desig) → x ≡ f.Desig d →
-      object_factor e x ≡ bind (tested_designator e is_object d.name d.selectors) (λ a. bind (written d.name.pos a) (λ b. kept (Some b)))
-  object_desig x d is =
-      ap (λ y. object_factor e y) is
-      ∙ ap (λ ss. bind (tested_designator e is_object d.name ss) (λ a. bind (written d.name.pos a) (λ b. kept (Some b)))) (items_hidden-the_row-Selector-0 d.selectors)
+  pub factor_paren : (x : Factor) (p : Pos) (y : Expr) → x ≡ f.Paren p y → factor e x ≡ expr e y
+  unfolding hidden-the_row-Expr-2 shape-the_row-Expr-2 hidden
+  factor_paren x p y is = ap (λ y. factor e y) is
+
+  pub factor_not : (x : Factor) (p : Pos) (y : Factor) → x ≡ f.Not p y → factor e x ≡ bind (factor e y) (λ a. opposite p a)
+  unfolding hidden-the_row-Factor-3 shape-the_row-Factor-3 hidden
+  factor_not x p y is = ap (λ y. factor e y) is
+
+  pub factor_set : (x : Factor) (p : Pos) (es : List Elem) → x ≡ f.Set p es →
+      factor e x ≡ bind (walk (element e p) no_elements es) (λ a. whole_set p a)
+  factor_set x p es is =
+      ap (λ y. factor e y) is
+      ∙ ap (λ z. bind z (λ a. whole_set p a)) (elements_row _ p no_elements (hidden-the_row-Elem-1 es) ∙ ap (λ xs. walk (element e p) no_elements xs) (items_hidden-the_row-Elem-1 es))
+
+  -- an element, with its last expression where it has one
+  abbrev pub element_as : Pos → Answer → Expr → Option Expr → Judged Answer
+  element_as at a x None = bind (expr e x) (λ b. with_element at a b)
+  element_as at a x (Some y) = bind (expr e x) (λ b. bind (expr e y) (λ c. with_span at a b c))
+
+  pub element_is : (at : Pos) (a : Answer) (x : Elem) → element e at a x ≡ element_as at a (out-Elem x).first (out-Elem x).last
+  unfolding out-Elem out
+  element_is at a (Elem' x Elem-last-None') = refl
+  element_is at a (Elem' x (Elem-last-Some' y)) = refl
+
+  pub selector_paren : (h : Head) (x : Selector) (p : Pos) (es : List Expr) (xs : List Selector) → x ≡ s.Paren p es →
+      selector e h x xs ≡ bind (called e h p (map (expr e) es) es) (λ a. spotted h.first (ended h.first (kept a) xs))
+  selector_paren h x p es xs is =
+      ap (λ y. selector e h y xs) is
+      ∙ ap (λ js. spotted h.first (ended h.first (called e h p js (items-the_row-Expr _ (hidden-the_row-Expr-4 es))) xs)) (arguments_row _ (hidden-the_row-Expr-4 es))
+      ∙ ap (λ ys. spotted h.first (ended h.first (called e h p (map (expr e) ys) ys) xs)) (items_hidden-the_row-Expr-4 es)
+      ∙ ap (λ j. spotted h.first j) (ended_is h.first (called e h p (map (expr e) es) es) xs)
+      ∙ again (called e h p (map (expr e) es) es)
+    where
+      again : (j : Judged Answer) → spotted h.first (bind j (λ a. ended h.first (kept a) xs)) ≡ bind j (λ a. spotted h.first (ended h.first (kept a) xs))
+      again j = ap (λ bs. judged bs (spotted h.first (ended h.first (kept j.answer) xs)).answer) (append_assoc j.breaches (ended h.first (kept j.answer) xs).breaches [])

@@ -1,311 +1,233 @@
--- Designators and expressions that break no rule are well typed, where the types of all variables are known.
-use Rattle.std.proofs.Common.{◌≡◌, ℕ, ◌+◌, ◌-◌, ◌<◌, ◌≤◌, ◌==◌, List, [], ◌∷◌, length, Bool, true, false, ◌&&◌, not, Option, Some, None, unwrap_or, slice_get, refl, sym, ap, ◌∙◌, subst, eqb-true, eq-eqb, ne_eqb, arith, if◌then◌else◌}
-use Rattle.std.proofs.lemmas.Option.{slice_get_within}
+-- Expressions that break no rule are well typed, where the types of all variables are known and all constants have values.
+use Rattle.std.proofs.Common.{◌≡◌, ℕ, ◌+◌, ◌<◌, ◌==◌, pos, List, [], ◌∷◌, Bool, true, false, not, Option, Some, None, slice_get, option_and_then, if◌then◌else◌, refl}
 use Rattle.aos_base.specs.declared.text.Pos.{Pos}
+use Rattle.aos_base.specs.declared.number.Width.TheVariants.{W64}
 use Rattle.aos_tree.specs.declared.name.Name.{Name}
-use Rattle.aos_tree.specs.declared.expr.Selector.{Selector}
-use Rattle.aos_tree.specs.declared.expr.Selector.TheVariants as s
-use Rattle.aos_tree.specs.declared.expr.RelationOp.{RelationOp}
-use Rattle.aos_tree.specs.declared.expr.RelationOp.TheVariants as relation
-use Rattle.aos_tree.specs.declared.expr.AddOp.{AddOp}
-use Rattle.aos_tree.specs.declared.expr.AddOp.TheVariants as add
-use Rattle.aos_tree.specs.declared.expr.Expr.{Expr as TreeExpr, out-Expr}
-use Rattle.aos_tree.specs.declared.expr.Relation.{Relation, out-Relation}
-use Rattle.aos_tree.specs.declared.expr.Simple.{Simple, out-Simple}
-use Rattle.aos_tree.specs.declared.expr.Addition.{Addition, out-Addition}
-use Rattle.aos_tree.specs.declared.expr.Term.{Term, out-Term}
-use Rattle.aos_tree.specs.declared.expr.Factor.{Factor}
+use Rattle.aos_tree.specs.declared.name.Text.{Text}
+use Rattle.aos_tree.specs.declared.expr.Expr.{Expr, Expr', Held-Expr-right, Expr-right-None', Expr-right-Some', out-Expr}
+use Rattle.aos_tree.specs.declared.expr.Relation.{Relation, Relation'}
+use Rattle.aos_tree.specs.declared.expr.Simple.{Simple, Simple', Row_of-Addition, end_of-Addition, more_of-Addition}
+use Rattle.aos_tree.specs.declared.expr.Addition.{Addition, Addition'}
+use Rattle.aos_tree.specs.declared.expr.Term.{Term, Term', Row_of-Product, end_of-Product, more_of-Product}
+use Rattle.aos_tree.specs.declared.expr.Factor.{Factor, Row_of-Expr, end_of-Expr, more_of-Expr, Row_of-Factor, end_of-Factor, more_of-Factor, Row_of-Elem, end_of-Elem, more_of-Elem}
 use Rattle.aos_tree.specs.declared.expr.Factor.TheVariants as f
-use Rattle.aos_tree.specs.declared.expr.Desig.{items-the_row-Selector}
-use Rattle.aos_types.specs.declared.row.TypeId.{TypeId}
-use Rattle.aos_types.specs.declared.row.Basic.TheVariants as basic
-use Rattle.aos_types.specs.declared.row.TypeRow.{TypeRow}
-use Rattle.aos_types.specs.declared.row.TypeRow.TheVariants as row
+use Rattle.aos_tree.specs.declared.expr.Elem.{Elem, Elem', Elem-last-None', Elem-last-Some'}
+use Rattle.aos_tree.specs.declared.expr.Desig.{Desig, Row_of-Selector, end_of-Selector, more_of-Selector, items-the_row-Selector}
+use Rattle.aos_tree.specs.declared.expr.Selector.{Selector, items-the_row-Expr}
+use Rattle.aos_tree.specs.declared.expr.Selector.TheVariants as s
 use Rattle.aos_typed.specs.declared.tree.TType.TheVariants as type
-use Rattle.aos_typed.specs.Program.{Place, ModuleVar, Expr, Read, Program}
-use Rattle.aos_typed.specs.WellTyped.{place_type, IsInteger, IsBoolean}
-use Rattle.aos_symbols.specs.declared.scope.Entry.{Entry}
-use Rattle.aos_symbols.specs.declared.scope.Meaning.{Meaning}
-use Rattle.aos_symbols.specs.declared.scope.Meaning.TheVariants as means
-use Rattle.aos_symbols.specs.declared.env.Open.{Open}
-use Rattle.aos_symbols.specs.declared.env.Symbol.{Symbol}
-use Rattle.aos_symbols.specs.declared.env.Lookup.{Lookup}
-use Rattle.aos_symbols.specs.declared.env.Lookup.TheVariants.{Unknown, NotExported, Found}
+use Rattle.aos_typed.specs.Program.{Program}
+use Rattle.aos_typed.specs.WellTyped.{IsOf}
 use Rattle.aos_symbols.specs.declared.env.Env.{Env}
 use Rattle.aos_symbols.specs.Breaches.{breach_unless}
-use Rattle.aos_symbols.specs.Judged.{Judged, judged, kept, bind, walk}
-use Rattle.aos_symbols.specs.Scope.{Scope, find}
+use Rattle.aos_symbols.specs.Judged.{Judged, judged, bind}
 use Rattle.aos_symbols.specs.Env as env
-use Rattle.aos_symbols.proofs.Holds.{Holds, holds_bind, holds_walk, broken, test_is}
-use Rattle.aos_symbols.proofs.Each.{Each}
-use Rattle.aos_symbols.proofs.Lookups.{IsPredeclared, a_type, a_procedure, another, IsOfAll, lookup_is, member_is}
-use Rattle.aos_symbols.proofs.Told.{IsKnown, number, object}
+use Rattle.aos_symbols.proofs.Holds.{Holds, holds_bind, broken, test_is}
+use Rattle.aos_base.specs.Number.{if_within}
+use Rattle.aos_base.specs.Operators.{natural}
+use Rattle.aos_check_expr.specs.declared.known.Class.{Class}
+use Rattle.aos_check_expr.specs.declared.known.Class.TheVariants.{Unknown, Constant, Variable, ReadOnly, Computed}
+use Rattle.aos_check_expr.specs.declared.designators.Head.{Head}
+use Rattle.aos_check_expr.specs.Known.{Answer, Spot, is_number, is_boolean, is_char, is_lost}
+use Rattle.aos_check_expr.specs.Operations as op
 use Rattle.aos_check_expr.specs.Designators as desig
-use Rattle.aos_check_expr.specs.Designators.{Spot, is_longint, is_object, object_number, type_of, selector_breaches}
 use Rattle.aos_check_expr.specs.Expressions as judge
+use Rattle.aos_check_expr.proofs.Good.{MayBe, IsKnownClass, within_if, natural_below}
+use Rattle.aos_check_expr.proofs.Parts.{Elements, added_part, multiplied_part, related_part, signed_part, opposite_part, number_part, character_part, no_elements, with_element_part, with_span_part, whole_part}
+use Rattle.aos_check_expr.proofs.Spots.{MayFind, Part, Spotted, refused_part, plain_head, member_head, spotted, named_spot, behind_spot, read_part}
+use Rattle.aos_check_expr.proofs.CallParts.{Parts, called_part, ended_part}
+pub use Rattle.aos_check_expr.proofs.Types.{wider}
+pub use Rattle.aos_check_expr.proofs.Good.{IsGood, HasGood}
+pub use Rattle.aos_check_expr.proofs.Sound.{IsSound, sound_number, sound_char, sound_boolean, fits_sound}
+pub use Rattle.aos_check_expr.proofs.Spots.{IsTyped, GoodConstants, IsWhole, IsSoundSpot}
 
--- a variable has the type that is known of it
-pub record IsTyped (p : Program) (e : Env) (place : Place) (of : Option TypeId) : Type 0 where
-  pub typed : place_type p place ≡ Some (type_of of)
-  pub known : IsKnown e.types e.broken of
+-- The walk over an expression.
 
--- The environment is that of bodies: each variable in the scope of a module has its type, and the types behind the first nine
--- are the object types of the program.
-pub record IsWhole (p : Program) (e : Env) : Type 0 where
-  pub variables : (o : Open) (s : Scope) (w : List ℕ) (x : Entry) (k : ℕ) → o.scope ≡ 0 → env.scope e o ≡ Some s → find s w ≡ Some x →
-      x.means ≡ means.Variable k → IsTyped p e (ModuleVar o.home k) (env.variable_type e o k)
-  pub objects : length e.types ≡ 9 + length p.objects
+module _ (p : Program) (e : Env) (good : GoodConstants e) where
+  abbrev IsFine : Judged Answer → Type 0
+  IsFine = Holds (Part p e)
 
-not_both : false ≡ true → ⊥
-not_both e = cc
+  abbrev IsFineSpot : Judged Spot → Type 0
+  IsFineSpot = Holds (Spotted p e)
 
--- what is predeclared is no variable
-no_variable : (m : Meaning) → IsPredeclared m → (k : ℕ) → m ≡ means.Variable k → ⊥
-no_variable m a_type k e = type_only k e
-  where
-    type_only : (k : ℕ) → means.Type (Some env.longint) ≡ means.Variable k → ⊥
-    type_only k e = cc
-no_variable m a_procedure k e = new_only k e
-  where
-    new_only : (k : ℕ) → means.New ≡ means.Variable k → ⊥
-    new_only k e = cc
-no_variable m another k e = other_only k e
-  where
-    other_only : (k : ℕ) → means.Other ≡ means.Variable k → ⊥
-    other_only k e = cc
+  abbrev AreFine : Judged Answer → Type 0
+  AreFine = Holds (Elements p (IsWhole p e))
 
-abbrev AnyScope : Open → Type 0
-AnyScope o = Unit {0}
+  after : (j : Judged Answer) (g : Answer → Judged Answer) → IsFine j → ((a : Answer) → Part p e a → IsFine (g a)) → IsFine (bind j g)
+  after = holds_bind (Part p e) (Part p e)
 
-any_scope : (os : List Open) → Each AnyScope os
-any_scope [] = tt
-any_scope (o ∷ os) = (tt, any_scope os)
+  refused_spot : (rule : ℕ) (at : Pos) → IsFineSpot (desig.spotted at (desig.refused rule at))
+  refused_spot rule at = spotted p e at (desig.refused rule at) (refused_part p e rule at)
 
-module _ (p : Program) (e : Env) (whole : IsWhole p e) where
-  abbrev IsSound : Spot → Type 0
-  IsSound a = IsTyped p e a.place a.of
+  in_module_fine : (n : Name) (x : Selector) (j : Judged Spot) → IsFineSpot j → IsFineSpot (judge.in_module n x j)
+  in_module_fine n (s.Field q y) j h = h
+  in_module_fine n x j h = refused_spot 16 n.pos
 
-  -- What is found of a name.
+  head_fine : (n : Name) (x : Selector) → MayFind p e (judge.head_in e n x).found
+  head_fine n (s.Field q y) = member_head p e n y
+  head_fine n x = plain_head p e n
 
-  abbrev IsVariable : Symbol → Type 0
-  IsVariable x = (k : ℕ) → x.means ≡ means.Variable k → x.at.scope ≡ 0 → IsTyped p e (ModuleVar x.at.home k) (env.variable_type e x.at k)
+  chosen : (b : Bool) (i j : Judged Spot) → IsFineSpot i → IsFineSpot j → IsFineSpot (if b then i else j)
+  chosen true i j g h = g
+  chosen false i j g h = h
 
-  abbrev MayFind : Lookup → Type 0
-  MayFind l = (x : Symbol) → l ≡ Found x → IsVariable x
-
-  all_variables : IsOfAll e AnyScope IsVariable
-  all_variables = record {
-    entries = λ o s w x any there is k means at. whole.variables o s w x k at there is means;
-    others = λ m is k means at. absurd (no_variable m is k means);
-  }
-
-  lookup_sound : (n : Name) → MayFind (env.lookup e n)
-  lookup_sound n = lookup_is e AnyScope IsVariable all_variables (any_scope e.path) n
-
-  member_sound : (m : ℕ) (n : Name) → MayFind (env.member e m n)
-  member_sound m n = member_is e AnyScope IsVariable all_variables m tt n
-
-  -- Designators.
-
-  refused_sound : (rule : ℕ) (at : Pos) → Holds IsSound (desig.refused rule at)
-  refused_sound rule at = broken IsSound (record { rule = rule; pos = at }) [] (desig.nowhere at)
-
-  meant_sound : (x : Symbol) → IsVariable x → (m : Meaning) → x.means ≡ m → (at : Pos) → Holds IsSound (desig.meant e x m at)
-  meant_sound x sound (means.Variable k) is at = by (x.at.scope == 0) refl
+  text_fine : (t : Text) → IsFine (judge.character (judge.character_in e.here.text t) t.pos)
+  text_fine t = character_part p (IsWhole p e) (judge.character_in e.here.text t) (by (t.start + 3 == t.end) (slice_get e.here.text (t.start + 1))) t.pos
     where
-      by : (b : Bool) → (x.at.scope == 0) ≡ b → Holds IsSound (if b then kept (desig.variable e x k at) else desig.refused 99 at)
-      by true own = λ h. sound k is (eqb-true x.at.scope 0 own)
-      by false own = refused_sound 99 at
-  meant_sound x sound (means.Constant k) is at = refused_sound 99 at
-  meant_sound x sound (means.Type of) is at = refused_sound 99 at
-  meant_sound x sound (means.Procedure k) is at = refused_sound 99 at
-  meant_sound x sound (means.Module m) is at = refused_sound 99 at
-  meant_sound x sound means.Out is at = refused_sound 99 at
-  meant_sound x sound means.New is at = refused_sound 99 at
-  meant_sound x sound means.Other is at = refused_sound 99 at
+      by : (b : Bool) (o : Option ℕ) → MayBe (λ c. c < 256) (if b then option_and_then (λ c. natural 256 (pos c)) o else None)
+      by true None = tt
+      by true (Some c) = natural_below 256 (pos c)
+      by false o = tt
 
-  found_sound : (l : Lookup) → MayFind l → (at : Pos) → Holds IsSound (desig.found e l at)
-  found_sound Unknown sound at = refused_sound 14 at
-  found_sound NotExported sound at = refused_sound 15 at
-  found_sound (Found x) sound at = meant_sound x (sound x refl) x.means refl at
+  mutual
+    expr_fine : (x : Expr) → IsFine (judge.expr e x)
+    expr_fine (Expr' at left right) = after (judge.simple e left) (λ a. judge.relation_of e at a right) (simple_fine left) (λ a h. relation_of_fine at a h right)
 
-  behind_sound : (ss : List Selector) (j : Judged Spot) → Holds IsSound j → Holds IsSound (desig.behind e ss j)
-  behind_sound ss j sound = holds_bind IsSound IsSound j (λ a. judged (selector_breaches ss) a) sound (λ a x h. x)
+    relation_of_fine : (first : Pos) (a : Answer) → Part p e a → (r : Held-Expr-right) → IsFine (judge.relation_of e first a r)
+    relation_of_fine first a h Expr-right-None' = λ none. h
+    relation_of_fine first a h (Expr-right-Some' r) = relation_fine first a h r
 
-  of_module_sound : (m : ℕ) (at : Pos) (ss : List Selector) → Holds IsSound (desig.of_module e m at ss)
-  of_module_sound m at [] = refused_sound 99 at
-  of_module_sound m at (s.Field q n ∷ more) = behind_sound more (desig.found e (env.member e m n) n.pos) (found_sound (env.member e m n) (member_sound m n) n.pos)
-  of_module_sound m at (s.Index' q shape row ∷ more) = refused_sound 99 at
-  of_module_sound m at (s.Follow q ∷ more) = refused_sound 99 at
-  of_module_sound m at (s.Paren' q shape row ∷ more) = refused_sound 99 at
+    relation_fine : (first : Pos) (a : Answer) → Part p e a → (r : Relation) → IsFine (judge.relation e first a r)
+    relation_fine first a h (Relation' at o right) = after (judge.simple e right) (λ b. judge.related_by first at o a b) (simple_fine right) (λ b k. related_part p (IsWhole p e) first at o a b h k)
 
-  by_meaning_sound : (x : Symbol) → IsVariable x → (m : Meaning) → x.means ≡ m → (at : Pos) (ss : List Selector) → Holds IsSound (desig.by_meaning e x m at ss)
-  by_meaning_sound x sound (means.Module m) is at ss = of_module_sound m at ss
-  by_meaning_sound x sound (means.Variable k) is at ss = behind_sound ss (desig.meant e x (means.Variable k) at) (meant_sound x sound (means.Variable k) is at)
-  by_meaning_sound x sound (means.Constant k) is at ss = behind_sound ss (desig.meant e x (means.Constant k) at) (meant_sound x sound (means.Constant k) is at)
-  by_meaning_sound x sound (means.Type of) is at ss = behind_sound ss (desig.meant e x (means.Type of) at) (meant_sound x sound (means.Type of) is at)
-  by_meaning_sound x sound (means.Procedure k) is at ss = behind_sound ss (desig.meant e x (means.Procedure k) at) (meant_sound x sound (means.Procedure k) is at)
-  by_meaning_sound x sound means.Out is at ss = behind_sound ss (desig.meant e x means.Out at) (meant_sound x sound means.Out is at)
-  by_meaning_sound x sound means.New is at ss = behind_sound ss (desig.meant e x means.New at) (meant_sound x sound means.New is at)
-  by_meaning_sound x sound means.Other is at ss = behind_sound ss (desig.meant e x means.Other at) (meant_sound x sound means.Other is at)
+    simple_fine : (x : Simple) → IsFine (judge.simple e x)
+    simple_fine (Simple' at sign first shape rest) =
+        after (bind (judge.term e first) (λ a. judge.signed sign at a)) (λ a. judge.additions e at a rest)
+        (after (judge.term e first) (λ a. judge.signed sign at a) (term_fine first) (λ a h. signed_part p (IsWhole p e) sign at a h))
+        (λ a h. additions_fine at a h rest)
 
-  by_name_sound : (l : Lookup) → MayFind l → (at : Pos) (ss : List Selector) → Holds IsSound (desig.by_name e l at ss)
-  by_name_sound Unknown sound at ss = behind_sound ss (desig.refused 14 at) (refused_sound 14 at)
-  by_name_sound NotExported sound at ss = behind_sound ss (desig.refused 15 at) (refused_sound 15 at)
-  by_name_sound (Found x) sound at ss = by_meaning_sound x (sound x refl) x.means refl at ss
+    additions_fine : {m : _} (first : Pos) (a : Answer) → Part p e a → (r : Row_of-Addition m) → IsFine (judge.additions e first a r)
+    additions_fine first a h end_of-Addition = λ none. h
+    additions_fine first a h (more_of-Addition x xs) =
+        after (judge.addition e first a x) (λ b. judge.additions e first b xs) (addition_fine first a h x) (λ b k. additions_fine first b k xs)
 
-  pub designator_sound : (n : Name) (ss : List Selector) → Holds IsSound (desig.designator e n ss)
-  designator_sound n ss = by_name_sound (env.lookup e n) (lookup_sound n) n.pos ss
+    addition_fine : (first : Pos) (a : Answer) → Part p e a → (x : Addition) → IsFine (judge.addition e first a x)
+    addition_fine first a h (Addition' at o right) = after (judge.term e right) (λ b. judge.added first at o a b) (term_fine right) (λ b k. added_part p (IsWhole p e) first at o a b h k)
 
-  -- Variables whose types are tested.
+    term_fine : (x : Term) → IsFine (judge.term e x)
+    term_fine (Term' at first shape rest) = after (judge.factor e first) (λ a. judge.products e at a rest) (factor_fine first) (λ a h. products_fine at a h rest)
 
-  row_is : (t : TypeId) (r : TypeRow) → slice_get e.types t.0 ≡ Some r → slice_get e.broken t.0 ≡ Some false → env.row_of e (Some t) ≡ Some r
-  row_is t r is told = ap (λ b. if unwrap_or b true then None else slice_get e.types t.0) told ∙ is
+    products_fine : {m : _} (first : Pos) (a : Answer) → Part p e a → (r : Row_of-Product m) → IsFine (judge.products e first a r)
+    products_fine first a h end_of-Product = λ none. h
+    products_fine first a h (more_of-Product at o right xs) =
+        after (bind (judge.factor e right) (λ b. judge.multiplied first at o a b)) (λ b. judge.products e first b xs)
+        (after (judge.factor e right) (λ b. judge.multiplied first at o a b) (factor_fine right) (λ b k. multiplied_part p (IsWhole p e) first at o a b h k))
+        (λ b k. products_fine first b k xs)
 
-  abbrev IsTested : (Option TypeRow → Bool) → Spot → Type 0
-  IsTested test a = IsSound a × (test (env.row_of e a.of) ≡ true)
+    factor_fine : (x : Factor) → IsFine (judge.factor e x)
+    factor_fine (f.Desig' n shape row) = holds_bind (Spotted p e) (Part p e) (judge.desig_of e n row) desig.read (desig_fine n row) (λ a h. read_part p e a h)
+    factor_fine (f.Number q n) = number_part p (IsWhole p e) (if_within W64 n) (within_if W64 n) q
+    factor_fine (f.Char q n) = character_part p (IsWhole p e) (natural 256 n) (natural_below 256 n) q
+    factor_fine (f.Text t) = text_fine t
+    factor_fine (f.Nil q) = refused_part p e 99 q
+    factor_fine (f.Set' q shape row) =
+        holds_bind (Elements p (IsWhole p e)) (Part p e) (judge.elements e q op.no_elements row) (λ a. judge.whole_set q a)
+        (elements_fine q op.no_elements (no_elements p (IsWhole p e)) row) (λ a h. whole_part p (IsWhole p e) q a h)
+    factor_fine (f.Paren' q shape row) = held_fine row
+    factor_fine (f.Not' q shape row) = after (judge.held_factor e row) (λ a. judge.opposite q a) (held_factor_fine row) (λ a h. opposite_part p (IsWhole p e) q a h)
 
-  tested_sound : (test : Option TypeRow → Bool) (n : Name) (ss : List Selector) → Holds (IsTested test) (desig.tested_designator e test n ss)
-  tested_sound test n ss =
-      holds_bind IsSound (IsTested test) (desig.designator e n ss) (desig.tested e test) (designator_sound n ss)
-      (λ a x h. (x, test_is (test (env.row_of e a.of)) 99 a.at h))
+    held_fine : {m : _} (r : Row_of-Expr m) → IsFine (judge.held e r)
+    held_fine end_of-Expr = refused_part p e 99 judge.no_place
+    held_fine (more_of-Expr x xs) = expr_fine x
 
-  -- a number
-  abbrev pub IsNumber : Spot → Type 0
-  IsNumber a = place_type p a.place ≡ Some type.LongInt
+    held_factor_fine : {m : _} (r : Row_of-Factor m) → IsFine (judge.held_factor e r)
+    held_factor_fine end_of-Factor = refused_part p e 99 judge.no_place
+    held_factor_fine (more_of-Factor x xs) = factor_fine x
 
-  number_type : (of : Option TypeId) → IsKnown e.types e.broken of → is_longint (env.row_of e of) ≡ true → type_of of ≡ type.LongInt
-  number_type None known test = refl
-  number_type (Some t) (number is r b) test = ap (λ w. if w then type.LongInt else type.Object (object_number (Some t))) (eq-eqb t.0 2 is)
-  number_type (Some t) (object from r b) test = absurd (not_both (sym (ap is_longint (row_is t (row.Object None []) r b)) ∙ test))
+    elements_fine : {m : _} (at : Pos) (a : Answer) → Elements p (IsWhole p e) a → (r : Row_of-Elem m) → AreFine (judge.elements e at a r)
+    elements_fine at a h end_of-Elem = λ none. h
+    elements_fine at a h (more_of-Elem x xs) =
+        holds_bind (Elements p (IsWhole p e)) (Elements p (IsWhole p e)) (judge.element e at a x) (λ b. judge.elements e at b xs)
+        (element_fine at a h x) (λ b k. elements_fine at b k xs)
 
-  number_sound : (a : Spot) → IsTested is_longint a → IsNumber a
-  number_sound a x = x.0.typed ∙ ap Some (number_type a.of x.0.known x.1)
+    element_fine : (at : Pos) (a : Answer) → Elements p (IsWhole p e) a → (x : Elem) → AreFine (judge.element e at a x)
+    element_fine at a h (Elem' x Elem-last-None') =
+        holds_bind (Part p e) (Elements p (IsWhole p e)) (judge.expr e x) (λ b. judge.with_element at a b) (expr_fine x) (λ b k. with_element_part p (IsWhole p e) at a b h k)
+    element_fine at a h (Elem' x (Elem-last-Some' y)) =
+        holds_bind (Part p e) (Elements p (IsWhole p e)) (judge.expr e x) (λ b. bind (judge.expr e y) (λ c. judge.with_span at a b c)) (expr_fine x)
+        (λ b k. holds_bind (Part p e) (Elements p (IsWhole p e)) (judge.expr e y) (λ c. judge.with_span at a b c) (expr_fine y) (λ c l. with_span_part p (IsWhole p e) at a b c h k l))
 
-  pub assigned_sound : (n : Name) (ss : List Selector) → Holds IsNumber (desig.assigned e n ss)
-  assigned_sound n ss =
-      holds_bind (IsTested is_longint) IsNumber (desig.tested_designator e is_longint n ss) (desig.written n.pos) (tested_sound is_longint n ss) (λ a x h. number_sound a x)
+    desig_fine : {m : _} (n : Name) (r : Row_of-Selector m) → IsFineSpot (judge.desig_of e n r)
+    desig_fine n end_of-Selector = named_spot p e good (desig.plain e n) (plain_head p e n)
+    desig_fine n (more_of-Selector x end_of-Selector) =
+        chosen (desig.is_module (env.lookup e n)) (judge.in_module n x (desig.named e (judge.head_in e n x))) (judge.selector e (desig.plain e n) x [])
+        (in_module_fine n x (desig.named e (judge.head_in e n x)) (named_spot p e good (judge.head_in e n x) (head_fine n x)))
+        (selector_fine (desig.plain e n) (plain_head p e n) x [])
+    desig_fine n (more_of-Selector x (more_of-Selector y ys)) =
+        chosen (desig.is_module (env.lookup e n)) (judge.in_module n x (judge.selector e (judge.head_in e n x) y (items-the_row-Selector _ ys)))
+        (judge.selector e (desig.plain e n) x (y ∷ items-the_row-Selector _ ys))
+        (in_module_fine n x (judge.selector e (judge.head_in e n x) y (items-the_row-Selector _ ys)) (selector_fine (judge.head_in e n x) (head_fine n x) y (items-the_row-Selector _ ys)))
+        (selector_fine (desig.plain e n) (plain_head p e n) x (y ∷ items-the_row-Selector _ ys))
 
-  -- an object that NEW makes
-  abbrev pub IsMade : Spot → Type 0
-  IsMade a = (place_type p a.place ≡ Some (type.Object (object_number a.of))) × (object_number a.of < length p.objects)
+    selector_fine : (h : Head) → MayFind p e h.found → (x : Selector) (xs : List Selector) → IsFineSpot (judge.selector e h x xs)
+    selector_fine h may (s.Field q n) xs = behind_spot p e (desig.named e h) q
+    selector_fine h may (s.Index' q shape row) xs = behind_spot p e (desig.named e h) q
+    selector_fine h may (s.Follow q) xs = behind_spot p e (desig.named e h) q
+    selector_fine h may (s.Paren' q shape row) xs =
+        let j = judge.called e h q (judge.arguments e row) (items-the_row-Expr _ row) in
+        spotted p e h.first (judge.ended h.first j xs)
+        (ended_part p e h.first j (called_part p e h q (judge.arguments e row) (arguments_fine row) (items-the_row-Expr _ row)) xs)
 
-  object_type : (of : Option TypeId) → IsKnown e.types e.broken of → is_object (env.row_of e of) ≡ true →
-      (type_of of ≡ type.Object (object_number of)) × (object_number of < length p.objects)
-  object_type None known test = absurd known
-  object_type (Some t) (number is r b) test = absurd (not_both (sym (ap is_object (row_is t (row.Basic basic.LongInt) r b)) ∙ test))
-  object_type (Some t) (object from r b) test =
-      let within : t.0 < length e.types = slice_get_within e.types t.0 (row.Object None []) r in
-      let few : length e.types ≡ 9 + length p.objects = whole.objects in
-      (ap (λ w. if w then type.LongInt else type.Object (object_number (Some t))) (ne_eqb t.0 2 (omega arith)), below t.0 (length p.objects) from (subst (λ n. t.0 < n) few within))
-    where
-      below : (t n : ℕ) → 9 ≤ t → t < 9 + n → t - 9 < n
-      below t n from h = omega arith
+    arguments_fine : {m : _} (r : Row_of-Expr m) → Parts p e (judge.arguments e r)
+    arguments_fine end_of-Expr = tt
+    arguments_fine (more_of-Expr x xs) = (expr_fine x, arguments_fine xs)
 
-  object_sound : (a : Spot) → IsTested is_object a → IsMade a
-  object_sound a x = let is = object_type a.of x.0.known x.1 in (x.0.typed ∙ ap Some is.0, is.1)
+  -- a designator, by the list of its selectors
+  from_head_fine : (h : Head) → MayFind p e h.found → (xs : List Selector) → IsFineSpot (judge.from_head e h xs)
+  from_head_fine h may [] = named_spot p e good h may
+  from_head_fine h may (x ∷ xs) = selector_fine h may x xs
 
-  -- Expressions.
+  selected_fine : (n : Name) (xs : List Selector) → IsFineSpot (judge.selected e n xs)
+  selected_fine n [] = named_spot p e good (desig.plain e n) (plain_head p e n)
+  selected_fine n (x ∷ xs) =
+      chosen (desig.is_module (env.lookup e n)) (judge.in_module n x (judge.from_head e (judge.head_in e n x) xs)) (judge.selector e (desig.plain e n) x xs)
+      (in_module_fine n x (judge.from_head e (judge.head_in e n x) xs) (from_head_fine (judge.head_in e n x) (head_fine n x) xs))
+      (selector_fine (desig.plain e n) (plain_head p e n) x xs)
 
-  factor_sound : (x : Factor) → Holds (IsInteger p) (judge.factor e x)
-  factor_sound (f.Number q n) = λ h. tt
-  factor_sound (f.Desig' n shape row) =
-      holds_bind (IsTested is_longint) (IsInteger p) (desig.tested_designator e is_longint n (items-the_row-Selector _ row)) (λ a. kept (Read a.place))
-      (tested_sound is_longint n (items-the_row-Selector _ row)) (λ a x h. number_sound a x)
-  factor_sound (f.Char q n) = λ h. tt
-  factor_sound (f.Text t) = λ h. tt
-  factor_sound (f.Nil q) = λ h. tt
-  factor_sound (f.Set' q shape row) = λ h. tt
-  factor_sound (f.Paren' q shape row) = λ h. tt
-  factor_sound (f.Not' q shape row) = λ h. tt
+-- The law.
 
-  term_sound : (t : Term) → Holds (IsInteger p) (judge.term e t)
-  term_sound t =
-      holds_bind (IsInteger p) (IsInteger p) (judge.factor e (out-Term t).first) (λ a. judged (judge.product_breaches (out-Term t).rest) a)
-      (factor_sound (out-Term t).first) (λ a x h. x)
+pub expr_sound : (p : Program) (e : Env) → IsWhole p e → (x : Expr) → Holds (IsSound p) (judge.expr e x)
+expr_sound p e whole x none = (expr_fine p e whole.constants x none).sound whole
 
-  added_sound : (op : AddOp) (a b : Expr) → IsInteger p a → IsInteger p b → IsInteger p (judge.added op a b)
-  added_sound add.Plus a b x y = (x, y)
-  added_sound add.Minus a b x y = (x, y)
-  added_sound add.Or a b x y = x
+pub designator_sound : (p : Program) (e : Env) → IsWhole p e → (d : Desig) → Holds (IsSoundSpot p e) (judge.designator e d)
+designator_sound p e whole d none = (selected_fine p e whole.constants d.name d.selectors none).sound whole
 
-  addition_sound : (after_number : Bool) (left : Expr) (a : Addition) → IsInteger p left → Holds (IsInteger p) (judge.addition e after_number left a)
-  addition_sound after_number left a x =
-      let o = out-Addition a in
-      holds_bind (IsInteger p) (IsInteger p) (judge.term e o.right)
-      (λ right. judged (breach_unless (not after_number && judge.is_built o.op) 99 o.pos) (judge.added o.op left right))
-      (term_sound o.right) (λ right y h. added_sound o.op left right x y)
+-- and its class is known
+pub designator_known : (p : Program) (e : Env) → IsWhole p e → (d : Desig) → Holds (λ a. IsKnownClass IsGood a.known.class) (judge.designator e d)
+designator_known p e whole d none = (selected_fine p e whole.constants d.name d.selectors none).class
 
-  sum_sound : (a : Simple) → Holds (IsInteger p) (judge.sum e a)
-  sum_sound a =
-      let s = out-Simple a in
-      let step = judge.addition e (judge.is_number (out-Term s.first).first) in
-      holds_bind (λ (x : Expr). Unit {0}) (IsInteger p) (judged (judge.sign_breaches s.sign s.pos) judge.nothing) (λ none. bind (judge.term e s.first) (λ first. walk step first s.rest))
-      (λ h. tt)
-      (λ none u. holds_bind (IsInteger p) (IsInteger p) (judge.term e s.first) (λ first. walk step first s.rest) (term_sound s.first)
-      (λ first x. holds_walk (IsInteger p) step (λ left b y. addition_sound (judge.is_number (out-Term s.first).first) left b y) s.rest first x))
+pub condition_sound : (p : Program) (e : Env) → IsWhole p e → (x : Expr) → Holds (λ t. IsOf p t type.Boolean) (judge.condition e x)
+condition_sound p e whole x =
+    holds_bind (IsSound p) (λ t. IsOf p t type.Boolean) (judge.expr e x) (λ a. judged (breach_unless (is_boolean a.known.of) 37 (out-Expr x).pos) a.typed)
+    (expr_sound p e whole x) (λ a h none. sound_boolean p a h (test_is (is_boolean a.known.of) 37 (out-Expr x).pos none))
 
-  pub value_sound : (a : TreeExpr) → Holds (IsInteger p) (judge.value e a)
-  value_sound a =
-      holds_bind (IsInteger p) (IsInteger p) (judge.sum e (out-Expr a).left) (λ x. judged (judge.relation_breaches (out-Expr a).right) x)
-      (sum_sound (out-Expr a).left) (λ b x h. x)
+pub argument_sound : (p : Program) (e : Env) → IsWhole p e → (x : Expr) →
+    Holds (λ t. IsOf p t (type.Integer W64)) (judge.argument e is_number x) × Holds (λ t. IsOf p t type.Char) (judge.argument e is_char x)
+argument_sound p e whole x = (number, character)
+  where
+    number : Holds (λ t. IsOf p t (type.Integer W64)) (judge.argument e is_number x)
+    number =
+        holds_bind (IsSound p) (λ t. IsOf p t (type.Integer W64)) (judge.expr e x) (λ a. judged (op.argument (is_number a.known.of) (out-Expr x).pos) a.typed)
+        (expr_sound p e whole x) (λ a h none. sound_number p a h (test_is (is_number a.known.of) 35 (out-Expr x).pos none))
 
-  related_sound : (op : RelationOp) (a b : Expr) → IsInteger p a → IsInteger p b → judge.is_built_relation op ≡ true → IsBoolean p (judge.related op a b)
-  related_sound relation.Less a b x y h = (x, y)
-  related_sound relation.NotEqual a b x y h = (x, y)
-  related_sound relation.Equal a b x y h = absurd (not_both h)
-  related_sound relation.LessEqual a b x y h = absurd (not_both h)
-  related_sound relation.Greater a b x y h = absurd (not_both h)
-  related_sound relation.GreaterEqual a b x y h = absurd (not_both h)
-  related_sound relation.In a b x y h = absurd (not_both h)
-  related_sound relation.Is a b x y h = absurd (not_both h)
+    character : Holds (λ t. IsOf p t type.Char) (judge.argument e is_char x)
+    character =
+        holds_bind (IsSound p) (λ t. IsOf p t type.Char) (judge.expr e x) (λ a. judged (op.argument (is_char a.known.of) (out-Expr x).pos) a.typed)
+        (expr_sound p e whole x) (λ a h none. sound_char p a h (test_is (is_char a.known.of) 35 (out-Expr x).pos none))
 
-  compared_sound : (at : Pos) (left : Expr) (r : Option Relation) → IsInteger p left → Holds (IsBoolean p) (judge.compared e at left r)
-  compared_sound at left None x = broken (IsBoolean p) _ [] _
-  compared_sound at left (Some r) x =
-      let o = out-Relation r in
-      holds_bind (IsInteger p) (IsBoolean p) (judge.sum e o.right)
-      (λ right. judged (breach_unless (judge.is_built_relation o.op) 99 o.pos) (judge.related o.op left right))
-      (sum_sound o.right) (λ right y h. related_sound o.op left right x y (test_is (judge.is_built_relation o.op) 99 o.pos h))
+-- a constant expression reads no variable, so that the program may be any
+no_program : Program
+no_program = record { modules = []; objects = [] }
 
-  pub condition_sound : (at : Pos) (a : TreeExpr) → Holds (IsBoolean p) (judge.condition e at a)
-  condition_sound at a =
-      holds_bind (IsInteger p) (IsBoolean p) (judge.sum e (out-Expr a).left) (λ left. judge.compared e at left (out-Expr a).right)
-      (sum_sound (out-Expr a).left) (λ left x. compared_sound at left (out-Expr a).right x)
-
-  places_factor_sound : (x : Factor) → Holds (IsInteger p) (judge.places_factor e x)
-  places_factor_sound (f.Number q n) = λ h. tt
-  places_factor_sound (f.Desig' n shape row) = λ h. tt
-  places_factor_sound (f.Char q n) = λ h. tt
-  places_factor_sound (f.Text t) = λ h. tt
-  places_factor_sound (f.Nil q) = λ h. tt
-  places_factor_sound (f.Set' q shape row) = λ h. tt
-  places_factor_sound (f.Paren' q shape row) = λ h. tt
-  places_factor_sound (f.Not' q shape row) = λ h. tt
-
-  pub places_sound : (a : TreeExpr) → Holds (IsInteger p) (judge.places e a)
-  places_sound a =
-      holds_bind (IsInteger p) (IsInteger p) (judge.places_factor e (judge.first_factor a)) (λ x. judged (judge.alone_breaches a) x)
-      (places_factor_sound (judge.first_factor a)) (λ b x h. x)
-
-  abbrev pub MayBeMade : Option Spot → Type 0
-  MayBeMade None = Unit {0}
-  MayBeMade (Some a) = IsMade a
-
-  object_factor_sound : (x : Factor) → Holds MayBeMade (judge.object_factor e x)
-  object_factor_sound (f.Desig' n shape row) =
-      holds_bind (IsTested is_object) MayBeMade (desig.tested_designator e is_object n (items-the_row-Selector _ row))
-      (λ a. bind (desig.written n.pos a) (λ b. kept (Some b)))
-      (tested_sound is_object n (items-the_row-Selector _ row)) (λ a x h. object_sound a x)
-  object_factor_sound (f.Number q n) = λ h. tt
-  object_factor_sound (f.Char q n) = λ h. tt
-  object_factor_sound (f.Text t) = λ h. tt
-  object_factor_sound (f.Nil q) = λ h. tt
-  object_factor_sound (f.Set' q shape row) = λ h. tt
-  object_factor_sound (f.Paren' q shape row) = λ h. tt
-  object_factor_sound (f.Not' q shape row) = λ h. tt
-
-  pub made_sound : (a : TreeExpr) → Holds MayBeMade (judge.object e a)
-  made_sound a =
-      holds_bind MayBeMade MayBeMade (judge.object_factor e (judge.first_factor a)) (λ x. judged (judge.alone_breaches a) x)
-      (object_factor_sound (judge.first_factor a)) (λ b x h. x)
+pub constant_good : (e : Env) → GoodConstants e → (x : Expr) → Holds HasGood (judge.constant e x)
+constant_good e good x =
+    holds_bind (Part no_program e) HasGood (judge.expr e x) (λ a. judge.constant_class a.known.class (out-Expr x).pos)
+    (expr_fine no_program e good x) (λ a h. by a.known.class h.class h.valued)
+  where
+    by : (c : Class) → IsKnownClass IsGood c → not (is_lost c) ≡ true → Holds HasGood (judge.constant_class c (out-Expr x).pos)
+    by (Constant (Some l)) g v = λ none. (l, refl, g)
+    by (Constant None) g v = absurd (cc)
+    by Unknown g v = absurd g
+    by Variable g v = broken HasGood _ [] _
+    by ReadOnly g v = broken HasGood _ [] _
+    by Computed g v = broken HasGood _ [] _

@@ -1,143 +1,154 @@
--- Designators: the variable that a name, or a name of another module, stands for, and what is known of it. A part that breaks a
--- rule may be anything, so that no further rule is broken by it.
-use Rattle.std.specs.Prelude.{ℕ, ◌-◌, List, [], ◌∷◌, length, Bool, true, false, ◌==◌, not, Option, Some, None, if◌then◌else◌}
-use Rattle.std.specs.List.{flat_map}
+-- Designators: what a name, or a name behind that of a module, stands for, and what is known of it.
+use Rattle.std.specs.Prelude.{ℕ, List, [], ◌++◌, Bool, true, false, ◌==◌, Option, Some, None, if◌then◌else◌}
 use Rattle.aos_base.specs.declared.text.Pos.{Pos}
 use Rattle.aos_tree.specs.declared.name.Name.{Name}
 use Rattle.aos_tree.specs.declared.decl.Export.{Export}
-use Rattle.aos_tree.specs.declared.decl.Export.TheVariants.{ReadWrite, ReadOnly}
-use Rattle.aos_tree.specs.declared.expr.Selector.{Selector}
-use Rattle.aos_tree.specs.declared.expr.Selector.TheVariants as s
+use Rattle.aos_tree.specs.declared.decl.Export.TheVariants.{ReadWrite, ReadOnly as OnlyRead}
 use Rattle.aos_types.specs.declared.row.TypeId.{TypeId}
-use Rattle.aos_types.specs.declared.row.Basic.TheVariants as basic
-use Rattle.aos_types.specs.declared.row.TypeRow.{TypeRow}
-use Rattle.aos_types.specs.declared.row.TypeRow.TheVariants as row
-use Rattle.aos_typed.specs.declared.tree.TType.{TType}
-use Rattle.aos_typed.specs.declared.tree.TType.TheVariants as type
+use Rattle.aos_typed.specs.declared.tree.Literal.{Literal}
+use Rattle.aos_typed.specs.declared.tree.Literal.TheVariants as literal
 use Rattle.aos_typed.specs.Program.{Place, ModuleVar}
 use Rattle.aos_symbols.specs.declared.breach.Breach.{Breach}
 use Rattle.aos_symbols.specs.declared.scope.Meaning.{Meaning}
 use Rattle.aos_symbols.specs.declared.scope.Meaning.TheVariants as means
 use Rattle.aos_symbols.specs.declared.env.Symbol.{Symbol}
 use Rattle.aos_symbols.specs.declared.env.Lookup.{Lookup}
-use Rattle.aos_symbols.specs.declared.env.Lookup.TheVariants.{Unknown, NotExported, Found}
+use Rattle.aos_symbols.specs.declared.env.Lookup.TheVariants.{Unknown as NoName, NotExported, Found}
 use Rattle.aos_symbols.specs.declared.env.Env.{Env}
-use Rattle.aos_symbols.specs.Breaches.{breach, breach_unless, not_built}
+use Rattle.aos_symbols.specs.Breaches.{breach, breach_unless}
 use Rattle.aos_symbols.specs.Judged.{Judged, judged, kept, bind}
+use Rattle.aos_symbols.specs.Spelling.{word, is_among, procedures_of_out}
 use Rattle.aos_symbols.specs.Env as env
+use Rattle.aos_check_expr.specs.declared.known.Class.{Class}
+use Rattle.aos_check_expr.specs.declared.known.Class.TheVariants.{Unknown, Constant, Variable, ReadOnly, Computed}
+use Rattle.aos_check_expr.specs.declared.designators.Head.{Head}
+use Rattle.aos_check_expr.specs.Known.{Answer, Spot, Held, Stands, Value, passes, is_basic, unknown, some_value, constant_answer, answered, nothing, spot_of, read_from, known_as, lost}
 
--- a variable: its place, its type where that is known, whether it may only be read, and where the name stands that is its own
-pub record Spot : Type 0 where
-  pub place : Place
-  pub of : Option TypeId
-  pub is_read_only : Bool
-  pub at : Pos
+-- A head is what is found of a name, where the name stands, and where the designator begins.
 
--- a part that may be anything
-abbrev pub nowhere : Pos → Spot
-nowhere at = record { place = ModuleVar 0 0; of = None; is_read_only = false; at = at }
+abbrev pub plain : Env → Name → Head
+plain e n = record { found = env.lookup e n; at = n.pos; first = n.pos }
 
-abbrev pub refused : ℕ → Pos → Judged Spot
-refused rule at = judged (breach rule at) (nowhere at)
+abbrev pub is_module_meaning : Meaning → Bool
+is_module_meaning (means.Module m) = true
+is_module_meaning means.Out = true
+is_module_meaning (means.Constant k) = false
+is_module_meaning (means.Type of) = false
+is_module_meaning (means.Variable k) = false
+is_module_meaning (means.Procedure k) = false
+is_module_meaning (means.Truth b) = false
+is_module_meaning (means.Function f) = false
+is_module_meaning means.New = false
+is_module_meaning means.Proper = false
+is_module_meaning means.Other = false
 
--- what isn't built is refused at itself
-abbrev pub selector_place : Selector → Pos
-selector_place (s.Field p n) = p
-selector_place (s.Index' p shape row) = p
-selector_place (s.Follow p) = p
-selector_place (s.Paren' p shape row) = p
+abbrev pub is_module : Lookup → Bool
+is_module NoName = false
+is_module NotExported = false
+is_module (Found x) = is_module_meaning x.means
 
-abbrev pub selector_breaches : List Selector → List Breach
-selector_breaches ss = flat_map (λ a. not_built (selector_place a)) ss
+-- the procedures of Out are proper ones
+abbrev pub member_of_out : Env → Name → Lookup
+member_of_out e n =
+    if is_among procedures_of_out (word e.here.text n)
+    then Found (record { at = env.own e.number; mark = None; means = means.Proper })
+    else NoName
+
+abbrev pub member_of : Env → Meaning → Name → Lookup
+member_of e (means.Module m) n = env.member e m n
+member_of e means.Out n = member_of_out e n
+member_of e m n = NoName
+
+abbrev pub member_in : Env → Lookup → Name → Lookup
+member_in e NoName n = NoName
+member_in e NotExported n = NotExported
+member_in e (Found x) n = member_of e x.means n
+
+-- a name behind that of a module
+abbrev pub member : Env → Name → Name → Head
+member e m n = record { found = member_in e (env.lookup e m) n; at = n.pos; first = m.pos }
 
 -- a name marked `-` may only be read in other modules
-abbrev pub is_read_only : Bool → Option Export → Bool
-is_read_only here None = false
-is_read_only here (Some ReadWrite) = false
-is_read_only here (Some ReadOnly) = not here
+abbrev pub access : Bool → Option Export → Class
+access here None = Variable
+access here (Some ReadWrite) = Variable
+access here (Some OnlyRead) = if here then Variable else ReadOnly
 
-module _ (e : Env) where
-  -- a variable of a module
-  abbrev pub variable : Symbol → ℕ → Pos → Spot
-  variable x k at =
-      record {
-        place = ModuleVar x.at.home k;
-        of = env.variable_type e x.at k;
-        is_read_only = is_read_only (x.at.home == e.number) x.mark;
-        at = at;
-      }
+-- a rule that is broken, by what may be anything, and by what is some value
+abbrev pub refused : ℕ → Pos → Judged Answer
+refused rule at = judged (breach rule at) unknown
 
-  -- what a name stands for that must be a variable
-  abbrev pub meant : Symbol → Meaning → Pos → Judged Spot
-  meant x (means.Variable k) at = if x.at.scope == 0 then kept (variable x k at) else refused 99 at
-  meant x (means.Constant k) at = refused 99 at
-  meant x (means.Type of) at = refused 99 at
-  meant x (means.Procedure k) at = refused 99 at
-  meant x (means.Module m) at = refused 99 at
-  meant x means.Out at = refused 99 at
-  meant x means.New at = refused 99 at
-  meant x means.Other at = refused 99 at
+abbrev pub refused_value : ℕ → Pos → Judged Answer
+refused_value rule at = judged (breach rule at) some_value
 
-  abbrev pub found : Lookup → Pos → Judged Spot
-  found Unknown at = refused 14 at
-  found NotExported at = refused 15 at
-  found (Found x) at = meant x x.means at
+abbrev pub spotted : Pos → Judged Answer → Judged Spot
+spotted at j = bind j (λ a. kept (spot_of at a))
 
-  -- selectors that aren't built stand behind
-  abbrev pub behind : List Selector → Judged Spot → Judged Spot
-  behind ss j = bind j (λ a. judged (selector_breaches ss) a)
+-- a constant that is declared later has no value here
+abbrev pub constant_of : Option (Option Literal) → Pos → Judged Answer
+constant_of None at = judged (lost (Constant None) at) (answered (Constant None) None nothing)
+constant_of (Some None) at = kept unknown
+constant_of (Some (Some v)) at = kept (constant_answer v)
 
-  -- behind the name of a module stands a name of that module
-  abbrev pub of_module : ℕ → Pos → List Selector → Judged Spot
-  of_module m at [] = refused 99 at
-  of_module m at (s.Field p n ∷ more) = behind more (found (env.member e m n) n.pos)
-  of_module m at (s.Index' p shape row ∷ more) = refused 99 at
-  of_module m at (s.Follow p ∷ more) = refused 99 at
-  of_module m at (s.Paren' p shape row ∷ more) = refused 99 at
+abbrev pub variable : Env → Symbol → ℕ → Pos → Spot
+variable e x k at =
+    record {
+      known = known_as (access (x.at.home == e.number) x.mark) (env.variable_type e x.at k);
+      held = Stands (ModuleVar x.at.home k);
+      at = at;
+    }
 
-  abbrev pub by_meaning : Symbol → Meaning → Pos → List Selector → Judged Spot
-  by_meaning x (means.Module m) at ss = of_module m at ss
-  by_meaning x m at ss = behind ss (meant x m at)
+-- what a name stands for that is no call: the name of a type or a module is no value, nor is a procedure
+abbrev pub meant : Env → Symbol → Meaning → Head → Judged Spot
+meant e x (means.Variable k) h = if x.at.scope == 0 then kept (variable e x k h.at) else spotted h.at (refused 99 h.at)
+meant e x (means.Constant k) h = spotted h.at (constant_of (env.constant e x.at k h.first) h.at)
+meant e x (means.Type of) h = spotted h.at (refused 16 h.at)
+meant e x (means.Module m) h = spotted h.at (refused 16 h.at)
+meant e x means.Out h = spotted h.at (refused 16 h.at)
+meant e x (means.Truth b) h = spotted h.at (kept (constant_answer (literal.Bool b)))
+meant e x (means.Function f) h = spotted h.at (refused_value 36 h.first)
+meant e x means.New h = spotted h.at (refused_value 36 h.first)
+meant e x means.Proper h = spotted h.at (refused_value 36 h.first)
+meant e x (means.Procedure k) h = spotted h.at (refused_value 99 h.first)
+meant e x means.Other h = spotted h.at (refused_value 99 h.first)
 
-  abbrev pub by_name : Lookup → Pos → List Selector → Judged Spot
-  by_name Unknown at ss = behind ss (refused 14 at)
-  by_name NotExported at ss = behind ss (refused 15 at)
-  by_name (Found x) at ss = by_meaning x x.means at ss
+abbrev pub found : Env → Lookup → Head → Judged Spot
+found e NoName h = spotted h.at (refused 14 h.at)
+found e NotExported h = spotted h.at (refused 15 h.at)
+found e (Found x) h = meant e x x.means h
 
-  abbrev pub designator : Name → List Selector → Judged Spot
-  designator n ss = by_name (env.lookup e n) n.pos ss
+abbrev pub named : Env → Head → Judged Spot
+named e h = found e h.found h
 
-  -- the variable's type passes a test, or else its name is refused
-  abbrev pub tested : (Option TypeRow → Bool) → Spot → Judged Spot
-  tested test a = judged (breach_unless (test (env.row_of e a.of)) 99 a.at) a
+-- a selector that a basic type hasn't; what other types have isn't built
+abbrev pub selected : Option TypeId → Pos → Judged Answer
+selected None at = refused 99 at
+selected (Some t) at = refused (if is_basic t then 42 else 99) at
 
-  abbrev pub tested_designator : (Option TypeRow → Bool) → Name → List Selector → Judged Spot
-  tested_designator test n ss = bind (designator n ss) (tested test)
+-- whether an argument is the name of a type: then `x(T)` is a guard, which no basic type has, and else x can't be called
+abbrev pub guarded : Option TypeId → Bool → Pos → Pos → Judged Answer
+guarded None is_guard at first = refused 99 at
+guarded (Some t) true at first = refused (if is_basic t then 41 else 99) at
+guarded (Some t) false at first = refused 36 first
 
--- a variable that is written, whose designator begins here
-abbrev pub written : Pos → Spot → Judged Spot
-written first a = judged (breach_unless (not a.is_read_only) 33 first) a
+-- a variable of a type that isn't built yet can't be read
+abbrev pub read : Spot → Judged Answer
+read a =
+    let own = breach_unless (passes is_basic a.known.of) 99 a.at in
+    judged own (record { known = a.known; typed = read_from a.known.of a.held })
 
--- the type passes, or isn't known
-abbrev pub is_longint : Option TypeRow → Bool
-is_longint None = true
-is_longint (Some (row.Basic basic.LongInt)) = true
-is_longint (Some r) = false
+-- a designator that is assigned: a variable, which may be written, of a basic type
+abbrev pub written : Class → Pos → List Breach
+written Unknown first = []
+written Variable first = []
+written ReadOnly first = breach 33 first
+written (Constant v) first = breach 32 first
+written Computed first = breach 32 first
 
-abbrev pub is_object : Option TypeRow → Bool
-is_object None = true
-is_object (Some (row.Object base fields)) = true
-is_object (Some r) = false
+abbrev pub assigned : Pos → Spot → Judged Spot
+assigned first a = judged (written a.known.class first ++ breach_unless (passes is_basic a.known.of) 99 a.at) a
 
--- the number of an object type among those of the program
-abbrev pub object_number : Option TypeId → ℕ
-object_number None = 0
-object_number (Some t) = t.0 - length env.basic_rows
-
-abbrev pub type_of : Option TypeId → TType
-type_of None = type.LongInt
-type_of (Some t) = if t.0 == env.longint.0 then type.LongInt else type.Object (object_number (Some t))
-
--- a variable that a statement assigns a number
-abbrev pub assigned : Env → Name → List Selector → Judged Spot
-assigned e n ss = bind (tested_designator e is_longint n ss) (written n.pos)
+-- the place of a variable
+abbrev pub place_of : Held → Place
+place_of (Stands p) = p
+place_of (Value e) = ModuleVar 0 0

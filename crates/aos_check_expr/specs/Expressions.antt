@@ -1,176 +1,411 @@
--- Expressions: which rules they break, and what they are in the typed program. Built are sums of LONGINT variables and numbers,
--- and the relations `<` and `#` of two sums. A factor that isn't built is refused at its first token, an operator at itself.
-use Rattle.std.specs.Prelude.{ℤ, pos, List, [], ◌++◌, Bool, true, false, not, ◌&&◌, Option, Some, None, int_le}
-use Rattle.std.specs.List.{flat_map}
+-- Expressions: which rules they break, what is known of them and what they are in the typed program (Oberon-2 report, section
+-- 8). A type test, NIL and texts but those of one character aren't built.
+use Rattle.std.specs.Prelude.{ℕ, ◌+◌, ℤ, pos, List, [], ◌∷◌, ◌++◌, Bool, true, false, ◌&&◌, ◌==◌, Option, Some, None, slice_get, option_and_then, if◌then◌else◌}
 use Rattle.std.specs.Option.{is_none}
 use Rattle.aos_base.specs.declared.text.Pos.{Pos}
-use Rattle.aos_base.specs.declared.number.Width.TheVariants.{W32}
-use Rattle.aos_base.specs.declared.number.Relation.TheVariants as rel
+use Rattle.aos_base.specs.declared.number.Width.TheVariants.{W64}
+use Rattle.aos_base.specs.Number.{if_within}
+use Rattle.aos_base.specs.Operators.{natural}
+use Rattle.aos_tree.specs.declared.name.Name.{Name}
+use Rattle.aos_tree.specs.declared.name.Text.{Text}
 use Rattle.aos_tree.specs.declared.expr.RelationOp.{RelationOp}
-use Rattle.aos_tree.specs.declared.expr.RelationOp.TheVariants as relation
-use Rattle.aos_tree.specs.declared.expr.AddOp.{AddOp}
-use Rattle.aos_tree.specs.declared.expr.AddOp.TheVariants as add
+use Rattle.aos_tree.specs.declared.expr.RelationOp.TheVariants as relation_op
 use Rattle.aos_tree.specs.declared.expr.Sign.{Sign}
-use Rattle.aos_tree.specs.declared.expr.Expr.{Expr as TreeExpr, out-Expr}
-use Rattle.aos_tree.specs.declared.expr.Relation.{Relation, out-Relation}
-use Rattle.aos_tree.specs.declared.expr.Simple.{Simple, out-Simple}
-use Rattle.aos_tree.specs.declared.expr.Addition.{Addition, out-Addition}
-use Rattle.aos_tree.specs.declared.expr.Term.{Term, out-Term}
+use Rattle.aos_tree.specs.declared.expr.AddOp.{AddOp}
+use Rattle.aos_tree.specs.declared.expr.MulOp.{MulOp}
+use Rattle.aos_tree.specs.declared.expr.Expr.{Expr, Expr', Held-Expr-right, Expr-right-None', Expr-right-Some', out-Expr}
+use Rattle.aos_tree.specs.declared.expr.Relation.{Relation, Relation'}
+use Rattle.aos_tree.specs.declared.expr.Simple.{Simple, Simple', Row_of-Addition, end_of-Addition, more_of-Addition, out-Simple}
+use Rattle.aos_tree.specs.declared.expr.Addition.{Addition, Addition'}
 use Rattle.aos_tree.specs.declared.expr.Product.{Product}
-use Rattle.aos_tree.specs.declared.expr.Factor.{Factor}
+use Rattle.aos_tree.specs.declared.expr.Term.{Term, Term', Row_of-Product, end_of-Product, more_of-Product, out-Term}
+use Rattle.aos_tree.specs.declared.expr.Factor.{Factor, Row_of-Expr, end_of-Expr, more_of-Expr, Row_of-Factor, end_of-Factor, more_of-Factor, Row_of-Elem, end_of-Elem, more_of-Elem}
 use Rattle.aos_tree.specs.declared.expr.Factor.TheVariants as f
-use Rattle.aos_tree.specs.declared.expr.Desig.{items-the_row-Selector}
+use Rattle.aos_tree.specs.declared.expr.Elem.{Elem, Elem', Elem-last-None', Elem-last-Some'}
+use Rattle.aos_tree.specs.declared.expr.Desig.{Desig, Row_of-Selector, end_of-Selector, more_of-Selector, items-the_row-Selector}
+use Rattle.aos_tree.specs.declared.expr.Selector.{Selector, items-the_row-Expr}
+use Rattle.aos_tree.specs.declared.expr.Selector.TheVariants as s
+use Rattle.aos_types.specs.declared.row.TypeId.{TypeId}
+use Rattle.aos_typed.specs.declared.tree.Literal.{Literal}
 use Rattle.aos_typed.specs.declared.tree.Literal.TheVariants as literal
-use Rattle.aos_typed.specs.declared.tree.Binary.TheVariants as op
-use Rattle.aos_typed.specs.Program.{Expr, Lit, Read, Binary, Compare}
-use Rattle.aos_symbols.specs.declared.breach.Breach.{Breach}
-use Rattle.aos_symbols.specs.declared.env.Env.{Env}
+use Rattle.aos_typed.specs.Program.{Expr as Typed}
+use Rattle.aos_symbols.specs.declared.scope.Meaning.{Meaning}
+use Rattle.aos_symbols.specs.declared.scope.Meaning.TheVariants as means
+use Rattle.aos_symbols.specs.declared.scope.Function.{Function}
+use Rattle.aos_symbols.specs.declared.scope.Function.TheVariants as function
 use Rattle.aos_symbols.specs.declared.env.Lookup.{Lookup}
-use Rattle.aos_symbols.specs.declared.env.Lookup.TheVariants.{Unknown, NotExported, Found}
+use Rattle.aos_symbols.specs.declared.env.Lookup.TheVariants.{Unknown as NoName, NotExported, Found}
+use Rattle.aos_symbols.specs.declared.env.Env.{Env}
 use Rattle.aos_symbols.specs.Breaches.{breach, breach_unless, not_built}
-use Rattle.aos_symbols.specs.Judged.{Judged, judged, kept, bind, walk}
+use Rattle.aos_symbols.specs.Judged.{Judged, judged, kept, bind}
 use Rattle.aos_symbols.specs.Env as env
-use Rattle.aos_check_expr.specs.Designators.{Spot, tested_designator, is_longint, written, is_object}
+use Rattle.aos_check_expr.specs.declared.known.Class.{Class}
+use Rattle.aos_check_expr.specs.declared.known.Class.TheVariants.{Unknown, Constant, Variable, ReadOnly, Computed}
+use Rattle.aos_check_expr.specs.declared.designators.Head.{Head}
+use Rattle.aos_check_expr.specs.declared.operations.Step.{Step}
+use Rattle.aos_check_expr.specs.declared.calls.Limit.{Limit}
+use Rattle.aos_check_expr.specs.declared.calls.Limit.TheVariants as which
+use Rattle.aos_check_expr.specs.Known.{Answer, Spot, is_basic, is_number, is_boolean, is_integer, constant_answer, answered, nothing}
+use Rattle.aos_check_expr.specs.Operations as op
+use Rattle.aos_check_expr.specs.Designators as desig
 
--- Tables: operators, and what they make of their operands.
+-- Forms without parts.
 
--- the greatest number, and the greatest number of places
-abbrev pub greatest_number : ℤ
-greatest_number = pos 2147483647
+abbrev pub not_yet : Pos → Judged Answer
+not_yet at = desig.refused 99 at
 
-abbrev pub greatest_places : ℤ
-greatest_places = pos 255
+-- a number, which the scanner has found to be one of 64 bits
+abbrev pub number : Option ℤ → Pos → Judged Answer
+number None at = not_yet at
+number (Some n) at = kept (constant_answer (literal.Int n))
 
--- of the operators + and - are built, of the relations < and #
-abbrev pub is_built : AddOp → Bool
-is_built add.Plus = true
-is_built add.Minus = true
-is_built add.Or = false
+-- a character by its code
+abbrev pub character : Option ℕ → Pos → Judged Answer
+character None at = not_yet at
+character (Some c) at = kept (constant_answer (literal.Char c))
 
-abbrev pub added : AddOp → Expr → Expr → Expr
-added add.Plus a b = Binary (op.Add W32) a b
-added add.Minus a b = Binary (op.Sub W32) a b
-added add.Or a b = a
+-- a string constant of one character between its quotes is that character
+abbrev pub character_in : List ℕ → Text → Option ℕ
+character_in text t = if t.start + 3 == t.end then option_and_then (λ c. natural 256 (pos c)) (slice_get text (t.start + 1)) else None
 
-abbrev pub is_built_relation : RelationOp → Bool
-is_built_relation relation.Less = true
-is_built_relation relation.NotEqual = true
-is_built_relation r = false
+-- A name alone, or a name behind that of a module: its head. Such is the argument of MAX and MIN.
 
-abbrev pub related : RelationOp → Expr → Expr → Expr
-related relation.Less a b = Compare rel.Less a b
-related relation.NotEqual a b = Compare rel.NotEqual a b
-related r a b = a
+abbrev pub head_behind : Env → Bool → Name → Name → Option Head
+head_behind e true m n = Some (desig.member e m n)
+head_behind e false m n = None
 
--- what stands for a part that breaks a rule; it is never looked at
-abbrev pub nothing : Expr
-nothing = Lit (literal.Int (pos 0))
+abbrev pub head_of : Env → Name → List Selector → Option Head
+head_of e n [] = Some (desig.plain e n)
+head_of e m (s.Field p n ∷ []) = head_behind e (desig.is_module (env.lookup e m)) m n
+head_of e n _ = None
 
-abbrev pub refused : Pos → Judged Expr
-refused at = judged (not_built at) nothing
+-- an expression is its first factor
+abbrev pub is_factor : Expr → Bool
+is_factor x =
+    let a = out-Simple (out-Expr x).left in
+    (is_none (out-Expr x).right && is_none a.sign) && (is_nothing a.rest && is_nothing (out-Term a.first).rest)
+  where
+    is_nothing : {A : Type 0} → List A → Bool
+    is_nothing [] = true
+    is_nothing (x ∷ xs) = false
 
-abbrev pub number : ℤ → ℤ → Pos → Judged Expr
-number greatest n at = judged (breach_unless (int_le n greatest) 99 at) (Lit (literal.Int n))
+abbrev pub first_factor : Expr → Factor
+first_factor x = (out-Term (out-Simple (out-Expr x).left).first).first
 
-abbrev pub product_breaches : List Product → List Breach
-product_breaches ps = flat_map (λ p. not_built p.pos) ps
+-- the argument of NEW: an expression that is a designator
+abbrev pub desig_in : Factor → Option Desig
+desig_in (f.Desig' n shape row) = Some (record { name = n; selectors = items-the_row-Selector _ row })
+desig_in (f.Number p n) = None
+desig_in (f.Char p n) = None
+desig_in (f.Text t) = None
+desig_in (f.Nil p) = None
+desig_in (f.Set' p shape row) = None
+desig_in (f.Paren' p shape row) = None
+desig_in (f.Not' p shape row) = None
 
-abbrev pub sign_breaches : Option Sign → Pos → List Breach
-sign_breaches sign at = breach_unless (is_none sign) 99 at
+abbrev pub desig_alone : Expr → Option Desig
+desig_alone x = if is_factor x then desig_in (first_factor x) else None
 
-abbrev pub relation_breaches : Option Relation → List Breach
-relation_breaches None = []
-relation_breaches (Some r) = not_built (out-Relation r).pos
+abbrev pub name_alone : Env → Expr → Option Head
+name_alone e x = option_and_then (λ d. head_of e d.name d.selectors) (desig_alone x)
 
-abbrev pub addition_refused : Addition → List Breach
-addition_refused a = not_built (out-Addition a).pos
+abbrev pub is_type_meaning : Meaning → Bool
+is_type_meaning (means.Type of) = true
+is_type_meaning m = false
 
-abbrev pub is_number : Factor → Bool
-is_number (f.Number p n) = true
-is_number a = false
+abbrev pub is_type : Option Head → Bool
+is_type None = false
+is_type (Some h) = found h.found
+  where
+    found : Lookup → Bool
+    found NoName = false
+    found NotExported = false
+    found (Found x) = is_type_meaning x.means
 
-abbrev pub factor_place : Factor → Pos
-factor_place (f.Desig' n shape row) = n.pos
-factor_place (f.Number p n) = p
-factor_place (f.Char p n) = p
-factor_place (f.Text t) = t.pos
-factor_place (f.Nil p) = p
-factor_place (f.Set' p shape row) = p
-factor_place (f.Paren' p shape row) = p
-factor_place (f.Not' p shape row) = p
+-- `x(T)`, where T is the name of a type
+abbrev pub is_guard : Env → List Expr → Bool
+is_guard e (x ∷ []) = is_type (name_alone e x)
+is_guard e xs = false
 
--- the first factor of an expression, and the operators round it, of which none is built
-abbrev pub first_factor : TreeExpr → Factor
-first_factor a = (out-Term (out-Simple (out-Expr a).left).first).first
+-- MAX and MIN of a type.
 
-abbrev pub alone_breaches : TreeExpr → List Breach
-alone_breaches a =
-    let s = out-Simple (out-Expr a).left in
-    sign_breaches s.sign s.pos ++ product_breaches (out-Term s.first).rest ++ flat_map addition_refused s.rest
-    ++ relation_breaches (out-Expr a).right
+abbrev pub limit_in : Limit → TypeId → Option Literal
+limit_in which.Greatest = op.greatest_value
+limit_in which.Least = op.least_value
 
--- a name in the place of a number of places
-abbrev pub no_places : Lookup → Pos → List Breach
-no_places Unknown at = breach 14 at
-no_places NotExported at = breach 15 at
-no_places (Found x) at = not_built at
+abbrev pub limit_value : Option Literal → Pos → Judged Answer
+limit_value None at = desig.refused 35 at
+limit_value (Some v) at = kept (constant_answer v)
 
--- The parts of a tree.
+abbrev pub limit_of : (TypeId → Option Literal) → Meaning → Pos → Pos → Judged Answer
+limit_of value (means.Type None) at first = desig.refused 99 at
+limit_of value (means.Type (Some t)) at first = limit_value (value t) first
+limit_of value m at first = desig.refused 16 at
+
+abbrev pub limit_found : (TypeId → Option Literal) → Lookup → Pos → Pos → Judged Answer
+limit_found value NoName at first = desig.refused 14 at
+limit_found value NotExported at first = desig.refused 15 at
+limit_found value (Found x) at first = limit_of value x.means at first
+
+abbrev pub limit_named : (TypeId → Option Literal) → Option Head → Pos → Judged Answer
+limit_named value None first = desig.refused 35 first
+limit_named value (Some h) first = limit_found value h.found h.at h.first
+
+abbrev pub limit : Env → (TypeId → Option Literal) → List Expr → Pos → Judged Answer
+limit e value (x ∷ []) at = limit_named value (name_alone e x) (out-Expr x).pos
+limit e value xs at = desig.refused 34 at
+
+-- Calls, by what their first name stands for.
+
+pub data Callee : Type 0 where
+  Calls : Function → Callee
+  Converts : TypeId → Callee
+  Neither : Callee
+
+-- an object type and a type that isn't known have no conversion
+abbrev pub conversion : Option TypeId → Callee
+conversion None = Neither
+conversion (Some t) = if is_integer t then Converts t else Neither
+
+abbrev pub callee_meant : Meaning → Callee
+callee_meant (means.Function f) = Calls f
+callee_meant (means.Type of) = conversion of
+callee_meant m = Neither
+
+abbrev pub callee : Lookup → Callee
+callee NoName = Neither
+callee NotExported = Neither
+callee (Found x) = callee_meant x.means
+
+-- a call of what can't be called: of a type that has no conversion, or of a variable or value
+abbrev pub not_called : Env → Head → Pos → List Expr → Judged Answer
+not_called e h at args = by_lookup h.found
+  where
+    by_value : Judged Spot → Judged Answer
+    by_value j = bind j (λ a. desig.guarded a.known.of (is_guard e args) at h.first)
+
+    by_meaning : Meaning → Judged Answer
+    by_meaning (means.Type None) = desig.refused 99 h.first
+    by_meaning (means.Type (Some t)) = desig.refused 36 h.first
+    by_meaning m = by_value (desig.named e h)
+
+    by_lookup : Lookup → Judged Answer
+    by_lookup NoName = by_value (desig.named e h)
+    by_lookup NotExported = by_value (desig.named e h)
+    by_lookup (Found x) = by_meaning x.means
+
+-- a function's value, of an argument that stands here
+abbrev pub one_argument : Pos → Pos → Step → Answer → Judged Answer
+one_argument at first s a = op.told at (op.argument s.is_kept first) (op.stepped s a)
+
+abbrev pub two_arguments : Pos → Pos → Pos → Answer → Answer → Judged Answer
+two_arguments at first second a b =
+    op.told at (op.argument (is_number a.known.of) first ++ op.argument (is_number b.known.of) second)
+    (op.joined (op.shifted a.known.of b.known.of) a b)
+
+-- the value of a call, by those of its arguments
+abbrev pub one_of : (Option TypeId → Step) → Pos → List (Judged Answer) → List Expr → Judged Answer
+one_of s at (j ∷ []) (x ∷ []) = bind j (λ a. one_argument at (out-Expr x).pos (s a.known.of) a)
+one_of s at js xs = desig.refused 34 at
+
+abbrev pub two_of : Pos → List (Judged Answer) → List Expr → Judged Answer
+two_of at (j ∷ k ∷ []) (x ∷ y ∷ []) = bind j (λ a. bind k (λ b. two_arguments at (out-Expr x).pos (out-Expr y).pos a b))
+two_of at js xs = desig.refused 34 at
+
+abbrev pub called_by : Env → Callee → Head → Pos → List (Judged Answer) → List Expr → Judged Answer
+called_by e (Calls function.Max) h at js xs = limit e op.greatest_value xs h.first
+called_by e (Calls function.Min) h at js xs = limit e op.least_value xs h.first
+called_by e (Calls function.Ash) h at js xs = two_of h.first js xs
+called_by e (Calls f) h at js xs = one_of (λ of. op.applied f of) h.first js xs
+called_by e (Converts t) h at js xs = one_of (λ of. op.converted t of) h.first js xs
+called_by e Neither h at js xs = not_called e h at xs
+
+abbrev pub called : Env → Head → Pos → List (Judged Answer) → List Expr → Judged Answer
+called e h at js xs = called_by e (callee h.found) h at js xs
+
+-- the name that stands behind that of a module
+abbrev pub head_in : Env → Name → Selector → Head
+head_in e n (s.Field p x) = desig.member e n x
+head_in e n _ = desig.plain e n
+
+abbrev pub in_module : Name → Selector → Judged Spot → Judged Spot
+in_module n (s.Field p x) j = j
+in_module n _ j = desig.spotted n.pos (desig.refused 16 n.pos)
+
+-- behind a call there is no selector of a basic type's value
+abbrev pub ended : Pos → Judged Answer → List Selector → Judged Answer
+ended first j [] = j
+ended first j (s.Field p n ∷ xs) = bind j (λ a. desig.selected a.known.of p)
+ended first j (s.Index' p shape row ∷ xs) = bind j (λ a. desig.selected a.known.of p)
+ended first j (s.Follow p ∷ xs) = bind j (λ a. desig.selected a.known.of p)
+ended first j (s.Paren' p shape row ∷ xs) = bind j (λ a. desig.guarded a.known.of false p first)
+
+abbrev pub behind : Judged Spot → Pos → Judged Spot
+behind j at = bind j (λ a. desig.spotted a.at (desig.selected a.known.of at))
+
+-- The tables at a place.
+
+abbrev pub added : Pos → Pos → AddOp → Answer → Answer → Judged Answer
+added first at o a b = op.operands first at (op.added o a.known.of b.known.of) a b
+
+abbrev pub multiplied : Pos → Pos → MulOp → Answer → Answer → Judged Answer
+multiplied first at o a b = op.operands first at (op.multiplied o a.known.of b.known.of) a b
+
+-- a value of a basic type has no type test
+abbrev pub tested : Option TypeId → Pos → Judged Answer
+tested None at = judged (not_built at) (answered Unknown (Some env.boolean) nothing)
+tested (Some t) at = judged (breach (if is_basic t then 41 else 99) at) (answered Unknown (Some env.boolean) nothing)
+
+abbrev pub is_test : RelationOp → Bool
+is_test relation_op.Is = true
+is_test o = false
+
+abbrev pub related_by : Pos → Pos → RelationOp → Answer → Answer → Judged Answer
+related_by first at o a b =
+    if is_test o then tested a.known.of at else op.operands first at (op.related o a.known.of b.known.of) a b
+
+abbrev pub signed : Option Sign → Pos → Answer → Judged Answer
+signed None at a = kept a
+signed (Some g) at a = op.operand at at (op.signed g a.known.of) a
+
+abbrev pub opposite : Pos → Answer → Judged Answer
+opposite at a = op.operand at at (op.opposite a.known.of) a
+
+-- the elements of a set so far, and one more; a constant set is computed as a whole
+abbrev pub with_element : Pos → Answer → Answer → Judged Answer
+with_element at a x =
+    let s = op.one_element x.known.of in
+    judged (breach_unless s.is_kept 30 at) (op.joined op.union a (op.stepped s x))
+
+abbrev pub with_span : Pos → Answer → Answer → Answer → Judged Answer
+with_span at a x y =
+    let o = op.span x.known.of y.known.of in
+    judged (breach_unless o.is_kept 30 at) (op.joined op.union a (op.joined o x y))
+
+abbrev pub whole_set : Pos → Answer → Judged Answer
+whole_set at a = op.told at [] a
+
+-- a constant expression has a value where it breaks no rule
+abbrev pub constant_class : Class → Pos → Judged (Option Literal)
+constant_class (Constant v) at = kept v
+constant_class Unknown at = kept None
+constant_class Variable at = judged (breach 20 at) None
+constant_class ReadOnly at = judged (breach 20 at) None
+constant_class Computed at = judged (breach 20 at) None
+
+-- a bracket or `~` has one part, so that nothing is refused here
+abbrev pub no_place : Pos
+no_place = record { line = 0; col = 0 }
 
 module _ (e : Env) where
-  abbrev pub factor : Factor → Judged Expr
-  factor (f.Number p n) = number greatest_number n p
-  factor (f.Desig' n shape row) = bind (tested_designator e is_longint n (items-the_row-Selector _ row)) (λ a. kept (Read a.place))
-  factor (f.Char p n) = refused p
-  factor (f.Text t) = refused t.pos
-  factor (f.Nil p) = refused p
-  factor (f.Set' p shape row) = refused p
-  factor (f.Paren' p shape row) = refused p
-  factor (f.Not' p shape row) = refused p
+  abbrev mutual
+    pub expr : Expr → Judged Answer
+    expr (Expr' at left right) = bind (simple left) (λ a. relation_of at a right)
 
-  abbrev pub term : Term → Judged Expr
-  term t = bind (factor (out-Term t).first) (λ a. judged (product_breaches (out-Term t).rest) a)
+    pub relation_of : Pos → Answer → Held-Expr-right → Judged Answer
+    relation_of first a Expr-right-None' = kept a
+    relation_of first a (Expr-right-Some' r) = relation first a r
 
-  -- a sum that begins with a number is that number alone
-  abbrev pub addition : Bool → Expr → Addition → Judged Expr
-  addition after_number left a =
-      bind (term (out-Addition a).right) (λ right.
-      judged (breach_unless (not after_number && is_built (out-Addition a).op) 99 (out-Addition a).pos) (added (out-Addition a).op left right))
+    pub relation : Pos → Answer → Relation → Judged Answer
+    relation first a (Relation' at o right) = bind (simple right) (λ b. related_by first at o a b)
 
-  abbrev pub sum : Simple → Judged Expr
-  sum a =
-      let s = out-Simple a in
-      bind (judged (sign_breaches s.sign s.pos) nothing) (λ none. bind (term s.first) (λ first.
-      walk (addition (is_number (out-Term s.first).first)) first s.rest))
+    pub simple : Simple → Judged Answer
+    simple (Simple' at sign first shape rest) = bind (bind (term first) (λ a. signed sign at a)) (λ a. additions at a rest)
 
-  -- an expression that is a sum
-  abbrev pub value : TreeExpr → Judged Expr
-  value a = bind (sum (out-Expr a).left) (λ x. judged (relation_breaches (out-Expr a).right) x)
+    pub additions : {m : _} → Pos → Answer → Row_of-Addition m → Judged Answer
+    additions first a end_of-Addition = kept a
+    additions first a (more_of-Addition x xs) = bind (addition first a x) (λ b. additions first b xs)
 
-  abbrev pub compared : Pos → Expr → Option Relation → Judged Expr
-  compared at left None = judged (not_built at) left
-  compared at left (Some r) =
-      bind (sum (out-Relation r).right) (λ right.
-      judged (breach_unless (is_built_relation (out-Relation r).op) 99 (out-Relation r).pos) (related (out-Relation r).op left right))
+    pub addition : Pos → Answer → Addition → Judged Answer
+    addition first a (Addition' at o right) = bind (term right) (λ b. added first at o a b)
 
-  -- what a WHILE that begins here tests; a test without relation makes the WHILE one that isn't built
-  abbrev pub condition : Pos → TreeExpr → Judged Expr
-  condition at a = bind (sum (out-Expr a).left) (λ left. compared at left (out-Expr a).right)
+    pub term : Term → Judged Answer
+    term (Term' at first shape rest) = bind (factor first) (λ a. products at a rest)
 
-  abbrev pub places_factor : Factor → Judged Expr
-  places_factor (f.Number p n) = number greatest_places n p
-  places_factor (f.Desig' n shape row) = judged (no_places (env.lookup e n) n.pos) nothing
-  places_factor a = refused (factor_place a)
+    pub products : {m : _} → Pos → Answer → Row_of-Product m → Judged Answer
+    products first a end_of-Product = kept a
+    products first a (more_of-Product at o right xs) =
+        bind (bind (factor right) (λ b. multiplied first at o a b)) (λ b. products first b xs)
 
-  -- in how many places a number is written
-  abbrev pub places : TreeExpr → Judged Expr
-  places a = bind (places_factor (first_factor a)) (λ x. judged (alone_breaches a) x)
+    pub factor : Factor → Judged Answer
+    factor (f.Desig' n shape row) = bind (desig_of n row) desig.read
+    factor (f.Number p n) = number (if_within W64 n) p
+    factor (f.Char p n) = character (natural 256 n) p
+    factor (f.Text t) = character (character_in e.here.text t) t.pos
+    factor (f.Nil p) = not_yet p
+    factor (f.Set' p shape row) = bind (elements p op.no_elements row) (λ a. whole_set p a)
+    factor (f.Paren' p shape row) = held row
+    factor (f.Not' p shape row) = bind (held_factor row) (λ a. opposite p a)
 
-  -- the variable that NEW makes an object for
-  abbrev pub object_factor : Factor → Judged (Option Spot)
-  object_factor (f.Desig' n shape row) =
-      bind (tested_designator e is_object n (items-the_row-Selector _ row)) (λ a. bind (written n.pos a) (λ b. kept (Some b)))
-  object_factor a = judged (not_built (factor_place a)) None
+    -- the one expression, and the one factor, behind a bracket or `~`
+    pub held : {m : _} → Row_of-Expr m → Judged Answer
+    held end_of-Expr = not_yet no_place
+    held (more_of-Expr x xs) = expr x
 
-  abbrev pub object : TreeExpr → Judged (Option Spot)
-  object a = bind (object_factor (first_factor a)) (λ x. judged (alone_breaches a) x)
+    pub held_factor : {m : _} → Row_of-Factor m → Judged Answer
+    held_factor end_of-Factor = not_yet no_place
+    held_factor (more_of-Factor x xs) = factor x
+
+    pub elements : {m : _} → Pos → Answer → Row_of-Elem m → Judged Answer
+    elements at a end_of-Elem = kept a
+    elements at a (more_of-Elem x xs) = bind (element at a x) (λ b. elements at b xs)
+
+    pub element : Pos → Answer → Elem → Judged Answer
+    element at a (Elem' x Elem-last-None') = bind (expr x) (λ b. with_element at a b)
+    element at a (Elem' x (Elem-last-Some' y)) = bind (expr x) (λ b. bind (expr y) (λ c. with_span at a b c))
+
+    pub desig_of : {m : _} → Name → Row_of-Selector m → Judged Spot
+    desig_of n end_of-Selector = desig.named e (desig.plain e n)
+    desig_of n (more_of-Selector x end_of-Selector) =
+        if desig.is_module (env.lookup e n) then in_module n x (desig.named e (head_in e n x)) else selector (desig.plain e n) x []
+    desig_of n (more_of-Selector x (more_of-Selector y ys)) =
+        if desig.is_module (env.lookup e n)
+        then in_module n x (selector (head_in e n x) y (items-the_row-Selector _ ys))
+        else selector (desig.plain e n) x (y ∷ items-the_row-Selector _ ys)
+
+    -- the first selector behind a name, and those that follow
+    pub selector : Head → Selector → List Selector → Judged Spot
+    selector h (s.Field p n) xs = behind (desig.named e h) p
+    selector h (s.Index' p shape row) xs = behind (desig.named e h) p
+    selector h (s.Follow p) xs = behind (desig.named e h) p
+    selector h (s.Paren' p shape row) xs =
+        desig.spotted h.first (ended h.first (called e h p (arguments row) (items-the_row-Expr _ row)) xs)
+
+    pub arguments : {m : _} → Row_of-Expr m → List (Judged Answer)
+    arguments end_of-Expr = []
+    arguments (more_of-Expr x xs) = expr x ∷ arguments xs
+
+  -- the same parts, read as lists
+  abbrev pub product : Pos → Answer → Product → Judged Answer
+  product first a p = bind (factor p.right) (λ b. multiplied first p.pos p.op a b)
+
+  abbrev pub relation_if : Pos → Answer → Option Relation → Judged Answer
+  relation_if first a None = kept a
+  relation_if first a (Some r) = relation first a r
+
+  -- What statements and declarations ask of expressions.
+
+  -- a designator, by the list of its selectors
+  abbrev pub from_head : Head → List Selector → Judged Spot
+  from_head h [] = desig.named e h
+  from_head h (x ∷ xs) = selector h x xs
+
+  abbrev pub selected : Name → List Selector → Judged Spot
+  selected n [] = desig.named e (desig.plain e n)
+  selected n (x ∷ xs) =
+      if desig.is_module (env.lookup e n) then in_module n x (from_head (head_in e n x) xs) else selector (desig.plain e n) x xs
+
+  abbrev pub designator : Desig → Judged Spot
+  designator d = selected d.name d.selectors
+
+  -- a constant expression, with its value where it breaks no rule
+  abbrev pub constant : Expr → Judged (Option Literal)
+  constant x = bind (expr x) (λ a. constant_class a.known.class (out-Expr x).pos)
+
+  -- an expression that must be BOOLEAN
+  abbrev pub condition : Expr → Judged Typed
+  condition x = bind (expr x) (λ a. judged (breach_unless (is_boolean a.known.of) 37 (out-Expr x).pos) a.typed)
+
+  -- an argument of a type that passes a test
+  abbrev pub argument : (Option TypeId → Bool) → Expr → Judged Typed
+  argument takes x = bind (expr x) (λ a. judged (op.argument (takes a.known.of) (out-Expr x).pos) a.typed)

@@ -1,3 +1,5 @@
+pub mod Known
+pub mod Operations
 pub mod Designators
 pub mod Expressions
 pub mod Seen

@@ -1,78 +1,146 @@
-// Designators: the variable that a name, or a name of another module, stands for.
+// Designators: what a name, or a name behind that of a module, stands for.
 
-ghost use Rattle.std.specs.Prelude.{◌≡◌, ◌∷◌, not};
-ghost use Rattle.std.specs.Option.{option_copied};
-ghost use Rattle.aos_symbols.specs.Breaches.{first_after, breach_unless};
-ghost use Rattle.aos_symbols.specs.Judged.{bind};
+ghost use Rattle.std.specs.Prelude.{◌≡◌};
+ghost use Rattle.aos_typed.specs.Seen.{seen_place};
+ghost use Rattle.aos_symbols.specs.Breaches.{breach_unless, first_after};
+ghost use Rattle.aos_check_expr.specs.Known as known;
 ghost use Rattle.aos_check_expr.specs.Designators as judge;
-ghost use Rattle.aos_check_expr.specs.Seen.{seen_spot};
+ghost use Rattle.aos_check_expr.specs.Seen.{seen_answer, seen_held, seen_spot};
 
+use crate::known::{
+    Answer, Class, Held, Known, Spot, answered, constant_answer, is_basic, nothing, read_from,
+    some_value, spot_of, unknown,
+};
 use aos_base::Pos;
 use aos_symbols::{
-    BASIC_TYPES, Breach, Env, LONGINT, Lookup, Meaning, NOT_BUILT, NOT_EXPORTED, READ_ONLY, Symbol,
-    UNKNOWN, note,
+    Breach, Env, Lookup, Meaning, NO_VARIABLE, NOT_BUILT, NOT_CONSTANT, NOT_EXPORTED, OTHER_KIND,
+    Open, READ_ONLY, Symbol, UNKNOWN, WRONG_CALL, WRONG_SELECTOR, WRONG_TEST, is_procedure_of_out,
+    note, word,
 };
-use aos_tree::{Desig, Export, Name, Selector};
-use aos_typed::{TPlace, TType};
-use aos_types::{Basic, TypeId, TypeRow};
+use aos_tree::{Export, Name};
+use aos_typed::{Literal, TPlace};
+use aos_types::TypeId;
 
-/// A variable: its place, its type where that is known, whether it may only be read, and where the
-/// name stands that is its own.
-#[derive(Drop, Debug)]
-pub struct Spot {
-    pub place: TPlace,
-    pub of: Option<TypeId>,
-    pub is_read_only: bool,
+/// What is found of a name, where the name stands, and where its designator begins.
+#[derive(Clone, Copy, PartialEq, Eq, Debug)]
+pub struct Head {
+    pub found: Lookup,
     pub at: Pos,
+    pub first: Pos,
 }
 
-/// What stands for a variable where a rule is broken.
-fn nowhere(at: Pos) -> Spot
-    ensures { seen_spot result ≡ judge.nowhere at }
+/// What is found of a plain name.
+pub fn plain(env: &Env<'_>, name: Name) -> Head
+    ensures { result ≡ judge.plain env.now name }
 {
-    Spot {
-        place: TPlace::ModuleVar(0, 0),
-        of: None,
-        is_read_only: false,
-        at,
+    Head {
+        found: env.lookup(name),
+        at: name.pos,
+        first: name.pos,
     }
 }
 
-fn refused(found: &mut Option<Breach>, rule: u16, at: Pos) -> Spot
-    ensures noted { found.new ≡ first_after found.old (judge.refused rule at).breaches }
-    ensures answer { seen_spot result ≡ (judge.refused rule at).answer }
+/// Whether a name stands for a module.
+pub fn is_module(lookup: Lookup) -> bool
+    ensures { result ≡ judge.is_module lookup }
 {
-    note(found, rule, at);
-    nowhere(at)
-}
-
-/// The first token of a selector.
-pub fn selector_place(selector: &Selector) -> Pos
-    ensures { result ≡ judge.selector_place selector.now }
-{
-    match selector {
-        Selector::Field(at, _) => *at,
-        Selector::Index(at, _) => *at,
-        Selector::Follow(at) => *at,
-        Selector::Paren(at, _) => *at,
+    match lookup {
+        Lookup::Found(symbol) => matches!(symbol.means, Meaning::Module(_) | Meaning::Out),
+        _ => false,
     }
 }
 
-/// Selectors that aren't built.
-pub fn refuse_selectors(found: &mut Option<Breach>, selectors: &[Selector])
-    ensures { found.new ≡ first_after found.old (judge.selector_breaches selectors.now) }
+fn member_of_out(env: &Env<'_>, name: Name) -> Lookup
+    ensures { result ≡ judge.member_of_out env.now name }
 {
-    for selector in selectors {
-        note(found, NOT_BUILT, selector_place(selector));
+    if !is_procedure_of_out(word(env.here.text(), name)) {
+        return Lookup::Unknown;
+    }
+    Lookup::Found(Symbol {
+        at: Open {
+            home: env.number,
+            scope: 0,
+        },
+        mark: None,
+        means: Meaning::Proper,
+    })
+}
+
+fn member_of(env: &Env<'_>, means: Meaning, name: Name) -> Lookup
+    ensures { result ≡ judge.member_of env.now means name }
+{
+    match means {
+        Meaning::Module(number) => env.member(number, name),
+        Meaning::Out => member_of_out(env, name),
+        _ => Lookup::Unknown,
     }
 }
 
-fn is_read_only(here: bool, mark: Option<Export>) -> bool
-    ensures { result ≡ judge.is_read_only here mark }
+fn member_in(env: &Env<'_>, lookup: Lookup, name: Name) -> Lookup
+    ensures { result ≡ judge.member_in env.now lookup name }
+{
+    match lookup {
+        Lookup::Found(symbol) => member_of(env, symbol.means, name),
+        _ => lookup,
+    }
+}
+
+/// What is found of a name behind that of a module.
+pub fn member(env: &Env<'_>, home: Name, name: Name) -> Head
+    ensures { result ≡ judge.member env.now home name }
+{
+    Head {
+        found: member_in(env, env.lookup(home), name),
+        at: name.pos,
+        first: home.pos,
+    }
+}
+
+fn access(is_own: bool, mark: Option<Export>) -> Class
+    ensures { result ≡ judge.access is_own mark }
 {
     match mark {
-        Some(Export::ReadOnly) => !here,
-        _ => false,
+        Some(Export::ReadOnly) => {
+            if is_own {
+                Class::Variable
+            } else {
+                Class::ReadOnly
+            }
+        }
+        _ => Class::Variable,
+    }
+}
+
+/// A part that breaks a rule: it may be anything.
+pub fn refused(found: &mut Option<Breach>, rule: u16, at: Pos) -> Answer
+    ensures noted { found.new ≡ first_after found.old (judge.refused rule at).breaches }
+    ensures answer { seen_answer result ≡ (judge.refused rule at).answer }
+{
+    note(found, rule, at);
+    unknown()
+}
+
+/// A part that breaks a rule, and is some value.
+fn refused_value(found: &mut Option<Breach>, rule: u16, at: Pos) -> Answer
+    ensures noted { found.new ≡ first_after found.old (judge.refused_value rule at).breaches }
+    ensures answer { seen_answer result ≡ (judge.refused_value rule at).answer }
+{
+    note(found, rule, at);
+    some_value()
+}
+
+/// A constant: one that is declared later has no value here.
+fn constant_of(found: &mut Option<Breach>, value: Option<Option<Literal>>, at: Pos) -> Answer
+    ensures noted { found.new ≡ first_after found.old (judge.constant_of value at).breaches }
+    ensures answer { seen_answer result ≡ (judge.constant_of value at).answer }
+{
+    match value {
+        Some(Some(value)) => constant_answer(value),
+        Some(None) => unknown(),
+        None => {
+            note(found, NOT_CONSTANT, at);
+            answered(Class::Constant(None), None, nothing())
+        }
     }
 }
 
@@ -80,251 +148,169 @@ fn variable(env: &Env<'_>, symbol: Symbol, number: u32, at: Pos) -> Spot
     ensures { seen_spot result ≡ judge.variable env.now symbol number at }
 {
     Spot {
-        place: TPlace::ModuleVar(symbol.at.home, number),
-        of: env.variable_type(symbol.at, number),
-        is_read_only: is_read_only(symbol.at.home == env.number, symbol.mark),
+        known: Known {
+            of: env.variable_type(symbol.at, number),
+            class: access(symbol.at.home == env.number, symbol.mark),
+        },
+        held: Held::Stands(TPlace::ModuleVar(symbol.at.home, number)),
         at,
     }
 }
 
-/// What a name stands for that must be a variable.
-fn meant(found: &mut Option<Breach>, env: &Env<'_>, symbol: Symbol, means: Meaning, at: Pos) -> Spot
-    ensures noted { found.new ≡ first_after found.old
-        (judge.meant env.now symbol means at).breaches }
-    ensures answer { seen_spot result ≡ (judge.meant env.now symbol means at).answer }
+/// A name that breaks a rule.
+pub fn refused_at(found: &mut Option<Breach>, rule: u16, at: Pos) -> Spot
+    ensures noted { found.new ≡
+        first_after found.old (judge.spotted at (judge.refused rule at)).breaches }
+    ensures answer { seen_spot result ≡ (judge.spotted at (judge.refused rule at)).answer }
 {
+    spot_of(at, refused(found, rule, at))
+}
+
+fn refused_value_at(found: &mut Option<Breach>, rule: u16, first: Pos, at: Pos) -> Spot
+    ensures noted { found.new ≡
+        first_after found.old (judge.spotted at (judge.refused_value rule first)).breaches }
+    ensures answer { seen_spot result ≡
+        (judge.spotted at (judge.refused_value rule first)).answer }
+{
+    spot_of(at, refused_value(found, rule, first))
+}
+
+/// What a name stands for that is no call.
+fn meant(
+    found: &mut Option<Breach>,
+    env: &Env<'_>,
+    symbol: Symbol,
+    means: Meaning,
+    head: Head,
+) -> Spot
+    ensures noted { found.new ≡
+        first_after found.old (judge.meant env.now symbol means head).breaches }
+    ensures answer { seen_spot result ≡ (judge.meant env.now symbol means head).answer }
+{
+    let at = head.at;
     match means {
         Meaning::Variable(number) => {
             if symbol.at.scope == 0 {
                 variable(env, symbol, number, at)
             } else {
-                refused(found, NOT_BUILT, at)
+                refused_at(found, NOT_BUILT, at)
             }
-        },
-        _ => refused(found, NOT_BUILT, at),
+        }
+        Meaning::Constant(number) => {
+            let value = env.constant(symbol.at, number, head.first);
+            spot_of(at, constant_of(found, value, at))
+        }
+        Meaning::Truth(value) => spot_of(at, constant_answer(Literal::Bool(value))),
+        Meaning::Type(_) => refused_at(found, OTHER_KIND, at),
+        Meaning::Module(_) => refused_at(found, OTHER_KIND, at),
+        Meaning::Out => refused_at(found, OTHER_KIND, at),
+        Meaning::Function(_) => refused_value_at(found, WRONG_CALL, head.first, at),
+        Meaning::New => refused_value_at(found, WRONG_CALL, head.first, at),
+        Meaning::Proper => refused_value_at(found, WRONG_CALL, head.first, at),
+        Meaning::Procedure(_) => refused_value_at(found, NOT_BUILT, head.first, at),
+        Meaning::Other => refused_value_at(found, NOT_BUILT, head.first, at),
     }
 }
 
-fn looked_up(found: &mut Option<Breach>, env: &Env<'_>, lookup: Lookup, at: Pos) -> Spot
-    ensures noted { found.new ≡ first_after found.old (judge.found env.now lookup at).breaches }
-    ensures answer { seen_spot result ≡ (judge.found env.now lookup at).answer }
+/// A name that is no call.
+pub fn named(found: &mut Option<Breach>, env: &Env<'_>, head: Head) -> Spot
+    ensures noted { found.new ≡ first_after found.old (judge.named env.now head).breaches }
+    ensures answer { seen_spot result ≡ (judge.named env.now head).answer }
 {
-    match lookup {
-        Lookup::Unknown => refused(found, UNKNOWN, at),
-        Lookup::NotExported => refused(found, NOT_EXPORTED, at),
-        Lookup::Found(symbol) => meant(found, env, symbol, symbol.means, at),
+    match head.found {
+        Lookup::Unknown => refused_at(found, UNKNOWN, head.at),
+        Lookup::NotExported => refused_at(found, NOT_EXPORTED, head.at),
+        Lookup::Found(symbol) => meant(found, env, symbol, symbol.means, head),
     }
 }
 
-/// What stands behind the name of a module, of which this is the first.
-#[tactic(auto, using(aos_symbols::proofs::Keeping::after_more))]
-fn member(
-    found: &mut Option<Breach>,
-    env: &Env<'_>,
-    home: u32,
-    at: Pos,
-    first: &Selector,
-    more: &[Selector],
-) -> Spot
-    ensures noted { found.new ≡
-        first_after found.old (judge.of_module env.now home at (first.now ∷ more.now)).breaches }
-    ensures answer { seen_spot result ≡
-        (judge.of_module env.now home at (first.now ∷ more.now)).answer }
-{
-    match first {
-        Selector::Field(_, name) => {
-            let spot = looked_up(found, env, env.member(home, *name), name.pos);
-            refuse_selectors(found, more);
-            spot
-        },
-        _ => refused(found, NOT_BUILT, at),
-    }
-}
-
-fn of_module(
-    found: &mut Option<Breach>,
-    env: &Env<'_>,
-    home: u32,
-    at: Pos,
-    selectors: &[Selector],
-) -> Spot
-    ensures noted { found.new ≡ first_after found.old
-        (judge.of_module env.now home at selectors.now).breaches }
-    ensures answer { seen_spot result ≡ (judge.of_module env.now home at selectors.now).answer }
-{
-    match selectors.split_first() {
-        None => refused(found, NOT_BUILT, at),
-        Some((first, more)) => member(found, env, home, at, first, more),
-    }
-}
-
-#[tactic(auto, using(aos_symbols::proofs::Keeping::after_more))]
-fn by_meaning(
-    found: &mut Option<Breach>,
-    env: &Env<'_>,
-    symbol: Symbol,
-    means: Meaning,
-    at: Pos,
-    selectors: &[Selector],
-) -> Spot
-    ensures noted { found.new ≡
-        first_after found.old (judge.by_meaning env.now symbol means at selectors.now).breaches }
-    ensures answer { seen_spot result ≡
-        (judge.by_meaning env.now symbol means at selectors.now).answer }
-{
-    match means {
-        Meaning::Module(home) => of_module(found, env, home, at, selectors),
-        _ => {
-            let spot = meant(found, env, symbol, means, at);
-            refuse_selectors(found, selectors);
-            spot
-        },
-    }
-}
-
-#[tactic(auto, using(aos_symbols::proofs::Keeping::after_more))]
-fn by_name(
-    found: &mut Option<Breach>,
-    env: &Env<'_>,
-    lookup: Lookup,
-    at: Pos,
-    selectors: &[Selector],
-) -> Spot
-    ensures noted { found.new ≡
-        first_after found.old (judge.by_name env.now lookup at selectors.now).breaches }
-    ensures answer { seen_spot result ≡ (judge.by_name env.now lookup at selectors.now).answer }
-{
-    match lookup {
-        Lookup::Found(symbol) => by_meaning(found, env, symbol, symbol.means, at, selectors),
-        _ => {
-            let spot = looked_up(found, env, lookup, at);
-            refuse_selectors(found, selectors);
-            spot
-        },
-    }
-}
-
-fn designator(found: &mut Option<Breach>, env: &Env<'_>, name: Name, selectors: &[Selector]) -> Spot
-    ensures noted { found.new ≡
-        first_after found.old (judge.designator env.now name selectors.now).breaches }
-    ensures answer { seen_spot result ≡ (judge.designator env.now name selectors.now).answer }
-{
-    by_name(found, env, env.lookup(name), name.pos, selectors)
-}
-
-fn is_longint(row: Option<&TypeRow>) -> bool
-    ensures { result ≡ judge.is_longint (option_copied row.entry) }
-{
-    match row {
-        None => true,
-        Some(TypeRow::Basic(Basic::LongInt)) => true,
-        Some(_) => false,
-    }
-}
-
-fn is_object(row: Option<&TypeRow>) -> bool
-    ensures { result ≡ judge.is_object (option_copied row.entry) }
-{
-    match row {
-        None => true,
-        Some(TypeRow::Object(_, _)) => true,
-        Some(_) => false,
-    }
-}
-
-/// A variable whose type must pass a test.
-fn tested(found: &mut Option<Breach>, passes: bool, spot: &Spot)
-    ensures { found.new ≡ first_after found.old (breach_unless passes 99 spot.now.at) }
-{
-    if !passes {
-        note(found, NOT_BUILT, spot.at);
-    }
-}
-
-/// A variable that is written, whose designator begins here.
-fn written(found: &mut Option<Breach>, first: Pos, spot: &Spot)
-    ensures { found.new ≡ first_after found.old
-        (breach_unless (not spot.now.is_read_only) 33 first) }
-{
-    if spot.is_read_only {
-        note(found, READ_ONLY, first);
-    }
-}
-
-/// A LONGINT variable.
-#[tactic(auto, using(aos_symbols::proofs::Keeping::after_more))]
-pub(crate) fn number_variable(
-    found: &mut Option<Breach>,
-    env: &Env<'_>,
-    name: Name,
-    selectors: &[Selector],
-) -> Spot
-    ensures noted { found.new ≡ first_after found.old
-        (judge.tested_designator env.now judge.is_longint name selectors.now).breaches }
-    ensures answer { seen_spot result ≡
-        (judge.tested_designator env.now judge.is_longint name selectors.now).answer }
-{
-    let spot = designator(found, env, name, selectors);
-    tested(found, is_longint(env.row(spot.of)), &spot);
-    spot
-}
-
-/// An object variable that a statement writes.
-#[tactic(auto, using(aos_symbols::proofs::Keeping::after_more))]
-pub(crate) fn written_object(
-    found: &mut Option<Breach>,
-    env: &Env<'_>,
-    name: Name,
-    selectors: &[Selector],
-) -> Spot
-    ensures noted { found.new ≡ first_after found.old (bind
-        (judge.tested_designator env.now judge.is_object name selectors.now)
-        (judge.written name.pos)).breaches }
-    ensures answer { seen_spot result ≡ (bind
-        (judge.tested_designator env.now judge.is_object name selectors.now)
-        (judge.written name.pos)).answer }
-{
-    let spot = designator(found, env, name, selectors);
-    tested(found, is_object(env.row(spot.of)), &spot);
-    written(found, name.pos, &spot);
-    spot
-}
-
-/// A variable that a statement assigns a number, by its designator.
-#[tactic(auto, using(aos_symbols::proofs::Keeping::after_more))]
-pub fn assigned(found: &mut Option<Breach>, env: &Env<'_>, desig: &Desig) -> Spot
-    ensures noted { found.new ≡ first_after found.old
-        (judge.assigned env.now desig.now.name desig.now.selectors).breaches }
-    ensures answer { seen_spot result ≡
-        (judge.assigned env.now desig.now.name desig.now.selectors).answer }
-{
-    let spot = number_variable(found, env, desig.name, desig.selectors.as_slice());
-    written(found, desig.name.pos, &spot);
-    spot
-}
-
-/// The number of an object type among those of the program.
-pub fn object_number(of: Option<TypeId>) -> u32
-    ensures { result ≡ judge.object_number of }
-{
-    match of {
-        Some(of) => of.0.saturating_sub(BASIC_TYPES),
-        None => 0,
-    }
-}
-
-/// The type of a variable, as the typed program has it.
-pub fn type_of(of: Option<TypeId>) -> TType
-    ensures { result ≡ judge.type_of of }
+/// A selector behind what is of this type.
+pub fn selected(found: &mut Option<Breach>, of: Option<TypeId>, at: Pos) -> Answer
+    ensures noted { found.new ≡ first_after found.old (judge.selected of at).breaches }
+    ensures answer { seen_answer result ≡ (judge.selected of at).answer }
 {
     match of {
         Some(of) => {
-            if of == LONGINT {
-                TType::LongInt
+            if is_basic(of) {
+                refused(found, WRONG_SELECTOR, at)
             } else {
-                TType::Object(object_number(Some(of)))
+                refused(found, NOT_BUILT, at)
             }
-        },
-        None => TType::LongInt,
+        }
+        None => refused(found, NOT_BUILT, at),
+    }
+}
+
+/// A call of what is of this type, or a guard, where the argument is the name of a type.
+pub fn guarded(
+    found: &mut Option<Breach>,
+    of: Option<TypeId>,
+    is_guard: bool,
+    at: Pos,
+    first: Pos,
+) -> Answer
+    ensures noted { found.new ≡
+        first_after found.old (judge.guarded of is_guard at first).breaches }
+    ensures answer { seen_answer result ≡ (judge.guarded of is_guard at first).answer }
+{
+    match of {
+        None => refused(found, NOT_BUILT, at),
+        Some(of) => {
+            if !is_guard {
+                refused(found, WRONG_CALL, first)
+            } else if is_basic(of) {
+                refused(found, WRONG_TEST, at)
+            } else {
+                refused(found, NOT_BUILT, at)
+            }
+        }
+    }
+}
+
+fn refuse_others(found: &mut Option<Breach>, of: Option<TypeId>, at: Pos)
+    ensures { found.new ≡
+        first_after found.old (breach_unless (known.passes known.is_basic of) 99 at) }
+{
+    if let Some(of) = of {
+        if !is_basic(of) {
+            note(found, NOT_BUILT, at);
+        }
+    }
+}
+
+/// The value of a designator; a variable of a type that isn't built yet can't be read.
+pub fn read(found: &mut Option<Breach>, spot: Spot) -> Answer
+    ensures noted { found.new ≡ first_after found.old (judge.read (seen_spot spot)).breaches }
+    ensures answer { seen_answer result ≡ (judge.read (seen_spot spot)).answer }
+{
+    refuse_others(found, spot.known.of, spot.at);
+    Answer {
+        known: spot.known,
+        typed: read_from(spot.known.of, spot.held),
+    }
+}
+
+/// A designator that is assigned, which begins here: it must be a variable that may be written, of a basic type.
+#[tactic(auto, using(aos_symbols::proofs::Keeping::after_more))]
+pub fn refuse_assigned(found: &mut Option<Breach>, first: Pos, spot: &Spot)
+    ensures { found.new ≡ first_after found.old (judge.assigned first (seen_spot spot.now)).breaches }
+{
+    match spot.known.class {
+        Class::Unknown => {}
+        Class::Variable => {}
+        Class::ReadOnly => note(found, READ_ONLY, first),
+        Class::Constant(_) => note(found, NO_VARIABLE, first),
+        Class::Computed => note(found, NO_VARIABLE, first),
+    }
+    refuse_others(found, spot.known.of, spot.at);
+}
+
+/// The place of a variable; some place where it is a value.
+pub fn place_of(held: Held) -> TPlace
+    ensures { seen_place result ≡ judge.place_of (seen_held held) }
+{
+    match held {
+        Held::Stands(place) => place,
+        Held::Value(_) => TPlace::ModuleVar(0, 0),
     }
 }

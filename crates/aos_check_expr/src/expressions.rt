@@ -1,384 +1,577 @@
-// Expressions: which rules they break, and what they are in the typed program.
+// Expressions: which rules they break, what is known of them and what they are in the typed program.
 
-ghost use Rattle.std.specs.Prelude.{◌≡◌, OnOk, IfOk, option_map};
-ghost use Rattle.std.specs.List.{flat_map};
-ghost use Rattle.aos_typed.specs.Program as plain;
+ghost use Rattle.std.specs.Prelude.{◌≡◌, OnOk, IfOk, map};
 ghost use Rattle.aos_typed.specs.Seen.{seen_expr};
 ghost use Rattle.aos_symbols.specs.Breaches.{first_after};
 ghost use Rattle.aos_symbols.specs.Judged.{walk};
+ghost use Rattle.aos_check_expr.specs.Known as known;
+ghost use Rattle.aos_check_expr.specs.Operations as operations;
 ghost use Rattle.aos_check_expr.specs.Expressions as judge;
-ghost use Rattle.aos_check_expr.specs.Seen.{seen_spot};
+ghost use Rattle.aos_check_expr.specs.Seen.{seen_answer, seen_spot};
 
-use crate::designators::{Spot, number_variable, written_object};
-use aos_base::{Pos, Relation as Order, Width, related as holds};
-use aos_symbols::{Breach, Env, Lookup, NOT_BUILT, NOT_EXPORTED, UNKNOWN, note};
-use aos_tree::{AddOp, Addition, Expr, Factor, Product, Relation, RelationOp, Sign, Simple, Term};
-use aos_typed::{Binary, Literal, TExpr};
+use crate::calls::{
+    Limit, behind, limit_called, not_called, spot_ended, value_of_one, value_of_two,
+};
+use crate::designators::{Head, is_module, member, named, plain, read, refused, refused_at};
+use crate::forms::{
+    added, byte_of, character, character_in, multiplied, not_yet, number, opposite, related,
+    signed, whole_set, with_element, with_span,
+};
+use crate::known::{Answer, Class, Spot, is_boolean, is_char, is_integer, is_number};
+use crate::operations;
+use aos_base::Pos;
+use aos_symbols::{
+    ARGUMENT_COUNT, Breach, Env, Function, Lookup, Meaning, NO_CONDITION, NOT_CONSTANT, OTHER_KIND,
+    note,
+};
+use aos_tree::{
+    Addition, Desig, Elem, Expr, Factor, Name, Product, Relation, Selector, Simple, Term,
+};
+use aos_typed::{Literal, TExpr};
+use aos_types::TypeId;
 use std::alloc::{AllocError, Global};
 
-/// The greatest number.
-const GREATEST_NUMBER: i64 = 2_147_483_647;
-/// The greatest number of places.
-const GREATEST_PLACES: i64 = 255;
-
-fn is_built(op: AddOp) -> bool
-    ensures { result ≡ judge.is_built op }
-{
-    match op {
-        AddOp::Plus => true,
-        AddOp::Minus => true,
-        AddOp::Or => false,
-    }
-}
-
-fn is_built_relation(op: RelationOp) -> bool
-    ensures { result ≡ judge.is_built_relation op }
-{
-    match op {
-        RelationOp::Less => true,
-        RelationOp::NotEqual => true,
-        _ => false,
-    }
-}
-
-fn binary(alloc: Global, op: Binary, left: TExpr, right: TExpr) -> Result<TExpr, AllocError>
-    ensures { IfOk result (λ e. seen_expr e ≡ plain.Binary op (seen_expr left) (seen_expr right)) }
-{
-    let left = Box::new(alloc, left)?;
-    let right = Box::new(alloc, right)?;
-    Ok(TExpr::Binary(op, left, right))
-}
-
-fn compare(alloc: Global, op: Order, left: TExpr, right: TExpr) -> Result<TExpr, AllocError>
-    ensures { IfOk result (λ e. seen_expr e ≡ plain.Compare op (seen_expr left) (seen_expr right)) }
-{
-    let left = Box::new(alloc, left)?;
-    let right = Box::new(alloc, right)?;
-    Ok(TExpr::Compare(op, left, right))
-}
-
-/// An operator over two operands.
-fn added(alloc: Global, op: AddOp, left: TExpr, right: TExpr) -> Result<TExpr, AllocError>
-    ensures { IfOk result (λ e. seen_expr e ≡ judge.added op (seen_expr left) (seen_expr right)) }
-{
-    match op {
-        AddOp::Plus => binary(alloc, Binary::Add(Width::W32), left, right),
-        AddOp::Minus => binary(alloc, Binary::Sub(Width::W32), left, right),
-        AddOp::Or => Ok(left),
-    }
-}
-
-/// A relation of two operands.
-fn related(alloc: Global, op: RelationOp, left: TExpr, right: TExpr) -> Result<TExpr, AllocError>
-    ensures { IfOk result (λ e. seen_expr e ≡ judge.related op (seen_expr left) (seen_expr right)) }
-{
-    match op {
-        RelationOp::Less => compare(alloc, Order::Less, left, right),
-        RelationOp::NotEqual => compare(alloc, Order::NotEqual, left, right),
-        _ => Ok(left),
-    }
-}
-
-/// What stands for a part that breaks a rule; it is never looked at.
-fn nothing() -> TExpr
-    ensures { seen_expr result ≡ judge.nothing }
-{
-    TExpr::Lit(Literal::Int(0))
-}
-
-fn refused(found: &mut Option<Breach>, at: Pos) -> TExpr
-    ensures noted { found.new ≡ first_after found.old (judge.refused at).breaches }
-    ensures answer { seen_expr result ≡ (judge.refused at).answer }
-{
-    note(found, NOT_BUILT, at);
-    nothing()
-}
-
-fn number(found: &mut Option<Breach>, greatest: i64, n: i64, at: Pos) -> TExpr
-    ensures noted { found.new ≡ first_after found.old (judge.number greatest n at).breaches }
-    ensures answer { seen_expr result ≡ (judge.number greatest n at).answer }
-{
-    if !holds(Order::LessEqual, n, greatest) {
-        note(found, NOT_BUILT, at);
-    }
-    TExpr::Lit(Literal::Int(n))
-}
-
-fn refuse_products(found: &mut Option<Breach>, products: &[Product])
-    ensures { found.new ≡ first_after found.old (judge.product_breaches products.now) }
-{
-    for product in products {
-        note(found, NOT_BUILT, product.pos);
-    }
-}
-
-fn refuse_sign(found: &mut Option<Breach>, sign: Option<Sign>, at: Pos)
-    ensures { found.new ≡ first_after found.old (judge.sign_breaches sign at) }
-{
-    if sign.is_some() {
-        note(found, NOT_BUILT, at);
-    }
-}
-
-fn refuse_relation(found: &mut Option<Breach>, relation: &Option<Relation>)
-    ensures { found.new ≡ first_after found.old (judge.relation_breaches relation.now) }
-{
-    if let Some(relation) = relation {
-        note(found, NOT_BUILT, relation.pos);
-    }
-}
-
-fn refuse_additions(found: &mut Option<Breach>, additions: &[Addition])
-    ensures { found.new ≡ first_after found.old (flat_map judge.addition_refused additions.now) }
-{
-    for addition in additions {
-        note(found, NOT_BUILT, addition.pos);
-    }
-}
-
-fn is_number(factor: &Factor) -> bool
-    ensures { result ≡ judge.is_number factor.now }
-{
-    matches!(factor, Factor::Number(_, _))
-}
-
-fn factor_place(factor: &Factor) -> Pos
-    ensures { result ≡ judge.factor_place factor.now }
-{
-    match factor {
-        Factor::Desig(desig) => desig.name.pos,
-        Factor::Number(at, _) => *at,
-        Factor::Char(at, _) => *at,
-        Factor::Text(text) => text.pos,
-        Factor::Nil(at) => *at,
-        Factor::Set(at, _) => *at,
-        Factor::Paren(at, _) => *at,
-        Factor::Not(at, _) => *at,
-    }
-}
-
-/// The operators round the first factor of an expression, of which none is built.
-#[tactic(auto, using(aos_symbols::proofs::Keeping::after_more))]
-fn refuse_operators(found: &mut Option<Breach>, expr: &Expr)
-    ensures { found.new ≡ first_after found.old (judge.alone_breaches expr.now) }
-{
-    let sum = &expr.left;
-    refuse_sign(found, sum.sign, sum.pos);
-    refuse_products(found, sum.first.rest.as_slice());
-    refuse_additions(found, sum.rest.as_slice());
-    refuse_relation(found, &expr.right);
-}
-
-#[tactic(auto, using(crate::proofs::Rows::factor_desig, aos_symbols::proofs::Keeping::after_more))]
-fn factor(found: &mut Option<Breach>, env: &Env<'_>, part: &Factor) -> TExpr
-    ensures noted { found.new ≡ first_after found.old (judge.factor env.now part.now).breaches }
-    ensures answer { seen_expr result ≡ (judge.factor env.now part.now).answer }
-{
-    match part {
-        Factor::Number(at, n) => number(found, GREATEST_NUMBER, *n, *at),
-        Factor::Desig(desig) => {
-            let spot = number_variable(found, env, desig.name, desig.selectors.as_slice());
-            TExpr::Read(spot.place)
-        },
-        _ => refused(found, factor_place(part)),
-    }
-}
-
-#[tactic(auto, using(aos_symbols::proofs::Keeping::after_more))]
-fn term(found: &mut Option<Breach>, env: &Env<'_>, part: &Term) -> TExpr
-    ensures noted { found.new ≡ first_after found.old (judge.term env.now part.now).breaches }
-    ensures answer { seen_expr result ≡ (judge.term env.now part.now).answer }
-{
-    let first = factor(found, env, &part.first);
-    refuse_products(found, part.rest.as_slice());
-    first
-}
-
-/// An operator and its right operand behind its left one.
-#[tactic(auto, using(aos_symbols::proofs::Keeping::after_more))]
-fn addition(
+/// An expression.
+#[cycle(exprs)]
+#[tactic(auto, using(aos_symbols::proofs::Keeping::after_more, crate::proofs::Rows::expr_is))]
+pub fn expr(
     alloc: Global,
     found: &mut Option<Breach>,
     env: &Env<'_>,
-    after_number: bool,
-    left: TExpr,
-    part: &Addition,
-) -> Result<TExpr, AllocError>
+    part: &Expr,
+) -> Result<Answer, AllocError>
     ensures noted { OnOk result (found.new ≡ first_after found.old
-        (judge.addition env.now after_number (seen_expr left) part.now).breaches) }
-    ensures answer { IfOk result (λ r. seen_expr r ≡
-        (judge.addition env.now after_number (seen_expr left) part.now).answer) }
+        (judge.expr env.now part.now).breaches) }
+    ensures answer { IfOk result (λ r. seen_answer r ≡ (judge.expr env.now part.now).answer) }
 {
-    let right = term(found, env, &part.right);
-    if after_number || !is_built(part.op) {
-        note(found, NOT_BUILT, part.pos);
+    let left = simple(alloc, found, env, &part.left)?;
+    match &part.right {
+        None => Ok(left),
+        Some(right) => relation(alloc, found, env, part.pos, left, right),
     }
-    added(alloc, part.op, left, right)
 }
 
+#[cycle(exprs)]
+#[tactic(auto, using(aos_symbols::proofs::Keeping::after_more, crate::proofs::Rows::relation_is))]
+fn relation(
+    alloc: Global,
+    found: &mut Option<Breach>,
+    env: &Env<'_>,
+    first: Pos,
+    left: Answer,
+    part: &Relation,
+) -> Result<Answer, AllocError>
+    ensures noted { OnOk result (found.new ≡ first_after found.old
+        (judge.relation env.now first (seen_answer left) part.now).breaches) }
+    ensures answer { IfOk result (λ r. seen_answer r ≡
+        (judge.relation env.now first (seen_answer left) part.now).answer) }
+{
+    let right = simple(alloc, found, env, &part.right)?;
+    related(alloc, found, first, part.pos, part.op, left, right)
+}
+
+#[cycle(exprs)]
+#[tactic(auto, using(aos_symbols::proofs::Keeping::after_more, crate::proofs::Rows::simple_is))]
+fn simple(
+    alloc: Global,
+    found: &mut Option<Breach>,
+    env: &Env<'_>,
+    part: &Simple,
+) -> Result<Answer, AllocError>
+    ensures noted { OnOk result (found.new ≡ first_after found.old
+        (judge.simple env.now part.now).breaches) }
+    ensures answer { IfOk result (λ r. seen_answer r ≡ (judge.simple env.now part.now).answer) }
+{
+    let first = term(alloc, found, env, &part.first)?;
+    let first = signed(alloc, found, part.sign, part.pos, first)?;
+    additions(alloc, found, env, part.pos, first, part.rest.as_slice())
+}
+
+#[cycle(exprs)]
 #[tactic(auto, using(aos_symbols::proofs::Keeping::after_more, aos_symbols::proofs::Steps::walk_step, aos_symbols::proofs::Steps::walk_end))]
 fn additions(
     alloc: Global,
     found: &mut Option<Breach>,
     env: &Env<'_>,
-    after_number: bool,
-    left: TExpr,
+    first: Pos,
+    left: Answer,
     rest: &[Addition],
-) -> Result<TExpr, AllocError>
+) -> Result<Answer, AllocError>
     ensures noted { OnOk result (found.new ≡ first_after found.old
-        (walk (judge.addition env.now after_number) (seen_expr left) rest.now).breaches) }
-    ensures answer { IfOk result (λ r. seen_expr r ≡
-        (walk (judge.addition env.now after_number) (seen_expr left) rest.now).answer) }
+        (walk (judge.addition env.now first) (seen_answer left) rest.now).breaches) }
+    ensures answer { IfOk result (λ r. seen_answer r ≡
+        (walk (judge.addition env.now first) (seen_answer left) rest.now).answer) }
 {
     let mut whole = left;
     for part in rest {
-        whole = addition(alloc, found, env, after_number, whole, part)?;
+        whole = addition(alloc, found, env, first, whole, part)?;
     }
     Ok(whole)
 }
 
-#[tactic(auto, using(aos_symbols::proofs::Keeping::after_more))]
-fn sum(
+#[cycle(exprs)]
+#[tactic(auto, using(aos_symbols::proofs::Keeping::after_more, crate::proofs::Rows::addition_is))]
+fn addition(
     alloc: Global,
     found: &mut Option<Breach>,
     env: &Env<'_>,
-    part: &Simple,
-) -> Result<TExpr, AllocError>
+    first: Pos,
+    left: Answer,
+    part: &Addition,
+) -> Result<Answer, AllocError>
     ensures noted { OnOk result (found.new ≡ first_after found.old
-        (judge.sum env.now part.now).breaches) }
-    ensures answer { IfOk result (λ r. seen_expr r ≡ (judge.sum env.now part.now).answer) }
+        (judge.addition env.now first (seen_answer left) part.now).breaches) }
+    ensures answer { IfOk result (λ r. seen_answer r ≡
+        (judge.addition env.now first (seen_answer left) part.now).answer) }
 {
-    refuse_sign(found, part.sign, part.pos);
-    let first = term(found, env, &part.first);
-    let after_number = is_number(&part.first.first);
-    additions(alloc, found, env, after_number, first, part.rest.as_slice())
+    let right = term(alloc, found, env, &part.right)?;
+    added(alloc, found, first, part.pos, part.op, left, right)
 }
 
-/// An expression that is a sum of LONGINT variables and numbers.
-#[tactic(auto, using(aos_symbols::proofs::Keeping::after_more))]
-pub fn value(
+#[cycle(exprs)]
+#[tactic(auto, using(aos_symbols::proofs::Keeping::after_more, crate::proofs::Rows::term_is))]
+fn term(
     alloc: Global,
     found: &mut Option<Breach>,
     env: &Env<'_>,
-    expr: &Expr,
-) -> Result<TExpr, AllocError>
+    part: &Term,
+) -> Result<Answer, AllocError>
     ensures noted { OnOk result (found.new ≡ first_after found.old
-        (judge.value env.now expr.now).breaches) }
-    ensures answer { IfOk result (λ r. seen_expr r ≡ (judge.value env.now expr.now).answer) }
+        (judge.term env.now part.now).breaches) }
+    ensures answer { IfOk result (λ r. seen_answer r ≡ (judge.term env.now part.now).answer) }
 {
-    let whole = sum(alloc, found, env, &expr.left)?;
-    refuse_relation(found, &expr.right);
+    let first = factor(alloc, found, env, &part.first)?;
+    products(alloc, found, env, part.pos, first, part.rest.as_slice())
+}
+
+#[cycle(exprs)]
+#[tactic(auto, using(aos_symbols::proofs::Keeping::after_more, aos_symbols::proofs::Steps::walk_step, aos_symbols::proofs::Steps::walk_end))]
+fn products(
+    alloc: Global,
+    found: &mut Option<Breach>,
+    env: &Env<'_>,
+    first: Pos,
+    left: Answer,
+    rest: &[Product],
+) -> Result<Answer, AllocError>
+    ensures noted { OnOk result (found.new ≡ first_after found.old
+        (walk (judge.product env.now first) (seen_answer left) rest.now).breaches) }
+    ensures answer { IfOk result (λ r. seen_answer r ≡
+        (walk (judge.product env.now first) (seen_answer left) rest.now).answer) }
+{
+    let mut whole = left;
+    for part in rest {
+        whole = product(alloc, found, env, first, whole, part)?;
+    }
     Ok(whole)
 }
 
+#[cycle(exprs)]
 #[tactic(auto, using(aos_symbols::proofs::Keeping::after_more))]
-fn compared(
+fn product(
+    alloc: Global,
+    found: &mut Option<Breach>,
+    env: &Env<'_>,
+    first: Pos,
+    left: Answer,
+    part: &Product,
+) -> Result<Answer, AllocError>
+    ensures noted { OnOk result (found.new ≡ first_after found.old
+        (judge.product env.now first (seen_answer left) part.now).breaches) }
+    ensures answer { IfOk result (λ r. seen_answer r ≡
+        (judge.product env.now first (seen_answer left) part.now).answer) }
+{
+    let right = factor(alloc, found, env, &part.right)?;
+    multiplied(alloc, found, first, part.pos, part.op, left, right)
+}
+
+#[cycle(exprs)]
+#[tactic(auto, using(aos_symbols::proofs::Keeping::after_more, crate::proofs::Rows::factor_desig, crate::proofs::Rows::factor_set, crate::proofs::Rows::factor_paren, crate::proofs::Rows::factor_not))]
+fn factor(
+    alloc: Global,
+    found: &mut Option<Breach>,
+    env: &Env<'_>,
+    part: &Factor,
+) -> Result<Answer, AllocError>
+    ensures noted { OnOk result (found.new ≡ first_after found.old
+        (judge.factor env.now part.now).breaches) }
+    ensures answer { IfOk result (λ r. seen_answer r ≡ (judge.factor env.now part.now).answer) }
+{
+    match part {
+        Factor::Desig(desig) => {
+            let spot = designator(alloc, found, env, desig)?;
+            Ok(read(found, spot))
+        }
+        Factor::Number(_, n) => Ok(number(*n)),
+        Factor::Char(at, n) => Ok(character(found, byte_of(*n), *at)),
+        Factor::Text(text) => {
+            let code = character_in(env.here.text(), *text);
+            Ok(character(found, code, text.pos))
+        }
+        Factor::Nil(at) => Ok(not_yet(found, *at)),
+        Factor::Set(at, all) => {
+            let set = elements(alloc, found, env, *at, all.as_slice())?;
+            Ok(whole_set(found, *at, set))
+        }
+        Factor::Paren(_, inner) => expr(alloc, found, env, inner.get()),
+        Factor::Not(at, inner) => {
+            let inner = factor(alloc, found, env, inner.get())?;
+            opposite(alloc, found, *at, inner)
+        }
+    }
+}
+
+/// The elements of a set that begins here.
+#[cycle(exprs)]
+#[tactic(auto, using(aos_symbols::proofs::Keeping::after_more, aos_symbols::proofs::Steps::walk_step, aos_symbols::proofs::Steps::walk_end))]
+fn elements(
     alloc: Global,
     found: &mut Option<Breach>,
     env: &Env<'_>,
     at: Pos,
-    left: TExpr,
-    relation: &Option<Relation>,
-) -> Result<TExpr, AllocError>
+    all: &[Elem],
+) -> Result<Answer, AllocError>
     ensures noted { OnOk result (found.new ≡ first_after found.old
-        (judge.compared env.now at (seen_expr left) relation.now).breaches) }
-    ensures answer { IfOk result (λ r. seen_expr r ≡
-        (judge.compared env.now at (seen_expr left) relation.now).answer) }
+        (walk (judge.element env.now at) operations.no_elements all.now).breaches) }
+    ensures answer { IfOk result (λ r. seen_answer r ≡
+        (walk (judge.element env.now at) operations.no_elements all.now).answer) }
 {
-    match relation {
-        None => {
-            note(found, NOT_BUILT, at);
-            Ok(left)
-        },
-        Some(relation) => {
-            let right = sum(alloc, found, env, &relation.right)?;
-            if !is_built_relation(relation.op) {
-                note(found, NOT_BUILT, relation.pos);
+    let mut whole = operations::no_elements();
+    for part in all {
+        whole = element(alloc, found, env, at, whole, part)?;
+    }
+    Ok(whole)
+}
+
+#[cycle(exprs)]
+#[tactic(auto, using(aos_symbols::proofs::Keeping::after_more, crate::proofs::Rows::element_is))]
+fn element(
+    alloc: Global,
+    found: &mut Option<Breach>,
+    env: &Env<'_>,
+    at: Pos,
+    set: Answer,
+    part: &Elem,
+) -> Result<Answer, AllocError>
+    ensures noted { OnOk result (found.new ≡ first_after found.old
+        (judge.element env.now at (seen_answer set) part.now).breaches) }
+    ensures answer { IfOk result (λ r. seen_answer r ≡
+        (judge.element env.now at (seen_answer set) part.now).answer) }
+{
+    let first = expr(alloc, found, env, &part.first)?;
+    match &part.last {
+        None => with_element(alloc, found, at, set, first),
+        Some(last) => {
+            let last = expr(alloc, found, env, last)?;
+            with_span(alloc, found, at, set, first, last)
+        }
+    }
+}
+
+/// A designator.
+#[cycle(exprs)]
+#[tactic(auto, using(aos_symbols::proofs::Keeping::after_more))]
+pub fn designator(
+    alloc: Global,
+    found: &mut Option<Breach>,
+    env: &Env<'_>,
+    part: &Desig,
+) -> Result<Spot, AllocError>
+    ensures noted { OnOk result (found.new ≡ first_after found.old
+        (judge.designator env.now part.now).breaches) }
+    ensures answer { IfOk result (λ r. seen_spot r ≡ (judge.designator env.now part.now).answer) }
+{
+    selected(alloc, found, env, part.name, part.selectors.as_slice())
+}
+
+/// A name, and what stands behind it.
+#[cycle(exprs)]
+#[tactic(auto, using(aos_symbols::proofs::Keeping::after_more))]
+fn selected(
+    alloc: Global,
+    found: &mut Option<Breach>,
+    env: &Env<'_>,
+    name: Name,
+    selectors: &[Selector],
+) -> Result<Spot, AllocError>
+    ensures noted { OnOk result (found.new ≡ first_after found.old
+        (judge.selected env.now name selectors.now).breaches) }
+    ensures answer { IfOk result (λ r. seen_spot r ≡
+        (judge.selected env.now name selectors.now).answer) }
+{
+    let head = plain(env, name);
+    if !is_module(head.found) {
+        return from_head(alloc, found, env, head, selectors);
+    }
+    match selectors.split_first() {
+        None => Ok(named(found, env, head)),
+        Some((selector, more)) => match selector {
+            Selector::Field(_, own) => {
+                let head = member(env, name, *own);
+                from_head(alloc, found, env, head, more)
             }
-            related(alloc, relation.op, left, right)
+            _ => Ok(refused_at(found, OTHER_KIND, name.pos)),
         },
     }
 }
 
-/// What a WHILE that begins here tests.
+/// What is found of a name, and what stands behind it.
+#[cycle(exprs)]
+#[tactic(auto, using(aos_symbols::proofs::Keeping::after_more, crate::proofs::Rows::selector_paren))]
+fn from_head(
+    alloc: Global,
+    found: &mut Option<Breach>,
+    env: &Env<'_>,
+    head: Head,
+    selectors: &[Selector],
+) -> Result<Spot, AllocError>
+    ensures noted { OnOk result (found.new ≡ first_after found.old
+        (judge.from_head env.now head selectors.now).breaches) }
+    ensures answer { IfOk result (λ r. seen_spot r ≡
+        (judge.from_head env.now head selectors.now).answer) }
+{
+    let Some((selector, more)) = selectors.split_first() else {
+        return Ok(named(found, env, head));
+    };
+    match selector {
+        Selector::Field(at, _) => Ok(behind(found, env, head, *at)),
+        Selector::Index(at, _) => Ok(behind(found, env, head, *at)),
+        Selector::Follow(at) => Ok(behind(found, env, head, *at)),
+        Selector::Paren(at, arguments) => {
+            let value = called(alloc, found, env, head, *at, arguments.as_slice())?;
+            Ok(spot_ended(found, head.first, value, more))
+        }
+    }
+}
+
+/// A call, whose bracket stands here.
+#[cycle(exprs)]
+#[tactic(auto, using(aos_symbols::proofs::Keeping::after_more))]
+fn called(
+    alloc: Global,
+    found: &mut Option<Breach>,
+    env: &Env<'_>,
+    head: Head,
+    at: Pos,
+    arguments: &[Expr],
+) -> Result<Answer, AllocError>
+    ensures noted { OnOk result (found.new ≡ first_after found.old
+        (judge.called env.now head at
+        (map (judge.expr env.now) arguments.now) arguments.now).breaches) }
+    ensures answer { IfOk result (λ r. seen_answer r ≡
+        (judge.called env.now head at
+        (map (judge.expr env.now) arguments.now) arguments.now).answer) }
+{
+    match head.found {
+        Lookup::Found(symbol) => called_as(alloc, found, env, symbol.means, head, at, arguments),
+        _ => Ok(not_called(found, env, head, at, arguments)),
+    }
+}
+
+/// A call, by what its name stands for.
+#[cycle(exprs)]
+#[tactic(auto, using(aos_symbols::proofs::Keeping::after_more))]
+fn called_as(
+    alloc: Global,
+    found: &mut Option<Breach>,
+    env: &Env<'_>,
+    means: Meaning,
+    head: Head,
+    at: Pos,
+    arguments: &[Expr],
+) -> Result<Answer, AllocError>
+    ensures noted { OnOk result (found.new ≡ first_after found.old
+        (judge.called_by env.now (judge.callee_meant means) head at
+        (map (judge.expr env.now) arguments.now) arguments.now).breaches) }
+    ensures answer { IfOk result (λ r. seen_answer r ≡
+        (judge.called_by env.now (judge.callee_meant means) head at
+        (map (judge.expr env.now) arguments.now) arguments.now).answer) }
+{
+    match means {
+        Meaning::Function(Function::Max) => {
+            Ok(limit_called(found, env, Limit::Greatest, arguments, head.first))
+        }
+        Meaning::Function(Function::Min) => {
+            Ok(limit_called(found, env, Limit::Least, arguments, head.first))
+        }
+        Meaning::Function(Function::Ash) => shifted(alloc, found, env, head.first, arguments),
+        Meaning::Function(function) => {
+            applied(alloc, found, env, function, head.first, arguments)
+        }
+        Meaning::Type(Some(of)) => {
+            if is_integer(of) {
+                converted(alloc, found, env, of, head.first, arguments)
+            } else {
+                Ok(not_called(found, env, head, at, arguments))
+            }
+        }
+        _ => Ok(not_called(found, env, head, at, arguments)),
+    }
+}
+
+/// A predeclared function of one argument, in a call that begins here.
+#[cycle(exprs)]
+#[tactic(auto, using(aos_symbols::proofs::Keeping::after_more))]
+fn applied(
+    alloc: Global,
+    found: &mut Option<Breach>,
+    env: &Env<'_>,
+    function: Function,
+    first: Pos,
+    arguments: &[Expr],
+) -> Result<Answer, AllocError>
+    ensures noted { OnOk result (found.new ≡ first_after found.old
+        (judge.one_of (λ of. operations.applied function of) first
+        (map (judge.expr env.now) arguments.now) arguments.now).breaches) }
+    ensures answer { IfOk result (λ r. seen_answer r ≡
+        (judge.one_of (λ of. operations.applied function of) first
+        (map (judge.expr env.now) arguments.now) arguments.now).answer) }
+{
+    match arguments {
+        [argument] => {
+            let value = expr(alloc, found, env, argument)?;
+            let step = operations::applied(function, value.known.of);
+            value_of_one(alloc, found, first, argument.pos, step, value)
+        }
+        _ => Ok(refused(found, ARGUMENT_COUNT, first)),
+    }
+}
+
+/// A conversion into an integer type, which begins here.
+#[cycle(exprs)]
+#[tactic(auto, using(aos_symbols::proofs::Keeping::after_more))]
+fn converted(
+    alloc: Global,
+    found: &mut Option<Breach>,
+    env: &Env<'_>,
+    of: TypeId,
+    first: Pos,
+    arguments: &[Expr],
+) -> Result<Answer, AllocError>
+    ensures noted { OnOk result (found.new ≡ first_after found.old
+        (judge.one_of (λ t. operations.converted of t) first
+        (map (judge.expr env.now) arguments.now) arguments.now).breaches) }
+    ensures answer { IfOk result (λ r. seen_answer r ≡
+        (judge.one_of (λ t. operations.converted of t) first
+        (map (judge.expr env.now) arguments.now) arguments.now).answer) }
+{
+    match arguments {
+        [argument] => {
+            let value = expr(alloc, found, env, argument)?;
+            let step = operations::converted(of, value.known.of);
+            value_of_one(alloc, found, first, argument.pos, step, value)
+        }
+        _ => Ok(refused(found, ARGUMENT_COUNT, first)),
+    }
+}
+
+/// ASH, in a call that begins here.
+#[cycle(exprs)]
+#[tactic(auto, using(aos_symbols::proofs::Keeping::after_more))]
+fn shifted(
+    alloc: Global,
+    found: &mut Option<Breach>,
+    env: &Env<'_>,
+    first: Pos,
+    arguments: &[Expr],
+) -> Result<Answer, AllocError>
+    ensures noted { OnOk result (found.new ≡ first_after found.old
+        (judge.two_of first (map (judge.expr env.now) arguments.now) arguments.now).breaches) }
+    ensures answer { IfOk result (λ r. seen_answer r ≡
+        (judge.two_of first (map (judge.expr env.now) arguments.now) arguments.now).answer) }
+{
+    match arguments {
+        [value, places] => {
+            let shifted = expr(alloc, found, env, value)?;
+            let by = expr(alloc, found, env, places)?;
+            value_of_two(alloc, found, first, value.pos, places.pos, shifted, by)
+        }
+        _ => Ok(refused(found, ARGUMENT_COUNT, first)),
+    }
+}
+
+/// The value of a constant expression, by its class.
+fn constant_class(found: &mut Option<Breach>, class: Class, at: Pos) -> Option<Literal>
+    ensures noted { found.new ≡ first_after found.old (judge.constant_class class at).breaches }
+    ensures answer { result ≡ (judge.constant_class class at).answer }
+{
+    match class {
+        Class::Constant(value) => value,
+        Class::Unknown => None,
+        _ => {
+            note(found, NOT_CONSTANT, at);
+            None
+        }
+    }
+}
+
+/// A constant expression, with its value where it breaks no rule.
+#[tactic(auto, using(aos_symbols::proofs::Keeping::after_more))]
+pub fn constant(
+    alloc: Global,
+    found: &mut Option<Breach>,
+    env: &Env<'_>,
+    part: &Expr,
+) -> Result<Option<Literal>, AllocError>
+    ensures noted { OnOk result (found.new ≡ first_after found.old
+        (judge.constant env.now part.now).breaches) }
+    ensures answer { IfOk result (λ r. r ≡ (judge.constant env.now part.now).answer) }
+{
+    let answer = expr(alloc, found, env, part)?;
+    Ok(constant_class(found, answer.known.class, part.pos))
+}
+
+/// An expression that must be BOOLEAN.
 #[tactic(auto, using(aos_symbols::proofs::Keeping::after_more))]
 pub fn condition(
     alloc: Global,
     found: &mut Option<Breach>,
     env: &Env<'_>,
-    at: Pos,
-    expr: &Expr,
+    part: &Expr,
 ) -> Result<TExpr, AllocError>
     ensures noted { OnOk result (found.new ≡ first_after found.old
-        (judge.condition env.now at expr.now).breaches) }
-    ensures answer { IfOk result (λ r. seen_expr r ≡ (judge.condition env.now at expr.now).answer) }
+        (judge.condition env.now part.now).breaches) }
+    ensures answer { IfOk result (λ r. seen_expr r ≡ (judge.condition env.now part.now).answer) }
 {
-    let left = sum(alloc, found, env, &expr.left)?;
-    compared(alloc, found, env, at, left, &expr.right)
-}
-
-/// A name in the place of a number of places.
-fn no_places(found: &mut Option<Breach>, lookup: Lookup, at: Pos)
-    ensures { found.new ≡ first_after found.old (judge.no_places lookup at) }
-{
-    match lookup {
-        Lookup::Unknown => note(found, UNKNOWN, at),
-        Lookup::NotExported => note(found, NOT_EXPORTED, at),
-        Lookup::Found(_) => note(found, NOT_BUILT, at),
+    let answer = expr(alloc, found, env, part)?;
+    if !is_boolean(answer.known.of) {
+        note(found, NO_CONDITION, part.pos);
     }
+    Ok(answer.typed)
 }
 
-fn places_factor(found: &mut Option<Breach>, env: &Env<'_>, part: &Factor) -> TExpr
-    ensures noted { found.new ≡ first_after found.old
-        (judge.places_factor env.now part.now).breaches }
-    ensures answer { seen_expr result ≡ (judge.places_factor env.now part.now).answer }
-{
-    match part {
-        Factor::Number(at, n) => number(found, GREATEST_PLACES, *n, *at),
-        Factor::Desig(desig) => {
-            no_places(found, env.lookup(desig.name), desig.name.pos);
-            nothing()
-        },
-        _ => refused(found, factor_place(part)),
-    }
-}
-
-/// In how many places a number is written.
+/// An argument that must be an integer.
 #[tactic(auto, using(aos_symbols::proofs::Keeping::after_more))]
-pub fn places(found: &mut Option<Breach>, env: &Env<'_>, expr: &Expr) -> TExpr
-    ensures noted { found.new ≡ first_after found.old (judge.places env.now expr.now).breaches }
-    ensures answer { seen_expr result ≡ (judge.places env.now expr.now).answer }
+pub fn number_argument(
+    alloc: Global,
+    found: &mut Option<Breach>,
+    env: &Env<'_>,
+    part: &Expr,
+) -> Result<TExpr, AllocError>
+    ensures noted { OnOk result (found.new ≡ first_after found.old
+        (judge.argument env.now known.is_number part.now).breaches) }
+    ensures answer { IfOk result (λ r. seen_expr r ≡
+        (judge.argument env.now known.is_number part.now).answer) }
 {
-    let whole = places_factor(found, env, &expr.left.first.first);
-    refuse_operators(found, expr);
-    whole
+    let answer = expr(alloc, found, env, part)?;
+    operations::argument(found, is_number(answer.known.of), part.pos);
+    Ok(answer.typed)
 }
 
-#[tactic(auto, using(crate::proofs::Rows::object_desig, aos_symbols::proofs::Keeping::after_more))]
-fn object_factor(found: &mut Option<Breach>, env: &Env<'_>, part: &Factor) -> Option<Spot>
-    ensures noted { found.new ≡ first_after found.old
-        (judge.object_factor env.now part.now).breaches }
-    ensures answer { option_map seen_spot result ≡ (judge.object_factor env.now part.now).answer }
-{
-    match part {
-        Factor::Desig(desig) => {
-            let spot = written_object(found, env, desig.name, desig.selectors.as_slice());
-            Some(spot)
-        },
-        _ => {
-            note(found, NOT_BUILT, factor_place(part));
-            None
-        },
-    }
-}
-
-/// The variable that NEW makes an object for; none where the argument is no designator.
+/// An argument that must be a character.
 #[tactic(auto, using(aos_symbols::proofs::Keeping::after_more))]
-pub fn object(found: &mut Option<Breach>, env: &Env<'_>, expr: &Expr) -> Option<Spot>
-    ensures noted { found.new ≡ first_after found.old (judge.object env.now expr.now).breaches }
-    ensures answer { option_map seen_spot result ≡ (judge.object env.now expr.now).answer }
+pub fn char_argument(
+    alloc: Global,
+    found: &mut Option<Breach>,
+    env: &Env<'_>,
+    part: &Expr,
+) -> Result<TExpr, AllocError>
+    ensures noted { OnOk result (found.new ≡ first_after found.old
+        (judge.argument env.now known.is_char part.now).breaches) }
+    ensures answer { IfOk result (λ r. seen_expr r ≡
+        (judge.argument env.now known.is_char part.now).answer) }
 {
-    let spot = object_factor(found, env, &expr.left.first.first);
-    refuse_operators(found, expr);
-    spot
+    let answer = expr(alloc, found, env, part)?;
+    operations::argument(found, is_char(answer.known.of), part.pos);
+    Ok(answer.typed)
 }

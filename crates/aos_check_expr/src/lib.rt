@@ -1,8 +1,17 @@
-//! Which rules expressions and designators break, and what they are in the typed program.
+//! Designators and expressions: the rules that they break, and what they are in the typed program.
 #![tactic(auto)]
 
+pub mod calls;
 pub mod designators;
 pub mod expressions;
+mod forms;
+pub mod known;
+pub mod operations;
 
-pub use designators::{Spot, assigned, object_number, refuse_selectors, selector_place, type_of};
-pub use expressions::{condition, object, places, value};
+pub use calls::desig_alone;
+pub use designators::{Head, place_of, refuse_assigned};
+pub use expressions::{char_argument, condition, constant, designator, expr, number_argument};
+pub use known::{
+    Answer, Class, Held, Known, Spot, fits, is_basic, is_unknown, object_number, type_of,
+};
+pub use operations::{Joint, Operation, Single, Step};

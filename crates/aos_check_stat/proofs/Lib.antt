@@ -1,2 +1,4 @@
 pub mod Rows
+pub mod Values
+pub mod Places
 pub mod Typing

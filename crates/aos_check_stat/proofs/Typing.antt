@@ -1,30 +1,37 @@
 -- Statements that break no rule are well typed, where the types of all variables are known.
-use Rattle.std.proofs.Common.{List, [], ◌∷◌, ◌++◌, Bool, true, false, codes, Option, Some, None, if◌then◌else◌}
+use Rattle.std.proofs.Common.{◌≡◌, List, [], ◌∷◌, ◌++◌, Bool, true, false, codes, Option, Some, None, sym, ap, ◌∙◌, subst, if◌then◌else◌}
 use Rattle.aos_base.specs.declared.text.Pos.{Pos}
+use Rattle.aos_base.specs.declared.number.Width.TheVariants.{W64}
 use Rattle.aos_tree.specs.declared.name.Name.{Name}
-use Rattle.aos_tree.specs.declared.expr.Expr.{Expr as TreeExpr}
+use Rattle.aos_tree.specs.declared.expr.Expr.{Expr as TreeExpr, out-Expr}
 use Rattle.aos_tree.specs.declared.expr.Desig.{Desig}
-use Rattle.aos_tree.specs.declared.expr.Selector.{Selector, items-the_row-Expr}
+use Rattle.aos_tree.specs.declared.expr.Selector.{Selector}
 use Rattle.aos_tree.specs.declared.expr.Selector.TheVariants as s
 use Rattle.aos_tree.specs.declared.stat.Block.{Block}
 use Rattle.aos_tree.specs.declared.stat.Stat.{Stat as TreeStat, Row_of-Stat, end_of-Stat, more_of-Stat}
 use Rattle.aos_tree.specs.declared.stat.Stat.TheVariants as stat
-use Rattle.aos_typed.specs.Program.{Program, Stat, Assign, While, Out, Int, Ln}
-use Rattle.aos_typed.specs.WellTyped.{IsInteger, IsBoolean, IsStatement, AreStatements}
+use Rattle.aos_typed.specs.declared.tree.TType.TheVariants as type
+use Rattle.aos_typed.specs.Program.{Program, Expr, Call, Open, Char, Int, Ln, Stat, Assign, While, Out}
+use Rattle.aos_typed.specs.WellTyped.{IsOf, IsCall, IsStatement, AreStatements}
 use Rattle.aos_symbols.specs.declared.scope.Meaning.{Meaning}
 use Rattle.aos_symbols.specs.declared.scope.Meaning.TheVariants as means
 use Rattle.aos_symbols.specs.declared.env.Lookup.{Lookup}
-use Rattle.aos_symbols.specs.declared.env.Lookup.TheVariants.{Unknown, NotExported, Found}
+use Rattle.aos_symbols.specs.declared.env.Lookup.TheVariants.{Unknown as NoName, NotExported, Found}
 use Rattle.aos_symbols.specs.declared.env.Env.{Env}
+use Rattle.aos_symbols.specs.Breaches.{breach, breach_unless}
 use Rattle.aos_symbols.specs.Judged.{Judged, judged, kept, bind, walk}
-use Rattle.aos_symbols.specs.Spelling.{word, is_word, is_among, procedures_of_out}
+use Rattle.aos_symbols.specs.Spelling.{is_word}
 use Rattle.aos_symbols.specs.Env as env
-use Rattle.aos_symbols.proofs.Holds.{Holds, holds_bind, holds_walk}
-use Rattle.aos_check_expr.specs.Designators.{Spot, assigned, selector_breaches}
-use Rattle.aos_check_expr.specs.Expressions.{value, condition, places, object}
-use Rattle.aos_check_expr.proofs.Typing.{IsWhole, IsNumber, MayBeMade, assigned_sound, value_sound, condition_sound, places_sound, made_sound}
+use Rattle.aos_symbols.proofs.Holds.{Holds, holds_bind, holds_walk, test_is}
+use Rattle.aos_check_expr.specs.declared.known.Class.{Class}
+use Rattle.aos_check_expr.specs.declared.known.Class.TheVariants.{Unknown, Constant, Variable, ReadOnly, Computed}
+use Rattle.aos_check_expr.specs.Known.{Answer, Spot, fits, type_of, is_number, is_char}
+use Rattle.aos_check_expr.specs.Designators.{assigned, place_of}
+use Rattle.aos_check_expr.specs.Expressions.{expr, condition, argument, designator, desig_alone}
+use Rattle.aos_check_expr.proofs.Typing.{IsWhole, IsSound, expr_sound, condition_sound, argument_sound, fits_sound}
 use Rattle.aos_check_stat.specs.Bodies as judge
-use Rattle.aos_check_stat.specs.Bodies.{listed, put, made, modifier_breaches, with_no_more}
+use Rattle.aos_check_stat.specs.Bodies.{listed, put, made, new_breaches, outs, ended, arguments, behind_arguments, modifier_breaches}
+use Rattle.aos_check_stat.proofs.Places.{IsRead, read_sound, IsAssigned, assigned_sound, made_sound}
 
 module _ (p : Program) (e : Env) (whole : IsWhole p e) where
   abbrev MayBe : Option Stat → Type 0
@@ -42,90 +49,127 @@ module _ (p : Program) (e : Env) (whole : IsWhole p e) where
   put_sound ts None are is = are
   put_sound ts (Some x) are is = behind_sound ts x are is
 
-  assign_sound : (d : Desig) (x : TreeExpr) → Holds MayBe (judge.assign e d x)
-  assign_sound d x =
-      holds_bind (IsNumber p e whole) MayBe (assigned e d.name d.selectors) (λ a. bind (value e x) (λ v. kept (Some (Assign d.name.pos a.place v))))
-      (assigned_sound p e whole d.name d.selectors)
-      (λ a is. holds_bind (IsInteger p) MayBe (value e x) (λ v. kept (Some (Assign d.name.pos a.place v))) (value_sound p e whole x) (λ v y h. (is, y)))
+  -- Assignments.
+
+  fitting : (a : Spot) (v : Answer) → IsAssigned p e whole a → IsSound p v → fits v.known.of a.known.of ≡ true → IsOf p v.typed (type_of a.known.of)
+  fitting a v is sound h =
+      subst (λ o. IsOf p v.typed (type_of o)) (sym is.1)
+      (fits_sound p v sound is.0 (ap (λ o. fits o (Some is.0)) (sym sound.known) ∙ ap (fits v.known.of) (sym is.1) ∙ h))
+
+  assign_sound : (d : Desig) (at : Pos) (x : TreeExpr) → Holds MayBe (judge.assign e d at x)
+  assign_sound d at x =
+      holds_bind (IsAssigned p e whole) MayBe (bind (designator e d) (λ a. assigned d.name.pos a))
+      (λ a. bind (expr e x) (λ v. judged (breach_unless (fits v.known.of a.known.of) 31 at) (Some (Assign d.name.pos (type_of a.known.of) (place_of a.held) v.typed))))
+      (holds_bind (IsRead p e whole) (IsAssigned p e whole) (designator e d) (λ a. assigned d.name.pos a) (read_sound p e whole d) (λ a is. assigned_sound p e whole a d.name.pos is))
+      (λ a is. holds_bind (IsSound p) MayBe (expr e x)
+      (λ v. judged (breach_unless (fits v.known.of a.known.of) 31 at) (Some (Assign d.name.pos (type_of a.known.of) (place_of a.held) v.typed)))
+      (expr_sound p e whole x) (λ v sound h.
+      (is.3 ∙ ap (λ o. Some (type_of o)) (sym is.1), fitting a v is sound (test_is (fits v.known.of a.known.of) 31 at h))))
+
+  -- The procedures of Out.
+
+  outs_sound : (at : Pos) (j : Judged Call) → Holds (IsCall p) j → Holds MayBe (outs at j)
+  outs_sound at j sound = holds_bind (IsCall p) MayBe j (λ c. kept (Some (Out at c))) sound (λ c is h. is)
 
   int_sound : (at : Pos) (xs : List TreeExpr) → Holds MayBe (judge.int_call e at xs)
   int_sound at [] = λ h. tt
   int_sound at (a ∷ []) = λ h. tt
   int_sound at (a ∷ b ∷ []) =
-      holds_bind (IsInteger p) MayBe (value e a) (λ x. bind (places e b) (λ n. kept (Some (Out at (Int x n))))) (value_sound p e whole a)
-      (λ x is. holds_bind (IsInteger p) MayBe (places e b) (λ n. kept (Some (Out at (Int x n)))) (places_sound p e whole b) (λ n y h. (is, y)))
+      let IsInteger = λ (x : Expr). IsOf p x (type.Integer W64) in
+      outs_sound at (bind (argument e is_number a) (λ x. bind (argument e is_number b) (λ n. kept (Int x n))))
+      (holds_bind IsInteger (IsCall p) (argument e is_number a) (λ x. bind (argument e is_number b) (λ n. kept (Int x n))) (argument_sound p e whole a).0
+      (λ x is. holds_bind IsInteger (IsCall p) (argument e is_number b) (λ n. kept (Int x n)) (argument_sound p e whole b).0 (λ n also h. (is, also))))
   int_sound at (a ∷ b ∷ c ∷ xs) = λ h. tt
 
-  new_is : (at : Pos) (o : Option Spot) → MayBeMade p e whole o → MayBe (made at o)
-  new_is at None is = tt
-  new_is at (Some a) is = (is.0, is.1)
+  char_call_sound : (at : Pos) (xs : List TreeExpr) → Holds MayBe (judge.char_call e at xs)
+  char_call_sound at [] = λ h. tt
+  char_call_sound at (a ∷ []) =
+      outs_sound at (bind (argument e is_char a) (λ x. kept (Char x)))
+      (holds_bind (λ (x : Expr). IsOf p x type.Char) (IsCall p) (argument e is_char a) (λ x. kept (Char x)) (argument_sound p e whole a).1 (λ x is h. is))
+  char_call_sound at (a ∷ b ∷ xs) = λ h. tt
 
-  new_sound : (at : Pos) (xs : List TreeExpr) → Holds MayBe (judge.new_call e at xs)
-  new_sound at [] = λ h. tt
-  new_sound at (a ∷ []) =
-      holds_bind (MayBeMade p e whole) MayBe (object e a) (λ x. kept (made at x)) (made_sound p e whole a) (λ x is h. new_is at x is)
-  new_sound at (a ∷ b ∷ xs) = λ h. tt
+  plain_sound : (c : Call) → IsCall p c → (at : Pos) (xs : List TreeExpr) → Holds MayBe (judge.plain_call c at xs)
+  plain_sound c is at [] = λ h. is
+  plain_sound c is at (x ∷ xs) = λ h. tt
 
-  no_more_sound : (more : List Selector) (j : Judged (Option Stat)) → Holds MayBe j → Holds MayBe (with_no_more more j)
-  no_more_sound more j sound = holds_bind MayBe MayBe j (λ x. judged (selector_breaches more) x) sound (λ x is h. is)
+  choice_sound : (b : Bool) (i j : Judged (Option Stat)) → Holds MayBe i → Holds MayBe j → Holds MayBe (if b then i else j)
+  choice_sound true i j x y = x
+  choice_sound false i j x y = y
 
-  int_selectors_sound : (at : Pos) (ss : List Selector) → Holds MayBe (judge.int_selectors e at ss)
-  int_selectors_sound at [] = λ h. tt
-  int_selectors_sound at (s.Paren' q shape row ∷ more) = no_more_sound more (judge.int_call e at (items-the_row-Expr _ row)) (int_sound at (items-the_row-Expr _ row))
-  int_selectors_sound at (s.Field q n ∷ more) = λ h. tt
-  int_selectors_sound at (s.Index' q shape row ∷ more) = λ h. tt
-  int_selectors_sound at (s.Follow q ∷ more) = λ h. tt
+  out_sound : (at : Pos) (n : Name) (xs : List TreeExpr) → Holds MayBe (judge.out_call e at n xs)
+  out_sound at n xs =
+      choice_sound (is_word e.here.text (codes "Int") n) (judge.int_call e at xs) _ (int_sound at xs)
+      (choice_sound (is_word e.here.text (codes "Char") n) (judge.char_call e at xs) _ (char_call_sound at xs)
+      (choice_sound (is_word e.here.text (codes "Ln") n) (judge.plain_call Ln at xs) _ (plain_sound Ln tt at xs)
+      (choice_sound (is_word e.here.text (codes "Open") n) (judge.plain_call Open at xs) _ (plain_sound Open tt at xs) (λ h. tt))))
 
-  new_selectors_sound : (at : Pos) (ss : List Selector) → Holds MayBe (judge.new_selectors e at ss)
-  new_selectors_sound at [] = λ h. tt
-  new_selectors_sound at (s.Paren' q shape row ∷ more) = no_more_sound more (judge.new_call e at (items-the_row-Expr _ row)) (new_sound at (items-the_row-Expr _ row))
-  new_selectors_sound at (s.Field q n ∷ more) = λ h. tt
-  new_selectors_sound at (s.Index' q shape row ∷ more) = λ h. tt
-  new_selectors_sound at (s.Follow q ∷ more) = λ h. tt
-
-  either : (b : Bool) (i j : Judged (Option Stat)) → Holds MayBe i → Holds MayBe j → Holds MayBe (if b then i else j)
-  either true i j x y = x
-  either false i j x y = y
-
-  out_call_sound : (at : Pos) (n : Name) (more : List Selector) → Holds MayBe (judge.out_call e at n more)
-  out_call_sound at n more =
-      let int = is_word e.here.text (codes "Int") n in
-      let line = is_word e.here.text (codes "Ln") n in
-      let other = judge.refused (if is_among procedures_of_out (word e.here.text n) then 99 else 14) n.pos in
-      either int (judge.int_selectors e at more) (if line then with_no_more more (kept (Some (Out at Ln))) else other)
-      (int_selectors_sound at more)
-      (either line (with_no_more more (kept (Some (Out at Ln)))) other (no_more_sound more (kept (Some (Out at Ln))) (λ h. tt)) (λ h. tt))
+  ended_sound : (first : Pos) (xs : List Selector) (j : Judged (Option Stat)) → Holds MayBe j → Holds MayBe (ended first xs j)
+  ended_sound first [] j sound = sound
+  ended_sound first (s.Field q n ∷ more) j sound = holds_bind MayBe MayBe j (λ x. judged (breach 42 q) x) sound (λ x is h. is)
+  ended_sound first (s.Index' q shape row ∷ more) j sound = holds_bind MayBe MayBe j (λ x. judged (breach 42 q) x) sound (λ x is h. is)
+  ended_sound first (s.Follow q ∷ more) j sound = holds_bind MayBe MayBe j (λ x. judged (breach 42 q) x) sound (λ x is h. is)
+  ended_sound first (s.Paren' q shape row ∷ more) j sound = holds_bind MayBe MayBe j (λ x. judged (breach 36 first) x) sound (λ x is h. is)
 
   out_selectors_sound : (at : Pos) (ss : List Selector) → Holds MayBe (judge.out_selectors e at ss)
   out_selectors_sound at [] = λ h. tt
-  out_selectors_sound at (s.Field q n ∷ more) = out_call_sound at n more
+  out_selectors_sound at (s.Field q n ∷ more) = ended_sound at (behind_arguments more) (judge.out_call e at n (arguments more)) (out_sound at n (arguments more))
   out_selectors_sound at (s.Paren' q shape row ∷ more) = λ h. tt
   out_selectors_sound at (s.Index' q shape row ∷ more) = λ h. tt
   out_selectors_sound at (s.Follow q ∷ more) = λ h. tt
 
+  -- NEW.
+
+  new_of_sound : (at first : Pos) (o : Option Desig) → Holds MayBe (judge.new_of e at first o)
+  new_of_sound at first None = λ h. tt
+  new_of_sound at first (Some d) =
+      holds_bind (IsRead p e whole) MayBe (designator e d) (λ a. judged (new_breaches at first a) (made at a)) (read_sound p e whole d)
+      (λ a is h. made_sound p e whole at first a is h)
+
+  new_sound : (at : Pos) (xs : List TreeExpr) → Holds MayBe (judge.new_call e at xs)
+  new_sound at [] = λ h. tt
+  new_sound at (a ∷ []) = new_of_sound at (out-Expr a).pos (desig_alone a)
+  new_sound at (a ∷ b ∷ xs) = λ h. tt
+
+  -- Calls.
+
+  no_call_sound : (at : Pos) (c : Class) → Holds MayBe (judge.no_call at c)
+  no_call_sound at Unknown = λ h. tt
+  no_call_sound at (Constant v) = λ h. tt
+  no_call_sound at Variable = λ h. tt
+  no_call_sound at ReadOnly = λ h. tt
+  no_call_sound at Computed = λ h. tt
+
+  value_sound : (d : Desig) → Holds MayBe (bind (designator e d) (λ a. judge.no_call d.name.pos a.known.class))
+  value_sound d =
+      holds_bind (IsRead p e whole) MayBe (designator e d) (λ a. judge.no_call d.name.pos a.known.class) (read_sound p e whole d)
+      (λ a is. no_call_sound d.name.pos a.known.class)
+
   called_meaning_sound : (m : Meaning) (d : Desig) → Holds MayBe (judge.called_meaning e m d)
   called_meaning_sound means.Out d = out_selectors_sound d.name.pos d.selectors
-  called_meaning_sound means.New d = new_selectors_sound d.name.pos d.selectors
-  called_meaning_sound (means.Constant k) d = λ h. tt
-  called_meaning_sound (means.Type of) d = λ h. tt
-  called_meaning_sound (means.Variable k) d = λ h. tt
+  called_meaning_sound means.New d = ended_sound d.name.pos (behind_arguments d.selectors) (judge.new_call e d.name.pos (arguments d.selectors)) (new_sound d.name.pos (arguments d.selectors))
+  called_meaning_sound means.Proper d = λ h. tt
   called_meaning_sound (means.Procedure k) d = λ h. tt
-  called_meaning_sound (means.Module m) d = λ h. tt
-  called_meaning_sound means.Other d = λ h. tt
+  called_meaning_sound (means.Constant k) d = value_sound d
+  called_meaning_sound (means.Type of) d = value_sound d
+  called_meaning_sound (means.Variable k) d = value_sound d
+  called_meaning_sound (means.Module m) d = value_sound d
+  called_meaning_sound (means.Truth b) d = value_sound d
+  called_meaning_sound (means.Function f) d = value_sound d
+  called_meaning_sound means.Other d = value_sound d
 
   called_sound : (l : Lookup) (d : Desig) → Holds MayBe (judge.called e l d)
-  called_sound Unknown d = λ h. tt
+  called_sound NoName d = λ h. tt
   called_sound NotExported d = λ h. tt
   called_sound (Found x) d = called_meaning_sound x.means d
 
   mutual
     stat_sound : (x : TreeStat) → Holds MayBe (judge.stat_of e x)
     stat_sound stat.Empty = λ h. tt
-    stat_sound (stat.Assign d q x) = assign_sound d x
+    stat_sound (stat.Assign d at x) = assign_sound d at x
     stat_sound (stat.Call d) = called_sound (env.lookup e d.name) d
     stat_sound (stat.While' q c shape row) =
-        holds_bind (IsBoolean p) MayBe (condition e q c) (λ test. bind (judge.stats_in e [] row) (λ body. kept (Some (While q test (listed body)))))
-        (condition_sound p e whole q c)
+        holds_bind (λ (x : Expr). IsOf p x type.Boolean) MayBe (condition e c) (λ test. bind (judge.stats_in e [] row) (λ body. kept (Some (While q test (listed body)))))
+        (condition_sound p e whole c)
         (λ test is. holds_bind Are MayBe (judge.stats_in e [] row) (λ body. kept (Some (While q test (listed body)))) (stats_sound [] tt row) (λ body are h. (is, are)))
     stat_sound (stat.Block' q ms shape row) = λ h. tt
     stat_sound (stat.Exit q) = λ h. tt

@@ -1,10 +1,11 @@
--- The third pass: bodies. Built are assignments to LONGINT variables, WHILE, NEW of an object variable, Out.Int and Out.Ln, and
--- of the modifiers ACTIVE on an object's body. A statement that isn't built is refused at its first token, a modifier at itself.
-use Rattle.std.specs.Prelude.{ℕ, List, [], ◌∷◌, ◌++◌, codes, Bool, not, ◌&&◌, Option, Some, None, if◌then◌else◌}
+-- The third pass: bodies. Built are assignments to variables of basic types, WHILE, NEW of an object variable, the calls of Out
+-- but Out.String, and of the modifiers ACTIVE on an object's body. A statement that isn't built is refused at its first token,
+-- a modifier at itself.
+use Rattle.std.specs.Prelude.{ℕ, List, [], ◌∷◌, ◌++◌, codes, Bool, true, not, ◌&&◌, Option, Some, None, if◌then◌else◌}
 use Rattle.std.specs.Option.{is_none}
 use Rattle.aos_base.specs.declared.text.Pos.{Pos}
 use Rattle.aos_tree.specs.declared.name.Name.{Name}
-use Rattle.aos_tree.specs.declared.expr.Expr.{Expr as TreeExpr}
+use Rattle.aos_tree.specs.declared.expr.Expr.{Expr as TreeExpr, out-Expr}
 use Rattle.aos_tree.specs.declared.expr.Desig.{Desig}
 use Rattle.aos_tree.specs.declared.expr.Selector.{Selector, items-the_row-Expr}
 use Rattle.aos_tree.specs.declared.expr.Selector.TheVariants as s
@@ -12,19 +13,23 @@ use Rattle.aos_tree.specs.declared.stat.Block.{Block}
 use Rattle.aos_tree.specs.declared.stat.Modifier.{Modifier}
 use Rattle.aos_tree.specs.declared.stat.Stat.{Stat as TreeStat, Row_of-Stat, end_of-Stat, more_of-Stat}
 use Rattle.aos_tree.specs.declared.stat.Stat.TheVariants as stat
-use Rattle.aos_typed.specs.Program.{Stat, Assign, While, New, Out, Int, Ln, Stats, Nothing, Then}
+use Rattle.aos_typed.specs.Program.{Call, Open, Char, Int, Ln, Stat, Assign, While, New, Out, Stats, Nothing, Then}
 use Rattle.aos_symbols.specs.declared.breach.Breach.{Breach}
 use Rattle.aos_symbols.specs.declared.scope.Meaning.{Meaning}
 use Rattle.aos_symbols.specs.declared.scope.Meaning.TheVariants as means
 use Rattle.aos_symbols.specs.declared.env.Lookup.{Lookup}
-use Rattle.aos_symbols.specs.declared.env.Lookup.TheVariants.{Unknown, NotExported, Found}
+use Rattle.aos_symbols.specs.declared.env.Lookup.TheVariants.{Unknown as NoName, NotExported, Found}
 use Rattle.aos_symbols.specs.declared.env.Env.{Env}
 use Rattle.aos_symbols.specs.Breaches.{breach, breach_unless}
 use Rattle.aos_symbols.specs.Judged.{Judged, judged, kept, bind, walk}
 use Rattle.aos_symbols.specs.Spelling.{word, is_word, is_among, is_active, procedures_of_out}
 use Rattle.aos_symbols.specs.Env as env
-use Rattle.aos_check_expr.specs.Designators.{Spot, assigned, selector_breaches, object_number}
-use Rattle.aos_check_expr.specs.Expressions.{value, condition, places, object}
+use Rattle.aos_types.specs.declared.row.TypeId.{TypeId}
+use Rattle.aos_check_expr.specs.declared.known.Class.{Class}
+use Rattle.aos_check_expr.specs.declared.known.Class.TheVariants.{Unknown, Constant, Variable, ReadOnly, Computed}
+use Rattle.aos_check_expr.specs.Known.{Spot, is_number, is_char, is_basic, fits, type_of, object_number}
+use Rattle.aos_check_expr.specs.Designators.{assigned, place_of}
+use Rattle.aos_check_expr.specs.Expressions.{expr, condition, argument, designator, desig_alone}
 
 -- statements as a sequence of the typed program
 abbrev pub listed : List Stat → Stats
@@ -42,13 +47,62 @@ refused rule at = judged (breach rule at) None
 abbrev pub not_yet : Pos → Judged (Option Stat)
 not_yet at = refused 99 at
 
--- a call with the selectors that stand behind it, of which none is built
-abbrev pub with_no_more : List Selector → Judged (Option Stat) → Judged (Option Stat)
-with_no_more more j = bind j (λ x. judged (selector_breaches more) x)
+abbrev pub outs : Pos → Judged Call → Judged (Option Stat)
+outs at j = bind j (λ c. kept (Some (Out at c)))
 
-abbrev pub made : Pos → Option Spot → Option Stat
-made at None = None
-made at (Some a) = Some (New at a.place (object_number a.of))
+-- a procedure of Out that has no arguments
+abbrev pub plain_call : Call → Pos → List TreeExpr → Judged (Option Stat)
+plain_call c at [] = kept (Some (Out at c))
+plain_call c at xs = refused 34 at
+
+-- a call that gives no value has nothing behind it
+abbrev pub ended : Pos → List Selector → Judged (Option Stat) → Judged (Option Stat)
+ended first [] j = j
+ended first (s.Field p n ∷ more) j = bind j (λ x. judged (breach 42 p) x)
+ended first (s.Index' p shape row ∷ more) j = bind j (λ x. judged (breach 42 p) x)
+ended first (s.Follow p ∷ more) j = bind j (λ x. judged (breach 42 p) x)
+ended first (s.Paren' p shape row ∷ more) j = bind j (λ x. judged (breach 36 first) x)
+
+-- the arguments of a call, and what stands behind it: a call without parentheses has none
+abbrev pub arguments : List Selector → List TreeExpr
+arguments (s.Paren' p shape row ∷ more) = items-the_row-Expr _ row
+arguments _ = []
+
+abbrev pub behind_arguments : List Selector → List Selector
+behind_arguments (s.Paren' p shape row ∷ more) = more
+behind_arguments xs = xs
+
+-- the type of an object variable is none of the basic types, which stand first in the table
+abbrev pub is_object : Option TypeId → Bool
+is_object None = true
+is_object (Some t) = not (is_basic t)
+
+-- NEW stands at the first place, its argument at the second
+abbrev pub new_breaches : Pos → Pos → Spot → List Breach
+new_breaches at first a =
+    breach_unless (is_object a.known.of) 47 at ++ new_class_at a.known.class
+  where
+    new_class_at : Class → List Breach
+    new_class_at ReadOnly = breach 33 first
+    new_class_at Unknown = []
+    new_class_at Variable = []
+    new_class_at (Constant v) = breach 47 at
+    new_class_at Computed = breach 47 at
+
+abbrev pub object_of : Option TypeId → ℕ
+object_of None = 0
+object_of (Some t) = object_number t
+
+abbrev pub made : Pos → Spot → Option Stat
+made at a = Some (New at (place_of a.held) (object_of a.known.of))
+
+-- what is no procedure isn't called
+abbrev pub no_call : Pos → Class → Judged (Option Stat)
+no_call at Unknown = kept None
+no_call at (Constant v) = refused 36 at
+no_call at Variable = refused 36 at
+no_call at ReadOnly = refused 36 at
+no_call at Computed = refused 36 at
 
 -- the modifiers of a body: none is built but one ACTIVE, without a value, on an object's body
 abbrev pub modifier_breaches : List ℕ → Bool → List Modifier → List Breach
@@ -58,57 +112,55 @@ modifier_breaches text may_be_active (m ∷ ms) =
     ++ modifier_breaches text (may_be_active && not (is_active text m)) ms
 
 module _ (e : Env) where
-  -- the variable is written at the designator's first token
-  abbrev pub assign : Desig → TreeExpr → Judged (Option Stat)
-  assign d x =
-      bind (assigned e d.name d.selectors) (λ a. bind (value e x) (λ v. kept (Some (Assign d.name.pos a.place v))))
+  -- the value must fit the variable, or else `:=` is refused
+  abbrev pub assign : Desig → Pos → TreeExpr → Judged (Option Stat)
+  assign d at x =
+      bind (bind (designator e d) (λ a. assigned d.name.pos a)) (λ a. bind (expr e x) (λ v.
+      judged (breach_unless (fits v.known.of a.known.of) 31 at)
+      (Some (Assign d.name.pos (type_of a.known.of) (place_of a.held) v.typed))))
 
-  -- the arguments of Out.Int and of NEW in a call that begins here; another number of them makes it one that isn't built
+  -- the procedures of Out, with their arguments
   abbrev pub int_call : Pos → List TreeExpr → Judged (Option Stat)
-  int_call at (a ∷ b ∷ []) = bind (value e a) (λ x. bind (places e b) (λ n. kept (Some (Out at (Int x n)))))
-  int_call at xs = not_yet at
+  int_call at (a ∷ b ∷ []) =
+      outs at (bind (argument e is_number a) (λ x. bind (argument e is_number b) (λ n. kept (Int x n))))
+  int_call at xs = refused 34 at
 
-  abbrev pub new_call : Pos → List TreeExpr → Judged (Option Stat)
-  new_call at (a ∷ []) = bind (object e a) (λ x. kept (made at x))
-  new_call at xs = not_yet at
+  abbrev pub char_call : Pos → List TreeExpr → Judged (Option Stat)
+  char_call at (a ∷ []) = outs at (bind (argument e is_char a) (λ x. kept (Char x)))
+  char_call at xs = refused 34 at
 
-  -- the selectors behind Out.Int, behind NEW and behind Out
-  abbrev pub int_selectors : Pos → List Selector → Judged (Option Stat)
-  int_selectors at [] = not_yet at
-  int_selectors at (s.Paren' p shape row ∷ more) = with_no_more more (int_call at (items-the_row-Expr _ row))
-  int_selectors at (s.Field p n ∷ more) = not_yet p
-  int_selectors at (s.Index' p shape row ∷ more) = not_yet p
-  int_selectors at (s.Follow p ∷ more) = not_yet p
-
-  abbrev pub new_selectors : Pos → List Selector → Judged (Option Stat)
-  new_selectors at [] = not_yet at
-  new_selectors at (s.Paren' p shape row ∷ more) = with_no_more more (new_call at (items-the_row-Expr _ row))
-  new_selectors at (s.Field p n ∷ more) = not_yet p
-  new_selectors at (s.Index' p shape row ∷ more) = not_yet p
-  new_selectors at (s.Follow p ∷ more) = not_yet p
-
-  -- a procedure of Out that isn't built is refused at its name
-  abbrev pub out_call : Pos → Name → List Selector → Judged (Option Stat)
-  out_call at n more =
-      if is_word e.here.text (codes "Int") n then int_selectors at more
-      else if is_word e.here.text (codes "Ln") n then with_no_more more (kept (Some (Out at Ln)))
+  -- one that isn't built is refused at its name
+  abbrev pub out_call : Pos → Name → List TreeExpr → Judged (Option Stat)
+  out_call at n xs =
+      if is_word e.here.text (codes "Int") n then int_call at xs
+      else if is_word e.here.text (codes "Char") n then char_call at xs
+      else if is_word e.here.text (codes "Ln") n then plain_call Ln at xs
+      else if is_word e.here.text (codes "Open") n then plain_call Open at xs
       else refused (if is_among procedures_of_out (word e.here.text n) then 99 else 14) n.pos
 
+  -- the name of a module is no statement
   abbrev pub out_selectors : Pos → List Selector → Judged (Option Stat)
-  out_selectors at [] = not_yet at
-  out_selectors at (s.Field p n ∷ more) = out_call at n more
-  out_selectors at (s.Paren' p shape row ∷ more) = not_yet p
-  out_selectors at (s.Index' p shape row ∷ more) = not_yet p
-  out_selectors at (s.Follow p ∷ more) = not_yet p
+  out_selectors at (s.Field p n ∷ more) = ended at (behind_arguments more) (out_call at n (arguments more))
+  out_selectors at more = refused 16 at
 
+  abbrev pub new_of : Pos → Pos → Option Desig → Judged (Option Stat)
+  new_of at first None = refused 47 at
+  new_of at first (Some d) = bind (designator e d) (λ a. judged (new_breaches at first a) (made at a))
+
+  abbrev pub new_call : Pos → List TreeExpr → Judged (Option Stat)
+  new_call at (a ∷ []) = new_of at (out-Expr a).pos (desig_alone a)
+  new_call at xs = refused 34 at
+
+  -- a call, by what its first name stands for; procedures but those of Out and NEW aren't built
   abbrev pub called_meaning : Meaning → Desig → Judged (Option Stat)
   called_meaning means.Out d = out_selectors d.name.pos d.selectors
-  called_meaning means.New d = new_selectors d.name.pos d.selectors
-  called_meaning m d = not_yet d.name.pos
+  called_meaning means.New d = ended d.name.pos (behind_arguments d.selectors) (new_call d.name.pos (arguments d.selectors))
+  called_meaning means.Proper d = not_yet d.name.pos
+  called_meaning (means.Procedure k) d = not_yet d.name.pos
+  called_meaning m d = bind (designator e d) (λ a. no_call d.name.pos a.known.class)
 
-  -- a call, by what its first name stands for
   abbrev pub called : Lookup → Desig → Judged (Option Stat)
-  called Unknown d = refused 14 d.name.pos
+  called NoName d = refused 14 d.name.pos
   called NotExported d = refused 15 d.name.pos
   called (Found x) d = called_meaning x.means d
 
@@ -116,10 +168,10 @@ module _ (e : Env) where
     -- a statement
     pub stat_of : TreeStat → Judged (Option Stat)
     stat_of stat.Empty = kept None
-    stat_of (stat.Assign d p x) = assign d x
+    stat_of (stat.Assign d p x) = assign d p x
     stat_of (stat.Call d) = called (env.lookup e d.name) d
     stat_of (stat.While' p c shape row) =
-        bind (condition e p c) (λ test. bind (stats_in [] row) (λ body. kept (Some (While p test (listed body)))))
+        bind (condition e c) (λ test. bind (stats_in [] row) (λ body. kept (Some (While p test (listed body)))))
     stat_of (stat.Block' p ms shape row) = not_yet p
     stat_of (stat.Exit p) = not_yet p
     stat_of (stat.Return p x) = not_yet p

@@ -1,44 +1,99 @@
-// Calls: NEW of an object variable, and the procedures Int and Ln of module Out.
+// Calls, by what their first name stands for: NEW, and what can't be called.
 
 ghost use Rattle.std.specs.Prelude.{◌≡◌, OnOk, IfOk, option_map};
+ghost use Rattle.std.specs.Option.{option_copied};
 ghost use Rattle.aos_typed.specs.Seen.{seen_stat};
 ghost use Rattle.aos_symbols.specs.Breaches.{first_after};
 ghost use Rattle.aos_symbols.specs.Env as scopes;
+ghost use Rattle.aos_symbols.specs.Judged.{bind};
 ghost use Rattle.aos_check_expr.specs.Seen.{seen_spot};
+ghost use Rattle.aos_check_expr.specs.Expressions as expression;
 ghost use Rattle.aos_check_stat.specs.Bodies as judge;
 
+use crate::out::out_selectors;
+use crate::refusals::{arguments, behind_arguments, not_yet, refuse_behind, refused};
 use aos_base::Pos;
-use aos_check_expr::{
-    Spot, object, object_number, places, refuse_selectors, selector_place, value,
-};
+use aos_check_expr::{Class, Spot, desig_alone, designator, is_basic, object_number, place_of};
 use aos_symbols::{
-    Breach, Env, Lookup, Meaning, NOT_BUILT, NOT_EXPORTED, UNKNOWN, is_procedure_of_out, is_word,
-    note, word,
+    ARGUMENT_COUNT, Breach, Env, Lookup, Meaning, NOT_EXPORTED, READ_ONLY, UNKNOWN, WRONG_CALL,
+    WRONG_NEW, note,
 };
-use aos_tree::{Desig, Expr, Name, Selector};
-use aos_typed::{OutCall, TStat};
+use aos_tree::{Desig, Expr, Selector};
+use aos_typed::TStat;
+use aos_types::TypeId;
 use std::alloc::{AllocError, Global};
 
-/// A statement that breaks a rule at a place, which is none.
-pub fn refused(found: &mut Option<Breach>, rule: u16, at: Pos) -> Option<TStat>
-    ensures noted { found.new ≡ first_after found.old (judge.refused rule at).breaches }
-    ensures answer { option_map seen_stat result ≡ (judge.refused rule at).answer }
+/// Whether a type is none of the basic types, or isn't known.
+fn is_object(of: Option<TypeId>) -> bool
+    ensures { result ≡ judge.is_object of }
 {
-    note(found, rule, at);
-    None
+    match of {
+        Some(of) => !is_basic(of),
+        None => true,
+    }
 }
 
-/// A statement that isn't built.
-pub fn not_yet(found: &mut Option<Breach>, at: Pos) -> Option<TStat>
-    ensures noted { found.new ≡ first_after found.old (judge.not_yet at).breaches }
-    ensures answer { option_map seen_stat result ≡ (judge.not_yet at).answer }
-{
-    refused(found, NOT_BUILT, at)
-}
-
-/// Out.Int of these arguments, in a call that begins at a place.
+/// NEW stands at a place, and its argument begins at `first`: that must be an object variable that
+/// may be written.
 #[tactic(auto, using(aos_symbols::proofs::Keeping::after_more))]
-fn int_call(
+fn refuse_new(found: &mut Option<Breach>, at: Pos, first: Pos, spot: &Spot)
+    ensures { found.new ≡
+        first_after found.old (judge.new_breaches at first (seen_spot spot.now)) }
+{
+    if !is_object(spot.known.of) {
+        note(found, WRONG_NEW, at);
+    }
+    match spot.known.class {
+        Class::Unknown => {},
+        Class::Variable => {},
+        Class::ReadOnly => note(found, READ_ONLY, first),
+        Class::Constant(_) => note(found, WRONG_NEW, at),
+        Class::Computed => note(found, WRONG_NEW, at),
+    }
+}
+
+fn object_of(of: Option<TypeId>) -> u32
+    ensures { result ≡ judge.object_of of }
+{
+    match of {
+        Some(of) => object_number(of),
+        None => 0,
+    }
+}
+
+/// NEW of a variable, in a call that begins at a place.
+fn made(at: Pos, spot: Spot) -> Option<TStat>
+    ensures { option_map seen_stat result ≡ judge.made at (seen_spot spot) }
+{
+    Some(TStat::New(at, place_of(spot.held), object_of(spot.known.of)))
+}
+
+/// NEW of an argument that begins at `first`, and is a designator or not, in a call that begins at a
+/// place.
+#[tactic(auto, using(aos_symbols::proofs::Keeping::after_more))]
+fn new_of(
+    alloc: Global,
+    found: &mut Option<Breach>,
+    env: &Env<'_>,
+    at: Pos,
+    first: Pos,
+    variable: Option<&Desig>,
+) -> Result<Option<TStat>, AllocError>
+    ensures noted { OnOk result (found.new ≡ first_after found.old
+        (judge.new_of env.now at first (option_copied variable.entry)).breaches) }
+    ensures answer { IfOk result (λ s. option_map seen_stat s ≡
+        (judge.new_of env.now at first (option_copied variable.entry)).answer) }
+{
+    let Some(variable) = variable else {
+        return Ok(refused(found, WRONG_NEW, at));
+    };
+    let spot = designator(alloc, found, env, variable)?;
+    refuse_new(found, at, first, &spot);
+    Ok(made(at, spot))
+}
+
+/// NEW of these arguments, in a call that begins at a place.
+fn new_call(
     alloc: Global,
     found: &mut Option<Breach>,
     env: &Env<'_>,
@@ -46,147 +101,68 @@ fn int_call(
     arguments: &[Expr],
 ) -> Result<Option<TStat>, AllocError>
     ensures noted { OnOk result (found.new ≡
-        first_after found.old (judge.int_call env.now at arguments.now).breaches) }
+        first_after found.old (judge.new_call env.now at arguments.now).breaches) }
     ensures answer { IfOk result
-        (λ s. option_map seen_stat s ≡ (judge.int_call env.now at arguments.now).answer) }
+        (λ s. option_map seen_stat s ≡ (judge.new_call env.now at arguments.now).answer) }
 {
     match arguments {
-        [number, width] => {
-            let number = value(alloc, found, env, number)?;
-            let width = places(found, env, width);
-            Ok(Some(TStat::Out(at, OutCall::Int(number, width))))
-        },
-        _ => Ok(not_yet(found, at)),
+        [variable] => new_of(alloc, found, env, at, variable.pos, desig_alone(variable)),
+        _ => Ok(refused(found, ARGUMENT_COUNT, at)),
     }
 }
 
-/// NEW of a variable, in a call that begins at a place.
-fn made(at: Pos, spot: Option<Spot>) -> Option<TStat>
-    ensures { option_map seen_stat result ≡ judge.made at (option_map seen_spot spot) }
-{
-    match spot {
-        Some(spot) => Some(TStat::New(at, spot.place, object_number(spot.of))),
-        None => None,
-    }
-}
-
-/// NEW of these arguments, in a call that begins at a place.
-#[tactic(auto, using(aos_symbols::proofs::Keeping::after_more))]
-fn new_call(found: &mut Option<Breach>, env: &Env<'_>, at: Pos, arguments: &[Expr]) -> Option<TStat>
-    ensures noted { found.new ≡
-        first_after found.old (judge.new_call env.now at arguments.now).breaches }
-    ensures answer { option_map seen_stat result ≡
-        (judge.new_call env.now at arguments.now).answer }
-{
-    match arguments {
-        [variable] => made(at, object(found, env, variable)),
-        _ => not_yet(found, at),
-    }
-}
-
-/// What stands behind `Out.Int`.
-#[tactic(auto, using(aos_symbols::proofs::Keeping::after_more))]
-fn int_selectors(
-    alloc: Global,
-    found: &mut Option<Breach>,
-    env: &Env<'_>,
-    at: Pos,
-    selectors: &[Selector],
-) -> Result<Option<TStat>, AllocError>
-    ensures noted { OnOk result (found.new ≡
-        first_after found.old (judge.int_selectors env.now at selectors.now).breaches) }
-    ensures answer { IfOk result
-        (λ s. option_map seen_stat s ≡ (judge.int_selectors env.now at selectors.now).answer) }
-{
-    let Some((selector, more)) = selectors.split_first() else {
-        return Ok(not_yet(found, at));
-    };
-    match selector {
-        Selector::Paren(_, arguments) => {
-            let call = int_call(alloc, found, env, at, arguments.as_slice())?;
-            refuse_selectors(found, more);
-            Ok(call)
-        },
-        _ => Ok(not_yet(found, selector_place(selector))),
-    }
-}
-
-/// What stands behind `NEW`.
-#[tactic(auto, using(aos_symbols::proofs::Keeping::after_more))]
+/// What stands behind `NEW`, in a call that begins at a place.
+#[tactic(auto, using(crate::proofs::Rows::ended_noted, crate::proofs::Rows::ended_answer))]
 fn new_selectors(
+    alloc: Global,
     found: &mut Option<Breach>,
     env: &Env<'_>,
     at: Pos,
     selectors: &[Selector],
-) -> Option<TStat>
-    ensures noted { found.new ≡
-        first_after found.old (judge.new_selectors env.now at selectors.now).breaches }
-    ensures answer { option_map seen_stat result ≡
-        (judge.new_selectors env.now at selectors.now).answer }
+) -> Result<Option<TStat>, AllocError>
+    ensures noted { OnOk result (found.new ≡ first_after found.old
+        (judge.ended at (judge.behind_arguments selectors.now)
+        (judge.new_call env.now at (judge.arguments selectors.now))).breaches) }
+    ensures answer { IfOk result (λ s. option_map seen_stat s ≡
+        (judge.ended at (judge.behind_arguments selectors.now)
+        (judge.new_call env.now at (judge.arguments selectors.now))).answer) }
 {
-    let Some((selector, more)) = selectors.split_first() else {
-        return not_yet(found, at);
-    };
-    match selector {
-        Selector::Paren(_, arguments) => {
-            let call = new_call(found, env, at, arguments.as_slice());
-            refuse_selectors(found, more);
-            call
-        },
-        _ => not_yet(found, selector_place(selector)),
+    let call = new_call(alloc, found, env, at, arguments(selectors))?;
+    refuse_behind(found, at, behind_arguments(selectors));
+    Ok(call)
+}
+
+/// A call of what can't be called, which begins at a place.
+fn no_call(found: &mut Option<Breach>, at: Pos, class: Class) -> Option<TStat>
+    ensures noted { found.new ≡ first_after found.old (judge.no_call at class).breaches }
+    ensures answer { option_map seen_stat result ≡ (judge.no_call at class).answer }
+{
+    match class {
+        Class::Unknown => None,
+        Class::Constant(_) => refused(found, WRONG_CALL, at),
+        Class::Variable => refused(found, WRONG_CALL, at),
+        Class::ReadOnly => refused(found, WRONG_CALL, at),
+        Class::Computed => refused(found, WRONG_CALL, at),
     }
 }
 
-/// A call of Out's procedure of this name.
+/// A call of what a designator is, which is no procedure.
 #[tactic(auto, using(aos_symbols::proofs::Keeping::after_more))]
-fn out_call(
+fn called_value(
     alloc: Global,
     found: &mut Option<Breach>,
     env: &Env<'_>,
-    at: Pos,
-    name: Name,
-    more: &[Selector],
+    desig: &Desig,
 ) -> Result<Option<TStat>, AllocError>
-    ensures noted { OnOk result (found.new ≡
-        first_after found.old (judge.out_call env.now at name more.now).breaches) }
-    ensures answer { IfOk result
-        (λ s. option_map seen_stat s ≡ (judge.out_call env.now at name more.now).answer) }
+    ensures noted { OnOk result (found.new ≡ first_after found.old
+        (bind (expression.designator env.now desig.now)
+        (λ a. judge.no_call desig.now.name.pos a.known.class)).breaches) }
+    ensures answer { IfOk result (λ s. option_map seen_stat s ≡
+        (bind (expression.designator env.now desig.now)
+        (λ a. judge.no_call desig.now.name.pos a.known.class)).answer) }
 {
-    let text = env.here.text();
-    if is_word(text, "Int", name) {
-        return int_selectors(alloc, found, env, at, more);
-    }
-    if is_word(text, "Ln", name) {
-        refuse_selectors(found, more);
-        return Ok(Some(TStat::Out(at, OutCall::Ln)));
-    }
-    if is_procedure_of_out(word(text, name)) {
-        Ok(not_yet(found, name.pos))
-    } else {
-        Ok(refused(found, UNKNOWN, name.pos))
-    }
-}
-
-/// What stands behind `Out`.
-fn out_selectors(
-    alloc: Global,
-    found: &mut Option<Breach>,
-    env: &Env<'_>,
-    at: Pos,
-    selectors: &[Selector],
-) -> Result<Option<TStat>, AllocError>
-    ensures noted { OnOk result (found.new ≡
-        first_after found.old (judge.out_selectors env.now at selectors.now).breaches) }
-    ensures answer { IfOk result
-        (λ s. option_map seen_stat s ≡ (judge.out_selectors env.now at selectors.now).answer) }
-{
-    let Some((selector, more)) = selectors.split_first() else {
-        return Ok(not_yet(found, at));
-    };
-    match selector {
-        Selector::Field(_, name) => out_call(alloc, found, env, at, *name, more),
-        _ => Ok(not_yet(found, selector_place(selector))),
-    }
+    let spot = designator(alloc, found, env, desig)?;
+    Ok(no_call(found, desig.name.pos, spot.known.class))
 }
 
 /// A call whose first name stands for this.
@@ -205,8 +181,10 @@ fn called_meaning(
     let at = desig.name.pos;
     match means {
         Meaning::Out => out_selectors(alloc, found, env, at, desig.selectors.as_slice()),
-        Meaning::New => Ok(new_selectors(found, env, at, desig.selectors.as_slice())),
-        _ => Ok(not_yet(found, at)),
+        Meaning::New => new_selectors(alloc, found, env, at, desig.selectors.as_slice()),
+        Meaning::Proper => Ok(not_yet(found, at)),
+        Meaning::Procedure(_) => Ok(not_yet(found, at)),
+        _ => called_value(alloc, found, env, desig),
     }
 }
 

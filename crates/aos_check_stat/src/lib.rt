@@ -3,6 +3,8 @@
 
 pub mod bodies;
 mod calls;
+mod out;
+mod refusals;
 mod statements;
 
 pub use bodies::body_of;

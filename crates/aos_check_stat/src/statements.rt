@@ -6,30 +6,43 @@ ghost use Rattle.aos_symbols.specs.Breaches.{first_after};
 ghost use Rattle.aos_symbols.specs.Judged.{walk};
 ghost use Rattle.aos_check_stat.specs.Bodies as judge;
 
-use crate::calls::{called, not_yet};
-use aos_check_expr::{assigned, condition, value};
-use aos_symbols::{Breach, Env};
+use crate::calls::called;
+use crate::refusals::not_yet;
+use aos_base::Pos;
+use aos_check_expr::{condition, designator, expr, fits, place_of, refuse_assigned, type_of};
+use aos_symbols::{Breach, Env, UNFIT, note};
 use aos_tree::{Desig, Expr, Stat};
 use aos_typed::TStat;
 use std::alloc::{AllocError, Global};
 
-/// An assignment.
+/// An assignment, with `:=` at a place.
 #[tactic(auto, using(aos_symbols::proofs::Keeping::after_more))]
 fn assign(
     alloc: Global,
     found: &mut Option<Breach>,
     env: &Env<'_>,
     desig: &Desig,
-    expr: &Expr,
+    at: Pos,
+    value: &Expr,
 ) -> Result<Option<TStat>, AllocError>
     ensures noted { OnOk result (found.new ≡
-        first_after found.old (judge.assign env.now desig.now expr.now).breaches) }
+        first_after found.old (judge.assign env.now desig.now at value.now).breaches) }
     ensures answer { IfOk result
-        (λ s. option_map seen_stat s ≡ (judge.assign env.now desig.now expr.now).answer) }
+        (λ s. option_map seen_stat s ≡ (judge.assign env.now desig.now at value.now).answer) }
 {
-    let spot = assigned(found, env, desig);
-    let number = value(alloc, found, env, expr)?;
-    Ok(Some(TStat::Assign(desig.name.pos, spot.place, number)))
+    let first = desig.name.pos;
+    let spot = designator(alloc, found, env, desig)?;
+    refuse_assigned(found, first, &spot);
+    let value = expr(alloc, found, env, value)?;
+    if !fits(value.known.of, spot.known.of) {
+        note(found, UNFIT, at);
+    }
+    Ok(Some(TStat::Assign(
+        first,
+        type_of(spot.known.of),
+        place_of(spot.held),
+        value.typed,
+    )))
 }
 
 /// Puts a statement behind those before it, if it is one.
@@ -58,10 +71,10 @@ fn stat_of(
 {
     match stat {
         Stat::Empty => Ok(None),
-        Stat::Assign(desig, _, expr) => assign(alloc, found, env, desig, expr),
+        Stat::Assign(desig, at, value) => assign(alloc, found, env, desig, *at, value),
         Stat::Call(desig) => called(alloc, found, env, desig),
-        Stat::While(at, expr, body) => {
-            let test = condition(alloc, found, env, *at, expr)?;
+        Stat::While(at, test, body) => {
+            let test = condition(alloc, found, env, test)?;
             let all = stats_in(alloc, found, env, body.stats.as_slice())?;
             Ok(Some(TStat::While(*at, test, all)))
         },

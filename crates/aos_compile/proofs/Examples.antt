@@ -3,6 +3,7 @@ use Rattle.std.proofs.Common.{◌≡◌, ℕ, ◌+◌, pos, List, [], ◌∷◌,
 use Rattle.std.specs.Str.Lossy.{utf8_lossy}
 use denote.Hole.Carrier.{out, shown, hidden}
 use Rattle.aos_tree.specs.declared.expr.Factor.TheBlock.{shown-the_row-Product-6, shown-the_row-Addition-5}
+use Rattle.aos_base.specs.declared.number.Width.TheVariants.{W32}
 use Rattle.aos_base.specs.declared.text.Pos.{Pos}
 use Rattle.aos_tree.specs.declared.name.Name.{Name}
 use Rattle.aos_tree.specs.declared.expr.Expr.{Expr as TreeExpr, Expr', Expr-right-None', out-Expr}
@@ -23,6 +24,7 @@ use Rattle.aos_tree.specs.declared.decl.TypeExpr.TheVariants as type
 use Rattle.aos_tree.specs.declared.module.Import.{Import}
 use Rattle.aos_tree.specs.declared.module.Module.{Module as Tree}
 use Rattle.aos_typed.specs.declared.tree.Literal.TheVariants as literal
+use Rattle.aos_typed.specs.declared.tree.TType.{TType}
 use Rattle.aos_typed.specs.declared.tree.TType.TheVariants as ttype
 use Rattle.aos_typed.specs.Program.{ModuleVar, Lit, Assign, New, Nothing, Then, Module, Program}
 use Rattle.aos_symbols.specs.Outcome.{Outcome, refused, went, refusal}
@@ -51,6 +53,9 @@ bare n = record { name = utf8_lossy n; variables = []; body = Nothing }
 
 abbrev only_modules : List Module → Program
 only_modules ms = record { modules = ms; objects = [] }
+
+abbrev longint : TType
+longint = ttype.Integer W32
 
 -- the module of this letter that is empty
 abbrev empty : Tree
@@ -89,10 +94,14 @@ abbrev def : ℕ → Option Export → Def
 def at None = record { name = letter at; mark = None }
 def at (Some x) = record { name = letter at; mark = Some (record { pos = place (at + 1); export = x }) }
 
--- VAR n, with this mark, whose type LONGINT begins here
+-- VAR n: LONGINT, where VAR, n, with this mark, and the type begin
+abbrev variable_at : (word at : ℕ) → Option Export → (of : ℕ) → Decl
+variable_at word at mark of =
+    decl.Vars' (place word) (tt ∷ []) (more_of-VarDef (def at mark ∷ []) (type.Named (record { first = name of (of + 7); second = None })) end_of-VarDef)
+
+-- behind the module's name
 abbrev variable : Option Export → ℕ → Decl
-variable mark at =
-    decl.Vars' (place 10) (tt ∷ []) (more_of-VarDef (def 14 mark ∷ []) (type.Named (record { first = name at (at + 7); second = None })) end_of-VarDef)
+variable mark at = variable_at 10 14 mark at
 
 -- the module B of such a variable
 abbrev with_variable : Option Export → ℕ → Tree
@@ -130,8 +139,8 @@ unfolding out-Expr out-Simple out-Term out shown-the_row-Product-6 shown-the_row
 marked_read_only = refl
 
 marked : assigned (codes "MODULE B; VAR n*: LONGINT; END B.") (with_variable (Some ReadWrite) 18)
-    ≡ went (only_modules (record { name = utf8_lossy (codes "B"); variables = record { name = utf8_lossy (codes "n"); of = ttype.LongInt } ∷ []; body = Nothing }
-    ∷ record { name = utf8_lossy (codes "A"); variables = []; body = Then (Assign (place 26) (ModuleVar 0 0) (Lit (literal.Int (pos 1)))) Nothing } ∷ []))
+    ≡ went (only_modules (record { name = utf8_lossy (codes "B"); variables = record { name = utf8_lossy (codes "n"); of = longint } ∷ []; body = Nothing }
+    ∷ record { name = utf8_lossy (codes "A"); variables = []; body = Then (Assign (place 26) longint (ModuleVar 0 0) (Lit (literal.Int (pos 1)))) Nothing } ∷ []))
 unfolding out-Expr out-Simple out-Term out shown-the_row-Product-6 shown-the_row-Addition-5 shown
 marked = refl
 
@@ -140,8 +149,8 @@ renamed : elaborate (codes "MODULE A; IMPORT X := B; BEGIN X.n := 1 END A." ∷ 
     (tree (module_of (record { name = letter 17; of = Some (letter 22) } ∷ []) []
     (body (stat.Assign (record { name = letter 31; selectors = s.Field (place 32) (letter 33) ∷ [] }) (place 35) (number 38))) 44)
     ∷ tree (with_variable (Some ReadWrite) 18) ∷ [])
-    ≡ went (only_modules (record { name = utf8_lossy (codes "B"); variables = record { name = utf8_lossy (codes "n"); of = ttype.LongInt } ∷ []; body = Nothing }
-    ∷ record { name = utf8_lossy (codes "A"); variables = []; body = Then (Assign (place 31) (ModuleVar 0 0) (Lit (literal.Int (pos 1)))) Nothing } ∷ []))
+    ≡ went (only_modules (record { name = utf8_lossy (codes "B"); variables = record { name = utf8_lossy (codes "n"); of = longint } ∷ []; body = Nothing }
+    ∷ record { name = utf8_lossy (codes "A"); variables = []; body = Then (Assign (place 31) longint (ModuleVar 0 0) (Lit (literal.Int (pos 1)))) Nothing } ∷ []))
 unfolding out-Expr out-Simple out-Term out shown-the_row-Product-6 shown-the_row-Addition-5 shown
 renamed = refl
 
@@ -150,9 +159,14 @@ unknown_member : elaborate (codes "MODULE A; IMPORT B; BEGIN B.n := 1 END A." �
 unfolding out-Expr out-Simple out-Term out shown-the_row-Product-6 shown-the_row-Addition-5 shown
 unknown_member = refl
 
+-- BEGIN {ACTIVE} and a statement
+abbrev active_body : (begin word : ℕ) → TreeStat → Option Block
+active_body begin word x =
+    Some (record { pos = place begin; modifiers = record { name = name word (word + 6); value = None } ∷ []; body = record { stats = x ∷ [] } })
+
 -- MODULE B; TYPE T*= OBJECT BEGIN {ACTIVE} END T; VAR p*: T; END B.
 abbrev active : Option Block
-active = Some (record { pos = place 26; modifiers = record { name = name 33 39; value = None } ∷ []; body = record { stats = stat.Empty ∷ [] } })
+active = active_body 26 33 stat.Empty
 
 abbrev with_object : Tree
 with_object =
@@ -184,8 +198,36 @@ declared_anew : elaborate (codes "MODULE B; VAR n: LONGINT; NEW: LONGINT; BEGIN 
     (body (stat.Assign (record { name = name 46 49; selectors = [] }) (place 50) (number 53))) 59) ∷ [])
     ≡ went (only_modules (record {
       name = utf8_lossy (codes "B");
-      variables = record { name = utf8_lossy (codes "n"); of = ttype.LongInt } ∷ record { name = utf8_lossy (codes "NEW"); of = ttype.LongInt } ∷ [];
-      body = Then (Assign (place 46) (ModuleVar 0 1) (Lit (literal.Int (pos 1)))) Nothing;
+      variables = record { name = utf8_lossy (codes "n"); of = longint } ∷ record { name = utf8_lossy (codes "NEW"); of = longint } ∷ [];
+      body = Then (Assign (place 46) longint (ModuleVar 0 1) (Lit (literal.Int (pos 1)))) Nothing;
     } ∷ []))
 unfolding out-Expr out-Simple out-Term out shown-the_row-Product-6 shown-the_row-Addition-5 shown
 declared_anew = refl
+
+-- the value of a name alone
+abbrev named : ℕ → TreeExpr
+named at = Expr' (place at) (Simple' (place at) None (Term' (place at) (f.Desig' (letter at) [] end_of-Selector) [] end_of-Product) [] end_of-Addition) Expr-right-None'
+
+-- CONST c = 1
+abbrev constant : (word at value : ℕ) → Decl
+constant word at value = decl.Consts (place word) (record { def = def at None; value = number value } ∷ [])
+
+-- a constant behind its declaration is its value
+a_constant : elaborate (codes "MODULE B; CONST c = 1; VAR n: LONGINT; BEGIN n := c END B." ∷ [])
+    (tree (module_of [] (constant 10 16 20 ∷ variable_at 23 27 None 30 ∷ []) (body (stat.Assign (record { name = letter 45; selectors = [] }) (place 47) (named 50))) 56) ∷ [])
+    ≡ went (only_modules (record {
+      name = utf8_lossy (codes "B");
+      variables = record { name = utf8_lossy (codes "n"); of = longint } ∷ [];
+      body = Then (Assign (place 45) longint (ModuleVar 0 0) (Lit (literal.Int (pos 1)))) Nothing;
+    } ∷ []))
+unfolding out-Expr out-Simple out-Term out shown-the_row-Product-6 shown-the_row-Addition-5 shown
+a_constant = refl
+
+-- and before it has none
+too_early : elaborate (codes "MODULE B; VAR n: LONGINT; TYPE T = OBJECT BEGIN {ACTIVE} n := c END T; CONST c = 1; END B." ∷ [])
+    (tree (module_of [] (variable_at 10 14 None 17
+    ∷ decl.Types' (place 26) (tt ∷ []) (more_of-TypeDef (def 31 None) (type.Object' (place 35) None [] end_of-Decl (active_body 42 49 (stat.Assign (record { name = letter 57; selectors = [] }) (place 59) (named 62))) (Some (letter 68))) end_of-TypeDef)
+    ∷ constant 71 77 81 ∷ []) None 88) ∷ [])
+    ≡ refused (refusal 20 0 (place 62))
+unfolding out-Expr out-Simple out-Term out shown-the_row-Product-6 shown-the_row-Addition-5 shown hidden
+too_early = refl

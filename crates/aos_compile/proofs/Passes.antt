@@ -19,7 +19,7 @@ use Rattle.aos_symbols.specs.Outcome.{Outcome, went, then, passed, decided}
 use Rattle.aos_symbols.specs.Declarations.{types_in, type_defs}
 use Rattle.aos_symbols.specs.Names.{name_breaches}
 use Rattle.aos_symbols.proofs.Paths.{past}
-use Rattle.aos_check_decl.specs.Headings.{headings, declared, type_def, variable_def, defined_row, variable_type, with_row, with_variables, with_variable, slot_in}
+use Rattle.aos_check_decl.specs.Headings.{headings, declared, constant_def, type_def, variable_def, defined_row, variable_type, with_row, with_variables, with_variable, slot_in}
 use Rattle.aos_symbols.proofs.Keeping.{after_more}
 use Rattle.aos_check_stat.specs.Bodies.{listed}
 use Rattle.aos_compile.specs.Modules.{World, Bodies, entered, bodies, within, object_in, extended, elaborated}
@@ -92,7 +92,7 @@ walk_kept step each e [] = refl
 walk_kept step each e (x ∷ xs) = walk_kept step each (step e x).answer xs ∙ each e x
 
 decl_kept : (e : Env) (d : Decl) → (declared e d).answer.before ≡ e.before
-decl_kept e (decl.Consts p cs) = refl
+decl_kept e (decl.Consts p cs) = walk_kept constant_def (λ e d. refl) e cs
 decl_kept e (decl.Types' p shape row) = walk_kept type_def (λ e d. row_kept e (slot_in (env.lookup e d.def.name)) (defined_row e d.value).answer) e (items-the_row-TypeDef _ row)
 decl_kept e (decl.Vars' p shape row) = walk_kept variable_def (λ e v. variables_kept e (length v.defs) (variable_type e v.of).answer) e (items-the_row-VarDef _ row)
 decl_kept e (decl.Proc' p i def formals shape row body end) = refl

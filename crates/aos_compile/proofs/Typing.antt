@@ -1,13 +1,15 @@
 -- The program that texts come to is well typed.
-use Rattle.std.proofs.Common.{◌≡◌, ℕ, ◌<◌, List, [], ◌∷◌, length, Option, Some, None, slice_get, zip, All, refl, subst}
+use Rattle.std.proofs.Common.{◌≡◌, ℕ, ◌<◌, ◌≤◌, List, [], ◌∷◌, length, Option, Some, None, slice_get, zip, All, refl, subst}
 use Rattle.aos_typed.specs.Program.{Program}
-use Rattle.aos_typed.specs.WellTyped.{AreStatements}
+use Rattle.aos_typed.specs.WellTyped.{AreStatements, IsWellTyped}
 use Rattle.aos_symbols.specs.Outcome as outcome
 use Rattle.aos_symbols.specs.Outcome.{went, in_turn}
 use Rattle.aos_symbols.proofs.Each.{all_of}
 use Rattle.aos_symbols.proofs.Holds.{then_went, same_went}
 use Rattle.aos_compile.specs.Modules.{World, no_modules, program_of}
 use Rattle.aos_compile.specs.Files.{Reading, Source, trees_from, loaded, load_order, modules, elaborate}
+use Rattle.aos_compile.specs.Elaborates.{ComesTo}
+use Rattle.aos_compile.proofs.Names.{named_well}
 use Rattle.aos_compile.proofs.TypingModules.{IsWorld, begins, module_sound}
 
 loaded_sound : (ss : List Source) (k : ℕ) (w v : World) → IsWorld w → loaded ss w k ≡ went v → IsWorld v
@@ -52,3 +54,18 @@ typed_well texts rs p h =
       objects = typed_objects (zip texts one.0) two.0 two.1;
       homes = object_homes (zip texts one.0) two.0 two.1;
     })
+
+-- the program of 1 to 64 texts
+pub well_typed : (texts : List (List ℕ)) (p : Program) → ComesTo texts (went p) → 1 ≤ length texts → length texts ≤ 64 → IsWellTyped p
+well_typed texts p h some few =
+    let named = named_well texts p h some few in
+    let typed = typed_well texts h.readings p h.is in
+    record {
+      some = named.some;
+      few = named.few;
+      names = named.names;
+      differ = named.differ;
+      bodies = typed.bodies;
+      objects = typed.objects;
+      homes = typed.homes;
+    }

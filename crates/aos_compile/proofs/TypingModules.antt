@@ -19,26 +19,26 @@ use Rattle.aos_symbols.specs.Outcome.{Outcome, went, passed}
 use Rattle.aos_symbols.specs.Outcome as outcome
 use Rattle.aos_symbols.specs.Spelling.{word}
 use Rattle.aos_symbols.specs.Declarations.{type_defs, single_variables}
-use Rattle.aos_symbols.specs.Scope.{Scope, empty, find}
+use Rattle.aos_symbols.specs.Scope.{Scope, find}
 use Rattle.aos_symbols.specs.Home.{Home}
 use Rattle.aos_symbols.specs.Names.{name_breaches}
 use Rattle.aos_symbols.specs.Entries.{is_alias, own_types, own_scope, inner_scope}
 use Rattle.aos_symbols.specs.Env as env
 use Rattle.aos_symbols.proofs.Each.{Each, joined, implied, each_at}
 use Rattle.aos_symbols.proofs.Holds.{Holds, holds_bind, holds_walk, passed_went, then_went, same_went}
-use Rattle.aos_symbols.proofs.Told.{IsTold, IsKnown, GoOn, number, known_on, get_front, get_end, told_behind}
-use Rattle.aos_check_expr.specs.Designators.{type_of}
+use Rattle.aos_symbols.proofs.Told.{IsKnown, GoOn, known_on, get_front, get_end, told_behind}
+use Rattle.aos_check_expr.specs.Known.{type_of}
 use Rattle.aos_check_expr.proofs.Typing.{IsTyped, IsWhole}
 use Rattle.aos_check_decl.specs.Headings.{headings}
-use Rattle.aos_check_decl.proofs.Typing.{Start, Tables, scope_with, reached, begun, IsReady, IsNamed, IsFit, IsBehind, IsDone, headings_sound}
+use Rattle.aos_check_decl.proofs.Typing.{AreGood, Start, Tables, scope_with, reached, begun, IsReady, IsNamed, IsFit, IsBehind, IsDone, headings_sound}
 use Rattle.aos_check_stat.specs.Bodies.{listed, body_of}
 use Rattle.aos_check_stat.proofs.Typing.{body_sound}
 use Rattle.aos_compile.specs.Modules.{World, no_modules, program_of, spelling, entered, within, object_body, object_in, Bodies, bodies, variable_of, module_of, extended, elaborated}
 use Rattle.aos_compile.proofs.TypingPrograms.{Grows, grown, statements_grow}
-use Rattle.aos_compile.proofs.TypingScopes.{no_variables, names, types_listed, variables_are, types_are, own_count}
+use Rattle.aos_compile.proofs.TypingScopes.{no_constants, no_variables, no_inner_constants, names, types_listed, variables_are, types_are, own_count}
 
 -- A module that breaks no rule, and what it declares: each type that its scope names is told, each variable of its scope has a
--- type, and the program's module has these.
+-- type, and the program's module has these; each constant has a good value.
 pub record IsHome (types : List TypeRow) (broken : List Bool) (h : Home) (m : Module) : Type 0 where
   pub scope : Scope
   pub is : slice_get h.scopes 0 ≡ Some scope
@@ -46,6 +46,7 @@ pub record IsHome (types : List TypeRow) (broken : List Bool) (h : Home) (m : Mo
   pub numbers : (w : List ℕ) (x : Entry) (k : ℕ) → find scope w ≡ Some x → x.means ≡ means.Variable k → k < length scope.variables
   pub known : Each (IsKnown types broken) scope.variables
   pub typed : map (λ v. v.of) m.variables ≡ map type_of scope.variables
+  pub good : (k : ℕ) (s : Scope) → slice_get h.scopes k ≡ Some s → AreGood s.constants
 
 abbrev pub AreHomes : List TypeRow → List Bool → List Home → List Module → Type 0
 AreHomes types broken [] [] = Unit {0}
@@ -55,7 +56,6 @@ AreHomes types broken (h ∷ hs) (m ∷ ms) = IsHome types broken h m × AreHome
 
 pub record IsWorld (w : World) : Type 0 where
   pub homes : AreHomes w.types w.broken w.before w.modules
-  pub longint : IsTold w.types w.broken env.longint
   pub beside : length w.broken ≡ length w.types
   pub count : length w.types ≡ 9 + length w.objects
   pub bodies : Each (λ m. AreStatements (program_of w) m.body) w.modules
@@ -63,7 +63,7 @@ pub record IsWorld (w : World) : Type 0 where
   pub places : Each (λ o. o.home < length w.modules) w.objects
 
 pub begins : IsWorld no_modules
-begins = record { homes = tt; longint = number refl refl refl; beside = refl; count = refl; bodies = tt; objects = tt; places = tt }
+begins = record { homes = tt; beside = refl; count = refl; bodies = tt; objects = tt; places = tt }
 
 -- Homes beside their modules.
 
@@ -101,6 +101,7 @@ homes_on ts bs us cs on (g ∷ hs) (x ∷ ms) are = (
     numbers = are.0.numbers;
     known = implied (IsKnown ts bs) (IsKnown us cs) (known_on ts bs us cs on) are.0.scope.variables are.0.known;
     typed = are.0.typed;
+    good = are.0.good;
   },
   homes_on ts bs us cs on hs ms are.1,
 )
@@ -119,9 +120,14 @@ whole : (p : Program) (e : Env) (hs : List Home) → AreHomes e.types e.broken h
     length e.types ≡ 9 + length p.objects → IsWhole p e
 whole p e hs are at count = record {
   variables = λ o s w x k first there found means. by_home o s w x k first found means there (env.home e o.home) refl there;
+  constants = λ o s there. by_scope o s (env.home e o.home) refl there;
   objects = count;
 }
   where
+    by_scope : (o : Open) (s : Scope) (h : Option Home) → env.home e o.home ≡ h → option_and_then (λ h. slice_get h.scopes o.scope) h ≡ Some s → AreGood s.constants
+    by_scope o s None home there = absurd (no_scope there)
+    by_scope o s (Some h) home there = (home_at e.types e.broken hs p.modules are o.home h (at o.home h home)).2.good o.scope s there
+
     by_home : (o : Open) (s : Scope) (w : List ℕ) (x : Entry) (k : ℕ) → o.scope ≡ 0 → find s w ≡ Some x → x.means ≡ means.Variable k → env.scope e o ≡ Some s →
         (h : Option Home) → env.home e o.home ≡ h → option_and_then (λ h. slice_get h.scopes o.scope) h ≡ Some s → IsTyped p e (ModuleVar o.home k) (env.variable_type e o k)
     by_home o s w x k first found means there None home here = absurd (no_scope here)
@@ -150,6 +156,7 @@ module _ (p : Program) (e : Env) (is_whole : IsWhole p e) where
   inside : (k : ℕ) → IsWhole p (within e k)
   inside k = record {
     variables = λ o s w x n own there found means. let is = is_whole.variables o s w x n own there found means in record { typed = is.typed; known = is.known };
+    constants = λ o s there. is_whole.constants o s there;
     objects = is_whole.objects;
   }
 
@@ -223,13 +230,15 @@ module _ (w : World) (sound : IsWorld w) (text : List ℕ) (m : Tree) where
         let one = home_at w.types w.broken w.before w.modules sound.homes k h at in
         let same : one.2.scope ≡ s = same_Some one.2.scope s (sym one.2.is ∙ here) in
         known_on w.types w.broken start.types start.broken more_types of (one.2.names v x of (ap (λ z. find z v) same ∙ found) means);
-    longint = more_types env.longint sound.longint;
+    before = λ k h j s at here. (home_at w.types w.broken w.before w.modules sound.homes k h at).2.good j s here;
+    inner = λ k s here. subst AreGood (sym (no_inner_constants text (type_defs m.decls) k s here)) tt;
     beside = size_broken ∙ ap (λ n. n + own_number) sound.beside ∙ sym size;
   }
 
   fit : IsFit start (begun start)
   fit = record {
-    named = subst (Each (IsNamed start)) (sym (no_variables (names text w.before (length w.types) m) empty)) tt;
+    good = subst AreGood (sym (no_constants (names text w.before (length w.types) m))) tt;
+    named = subst (Each (IsNamed start)) (sym (no_variables (names text w.before (length w.types) m))) tt;
     types = refl;
     broken = ready.beside;
   }
@@ -251,7 +260,7 @@ module _ (w : World) (sound : IsWorld w) (text : List ℕ) (m : Tree) where
 
     count_variables : length tables.variables ≡ length (single_variables m.decls)
     count_variables =
-        is.more ∙ ap (λ z. length z + length (single_variables m.decls)) (no_variables (names text w.before (length w.types) m) empty) ∙ zero-add (length (single_variables m.decls))
+        is.more ∙ ap (λ z. length z + length (single_variables m.decls)) (no_variables (names text w.before (length w.types) m)) ∙ zero-add (length (single_variables m.decls))
 
     known_names : (v : List ℕ) (x : Entry) (of : Option TypeId) → find start.own v ≡ Some x → x.means ≡ means.Type of → IsKnown tables.types tables.broken of
     known_names = types_are text w.before (length w.types) m tables.types tables.broken is.done
@@ -259,6 +268,10 @@ module _ (w : World) (sound : IsWorld w) (text : List ℕ) (m : Tree) where
     known_type : (of : Option TypeId) → IsNamed start of → IsKnown tables.types tables.broken of
     known_type of (inl known) = known_on start.types start.broken tables.types tables.broken is.goes_on of known
     known_type of (inr named) = known_names named.0 named.1 of named.2 named.3
+
+    good : (k : ℕ) (s : Scope) → slice_get (scope_with start tables ∷ start.inner) k ≡ Some s → AreGood s.constants
+    good zero s here = subst (λ (z : Scope). AreGood z.constants) (same_Some (scope_with start tables) s here) is.fit.good
+    good (suc k) s here = ready.inner k s here
 
     home : (ss : List Stat) → IsHome tables.types tables.broken (reached start tables).here (module_of (reached start tables) m ss)
     home ss = record {
@@ -268,6 +281,7 @@ module _ (w : World) (sound : IsWorld w) (text : List ℕ) (m : Tree) where
       numbers = λ v x k found means. subst (λ n. k < n) (sym count_variables) (variables_are text w.before (length w.types) m v x k found means);
       known = implied (IsNamed start) (IsKnown tables.types tables.broken) known_type tables.variables is.fit.named;
       typed = types_beside text (single_variables m.decls) tables.variables count_variables;
+      good = good;
     }
 
     abbrev last : Env
@@ -313,7 +327,6 @@ module _ (w : World) (sound : IsWorld w) (text : List ℕ) (m : Tree) where
       world_sound : AreBodies (program_of world) last bodies_whole b → IsWorld world
       world_sound are = record {
         homes = homes_more;
-        longint = goes_on env.longint sound.longint;
         beside = is.fit.broken ∙ sym is.fit.types;
         count = count_objects;
         bodies =

@@ -1,9 +1,10 @@
 -- A program with more modules and more objects: what is well typed stays so.
 use Rattle.std.proofs.Common.{◌≡◌, ℕ, ◌<◌, ◌≤◌, List, ◌++◌, length, Option, Some, None, option_map, option_and_then, slice_get, refl, ap, ◌∙◌, length-append, arith}
-use Rattle.aos_typed.specs.declared.tree.Literal.TheVariants as literal
+use Rattle.aos_base.specs.declared.operator.Binary.{Binary as BinaryOperator}
+use Rattle.aos_base.specs.declared.operator.Binary.TheVariants.{Add, Sub, Mul, Div, Mod, Ash, Cmp, Union, Minus, Meet, Xor, SetSpan, In}
 use Rattle.aos_typed.specs.declared.tree.TType.{TType}
-use Rattle.aos_typed.specs.Program.{Place, ModuleVar, Expr, Lit, Read, Binary, Compare, Call, Int, Ln, Stat, Assign, While, New, Out, Stats, Nothing, Then, Module, ObjectType, Program}
-use Rattle.aos_typed.specs.WellTyped.{variable_type, place_type, IsInteger, IsBoolean, IsCall, IsStatement, AreStatements}
+use Rattle.aos_typed.specs.Program.{Place, ModuleVar, Expr, Lit, Read, Unary, Binary, And, Or, Element, Ord, Chr, Call, Open, Char, Int, Ln, Stat, Assign, While, New, Out, Stats, Nothing, Then, Module, ObjectType, Program}
+use Rattle.aos_typed.specs.WellTyped.{variable_type, place_type, Takes, IsOf, IsCall, IsStatement, AreStatements}
 use Rattle.aos_symbols.proofs.Told.{get_front}
 
 -- each variable has its type, and each object type its number
@@ -14,30 +15,47 @@ pub record Grows (p q : Program) : Type 0 where
 no_type : {A : Type 0} {x : A} → None ≡ Some x → ⊥
 no_type e = cc
 
+-- an operator takes operands of which more is said
+takes_more : (op : BinaryOperator) (A B C D : TType → Type 0) → ((t : TType) → A t → C t) → ((t : TType) → B t → D t) → Takes op A B → Takes op C D
+takes_more (Add w) A B C D f g h = (f _ h.0, g _ h.1)
+takes_more (Sub w) A B C D f g h = (f _ h.0, g _ h.1)
+takes_more (Mul w) A B C D f g h = (f _ h.0, g _ h.1)
+takes_more (Div w) A B C D f g h = (f _ h.0, g _ h.1)
+takes_more (Mod w) A B C D f g h = (f _ h.0, g _ h.1)
+takes_more (Ash w) A B C D f g h = (f _ h.0, g _ h.1)
+takes_more (Cmp r) A B C D f g h = (h.0, h.1, f h.0 h.2, g h.0 h.3)
+takes_more Union A B C D f g h = (f _ h.0, g _ h.1)
+takes_more Minus A B C D f g h = (f _ h.0, g _ h.1)
+takes_more Meet A B C D f g h = (f _ h.0, g _ h.1)
+takes_more Xor A B C D f g h = (f _ h.0, g _ h.1)
+takes_more SetSpan A B C D f g h = (f _ h.0, g _ h.1)
+takes_more In A B C D f g h = (f _ h.0, g _ h.1)
+
 module _ (p q : Program) (grows : Grows p q) where
   place_grows : (x : Place) (t : TType) → place_type p x ≡ Some t → place_type q x ≡ Some t
   place_grows (ModuleVar m k) t h = grows.variables m k t h
 
-  integer_grows : (e : Expr) → IsInteger p e → IsInteger q e
-  integer_grows (Lit (literal.Int n)) h = tt
-  integer_grows (Read x) h = place_grows x _ h
-  integer_grows (Binary op a b) h = (integer_grows a h.0, integer_grows b h.1)
-  integer_grows (Compare r a b) h = absurd h
-
-  boolean_grows : (e : Expr) → IsBoolean p e → IsBoolean q e
-  boolean_grows (Compare r a b) h = (integer_grows a h.0, integer_grows b h.1)
-  boolean_grows (Lit l) h = absurd h
-  boolean_grows (Read x) h = absurd h
-  boolean_grows (Binary op a b) h = absurd h
+  value_grows : (e : Expr) (t : TType) → IsOf p e t → IsOf q e t
+  value_grows (Lit l) t h = h
+  value_grows (Read u x) t h = (place_grows x u h.0, h.1)
+  value_grows (Unary op a) t h = (value_grows a _ h.0, h.1)
+  value_grows (Binary op a b) t h = (takes_more op (IsOf p a) (IsOf p b) (IsOf q a) (IsOf q b) (value_grows a) (value_grows b) h.0, h.1)
+  value_grows (And a b) t h = (value_grows a _ h.0, value_grows b _ h.1, h.2)
+  value_grows (Or a b) t h = (value_grows a _ h.0, value_grows b _ h.1, h.2)
+  value_grows (Element a) t h = (value_grows a _ h.0, h.1)
+  value_grows (Ord a) t h = (value_grows a _ h.0, h.1)
+  value_grows (Chr a) t h = (value_grows a _ h.0, h.1)
 
   call_grows : (c : Call) → IsCall p c → IsCall q c
-  call_grows (Int a b) h = (integer_grows a h.0, integer_grows b h.1)
+  call_grows Open h = tt
+  call_grows (Char e) h = value_grows e _ h
+  call_grows (Int a b) h = (value_grows a _ h.0, value_grows b _ h.1)
   call_grows Ln h = tt
 
   mutual
     statement_grows : (s : Stat) → IsStatement p s → IsStatement q s
-    statement_grows (Assign at x e) h = (place_grows x _ h.0, integer_grows e h.1)
-    statement_grows (While at e body) h = (boolean_grows e h.0, statements_grow body h.1)
+    statement_grows (Assign at t x e) h = (place_grows x t h.0, value_grows e t h.1)
+    statement_grows (While at e body) h = (value_grows e _ h.0, statements_grow body h.1)
     statement_grows (New at x t) h = (place_grows x _ h.0, fewer t (length p.objects) (length q.objects) h.1 grows.objects)
       where
         fewer : (t m n : ℕ) → t < m → m ≤ n → t < n

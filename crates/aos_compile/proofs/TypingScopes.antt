@@ -1,6 +1,6 @@
 -- A module's own scope: each of its types has its number, and each variable.
-use Rattle.std.proofs.Common.{◌≡◌, ℕ, suc, ◌+◌, ◌<◌, ◌≤◌, List, [], ◌∷◌, ◌++◌, length, map, Bool, true, false, Option, Some, None, refl, sym, ap, ◌∙◌, subst, arith, codes, bytes_eq, unwrap_or, if◌then◌else◌}
-use Rattle.std.proofs.lemmas.Option.{same_Some}
+use Rattle.std.proofs.Common.{◌≡◌, ℕ, zero, suc, ◌+◌, ◌<◌, ◌≤◌, List, [], ◌∷◌, ◌++◌, length, map, Bool, true, false, Option, Some, None, slice_get, refl, sym, ap, ◌∙◌, subst, arith, codes, bytes_eq, unwrap_or, if◌then◌else◌}
+use Rattle.std.proofs.lemmas.Option.{none-some, same_Some}
 use Rattle.aos_tree.specs.declared.decl.Def.{Def}
 use Rattle.aos_tree.specs.declared.decl.TypeDef.{TypeDef}
 use Rattle.aos_tree.specs.declared.module.Import.{Import}
@@ -15,20 +15,35 @@ use Rattle.aos_symbols.specs.Spelling.{word}
 use Rattle.aos_symbols.specs.Declarations.{constant_defs, type_defs, single_variables, procedure_defs}
 use Rattle.aos_symbols.specs.Scope.{Named, Scope, empty, find, has, with_name, with_names}
 use Rattle.aos_symbols.specs.Home.{Home}
-use Rattle.aos_symbols.specs.Entries.{is_alias, own_types, slot, after, among, module_named, entry, numbered, type_entries, import_entry, other_entries, own_scope}
+use Rattle.aos_symbols.specs.Entries.{is_alias, own_types, slot, after, among, module_named, entry, numbered, type_entries, inner_decls, inner_type, import_entry, other_entries, own_scope, inner_scope}
 use Rattle.aos_symbols.proofs.Each.{Each, joined, front, back}
 use Rattle.aos_symbols.proofs.Found.{found_is, each_found, some_found}
 use Rattle.aos_symbols.proofs.Told.{IsTold, IsKnown}
 use Rattle.aos_check_decl.specs.Headings.{slot_meant}
 
--- no variable has its type yet
-pub no_variables : (ns : List Named) (s : Scope) → (with_names s ns).variables ≡ s.variables
-no_variables [] s = refl
-no_variables (n ∷ ns) s = no_variables ns (with_name s n) ∙ by (has s n.0)
-  where
-    by : (b : Bool) → (if b then s else record s { entries = s.entries ++ n ∷ [] }).variables ≡ s.variables
-    by true = refl
-    by false = refl
+-- names leave what else a scope has alone: no constant has its value yet, and no variable its type
+module _ {X : Type 0} (part : Scope → X) (entries_alone : (s : Scope) (es : List Named) → part (record s { entries = es }) ≡ part s) where
+  names_alone : (ns : List Named) (s : Scope) → part (with_names s ns) ≡ part s
+  names_alone [] s = refl
+  names_alone (n ∷ ns) s = names_alone ns (with_name s n) ∙ by (has s n.0)
+    where
+      by : (b : Bool) → part (if b then s else record s { entries = s.entries ++ n ∷ [] }) ≡ part s
+      by true = refl
+      by false = entries_alone s (s.entries ++ n ∷ [])
+
+pub no_constants : (ns : List Named) → (with_names empty ns).constants ≡ []
+no_constants ns = names_alone (λ s. s.constants) (λ s es. refl) ns empty
+
+pub no_variables : (ns : List Named) → (with_names empty ns).variables ≡ []
+no_variables ns = names_alone (λ s. s.variables) (λ s es. refl) ns empty
+
+-- the scopes of object types have none
+pub no_inner_constants : (text : List ℕ) (ds : List TypeDef) (k : ℕ) (s : Scope) → slice_get (map (inner_scope text) ds) k ≡ Some s → s.constants ≡ []
+no_inner_constants text [] k s e = absurd (none-some s e)
+no_inner_constants text (d ∷ ds) zero s e =
+    let inner = inner_decls d.value in
+    ap (λ (z : Scope). z.constants) (sym (same_Some (inner_scope text d) s e)) ∙ no_constants (map (inner_type text) (type_defs inner) ++ other_entries text inner)
+no_inner_constants text (d ∷ ds) (suc k) s e = no_inner_constants text ds k s e
 
 -- a meaning that is no type and no variable
 abbrev IsOther : Meaning → Type 0
@@ -145,7 +160,10 @@ module _ (text : List ℕ) where
       by (means.Procedure k) other e = no_slot e
       by (means.Module k) other e = no_slot e
       by means.Out other e = no_slot e
+      by (means.Truth b) other e = no_slot e
+      by (means.Function f) other e = no_slot e
       by means.New other e = no_slot e
+      by means.Proper other e = no_slot e
       by means.Other other e = no_slot e
 
   types_within : (from to next : ℕ) (ds : List TypeDef) → from ≤ next → next + own_types ds ≤ to → Each (IsWithin from to) (type_entries text next ds)

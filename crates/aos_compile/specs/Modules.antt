@@ -23,7 +23,7 @@ use Rattle.aos_symbols.specs.Home.{Home}
 use Rattle.aos_symbols.specs.Entries.{home_of, own_types}
 use Rattle.aos_symbols.specs.Names.{name_breaches}
 use Rattle.aos_symbols.specs.Env as env
-use Rattle.aos_check_expr.specs.Designators.{type_of}
+use Rattle.aos_check_expr.specs.Known.{type_of}
 use Rattle.aos_check_decl.specs.Headings.{headings, with_types}
 use Rattle.aos_check_stat.specs.Bodies.{listed, body_of}
 

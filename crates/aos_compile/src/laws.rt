@@ -4,6 +4,8 @@ ghost use Rattle.std.specs.Prelude.{◌≡◌, ◌<◌, ◌≤◌, ℕ, List, le
 ghost use Rattle.aos_base.specs.declared.text.Refusal.{Refusal};
 ghost use Rattle.aos_typed.specs.Program.{Program};
 ghost use Rattle.aos_typed.specs.WellTyped.{IsWellTyped};
+ghost use Rattle.aos_code.specs.declared.image.Image.{Image};
+ghost use Rattle.aos_sim.specs.Shows.{IsCodeOf, NeverLost};
 ghost use Rattle.aos_symbols.specs.Outcome.{Outcome, refused, went};
 ghost use Rattle.aos_compile.specs.Elaborates.{ComesTo};
 
@@ -17,6 +19,13 @@ pub fn law_of_outcome()
 pub fn law_of_typing()
     ensures { (texts : List (List ℕ)) (p : Program) → ComesTo texts (went p) → 1 ≤ length texts →
         length texts ≤ 64 → IsWellTyped p }
+{}
+
+/// No execution of an image that has the code of the program that 1 to 64 texts come to has trap 16, that of code which finds
+/// another operand than it takes, or a place that isn't there.
+pub fn law_of_traps()
+    ensures { (texts : List (List ℕ)) (p : Program) (image : Image) → ComesTo texts (went p) →
+        1 ≤ length texts → length texts ≤ 64 → IsCodeOf p image → NeverLost image }
 {}
 
 /// A refusal of texts tells the number of one of them.

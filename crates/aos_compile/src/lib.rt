@@ -11,5 +11,5 @@ pub mod program;
 mod variables;
 
 pub use compile_err::CompileErr;
-pub use laws::{law_of_files, law_of_outcome, law_of_typing};
+pub use laws::{law_of_files, law_of_outcome, law_of_traps, law_of_typing};
 pub use program::compile;

@@ -1,24 +1,30 @@
 -- What a name stands for: what holds of each entry of the scopes that are searched, and of what is predeclared, holds of it.
-use Rattle.std.proofs.Common.{◌≡◌, ℕ, ◌==◌, List, [], ◌∷◌, Bool, true, false, ◌||◌, Option, Some, None, is_some, option_map, option_and_then, refl, ◌∙◌, subst, codes, bytes_eq, if◌then◌else◌}
+use Rattle.std.proofs.Common.{◌≡◌, ℕ, ◌==◌, ◌≤◌, List, [], ◌∷◌, Bool, true, false, cond, ◌||◌, Option, Some, None, is_some, option_map, option_and_then, refl, ◌∙◌, subst, bytes_eq, if◌then◌else◌, arith}
+use Rattle.std.specs.Map.{lookup as lookup_in}
 use Rattle.std.specs.Option.{option_or}
 use Rattle.std.proofs.lemmas.Option.{none-some, same_Some}
 use Rattle.aos_tree.specs.declared.name.Name.{Name}
 use Rattle.aos_symbols.specs.declared.scope.Entry.{Entry}
+use Rattle.aos_types.specs.declared.row.TypeId.{TypeId}
+use Rattle.aos_symbols.specs.declared.scope.Function.{Function}
 use Rattle.aos_symbols.specs.declared.scope.Meaning.{Meaning}
 use Rattle.aos_symbols.specs.declared.scope.Meaning.TheVariants as means
 use Rattle.aos_symbols.specs.declared.env.Open.{Open}
 use Rattle.aos_symbols.specs.declared.env.Symbol.{Symbol}
 use Rattle.aos_symbols.specs.declared.env.Lookup.TheVariants.{Unknown, NotExported, Found}
 use Rattle.aos_symbols.specs.declared.env.Env.{Env}
-use Rattle.aos_symbols.specs.Spelling.{word, is_among, predeclared as predeclared_names}
+use Rattle.aos_symbols.specs.Spelling.{word}
 use Rattle.aos_symbols.specs.Scope.{Scope, find}
-use Rattle.aos_symbols.specs.Env.{longint, scope, own, declared_at, in_scope, in_path, is_import, if_seen, predeclared_meaning, predeclared_symbol, looked_up, lookup, if_declared, member}
+use Rattle.aos_symbols.specs.Env.{scope, own, declared_at, in_scope, in_path, is_import, if_seen, predeclared, predeclared_meaning, predeclared_symbol, looked_up, lookup, if_declared, member}
 use Rattle.aos_symbols.proofs.Each.{Each}
 
 -- what is predeclared
 pub data IsPredeclared : Meaning → Type 0 where
-  a_type : IsPredeclared (means.Type (Some longint))
+  a_type : (t : TypeId) → t.0 ≤ 8 → (t.0 ≡ 7 → ⊥) → IsPredeclared (means.Type (Some t))
+  a_truth : (b : Bool) → IsPredeclared (means.Truth b)
+  a_function : (f : Function) → IsPredeclared (means.Function f)
   a_procedure : IsPredeclared means.New
+  a_proper : IsPredeclared means.Proper
   another : IsPredeclared means.Other
 
 -- what holds of all that names stand for, where these scopes are searched
@@ -39,14 +45,39 @@ abbrev MayBePredeclared : Option Meaning → Type 0
 MayBePredeclared None = Unit {0}
 MayBePredeclared (Some m) = IsPredeclared m
 
-either : (b : Bool) (m : Meaning) (o : Option Meaning) → IsPredeclared m → MayBePredeclared o → MayBePredeclared (if b then Some m else o)
-either true m o a c = a
-either false m o a c = c
+abbrev ArePredeclared : List (List ℕ × Meaning) → Type 0
+ArePredeclared rows = Each (λ r. IsPredeclared r.1) rows
+
+-- one row, and those behind it
+infixr 5 ◌before◌
+◌before◌ : {A B : Type 0} → A → B → A × B
+a before b = (a, b)
+
+numbered : (n : ℕ) → n ≤ 8 → (n ≡ 7 → ⊥) → IsPredeclared (means.Type (Some (record { 0 = n })))
+numbered n most other = a_type (record { 0 = n }) most other
+
+all_rows : ArePredeclared predeclared
+all_rows =
+    numbered 0 (omega arith) (omega arith) before numbered 1 (omega arith) (omega arith) before numbered 2 (omega arith) (omega arith)
+    before numbered 3 (omega arith) (omega arith) before numbered 4 (omega arith) (omega arith) before numbered 5 (omega arith) (omega arith)
+    before numbered 6 (omega arith) (omega arith) before numbered 8 (omega arith) (omega arith)
+    before a_truth false before a_truth true
+    before a_function _ before a_function _ before a_function _ before a_function _ before a_function _
+    before a_function _ before a_function _ before a_function _ before a_function _ before a_function _
+    before a_procedure
+    before a_proper before a_proper before a_proper before a_proper before a_proper before a_proper before a_proper
+    before another before another before tt
+
+found_in : (w : List ℕ) (es : List (List ℕ × Meaning)) → ArePredeclared es → MayBePredeclared (lookup_in (λ k. bytes_eq k w) es)
+found_in w [] each = tt
+found_in w (e ∷ es) each = by (bytes_eq e.0 w) (found_in w es each.1)
+  where
+    by : (b : Bool) → MayBePredeclared (lookup_in (λ k. bytes_eq k w) es) → MayBePredeclared (cond b (Some e.1) (lookup_in (λ k. bytes_eq k w) es))
+    by true more = each.0
+    by false more = more
 
 all_predeclared : (w : List ℕ) → MayBePredeclared (predeclared_meaning w)
-all_predeclared w =
-    either (bytes_eq (codes "LONGINT") w) (means.Type (Some longint)) _ a_type
-    (either (bytes_eq (codes "NEW") w) means.New _ a_procedure (either (is_among predeclared_names w) means.Other None another tt))
+all_predeclared w = found_in w predeclared all_rows
 
 module _ (e : Env) (Searched : Open → Type 0) (P : Symbol → Type 0) (all : IsOfAll e Searched P) where
   in_scope_is : (o : Open) → Searched o → (w : List ℕ) (x : Symbol) → in_scope e o w ≡ Some x → P x

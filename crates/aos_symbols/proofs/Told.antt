@@ -1,13 +1,13 @@
--- Types whose rows stand in the table: LONGINT, and object types. A row that stands there stays.
+-- Types that are told: the basic types of values, which each table begins with, and object types, whose rows stand in the table.
+-- A row that stands there stays.
 use Rattle.std.proofs.Common.{◌≡◌, ℕ, zero, suc, ◌<◌, ◌≤◌, List, [], ◌∷◌, ◌++◌, length, Bool, false, Option, Some, None, slice_get, slice_set, refl, arith}
 use Rattle.std.proofs.lemmas.Option.{none-some}
 use Rattle.aos_types.specs.declared.row.TypeId.{TypeId}
-use Rattle.aos_types.specs.declared.row.Basic.TheVariants as basic
 use Rattle.aos_types.specs.declared.row.TypeRow.{TypeRow}
 use Rattle.aos_types.specs.declared.row.TypeRow.TheVariants as row
 
 pub data IsTold (types : List TypeRow) (broken : List Bool) (t : TypeId) : Type 0 where
-  number : t.0 ≡ 2 → slice_get types t.0 ≡ Some (row.Basic basic.LongInt) → slice_get broken t.0 ≡ Some false → IsTold types broken t
+  basic : t.0 < 7 → IsTold types broken t
   object : 9 ≤ t.0 → slice_get types t.0 ≡ Some (row.Object None []) → slice_get broken t.0 ≡ Some false → IsTold types broken t
 
 -- a type that is known, and told
@@ -53,12 +53,12 @@ set_other (a ∷ xs) (suc i) zero x y h e = absurd (omega arith)
 set_other (a ∷ xs) (suc i) (suc j) x y h e = set_other xs i j x y (omega arith) e
 
 pub told_behind : (ts us : List TypeRow) (bs cs : List Bool) → GoOn ts bs (ts ++ us) (bs ++ cs)
-told_behind ts us bs cs t (number is r b) = number is (get_front ts us t.0 _ r) (get_front bs cs t.0 _ b)
+told_behind ts us bs cs t (basic first) = basic first
 told_behind ts us bs cs t (object from r b) = object from (get_front ts us t.0 _ r) (get_front bs cs t.0 _ b)
 
 -- an object type is told
 pub told_set : (ts : List TypeRow) (bs : List Bool) (s : TypeId) → 9 ≤ s.0 → GoOn ts bs (slice_set ts s.0 (row.Object None [])) (slice_set bs s.0 false)
-told_set ts bs s from t (number is r b) = number is (set_other ts t.0 s.0 _ _ (omega arith) r) (set_again bs t.0 s.0 false b)
+told_set ts bs s from t (basic first) = basic first
 told_set ts bs s from t (object here r b) = object here (set_again ts t.0 s.0 (row.Object None []) r) (set_again bs t.0 s.0 false b)
 
 pub newly_told : (ts : List TypeRow) (bs : List Bool) (s : TypeId) → 9 ≤ s.0 → s.0 < length ts → s.0 < length bs →

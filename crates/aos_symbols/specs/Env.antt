@@ -1,9 +1,11 @@
 -- What a name stands for at a place of a module (Active Oberon Language Report, Reali 2002, section on declarations and scope
 -- rules): the scopes of the place's path are searched, the innermost first, then what is predeclared. A name of another module
 -- is seen where it has an export mark.
-use Rattle.std.specs.Prelude.{ℕ, List, [], ◌∷◌, Bool, true, false, ◌==◌, ◌||◌, codes, Option, Some, None, is_some, unwrap_or, option_map, option_and_then, if◌then◌else◌, slice_get}
+use Rattle.std.specs.Prelude.{ℕ, List, [], ◌∷◌, Bool, true, false, ◌==◌, ◌||◌, ◌&&◌, nat_lt, codes, Option, Some, None, is_some, unwrap_or, option_map, option_and_then, if◌then◌else◌, slice_get}
 use Rattle.std.specs.Option.{option_or}
 use Rattle.std.specs.Str.{bytes_eq}
+use Rattle.std.specs.Map.{lookup as lookup_in}
+use Rattle.aos_base.specs.declared.text.Pos.{Pos}
 use Rattle.aos_tree.specs.declared.name.Name.{Name}
 use Rattle.aos_types.specs.declared.row.TypeId.{TypeId}
 use Rattle.aos_types.specs.declared.row.Basic.TheVariants as basic
@@ -13,12 +15,14 @@ use Rattle.aos_typed.specs.declared.tree.Literal.{Literal}
 use Rattle.aos_symbols.specs.declared.scope.Meaning.{Meaning}
 use Rattle.aos_symbols.specs.declared.scope.Meaning.TheVariants as means
 use Rattle.aos_symbols.specs.declared.scope.Entry.{Entry}
+use Rattle.aos_symbols.specs.declared.scope.Constant.{Constant}
+use Rattle.aos_symbols.specs.declared.scope.Function.TheVariants as function
 use Rattle.aos_symbols.specs.declared.env.Open.{Open}
 use Rattle.aos_symbols.specs.declared.env.Symbol.{Symbol}
 use Rattle.aos_symbols.specs.declared.env.Lookup.{Lookup}
 use Rattle.aos_symbols.specs.declared.env.Lookup.TheVariants.{Unknown, NotExported, Found}
 use Rattle.aos_symbols.specs.declared.env.Env.{Env}
-use Rattle.aos_symbols.specs.Spelling.{word, is_among, predeclared as predeclared_names}
+use Rattle.aos_symbols.specs.Spelling.{word}
 use Rattle.aos_symbols.specs.Scope.{Scope, find}
 use Rattle.aos_symbols.specs.Home.{Home}
 
@@ -28,8 +32,29 @@ basic_rows =
     kind.Basic basic.ShortInt ∷ kind.Basic basic.Integer ∷ kind.Basic basic.LongInt ∷ kind.Basic basic.HugeInt
     ∷ kind.Basic basic.Boolean ∷ kind.Basic basic.Char ∷ kind.Basic basic.Set ∷ kind.Basic basic.Nil ∷ kind.Any ∷ []
 
+abbrev pub shortint : TypeId
+shortint = record { 0 = 0 }
+
+abbrev pub integer : TypeId
+integer = record { 0 = 1 }
+
 abbrev pub longint : TypeId
 longint = record { 0 = 2 }
+
+abbrev pub hugeint : TypeId
+hugeint = record { 0 = 3 }
+
+abbrev pub boolean : TypeId
+boolean = record { 0 = 4 }
+
+abbrev pub char : TypeId
+char = record { 0 = 5 }
+
+abbrev pub set : TypeId
+set = record { 0 = 6 }
+
+abbrev pub any : TypeId
+any = record { 0 = 8 }
 
 -- what the module with a number has declared
 abbrev pub home : Env → ℕ → Option Home
@@ -60,19 +85,37 @@ is_import (means.Constant k) = false
 is_import (means.Type of) = false
 is_import (means.Variable k) = false
 is_import (means.Procedure k) = false
+is_import (means.Truth b) = false
+is_import (means.Function f) = false
 is_import means.New = false
+is_import means.Proper = false
 is_import means.Other = false
 
 -- a name of another module has a mark
 abbrev pub if_seen : Env → Symbol → Lookup
 if_seen e s = if s.at.home == e.number || is_some s.mark then Found s else NotExported
 
+-- the predeclared names: LEN and SELF aren't built yet
+abbrev pub predeclared : List (List ℕ × Meaning)
+predeclared =
+    (codes "SHORTINT", means.Type (Some shortint)) ∷ (codes "INTEGER", means.Type (Some integer))
+    ∷ (codes "LONGINT", means.Type (Some longint)) ∷ (codes "HUGEINT", means.Type (Some hugeint))
+    ∷ (codes "BOOLEAN", means.Type (Some boolean)) ∷ (codes "CHAR", means.Type (Some char))
+    ∷ (codes "SET", means.Type (Some set)) ∷ (codes "ANY", means.Type (Some any))
+    ∷ (codes "FALSE", means.Truth false) ∷ (codes "TRUE", means.Truth true)
+    ∷ (codes "ABS", means.Function function.Abs) ∷ (codes "ASH", means.Function function.Ash)
+    ∷ (codes "CAP", means.Function function.Cap) ∷ (codes "CHR", means.Function function.Chr)
+    ∷ (codes "LONG", means.Function function.Long) ∷ (codes "MAX", means.Function function.Max)
+    ∷ (codes "MIN", means.Function function.Min) ∷ (codes "ODD", means.Function function.Odd)
+    ∷ (codes "ORD", means.Function function.Ord) ∷ (codes "SHORT", means.Function function.Short)
+    ∷ (codes "NEW", means.New)
+    ∷ (codes "ASSERT", means.Proper) ∷ (codes "COPY", means.Proper) ∷ (codes "DEC", means.Proper)
+    ∷ (codes "EXCL", means.Proper) ∷ (codes "HALT", means.Proper) ∷ (codes "INC", means.Proper)
+    ∷ (codes "INCL", means.Proper)
+    ∷ (codes "LEN", means.Other) ∷ (codes "SELF", means.Other) ∷ []
+
 abbrev pub predeclared_meaning : List ℕ → Option Meaning
-predeclared_meaning w =
-    if bytes_eq (codes "LONGINT") w then Some (means.Type (Some longint))
-    else if bytes_eq (codes "NEW") w then Some means.New
-    else if is_among predeclared_names w then Some means.Other
-    else None
+predeclared_meaning w = lookup_in (λ k. bytes_eq k w) predeclared
 
 -- a predeclared name lies in no scope
 abbrev pub predeclared_symbol : Env → Option Meaning → Lookup
@@ -104,9 +147,18 @@ joined (Some a) = a
 abbrev pub variable_type : Env → Open → ℕ → Option TypeId
 variable_type e o k = joined (option_and_then (λ s. slice_get s.variables k) (scope e o))
 
--- the constant with a number of a scope: nothing where it is declared later, no value where its declaration breaks a rule
-abbrev pub constant : Env → Open → ℕ → Option (Option Literal)
-constant e o k = option_and_then (λ s. slice_get s.constants k) (scope e o)
+-- a place of a text is before another
+abbrev pub precedes : Pos → Pos → Bool
+precedes a b = if a.line == b.line then nat_lt a.col b.col else nat_lt a.line b.line
+
+-- A constant is used only behind its declaration: the value of the constant with a number of a scope, as a name that stands
+-- here has it. There is nothing where it is declared later, and no value where its declaration breaks a rule.
+abbrev pub constant : Env → Open → ℕ → Pos → Option (Option Literal)
+constant e o k at = declared (option_and_then (λ s. slice_get s.constants k) (scope e o))
+  where
+    declared : Option Constant → Option (Option Literal)
+    declared None = None
+    declared (Some c) = if (o.home == e.number) && precedes at c.at then None else Some c.value
 
 -- the type's definition isn't told yet, or breaks a rule
 abbrev pub is_broken : Env → TypeId → Bool

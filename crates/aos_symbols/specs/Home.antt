@@ -2,7 +2,7 @@
 -- the types that it defines, in the order of the text, in which the names within an object type stand.
 use Rattle.std.specs.Prelude.{ℕ, List, Option, Some, None, slice_get, slice_set}
 use Rattle.aos_types.specs.declared.row.TypeId.{TypeId}
-use Rattle.aos_typed.specs.declared.tree.Literal.{Literal}
+use Rattle.aos_symbols.specs.declared.scope.Constant.{Constant}
 use Rattle.aos_symbols.specs.Scope.{Scope, with_constant, with_variable}
 
 pub record Home : Type 0 where
@@ -18,9 +18,9 @@ abbrev pub changed : (Scope → Scope) → Home → ℕ → Option Scope → Hom
 changed f h k None = h
 changed f h k (Some s) = with_scope h k (f s)
 
--- with the value of one more constant in a scope, and with the type of one more variable
-abbrev pub add_constant : Home → ℕ → Option Literal → Home
-add_constant h k v = changed (λ s. with_constant s v) h k (slice_get h.scopes k)
+-- with one more constant in a scope, and with the type of one more variable
+abbrev pub add_constant : Home → ℕ → Constant → Home
+add_constant h k c = changed (λ s. with_constant s c) h k (slice_get h.scopes k)
 
 abbrev pub add_variable : Home → ℕ → Option TypeId → Home
 add_variable h k of = changed (λ s. with_variable s of) h k (slice_get h.scopes k)

@@ -1,22 +1,22 @@
--- A scope: names by their bytes, each with its export mark and what it stands for, the values of the constants that are
--- declared so far, and the types of the variables (Active Oberon Language Report, Reali 2002, section on declarations and
+-- A scope: names by their bytes, each with its export mark and what it stands for, the constants that are declared so
+-- far, and the types of the variables (Active Oberon Language Report, Reali 2002, section on declarations and
 -- scope rules).
 use Rattle.std.specs.Prelude.{ℕ, List, [], ◌∷◌, ◌++◌, Bool, Option, is_some, fold, map, if◌then◌else◌}
 use Rattle.std.specs.Str.{bytes_eq}
 use Rattle.std.specs.Map.{lookup}
 use Rattle.std.specs.Borrow.{Bor}
 use Rattle.aos_types.specs.declared.row.TypeId.{TypeId}
-use Rattle.aos_typed.specs.declared.tree.Literal.{Literal}
 use Rattle.aos_symbols.specs.declared.scope.Entry.{Entry}
+use Rattle.aos_symbols.specs.declared.scope.Constant.{Constant}
 
 -- a name's bytes, and its entry
 abbrev pub Named : Type 0
 Named = List ℕ × Entry
 
--- A constant whose declaration breaks a rule has no value, and a variable whose type breaks one has no type.
+-- A variable whose type breaks a rule has no type.
 pub record Scope : Type 0 where
   pub entries : List Named
-  pub constants : List (Option Literal)
+  pub constants : List Constant
   pub variables : List (Option TypeId)
 
 abbrev pub empty : Scope
@@ -36,9 +36,9 @@ with_name s n = if has s n.0 then s else record s { entries = s.entries ++ n ∷
 abbrev pub with_names : Scope → List Named → Scope
 with_names s ns = fold with_name s ns
 
--- with the value of one more constant, and with the type of one more variable
-abbrev pub with_constant : Scope → Option Literal → Scope
-with_constant s v = record s { constants = s.constants ++ v ∷ [] }
+-- with one more constant, and with the type of one more variable
+abbrev pub with_constant : Scope → Constant → Scope
+with_constant s c = record s { constants = s.constants ++ c ∷ [] }
 
 abbrev pub with_variable : Scope → Option TypeId → Scope
 with_variable s of = record s { variables = s.variables ++ of ∷ [] }

@@ -1,5 +1,4 @@
--- The bytes of names, and the names that are predeclared (Active Oberon Language Report, Reali 2002, predeclared
--- identifiers; Oakwood Guidelines, module Out).
+-- The bytes of names, and the names of module Out (Oakwood Guidelines).
 use Rattle.std.specs.Prelude.{ℕ, List, [], ◌∷◌, Bool, codes}
 use Rattle.std.specs.List.{list_any, slice_range}
 use Rattle.std.specs.Str.{bytes_eq}
@@ -20,14 +19,6 @@ are_same text a b = bytes_eq (word text a) (word text b)
 
 abbrev pub is_among : List (List ℕ) → List ℕ → Bool
 is_among table w = list_any (λ t. bytes_eq t w) table
-
-abbrev pub predeclared : List (List ℕ)
-predeclared =
-    codes "ANY" ∷ codes "BOOLEAN" ∷ codes "CHAR" ∷ codes "FALSE" ∷ codes "HUGEINT" ∷ codes "INTEGER"
-    ∷ codes "LONGINT" ∷ codes "SELF" ∷ codes "SET" ∷ codes "SHORTINT" ∷ codes "TRUE" ∷ codes "ABS" ∷ codes "ASH"
-    ∷ codes "CAP" ∷ codes "CHR" ∷ codes "LONG" ∷ codes "MAX" ∷ codes "MIN" ∷ codes "ODD" ∷ codes "ORD" ∷ codes "SHORT"
-    ∷ codes "LEN" ∷ codes "ASSERT" ∷ codes "COPY" ∷ codes "DEC" ∷ codes "EXCL" ∷ codes "HALT" ∷ codes "INC"
-    ∷ codes "INCL" ∷ codes "NEW" ∷ []
 
 -- the procedures of module Out
 abbrev pub procedures_of_out : List (List ℕ)

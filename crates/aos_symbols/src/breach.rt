@@ -22,8 +22,32 @@ pub const TWICE: u16 = 13;
 pub const UNKNOWN: u16 = 14;
 /// A name of another module that has no export mark.
 pub const NOT_EXPORTED: u16 = 15;
+/// A type, a constant, a variable or a module is needed, and the name stands for something else.
+pub const OTHER_KIND: u16 = 16;
+/// A constant expression that isn't constant, would trap, or isn't of the kind that is needed.
+pub const NOT_CONSTANT: u16 = 20;
+/// An operator doesn't take its operands.
+pub const WRONG_OPERANDS: u16 = 30;
+/// A value doesn't fit the variable that it's assigned to.
+pub const UNFIT: u16 = 31;
+/// What is assigned isn't a variable.
+pub const NO_VARIABLE: u16 = 32;
 /// A variable that may only be read.
 pub const READ_ONLY: u16 = 33;
+/// A call with another number of arguments.
+pub const ARGUMENT_COUNT: u16 = 34;
+/// An argument of another type.
+pub const ARGUMENT_TYPE: u16 = 35;
+/// What is called can't be, or can't be so.
+pub const WRONG_CALL: u16 = 36;
+/// A condition that isn't BOOLEAN.
+pub const NO_CONDITION: u16 = 37;
+/// A type test or guard of what has no dynamic type.
+pub const WRONG_TEST: u16 = 41;
+/// A selector that the type hasn't.
+pub const WRONG_SELECTOR: u16 = 42;
+/// NEW of what is no object variable.
+pub const WRONG_NEW: u16 = 47;
 /// A construct that isn't built yet.
 pub const NOT_BUILT: u16 = 99;
 

@@ -1,18 +1,35 @@
 // What names stand for at a place of a module.
 
-ghost use Rattle.std.specs.Prelude.{◌≡◌};
+ghost use Rattle.std.specs.Prelude.{◌≡◌, map};
+ghost use Rattle.std.specs.Map.{lookup};
 ghost use Rattle.std.specs.Option.{option_copied};
+ghost use Rattle.std.specs.Str.{bytes_eq};
 ghost use Rattle.aos_symbols.specs.Env as env;
 
 use crate::home::Home;
-use crate::scope::{Entry, Meaning, Scope};
-use crate::spelling::{is_predeclared, word};
+use crate::scope::{Entry, Function, Meaning, Scope};
+use crate::spelling::word;
+use aos_base::Pos;
 use aos_tree::{Export, Items, Name};
 use aos_typed::Literal;
 use aos_types::{TypeId, TypeRow, Types};
 
-/// The number of the type LONGINT, which is the same in each table.
+/// The type SHORTINT; the predeclared types have the same numbers in each table.
+pub const SHORTINT: TypeId = TypeId(0);
+/// The type INTEGER.
+pub const INTEGER: TypeId = TypeId(1);
+/// The type LONGINT.
 pub const LONGINT: TypeId = TypeId(2);
+/// The type HUGEINT.
+pub const HUGEINT: TypeId = TypeId(3);
+/// The type BOOLEAN.
+pub const BOOLEAN: TypeId = TypeId(4);
+/// The type CHAR.
+pub const CHAR: TypeId = TypeId(5);
+/// The type SET.
+pub const SET: TypeId = TypeId(6);
+/// The type ANY.
+pub const ANY: TypeId = TypeId(8);
 /// How many types stand first in each table; those that modules declare come behind them.
 pub const BASIC_TYPES: u32 = 9;
 
@@ -57,19 +74,69 @@ pub struct Env<'a> {
     pub broken: Items<bool>,
 }
 
+/// The predeclared names (Reali 2002, predeclared identifiers); LEN and SELF aren't built yet.
+const PREDECLARED: [(&str, Meaning); 30] = [
+    ("SHORTINT", Meaning::Type(Some(SHORTINT))),
+    ("INTEGER", Meaning::Type(Some(INTEGER))),
+    ("LONGINT", Meaning::Type(Some(LONGINT))),
+    ("HUGEINT", Meaning::Type(Some(HUGEINT))),
+    ("BOOLEAN", Meaning::Type(Some(BOOLEAN))),
+    ("CHAR", Meaning::Type(Some(CHAR))),
+    ("SET", Meaning::Type(Some(SET))),
+    ("ANY", Meaning::Type(Some(ANY))),
+    ("FALSE", Meaning::Truth(false)),
+    ("TRUE", Meaning::Truth(true)),
+    ("ABS", Meaning::Function(Function::Abs)),
+    ("ASH", Meaning::Function(Function::Ash)),
+    ("CAP", Meaning::Function(Function::Cap)),
+    ("CHR", Meaning::Function(Function::Chr)),
+    ("LONG", Meaning::Function(Function::Long)),
+    ("MAX", Meaning::Function(Function::Max)),
+    ("MIN", Meaning::Function(Function::Min)),
+    ("ODD", Meaning::Function(Function::Odd)),
+    ("ORD", Meaning::Function(Function::Ord)),
+    ("SHORT", Meaning::Function(Function::Short)),
+    ("NEW", Meaning::New),
+    ("ASSERT", Meaning::Proper),
+    ("COPY", Meaning::Proper),
+    ("DEC", Meaning::Proper),
+    ("EXCL", Meaning::Proper),
+    ("HALT", Meaning::Proper),
+    ("INC", Meaning::Proper),
+    ("INCL", Meaning::Proper),
+    ("LEN", Meaning::Other),
+    ("SELF", Meaning::Other),
+];
+
+/// What the first row with a word says.
+#[tactic(auto, using(crate::proofs::Paths::row_step, crate::proofs::Paths::row_end))]
+fn meaning_in(table: &[(&str, Meaning)], word: &[u8]) -> Option<Meaning>
+    ensures { result ≡
+        lookup (λ k. bytes_eq k word.now) (map (λ r. (r.0.now, r.1)) table.now) }
+{
+    for (spelled, means) in table {
+        if spelled.as_bytes() == word {
+            return Some(*means);
+        }
+    }
+    None
+}
+
 fn predeclared_meaning(word: &[u8]) -> Option<Meaning>
     ensures { result ≡ env.predeclared_meaning word.now }
 {
-    if "LONGINT".as_bytes() == word {
-        return Some(Meaning::Type(Some(LONGINT)));
+    meaning_in(&PREDECLARED, word)
+}
+
+/// Whether a place of a text is before another.
+fn precedes(a: Pos, b: Pos) -> bool
+    ensures { result ≡ env.precedes a b }
+{
+    if a.line == b.line {
+        a.col < b.col
+    } else {
+        a.line < b.line
     }
-    if "NEW".as_bytes() == word {
-        return Some(Meaning::New);
-    }
-    if is_predeclared(word) {
-        return Some(Meaning::Other);
-    }
-    None
 }
 
 fn is_import(means: Meaning) -> bool
@@ -204,12 +271,17 @@ impl<'a> Env<'a> {
         }
     }
 
-    /// The value of the constant with a number of a scope: none where it is declared later, and no value where its declaration
-    /// breaks a rule.
-    pub fn constant(&self, at: Open, number: u32) -> Option<Option<Literal>>
-        ensures { result ≡ env.constant self.now at number }
+    /// The value of the constant with a number of a scope, as a name that stands here has it: none where the constant is
+    /// declared later, and no value where its declaration breaks a rule.
+    pub fn constant(&self, at: Open, number: u32, here: Pos) -> Option<Option<Literal>>
+        ensures { result ≡ env.constant self.now at number here }
     {
-        self.scope(at)?.constant(number)
+        let constant = self.scope(at)?.constant(number)?;
+        if at.home == self.number && precedes(here, constant.at) {
+            None
+        } else {
+            Some(constant.value)
+        }
     }
 
     fn is_broken(&self, of: TypeId) -> bool

@@ -4,8 +4,7 @@ ghost use Rattle.std.specs.Prelude.{◌≡◌, ◌<◌, length, slice_get, OnErr
 ghost use Rattle.std.specs.Option.{option_copied};
 ghost use Rattle.aos_symbols.specs.Home as home;
 
-use crate::scope::Scope;
-use aos_typed::Literal;
+use crate::scope::{Constant, Scope};
 use aos_types::TypeId;
 use std::alloc::AllocError;
 use std::marker::Model;
@@ -56,13 +55,13 @@ impl<'a> Home<'a> {
         self.scopes.get(number as usize)
     }
 
-    /// The value of the next constant of a scope. Without memory all stays as it was.
-    pub fn add_constant(&mut self, scope: u32, value: Option<Literal>) -> Result<(), AllocError>
-        ensures ok { OnOk result (self.new ≡ home.add_constant self.old scope value) }
+    /// The next constant of a scope. Without memory all stays as it was.
+    pub fn add_constant(&mut self, scope: u32, constant: Constant) -> Result<(), AllocError>
+        ensures ok { OnOk result (self.new ≡ home.add_constant self.old scope constant) }
         ensures err { OnErr result (self.new ≡ self.old) }
     {
         match self.scopes.get_mut(scope as usize) {
-            Some(scope) => scope.add_constant(value),
+            Some(scope) => scope.add_constant(constant),
             None => Ok(()),
         }
     }

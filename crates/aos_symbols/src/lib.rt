@@ -12,12 +12,17 @@ pub mod scope;
 mod spelling;
 
 pub use breach::{
-    Breach, NAMED_OUT, NOT_BUILT, NOT_EXPORTED, OTHER_END, READ_ONLY, TWICE, UNKNOWN, note,
+    ARGUMENT_COUNT, ARGUMENT_TYPE, Breach, NAMED_OUT, NO_CONDITION, NO_VARIABLE, NOT_BUILT,
+    NOT_CONSTANT, NOT_EXPORTED, OTHER_END, OTHER_KIND, READ_ONLY, TWICE, UNFIT, UNKNOWN,
+    WRONG_CALL, WRONG_NEW, WRONG_OPERANDS, WRONG_SELECTOR, WRONG_TEST, note,
 };
 pub use entries::home_of;
-pub use env::{BASIC_TYPES, Env, LONGINT, Lookup, Open, Symbol};
+pub use env::{
+    ANY, BASIC_TYPES, BOOLEAN, CHAR, Env, HUGEINT, INTEGER, LONGINT, Lookup, Open, SET, SHORTINT,
+    Symbol,
+};
 pub use home::Home;
 pub use laws::law_of_first;
 pub use names::check_names;
-pub use scope::{Entry, Meaning, Scope};
-pub use spelling::{are_same, is_active, is_predeclared, is_procedure_of_out, is_word, word};
+pub use scope::{Constant, Entry, Function, Meaning, Scope};
+pub use spelling::{are_same, is_active, is_procedure_of_out, is_word, word};

@@ -3,6 +3,7 @@
 ghost use Rattle.std.specs.Prelude.{◌≡◌, OnErr, OnOk, IfOk, not, slice_get};
 ghost use Rattle.aos_symbols.specs.Scope as names;
 
+use aos_base::Pos;
 use aos_tree::Export;
 use aos_typed::Literal;
 use aos_types::TypeId;
@@ -24,10 +25,38 @@ pub enum Meaning {
     Module(u32),
     /// Module Out.
     Out,
+    /// TRUE or FALSE.
+    Truth(bool),
+    /// A predeclared function.
+    Function(Function),
     /// The predeclared procedure NEW.
     New,
-    /// Something that isn't built yet.
+    /// Another predeclared procedure; none of them is built yet.
+    Proper,
+    /// Something else that isn't built yet.
     Other,
+}
+
+/// The predeclared functions but LEN (Oberon-2 report, 10.3).
+#[derive(Clone, Copy, PartialEq, Eq, Debug)]
+pub enum Function {
+    Abs,
+    Ash,
+    Cap,
+    Chr,
+    Long,
+    Max,
+    Min,
+    Odd,
+    Ord,
+    Short,
+}
+
+/// A constant that is declared: where its name stands, and its value, which it has where its declaration breaks no rule.
+#[derive(Clone, Copy, PartialEq, Eq, Debug)]
+pub struct Constant {
+    pub at: Pos,
+    pub value: Option<Literal>,
 }
 
 /// What a declared name stands for, with its export mark.
@@ -42,7 +71,7 @@ pub struct Entry {
 #[derive(Drop)]
 pub struct Scope<'a> {
     table: IndexMap<&'a [u8], Entry>,
-    constants: Vec<Option<Literal>>,
+    constants: Vec<Constant>,
     variables: Vec<Option<TypeId>>,
 }
 
@@ -90,9 +119,8 @@ impl<'a> Scope<'a> {
         Ok(true)
     }
 
-    /// The value of the constant with a number: none where the constant is declared later, and no value where its declaration
-    /// breaks a rule.
-    pub fn constant(&self, number: u32) -> Option<Option<Literal>>
+    /// The constant with a number; none where it is declared later.
+    pub fn constant(&self, number: u32) -> Option<Constant>
         ensures { result ≡ slice_get self.now.constants number }
     {
         self.constants.get(number as usize).copied()
@@ -106,12 +134,12 @@ impl<'a> Scope<'a> {
         self.variables.get(number as usize).copied()
     }
 
-    /// The value of the next constant. Without memory the scope stays as it was.
-    pub fn add_constant(&mut self, value: Option<Literal>) -> Result<(), AllocError>
-        ensures ok { OnOk result (self.new ≡ names.with_constant self.old value) }
+    /// The next constant. Without memory the scope stays as it was.
+    pub fn add_constant(&mut self, constant: Constant) -> Result<(), AllocError>
+        ensures ok { OnOk result (self.new ≡ names.with_constant self.old constant) }
         ensures err { OnErr result (self.new ≡ self.old) }
     {
-        self.constants.push(value)?;
+        self.constants.push(constant)?;
         Ok(())
     }
 

@@ -1,4 +1,4 @@
-// The bytes of names, and names that are predeclared.
+// The bytes of names, and the names of module Out.
 
 ghost use Rattle.std.specs.Prelude.{◌≡◌};
 ghost use Rattle.std.specs.List.{list_any};
@@ -6,13 +6,6 @@ ghost use Rattle.std.specs.Str.{bytes_eq};
 ghost use Rattle.aos_symbols.specs.Spelling as spelling;
 
 use aos_tree::{Modifier, Name};
-
-/// The predeclared names.
-const PREDECLARED: [&str; 30] = [
-    "ANY", "BOOLEAN", "CHAR", "FALSE", "HUGEINT", "INTEGER", "LONGINT", "SELF", "SET", "SHORTINT",
-    "TRUE", "ABS", "ASH", "CAP", "CHR", "LONG", "MAX", "MIN", "ODD", "ORD", "SHORT", "LEN",
-    "ASSERT", "COPY", "DEC", "EXCL", "HALT", "INC", "INCL", "NEW",
-];
 
 /// The procedures of module Out.
 const PROCEDURES_OF_OUT: [&str; 5] = ["Open", "Char", "String", "Int", "Ln"];
@@ -44,13 +37,6 @@ fn is_among(table: &[&str], word: &[u8]) -> bool
     ensures { result ≡ list_any (λ t. bytes_eq t.now word.now) table.now }
 {
     table.iter().any(|spelled| spelled.as_bytes() == word)
-}
-
-/// Whether a word is a predeclared name.
-pub fn is_predeclared(word: &[u8]) -> bool
-    ensures { result ≡ spelling.is_among spelling.predeclared word.now }
-{
-    is_among(&PREDECLARED, word)
 }
 
 /// Whether a word is the name of a procedure of module Out.

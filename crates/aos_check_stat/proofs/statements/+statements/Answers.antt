@@ -16,14 +16,14 @@ stat_of-returns-in_ok-all-in-While-clause-noted t c =
     let env = c.args.env.now in
     let met = c.args.found.now in
     let w = c.in-While in
-    let test = condition env w.at w.expr in
+    let test = condition env w.test in
     let all = walk (stat_in env) [] w.body.stats in
     c.in_ok-all-in-While.ensures.noted
     ∙ ap (λ ss. first_after c.condition.new.found (walk (stat_in env) [] ss).breaches) c.as_slice.ensures
     ∙ ap (λ m. first_after m all.breaches) c.in_ok-test-in-While.ensures.noted
     ∙ sym (after_more (first_after met test.breaches) all.breaches [])
     ∙ sym (after_more met test.breaches (all.breaches ++ []))
-    ∙ ap (λ j. first_after met j.breaches) (sym (stat_while env c.args.stat.now w.at w.expr w.body w.is))
+    ∙ ap (λ j. first_after met j.breaches) (sym (stat_while env c.args.stat.now w.at w.test w.body w.is))
 
 pub stat_of-returns-in_ok-all-in-While-clause-answer : goal.stat_of-returns-in_ok-all-in-While-clause-answer
 stat_of-returns-in_ok-all-in-While-clause-answer t c =
@@ -36,4 +36,4 @@ stat_of-returns-in_ok-all-in-While-clause-answer t c =
     ∙ ap (λ (us : List Stat). Some (While w.at (seen_expr tested) (listed us)))
     (c.in_ok-all-in-While.ensures.answer ∙ ap (λ ss. (walk (stat_in env) [] ss).answer) c.as_slice.ensures)
     ∙ ap (λ (x : Expr). Some (While w.at x (listed (walk (stat_in env) [] w.body.stats).answer))) c.in_ok-test-in-While.ensures.answer
-    ∙ ap (λ j. j.answer) (sym (stat_while env c.args.stat.now w.at w.expr w.body w.is))
+    ∙ ap (λ j. j.answer) (sym (stat_while env c.args.stat.now w.at w.test w.body w.is))

@@ -1,0 +1,144 @@
+-- Calls that break no rule are sound, where their arguments are: predeclared functions, conversions, and MAX and MIN of a type.
+use Rattle.std.proofs.Common.{◌≡◌, List, [], ◌∷◌, Bool, true, false, Option, Some, None, if◌then◌else◌, refl}
+use Rattle.aos_base.specs.declared.text.Pos.{Pos}
+use Rattle.aos_tree.specs.declared.expr.Expr.{Expr, out-Expr}
+use Rattle.aos_tree.specs.declared.expr.Selector.{Selector}
+use Rattle.aos_tree.specs.declared.expr.Selector.TheVariants as s
+use Rattle.aos_types.specs.declared.row.TypeId.{TypeId}
+use Rattle.aos_typed.specs.declared.tree.Literal.{Literal}
+use Rattle.aos_typed.specs.Program.{Program}
+use Rattle.aos_symbols.specs.declared.scope.Meaning.{Meaning}
+use Rattle.aos_symbols.specs.declared.scope.Meaning.TheVariants as means
+use Rattle.aos_symbols.specs.declared.scope.Function.TheVariants as function
+use Rattle.aos_symbols.specs.declared.env.Open.{Open}
+use Rattle.aos_tree.specs.declared.decl.Export.{Export}
+use Rattle.aos_symbols.specs.declared.env.Lookup.{Lookup}
+use Rattle.aos_symbols.specs.declared.env.Lookup.TheVariants.{Unknown as NoName, NotExported, Found}
+use Rattle.aos_symbols.specs.declared.env.Env.{Env}
+use Rattle.aos_symbols.specs.Judged.{Judged, bind}
+use Rattle.aos_symbols.proofs.Each.{Each}
+use Rattle.aos_symbols.proofs.Holds.{Holds, holds_bind}
+use Rattle.aos_check_expr.specs.declared.designators.Head.{Head}
+use Rattle.aos_check_expr.specs.declared.operations.Step.{Step}
+use Rattle.aos_check_expr.specs.Known.{Answer, Spot, is_integer}
+use Rattle.aos_check_expr.specs.Operations as op
+use Rattle.aos_check_expr.specs.Designators as desig
+use Rattle.aos_check_expr.specs.Expressions as judge
+use Rattle.aos_check_expr.specs.Expressions.{Callee, Calls, Converts, Neither}
+use Rattle.aos_check_expr.proofs.Good.{IsGood, MayBe, greatest_good, least_good}
+use Rattle.aos_check_expr.proofs.Sound.{IsStep, applied_step, converted_step}
+use Rattle.aos_check_expr.proofs.Parts.{argument_part, arguments_part, limit_part}
+use Rattle.aos_check_expr.proofs.Spots.{IsWhole, Part, refused_part, selected_part, guarded_part}
+
+-- a conversion is into an integer type
+abbrev IsRightCallee : Callee → Type 0
+IsRightCallee (Calls f) = Unit {0}
+IsRightCallee (Converts t) = is_integer t ≡ true
+IsRightCallee Neither = Unit {0}
+
+conversion_right : (of : Option TypeId) → IsRightCallee (judge.conversion of)
+conversion_right None = tt
+conversion_right (Some t) = by (is_integer t) refl
+  where
+    by : (b : Bool) → is_integer t ≡ b → IsRightCallee (if b then Converts t else Neither)
+    by true i = i
+    by false i = tt
+
+meant_right : (m : Meaning) → IsRightCallee (judge.callee_meant m)
+meant_right (means.Function f) = tt
+meant_right (means.Type of) = conversion_right of
+meant_right m = tt
+
+callee_right : (l : Lookup) → IsRightCallee (judge.callee l)
+callee_right NoName = tt
+callee_right NotExported = tt
+callee_right (Found x) = meant_right x.means
+
+module _ (p : Program) (e : Env) where
+  abbrev IsFine : Judged Answer → Type 0
+  IsFine = Holds (Part p e)
+
+  abbrev pub Parts : List (Judged Answer) → Type 0
+  Parts = Each IsFine
+
+  -- MAX and MIN of a type.
+
+  abbrev GivesGood : (TypeId → Option Literal) → Type 0
+  GivesGood value = (t : TypeId) → MayBe IsGood (value t)
+
+  limit_meant : (value : TypeId → Option Literal) → GivesGood value → (m : Meaning) (at first : Pos) → IsFine (judge.limit_of value m at first)
+  limit_meant value good (means.Type None) at first = refused_part p e 99 at
+  limit_meant value good (means.Type (Some t)) at first = limit_part p (IsWhole p e) (value t) (good t) first
+  limit_meant value good m at first = refused_part p e 16 at
+
+  limit_found : (value : TypeId → Option Literal) → GivesGood value → (l : Lookup) (at first : Pos) → IsFine (judge.limit_found value l at first)
+  limit_found value good NoName at first = refused_part p e 14 at
+  limit_found value good NotExported at first = refused_part p e 15 at
+  limit_found value good (Found x) at first = limit_meant value good x.means at first
+
+  limit_named : (value : TypeId → Option Literal) → GivesGood value → (o : Option Head) (first : Pos) → IsFine (judge.limit_named value o first)
+  limit_named value good None first = refused_part p e 35 first
+  limit_named value good (Some h) first = limit_found value good h.found h.at h.first
+
+  limit_of_type : (value : TypeId → Option Literal) → GivesGood value → (xs : List Expr) (at : Pos) → IsFine (judge.limit e value xs at)
+  limit_of_type value good [] at = refused_part p e 34 at
+  limit_of_type value good (x ∷ []) at = limit_named value good (judge.name_alone e x) (out-Expr x).pos
+  limit_of_type value good (x ∷ y ∷ xs) at = refused_part p e 34 at
+
+  -- Functions of one argument and of two.
+
+  of_one : (f : Option TypeId → Step) → IsStep p f → (at : Pos) (js : List (Judged Answer)) → Parts js → (xs : List Expr) → IsFine (judge.one_of f at js xs)
+  of_one f right at [] parts xs = refused_part p e 34 at
+  of_one f right at (j ∷ []) parts [] = refused_part p e 34 at
+  of_one f right at (j ∷ []) parts (x ∷ []) =
+      holds_bind (Part p e) (Part p e) j (λ a. judge.one_argument at (out-Expr x).pos (f a.known.of) a) parts.0
+      (λ a h. argument_part p (IsWhole p e) f right at (out-Expr x).pos a h)
+  of_one f right at (j ∷ []) parts (x ∷ y ∷ xs) = refused_part p e 34 at
+  of_one f right at (j ∷ k ∷ js) parts xs = refused_part p e 34 at
+
+  of_two : (at : Pos) (js : List (Judged Answer)) → Parts js → (xs : List Expr) → IsFine (judge.two_of at js xs)
+  of_two at [] parts xs = refused_part p e 34 at
+  of_two at (j ∷ []) parts xs = refused_part p e 34 at
+  of_two at (j ∷ k ∷ []) parts [] = refused_part p e 34 at
+  of_two at (j ∷ k ∷ []) parts (x ∷ []) = refused_part p e 34 at
+  of_two at (j ∷ k ∷ []) parts (x ∷ y ∷ []) =
+      holds_bind (Part p e) (Part p e) j (λ a. bind k (λ b. judge.two_arguments at (out-Expr x).pos (out-Expr y).pos a b)) parts.0
+      (λ a g. holds_bind (Part p e) (Part p e) k (λ b. judge.two_arguments at (out-Expr x).pos (out-Expr y).pos a b) parts.1.0
+      (λ b h. arguments_part p (IsWhole p e) at (out-Expr x).pos (out-Expr y).pos a b g h))
+  of_two at (j ∷ k ∷ []) parts (x ∷ y ∷ z ∷ xs) = refused_part p e 34 at
+  of_two at (j ∷ k ∷ l ∷ js) parts xs = refused_part p e 34 at
+
+  -- what can't be called
+  guard_part : (is_guard : Bool) (at first : Pos) (j : Judged Spot) → IsFine (bind j (λ a. desig.guarded a.known.of is_guard at first))
+  guard_part is_guard at first j =
+      holds_bind (λ (a : Spot). Unit {0}) (Part p e) j (λ a. desig.guarded a.known.of is_guard at first) (λ none. tt) (λ a any. guarded_part p e a.known.of is_guard at first)
+
+  not_meant : (m : Meaning) (o : Open) (mark : Option Export) (named first at : Pos) (xs : List Expr) →
+      IsFine (judge.not_called e (record { found = Found (record { at = o; mark = mark; means = m }); at = named; first = first }) at xs)
+  not_meant (means.Type None) o mark named first at xs = refused_part p e 99 first
+  not_meant (means.Type (Some t)) o mark named first at xs = refused_part p e 36 first
+  not_meant m o mark named first at xs = guard_part (judge.is_guard e xs) at first (desig.named e (record { found = Found (record { at = o; mark = mark; means = m }); at = named; first = first }))
+
+  not_found : (l : Lookup) (named first at : Pos) (xs : List Expr) → IsFine (judge.not_called e (record { found = l; at = named; first = first }) at xs)
+  not_found NoName named first at xs = guard_part (judge.is_guard e xs) at first (desig.named e (record { found = NoName; at = named; first = first }))
+  not_found NotExported named first at xs = guard_part (judge.is_guard e xs) at first (desig.named e (record { found = NotExported; at = named; first = first }))
+  not_found (Found x) named first at xs = not_meant x.means x.at x.mark named first at xs
+
+  called : (c : Callee) → IsRightCallee c → (h : Head) (at : Pos) (js : List (Judged Answer)) → Parts js → (xs : List Expr) → IsFine (judge.called_by e c h at js xs)
+  called (Calls function.Max) right h at js parts xs = limit_of_type op.greatest_value greatest_good xs h.first
+  called (Calls function.Min) right h at js parts xs = limit_of_type op.least_value least_good xs h.first
+  called (Calls function.Ash) right h at js parts xs = of_two h.first js parts xs
+  called (Calls f) right h at js parts xs = of_one (op.applied f) (applied_step p f) h.first js parts xs
+  called (Converts t) right h at js parts xs = of_one (op.converted t) (converted_step p t right) h.first js parts xs
+  called Neither right h at js parts xs = not_found h.found h.at h.first at xs
+
+  pub called_part : (h : Head) (at : Pos) (js : List (Judged Answer)) → Parts js → (xs : List Expr) → IsFine (judge.called e h at js xs)
+  called_part h at js parts xs = called (judge.callee h.found) (callee_right h.found) h at js parts xs
+
+  -- and what stands behind a call
+  pub ended_part : (first : Pos) (j : Judged Answer) → IsFine j → (xs : List Selector) → IsFine (judge.ended first j xs)
+  ended_part first j h [] = h
+  ended_part first j h (s.Field q n ∷ xs) = holds_bind (Part p e) (Part p e) j (λ a. desig.selected a.known.of q) h (λ a x. selected_part p e a.known.of q)
+  ended_part first j h (s.Index' q shape row ∷ xs) = holds_bind (Part p e) (Part p e) j (λ a. desig.selected a.known.of q) h (λ a x. selected_part p e a.known.of q)
+  ended_part first j h (s.Follow q ∷ xs) = holds_bind (Part p e) (Part p e) j (λ a. desig.selected a.known.of q) h (λ a x. selected_part p e a.known.of q)
+  ended_part first j h (s.Paren' q shape row ∷ xs) = holds_bind (Part p e) (Part p e) j (λ a. desig.guarded a.known.of false q first) h (λ a x. guarded_part p e a.known.of false q first)

@@ -1,0 +1,220 @@
+-- Parts of expressions that break no rule: what is known of their values, and that they are sound where the environment is whole.
+use Rattle.std.proofs.Common.{◌≡◌, ℕ, ◌<◌, ℤ, List, [], ◌++◌, Bool, true, false, ◌&&◌, not, Option, Some, None, if◌then◌else◌, refl, sym, ap, subst, arith}
+use Rattle.std.proofs.lemmas.Bool.{and_parts}
+use Rattle.aos_base.specs.declared.text.Pos.{Pos}
+use Rattle.aos_base.specs.declared.number.Width.TheVariants.{W64}
+use Rattle.aos_base.specs.declared.operator.Binary.TheVariants as two
+use Rattle.aos_base.specs.Number.{IsWithin}
+use Rattle.aos_base.specs.Operators.{binary as binary_of}
+use Rattle.aos_tree.specs.declared.expr.RelationOp.{RelationOp}
+use Rattle.aos_tree.specs.declared.expr.AddOp.{AddOp}
+use Rattle.aos_tree.specs.declared.expr.MulOp.{MulOp}
+use Rattle.aos_tree.specs.declared.expr.Sign.{Sign}
+use Rattle.aos_types.specs.declared.row.TypeId.{TypeId}
+use Rattle.aos_typed.specs.declared.tree.Literal.{Literal}
+use Rattle.aos_typed.specs.declared.tree.Literal.TheVariants as literal
+use Rattle.aos_typed.specs.declared.tree.TType.TheVariants as type
+use Rattle.aos_typed.specs.Program.{Expr, Binary, Element, Program}
+use Rattle.aos_typed.specs.WellTyped.{IsOf}
+use Rattle.aos_symbols.specs.declared.breach.Breach.{Breach}
+use Rattle.aos_symbols.specs.Breaches.{breach_unless}
+use Rattle.aos_symbols.specs.Env.{set}
+use Rattle.aos_symbols.proofs.Holds.{Holds, none_left, none_right, test_is, broken}
+use Rattle.aos_check_expr.specs.declared.known.Class.{Class}
+use Rattle.aos_check_expr.specs.declared.known.Class.TheVariants.{Unknown, Constant, Variable, ReadOnly, Computed}
+use Rattle.aos_check_expr.specs.declared.operations.Single.TheVariants as single
+use Rattle.aos_check_expr.specs.declared.operations.Joint.TheVariants as joint
+use Rattle.aos_check_expr.specs.declared.operations.Step.{Step}
+use Rattle.aos_check_expr.specs.declared.operations.Operation.{Operation}
+use Rattle.aos_check_expr.specs.Known.{Answer, is_number, is_lost, lost, answered, constant_answer, type_of_literal}
+use Rattle.aos_check_expr.specs.Operations as op
+use Rattle.aos_check_expr.specs.Expressions as judge
+use Rattle.aos_check_expr.proofs.Good.{IsGood, IsSet, MayBe, IsKnownClass, number_good, type_basic, set_type, set_good, set_given, single_good, joint_good, class_of_one_known, class_of_known}
+use Rattle.aos_check_expr.proofs.Sound.{IsSound, sound_number, IsStep, IsOperation, stepped_sound, joined_sound, signed_step, opposite_step, added_operation, multiplied_operation, related_operation, shifted_operation}
+
+-- of a part's class, that it is known, with a good value where it is constant; the part is sound where what W says is so
+pub record IsPart (p : Program) (W : Type 0) (a : Answer) : Type 0 where
+  pub class : IsKnownClass IsGood a.known.class
+  pub valued : not (is_lost a.known.class) ≡ true
+  pub sound : W → IsSound p a
+
+-- of the elements of a set so far: they may be constants that have no value, since the whole needn't be constant
+pub record AreElements (p : Program) (W : Type 0) (a : Answer) : Type 0 where
+  pub class : IsKnownClass IsSet a.known.class
+  pub known : a.known.of ≡ Some set
+  pub typed : W → IsOf p a.typed type.Set
+
+-- the class of an answer
+class_answered : (P : Class → Type 0) (c : Class) (of : Option TypeId) (x : Expr) → P c → P (answered c of x).known.class
+class_answered P (Constant (Some v)) of x h = h
+class_answered P (Constant None) of x h = h
+class_answered P Unknown of x h = h
+class_answered P Variable of x h = h
+class_answered P ReadOnly of x h = h
+class_answered P Computed of x h = h
+
+kept_class_is : (P : Class → Type 0) (b : Bool) (c : Class) → b ≡ true → P c → P (op.kept_class b c)
+kept_class_is P true c e h = h
+kept_class_is P false c e h = absurd (cc)
+
+-- the class of what is done to one operand, and to two
+stepped_class : (P : Literal → Type 0) (s : Step) (a : Answer) → ((l : Literal) → IsGood l → MayBe P (op.single_value s.single l)) → s.is_kept ≡ true →
+    IsKnownClass IsGood a.known.class → IsKnownClass P (op.stepped s a).known.class
+stepped_class P s a each k g =
+    let c = op.class_of_one s.single a.known.class in
+    class_answered (IsKnownClass P) (op.kept_class s.is_kept c) (op.kept_type s.is_kept s.of) (op.single_typed s.single a.typed)
+    (kept_class_is (IsKnownClass P) s.is_kept c k (class_of_one_known P s.single each a.known.class g))
+
+joined_class : (P : Literal → Type 0) (o : Operation) (a b : Answer) → ((l m : Literal) → IsGood l → IsGood m → MayBe P (op.joint_value o.joint l m)) → o.is_kept ≡ true →
+    IsKnownClass IsGood a.known.class → IsKnownClass IsGood b.known.class → IsKnownClass P (op.joined o a b).known.class
+joined_class P o a b each k g h =
+    let c = op.class_of o.joint a.known.class b.known.class in
+    class_answered (IsKnownClass P) (op.kept_class o.is_kept c) (op.kept_type o.is_kept o.of) (op.joint_typed o.joint a.typed b.typed)
+    (kept_class_is (IsKnownClass P) o.is_kept c k (class_of_known P o.joint each a.known.class b.known.class g h))
+
+and_true : (a b : Bool) → a ≡ true → b ≡ true → (a && b) ≡ true
+and_true true b e f = f
+and_true false b e f = absurd (cc)
+
+known_class_on : (P Q : Literal → Type 0) → ((l : Literal) → P l → Q l) → (c : Class) → IsKnownClass P c → IsKnownClass Q c
+known_class_on P Q on (Constant (Some v)) h = on v h
+known_class_on P Q on (Constant None) h = tt
+known_class_on P Q on Unknown h = absurd h
+known_class_on P Q on Variable h = tt
+known_class_on P Q on ReadOnly h = tt
+known_class_on P Q on Computed h = tt
+
+module _ (p : Program) (W : Type 0) where
+  abbrev Part : Answer → Type 0
+  Part = IsPart p W
+
+  -- Operators.
+
+  step_part : (f : Option TypeId → Step) → IsStep p f → (first : Pos) (own : List Breach) (a : Answer) → (own ≡ [] → (f a.known.of).is_kept ≡ true) → Part a →
+      Holds Part (op.told first own (op.stepped (f a.known.of) a))
+  step_part f right first own a test x e =
+      let s = f a.known.of in
+      let k : s.is_kept ≡ true = test (none_left own (lost (op.stepped s a).known.class first) e) in
+      record {
+        class = stepped_class IsGood s a (single_good s.single) k x.class;
+        valued = test_is (not (is_lost (op.stepped s a).known.class)) 20 first (none_right own (lost (op.stepped s a).known.class first) e);
+        sound = λ w. stepped_sound p f right a (x.sound w) x.class k;
+      }
+
+  operation_part : (f : Option TypeId → Option TypeId → Operation) → IsOperation p f → (first : Pos) (own : List Breach) (a b : Answer) →
+      (own ≡ [] → (f a.known.of b.known.of).is_kept ≡ true) → Part a → Part b → Holds Part (op.told first own (op.joined (f a.known.of b.known.of) a b))
+  operation_part f right first own a b test x y e =
+      let o = f a.known.of b.known.of in
+      let k : o.is_kept ≡ true = test (none_left own (lost (op.joined o a b).known.class first) e) in
+      record {
+        class = joined_class IsGood o a b (joint_good o.joint) k x.class y.class;
+        valued = test_is (not (is_lost (op.joined o a b).known.class)) 20 first (none_right own (lost (op.joined o a b).known.class first) e);
+        sound = λ w. joined_sound p f right a b (x.sound w) (y.sound w) x.class y.class k;
+      }
+
+  pub added_part : (first at : Pos) (o : AddOp) (a b : Answer) → Part a → Part b → Holds Part (judge.added first at o a b)
+  added_part first at o a b = operation_part (op.added o) (added_operation p o) first (breach_unless (op.added o a.known.of b.known.of).is_kept 30 at) a b (test_is _ 30 at)
+
+  pub multiplied_part : (first at : Pos) (o : MulOp) (a b : Answer) → Part a → Part b → Holds Part (judge.multiplied first at o a b)
+  multiplied_part first at o a b = operation_part (op.multiplied o) (multiplied_operation p o) first (breach_unless (op.multiplied o a.known.of b.known.of).is_kept 30 at) a b (test_is _ 30 at)
+
+  tested_breaks : (of : Option TypeId) (at : Pos) → Holds Part (judge.tested of at)
+  tested_breaks None at = broken Part _ [] _
+  tested_breaks (Some t) at = broken Part _ [] _
+
+  pub related_part : (first at : Pos) (o : RelationOp) (a b : Answer) → Part a → Part b → Holds Part (judge.related_by first at o a b)
+  related_part first at o a b x y = by (judge.is_test o) refl
+    where
+      by : (w : Bool) → judge.is_test o ≡ w → Holds Part (if w then judge.tested a.known.of at else op.operands first at (op.related o a.known.of b.known.of) a b)
+      by true e = tested_breaks a.known.of at
+      by false e = operation_part (op.related o) (related_operation p o e) first (breach_unless (op.related o a.known.of b.known.of).is_kept 30 at) a b (test_is _ 30 at) x y
+
+  pub signed_part : (g : Option Sign) (at : Pos) (a : Answer) → Part a → Holds Part (judge.signed g at a)
+  signed_part None at a x = λ e. x
+  signed_part (Some g) at a x = step_part (op.signed g) (signed_step p g) at (breach_unless (op.signed g a.known.of).is_kept 30 at) a (test_is _ 30 at) x
+
+  pub opposite_part : (at : Pos) (a : Answer) → Part a → Holds Part (judge.opposite at a)
+  opposite_part at a x = step_part op.opposite (opposite_step p) at (breach_unless (op.opposite a.known.of).is_kept 30 at) a (test_is _ 30 at) x
+
+  -- Predeclared functions and conversions, of one argument and of two.
+
+  pub argument_part : (f : Option TypeId → Step) → IsStep p f → (at first : Pos) (a : Answer) → Part a → Holds Part (judge.one_argument at first (f a.known.of) a)
+  argument_part f right at first a x = step_part f right at (op.argument (f a.known.of).is_kept first) a (test_is _ 35 first) x
+
+  pub arguments_part : (at first second : Pos) (a b : Answer) → Part a → Part b → Holds Part (judge.two_arguments at first second a b)
+  arguments_part at first second a b = operation_part op.shifted (shifted_operation p) at (op.argument (is_number a.known.of) first ++ op.argument (is_number b.known.of) second) a b both
+    where
+      both : (op.argument (is_number a.known.of) first ++ op.argument (is_number b.known.of) second) ≡ [] → (op.shifted a.known.of b.known.of).is_kept ≡ true
+      both e =
+          let i = test_is (is_number a.known.of) 35 first (none_left (op.argument (is_number a.known.of) first) (op.argument (is_number b.known.of) second) e) in
+          let j = test_is (is_number b.known.of) 35 second (none_right (op.argument (is_number a.known.of) first) (op.argument (is_number b.known.of) second) e) in
+          and_true (is_number a.known.of) (is_number b.known.of) i j
+
+  -- Literals.
+
+  pub constant_part : (v : Literal) → IsGood v → Part (constant_answer v)
+  constant_part v g = record { class = g; valued = refl; sound = λ w. record { of = type_of_literal v; known = refl; basic = type_basic v; typed = g } }
+
+  pub number_part : (o : Option ℤ) → MayBe (IsWithin W64) o → (at : Pos) → Holds Part (judge.number o at)
+  number_part None h at = broken Part _ [] _
+  number_part (Some n) h at = λ e. constant_part (literal.Int n) (number_good n h)
+
+  pub character_part : (o : Option ℕ) → MayBe (λ c. c < 256) o → (at : Pos) → Holds Part (judge.character o at)
+  character_part None h at = broken Part _ [] _
+  character_part (Some c) h at = λ e. constant_part (literal.Char c) h
+
+  pub limit_part : (o : Option Literal) → MayBe IsGood o → (at : Pos) → Holds Part (judge.limit_value o at)
+  limit_part None h at = broken Part _ [] _
+  limit_part (Some v) h at = λ e. constant_part v h
+
+  -- Sets.
+
+  abbrev pub Elements : Answer → Type 0
+  Elements = AreElements p W
+
+  set_answered : (c : Class) (x : Expr) → IsKnownClass IsSet c → (W → IsOf p x type.Set) → Elements (answered c (Some set) x)
+  set_answered (Constant (Some v)) x g h = record { class = g; known = ap (λ t. Some t) (set_type v g); typed = λ w. g }
+  set_answered (Constant None) x g h = record { class = g; known = refl; typed = h }
+  set_answered Unknown x g h = absurd g
+  set_answered Variable x g h = record { class = g; known = refl; typed = h }
+  set_answered ReadOnly x g h = record { class = g; known = refl; typed = h }
+  set_answered Computed x g h = record { class = g; known = refl; typed = h }
+
+  pub no_elements : Elements op.no_elements
+  no_elements = record { class = omega arith; known = refl; typed = λ w. omega arith }
+
+  -- one element, and those from one to another
+  element_of : (x : Answer) → Part x → (op.one_element x.known.of).is_kept ≡ true → Elements (op.stepped (op.one_element x.known.of) x)
+  element_of x h k =
+      let c = class_of_one_known IsSet single.Element (λ a g. set_given (binary_of two.SetSpan (op.number a) (op.number a))) x.known.class h.class in
+      subst (λ b. Elements (answered (op.kept_class b (op.class_of_one single.Element x.known.class)) (op.kept_type b (Some set)) (Element x.typed))) (sym k)
+      (set_answered (op.class_of_one single.Element x.known.class) (Element x.typed) c (λ w. (sound_number p x (h.sound w) k, refl)))
+
+  span_of : (x y : Answer) → Part x → Part y → (op.span x.known.of y.known.of).is_kept ≡ true → Elements (op.joined (op.span x.known.of y.known.of) x y)
+  span_of x y g h k =
+      let j = joint.On two.SetSpan in
+      let c = class_of_known IsSet j (λ a b u v. set_given (binary_of two.SetSpan (op.number a) (op.number b))) x.known.class y.known.class g.class h.class in
+      let i = and_parts (is_number x.known.of) (is_number y.known.of) k in
+      subst (λ b. Elements (answered (op.kept_class b (op.class_of j x.known.class y.known.class)) (op.kept_type b (Some set)) (Binary two.SetSpan x.typed y.typed))) (sym k)
+      (set_answered (op.class_of j x.known.class y.known.class) (Binary two.SetSpan x.typed y.typed) c (λ w. ((sound_number p x (g.sound w) i.0, sound_number p y (h.sound w) i.1), refl)))
+
+  union_of : (a x : Answer) → Elements a → Elements x → Elements (op.joined op.union a x)
+  union_of a x g h =
+      let j = joint.On two.Union in
+      let c =
+      class_of_known IsSet j (λ a b u v. set_given (binary_of two.Union (op.number a) (op.number b))) a.known.class x.known.class
+      (known_class_on IsSet IsGood set_good a.known.class g.class) (known_class_on IsSet IsGood set_good x.known.class h.class) in
+      set_answered (op.class_of j a.known.class x.known.class) (Binary two.Union a.typed x.typed) c (λ w. ((g.typed w, h.typed w), refl))
+
+  pub with_element_part : (at : Pos) (a x : Answer) → Elements a → Part x → Holds Elements (judge.with_element at a x)
+  with_element_part at a x g h e = union_of a (op.stepped (op.one_element x.known.of) x) g (element_of x h (test_is (op.one_element x.known.of).is_kept 30 at e))
+
+  pub with_span_part : (at : Pos) (a x y : Answer) → Elements a → Part x → Part y → Holds Elements (judge.with_span at a x y)
+  with_span_part at a x y g h k e = union_of a (op.joined (op.span x.known.of y.known.of) x y) g (span_of x y h k (test_is (op.span x.known.of y.known.of).is_kept 30 at e))
+
+  pub whole_part : (at : Pos) (a : Answer) → Elements a → Holds Part (judge.whole_set at a)
+  whole_part at a h e = record {
+    class = known_class_on IsSet IsGood set_good a.known.class h.class;
+    valued = test_is (not (is_lost a.known.class)) 20 at e;
+    sound = λ w. record { of = set; known = h.known; basic = refl; typed = h.typed w };
+  }

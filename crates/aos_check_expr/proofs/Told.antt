@@ -1,0 +1,17 @@
+-- What calls told of parts, told of the whole.
+use Rattle.std.proofs.Common.{◌≡◌, Option, sym, ap, ◌∙◌}
+use Rattle.aos_symbols.specs.declared.breach.Breach.{Breach}
+use Rattle.aos_symbols.specs.Breaches.{first_after}
+use Rattle.aos_symbols.specs.Judged.{Judged, bind}
+use Rattle.aos_symbols.proofs.Keeping.{after_more}
+
+module _ {A B : Type 0} (whole : Judged B) (j : Judged A) (f : A → Judged B) (v : A) (is : whole ≡ bind j f) (e : v ≡ j.answer) where
+  pub noted : (met mid : Option Breach) → mid ≡ first_after met j.breaches → first_after mid (f v).breaches ≡ first_after met whole.breaches
+  noted met mid m =
+      ap (λ z. first_after z (f v).breaches) m
+      ∙ ap (λ w. first_after (first_after met j.breaches) (f w).breaches) e
+      ∙ sym (after_more met j.breaches (f j.answer).breaches)
+      ∙ ap (λ z. first_after met z.breaches) (sym is)
+
+  pub answer : (f v).answer ≡ whole.answer
+  answer = ap (λ w. (f w).answer) e ∙ ap (λ z. z.answer) (sym is)

@@ -1,0 +1,242 @@
+-- Types that include others: what is of a type is of each that includes it.
+use Rattle.std.proofs.Common.{◌≡◌, ℕ, zero, suc, ◌-◌, ◌≤◌, ◌<◌, ℤ, Bool, true, false, ◌&&◌, nat_le, refl, sym, ap, subst, eqb-true, eq-eqb, ltb-true, ltb-false, le-leb, leb-true, arith, if◌then◌else◌}
+use Rattle.std.proofs.lemmas.Int.{ints}
+use Rattle.aos_base.specs.declared.number.Width.{Width}
+use Rattle.aos_base.specs.declared.number.Width.TheVariants.{W8, W16, W32, W64}
+use Rattle.aos_base.specs.declared.operator.Unary.{Unary as UnaryOperator}
+use Rattle.aos_base.specs.declared.operator.Unary.TheVariants as one
+use Rattle.aos_base.specs.declared.operator.Binary.{Binary as BinaryOperator}
+use Rattle.aos_base.specs.declared.operator.Binary.TheVariants as two
+use Rattle.aos_base.specs.Number.{greatest, IsWithin}
+use Rattle.aos_types.specs.declared.row.TypeId.{TypeId}
+use Rattle.aos_typed.specs.declared.tree.Literal.{Literal}
+use Rattle.aos_typed.specs.declared.tree.Literal.TheVariants as literal
+use Rattle.aos_typed.specs.declared.tree.TType.{TType}
+use Rattle.aos_typed.specs.declared.tree.TType.TheVariants as type
+use Rattle.aos_typed.specs.Program.{Expr, Lit, Read, Unary, Binary, And, Or, Element, Ord, Chr, Program}
+use Rattle.aos_typed.specs.WellTyped.{bits, Includes, IsLiteral, HasRange, Gives, GivesOfTwo, IsOf}
+use Rattle.aos_symbols.specs.Env.{shortint, integer, longint, hugeint, boolean, char, set}
+use Rattle.aos_check_expr.specs.Known.{is_integer, is_basic, is, fits_type, width_of_type, type_as}
+
+-- Integer types.
+
+greatest_wider : (v w : Width) → Includes (type.Integer v) (type.Integer w) → greatest w ≤ greatest v
+greatest_wider W8 W8 i = omega arith
+greatest_wider W8 W16 i = absurd (cc)
+greatest_wider W8 W32 i = absurd (cc)
+greatest_wider W8 W64 i = absurd (cc)
+greatest_wider W16 W8 i = omega arith
+greatest_wider W16 W16 i = omega arith
+greatest_wider W16 W32 i = absurd (cc)
+greatest_wider W16 W64 i = absurd (cc)
+greatest_wider W32 W8 i = omega arith
+greatest_wider W32 W16 i = omega arith
+greatest_wider W32 W32 i = omega arith
+greatest_wider W32 W64 i = absurd (cc)
+greatest_wider W64 W8 i = omega arith
+greatest_wider W64 W16 i = omega arith
+greatest_wider W64 W32 i = omega arith
+greatest_wider W64 W64 i = omega arith
+
+pub within_wider : (v w : Width) (z : ℤ) → Includes (type.Integer v) (type.Integer w) → IsWithin w z → IsWithin v z
+within_wider v w z i h = let le = greatest_wider v w i in record { low = omega (arith, ints, h.low); high = omega (arith, ints, h.high) }
+
+pub most_includes : (w : Width) → Includes (type.Integer W64) (type.Integer w)
+most_includes W8 = refl
+most_includes W16 = refl
+most_includes W32 = refl
+most_includes W64 = refl
+
+-- Each type includes itself, and what those include that it includes.
+
+pub includes_itself : (t : TType) → Includes t t
+includes_itself (type.Integer W8) = refl
+includes_itself (type.Integer W16) = refl
+includes_itself (type.Integer W32) = refl
+includes_itself (type.Integer W64) = refl
+includes_itself type.Boolean = refl
+includes_itself type.Char = refl
+includes_itself type.Set = refl
+includes_itself (type.Object o) = eq-eqb o o refl
+
+includes_boolean : (u : TType) → Includes u type.Boolean → u ≡ type.Boolean
+includes_boolean type.Boolean i = refl
+includes_boolean (type.Integer w) i = cc
+includes_boolean type.Char i = cc
+includes_boolean type.Set i = cc
+includes_boolean (type.Object o) i = cc
+
+includes_char : (u : TType) → Includes u type.Char → u ≡ type.Char
+includes_char type.Char i = refl
+includes_char (type.Integer w) i = cc
+includes_char type.Boolean i = cc
+includes_char type.Set i = cc
+includes_char (type.Object o) i = cc
+
+includes_set : (u : TType) → Includes u type.Set → u ≡ type.Set
+includes_set type.Set i = refl
+includes_set (type.Integer w) i = cc
+includes_set type.Boolean i = cc
+includes_set type.Char i = cc
+includes_set (type.Object o) i = cc
+
+includes_object : (u : TType) (o : ℕ) → Includes u (type.Object o) → u ≡ type.Object o
+includes_object (type.Object q) o i = ap (λ n. type.Object n) (eqb-true q o i)
+includes_object type.Boolean o i = cc
+includes_object (type.Integer w) o i = cc
+includes_object type.Char o i = cc
+includes_object type.Set o i = cc
+
+-- a type that includes an integer type is one
+integer_in : (P : TType → Type 0) (w : Width) → ((v : Width) → Includes (type.Integer v) (type.Integer w) → P (type.Integer v)) →
+    (u : TType) → Includes u (type.Integer w) → P u
+integer_in P w each (type.Integer v) i = each v i
+integer_in P w each type.Boolean i = absurd (cc)
+integer_in P w each type.Char i = absurd (cc)
+integer_in P w each type.Set i = absurd (cc)
+integer_in P w each (type.Object o) i = absurd (cc)
+
+pub includes_on : (u t s : TType) → Includes u t → Includes t s → Includes u s
+includes_on u t (type.Integer w) i j =
+    integer_in (λ t. Includes u t → Includes u (type.Integer w)) w
+    (λ v vw i. integer_in (λ u. Includes u (type.Integer w)) v (λ x xv. widths x v w xv vw) u i) t j i
+  where
+    widths : (x v w : Width) → Includes (type.Integer x) (type.Integer v) → Includes (type.Integer v) (type.Integer w) → Includes (type.Integer x) (type.Integer w)
+    widths x v w xv vw = le-leb (bits w) (bits x) (omega (arith, leb-true (bits v) (bits x) xv, leb-true (bits w) (bits v) vw))
+includes_on u t type.Boolean i j = subst (Includes u) (includes_boolean t j) i
+includes_on u t type.Char i j = subst (Includes u) (includes_char t j) i
+includes_on u t type.Set i j = subst (Includes u) (includes_set t j) i
+includes_on u t (type.Object o) i j = subst (Includes u) (includes_object t o j) i
+
+-- Literals and expressions.
+
+literal_wider : (l : Literal) (t u : TType) → Includes u t → IsLiteral l t → IsLiteral l u
+literal_wider (literal.Int n) (type.Integer w) u i h = integer_in (λ u. IsLiteral (literal.Int n) u) w (λ v vw. within_wider v w n vw h) u i
+literal_wider (literal.Int n) type.Boolean u i h = absurd h
+literal_wider (literal.Int n) type.Char u i h = absurd h
+literal_wider (literal.Int n) type.Set u i h = absurd h
+literal_wider (literal.Int n) (type.Object o) u i h = absurd h
+literal_wider (literal.Bool b) (type.Integer w) u i h = absurd h
+literal_wider (literal.Bool b) type.Boolean u i h = subst (λ u. IsLiteral (literal.Bool b) u) (sym (includes_boolean u i)) h
+literal_wider (literal.Bool b) type.Char u i h = absurd h
+literal_wider (literal.Bool b) type.Set u i h = absurd h
+literal_wider (literal.Bool b) (type.Object o) u i h = absurd h
+literal_wider (literal.Char c) (type.Integer w) u i h = absurd h
+literal_wider (literal.Char c) type.Boolean u i h = absurd h
+literal_wider (literal.Char c) type.Char u i h = subst (λ u. IsLiteral (literal.Char c) u) (sym (includes_char u i)) h
+literal_wider (literal.Char c) type.Set u i h = absurd h
+literal_wider (literal.Char c) (type.Object o) u i h = absurd h
+literal_wider (literal.Set s) (type.Integer w) u i h = absurd h
+literal_wider (literal.Set s) type.Boolean u i h = absurd h
+literal_wider (literal.Set s) type.Char u i h = absurd h
+literal_wider (literal.Set s) type.Set u i h = subst (λ u. IsLiteral (literal.Set s) u) (sym (includes_set u i)) h
+literal_wider (literal.Set s) (type.Object o) u i h = absurd h
+
+range_wider : (low high : ℤ) (t u : TType) → Includes u t → HasRange t low high → HasRange u low high
+range_wider low high (type.Integer w) u i h = integer_in (λ u. HasRange u low high) w (λ v vw. (within_wider v w low vw h.0, within_wider v w high vw h.1)) u i
+range_wider low high type.Boolean u i h = absurd h
+range_wider low high type.Char u i h = absurd h
+range_wider low high type.Set u i h = absurd h
+range_wider low high (type.Object o) u i h = absurd h
+
+boolean_wider : (t u : TType) → Includes u t → t ≡ type.Boolean → u ≡ type.Boolean
+boolean_wider t u i e = includes_boolean u (subst (Includes u) e i)
+
+char_wider : (t u : TType) → Includes u t → t ≡ type.Char → u ≡ type.Char
+char_wider t u i e = includes_char u (subst (Includes u) e i)
+
+set_wider : (t u : TType) → Includes u t → t ≡ type.Set → u ≡ type.Set
+set_wider t u i e = includes_set u (subst (Includes u) e i)
+
+gives_wider : (op : UnaryOperator) (t u : TType) → Includes u t → Gives op t → Gives op u
+gives_wider (one.Neg w) t u i g = includes_on u t (type.Integer w) i g
+gives_wider (one.Abs w) t u i g = includes_on u t (type.Integer w) i g
+gives_wider one.Not t u i g = boolean_wider t u i g
+gives_wider one.Odd t u i g = boolean_wider t u i g
+gives_wider one.Cap t u i g = char_wider t u i g
+gives_wider one.Compl t u i g = set_wider t u i g
+gives_wider (one.Range low high) t u i g = range_wider low high t u i g
+
+gives_of_two_wider : (op : BinaryOperator) (t u : TType) → Includes u t → GivesOfTwo op t → GivesOfTwo op u
+gives_of_two_wider (two.Add w) t u i g = includes_on u t (type.Integer w) i g
+gives_of_two_wider (two.Sub w) t u i g = includes_on u t (type.Integer w) i g
+gives_of_two_wider (two.Mul w) t u i g = includes_on u t (type.Integer w) i g
+gives_of_two_wider (two.Div w) t u i g = includes_on u t (type.Integer w) i g
+gives_of_two_wider (two.Mod w) t u i g = includes_on u t (type.Integer w) i g
+gives_of_two_wider (two.Ash w) t u i g = includes_on u t (type.Integer w) i g
+gives_of_two_wider (two.Cmp r) t u i g = boolean_wider t u i g
+gives_of_two_wider two.Union t u i g = set_wider t u i g
+gives_of_two_wider two.Minus t u i g = set_wider t u i g
+gives_of_two_wider two.Meet t u i g = set_wider t u i g
+gives_of_two_wider two.Xor t u i g = set_wider t u i g
+gives_of_two_wider two.SetSpan t u i g = set_wider t u i g
+gives_of_two_wider two.In t u i g = boolean_wider t u i g
+
+pub wider : (p : Program) (x : Expr) (t u : TType) → IsOf p x t → Includes u t → IsOf p x u
+wider p (Lit l) t u h i = literal_wider l t u i h
+wider p (Read of place) t u h i = (h.0, includes_on u t of i h.1)
+wider p (Unary op a) t u h i = (h.0, gives_wider op t u i h.1)
+wider p (Binary op a b) t u h i = (h.0, gives_of_two_wider op t u i h.1)
+wider p (And a b) t u h i = (h.0, h.1, boolean_wider t u i h.2)
+wider p (Or a b) t u h i = (h.0, h.1, boolean_wider t u i h.2)
+wider p (Element a) t u h i = (h.0, set_wider t u i h.1)
+wider p (Ord a) t u h i = (h.0, includes_on u t (type.Integer W16) i h.1)
+wider p (Chr a) t u h i = (h.0, char_wider t u i h.1)
+
+-- The types of the table.
+
+pub same_type : (t u : TypeId) → is t u ≡ true → t ≡ u
+same_type t u e = ap (λ (n : ℕ). record { 0 = n }) (eqb-true t.0 u.0 e)
+
+-- an integer type is one of four
+pub integer_cases : (P : TypeId → Type 0) → P shortint → P integer → P longint → P hugeint → (t : TypeId) → is_integer t ≡ true → P t
+integer_cases P a b c d t h = by t.0 refl
+  where
+    by : (n : ℕ) → n ≡ t.0 → P t
+    by zero e = subst P (same_type shortint t (eq-eqb 0 t.0 e)) a
+    by (suc zero) e = subst P (same_type integer t (eq-eqb 1 t.0 e)) b
+    by (suc (suc zero)) e = subst P (same_type longint t (eq-eqb 2 t.0 e)) c
+    by (suc (suc (suc zero))) e = subst P (same_type hugeint t (eq-eqb 3 t.0 e)) d
+    by (suc (suc (suc (suc n)))) e = absurd (let below : t.0 < 4 = ltb-true t.0 4 h in omega arith)
+
+-- a basic type is one of seven
+pub basic_cases : (P : TypeId → Type 0) → ((t : TypeId) → is_integer t ≡ true → P t) → P boolean → P char → P set → (t : TypeId) → is_basic t ≡ true → P t
+basic_cases P each a b c t h = by (is_integer t) refl
+  where
+    above : 4 ≤ t.0 → (n : ℕ) → n ≡ t.0 - 4 → P t
+    above from zero e = subst P (same_type boolean t (eq-eqb 4 t.0 (omega arith))) a
+    above from (suc zero) e = subst P (same_type char t (eq-eqb 5 t.0 (omega arith))) b
+    above from (suc (suc zero)) e = subst P (same_type set t (eq-eqb 6 t.0 (omega arith))) c
+    above from (suc (suc (suc n))) e = absurd (let below : t.0 < 7 = ltb-true t.0 7 h in omega arith)
+
+    by : (w : Bool) → is_integer t ≡ w → P t
+    by true e = each t e
+    by false e = above (ltb-false t.0 4 e) (t.0 - 4) refl
+
+pub integer_basic : (t : TypeId) → is_integer t ≡ true → is_basic t ≡ true
+integer_basic = integer_cases (λ t. is_basic t ≡ true) refl refl refl refl
+
+pub as_integer : (t : TypeId) → is_integer t ≡ true → type_as t ≡ type.Integer (width_of_type t)
+as_integer = integer_cases (λ t. type_as t ≡ type.Integer (width_of_type t)) refl refl refl refl
+
+-- an integer type includes those before it
+pub order_includes : (t u : TypeId) → is_integer t ≡ true → is_integer u ≡ true → t.0 ≤ u.0 → Includes (type_as u) (type_as t)
+order_includes t u ht hu =
+    integer_cases (λ t. t.0 ≤ u.0 → Includes (type_as u) (type_as t))
+    (integer_cases (λ u. 0 ≤ u.0 → Includes (type_as u) (type_as shortint)) (λ h. refl) (λ h. refl) (λ h. refl) (λ h. refl) u hu)
+    (integer_cases (λ u. 1 ≤ u.0 → Includes (type_as u) (type_as integer)) (λ h. absurd (omega arith)) (λ h. refl) (λ h. refl) (λ h. refl) u hu)
+    (integer_cases (λ u. 2 ≤ u.0 → Includes (type_as u) (type_as longint)) (λ h. absurd (omega arith)) (λ h. absurd (omega arith)) (λ h. refl) (λ h. refl) u hu)
+    (integer_cases (λ u. 3 ≤ u.0 → Includes (type_as u) (type_as hugeint)) (λ h. absurd (omega arith)) (λ h. absurd (omega arith)) (λ h. absurd (omega arith)) (λ h. refl) u hu)
+    t ht
+
+-- a type that another fits is one that it includes
+pub fits_includes : (t u : TypeId) → fits_type t u ≡ true → Includes (type_as u) (type_as t)
+fits_includes t u h = by (is_integer t) (is_integer u) refl refl h
+  where
+    same : is t u ≡ true → Includes (type_as u) (type_as t)
+    same e = subst (λ u. Includes (type_as u) (type_as t)) (same_type t u e) (includes_itself (type_as t))
+
+    by : (a b : Bool) → is_integer t ≡ a → is_integer u ≡ b → (if a && b then nat_le t.0 u.0 else is t u) ≡ true → Includes (type_as u) (type_as t)
+    by true true p q e = order_includes t u p q (leb-true t.0 u.0 e)
+    by true false p q e = same e
+    by false b p q e = same e

@@ -1,0 +1,175 @@
+-- Numbers, the forms of a factor and of a selector that stand in a row or a box, spans, and calls with two arguments.
+use Rattle.std.proofs.Common.{◌≡◌, List, map, IfOk, OnOk, refl, sym, ap, ◌∙◌, subst, w64, to_z, of_z, to_z-of_z, arith}
+use Rattle.aos_base.specs.declared.number.Width.TheVariants.{W64}
+use Rattle.aos_base.specs.Number.{if_within}
+use Rattle.aos_tree.specs.declared.expr.Expr.{Expr, out-Expr}
+use Rattle.aos_tree.specs.declared.expr.Elem.{out-Elem}
+use Rattle.aos_symbols.specs.Breaches.{first_after}
+use Rattle.aos_symbols.specs.Judged.{Judged, kept, bind, walk}
+use Rattle.aos_check_expr.specs.Known.{Answer}
+use Rattle.aos_check_expr.specs.Operations.{no_elements}
+use Rattle.aos_check_expr.specs.Designators.{read, spotted}
+use Rattle.aos_check_expr.specs.Expressions as judge
+use Rattle.aos_check_expr.specs.Seen.{seen_answer, seen_spot}
+use Rattle.aos_check_expr.proofs.Rows.{two_items, factor_desig, factor_set, factor_not, element_as, element_is, selector_paren}
+use Rattle.aos_check_expr.proofs.Told as told
+use Rattle.aos_check_expr.proofs.expressions.+exprs.Goals as goal
+
+pub factor-returns-in-Number-clause-answer : goal.factor-returns-in-Number-clause-answer
+factor-returns-in-Number-clause-answer t c =
+    let n = c.in-Number.n in
+    let same : to_z w64 (of_z w64 n) ≡ n = grind (arith, to_z-of_z) in
+    ap (λ (j : Judged Answer). j.answer) (c.number.ensures c.in-Number.field-0)
+    ∙ ap (λ z. (judge.number (if_within W64 z) c.in-Number.field-0).answer) same
+    ∙ ap (λ x. (judge.factor c.args.env.now x).answer) (sym c.in-Number.is)
+
+pub factor-returns-in_ok-spot-in-Desig-clause-noted : goal.factor-returns-in_ok-spot-in-Desig-clause-noted
+factor-returns-in_ok-spot-in-Desig-clause-noted t c =
+    let env = c.args.env.now in
+    let w = c.in-Desig in
+    let is = factor_desig env c.args.part.now w.desig w.is in
+    let one = c.in_ok-spot-in-Desig in
+    c.read.ensures.noted
+    ∙ told.noted (judge.factor env c.args.part.now) (judge.designator env w.desig) read (seen_spot one.spot) is one.ensures.answer
+    c.args.found.now c.designator.new.found one.ensures.noted
+
+pub factor-returns-in_ok-spot-in-Desig-clause-answer : goal.factor-returns-in_ok-spot-in-Desig-clause-answer
+factor-returns-in_ok-spot-in-Desig-clause-answer t c =
+    let env = c.args.env.now in
+    let w = c.in-Desig in
+    let is = factor_desig env c.args.part.now w.desig w.is in
+    let one = c.in_ok-spot-in-Desig in
+    c.read.ensures.answer ∙ told.answer (judge.factor env c.args.part.now) (judge.designator env w.desig) read (seen_spot one.spot) is one.ensures.answer
+
+pub factor-returns-in_ok-set-in-Set-clause-noted : goal.factor-returns-in_ok-set-in-Set-clause-noted
+factor-returns-in_ok-set-in-Set-clause-noted t c =
+    let env = c.args.env.now in
+    let w = c.in-Set in
+    let is = factor_set env c.args.part.now w.at w.all w.is in
+    let same = ap (λ xs. walk (judge.element env w.at) no_elements xs) c.as_slice.ensures in
+    let one = c.in_ok-set-in-Set in
+    c.whole_set.ensures.noted
+    ∙ told.noted (judge.factor env c.args.part.now) (walk (judge.element env w.at) no_elements w.all) (judge.whole_set w.at) (seen_answer one.set) is
+    (one.ensures.answer ∙ ap (λ z. z.answer) same) c.args.found.now c.elements.new.found
+    (one.ensures.noted ∙ ap (λ z. first_after c.args.found.now z.breaches) same)
+
+pub factor-returns-in_ok-set-in-Set-clause-answer : goal.factor-returns-in_ok-set-in-Set-clause-answer
+factor-returns-in_ok-set-in-Set-clause-answer t c =
+    let env = c.args.env.now in
+    let w = c.in-Set in
+    let is = factor_set env c.args.part.now w.at w.all w.is in
+    let same = ap (λ xs. walk (judge.element env w.at) no_elements xs) c.as_slice.ensures in
+    let one = c.in_ok-set-in-Set in
+    c.whole_set.ensures.answer
+    ∙ told.answer (judge.factor env c.args.part.now) (walk (judge.element env w.at) no_elements w.all) (judge.whole_set w.at) (seen_answer one.set) is
+    (one.ensures.answer ∙ ap (λ z. z.answer) same)
+
+pub factor-returns-in_ok-inner-in-Not-clause-noted : goal.factor-returns-in_ok-inner-in-Not-clause-noted
+factor-returns-in_ok-inner-in-Not-clause-noted t c =
+    let env = c.args.env.now in
+    let w = c.in-Not in
+    let is = factor_not env c.args.part.now w.at w.inner w.is in
+    let same = ap (λ x. judge.factor env x) c.get-in-Not.ensures in
+    let one = c.in_ok-inner-in-Not in
+    subst (λ z. OnOk c.opposite.result (c.opposite.new.found ≡ z))
+    (told.noted (judge.factor env c.args.part.now) (judge.factor env w.inner) (judge.opposite w.at) (seen_answer one.inner) is
+    (one.ensures.answer ∙ ap (λ z. z.answer) same) c.args.found.now c.factor.new.found
+    (one.ensures.noted ∙ ap (λ z. first_after c.args.found.now z.breaches) same))
+    c.opposite.ensures.noted
+
+pub factor-returns-in_ok-inner-in-Not-clause-answer : goal.factor-returns-in_ok-inner-in-Not-clause-answer
+factor-returns-in_ok-inner-in-Not-clause-answer t c =
+    let env = c.args.env.now in
+    let w = c.in-Not in
+    let is = factor_not env c.args.part.now w.at w.inner w.is in
+    let same = ap (λ x. judge.factor env x) c.get-in-Not.ensures in
+    let one = c.in_ok-inner-in-Not in
+    subst (λ z. IfOk c.opposite.result (λ r. seen_answer r ≡ z))
+    (told.answer (judge.factor env c.args.part.now) (judge.factor env w.inner) (judge.opposite w.at) (seen_answer one.inner) is
+    (one.ensures.answer ∙ ap (λ z. z.answer) same))
+    c.opposite.ensures.answer
+
+pub element-returns-in_ok-last-in-Some-clause-noted : goal.element-returns-in_ok-last-in-Some-clause-noted
+element-returns-in_ok-last-in-Some-clause-noted t c =
+    let env = c.args.env.now in
+    let at = c.args.at in
+    let set = seen_answer c.args.set in
+    let x = (out-Elem c.args.part.now).first in
+    let y = c.in-Some.last in
+    let low = c.in_ok-first in
+    let high = c.in_ok-last-in-Some in
+    let is = element_is env at set c.args.part.now ∙ ap (λ l. element_as env at set x l) c.in-Some.is in
+    let span = judge.with_span at set in
+    let behind = λ (a : Answer). bind (judge.expr env y) (span a) in
+    subst (λ z. OnOk c.with_span.result (c.with_span.new.found ≡ z))
+    (told.noted (behind (seen_answer low.first)) (judge.expr env y) (span (seen_answer low.first)) (seen_answer high.last) refl high.ensures.answer
+    c.expr.new.found c.expr-in-Some.new.found high.ensures.noted
+    ∙ told.noted (judge.element env at set c.args.part.now) (judge.expr env x) behind (seen_answer low.first) is low.ensures.answer
+    c.args.found.now c.expr.new.found low.ensures.noted)
+    c.with_span.ensures.noted
+
+pub from_head-returns-in_ok-value-in-Paren-clause-noted : goal.from_head-returns-in_ok-value-in-Paren-clause-noted
+from_head-returns-in_ok-value-in-Paren-clause-noted t c =
+    let env = c.args.env.now in
+    let h = c.args.head in
+    let w = c.in-Paren in
+    let more = c.in-Some.more.now in
+    let called = λ (xs : List Expr). judge.called env h w.at (map (judge.expr env) xs) xs in
+    let ended = λ (a : Answer). spotted h.first (judge.ended h.first (kept a) more) in
+    let is = ap (λ xs. judge.from_head env h xs) c.in-Some.ensures.cases.0 ∙ selector_paren env h c.in-Some.selector.now w.at w.arguments more w.is in
+    let same = ap called c.as_slice.ensures in
+    let one = c.in_ok-value-in-Paren in
+    c.spot_ended.ensures.noted
+    ∙ told.noted (judge.from_head env h c.args.selectors.now) (called w.arguments) ended (seen_answer one.value) is
+    (one.ensures.answer ∙ ap (λ z. z.answer) same) c.args.found.now c.called.new.found
+    (one.ensures.noted ∙ ap (λ z. first_after c.args.found.now z.breaches) same)
+
+pub from_head-returns-in_ok-value-in-Paren-clause-answer : goal.from_head-returns-in_ok-value-in-Paren-clause-answer
+from_head-returns-in_ok-value-in-Paren-clause-answer t c =
+    let env = c.args.env.now in
+    let h = c.args.head in
+    let w = c.in-Paren in
+    let more = c.in-Some.more.now in
+    let called = λ (xs : List Expr). judge.called env h w.at (map (judge.expr env) xs) xs in
+    let ended = λ (a : Answer). spotted h.first (judge.ended h.first (kept a) more) in
+    let is = ap (λ xs. judge.from_head env h xs) c.in-Some.ensures.cases.0 ∙ selector_paren env h c.in-Some.selector.now w.at w.arguments more w.is in
+    let same = ap called c.as_slice.ensures in
+    let one = c.in_ok-value-in-Paren in
+    c.spot_ended.ensures.answer
+    ∙ told.answer (judge.from_head env h c.args.selectors.now) (called w.arguments) ended (seen_answer one.value) is
+    (one.ensures.answer ∙ ap (λ z. z.answer) same)
+
+pub shifted-returns-in_ok-by-in-len2-clause-noted : goal.shifted-returns-in_ok-by-in-len2-clause-noted
+shifted-returns-in_ok-by-in-len2-clause-noted t c =
+    let env = c.args.env.now in
+    let x = c.value-item.result in
+    let y = c.places-item.result in
+    let all = two_items c.args.arguments.now x y _ _ c.in-len2.len_at_least c.in-len2.len_below c.value-item.is c.places-item.is in
+    let of = judge.two_arguments c.args.first (out-Expr x).pos (out-Expr y).pos in
+    let behind = λ (a : Answer). bind (judge.expr env y) (of a) in
+    let whole = judge.two_of c.args.first (map (judge.expr env) c.args.arguments.now) c.args.arguments.now in
+    let is = ap (λ xs. judge.two_of c.args.first (map (judge.expr env) xs) xs) all in
+    let one = c.in_ok-shifted-in-len2 in
+    let two = c.in_ok-by-in-len2 in
+    subst (λ z. OnOk c.value_of_two.result (c.value_of_two.new.found ≡ z))
+    (told.noted (behind (seen_answer one.shifted)) (judge.expr env y) (of (seen_answer one.shifted)) (seen_answer two.by) refl two.ensures.answer
+    c.expr.new.found c.expr-in-len2.new.found two.ensures.noted
+    ∙ told.noted whole (judge.expr env x) behind (seen_answer one.shifted) is one.ensures.answer c.args.found.now c.expr.new.found one.ensures.noted)
+    c.value_of_two.ensures.noted
+
+pub shifted-returns-in_ok-by-in-len2-clause-answer : goal.shifted-returns-in_ok-by-in-len2-clause-answer
+shifted-returns-in_ok-by-in-len2-clause-answer t c =
+    let env = c.args.env.now in
+    let x = c.value-item.result in
+    let y = c.places-item.result in
+    let all = two_items c.args.arguments.now x y _ _ c.in-len2.len_at_least c.in-len2.len_below c.value-item.is c.places-item.is in
+    let of = judge.two_arguments c.args.first (out-Expr x).pos (out-Expr y).pos in
+    let behind = λ (a : Answer). bind (judge.expr env y) (of a) in
+    let whole = judge.two_of c.args.first (map (judge.expr env) c.args.arguments.now) c.args.arguments.now in
+    let is = ap (λ xs. judge.two_of c.args.first (map (judge.expr env) xs) xs) all in
+    let one = c.in_ok-shifted-in-len2 in
+    let two = c.in_ok-by-in-len2 in
+    subst (λ z. IfOk c.value_of_two.result (λ r. seen_answer r ≡ z))
+    (told.answer (behind (seen_answer one.shifted)) (judge.expr env y) (of (seen_answer one.shifted)) (seen_answer two.by) refl two.ensures.answer
+    ∙ told.answer whole (judge.expr env x) behind (seen_answer one.shifted) is one.ensures.answer)
+    c.value_of_two.ensures.answer

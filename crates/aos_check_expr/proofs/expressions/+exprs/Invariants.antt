@@ -1,0 +1,26 @@
+-- What was noted and found so far, and what the rest leads to, is what the whole leads to.
+use Rattle.std.proofs.Common.{◌≡◌, drop}
+use Rattle.aos_symbols.specs.Breaches.{first_after}
+use Rattle.aos_symbols.specs.Judged.{walk}
+use Rattle.aos_check_expr.specs.Operations.{no_elements}
+use Rattle.aos_check_expr.specs.Seen.{seen_answer}
+use Rattle.aos_check_expr.specs.Expressions as judge
+use Rattle.aos_check_expr.proofs.expressions.+exprs.Given as goal
+
+abbrev pub invariant-additions-loop-part : goal.invariant-additions-loop-part
+invariant-additions-loop-part l = record {
+  noted : first_after l.found (walk (judge.addition l.env l.first) (seen_answer l.whole) (drop l.part-index l.rest)).breaches ≡ first_after l.initial.found (walk (judge.addition l.env l.first) (seen_answer l.initial.whole) l.rest).breaches;
+  answer : (walk (judge.addition l.env l.first) (seen_answer l.whole) (drop l.part-index l.rest)).answer ≡ (walk (judge.addition l.env l.first) (seen_answer l.initial.whole) l.rest).answer;
+}
+
+abbrev pub invariant-products-loop-part : goal.invariant-products-loop-part
+invariant-products-loop-part l = record {
+  noted : first_after l.found (walk (judge.product l.env l.first) (seen_answer l.whole) (drop l.part-index l.rest)).breaches ≡ first_after l.initial.found (walk (judge.product l.env l.first) (seen_answer l.initial.whole) l.rest).breaches;
+  answer : (walk (judge.product l.env l.first) (seen_answer l.whole) (drop l.part-index l.rest)).answer ≡ (walk (judge.product l.env l.first) (seen_answer l.initial.whole) l.rest).answer;
+}
+
+abbrev pub invariant-elements-loop-part : goal.invariant-elements-loop-part
+invariant-elements-loop-part l = record {
+  noted : first_after l.found (walk (judge.element l.env l.at) (seen_answer l.whole) (drop l.part-index l.all)).breaches ≡ first_after l.initial.found (walk (judge.element l.env l.at) no_elements l.all).breaches;
+  answer : (walk (judge.element l.env l.at) (seen_answer l.whole) (drop l.part-index l.all)).answer ≡ (walk (judge.element l.env l.at) no_elements l.all).answer;
+}

@@ -1,0 +1,316 @@
+// Calls: what is called, the arguments that are names of types, and the values of functions; and what stands behind a name.
+
+ghost use Rattle.std.specs.Prelude.{◌≡◌, OnOk, IfOk};
+ghost use Rattle.std.specs.Option.{option_copied};
+ghost use Rattle.aos_symbols.specs.Breaches.{first_after};
+ghost use Rattle.aos_symbols.specs.Judged.{bind, kept};
+ghost use Rattle.aos_check_expr.specs.Designators as designators;
+ghost use Rattle.aos_check_expr.specs.Expressions as judge;
+ghost use Rattle.aos_check_expr.specs.Seen.{seen_answer, seen_spot};
+
+use crate::designators::{Head, guarded, is_module, member, named, plain, refused, selected};
+use crate::known::{Answer, Spot, constant_answer, is_number, spot_of};
+use crate::operations::{self, Step};
+use aos_base::Pos;
+use aos_symbols::{
+    ARGUMENT_COUNT, ARGUMENT_TYPE, Breach, Env, Lookup, Meaning, NOT_BUILT, NOT_EXPORTED,
+    OTHER_KIND, UNKNOWN, WRONG_CALL,
+};
+use aos_tree::{Desig, Expr, Factor, Name, Selector};
+use aos_typed::Literal;
+use aos_types::TypeId;
+use std::alloc::{AllocError, Global};
+
+/// MAX, the greatest value of a type, or MIN, the least.
+#[derive(Clone, Copy)]
+pub enum Limit {
+    Greatest,
+    Least,
+}
+
+fn is_factor(part: &Expr) -> bool
+    ensures { result ≡ judge.is_factor part.now }
+{
+    part.right.is_none()
+        && part.left.sign.is_none()
+        && part.left.rest.as_slice().is_empty()
+        && part.left.first.rest.as_slice().is_empty()
+}
+
+fn desig_in(part: &Factor) -> Option<&Desig>
+    ensures { option_copied result ≡ judge.desig_in part.now }
+{
+    match part {
+        Factor::Desig(desig) => Some(desig),
+        _ => None,
+    }
+}
+
+/// The designator that an expression is, where it is one.
+pub fn desig_alone(part: &Expr) -> Option<&Desig>
+    ensures { option_copied result ≡ judge.desig_alone part.now }
+{
+    if is_factor(part) {
+        desig_in(&part.left.first.first)
+    } else {
+        None
+    }
+}
+
+/// The head of a name alone, or of a name behind that of a module.
+fn head_of(env: &Env<'_>, name: Name, selectors: &[Selector]) -> Option<Head>
+    ensures { result ≡ judge.head_of env.now name selectors.now }
+{
+    match selectors {
+        [] => Some(plain(env, name)),
+        [Selector::Field(_, own)] => {
+            if is_module(env.lookup(name)) {
+                Some(member(env, name, *own))
+            } else {
+                None
+            }
+        }
+        _ => None,
+    }
+}
+
+fn name_alone(env: &Env<'_>, part: &Expr) -> Option<Head>
+    ensures { result ≡ judge.name_alone env.now part.now }
+{
+    let desig = desig_alone(part)?;
+    head_of(env, desig.name, desig.selectors.as_slice())
+}
+
+fn is_type(head: Option<Head>) -> bool
+    ensures { result ≡ judge.is_type head }
+{
+    match head {
+        Some(head) => match head.found {
+            Lookup::Found(symbol) => matches!(symbol.means, Meaning::Type(_)),
+            _ => false,
+        },
+        None => false,
+    }
+}
+
+/// Whether the arguments are one, which is the name of a type.
+fn is_guard(env: &Env<'_>, arguments: &[Expr]) -> bool
+    ensures { result ≡ judge.is_guard env.now arguments.now }
+{
+    match arguments {
+        [argument] => is_type(name_alone(env, argument)),
+        _ => false,
+    }
+}
+
+fn limit_of(limit: Limit, of: TypeId) -> Option<Literal>
+    ensures { result ≡ judge.limit_in limit of }
+{
+    match limit {
+        Limit::Greatest => operations::greatest_value(of),
+        Limit::Least => operations::least_value(of),
+    }
+}
+
+fn limit_value(found: &mut Option<Breach>, value: Option<Literal>, at: Pos) -> Answer
+    ensures noted { found.new ≡ first_after found.old (judge.limit_value value at).breaches }
+    ensures answer { seen_answer result ≡ (judge.limit_value value at).answer }
+{
+    match value {
+        Some(value) => constant_answer(value),
+        None => refused(found, ARGUMENT_TYPE, at),
+    }
+}
+
+fn limit_meant(
+    found: &mut Option<Breach>,
+    limit: Limit,
+    means: Meaning,
+    at: Pos,
+    first: Pos,
+) -> Answer
+    ensures noted { found.new ≡ first_after found.old
+        (judge.limit_of (judge.limit_in limit) means at first).breaches }
+    ensures answer { seen_answer result ≡
+        (judge.limit_of (judge.limit_in limit) means at first).answer }
+{
+    match means {
+        Meaning::Type(Some(of)) => limit_value(found, limit_of(limit, of), first),
+        Meaning::Type(None) => refused(found, NOT_BUILT, at),
+        _ => refused(found, OTHER_KIND, at),
+    }
+}
+
+fn limit_named(found: &mut Option<Breach>, limit: Limit, head: Option<Head>, first: Pos) -> Answer
+    ensures noted { found.new ≡ first_after found.old
+        (judge.limit_named (judge.limit_in limit) head first).breaches }
+    ensures answer { seen_answer result ≡
+        (judge.limit_named (judge.limit_in limit) head first).answer }
+{
+    let Some(head) = head else {
+        return refused(found, ARGUMENT_TYPE, first);
+    };
+    match head.found {
+        Lookup::Unknown => refused(found, UNKNOWN, head.at),
+        Lookup::NotExported => refused(found, NOT_EXPORTED, head.at),
+        Lookup::Found(symbol) => limit_meant(found, limit, symbol.means, head.at, head.first),
+    }
+}
+
+/// MAX or MIN of these arguments, in a call that begins here.
+pub fn limit_called(
+    found: &mut Option<Breach>,
+    env: &Env<'_>,
+    which: Limit,
+    arguments: &[Expr],
+    at: Pos,
+) -> Answer
+    ensures noted { found.new ≡ first_after found.old
+        (judge.limit env.now (judge.limit_in which) arguments.now at).breaches }
+    ensures answer { seen_answer result ≡
+        (judge.limit env.now (judge.limit_in which) arguments.now at).answer }
+{
+    match arguments {
+        [argument] => limit_named(found, which, name_alone(env, argument), argument.pos),
+        _ => refused(found, ARGUMENT_COUNT, at),
+    }
+}
+
+/// A call of a name that is no type, which has a value that can't be called.
+#[tactic(auto, using(aos_symbols::proofs::Keeping::after_more))]
+fn value_called(
+    found: &mut Option<Breach>,
+    env: &Env<'_>,
+    head: Head,
+    at: Pos,
+    arguments: &[Expr],
+) -> Answer
+    ensures noted { found.new ≡ first_after found.old
+        (bind (designators.named env.now head)
+        (λ a. designators.guarded a.known.of (judge.is_guard env.now arguments.now) at head.first)).breaches }
+    ensures answer { seen_answer result ≡
+        (bind (designators.named env.now head)
+        (λ a. designators.guarded a.known.of (judge.is_guard env.now arguments.now) at head.first)).answer }
+{
+    let spot = named(found, env, head);
+    guarded(
+        found,
+        spot.known.of,
+        is_guard(env, arguments),
+        at,
+        head.first,
+    )
+}
+
+/// A call of what can't be called.
+pub fn not_called(
+    found: &mut Option<Breach>,
+    env: &Env<'_>,
+    head: Head,
+    at: Pos,
+    arguments: &[Expr],
+) -> Answer
+    ensures noted { found.new ≡ first_after found.old
+        (judge.not_called env.now head at arguments.now).breaches }
+    ensures answer { seen_answer result ≡ (judge.not_called env.now head at arguments.now).answer }
+{
+    match head.found {
+        Lookup::Found(symbol) => match symbol.means {
+            Meaning::Type(Some(_)) => refused(found, WRONG_CALL, head.first),
+            Meaning::Type(None) => refused(found, NOT_BUILT, head.first),
+            _ => value_called(found, env, head, at, arguments),
+        },
+        _ => value_called(found, env, head, at, arguments),
+    }
+}
+
+/// The value of a function of one argument, which begins here.
+#[tactic(auto, using(aos_symbols::proofs::Keeping::after_more))]
+pub fn value_of_one(
+    alloc: Global,
+    found: &mut Option<Breach>,
+    at: Pos,
+    first: Pos,
+    step: Step,
+    a: Answer,
+) -> Result<Answer, AllocError>
+    ensures noted { OnOk result (found.new ≡ first_after found.old
+        (judge.one_argument at first step (seen_answer a)).breaches) }
+    ensures answer { IfOk result (λ r. seen_answer r ≡
+        (judge.one_argument at first step (seen_answer a)).answer) }
+{
+    operations::argument(found, step.is_kept, first);
+    let value = operations::stepped(alloc, step, a)?;
+    operations::told(found, at, &value);
+    Ok(value)
+}
+
+/// The value of ASH, whose two arguments begin here.
+#[tactic(auto, using(aos_symbols::proofs::Keeping::after_more))]
+pub fn value_of_two(
+    alloc: Global,
+    found: &mut Option<Breach>,
+    at: Pos,
+    first: Pos,
+    second: Pos,
+    a: Answer,
+    b: Answer,
+) -> Result<Answer, AllocError>
+    ensures noted { OnOk result (found.new ≡ first_after found.old
+        (judge.two_arguments at first second (seen_answer a) (seen_answer b)).breaches) }
+    ensures answer { IfOk result (λ r. seen_answer r ≡
+        (judge.two_arguments at first second (seen_answer a) (seen_answer b)).answer) }
+{
+    operations::argument(found, is_number(a.known.of), first);
+    operations::argument(found, is_number(b.known.of), second);
+    let value = operations::joined(alloc, operations::shifted(a.known.of, b.known.of), a, b)?;
+    operations::told(found, at, &value);
+    Ok(value)
+}
+
+/// The value of a call that begins here, behind which no selector may stand.
+fn ended(found: &mut Option<Breach>, first: Pos, value: Answer, selectors: &[Selector]) -> Answer
+    ensures noted { found.new ≡ first_after found.old
+        (judge.ended first (kept (seen_answer value)) selectors.now).breaches }
+    ensures answer { seen_answer result ≡
+        (judge.ended first (kept (seen_answer value)) selectors.now).answer }
+{
+    match selectors.first() {
+        None => value,
+        Some(selector) => match selector {
+            Selector::Field(at, _) => selected(found, value.known.of, *at),
+            Selector::Index(at, _) => selected(found, value.known.of, *at),
+            Selector::Follow(at) => selected(found, value.known.of, *at),
+            Selector::Paren(at, _) => guarded(found, value.known.of, false, *at, first),
+        },
+    }
+}
+
+/// The same, as a designator.
+#[tactic(auto, using(aos_symbols::proofs::Keeping::after_more))]
+pub fn spot_ended(
+    found: &mut Option<Breach>,
+    first: Pos,
+    value: Answer,
+    selectors: &[Selector],
+) -> Spot
+    ensures noted { found.new ≡ first_after found.old
+        (designators.spotted first
+        (judge.ended first (kept (seen_answer value)) selectors.now)).breaches }
+    ensures answer { seen_spot result ≡
+        (designators.spotted first
+        (judge.ended first (kept (seen_answer value)) selectors.now)).answer }
+{
+    spot_of(first, ended(found, first, value, selectors))
+}
+
+/// A selector behind a name that is no call.
+#[tactic(auto, using(aos_symbols::proofs::Keeping::after_more))]
+pub fn behind(found: &mut Option<Breach>, env: &Env<'_>, head: Head, at: Pos) -> Spot
+    ensures noted { found.new ≡ first_after found.old
+        (judge.behind (designators.named env.now head) at).breaches }
+    ensures answer { seen_spot result ≡ (judge.behind (designators.named env.now head) at).answer }
+{
+    let spot = named(found, env, head);
+    spot_of(spot.at, selected(found, spot.known.of, at))
+}

@@ -1,0 +1,230 @@
+// Forms of expressions, by the answers of their parts: numbers, characters, operators and sets.
+
+ghost use Rattle.std.specs.Prelude.{◌≡◌, OnOk, IfOk};
+ghost use Rattle.aos_base.specs.declared.text.Pos.{Pos};
+ghost use Rattle.aos_base.specs.declared.number.Width.TheVariants.{W64};
+ghost use Rattle.aos_base.specs.Number.{if_within};
+ghost use Rattle.aos_base.specs.Operators.{natural};
+ghost use Rattle.aos_symbols.specs.Breaches.{first_after};
+ghost use Rattle.aos_symbols.specs.Judged.{kept};
+ghost use Rattle.aos_check_expr.specs.Expressions as judge;
+ghost use Rattle.aos_check_expr.specs.Seen.{seen_answer};
+
+use crate::designators::refused;
+use crate::known::{Answer, Class, answered, constant_answer, is_basic, nothing};
+use crate::operations;
+use aos_base::Pos;
+use aos_symbols::{BOOLEAN, Breach, NOT_BUILT, WRONG_TEST, note};
+use aos_tree::{AddOp, MulOp, RelationOp, Sign, Text};
+use aos_typed::Literal;
+use aos_types::TypeId;
+use std::alloc::{AllocError, Global};
+
+/// A form that isn't built.
+pub fn not_yet(found: &mut Option<Breach>, at: Pos) -> Answer
+    ensures noted { found.new ≡ first_after found.old (judge.not_yet at).breaches }
+    ensures answer { seen_answer result ≡ (judge.not_yet at).answer }
+{
+    refused(found, NOT_BUILT, at)
+}
+
+/// A number, which the scanner has found to be one of 64 bits.
+#[tactic(auto, using(crate::proofs::Numbers::within_64))]
+pub fn number(n: i64) -> Answer
+    ensures { (at : Pos) → kept (seen_answer result) ≡ judge.number (if_within W64 n) at }
+{
+    constant_answer(Literal::Int(n))
+}
+
+/// The character of a code.
+pub fn byte_of(code: i64) -> Option<u8>
+    ensures { result ≡ natural 256 code }
+{
+    u8::try_from(code).ok()
+}
+
+/// A character by its code.
+pub fn character(found: &mut Option<Breach>, code: Option<u8>, at: Pos) -> Answer
+    ensures noted { found.new ≡ first_after found.old (judge.character code at).breaches }
+    ensures answer { seen_answer result ≡ (judge.character code at).answer }
+{
+    match code {
+        Some(code) => constant_answer(Literal::Char(code)),
+        None => not_yet(found, at),
+    }
+}
+
+/// The one character between the quotes of a string.
+pub fn character_in(text: &[u8], string: Text) -> Option<u8>
+    ensures { result ≡ judge.character_in text.now string }
+{
+    if string.start as usize + 3 == string.end as usize {
+        text.get(string.start as usize + 1).copied()
+    } else {
+        None
+    }
+}
+
+/// A sum so far and an operand, behind an operator that stands here.
+pub fn added(
+    alloc: Global,
+    found: &mut Option<Breach>,
+    first: Pos,
+    at: Pos,
+    op: AddOp,
+    a: Answer,
+    b: Answer,
+) -> Result<Answer, AllocError>
+    ensures noted { OnOk result (found.new ≡ first_after found.old
+        (judge.added first at op (seen_answer a) (seen_answer b)).breaches) }
+    ensures answer { IfOk result (λ r. seen_answer r ≡
+        (judge.added first at op (seen_answer a) (seen_answer b)).answer) }
+{
+    let sum = operations::added(op, a.known.of, b.known.of);
+    operations::operands(alloc, found, first, at, sum, a, b)
+}
+
+/// A product so far and a factor, behind an operator that stands here.
+pub fn multiplied(
+    alloc: Global,
+    found: &mut Option<Breach>,
+    first: Pos,
+    at: Pos,
+    op: MulOp,
+    a: Answer,
+    b: Answer,
+) -> Result<Answer, AllocError>
+    ensures noted { OnOk result (found.new ≡ first_after found.old
+        (judge.multiplied first at op (seen_answer a) (seen_answer b)).breaches) }
+    ensures answer { IfOk result (λ r. seen_answer r ≡
+        (judge.multiplied first at op (seen_answer a) (seen_answer b)).answer) }
+{
+    let product = operations::multiplied(op, a.known.of, b.known.of);
+    operations::operands(alloc, found, first, at, product, a, b)
+}
+
+/// A type test, which no basic type has.
+pub fn tested(found: &mut Option<Breach>, of: Option<TypeId>, at: Pos) -> Answer
+    ensures noted { found.new ≡ first_after found.old (judge.tested of at).breaches }
+    ensures answer { seen_answer result ≡ (judge.tested of at).answer }
+{
+    match of {
+        Some(of) => {
+            if is_basic(of) {
+                note(found, WRONG_TEST, at);
+            } else {
+                note(found, NOT_BUILT, at);
+            }
+        }
+        None => note(found, NOT_BUILT, at),
+    }
+    answered(Class::Unknown, Some(BOOLEAN), nothing())
+}
+
+/// A relation of two operands, whose operator stands here.
+pub fn related(
+    alloc: Global,
+    found: &mut Option<Breach>,
+    first: Pos,
+    at: Pos,
+    op: RelationOp,
+    a: Answer,
+    b: Answer,
+) -> Result<Answer, AllocError>
+    ensures noted { OnOk result (found.new ≡ first_after found.old
+        (judge.related_by first at op (seen_answer a) (seen_answer b)).breaches) }
+    ensures answer { IfOk result (λ r. seen_answer r ≡
+        (judge.related_by first at op (seen_answer a) (seen_answer b)).answer) }
+{
+    if let RelationOp::Is = op {
+        return Ok(tested(found, a.known.of, at));
+    }
+    let relation = operations::related(op, a.known.of, b.known.of);
+    operations::operands(alloc, found, first, at, relation, a, b)
+}
+
+/// A sign before a term.
+pub fn signed(
+    alloc: Global,
+    found: &mut Option<Breach>,
+    sign: Option<Sign>,
+    at: Pos,
+    a: Answer,
+) -> Result<Answer, AllocError>
+    ensures noted { OnOk result (found.new ≡ first_after found.old
+        (judge.signed sign at (seen_answer a)).breaches) }
+    ensures answer { IfOk result (λ r. seen_answer r ≡
+        (judge.signed sign at (seen_answer a)).answer) }
+{
+    match sign {
+        None => Ok(a),
+        Some(sign) => {
+            let step = operations::signed(sign, a.known.of);
+            operations::operand(alloc, found, at, at, step, a)
+        }
+    }
+}
+
+/// `~` before a factor.
+pub fn opposite(
+    alloc: Global,
+    found: &mut Option<Breach>,
+    at: Pos,
+    a: Answer,
+) -> Result<Answer, AllocError>
+    ensures noted { OnOk result (found.new ≡ first_after found.old
+        (judge.opposite at (seen_answer a)).breaches) }
+    ensures answer { IfOk result (λ r. seen_answer r ≡ (judge.opposite at (seen_answer a)).answer) }
+{
+    let step = operations::opposite(a.known.of);
+    operations::operand(alloc, found, at, at, step, a)
+}
+
+/// The elements of a set so far, and one more.
+pub fn with_element(
+    alloc: Global,
+    found: &mut Option<Breach>,
+    at: Pos,
+    set: Answer,
+    one: Answer,
+) -> Result<Answer, AllocError>
+    ensures noted { OnOk result (found.new ≡ first_after found.old
+        (judge.with_element at (seen_answer set) (seen_answer one)).breaches) }
+    ensures answer { IfOk result (λ r. seen_answer r ≡
+        (judge.with_element at (seen_answer set) (seen_answer one)).answer) }
+{
+    let step = operations::one_element(one.known.of);
+    operations::refuse_unless(found, step.is_kept, at);
+    let one = operations::stepped(alloc, step, one)?;
+    operations::joined(alloc, operations::union(), set, one)
+}
+
+/// The elements of a set so far, and those from one to another.
+pub fn with_span(
+    alloc: Global,
+    found: &mut Option<Breach>,
+    at: Pos,
+    set: Answer,
+    low: Answer,
+    high: Answer,
+) -> Result<Answer, AllocError>
+    ensures noted { OnOk result (found.new ≡ first_after found.old
+        (judge.with_span at (seen_answer set) (seen_answer low) (seen_answer high)).breaches) }
+    ensures answer { IfOk result (λ r. seen_answer r ≡
+        (judge.with_span at (seen_answer set) (seen_answer low) (seen_answer high)).answer) }
+{
+    let operation = operations::span(low.known.of, high.known.of);
+    operations::refuse_unless(found, operation.is_kept, at);
+    let all = operations::joined(alloc, operation, low, high)?;
+    operations::joined(alloc, operations::union(), set, all)
+}
+
+/// A set, which begins here.
+pub fn whole_set(found: &mut Option<Breach>, at: Pos, set: Answer) -> Answer
+    ensures noted { found.new ≡ first_after found.old
+        (judge.whole_set at (seen_answer set)).breaches }
+    ensures answer { seen_answer result ≡ (judge.whole_set at (seen_answer set)).answer }
+{
+    operations::told(found, at, &set);
+    set
+}

@@ -1,0 +1,390 @@
+// What is known of a part of an expression.
+
+ghost use Rattle.std.specs.Prelude.{◌≡◌, is_some, nat_lt};
+ghost use Rattle.aos_base.specs.Number.{if_within};
+ghost use Rattle.aos_typed.specs.Seen.{seen_expr};
+ghost use Rattle.aos_symbols.specs.Breaches.{first_after};
+ghost use Rattle.aos_check_expr.specs.Known as known;
+ghost use Rattle.aos_check_expr.specs.Seen.{seen_answer, seen_held, seen_spot};
+
+use aos_base::{Pos, Width};
+use aos_symbols::{
+    BASIC_TYPES, BOOLEAN, Breach, CHAR, HUGEINT, INTEGER, LONGINT, NOT_CONSTANT, SET, SHORTINT,
+    note,
+};
+use aos_typed::{Literal, TExpr, TPlace, TType};
+use aos_types::TypeId;
+
+/// What an expression is: unknown where a part of it breaks a rule, a constant, which has no value where its computation would
+/// trap or where it is declared later, a variable, one that may only be read, or another value.
+#[derive(Clone, Copy, PartialEq, Eq, Debug)]
+pub enum Class {
+    Unknown,
+    Constant(Option<Literal>),
+    Variable,
+    ReadOnly,
+    Computed,
+}
+
+/// What is known of a part of an expression: its type, none where it may be any, and its class.
+#[derive(Clone, Copy, PartialEq, Eq, Debug)]
+pub struct Known {
+    pub of: Option<TypeId>,
+    pub class: Class,
+}
+
+/// An expression, and what it is in the typed program.
+#[derive(Drop, Debug)]
+pub struct Answer {
+    pub known: Known,
+    pub typed: TExpr,
+}
+
+/// What a designator is in the typed program: a variable, or a value.
+#[derive(Drop, Debug)]
+pub enum Held {
+    Stands(TPlace),
+    Value(TExpr),
+}
+
+/// A designator, and where the name stands that is its own.
+#[derive(Drop, Debug)]
+pub struct Spot {
+    pub known: Known,
+    pub held: Held,
+    pub at: Pos,
+}
+
+fn passes_below(of: Option<TypeId>, bound: u32) -> bool
+    ensures { result ≡ known.passes (λ t. nat_lt t.0 bound) of }
+{
+    match of {
+        Some(of) => of.0 < bound,
+        None => true,
+    }
+}
+
+fn passes_is(of: Option<TypeId>, wanted: TypeId) -> bool
+    ensures { result ≡ known.passes (known.is wanted) of }
+{
+    match of {
+        Some(of) => wanted.0 == of.0,
+        None => true,
+    }
+}
+
+/// Whether a type is an integer type, or may be one.
+pub fn is_number(of: Option<TypeId>) -> bool
+    ensures { result ≡ known.is_number of }
+{
+    passes_below(of, 4)
+}
+
+/// Whether a type is BOOLEAN, or may be.
+pub fn is_boolean(of: Option<TypeId>) -> bool
+    ensures { result ≡ known.is_boolean of }
+{
+    passes_is(of, BOOLEAN)
+}
+
+/// Whether a type is CHAR, or may be.
+pub fn is_char(of: Option<TypeId>) -> bool
+    ensures { result ≡ known.is_char of }
+{
+    passes_is(of, CHAR)
+}
+
+/// Whether a type is SET, or may be.
+pub fn is_set(of: Option<TypeId>) -> bool
+    ensures { result ≡ known.is_set of }
+{
+    passes_is(of, SET)
+}
+
+/// Whether a type is an integer type.
+pub fn is_integer(of: TypeId) -> bool
+    ensures { result ≡ known.is_integer of }
+{
+    of.0 < 4
+}
+
+/// Whether a type is a basic one.
+pub fn is_basic(of: TypeId) -> bool
+    ensures { result ≡ known.is_basic of }
+{
+    of.0 < 7
+}
+
+/// Whether a value of one basic type may be assigned to a variable of another, each of which may not be known.
+pub fn fits(from: Option<TypeId>, to: Option<TypeId>) -> bool
+    ensures { result ≡ known.fits from to }
+{
+    match (from, to) {
+        (Some(from), Some(to)) => {
+            if from.0 < 4 && to.0 < 4 {
+                from.0 <= to.0
+            } else {
+                from.0 == to.0
+            }
+        }
+        _ => true,
+    }
+}
+
+/// The larger of two integer types.
+pub fn larger(a: Option<TypeId>, b: Option<TypeId>) -> Option<TypeId>
+    ensures { result ≡ known.larger a b }
+{
+    match (a, b) {
+        (Some(a), Some(b)) => Some(if a.0 < b.0 { b } else { a }),
+        _ => None,
+    }
+}
+
+/// The number of an object type among those of the program.
+pub fn object_number(of: TypeId) -> u32
+    ensures { result ≡ known.object_number of }
+{
+    of.0.saturating_sub(BASIC_TYPES)
+}
+
+/// The width of an integer type.
+pub fn width_of_type(of: TypeId) -> Width
+    ensures { result ≡ known.width_of_type of }
+{
+    if of.0 == 0 {
+        Width::W8
+    } else if of.0 == 1 {
+        Width::W16
+    } else if of.0 == 2 {
+        Width::W32
+    } else {
+        Width::W64
+    }
+}
+
+/// The width of an integer type; the greatest where it isn't known.
+pub fn width_of(of: Option<TypeId>) -> Width
+    ensures { result ≡ known.width_of of }
+{
+    match of {
+        Some(of) => width_of_type(of),
+        None => Width::W64,
+    }
+}
+
+/// The next integer type.
+pub fn next(of: Option<TypeId>) -> Option<TypeId>
+    ensures { result ≡ known.next of }
+{
+    let of = of?;
+    if of.0 == 0 {
+        Some(INTEGER)
+    } else if of.0 == 1 {
+        Some(LONGINT)
+    } else {
+        Some(HUGEINT)
+    }
+}
+
+/// The integer type before.
+pub fn previous(of: Option<TypeId>) -> Option<TypeId>
+    ensures { result ≡ known.previous of }
+{
+    let of = of?;
+    if of.0 == 3 {
+        Some(LONGINT)
+    } else if of.0 == 2 {
+        Some(INTEGER)
+    } else {
+        Some(SHORTINT)
+    }
+}
+
+/// The greatest integer of a width.
+pub fn greatest_of(width: Width) -> i64
+    ensures { result ≡ known.greatest_of width }
+{
+    match width {
+        Width::W8 => 0x7f,
+        Width::W16 => 0x7fff,
+        Width::W32 => 0x7fff_ffff,
+        Width::W64 => 0x7fff_ffff_ffff_ffff,
+    }
+}
+
+/// The least integer of a width.
+pub fn least_of(width: Width) -> i64
+    ensures { result ≡ known.least_of width }
+{
+    match width {
+        Width::W8 => -0x80,
+        Width::W16 => -0x8000,
+        Width::W32 => -0x8000_0000,
+        Width::W64 => -0x8000_0000_0000_0000,
+    }
+}
+
+fn is_within(width: Width, n: i64) -> bool
+    ensures { result ≡ is_some (if_within width n) }
+{
+    least_of(width) <= n && n <= greatest_of(width)
+}
+
+/// The smallest integer type that includes a number.
+fn smallest(n: i64) -> TypeId
+    ensures { result ≡ known.smallest n }
+{
+    if is_within(Width::W8, n) {
+        SHORTINT
+    } else if is_within(Width::W16, n) {
+        INTEGER
+    } else if is_within(Width::W32, n) {
+        LONGINT
+    } else {
+        HUGEINT
+    }
+}
+
+/// The type of a constant.
+pub fn type_of_literal(value: Literal) -> TypeId
+    ensures { result ≡ known.type_of_literal value }
+{
+    match value {
+        Literal::Int(n) => smallest(n),
+        Literal::Bool(_) => BOOLEAN,
+        Literal::Char(_) => CHAR,
+        Literal::Set(_) => SET,
+    }
+}
+
+fn type_as(of: TypeId) -> TType
+    ensures { result ≡ known.type_as of }
+{
+    if is_integer(of) {
+        TType::Integer(width_of_type(of))
+    } else if BOOLEAN.0 == of.0 {
+        TType::Boolean
+    } else if CHAR.0 == of.0 {
+        TType::Char
+    } else if SET.0 == of.0 {
+        TType::Set
+    } else {
+        TType::Object(object_number(of))
+    }
+}
+
+/// A type in the typed program; some type where it isn't known.
+pub fn type_of(of: Option<TypeId>) -> TType
+    ensures { result ≡ known.type_of of }
+{
+    match of {
+        Some(of) => type_as(of),
+        None => TType::Boolean,
+    }
+}
+
+/// Whether a part may be anything.
+pub fn is_unknown(class: Class) -> bool
+    ensures { result ≡ known.is_unknown class }
+{
+    matches!(class, Class::Unknown)
+}
+
+/// Whether a part is a constant whose computation has no value.
+fn is_lost(class: Class) -> bool
+    ensures { result ≡ known.is_lost class }
+{
+    matches!(class, Class::Constant(None))
+}
+
+/// Refuses a constant whose computation has no value, at its first token.
+pub fn lost(found: &mut Option<Breach>, class: Class, first: Pos)
+    ensures { found.new ≡ first_after found.old (known.lost class first) }
+{
+    if is_lost(class) {
+        note(found, NOT_CONSTANT, first);
+    }
+}
+
+/// What is known of a part of this class and type; a constant is of the type of its value.
+pub fn known_as(class: Class, of: Option<TypeId>) -> Known
+    ensures { result ≡ known.known_as class of }
+{
+    match class {
+        Class::Constant(Some(value)) => Known {
+            of: Some(type_of_literal(value)),
+            class,
+        },
+        _ => Known { of, class },
+    }
+}
+
+/// What a part of this class is in the typed program; a constant is a literal.
+fn typed_as(class: Class, typed: TExpr) -> TExpr
+    ensures { seen_expr result ≡ known.typed_as class (seen_expr typed) }
+{
+    match class {
+        Class::Constant(Some(value)) => TExpr::Lit(value),
+        _ => typed,
+    }
+}
+
+/// An expression of this class and type.
+pub fn answered(class: Class, of: Option<TypeId>, typed: TExpr) -> Answer
+    ensures { seen_answer result ≡ known.answered class of (seen_expr typed) }
+{
+    Answer {
+        known: known_as(class, of),
+        typed: typed_as(class, typed),
+    }
+}
+
+/// A constant.
+pub fn constant_answer(value: Literal) -> Answer
+    ensures { seen_answer result ≡ known.constant_answer value }
+{
+    answered(Class::Constant(Some(value)), None, TExpr::Lit(value))
+}
+
+/// What stands for a part that breaks a rule; it is never looked at.
+pub fn nothing() -> TExpr
+    ensures { seen_expr result ≡ known.nothing }
+{
+    TExpr::Lit(Literal::Bool(false))
+}
+
+/// What may be anything.
+pub fn unknown() -> Answer
+    ensures { seen_answer result ≡ known.unknown }
+{
+    answered(Class::Unknown, None, nothing())
+}
+
+/// What may be anything but a variable or a constant.
+pub fn some_value() -> Answer
+    ensures { seen_answer result ≡ known.some_value }
+{
+    answered(Class::Computed, None, nothing())
+}
+
+/// A designator that is a value.
+pub fn spot_of(at: Pos, answer: Answer) -> Spot
+    ensures { seen_spot result ≡ known.spot_of at (seen_answer answer) }
+{
+    Spot {
+        known: answer.known,
+        held: Held::Value(answer.typed),
+        at,
+    }
+}
+
+/// The value of a designator of this type.
+pub fn read_from(of: Option<TypeId>, held: Held) -> TExpr
+    ensures { seen_expr result ≡ known.read_from of (seen_held held) }
+{
+    match held {
+        Held::Stands(place) => TExpr::Read(type_of(of), place),
+        Held::Value(value) => value,
+    }
+}

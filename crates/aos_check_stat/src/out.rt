@@ -1,0 +1,139 @@
+// Calls of the procedures of module Out.
+
+ghost use Rattle.std.specs.Prelude.{◌≡◌, OnOk, IfOk, option_map};
+ghost use Rattle.aos_typed.specs.Seen.{seen_call, seen_stat};
+ghost use Rattle.aos_symbols.specs.Breaches.{first_after};
+ghost use Rattle.aos_check_stat.specs.Bodies as judge;
+
+use crate::refusals::{arguments, behind_arguments, refuse_behind, refused};
+use aos_base::Pos;
+use aos_check_expr::{char_argument, number_argument};
+use aos_symbols::{
+    ARGUMENT_COUNT, Breach, Env, NOT_BUILT, OTHER_KIND, UNKNOWN, is_procedure_of_out, is_word, word,
+};
+use aos_tree::{Expr, Name, Selector};
+use aos_typed::{OutCall, TStat};
+use std::alloc::{AllocError, Global};
+
+/// Out.Int of these arguments, in a call that begins at a place.
+#[tactic(auto, using(aos_symbols::proofs::Keeping::after_more))]
+fn int_call(
+    alloc: Global,
+    found: &mut Option<Breach>,
+    env: &Env<'_>,
+    at: Pos,
+    arguments: &[Expr],
+) -> Result<Option<TStat>, AllocError>
+    ensures noted { OnOk result (found.new ≡
+        first_after found.old (judge.int_call env.now at arguments.now).breaches) }
+    ensures answer { IfOk result
+        (λ s. option_map seen_stat s ≡ (judge.int_call env.now at arguments.now).answer) }
+{
+    match arguments {
+        [number, width] => {
+            let number = number_argument(alloc, found, env, number)?;
+            let width = number_argument(alloc, found, env, width)?;
+            Ok(Some(TStat::Out(at, OutCall::Int(number, width))))
+        },
+        _ => Ok(refused(found, ARGUMENT_COUNT, at)),
+    }
+}
+
+/// Out.Char of these arguments, in a call that begins at a place.
+#[tactic(auto, using(aos_symbols::proofs::Keeping::after_more))]
+fn char_call(
+    alloc: Global,
+    found: &mut Option<Breach>,
+    env: &Env<'_>,
+    at: Pos,
+    arguments: &[Expr],
+) -> Result<Option<TStat>, AllocError>
+    ensures noted { OnOk result (found.new ≡
+        first_after found.old (judge.char_call env.now at arguments.now).breaches) }
+    ensures answer { IfOk result
+        (λ s. option_map seen_stat s ≡ (judge.char_call env.now at arguments.now).answer) }
+{
+    match arguments {
+        [character] => {
+            let character = char_argument(alloc, found, env, character)?;
+            Ok(Some(TStat::Out(at, OutCall::Char(character))))
+        },
+        _ => Ok(refused(found, ARGUMENT_COUNT, at)),
+    }
+}
+
+/// A procedure of Out that has no arguments, in a call that begins at a place.
+fn plain_call(
+    found: &mut Option<Breach>,
+    call: OutCall,
+    at: Pos,
+    arguments: &[Expr],
+) -> Option<TStat>
+    ensures noted { found.new ≡
+        first_after found.old (judge.plain_call (seen_call call) at arguments.now).breaches }
+    ensures answer { option_map seen_stat result ≡
+        (judge.plain_call (seen_call call) at arguments.now).answer }
+{
+    match arguments {
+        [] => Some(TStat::Out(at, call)),
+        _ => refused(found, ARGUMENT_COUNT, at),
+    }
+}
+
+/// A call of Out's procedure of this name.
+fn out_call(
+    alloc: Global,
+    found: &mut Option<Breach>,
+    env: &Env<'_>,
+    at: Pos,
+    name: Name,
+    arguments: &[Expr],
+) -> Result<Option<TStat>, AllocError>
+    ensures noted { OnOk result (found.new ≡
+        first_after found.old (judge.out_call env.now at name arguments.now).breaches) }
+    ensures answer { IfOk result
+        (λ s. option_map seen_stat s ≡ (judge.out_call env.now at name arguments.now).answer) }
+{
+    let text = env.here.text();
+    if is_word(text, "Int", name) {
+        return int_call(alloc, found, env, at, arguments);
+    }
+    if is_word(text, "Char", name) {
+        return char_call(alloc, found, env, at, arguments);
+    }
+    if is_word(text, "Ln", name) {
+        return Ok(plain_call(found, OutCall::Ln, at, arguments));
+    }
+    if is_word(text, "Open", name) {
+        return Ok(plain_call(found, OutCall::Open, at, arguments));
+    }
+    let is_known = is_procedure_of_out(word(text, name));
+    Ok(refused(found, if is_known { NOT_BUILT } else { UNKNOWN }, name.pos))
+}
+
+/// What stands behind `Out`, in a call that begins at a place.
+#[tactic(auto, using(crate::proofs::Rows::ended_noted, crate::proofs::Rows::ended_answer))]
+pub fn out_selectors(
+    alloc: Global,
+    found: &mut Option<Breach>,
+    env: &Env<'_>,
+    at: Pos,
+    selectors: &[Selector],
+) -> Result<Option<TStat>, AllocError>
+    ensures noted { OnOk result (found.new ≡
+        first_after found.old (judge.out_selectors env.now at selectors.now).breaches) }
+    ensures answer { IfOk result
+        (λ s. option_map seen_stat s ≡ (judge.out_selectors env.now at selectors.now).answer) }
+{
+    let Some((selector, more)) = selectors.split_first() else {
+        return Ok(refused(found, OTHER_KIND, at));
+    };
+    match selector {
+        Selector::Field(_, name) => {
+            let call = out_call(alloc, found, env, at, *name, arguments(more))?;
+            refuse_behind(found, at, behind_arguments(more));
+            Ok(call)
+        },
+        _ => Ok(refused(found, OTHER_KIND, at)),
+    }
+}
