@@ -12,31 +12,37 @@ use std::process::Abort;
 use std::test::Fail;
 
 /// Texts, the number of types that each defines, and what its names, its headings and its body come to.
-const MODULES: [(&str, usize, &str); 5] = [
+const MODULES: [(&str, usize, &str); 6] = [
     ("MODULE M; END M.", 0, "kept, kept, kept: []"),
     ("MODULE M; END N.", 0, "12 at 15, kept, kept: []"),
     (
         "MODULE M; VAR a: LONGINT; b: U; BEGIN a := 2 END M.",
         0,
-        "kept, 14 at 30, kept: [Assign(Pos { line: 1, col: 39 }, ModuleVar(0, 0), \
+        "kept, 14 at 30, kept: [Assign(Pos { line: 1, col: 39 }, Integer(W32), ModuleVar(0, 0), \
          Lit(Int(2)))]",
     ),
     (
         "MODULE M; IMPORT Out; VAR b, a: LONGINT; BEGIN WHILE a < 2 DO a := b - 1; \
          Out.Int(a, 3); Out.Ln END END M.",
         0,
-        "kept, kept, kept: [While(Pos { line: 1, col: 48 }, Compare(Less, \
-         Read(ModuleVar(0, 1)), Lit(Int(2))), [Assign(Pos { line: 1, col: 63 }, \
-         ModuleVar(0, 1), Binary(Sub(W32), Read(ModuleVar(0, 0)), Lit(Int(1)))), \
-         Out(Pos { line: 1, col: 75 }, Int(Read(ModuleVar(0, 1)), Lit(Int(3)))), \
-         Out(Pos { line: 1, col: 90 }, Ln)])]",
+        "kept, kept, kept: [While(Pos { line: 1, col: 48 }, Binary(Cmp(Less), \
+         Read(Integer(W32), ModuleVar(0, 1)), Lit(Int(2))), [Assign(Pos { line: 1, col: 63 }, \
+         Integer(W32), ModuleVar(0, 1), Binary(Sub(W32), Read(Integer(W32), ModuleVar(0, 0)), \
+         Lit(Int(1)))), Out(Pos { line: 1, col: 75 }, Int(Read(Integer(W32), ModuleVar(0, 1)), \
+         Lit(Int(3)))), Out(Pos { line: 1, col: 90 }, Ln)])]",
+    ),
+    (
+        "MODULE M; CONST c = 2 * 3; VAR s: SET; BEGIN s := {c} END M.",
+        0,
+        "kept, kept, kept: [Assign(Pos { line: 1, col: 46 }, Set, ModuleVar(0, 0), \
+         Lit(Set(64)))]",
     ),
     (
         "MODULE M; TYPE T = OBJECT BEGIN {ACTIVE} END T; VAR p: T; BEGIN NEW(p); p \
          := 1 END M.",
         1,
         "kept, kept, 99 at 73: [New(Pos { line: 1, col: 65 }, ModuleVar(0, 0), 0), \
-         Assign(Pos { line: 1, col: 73 }, ModuleVar(0, 0), Lit(Int(1)))]",
+         Assign(Pos { line: 1, col: 73 }, Object(0), ModuleVar(0, 0), Lit(Int(1)))]",
     ),
 ];
 

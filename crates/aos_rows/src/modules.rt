@@ -146,7 +146,7 @@ const ROWS: [Row<'_>; 22] = [
             ("B.Mod", "MODULE B; VAR T*: LONGINT; END B."),
             ("A.Mod", "MODULE A; IMPORT B; VAR q: B.T; END A."),
         ],
-        ("", "A.Mod:1:30: rule 99: not built yet\n", 1),
+        ("", "A.Mod:1:30: rule 16: name of another kind\n", 1),
     ),
     // a trap in a module that isn't the first
     (

@@ -49,7 +49,7 @@ fn refuses_texts(rt: HostRuntime) -> Result<(), Fail> {
             "M.Mod:1:18: rule 14: unknown name\n",
         ),
         (
-            "MODULE M; CONST c = 1; END M.",
+            "MODULE M; PROCEDURE P; END P; END M.",
             "M.Mod:1:11: rule 99: not built yet\n",
         ),
         (
@@ -57,15 +57,15 @@ fn refuses_texts(rt: HostRuntime) -> Result<(), Fail> {
             "M.Mod:1:17: rule 99: not built yet\n",
         ),
         (
-            "MODULE M; VAR a: LONGINT; BEGIN a := a * 2 END M.",
-            "M.Mod:1:40: rule 99: not built yet\n",
+            "MODULE M; VAR a: LONGINT; BEGIN a := LEN(a) END M.",
+            "M.Mod:1:38: rule 99: not built yet\n",
         ),
         (
             "MODULE M; VAR a: LONGINT; BEGIN a[1] := 2 END M.",
-            "M.Mod:1:34: rule 99: not built yet\n",
+            "M.Mod:1:34: rule 42: wrong selector\n",
         ),
         (
-            "MODULE M;\nVAR a: SET;\nEND M.",
+            "MODULE M;\nVAR a: ANY;\nEND M.",
             "M.Mod:2:8: rule 99: not built yet\n",
         ),
         (
