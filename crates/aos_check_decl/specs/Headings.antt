@@ -1,6 +1,6 @@
 -- The second pass: constants, types and headings, and the environment behind them. What isn't built is refused by rule 99, a
 -- declaration or type at its first token; nothing behind that in it is looked at.
-use Rattle.std.specs.Prelude.{ℕ, zero, suc, List, [], ◌++◌, length, replicate, Bool, true, false, ◌==◌, Option, Some, None, slice_set, if◌then◌else◌}
+use Rattle.std.specs.Prelude.{ℕ, zero, suc, List, [], ◌∷◌, ◌++◌, length, replicate, Bool, true, false, ◌==◌, Option, Some, None, slice_set, if◌then◌else◌}
 use Rattle.std.specs.List.{flat_map, list_any}
 use Rattle.std.specs.Option.{is_none}
 use Rattle.aos_base.specs.declared.text.Pos.{Pos}
@@ -123,9 +123,14 @@ defined_row e (type.Proc p flag formals) = no_row (not_built p)
 
 -- The environment behind declarations.
 
+-- types from this number on that are to come: until it is defined each is an array of itself
+abbrev pub to_come : (first many : ℕ) → List TypeRow
+to_come k zero = []
+to_come k (suc n) = row.Array 0 (record { 0 = k }) ∷ to_come (suc k) n
+
 -- the numbers of types that a module defines are taken before, and hold nothing until they are defined
 abbrev pub with_types : ℕ → Env → Env
-with_types n e = record e { types = e.types ++ replicate n row.Any; broken = e.broken ++ replicate n true }
+with_types n e = record e { types = e.types ++ to_come (length e.types) n; broken = e.broken ++ replicate n true }
 
 abbrev pub with_row : Env → Option TypeId → Option TypeRow → Env
 with_row e (Some t) (Some r) = record e { types = slice_set e.types t.0 r; broken = slice_set e.broken t.0 false }

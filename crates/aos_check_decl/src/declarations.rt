@@ -23,10 +23,11 @@ pub fn add_types(env: &mut Env<'_>, count: usize) -> Result<(), NoMemory>
     ensures { OnOk result (env.new ≡ judge.with_types count env.old) }
 {
     for _ in 0..count {
-        if env.types.len() >= MOST_TYPES {
+        let number = env.types.len();
+        if number >= MOST_TYPES {
             return Err(NoMemory);
         }
-        env.types.add(TypeRow::Any)?;
+        env.types.add(TypeRow::Array(0, TypeId(number as u32)))?;
         env.broken.push(true)?;
     }
     Ok(())

@@ -7,7 +7,6 @@ use Rattle.aos_tree.specs.declared.decl.TypeDef.{TypeDef}
 use Rattle.aos_tree.specs.declared.module.Module.{Module as Tree}
 use Rattle.aos_types.specs.declared.row.TypeId.{TypeId}
 use Rattle.aos_types.specs.declared.row.TypeRow.{TypeRow}
-use Rattle.aos_types.specs.declared.row.TypeRow.TheVariants as row
 use Rattle.aos_typed.specs.Program.{ModuleVar, Stat, ObjectType, Module, Program}
 use Rattle.aos_typed.specs.WellTyped.{AreStatements}
 use Rattle.aos_symbols.specs.declared.scope.Entry.{Entry}
@@ -29,7 +28,8 @@ use Rattle.aos_symbols.proofs.Holds.{Holds, holds_bind, holds_walk, passed_went,
 use Rattle.aos_symbols.proofs.Told.{IsKnown, GoOn, known_on, get_front, get_end, told_behind}
 use Rattle.aos_check_expr.specs.Known.{type_of}
 use Rattle.aos_check_expr.proofs.Typing.{IsTyped, IsWhole}
-use Rattle.aos_check_decl.specs.Headings.{headings}
+use Rattle.aos_check_decl.specs.Headings.{to_come, headings}
+use Rattle.aos_check_decl.proofs.Steps.{length_come}
 use Rattle.aos_check_decl.proofs.Typing.{AreGood, Start, Tables, scope_with, reached, begun, IsReady, IsNamed, IsFit, IsBehind, IsDone, headings_sound}
 use Rattle.aos_check_stat.specs.Bodies.{listed, body_of}
 use Rattle.aos_check_stat.proofs.Typing.{body_sound}
@@ -211,15 +211,15 @@ module _ (w : World) (sound : IsWorld w) (text : List ℕ) (m : Tree) where
     text = text;
     own = own_scope text w.before (length w.types) m;
     inner = map (inner_scope text) (type_defs m.decls);
-    types = w.types ++ replicate own_number row.Any;
+    types = w.types ++ to_come (length w.types) own_number;
     broken = w.broken ++ replicate own_number true;
   }
 
   more_types : GoOn w.types w.broken start.types start.broken
-  more_types = told_behind w.types (replicate own_number row.Any) w.broken (replicate own_number true)
+  more_types = told_behind w.types (to_come (length w.types) own_number) w.broken (replicate own_number true)
 
   size : length start.types ≡ length w.types + own_number
-  size = length-append w.types (replicate own_number row.Any) ∙ ap (λ n. length w.types + n) (length-replicate own_number row.Any)
+  size = length-append w.types (to_come (length w.types) own_number) ∙ ap (λ n. length w.types + n) (length_come (length w.types) own_number)
 
   size_broken : length start.broken ≡ length w.broken + own_number
   size_broken = length-append w.broken (replicate own_number true) ∙ ap (λ n. length w.broken + n) (length-replicate own_number true)
