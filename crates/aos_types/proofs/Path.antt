@@ -1,20 +1,21 @@
 -- A walk along the parts of a type whose counts aren't made: each on the way is a part of the one before it, and a count is made
 -- where those of the parts are.
-use Rattle.std.proofs.Common.{◌≡◌, ◌≢◌, ℕ, zero, suc, ◌+◌, ◌*◌, ◌-◌, ◌<◌, ◌≤◌, List, [], ◌∷◌, ◌++◌, length, sum_by, Option, Some, None, refl, sym, ap, ◌∙◌, subst, arith, length-append}
+use Rattle.std.proofs.Common.{◌≡◌, ◌≢◌, ℕ, zero, suc, ◌+◌, ◌*◌, ◌-◌, ◌<◌, ◌≤◌, List, [], ◌∷◌, ◌++◌, length, get_or, sum_by, Option, Some, None, refl, sym, ap, ◌∙◌, subst, arith, length-append}
 use Rattle.std.specs.Prelude.{Bool, true, false, if◌then◌else◌, slice_get, slice_set}
 use Rattle.std.specs.List.{find, flat_map}
 use mathlib.Core.Logic.{◌⊎◌, inl, inr}
 use Rattle.std.proofs.lemmas.List.{length-set}
 use Rattle.std.proofs.lemmas.Bool.{cases_order}
+use Rattle.std.proofs.lemmas.Option.{slice_get-get_or}
 use Rattle.std.proofs.lemmas.List.Sums.{sum_by-cons}
 use Rattle.std.proofs.Math.Nat.{suc-mul}
 use Rattle.aos_types.specs.declared.row.TypeId.{TypeId}
 use Rattle.aos_types.specs.declared.row.TypeRow.{TypeRow}
 use Rattle.aos_types.specs.declared.row.TypeRow.TheVariants as row
 use Rattle.aos_types.specs.Table.{row_of, is_object}
-use Rattle.aos_types.specs.Chain.{held, base_list, parts_of, IsOneOf, IsPartOf, IsChain, IsRanked, NoneContainsItself}
-use Rattle.aos_types.specs.Count.{capped, count_of, is_missing, of_variable, of_base, of_row, made, missing_part, IsMade, AreMade}
-use Rattle.aos_types.proofs.Reached.{one_of_left, one_of_right, one_of_both}
+use Rattle.aos_types.specs.Chain.{held, base_list, parts_of, IsOneOf, IsPartOf, IsChain, ContainsItself, IsRanked, NoneContainsItself}
+use Rattle.aos_types.specs.Count.{capped, count_of, is_missing, of_variable, of_base, of_row, made, missing_part, IsMade, AreMade, AreFree}
+use Rattle.aos_types.proofs.Reached.{one_of_left, one_of_right, one_of_both, has_row}
 use Rattle.aos_types.proofs.Ranks.{ranked}
 
 got_here : {A : Type 0} (s : List A) (k : ℕ) (b v : A) → slice_get s k ≡ Some b → slice_get (slice_set s k v) k ≡ Some v
@@ -93,6 +94,9 @@ module _ (rows : List TypeRow) (f g : TypeId → ℕ) where
   same_row (Some (row.Procedure fs r)) h = refl
   same_row (Some row.Any) h = refl
 
+pub no_count : (o : Option (Option ℕ)) (n : Option ℕ) → o ≡ None → o ≡ Some n → ⊥
+no_count o n e f = let g : Some n ≡ None = sym f ∙ e in cc
+
 missing_is : (o : Option (Option ℕ)) → is_missing o ≡ true → o ≡ Some None
 missing_is None e = absurd (cc)
 missing_is (Some None) e = refl
@@ -109,7 +113,7 @@ module _ (rows : List TypeRow) (counts : List (Option ℕ)) (top : TypeId) (v : 
       differ : (o : Option (Option ℕ)) → is_missing o ≡ false → o ≡ Some None → ⊥
       differ o h w = let k : is_missing o ≡ true = ap is_missing w in cc
 
-  still : (p : TypeId) → is_missing (slice_get counts p.0) ≡ false → slice_get after p.0 ≡ slice_get counts p.0
+  pub still : (p : TypeId) → is_missing (slice_get counts p.0) ≡ false → slice_get after p.0 ≡ slice_get counts p.0
   still p h = got_other counts top.0 p.0 (Some v) (other p h)
 
   made_still : (p : TypeId) (n : ℕ) → IsMade rows counts p n → IsMade rows after p n
@@ -136,6 +140,46 @@ module _ (rows : List TypeRow) (counts : List (Option ℕ)) (top : TypeId) (v : 
       by_order (inl s) = at_top s
       by_order (inr (inl l)) = elsewhere (omega arith)
       by_order (inr (inr l)) = elsewhere (omega arith)
+
+  module _ (long : length counts ≡ length rows) (all : AreMade rows counts) where
+    parts_made : (x p : TypeId) → is_missing (slice_get counts x.0) ≡ false → IsPartOf rows p x → is_missing (slice_get counts p.0) ≡ false
+    parts_made x p m part = at_count (slice_get counts x.0) refl m
+      where
+        at_count : (o : Option (Option ℕ)) → slice_get counts x.0 ≡ o → is_missing o ≡ false → is_missing (slice_get counts p.0) ≡ false
+        at_count None e m =
+            let l = has_row rows x p part in
+            absurd (no_count (slice_get counts x.0) (get_or counts x.0 None) e (slice_get-get_or counts x.0 None (omega (arith, l, long))))
+        at_count (Some None) e m = absurd (cc)
+        at_count (Some (Some n)) e m =
+            none_found (λ q. is_missing (slice_get counts q.0)) (parts_of rows (row_of rows x)) (all x n e).parts p part
+
+    waiting : is_missing (slice_get counts top.0) ≡ false → ⊥
+    waiting m = let k : is_missing (slice_get counts top.0) ≡ true = ap is_missing waits in cc
+
+    -- no chain leads from a count that is made to this one
+    no_way : (x : TypeId) (ps : List TypeId) → is_missing (slice_get counts x.0) ≡ false → IsChain rows x (ps ++ top ∷ []) → ⊥
+    no_way x [] m c = waiting (parts_made x top m c.0)
+    no_way x (y ∷ ps) m c = no_way y ps (parts_made x y m c.0) c.1
+
+    are_free : AreFree rows counts → missing_part rows counts top ≡ None → AreFree rows after
+    are_free free e t n made way = by_order (cases_order top.0 t.0)
+      where
+        none : (p : TypeId) → IsPartOf rows p top → is_missing (slice_get counts p.0) ≡ false
+        none p o = none_found (λ q. is_missing (slice_get counts q.0)) (parts_of rows (row_of rows top)) e p o
+
+        no_circle : (ps : List TypeId) → IsChain rows top (ps ++ top ∷ []) → ⊥
+        no_circle [] c = waiting (none top c.0)
+        no_circle (y ∷ ps) c = no_way y ps (none y c.0) c.1
+
+        elsewhere : top.0 ≢ t.0 → ⊥
+        elsewhere d = free t n (sym (got_other counts top.0 t.0 (Some v) d) ∙ made) way
+
+        by_order : (top.0 ≡ t.0) ⊎ ((top.0 < t.0) ⊎ (t.0 < top.0)) → ⊥
+        by_order (inl s) =
+            let own : ContainsItself rows top = subst (λ k. ContainsItself rows (record { 0 = k })) (sym s) way in
+            no_circle own.between own.chain
+        by_order (inr (inl l)) = elsewhere (omega arith)
+        by_order (inr (inr l)) = elsewhere (omega arith)
 
 -- each on the way is a part of the one before it
 abbrev pub IsStack : List TypeRow → List TypeId → Type 0
@@ -213,6 +257,7 @@ module _ (rows : List TypeRow) where
   pub record IsWalking (first : List (Option ℕ)) (t : TypeId) (counts : List (Option ℕ)) (path : List TypeId) : Type 0 where
     pub long : length counts ≡ length rows
     pub made : AreMade rows first → AreMade rows counts
+    pub free : AreMade rows first → AreFree rows first → AreFree rows counts
     pub kept : (p : TypeId) (n : ℕ) → slice_get first p.0 ≡ Some (Some n) → slice_get counts p.0 ≡ Some (Some n)
     pub waits : (p : TypeId) → IsOneOf p path → slice_get counts p.0 ≡ Some None
     pub stack : IsStack rows path
@@ -223,6 +268,7 @@ module _ (rows : List TypeRow) where
   walk_begins counts t l m = record {
     long = l;
     made = λ h. h;
+    free = λ h f. f;
     kept = λ p n e. e;
     waits = λ p o. at_first p o;
     stack = tt;
@@ -245,6 +291,7 @@ module _ (rows : List TypeRow) where
         record {
           long = w.long;
           made = w.made;
+          free = w.free;
           kept = w.kept;
           waits = λ q o. waiting q (one_of_both q (ts ++ top ∷ []) (p ∷ []) o) (missing_is (slice_get counts p.0) f.1);
           stack = pushed ts top p w.stack f.0;
@@ -268,6 +315,7 @@ module _ (rows : List TypeRow) where
         record {
           long = length-set counts top.0 (Some v) ∙ w.long;
           made = λ h. are_made rows counts top v top_waits (w.made h) (record { parts = e; is = n });
+          free = λ h f. are_free rows counts top v top_waits w.long (w.made h) (w.free h f) e;
           kept = λ p m h. got_other counts top.0 p.0 (Some v) (λ s. differ (slice_get counts p.0) m (w.kept p m h) (subst (λ k. slice_get counts k ≡ Some None) s top_waits)) ∙ w.kept p m h;
           waits = λ p o. got_other counts top.0 p.0 (Some v) (λ s. not_top p o s none) ∙ w.waits p (one_of_left p ts (top ∷ []) o);
           stack = popped ts top w.stack;

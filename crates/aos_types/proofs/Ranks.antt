@@ -35,6 +35,26 @@ deepest_same : (f g : TypeId → ℕ) (ts : List TypeId) → ((t : TypeId) → I
 deepest_same f g [] h = refl
 deepest_same f g (x ∷ ts) h = λ i. max (suc (h x (inl refl) i)) (deepest_same f g ts (λ t k. h t (inr k)) i)
 
+abbrev pub IsNumber : ℕ → List ℕ → Type 0
+IsNumber n [] = ⊥
+IsNumber n (x ∷ xs) = (x ≡ n) ⊎ IsNumber n xs
+
+all_differ : (n : ℕ) (hs : List ℕ) → (IsNumber n hs → ⊥) → AllByRecursion (λ y. eqb n y ≡ false) hs
+all_differ n [] no_one = tt
+all_differ n (x ∷ hs) no_one = (at_test (cases_Bool (eqb n x)), all_differ n hs (λ h. no_one (inr h)))
+  where
+    at_test : (eqb n x ≡ true) ⊎ (eqb n x ≡ false) → eqb n x ≡ false
+    at_test (inl a) = absurd (no_one (inl (sym (eqb-true n x a))))
+    at_test (inr b) = b
+
+pub is_number : (q : ℕ) (xs : List ℕ) → list_any (eqb q) xs ≡ true → IsNumber q xs
+is_number q [] e = absurd (cc)
+is_number q (x ∷ xs) e = at_case (λ f. is_number q xs f) (or_cases (eqb q x) (list_any (eqb q) xs) e)
+  where
+    at_case : (list_any (eqb q) xs ≡ true → IsNumber q xs) → (eqb q x ≡ true) ⊎ (list_any (eqb q) xs ≡ true) → IsNumber q (x ∷ xs)
+    at_case deeper (inl a) = inl (sym (eqb-true q x a))
+    at_case deeper (inr b) = inr (deeper b)
+
 module _ (rows : List TypeRow) where
   abbrev parts : TypeId → List TypeId
   parts t = parts_of rows (row_of rows t)
@@ -65,10 +85,6 @@ module _ (rows : List TypeRow) where
   heads_long t [] = refl
   heads_long t (p ∷ ps) = ap (λ n. suc n) (heads_long p ps)
 
-  abbrev IsNumber : ℕ → List ℕ → Type 0
-  IsNumber n [] = ⊥
-  IsNumber n (x ∷ xs) = (x ≡ n) ⊎ IsNumber n xs
-
   heads_there : (t : TypeId) (ps : List TypeId) → IsChain rows t ps → (n : ℕ) → IsNumber n (heads t ps) → n < length rows
   heads_there t [] c n h = absurd h
   heads_there t (p ∷ ps) c n (inl e) = subst (λ z. z < length rows) e (has_row rows t p c.0)
@@ -83,22 +99,6 @@ module _ (rows : List TypeRow) where
       at_case : (p.0 ≡ k.0) ⊎ LeadsTo rows p k → (t.0 ≡ k.0) ⊎ LeadsTo rows t k
       at_case (inl e) = inr (record { between = []; chain = (subst (λ n. IsPartOf rows (record { 0 = n }) t) e c.0, tt) })
       at_case (inr r) = inr (record { between = p ∷ r.between; chain = (c.0, r.chain) })
-
-  all_differ : (n : ℕ) (hs : List ℕ) → (IsNumber n hs → ⊥) → AllByRecursion (λ y. eqb n y ≡ false) hs
-  all_differ n [] no_one = tt
-  all_differ n (x ∷ hs) no_one = (at_test (cases_Bool (eqb n x)), all_differ n hs (λ h. no_one (inr h)))
-    where
-      at_test : (eqb n x ≡ true) ⊎ (eqb n x ≡ false) → eqb n x ≡ false
-      at_test (inl a) = absurd (no_one (inl (sym (eqb-true n x a))))
-      at_test (inr b) = b
-
-  is_number : (q : ℕ) (xs : List ℕ) → list_any (eqb q) xs ≡ true → IsNumber q xs
-  is_number q [] e = absurd (cc)
-  is_number q (x ∷ xs) e = at_case (λ f. is_number q xs f) (or_cases (eqb q x) (list_any (eqb q) xs) e)
-    where
-      at_case : (list_any (eqb q) xs ≡ true → IsNumber q xs) → (eqb q x ≡ true) ⊎ (list_any (eqb q) xs ≡ true) → IsNumber q (x ∷ xs)
-      at_case deeper (inl a) = inl (sym (eqb-true q x a))
-      at_case deeper (inr b) = inr (deeper b)
 
   module _ (free : NoneContainsItself rows) where
     distinct : (t : TypeId) (ps : List TypeId) → IsChain rows t ps → IsDistinct eqb (heads t ps)

@@ -18,8 +18,9 @@ use Rattle.aos_types.specs.Shape.{Shape, size, join}
 use Rattle.aos_types.specs.Contents as contents
 use Rattle.aos_types.specs.Contents.{with_parts, scalars, at_most}
 use Rattle.aos_types.specs.Chain.{held, base_list, parts_of, IsOneOf, IsPartOf, IsRanked, NoneContainsItself}
-use Rattle.aos_types.specs.Count.{capped, count_of, is_missing, of_variable, of_base, of_row, made, AreMade, AreSettled, AreBelow, IsTable, within_limit}
-use Rattle.aos_types.proofs.Reached.{one_of_left, one_of_right}
+use Rattle.aos_types.specs.Count.{capped, count_of, is_missing, of_variable, of_base, of_row, made, AreMade, AreFree, AreSettled, AreBelow, IsTable, within_limit}
+use Rattle.aos_types.proofs.Reached.{one_of_left, one_of_right, begins_added}
+use Rattle.aos_types.proofs.Path.{no_count}
 use Rattle.aos_types.proofs.Ranks.{ranked}
 use Rattle.aos_types.proofs.Tables.{by_parts}
 
@@ -129,9 +130,6 @@ module _ (rows : List TypeRow) (f g : TypeId → ℕ) where
 capped_twice : (a : ℕ) → capped (capped a) ≡ capped a
 capped_twice a = omega arith
 
-no_count : (o : Option (Option ℕ)) (n : Option ℕ) → o ≡ None → o ≡ Some n → ⊥
-no_count o n e f = let g : Some n ≡ None = sym f ∙ e in cc
-
 not_missing : (o : Option (Option ℕ)) → o ≡ Some None → is_missing o ≡ false → ⊥
 not_missing o e f = let k : is_missing o ≡ true = ap is_missing e in cc
 
@@ -152,7 +150,7 @@ module _ (rows : List TypeRow) (counts : List (Option ℕ)) (long : length count
           absurd (no_count (slice_get counts t.0) (get_or counts t.0 None) e (slice_get-get_or counts t.0 None (omega (arith, l, long))))
       at_case (inr g) = slice_get_past rows t.0 g
 
-  right : (n : ℕ) (t : TypeId) → r.rank t < n → capped (made counts t) ≡ capped (scalars rows t)
+  pub right : (n : ℕ) (t : TypeId) → r.rank t < n → capped (made counts t) ≡ capped (scalars rows t)
   right zero t l = absurd (omega arith)
   right (suc n) t l = at_count (slice_get counts t.0) refl (λ p o. right n p (let f = r.falls t p o in omega (arith, f, l)))
     where
@@ -177,6 +175,16 @@ module _ (rows : List TypeRow) (counts : List (Option ℕ)) (long : length count
           let k : m ≡ capped m = i.is ∙ sym (capped_twice x) ∙ ap capped (sym i.is) in
           e ∙ ap (λ z. Some (Some z)) (k ∙ sym (ap (λ z. capped (count_of z)) e) ∙ right (suc (r.rank t)) t (omega arith))
 
+-- where all counts could be made, no type contains itself
+pub none_contains : (rows : List TypeRow) (counts : List (Option ℕ)) → length counts ≡ length rows → AreFree rows counts → ((t : TypeId) → t.0 < length rows → is_missing (slice_get counts t.0) ≡ false) → NoneContainsItself rows
+none_contains rows counts long free whole t way = at_count (slice_get counts t.0) refl (begins_added rows t t way)
+  where
+    at_count : (o : Option (Option ℕ)) → slice_get counts t.0 ≡ o → t.0 < length rows → ⊥
+    at_count None e l =
+        no_count (slice_get counts t.0) (get_or counts t.0 None) e (slice_get-get_or counts t.0 None (omega (arith, l, long)))
+    at_count (Some None) e l = not_missing (slice_get counts t.0) e (whole t l)
+    at_count (Some (Some n)) e l = free t n e way
+
 -- a count that was made is kept
 pub kept_made : (s s' : List (Option ℕ)) → ((p : TypeId) (n : ℕ) → slice_get s p.0 ≡ Some (Some n) → slice_get s' p.0 ≡ Some (Some n)) → (k : ℕ) → k < length s → is_missing (slice_get s k) ≡ false → is_missing (slice_get s' k) ≡ false
 kept_made s s' kept k l h = at_count (slice_get s k) refl
@@ -186,7 +194,7 @@ kept_made s s' kept k l h = at_count (slice_get s k) refl
     at_count (Some None) e = absurd (not_missing (slice_get s k) e h)
     at_count (Some (Some n)) e = ap is_missing (kept (record { 0 = k }) n e)
 
-taken : (xs ys : List (Option ℕ)) (n : ℕ) → n ≡ length xs → take n (xs ++ ys) ≡ xs
+pub taken : {A : Type 0} (xs ys : List A) (n : ℕ) → n ≡ length xs → take n (xs ++ ys) ≡ xs
 taken [] ys n e = subst (λ m. take m ys ≡ []) (sym e) refl
 taken (x ∷ xs) ys n e = subst (λ m. take m (x ∷ (xs ++ ys)) ≡ x ∷ xs) (sym e) (ap (λ z. x ∷ z) (taken xs ys (length xs) refl))
 

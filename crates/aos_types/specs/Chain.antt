@@ -1,7 +1,7 @@
 -- Which types contain themselves: a chain of elements, fields and bases leads from one back to it (Oberon-2 report, 6.3, and
 -- Reali 2002). Pointers, and what is of an object type, end a chain.
-use Rattle.std.specs.Prelude.{◌≡◌, ℕ, ◌<◌, List, [], ◌∷◌, ◌++◌, if◌then◌else◌, Option, Some, None}
-use Rattle.std.specs.List.{flat_map}
+use Rattle.std.specs.Prelude.{◌≡◌, ℕ, zero, suc, ◌<◌, ◌==◌, ◌||◌, List, [], ◌∷◌, ◌++◌, length, map, Bool, false, if◌then◌else◌, Option, Some, None}
+use Rattle.std.specs.List.{flat_map, list_any, range_with_len}
 use mathlib.Core.Logic.{◌⊎◌}
 use Rattle.aos_types.specs.declared.row.TypeId.{TypeId}
 use Rattle.aos_types.specs.declared.row.TypeRow.{TypeRow}
@@ -54,3 +54,22 @@ pub record IsRanked (rows : List TypeRow) : Type 0 where
   pub rank : TypeId → ℕ
   pub bound : (t : TypeId) → rank t < levels rows
   pub falls : (t p : TypeId) → IsPartOf rows p t → rank p < rank t
+
+-- whether a chain of at most so many parts leads from one type to another
+abbrev pub leads_by : ℕ → List TypeRow → TypeId → TypeId → Bool
+leads_by zero rows t p = false
+leads_by (suc n) rows t p = list_any (λ q. q.0 == p.0 || leads_by n rows q p) (parts_of rows (row_of rows t))
+
+-- whether a type contains itself. More parts than there are types lead to nothing new
+abbrev pub contains_itself : List TypeRow → TypeId → Bool
+contains_itself rows t = leads_by (length rows) rows t t
+
+-- for each type whether it contains itself
+abbrev pub circles : List TypeRow → List Bool
+circles rows = map (λ k. contains_itself rows (record { 0 = k })) (range_with_len 0 (length rows))
+
+-- each of these types becomes a record without fields
+abbrev pub cut : List Bool → List TypeRow → List TypeRow
+cut [] rows = rows
+cut (b ∷ bs) [] = []
+cut (b ∷ bs) (r ∷ rows) = (if b then row.Record None [] else r) ∷ cut bs rows

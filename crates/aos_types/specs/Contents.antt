@@ -50,3 +50,7 @@ scalars rows t = size (contents rows t)
 -- a number that isn't above another
 abbrev pub at_most : ℕ → ℕ → Option ℕ
 at_most most n = (if nat_le n most then Some n else None)
+
+-- how many scalars a variable, an element or a field of a type has
+abbrev pub variable_scalars : List TypeRow → TypeId → ℕ
+variable_scalars rows t = size (of_variable (contents rows) rows t)

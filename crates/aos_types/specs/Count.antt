@@ -1,13 +1,13 @@
 -- Counts of scalars that are kept beside the rows, each up to one more than a type may have: a count that isn't made yet is None.
-use Rattle.std.specs.Prelude.{◌≡◌, ℕ, ◌+◌, ◌*◌, ◌^◌, ◌<◌, ◌≤◌, min, List, [], ◌∷◌, ◌++◌, length, sum_by, Bool, true, false, if◌then◌else◌, Option, Some, None, slice_get}
-use Rattle.std.specs.List.{find}
+use Rattle.std.specs.Prelude.{◌≡◌, ℕ, ◌+◌, ◌*◌, ◌^◌, ◌<◌, ◌≤◌, min, List, [], ◌∷◌, ◌++◌, length, take, sum_by, Bool, true, false, if◌then◌else◌, Option, Some, None, slice_get}
+use Rattle.std.specs.List.{find, flat_map}
 use Rattle.aos_types.specs.declared.TheConstants.{MOST_SCALARS}
 use Rattle.aos_types.specs.declared.row.TypeId.{TypeId}
 use Rattle.aos_types.specs.declared.row.TypeRow.{TypeRow}
 use Rattle.aos_types.specs.declared.row.TypeRow.TheVariants as row
 use Rattle.aos_types.specs.Table.{row_of, is_object}
 use Rattle.aos_types.specs.Contents.{at_most}
-use Rattle.aos_types.specs.Chain.{parts_of, base_list, IsOneOf, NoneContainsItself}
+use Rattle.aos_types.specs.Chain.{held, parts_of, base_list, IsOneOf, ContainsItself, NoneContainsItself}
 
 abbrev pub capped : ℕ → ℕ
 capped n = min n (MOST_SCALARS + 1)
@@ -59,6 +59,16 @@ first_missing counts ts = find (λ p. is_missing (slice_get counts p.0)) ts
 abbrev pub missing_part : List TypeRow → List (Option ℕ) → TypeId → Option TypeId
 missing_part rows counts t = first_missing counts (parts_of rows (row_of rows t))
 
+-- the types of the own fields of a record or an object
+abbrev pub fields_of : Option TypeRow → List TypeId
+fields_of (Some (row.Record base fields)) = fields
+fields_of (Some (row.Object base fields)) = fields
+fields_of _ = []
+
+-- the first so many fields have their counts
+abbrev pub AreSeen : List TypeRow → List (Option ℕ) → List TypeId → ℕ → Type 0
+AreSeen rows counts fields n = first_missing counts (flat_map (held rows) (take n fields)) ≡ None
+
 -- each count that is made is that of the type's row, whose parts have theirs
 pub record IsMade (rows : List TypeRow) (counts : List (Option ℕ)) (t : TypeId) (n : ℕ) : Type 0 where
   pub parts : missing_part rows counts t ≡ None
@@ -66,6 +76,10 @@ pub record IsMade (rows : List TypeRow) (counts : List (Option ℕ)) (t : TypeId
 
 abbrev pub AreMade : List TypeRow → List (Option ℕ) → Type 0
 AreMade rows counts = (t : TypeId) (n : ℕ) → slice_get counts t.0 ≡ Some (Some n) → IsMade rows counts t n
+
+-- no type whose count is made contains itself
+abbrev pub AreFree : List TypeRow → List (Option ℕ) → Type 0
+AreFree rows counts = (t : TypeId) (n : ℕ) → slice_get counts t.0 ≡ Some (Some n) → ContainsItself rows t → ⊥
 
 -- the first so many types have their counts, where no type contains itself
 pub record AreSettled (rows : List TypeRow) (counts : List (Option ℕ)) (n : ℕ) : Type 0 where

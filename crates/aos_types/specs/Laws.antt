@@ -9,10 +9,10 @@ pub record BeginsWith (whole front : Shape TypeId) : Type 0 where
   pub is : whole ≡ join front more
 
 -- ways to scalars that stand apart from each other, below the size
-abbrev pub AreApart : Shape TypeId → List ℕ → List ℕ → Type 0
+abbrev pub AreApart : {S : Type 0} → Shape S → List ℕ → List ℕ → Type 0
 AreApart s p q = (offset p s ≡ offset q s → p ≡ q) × (offset p s < size s)
 
 -- a way to a scalar
-pub record IsScalar (s : Shape TypeId) (p : List ℕ) : Type 0 where
-  pub kind : TypeId
+pub record IsScalar {S : Type 0} (s : Shape S) (p : List ℕ) : Type 0 where
+  pub kind : S
   pub there : inside p s ≡ Some (One kind)

@@ -7,4 +7,5 @@ pub mod Contents
 pub mod Chain
 pub mod Walk
 pub mod Count
+pub mod Limit
 pub mod Laws

@@ -26,6 +26,19 @@ abbrev pub is_pointer : Option TypeRow → Bool
 is_pointer (Some (row.Pointer t)) = true
 is_pointer _ = false
 
+abbrev pub is_open : Option TypeRow → Bool
+is_open (Some (row.Open t)) = true
+is_open _ = false
+
+-- a value of the type is one scalar
+abbrev pub is_scalar : Option TypeRow → Bool
+is_scalar (Some (row.Basic b)) = true
+is_scalar (Some (row.Pointer t)) = true
+is_scalar (Some (row.Object base fields)) = true
+is_scalar (Some (row.Procedure formals r)) = true
+is_scalar (Some row.Any) = true
+is_scalar _ = false
+
 abbrev pub is_char : Option TypeRow → Bool
 is_char (Some (row.Basic basic.Char)) = true
 is_char _ = false

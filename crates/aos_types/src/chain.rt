@@ -1,12 +1,14 @@
 // Which types contain themselves.
 
-ghost use Rattle.std.specs.Prelude.{◌≡◌, ◌↔◌, ◌+◌, ◌<◌, ◌^◌, List, OnSome, OnOk, IfOk, IsTrue, length, slice_get};
+ghost use Rattle.std.specs.Prelude.{◌≡◌, ◌↔◌, ◌+◌, ◌<◌, ◌≤◌, ◌^◌, List, OnSome, OnOk, IfOk, IsTrue, length, replicate, slice_get, slice_set, [], None, false};
 ghost use Rattle.std.specs.List.{flat_map};
+ghost use Rattle.aos_types.specs.declared.row.TypeRow.TheVariants as row;
 ghost use Rattle.aos_types.specs.Table as table;
 ghost use Rattle.aos_types.specs.Chain as chain;
 ghost use Rattle.aos_types.specs.Walk as walk;
 
 use crate::extension::row_of;
+use crate::items::Items;
 use crate::row::{TypeId, TypeRow};
 use std::alloc::{AllocError, Global};
 use std::marker::Model;
@@ -108,12 +110,19 @@ impl Walk {
     }
 }
 
+/// A mark for each type, not made yet.
+pub(crate) fn no_marks(alloc: Global, types: usize) -> Result<Vec<bool>, AllocError>
+    ensures { IfOk result (λ marks. marks.items ≡ replicate types false) }
+{
+    vec![in alloc; false; types]
+}
+
 /// A walk that hasn't begun.
 fn unbegun(alloc: Global, types: usize) -> Result<Walk, AllocError>
     ensures { IfOk result (λ w. w ≡ walk.unbegun types) }
 {
     Ok(Walk {
-        seen: vec![in alloc; false; types]?,
+        seen: no_marks(alloc, types)?,
         order: Vec::new(alloc),
     })
 }
@@ -134,4 +143,37 @@ pub(crate) fn contains_itself(
         next += 1;
     }
     Ok(walk.has(t))
+}
+
+/// For each type whether it contains itself.
+#[tactic(auto, using(crate::proofs::Cut::test_is))]
+pub(crate) fn circles(alloc: Global, rows: &[TypeRow]) -> Result<Vec<bool>, AllocError>
+    requires few { length rows.now ≤ 2 ^ 32 }
+    ensures { IfOk result (λ flags. flags.items ≡ chain.circles rows.now) }
+{
+    let mut flags = Vec::with_capacity(alloc, rows.len())?;
+    for number in 0..rows.len() {
+        let is_circle = contains_itself(alloc, rows, TypeId(number as u32))?;
+        flags.push_reserved(is_circle);
+    }
+    Ok(flags)
+}
+
+fn cut_one(alloc: Global, rows: &mut [TypeRow], number: usize)
+    requires { number < length rows.old }
+    ensures { rows.new ≡ slice_set rows.old number (row.Record None []) }
+{
+    rows[number] = TypeRow::Record(None, Items::new(alloc));
+}
+
+/// Makes each marked type a record without fields.
+pub(crate) fn cut(alloc: Global, rows: &mut [TypeRow], flags: &[bool])
+    requires long { length flags.now ≡ length rows.old }
+    ensures { rows.new ≡ chain.cut flags.now rows.old }
+{
+    for number in 0..rows.len() {
+        if flags[number] {
+            cut_one(alloc, rows, number);
+        }
+    }
 }

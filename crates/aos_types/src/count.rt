@@ -1,7 +1,7 @@
 // How many scalars types have. The counts are kept beside the rows, since without them a type that is named twice by each of
 // many others would be looked at over and over.
 
-ghost use Rattle.std.specs.Prelude.{◌≡◌, ◌+◌, ◌-◌, ◌<◌, ◌≤◌, ◌^◌, ◌++◌, ℕ, length, slice_get, vec_capacity, IsTrue, OnSome, false, sum_by};
+ghost use Rattle.std.specs.Prelude.{◌≡◌, ◌↔◌, ◌+◌, ◌-◌, ◌<◌, ◌≤◌, ◌^◌, ◌++◌, ℕ, length, slice_get, vec_capacity, IsTrue, OnSome, false, sum_by};
 ghost use Rattle.std.specs.List.{flat_map};
 ghost use Rattle.aos_types.specs.declared.row.TypeId.{TypeId};
 ghost use Rattle.aos_types.specs.Table as table;
@@ -12,6 +12,13 @@ use crate::MOST_SCALARS;
 use crate::extension::row_of;
 use crate::row::{TypeId, TypeRow};
 
+/// A type on a walk, and how many of its first fields were seen to have their counts.
+#[derive(Clone, Copy, Debug)]
+pub(crate) struct Step {
+    at: TypeId,
+    seen: usize,
+}
+
 /// A count, up to one more than a type may have.
 fn capped(scalars: u64) -> u32
     ensures { result ≡ count.capped scalars }
@@ -20,7 +27,7 @@ fn capped(scalars: u64) -> u32
 }
 
 /// The count of a type, 0 where it isn't made.
-fn made(counts: &[Option<u32>], t: TypeId) -> u32
+pub(crate) fn made(counts: &[Option<u32>], t: TypeId) -> u32
     ensures { result ≡ count.count_of (slice_get counts.now t.0) }
 {
     match counts.get(t.0 as usize) {
@@ -103,13 +110,23 @@ fn missing_held(rows: &[TypeRow], counts: &[Option<u32>], t: TypeId) -> Option<T
     }
 }
 
-fn missing_field(rows: &[TypeRow], counts: &[Option<u32>], fields: &[TypeId]) -> Option<TypeId>
-    ensures { result ≡ count.first_missing counts.now (flat_map (chain.held rows.now) fields.now) }
+/// The first field whose count isn't made. The first fields that were seen to have theirs are not looked at again.
+fn missing_field(
+    rows: &[TypeRow],
+    counts: &[Option<u32>],
+    fields: &[TypeId],
+    seen: &mut usize,
+) -> Option<TypeId>
+    requires before { count.AreSeen rows.now counts.now fields.now seen.old }
+    ensures first { result ≡
+        count.first_missing counts.now (flat_map (chain.held rows.now) fields.now) }
+    ensures after { count.AreSeen rows.now counts.now fields.now seen.new }
 {
-    for field in fields {
-        if let Some(part) = missing_held(rows, counts, *field) {
+    while *seen < fields.len() {
+        if let Some(part) = missing_held(rows, counts, fields[*seen]) {
             return Some(part);
         }
+        *seen += 1;
     }
     None
 }
@@ -121,30 +138,42 @@ fn missing_of(
     counts: &[Option<u32>],
     base: Option<TypeId>,
     fields: &[TypeId],
+    seen: &mut usize,
 ) -> Option<TypeId>
-    ensures { result ≡ count.first_missing counts.now
+    requires before { count.AreSeen rows.now counts.now fields.now seen.old }
+    ensures first { result ≡ count.first_missing counts.now
         (chain.base_list base ++ flat_map (chain.held rows.now) fields.now) }
+    ensures after { count.AreSeen rows.now counts.now fields.now seen.new }
 {
     if let Some(base) = base {
         if is_missing(counts, base) {
             return Some(base);
         }
     }
-    missing_field(rows, counts, fields)
+    missing_field(rows, counts, fields, seen)
 }
 
 /// The first part of a type whose count isn't made.
-fn missing_part(rows: &[TypeRow], counts: &[Option<u32>], t: TypeId) -> Option<TypeId>
-    ensures { result ≡ count.missing_part rows.now counts.now t }
+fn missing_part(
+    rows: &[TypeRow],
+    counts: &[Option<u32>],
+    t: TypeId,
+    seen: &mut usize,
+) -> Option<TypeId>
+    requires before { count.AreSeen rows.now counts.now
+        (count.fields_of (table.row_of rows.now t)) seen.old }
+    ensures first { result ≡ count.missing_part rows.now counts.now t }
+    ensures after { count.AreSeen rows.now counts.now
+        (count.fields_of (table.row_of rows.now t)) seen.new }
 {
     match row_of(rows, t) {
         Some(TypeRow::Array(_, element)) => missing_held(rows, counts, *element),
         Some(TypeRow::Open(element)) => missing_held(rows, counts, *element),
         Some(TypeRow::Record(base, fields)) => {
-            missing_of(rows, counts, *base, fields.as_slice())
+            missing_of(rows, counts, *base, fields.as_slice(), seen)
         },
         Some(TypeRow::Object(base, fields)) => {
-            missing_of(rows, counts, *base, fields.as_slice())
+            missing_of(rows, counts, *base, fields.as_slice(), seen)
         },
         _ => None,
     }
@@ -152,15 +181,12 @@ fn missing_part(rows: &[TypeRow], counts: &[Option<u32>], t: TypeId) -> Option<T
 
 /// Makes the count of a type, and before it those of all that it is made of: by a walk along their parts, on which each type
 /// is a part of the one before it. False only where a type contains itself, which the walk would never leave.
-fn count_from(
-    rows: &[TypeRow],
-    counts: &mut [Option<u32>],
-    path: &mut Vec<TypeId>,
-    t: TypeId,
-) -> bool
+fn count_from(rows: &[TypeRow], counts: &mut [Option<u32>], path: &mut Vec<Step>, t: TypeId) -> bool
     requires long { length counts.old ≡ length rows.now }
     requires room { length rows.now < vec_capacity path.old }
     ensures made { count.AreMade rows.now counts.old → count.AreMade rows.now counts.new }
+    ensures free { count.AreMade rows.now counts.old → count.AreFree rows.now counts.old →
+        count.AreFree rows.now counts.new }
     ensures kept { (p : TypeId) (n : ℕ) → slice_get counts.old p.0 ≡ Some (Some n) →
         slice_get counts.new p.0 ≡ Some (Some n) }
     ensures own { IsTrue result → count.is_missing (slice_get counts.new t.0) ≡ false }
@@ -171,30 +197,32 @@ fn count_from(
     if !is_missing(counts, t) {
         return true;
     }
-    path.push_reserved(t);
+    path.push_reserved(Step { at: t, seen: 0 });
     while let Some(top) = path.pop() {
-        match missing_part(rows, counts, top) {
+        let mut seen = top.seen;
+        match missing_part(rows, counts, top.at, &mut seen) {
             Some(part) => {
-                path.push_reserved(top);
+                path.push_reserved(Step { at: top.at, seen });
                 if path.len() > rows.len() {
                     return false;
                 }
-                path.push_reserved(part);
+                path.push_reserved(Step { at: part, seen: 0 });
             },
             None => {
-                let own = of_type(rows, counts, top);
-                counts[top.0 as usize] = Some(own);
+                let own = of_type(rows, counts, top.at);
+                counts[top.at.0 as usize] = Some(own);
             },
         }
     }
     true
 }
 
-/// Makes all counts anew. Where a type contains itself some are left out.
-pub(crate) fn count_all(rows: &[TypeRow], counts: &mut [Option<u32>], path: &mut Vec<TypeId>)
+/// Makes all counts anew, and tells whether it could: where a type contains itself some are left out.
+pub(crate) fn count_all(rows: &[TypeRow], counts: &mut [Option<u32>], path: &mut Vec<Step>) -> bool
     requires few { length rows.now ≤ 2 ^ 32 }
     requires long { length counts.old ≡ length rows.now }
     requires room { length rows.now < vec_capacity path.old }
+    ensures free { IsTrue result ↔ chain.NoneContainsItself rows.now }
     ensures settled { chain.NoneContainsItself rows.now →
         count.AreSettled rows.now counts.new (length rows.now) }
     ensures capacity { vec_capacity path.new ≡ vec_capacity path.old }
@@ -202,9 +230,10 @@ pub(crate) fn count_all(rows: &[TypeRow], counts: &mut [Option<u32>], path: &mut
     counts.fill(None);
     for number in 0..rows.len() {
         if !count_from(rows, counts, path, TypeId(number as u32)) {
-            return;
+            return false;
         }
     }
+    true
 }
 
 /// Whether a row is an array of its own type.
@@ -237,7 +266,7 @@ fn array_of_itself(rows: &[TypeRow], from: usize, to: usize) -> Option<TypeId>
 pub(crate) fn recount(
     rows: &[TypeRow],
     counts: &mut [Option<u32>],
-    path: &mut Vec<TypeId>,
+    path: &mut Vec<Step>,
     waiting: &mut TypeId,
 )
     requires few { length rows.now ≤ 2 ^ 32 }
@@ -256,14 +285,14 @@ pub(crate) fn recount(
         *waiting = number;
         return;
     }
-    count_all(rows, counts, path);
+    let _are_made = count_all(rows, counts, path);
 }
 
 /// Makes the count of the last type, which no other names where it is new.
 pub(crate) fn count_last(
     rows: &[TypeRow],
     counts: &mut [Option<u32>],
-    path: &mut Vec<TypeId>,
+    path: &mut Vec<Step>,
     waiting: &mut TypeId,
     is_new: bool,
 )
@@ -286,7 +315,7 @@ pub(crate) fn count_last(
         return;
     }
     if !is_new {
-        count_all(rows, counts, path);
+        let _are_made = count_all(rows, counts, path);
         return;
     }
     let _is_made = count_from(rows, counts, path, last);

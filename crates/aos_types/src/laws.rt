@@ -5,7 +5,7 @@ ghost use Rattle.aos_types.specs.declared.row.TypeId.{TypeId};
 ghost use Rattle.aos_types.specs.declared.row.TypeRow.{TypeRow};
 ghost use Rattle.aos_types.specs.Table.{row_of, has_fields};
 ghost use Rattle.aos_types.specs.Contents.{contents, with_parts};
-ghost use Rattle.aos_types.specs.Chain.{NoneContainsItself, IsRanked};
+ghost use Rattle.aos_types.specs.Chain.{ContainsItself, NoneContainsItself, IsRanked, contains_itself};
 ghost use Rattle.aos_types.specs.Extension.{comes_to, extends, BasesLead};
 ghost use Rattle.aos_types.specs.Laws.{BeginsWith, IsScalar, AreApart};
 
@@ -44,4 +44,10 @@ pub fn law_of_offsets()
     ensures { (rows : List TypeRow) (t : TypeId) (p q : List ℕ) →
         IsScalar (contents rows t) p → IsScalar (contents rows t) q →
         AreApart (contents rows t) p q }
+{}
+
+/// The test whether a type contains itself is the chain of its definition.
+pub fn law_of_circles()
+    ensures { (rows : List TypeRow) (t : TypeId) →
+        IsTrue (contains_itself rows t) ↔ ContainsItself rows t }
 {}

@@ -8,6 +8,7 @@ mod extension;
 mod fit;
 mod items;
 mod laws;
+mod limit;
 mod row;
 mod sameness;
 mod table;
@@ -17,7 +18,8 @@ pub const MOST_SCALARS: u32 = 16_777_216;
 
 pub use items::Items;
 pub use laws::{
-    law_of_bases, law_of_contents, law_of_extension, law_of_fronts, law_of_offsets, law_of_ranks,
+    law_of_bases, law_of_circles, law_of_contents, law_of_extension, law_of_fronts, law_of_offsets,
+    law_of_ranks,
 };
 pub use row::{Basic, TypeId, TypeRow};
 pub use table::Types;

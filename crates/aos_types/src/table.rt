@@ -1,16 +1,17 @@
 // The table of types.
 
 ghost use Rattle.std.specs.Prelude.{◌≡◌, ◌↔◌, ◌<◌, ◌^◌, ◌++◌, ◌∷◌, [], length, slice_get, slice_set, IfOk, OnOk, OnErr, IsTrue};
-ghost use Rattle.aos_types.specs.Chain.{ContainsItself, NoneContainsItself};
-ghost use Rattle.aos_types.specs.Contents.{at_most, scalars};
+ghost use Rattle.aos_types.specs.Chain.{ContainsItself, NoneContainsItself, circles, cut};
+ghost use Rattle.aos_types.specs.Contents.{at_most, scalars, variable_scalars as variable_scalars_of};
+ghost use Rattle.aos_types.specs.Limit.{is_first_past as is_first_past_of};
 ghost use Rattle.aos_types.specs.declared.TheConstants.{MOST_SCALARS};
 ghost use Rattle.aos_types.specs.Extension.{extends as extends_of};
 ghost use Rattle.aos_types.specs.Sameness.{same as same_of};
 ghost use Rattle.aos_types.specs.Fit.{fits as fits_of};
 
-use crate::count::{above, count_last, recount, within_limit};
+use crate::count::{Step, above, count_all, count_last, recount, within_limit};
 use crate::row::{TypeId, TypeRow};
-use crate::{chain, extension, fit, sameness};
+use crate::{chain, extension, fit, limit, sameness};
 use aos_base::NoMemory;
 use std::alloc::Global;
 use std::marker::Model;
@@ -20,7 +21,7 @@ use std::marker::Model;
 pub struct Types {
     rows: Vec<TypeRow>,
     counts: Vec<Option<u32>>,
-    path: Vec<TypeId>,
+    path: Vec<Step>,
     waiting: TypeId,
     above: u64,
 }
@@ -141,13 +142,9 @@ impl Types {
     pub fn none_contains_itself(&self, alloc: Global) -> Result<bool, NoMemory>
         ensures { IfOk result (λ none. IsTrue none ↔ NoneContainsItself self.now) }
     {
-        let rows = self.rows.as_slice();
-        for number in 0..rows.len() {
-            if chain::contains_itself(alloc, rows, TypeId(number as u32))? {
-                return Ok(false);
-            }
-        }
-        Ok(true)
+        let mut counts = vec![in alloc; None; self.rows.len()]?;
+        let mut path = Vec::with_capacity(alloc, self.rows.len() + 1)?;
+        Ok(count_all(&self.rows, &mut counts, &mut path))
     }
 
     /// How many scalars a type has: None exactly past 2^24. Of an object type it counts those of an object's fields, its
@@ -158,5 +155,49 @@ impl Types {
         ensures { result ≡ at_most MOST_SCALARS (scalars self.now t) }
     {
         within_limit(self.counts[t.0 as usize])
+    }
+
+    /// How many scalars a variable, an element or a field of a type has: None exactly past 2^24.
+    pub fn variable_scalars(&self, t: TypeId) -> Option<u32>
+        requires added { t.0 < length self.now }
+        requires none_contains_itself { NoneContainsItself self.now }
+        ensures { result ≡ at_most MOST_SCALARS (variable_scalars_of self.now t) }
+    {
+        match self.row(t) {
+            TypeRow::Object(_, _) => Some(1),
+            _ => self.leaves(t),
+        }
+    }
+
+    /// Whether a type has more scalars than a type may have, though none of its parts and not its base has.
+    pub fn is_first_past(&self, t: TypeId) -> bool
+        requires added { t.0 < length self.now }
+        requires none_contains_itself { NoneContainsItself self.now }
+        ensures { result ≡ is_first_past_of self.now t }
+    {
+        limit::is_first_past(&self.rows, &self.counts, t)
+    }
+
+    /// For each type whether it contains itself. Each that does becomes a record without fields, so that none does. Without
+    /// memory the table stays as it was.
+    pub fn cut_circles(&mut self, alloc: Global) -> Result<Vec<bool>, NoMemory>
+        ensures circles { IfOk result (λ flags. flags.items ≡ circles self.old) }
+        ensures ok { OnOk result (self.new ≡ cut (circles self.old) self.old) }
+        ensures none_left { OnOk result (NoneContainsItself self.new) }
+        ensures err { OnErr result (self.new ≡ self.old) }
+    {
+        if self.none_contains_itself(alloc)? {
+            let flags = chain::no_marks(alloc, self.rows.len())?;
+            return Ok(flags);
+        }
+        let flags = chain::circles(alloc, &self.rows)?;
+        chain::cut(alloc, &mut self.rows, &flags);
+        recount(
+            &self.rows,
+            &mut self.counts,
+            &mut self.path,
+            &mut self.waiting,
+        );
+        Ok(flags)
     }
 }
