@@ -5,7 +5,7 @@ use Rattle.aos_base.specs.Question.{Ask, Reads, Stores, Ends, Makes, Starts, Put
 use Rattle.aos_code.specs.declared.instr.Cell.{Cell}
 use Rattle.aos_code.specs.declared.instr.Cell.TheVariants.{Num, Ref, Place}
 use Rattle.aos_code.specs.declared.instr.Kind.{Kind}
-use Rattle.aos_code.specs.declared.instr.Kind.TheVariants.{N, R}
+use Rattle.aos_code.specs.declared.instr.Kind.TheVariants.{N, R, C, A}
 use Rattle.aos_code.specs.declared.instr.Root.TheVariants.{Module as ModuleRoot}
 use Rattle.aos_code.specs.declared.instr.Instr.{Instr}
 use Rattle.aos_code.specs.declared.instr.Instr.TheVariants.{Num as NumInstr, Dup, Swap, Module, Unary, Binary, Fail, Assert, Halt, Jump, JumpFalse, Begin, Load, Store, NewObject, Start, Return, OutChar, OutInt, OutLn, OutOpen}
@@ -79,6 +79,9 @@ gives v s = Goes 0 (v ∷ s)
 abbrev pub stores : Kind → Stack → Act
 stores N s = on_number (λ v s1. on_place (λ p s2. Sees (Stores p (Num v)) s2) s1) s
 stores R s = on_object (λ o s1. on_place (λ p s2. Sees (Stores p (Ref o)) s2) s1) s
+-- no operand is of these kinds yet
+stores C s = Stops lost
+stores A s = Stops lost
 
 abbrev pub given : Given → Stack → Act
 given (Number z) s = gives (Num z) s

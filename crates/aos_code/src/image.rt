@@ -1,6 +1,6 @@
 // What the kernel runs.
 
-use crate::instr::{Cell, Instr};
+use crate::instr::{Cell, Instr, Kind};
 
 /// The code of a procedure.
 #[derive(Drop, Debug)]
@@ -8,10 +8,38 @@ pub struct Body {
     pub code: Vec<Instr>,
 }
 
-/// What is known of a procedure: the number of the module in which it stands.
+/// What a parameter takes in a frame.
+#[derive(Clone, Copy, PartialEq, Eq, Debug)]
+pub enum ParamKind {
+    /// A value of one cell, of this kind.
+    Scalar(Kind),
+    /// A record or an array by value, of so many cells.
+    Whole(u32),
+    /// The place of a variable.
+    Place,
+    /// The place of an open array, and its lengths: how many dimensions are open, whether it is passed by value, and how many
+    /// cells an element has.
+    Open(u32, bool, u32),
+}
+
+/// What is known of a procedure.
 #[derive(Drop, Debug)]
 pub struct ProcShape {
+    /// The number of the module in which it stands, in load order from 0.
     pub module: u32,
+    pub params: Vec<ParamKind>,
+    /// How many cells its parameters and locals have.
+    pub cells: u32,
+    /// How many of them count as scalars of a frame.
+    pub counted: u32,
+    /// How many cells more a frame keeps values in that its statements are to use later.
+    pub keeps: u32,
+    /// The kind of what a function gives.
+    pub result: Option<Kind>,
+    /// It is called on an object.
+    pub method: bool,
+    /// The kinds of its cells, in their order.
+    pub kinds: Vec<Kind>,
 }
 
 /// A module: its name, what its cells hold at first, and the number of the procedure that is its body, 0 for none.

@@ -25,6 +25,10 @@ pub enum Kind {
     N,
     /// An object or NIL.
     R,
+    /// A procedure value; no cell holds one yet.
+    C,
+    /// A place.
+    A,
 }
 
 /// An instruction. It takes its operands from the stack, the last one from the top, and puts its result there.

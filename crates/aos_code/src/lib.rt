@@ -5,6 +5,6 @@ pub mod image;
 pub mod instr;
 pub mod report;
 
-pub use image::{Body, Image, ModuleDesc, ProcShape, TypeDesc};
+pub use image::{Body, Image, ModuleDesc, ParamKind, ProcShape, TypeDesc};
 pub use instr::{Cell, Instr, Kind, Root};
 pub use report::TrapRec;

@@ -399,6 +399,8 @@ fn act_on(instr: Instr, code: &[Instr], at: usize, stack: &mut Vec<Cell>) -> Act
         Instr::Load(_) => ask_read(stack),
         Instr::Store(Kind::N) => ask_store_number(stack),
         Instr::Store(Kind::R) => ask_store_object(stack),
+        Instr::Store(Kind::C) => LOST,
+        Instr::Store(Kind::A) => LOST,
         Instr::NewObject(t) => Act::Sees(Question::Makes(t)),
         Instr::Start => ask_start(stack),
         Instr::Return => Act::Ends,

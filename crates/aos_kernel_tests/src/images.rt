@@ -3,6 +3,19 @@
 use aos_code::{Body, Image, Instr, ModuleDesc, ProcShape};
 use std::alloc::{AllocError, Global};
 
+fn body_shape(alloc: Global) -> ProcShape {
+    ProcShape {
+        module: 0,
+        params: Vec::new(alloc),
+        cells: 0,
+        counted: 0,
+        keeps: 0,
+        result: None,
+        method: false,
+        kinds: Vec::new(alloc),
+    }
+}
+
 /// One module, whose body has this code.
 pub fn of_code(alloc: Global, code: Vec<Instr>) -> Result<Image, AllocError> {
     let module = ModuleDesc {
@@ -13,7 +26,7 @@ pub fn of_code(alloc: Global, code: Vec<Instr>) -> Result<Image, AllocError> {
     Ok(Image {
         modules: vec![in alloc; module]?,
         types: Vec::new(alloc),
-        shapes: vec![in alloc; ProcShape { module: 0 }]?,
+        shapes: vec![in alloc; body_shape(alloc)]?,
         bodies: vec![in alloc; Body { code }]?,
     })
 }
