@@ -88,7 +88,7 @@ good_number (literal.Int z) h = at (type_as (type_of_literal (literal.Int z))) h
     at type.Boolean h = absurd h
     at type.Char h = absurd h
     at type.Set h = absurd h
-    at (type.Object o) h = absurd h
+    at (type.Named o) h = absurd h
 good_number (literal.Bool true) h = record { low = omega (arith, ints); high = omega (arith, ints) }
 good_number (literal.Bool false) h = record { low = omega (arith, ints); high = omega (arith, ints) }
 good_number (literal.Char c) h = record { low = omega (arith, ints); high = omega (arith, ints, h) }

@@ -265,7 +265,7 @@ module _ (p : Program) where
       ordered_basic type.Boolean e = refl
       ordered_basic type.Char e = refl
       ordered_basic type.Set e = refl
-      ordered_basic (type.Object o) e = e
+      ordered_basic (type.Named o) e = e
 
       by_others : (op.are_booleans (Some t) (Some u) ≡ true) ⊎ (op.are_sets (Some t) (Some u) ≡ true) → AreCompared r x y
       by_others (inl e) = same_compared r boolean (each type.Boolean refl) t u x y h k e

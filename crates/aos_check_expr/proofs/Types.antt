@@ -57,31 +57,31 @@ includes_itself (type.Integer W64) = refl
 includes_itself type.Boolean = refl
 includes_itself type.Char = refl
 includes_itself type.Set = refl
-includes_itself (type.Object o) = eq-eqb o o refl
+includes_itself (type.Named o) = eq-eqb o o refl
 
 includes_boolean : (u : TType) → Includes u type.Boolean → u ≡ type.Boolean
 includes_boolean type.Boolean i = refl
 includes_boolean (type.Integer w) i = cc
 includes_boolean type.Char i = cc
 includes_boolean type.Set i = cc
-includes_boolean (type.Object o) i = cc
+includes_boolean (type.Named o) i = cc
 
 includes_char : (u : TType) → Includes u type.Char → u ≡ type.Char
 includes_char type.Char i = refl
 includes_char (type.Integer w) i = cc
 includes_char type.Boolean i = cc
 includes_char type.Set i = cc
-includes_char (type.Object o) i = cc
+includes_char (type.Named o) i = cc
 
 includes_set : (u : TType) → Includes u type.Set → u ≡ type.Set
 includes_set type.Set i = refl
 includes_set (type.Integer w) i = cc
 includes_set type.Boolean i = cc
 includes_set type.Char i = cc
-includes_set (type.Object o) i = cc
+includes_set (type.Named o) i = cc
 
-includes_object : (u : TType) (o : ℕ) → Includes u (type.Object o) → u ≡ type.Object o
-includes_object (type.Object q) o i = ap (λ n. type.Object n) (eqb-true q o i)
+includes_object : (u : TType) (o : ℕ) → Includes u (type.Named o) → u ≡ type.Named o
+includes_object (type.Named q) o i = ap (λ n. type.Named n) (eqb-true q o i)
 includes_object type.Boolean o i = cc
 includes_object (type.Integer w) o i = cc
 includes_object type.Char o i = cc
@@ -94,7 +94,7 @@ integer_in P w each (type.Integer v) i = each v i
 integer_in P w each type.Boolean i = absurd (cc)
 integer_in P w each type.Char i = absurd (cc)
 integer_in P w each type.Set i = absurd (cc)
-integer_in P w each (type.Object o) i = absurd (cc)
+integer_in P w each (type.Named o) i = absurd (cc)
 
 pub includes_on : (u t s : TType) → Includes u t → Includes t s → Includes u s
 includes_on u t (type.Integer w) i j =
@@ -106,7 +106,7 @@ includes_on u t (type.Integer w) i j =
 includes_on u t type.Boolean i j = subst (Includes u) (includes_boolean t j) i
 includes_on u t type.Char i j = subst (Includes u) (includes_char t j) i
 includes_on u t type.Set i j = subst (Includes u) (includes_set t j) i
-includes_on u t (type.Object o) i j = subst (Includes u) (includes_object t o j) i
+includes_on u t (type.Named o) i j = subst (Includes u) (includes_object t o j) i
 
 -- Literals and expressions.
 
@@ -115,29 +115,29 @@ literal_wider (literal.Int n) (type.Integer w) u i h = integer_in (λ u. IsLiter
 literal_wider (literal.Int n) type.Boolean u i h = absurd h
 literal_wider (literal.Int n) type.Char u i h = absurd h
 literal_wider (literal.Int n) type.Set u i h = absurd h
-literal_wider (literal.Int n) (type.Object o) u i h = absurd h
+literal_wider (literal.Int n) (type.Named o) u i h = absurd h
 literal_wider (literal.Bool b) (type.Integer w) u i h = absurd h
 literal_wider (literal.Bool b) type.Boolean u i h = subst (λ u. IsLiteral (literal.Bool b) u) (sym (includes_boolean u i)) h
 literal_wider (literal.Bool b) type.Char u i h = absurd h
 literal_wider (literal.Bool b) type.Set u i h = absurd h
-literal_wider (literal.Bool b) (type.Object o) u i h = absurd h
+literal_wider (literal.Bool b) (type.Named o) u i h = absurd h
 literal_wider (literal.Char c) (type.Integer w) u i h = absurd h
 literal_wider (literal.Char c) type.Boolean u i h = absurd h
 literal_wider (literal.Char c) type.Char u i h = subst (λ u. IsLiteral (literal.Char c) u) (sym (includes_char u i)) h
 literal_wider (literal.Char c) type.Set u i h = absurd h
-literal_wider (literal.Char c) (type.Object o) u i h = absurd h
+literal_wider (literal.Char c) (type.Named o) u i h = absurd h
 literal_wider (literal.Set s) (type.Integer w) u i h = absurd h
 literal_wider (literal.Set s) type.Boolean u i h = absurd h
 literal_wider (literal.Set s) type.Char u i h = absurd h
 literal_wider (literal.Set s) type.Set u i h = subst (λ u. IsLiteral (literal.Set s) u) (sym (includes_set u i)) h
-literal_wider (literal.Set s) (type.Object o) u i h = absurd h
+literal_wider (literal.Set s) (type.Named o) u i h = absurd h
 
 range_wider : (low high : ℤ) (t u : TType) → Includes u t → HasRange t low high → HasRange u low high
 range_wider low high (type.Integer w) u i h = integer_in (λ u. HasRange u low high) w (λ v vw. (within_wider v w low vw h.0, within_wider v w high vw h.1)) u i
 range_wider low high type.Boolean u i h = absurd h
 range_wider low high type.Char u i h = absurd h
 range_wider low high type.Set u i h = absurd h
-range_wider low high (type.Object o) u i h = absurd h
+range_wider low high (type.Named o) u i h = absurd h
 
 boolean_wider : (t u : TType) → Includes u t → t ≡ type.Boolean → u ≡ type.Boolean
 boolean_wider t u i e = includes_boolean u (subst (Includes u) e i)

@@ -217,7 +217,7 @@ argument_sound p e whole x = (number, character)
 
 -- a constant expression reads no variable, so that the program may be any
 no_program : Program
-no_program = record { modules = []; objects = [] }
+no_program = record { modules = []; types = []; objects = [] }
 
 pub constant_good : (e : Env) → GoodConstants e → (x : Expr) → Holds HasGood (judge.constant e x)
 constant_good e good x =

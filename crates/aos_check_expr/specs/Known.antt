@@ -124,7 +124,7 @@ type_as t =
     else if is boolean t then type.Boolean
     else if is char t then type.Char
     else if is set t then type.Set
-    else type.Object (object_number t)
+    else type.Named (object_number t)
 
 abbrev pub type_of : Option TypeId → TType
 type_of None = type.Boolean

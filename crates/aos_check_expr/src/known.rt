@@ -270,7 +270,7 @@ fn type_as(of: TypeId) -> TType
     } else if SET.0 == of.0 {
         TType::Set
     } else {
-        TType::Object(object_number(of))
+        TType::Named(object_number(of))
     }
 }
 

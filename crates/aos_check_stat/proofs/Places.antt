@@ -27,9 +27,9 @@ not_both : false ≡ true → ⊥
 not_both e = cc
 
 -- a type behind the basic ones is that of objects
-as_object : (t : TypeId) → 7 ≤ t.0 → type_as t ≡ type.Object (object_number t)
+as_object : (t : TypeId) → 7 ≤ t.0 → type_as t ≡ type.Named (object_number t)
 as_object t from =
-    let o = type.Object (object_number t) in
+    let o = type.Named (object_number t) in
     ap (λ w. if w then type.Integer (width_of_type t) else if is boolean t then type.Boolean else if is char t then type.Char else if is set t then type.Set else o) (le-ltb t.0 4 (omega arith))
     ∙ ap (λ w. if w then type.Boolean else if is char t then type.Char else if is set t then type.Set else o) (ne_eqb 4 t.0 (λ h. omega arith))
     ∙ ap (λ w. if w then type.Char else if is set t then type.Set else o) (ne_eqb 5 t.0 (λ h. omega arith))
@@ -76,10 +76,10 @@ module _ (p : Program) (e : Env) (whole : IsWhole p e) where
 
   -- an object that NEW makes
   abbrev pub IsMade : Spot → Type 0
-  IsMade a = (place_type p (place_of a.held) ≡ Some (type.Object (object_of a.known.of))) × (object_of a.known.of < length p.objects)
+  IsMade a = (place_type p (place_of a.held) ≡ Some (type.Named (object_of a.known.of))) × (object_of a.known.of < length p.objects)
 
   object_type : (of : Option TypeId) → IsKnown e.types e.broken of → is_object of ≡ true →
-      (type_of of ≡ type.Object (object_of of)) × (object_of of < length p.objects)
+      (type_of of ≡ type.Named (object_of of)) × (object_of of < length p.objects)
   object_type None known test = absurd known
   object_type (Some t) (basic below) test = absurd (not_both (ap not (sym (lt-ltb t.0 7 below)) ∙ test))
   object_type (Some t) (object from r b) test =

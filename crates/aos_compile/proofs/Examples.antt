@@ -1,5 +1,5 @@
 -- Small texts with their trees, and what they come to. The trees are those that a parser gives.
-use Rattle.std.proofs.Common.{◌≡◌, ℕ, ◌+◌, pos, List, [], ◌∷◌, Option, Some, None, refl, codes}
+use Rattle.std.proofs.Common.{◌≡◌, ℕ, ◌+◌, pos, List, [], ◌∷◌, ◌++◌, Option, Some, None, refl, codes}
 use Rattle.std.specs.Str.Lossy.{utf8_lossy}
 use denote.Hole.Carrier.{out, shown, hidden}
 use Rattle.aos_tree.specs.declared.expr.Factor.TheBlock.{shown-the_row-Product-6, shown-the_row-Addition-5}
@@ -23,10 +23,12 @@ use Rattle.aos_tree.specs.declared.decl.Export.TheVariants.{ReadWrite, ReadOnly}
 use Rattle.aos_tree.specs.declared.decl.TypeExpr.TheVariants as type
 use Rattle.aos_tree.specs.declared.module.Import.{Import}
 use Rattle.aos_tree.specs.declared.module.Module.{Module as Tree}
+use Rattle.aos_types.specs.declared.row.TypeRow.TheVariants as row
 use Rattle.aos_typed.specs.declared.tree.Literal.TheVariants as literal
 use Rattle.aos_typed.specs.declared.tree.TType.{TType}
 use Rattle.aos_typed.specs.declared.tree.TType.TheVariants as ttype
 use Rattle.aos_typed.specs.Program.{ModuleVar, Lit, Assign, New, Nothing, Then, Module, Program}
+use Rattle.aos_symbols.specs.Env.{basic_rows}
 use Rattle.aos_symbols.specs.Outcome.{Outcome, refused, went, refusal}
 use Rattle.aos_compile.specs.Files.{tree, elaborate}
 
@@ -49,10 +51,10 @@ module_of imports decls body end =
 
 -- no program but that of modules without anything
 abbrev bare : List ℕ → Module
-bare n = record { name = utf8_lossy n; variables = []; body = Nothing }
+bare n = record { name = utf8_lossy n; variables = []; procedures = []; body = Nothing }
 
 abbrev only_modules : List Module → Program
-only_modules ms = record { modules = ms; objects = [] }
+only_modules ms = record { modules = ms; types = basic_rows; objects = [] }
 
 abbrev longint : TType
 longint = ttype.Integer W32
@@ -139,8 +141,8 @@ unfolding out-Expr out-Simple out-Term out shown-the_row-Product-6 shown-the_row
 marked_read_only = refl
 
 marked : assigned (codes "MODULE B; VAR n*: LONGINT; END B.") (with_variable (Some ReadWrite) 18)
-    ≡ went (only_modules (record { name = utf8_lossy (codes "B"); variables = record { name = utf8_lossy (codes "n"); of = longint } ∷ []; body = Nothing }
-    ∷ record { name = utf8_lossy (codes "A"); variables = []; body = Then (Assign (place 26) longint (ModuleVar 0 0) (Lit (literal.Int (pos 1)))) Nothing } ∷ []))
+    ≡ went (only_modules (record { name = utf8_lossy (codes "B"); variables = record { name = utf8_lossy (codes "n"); of = longint } ∷ []; procedures = []; body = Nothing }
+    ∷ record { name = utf8_lossy (codes "A"); variables = []; procedures = []; body = Then (Assign (place 26) longint (ModuleVar 0 0) (Lit (literal.Int (pos 1)))) Nothing } ∷ []))
 unfolding out-Expr out-Simple out-Term out shown-the_row-Product-6 shown-the_row-Addition-5 shown
 marked = refl
 
@@ -149,8 +151,8 @@ renamed : elaborate (codes "MODULE A; IMPORT X := B; BEGIN X.n := 1 END A." ∷ 
     (tree (module_of (record { name = letter 17; of = Some (letter 22) } ∷ []) []
     (body (stat.Assign (record { name = letter 31; selectors = s.Field (place 32) (letter 33) ∷ [] }) (place 35) (number 38))) 44)
     ∷ tree (with_variable (Some ReadWrite) 18) ∷ [])
-    ≡ went (only_modules (record { name = utf8_lossy (codes "B"); variables = record { name = utf8_lossy (codes "n"); of = longint } ∷ []; body = Nothing }
-    ∷ record { name = utf8_lossy (codes "A"); variables = []; body = Then (Assign (place 31) longint (ModuleVar 0 0) (Lit (literal.Int (pos 1)))) Nothing } ∷ []))
+    ≡ went (only_modules (record { name = utf8_lossy (codes "B"); variables = record { name = utf8_lossy (codes "n"); of = longint } ∷ []; procedures = []; body = Nothing }
+    ∷ record { name = utf8_lossy (codes "A"); variables = []; procedures = []; body = Then (Assign (place 31) longint (ModuleVar 0 0) (Lit (literal.Int (pos 1)))) Nothing } ∷ []))
 unfolding out-Expr out-Simple out-Term out shown-the_row-Product-6 shown-the_row-Addition-5 shown
 renamed = refl
 
@@ -183,8 +185,9 @@ making =
 an_object_of_another_module : elaborate (codes "MODULE A; IMPORT B; BEGIN NEW(B.p) END A." ∷ codes "MODULE B; TYPE T*= OBJECT BEGIN {ACTIVE} END T; VAR p*: T; END B." ∷ [])
     (tree making ∷ tree with_object ∷ [])
     ≡ went (record {
-      modules = record { name = utf8_lossy (codes "B"); variables = record { name = utf8_lossy (codes "p"); of = ttype.Object 0 } ∷ []; body = Nothing }
-          ∷ record { name = utf8_lossy (codes "A"); variables = []; body = Then (New (place 26) (ModuleVar 0 0) 0) Nothing } ∷ [];
+      modules = record { name = utf8_lossy (codes "B"); variables = record { name = utf8_lossy (codes "p"); of = ttype.Named 0 } ∷ []; procedures = []; body = Nothing }
+          ∷ record { name = utf8_lossy (codes "A"); variables = []; procedures = []; body = Then (New (place 26) (ModuleVar 0 0) 0) Nothing } ∷ [];
+      types = basic_rows ++ row.Object None [] ∷ [];
       objects = record { name = utf8_lossy (codes "T"); home = 0; body = Nothing } ∷ [];
     })
 unfolding out-Expr out-Simple out-Term out shown-the_row-Product-6 shown-the_row-Addition-5 shown hidden
@@ -199,6 +202,7 @@ declared_anew : elaborate (codes "MODULE B; VAR n: LONGINT; NEW: LONGINT; BEGIN 
     ≡ went (only_modules (record {
       name = utf8_lossy (codes "B");
       variables = record { name = utf8_lossy (codes "n"); of = longint } ∷ record { name = utf8_lossy (codes "NEW"); of = longint } ∷ [];
+      procedures = [];
       body = Then (Assign (place 46) longint (ModuleVar 0 1) (Lit (literal.Int (pos 1)))) Nothing;
     } ∷ []))
 unfolding out-Expr out-Simple out-Term out shown-the_row-Product-6 shown-the_row-Addition-5 shown
@@ -218,6 +222,7 @@ a_constant : elaborate (codes "MODULE B; CONST c = 1; VAR n: LONGINT; BEGIN n :=
     ≡ went (only_modules (record {
       name = utf8_lossy (codes "B");
       variables = record { name = utf8_lossy (codes "n"); of = longint } ∷ [];
+      procedures = [];
       body = Then (Assign (place 45) longint (ModuleVar 0 0) (Lit (literal.Int (pos 1)))) Nothing;
     } ∷ []))
 unfolding out-Expr out-Simple out-Term out shown-the_row-Product-6 shown-the_row-Addition-5 shown

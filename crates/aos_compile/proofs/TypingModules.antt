@@ -319,7 +319,7 @@ module _ (w : World) (sound : IsWorld w) (text : List ℕ) (m : Tree) where
       bodies_whole = whole (program_of world) last world.before homes_more at_home count_objects
 
       grows : Grows (program_of w) (program_of world)
-      grows = grown w.modules (module_of last m b.own ∷ []) w.objects b.objects
+      grows = grown w.types last.types w.modules (module_of last m b.own ∷ []) w.objects b.objects
 
       longer : length world.modules ≡ length w.modules + 1
       longer = length-append w.modules (module_of last m b.own ∷ [])

@@ -2,6 +2,7 @@
 use Rattle.std.proofs.Common.{◌≡◌, ℕ, ◌<◌, ◌≤◌, List, ◌++◌, length, Option, Some, None, option_map, option_and_then, slice_get, refl, ap, ◌∙◌, length-append, arith}
 use Rattle.aos_base.specs.declared.operator.Binary.{Binary as BinaryOperator}
 use Rattle.aos_base.specs.declared.operator.Binary.TheVariants.{Add, Sub, Mul, Div, Mod, Ash, Cmp, Union, Minus, Meet, Xor, SetSpan, In}
+use Rattle.aos_types.specs.declared.row.TypeRow.{TypeRow}
 use Rattle.aos_typed.specs.declared.tree.TType.{TType}
 use Rattle.aos_typed.specs.Program.{Place, ModuleVar, Expr, Lit, Read, Unary, Binary, And, Or, Element, Ord, Chr, Call, Open, Char, Int, Ln, Stat, Assign, While, New, Out, Stats, Nothing, Then, Module, ObjectType, Program}
 use Rattle.aos_typed.specs.WellTyped.{variable_type, place_type, Takes, IsOf, IsCall, IsStatement, AreStatements}
@@ -67,15 +68,15 @@ module _ (p q : Program) (grows : Grows p q) where
     statements_grow (Then s ss) h = (statement_grows s h.0, statements_grow ss h.1)
 
 -- more modules and more objects behind those of a program
-pub grown : (ms ns : List Module) (os qs : List ObjectType) →
-    Grows (record { modules = ms; objects = os }) (record { modules = ms ++ ns; objects = os ++ qs })
-grown ms ns os qs = record {
+pub grown : (ts us : List TypeRow) (ms ns : List Module) (os qs : List ObjectType) →
+    Grows (record { modules = ms; types = ts; objects = os }) (record { modules = ms ++ ns; types = us; objects = os ++ qs })
+grown ts us ms ns os qs = record {
   variables = λ m k t h. by m k t (slice_get ms m) refl h;
   objects = omega (arith, length-append os qs);
 }
   where
     by : (m k : ℕ) (t : TType) (x : Option Module) → slice_get ms m ≡ x →
         option_and_then (λ y. option_map (λ v. v.of) (slice_get y.variables k)) x ≡ Some t →
-        variable_type (record { modules = ms ++ ns; objects = os ++ qs }) m k ≡ Some t
+        variable_type (record { modules = ms ++ ns; types = us; objects = os ++ qs }) m k ≡ Some t
     by m k t None is h = absurd (no_type h)
     by m k t (Some y) is h = ap (λ z. option_and_then (λ y. option_map (λ v. v.of) (slice_get y.variables k)) z) (get_front ms ns m y is) ∙ h

@@ -40,7 +40,7 @@ no_modules =
     record { before = []; types = env.basic_rows; broken = map (λ r. false) env.basic_rows; modules = []; objects = [] }
 
 abbrev pub program_of : World → Program
-program_of w = record { modules = w.modules; objects = w.objects }
+program_of w = record { modules = w.modules; types = w.types; objects = w.objects }
 
 -- a name as the typed program has it; a name's bytes are those of ASCII letters, digits and _
 abbrev pub spelling : List ℕ → Name → List ℕ
@@ -95,6 +95,7 @@ module_of e m ss =
     record {
       name = spelling text m.name;
       variables = map (variable_of text) (zip (single_variables m.decls) (variables_of (slice_get e.here.scopes 0)));
+      procedures = [];
       body = listed ss;
     }
 

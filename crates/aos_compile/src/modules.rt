@@ -239,9 +239,11 @@ fn module_of(
 {
     let name = spelling_of(alloc, env.here.text(), tree.name)?;
     let variables = variables_of(alloc, env, tree.decls.as_slice())?;
+    let procedures = Vec::new(alloc);
     Ok(TModule {
         name,
         variables,
+        procedures,
         body,
     })
 }
@@ -329,10 +331,14 @@ pub fn program_of(world: World<'_>) -> Program
 {
     let World {
         before: _,
-        types: _,
+        types,
         broken: _,
         modules,
         objects,
     } = world;
-    Program { modules, objects }
+    Program {
+        modules,
+        types,
+        objects,
+    }
 }

@@ -36,8 +36,8 @@ fn next_place(code: &[Instr]) -> Result<u32, AllocError>
     number_of(code.len())
 }
 
-/// The kind of what a variable of this type holds.
-pub fn cell_kind(of: TType) -> Kind
+// The kind of what a variable of this type holds.
+fn cell_kind(of: TType) -> Kind
     ensures { result ≡ kind_of of }
 {
     match of {
@@ -45,7 +45,7 @@ pub fn cell_kind(of: TType) -> Kind
         TType::Boolean => Kind::N,
         TType::Char => Kind::N,
         TType::Set => Kind::N,
-        TType::Object(_) => Kind::R,
+        TType::Named(_) => Kind::R,
     }
 }
 

@@ -7,9 +7,9 @@ ghost use Rattle.aos_typed.specs.WellTyped.{IsWellTyped};
 ghost use Rattle.aos_sim.specs.Code.{zero_cell};
 ghost use Rattle.aos_sim.specs.Shows.{IsCodeOf, Shows};
 
-use crate::emit::{cell_kind, emit_body};
+use crate::emit::emit_body;
 use aos_base::NoMemory;
-use aos_code::{Cell, Image, Kind, ModuleDesc, ProcShape, TypeDesc};
+use aos_code::{Cell, Image, ModuleDesc, ProcShape, TypeDesc};
 use aos_sim::image_shows_program;
 use aos_typed::{Program, TModule, TType, TVariable};
 use std::alloc::{AllocError, Global};
@@ -18,9 +18,12 @@ use std::alloc::{AllocError, Global};
 fn first_cell(of: TType) -> Cell
     ensures { result ≡ zero_cell of }
 {
-    match cell_kind(of) {
-        Kind::N => Cell::Num(0),
-        Kind::R => Cell::Ref(0),
+    match of {
+        TType::Integer(_) => Cell::Num(0),
+        TType::Boolean => Cell::Num(0),
+        TType::Char => Cell::Num(0),
+        TType::Set => Cell::Num(0),
+        TType::Named(_) => Cell::Ref(0),
     }
 }
 
@@ -29,6 +32,22 @@ fn first_cells(alloc: Global, variables: &[TVariable]) -> Result<Vec<Cell>, Allo
     ensures { IfOk result (λ cells. cells.items ≡ map (λ v. zero_cell v.of) variables.now) }
 {
     variables.iter().map(|v| first_cell(v.of)).collect(alloc)
+}
+
+// The shape of a body in a module: its frame has no cells.
+fn body_shape(alloc: Global, home: u32) -> ProcShape
+    ensures { result.module ≡ home }
+{
+    ProcShape {
+        module: home,
+        params: Vec::new(alloc),
+        cells: 0,
+        counted: 0,
+        keeps: 0,
+        result: None,
+        method: false,
+        kinds: Vec::new(alloc),
+    }
 }
 
 // A module whose body is the procedure of this number.
@@ -59,15 +78,13 @@ fn code_of(alloc: Global, program: &Program) -> Result<Image, AllocError>
     let mut number = 0;
     for module in &program.modules {
         bodies.push(emit_body(alloc, &module.body)?)?;
-        shapes.push(ProcShape { module: number })?;
+        shapes.push(body_shape(alloc, number))?;
         modules.push(describe(alloc, module, number + 1)?)?;
         number += 1;
     }
     for object in &program.objects {
         bodies.push(emit_body(alloc, &object.body)?)?;
-        shapes.push(ProcShape {
-            module: object.home,
-        })?;
+        shapes.push(body_shape(alloc, object.home))?;
         types.push(TypeDesc { body: number + 1 })?;
         number += 1;
     }

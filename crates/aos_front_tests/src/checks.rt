@@ -42,7 +42,7 @@ const MODULES: [(&str, usize, &str); 6] = [
          := 1 END M.",
         1,
         "kept, kept, 99 at 73: [New(Pos { line: 1, col: 65 }, ModuleVar(0, 0), 0), \
-         Assign(Pos { line: 1, col: 73 }, Object(0), ModuleVar(0, 0), Lit(Int(1)))]",
+         Assign(Pos { line: 1, col: 73 }, Named(0), ModuleVar(0, 0), Lit(Int(1)))]",
     ),
 ];
 

@@ -46,14 +46,14 @@ zero_first (type.Integer w) = refl
 zero_first type.Boolean = refl
 zero_first type.Char = refl
 zero_first type.Set = refl
-zero_first (type.Object t) = refl
+zero_first (type.Named t) = refl
 
 first_is : (t : TType) → Is t (S.first_value t)
 first_is (type.Integer w) = (pos 0, refl, record { low = omega (arith, ints); high = omega (arith, ints) })
 first_is type.Boolean = (false, refl)
 first_is type.Char = (0, refl, omega arith)
 first_is type.Set = (0, refl, omega arith)
-first_is (type.Object t) = (0, refl)
+first_is (type.Named t) = (0, refl)
 
 first_cells : (vs : List Variable) → map (λ v. zero_cell v.of) vs ≡ map cell_in (S.first_contents vs)
 first_cells [] = refl

@@ -55,7 +55,7 @@ unary_agrees (Range low high) (type.Integer w) v h g = range_agrees low high (nu
 unary_agrees (Range low high) type.Boolean v h g = absurd g
 unary_agrees (Range low high) type.Char v h g = absurd g
 unary_agrees (Range low high) type.Set v h g = absurd g
-unary_agrees (Range low high) (type.Object t) v h g = absurd g
+unary_agrees (Range low high) (type.Named t) v h g = absurd g
 
 -- Operators on two operands.
 
@@ -84,7 +84,7 @@ ordered_basic (type.Integer w) e = refl
 ordered_basic type.Boolean e = refl
 ordered_basic type.Char e = refl
 ordered_basic type.Set e = refl
-ordered_basic (type.Object t) e = e
+ordered_basic (type.Named t) e = e
 
 compared_basic : (r : Relation) (t : TType) → is_compared r t ≡ true → is_basic t ≡ true
 compared_basic relation.Equal t e = e

@@ -81,7 +81,7 @@ module _ (program : Program) (code : List Instr) where
   store_asks type.Boolean s rest p v is = subst (StoreAsks type.Boolean s rest p) (sym is.1) refl
   store_asks type.Char s rest p v is = subst (StoreAsks type.Char s rest p) (sym is.1) refl
   store_asks type.Set s rest p v is = subst (StoreAsks type.Set s rest p) (sym is.1) refl
-  store_asks (type.Object u) s rest p v is = subst (StoreAsks (type.Object u) s rest p) (sym is.1) refl
+  store_asks (type.Named u) s rest p v is = subst (StoreAsks (type.Named u) s rest p) (sym is.1) refl
 
   assign_does : (t : TType) (pl : Place) (e : Expr) (here : Pos) (at : ℕ) (after : List Item) → IsStatement program (Assign here t pl e) → Stands code at (stat_code (Assign here t pl e) at) → Carries after (at + length (stat_code (Assign here t pl e) at)) → Does program (Into after) (run code (at + 1) []) (stat_of (Assign here t pl e))
   assign_does t pl e here at after ok st c =
@@ -124,10 +124,10 @@ module _ (program : Program) (code : List Instr) where
       along program (Into after) _ _ (stat_of (New here (ModuleVar m k) t)) (from_here (at + 1) s0 [] h1)
       ((λ x. runs code s1 0 (at + 1 + 1) (x ∷ [])), refl, tt, λ o is. made o spot p st.rest is ok.0 h7 (subst (Carries after) len c))
     where
-      made : (o : Value) (spot : Spot) (p : ℕ) (rest : List Instr) → IsMade o → type_at program spot ≡ Some (type.Object t) → drop (p + 1 + 1) code ≡ rest → Carries after (p + 1 + 1) → Does program (Into after) (runs code (i.Store R ∷ (i.Start ∷ rest)) 0 p (cell_of o ∷ (place_in spot ∷ (cell_of o ∷ [])))) (bind (ask (Stores spot o)) (λ _. bind (ask (Starts o)) (λ _. Val [])))
+      made : (o : Value) (spot : Spot) (p : ℕ) (rest : List Instr) → IsMade o → type_at program spot ≡ Some (type.Named t) → drop (p + 1 + 1) code ≡ rest → Carries after (p + 1 + 1) → Does program (Into after) (runs code (i.Store R ∷ (i.Start ∷ rest)) 0 p (cell_of o ∷ (place_in spot ∷ (cell_of o ∷ [])))) (bind (ask (Stores spot o)) (λ _. bind (ask (Starts o)) (λ _. Val [])))
       made o spot p rest is of h c' =
           subst (λ o. Does program (Into after) (runs code (i.Store R ∷ (i.Start ∷ rest)) 0 p (cell_of o ∷ (place_in spot ∷ (cell_of o ∷ [])))) (bind (ask (Stores spot o)) (λ _. bind (ask (Starts o)) (λ _. Val [])))) (sym is.1)
-          ((λ x. runs code (i.Start ∷ rest) 0 (p + 1) (cell_of (Object (suc is.0)) ∷ [])), refl, (type.Object t, of, (suc is.0, refl)), λ v a. last_asks (Starts (Object (suc is.0))) _ (p + 1) rest after refl (is.0, refl) h c')
+          ((λ x. runs code (i.Start ∷ rest) 0 (p + 1) (cell_of (Object (suc is.0)) ∷ [])), refl, (type.Named t, of, (suc is.0, refl)), λ v a. last_asks (Starts (Object (suc is.0))) _ (p + 1) rest after refl (is.0, refl) h c')
 
   out_does : (call : Call) (here : Pos) (at : ℕ) (after : List Item) → IsCall program call → Stands code at (stat_code (Out here call) at) → Carries after (at + length (stat_code (Out here call) at)) → Does program (Into after) (run code (at + 1) []) (out_of call)
   out_does OutLn here at after ok st c =

@@ -28,7 +28,7 @@ Is (type.Integer w) v = (z : ℤ) × (v ≡ Int z) × IsWithin w z
 Is type.Boolean v = (b : Bool) × (v ≡ Flag b)
 Is type.Char v = (c : ℕ) × (v ≡ Char c) × (c < 256)
 Is type.Set v = (s : ℕ) × (v ≡ Set s) × (s < 2 ^ 32)
-Is (type.Object t) v = (o : ℕ) × (v ≡ Object o)
+Is (type.Named t) v = (o : ℕ) × (v ≡ Object o)
 
 -- a value of a basic type is in a cell as the number that it is given as
 abbrev pub IsNumber : Value → Type 0
@@ -39,7 +39,7 @@ basic_number (type.Integer w) v e h = subst IsNumber (sym h.1) refl
 basic_number type.Boolean v e h = subst IsNumber (sym h.1) refl
 basic_number type.Char v e h = subst IsNumber (sym h.1) refl
 basic_number type.Set v e h = subst IsNumber (sym h.1) refl
-basic_number (type.Object t) v e h = absurd (cc)
+basic_number (type.Named t) v e h = absurd (cc)
 
 pub integer_number : (w : Width) (v : Value) → Is (type.Integer w) v → IsNumber v
 integer_number w v h = basic_number (type.Integer w) v refl h
@@ -76,46 +76,46 @@ included (type.Integer x) (type.Integer y) v e h = (h.0, h.1, within_wider x y h
 included (type.Integer x) type.Boolean v e h = absurd (cc)
 included (type.Integer x) type.Char v e h = absurd (cc)
 included (type.Integer x) type.Set v e h = absurd (cc)
-included (type.Integer x) (type.Object u) v e h = absurd (cc)
+included (type.Integer x) (type.Named u) v e h = absurd (cc)
 included type.Boolean (type.Integer y) v e h = absurd (cc)
 included type.Boolean type.Boolean v e h = h
 included type.Boolean type.Char v e h = absurd (cc)
 included type.Boolean type.Set v e h = absurd (cc)
-included type.Boolean (type.Object u) v e h = absurd (cc)
+included type.Boolean (type.Named u) v e h = absurd (cc)
 included type.Char (type.Integer y) v e h = absurd (cc)
 included type.Char type.Boolean v e h = absurd (cc)
 included type.Char type.Char v e h = h
 included type.Char type.Set v e h = absurd (cc)
-included type.Char (type.Object u) v e h = absurd (cc)
+included type.Char (type.Named u) v e h = absurd (cc)
 included type.Set (type.Integer y) v e h = absurd (cc)
 included type.Set type.Boolean v e h = absurd (cc)
 included type.Set type.Char v e h = absurd (cc)
 included type.Set type.Set v e h = h
-included type.Set (type.Object u) v e h = absurd (cc)
-included (type.Object t) (type.Integer y) v e h = absurd (cc)
-included (type.Object t) type.Boolean v e h = absurd (cc)
-included (type.Object t) type.Char v e h = absurd (cc)
-included (type.Object t) type.Set v e h = absurd (cc)
-included (type.Object t) (type.Object u) v e h = h
+included type.Set (type.Named u) v e h = absurd (cc)
+included (type.Named t) (type.Integer y) v e h = absurd (cc)
+included (type.Named t) type.Boolean v e h = absurd (cc)
+included (type.Named t) type.Char v e h = absurd (cc)
+included (type.Named t) type.Set v e h = absurd (cc)
+included (type.Named t) (type.Named u) v e h = h
 
 pub literal_is : (l : Literal) (t : TType) → IsLiteral l t → Is t (literal_value l)
 literal_is (literal.Int n) (type.Integer w) h = (n, refl, h)
 literal_is (literal.Int n) type.Boolean h = absurd h
 literal_is (literal.Int n) type.Char h = absurd h
 literal_is (literal.Int n) type.Set h = absurd h
-literal_is (literal.Int n) (type.Object t) h = absurd h
+literal_is (literal.Int n) (type.Named t) h = absurd h
 literal_is (literal.Bool b) (type.Integer w) h = absurd h
 literal_is (literal.Bool b) type.Boolean h = (b, refl)
 literal_is (literal.Bool b) type.Char h = absurd h
 literal_is (literal.Bool b) type.Set h = absurd h
-literal_is (literal.Bool b) (type.Object t) h = absurd h
+literal_is (literal.Bool b) (type.Named t) h = absurd h
 literal_is (literal.Char c) (type.Integer w) h = absurd h
 literal_is (literal.Char c) type.Boolean h = absurd h
 literal_is (literal.Char c) type.Char h = (c, refl, h)
 literal_is (literal.Char c) type.Set h = absurd h
-literal_is (literal.Char c) (type.Object t) h = absurd h
+literal_is (literal.Char c) (type.Named t) h = absurd h
 literal_is (literal.Set s) (type.Integer w) h = absurd h
 literal_is (literal.Set s) type.Boolean h = absurd h
 literal_is (literal.Set s) type.Char h = absurd h
 literal_is (literal.Set s) type.Set h = (s, refl, h)
-literal_is (literal.Set s) (type.Object t) h = absurd h
+literal_is (literal.Set s) (type.Named t) h = absurd h

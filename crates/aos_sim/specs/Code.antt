@@ -32,7 +32,7 @@ kind_of (type.Integer w) = N
 kind_of type.Boolean = N
 kind_of type.Char = N
 kind_of type.Set = N
-kind_of (type.Object t) = R
+kind_of (type.Named t) = R
 
 -- a variable's cell has the variable's number
 abbrev pub place_code : Place → ℕ → List Instr
@@ -100,9 +100,9 @@ abbrev pub body_code : Stats → List Instr
 body_code ss = stats_code ss 0 ++ Return ∷ []
 
 -- a variable's cell at first
-abbrev pub cell_of_kind : Kind → Cell
-cell_of_kind N = cell.Num (pos 0)
-cell_of_kind R = cell.Ref 0
-
 abbrev pub zero_cell : TType → Cell
-zero_cell t = cell_of_kind (kind_of t)
+zero_cell (type.Integer w) = cell.Num (pos 0)
+zero_cell type.Boolean = cell.Num (pos 0)
+zero_cell type.Char = cell.Num (pos 0)
+zero_cell type.Set = cell.Num (pos 0)
+zero_cell (type.Named t) = cell.Ref 0

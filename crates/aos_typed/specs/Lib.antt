@@ -4,4 +4,5 @@ pub mod Value
 pub mod Store
 pub mod Meaning
 pub mod Source
+pub mod Numbers
 pub mod WellTyped

@@ -1,9 +1,10 @@
 -- The typed program as clauses see it: trees and lists, whatever memory the code keeps it in.
 -- Literals, operators and types have no parts in memory, so they are the code's own.
-use Rattle.std.specs.Prelude.{ℕ, List}
+use Rattle.std.specs.Prelude.{ℕ, List, Bool, Option}
 use Rattle.aos_base.specs.declared.text.Pos.{Pos}
 use Rattle.aos_base.specs.declared.operator.Unary.{Unary as UnaryOperator}
 use Rattle.aos_base.specs.declared.operator.Binary.{Binary as BinaryOperator}
+use Rattle.aos_types.specs.declared.row.TypeRow.{TypeRow}
 use Rattle.aos_typed.specs.declared.tree.Literal.{Literal}
 use Rattle.aos_typed.specs.declared.tree.TType.{TType}
 
@@ -46,7 +47,22 @@ pub record Variable : Type 0 where
   pub name : List ℕ
   pub of : TType
 
--- an object type whose objects are active, with the number of its module and the statements of its body
+-- a parameter, by reference where VAR stands before it; the type of an open array parameter is an open array
+pub record Parameter : Type 0 where
+  pub name : List ℕ
+  pub by_reference : Bool
+  pub of : TType
+
+-- a procedure, with the statements of its body; a proper one has no result
+pub record Procedure : Type 0 where
+  pub name : List ℕ
+  pub parameters : List Parameter
+  pub locals : List Variable
+  pub result : Option TType
+  pub body : Stats
+
+-- what stands beside a type: its name, the number of its module, and the statements of the body that its objects carry out,
+-- none where it is no object type
 pub record ObjectType : Type 0 where
   pub name : List ℕ
   pub home : ℕ
@@ -55,9 +71,12 @@ pub record ObjectType : Type 0 where
 pub record Module : Type 0 where
   pub name : List ℕ
   pub variables : List Variable
+  pub procedures : List Procedure
   pub body : Stats
 
--- the modules in load order, and the object types
+-- the modules in load order, the table of all types, of which the predeclared ones stand first, and what stands beside those
+-- behind them
 pub record Program : Type 0 where
   pub modules : List Module
+  pub types : List TypeRow
   pub objects : List ObjectType

@@ -10,10 +10,12 @@ use Rattle.aos_typed.specs.declared.tree.OutCall.TheVariants as call
 use Rattle.aos_typed.specs.declared.tree.TStat.{TStat, Row_of-TStat, end_of-TStat, more_of-TStat}
 use Rattle.aos_typed.specs.declared.tree.TStat.TheVariants as stat
 use Rattle.aos_typed.specs.declared.tree.TVariable.{TVariable}
+use Rattle.aos_typed.specs.declared.tree.TParameter.{TParameter}
+use Rattle.aos_typed.specs.declared.tree.TProcedure.{TProcedure}
 use Rattle.aos_typed.specs.declared.tree.TObject.{TObject}
 use Rattle.aos_typed.specs.declared.tree.TModule.{TModule}
 use Rattle.aos_typed.specs.declared.tree.Program.{Program as TProgram}
-use Rattle.aos_typed.specs.Program.{Place, ModuleVar, Expr, Lit, Read, Unary, Binary, And, Or, Element, Ord, Chr, Call, Open, Char, Int, Ln, Stat, Assign, While, New, Out, Stats, Nothing, Then, Variable, ObjectType, Module, Program}
+use Rattle.aos_typed.specs.Program.{Place, ModuleVar, Expr, Lit, Read, Unary, Binary, And, Or, Element, Ord, Chr, Call, Open, Char, Int, Ln, Stat, Assign, While, New, Out, Stats, Nothing, Then, Variable, Parameter, Procedure, ObjectType, Module, Program}
 
 abbrev pub seen_place : TPlace → Place
 seen_place (place.ModuleVar m k) = ModuleVar m k
@@ -54,12 +56,31 @@ seen_stats (s ∷ ss) = Then (seen_stat s) (seen_stats ss)
 abbrev pub seen_variable : TVariable → Variable
 seen_variable v = record { name = string_bytes v.name; of = v.of }
 
+abbrev pub seen_parameter : TParameter → Parameter
+seen_parameter p = record { name = string_bytes p.name; by_reference = p.by_reference; of = p.of }
+
+abbrev pub seen_procedure : TProcedure → Procedure
+seen_procedure p =
+    record {
+      name = string_bytes p.name;
+      parameters = map seen_parameter p.parameters.items;
+      locals = map seen_variable p.locals.items;
+      result = p.result;
+      body = seen_stats p.body.items;
+    }
+
 abbrev pub seen_object : TObject → ObjectType
 seen_object o = record { name = string_bytes o.name; home = o.home; body = seen_stats o.body.items }
 
 abbrev pub seen_module : TModule → Module
 seen_module m =
-    record { name = string_bytes m.name; variables = map seen_variable m.variables.items; body = seen_stats m.body.items }
+    record {
+      name = string_bytes m.name;
+      variables = map seen_variable m.variables.items;
+      procedures = map seen_procedure m.procedures.items;
+      body = seen_stats m.body.items;
+    }
 
 abbrev pub seen_program : TProgram → Program
-seen_program p = record { modules = map seen_module p.modules.items; objects = map seen_object p.objects.items }
+seen_program p =
+    record { modules = map seen_module p.modules.items; types = p.types; objects = map seen_object p.objects.items }

@@ -167,7 +167,7 @@ first_value (type.Integer w) = Int (pos 0)
 first_value type.Boolean = Flag false
 first_value type.Char = Char 0
 first_value type.Set = Set 0
-first_value (type.Object t) = Object 0
+first_value (type.Named t) = Object 0
 
 abbrev pub first_contents : List Variable → List Content
 first_contents vs = map (λ v. Scalar (first_value v.of)) vs

@@ -16,7 +16,7 @@ use Rattle.aos_base.specs.Number.{IsWithin}
 use Rattle.aos_typed.specs.declared.tree.Literal.{Literal}
 use Rattle.aos_typed.specs.declared.tree.Literal.TheVariants as literal
 use Rattle.aos_typed.specs.declared.tree.TType.{TType}
-use Rattle.aos_typed.specs.declared.tree.TType.TheVariants.{Integer, Boolean, Char, Set, Object}
+use Rattle.aos_typed.specs.declared.tree.TType.TheVariants.{Integer, Boolean, Char, Set, Named}
 use Rattle.aos_typed.specs.Program.{Place, ModuleVar, Expr, Lit, Read, Unary, Binary, And, Or, Element, Ord, Chr, Call, Open as OutOpen, Char as OutChar, Int as OutInt, Ln as OutLn, Stat, Assign, While, New, Out, Stats, Nothing, Then, Program}
 
 -- Types.
@@ -33,7 +33,7 @@ includes (Integer v) (Integer w) = nat_le (bits w) (bits v)
 includes Boolean Boolean = true
 includes Char Char = true
 includes Set Set = true
-includes (Object t) (Object u) = t == u
+includes (Named t) (Named u) = t == u
 includes _ _ = false
 
 abbrev pub Includes : TType → TType → Type 0
@@ -79,7 +79,7 @@ is_ordered Char = true
 is_ordered _ = false
 
 abbrev pub is_basic : TType → Bool
-is_basic (Object t) = false
+is_basic (Named t) = false
 is_basic _ = true
 
 abbrev pub is_compared : Relation → TType → Bool
@@ -151,7 +151,7 @@ module _ (p : Program) where
     pub IsStatement : Stat → Type 0
     IsStatement (Assign at t place e) = (place_type place ≡ Some t) × IsOf e t
     IsStatement (While at e body) = IsOf e Boolean × AreStatements body
-    IsStatement (New at place t) = (place_type place ≡ Some (Object t)) × (t < length p.objects)
+    IsStatement (New at place t) = (place_type place ≡ Some (Named t)) × (t < length p.objects)
     IsStatement (Out at call) = IsCall call
 
     pub AreStatements : Stats → Type 0

@@ -5,5 +5,6 @@
 pub mod tree;
 
 pub use tree::{
-    Literal, OutCall, Program, TExpr, TModule, TObject, TPlace, TStat, TType, TVariable,
+    Literal, OutCall, Program, TExpr, TModule, TObject, TParameter, TPlace, TProcedure, TStat,
+    TType, TVariable,
 };

@@ -1,6 +1,7 @@
 // The typed program.
 
 use aos_base::{Binary, Pos, Unary, Width};
+use aos_types::Types;
 
 /// A value that is written in the text.
 #[derive(Clone, Copy, PartialEq, Eq, Debug)]
@@ -88,25 +89,45 @@ pub enum TStat {
     Out(Pos, OutCall),
 }
 
-/// The type of a variable: a basic type, or an object type by its number in the program, from 0.
+/// The type of a variable: a basic type, or one that a module defines or writes, by its number among those of the program,
+/// from 0.
 #[derive(Clone, Copy, PartialEq, Eq, Debug)]
 pub enum TType {
     Integer(Width),
     Boolean,
     Char,
     Set,
-    Object(u32),
+    Named(u32),
 }
 
-/// A variable of a module.
+/// A variable of a module or a procedure.
 #[derive(Drop, Debug)]
 pub struct TVariable {
     pub name: String,
     pub of: TType,
 }
 
-/// An object type whose objects are active: its name, the number of its module in load order from 0, and the statements
-/// of its body, which each object's activity carries out.
+/// A parameter: by reference where VAR stands before it. The type of an open array parameter is an open array.
+#[derive(Drop, Debug)]
+pub struct TParameter {
+    pub name: String,
+    pub by_reference: bool,
+    pub of: TType,
+}
+
+/// A procedure, with the statements of its body; a proper one has no result.
+#[derive(Drop, Debug)]
+pub struct TProcedure {
+    pub name: String,
+    pub parameters: Vec<TParameter>,
+    pub locals: Vec<TVariable>,
+    pub result: Option<TType>,
+    pub body: Vec<TStat>,
+}
+
+/// What stands beside a type that a module defines or writes: its name, which is empty where it has none, the number of its
+/// module in load order from 0, and the statements of its body, which each object's activity carries out. A type that is no
+/// object type has none.
 #[derive(Drop, Debug)]
 pub struct TObject {
     pub name: String,
@@ -114,17 +135,20 @@ pub struct TObject {
     pub body: Vec<TStat>,
 }
 
-/// A module, with the statements of its body.
+/// A module, with its procedures and the statements of its body.
 #[derive(Drop, Debug)]
 pub struct TModule {
     pub name: String,
     pub variables: Vec<TVariable>,
+    pub procedures: Vec<TProcedure>,
     pub body: Vec<TStat>,
 }
 
-/// A program: its modules in load order, and its object types.
-#[derive(Drop, Debug)]
+/// A program: its modules in load order, the table of all types, of which the predeclared ones stand first, and beside each type
+/// behind those its body.
+#[derive(Drop)]
 pub struct Program {
     pub modules: Vec<TModule>,
+    pub types: Types,
     pub objects: Vec<TObject>,
 }

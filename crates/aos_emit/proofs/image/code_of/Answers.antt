@@ -1,4 +1,4 @@
-use Rattle.std.proofs.Common.{◌≤◌, ◌<◌, ◌+◌, ◌^◌, length, get_or, map, ap, ◌∙◌, arith, refl}
+use Rattle.std.proofs.Common.{◌≤◌, ◌<◌, ◌+◌, ◌^◌, length, get_or, map, ap, ◌∙◌, arith}
 use Rattle.std.proofs.lemmas.List.{length-map}
 use Rattle.aos_typed.specs.Program.{ObjectType, Module}
 use Rattle.aos_typed.specs.Seen.{seen_stats, seen_module, seen_object, seen_program}
@@ -24,7 +24,7 @@ loop-module-preserved c =
     let n = c.loop-module.invariant.number in
     let lt : k < length ms = omega (arith, ap length c.deref-module-items.ensures.value) in
     record {
-      code = more_module_of ms k m _ _ _ _ _ _ _ _ _ _ lt (c.module-item.is ∙ ap (λ l. get_or l k m) c.deref-module-items.ensures.value) c.loop-module.invariant.code c.new-types.ensures.items c.in_ok-push.ensures.items c.in_ok-push-2.ensures.items c.in_ok-push-3.ensures.items (c.in_ok-emit_body.ensures ∙ ap (λ l. body_code (seen_stats l)) c.deref.ensures.value) n (c.in_ok-describe.ensures.start ∙ ap (λ j. j + 1) n) c.in_ok-describe.ensures.cells c.in_ok-describe.ensures.name;
+      code = more_module_of ms k m _ _ _ _ _ _ _ _ _ _ lt (c.module-item.is ∙ ap (λ l. get_or l k m) c.deref-module-items.ensures.value) c.loop-module.invariant.code c.new-types.ensures.items c.in_ok-push.ensures.items c.in_ok-push-2.ensures.items c.in_ok-push-3.ensures.items (c.in_ok-emit_body.ensures ∙ ap (λ l. body_code (seen_stats l)) c.deref.ensures.value) (c.body_shape.ensures ∙ n) (c.in_ok-describe.ensures.start ∙ ap (λ j. j + 1) n) c.in_ok-describe.ensures.cells c.in_ok-describe.ensures.name;
       number = ap (λ j. j + 1) n;
     }
 
@@ -46,6 +46,6 @@ loop-object-preserved c =
     let n = c.loop-object.invariant.number in
     let lt : k < length os = omega (arith, ap length c.deref-object-items.ensures.value) in
     record {
-      code = more_object_of (map seen_module ms) (length ms) os k o _ _ _ _ _ _ _ _ _ _ (length-map ms seen_module) lt (c.object-item.is ∙ ap (λ l. get_or l k o) c.deref-object-items.ensures.value) c.loop-object.invariant.code c.in_ok-push-4.ensures.items c.in_ok-push-5.ensures.items c.in_ok-push-6.ensures.items (c.in_ok-emit_body-2.ensures ∙ ap (λ l. body_code (seen_stats l)) c.deref-in-loop-object.ensures.value) refl (ap (λ j. j + 1) n);
+      code = more_object_of (map seen_module ms) (length ms) os k o _ _ _ _ _ _ _ _ _ _ (length-map ms seen_module) lt (c.object-item.is ∙ ap (λ l. get_or l k o) c.deref-object-items.ensures.value) c.loop-object.invariant.code c.in_ok-push-4.ensures.items c.in_ok-push-5.ensures.items c.in_ok-push-6.ensures.items (c.in_ok-emit_body-2.ensures ∙ ap (λ l. body_code (seen_stats l)) c.deref-in-loop-object.ensures.value) c.body_shape-in-loop-object.ensures (ap (λ j. j + 1) n);
       number = omega arith;
     }
