@@ -1,0 +1,6 @@
+pub mod Joins
+pub mod Parts
+pub mod Ways
+pub mod Outcomes
+pub mod Opens
+pub mod Frames

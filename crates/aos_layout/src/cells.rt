@@ -1,0 +1,206 @@
+// The cells of frames.
+
+ghost use Rattle.std.specs.Prelude.{◌≡◌, ◌<◌, ◌≤◌, ◌++◌, ◌∷◌, [], All, length, map, OnOk};
+ghost use Rattle.aos_types.specs.Chain.{NoneContainsItself};
+ghost use Rattle.aos_types.specs.Sameness.{element_of as element_in};
+ghost use Rattle.aos_types.specs.Table as table;
+ghost use Rattle.aos_typed.specs.Seen.{seen_parameter, seen_variable};
+ghost use Rattle.aos_typed.specs.Numbers.{id_of as number_of};
+ghost use Rattle.aos_layout.specs.Cells as cells_of;
+ghost use Rattle.aos_layout.specs.Frame as frame;
+ghost use Rattle.aos_layout.specs.Layout as layout;
+
+use crate::part::row_of;
+use crate::work::{is_object, kinds_of};
+use aos_base::Width;
+use aos_code::Kind;
+use aos_typed::{TParameter, TType, TVariable};
+use aos_types::{TypeId, TypeRow, Types};
+use std::alloc::{AllocError, Global};
+
+/// How many types are predeclared, before those that a program names.
+const PREDECLARED_TYPES: u32 = 9;
+
+/// The number of a type in the table.
+pub(crate) fn id_of(of: TType) -> TypeId
+    requires { (number_of of).0 < 4294967296 }
+    ensures { result ≡ number_of of }
+{
+    match of {
+        TType::Integer(Width::W8) => TypeId(0),
+        TType::Integer(Width::W16) => TypeId(1),
+        TType::Integer(Width::W32) => TypeId(2),
+        TType::Integer(Width::W64) => TypeId(3),
+        TType::Boolean => TypeId(4),
+        TType::Char => TypeId(5),
+        TType::Set => TypeId(6),
+        TType::Named(number) => TypeId(number + PREDECLARED_TYPES),
+    }
+}
+
+/// Whether it is an open array.
+pub(crate) fn is_open(types: &Types, t: TypeId) -> bool
+    ensures { result ≡ table.is_open (table.row_of types.now t) }
+{
+    matches!(row_of(types, t), Some(TypeRow::Open(_)))
+}
+
+/// The type of an open array's elements.
+fn element_of(types: &Types, t: TypeId) -> Option<TypeId>
+    ensures { result ≡ element_in (table.row_of types.now t) }
+{
+    match row_of(types, t) {
+        Some(TypeRow::Open(element)) => Some(*element),
+        _ => None,
+    }
+}
+
+/// An open array: how many of its dimensions are open, and the type of the elements behind them.
+#[derive(Clone, Copy)]
+pub(crate) struct OpenArray {
+    pub dimensions: u64,
+    pub element: TypeId,
+}
+
+/// The open dimensions of a type.
+pub(crate) fn open_array(types: &Types, t: TypeId) -> OpenArray
+    ensures dimensions { result.dimensions ≡ frame.open_dimensions types.now t }
+    ensures element { result.element ≡ frame.open_element types.now t }
+{
+    let mut open = OpenArray {
+        dimensions: 0,
+        element: t,
+    };
+    for _step in 0..types.len() {
+        let Some(element) = element_of(types, open.element) else {
+            return open;
+        };
+        open.dimensions += 1;
+        open.element = element;
+    }
+    open
+}
+
+/// Puts the kinds of a variable's cells behind others.
+fn push_variable(
+    alloc: Global,
+    types: &Types,
+    t: TypeId,
+    kinds: &mut Vec<Kind>,
+) -> Result<(), AllocError>
+    requires { NoneContainsItself types.now }
+    ensures { OnOk result (kinds.new.items ≡
+        kinds.old.items ++ layout.flatten (layout.cells types.now t)) }
+{
+    if is_object(types, t) {
+        kinds.push(Kind::R)?;
+    } else {
+        let own = kinds_of(alloc, types, t)?;
+        kinds.extend_from_slice(own.as_slice())?;
+    }
+    Ok(())
+}
+
+/// Puts the kinds of an open array's cells behind others: its place, and its lengths.
+fn push_open(dimensions: u64, kinds: &mut Vec<Kind>) -> Result<(), AllocError>
+    ensures { OnOk result (kinds.new.items ≡
+        kinds.old.items ++ layout.flatten (frame.open_cells dimensions)) }
+{
+    kinds.push(Kind::A)?;
+    for _dimension in 0..dimensions {
+        kinds.push(Kind::N)?;
+    }
+    Ok(())
+}
+
+/// Puts the kinds of a parameter's cells behind others.
+fn push_parameter(
+    alloc: Global,
+    types: &Types,
+    parameter: &TParameter,
+    kinds: &mut Vec<Kind>,
+) -> Result<(), AllocError>
+    requires none_contains_itself { NoneContainsItself types.now }
+    requires few { length types.now ≤ 4294967296 }
+    requires there { frame.IsThere types.now parameter.now.of }
+    ensures { OnOk result (kinds.new.items ≡ kinds.old.items ++
+        layout.flatten (frame.parameter_cells types.now (seen_parameter parameter.now))) }
+{
+    let t = id_of(parameter.of);
+    if is_open(types, t) {
+        return push_open(open_array(types, t).dimensions, kinds);
+    }
+    if parameter.by_reference {
+        kinds.push(Kind::A)?;
+        return Ok(());
+    }
+    push_variable(alloc, types, t, kinds)
+}
+
+/// The cells of a frame's first parts: their kinds, and the first cell of each part.
+#[derive(Drop)]
+pub(crate) struct Cells {
+    pub kinds: Vec<Kind>,
+    pub places: Vec<u32>,
+}
+
+impl Cells {
+    /// Begins a part behind the cells that are there. Where its place is past all numbers of cells it is want of memory.
+    fn begin_part(&mut self) -> Result<(), AllocError>
+        ensures kinds { self.new.kinds ≡ self.old.kinds }
+        ensures places { OnOk result (self.new.places.items ≡
+            self.old.places.items ++ length self.old.kinds.items ∷ []) }
+    {
+        let Ok(place) = u32::try_from(self.kinds.len()) else {
+            return Err(AllocError);
+        };
+        self.places.push(place)?;
+        Ok(())
+    }
+
+    /// Puts the parts of parameters behind those that are there.
+    pub(crate) fn put_parameters(
+        &mut self,
+        alloc: Global,
+        types: &Types,
+        parameters: &[TParameter],
+    ) -> Result<(), AllocError>
+        requires none_contains_itself { NoneContainsItself types.now }
+        requires few { length types.now ≤ 4294967296 }
+        requires there { All (λ a. frame.IsThere types.now a.of) (map seen_parameter parameters.now) }
+        ensures kinds { OnOk result (self.new.kinds.items ≡ self.old.kinds.items ++
+            cells_of.kinds_of (cells_of.parameter_parts types.now parameters.now)) }
+        ensures places { OnOk result (self.new.places.items ≡ self.old.places.items ++
+            frame.places_from (length self.old.kinds.items)
+            (cells_of.parameter_parts types.now parameters.now)) }
+    {
+        for parameter in parameters {
+            self.begin_part()?;
+            push_parameter(alloc, types, parameter, &mut self.kinds)?;
+        }
+        Ok(())
+    }
+
+    /// Puts the parts of locals behind those that are there.
+    pub(crate) fn put_locals(
+        &mut self,
+        alloc: Global,
+        types: &Types,
+        locals: &[TVariable],
+    ) -> Result<(), AllocError>
+        requires none_contains_itself { NoneContainsItself types.now }
+        requires few { length types.now ≤ 4294967296 }
+        requires there { All (λ v. frame.IsThere types.now v.of) (map seen_variable locals.now) }
+        ensures kinds { OnOk result (self.new.kinds.items ≡ self.old.kinds.items ++
+            cells_of.kinds_of (cells_of.local_parts types.now locals.now)) }
+        ensures places { OnOk result (self.new.places.items ≡ self.old.places.items ++
+            frame.places_from (length self.old.kinds.items)
+            (cells_of.local_parts types.now locals.now)) }
+    {
+        for local in locals {
+            self.begin_part()?;
+            push_variable(alloc, types, id_of(local.of), &mut self.kinds)?;
+        }
+        Ok(())
+    }
+}

@@ -1,0 +1,211 @@
+// The kinds of a type's cells, put into a list by tasks: types stand in one another as deep as there are types, and an array's
+// element is looked at once.
+
+ghost use Rattle.std.specs.Prelude.{◌≡◌, ◌<◌, ◌≤◌, ◌+◌, ◌++◌, ◌∷◌, [], List, drop, OnOk, IfOk};
+ghost use Rattle.aos_types.specs.declared.row.TypeRow.{TypeRow};
+ghost use Rattle.aos_types.specs.Chain.{NoneContainsItself, base_list};
+ghost use Rattle.aos_types.specs.Table as table;
+ghost use Rattle.aos_layout.specs.Layout as layout;
+ghost use Rattle.aos_layout.specs.Work as work;
+
+use crate::part::{is_empty, row_of};
+use aos_code::Kind;
+use aos_types::{TypeId, TypeRow, Types};
+use std::alloc::{AllocError, Global};
+
+/// What is to be put behind the kinds that are there.
+#[derive(Clone, Copy)]
+enum Task {
+    /// The kinds of a type.
+    Contents(TypeId),
+    /// Those of a type's own fields, from this number on.
+    Fields(TypeId, usize),
+    /// Those from this place on, so many times more.
+    Again(usize, u32),
+}
+
+/// The kinds that are there, and what is to be put behind them, the last first.
+#[derive(Drop)]
+struct Work {
+    tasks: Vec<Task>,
+    kinds: Vec<Kind>,
+}
+
+/// The kind of a scalar's cell.
+pub(crate) fn kind_of(types: &Types, t: TypeId) -> Kind
+    ensures { result ≡ layout.kind_of types.now t }
+{
+    match row_of(types, t) {
+        Some(TypeRow::Pointer(_)) => Kind::R,
+        Some(TypeRow::Object(_, _)) => Kind::R,
+        Some(TypeRow::Any) => Kind::R,
+        Some(TypeRow::Procedure(_, _)) => Kind::C,
+        _ => Kind::N,
+    }
+}
+
+/// Whether it is an object type.
+pub(crate) fn is_object(types: &Types, t: TypeId) -> bool
+    ensures { result ≡ table.is_object (table.row_of types.now t) }
+{
+    matches!(row_of(types, t), Some(TypeRow::Object(_, _)))
+}
+
+/// The own fields of a record or an object type.
+fn fields_of(types: &Types, t: TypeId) -> &[TypeId]
+    ensures { result.now ≡ work.fields_of (table.row_of types.now t) }
+{
+    match row_of(types, t) {
+        Some(TypeRow::Record(_, fields)) => fields.as_slice(),
+        Some(TypeRow::Object(_, fields)) => fields.as_slice(),
+        _ => &[],
+    }
+}
+
+impl Work {
+    /// Puts the kinds of a variable, an element or a field.
+    fn put_variable(&mut self, types: &Types, t: TypeId) -> Result<(), AllocError>
+        ensures kinds { OnOk result (work.outcome types.now self.new ≡
+            work.all_done types.now self.old.tasks.items
+            (self.old.kinds.items ++ work.variable_kinds types.now t)) }
+        ensures steps { OnOk result (work.all_steps types.now self.new.tasks.items ≤
+            work.all_steps types.now self.old.tasks.items + work.variable_steps types.now t) }
+    {
+        if is_object(types, t) {
+            self.kinds.push(Kind::R)?;
+        } else {
+            self.tasks.push(Task::Contents(t))?;
+        }
+        Ok(())
+    }
+
+    /// Puts the kinds of so many elements.
+    fn put_array(&mut self, types: &Types, length: u32, element: TypeId) -> Result<(), AllocError>
+        ensures kinds { OnOk result (work.outcome types.now self.new ≡
+            work.all_done types.now self.old.tasks.items
+            (self.old.kinds.items ++ work.again length (work.variable_kinds types.now element))) }
+        ensures steps { OnOk result (work.all_steps types.now self.new.tasks.items ≤
+            work.all_steps types.now self.old.tasks.items + 1 + work.variable_steps types.now element) }
+    {
+        if length > 0 {
+            self.tasks.push(Task::Again(self.kinds.len(), length - 1))?;
+            self.put_variable(types, element)?;
+        }
+        Ok(())
+    }
+
+    /// Puts the kinds of a base and of a type's own fields.
+    fn put_record(&mut self, t: TypeId, base: Option<TypeId>) -> Result<(), AllocError>
+        ensures kinds { (rows : List TypeRow) → OnOk result (work.outcome rows self.new ≡
+            work.all_done rows self.old.tasks.items (self.old.kinds.items ++
+            (work.base_kinds rows base ++ work.field_kinds rows (work.fields_of (table.row_of rows t))))) }
+        ensures steps { (rows : List TypeRow) → OnOk result (work.all_steps rows self.new.tasks.items ≤
+            work.all_steps rows self.old.tasks.items + 1 +
+            work.field_steps rows (work.fields_of (table.row_of rows t)) + work.sum_of (work.steps rows) (base_list base)) }
+    {
+        self.tasks.push(Task::Fields(t, 0))?;
+        if let Some(base) = base {
+            self.tasks.push(Task::Contents(base))?;
+        }
+        Ok(())
+    }
+
+    /// Puts the kinds of a type's contents.
+    fn put_contents(&mut self, types: &Types, t: TypeId) -> Result<(), AllocError>
+        requires { NoneContainsItself types.now }
+        ensures kinds { OnOk result (work.outcome types.now self.new ≡
+            work.all_done types.now self.old.tasks.items (self.old.kinds.items ++ layout.kinds types.now t)) }
+        ensures steps { OnOk result (work.all_steps types.now self.new.tasks.items <
+            work.all_steps types.now self.old.tasks.items + work.steps types.now t) }
+    {
+        // Without this a type of empty records, each of them twice the one before it, would take forever.
+        if is_empty(types, t) {
+            return Ok(());
+        }
+        match row_of(types, t) {
+            None => Ok(()),
+            Some(TypeRow::Open(_)) => Ok(()),
+            Some(TypeRow::Array(length, element)) => self.put_array(types, *length, *element),
+            Some(TypeRow::Record(base, _)) => self.put_record(t, *base),
+            Some(TypeRow::Object(base, _)) => self.put_record(t, *base),
+            _ => {
+                self.kinds.push(kind_of(types, t))?;
+                Ok(())
+            },
+        }
+    }
+
+    /// Puts the kinds of a type's own fields from this number on.
+    fn put_fields(&mut self, types: &Types, t: TypeId, number: usize) -> Result<(), AllocError>
+        ensures kinds { OnOk result (work.outcome types.now self.new ≡
+            work.all_done types.now self.old.tasks.items (self.old.kinds.items ++
+            work.field_kinds types.now (drop number (work.fields_of (table.row_of types.now t))))) }
+        ensures steps { OnOk result (work.all_steps types.now self.new.tasks.items ≤
+            work.all_steps types.now self.old.tasks.items +
+            work.field_steps types.now (drop number (work.fields_of (table.row_of types.now t)))) }
+    {
+        let fields = fields_of(types, t);
+        if number < fields.len() {
+            self.tasks.push(Task::Fields(t, number + 1))?;
+            self.put_variable(types, fields[number])?;
+        }
+        Ok(())
+    }
+
+    /// Puts the kinds from a place on so many times more.
+    fn put_again(&mut self, from: usize, times: u32) -> Result<(), AllocError>
+        ensures kinds { OnOk result (self.new.kinds.items ≡
+            self.old.kinds.items ++ work.again times (drop from self.old.kinds.items)) }
+        ensures tasks { self.new.tasks ≡ self.old.tasks }
+    {
+        let end = self.kinds.len();
+        if from < end {
+            for _time in 0..times {
+                self.kinds.extend_from_within(from..end)?;
+            }
+        }
+        Ok(())
+    }
+
+    /// Does a task.
+    fn put(&mut self, types: &Types, task: Task) -> Result<(), AllocError>
+        requires { NoneContainsItself types.now }
+        ensures kinds { OnOk result (work.outcome types.now self.new ≡
+            work.all_done types.now self.old.tasks.items (work.done types.now task self.old.kinds.items)) }
+        ensures steps { OnOk result (work.all_steps types.now self.new.tasks.items <
+            work.all_steps types.now self.old.tasks.items + work.task_steps types.now task) }
+    {
+        match task {
+            Task::Contents(t) => self.put_contents(types, t),
+            Task::Fields(t, number) => self.put_fields(types, t, number),
+            Task::Again(from, times) => self.put_again(from, times),
+        }
+    }
+}
+
+/// What is to be done for a type's kinds.
+fn begun(alloc: Global, t: TypeId) -> Result<Work, AllocError>
+    ensures kinds { IfOk result (λ w. w.kinds.items ≡ []) }
+    ensures tasks { IfOk result (λ w. w.tasks.items ≡ Task.Contents t ∷ []) }
+{
+    let mut tasks = Vec::new(alloc);
+    tasks.push(Task::Contents(t))?;
+    Ok(Work {
+        tasks,
+        kinds: Vec::new(alloc),
+    })
+}
+
+/// The kinds of a type's cells.
+pub(crate) fn kinds_of(alloc: Global, types: &Types, t: TypeId) -> Result<Vec<Kind>, AllocError>
+    requires { NoneContainsItself types.now }
+    ensures { IfOk result (λ kinds. kinds.items ≡ layout.kinds types.now t) }
+{
+    let mut work = begun(alloc, t)?;
+    while let Some(task) = work.tasks.pop() {
+        work.put(types, task)?;
+    }
+    let Work { tasks, kinds } = work;
+    drop(tasks);
+    Ok(kinds)
+}
