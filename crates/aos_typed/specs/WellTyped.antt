@@ -1,7 +1,9 @@
 -- Programs whose expressions have the types that their places ask for (Oberon-2 report, 8.2 and 9.1; Reali 2002, section on
 -- basic types): each operator has operands of the types that it takes, an assigned value is of the variable's type, what a
--- loop tests is a truth value, and NEW makes an object of its variable's type.
-use Rattle.std.specs.Prelude.{◌≡◌, ◌≢◌, ℕ, ℤ, ◌≤◌, ◌<◌, ◌==◌, ◌^◌, nat_le, List, [], ◌∷◌, length, All, Bool, true, false, ◌&&◌, ◌||◌, Option, Some, slice_get, option_map, option_and_then}
+-- loop tests is a truth value, and NEW makes an object of its variable's type. No type contains itself, and none has more
+-- scalars than a type may have (Oberon-2 report, 6.2 and 6.3); only parameters are of open arrays, and a function gives a
+-- scalar (Oberon-2 report, 10.1).
+use Rattle.std.specs.Prelude.{◌≡◌, ◌≢◌, ℕ, ℤ, ◌≤◌, ◌<◌, ◌+◌, ◌==◌, ◌^◌, nat_le, List, [], ◌∷◌, length, All, Bool, true, false, ◌&&◌, ◌||◌, Option, Some, None, slice_get, option_map, option_and_then}
 use Rattle.std.specs.List.{AllPairs, list_all}
 use Rattle.std.specs.Char.{is_ascii_digit, is_ascii_alphabetic}
 use Rattle.aos_base.specs.declared.number.Width.{Width}
@@ -13,11 +15,18 @@ use Rattle.aos_base.specs.declared.operator.Unary.TheVariants.{Neg, Abs, Not, Od
 use Rattle.aos_base.specs.declared.operator.Binary.{Binary as BinaryOperator}
 use Rattle.aos_base.specs.declared.operator.Binary.TheVariants.{Add, Sub, Mul, Div, Mod, Ash, Cmp, Union, Minus, Meet, Xor, SetSpan, In}
 use Rattle.aos_base.specs.Number.{IsWithin}
+use Rattle.aos_types.specs.declared.TheConstants.{MOST_SCALARS}
+use Rattle.aos_types.specs.declared.row.TypeId.{TypeId}
+use Rattle.aos_types.specs.declared.row.TypeRow.{TypeRow}
+use Rattle.aos_types.specs.Table.{row_of, is_open, is_scalar}
+use Rattle.aos_types.specs.Contents.{scalars}
+use Rattle.aos_types.specs.Chain.{NoneContainsItself}
 use Rattle.aos_typed.specs.declared.tree.Literal.{Literal}
 use Rattle.aos_typed.specs.declared.tree.Literal.TheVariants as literal
 use Rattle.aos_typed.specs.declared.tree.TType.{TType}
 use Rattle.aos_typed.specs.declared.tree.TType.TheVariants.{Integer, Boolean, Char, Set, Named}
-use Rattle.aos_typed.specs.Program.{Place, ModuleVar, Expr, Lit, Read, Unary, Binary, And, Or, Element, Ord, Chr, Call, Open as OutOpen, Char as OutChar, Int as OutInt, Ln as OutLn, Stat, Assign, While, New, Out, Stats, Nothing, Then, Program}
+use Rattle.aos_typed.specs.Program.{Place, ModuleVar, Expr, Lit, Read, Unary, Binary, And, Or, Element, Ord, Chr, Call, Open as OutOpen, Char as OutChar, Int as OutInt, Ln as OutLn, Stat, Assign, While, New, Out, Stats, Nothing, Then, Parameter, Procedure, Program}
+use Rattle.aos_typed.specs.Numbers.{id_of, predeclared_types}
 
 -- Types.
 
@@ -166,8 +175,33 @@ abbrev pub is_ident : List ℕ → Bool
 is_ident [] = false
 is_ident (c ∷ cs) = is_ascii_alphabetic c && list_all is_in_name cs
 
--- A program has 1 to 64 modules, whose names are idents and differ; all statements of all bodies are well typed, and each
--- object type is one of a module of the program.
+-- Declarations.
+
+pub record AreTypes (rows : List TypeRow) : Type 0 where
+  pub none_contains_itself : NoneContainsItself rows
+  pub sizes : (t : TypeId) → scalars rows t ≤ MOST_SCALARS
+
+-- a type that is there
+abbrev pub IsType : Program → TType → Type 0
+IsType p t = (id_of t).0 < length p.types
+
+-- a variable's type is no open array
+pub record IsVariableType (p : Program) (t : TType) : Type 0 where
+  pub there : IsType p t
+  pub closed : is_open (row_of p.types (id_of t)) ≡ false
+
+abbrev pub IsResult : Program → Option TType → Type 0
+IsResult p None = Unit {0}
+IsResult p (Some t) = is_scalar (row_of p.types (id_of t)) ≡ true
+
+pub record IsProcedure (p : Program) (x : Procedure) : Type 0 where
+  pub parameters : All (λ a. IsType p a.of) x.parameters
+  pub locals : All (λ v. IsVariableType p v.of) x.locals
+  pub result : IsResult p x.result
+  pub body : AreStatements p x.body
+
+-- A program has 1 to 64 modules, whose names are idents and differ; all statements of all bodies are well typed, what stands
+-- beside a type is of a module of the program, and all declarations are as they are to be.
 pub record IsWellTyped (p : Program) : Type 0 where
   pub some : 1 ≤ length p.modules
   pub few : length p.modules ≤ 64
@@ -176,3 +210,7 @@ pub record IsWellTyped (p : Program) : Type 0 where
   pub bodies : All (λ m. AreStatements p m.body) p.modules
   pub objects : All (λ o. AreStatements p o.body) p.objects
   pub homes : All (λ o. o.home < length p.modules) p.objects
+  pub types : AreTypes p.types
+  pub beside : length p.types ≡ length p.objects + predeclared_types
+  pub variables : All (λ m. All (λ v. IsVariableType p v.of) m.variables) p.modules
+  pub procedures : All (λ m. All (IsProcedure p) m.procedures) p.modules
