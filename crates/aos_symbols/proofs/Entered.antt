@@ -1,16 +1,17 @@
 -- One more name of a scope.
-use Rattle.std.proofs.Common.{◌≡◌, ◌<◌, ◌≤◌, ℕ, suc, List, [], ◌∷◌, ◌++◌, ◌+◌, length, map, take, get_or, drop, drop-cons, add-one, refl, ap, ◌∙◌, sym, if◌then◌else◌, bytes_eq}
+use Rattle.std.proofs.Common.{◌≡◌, ◌<◌, ◌≤◌, ℕ, suc, List, [], ◌∷◌, ◌++◌, ◌+◌, length, map, take, get_or, drop, drop-cons, add-one, length-append, Option, arith, ap, ◌∙◌, sym, if◌then◌else◌, bytes_eq}
 use Rattle.std.proofs.lemmas.List.Sums.{fold-append}
 use Rattle.std.proofs.lemmas.List.{take_more, flat_map_more, map-append}
 use Rattle.aos_tree.specs.declared.decl.Def.{Def}
 use Rattle.aos_tree.specs.declared.decl.Decl.{Decl}
 use Rattle.aos_tree.specs.declared.decl.TypeDef.{TypeDef}
+use Rattle.aos_types.specs.declared.row.TypeId.{TypeId}
 use Rattle.aos_symbols.specs.declared.entries.Sort.{Sort}
 use Rattle.aos_symbols.specs.declared.scope.Meaning.TheVariants as means
 use Rattle.aos_symbols.specs.Home.{Home}
 use Rattle.aos_symbols.specs.Scope.{Named, Scope, with_name, with_names}
 use Rattle.aos_symbols.specs.Declarations.{type_defs, types_in}
-use Rattle.aos_symbols.specs.Entries.{among, numbered, entry, meant, slot, after, after_all, type_entries, inner_scope}
+use Rattle.aos_symbols.specs.Entries.{among, numbered, entry, meant, number_at, types_from, inner_scope}
 use Rattle.aos_symbols.proofs.Paths.{past}
 
 pub among_step : (w : List ℕ) (hs : List Home) (i : ℕ) (d : Home) → i < length hs →
@@ -36,42 +37,48 @@ numbered_end s text of ds i le = ap (λ l. with_names s (numbered text of i l)) 
 pub with_both : (s : Scope) (xs ys : List Named) → with_names s (xs ++ ys) ≡ with_names (with_names s xs) ys
 with_both s xs ys = fold-append with_name s xs ys
 
-pub types_step : (s : Scope) (text : List ℕ) (next : ℕ) (ds : List TypeDef) (i : ℕ) (d : TypeDef) → i < length ds →
-    with_names s (type_entries text next (drop i ds))
-    ≡ with_names (with_name s (entry text (get_or ds i d).def (means.Type (slot next (get_or ds i d))))) (type_entries text (after next (get_or ds i d)) (drop (i + 1) ds))
-types_step s text next ds i d lt =
-    ap (λ l. with_names s (type_entries text next l)) (drop-cons ds i d lt)
-    ∙ ap (λ j. with_names (with_name s (entry text (get_or ds i d).def (means.Type (slot next (get_or ds i d))))) (type_entries text (after next (get_or ds i d)) (drop j ds))) (sym (add-one i))
+pub types_step : (s : Scope) (text : List ℕ) (numbers : List (Option TypeId)) (k : ℕ) (ds : List TypeDef) (i : ℕ) (d : TypeDef) → i < length ds →
+    with_names s (types_from text numbers k (drop i ds))
+    ≡ with_names (with_name s (entry text (get_or ds i d).def (means.Type (number_at numbers k)))) (types_from text numbers (k + 1) (drop (i + 1) ds))
+types_step s text numbers k ds i d lt =
+    ap (λ l. with_names s (types_from text numbers k l)) (drop-cons ds i d lt)
+    ∙ ap (λ j. with_names (with_name s (entry text (get_or ds i d).def (means.Type (number_at numbers k)))) (types_from text numbers (suc k) (drop j ds))) (sym (add-one i))
+    ∙ ap (λ j. with_names (with_name s (entry text (get_or ds i d).def (means.Type (number_at numbers k)))) (types_from text numbers j (drop (i + 1) ds))) (sym (add-one k))
 
-pub types_end : (s : Scope) (text : List ℕ) (next : ℕ) (ds : List TypeDef) (i : ℕ) → length ds ≤ i → with_names s (type_entries text next (drop i ds)) ≡ s
-types_end s text next ds i le = ap (λ l. with_names s (type_entries text next l)) (past ds i le)
-
-pub numbers_step : (next : ℕ) (ds : List TypeDef) (i : ℕ) (d : TypeDef) → i < length ds →
-    after_all next (drop i ds) ≡ after_all (after next (get_or ds i d)) (drop (i + 1) ds)
-numbers_step next ds i d lt =
-    ap (λ l. after_all next l) (drop-cons ds i d lt) ∙ ap (λ j. after_all (after next (get_or ds i d)) (drop j ds)) (sym (add-one i))
-
-pub numbers_end : (next : ℕ) (ds : List TypeDef) (i : ℕ) → length ds ≤ i → after_all next (drop i ds) ≡ next
-numbers_end next ds i le = ap (λ l. after_all next l) (past ds i le)
+pub types_end : (s : Scope) (text : List ℕ) (numbers : List (Option TypeId)) (k : ℕ) (ds : List TypeDef) (i : ℕ) → length ds ≤ i →
+    with_names s (types_from text numbers k (drop i ds)) ≡ s
+types_end s text numbers k ds i le = ap (λ l. with_names s (types_from text numbers k l)) (past ds i le)
 
 -- the types of one declaration, and those of the others behind it
-types_both : (text : List ℕ) (next : ℕ) (xs ys : List TypeDef) →
-    type_entries text next (xs ++ ys) ≡ type_entries text next xs ++ type_entries text (after_all next xs) ys
-types_both text next [] ys = refl
-types_both text next (x ∷ xs) ys = ap (λ z. entry text x.def (means.Type (slot next x)) ∷ z) (types_both text (after next x) xs ys)
+types_both : (text : List ℕ) (numbers : List (Option TypeId)) (k : ℕ) (xs ys : List TypeDef) →
+    types_from text numbers k (xs ++ ys) ≡ types_from text numbers k xs ++ types_from text numbers (k + length xs) ys
+types_both text numbers k [] ys = ap (λ j. types_from text numbers j ys) (omega arith)
+types_both text numbers k (x ∷ xs) ys =
+    ap (λ z. entry text x.def (means.Type (number_at numbers k)) ∷ z)
+    (types_both text numbers (suc k) xs ys ∙ ap (λ j. types_from text numbers (suc k) xs ++ types_from text numbers j ys) (omega arith))
 
-pub decls_step : (s : Scope) (text : List ℕ) (next : ℕ) (ds : List Decl) (i : ℕ) (d : Decl) → i < length ds →
-    with_names s (type_entries text next (type_defs (drop i ds)))
-    ≡ with_names (with_names s (type_entries text next (types_in (get_or ds i d)))) (type_entries text (after_all next (types_in (get_or ds i d))) (type_defs (drop (i + 1) ds)))
-decls_step s text next ds i d lt =
+pub decls_step : (s : Scope) (text : List ℕ) (numbers : List (Option TypeId)) (k : ℕ) (ds : List Decl) (i : ℕ) (d : Decl) → i < length ds →
+    with_names s (types_from text numbers k (type_defs (drop i ds)))
+    ≡ with_names (with_names s (types_from text numbers k (types_in (get_or ds i d)))) (types_from text numbers (k + length (types_in (get_or ds i d))) (type_defs (drop (i + 1) ds)))
+decls_step s text numbers k ds i d lt =
     let x = get_or ds i d in
-    ap (λ l. with_names s (type_entries text next (type_defs l))) (drop-cons ds i d lt)
-    ∙ ap (λ l. with_names s l) (types_both text next (types_in x) (type_defs (drop (suc i) ds)))
-    ∙ with_both s (type_entries text next (types_in x)) (type_entries text (after_all next (types_in x)) (type_defs (drop (suc i) ds)))
-    ∙ ap (λ j. with_names (with_names s (type_entries text next (types_in x))) (type_entries text (after_all next (types_in x)) (type_defs (drop j ds)))) (sym (add-one i))
+    let next = k + length (types_in x) in
+    ap (λ l. with_names s (types_from text numbers k (type_defs l))) (drop-cons ds i d lt)
+    ∙ ap (λ l. with_names s l) (types_both text numbers k (types_in x) (type_defs (drop (suc i) ds)))
+    ∙ with_both s (types_from text numbers k (types_in x)) (types_from text numbers next (type_defs (drop (suc i) ds)))
+    ∙ ap (λ j. with_names (with_names s (types_from text numbers k (types_in x))) (types_from text numbers next (type_defs (drop j ds)))) (sym (add-one i))
 
-pub decls_end : (s : Scope) (text : List ℕ) (next : ℕ) (ds : List Decl) (i : ℕ) → length ds ≤ i → with_names s (type_entries text next (type_defs (drop i ds))) ≡ s
-decls_end s text next ds i le = ap (λ l. with_names s (type_entries text next (type_defs l))) (past ds i le)
+pub decls_end : (s : Scope) (text : List ℕ) (numbers : List (Option TypeId)) (k : ℕ) (ds : List Decl) (i : ℕ) → length ds ≤ i →
+    with_names s (types_from text numbers k (type_defs (drop i ds))) ≡ s
+decls_end s text numbers k ds i le = ap (λ l. with_names s (types_from text numbers k (type_defs l))) (past ds i le)
+
+-- how many types the declarations have from this one on
+pub count_step : (ds : List Decl) (i : ℕ) (d : Decl) → i < length ds →
+    length (type_defs (drop i ds)) ≡ length (types_in (get_or ds i d)) + length (type_defs (drop (i + 1) ds))
+count_step ds i d lt =
+    ap (λ l. length (type_defs l)) (drop-cons ds i d lt)
+    ∙ length-append (types_in (get_or ds i d)) (type_defs (drop (suc i) ds))
+    ∙ ap (λ j. length (types_in (get_or ds i d)) + length (type_defs (drop j ds))) (sym (add-one i))
 
 pub mapped_step : {X : Type 0} (s : Scope) (f : X → Named) (xs : List X) (i : ℕ) (d : X) → i < length xs →
     with_names s (map f (drop i xs)) ≡ with_names (with_name s (f (get_or xs i d))) (map f (drop (i + 1) xs))

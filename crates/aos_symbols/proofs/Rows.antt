@@ -16,8 +16,8 @@ use Rattle.aos_tree.specs.declared.decl.Decl.TheVariants as decl
 use Rattle.aos_tree.specs.declared.decl.Decl.TheBlock.{hidden-the_row-TypeDef-0, hidden-the_row-VarDef-1, hidden-the_row-Decl-2, hidden-the_row-TypeExpr-3, shape-the_row-TypeExpr-3, hidden-the_row-Fields-4}
 use Rattle.aos_tree.specs.declared.decl.TypeExpr.{TypeExpr, Row_of-Fields, end_of-Fields, more_of-Fields, items-the_row-Fields, items_hidden-the_row-Fields-4}
 use Rattle.aos_tree.specs.declared.decl.TypeExpr.TheVariants as type
-use Rattle.aos_symbols.specs.Names.{within_decl, within_decls, within_type, within_types, within_variables, within_field, within_fields, within_held, other_end, object_end, twice, formal_names, field_names}
-use Rattle.aos_symbols.specs.Declarations.{declared_names}
+use Rattle.aos_symbols.specs.Names.{within_decl, within_decls, within_type, within_types, within_variables, within_field, within_fields, within_held, other_end, object_end, twice, field_names}
+use Rattle.aos_symbols.specs.Declarations.{declared_names, formal_names}
 
 module _ (text : List ℕ) where
   decls_row : (n : _) (r : Row_of-Decl n) → within_decls text r ≡ flat_map (within_decl text) (items-the_row-Decl n r)

@@ -1,12 +1,15 @@
 -- The names that declarations declare, in the order of the text.
-use Rattle.std.specs.Prelude.{List, [], ◌∷◌, map}
+use Rattle.std.specs.Prelude.{List, [], ◌∷◌, ◌++◌, map, Option, Some, None}
 use Rattle.std.specs.List.{flat_map}
+use Rattle.aos_base.specs.declared.text.Pos.{Pos}
 use Rattle.aos_tree.specs.declared.name.Name.{Name}
 use Rattle.aos_tree.specs.declared.decl.Def.{Def}
 use Rattle.aos_tree.specs.declared.decl.TypeDef.{TypeDef}
 use Rattle.aos_tree.specs.declared.decl.VarDef.{VarDef}
-use Rattle.aos_tree.specs.declared.decl.Decl.{Decl, items-the_row-TypeDef, items-the_row-VarDef}
+use Rattle.aos_tree.specs.declared.decl.Formals.{Formals}
+use Rattle.aos_tree.specs.declared.decl.Decl.{Decl, items-the_row-TypeDef, items-the_row-VarDef, items-the_row-Decl}
 use Rattle.aos_tree.specs.declared.decl.Decl.TheVariants.{Consts, Types', Vars', Proc'}
+use Rattle.aos_tree.specs.declared.stat.Block.{Block}
 
 abbrev pub def_names : List Def → List Name
 def_names ds = map (λ d. d.name) ds
@@ -67,3 +70,30 @@ names_in (Proc' p i def formals shape row body end) = def.name ∷ []
 
 abbrev pub declared_names : List Decl → List Name
 declared_names ds = flat_map names_in ds
+
+-- A procedure: where it stands, the place of `&` where that is before its name, its heading, and what it declares.
+pub record Procedure : Type 0 where
+  pub at : Pos
+  pub initializer : Option Pos
+  pub name : Name
+  pub formals : Option Formals
+  pub decls : List Decl
+  pub body : Option Block
+
+abbrev pub whole_procedures_in : Decl → List Procedure
+whole_procedures_in (Proc' p i def formals shape row body end) =
+    record { at = p; initializer = i; name = def.name; formals = formals; decls = items-the_row-Decl _ row; body = body } ∷ []
+whole_procedures_in (Consts p cs) = []
+whole_procedures_in (Types' p shape row) = []
+whole_procedures_in (Vars' p shape row) = []
+
+abbrev pub procedures : List Decl → List Procedure
+procedures ds = flat_map whole_procedures_in ds
+
+abbrev pub formal_names : Option Formals → List Name
+formal_names None = []
+formal_names (Some f) = flat_map (λ s. s.names) f.sections
+
+-- the types that a module's declarations define: its own, and behind them those of its procedures
+abbrev pub all_type_defs : List Decl → List TypeDef
+all_type_defs ds = type_defs ds ++ flat_map (λ p. type_defs p.decls) (procedures ds)

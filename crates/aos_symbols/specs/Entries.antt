@@ -1,9 +1,11 @@
 -- The scopes of a module, as its declarations make them. All names are there before any declaration is looked at, so a name
--- may be used before it is declared. Constants, variables and procedures are numbered in their scope in the order of the text,
--- and the types that a module defines have the next numbers in the table; a name for another type has none of its own.
-use Rattle.std.specs.Prelude.{ℕ, suc, List, [], ◌∷◌, ◌++◌, codes, map, Bool, true, false, Option, Some, None, if◌then◌else◌, unwrap_or}
+-- may be used before it is declared. Constants, variables and procedures are numbered in their scope in the order of the text;
+-- the types that a module's declarations define, its own and behind them those of its procedures, have the numbers of a list.
+use Rattle.std.specs.Prelude.{ℕ, suc, ◌+◌, List, [], ◌∷◌, ◌++◌, length, codes, map, Option, Some, None, if◌then◌else◌, unwrap_or, slice_get}
 use Rattle.std.specs.Str.{bytes_eq}
+use Rattle.aos_tree.specs.declared.name.Name.{Name}
 use Rattle.aos_tree.specs.declared.decl.Export.{Export}
+use Rattle.aos_tree.specs.declared.decl.Formals.{Formals}
 use Rattle.aos_tree.specs.declared.decl.Mark.{Mark}
 use Rattle.aos_tree.specs.declared.decl.Def.{Def}
 use Rattle.aos_tree.specs.declared.decl.Decl.{Decl, items-the_row-Decl}
@@ -18,7 +20,7 @@ use Rattle.aos_symbols.specs.declared.scope.Meaning.TheVariants as means
 use Rattle.aos_symbols.specs.declared.entries.Sort.{Sort}
 use Rattle.aos_symbols.specs.declared.entries.Sort.TheVariants as sort
 use Rattle.aos_symbols.specs.Spelling.{word}
-use Rattle.aos_symbols.specs.Declarations.{constant_defs, type_defs, single_variables, procedure_defs}
+use Rattle.aos_symbols.specs.Declarations.{constant_defs, type_defs, single_variables, procedure_defs, Procedure, procedures, formal_names}
 use Rattle.aos_symbols.specs.Scope.{Named, Scope, empty, with_names}
 use Rattle.aos_symbols.specs.Home.{Home}
 
@@ -28,32 +30,6 @@ export_of d = marked d.mark
     marked : Option Mark → Option Export
     marked None = None
     marked (Some m) = Some m.export
-
--- a name for a type that is defined elsewhere
-abbrev pub is_alias : TypeExpr → Bool
-is_alias (type.Named q) = true
-is_alias (type.Array' p lengths shape row) = false
-is_alias (type.Record' p base shape row) = false
-is_alias (type.Pointer' p shape row) = false
-is_alias (type.Proc p flag formals) = false
-is_alias (type.Object' p base shape row body end) = false
-
--- how many of these types have a number of their own
-abbrev pub own_types : List TypeDef → ℕ
-own_types [] = 0
-own_types (d ∷ ds) = if is_alias d.value then own_types ds else suc (own_types ds)
-
--- the number of the type, where the next one is this
-abbrev pub slot : ℕ → TypeDef → Option TypeId
-slot next d = if is_alias d.value then None else Some (record { 0 = next })
-
-abbrev pub after : ℕ → TypeDef → ℕ
-after next d = if is_alias d.value then next else suc next
-
--- the next number behind types
-abbrev pub after_all : ℕ → List TypeDef → ℕ
-after_all next [] = next
-after_all next (d ∷ ds) = after_all (after next d) ds
 
 -- what is declared in an object type; it has no number of its own yet where it is a type
 abbrev pub inner_decls : TypeExpr → List Decl
@@ -78,6 +54,12 @@ meant sort.Constant k = means.Constant k
 meant sort.Variable k = means.Variable k
 meant sort.Procedure k = means.Procedure k
 
+abbrev pub number_at : List (Option TypeId) → ℕ → Option TypeId
+number_at numbers k = unwrap_or (slice_get numbers k) None
+
+abbrev pub unmarked : Name → Def
+unmarked n = record { name = n; mark = None }
+
 module _ (text : List ℕ) where
   abbrev pub entry : Def → Meaning → Named
   entry d m = (word text d.name, record { mark = export_of d; means = m })
@@ -87,9 +69,10 @@ module _ (text : List ℕ) where
   numbered of k [] = []
   numbered of k (d ∷ ds) = entry d (meant of k) ∷ numbered of (suc k) ds
 
-  abbrev pub type_entries : ℕ → List TypeDef → List Named
-  type_entries next [] = []
-  type_entries next (d ∷ ds) = entry d.def (means.Type (slot next d)) ∷ type_entries (after next d) ds
+  -- types, of which the first has this place among the numbers
+  abbrev pub types_from : List (Option TypeId) → ℕ → List TypeDef → List Named
+  types_from numbers k [] = []
+  types_from numbers k (d ∷ ds) = entry d.def (means.Type (number_at numbers k)) ∷ types_from numbers (suc k) ds
 
   abbrev pub inner_type : TypeDef → Named
   inner_type d = entry d.def (means.Type None)
@@ -105,16 +88,31 @@ module _ (text : List ℕ) where
       ++ numbered sort.Procedure 0 (procedure_defs ds)
 
   -- a name is declared once, so the order doesn't matter
-  abbrev pub own_scope : List Home → ℕ → Module → Scope
-  own_scope homes next m =
-      with_names empty (map (import_entry homes) m.imports ++ type_entries next (type_defs m.decls) ++ other_entries m.decls)
+  abbrev pub own_scope : List Home → List (Option TypeId) → Module → Scope
+  own_scope homes numbers m =
+      with_names empty (map (import_entry homes) m.imports ++ types_from numbers 0 (type_defs m.decls) ++ other_entries m.decls)
 
   abbrev pub inner_scope : TypeDef → Scope
   inner_scope d = let ds = inner_decls d.value in with_names empty (map inner_type (type_defs ds) ++ other_entries ds)
 
-  -- where the modules before are these, and the next type has this number
-  abbrev pub scopes : List Home → ℕ → Module → List Scope
-  scopes homes next m = own_scope homes next m ∷ map inner_scope (type_defs m.decls)
+  -- parameters are variables of their procedure, before its locals; the first of its types has this place among the numbers
+  abbrev pub procedure_scope : List (Option TypeId) → ℕ → Option Formals → List Decl → Scope
+  procedure_scope numbers k formals ds =
+      with_names empty (
+      types_from numbers k (type_defs ds) ++ numbered sort.Constant 0 (constant_defs ds)
+      ++ numbered sort.Variable 0 (map unmarked (formal_names formals) ++ single_variables ds))
 
-  abbrev pub home_of : List Home → ℕ → Module → Home
-  home_of homes next m = record { name = word text m.name; text = text; scopes = scopes homes next m }
+  abbrev pub procedure_scopes : List (Option TypeId) → ℕ → List Procedure → List Scope
+  procedure_scopes numbers k [] = []
+  procedure_scopes numbers k (p ∷ ps) =
+      procedure_scope numbers k p.formals p.decls ∷ procedure_scopes numbers (k + length (type_defs p.decls)) ps
+
+  -- where the modules before are these, and the types that the module's declarations define have these numbers
+  abbrev pub scopes : List Home → List (Option TypeId) → Module → List Scope
+  scopes homes numbers m =
+      own_scope homes numbers m
+      ∷ (map inner_scope (type_defs m.decls) ++ procedure_scopes numbers (length (type_defs m.decls)) (procedures m.decls))
+
+  abbrev pub home_of : List Home → List (Option TypeId) → Module → Home
+  home_of homes numbers m =
+      record { name = word text m.name; text = text; scopes = scopes homes numbers m; signatures = [] }

@@ -1,7 +1,7 @@
 -- What a name stands for at a place of a module (Active Oberon Language Report, Reali 2002, section on declarations and scope
 -- rules): the scopes of the place's path are searched, the innermost first, then what is predeclared. A name of another module
 -- is seen where it has an export mark.
-use Rattle.std.specs.Prelude.{ℕ, List, [], ◌∷◌, Bool, true, false, ◌==◌, ◌||◌, ◌&&◌, nat_lt, codes, Option, Some, None, is_some, unwrap_or, option_map, option_and_then, if◌then◌else◌, slice_get}
+use Rattle.std.specs.Prelude.{ℕ, List, [], ◌∷◌, Bool, true, false, ◌==◌, ◌||◌, ◌&&◌, nat_lt, codes, Option, Some, None, is_some, option_map, option_and_then, if◌then◌else◌, slice_get}
 use Rattle.std.specs.Option.{option_or}
 use Rattle.std.specs.Str.{bytes_eq}
 use Rattle.std.specs.Map.{lookup as lookup_in}
@@ -160,11 +160,20 @@ constant e o k at = declared (option_and_then (λ s. slice_get s.constants k) (s
     declared None = None
     declared (Some c) = if (o.home == e.number) && precedes at c.at then None else Some c.value
 
--- the type's definition isn't told yet, or breaks a rule
-abbrev pub is_broken : Env → TypeId → Bool
-is_broken e t = unwrap_or (slice_get e.broken t.0) true
-
--- the row of a type; nothing where its definition breaks a rule
+-- the row of a type that is known
 abbrev pub row_of : Env → Option TypeId → Option TypeRow
 row_of e None = None
-row_of e (Some t) = if is_broken e t then None else slice_get e.types t.0
+row_of e (Some t) = slice_get e.types t.0
+
+-- the innermost scope at this place, by its number in the module
+abbrev pub innermost : List Open → ℕ
+innermost [] = 0
+innermost (o ∷ os) = o.scope
+
+-- at a place within the scope with a number
+abbrev pub within : Env → ℕ → Env
+within e k = record e { path = record { home = e.number; scope = k } ∷ e.path }
+
+-- and back at a place with this path
+abbrev pub back_at : List Open → Env → Env
+back_at path e = record e { path = path }

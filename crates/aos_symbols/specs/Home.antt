@@ -1,14 +1,17 @@
--- What a module has declared: its name, its text, and its scopes. The first scope is the module's own; behind it come those of
--- the types that it defines, in the order of the text, in which the names within an object type stand.
-use Rattle.std.specs.Prelude.{ℕ, List, Option, Some, None, slice_get, slice_set}
+-- What a module has declared: its name, its text, its scopes, and the signatures of its procedures. The first scope is the
+-- module's own; behind it come those of the types that it defines, in which the names within an object type stand, and then
+-- those of its procedures, each in the order of the text.
+use Rattle.std.specs.Prelude.{ℕ, List, [], ◌∷◌, ◌++◌, Option, Some, None, slice_get, slice_set}
 use Rattle.aos_types.specs.declared.row.TypeId.{TypeId}
 use Rattle.aos_symbols.specs.declared.scope.Constant.{Constant}
+use Rattle.aos_symbols.specs.declared.home.Signature.{Signature}
 use Rattle.aos_symbols.specs.Scope.{Scope, with_constant, with_variable}
 
 pub record Home : Type 0 where
   pub name : List ℕ
   pub text : List ℕ
   pub scopes : List Scope
+  pub signatures : List Signature
 
 -- with another scope in the place of the one with this number
 abbrev pub with_scope : Home → ℕ → Scope → Home
@@ -24,3 +27,7 @@ add_constant h k c = changed (λ s. with_constant s c) h k (slice_get h.scopes k
 
 abbrev pub add_variable : Home → ℕ → Option TypeId → Home
 add_variable h k of = changed (λ s. with_variable s of) h k (slice_get h.scopes k)
+
+-- with the signature of the next procedure
+abbrev pub add_signature : Home → Signature → Home
+add_signature h x = record h { signatures = h.signatures ++ x ∷ [] }

@@ -3,7 +3,6 @@
 use Rattle.std.specs.Prelude.{ℕ, List, [], ◌∷◌, ◌++◌, codes, map, ◌||◌, not, Option, Some, None}
 use Rattle.std.specs.List.{flat_map, list_any}
 use Rattle.aos_tree.specs.declared.name.Name.{Name}
-use Rattle.aos_tree.specs.declared.decl.Formals.{Formals}
 use Rattle.aos_tree.specs.declared.decl.Decl.{Decl, Row_of-TypeDef, end_of-TypeDef, more_of-TypeDef, Row_of-VarDef, end_of-VarDef, more_of-VarDef, Row_of-Decl, end_of-Decl, more_of-Decl, items-the_row-Decl}
 use Rattle.aos_tree.specs.declared.decl.Decl.TheVariants as decl
 use Rattle.aos_tree.specs.declared.decl.TypeExpr.{TypeExpr, Row_of-TypeExpr, end_of-TypeExpr, more_of-TypeExpr, Row_of-Fields, end_of-Fields, more_of-Fields, items-the_row-Fields}
@@ -14,11 +13,7 @@ use Rattle.aos_tree.specs.declared.module.Module.{Module}
 use Rattle.aos_symbols.specs.declared.breach.Breach.{Breach}
 use Rattle.aos_symbols.specs.Breaches.{breach, breach_unless}
 use Rattle.aos_symbols.specs.Spelling.{is_word, are_same}
-use Rattle.aos_symbols.specs.Declarations.{def_names, declared_names}
-
-abbrev pub formal_names : Option Formals → List Name
-formal_names None = []
-formal_names (Some f) = flat_map (λ s. s.names) f.sections
+use Rattle.aos_symbols.specs.Declarations.{def_names, declared_names, formal_names}
 
 abbrev pub field_names : Fields → List Name
 field_names fields.Empty = []

@@ -24,8 +24,20 @@ pub const UNKNOWN: u16 = 14;
 pub const NOT_EXPORTED: u16 = 15;
 /// A type, a constant, a variable or a module is needed, and the name stands for something else.
 pub const OTHER_KIND: u16 = 16;
+/// A type that contains itself.
+pub const CONTAINS_ITSELF: u16 = 18;
+/// A type, or all variables of all modules, with too many scalars.
+pub const TOO_MANY_SCALARS: u16 = 19;
 /// A constant expression that isn't constant, would trap, or isn't of the kind that is needed.
 pub const NOT_CONSTANT: u16 = 20;
+/// An open array elsewhere than as a parameter's type or behind POINTER.
+pub const OPEN_ARRAY: u16 = 21;
+/// An initializer that may not stand here.
+pub const WRONG_INITIALIZER: u16 = 24;
+/// A result that isn't one scalar.
+pub const WRONG_RESULT: u16 = 25;
+/// An object type elsewhere than at module level.
+pub const OBJECT_INSIDE: u16 = 26;
 /// An operator doesn't take its operands.
 pub const WRONG_OPERANDS: u16 = 30;
 /// A value doesn't fit the variable that it's assigned to.

@@ -1,6 +1,6 @@
 // The scopes of a module, as its declarations make them.
 
-ghost use Rattle.std.specs.Prelude.{◌≡◌, ◌≤◌, ◌^◌, ◌++◌, ◌∷◌, [], length, map, IfOk, OnOk};
+ghost use Rattle.std.specs.Prelude.{◌≡◌, ◌≤◌, ◌^◌, ◌+◌, ◌++◌, ◌∷◌, [], length, map, IfOk, OnOk};
 ghost use Rattle.std.specs.List.{flat_map};
 ghost use Rattle.aos_symbols.specs.Declarations as declarations;
 ghost use Rattle.aos_symbols.specs.Entries as entries;
@@ -10,7 +10,9 @@ use crate::home::Home;
 use crate::scope::{Entry, Meaning, Scope};
 use crate::spelling::word;
 use aos_base::NoMemory;
-use aos_tree::{ConstDef, Decl, Def, Export, Import, Module, TypeDef, TypeExpr, VarDef};
+use aos_tree::{
+    ConstDef, Decl, Def, Export, Formals, Import, Module, Name, TypeDef, TypeExpr, VarDef,
+};
 use aos_types::TypeId;
 use std::alloc::{AllocError, Global};
 
@@ -42,12 +44,6 @@ fn export_of(def: &Def) -> Option<Export>
         Some(mark) => Some(mark.export),
         None => None,
     }
-}
-
-fn is_alias(of: &TypeExpr) -> bool
-    ensures { result ≡ entries.is_alias of.now }
-{
-    matches!(of, TypeExpr::Named(_))
 }
 
 /// The module that an import names, by its word.
@@ -106,15 +102,23 @@ fn constants_of(alloc: Global, decls: &[Decl]) -> Result<Vec<Def>, AllocError>
     Ok(all)
 }
 
+fn add_variables_of(all: &mut Vec<Def>, decls: &[Decl]) -> Result<(), AllocError>
+    ensures { OnOk result
+        (all.new.items ≡ all.old.items ++ declarations.single_variables decls.now) }
+{
+    for decl in decls {
+        if let Decl::Vars(_, defs) = decl {
+            add_variables(all, defs.as_slice())?;
+        }
+    }
+    Ok(())
+}
+
 fn variables_of(alloc: Global, decls: &[Decl]) -> Result<Vec<Def>, AllocError>
     ensures { IfOk result (λ defs. defs.items ≡ declarations.single_variables decls.now) }
 {
     let mut all = Vec::new(alloc);
-    for decl in decls {
-        if let Decl::Vars(_, defs) = decl {
-            add_variables(&mut all, defs.as_slice())?;
-        }
-    }
+    add_variables_of(&mut all, decls)?;
     Ok(all)
 }
 
@@ -164,66 +168,71 @@ fn declare_numbered<'a>(
     Ok(())
 }
 
-/// Declares the names of types in turn. Each type that is no name for another takes the next number.
-#[tactic(auto, using(crate::proofs::Entered::types_step, crate::proofs::Entered::types_end, crate::proofs::Entered::numbers_step, crate::proofs::Entered::numbers_end))]
+/// The number of the type with a place among the numbers.
+fn number_at(numbers: &[Option<TypeId>], place: usize) -> Option<TypeId>
+    ensures { result ≡ entries.number_at numbers.now place }
+{
+    numbers.get(place).copied().unwrap_or(None)
+}
+
+/// Declares the names of types in turn, of which the first has this place among the numbers.
+#[tactic(auto, using(crate::proofs::Entered::types_step, crate::proofs::Entered::types_end))]
 fn declare_types<'a>(
     scope: &mut Scope<'a>,
-    next: &mut u32,
+    place: &mut usize,
     text: &'a [u8],
+    numbers: &[Option<TypeId>],
     defs: &[TypeDef],
 ) -> Result<(), NoMemory>
     ensures names { OnOk result (scope.new ≡
-        names.with_names scope.old (entries.type_entries text.now next.old defs.now)) }
-    ensures next { OnOk result (next.new ≡ entries.after_all next.old defs.now) }
+        names.with_names scope.old (entries.types_from text.now numbers.now place.old defs.now)) }
+    ensures place { OnOk result (place.new ≡ place.old + length defs.now) }
 {
     for def in defs {
-        let mut of = None;
-        if !is_alias(&def.value) {
-            of = Some(TypeId(*next));
-            let Some(behind) = next.checked_add(1) else {
-                return Err(NoMemory);
-            };
-            *next = behind;
-        }
-        declare(scope, text, &def.def, Meaning::Type(of))?;
+        let means = Meaning::Type(number_at(numbers, *place));
+        declare(scope, text, &def.def, means)?;
+        let Some(next) = place.checked_add(1) else {
+            return Err(NoMemory);
+        };
+        *place = next;
     }
     Ok(())
 }
 
-/// Declares the names of the types of a declaration in turn.
 fn declare_types_in<'a>(
     scope: &mut Scope<'a>,
-    next: &mut u32,
+    place: &mut usize,
     text: &'a [u8],
+    numbers: &[Option<TypeId>],
     decl: &Decl,
 ) -> Result<(), NoMemory>
-    ensures names { OnOk result (scope.new ≡
-        names.with_names scope.old
-        (entries.type_entries text.now next.old (declarations.types_in decl.now))) }
-    ensures next { OnOk result (next.new ≡
-        entries.after_all next.old (declarations.types_in decl.now)) }
+    ensures names { OnOk result (scope.new ≡ names.with_names scope.old
+        (entries.types_from text.now numbers.now place.old (declarations.types_in decl.now))) }
+    ensures place { OnOk result (place.new ≡
+        place.old + length (declarations.types_in decl.now)) }
 {
     match decl {
-        Decl::Types(_, defs) => declare_types(scope, next, text, defs.as_slice()),
+        Decl::Types(_, defs) => declare_types(scope, place, text, numbers, defs.as_slice()),
         _ => Ok(()),
     }
 }
 
-/// Declares the names of all types of declarations, of which the first takes this number.
-#[tactic(auto, using(crate::proofs::Entered::decls_step, crate::proofs::Entered::decls_end))]
-fn declare_own_types<'a>(
+/// Declares the names of all types of declarations, of which the first has this place among the numbers.
+#[tactic(auto, using(crate::proofs::Entered::decls_step, crate::proofs::Entered::decls_end, crate::proofs::Entered::count_step))]
+fn declare_all_types<'a>(
     scope: &mut Scope<'a>,
-    first: u32,
+    place: &mut usize,
     text: &'a [u8],
+    numbers: &[Option<TypeId>],
     decls: &[Decl],
 ) -> Result<(), NoMemory>
-    ensures { OnOk result (scope.new ≡
-        names.with_names scope.old
-        (entries.type_entries text.now first (declarations.type_defs decls.now))) }
+    ensures names { OnOk result (scope.new ≡ names.with_names scope.old
+        (entries.types_from text.now numbers.now place.old (declarations.type_defs decls.now))) }
+    ensures place { OnOk result (place.new ≡
+        place.old + length (declarations.type_defs decls.now)) }
 {
-    let mut next = first;
     for decl in decls {
-        declare_types_in(scope, &mut next, text, decl)?;
+        declare_types_in(scope, place, text, numbers, decl)?;
     }
     Ok(())
 }
@@ -270,18 +279,86 @@ fn declare_others<'a>(
 fn own_scope<'a>(
     alloc: Global,
     homes: &[Home<'_>],
-    next: u32,
+    place: &mut usize,
     text: &'a [u8],
+    numbers: &[Option<TypeId>],
     tree: &Module,
 ) -> Result<Scope<'a>, NoMemory>
-    requires { length homes.now ≤ 2 ^ 32 }
-    ensures { IfOk result (λ s. s ≡ entries.own_scope text.now homes.now next tree.now) }
+    requires few { length homes.now ≤ 2 ^ 32 }
+    requires first { place.old ≡ 0 }
+    ensures scope { IfOk result (λ s. s ≡
+        entries.own_scope text.now homes.now numbers.now tree.now) }
+    ensures place { OnOk result (place.new ≡ length (declarations.type_defs tree.now.decls)) }
 {
     let decls = tree.decls.as_slice();
     let mut scope = Scope::new(alloc);
     declare_imports(&mut scope, homes, text, tree.imports.as_slice())?;
-    declare_own_types(&mut scope, next, text, decls)?;
+    declare_all_types(&mut scope, place, text, numbers, decls)?;
     declare_others(alloc, &mut scope, text, decls)?;
+    Ok(scope)
+}
+
+fn add_unmarked(all: &mut Vec<Def>, names: &[Name]) -> Result<(), AllocError>
+    ensures { OnOk result (all.new.items ≡ all.old.items ++ map entries.unmarked names.now) }
+{
+    for name in names {
+        all.push(Def {
+            name: *name,
+            mark: None,
+        })?;
+    }
+    Ok(())
+}
+
+fn parameters_of(alloc: Global, formals: &Option<Formals>) -> Result<Vec<Def>, AllocError>
+    ensures { IfOk result (λ defs. defs.items ≡
+        map entries.unmarked (declarations.formal_names formals.now)) }
+{
+    let mut all = Vec::new(alloc);
+    let Some(formals) = formals else {
+        return Ok(all);
+    };
+    for section in formals.sections.as_slice() {
+        add_unmarked(&mut all, section.names.as_slice())?;
+    }
+    Ok(all)
+}
+
+/// The names of parameters, and behind them those of locals.
+fn locals_of(
+    alloc: Global,
+    formals: &Option<Formals>,
+    decls: &[Decl],
+) -> Result<Vec<Def>, AllocError>
+    ensures { IfOk result (λ defs. defs.items ≡
+        map entries.unmarked (declarations.formal_names formals.now)
+        ++ declarations.single_variables decls.now) }
+{
+    let mut all = parameters_of(alloc, formals)?;
+    add_variables_of(&mut all, decls)?;
+    Ok(all)
+}
+
+/// The scope of a procedure, whose first type has this place among the numbers.
+fn procedure_scope<'a>(
+    alloc: Global,
+    place: &mut usize,
+    text: &'a [u8],
+    numbers: &[Option<TypeId>],
+    formals: &Option<Formals>,
+    decls: &[Decl],
+) -> Result<Scope<'a>, NoMemory>
+    ensures scope { IfOk result (λ s. s ≡
+        entries.procedure_scope text.now numbers.now place.old formals.now decls.now) }
+    ensures place { OnOk result (place.new ≡
+        place.old + length (declarations.type_defs decls.now)) }
+{
+    let mut scope = Scope::new(alloc);
+    declare_all_types(&mut scope, place, text, numbers, decls)?;
+    let constants = constants_of(alloc, decls)?;
+    declare_numbered(&mut scope, text, Sort::Constant, &constants)?;
+    let variables = locals_of(alloc, formals, decls)?;
+    declare_numbered(&mut scope, text, Sort::Variable, &variables)?;
     Ok(scope)
 }
 
@@ -363,24 +440,51 @@ fn add_inner_scopes_in<'a>(
     }
 }
 
+/// The scopes of a module's procedures, of which the first type of the first has this place among the numbers.
+fn add_procedure_scopes<'a>(
+    alloc: Global,
+    scopes: &mut Vec<Scope<'a>>,
+    first: usize,
+    text: &'a [u8],
+    numbers: &[Option<TypeId>],
+    decls: &[Decl],
+) -> Result<(), NoMemory>
+    ensures { OnOk result (scopes.new.items ≡ scopes.old.items ++
+        entries.procedure_scopes text.now numbers.now first (declarations.procedures decls.now)) }
+{
+    let mut place = first;
+    for decl in decls {
+        if let Decl::Proc(proc) = decl {
+            let decls = proc.decls.as_slice();
+            let scope = procedure_scope(alloc, &mut place, text, numbers, &proc.formals, decls)?;
+            add_scope(scopes, scope)?;
+        }
+    }
+    Ok(())
+}
+
 /// What a module declares, before any of its declarations is looked at: its scopes, in a module that comes behind these in load
-/// order, where the next type has this number. Of more than 2^32 declarations of one sort it is want of memory: no text that
-/// is compiled has as many.
+/// order, where the types that its declarations define have these numbers. Of more than 2^32 declarations of one sort it is
+/// want of memory: no text that is compiled has as many.
 #[tactic(auto, using(crate::proofs::Entered::inner_step))]
 pub fn home_of<'a>(
     alloc: Global,
     homes: &[Home<'_>],
-    next: u32,
+    numbers: &[Option<TypeId>],
     text: &'a [u8],
     tree: &Module,
 ) -> Result<Home<'a>, NoMemory>
     requires { length homes.now ≤ 2 ^ 32 }
-    ensures { IfOk result (λ h. h ≡ entries.home_of text.now homes.now next tree.now) }
+    ensures { IfOk result (λ h. h ≡ entries.home_of text.now homes.now numbers.now tree.now) }
 {
+    let decls = tree.decls.as_slice();
+    let mut place = 0;
+    let own = own_scope(alloc, homes, &mut place, text, numbers, tree)?;
     let mut scopes = Vec::new(alloc);
-    add_scope(&mut scopes, own_scope(alloc, homes, next, text, tree)?)?;
-    for decl in tree.decls.as_slice() {
+    add_scope(&mut scopes, own)?;
+    for decl in decls {
         add_inner_scopes_in(alloc, &mut scopes, text, decl)?;
     }
-    Ok(Home::new(word(text, tree.name), text, scopes))
+    add_procedure_scopes(alloc, &mut scopes, place, text, numbers, decls)?;
+    Ok(Home::new(alloc, word(text, tree.name), text, scopes))
 }

@@ -1,6 +1,6 @@
 // What names stand for at a place of a module.
 
-ghost use Rattle.std.specs.Prelude.{◌≡◌, map};
+ghost use Rattle.std.specs.Prelude.{◌≡◌, map, OnOk, IfOk, OnErr};
 ghost use Rattle.std.specs.Map.{lookup};
 ghost use Rattle.std.specs.Option.{option_copied};
 ghost use Rattle.std.specs.Str.{bytes_eq};
@@ -13,6 +13,8 @@ use aos_base::Pos;
 use aos_tree::{Export, Items, Name};
 use aos_typed::Literal;
 use aos_types::{TypeId, TypeRow, Types};
+use std::alloc::{AllocError, Global};
+use std::mem;
 
 /// The type SHORTINT; the predeclared types have the same numbers in each table.
 pub const SHORTINT: TypeId = TypeId(0);
@@ -68,10 +70,11 @@ pub struct Env<'a> {
     pub here: Home<'a>,
     /// The scopes to search for a plain name, the innermost first.
     pub path: Items<Open>,
-    /// The types of all these modules. The basic types come first, the same in each table.
+    /// The types of all these modules. The basic types come first, the same in each table; behind those of the modules before
+    /// come those that this module's declarations define, and then those that it writes elsewhere.
     pub types: Types,
-    /// Beside each type, whether its definition isn't told yet or breaks a rule.
-    pub broken: Items<bool>,
+    /// Where the types stand that this module writes elsewhere than in a type's definition, in the order of their numbers.
+    pub places: Items<Pos>,
 }
 
 /// The predeclared names (Reali 2002, predeclared identifiers); LEN and SELF aren't built yet.
@@ -284,23 +287,42 @@ impl<'a> Env<'a> {
         }
     }
 
-    fn is_broken(&self, of: TypeId) -> bool
-        ensures { result ≡ env.is_broken self.now of }
-    {
-        match self.broken.as_slice().get(of.0 as usize) {
-            Some(is_broken) => *is_broken,
-            None => true,
-        }
-    }
-
-    /// The row of a type; none where the type isn't known, or where its definition breaks a rule.
+    /// The row of a type; none where the type isn't known.
     pub fn row(&self, of: Option<TypeId>) -> Option<&TypeRow>
         ensures { option_copied result ≡ env.row_of self.now of }
     {
         let of = of?;
-        if self.is_broken(of) || of.0 as usize >= self.types.len() {
+        if of.0 as usize >= self.types.len() {
             return None;
         }
         Some(self.types.row(of))
+    }
+
+    /// The innermost scope at this place, by its number in the module.
+    pub fn innermost(&self) -> u32
+        ensures { result ≡ env.innermost self.now.path }
+    {
+        match self.path.as_slice().first() {
+            Some(open) => open.scope,
+            None => 0,
+        }
+    }
+
+    /// Goes into the scope with a number of this module, and gives the path of the place where it was. Without memory all
+    /// stays as it was.
+    pub fn enter(&mut self, alloc: Global, scope: u32) -> Result<Items<Open>, AllocError>
+        ensures ok { OnOk result (self.new ≡ env.within self.old scope) }
+        ensures path { IfOk result (λ path. path ≡ self.old.path) }
+        ensures err { OnErr result (self.new ≡ self.old) }
+    {
+        let mut path = Items::new(alloc);
+        path.push(Open {
+            home: self.number,
+            scope,
+        })?;
+        for open in self.path.as_slice() {
+            path.push(*open)?;
+        }
+        Ok(mem::replace(&mut self.path, path))
     }
 }

@@ -1,21 +1,44 @@
 // What a module has declared.
 
-ghost use Rattle.std.specs.Prelude.{◌≡◌, ◌<◌, length, slice_get, OnErr, OnOk};
+ghost use Rattle.std.specs.Prelude.{◌≡◌, [], slice_get, OnErr, OnOk};
 ghost use Rattle.std.specs.Option.{option_copied};
 ghost use Rattle.aos_symbols.specs.Home as home;
 
 use crate::scope::{Constant, Scope};
+use aos_tree::Items;
 use aos_types::TypeId;
-use std::alloc::AllocError;
+use std::alloc::{AllocError, Global};
 use std::marker::Model;
 
-/// A module's name, its text and its scopes. The first scope is the module's own; the others are those of the types that it
-/// defines, in the order of the text.
+/// A parameter: by reference where VAR stands before it. Its type is none where it breaks a rule.
+#[derive(Clone, Copy, PartialEq, Eq, Debug)]
+pub struct Parameter {
+    pub by_reference: bool,
+    pub of: Option<TypeId>,
+}
+
+/// What a procedure gives: nothing, or a value of a type, which is none where it breaks a rule.
+#[derive(Clone, Copy, PartialEq, Eq, Debug)]
+pub enum Gives {
+    Nothing,
+    Value(Option<TypeId>),
+}
+
+/// A procedure's parameters, in the order of the text, and what it gives.
+#[derive(Drop)]
+pub struct Signature {
+    pub parameters: Items<Parameter>,
+    pub gives: Gives,
+}
+
+/// A module's name, its text, its scopes and the signatures of its procedures. The first scope is the module's own; behind it
+/// come those of the types that it defines and then those of its procedures, each in the order of the text.
 #[derive(Drop)]
 pub struct Home<'a> {
     name: &'a [u8],
     text: &'a [u8],
     scopes: Vec<Scope<'a>>,
+    signatures: Vec<Signature>,
 }
 
 impl<'a> Model for Home<'a> {
@@ -23,15 +46,30 @@ impl<'a> Model for Home<'a> {
 
     ghost Value = { home.Home };
 
-    ghost view = { λ h. record { name = h.name.now; text = h.text.now; scopes = h.scopes.items } };
+    ghost view = { λ h. record {
+      name = h.name.now;
+      text = h.text.now;
+      scopes = h.scopes.items;
+      signatures = h.signatures.items;
+    } };
 }
 
 impl<'a> Home<'a> {
-    /// A module of this name, with these scopes.
-    pub fn new(name: &'a [u8], text: &'a [u8], scopes: Vec<Scope<'a>>) -> Home<'a>
-        ensures { result ≡ record { name = name.now; text = text.now; scopes = scopes.entry.items } }
+    /// A module of this name, with these scopes; no procedure has its signature yet.
+    pub fn new(alloc: Global, name: &'a [u8], text: &'a [u8], scopes: Vec<Scope<'a>>) -> Home<'a>
+        ensures { result ≡ record {
+          name = name.now;
+          text = text.now;
+          scopes = scopes.entry.items;
+          signatures = [];
+        } }
     {
-        Home { name, text, scopes }
+        Home {
+            name,
+            text,
+            scopes,
+            signatures: Vec::new(alloc),
+        }
     }
 
     /// The module's name.
@@ -75,5 +113,21 @@ impl<'a> Home<'a> {
             Some(scope) => scope.add_variable(of),
             None => Ok(()),
         }
+    }
+
+    /// The signature of the procedure with a number, where its heading is met.
+    pub fn signature(&self, number: u32) -> Option<&Signature>
+        ensures { option_copied result ≡ slice_get self.now.signatures number }
+    {
+        self.signatures.get(number as usize)
+    }
+
+    /// The signature of the next procedure. Without memory all stays as it was.
+    pub fn add_signature(&mut self, signature: Signature) -> Result<(), AllocError>
+        ensures ok { OnOk result (self.new ≡ home.add_signature self.old signature) }
+        ensures err { OnErr result (self.new ≡ self.old) }
+    {
+        self.signatures.push(signature)?;
+        Ok(())
     }
 }

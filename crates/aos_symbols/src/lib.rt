@@ -12,16 +12,17 @@ pub mod scope;
 mod spelling;
 
 pub use breach::{
-    ARGUMENT_COUNT, ARGUMENT_TYPE, Breach, NAMED_OUT, NO_CONDITION, NO_VARIABLE, NOT_BUILT,
-    NOT_CONSTANT, NOT_EXPORTED, OTHER_END, OTHER_KIND, READ_ONLY, TWICE, UNFIT, UNKNOWN,
-    WRONG_CALL, WRONG_NEW, WRONG_OPERANDS, WRONG_SELECTOR, WRONG_TEST, note,
+    ARGUMENT_COUNT, ARGUMENT_TYPE, Breach, CONTAINS_ITSELF, NAMED_OUT, NO_CONDITION, NO_VARIABLE,
+    NOT_BUILT, NOT_CONSTANT, NOT_EXPORTED, OBJECT_INSIDE, OPEN_ARRAY, OTHER_END, OTHER_KIND,
+    READ_ONLY, TOO_MANY_SCALARS, TWICE, UNFIT, UNKNOWN, WRONG_CALL, WRONG_INITIALIZER, WRONG_NEW,
+    WRONG_OPERANDS, WRONG_RESULT, WRONG_SELECTOR, WRONG_TEST, note,
 };
 pub use entries::home_of;
 pub use env::{
     ANY, BASIC_TYPES, BOOLEAN, CHAR, Env, HUGEINT, INTEGER, LONGINT, Lookup, Open, SET, SHORTINT,
     Symbol,
 };
-pub use home::Home;
+pub use home::{Gives, Home, Parameter, Signature};
 pub use laws::law_of_first;
 pub use names::check_names;
 pub use scope::{Constant, Entry, Function, Meaning, Scope};

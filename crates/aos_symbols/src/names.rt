@@ -4,7 +4,7 @@ ghost use Rattle.std.specs.Prelude.{◌≡◌, ◌++◌, ◌||◌, not, codes, O
 ghost use Rattle.std.specs.List.{flat_map};
 ghost use Rattle.aos_symbols.specs.Breaches.{breach_unless, first_after, first};
 ghost use Rattle.aos_symbols.specs.Spelling as spelling;
-ghost use Rattle.aos_symbols.specs.Declarations.{declared_names};
+ghost use Rattle.aos_symbols.specs.Declarations.{declared_names, formal_names};
 ghost use Rattle.aos_symbols.specs.Names as rules;
 
 use crate::breach::{Breach, OTHER_END, TWICE, note};
@@ -66,7 +66,7 @@ fn object_end(found: &mut Option<Breach>, text: &[u8], name: Option<Name>, end: 
 
 /// Puts the names of formal parameters behind these.
 fn add_formals(names: &mut Vec<Name>, formals: &Option<Formals>) -> Result<(), AllocError>
-    ensures { OnOk result (names.new.items ≡ names.old.items ++ rules.formal_names formals.now) }
+    ensures { OnOk result (names.new.items ≡ names.old.items ++ formal_names formals.now) }
 {
     let Some(formals) = formals else {
         return Ok(());
@@ -102,7 +102,7 @@ fn procedure_scope(
 ) -> Result<(), AllocError>
     ensures { OnOk result
         (found.new ≡ first_after found.old
-        (rules.twice text.now (rules.formal_names formals.now ++ declared_names decls.now))) }
+        (rules.twice text.now (formal_names formals.now ++ declared_names decls.now))) }
 {
     let mut names = Vec::new(alloc);
     add_formals(&mut names, formals)?;

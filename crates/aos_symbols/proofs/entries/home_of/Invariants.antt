@@ -5,4 +5,5 @@ use Rattle.aos_symbols.proofs.entries.home_of.Given as goal
 
 abbrev pub invariant-loop-decl : goal.invariant-loop-decl
 invariant-loop-decl l =
-    l.scopes.items ≡ entries.own_scope l.text l.homes l.next l.tree ∷ map (entries.inner_scope l.text) (declarations.type_defs (take l.decl-index l.decl-items))
+    l.scopes.items
+    ≡ entries.own_scope l.text l.homes l.numbers l.tree ∷ map (entries.inner_scope l.text) (declarations.type_defs (take l.decl-index l.decls))

@@ -1,8 +1,8 @@
 use Rattle.std.proofs.Common.{◌≡◌, OnOk, refl, ap, sym, ◌∙◌, ◌++◌, None, subst}
 use Rattle.std.specs.List.{flat_map}
 use Rattle.aos_symbols.specs.Breaches.{first_after}
-use Rattle.aos_symbols.specs.Names.{within_decl, within_type, within_field, twice, other_end, object_end, formal_names, field_names}
-use Rattle.aos_symbols.specs.Declarations.{declared_names}
+use Rattle.aos_symbols.specs.Names.{within_decl, within_type, within_field, twice, other_end, object_end, field_names}
+use Rattle.aos_symbols.specs.Declarations.{declared_names, formal_names}
 use Rattle.aos_symbols.proofs.Keeping.{after_two, after_three}
 use Rattle.aos_symbols.proofs.Rows.{within_decl_types, within_decl_vars, within_decl_proc, within_type_array, within_type_pointer, within_type_record, within_type_object}
 use Rattle.aos_symbols.proofs.names.+within.Goals as goal

@@ -1,0 +1,9 @@
+use Rattle.std.proofs.Common.{◌≡◌, ◌++◌, drop}
+use Rattle.aos_symbols.specs.Declarations as declarations
+use Rattle.aos_symbols.specs.Entries as entries
+use Rattle.aos_symbols.proofs.entries.add_procedure_scopes.Given as goal
+
+abbrev pub invariant-loop-decl : goal.invariant-loop-decl
+invariant-loop-decl l =
+    l.scopes.items ++ entries.procedure_scopes l.text l.numbers l.place (declarations.procedures (drop l.decl-index l.decls))
+    ≡ l.initial.scopes.items ++ entries.procedure_scopes l.text l.numbers l.first (declarations.procedures l.decls)
