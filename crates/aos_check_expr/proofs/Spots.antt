@@ -42,7 +42,7 @@ use Rattle.aos_check_expr.proofs.Parts.{IsPart, constant_part}
 -- a variable has the type that is known of it
 pub record IsTyped (p : Program) (e : Env) (place : Place) (of : Option TypeId) : Type 0 where
   pub typed : place_type p place ≡ Some (type_of of)
-  pub known : IsKnown e.types e.broken of
+  pub known : IsKnown e.types of
 
 -- in each scope that the environment has, each constant has a value that is good
 abbrev pub GoodConstants : Env → Type 0

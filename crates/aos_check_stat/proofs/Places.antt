@@ -1,10 +1,11 @@
 -- Variables that are assigned, and those of which NEW makes an object, have the types that their statements ask for.
-use Rattle.std.proofs.Common.{◌≡◌, ℕ, ◌+◌, ◌-◌, ◌<◌, ◌≤◌, [], length, true, false, not, Option, Some, None, refl, sym, ap, ◌∙◌, subst, lt-ltb, le-ltb, ne_eqb, arith, if◌then◌else◌}
+use Rattle.std.proofs.Common.{◌≡◌, ℕ, ◌+◌, ◌-◌, ◌<◌, ◌≤◌, [], length, true, false, not, ◌&&◌, Option, Some, None, slice_get, refl, sym, ap, ◌∙◌, subst, lt-ltb, le-ltb, ne_eqb, arith, if◌then◌else◌}
 use Rattle.std.proofs.lemmas.Option.{slice_get_within}
 use Rattle.aos_base.specs.declared.text.Pos.{Pos}
 use Rattle.aos_tree.specs.declared.expr.Desig.{Desig}
 use Rattle.aos_types.specs.declared.row.TypeId.{TypeId}
 use Rattle.aos_types.specs.declared.row.TypeRow.TheVariants as row
+use Rattle.aos_types.specs.Table.{is_object as is_object_row}
 use Rattle.aos_typed.specs.declared.tree.TType.TheVariants as type
 use Rattle.aos_typed.specs.Program.{Program}
 use Rattle.aos_typed.specs.WellTyped.{place_type}
@@ -12,7 +13,7 @@ use Rattle.aos_symbols.specs.declared.env.Env.{Env}
 use Rattle.aos_symbols.specs.Env.{boolean, char, set}
 use Rattle.aos_symbols.specs.Breaches.{breach_unless}
 use Rattle.aos_symbols.proofs.Holds.{Holds, none_left, none_right, test_is}
-use Rattle.aos_symbols.proofs.Told.{IsKnown, basic, object}
+use Rattle.aos_symbols.proofs.Told.{IsKnown, basic, defined}
 use Rattle.aos_check_expr.specs.declared.known.Class.{Class}
 use Rattle.aos_check_expr.specs.declared.known.Class.TheVariants.{Unknown, Constant, Variable, ReadOnly, Computed}
 use Rattle.aos_check_expr.specs.Known.{Spot, Held, Stands, Value, passes, is, is_basic, width_of_type, object_number, type_as, type_of}
@@ -27,7 +28,7 @@ not_both : false ≡ true → ⊥
 not_both e = cc
 
 -- a type behind the basic ones is that of objects
-as_object : (t : TypeId) → 7 ≤ t.0 → type_as t ≡ type.Named (object_number t)
+pub as_object : (t : TypeId) → 7 ≤ t.0 → type_as t ≡ type.Named (object_number t)
 as_object t from =
     let o = type.Named (object_number t) in
     ap (λ w. if w then type.Integer (width_of_type t) else if is boolean t then type.Boolean else if is char t then type.Char else if is set t then type.Set else o) (le-ltb t.0 4 (omega arith))
@@ -58,7 +59,7 @@ module _ (p : Program) (e : Env) (whole : IsWhole p e) where
   IsAssigned a = (of : TypeId) × (a.known.of ≡ Some of) × (is_basic of ≡ true) × (place_type p (place_of a.held) ≡ Some (type_as of))
 
   variable_assigned : (a : Spot) → place_type p (place_of a.held) ≡ Some (type_of a.known.of) → (of : Option TypeId) → of ≡ a.known.of →
-      IsKnown e.types e.broken of → passes is_basic of ≡ true → IsAssigned a
+      IsKnown e.types of → passes is_basic of ≡ true → IsAssigned a
   variable_assigned a typed None is known test = absurd known
   variable_assigned a typed (Some t) is known test = (t, sym is, test, typed ∙ ap (λ o. Some (type_of o)) (sym is))
 
@@ -78,26 +79,28 @@ module _ (p : Program) (e : Env) (whole : IsWhole p e) where
   abbrev pub IsMade : Spot → Type 0
   IsMade a = (place_type p (place_of a.held) ≡ Some (type.Named (object_of a.known.of))) × (object_of a.known.of < length p.objects)
 
-  object_type : (of : Option TypeId) → IsKnown e.types e.broken of → is_object of ≡ true →
+  object_type : (of : Option TypeId) → IsKnown e.types of → is_object e of ≡ true →
       (type_of of ≡ type.Named (object_of of)) × (object_of of < length p.objects)
   object_type None known test = absurd known
-  object_type (Some t) (basic below) test = absurd (not_both (ap not (sym (lt-ltb t.0 7 below)) ∙ test))
-  object_type (Some t) (object from r b) test =
-      let within : t.0 < length e.types = slice_get_within e.types t.0 (row.Object None []) r in
+  object_type (Some t) (basic below) test =
+      absurd (not_both (ap (λ b. not b && is_object_row (slice_get e.types t.0)) (sym (lt-ltb t.0 7 below)) ∙ test))
+  object_type (Some t) (defined r from there closed) test =
+      let within : t.0 < length e.types = slice_get_within e.types t.0 r there in
       (as_object t (omega arith), below t.0 (length p.objects) from (subst (λ n. t.0 < n) whole.objects within))
     where
       below : (t n : ℕ) → 9 ≤ t → t < 9 + n → t - 9 < n
       below t n from h = omega arith
 
-  no_object : (a : Spot) (of : Option TypeId) (t : TypeId) → of ≡ Some t → is_basic t ≡ true → is_object of ≡ true → ⊥
-  no_object a of t known low test = not_both (ap not (sym low) ∙ ap is_object (sym known) ∙ test)
+  no_object : (a : Spot) (of : Option TypeId) (t : TypeId) → of ≡ Some t → is_basic t ≡ true → is_object e of ≡ true → ⊥
+  no_object a of t known low test =
+      not_both (ap (λ b. not b && is_object_row (slice_get e.types t.0)) (sym low) ∙ ap (is_object e) (sym known) ∙ test)
 
-  made_is : (a : Spot) (h : Held) → h ≡ a.held → IsSoundSpot p e (record { known = a.known; held = h; at = a.at }) → is_object a.known.of ≡ true → IsMade a
+  made_is : (a : Spot) (h : Held) → h ≡ a.held → IsSoundSpot p e (record { known = a.known; held = h; at = a.at }) → is_object e a.known.of ≡ true → IsMade a
   made_is a (Stands place) is sound test =
       let o = object_type a.known.of sound.known test in
       (ap (λ h. place_type p (place_of h)) (sym is) ∙ sound.typed ∙ ap Some o.0, o.1)
   made_is a (Value x) is sound test = absurd (no_object a a.known.of sound.of sound.known sound.basic test)
 
-  pub made_sound : (at first : Pos) (a : Spot) → IsRead a → new_breaches at first a ≡ [] → IsMade a
+  pub made_sound : (at first : Pos) (a : Spot) → IsRead a → new_breaches e at first a ≡ [] → IsMade a
   made_sound at first a is h =
-      made_is a a.held refl is.sound (test_is (is_object a.known.of) 47 at (none_left (breach_unless (is_object a.known.of) 47 at) _ h))
+      made_is a a.held refl is.sound (test_is (is_object e a.known.of) 47 at (none_left (breach_unless (is_object e a.known.of) 47 at) _ h))

@@ -122,7 +122,7 @@ module _ (p : Program) (e : Env) (whole : IsWhole p e) where
   new_of_sound : (at first : Pos) (o : Option Desig) → Holds MayBe (judge.new_of e at first o)
   new_of_sound at first None = λ h. tt
   new_of_sound at first (Some d) =
-      holds_bind (IsRead p e whole) MayBe (designator e d) (λ a. judged (new_breaches at first a) (made at a)) (read_sound p e whole d)
+      holds_bind (IsRead p e whole) MayBe (designator e d) (λ a. judged (new_breaches e at first a) (made at a)) (read_sound p e whole d)
       (λ a is h. made_sound p e whole at first a is h)
 
   new_sound : (at : Pos) (xs : List TreeExpr) → Holds MayBe (judge.new_call e at xs)

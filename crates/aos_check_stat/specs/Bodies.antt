@@ -25,6 +25,7 @@ use Rattle.aos_symbols.specs.Judged.{Judged, judged, kept, bind, walk}
 use Rattle.aos_symbols.specs.Spelling.{word, is_word, is_among, is_active, procedures_of_out}
 use Rattle.aos_symbols.specs.Env as env
 use Rattle.aos_types.specs.declared.row.TypeId.{TypeId}
+use Rattle.aos_types.specs.Table.{is_object as is_object_row}
 use Rattle.aos_check_expr.specs.declared.known.Class.{Class}
 use Rattle.aos_check_expr.specs.declared.known.Class.TheVariants.{Unknown, Constant, Variable, ReadOnly, Computed}
 use Rattle.aos_check_expr.specs.Known.{Spot, is_number, is_char, is_basic, fits, type_of, object_number}
@@ -72,15 +73,15 @@ abbrev pub behind_arguments : List Selector → List Selector
 behind_arguments (s.Paren' p shape row ∷ more) = more
 behind_arguments xs = xs
 
--- the type of an object variable is none of the basic types, which stand first in the table
-abbrev pub is_object : Option TypeId → Bool
-is_object None = true
-is_object (Some t) = not (is_basic t)
+-- the type of an object variable; the basic types stand first in the table
+abbrev pub is_object : Env → Option TypeId → Bool
+is_object e None = true
+is_object e (Some t) = not (is_basic t) && is_object_row (env.row_of e (Some t))
 
 -- NEW stands at the first place, its argument at the second
-abbrev pub new_breaches : Pos → Pos → Spot → List Breach
-new_breaches at first a =
-    breach_unless (is_object a.known.of) 47 at ++ new_class_at a.known.class
+abbrev pub new_breaches : Env → Pos → Pos → Spot → List Breach
+new_breaches e at first a =
+    breach_unless (is_object e a.known.of) 47 at ++ new_class_at a.known.class
   where
     new_class_at : Class → List Breach
     new_class_at ReadOnly = breach 33 first
@@ -145,7 +146,7 @@ module _ (e : Env) where
 
   abbrev pub new_of : Pos → Pos → Option Desig → Judged (Option Stat)
   new_of at first None = refused 47 at
-  new_of at first (Some d) = bind (designator e d) (λ a. judged (new_breaches at first a) (made at a))
+  new_of at first (Some d) = bind (designator e d) (λ a. judged (new_breaches e at first a) (made at a))
 
   abbrev pub new_call : Pos → List TreeExpr → Judged (Option Stat)
   new_call at (a ∷ []) = new_of at (out-Expr a).pos (desig_alone a)

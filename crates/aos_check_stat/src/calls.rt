@@ -20,27 +20,30 @@ use aos_symbols::{
 };
 use aos_tree::{Desig, Expr, Selector};
 use aos_typed::TStat;
-use aos_types::TypeId;
+use aos_types::{TypeId, TypeRow};
 use std::alloc::{AllocError, Global};
 
-/// Whether a type is none of the basic types, or isn't known.
-fn is_object(of: Option<TypeId>) -> bool
-    ensures { result ≡ judge.is_object of }
+/// Whether a type is an object type, or isn't known.
+fn is_object(env: &Env<'_>, of: Option<TypeId>) -> bool
+    ensures { result ≡ judge.is_object env.now of }
 {
-    match of {
-        Some(of) => !is_basic(of),
-        None => true,
+    let Some(known) = of else {
+        return true;
+    };
+    if is_basic(known) {
+        return false;
     }
+    matches!(env.row(of), Some(TypeRow::Object(_, _)))
 }
 
 /// NEW stands at a place, and its argument begins at `first`: that must be an object variable that
 /// may be written.
 #[tactic(auto, using(aos_symbols::proofs::Keeping::after_more))]
-fn refuse_new(found: &mut Option<Breach>, at: Pos, first: Pos, spot: &Spot)
+fn refuse_new(found: &mut Option<Breach>, env: &Env<'_>, at: Pos, first: Pos, spot: &Spot)
     ensures { found.new ≡
-        first_after found.old (judge.new_breaches at first (seen_spot spot.now)) }
+        first_after found.old (judge.new_breaches env.now at first (seen_spot spot.now)) }
 {
-    if !is_object(spot.known.of) {
+    if !is_object(env, spot.known.of) {
         note(found, WRONG_NEW, at);
     }
     match spot.known.class {
@@ -88,7 +91,7 @@ fn new_of(
         return Ok(refused(found, WRONG_NEW, at));
     };
     let spot = designator(alloc, found, env, variable)?;
-    refuse_new(found, at, first, &spot);
+    refuse_new(found, env, at, first, &spot);
     Ok(made(at, spot))
 }
 
