@@ -1,446 +1,311 @@
--- Headings that break no rule leave an environment in which each type that has a name is told, each variable has a type, and
--- each constant has a value that is good.
-use Rattle.std.proofs.Common.{◌≡◌, ℕ, zero, suc, ◌+◌, ◌<◌, ◌≤◌, ◌==◌, ◌⊎◌, inl, inr, List, [], ◌∷◌, ◌++◌, length, Bool, true, false, ◌||◌, Option, Some, None, is_some, option_map, option_and_then, slice_get, slice_set, refl, sym, ap, ◌∙◌, subst, subst₂, eq-eqb, arith, length-append, length-set, if◌then◌else◌}
-use Rattle.std.specs.Option.{option_or}
-use Rattle.std.specs.List.{flat_map}
-use Rattle.std.proofs.lemmas.Bool.{eqb-false}
-use Rattle.std.proofs.lemmas.Option.{none-some, same_Some}
-use Rattle.aos_base.specs.declared.text.Pos.{Pos}
-use Rattle.aos_tree.specs.declared.name.Name.{Name}
-use Rattle.aos_tree.specs.declared.decl.Def.{Def}
-use Rattle.aos_tree.specs.declared.decl.Decl.{Decl, items-the_row-TypeDef, items-the_row-VarDef}
-use Rattle.aos_tree.specs.declared.decl.Decl.TheVariants as decl
-use Rattle.aos_tree.specs.declared.decl.TypeDef.{TypeDef}
-use Rattle.aos_tree.specs.declared.decl.VarDef.{VarDef}
-use Rattle.aos_tree.specs.declared.decl.ConstDef.{ConstDef}
-use Rattle.aos_tree.specs.declared.decl.TypeExpr.{TypeExpr}
-use Rattle.aos_tree.specs.declared.decl.TypeExpr.TheVariants as type
+-- A module whose declarations break no rule: each type that has a name is told, each variable has a type, each constant has a
+-- value that is good, no type contains itself or is past the limit, and the headings of its procedures are whole.
+use Rattle.std.proofs.Common.{◌≡◌, ℕ, suc, ◌+◌, ◌<◌, ◌≤◌, List, [], ◌∷◌, ◌++◌, length, map, take, drop, true, Option, Some, None, slice_get, option_map, refl, sym, ap, ◌∙◌, subst, arith, length-append}
+use Rattle.std.proofs.lemmas.List.{length-map}
+use Rattle.std.proofs.lemmas.Option.{same_Some, slice_get_within}
+use Rattle.std.proofs.Math.Seq.{take-append_seam, drop-append_seam}
+use mathlib.Core.Logic.{◌⊎◌, inl, inr}
+use Rattle.aos_tree.specs.declared.decl.Formals.{Formals}
+use Rattle.aos_tree.specs.declared.module.Module.{Module}
 use Rattle.aos_types.specs.declared.row.TypeId.{TypeId}
 use Rattle.aos_types.specs.declared.row.TypeRow.{TypeRow}
 use Rattle.aos_types.specs.declared.row.TypeRow.TheVariants as row
-use Rattle.aos_typed.specs.declared.tree.Literal.{Literal}
-use Rattle.aos_symbols.specs.declared.scope.Constant.{Constant}
+use Rattle.aos_types.specs.Table.{row_of, is_scalar}
+use Rattle.aos_types.specs.Chain.{circles, cut}
+use Rattle.aos_types.specs.Count.{AreBelow}
+use Rattle.aos_typed.specs.WellTyped.{AreTypes}
 use Rattle.aos_symbols.specs.declared.scope.Entry.{Entry}
-use Rattle.aos_symbols.specs.declared.scope.Meaning.{Meaning}
 use Rattle.aos_symbols.specs.declared.scope.Meaning.TheVariants as means
-use Rattle.aos_symbols.specs.declared.env.Open.{Open}
-use Rattle.aos_symbols.specs.declared.env.Symbol.{Symbol}
-use Rattle.aos_symbols.specs.declared.env.Lookup.{Lookup}
-use Rattle.aos_symbols.specs.declared.env.Lookup.TheVariants.{Unknown, NotExported, Found}
+use Rattle.aos_symbols.specs.declared.home.Gives.TheVariants as gives
+use Rattle.aos_symbols.specs.declared.home.Parameter.{Parameter}
+use Rattle.aos_symbols.specs.declared.home.Signature.{Signature}
 use Rattle.aos_symbols.specs.declared.env.Env.{Env}
-use Rattle.aos_symbols.specs.Judged.{Judged, kept, walk}
 use Rattle.aos_symbols.specs.Spelling.{word}
-use Rattle.aos_symbols.specs.Declarations.{types_in, type_defs, singles_in, single_variables}
+use Rattle.aos_symbols.specs.Declarations.{Procedure, procedures, type_defs, all_type_defs, single_variables, formal_names}
 use Rattle.aos_symbols.specs.Scope.{Scope, find}
 use Rattle.aos_symbols.specs.Home.{Home}
-use Rattle.aos_symbols.specs.Entries.{is_alias}
+use Rattle.aos_symbols.specs.Names.{name_breaches}
+use Rattle.aos_symbols.specs.Entries as entries
 use Rattle.aos_symbols.specs.Env as env
-use Rattle.aos_symbols.proofs.Each.{Each, joined, front, back, implied}
-use Rattle.aos_symbols.proofs.Holds.{Holds, holds_bind, broken}
-use Rattle.aos_symbols.proofs.Lookups.{IsPredeclared, a_type, a_truth, a_function, a_procedure, a_proper, another, IsOfAll, lookup_is, member_is}
-use Rattle.aos_symbols.proofs.Told.{IsTold, basic, IsKnown, GoOn, told_set, newly_told}
-use Rattle.aos_check_expr.specs.Expressions.{constant}
-use Rattle.aos_check_expr.proofs.Typing.{HasGood, GoodConstants, constant_good}
-use Rattle.aos_check_decl.specs.Headings as judge
-use Rattle.aos_check_decl.specs.Headings.{slot_meant, slot_in, alias_breaches}
+use Rattle.aos_symbols.proofs.Each.{Each, implied}
+use Rattle.aos_symbols.proofs.Holds.{Holds, none_left, none_right}
+use Rattle.aos_symbols.proofs.Told.{IsTold, IsKnown, GoOn, known_on, told_behind}
+use Rattle.aos_check_decl.specs.declared.aliases.Target.{Target}
+use Rattle.aos_check_decl.specs.Aliases.{first_rows, targets}
+use Rattle.aos_check_decl.specs.Headings.{headings}
+use Rattle.aos_check_decl.specs.Limits as limits
+use Rattle.aos_check_decl.specs.Pass.{own_numbers, entered, begun, declare}
+use Rattle.aos_check_decl.proofs.TypingLists.{mapped_at}
+use Rattle.aos_check_decl.proofs.TypingScopes.{variables_of, variables_at}
+use Rattle.aos_check_decl.proofs.TypingEntries.{scope_fresh, procedure_there}
+use Rattle.aos_check_decl.proofs.TypingLimits.{result_scalar, result_kept}
+use Rattle.aos_check_decl.proofs.TypingProcedures.{types_of, HasResult, HasMade, IsHeaded}
+use Rattle.aos_check_decl.proofs.TypingTargets.{AreLed, targets_sound}
+use Rattle.aos_check_decl.proofs.TypingWalks.{MayBeOpen, told_below}
+use Rattle.aos_check_decl.proofs.TypingWhole as whole
+use Rattle.aos_check_decl.proofs.TypingWhole.{AreOld}
+pub use Rattle.aos_check_decl.proofs.TypingScopes.{AreGood}
 
--- A module whose declarations are met: its own scope as its names make it, and the tables with which it begins.
-pub record Start : Type 0 where
-  pub number : ℕ
-  pub before : List Home
-  pub name : List ℕ
-  pub text : List ℕ
+-- The table of types behind whole modules: the basic types come first, rows name types that are there, and types are as those of
+-- a program are to be.
+pub record AreReady (types : List TypeRow) : Type 0 where
+  pub basic : (k : ℕ) → k < 9 → slice_get types k ≡ slice_get env.basic_rows k
+  pub closed : (k : ℕ) (r : TypeRow) → slice_get types k ≡ Some r → AreBelow (length types) r
+  pub sound : AreTypes types
+
+-- what is known of the modules before, and of the types so far
+pub record IsReady (before : List Home) (types : List TypeRow) : Type 0 where
+  pub names : (m : ℕ) (h : Home) (s : Scope) (w : List ℕ) (x : Entry) (of : Option TypeId) → slice_get before m ≡ Some h →
+      slice_get h.scopes 0 ≡ Some s → find s w ≡ Some x → x.means ≡ means.Type of → IsKnown types of
+  pub constants : (m : ℕ) (h : Home) (k : ℕ) (s : Scope) → slice_get before m ≡ Some h → slice_get h.scopes k ≡ Some s → AreGood s.constants
+  pub table : AreReady types
+
+-- a type that is there, which may be an open array; no variable or parameter is of NIL's type or of ANY
+abbrev pub IsThere : List TypeRow → Option TypeId → Type 0
+IsThere types None = ⊥
+IsThere types (Some t) = (t.0 < length types) × ((t.0 < 7) ⊎ (9 ≤ t.0))
+
+-- a scalar's type
+pub record IsResult (types : List TypeRow) (of : Option TypeId) : Type 0 where
+  pub type : TypeId
+  pub is : of ≡ Some type
+  pub told : IsTold types type
+  pub scalar : is_scalar (row_of types type) ≡ true
+
+-- a procedure of the module: its signature, and the variables of its scope, which are its parameters and then its locals
+pub record IsHeading (types : List TypeRow) (p : Procedure) (s : Signature) (scope : Scope) : Type 0 where
+  pub parameters : Each (λ a. IsThere types a.of) s.parameters
+  pub few : length s.parameters ≡ length (formal_names p.formals)
+  pub first : take (length (formal_names p.formals)) scope.variables ≡ map (λ a. a.of) s.parameters
+  pub locals : Each (IsKnown types) (drop (length (formal_names p.formals)) scope.variables)
+  pub count : length scope.variables ≡ length (formal_names p.formals) + length (single_variables p.decls)
+  pub result : (of : Option TypeId) → s.gives ≡ gives.Value of → IsResult types of
+
+-- the procedure with a number, in the module's environment
+pub record HasHeading (m : Module) (e : Env) (j : ℕ) (p : Procedure) : Type 0 where
+  pub signature : Signature
+  pub scope : Scope
+  pub signature_is : slice_get e.here.signatures j ≡ Some signature
+  pub scope_is : slice_get e.here.scopes (suc (length (type_defs m.decls)) + j) ≡ Some scope
+  pub heading : IsHeading e.types p signature scope
+
+-- the module whose declarations break no rule
+pub record IsDeclared (number : ℕ) (before : List Home) (types : List TypeRow) (text : List ℕ) (m : Module) (e : Env) : Type 0 where
+  pub number_is : e.number ≡ number
+  pub before_is : e.before ≡ before
+  pub path_is : e.path ≡ env.own number ∷ []
+  pub text_is : e.here.text ≡ text
+  pub name_is : e.here.name ≡ word text m.name
   pub own : Scope
-  pub inner : List Scope
-  pub types : List TypeRow
-  pub broken : List Bool
+  pub own_is : slice_get e.here.scopes 0 ≡ Some own
+  pub numbers : List (Option TypeId)
+  pub entries_are : own.entries ≡ (entries.own_scope text before numbers m).entries
+  pub all_entries_are : (k : ℕ) → option_map (λ (s : Scope). s.entries) (slice_get e.here.scopes k)
+      ≡ option_map (λ (s : Scope). s.entries) (slice_get (entries.scopes text before numbers m) k)
+  pub names : (w : List ℕ) (x : Entry) (of : Option TypeId) → find own w ≡ Some x → x.means ≡ means.Type of → IsKnown e.types of
+  pub variables : Each (IsKnown e.types) own.variables
+  pub count : length own.variables ≡ length (single_variables m.decls)
+  pub constants : (k : ℕ) (s : Scope) → slice_get e.here.scopes k ≡ Some s → AreGood s.constants
+  pub goes_on : GoOn types e.types
+  pub stays : (k : ℕ) → k < length types → slice_get e.types k ≡ slice_get types k
+  pub long : length e.types ≡ length types + (length (all_type_defs m.decls) + length e.places)
+  pub table : AreReady e.types
+  pub signatures : length e.here.signatures ≡ length (procedures m.decls)
+  pub procedures : (j : ℕ) (p : Procedure) → slice_get (procedures m.decls) j ≡ Some p → HasHeading m e j p
 
--- what its declarations change
-pub record Tables : Type 0 where
-  pub constants : List Constant
-  pub variables : List (Option TypeId)
-  pub types : List TypeRow
-  pub broken : List Bool
+-- What is known of the table before.
 
-abbrev pub scope_with : Start → Tables → Scope
-scope_with c a = record { entries = c.own.entries; constants = a.constants; variables = a.variables }
+table_nine : (before : List Home) (types : List TypeRow) → IsReady before types → 9 ≤ length types
+table_nine before types ready = slice_get_within types 8 row.Any (ready.table.basic 8 (omega arith))
 
-abbrev pub reached : Start → Tables → Env
-reached c a =
-    record {
-      number = c.number;
-      before = c.before;
-      here = record { name = c.name; text = c.text; scopes = scope_with c a ∷ c.inner };
-      path = env.own c.number ∷ [];
-      types = a.types;
-      broken = a.broken;
-    }
+table_old : (before : List Home) (types : List TypeRow) → IsReady before types → AreOld types
+table_old before types ready = record {
+  nine = table_nine before types ready;
+  closed = ready.table.closed;
+  free = ready.table.sound.none_contains_itself;
+  sizes = ready.table.sound.sizes;
+}
 
-abbrev pub begun : Start → Tables
-begun c = record { constants = c.own.constants; variables = c.own.variables; types = c.types; broken = c.broken }
+module _ (number : ℕ) (before : List Home) (types : List TypeRow) (text : List ℕ) (m : Module) (ready : IsReady before types) (ts : List Target)
+    (led : AreLed types (length (all_type_defs m.decls)) (all_type_defs m.decls) ts) (once : name_breaches text m ≡ []) where
+  abbrev old : AreOld types
+  old = table_old before types ready
 
-abbrev pub AreGood : List Constant → Type 0
-AreGood cs = Each (λ x. HasGood x.value) cs
+  abbrev start : Env
+  start = whole.begun number before types text m ts ready.names ready.constants old led once
 
--- the types that the scopes of the modules before name are told, and the constants of all scopes but the own one are good
-pub record IsReady (c : Start) : Type 0 where
-  pub names : (m : ℕ) (h : Home) (s : Scope) (w : List ℕ) (x : Entry) (of : Option TypeId) → slice_get c.before m ≡ Some h →
-      slice_get h.scopes 0 ≡ Some s → find s w ≡ Some x → x.means ≡ means.Type of → IsKnown c.types c.broken of
-  pub before : (m : ℕ) (h : Home) (k : ℕ) (s : Scope) → slice_get c.before m ≡ Some h → slice_get h.scopes k ≡ Some s → AreGood s.constants
-  pub inner : (k : ℕ) (s : Scope) → slice_get c.inner k ≡ Some s → AreGood s.constants
-  pub beside : length c.broken ≡ length c.types
+  abbrev numbers : List (Option TypeId)
+  numbers = whole.own number before types text m ts ready.names ready.constants old led once
 
-module _ (c : Start) where
-  -- a type that is told already, or has a name in the module's own scope
-  abbrev pub IsNamed : Option TypeId → Type 0
-  IsNamed of = IsKnown c.types c.broken of ⊎ ((w : List ℕ) × (x : Entry) × (find c.own w ≡ Some x) × (x.means ≡ means.Type of))
+  module _ (none : (headings start m.decls).breaches ≡ []) where
+    abbrev e : Env
+    e = whole.ended number before types text m ts ready.names ready.constants old led once none
 
-  -- a type's name is found, and stands for a number of the module's own
-  abbrev pub IsListed : TypeDef → Type 0
-  IsListed d = (x : Entry) × (find c.own (word c.text d.def.name) ≡ Some x)
-      × ((t : TypeId) → slot_meant x.means ≡ Some t → (9 ≤ t.0) × (t.0 < length c.types))
+    long : length e.types ≡ length types + (length (all_type_defs m.decls) + length e.places)
+    long = whole.long number before types text m ts ready.names ready.constants old led once none
 
-  -- a type that is told, and no other name for one
-  abbrev pub IsDone : Tables → TypeDef → Type 0
-  IsDone a d = (is_alias d.value ≡ false)
-      × ((x : Entry) (t : TypeId) → find c.own (word c.text d.def.name) ≡ Some x → slot_meant x.means ≡ Some t → IsTold a.types a.broken t)
+    stays : (k : ℕ) → k < length types → slice_get e.types k ≡ slice_get types k
+    stays = whole.stays number before types text m ts ready.names ready.constants old led once none
 
-  pub record IsFit (a : Tables) : Type 0 where
-    pub good : AreGood a.constants
-    pub named : Each IsNamed a.variables
-    pub types : length a.types ≡ length c.types
-    pub broken : length a.broken ≡ length c.types
+    basics : (k : ℕ) → k < 9 → slice_get e.types k ≡ slice_get env.basic_rows k
+    basics k low = stays k (let l = old.nine in omega (arith, l, low)) ∙ ready.table.basic k low
 
-  -- behind declarations that define these variables and these types
-  pub record IsBehind (a : Tables) (vs : List Def) (ds : List TypeDef) (e : Env) : Type 0 where
-    pub behind : Tables
-    pub is : e ≡ reached c behind
-    pub fit : IsFit behind
-    pub more : length behind.variables ≡ length a.variables + length vs
-    pub goes_on : GoOn a.types a.broken behind.types behind.broken
-    pub done : Each (IsDone behind) ds
-
-no_type : {t : TypeId} → None ≡ Some t → ⊥
-no_type e = cc
-
-basic_below : (n : ℕ) → n ≤ 8 → (n ≡ 7 → ⊥) → (n ≡ 8 → ⊥) → n < 7
-basic_below n le not_nil not_any = omega (arith, not_nil, not_any)
-
--- the types that are predeclared are told, but for ANY
-predeclared_told : (ts : List TypeRow) (bs : List Bool) (m : Meaning) → IsPredeclared m → (of : Option TypeId) → m ≡ means.Type of → judge.is_any of ≡ false → IsKnown ts bs of
-predeclared_told ts bs m (a_type t le other) of e not_any = subst (IsKnown ts bs) (same of e) (basic (basic_below t.0 le other (eqb-false t.0 8 (ap judge.is_any (same of e) ∙ not_any))))
-  where
-    same : (of : Option TypeId) → means.Type (Some t) ≡ means.Type of → Some t ≡ of
-    same of e = cc
-predeclared_told ts bs m (a_truth b) of e not_any = absurd (no_truth of e)
-  where
-    no_truth : (of : Option TypeId) → means.Truth b ≡ means.Type of → ⊥
-    no_truth of e = cc
-predeclared_told ts bs m (a_function f) of e not_any = absurd (no_function of e)
-  where
-    no_function : (of : Option TypeId) → means.Function f ≡ means.Type of → ⊥
-    no_function of e = cc
-predeclared_told ts bs m a_procedure of e not_any = absurd (no_new of e)
-  where
-    no_new : (of : Option TypeId) → means.New ≡ means.Type of → ⊥
-    no_new of e = cc
-predeclared_told ts bs m a_proper of e not_any = absurd (no_proper of e)
-  where
-    no_proper : (of : Option TypeId) → means.Proper ≡ means.Type of → ⊥
-    no_proper of e = cc
-predeclared_told ts bs m another of e not_any = absurd (no_other of e)
-  where
-    no_other : (of : Option TypeId) → means.Other ≡ means.Type of → ⊥
-    no_other of e = cc
-
-flat_none : {X Y : Type 0} (xs : List X) → flat_map (λ (x : X). let none : List Y = [] in none) xs ≡ []
-flat_none [] = refl
-flat_none (x ∷ xs) = flat_none xs
-
-flat_each : {X : Type 0} (xs : List X) → flat_map (λ (x : X). x ∷ []) xs ≡ xs
-flat_each [] = refl
-flat_each (x ∷ xs) = ap (λ z. x ∷ z) (flat_each xs)
-
-module _ (c : Start) (ready : IsReady c) where
-  -- What a name stands for.
-
-  abbrev IsOwn : Open → Type 0
-  IsOwn o = o.scope ≡ 0
-
-  abbrev Names : Symbol → Type 0
-  Names x = (of : Option TypeId) → x.means ≡ means.Type of → judge.is_any of ≡ false → IsNamed c of
-
-  abbrev MayName : Lookup → Type 0
-  MayName l = (x : Symbol) → l ≡ Found x → Names x
-
-  module _ (a : Tables) where
-    entries_named : (o : Open) (s : Scope) (w : List ℕ) (x : Entry) → IsOwn o → env.scope (reached c a) o ≡ Some s → find s w ≡ Some x → Names (env.declared_at o x)
-    entries_named o s w x own there is of means not_any =
-        by_home (o.home == c.number) (ap (λ k. option_and_then (λ h. slice_get h.scopes k) (env.home (reached c a) o.home)) (sym own) ∙ there)
-      where
-        by_before : (h : Option Home) → slice_get c.before o.home ≡ h → option_and_then (λ h. slice_get h.scopes 0) h ≡ Some s → IsNamed c of
-        by_before None at there = absurd (none-some s there)
-        by_before (Some h) at there = inl (ready.names o.home h s w x of at there is means)
-
-        by_home : (b : Bool) → option_and_then (λ h. slice_get h.scopes 0) (if b then Some (reached c a).here else slice_get c.before o.home) ≡ Some s → IsNamed c of
-        by_home true there = inr (w, x, ap (λ (z : Scope). find z w) (same_Some (scope_with c a) s there) ∙ is, means)
-        by_home false there = by_before (slice_get c.before o.home) refl there
-
-    all_named : IsOfAll (reached c a) IsOwn Names
-    all_named = record {
-      entries = entries_named;
-      others = λ m is of means not_any. inl (predeclared_told c.types c.broken m is of means not_any);
-    }
-
-    lookup_named : (n : Name) → MayName (env.lookup (reached c a) n)
-    lookup_named n = lookup_is (reached c a) IsOwn Names all_named (refl, tt) n
-
-    member_named : (m : ℕ) (n : Name) → MayName (env.member (reached c a) m n)
-    member_named m n = member_is (reached c a) IsOwn Names all_named m refl n
-
-  -- The types of variables.
-
-  type_meant_sound : (m : Meaning) → ((of : Option TypeId) → m ≡ means.Type of → judge.is_any of ≡ false → IsNamed c of) → (at : Pos) →
-      Holds (IsNamed c) (judge.type_meant m at)
-  type_meant_sound (means.Type of) named at = by (judge.is_any of) refl
-    where
-      by : (b : Bool) → judge.is_any of ≡ b → Holds (IsNamed c) (if b then judge.no_type 99 at else kept of)
-      by true any = broken (IsNamed c) _ [] _
-      by false not_any = λ h. named of refl not_any
-  type_meant_sound (means.Constant k) named at = broken (IsNamed c) _ [] _
-  type_meant_sound (means.Variable k) named at = broken (IsNamed c) _ [] _
-  type_meant_sound (means.Procedure k) named at = broken (IsNamed c) _ [] _
-  type_meant_sound (means.Module k) named at = broken (IsNamed c) _ [] _
-  type_meant_sound means.Out named at = broken (IsNamed c) _ [] _
-  type_meant_sound (means.Truth b) named at = broken (IsNamed c) _ [] _
-  type_meant_sound (means.Function f) named at = broken (IsNamed c) _ [] _
-  type_meant_sound means.New named at = broken (IsNamed c) _ [] _
-  type_meant_sound means.Proper named at = broken (IsNamed c) _ [] _
-  type_meant_sound means.Other named at = broken (IsNamed c) _ [] _
-
-  type_found_sound : (l : Lookup) → MayName l → (at : Pos) → Holds (IsNamed c) (judge.type_found l at)
-  type_found_sound Unknown named at = broken (IsNamed c) _ [] _
-  type_found_sound NotExported named at = broken (IsNamed c) _ [] _
-  type_found_sound (Found x) named at = type_meant_sound x.means (λ of is not_any. named x refl of is not_any) at
-
-  in_module_sound : (a : Tables) (m : Meaning) (at : Pos) (n : Name) → Holds (IsNamed c) (judge.type_in_module (reached c a) m at n)
-  in_module_sound a (means.Module m) at n = type_found_sound (env.member (reached c a) m n) (member_named a m n) n.pos
-  in_module_sound a means.Out at n = broken (IsNamed c) _ [] _
-  in_module_sound a (means.Type of) at n = broken (IsNamed c) _ [] _
-  in_module_sound a (means.Constant k) at n = broken (IsNamed c) _ [] _
-  in_module_sound a (means.Variable k) at n = broken (IsNamed c) _ [] _
-  in_module_sound a (means.Procedure k) at n = broken (IsNamed c) _ [] _
-  in_module_sound a (means.Truth b) at n = broken (IsNamed c) _ [] _
-  in_module_sound a (means.Function f) at n = broken (IsNamed c) _ [] _
-  in_module_sound a means.New at n = broken (IsNamed c) _ [] _
-  in_module_sound a means.Proper at n = broken (IsNamed c) _ [] _
-  in_module_sound a means.Other at n = broken (IsNamed c) _ [] _
-
-  qualified_sound : (a : Tables) (l : Lookup) (at : Pos) (n : Name) → Holds (IsNamed c) (judge.qualified_type (reached c a) l at n)
-  qualified_sound a Unknown at n = broken (IsNamed c) _ [] _
-  qualified_sound a NotExported at n = broken (IsNamed c) _ [] _
-  qualified_sound a (Found x) at n = in_module_sound a x.means at n
-
-  named_sound : (a : Tables) (first : Name) (second : Option Name) → Holds (IsNamed c) (judge.named_type (reached c a) (record { first = first; second = second }))
-  named_sound a first None = type_found_sound (env.lookup (reached c a) first) (lookup_named a first) first.pos
-  named_sound a first (Some n) = qualified_sound a (env.lookup (reached c a) first) first.pos n
-
-  variable_sound : (a : Tables) (t : TypeExpr) → Holds (IsNamed c) (judge.variable_type (reached c a) t)
-  variable_sound a (type.Named q) = named_sound a q.first q.second
-  variable_sound a (type.Array' p lengths shape row) = broken (IsNamed c) _ [] _
-  variable_sound a (type.Record' p base shape row) = broken (IsNamed c) _ [] _
-  variable_sound a (type.Pointer' p shape row) = broken (IsNamed c) _ [] _
-  variable_sound a (type.Proc p flag formals) = broken (IsNamed c) _ [] _
-  variable_sound a (type.Object' p base shape row body end) = broken (IsNamed c) _ [] _
-
-  -- so many variables more
-  abbrev longer : List (Option TypeId) → ℕ → Option TypeId → List (Option TypeId)
-  longer vs zero of = vs
-  longer vs (suc n) of = longer (vs ++ of ∷ []) n of
-
-  longer_is : (a : Tables) (n : ℕ) (of : Option TypeId) → judge.with_variables (reached c a) n of ≡ reached c (record a { variables = longer a.variables n of })
-  longer_is a zero of = refl
-  longer_is a (suc n) of = longer_is (record a { variables = a.variables ++ of ∷ [] }) n of
-
-  longer_named : (n : ℕ) (of : Option TypeId) → IsNamed c of → (vs : List (Option TypeId)) → Each (IsNamed c) vs → Each (IsNamed c) (longer vs n of)
-  longer_named zero of is vs all = all
-  longer_named (suc n) of is vs all = longer_named n of is (vs ++ of ∷ []) (joined (IsNamed c) vs (of ∷ []) all (is, tt))
-
-  longer_length : (n : ℕ) (of : Option TypeId) (vs : List (Option TypeId)) → length (longer vs n of) ≡ length vs + n
-  longer_length zero of vs = omega arith
-  longer_length (suc n) of vs = omega (arith, longer_length n of (vs ++ of ∷ []), length-append vs (of ∷ []))
-
-  variable_def_sound : (a : Tables) → IsFit c a → (v : VarDef) → Holds (IsBehind c a v.defs []) (judge.variable_def (reached c a) v)
-  variable_def_sound a fit v =
-      holds_bind (IsNamed c) (IsBehind c a v.defs []) (judge.variable_type (reached c a) v.of) (λ of. kept (judge.with_variables (reached c a) (length v.defs) of))
-      (variable_sound a v.of)
-      (λ of is h. record {
-        behind = record a { variables = longer a.variables (length v.defs) of };
-        is = longer_is a (length v.defs) of;
-        fit = record {
-          good = fit.good;
-          named = longer_named (length v.defs) of is a.variables fit.named;
-          types = fit.types;
-          broken = fit.broken;
+    module _ (fine : limits.all_breaches (circles e.types) (cut (circles e.types) e.types) e (length types) m.decls ≡ []) where
+      table : AreReady e.types
+      table = record {
+        basic = basics;
+        closed = whole.closed number before types text m ts ready.names ready.constants old led once none;
+        sound = record {
+          none_contains_itself = whole.free number before types text m ts ready.names ready.constants old led once none fine;
+          sizes = whole.sizes number before types text m ts ready.names ready.constants old led once none fine;
         };
-        more = longer_length (length v.defs) of a.variables;
-        goes_on = λ t told. told;
-        done = tt;
-      })
-
-  -- The values of constants.
-
-  pub good_constants : (a : Tables) → IsFit c a → GoodConstants (reached c a)
-  good_constants a fit o s there = by_home (o.home == c.number) there
-    where
-      by_before : (h : Option Home) → slice_get c.before o.home ≡ h → option_and_then (λ h. slice_get h.scopes o.scope) h ≡ Some s → AreGood s.constants
-      by_before None at there = absurd (none-some s there)
-      by_before (Some h) at there = ready.before o.home h o.scope s at there
-
-      by_own : (k : ℕ) → slice_get (scope_with c a ∷ c.inner) k ≡ Some s → AreGood s.constants
-      by_own zero there = subst (λ (z : Scope). AreGood z.constants) (same_Some (scope_with c a) s there) fit.good
-      by_own (suc k) there = ready.inner k s there
-
-      by_home : (b : Bool) → option_and_then (λ h. slice_get h.scopes o.scope) (if b then Some (reached c a).here else slice_get c.before o.home) ≡ Some s → AreGood s.constants
-      by_home true there = by_own o.scope there
-      by_home false there = by_before (slice_get c.before o.home) refl there
-
-  constant_def_sound : (a : Tables) → IsFit c a → (d : ConstDef) → Holds (IsBehind c a [] []) (judge.constant_def (reached c a) d)
-  constant_def_sound a fit d =
-      let one = λ (v : Option Literal). let k : Constant = record { at = d.def.name.pos; value = v } in k in
-      holds_bind HasGood (IsBehind c a [] []) (constant (reached c a) d.value) (λ v. kept (judge.with_constant (reached c a) d.def.name.pos v))
-      (constant_good (reached c a) (good_constants a fit) d.value)
-      (λ v is h. record {
-        behind = record a { constants = a.constants ++ one v ∷ [] };
-        is = refl;
-        fit = record {
-          good = joined (λ (x : Constant). HasGood x.value) a.constants (one v ∷ []) fit.good (is, tt);
-          named = fit.named;
-          types = fit.types;
-          broken = fit.broken;
-        };
-        more = omega arith;
-        goes_on = λ t told. told;
-        done = tt;
-      })
-
-  -- The types that are defined.
-
-  slot_is : (a : Tables) (n : Name) (x : Entry) → find c.own (word c.text n) ≡ Some x → slot_in (env.lookup (reached c a) n) ≡ slot_meant x.means
-  slot_is a n x is =
-      ap (λ b. slot_in (env.looked_up (reached c a) (word c.text n) (option_or (option_map (env.declared_at (env.own c.number)) (option_and_then (λ s. find s (word c.text n))
-      (option_and_then (λ h. slice_get h.scopes 0) (if b then Some (reached c a).here else slice_get c.before c.number)))) None))) (eq-eqb c.number c.number refl)
-      ∙ ap (λ y. slot_in (env.looked_up (reached c a) (word c.text n) (option_or (option_map (env.declared_at (env.own c.number)) y) None))) is
-      ∙ ap (λ b. slot_in (if b || is_some x.mark then Found (env.declared_at (env.own c.number) x) else NotExported)) (eq-eqb c.number c.number refl)
-
-  abbrev IsRow : TypeExpr → Option TypeRow → Type 0
-  IsRow t r = (is_alias t ≡ false) × (r ≡ Some (row.Object None []))
-
-  alias_broken : (t : TypeExpr) (n : Option Name) (l : Lookup) (at : Pos) → Holds (IsRow t) (judge.no_row (alias_breaches n l at))
-  alias_broken t n Unknown at = broken (IsRow t) _ [] _
-  alias_broken t n NotExported at = broken (IsRow t) _ [] _
-  alias_broken t n (Found x) at = broken (IsRow t) _ [] _
-
-  row_sound : (a : Tables) (t : TypeExpr) → Holds (IsRow t) (judge.defined_row (reached c a) t)
-  row_sound a (type.Object' p base shape row body end) = λ h. (refl, refl)
-  row_sound a (type.Named q) = alias_broken (type.Named q) q.second (env.lookup (reached c a) q.first) q.first.pos
-  row_sound a (type.Array' p lengths shape row) = broken (IsRow (type.Array' p lengths shape row)) _ [] _
-  row_sound a (type.Record' p base shape row) = broken (IsRow (type.Record' p base shape row)) _ [] _
-  row_sound a (type.Pointer' p shape row) = broken (IsRow (type.Pointer' p shape row)) _ [] _
-  row_sound a (type.Proc p flag formals) = broken (IsRow (type.Proc p flag formals)) _ [] _
-
-  type_def_sound : (a : Tables) → IsFit c a → (d : TypeDef) → IsListed c d → Holds (IsBehind c a [] (d ∷ [])) (judge.type_def (reached c a) d)
-  type_def_sound a fit d listed =
-      holds_bind (IsRow d.value) (IsBehind c a [] (d ∷ [])) (judge.defined_row (reached c a) d.value)
-      (λ r. kept (judge.with_row (reached c a) (slot_in (env.lookup (reached c a) d.def.name)) r)) (row_sound a d.value)
-      (λ r is h. subst (λ (s : Option TypeId). IsBehind c a [] (d ∷ []) (judge.with_row (reached c a) s r)) (sym (slot_is a d.def.name listed.0 listed.1))
-      (subst (λ (o : Option TypeRow). IsBehind c a [] (d ∷ []) (judge.with_row (reached c a) (slot_meant listed.0.means) o)) (sym is.1)
-      (by (slot_meant listed.0.means) refl is.0)))
-    where
-      same : (x : Entry) → find c.own (word c.text d.def.name) ≡ Some x → listed.0 ≡ x
-      same x is = same_Some listed.0 x (sym listed.1 ∙ is)
-
-      by : (s : Option TypeId) → slot_meant listed.0.means ≡ s → is_alias d.value ≡ false →
-          IsBehind c a [] (d ∷ []) (judge.with_row (reached c a) s (Some (row.Object None [])))
-      by None none alias = record {
-        behind = a;
-        is = refl;
-        fit = fit;
-        more = omega arith;
-        goes_on = λ t told. told;
-        done = ((alias, λ x t is slot. absurd (no_type (sym none ∙ ap (λ y. slot_meant y.means) (same x is) ∙ slot))), tt);
       }
-      by (Some t) some alias =
-          let range = listed.2 t some in
-          let types' = slice_set a.types t.0 (row.Object None []) in
-          let broken' = slice_set a.broken t.0 false in
+
+      headed : IsHeaded (whole.second_walk number before types text m ts ready.names ready.constants old led once none fine)
+          (whole.path number before types text m ts ready.names ready.constants old led once)
+          (whole.second_searched number before types text m ts ready.names ready.constants old led once none fine) m.decls start e
+      headed = whole.headed number before types text m ts ready.names ready.constants old led once none fine
+
+      -- The module's own scope.
+
+      own_variables : variables_at e.here.scopes 0 ≡ Some headed.variables
+      own_variables =
+          let s = entries.own_scope text before numbers m in
+          let bare = (scope_fresh text before numbers m 0 s refl).1 in
+          headed.own ∙ ap (λ vs. Some (vs ++ headed.variables)) bare
+
+      own_there : (s : Scope) × (slice_get e.here.scopes 0 ≡ Some s) × (s.variables ≡ headed.variables)
+      own_there = mapped_at variables_of (slice_get e.here.scopes 0) headed.variables own_variables
+
+      own_entries : own_there.0.entries ≡ (entries.own_scope text before numbers m).entries
+      own_entries = same_Some own_there.0.entries (entries.own_scope text before numbers m).entries (ap (option_map (λ (s : Scope). s.entries)) (sym own_there.1) ∙ headed.fit.names_are 0)
+
+      own_names : (w : List ℕ) (x : Entry) (of : Option TypeId) → find own_there.0 w ≡ Some x → x.means ≡ means.Type of → IsKnown e.types of
+      own_names w x of found means =
+          known_on (types ++ first_rows (length types) ts) e.types headed.goes.on of
+          ((whole.second_walk number before types text m ts ready.names ready.constants old led once none fine).own 0 (entries.own_scope text before numbers m) w x of (inl refl) refl
+          (ap (λ ns. find (record own_there.0 { entries = ns }) w) (sym own_entries) ∙ found) means)
+
+      goes_on : GoOn types e.types
+      goes_on t told = headed.goes.on t (told_behind types (first_rows (length types) ts) t told)
+
+      -- Procedures.
+
+      e_nine : 9 ≤ length e.types
+      e_nine = let l = old.nine in omega (arith, l, long)
+
+      is_there : (of : Option TypeId) → MayBeOpen number before types text m ts ready.names ready.constants old.nine led e.types of → IsThere e.types of
+      is_there None may = may
+      is_there (Some t) (inl low) = (omega (arith, low, e_nine), inl low)
+      is_there (Some t) (inr r) = (r.1, inr r.0)
+
+      result_of_some : (formals : Option Formals) (r : HasResult formals) → limits.result_of (circles e.types) e.types formals ≡ Some r.name
+      result_of_some formals r = ap (limits.result_of (circles e.types) e.types) r.is ∙ r.result
+
+      result_is : (j : ℕ) (p : Procedure) (s : Signature) → slice_get (procedures m.decls) j ≡ Some p → slice_get e.here.signatures j ≡ Some s →
+          (of : Option TypeId) → s.gives ≡ gives.Value of → IsKnown e.types of → HasResult p.formals → IsResult e.types of
+      result_is j p s is there None value known r = absurd known
+      result_is j p s is there (Some t) value told r =
+          let l = told_below e.types e_nine t told in
+          let right = result_kept (circles e.types) e.types e (length types) m.decls
+          (whole.kept_whole number before types text m ts ready.names ready.constants old led once none fine) j p s is there in
+          let rule : limits.result_breaches (circles e.types) e.types (Some r.name) (gives.Value (Some t)) ≡ [] =
+          (λ i. limits.result_breaches (circles e.types) e.types (sym (result_of_some p.formals r) i) (sym value i)) ∙ right in
           record {
-            behind = record a { types = types'; broken = broken' };
+            type = t;
             is = refl;
-            fit = record { good = fit.good; named = fit.named; types = length-set a.types t.0 (row.Object None []) ∙ fit.types; broken = length-set a.broken t.0 false ∙ fit.broken };
-            more = omega arith;
-            goes_on = told_set a.types a.broken t range.0;
-            done = (
-              (
-                alias,
-                λ x u is slot. subst (λ (v : TypeId). IsTold types' broken' v) (same_Some t u (sym some ∙ ap (λ y. slot_meant y.means) (same x is) ∙ slot))
-                    (newly_told a.types a.broken t range.0 (omega (arith, fit.types)) (omega (arith, fit.broken))),
-              ),
-              tt,
-            );
+            told = told;
+            scalar = result_scalar (circles e.types) e.types basics r.name t told
+                (whole.not_circular number before types text m ts ready.names ready.constants old led once none fine t l) (table.sound.sizes t) rule;
           }
 
-  -- Declarations one after another.
+      module _ (j : ℕ) (p : Procedure) (is : slice_get (procedures m.decls) j ≡ Some p) where
+        abbrev place : ℕ
+        place = suc (length (type_defs m.decls)) + j
 
-  done_on : (a b : Tables) → GoOn a.types a.broken b.types b.broken → (d : TypeDef) → IsDone c a d → IsDone c b d
-  done_on a b on d done = (done.0, λ x t is slot. on t (done.1 x t is slot))
+        made : HasMade (whole.second_walk number before types text m ts ready.names ready.constants old led once none fine)
+            (whole.path number before types text m ts ready.names ready.constants old led once)
+            (whole.second_searched number before types text m ts ready.names ready.constants old led once none fine) (suc (length (type_defs m.decls))) start e j p
+        made = headed.made j p is
 
-  nothing_yet : (a : Tables) → IsFit c a → IsBehind c a [] [] (reached c a)
-  nothing_yet a fit = record { behind = a; is = refl; fit = fit; more = omega arith; goes_on = λ t told. told; done = tt }
+        all_variables : List (Option TypeId)
+        all_variables = types_of made.signature.parameters ++ made.locals
 
-  both : (a : Tables) (vs ws : List Def) (ds es : List TypeDef) (e f : Env) (one : IsBehind c a vs ds e) → IsBehind c one.behind ws es f →
-      IsBehind c a (vs ++ ws) (ds ++ es) f
-  both a vs ws ds es e f one two = record {
-    behind = two.behind;
-    is = two.is;
-    fit = two.fit;
-    more = omega (arith, one.more, two.more, length-append vs ws);
-    goes_on = λ t told. two.goes_on t (one.goes_on t told);
-    done = joined (IsDone c two.behind) ds es (implied (IsDone c one.behind) (IsDone c two.behind) (done_on one.behind two.behind two.goes_on) ds one.done) two.done;
-  }
+        signature_there : slice_get e.here.signatures j ≡ Some made.signature
+        signature_there = ap (slice_get e.here.signatures) (let same : j ≡ 0 + j = omega arith in same) ∙ made.signature_is
 
-  walked : {X : Type 0} (step : Env → X → Judged Env) (vs : X → List Def) (ds : X → List TypeDef) →
-      ((a : Tables) → IsFit c a → (x : X) → Each (IsListed c) (ds x) → Holds (IsBehind c a (vs x) (ds x)) (step (reached c a) x)) →
-      (xs : List X) → Each (IsListed c) (flat_map ds xs) → (a : Tables) → IsFit c a →
-      Holds (IsBehind c a (flat_map vs xs) (flat_map ds xs)) (walk step (reached c a) xs)
-  walked step vs ds each [] listed a fit = λ h. nothing_yet a fit
-  walked step vs ds each (x ∷ xs) listed a fit =
-      holds_bind (IsBehind c a (vs x) (ds x)) (IsBehind c a (vs x ++ flat_map vs xs) (ds x ++ flat_map ds xs)) (step (reached c a) x) (λ e. walk step e xs)
-      (each a fit x (front (IsListed c) (ds x) (flat_map ds xs) listed))
-      (λ e one. next e one (walked step vs ds each xs (back (IsListed c) (ds x) (flat_map ds xs) listed) one.behind one.fit))
-    where
-      next : (e : Env) (one : IsBehind c a (vs x) (ds x) e) →
-          Holds (IsBehind c one.behind (flat_map vs xs) (flat_map ds xs)) (walk step (reached c one.behind) xs) →
-          Holds (IsBehind c a (vs x ++ flat_map vs xs) (ds x ++ flat_map ds xs)) (walk step e xs)
-      next e one rest = subst (λ (f : Env). Holds (IsBehind c a (vs x ++ flat_map vs xs) (ds x ++ flat_map ds xs)) (walk step f xs)) (sym one.is)
-          (λ h. both a (vs x) (flat_map vs xs) (ds x) (flat_map ds xs) e (walk step (reached c one.behind) xs).answer one (rest h))
+        scope_there : (s : Scope) × (slice_get e.here.scopes place ≡ Some s) × (s.variables ≡ types_of made.signature.parameters ++ made.locals)
+        scope_there =
+            let first = procedure_there text before numbers m j p is in
+            let bare = (scope_fresh text before numbers m place first.0 first.1).1 in
+            mapped_at variables_of (slice_get e.here.scopes place) (types_of made.signature.parameters ++ made.locals)
+            (made.own ∙ ap (λ o. option_map (λ vs. vs ++ (types_of made.signature.parameters ++ made.locals)) (option_map variables_of o)) first.1
+            ∙ ap (λ vs. Some (vs ++ (types_of made.signature.parameters ++ made.locals))) bare)
 
-  declared_sound : (a : Tables) → IsFit c a → (d : Decl) → Each (IsListed c) (types_in d) → Holds (IsBehind c a (singles_in d) (types_in d)) (judge.declared (reached c a) d)
-  declared_sound a fit (decl.Consts p cs) listed =
-      subst₂ (λ (vs : List Def) (es : List TypeDef). Holds (IsBehind c a vs es) (walk judge.constant_def (reached c a) cs))
-      (flat_none {X = ConstDef} {Y = Def} cs) (flat_none {X = ConstDef} {Y = TypeDef} cs)
-      (walked judge.constant_def (λ k. []) (λ k. []) (λ a fit k listed. constant_def_sound a fit k) cs (subst (Each (IsListed c)) (sym (flat_none {X = ConstDef} {Y = TypeDef} cs)) tt) a fit)
-  declared_sound a fit (decl.Types' p shape row) listed =
-      let ds = items-the_row-TypeDef _ row in
-      subst (λ (vs : List Def). Holds (IsBehind c a vs ds) (walk judge.type_def (reached c a) ds)) (flat_none {X = TypeDef} {Y = Def} ds)
-      (subst (λ (es : List TypeDef). Holds (IsBehind c a (flat_map (λ (x : TypeDef). []) ds) es) (walk judge.type_def (reached c a) ds)) (flat_each ds)
-      (walked judge.type_def (λ d. []) (λ d. d ∷ []) (λ a fit d listed. type_def_sound a fit d listed.0) ds (subst (Each (IsListed c)) (sym (flat_each ds)) listed) a fit))
-  declared_sound a fit (decl.Vars' p shape row) listed =
-      let vs = items-the_row-VarDef _ row in
-      subst (λ (es : List TypeDef). Holds (IsBehind c a (flat_map (λ v. v.defs) vs) es) (walk judge.variable_def (reached c a) vs)) (flat_none {X = VarDef} {Y = TypeDef} vs)
-      (walked judge.variable_def (λ v. v.defs) (λ v. []) (λ a fit v listed. variable_def_sound a fit v) vs (subst (Each (IsListed c)) (sym (flat_none {X = VarDef} {Y = TypeDef} vs)) tt) a fit)
-  declared_sound a fit (decl.Proc' p i def formals shape row body end) listed = broken (IsBehind c a [] []) _ [] _
+        names_long : length (types_of made.signature.parameters) ≡ length (formal_names p.formals)
+        names_long = length-map made.signature.parameters (λ (a : Parameter). a.of) ∙ made.count
 
-  pub headings_sound : (ds : List Decl) → Each (IsListed c) (type_defs ds) → (a : Tables) → IsFit c a →
-      Holds (IsBehind c a (single_variables ds) (type_defs ds)) (judge.headings (reached c a) ds)
-  headings_sound ds listed a fit = walked judge.declared singles_in types_in declared_sound ds listed a fit
+        heading : IsHeading e.types p made.signature scope_there.0
+        heading =
+            let ps = types_of made.signature.parameters in
+            let all = made.all in
+            record {
+              parameters = implied (λ (a : Parameter). MayBeOpen number before types text m ts ready.names ready.constants old.nine led e.types a.of) (λ (a : Parameter). IsThere e.types a.of)
+                  (λ a there. is_there a.of there) made.signature.parameters made.there;
+              few = made.count;
+              first = (λ i. take (sym names_long i) (scope_there.2 i)) ∙ take-append_seam ps made.locals;
+              locals = subst (Each (IsKnown e.types)) (sym ((λ i. drop (sym names_long i) (scope_there.2 i)) ∙ drop-append_seam ps made.locals)) made.known;
+              count = ap length scope_there.2 ∙ length-append ps made.locals ∙ (λ i. names_long i + all i);
+              result = λ of value. (let r = made.result of value in result_is j p made.signature is signature_there of value r.0 r.1);
+            }
+
+        has_heading : HasHeading m e j p
+        has_heading = record {
+          signature = made.signature;
+          scope = scope_there.0;
+          signature_is = signature_there;
+          scope_is = scope_there.1;
+          heading = heading;
+        }
+
+      declared : IsDeclared number before types text m e
+      declared = record {
+        number_is = headed.fit.number_is;
+        before_is = headed.fit.before_is;
+        path_is = headed.fit.path_is;
+        text_is = headed.fit.text_is;
+        name_is = headed.fit.name_is;
+        own = own_there.0;
+        own_is = own_there.1;
+        numbers = numbers;
+        entries_are = own_entries;
+        all_entries_are = headed.fit.names_are;
+        names = own_names;
+        variables = subst (Each (IsKnown e.types)) (sym own_there.2) headed.known;
+        count = ap length own_there.2 ∙ headed.count;
+        constants = headed.fit.good;
+        goes_on = goes_on;
+        stays = stays;
+        long = long;
+        table = table;
+        signatures = headed.signatures ∙ (let same : 0 + length (procedures m.decls) ≡ length (procedures m.decls) = omega arith in same);
+        procedures = has_heading;
+      }
+
+      declared_cut : IsDeclared number before types text m (record e { types = cut (circles e.types) e.types })
+      declared_cut =
+          subst (λ rows. IsDeclared number before types text m (record e { types = rows })) (sym (whole.cut_is number before types text m ts ready.names ready.constants old led once none fine)) declared
+
+-- What is declared where names are declared once and no rule is broken.
+pub declare_sound : (number : ℕ) (before : List Home) (types : List TypeRow) (text : List ℕ) (m : Module) → IsReady before types →
+    name_breaches text m ≡ [] → Holds (IsDeclared number before types text m) (declare number before types text m)
+declare_sound number before types text m ready once none =
+    let own = own_numbers (length types) (length (all_type_defs m.decls)) in
+    let j = targets (entered number before types text m own) m.decls in
+    let ts = j.answer in
+    let begin = begun number before types text m in
+    let e = headings begin.answer m.decls in
+    let f = limits.limits e.answer (length types) m.decls in
+    let led = targets_sound number before types text m ready.names (none_left j.breaches [] (none_left begin.breaches (e.breaches ++ f.breaches) none)) in
+    let behind = none_right begin.breaches (e.breaches ++ f.breaches) none in
+    declared_cut number before types text m ready ts led once (none_left e.breaches f.breaches behind) (none_right e.breaches f.breaches behind)

@@ -1,64 +1,19 @@
-// The second pass over a module: constants, types and headings, and the environment behind them.
+// Constants, types and variables, and the environment behind them.
 
-ghost use Rattle.std.specs.Prelude.{◌≡◌, OnOk, false, slice_set};
+ghost use Rattle.std.specs.Prelude.{◌≡◌, OnOk};
 ghost use Rattle.aos_symbols.specs.Breaches.{first_after};
 ghost use Rattle.aos_symbols.specs.Judged.{walk};
+ghost use Rattle.aos_check_decl.specs.Types as types;
 ghost use Rattle.aos_check_decl.specs.Headings as judge;
 
-use crate::types::{defined_row, variable_type};
+use crate::aliases::NIL;
+use crate::types::type_in;
 use aos_base::NoMemory;
 use aos_check_expr::constant;
-use aos_symbols::{Breach, Constant, Env, Lookup, Meaning, NOT_BUILT, note};
-use aos_tree::{ConstDef, Decl, Items, TypeDef, VarDef};
+use aos_symbols::{Breach, Constant, Env, Lookup, Meaning};
+use aos_tree::{ConstDef, Decl, TypeDef, TypeExpr, VarDef};
 use aos_types::{TypeId, TypeRow};
-use std::alloc::Global;
-use std::mem;
-
-/// How many types can be told apart by their numbers.
-const MOST_TYPES: usize = 4_294_967_296;
-
-/// Takes the numbers of so many types that a module defines.
-#[tactic(auto, using(crate::proofs::Steps::types_more))]
-pub fn add_types(env: &mut Env<'_>, count: usize) -> Result<(), NoMemory>
-    ensures { OnOk result (env.new ≡ judge.with_types count env.old) }
-{
-    for _ in 0..count {
-        let number = env.types.len();
-        if number >= MOST_TYPES {
-            return Err(NoMemory);
-        }
-        env.types.add(TypeRow::Array(0, TypeId(number as u32)))?;
-        env.broken.push(true)?;
-    }
-    Ok(())
-}
-
-/// A type's definition is told.
-fn mark_told(alloc: Global, broken: &mut Items<bool>, of: TypeId)
-    ensures { broken.new ≡ slice_set broken.old of.0 false }
-{
-    let mut marks = mem::replace(broken, Items::new(alloc)).into_vec();
-    if let Some(mark) = marks.get_mut(of.0 as usize) {
-        *mark = false;
-    }
-    *broken = Items::from_vec(marks);
-}
-
-/// Defines a type, where it has a number and a row.
-fn define(alloc: Global, env: &mut Env<'_>, of: Option<TypeId>, row: Option<TypeRow>)
-    ensures { env.new ≡ judge.with_row env.old of row }
-{
-    let Some(of) = of else {
-        return;
-    };
-    let Some(row) = row else {
-        return;
-    };
-    if (of.0 as usize) < env.types.len() {
-        env.types.set(of, row);
-    }
-    mark_told(alloc, &mut env.broken, of);
-}
+use std::alloc::{AllocError, Global};
 
 /// The number of the type that a name stands for.
 fn slot_in(lookup: Lookup) -> Option<TypeId>
@@ -87,7 +42,8 @@ fn constant_def(
 {
     let value = constant(alloc, found, env, &def.value)?;
     let at = def.def.name.pos;
-    env.here.add_constant(0, Constant { at, value })?;
+    let scope = env.innermost();
+    env.here.add_constant(scope, Constant { at, value })?;
     Ok(())
 }
 
@@ -108,50 +64,93 @@ fn constant_defs(
     Ok(())
 }
 
-#[tactic(auto, using(aos_symbols::proofs::Keeping::after_more))]
-fn type_def(alloc: Global, found: &mut Option<Breach>, env: &mut Env<'_>, def: &TypeDef)
-    ensures noted { found.new ≡ first_after found.old (judge.type_def env.old def.now).breaches }
-    ensures env { env.new ≡ (judge.type_def env.old def.now).answer }
+/// A definition that breaks a rule gives a type without contents.
+fn settle(env: &mut Env<'_>, slot: Option<TypeId>, of: Option<TypeId>)
+    ensures { env.new ≡ judge.settled slot (types.met env.old of) }
 {
-    let row = defined_row(alloc, found, env, &def.value);
+    let Some(slot) = slot else {
+        return;
+    };
+    if of.is_none() && (slot.0 as usize) < env.types.len() {
+        env.types.set(slot, TypeRow::Open(NIL));
+    }
+}
+
+#[tactic(auto, using(aos_symbols::proofs::Keeping::after_more))]
+fn type_def(
+    alloc: Global,
+    found: &mut Option<Breach>,
+    env: &mut Env<'_>,
+    def: &TypeDef,
+) -> Result<(), NoMemory>
+    ensures noted { OnOk result
+        (found.new ≡ first_after found.old (judge.type_def env.old def.now).breaches) }
+    ensures env { OnOk result (env.new ≡ (judge.type_def env.old def.now).answer) }
+{
+    if let TypeExpr::Named(_) = &def.value {
+        return Ok(());
+    }
     let slot = slot_in(env.lookup(def.def.name));
-    define(alloc, env, slot, row);
+    let of = type_in(alloc, found, env, slot, &def.value)?;
+    settle(env, slot, of);
+    Ok(())
 }
 
 #[tactic(auto, using(aos_symbols::proofs::Keeping::after_more, aos_symbols::proofs::Steps::walk_step, aos_symbols::proofs::Steps::walk_end))]
-fn type_defs(alloc: Global, found: &mut Option<Breach>, env: &mut Env<'_>, defs: &[TypeDef])
-    ensures noted { found.new ≡
-        first_after found.old (walk judge.type_def env.old defs.now).breaches }
-    ensures env { env.new ≡ (walk judge.type_def env.old defs.now).answer }
+fn type_defs(
+    alloc: Global,
+    found: &mut Option<Breach>,
+    env: &mut Env<'_>,
+    defs: &[TypeDef],
+) -> Result<(), NoMemory>
+    ensures noted { OnOk result (found.new ≡
+        first_after found.old (walk judge.type_def env.old defs.now).breaches) }
+    ensures env { OnOk result (env.new ≡ (walk judge.type_def env.old defs.now).answer) }
 {
     for def in defs {
-        type_def(alloc, found, env, def);
+        type_def(alloc, found, env, def)?;
     }
+    Ok(())
+}
+
+/// The next variable of the innermost scope.
+pub(crate) fn add_variable(env: &mut Env<'_>, of: Option<TypeId>) -> Result<(), AllocError>
+    ensures { OnOk result (env.new ≡ judge.with_variable env.old of) }
+{
+    let scope = env.innermost();
+    env.here.add_variable(scope, of)
 }
 
 /// So many variables of one type.
 #[tactic(auto, using(crate::proofs::Steps::variables_more))]
-fn add_variables(env: &mut Env<'_>, count: usize, of: Option<TypeId>) -> Result<(), NoMemory>
+fn add_variables(env: &mut Env<'_>, count: usize, of: Option<TypeId>) -> Result<(), AllocError>
     ensures { OnOk result (env.new ≡ judge.with_variables env.old count of) }
 {
     for _ in 0..count {
-        env.here.add_variable(0, of)?;
+        add_variable(env, of)?;
     }
     Ok(())
 }
 
 #[tactic(auto, using(aos_symbols::proofs::Keeping::after_more))]
-fn variable_def(found: &mut Option<Breach>, env: &mut Env<'_>, def: &VarDef) -> Result<(), NoMemory>
+fn variable_def(
+    alloc: Global,
+    found: &mut Option<Breach>,
+    env: &mut Env<'_>,
+    def: &VarDef,
+) -> Result<(), NoMemory>
     ensures noted { OnOk result (found.new ≡
         first_after found.old (judge.variable_def env.old def.now).breaches) }
     ensures env { OnOk result (env.new ≡ (judge.variable_def env.old def.now).answer) }
 {
-    let of = variable_type(found, env, &def.of);
-    add_variables(env, def.defs.len(), of)
+    let of = type_in(alloc, found, env, None, &def.of)?;
+    add_variables(env, def.defs.len(), of)?;
+    Ok(())
 }
 
 #[tactic(auto, using(aos_symbols::proofs::Keeping::after_more, aos_symbols::proofs::Steps::walk_step, aos_symbols::proofs::Steps::walk_end))]
 fn variable_defs(
+    alloc: Global,
     found: &mut Option<Breach>,
     env: &mut Env<'_>,
     defs: &[VarDef],
@@ -161,11 +160,12 @@ fn variable_defs(
     ensures env { OnOk result (env.new ≡ (walk judge.variable_def env.old defs.now).answer) }
 {
     for def in defs {
-        variable_def(found, env, def)?;
+        variable_def(alloc, found, env, def)?;
     }
     Ok(())
 }
 
+/// A declaration that is no procedure's.
 #[tactic(auto, using(crate::proofs::Rows::declared_types, crate::proofs::Rows::declared_variables))]
 fn declare(
     alloc: Global,
@@ -179,29 +179,23 @@ fn declare(
 {
     match decl {
         Decl::Consts(_, defs) => constant_defs(alloc, found, env, defs.as_slice()),
-        Decl::Types(_, defs) => {
-            type_defs(alloc, found, env, defs.as_slice());
-            Ok(())
-        },
-        Decl::Vars(_, defs) => variable_defs(found, env, defs.as_slice()),
-        Decl::Proc(proc) => {
-            note(found, NOT_BUILT, proc.pos);
-            Ok(())
-        },
+        Decl::Types(_, defs) => type_defs(alloc, found, env, defs.as_slice()),
+        Decl::Vars(_, defs) => variable_defs(alloc, found, env, defs.as_slice()),
+        Decl::Proc(_) => Ok(()),
     }
 }
 
-/// The environment behind all declarations of a module.
+/// The environment behind declarations, those of procedures left out.
 #[tactic(auto, using(aos_symbols::proofs::Keeping::after_more, aos_symbols::proofs::Steps::walk_step, aos_symbols::proofs::Steps::walk_end))]
-pub fn headings(
+pub(crate) fn declare_all(
     alloc: Global,
     found: &mut Option<Breach>,
     env: &mut Env<'_>,
     decls: &[Decl],
 ) -> Result<(), NoMemory>
     ensures noted { OnOk result (found.new ≡
-        first_after found.old (judge.headings env.old decls.now).breaches) }
-    ensures env { OnOk result (env.new ≡ (judge.headings env.old decls.now).answer) }
+        first_after found.old (walk judge.declared env.old decls.now).breaches) }
+    ensures env { OnOk result (env.new ≡ (walk judge.declared env.old decls.now).answer) }
 {
     for decl in decls {
         declare(alloc, found, env, decl)?;

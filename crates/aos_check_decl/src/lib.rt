@@ -1,7 +1,11 @@
 //! Which rules constants, types and headings break, and the environment behind them.
 #![tactic(auto)]
 
+mod aliases;
 mod declarations;
+mod limits;
+mod pass;
+mod procedures;
 mod types;
 
-pub use declarations::{add_types, headings};
+pub use pass::declare;

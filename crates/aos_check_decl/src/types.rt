@@ -1,18 +1,25 @@
 // Types that are named or defined, and the rules that they break.
 
-ghost use Rattle.std.specs.Prelude.{◌≡◌};
+ghost use Rattle.std.specs.Prelude.{◌≡◌, ◌++◌, OnOk, IfOk, replicate};
 ghost use Rattle.std.specs.List.{flat_map};
 ghost use Rattle.aos_symbols.specs.Breaches.{first_after};
-ghost use Rattle.aos_check_decl.specs.Headings as judge;
+ghost use Rattle.aos_symbols.specs.Judged.{walk};
+ghost use Rattle.aos_types.specs.declared.row.TypeRow.TheVariants as kind;
+ghost use Rattle.aos_check_decl.specs.Types as judge;
 
-use aos_base::Pos;
+use aos_base::{NoMemory, Pos};
+use aos_check_expr::constant;
 use aos_symbols::{
-    ANY, Breach, Env, Lookup, Meaning, NOT_BUILT, NOT_EXPORTED, OTHER_KIND, UNKNOWN, is_active,
-    is_procedure_of_out, note, word,
+    ANY, Breach, Env, Lookup, Meaning, NOT_BUILT, NOT_CONSTANT, NOT_EXPORTED, OBJECT_INSIDE,
+    OPEN_ARRAY, OTHER_KIND, UNKNOWN, is_active, is_procedure_of_out, note, word,
 };
-use aos_tree::{Block, Decl, Name, Qualident, TypeExpr};
-use aos_types::{Items, TypeId, TypeRow};
-use std::alloc::Global;
+use aos_tree::{Block, Decl, Expr, Fields, Items as Parts, Name, Qualident, TypeExpr};
+use aos_typed::Literal;
+use aos_types::{Items, MOST_SCALARS, TypeId, TypeRow};
+use std::alloc::{AllocError, Global};
+
+/// How many types can be told apart by their numbers.
+const MOST_TYPES: usize = 4_294_967_296;
 
 /// Where a declaration begins.
 fn decl_place(decl: &Decl) -> Pos
@@ -131,7 +138,11 @@ fn qualified_type(
 }
 
 /// The type that a name, or a name of another module, stands for.
-fn named_type(found: &mut Option<Breach>, env: &Env<'_>, name: Qualident) -> Option<TypeId>
+pub(crate) fn named_type(
+    found: &mut Option<Breach>,
+    env: &Env<'_>,
+    name: Qualident,
+) -> Option<TypeId>
     ensures noted { found.new ≡ first_after found.old (judge.named_type env.now name).breaches }
     ensures answer { result ≡ (judge.named_type env.now name).answer }
 {
@@ -142,24 +153,164 @@ fn named_type(found: &mut Option<Breach>, env: &Env<'_>, name: Qualident) -> Opt
     }
 }
 
-/// The type of variables.
-pub(crate) fn variable_type(
+/// A rule that a type breaks; nothing of it is known.
+fn refuse_type(found: &mut Option<Breach>, rule: u16, at: Pos) -> Option<TypeId>
+    ensures noted { found.new ≡ first_after found.old (judge.no_type rule at).breaches }
+    ensures answer { result ≡ (judge.no_type rule at).answer }
+{
+    no_type(found, rule, at)
+}
+
+/// Puts a type's row into the table: that of a definition at its number, another one behind all others, with its place.
+pub(crate) fn place_row(
+    env: &mut Env<'_>,
+    slot: Option<TypeId>,
+    at: Pos,
+    row: TypeRow,
+) -> Result<Option<TypeId>, NoMemory>
+    ensures env { OnOk result (env.new ≡ (judge.placed slot at row env.old).env) }
+    ensures of { IfOk result (λ of. of ≡ (judge.placed slot at row env.old).of) }
+{
+    if let Some(slot) = slot {
+        if (slot.0 as usize) < env.types.len() {
+            env.types.set(slot, row);
+        }
+        return Ok(Some(slot));
+    }
+    if env.types.len() >= MOST_TYPES {
+        return Err(NoMemory);
+    }
+    let of = env.types.add(row)?;
+    env.places.push(at)?;
+    Ok(Some(of))
+}
+
+/// An array's length, where it is a constant integer that may be one.
+fn length_given(found: &mut Option<Breach>, value: Option<Literal>, at: Pos) -> Option<u32>
+    ensures noted { found.new ≡ first_after found.old (judge.length_given value at).breaches }
+    ensures answer { result ≡ (judge.length_given value at).answer }
+{
+    match value {
+        None => None,
+        Some(Literal::Int(length)) if length >= 1 && length <= i64::from(MOST_SCALARS) => {
+            Some(length as u32)
+        },
+        Some(_) => {
+            note(found, NOT_CONSTANT, at);
+            None
+        },
+    }
+}
+
+fn length_of(
+    alloc: Global,
     found: &mut Option<Breach>,
     env: &Env<'_>,
-    of: &TypeExpr,
-) -> Option<TypeId>
-    ensures noted { found.new ≡
-        first_after found.old (judge.variable_type env.now of.now).breaches }
-    ensures answer { result ≡ (judge.variable_type env.now of.now).answer }
+    part: &Expr,
+) -> Result<Option<u32>, AllocError>
+    ensures noted { OnOk result
+        (found.new ≡ first_after found.old (judge.length_of env.now part.now).breaches) }
+    ensures answer { IfOk result (λ n. n ≡ (judge.length_of env.now part.now).answer) }
 {
-    match of {
-        TypeExpr::Named(name) => named_type(found, env, *name),
-        TypeExpr::Array(at, _, _) => no_type(found, NOT_BUILT, *at),
-        TypeExpr::Record(at, _, _) => no_type(found, NOT_BUILT, *at),
-        TypeExpr::Pointer(at, _) => no_type(found, NOT_BUILT, *at),
-        TypeExpr::Proc(at, _, _) => no_type(found, NOT_BUILT, *at),
-        TypeExpr::Object(at, _, _, _, _) => no_type(found, NOT_BUILT, *at),
+    let value = constant(alloc, found, env, part)?;
+    Ok(length_given(found, value, part.pos))
+}
+
+/// These lengths with another one behind them, or none where one of them broke a rule.
+fn one_more(
+    lengths: Option<Items<u32>>,
+    length: Option<u32>,
+) -> Result<Option<Items<u32>>, AllocError>
+    ensures { IfOk result (λ ns. ns ≡ judge.one_more lengths length) }
+{
+    let Some(mut lengths) = lengths else {
+        return Ok(None);
+    };
+    let Some(length) = length else {
+        return Ok(None);
+    };
+    lengths.push(length)?;
+    Ok(Some(lengths))
+}
+
+/// All lengths of an array, or none where one of them breaks a rule.
+#[tactic(auto, using(aos_symbols::proofs::Keeping::after_more, aos_symbols::proofs::Steps::walk_step, aos_symbols::proofs::Steps::walk_end))]
+fn lengths_of(
+    alloc: Global,
+    found: &mut Option<Breach>,
+    env: &Env<'_>,
+    parts: &[Expr],
+) -> Result<Option<Items<u32>>, AllocError>
+    ensures noted { OnOk result
+        (found.new ≡ first_after found.old (judge.lengths_of env.now parts.now).breaches) }
+    ensures answer { IfOk result (λ ns. ns ≡ (judge.lengths_of env.now parts.now).answer) }
+{
+    let mut lengths = Some(Items::new(alloc));
+    for part in parts {
+        let length = length_of(alloc, found, env, part)?;
+        lengths = one_more(lengths, length)?;
     }
+    Ok(lengths)
+}
+
+/// An array of this length, whose elements are of this type, where it is known.
+fn place_array(
+    env: &mut Env<'_>,
+    slot: Option<TypeId>,
+    at: Pos,
+    length: u32,
+    of: Option<TypeId>,
+) -> Result<Option<TypeId>, NoMemory>
+    ensures env { OnOk result
+        (env.new ≡ (judge.array_of slot at length (judge.met env.old of)).env) }
+    ensures of { IfOk result
+        (λ of'. of' ≡ (judge.array_of slot at length (judge.met env.old of)).of) }
+{
+    let Some(element) = of else {
+        return Ok(None);
+    };
+    place_row(env, slot, at, TypeRow::Array(length, element))
+}
+
+/// Arrays within one another, of these lengths, of elements of this type.
+fn place_arrays(
+    env: &mut Env<'_>,
+    slot: Option<TypeId>,
+    at: Pos,
+    lengths: Option<Items<u32>>,
+    of: Option<TypeId>,
+) -> Result<Option<TypeId>, NoMemory>
+    ensures env { OnOk result
+        (env.new ≡ (judge.arrays slot at lengths (judge.met env.old of)).env) }
+    ensures of { IfOk result
+        (λ of'. of' ≡ (judge.arrays slot at lengths (judge.met env.old of)).of) }
+{
+    let Some(lengths) = lengths else {
+        return Ok(None);
+    };
+    let lengths = lengths.as_slice();
+    let Some(first) = lengths.first() else {
+        return Ok(None);
+    };
+    let mut of = of;
+    let mut left = lengths.len();
+    while left > 1 {
+        left -= 1;
+        of = place_array(env, None, at, lengths[left], of)?;
+    }
+    place_array(env, slot, at, *first, of)
+}
+
+/// So many fields of one type behind these, where it is known.
+fn add_fields(types: &mut Items<TypeId>, count: usize, of: Option<TypeId>) -> Result<(), AllocError>
+    ensures { OnOk result (types.new ≡ types.old ++ judge.fields_of count of) }
+{
+    if let Some(of) = of {
+        for _ in 0..count {
+            types.push(of)?;
+        }
+    }
+    Ok(())
 }
 
 fn has_active(text: &[u8], body: &Option<Block>) -> bool
@@ -176,63 +327,120 @@ fn has_active(text: &[u8], body: &Option<Block>) -> bool
     false
 }
 
-/// The rule that a name for another type breaks, by what its first name means.
-fn alias_rule(second: Option<Name>, means: Meaning) -> u16
-    ensures { result ≡ judge.alias_rule second means }
-{
-    match second {
-        None => match means {
-            Meaning::Type(_) => NOT_BUILT,
-            _ => OTHER_KIND,
-        },
-        Some(_) => match means {
-            Meaning::Module(_) => NOT_BUILT,
-            Meaning::Out => NOT_BUILT,
-            _ => OTHER_KIND,
-        },
-    }
-}
-
-/// A name for another type.
-fn refuse_alias(found: &mut Option<Breach>, second: Option<Name>, lookup: Lookup, at: Pos)
-    ensures { found.new ≡ first_after found.old (judge.alias_breaches second lookup at) }
-{
-    match lookup {
-        Lookup::Unknown => note(found, UNKNOWN, at),
-        Lookup::NotExported => note(found, NOT_EXPORTED, at),
-        Lookup::Found(symbol) => note(found, alias_rule(second, symbol.means), at),
-    }
-}
-
-/// The row of a type that is defined.
-#[tactic(auto, using(aos_symbols::proofs::Keeping::after_more, crate::proofs::Rows::object_row))]
-pub(crate) fn defined_row(
-    alloc: Global,
+/// What isn't built of an object type.
+#[tactic(auto, using(aos_symbols::proofs::Keeping::after_more))]
+fn refuse_object(
     found: &mut Option<Breach>,
     env: &Env<'_>,
+    at: Pos,
+    base: Option<Qualident>,
+    decls: &[Decl],
+    body: &Option<Block>,
+)
+    ensures { found.new ≡ first_after found.old
+        (judge.object_breaches env.now at base decls.now body.now) }
+{
+    if base.is_some() {
+        note(found, NOT_BUILT, at);
+    }
+    if !has_active(env.here.text(), body) {
+        note(found, NOT_BUILT, at);
+    }
+    refuse_decls(found, decls);
+}
+
+/// An object type, which stands at module level alone.
+#[tactic(auto, using(aos_symbols::proofs::Keeping::after_more))]
+fn object_in(
+    alloc: Global,
+    found: &mut Option<Breach>,
+    env: &mut Env<'_>,
+    slot: Option<TypeId>,
+    at: Pos,
+    base: Option<Qualident>,
+    decls: &[Decl],
+    body: &Option<Block>,
+) -> Result<Option<TypeId>, NoMemory>
+    ensures noted { OnOk result (found.new ≡ first_after found.old
+        (judge.object_in slot env.old at base decls.now body.now).breaches) }
+    ensures env { OnOk result (env.new ≡
+        (judge.object_in slot env.old at base decls.now body.now).answer.env) }
+    ensures of { IfOk result (λ of. of ≡
+        (judge.object_in slot env.old at base decls.now body.now).answer.of) }
+{
+    if env.innermost() != 0 {
+        return Ok(refuse_type(found, OBJECT_INSIDE, at));
+    }
+    if slot.is_none() {
+        return Ok(refuse_type(found, NOT_BUILT, at));
+    }
+    refuse_object(found, env, at, base, decls, body);
+    place_row(env, slot, at, TypeRow::Object(None, Items::new(alloc)))
+}
+
+/// The fields of a record behind these, so far as their types are known.
+#[cycle(types)]
+#[tactic(auto, using(aos_symbols::proofs::Keeping::after_more))]
+fn fields_in(
+    alloc: Global,
+    found: &mut Option<Breach>,
+    env: &mut Env<'_>,
+    types: &mut Items<TypeId>,
+    fields: &Parts<Fields>,
+) -> Result<(), NoMemory>
+    ensures noted { OnOk result (found.new ≡ first_after found.old
+        (walk judge.field_in (judge.fields_met env.old types.old) fields.now).breaches) }
+    ensures env { OnOk result (env.new ≡
+        (walk judge.field_in (judge.fields_met env.old types.old) fields.now).answer.env) }
+    ensures types { OnOk result (types.new ≡
+        (walk judge.field_in (judge.fields_met env.old types.old) fields.now).answer.types) }
+{
+    for field in fields.as_slice() {
+        if let Fields::Of(def) = field {
+            let of = type_in(alloc, found, env, None, &def.of)?;
+            add_fields(types, def.defs.len(), of)?;
+        }
+    }
+    Ok(())
+}
+
+/// A type, which is that of a definition where it has a number: its number, none where it breaks a rule.
+#[cycle(types)]
+#[tactic(auto, using(aos_symbols::proofs::Keeping::after_more))]
+pub(crate) fn type_in(
+    alloc: Global,
+    found: &mut Option<Breach>,
+    env: &mut Env<'_>,
+    slot: Option<TypeId>,
     of: &TypeExpr,
-) -> Option<TypeRow>
-    ensures noted { found.new ≡ first_after found.old (judge.defined_row env.now of.now).breaches }
-    ensures answer { result ≡ (judge.defined_row env.now of.now).answer }
+) -> Result<Option<TypeId>, NoMemory>
+    ensures noted { OnOk result (found.new ≡ first_after found.old
+        (judge.type_in slot env.old of.now).breaches) }
+    ensures env { OnOk result (env.new ≡ (judge.type_in slot env.old of.now).answer.env) }
+    ensures of { IfOk result (λ t. t ≡ (judge.type_in slot env.old of.now).answer.of) }
 {
     match of {
-        TypeExpr::Object(at, base, decls, body, _) => {
+        TypeExpr::Named(name) => Ok(named_type(found, env, *name)),
+        TypeExpr::Array(at, lengths, element) => {
+            if lengths.as_slice().is_empty() {
+                return Ok(refuse_type(found, OPEN_ARRAY, *at));
+            }
+            let lengths = lengths_of(alloc, found, env, lengths.as_slice())?;
+            let element = type_in(alloc, found, env, None, element.get())?;
+            place_arrays(env, slot, *at, lengths, element)
+        },
+        TypeExpr::Record(at, base, fields) => {
             if base.is_some() {
-                note(found, NOT_BUILT, *at);
+                return Ok(refuse_type(found, NOT_BUILT, *at));
             }
-            if !has_active(env.here.text(), body) {
-                note(found, NOT_BUILT, *at);
-            }
-            refuse_decls(found, decls.as_slice());
-            return Some(TypeRow::Object(None, Items::new(alloc)));
+            let mut types = Items::new(alloc);
+            fields_in(alloc, found, env, &mut types, fields)?;
+            place_row(env, slot, *at, TypeRow::Record(None, types))
         },
-        TypeExpr::Named(name) => {
-            refuse_alias(found, name.second, env.lookup(name.first), name.first.pos);
+        TypeExpr::Pointer(at, _) => Ok(refuse_type(found, NOT_BUILT, *at)),
+        TypeExpr::Proc(at, _, _) => Ok(refuse_type(found, NOT_BUILT, *at)),
+        TypeExpr::Object(at, base, decls, body, _) => {
+            object_in(alloc, found, env, slot, *at, *base, decls.as_slice(), body)
         },
-        TypeExpr::Array(at, _, _) => note(found, NOT_BUILT, *at),
-        TypeExpr::Record(at, _, _) => note(found, NOT_BUILT, *at),
-        TypeExpr::Pointer(at, _) => note(found, NOT_BUILT, *at),
-        TypeExpr::Proc(at, _, _) => note(found, NOT_BUILT, *at),
     }
-    None
 }

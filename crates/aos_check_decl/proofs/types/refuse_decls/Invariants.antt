@@ -2,7 +2,7 @@
 use Rattle.std.proofs.Common.{◌≡◌, take}
 use Rattle.std.specs.List.{flat_map}
 use Rattle.aos_symbols.specs.Breaches.{first_after}
-use Rattle.aos_check_decl.specs.Headings as judge
+use Rattle.aos_check_decl.specs.Types as judge
 use Rattle.aos_check_decl.proofs.types.refuse_decls.Given as goal
 
 abbrev pub invariant-loop-decl : goal.invariant-loop-decl

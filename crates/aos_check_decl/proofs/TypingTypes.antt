@@ -1,0 +1,345 @@
+-- A walk over declarations in a module's environment, and what is told of types on it: the types that are written break no rule,
+-- and so their numbers are known.
+use Rattle.std.proofs.Common.{◌≡◌, ℕ, ◌+◌, ◌<◌, ◌==◌, List, [], ◌∷◌, ◌++◌, length, pos, int_le, Bool, true, false, ◌&&◌, Option, Some, None, option_and_then, slice_get, slice_set, if◌then◌else◌, refl, sym, ap, ◌∙◌, subst, arith, length-append, length-set}
+use Rattle.std.specs.Prelude.{unsigned_abs}
+use Rattle.std.proofs.lemmas.Option.{none-some}
+use mathlib.Core.Logic.{inl, inr}
+use Rattle.aos_base.specs.declared.text.Pos.{Pos}
+use Rattle.aos_tree.specs.declared.name.Qualident.{Qualident}
+use Rattle.aos_tree.specs.declared.expr.Expr.{Expr, out-Expr}
+use Rattle.aos_tree.specs.declared.stat.Block.{Block}
+use Rattle.aos_tree.specs.declared.decl.Decl.{Decl, items-the_row-Decl}
+use Rattle.aos_tree.specs.declared.decl.Fields.{Fields}
+use Rattle.aos_tree.specs.declared.decl.Fields.TheVariants as fields
+use Rattle.aos_tree.specs.declared.decl.TypeExpr.{TypeExpr, Row_of-TypeExpr, end_of-TypeExpr, more_of-TypeExpr, Row_of-Fields, end_of-Fields, more_of-Fields}
+use Rattle.aos_tree.specs.declared.decl.TypeExpr.TheVariants as type
+use Rattle.aos_types.specs.declared.TheConstants.{MOST_SCALARS}
+use Rattle.aos_types.specs.declared.row.TypeId.{TypeId}
+use Rattle.aos_types.specs.declared.row.TypeRow.{TypeRow}
+use Rattle.aos_types.specs.declared.row.TypeRow.TheVariants as row
+use Rattle.aos_types.specs.Table.{is_open}
+use Rattle.aos_types.specs.Chain.{IsOneOf}
+use Rattle.aos_types.specs.Count.{named_in}
+use Rattle.aos_typed.specs.declared.tree.Literal.{Literal}
+use Rattle.aos_typed.specs.declared.tree.Literal.TheVariants as literal
+use Rattle.aos_symbols.specs.declared.env.Open.{Open}
+use Rattle.aos_symbols.specs.declared.env.Env.{Env}
+use Rattle.aos_symbols.specs.Judged.{Judged, judged, kept, bind, walk}
+use Rattle.aos_symbols.specs.Scope.{Scope}
+use Rattle.aos_symbols.specs.Home.{Home}
+use Rattle.aos_symbols.specs.Env as env
+use Rattle.aos_symbols.proofs.Each.{Each, joined, implied, repeated}
+use Rattle.aos_symbols.proofs.Holds.{Holds, holds_bind, holds_walk, broken}
+use Rattle.aos_check_expr.specs.Expressions.{constant}
+use Rattle.aos_check_expr.proofs.Typing.{HasGood, GoodConstants}
+use Rattle.aos_check_expr.proofs.Typing.{constant_good as good_value}
+use Rattle.aos_check_decl.specs.Types as judge
+use Rattle.aos_check_decl.specs.Types.{Met, met, FieldsMet, fields_met}
+use Rattle.aos_check_decl.specs.Aliases.{nil}
+use Rattle.aos_check_decl.proofs.TypingNames.{IsSearchedIn, AreOwnNamed, AreOthersNamed, all_named_in, named_sound}
+use Rattle.aos_check_decl.proofs.TypingScopes.{AreGood, AllGood, names_at}
+
+-- A walk: the module's number, the modules before it, its name and text, its scopes as its names make them, how many of them are those of
+-- types, and the first table of types; and what is told of types. `Known` is told of the types of variables, `There` of those of
+-- parameters, elements and fields, `IsSlot` of the numbers of definitions, and `GoesTo` of two tables, one before the other.
+pub record Telling : Type 1 where
+  pub number : ℕ
+  pub before : List Home
+  pub name : List ℕ
+  pub text : List ℕ
+  pub scopes : List Scope
+  pub inner : ℕ
+  pub first : List TypeRow
+  pub Known : List TypeRow → Option TypeId → Type 0
+  pub There : List TypeRow → Option TypeId → Type 0
+  pub GoesTo : List TypeRow → List TypeRow → Type 0
+  pub IsSlot : TypeId → Type 0
+  pub stays : (ts : List TypeRow) → GoesTo ts ts
+  pub on : (ts us vs : List TypeRow) → GoesTo ts us → GoesTo us vs → GoesTo ts vs
+  pub known_on : (ts us : List TypeRow) → GoesTo ts us → (of : Option TypeId) → Known ts of → Known us of
+  pub there_on : (ts us : List TypeRow) → GoesTo ts us → (of : Option TypeId) → There ts of → There us of
+  pub known_there : (ts : List TypeRow) (of : Option TypeId) → Known ts of → There ts of
+  pub basic : (ts : List TypeRow) → GoesTo first ts → (t : TypeId) → t.0 < 7 → Known ts (Some t)
+  pub set : (ts : List TypeRow) (t : TypeId) (r : TypeRow) → GoesTo first ts → IsSlot t → is_open (Some r) ≡ false →
+      ((p : TypeId) → IsOneOf p (named_in r) → There ts (Some p)) → GoesTo ts (slice_set ts t.0 r)
+  pub unsettled : (ts : List TypeRow) (t : TypeId) → GoesTo first ts → IsSlot t → Known ts None → GoesTo ts (slice_set ts t.0 (row.Open nil))
+  pub push : (ts : List TypeRow) (r : TypeRow) → ((p : TypeId) → IsOneOf p (named_in r) → There ts (Some p)) → GoesTo ts (ts ++ r ∷ [])
+  pub pushed : (ts : List TypeRow) (r : TypeRow) → GoesTo first ts → is_open (Some r) ≡ false → Known (ts ++ r ∷ []) (Some (record { 0 = length ts }))
+  pub pushed_open : (ts : List TypeRow) (t : TypeId) → GoesTo first ts → There (ts ++ row.Open t ∷ []) (Some (record { 0 = length ts }))
+  pub own : AreOwnNamed inner scopes (Known first)
+  pub others : AreOthersNamed before (Known first)
+  pub constants : (m : ℕ) (h : Home) (k : ℕ) (s : Scope) → slice_get before m ≡ Some h → slice_get h.scopes k ≡ Some s → AreGood s.constants
+
+no_numbers : {x : ℕ} → (let n : Option ℕ = None in n) ≡ Some x → ⊥
+no_numbers e = cc
+
+chosen : {A : Type 0} (P : A → Type 0) (b : Bool) (i j : Judged A) → Holds P i → Holds P j → Holds P (if b then i else j)
+chosen P true i j h k = h
+chosen P false i j h k = k
+
+each_of : (P : TypeId → Type 0) (ts : List TypeId) → Each P ts → (p : TypeId) → IsOneOf p ts → P p
+each_of P [] all p h = absurd h
+each_of P (t ∷ ts) all p (inl e) = subst P e all.0
+each_of P (t ∷ ts) all p (inr h) = each_of P ts all.1 p h
+
+module _ (c : Telling) where
+  open c use {Known, There, GoesTo}
+
+  -- the scopes in which names are looked up
+  abbrev pub IsSearched : Open → Type 0
+  IsSearched = IsSearchedIn c.number c.inner
+
+  abbrev pub IsSlotted : Option TypeId → Type 0
+  IsSlotted None = Unit {0}
+  IsSlotted (Some t) = c.IsSlot t
+
+  -- an environment on the walk, at a place with this path
+  pub record IsFit (path : List Open) (e : Env) : Type 0 where
+    pub number_is : e.number ≡ c.number
+    pub before_is : e.before ≡ c.before
+    pub name_is : e.here.name ≡ c.name
+    pub text_is : e.here.text ≡ c.text
+    pub names_are : (j : ℕ) → names_at e.here.scopes j ≡ names_at c.scopes j
+    pub path_is : e.path ≡ path
+    pub good : AllGood e.here
+    pub table : GoesTo c.first e.types
+
+  -- the same environment with a later table
+  pub record IsBeyond (e e' : Env) : Type 0 where
+    pub number : e'.number ≡ e.number
+    pub before : e'.before ≡ e.before
+    pub here : e'.here ≡ e.here
+    pub path : e'.path ≡ e.path
+    pub goes : GoesTo e.types e'.types
+    pub long : length e'.types + length e.places ≡ length e.types + length e'.places
+
+  pub beyond_same : (e : Env) → IsBeyond e e
+  beyond_same e = record { number = refl; before = refl; here = refl; path = refl; goes = c.stays e.types; long = refl }
+
+  pub beyond_on : (e f g : Env) → IsBeyond e f → IsBeyond f g → IsBeyond e g
+  beyond_on e f g one two =
+      let m = one.long in
+      let n = two.long in
+      record {
+        number = two.number ∙ one.number;
+        before = two.before ∙ one.before;
+        here = two.here ∙ one.here;
+        path = two.path ∙ one.path;
+        goes = c.on e.types f.types g.types one.goes two.goes;
+        long = omega (arith, m, n);
+      }
+
+  pub fit_beyond : (path : List Open) (e f : Env) → IsFit path e → IsBeyond e f → IsFit path f
+  fit_beyond path e f fit one = record {
+    number_is = one.number ∙ fit.number_is;
+    before_is = one.before ∙ fit.before_is;
+    name_is = ap (λ (h : Home). h.name) one.here ∙ fit.name_is;
+    text_is = ap (λ (h : Home). h.text) one.here ∙ fit.text_is;
+    names_are = λ j. ap (λ (h : Home). names_at h.scopes j) one.here ∙ fit.names_are j;
+    path_is = one.path ∙ fit.path_is;
+    good = subst AllGood (sym one.here) fit.good;
+    table = c.on c.first e.types f.types fit.table one.goes;
+  }
+
+  module _ (path : List Open) (searched : Each IsSearched path) where
+    pub named : (e : Env) → IsFit path e → (q : Qualident) → Holds (Known e.types) (judge.named_type e q)
+    named e fit q =
+        named_sound e IsSearched (Known e.types)
+        (λ o s w x is there found of means. c.known_on c.first e.types fit.table of
+        (all_named_in c.number c.before c.scopes c.inner (Known c.first) c.own c.others e fit.number_is fit.before_is fit.names_are o s w x is there found of means))
+        (c.basic e.types fit.table) (subst (Each IsSearched) (sym fit.path_is) searched) (λ m. inl refl) q
+
+    -- Constants, and the lengths of arrays.
+
+    pub good_constants : (e : Env) → IsFit path e → GoodConstants e
+    good_constants e fit o s there = by (o.home == e.number) there
+      where
+        by_before : (h : Option Home) → slice_get e.before o.home ≡ h → option_and_then (λ h. slice_get h.scopes o.scope) h ≡ Some s → AreGood s.constants
+        by_before None at there = absurd (none-some s there)
+        by_before (Some h) at there = c.constants o.home h o.scope s (ap (λ hs. slice_get hs o.home) (sym fit.before_is) ∙ at) there
+
+        by : (b : Bool) → option_and_then (λ h. slice_get h.scopes o.scope) (if b then Some e.here else slice_get e.before o.home) ≡ Some s → AreGood s.constants
+        by true there = fit.good o.scope s there
+        by false there = by_before (slice_get e.before o.home) refl there
+
+    abbrev HasNumber : Option ℕ → Type 0
+    HasNumber n = (k : ℕ) × (n ≡ Some k)
+
+    abbrev HasLengths : Option (List ℕ) → Type 0
+    HasLengths ns = (k : ℕ) × (ks : List ℕ) × (ns ≡ Some (k ∷ ks))
+
+    length_given_sound : (l : Literal) (at : Pos) → Holds HasNumber (judge.length_given (Some l) at)
+    length_given_sound (literal.Int n) at = by (int_le (pos 1) n && int_le n (pos MOST_SCALARS))
+      where
+        by : (b : Bool) → Holds HasNumber (if b then kept (Some (unsigned_abs n)) else judge.length_given (Some (literal.Bool true)) at)
+        by true = λ h. (unsigned_abs n, refl)
+        by false = broken HasNumber _ [] _
+    length_given_sound (literal.Bool b) at = broken HasNumber _ [] _
+    length_given_sound (literal.Char x) at = broken HasNumber _ [] _
+    length_given_sound (literal.Set s) at = broken HasNumber _ [] _
+
+    length_sound : (e : Env) → IsFit path e → (x : Expr) → Holds HasNumber (judge.length_of e x)
+    length_sound e fit x =
+        holds_bind HasGood HasNumber (constant e x) (λ v. judge.length_given v (out-Expr x).pos) (good_value e (good_constants e fit) x)
+        (λ v is. subst (λ (v : Option Literal). Holds HasNumber (judge.length_given v (out-Expr x).pos)) (sym is.1) (length_given_sound is.0 (out-Expr x).pos))
+
+    more_lengths : (e : Env) → IsFit path e → (ns : Option (List ℕ)) (x : Expr) → HasLengths ns → Holds HasLengths (judge.with_length e ns x)
+    more_lengths e fit ns x are =
+        holds_bind HasNumber HasLengths (judge.length_of e x) (λ n. kept (judge.one_more ns n)) (length_sound e fit x)
+        (λ n is h. (are.0, are.1 ++ is.0 ∷ [], (λ i. judge.one_more (are.2 i) (is.1 i))))
+
+    first_length : (e : Env) → IsFit path e → (x : Expr) → Holds HasLengths (judge.with_length e (Some []) x)
+    first_length e fit x =
+        holds_bind HasNumber HasLengths (judge.length_of e x) (λ n. kept (judge.one_more (Some []) n)) (length_sound e fit x)
+        (λ n is h. (is.0, [], ap (judge.one_more (Some [])) is.1))
+
+    lengths_sound : (e : Env) → IsFit path e → (x : Expr) (xs : List Expr) → Holds HasLengths (judge.lengths_of e (x ∷ xs))
+    lengths_sound e fit x xs =
+        holds_bind HasLengths HasLengths (judge.with_length e (Some []) x) (λ ns. walk (judge.with_length e) ns xs) (first_length e fit x)
+        (λ ns are. holds_walk HasLengths (judge.with_length e) (λ ns y are. more_lengths e fit ns y are) xs ns are)
+
+    -- What is met of a type: nothing is asked of the number of a definition's type but that there is one.
+
+    abbrev pub IsOf : Option TypeId → List TypeRow → Option TypeId → Type 0
+    IsOf None ts of = Known ts of
+    IsOf (Some s) ts None = Known ts None
+    IsOf (Some s) ts (Some t) = Unit {0}
+
+    pub record IsMet (e : Env) (slot : Option TypeId) (m : Met) : Type 0 where
+      pub beyond : IsBeyond e m.env
+      pub of : IsOf slot m.env.types m.of
+
+    of_slot : (slot : Option TypeId) (ts : List TypeRow) (of : Option TypeId) → Known ts of → IsOf slot ts of
+    of_slot None ts of known = known
+    of_slot (Some s) ts None known = known
+    of_slot (Some s) ts (Some t) known = tt
+
+    met_on : (e f : Env) (slot : Option TypeId) (m : Met) → IsBeyond e f → IsMet f slot m → IsMet e slot m
+    met_on e f slot m one two = record { beyond = beyond_on e f m.env one two.beyond; of = two.of }
+
+    abbrev AreThere : List TypeRow → TypeRow → Type 0
+    AreThere ts r = (p : TypeId) → IsOneOf p (named_in r) → c.There ts (Some p)
+
+    placed_sound : (e : Env) → IsFit path e → (slot : Option TypeId) → IsSlotted slot → (at : Pos) (r : TypeRow) → is_open (Some r) ≡ false →
+        AreThere e.types r → IsMet e slot (judge.placed slot at r e)
+    placed_sound e fit (Some t) ok at r closed there = record {
+      beyond = record {
+        number = refl;
+        before = refl;
+        here = refl;
+        path = refl;
+        goes = c.set e.types t r fit.table ok closed there;
+        long = ap (λ n. n + length e.places) (length-set e.types t.0 r);
+      };
+      of = tt;
+    }
+    placed_sound e fit None ok at r closed there = record {
+      beyond = record {
+        number = refl;
+        before = refl;
+        here = refl;
+        path = refl;
+        goes = c.push e.types r there;
+        long = omega (arith, length-append e.types (r ∷ []), length-append e.places (at ∷ []));
+      };
+      of = c.pushed e.types r fit.table closed;
+    }
+
+    -- an array of what is met
+    array_sound : (e : Env) → IsFit path e → (slot : Option TypeId) → IsSlotted slot → (at : Pos) (n : ℕ) (f : Env) (of : Option TypeId) →
+        IsMet e None (met f of) → IsMet e slot (judge.array_of slot at n (met f of))
+    array_sound e fit slot ok at n f None is = record { beyond = is.beyond; of = of_slot slot f.types None is.of }
+    array_sound e fit slot ok at n f (Some t) is =
+        met_on e f slot (judge.placed slot at (row.Array n t) f) is.beyond
+        (placed_sound f (fit_beyond path e f fit is.beyond) slot ok at (row.Array n t) refl (λ p one. element p one))
+      where
+        element : (p : TypeId) → IsOneOf p (t ∷ []) → c.There f.types (Some p)
+        element p (inl e) = subst (λ (q : TypeId). c.There f.types (Some q)) e (c.known_there f.types (Some t) is.of)
+        element p (inr h) = absurd h
+
+    inner_sound : (e : Env) → IsFit path e → (at : Pos) (ns : List ℕ) (m : Met) → IsMet e None m → IsMet e None (judge.inner_arrays at ns m)
+    inner_sound e fit at [] m is = is
+    inner_sound e fit at (n ∷ ns) m is =
+        let i = judge.inner_arrays at ns m in
+        array_sound e fit None tt at n i.env i.of (inner_sound e fit at ns m is)
+
+    arrays_sound : (e : Env) → IsFit path e → (slot : Option TypeId) → IsSlotted slot → (at : Pos) (ns : Option (List ℕ)) → HasLengths ns → (m : Met) →
+        IsMet e None m → IsMet e slot (judge.arrays slot at ns m)
+    arrays_sound e fit slot ok at ns are m is =
+        let i = judge.inner_arrays at are.1 m in
+        subst (λ (ns : Option (List ℕ)). IsMet e slot (judge.arrays slot at ns m)) (sym are.2)
+        (array_sound e fit slot ok at are.0 i.env i.of (inner_sound e fit at are.1 m is))
+
+    array_in_sound : (e : Env) → IsFit path e → (slot : Option TypeId) → IsSlotted slot → (at : Pos) (xs : List Expr) (element : Judged Met) →
+        Holds (IsMet e None) element → Holds (IsMet e slot) (judge.array_in slot e at xs element)
+    array_in_sound e fit slot ok at [] element is = broken (IsMet e slot) _ [] _
+    array_in_sound e fit slot ok at (x ∷ xs) element is =
+        holds_bind HasLengths (IsMet e slot) (judge.lengths_of e (x ∷ xs)) (λ ns. bind element (λ m. kept (judge.arrays slot at ns m))) (lengths_sound e fit x xs)
+        (λ ns are. holds_bind (IsMet e None) (IsMet e slot) element (λ m. kept (judge.arrays slot at ns m)) is (λ m met h. arrays_sound e fit slot ok at ns are m met))
+
+    -- Records.
+
+    pub record AreFields (e : Env) (f : FieldsMet) : Type 0 where
+      pub beyond : IsBeyond e f.env
+      pub parts : Each (λ t. c.There f.env.types (Some t)) f.types
+
+    more_fields : (e : Env) (f : FieldsMet) → AreFields e f → (n : ℕ) (g : Env) (of : Option TypeId) → IsMet f.env None (met g of) →
+        AreFields e (judge.with_fields f n (met g of))
+    more_fields e f are n g of is = record {
+      beyond = beyond_on e f.env g are.beyond is.beyond;
+      parts =
+          joined (λ t. c.There g.types (Some t)) f.types (judge.fields_of n of)
+          (implied (λ t. c.There f.env.types (Some t)) (λ t. c.There g.types (Some t)) (λ t there. c.there_on f.env.types g.types is.beyond.goes (Some t) there) f.types are.parts)
+          (new of is.of);
+    }
+      where
+        new : (of : Option TypeId) → Known g.types of → Each (λ t. c.There g.types (Some t)) (judge.fields_of n of)
+        new None known = tt
+        new (Some t) known = repeated (λ t. c.There g.types (Some t)) n t (c.known_there g.types (Some t) known)
+
+    record_sound : (e : Env) → IsFit path e → (slot : Option TypeId) → IsSlotted slot → (at : Pos) (base : Option Qualident) (fs : Judged FieldsMet) →
+        Holds (AreFields e) fs → Holds (IsMet e slot) (judge.record_in slot e at base fs)
+    record_sound e fit slot ok at None fs are =
+        holds_bind (AreFields e) (IsMet e slot) fs (λ f. kept (judge.placed slot at (row.Record None f.types) f.env)) are
+        (λ f is h. met_on e f.env slot (judge.placed slot at (row.Record None f.types) f.env) is.beyond
+        (placed_sound f.env (fit_beyond path e f.env fit is.beyond) slot ok at (row.Record None f.types) refl (each_of (λ t. c.There f.env.types (Some t)) f.types is.parts)))
+    record_sound e fit slot ok at (Some base) fs are = broken (IsMet e slot) _ [] _
+
+    object_sound : (e : Env) → IsFit path e → (slot : Option TypeId) → IsSlotted slot → (at : Pos) (base : Option Qualident) (decls : List Decl) (body : Option Block) →
+        Holds (IsMet e slot) (judge.object_in slot e at base decls body)
+    object_sound e fit None ok at base decls body =
+        chosen (IsMet e None) (env.innermost e.path == 0) (judge.refused_type 99 at e) (judge.refused_type 26 at e) (broken (IsMet e None) _ [] _) (broken (IsMet e None) _ [] _)
+    object_sound e fit (Some t) ok at base decls body =
+        let object = judge.placed (Some t) at (row.Object None []) e in
+        chosen (IsMet e (Some t)) (env.innermost e.path == 0) (judged (judge.object_breaches e at base decls body) object) (judge.refused_type 26 at e)
+        (λ h. placed_sound e fit (Some t) ok at (row.Object None []) refl (λ p none. absurd none)) (broken (IsMet e (Some t)) _ [] _)
+
+    -- Types.
+
+    mutual
+      pub type_sound : (e : Env) → IsFit path e → (slot : Option TypeId) → IsSlotted slot → (of : TypeExpr) → Holds (IsMet e slot) (judge.type_in slot e of)
+      type_sound e fit slot ok (type.Named q) =
+          holds_bind (Known e.types) (IsMet e slot) (judge.named_type e q) (λ of. kept (met e of)) (named e fit q)
+          (λ of known h. record { beyond = beyond_same e; of = of_slot slot e.types of known })
+      type_sound e fit slot ok (type.Array' p lengths shape row) = array_in_sound e fit slot ok p lengths (judge.held_in e row) (held_sound e fit row)
+      type_sound e fit slot ok (type.Record' p base shape row) =
+          record_sound e fit slot ok p base (judge.fields_in (fields_met e []) row) (fields_sound e fit (fields_met e []) (record { beyond = beyond_same e; parts = tt }) row)
+      type_sound e fit slot ok (type.Pointer' p shape row) = broken (IsMet e slot) _ [] _
+      type_sound e fit slot ok (type.Proc p flag formals) = broken (IsMet e slot) _ [] _
+      type_sound e fit slot ok (type.Object' p base shape row body end) = object_sound e fit slot ok p base (items-the_row-Decl _ row) body
+
+      held_sound : {m : _} (e : Env) → IsFit path e → (r : Row_of-TypeExpr m) → Holds (IsMet e None) (judge.held_in e r)
+      held_sound e fit end_of-TypeExpr = broken (IsMet e None) _ [] _
+      held_sound e fit (more_of-TypeExpr t ts) = type_sound e fit None tt t
+
+      fields_sound : {m : _} (e : Env) → IsFit path e → (f : FieldsMet) → AreFields e f → (r : Row_of-Fields m) → Holds (AreFields e) (judge.fields_in f r)
+      fields_sound e fit f are end_of-Fields = λ h. are
+      fields_sound e fit f are (more_of-Fields x xs) =
+          holds_bind (AreFields e) (AreFields e) (judge.field_in f x) (λ g. judge.fields_in g xs) (field_sound e fit f are x) (λ g is. fields_sound e fit g is xs)
+
+      field_sound : (e : Env) → IsFit path e → (f : FieldsMet) → AreFields e f → (x : Fields) → Holds (AreFields e) (judge.field_in f x)
+      field_sound e fit f are fields.Empty = λ h. are
+      field_sound e fit f are (fields.Of' defs of) =
+          holds_bind (IsMet f.env None) (AreFields e) (judge.type_in None f.env of) (λ m. kept (judge.with_fields f (length defs) m))
+          (type_sound f.env (fit_beyond path e f.env fit are.beyond) None tt of)
+          (λ m is h. more_fields e f are (length defs) m.env m.of is)

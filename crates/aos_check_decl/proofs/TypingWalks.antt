@@ -1,0 +1,313 @@
+-- Two walks over the declarations of a module. On the first all rows name types that are there, and those of types of other
+-- modules and of names for other types stay; on the second, which takes it that each name for a type leads to one, types are told.
+use Rattle.std.proofs.Common.{◌≡◌, ℕ, suc, ◌+◌, ◌<◌, ◌≤◌, List, [], ◌∷◌, ◌++◌, length, Bool, true, false, Option, Some, None, slice_get, slice_set, refl, sym, ap, ◌∙◌, subst, arith, length-append, length-set}
+use Rattle.std.proofs.lemmas.Bool.{cases_order}
+use Rattle.std.proofs.lemmas.Option.{same_Some, slice_get_within}
+use mathlib.Core.Logic.{◌⊎◌, inl, inr}
+use Rattle.aos_tree.specs.declared.decl.TypeDef.{TypeDef}
+use Rattle.aos_tree.specs.declared.module.Module.{Module}
+use Rattle.aos_types.specs.declared.row.TypeId.{TypeId}
+use Rattle.aos_types.specs.declared.row.TypeRow.{TypeRow}
+use Rattle.aos_types.specs.declared.row.TypeRow.TheVariants as row
+use Rattle.aos_types.specs.Table.{is_open}
+use Rattle.aos_types.specs.Chain.{IsOneOf}
+use Rattle.aos_types.specs.Count.{named_in, AreBelow}
+use Rattle.aos_symbols.specs.Spelling.{word}
+use Rattle.aos_symbols.specs.Declarations.{type_defs, all_type_defs}
+use Rattle.aos_symbols.specs.Scope.{Scope}
+use Rattle.aos_symbols.specs.Home.{Home}
+use Rattle.aos_symbols.specs.Entries.{number_at, scopes}
+use Rattle.aos_symbols.proofs.Told.{IsTold, basic, defined, IsKnown, GoOn, known_on, told_behind, get_end}
+use Rattle.aos_check_decl.specs.declared.aliases.Target.{Target}
+use Rattle.aos_check_decl.specs.declared.aliases.Target.TheVariants.{Own, Of, Nothing}
+use Rattle.aos_check_decl.specs.Aliases.{nil, follow, stands_for, first_rows, numbers}
+use Rattle.aos_check_decl.proofs.TypingLists.{set_here, set_other, set_gives, push_gives, get_below}
+use Rattle.aos_check_decl.proofs.TypingScopes.{AreGood}
+use Rattle.aos_check_decl.proofs.TypingNames.{AreOthersNamed}
+use Rattle.aos_check_decl.proofs.TypingTables.{AllBelow}
+use Rattle.aos_check_decl.proofs.TypingEntries.{scopes_typed}
+use Rattle.aos_check_decl.proofs.TypingTypes.{Telling}
+use Rattle.aos_check_decl.proofs.TypingHeadings.{is_name}
+use Rattle.aos_check_decl.proofs.TypingSlots.{AreNumbers}
+use Rattle.aos_check_decl.proofs.TypingTargets.{number_of, IsMeant, IsLed, AreLed, led_long, led_at}
+use Rattle.aos_check_decl.proofs.TypingAliases.{own_of, IsSound, IsProper, proper_says, own_follows, own_target, follow_meant, stands}
+
+first_long : (k : ℕ) (ts : List Target) → length (first_rows k ts) ≡ length ts
+first_long k [] = refl
+first_long k (t ∷ ts) = ap suc (first_long (suc k) ts)
+
+pub told_below : (types : List TypeRow) → 9 ≤ length types → (t : TypeId) → IsTold types t → t.0 < length types
+told_below types nine t (basic low) = omega (arith, nine, low)
+told_below types nine t (defined r high there closed) = slice_get_within types t.0 r there
+
+module _ (number : ℕ) (before : List Home) (types : List TypeRow) (text : List ℕ) (m : Module) (ts : List Target)
+    (others : AreOthersNamed before (IsKnown types))
+    (constants : (j : ℕ) (h : Home) (k : ℕ) (s : Scope) → slice_get before j ≡ Some h → slice_get h.scopes k ≡ Some s → AreGood s.constants)
+    (nine : 9 ≤ length types) (led : AreLed types (length (all_type_defs m.decls)) (all_type_defs m.decls) ts) where
+  abbrev pub first : List TypeRow
+  first = types ++ first_rows (length types) ts
+
+  abbrev pub standing : List (Option TypeId)
+  standing = numbers (length types) ts
+
+  abbrev pub named_scopes : List Scope
+  named_scopes = scopes text before standing m
+
+  pub count : length ts ≡ length (all_type_defs m.decls)
+  count = led_long types (length (all_type_defs m.decls)) (all_type_defs m.decls) ts led
+
+  pub table_long : length first ≡ length types + length ts
+  table_long = length-append types (first_rows (length types) ts) ∙ ap (λ n. length types + n) (first_long (length types) ts)
+
+  pub sound : (k : ℕ) (x : Target) → slice_get ts k ≡ Some x → IsSound types (length ts) x
+  sound k x is = let r = led_at types (length (all_type_defs m.decls)) (all_type_defs m.decls) ts led k x is in by r.0 x r.2
+    where
+      by : (d : TypeDef) (x : Target) → IsLed types (length (all_type_defs m.decls)) d.value x → IsSound types (length ts) x
+      by d Own l = tt
+      by d (Of t) l = subst (λ n. IsMeant types n t) (sym count) l.1
+      by d Nothing l = l
+
+  abbrev Means : TypeId → Type 0
+  Means = IsMeant types (length ts)
+
+  -- the number of a definition, from which names lead to what it stands for
+  pub place_meant : (k : ℕ) → k < length ts → Means (record { 0 = length types + k })
+  place_meant k below = inr (let l : length types ≤ length types + k = omega arith in l, let l : length types + k < length types + length ts = omega (arith, below) in l)
+
+  pub number_is : (k : ℕ) → k < length (all_type_defs m.decls) → number_at standing k ≡ stands_for (length types) ts (record { 0 = length types + k })
+  number_is k below = number_of (λ k. stands_for (length types) ts (record { 0 = length types + k })) (length ts) k (omega (arith, below, count))
+
+  pub meant_below : (t : TypeId) → Means t → t.0 < length first
+  meant_below t (inl told) = let l = told_below types nine t told in omega (arith, l, table_long)
+  meant_below t (inr own) = let l = own.1 in omega (arith, l, table_long)
+
+  -- what a definition stands for is there
+
+  abbrev IsBelow : List TypeRow → Option TypeId → Type 0
+  IsBelow us of = (t : TypeId) → of ≡ Some t → t.0 < length us
+
+  pub number_below : (k : ℕ) → k < length (all_type_defs m.decls) → IsBelow first (number_at standing k)
+  number_below k below t e =
+      let from : TypeId = record { 0 = length types + k } in
+      let to = follow (length types) ts (length ts) from in
+      let means = follow_meant types ts nine sound (length ts) from (place_meant k (omega (arith, below, count))) in
+      let same = (proper_says (length types) ts to t (sym (number_is k below) ∙ e)).0 in
+      meant_below t (subst Means same means)
+
+  -- The first walk.
+
+  -- the row with a number stays: that of a type of another module, and that of a name for another type
+  abbrev pub IsKept : ℕ → Type 0
+  IsKept k = (k < length types) ⊎ ((j : ℕ) × (u : TypeId) × (slice_get ts j ≡ Some (Of u)) × (k ≡ length types + j))
+
+  pub record GoesTo (us vs : List TypeRow) : Type 0 where
+    pub long : length us ≤ length vs
+    pub kept : (k : ℕ) → k < length us → IsKept k → slice_get vs k ≡ slice_get us k
+    pub closed : AllBelow (length us) us → AllBelow (length vs) vs
+
+  abbrev pub IsSlot : TypeId → Type 0
+  IsSlot t = IsKept t.0 → ⊥
+
+  below_more : (n k : ℕ) (r : TypeRow) → n ≤ k → AreBelow n r → AreBelow k r
+  below_more n k r le below p one = let l = below p one in omega (arith, l, le)
+
+  pub set_goes : (us : List TypeRow) (t : TypeId) (r : TypeRow) → IsSlot t → ((p : TypeId) → IsOneOf p (named_in r) → IsBelow us (Some p)) → GoesTo us (slice_set us t.0 r)
+  set_goes us t r slot there = record {
+    long = omega (arith, length-set us t.0 r);
+    kept = λ k below kept. set_other us t.0 k r (λ same. slot (subst IsKept same kept));
+    closed = λ all k x is. set_gives (AreBelow (length (slice_set us t.0 r))) us t.0 k x r is
+        (λ p one. subst (λ n. p.0 < n) (sym (length-set us t.0 r)) (there p one p refl))
+        (λ old. below_more (length us) (length (slice_set us t.0 r)) x (omega (arith, length-set us t.0 r)) (all k x old));
+  }
+
+  pub push_goes : (us : List TypeRow) (r : TypeRow) → ((p : TypeId) → IsOneOf p (named_in r) → IsBelow us (Some p)) → GoesTo us (us ++ r ∷ [])
+  push_goes us r there = record {
+    long = omega (arith, length-append us (r ∷ []));
+    kept = λ k below kept. get_below us (r ∷ []) k below;
+    closed = λ all k x is. push_gives (AreBelow (length (us ++ r ∷ []))) us k x r is
+        (λ p one. let l = there p one p refl in omega (arith, l, length-append us (r ∷ [])))
+        (λ old. below_more (length us) (length (us ++ r ∷ [])) x (omega (arith, length-append us (r ∷ []))) (all k x old));
+  }
+
+  pub goes_on : (us vs ws : List TypeRow) → GoesTo us vs → GoesTo vs ws → GoesTo us ws
+  goes_on us vs ws one two =
+      let a = one.long in
+      let b = two.long in
+      record {
+        long = omega (arith, a, b);
+        kept = λ k below kept. two.kept k (omega (arith, a, below)) kept ∙ one.kept k below kept;
+        closed = λ all. two.closed (one.closed all);
+      }
+
+  pub last_below : (us : List TypeRow) (r : TypeRow) → IsBelow (us ++ r ∷ []) (Some (record { 0 = length us }))
+  last_below us r t e =
+      subst (λ (t : TypeId). t.0 < length (us ++ r ∷ [])) (same_Some (record { 0 = length us }) t e)
+      (let l : length us < length (us ++ r ∷ []) = omega (arith, length-append us (r ∷ [])) in l)
+
+  pub below_on : (us vs : List TypeRow) → GoesTo us vs → (of : Option TypeId) → IsBelow us of → IsBelow vs of
+  below_on us vs goes of below t e =
+      let a = below t e in
+      let b = goes.long in
+      omega (arith, a, b)
+
+  first_nine : 9 ≤ length first
+  first_nine = omega (arith, nine, table_long)
+
+  pub low_below : (us : List TypeRow) → GoesTo first us → (t : TypeId) → t.0 ≤ 8 → IsBelow us (Some t)
+  low_below us goes t low u e =
+      let l = goes.long in
+      subst (λ (t : TypeId). t.0 < length us) (same_Some t u e) (omega (arith, l, low, first_nine))
+
+  pub open_nil : (us : List TypeRow) → GoesTo first us → (p : TypeId) → IsOneOf p (nil ∷ []) → IsBelow us (Some p)
+  open_nil us goes p (inl e) = subst (λ (p : TypeId). IsBelow us (Some p)) e (low_below us goes nil (omega arith))
+  open_nil us goes p (inr h) = absurd h
+
+  abbrev pub outline : Telling
+  outline = record {
+    number = number;
+    before = before;
+    name = word text m.name;
+    text = text;
+    scopes = named_scopes;
+    inner = length (type_defs m.decls);
+    first = first;
+    Known = IsBelow;
+    There = IsBelow;
+    GoesTo = GoesTo;
+    IsSlot = IsSlot;
+    stays = λ us. record { long = omega arith; kept = λ k below kept. refl; closed = λ all. all };
+    on = goes_on;
+    known_on = below_on;
+    there_on = below_on;
+    known_there = λ us of below. below;
+    basic = λ us goes t low. low_below us goes t (omega (arith, low));
+    set = λ us t r goes slot closed there. set_goes us t r slot there;
+    unsettled = λ us t goes slot known. set_goes us t (row.Open nil) slot (open_nil us goes);
+    push = push_goes;
+    pushed = λ us r goes closed. last_below us r;
+    pushed_open = λ us t goes. last_below us (row.Open t);
+    own = scopes_typed text before standing m (IsBelow first) number_below;
+    others = λ j h s w x of there own found means t e.
+        let known = subst (IsKnown types) e (others j h s w x of there own found means) in
+        let l = told_below types nine t known in
+        omega (arith, l, table_long);
+    constants = constants;
+  }
+
+  -- the number of a definition that is no name for another type is its own
+  own_kept : (k : ℕ) → slice_get ts k ≡ Some Own → IsKept (length types + k) → ⊥
+  own_kept k own (inl low) = omega (arith, low)
+  own_kept k own (inr alias) =
+      let place = alias.3 in
+      let same : alias.0 ≡ k = omega (arith, place) in
+      let e : Some (Of alias.1) ≡ Some Own = sym alias.2 ∙ ap (slice_get ts) same ∙ own in
+      own_of (sym (same_Some (Of alias.1) Own e))
+
+  own_slot : (k : ℕ) → k < length (all_type_defs m.decls) → slice_get ts k ≡ Some Own → (t : TypeId) → number_at standing k ≡ Some t → IsSlot t
+  own_slot k below own t e =
+      let from : TypeId = record { 0 = length types + k } in
+      let at = own_target (length types) ts k Own own in
+      let stands = sym (number_is k below) ∙ e in
+      let same = (proper_says (length types) ts (follow (length types) ts (length ts) from) t stands).0 in
+      subst IsSlot (sym (own_follows (length types) ts (length ts) from at) ∙ same) (own_kept k own)
+
+  numbers_from : (ds : List TypeDef) (us : List Target) (k : ℕ) → AreLed types (length (all_type_defs m.decls)) ds us → ((j : ℕ) → slice_get ts (k + j) ≡ slice_get us j) →
+      k + length ds ≤ length (all_type_defs m.decls) → AreNumbers outline standing k ds
+  numbers_from [] us k are there most = tt
+  numbers_from (d ∷ ds) [] k are there most = absurd are
+  numbers_from (d ∷ ds) (u ∷ us) k are there most = (
+    λ not_name t e. by u are.0 not_name (ap (slice_get ts) (let same : k ≡ k + 0 = omega arith in same) ∙ there 0) t e,
+    numbers_from ds us (suc k) are.1 (λ j. ap (slice_get ts) (let same : suc k + j ≡ k + suc j = omega arith in same) ∙ there (suc j)) (omega (arith, most)),
+  )
+    where
+      name_not : (b : Bool) → b ≡ true → b ≡ false → ⊥
+      name_not b e f = let g : true ≡ false = sym e ∙ f in cc
+
+      by : (x : Target) → IsLed types (length (all_type_defs m.decls)) d.value x → is_name d.value ≡ false → slice_get ts k ≡ Some x → (t : TypeId) → number_at standing k ≡ Some t → IsSlot t
+      by Own l not_name is t e = own_slot k (omega (arith, most)) is t e
+      by (Of v) l not_name is t e = absurd (name_not (is_name d.value) l.0 not_name)
+      by Nothing l not_name is t e = absurd l
+
+  pub all_numbers : AreNumbers outline standing 0 (all_type_defs m.decls)
+  all_numbers = numbers_from (all_type_defs m.decls) ts 0 led (λ j. ap (slice_get ts) (let same : 0 + j ≡ j = omega arith in same)) (omega arith)
+
+  -- The second walk.
+
+  -- a parameter's type, which may be an open array
+  abbrev pub MayBeOpen : List TypeRow → Option TypeId → Type 0
+  MayBeOpen us None = ⊥
+  MayBeOpen us (Some t) = (t.0 < 7) ⊎ ((9 ≤ t.0) × (t.0 < length us))
+
+  pub record GoesOn (us vs : List TypeRow) : Type 0 where
+    pub long : length us ≤ length vs
+    pub on : GoOn us vs
+
+  pub set_on : (us : List TypeRow) (t : TypeId) (r : TypeRow) → is_open (Some r) ≡ false → GoOn us (slice_set us t.0 r)
+  set_on us t r closed u (basic low) = basic low
+  set_on us t r closed u (defined q high there whole) = by (cases_order u.0 t.0)
+    where
+      here : u.0 ≡ t.0 → IsTold (slice_set us t.0 r) u
+      here same = defined r high (ap (slice_get (slice_set us t.0 r)) same ∙ set_here us t.0 q r (ap (slice_get us) (sym same) ∙ there)) closed
+
+      elsewhere : (u.0 ≡ t.0 → ⊥) → IsTold (slice_set us t.0 r) u
+      elsewhere other = defined q high (set_other us t.0 u.0 r other ∙ there) whole
+
+      by : (u.0 ≡ t.0) ⊎ ((u.0 < t.0) ⊎ (t.0 < u.0)) → IsTold (slice_set us t.0 r) u
+      by (inl same) = here same
+      by (inr (inl l)) = elsewhere (λ same. omega (arith, l, same))
+      by (inr (inr l)) = elsewhere (λ same. omega (arith, l, same))
+
+  pub known_open : (us : List TypeRow) (of : Option TypeId) → IsKnown us of → MayBeOpen us of
+  known_open us None known = known
+  known_open us (Some t) (basic low) = inl low
+  known_open us (Some t) (defined r high there closed) = inr (high, slice_get_within us t.0 r there)
+
+  pub open_on : (us vs : List TypeRow) → GoesOn us vs → (of : Option TypeId) → MayBeOpen us of → MayBeOpen vs of
+  open_on us vs goes None may = may
+  open_on us vs goes (Some t) (inl low) = inl low
+  open_on us vs goes (Some t) (inr r) = let l = goes.long in let b = r.1 in inr (r.0, omega (arith, l, b))
+
+  pub push_on : (us : List TypeRow) (r : TypeRow) → GoesOn us (us ++ r ∷ [])
+  push_on us r = record { long = omega (arith, length-append us (r ∷ [])); on = told_behind us (r ∷ []) }
+
+  pub last_told : (us : List TypeRow) (r : TypeRow) → GoesOn first us → is_open (Some r) ≡ false → IsTold (us ++ r ∷ []) (record { 0 = length us })
+  last_told us r goes closed = let l = goes.long in defined r (omega (arith, l, first_nine)) (get_end us r) closed
+
+  pub last_open : (us : List TypeRow) (r : TypeRow) → GoesOn first us → MayBeOpen (us ++ r ∷ []) (Some (record { 0 = length us }))
+  last_open us r goes = let l = goes.long in inr (omega (arith, l, first_nine), omega (arith, length-append us (r ∷ [])))
+
+  module _ (ends : (t : TypeId) → IsProper (length types) ts (follow (length types) ts (length ts) t)) where
+    pub number_known : (k : ℕ) → k < length (all_type_defs m.decls) → IsKnown first (number_at standing k)
+    number_known k below =
+        let from : TypeId = record { 0 = length types + k } in
+        let r = stands types ts nine sound from (place_meant k (omega (arith, below, count))) (ends from) in
+        subst (IsKnown first) (sym (number_is k below ∙ r.1)) r.2
+
+    abbrev pub told : Telling
+    told = record {
+      number = number;
+      before = before;
+      name = word text m.name;
+      text = text;
+      scopes = named_scopes;
+      inner = length (type_defs m.decls);
+      first = first;
+      Known = IsKnown;
+      There = MayBeOpen;
+      GoesTo = GoesOn;
+      IsSlot = λ t. Unit {0};
+      stays = λ us. record { long = omega arith; on = λ t told. told };
+      on = λ us vs ws one two. (let a = one.long in let b = two.long in record { long = omega (arith, a, b); on = λ t told. two.on t (one.on t told) });
+      known_on = λ us vs goes of known. known_on us vs goes.on of known;
+      there_on = open_on;
+      known_there = known_open;
+      basic = λ us goes t low. basic low;
+      set = λ us t r goes slot closed there. record { long = omega (arith, length-set us t.0 r); on = set_on us t r closed };
+      unsettled = λ us t goes slot known. absurd known;
+      push = λ us r there. push_on us r;
+      pushed = λ us r goes closed. last_told us r goes closed;
+      pushed_open = λ us t goes. last_open us (row.Open t) goes;
+      own = scopes_typed text before standing m (IsKnown first) number_known;
+      others = λ j h s w x of there own found means. known_on types first (told_behind types (first_rows (length types) ts)) of (others j h s w x of there own found means);
+      constants = constants;
+    }

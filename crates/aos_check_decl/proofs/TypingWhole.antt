@@ -1,0 +1,219 @@
+-- A module's environment behind its declarations, where none of them breaks a rule, and what is judged of all its types breaks
+-- none: no type contains itself, so that each name for a type leads to one, and all types are told.
+use Rattle.std.proofs.Common.{◌≡◌, ℕ, suc, ◌+◌, ◌-◌, ◌<◌, ◌≤◌, List, [], ◌∷◌, length, true, false, Option, Some, slice_get, refl, sym, ap, ◌∙◌, subst, arith}
+use Rattle.std.proofs.lemmas.Bool.{cases_Bool, cases_lt}
+use Rattle.std.proofs.lemmas.Option.{slice_get_within}
+use mathlib.Core.Logic.{◌⊎◌, inl, inr}
+use Rattle.aos_tree.specs.declared.decl.TypeDef.{TypeDef}
+use Rattle.aos_tree.specs.declared.module.Module.{Module}
+use Rattle.aos_types.specs.declared.TheConstants.{MOST_SCALARS}
+use Rattle.aos_types.specs.declared.row.TypeId.{TypeId}
+use Rattle.aos_types.specs.declared.row.TypeRow.{TypeRow}
+use Rattle.aos_types.specs.declared.row.TypeRow.TheVariants as row
+use Rattle.aos_types.specs.Contents.{scalars}
+use Rattle.aos_types.specs.Chain.{NoneContainsItself, contains_itself, circles, cut}
+use Rattle.aos_types.specs.Count.{AreBelow}
+use Rattle.aos_types.specs.Limit.{is_first_past}
+use Rattle.aos_types.proofs.Circles.{circle_test}
+use Rattle.aos_types.proofs.Cut.{nothing_cut}
+use Rattle.aos_symbols.specs.declared.env.Open.{Open}
+use Rattle.aos_symbols.specs.declared.env.Env.{Env}
+use Rattle.aos_symbols.specs.Declarations.{Procedure, type_defs, all_type_defs, procedures}
+use Rattle.aos_symbols.specs.Scope.{Scope}
+use Rattle.aos_symbols.specs.Home.{Home}
+use Rattle.aos_symbols.specs.Names.{name_breaches}
+use Rattle.aos_symbols.specs.Env as env
+use Rattle.aos_symbols.proofs.Each.{Each}
+use Rattle.aos_symbols.proofs.Told.{IsKnown}
+use Rattle.aos_check_decl.specs.declared.aliases.Target.{Target}
+use Rattle.aos_check_decl.specs.declared.aliases.Target.TheVariants.{Own, Of, Nothing}
+use Rattle.aos_check_decl.specs.Aliases.{first_row, first_rows, follow}
+use Rattle.aos_check_decl.specs.Headings.{headings}
+use Rattle.aos_check_decl.specs.Limits as limits
+use Rattle.aos_check_decl.specs.Pass.{entered}
+use Rattle.aos_check_decl.proofs.TypingLists.{get_below, get_behind, mapped_at}
+use Rattle.aos_check_decl.proofs.TypingScopes.{AreGood, AllGood}
+use Rattle.aos_check_decl.proofs.TypingNames.{AreOthersNamed}
+use Rattle.aos_check_decl.proofs.TypingTypes.{Telling, IsSearched, IsFit}
+use Rattle.aos_check_decl.proofs.TypingHeadings.{HasSlot}
+use Rattle.aos_check_decl.proofs.TypingProcedures.{inside, AreSlotted, IsHeaded, headings_sound}
+use Rattle.aos_check_decl.proofs.TypingEntries.{scope_fresh}
+use Rattle.aos_check_decl.proofs.TypingTargets.{AreLed}
+use Rattle.aos_check_decl.proofs.TypingAliases.{IsProper, rows_at, first_row_at, ends}
+use Rattle.aos_check_decl.proofs.TypingTables.{AllBelow, all_within}
+use Rattle.aos_check_decl.proofs.TypingLimits.{type_kept, flag_is, none_circular}
+use Rattle.aos_check_decl.proofs.TypingOnce.{module_alike, procedures_alike}
+use Rattle.aos_check_decl.proofs.TypingSlots.{own_slots, procedures_slots}
+use Rattle.aos_check_decl.proofs.TypingWalks.{GoesTo, first, standing, count, table_long, sound, meant_below, outline, told, all_numbers}
+
+-- a walk on which all numbers are of definitions
+module _ (c : Telling) (path : List Open) (searched : Each (IsSearched c) path) (any : (t : TypeId) → c.IsSlot t) where
+  any_slots : (path : List Open) (ds : List TypeDef) → Each (HasSlot c path) ds
+  any_slots path [] = tt
+  any_slots path (d ∷ ds) = (λ not_name e fit t is. any t, any_slots path ds)
+
+  any_slotted : (k : ℕ) (ps : List Procedure) → AreSlotted c path searched k ps
+  any_slotted k [] = tt
+  any_slotted k (p ∷ ps) = (any_slots (inside c path searched k) (type_defs p.decls), any_slotted (suc k) ps)
+
+-- what is known of the types before
+pub record AreOld (types : List TypeRow) : Type 0 where
+  pub nine : 9 ≤ length types
+  pub closed : AllBelow (length types) types
+  pub free : NoneContainsItself types
+  pub sizes : (t : TypeId) → scalars types t ≤ MOST_SCALARS
+
+module _ (number : ℕ) (before : List Home) (types : List TypeRow) (text : List ℕ) (m : Module) (ts : List Target)
+    (others : AreOthersNamed before (IsKnown types))
+    (constants : (j : ℕ) (h : Home) (k : ℕ) (s : Scope) → slice_get before j ≡ Some h → slice_get h.scopes k ≡ Some s → AreGood s.constants)
+    (old : AreOld types) (led : AreLed types (length (all_type_defs m.decls)) (all_type_defs m.decls) ts) (once : name_breaches text m ≡ []) where
+  abbrev pub table : List TypeRow
+  table = first number before types text m ts others constants old.nine led
+
+  abbrev pub own : List (Option TypeId)
+  own = standing number before types text m ts others constants old.nine led
+
+  abbrev pub begun : Env
+  begun = entered number before table text m own
+
+  abbrev pub path : List Open
+  path = env.own number ∷ []
+
+  pub begun_good : AllGood begun.here
+  begun_good k s there = subst AreGood (sym (scope_fresh text before own m k s there).0) tt
+
+  -- The first walk.
+
+  abbrev first_walk : Telling
+  first_walk = outline number before types text m ts others constants old.nine led
+
+  abbrev IsFurther : List TypeRow → List TypeRow → Type 0
+  IsFurther = GoesTo number before types text m ts others constants old.nine led
+
+  fit_first : IsFit first_walk path begun
+  fit_first = record {
+    number_is = refl;
+    before_is = refl;
+    name_is = refl;
+    text_is = refl;
+    names_are = λ j. refl;
+    path_is = refl;
+    good = begun_good;
+    table = first_walk.stays table;
+  }
+
+  first_searched : Each (IsSearched first_walk) path
+  first_searched = (inl refl, tt)
+
+  module _ (none : (headings begun m.decls).breaches ≡ []) where
+    abbrev pub ended : Env
+    ended = (headings begun m.decls).answer
+
+    outlined : IsHeaded first_walk path first_searched m.decls begun ended
+    outlined =
+        let all = all_numbers number before types text m ts others constants old.nine led in
+        headings_sound first_walk path first_searched refl m.decls refl
+        (own_slots first_walk own before m refl (module_alike text m once) all)
+        (procedures_slots first_walk own path first_searched before m refl (procedures_alike text m once) all) begun fit_first none
+
+    goes : IsFurther table ended.types
+    goes = outlined.goes
+
+    long_table : length table ≡ length types + length ts
+    long_table = table_long number before types text m ts others constants old.nine led
+
+    pub long : length ended.types ≡ length types + (length (all_type_defs m.decls) + length ended.places)
+    long =
+        let l = outlined.long in
+        let c = count number before types text m ts others constants old.nine led in
+        omega (arith, l, c, long_table)
+
+    pub stays : (k : ℕ) → k < length types → slice_get ended.types k ≡ slice_get types k
+    stays k below = goes.kept k (omega (arith, below, long_table)) (inl below) ∙ get_below types (first_rows (length types) ts) k below
+
+    alias_rows : (k : ℕ) (u : TypeId) → slice_get ts k ≡ Some (Of u) → slice_get ended.types (length types + k) ≡ Some (row.Array 1 u)
+    alias_rows k u is =
+        let l = slice_get_within ts k (Of u) is in
+        goes.kept (length types + k) (omega (arith, l, long_table)) (inr (k, u, is, refl)) ∙ first_row_at types ts k (Of u) is
+
+    -- rows name types that are there
+
+    row_below : (k : ℕ) (x : Target) → k < length ts → slice_get ts k ≡ Some x → AreBelow (length table) (first_row (length types + k) x)
+    row_below k Own l is p (inl e) = subst (λ (p : TypeId). p.0 < length table) e (let m : length types + k < length table = omega (arith, l, long_table) in m)
+    row_below k Own l is p (inr h) = absurd h
+    row_below k (Of u) l is p (inl e) =
+        subst (λ (p : TypeId). p.0 < length table) e
+        (meant_below number before types text m ts others constants old.nine led u (sound number before types text m ts others constants old.nine led k (Of u) is))
+    row_below k (Of u) l is p (inr h) = absurd h
+    row_below k Nothing l is p one = absurd (sound number before types text m ts others constants old.nine led k Nothing is)
+
+    table_closed : AllBelow (length table) table
+    table_closed k r is = by (cases_lt k (length types))
+      where
+        by : (k < length types) ⊎ (length types ≤ k) → AreBelow (length table) r
+        by (inl below) = λ p one. let l = old.closed k r (sym (get_below types (first_rows (length types) ts) k below) ∙ is) p one in omega (arith, l, long_table)
+        by (inr behind) =
+            let j = k - length types in
+            let place : length types + j ≡ k = omega (arith, behind) in
+            let at = sym (rows_at (length types) ts j) ∙ sym (get_behind types (first_rows (length types) ts) j) ∙ ap (slice_get table) place ∙ is in
+            let x = mapped_at (first_row (length types + j)) (slice_get ts j) r at in
+            subst (AreBelow (length table)) x.2 (row_below j x.0 (slice_get_within ts j x.0 x.1) x.1)
+
+    pub closed : AllBelow (length ended.types) ended.types
+    closed = goes.closed table_closed
+
+    -- What is judged of all types.
+
+    module _ (kept : limits.all_breaches (circles ended.types) (cut (circles ended.types) ended.types) ended (length types) m.decls ≡ []) where
+      own_free : (t : TypeId) → length types ≤ t.0 → t.0 < length ended.types → contains_itself ended.types t ≡ false
+      own_free t from to =
+          let flags = circles ended.types in
+          let rows = cut flags ended.types in
+          sym (flag_is ended.types rows t to) ∙ (type_kept flags rows ended (length types) m.decls kept t from (omega (arith, to, long))).0
+
+      pub free : NoneContainsItself ended.types
+      free = none_circular types ended.types old.closed stays old.free own_free
+
+      pub cut_is : cut (circles ended.types) ended.types ≡ ended.types
+      cut_is = nothing_cut ended.types free
+
+      pub kept_whole : limits.all_breaches (circles ended.types) ended.types ended (length types) m.decls ≡ []
+      kept_whole = subst (λ rows. limits.all_breaches (circles ended.types) rows ended (length types) m.decls ≡ []) cut_is kept
+
+      pub not_circular : (t : TypeId) → t.0 < length ended.types → limits.is_circular (circles ended.types) ended.types t ≡ false
+      not_circular t l = flag_is ended.types ended.types t l ∙ by (cases_Bool (contains_itself ended.types t))
+        where
+          by : (contains_itself ended.types t ≡ true) ⊎ (contains_itself ended.types t ≡ false) → contains_itself ended.types t ≡ false
+          by (inl e) = absurd (free t ((circle_test ended.types t).0 e))
+          by (inr e) = e
+
+      new_within : (t : TypeId) → length types ≤ t.0 → t.0 < length ended.types → is_first_past ended.types t ≡ false
+      new_within t from to = (type_kept (circles ended.types) ended.types ended (length types) m.decls kept_whole t from (omega (arith, to, long))).1
+
+      pub sizes : (t : TypeId) → scalars ended.types t ≤ MOST_SCALARS
+      sizes = all_within types ended.types old.closed stays old.free free old.sizes new_within
+
+      -- The second walk.
+
+      pub all_end : (t : TypeId) → IsProper (length types) ts (follow (length types) ts (length ts) t)
+      all_end = ends types ts old.nine (sound number before types text m ts others constants old.nine led) ended.types free alias_rows
+
+      abbrev pub second_walk : Telling
+      second_walk = told number before types text m ts others constants old.nine led all_end
+
+      abbrev pub second_searched : Each (IsSearched second_walk) path
+      second_searched = (inl refl, tt)
+
+      pub headed : IsHeaded second_walk path second_searched m.decls begun ended
+      headed =
+          headings_sound second_walk path second_searched refl m.decls refl (any_slots second_walk path second_searched (λ t. tt) path (type_defs m.decls))
+          (any_slotted second_walk path second_searched (λ t. tt) (suc (length (type_defs m.decls))) (procedures m.decls)) begun (record {
+            number_is = refl;
+            before_is = refl;
+            name_is = refl;
+            text_is = refl;
+            names_are = λ j. refl;
+            path_is = refl;
+            good = begun_good;
+            table = second_walk.stays table;
+          }) none

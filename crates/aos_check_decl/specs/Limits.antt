@@ -1,0 +1,124 @@
+-- What is judged of all types of a module together, once they are met: types that contain themselves, 18, and then numbers of
+-- scalars, 19, and results, 25. A type that breaks a rule counts no scalars, and keeps all rules of what is made of it.
+use Rattle.std.specs.Prelude.{ℕ, suc, ◌+◌, nat_le, List, [], ◌∷◌, ◌++◌, map, sum_by, Bool, true, false, not, ◌&&◌, Option, Some, None, slice_get, unwrap_or}
+use Rattle.std.specs.List.{zip}
+use Rattle.aos_base.specs.declared.text.Pos.{Pos}
+use Rattle.aos_tree.specs.declared.name.Qualident.{Qualident}
+use Rattle.aos_tree.specs.declared.decl.Def.{Def}
+use Rattle.aos_tree.specs.declared.decl.Decl.{Decl}
+use Rattle.aos_tree.specs.declared.decl.TypeDef.{TypeDef}
+use Rattle.aos_tree.specs.declared.decl.TypeExpr.{TypeExpr}
+use Rattle.aos_tree.specs.declared.decl.TypeExpr.TheVariants as type
+use Rattle.aos_tree.specs.declared.decl.Formals.{Formals}
+use Rattle.aos_types.specs.declared.TheConstants.{MOST_SCALARS}
+use Rattle.aos_types.specs.declared.row.TypeId.{TypeId}
+use Rattle.aos_types.specs.declared.row.TypeRow.{TypeRow}
+use Rattle.aos_types.specs.declared.row.TypeRow.TheVariants as row
+use Rattle.aos_types.specs.Table.{row_of}
+use Rattle.aos_types.specs.Contents.{at_most, variable_scalars}
+use Rattle.aos_types.specs.Chain.{circles, cut}
+use Rattle.aos_types.specs.Limit.{is_past, is_first_past}
+use Rattle.aos_symbols.specs.declared.breach.Breach.{Breach}
+use Rattle.aos_symbols.specs.declared.home.Gives.{Gives}
+use Rattle.aos_symbols.specs.declared.home.Gives.TheVariants as gives
+use Rattle.aos_symbols.specs.declared.home.Signature.{Signature}
+use Rattle.aos_symbols.specs.declared.env.Env.{Env}
+use Rattle.aos_symbols.specs.Breaches.{breach_unless}
+use Rattle.aos_symbols.specs.Judged.{Judged, judged}
+use Rattle.aos_symbols.specs.Declarations.{Procedure, procedures, all_type_defs, single_variables}
+use Rattle.aos_symbols.specs.Scope.{Scope}
+use Rattle.aos_symbols.specs.Home.{Home}
+
+-- where a type's name stands in its definition, and where the type itself begins; a type without a name has one place
+pub record Written : Type 0 where
+  pub named : Pos
+  pub at : Pos
+
+abbrev pub type_place : TypeExpr → Pos
+type_place (type.Named q) = q.first.pos
+type_place (type.Array' p lengths shape row) = p
+type_place (type.Record' p base shape row) = p
+type_place (type.Pointer' p shape row) = p
+type_place (type.Proc p flag formals) = p
+type_place (type.Object' p base shape row body end) = p
+
+abbrev pub defined_at : TypeDef → Written
+defined_at d = record { named = d.def.name.pos; at = type_place d.value }
+
+abbrev pub unnamed_at : Pos → Written
+unnamed_at p = record { named = p; at = p }
+
+-- all types of a module, in the order of their numbers
+abbrev pub written : Env → List Decl → List Written
+written e ds = map defined_at (all_type_defs ds) ++ map unnamed_at e.places
+
+-- what is known of the table once types that contain themselves are out of it
+module _ (flags : List Bool) (rows : List TypeRow) where
+  abbrev pub is_circular : TypeId → Bool
+  is_circular t = unwrap_or (slice_get flags t.0) false
+
+  abbrev pub type_breaches : TypeId → Written → List Breach
+  type_breaches t w =
+      breach_unless (not (is_circular t)) 18 w.named ++ breach_unless (not (is_first_past rows t)) 19 w.at
+
+  -- the first of these has the number k
+  abbrev pub types_from : ℕ → List Written → List Breach
+  types_from k [] = []
+  types_from k (w ∷ ws) = type_breaches (record { 0 = k }) w ++ types_from (suc k) ws
+
+  -- Results: a function gives a scalar.
+
+  abbrev pub has_parts : Option TypeRow → Bool
+  has_parts (Some (row.Array n t)) = true
+  has_parts (Some (row.Record base fields)) = true
+  has_parts _ = false
+
+  abbrev pub is_wrong_result : TypeId → Bool
+  is_wrong_result t = has_parts (row_of rows t) && (not (is_circular t) && not (is_past rows t))
+
+  abbrev pub result_breaches : Option Qualident → Gives → List Breach
+  result_breaches (Some q) (gives.Value (Some t)) = breach_unless (not (is_wrong_result t)) 25 q.first.pos
+  result_breaches _ _ = []
+
+  abbrev pub result_of : Option Formals → Option Qualident
+  result_of None = None
+  result_of (Some f) = f.result
+
+  -- of procedures and their signatures
+  abbrev pub results_from : List Procedure → List Signature → List Breach
+  results_from [] ss = []
+  results_from (p ∷ ps) [] = []
+  results_from (p ∷ ps) (s ∷ ss) = result_breaches (result_of p.formals) s.gives ++ results_from ps ss
+
+  -- Variables of modules.
+
+  abbrev pub counted : Option TypeId → ℕ
+  counted None = 0
+  counted (Some t) = unwrap_or (at_most MOST_SCALARS (variable_scalars rows t)) 0
+
+  abbrev pub variables_of : Option Scope → List (Option TypeId)
+  variables_of None = []
+  variables_of (Some s) = s.variables
+
+  -- the scalars of a module's variables
+  abbrev pub scalars_of : Home → ℕ
+  scalars_of h = sum_by counted (variables_of (slice_get h.scopes 0))
+
+  -- the first variable with which all variables so far are past the limit
+  abbrev pub variables_past : ℕ → List (Def × Option TypeId) → List Breach
+  variables_past sum [] = []
+  variables_past sum (v ∷ vs) =
+      let n = sum + counted v.1 in breach_unless (nat_le n MOST_SCALARS) 19 v.0.name.pos ++ variables_past n vs
+
+  -- of a module, whose first type has the number `first`
+  abbrev pub all_breaches : Env → ℕ → List Decl → List Breach
+  all_breaches e first ds =
+      types_from first (written e ds) ++ results_from (procedures ds) e.here.signatures
+      ++ variables_past (sum_by scalars_of e.before) (zip (single_variables ds) (variables_of (slice_get e.here.scopes 0)))
+
+-- the environment without types that contain themselves
+abbrev pub limits : Env → ℕ → List Decl → Judged Env
+limits e first ds =
+    let flags = circles e.types in
+    let rows = cut flags e.types in
+    judged (all_breaches flags rows e first ds) (record e { types = rows })

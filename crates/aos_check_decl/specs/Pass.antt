@@ -1,0 +1,43 @@
+-- The second pass over a module: what its names stand for, its declarations, and what is judged of its types together.
+use Rattle.std.specs.Prelude.{ℕ, ◌+◌, List, [], ◌∷◌, ◌++◌, length, map, Option, Some}
+use Rattle.std.specs.List.{range_with_len}
+use Rattle.aos_tree.specs.declared.module.Module.{Module}
+use Rattle.aos_types.specs.declared.row.TypeId.{TypeId}
+use Rattle.aos_types.specs.declared.row.TypeRow.{TypeRow}
+use Rattle.aos_symbols.specs.declared.env.Env.{Env}
+use Rattle.aos_symbols.specs.Judged.{Judged, kept, bind}
+use Rattle.aos_symbols.specs.Declarations.{all_type_defs}
+use Rattle.aos_symbols.specs.Home.{Home}
+use Rattle.aos_symbols.specs.Entries.{home_of}
+use Rattle.aos_symbols.specs.Env as env
+use Rattle.aos_check_decl.specs.Aliases.{targets, numbers, first_rows}
+use Rattle.aos_check_decl.specs.Headings.{headings}
+use Rattle.aos_check_decl.specs.Limits.{limits}
+
+-- each definition of a type with its own number, of which the first is this
+abbrev pub own_numbers : (first count : ℕ) → List (Option TypeId)
+own_numbers first count = map (λ k. Some (record { 0 = first + k })) (range_with_len 0 count)
+
+-- a module's environment, in which the definitions of types stand for these numbers
+abbrev pub entered : ℕ → List Home → List TypeRow → List ℕ → Module → List (Option TypeId) → Env
+entered number before types text m numbers =
+    record {
+      number = number;
+      before = before;
+      here = home_of text before numbers m;
+      path = env.own number ∷ [];
+      types = types;
+      places = [];
+    }
+
+-- the names that stand for other types are told before any declaration is met, and all types have their numbers
+abbrev pub begun : ℕ → List Home → List TypeRow → List ℕ → Module → Judged Env
+begun number before types text m =
+    let first = length types in
+    bind (targets (entered number before types text m (own_numbers first (length (all_type_defs m.decls)))) m.decls) (λ ts.
+    kept (entered number before (types ++ first_rows first ts) text m (numbers first ts)))
+
+-- a module with this number, behind these modules, whose types these are
+abbrev pub declare : ℕ → List Home → List TypeRow → List ℕ → Module → Judged Env
+declare number before types text m =
+    bind (begun number before types text m) (λ e. bind (headings e m.decls) (λ e. limits e (length types) m.decls))

@@ -1,0 +1,212 @@
+-- Types that are named or written: the rules that they break, their rows in the table of types, and their numbers. What isn't
+-- built is refused by rule 99 at its first token; nothing behind that in it is looked at.
+use Rattle.std.specs.Prelude.{ℕ, pos, int_le, unsigned_abs, List, [], ◌∷◌, ◌++◌, length, replicate, Bool, false, ◌==◌, ◌&&◌, Option, Some, None, slice_set, if◌then◌else◌}
+use Rattle.std.specs.List.{flat_map, list_any}
+use Rattle.std.specs.Option.{is_none}
+use Rattle.aos_base.specs.declared.text.Pos.{Pos}
+use Rattle.aos_tree.specs.declared.name.Name.{Name}
+use Rattle.aos_tree.specs.declared.name.Qualident.{Qualident}
+use Rattle.aos_tree.specs.declared.expr.Expr.{Expr, out-Expr}
+use Rattle.aos_tree.specs.declared.stat.Block.{Block}
+use Rattle.aos_tree.specs.declared.decl.Decl.{Decl, items-the_row-Decl}
+use Rattle.aos_tree.specs.declared.decl.Decl.TheVariants as decl
+use Rattle.aos_tree.specs.declared.decl.Fields.{Fields}
+use Rattle.aos_tree.specs.declared.decl.Fields.TheVariants as fields
+use Rattle.aos_tree.specs.declared.decl.TypeExpr.{TypeExpr, Row_of-TypeExpr, end_of-TypeExpr, more_of-TypeExpr, Row_of-Fields, end_of-Fields, more_of-Fields}
+use Rattle.aos_tree.specs.declared.decl.TypeExpr.TheVariants as type
+use Rattle.aos_types.specs.declared.TheConstants.{MOST_SCALARS}
+use Rattle.aos_types.specs.declared.row.TypeId.{TypeId}
+use Rattle.aos_types.specs.declared.row.TypeRow.{TypeRow}
+use Rattle.aos_types.specs.declared.row.TypeRow.TheVariants as row
+use Rattle.aos_typed.specs.declared.tree.Literal.{Literal}
+use Rattle.aos_typed.specs.declared.tree.Literal.TheVariants as literal
+use Rattle.aos_symbols.specs.declared.breach.Breach.{Breach}
+use Rattle.aos_symbols.specs.declared.scope.Meaning.{Meaning}
+use Rattle.aos_symbols.specs.declared.scope.Meaning.TheVariants as means
+use Rattle.aos_symbols.specs.declared.env.Lookup.{Lookup}
+use Rattle.aos_symbols.specs.declared.env.Lookup.TheVariants.{Unknown, NotExported, Found}
+use Rattle.aos_symbols.specs.declared.env.Env.{Env}
+use Rattle.aos_symbols.specs.Breaches.{breach, breach_unless, not_built}
+use Rattle.aos_symbols.specs.Judged.{Judged, judged, kept, bind, walk}
+use Rattle.aos_symbols.specs.Spelling.{word, is_among, is_active, procedures_of_out}
+use Rattle.aos_symbols.specs.Env as env
+use Rattle.aos_check_expr.specs.Expressions.{constant, no_place}
+
+-- where a declaration begins
+abbrev pub decl_place : Decl → Pos
+decl_place (decl.Consts p cs) = p
+decl_place (decl.Types' p shape row) = p
+decl_place (decl.Vars' p shape row) = p
+decl_place (decl.Proc' p i def formals shape row body end) = p
+
+abbrev pub refused_decl : Decl → List Breach
+refused_decl d = not_built (decl_place d)
+
+-- Types that are named; ANY isn't built.
+
+abbrev pub is_any : Option TypeId → Bool
+is_any None = false
+is_any (Some t) = t.0 == env.any.0
+
+abbrev pub no_type : ℕ → Pos → Judged (Option TypeId)
+no_type rule at = judged (breach rule at) None
+
+abbrev pub type_meant : Meaning → Pos → Judged (Option TypeId)
+type_meant (means.Type of) at = if is_any of then no_type 99 at else kept of
+type_meant m at = no_type 16 at
+
+abbrev pub type_found : Lookup → Pos → Judged (Option TypeId)
+type_found Unknown at = no_type 14 at
+type_found NotExported at = no_type 15 at
+type_found (Found x) at = type_meant x.means at
+
+-- Out has no types
+abbrev pub type_of_out : List ℕ → Name → Judged (Option TypeId)
+type_of_out text n = no_type (if is_among procedures_of_out (word text n) then 16 else 14) n.pos
+
+abbrev pub type_in_module : Env → Meaning → Pos → Name → Judged (Option TypeId)
+type_in_module e (means.Module m) at n = type_found (env.member e m n) n.pos
+type_in_module e means.Out at n = type_of_out e.here.text n
+type_in_module e m at n = no_type 16 at
+
+abbrev pub qualified_type : Env → Lookup → Pos → Name → Judged (Option TypeId)
+qualified_type e Unknown at n = no_type 14 at
+qualified_type e NotExported at n = no_type 15 at
+qualified_type e (Found x) at n = type_in_module e x.means at n
+
+abbrev pub named_type : Env → Qualident → Judged (Option TypeId)
+named_type e q = named q.second
+  where
+    named : Option Name → Judged (Option TypeId)
+    named None = type_found (env.lookup e q.first) q.first.pos
+    named (Some n) = qualified_type e (env.lookup e q.first) q.first.pos n
+
+-- What is met of a type: the environment behind it, and its number, none where it breaks a rule.
+pub record Met : Type 0 where
+  pub env : Env
+  pub of : Option TypeId
+
+abbrev pub met : Env → Option TypeId → Met
+met e of = record { env = e; of = of }
+
+-- a rule that a type breaks; nothing of it is known
+abbrev pub refused_type : ℕ → Pos → Env → Judged Met
+refused_type rule at e = judged (breach rule at) (met e None)
+
+-- A type's row: that of a definition has its number already, another one the next number. Where it stands is told with it.
+abbrev pub placed : Option TypeId → Pos → TypeRow → Env → Met
+placed (Some t) at r e = met (record e { types = slice_set e.types t.0 r }) (Some t)
+placed None at r e =
+    met (record e { types = e.types ++ r ∷ []; places = e.places ++ at ∷ [] }) (Some (record { 0 = length e.types }))
+
+-- Arrays. A length is a constant integer from 1 to the most scalars that a type may have.
+
+abbrev pub length_given : Option Literal → Pos → Judged (Option ℕ)
+length_given None at = kept None
+length_given (Some (literal.Int n)) at =
+    if int_le (pos 1) n && int_le n (pos MOST_SCALARS) then kept (Some (unsigned_abs n)) else judged (breach 20 at) None
+length_given (Some (literal.Bool b)) at = judged (breach 20 at) None
+length_given (Some (literal.Char c)) at = judged (breach 20 at) None
+length_given (Some (literal.Set s)) at = judged (breach 20 at) None
+
+abbrev pub length_of : Env → Expr → Judged (Option ℕ)
+length_of e x = bind (constant e x) (λ v. length_given v (out-Expr x).pos)
+
+abbrev pub one_more : Option (List ℕ) → Option ℕ → Option (List ℕ)
+one_more (Some ns) (Some n) = Some (ns ++ n ∷ [])
+one_more _ _ = None
+
+abbrev pub with_length : Env → Option (List ℕ) → Expr → Judged (Option (List ℕ))
+with_length e ns x = bind (length_of e x) (λ n. kept (one_more ns n))
+
+-- all lengths of an array, or none where one of them breaks a rule
+abbrev pub lengths_of : Env → List Expr → Judged (Option (List ℕ))
+lengths_of e xs = walk (with_length e) (Some []) xs
+
+-- an array of this length, whose elements are of what is met
+abbrev pub array_of : Option TypeId → Pos → ℕ → Met → Met
+array_of slot at n m = on_element m.of
+  where
+    on_element : Option TypeId → Met
+    on_element None = m
+    on_element (Some t) = placed slot at (row.Array n t) m.env
+
+-- arrays within one another, the innermost last: `ARRAY a, b OF T` is `ARRAY a OF ARRAY b OF T`
+abbrev pub inner_arrays : Pos → List ℕ → Met → Met
+inner_arrays at [] m = m
+inner_arrays at (n ∷ ns) m = array_of None at n (inner_arrays at ns m)
+
+abbrev pub arrays : Option TypeId → Pos → Option (List ℕ) → Met → Met
+arrays slot at None m = met m.env None
+arrays slot at (Some []) m = met m.env None
+arrays slot at (Some (n ∷ ns)) m = array_of slot at n (inner_arrays at ns m)
+
+-- an open array stands as a parameter's type alone
+abbrev pub array_in : Option TypeId → Env → Pos → List Expr → Judged Met → Judged Met
+array_in slot e at [] element = refused_type 21 at e
+array_in slot e at (x ∷ xs) element =
+    bind (lengths_of e (x ∷ xs)) (λ ns. bind element (λ m. kept (arrays slot at ns m)))
+
+-- Records. A field whose type breaks a rule is left out.
+
+pub record FieldsMet : Type 0 where
+  pub env : Env
+  pub types : List TypeId
+
+abbrev pub fields_met : Env → List TypeId → FieldsMet
+fields_met e ts = record { env = e; types = ts }
+
+abbrev pub fields_of : ℕ → Option TypeId → List TypeId
+fields_of n None = []
+fields_of n (Some t) = replicate n t
+
+abbrev pub with_fields : FieldsMet → ℕ → Met → FieldsMet
+with_fields f n m = fields_met m.env (f.types ++ fields_of n m.of)
+
+-- a record with a base isn't built
+abbrev pub record_in : Option TypeId → Env → Pos → Option Qualident → Judged FieldsMet → Judged Met
+record_in slot e at None fs = bind fs (λ f. kept (placed slot at (row.Record None f.types) f.env))
+record_in slot e at (Some base) fs = refused_type 99 at e
+
+-- Object types: at module level alone; built are those that a declaration names, without base and declarations, whose body is
+-- active.
+
+abbrev pub has_active : List ℕ → Option Block → Bool
+has_active text None = false
+has_active text (Some b) = list_any (is_active text) b.modifiers
+
+abbrev pub object_breaches : Env → Pos → Option Qualident → List Decl → Option Block → List Breach
+object_breaches e at base decls body =
+    breach_unless (is_none base) 99 at ++ breach_unless (has_active e.here.text body) 99 at ++ flat_map refused_decl decls
+
+abbrev pub object_in : Option TypeId → Env → Pos → Option Qualident → List Decl → Option Block → Judged Met
+object_in slot e at base decls body =
+    if env.innermost e.path == 0 then at_module_level slot else refused_type 26 at e
+  where
+    at_module_level : Option TypeId → Judged Met
+    at_module_level None = refused_type 99 at e
+    at_module_level (Some t) =
+        judged (object_breaches e at base decls body) (placed (Some t) at (row.Object None []) e)
+
+-- a type, which is that of a definition where it has a number
+abbrev mutual
+  pub type_in : Option TypeId → Env → TypeExpr → Judged Met
+  type_in slot e (type.Named q) = bind (named_type e q) (λ of. kept (met e of))
+  type_in slot e (type.Array' p lengths shape row) = array_in slot e p lengths (held_in e row)
+  type_in slot e (type.Record' p base shape row) = record_in slot e p base (fields_in (fields_met e []) row)
+  type_in slot e (type.Pointer' p shape row) = refused_type 99 p e
+  type_in slot e (type.Proc p flag formals) = refused_type 99 p e
+  type_in slot e (type.Object' p base shape row body end) = object_in slot e p base (items-the_row-Decl _ row) body
+
+  -- the type of an array's elements
+  pub held_in : {m : _} → Env → Row_of-TypeExpr m → Judged Met
+  held_in e end_of-TypeExpr = refused_type 99 no_place e
+  held_in e (more_of-TypeExpr t ts) = type_in None e t
+
+  pub fields_in : {m : _} → FieldsMet → Row_of-Fields m → Judged FieldsMet
+  fields_in f end_of-Fields = kept f
+  fields_in f (more_of-Fields x xs) = bind (field_in f x) (λ g. fields_in g xs)
+
+  pub field_in : FieldsMet → Fields → Judged FieldsMet
+  field_in f fields.Empty = kept f
+  field_in f (fields.Of' defs of) = bind (type_in None f.env of) (λ m. kept (with_fields f (length defs) m))

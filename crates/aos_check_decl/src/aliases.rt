@@ -1,0 +1,323 @@
+// Names for other types, and the numbers that they stand for.
+
+ghost use Rattle.std.specs.Prelude.{◌≡◌, ◌+◌, ◌≤◌, ◌^◌, ◌++◌, length, map, OnOk, IfOk};
+ghost use Rattle.std.specs.List.{range_with_len};
+ghost use Rattle.aos_symbols.specs.Breaches.{first_after};
+ghost use Rattle.aos_symbols.specs.Declarations.{procedures, type_defs, types_in};
+ghost use Rattle.aos_symbols.specs.Judged.{walk};
+ghost use Rattle.aos_symbols.specs.Env as env_of;
+ghost use Rattle.aos_check_decl.specs.Aliases as judge;
+ghost use Rattle.aos_check_decl.specs.Ahead as far;
+
+use crate::procedures::count_types;
+use crate::types::named_type;
+use aos_base::NoMemory;
+use aos_symbols::{Breach, Env};
+use aos_tree::{Decl, TypeDef, TypeExpr};
+use aos_types::{TypeId, TypeRow, Types};
+use std::alloc::{AllocError, Global};
+
+/// What the number of a type's definition leads to: itself, another type, or none that is known.
+#[derive(Clone, Copy, PartialEq, Eq, Debug)]
+pub enum Target {
+    Own,
+    Of(TypeId),
+    Nothing,
+}
+
+/// The type of NIL, which no name stands for.
+pub(crate) const NIL: TypeId = TypeId(7);
+
+/// What a definition's number leads to.
+fn leads_to(found: &mut Option<Breach>, env: &Env<'_>, of: &TypeExpr) -> Target
+    ensures noted { found.new ≡ first_after found.old (judge.led_by env.now of.now).breaches }
+    ensures answer { result ≡ (judge.led_by env.now of.now).answer }
+{
+    match of {
+        TypeExpr::Named(name) => match named_type(found, env, *name) {
+            Some(of) => Target::Of(of),
+            None => Target::Nothing,
+        },
+        _ => Target::Own,
+    }
+}
+
+/// What definitions lead to, behind those before them.
+#[tactic(auto, using(aos_symbols::proofs::Keeping::after_more, aos_symbols::proofs::Steps::walk_step, aos_symbols::proofs::Steps::walk_end))]
+fn add_targets(
+    found: &mut Option<Breach>,
+    env: &Env<'_>,
+    targets: &mut Vec<Target>,
+    defs: &[TypeDef],
+) -> Result<(), AllocError>
+    ensures noted { OnOk result (found.new ≡ first_after found.old
+        (walk (judge.with_target env.now) targets.old.items defs.now).breaches) }
+    ensures answer { OnOk result (targets.new.items ≡
+        (walk (judge.with_target env.now) targets.old.items defs.now).answer) }
+{
+    for def in defs {
+        targets.push(leads_to(found, env, &def.value))?;
+    }
+    Ok(())
+}
+
+/// What the definitions of a declaration lead to, behind those before them.
+fn add_targets_of(
+    found: &mut Option<Breach>,
+    env: &Env<'_>,
+    targets: &mut Vec<Target>,
+    decl: &Decl,
+) -> Result<(), AllocError>
+    ensures noted { OnOk result (found.new ≡ first_after found.old
+        (walk (judge.with_target env.now) targets.old.items (types_in decl.now)).breaches) }
+    ensures answer { OnOk result (targets.new.items ≡
+        (walk (judge.with_target env.now) targets.old.items (types_in decl.now)).answer) }
+{
+    match decl {
+        Decl::Types(_, defs) => add_targets(found, env, targets, defs.as_slice()),
+        _ => Ok(()),
+    }
+}
+
+/// What the definitions of declarations lead to, behind those before them.
+#[tactic(auto, using(aos_symbols::proofs::Keeping::after_more, crate::proofs::Targets::types_end))]
+fn add_targets_in(
+    found: &mut Option<Breach>,
+    env: &Env<'_>,
+    targets: &mut Vec<Target>,
+    decls: &[Decl],
+) -> Result<(), AllocError>
+    ensures noted { OnOk result (found.new ≡ first_after found.old
+        (walk (judge.with_target env.now) targets.old.items (type_defs decls.now)).breaches) }
+    ensures answer { OnOk result (targets.new.items ≡
+        (walk (judge.with_target env.now) targets.old.items (type_defs decls.now)).answer) }
+{
+    for decl in decls {
+        add_targets_of(found, env, targets, decl)?;
+    }
+    Ok(())
+}
+
+/// What the definitions of a procedure lead to, whose scope has this number, behind those before them.
+fn add_targets_within(
+    alloc: Global,
+    found: &mut Option<Breach>,
+    env: &mut Env<'_>,
+    scope: u32,
+    targets: &mut Vec<Target>,
+    decls: &[Decl],
+) -> Result<(), AllocError>
+    ensures noted { OnOk result (found.new ≡ first_after found.old
+        (walk (judge.with_target (env_of.within env.old scope)) targets.old.items
+        (type_defs decls.now)).breaches) }
+    ensures answer { OnOk result (targets.new.items ≡
+        (walk (judge.with_target (env_of.within env.old scope)) targets.old.items
+        (type_defs decls.now)).answer) }
+    ensures env { OnOk result (env.new ≡ env.old) }
+{
+    let outer = env.enter(alloc, scope)?;
+    add_targets_in(found, env, targets, decls)?;
+    env.path = outer;
+    Ok(())
+}
+
+/// What the definitions of the procedures among declarations lead to, behind those before them.
+#[tactic(auto, using(aos_symbols::proofs::Keeping::after_more, crate::proofs::Targets::procedure_step, crate::proofs::Targets::other_step, crate::proofs::Targets::procedures_end))]
+fn add_targets_of_procedures(
+    alloc: Global,
+    found: &mut Option<Breach>,
+    env: &mut Env<'_>,
+    first: u32,
+    targets: &mut Vec<Target>,
+    decls: &[Decl],
+) -> Result<(), NoMemory>
+    ensures noted { OnOk result (found.new ≡ first_after found.old
+        (judge.local_targets env.old first targets.old.items (procedures decls.now)).breaches) }
+    ensures answer { OnOk result (targets.new.items ≡
+        (judge.local_targets env.old first targets.old.items (procedures decls.now)).answer) }
+    ensures env { OnOk result (env.new ≡ env.old) }
+{
+    let mut scope = first;
+    for decl in decls {
+        if let Decl::Proc(proc) = decl {
+            add_targets_within(alloc, found, env, scope, targets, proc.decls.as_slice())?;
+            let Some(next) = scope.checked_add(1) else {
+                return Err(NoMemory);
+            };
+            scope = next;
+        }
+    }
+    Ok(())
+}
+
+/// What the definitions of all declarations of a module lead to, its own first, and then those of its procedures.
+#[tactic(auto, using(aos_symbols::proofs::Keeping::after_more))]
+pub(crate) fn targets_of(
+    alloc: Global,
+    found: &mut Option<Breach>,
+    env: &mut Env<'_>,
+    decls: &[Decl],
+) -> Result<Vec<Target>, NoMemory>
+    ensures noted { OnOk result (found.new ≡ first_after found.old
+        (judge.targets env.old decls.now).breaches) }
+    ensures answer { IfOk result (λ ts. ts.items ≡ (judge.targets env.old decls.now).answer) }
+    ensures env { OnOk result (env.new ≡ env.old) }
+{
+    let Some(first) = count_types(decls)?.checked_add(1) else {
+        return Err(NoMemory);
+    };
+    let mut targets = Vec::new(alloc);
+    add_targets_in(found, env, &mut targets, decls)?;
+    add_targets_of_procedures(alloc, found, env, first, &mut targets, decls)?;
+    Ok(targets)
+}
+
+/// The target of a type of the module, of which the first has this number.
+fn target_at(first: u32, targets: &[Target], of: TypeId) -> Option<Target>
+    ensures { result ≡ judge.target_at first targets.now of }
+{
+    if of.0 < first {
+        return None;
+    }
+    targets.get((of.0 - first) as usize).copied()
+}
+
+/// Where one name leads.
+fn step(first: u32, targets: &[Target], of: TypeId) -> TypeId
+    ensures { result ≡ judge.step first targets.now of }
+{
+    match target_at(first, targets, of) {
+        None => of,
+        Some(Target::Own) => of,
+        Some(Target::Of(next)) => next,
+        Some(Target::Nothing) => NIL,
+    }
+}
+
+/// A type that isn't a name for another one.
+fn proper(first: u32, targets: &[Target], of: TypeId) -> Option<TypeId>
+    ensures { result ≡ judge.proper first targets.now of }
+{
+    if of.0 == NIL.0 {
+        return None;
+    }
+    match target_at(first, targets, of) {
+        None => Some(of),
+        Some(Target::Own) => Some(of),
+        Some(Target::Of(_)) => None,
+        Some(Target::Nothing) => None,
+    }
+}
+
+/// As far along the names as the module's types lead by these numbers; another type leads to itself.
+fn leap(first: u32, ahead: &[TypeId], of: TypeId) -> TypeId
+    ensures { result ≡ far.leap first ahead.now of }
+{
+    if of.0 < first {
+        return of;
+    }
+    match ahead.get((of.0 - first) as usize) {
+        None => of,
+        Some(next) => *next,
+    }
+}
+
+/// Where one name leads from each of the module's types.
+fn steps(alloc: Global, first: u32, targets: &[Target]) -> Result<Vec<TypeId>, AllocError>
+    requires few { first + length targets.now ≤ 2 ^ 32 }
+    ensures { IfOk result (λ ahead. ahead.items ≡ far.along first targets.now 1) }
+{
+    let mut ahead = Vec::new(alloc);
+    for number in 0..targets.len() {
+        ahead.push(step(first, targets, TypeId(first + number as u32)))?;
+    }
+    Ok(ahead)
+}
+
+/// The module's types themselves, from which no name is followed yet.
+fn own_types(alloc: Global, first: u32, count: usize) -> Result<Vec<TypeId>, AllocError>
+    requires few { first + count ≤ 2 ^ 32 }
+    ensures { IfOk result
+        (λ own. own.items ≡ map (λ k. record { 0 = first + k }) (range_with_len 0 count)) }
+{
+    let mut own = Vec::new(alloc);
+    for number in 0..count {
+        own.push(TypeId(first + number as u32))?;
+    }
+    Ok(own)
+}
+
+/// Where these numbers lead from each of those types.
+fn leaps(
+    alloc: Global,
+    first: u32,
+    ahead: &[TypeId],
+    from: &[TypeId],
+) -> Result<Vec<TypeId>, AllocError>
+    ensures { IfOk result (λ ns. ns.items ≡ map (far.leap first ahead.now) from.now) }
+{
+    from.iter().map(|of| leap(first, ahead, *of)).collect(alloc)
+}
+
+/// Those of these types that aren't names for other ones.
+fn proper_ones(
+    alloc: Global,
+    first: u32,
+    targets: &[Target],
+    ahead: &[TypeId],
+) -> Result<Vec<Option<TypeId>>, AllocError>
+    ensures { IfOk result (λ ones. ones.items ≡ map (judge.proper first targets.now) ahead.now) }
+{
+    ahead
+        .iter()
+        .map(|of| proper(first, targets, *of))
+        .collect(alloc)
+}
+
+/// What the numbers of a module's definitions stand for, of which the first is this: as many names are followed as there are
+/// types. Each round knows where twice as many lead as the one before.
+pub(crate) fn numbers_of(
+    alloc: Global,
+    first: u32,
+    targets: &[Target],
+) -> Result<Vec<Option<TypeId>>, NoMemory>
+    requires few { first + length targets.now ≤ 2 ^ 32 }
+    ensures { IfOk result (λ ns. ns.items ≡ judge.numbers first targets.now) }
+{
+    let mut reached = own_types(alloc, first, targets.len())?;
+    let mut ahead = steps(alloc, first, targets)?;
+    let mut left = targets.len();
+    while left > 0 {
+        if left % 2 == 1 {
+            reached = leaps(alloc, first, &ahead, &reached)?;
+        }
+        ahead = leaps(alloc, first, &ahead, &ahead)?;
+        left /= 2;
+    }
+    Ok(proper_ones(alloc, first, targets, &reached)?)
+}
+
+/// The row of a definition's number before any definition is met.
+fn first_row(number: u32, target: Target) -> TypeRow
+    ensures { result ≡ judge.first_row number target }
+{
+    match target {
+        Target::Own => TypeRow::Array(0, TypeId(number)),
+        Target::Of(of) => TypeRow::Array(1, of),
+        Target::Nothing => TypeRow::Open(NIL),
+    }
+}
+
+/// Puts the rows of a module's definitions behind the others, before any of them is met.
+pub(crate) fn add_rows(types: &mut Types, targets: &[Target]) -> Result<(), NoMemory>
+    ensures { OnOk result (types.new ≡
+        types.old ++ judge.first_rows (length types.old) targets.now) }
+{
+    for target in targets {
+        let Ok(number) = u32::try_from(types.len()) else {
+            return Err(NoMemory);
+        };
+        types.add(first_row(number, *target))?;
+    }
+    Ok(())
+}

@@ -1,0 +1,144 @@
+// The second pass over a module.
+
+ghost use Rattle.std.specs.Prelude.{◌≡◌, ◌+◌, ◌≤◌, ◌^◌, length, OnOk, IfOk, IsTrue};
+ghost use Rattle.aos_symbols.specs.Breaches.{first_after};
+ghost use Rattle.aos_symbols.specs.Declarations.{all_type_defs};
+ghost use Rattle.aos_check_decl.specs.Pass as judge;
+
+use crate::aliases::{add_rows, numbers_of, targets_of};
+use crate::limits::limits;
+use crate::procedures::{count_types, headings};
+use aos_base::NoMemory;
+use aos_symbols::{Breach, Env, Home, Open, home_of};
+use aos_tree::{Decl, Items, Module};
+use aos_types::{TypeId, Types};
+use std::alloc::{AllocError, Global};
+
+/// How many types a module's declarations define: its own, and those of its procedures.
+fn count_all_types(decls: &[Decl]) -> Result<u32, NoMemory>
+    ensures { IfOk result (λ n. n ≡ length (all_type_defs decls.now)) }
+{
+    let mut count = count_types(decls)?;
+    for decl in decls {
+        if let Decl::Proc(proc) = decl {
+            let Some(more) = count.checked_add(count_types(proc.decls.as_slice())?) else {
+                return Err(NoMemory);
+            };
+            count = more;
+        }
+    }
+    Ok(count)
+}
+
+/// Whether so many types, of which the first has this number, have numbers.
+fn have_numbers(first: u32, count: usize) -> bool
+    ensures { IsTrue result → first + count ≤ 2 ^ 32 }
+{
+    count <= (u32::MAX - first) as usize
+}
+
+/// So many definitions of types, each with its own number, of which the first is this.
+#[tactic(auto, using(crate::proofs::Numbers::numbers_more))]
+fn own_numbers(alloc: Global, first: u32, count: u32) -> Result<Vec<Option<TypeId>>, AllocError>
+    requires few { first + count ≤ 2 ^ 32 }
+    ensures { IfOk result (λ numbers. numbers.items ≡ judge.own_numbers first count) }
+{
+    let mut numbers = Vec::new(alloc);
+    for place in 0..count {
+        numbers.push(Some(TypeId(first + place)))?;
+    }
+    Ok(numbers)
+}
+
+/// A module's environment, in which its definitions of types have these numbers, before any declaration is met.
+fn entered<'a>(
+    alloc: Global,
+    before: Items<Home<'a>>,
+    types: Types,
+    text: &'a [u8],
+    tree: &Module,
+    numbers: &[Option<TypeId>],
+) -> Result<Env<'a>, NoMemory>
+    requires { length before ≤ 64 }
+    ensures { IfOk result (λ e. e ≡ judge.entered
+        (length before.entry) before.entry types text.now tree.now numbers.now) }
+{
+    let number = before.len() as u32;
+    let here = home_of(alloc, before.as_slice(), numbers, text, tree)?;
+    let mut path = Items::new(alloc);
+    path.push(Open {
+        home: number,
+        scope: 0,
+    })?;
+    Ok(Env {
+        number,
+        before,
+        here,
+        path,
+        types,
+        places: Items::new(alloc),
+    })
+}
+
+/// A module's environment before any of its declarations is met; the types that its declarations define have their numbers.
+fn begin<'a>(
+    alloc: Global,
+    found: &mut Option<Breach>,
+    before: Items<Home<'a>>,
+    types: Types,
+    text: &'a [u8],
+    tree: &Module,
+) -> Result<Env<'a>, NoMemory>
+    requires { length before ≤ 64 }
+    ensures noted { OnOk result (found.new ≡ first_after found.old
+        (judge.begun (length before.entry) before.entry types text.now tree.now).breaches) }
+    ensures answer { IfOk result (λ e. e ≡
+        (judge.begun (length before.entry) before.entry types text.now tree.now).answer) }
+{
+    let Ok(first) = u32::try_from(types.len()) else {
+        return Err(NoMemory);
+    };
+    let decls = tree.decls.as_slice();
+    let count = count_all_types(decls)?;
+    if !have_numbers(first, count as usize) {
+        return Err(NoMemory);
+    }
+    let own = own_numbers(alloc, first, count)?;
+    let mut env = entered(alloc, before, types, text, tree, &own)?;
+    let targets = targets_of(alloc, found, &mut env, decls)?;
+    if !have_numbers(first, targets.len()) {
+        return Err(NoMemory);
+    }
+    let numbers = numbers_of(alloc, first, &targets)?;
+    env.here = home_of(alloc, env.before.as_slice(), &numbers, text, tree)?;
+    add_rows(&mut env.types, &targets)?;
+    Ok(env)
+}
+
+/// The second pass over a module behind these in load order, whose types these are: constants, types and headings, with the
+/// rules 14 to 16, 18 to 21 and 24 to 26, and the environment behind them (Oberon-2 report, 5 to 7 and 10; Reali 2002). The
+/// first rule that is broken is taken down. Want of memory is the only error.
+#[tactic(auto, using(aos_symbols::proofs::Keeping::after_more))]
+pub fn declare<'a>(
+    alloc: Global,
+    found: &mut Option<Breach>,
+    before: Items<Home<'a>>,
+    types: Types,
+    text: &'a [u8],
+    tree: &Module,
+) -> Result<Env<'a>, NoMemory>
+    requires { length before ≤ 64 }
+    ensures noted { OnOk result (found.new ≡ first_after found.old
+        (judge.declare (length before.entry) before.entry types text.now tree.now).breaches) }
+    ensures answer { IfOk result (λ e. e ≡
+        (judge.declare (length before.entry) before.entry types text.now tree.now).answer) }
+{
+    let Ok(first) = u32::try_from(types.len()) else {
+        return Err(NoMemory);
+    };
+    let mut env = begin(alloc, found, before, types, text, tree)?;
+    let decls = tree.decls.as_slice();
+    headings(alloc, found, &mut env, decls)?;
+    limits(alloc, found, &mut env, first, decls)?;
+    Ok(env)
+}
