@@ -23,11 +23,11 @@ use Rattle.aos_tree.specs.declared.decl.Export.TheVariants.{ReadWrite, ReadOnly}
 use Rattle.aos_tree.specs.declared.decl.TypeExpr.TheVariants as type
 use Rattle.aos_tree.specs.declared.module.Import.{Import}
 use Rattle.aos_tree.specs.declared.module.Module.{Module as Tree}
-use Rattle.aos_types.specs.declared.row.TypeRow.TheVariants as row
 use Rattle.aos_typed.specs.declared.tree.Literal.TheVariants as literal
 use Rattle.aos_typed.specs.declared.tree.TType.{TType}
 use Rattle.aos_typed.specs.declared.tree.TType.TheVariants as ttype
 use Rattle.aos_typed.specs.Program.{ModuleVar, Lit, Assign, New, Nothing, Then, Module, Program}
+use Rattle.aos_types.specs.declared.row.TypeRow.TheVariants as row
 use Rattle.aos_symbols.specs.Env.{basic_rows}
 use Rattle.aos_symbols.specs.Outcome.{Outcome, refused, went, refusal}
 use Rattle.aos_compile.specs.Files.{tree, elaborate}

@@ -20,8 +20,8 @@ use Rattle.aos_symbols.specs.Breaches.{first}
 use Rattle.aos_symbols.specs.Judged.{Judged, judged}
 use Rattle.aos_symbols.specs.Names.{name_breaches}
 use Rattle.aos_symbols.specs.Outcome.{Outcome, refused, went, then, in_turn, decided, passed}
-use Rattle.aos_check_decl.specs.Headings.{headings}
-use Rattle.aos_compile.specs.Modules.{World, bodies, elaborated, entered, extended, no_modules, program_of}
+use Rattle.aos_check_decl.specs.Pass.{declare}
+use Rattle.aos_compile.specs.Modules.{World, bodies, elaborated, extended, no_modules, program_of}
 use Rattle.aos_compile.specs.Files.{Reading, tree, broken, Source, trees_from, is_named_out, named_out, at_name, refused_cycle, decided_order, file_of, load_order, loaded, modules}
 use Rattle.aos_compile.specs.Elaborates.{ComesTo}
 use Rattle.aos_compile.proofs.Readings.{length-readings}
@@ -49,13 +49,16 @@ module _ (w : World) (k : ℕ) (text : List ℕ) (m : Tree) where
   abbrev with_bodies : Env → Outcome World
   with_bodies e = then (passed k (bodies e m)) (λ b. went (extended w e m b))
 
+  abbrev declares : Judged Env
+  declares = declare (length w.before) w.before w.types text m
+
   abbrev with_headings : Unit {0} → Outcome World
-  with_headings names = then (passed k (headings (entered w text m) m.decls)) with_bodies
+  with_headings names = then (passed k declares) with_bodies
 
   by_elaborated : (r : Refusal) → elaborated w k text m ≡ refused r → r.file ≡ k
   by_elaborated r e =
       by_then (passed k (judged (name_breaches text m) tt)) with_headings r (λ n. n ≡ k) e (by_passed k (judged (name_breaches text m) tt))
-      (λ names is e'. by_then (passed k (headings (entered w text m) m.decls)) with_bodies r (λ n. n ≡ k) e' (by_passed k (headings (entered w text m) m.decls))
+      (λ names is e'. by_then (passed k declares) with_bodies r (λ n. n ≡ k) e' (by_passed k declares)
       (λ env is' e''. by_then (passed k (bodies env m)) (λ b. went (extended w env m b)) r (λ n. n ≡ k) e'' (by_passed k (bodies env m))
       (λ b is'' e'''. no_refusal (extended w env m b) r e''')))
 

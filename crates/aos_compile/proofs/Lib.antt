@@ -6,13 +6,15 @@ pub mod Loads
 pub mod Composed
 pub mod TypingPrograms
 pub mod TypingScopes
+pub mod TypingTypes
+pub mod TypingProcedures
 pub mod TypingModules
 pub mod Typing
 pub mod Idents
-pub mod Texts
+pub mod Kept
 pub mod Loaded
 pub mod Names
 pub mod Passes
-pub mod Counts
 pub mod Pairs
+pub mod InTurn
 pub mod FileNumbers

@@ -1,5 +1,5 @@
 -- The modules of a program are those of the files, in load order, each under the name that its text gives it.
-use Rattle.std.proofs.Common.{◌≡◌, ℕ, ◌<◌, List, [], ◌∷◌, ◌++◌, length, map, Option, Some, None, slice_get, refl, sym, ap, ◌∙◌, append_assoc, append-nil, arith, inl, inr}
+use Rattle.std.proofs.Common.{◌≡◌, ℕ, ◌<◌, List, [], ◌∷◌, ◌++◌, length, map, Option, Some, None, slice_get, sym, ap, ◌∙◌, append_assoc, append-nil, arith, inl, inr}
 use Rattle.std.specs.List.{All}
 use Rattle.std.proofs.lemmas.List.{map-append}
 use Rattle.std.proofs.lemmas.List.Elements.{All-head, All-tail}
@@ -14,10 +14,10 @@ use Rattle.aos_symbols.specs.Outcome.{Outcome, refused, went, then, decided, pas
 use Rattle.aos_symbols.specs.Judged.{judged}
 use Rattle.aos_symbols.specs.Names.{name_breaches}
 use Rattle.aos_symbols.proofs.Holds.{same_went, then_went}
-use Rattle.aos_check_decl.specs.Headings.{headings}
-use Rattle.aos_compile.specs.Modules.{World, Bodies, spelling, entered, bodies, module_of, extended, elaborated}
+use Rattle.aos_check_decl.specs.Pass.{declare}
+use Rattle.aos_compile.specs.Modules.{World, Bodies, spelling, bodies, module_of, extended, elaborated}
 use Rattle.aos_compile.specs.Files.{Source, loaded}
-use Rattle.aos_compile.proofs.Texts.{headings_text}
+use Rattle.aos_compile.proofs.Kept.{text_same}
 
 -- what is refused never went
 pub never_went : {A : Type 0} (r : Refusal) (a : A) → ◌≡◌ {A = Outcome A} (refused r) (went a) → ⊥
@@ -41,21 +41,27 @@ name_in ss k = name_of (slice_get ss k)
 
 extended_names : (w : World) (text : List ℕ) (m : Tree) (e : Env) (b : Bodies) → e.here.text ≡ text → names (extended w e m b) ≡ names w ++ spelling text m.name ∷ []
 extended_names w text m e b is =
-    map-append (λ (x : Module). x.name) w.modules (module_of e m b.own ∷ []) ∙ ap (λ t. names w ++ spelling t m.name ∷ []) is
+    map-append (λ (x : Module). x.name) w.modules (module_of e m b ∷ []) ∙ ap (λ t. names w ++ spelling t m.name ∷ []) is
 
 elaborated_names : (a w : World) (file : ℕ) (text : List ℕ) (m : Tree) → elaborated a file text m ≡ went w → names w ≡ names a ++ spelling text m.name ∷ []
 elaborated_names a w file text m is =
+    let second = declare (length a.before) a.before a.types text m in
     let last : Env → Bodies → Outcome World = λ e b. went (extended a e m b) in
     let behind : Env → Outcome World = λ e. then (passed file (bodies e m)) (last e) in
-    let one = then_went (passed file (judged (name_breaches text m) (tt {0}))) (λ n. then (passed file (headings (entered a text m) m.decls)) behind) w is in
-    let two = then_went (passed file (headings (entered a text m) m.decls)) behind w one.2 in
+    let one = then_went (passed file (judged (name_breaches text m) (tt {0}))) (λ n. then (passed file second) behind) w is in
+    let two = then_went (passed file second) behind w one.2 in
     let three = then_went (passed file (bodies two.0 m)) (last two.0) w two.2 in
-    let env = decided_went file (first (headings (entered a text m) m.decls).breaches) (headings (entered a text m) m.decls).answer two.0 two.1 in
-    let same : two.0.here.text ≡ text = ap (λ (e : Env). e.here.text) (sym env) ∙ headings_text (entered a text m) m.decls in
+    let env = decided_went file (first second.breaches) second.answer two.0 two.1 in
+    let same : two.0.here.text ≡ text = ap (λ (e : Env). e.here.text) (sym env) ∙ text_same (length a.before) a.before a.types text m in
     ap names (sym (same_went (extended a two.0 m three.0) w three.2)) ∙ extended_names a text m two.0 three.0 same
 
+-- a file that there may be, behind the modules before it
+abbrev load : World → ℕ → Option Source → Outcome World
+load a k None = went a
+load a k (Some s) = elaborated a k s.0 s.1
+
 loaded_at : (ss : List Source) (a : World) (k : ℕ) (s : Source) → slice_get ss k ≡ Some s → loaded ss a k ≡ elaborated a k s.0 s.1
-loaded_at ss a k s is = rw is refl
+loaded_at ss a k s is = ap (load a k) is
 
 step_names : (ss : List Source) (a b : World) (k : ℕ) → k < length ss → loaded ss a k ≡ went b → names b ≡ names a ++ name_in ss k ∷ []
 step_names ss a b k lt is = elim (slice_get_cases ss k).1 [

@@ -4,13 +4,13 @@ use Rattle.std.specs.List.{slice_get}
 use Rattle.std.proofs.lemmas.List.{length-append, drop_more}
 use Rattle.aos_tree.specs.declared.module.Module.{Module as Tree}
 use Rattle.aos_symbols.specs.declared.env.Env.{Env}
-use Rattle.aos_symbols.specs.Judged.{judged}
+use Rattle.aos_symbols.specs.Judged.{Judged, judged}
 use Rattle.aos_symbols.specs.Names.{name_breaches}
 use Rattle.aos_symbols.specs.Outcome.{Outcome, refused, went, then, passed, in_turn}
-use Rattle.aos_check_decl.specs.Headings.{headings}
+use Rattle.aos_check_decl.specs.Pass.{declare}
 use Rattle.aos_compile.specs.declared.compile_err.CompileErr.{CompileErr}
 use Rattle.aos_compile.specs.declared.compile_err.CompileErr.TheVariants.{Refused, NoMemory}
-use Rattle.aos_compile.specs.Modules.{World, no_modules, Bodies, bodies, entered, extended, module_of, elaborated}
+use Rattle.aos_compile.specs.Modules.{World, no_modules, Bodies, bodies, extended, module_of, elaborated}
 use Rattle.aos_compile.specs.Files.{Source, loaded}
 use Rattle.aos_compile.specs.Elaborates.{OnRefused}
 
@@ -29,20 +29,23 @@ by_extended w v e m b same =
     let is : extended w e m b ≡ v = cc in
     record {
       before = ap (λ x. length x.before) (sym is) ∙ length-append w.before (e.here ∷ []);
-      modules = ap (λ x. length x.modules) (sym is) ∙ length-append w.modules (module_of e m b.own ∷ []);
+      modules = ap (λ x. length x.modules) (sym is) ∙ length-append w.modules (module_of e m b ∷ []);
     }
 
 module _ (w : World) (k : ℕ) (text : List ℕ) (m : Tree) where
   abbrev with_bodies : Env → Outcome World
   with_bodies e = then (passed k (bodies e m)) (λ b. went (extended w e m b))
 
+  abbrev declares : Judged Env
+  declares = declare (length w.before) w.before w.types text m
+
   abbrev with_headings : Unit {0} → Outcome World
-  with_headings names = then (passed k (headings (entered w text m) m.decls)) with_bodies
+  with_headings names = then (passed k declares) with_bodies
 
   pub longer : (v : World) → elaborated w k text m ≡ went v → IsLonger w v
   longer v is =
       let h = went_first (passed k (judged (name_breaches text m) tt)) with_headings v is in
-      let e = went_first (passed k (headings (entered w text m) m.decls)) with_bodies v h.1 in
+      let e = went_first (passed k declares) with_bodies v h.1 in
       let b = went_first (passed k (bodies e.0 m)) (λ b. went (extended w e.0 m b)) v e.1 in
       by_extended w v e.0 m b.0 b.1
 

@@ -17,7 +17,7 @@ use Rattle.aos_tree.specs.declared.module.Module.{Module as Tree}
 use Rattle.aos_order.specs.Files.{File}
 use Rattle.aos_order.specs.Placing.{placed, unplaced}
 use Rattle.aos_order.specs.Order as order
-use Rattle.aos_order.specs.Order.{Answer, Order, Cycle, absent, answer, first_of, is_again, needs, repetition, twice}
+use Rattle.aos_order.specs.Order.{Order, absent, answer, first_of, is_again, needs, repetition, twice}
 use Rattle.aos_order.specs.Laws.{IsLoadOrder}
 use Rattle.aos_order.proofs.Keeps.{none_below, order_keeps}
 use Rattle.aos_order.proofs.Steps.{placed_within}

@@ -1,36 +1,44 @@
 -- What the passes of a module give, one after another.
-use Rattle.std.proofs.Common.{◌≡◌, ◌<◌, ◌≤◌, ℕ, zero, suc, List, [], ◌∷◌, ◌++◌, ◌+◌, length, map, Option, Some, None, get_or, drop, drop-cons, add-one, append_assoc, refl, ap, ◌∙◌, sym}
+use Rattle.std.proofs.Common.{◌≡◌, ◌<◌, ◌≤◌, ℕ, suc, List, [], ◌∷◌, ◌++◌, ◌+◌, length, map, Option, Some, None, get_or, drop, drop-cons, add-one, append_assoc, length-append, arith, refl, ap, ◌∙◌, sym}
 use Rattle.std.proofs.lemmas.List.{length-map}
-use Rattle.aos_tree.specs.declared.decl.Decl.{Decl, items-the_row-TypeDef, items-the_row-VarDef}
-use Rattle.aos_tree.specs.declared.decl.Decl.TheVariants as decl
+use Rattle.aos_tree.specs.declared.decl.Decl.{Decl}
+use Rattle.aos_tree.specs.declared.decl.TypeDef.{TypeDef}
 use Rattle.aos_tree.specs.declared.module.Module.{Module as Tree}
-use Rattle.aos_types.specs.declared.row.TypeId.{TypeId}
-use Rattle.aos_types.specs.declared.row.TypeRow.{TypeRow}
 use Rattle.aos_typed.specs.declared.tree.TStat.{TStat}
 use Rattle.aos_typed.specs.declared.tree.TObject.{TObject}
 use Rattle.aos_typed.specs.Program.{Then, ObjectType}
 use Rattle.aos_typed.specs.Seen.{seen_stat, seen_stats, seen_object}
 use Rattle.aos_symbols.specs.declared.breach.Breach.{Breach}
 use Rattle.aos_symbols.specs.declared.env.Env.{Env}
-use Rattle.aos_symbols.specs.Env as env
+use Rattle.aos_symbols.specs.Env.{within}
 use Rattle.aos_symbols.specs.Judged.{Judged, kept, bind, walk, judged}
 use Rattle.aos_symbols.specs.Breaches.{first, first_after}
 use Rattle.aos_symbols.specs.Outcome.{Outcome, went, then, passed, decided}
 use Rattle.aos_symbols.specs.Declarations.{types_in, type_defs}
 use Rattle.aos_symbols.specs.Names.{name_breaches}
 use Rattle.aos_symbols.proofs.Paths.{past}
-use Rattle.aos_check_decl.specs.Headings.{headings, declared, constant_def, type_def, variable_def, defined_row, variable_type, with_row, with_variables, with_variable, slot_in}
 use Rattle.aos_symbols.proofs.Keeping.{after_more}
+use Rattle.aos_check_decl.specs.Pass.{declare}
 use Rattle.aos_check_stat.specs.Bodies.{listed}
-use Rattle.aos_compile.specs.Modules.{World, Bodies, entered, bodies, within, object_in, extended, elaborated}
+use Rattle.aos_compile.specs.Modules.{World, Bodies, bodies, object_in, extended, elaborated}
+use Rattle.aos_compile.proofs.Kept.{before_kept}
 
 -- statements are seen in their order
 pub stats_listed : (ss : List TStat) → seen_stats ss ≡ listed (map seen_stat ss)
 stats_listed [] = refl
 stats_listed (s ∷ ss) = ap (λ z. Then (seen_stat s) z) (stats_listed ss)
 
-pub within_seen : (e : Env) (os : List TObject) → within e (length (map seen_object os)) ≡ within e (length os)
-within_seen e os = ap (λ k. within e k) (length-map os seen_object)
+pub within_seen : (e : Env) (os : List TObject) → within e (suc (length (map seen_object os))) ≡ within e (suc (length os))
+within_seen e os = ap (λ k. within e (suc k)) (length-map os seen_object)
+
+-- as many object types as definitions
+pub objects_long : (e : Env) (os : List ObjectType) (ds : List TypeDef) → length (walk (object_in e) os ds).answer ≡ length os + length ds
+objects_long e os [] = omega arith
+objects_long e os (d ∷ ds) =
+    let more = (object_in e os d).answer in
+    let rest = objects_long e more ds in
+    let one : length more ≡ length os + 1 = length-append os _ in
+    omega (arith, rest, one)
 
 -- a walk over two lists, one behind the other
 walk_both : {A X : Type 0} (step : A → X → Judged A) (a : A) (xs ys : List X) →
@@ -76,30 +84,6 @@ module _ (e : Env) (os new : List ObjectType) (ds : List Decl) (i : ℕ) (x : De
       (walk (object_in e) new (type_defs (drop (i + 1) ds))).answer ≡ (walk (object_in e) os (type_defs (drop i ds))).answer
   types_answer lt is told = ap (λ (z : Judged (List ObjectType)). z.answer) (sym (types_next lt is told))
 
--- declarations leave the modules before alone
-row_kept : (e : Env) (of : Option TypeId) (r : Option TypeRow) → (with_row e of r).before ≡ e.before
-row_kept e (Some t) (Some r) = refl
-row_kept e (Some t) None = refl
-row_kept e None r = refl
-
-variables_kept : (e : Env) (n : ℕ) (of : Option TypeId) → (with_variables e n of).before ≡ e.before
-variables_kept e zero of = refl
-variables_kept e (suc n) of = variables_kept (with_variable e of) n of
-
-walk_kept : {X : Type 0} (step : Env → X → Judged Env) → ((e : Env) (x : X) → (step e x).answer.before ≡ e.before) →
-    (e : Env) (xs : List X) → (walk step e xs).answer.before ≡ e.before
-walk_kept step each e [] = refl
-walk_kept step each e (x ∷ xs) = walk_kept step each (step e x).answer xs ∙ each e x
-
-decl_kept : (e : Env) (d : Decl) → (declared e d).answer.before ≡ e.before
-decl_kept e (decl.Consts p cs) = walk_kept constant_def (λ e d. refl) e cs
-decl_kept e (decl.Types' p shape row) = walk_kept type_def (λ e d. row_kept e (slot_in (env.lookup e d.def.name)) (defined_row e d.value).answer) e (items-the_row-TypeDef _ row)
-decl_kept e (decl.Vars' p shape row) = walk_kept variable_def (λ e v. variables_kept e (length v.defs) (variable_type e v.of).answer) e (items-the_row-VarDef _ row)
-decl_kept e (decl.Proc' p i def formals shape row body end) = refl
-
-pub headings_kept : (e : Env) (ds : List Decl) → (headings e ds).answer.before ≡ e.before
-headings_kept e ds = walk_kept declared decl_kept e ds
-
 -- a pass that goes gives its answer
 decided_is : {A : Type 0} (file : ℕ) (found : Option Breach) (a b : A) → decided file found a ≡ went b → a ≡ b
 decided_is file None a b h = cc
@@ -109,27 +93,29 @@ passed_is : {A : Type 0} (file : ℕ) (j : Judged A) (b : A) → passed file j �
 passed_is file j b h = decided_is file (first j.breaches) j.answer b h
 
 module _ (w : World) (file : ℕ) (text : List ℕ) (m : Tree) where
+  abbrev declares : Judged Env
+  declares = declare (length w.before) w.before w.types text m
+
   abbrev behind_headings : Env → Outcome World
   behind_headings e = then (passed file (bodies e m)) (λ b. went (extended w e m b))
 
   abbrev behind_names : Outcome World
-  behind_names = then (passed file (headings (entered w text m) m.decls)) behind_headings
+  behind_names = then (passed file declares) behind_headings
 
   names_told : first (name_breaches text m) ≡ None → elaborated w file text m ≡ behind_names
   names_told h = ap (λ f. then (decided file f (tt {0})) (λ names. behind_names)) h
 
-  headings_told : (e : Env) → first (name_breaches text m) ≡ None → passed file (headings (entered w text m) m.decls) ≡ went e →
-      elaborated w file text m ≡ behind_headings e
+  headings_told : (e : Env) → first (name_breaches text m) ≡ None → passed file declares ≡ went e → elaborated w file text m ≡ behind_headings e
   headings_told e a b = names_told a ∙ ap (λ o. then o behind_headings) b
 
   -- the modules before are those of the environment
-  before_kept : (v : Env) → passed file (headings (entered w text m) m.decls) ≡ went v → v.before ≡ w.before
-  before_kept v h = ap (λ (z : Env). z.before) (sym (passed_is file (headings (entered w text m) m.decls) v h)) ∙ headings_kept (entered w text m) m.decls
+  same_before : (v : Env) → passed file declares ≡ went v → v.before ≡ w.before
+  same_before v h = ap (λ (z : Env). z.before) (sym (passed_is file declares v h)) ∙ before_kept (length w.before) w.before w.types text m
 
-  pub all_went : (v : Env) (b : Bodies) (x : World) → first (name_breaches text m) ≡ None → passed file (headings (entered w text m) m.decls) ≡ went v →
+  pub all_went : (v : Env) (b : Bodies) (x : World) → first (name_breaches text m) ≡ None → passed file declares ≡ went v →
       passed file (bodies v m) ≡ went b →
-      x ≡ extended (record { before = v.before; types = []; broken = []; modules = w.modules; objects = w.objects }) v m b →
+      x ≡ extended (record { before = v.before; types = []; modules = w.modules; objects = w.objects }) v m b →
       elaborated w file text m ≡ went x
   all_went v b x p q r is =
       headings_told v p q ∙ ap (λ o. then o (λ c. went (extended w v m c))) r
-      ∙ sym (ap (λ z. went z) (is ∙ ap (λ hs. extended (record { before = hs; types = []; broken = []; modules = w.modules; objects = w.objects }) v m b) (before_kept v q)))
+      ∙ sym (ap (λ z. went z) (is ∙ ap (λ hs. extended (record { before = hs; types = []; modules = w.modules; objects = w.objects }) v m b) (same_before v q)))

@@ -1,59 +1,80 @@
 -- The program that texts come to is well typed.
-use Rattle.std.proofs.Common.{◌≡◌, ℕ, ◌<◌, ◌≤◌, List, [], ◌∷◌, length, Option, Some, None, slice_get, zip, All, refl, subst}
-use Rattle.aos_typed.specs.Program.{Program}
-use Rattle.aos_typed.specs.WellTyped.{AreStatements, IsWellTyped}
+use Rattle.std.proofs.Common.{◌≡◌, ℕ, ◌+◌, ◌<◌, ◌≤◌, List, [], ◌∷◌, length, Option, Some, None, slice_get, zip, All, refl, subst, arith}
+use Rattle.aos_typed.specs.Numbers.{predeclared_types}
+use Rattle.aos_typed.specs.Program.{Module, Program}
+use Rattle.aos_typed.specs.WellTyped.{AreStatements, AreTypes, IsVariableType, IsProcedure, IsWellTyped}
+use Rattle.aos_symbols.specs.Home.{Home}
 use Rattle.aos_symbols.specs.Outcome as outcome
 use Rattle.aos_symbols.specs.Outcome.{went, in_turn}
-use Rattle.aos_symbols.proofs.Each.{all_of}
+use Rattle.aos_symbols.proofs.Each.{Each, all_of}
 use Rattle.aos_symbols.proofs.Holds.{then_went, same_went}
 use Rattle.aos_compile.specs.Modules.{World, no_modules, program_of}
 use Rattle.aos_compile.specs.Files.{Reading, Source, trees_from, loaded, load_order, modules, elaborate}
 use Rattle.aos_compile.specs.Elaborates.{ComesTo}
 use Rattle.aos_compile.proofs.Names.{named_well}
-use Rattle.aos_compile.proofs.TypingModules.{IsWorld, begins, module_sound}
+use Rattle.aos_compile.proofs.TypingTypes.{known_variables}
+use Rattle.aos_compile.proofs.TypingModules.{AreHomes, IsWorld, no_world, module_sound}
 
-loaded_sound : (ss : List Source) (k : ℕ) (w v : World) → IsWorld w → loaded ss w k ≡ went v → IsWorld v
-loaded_sound ss k w v sound h = by (slice_get ss k) refl
-  where
-    by : (s : Option Source) → slice_get ss k ≡ s → IsWorld v
-    by None is = subst IsWorld (same_went w v (rw is at h)) sound
-    by (Some s) is = module_sound w sound s.0 s.1 k v (rw is at h)
+module _ (ss : List Source) where
+  loaded_sound : (k : ℕ) (w v : World) → IsWorld w → loaded ss w k ≡ went v → IsWorld v
+  loaded_sound k w v sound h = by (slice_get ss k) refl
+    where
+      by : (s : Option Source) → slice_get ss k ≡ s → IsWorld v
+      by None is = subst IsWorld (same_went w v (rw is at h)) sound
+      by (Some s) is = module_sound w sound s.0 s.1 k v (rw is at h)
 
-in_turn_sound : (ss : List Source) (ks : List ℕ) (w v : World) → IsWorld w → in_turn (loaded ss) w ks ≡ went v → IsWorld v
-in_turn_sound ss [] w v sound h = subst IsWorld (same_went w v h) sound
-in_turn_sound ss (k ∷ ks) w v sound h =
-    let one = then_went (loaded ss w k) (λ u. in_turn (loaded ss) u ks) v h in
-    in_turn_sound ss ks one.0 v (loaded_sound ss k w one.0 sound one.1) one.2
+  in_turn_sound : (ks : List ℕ) (w v : World) → IsWorld w → in_turn (loaded ss) w ks ≡ went v → IsWorld v
+  in_turn_sound [] w v sound h = subst IsWorld (same_went w v h) sound
+  in_turn_sound (k ∷ ks) w v sound h =
+      let one = then_went (loaded ss w k) (λ u. in_turn (loaded ss) u ks) v h in
+      in_turn_sound ks one.0 v (loaded_sound k w one.0 sound one.1) one.2
 
-pub world_sound : (ss : List Source) (w : World) → modules ss ≡ went w → IsWorld w
-world_sound ss w h =
-    let one = then_went (load_order ss) (λ order. in_turn (loaded ss) no_modules order) w h in
-    in_turn_sound ss one.0 no_modules w begins one.2
-
-pub typed_bodies : (ss : List Source) (w : World) → modules ss ≡ went w → All (λ m. AreStatements (program_of w) m.body) (program_of w).modules
-typed_bodies ss w h = all_of (λ m. AreStatements (program_of w) m.body) w.modules (world_sound ss w h).bodies
-
-pub typed_objects : (ss : List Source) (w : World) → modules ss ≡ went w → All (λ o. AreStatements (program_of w) o.body) (program_of w).objects
-typed_objects ss w h = all_of (λ o. AreStatements (program_of w) o.body) w.objects (world_sound ss w h).objects
-
-pub object_homes : (ss : List Source) (w : World) → modules ss ≡ went w → All (λ o. o.home < length (program_of w).modules) (program_of w).objects
-object_homes ss w h = all_of (λ o. o.home < length w.modules) w.objects (world_sound ss w h).places
+  world_sound : (w : World) → modules ss ≡ went w → IsWorld w
+  world_sound w h =
+      let one = then_went (load_order ss) (λ order. in_turn (loaded ss) no_modules order) w h in
+      in_turn_sound one.0 no_modules w no_world one.2
 
 -- all that is typed of a program
 pub record TypedWell (p : Program) : Type 0 where
   pub bodies : All (λ m. AreStatements p m.body) p.modules
   pub objects : All (λ o. AreStatements p o.body) p.objects
   pub homes : All (λ o. o.home < length p.modules) p.objects
+  pub types : AreTypes p.types
+  pub beside : length p.types ≡ length p.objects + predeclared_types
+  pub variables : All (λ m. All (λ v. IsVariableType p v.of) m.variables) p.modules
+  pub procedures : All (λ m. All (IsProcedure p) m.procedures) p.modules
+
+module _ (w : World) (sound : IsWorld w) where
+  abbrev AreVariables : Module → Type 0
+  AreVariables m = All (λ v. IsVariableType (program_of w) v.of) m.variables
+
+  variables_of_homes : (hs : List Home) (ms : List Module) → AreHomes w.types hs ms → Each AreVariables ms
+  variables_of_homes [] [] are = tt
+  variables_of_homes [] (m ∷ ms) are = absurd are
+  variables_of_homes (h ∷ hs) [] are = absurd are
+  variables_of_homes (h ∷ hs) (m ∷ ms) are = (
+    all_of (λ v. IsVariableType (program_of w) v.of) m.variables
+        (known_variables (program_of w) sound.table.basic m.variables are.0.scope.variables are.0.typed are.0.known),
+    variables_of_homes hs ms are.1,
+  )
+
+  world_typed : TypedWell (program_of w)
+  world_typed = record {
+    bodies = all_of (λ m. AreStatements (program_of w) m.body) w.modules sound.bodies;
+    objects = all_of (λ o. AreStatements (program_of w) o.body) w.objects sound.objects;
+    homes = all_of (λ o. o.home < length w.modules) w.objects sound.places;
+    types = sound.table.sound;
+    beside = omega (arith, sound.count);
+    variables = all_of AreVariables w.modules (variables_of_homes w.before w.modules sound.homes);
+    procedures = all_of (λ m. All (IsProcedure (program_of w)) m.procedures) w.modules sound.procedures;
+  }
 
 pub typed_well : (texts : List (List ℕ)) (rs : List Reading) (p : Program) → elaborate texts rs ≡ went p → TypedWell p
 typed_well texts rs p h =
     let one = then_went (trees_from 0 rs) (λ ms. outcome.then (modules (zip texts ms)) (λ w. went (program_of w))) p h in
     let two = then_went (modules (zip texts one.0)) (λ w. went (program_of w)) p one.2 in
-    subst TypedWell (same_went (program_of two.0) p two.2) (record {
-      bodies = typed_bodies (zip texts one.0) two.0 two.1;
-      objects = typed_objects (zip texts one.0) two.0 two.1;
-      homes = object_homes (zip texts one.0) two.0 two.1;
-    })
+    subst TypedWell (same_went (program_of two.0) p two.2)
+    (world_typed two.0 (world_sound (zip texts one.0) two.0 two.1))
 
 -- the program of 1 to 64 texts
 pub well_typed : (texts : List (List ℕ)) (p : Program) → ComesTo texts (went p) → 1 ≤ length texts → length texts ≤ 64 → IsWellTyped p
@@ -68,4 +89,8 @@ well_typed texts p h some few =
       bodies = typed.bodies;
       objects = typed.objects;
       homes = typed.homes;
+      types = typed.types;
+      beside = typed.beside;
+      variables = typed.variables;
+      procedures = typed.procedures;
     }

@@ -67,10 +67,10 @@ module _ (p q : Program) (grows : Grows p q) where
     statements_grow Nothing h = tt
     statements_grow (Then s ss) h = (statement_grows s h.0, statements_grow ss h.1)
 
--- more modules and more objects behind those of a program
-pub grown : (ts us : List TypeRow) (ms ns : List Module) (os qs : List ObjectType) →
+-- more modules and more objects behind those of a program, and whatever types
+pub grown : (ms ns : List Module) (ts us : List TypeRow) (os qs : List ObjectType) →
     Grows (record { modules = ms; types = ts; objects = os }) (record { modules = ms ++ ns; types = us; objects = os ++ qs })
-grown ts us ms ns os qs = record {
+grown ms ns ts us os qs = record {
   variables = λ m k t h. by m k t (slice_get ms m) refl h;
   objects = omega (arith, length-append os qs);
 }

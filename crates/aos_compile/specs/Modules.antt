@@ -1,8 +1,9 @@
 -- Modules in load order, each in three passes of which the first that breaks a rule refuses: names; constants, types and
 -- headings; bodies.
-use Rattle.std.specs.Prelude.{ℕ, ◌+◌, List, [], ◌∷◌, ◌++◌, length, map, Bool, true, false, Option, Some, None, slice_get}
-use Rattle.std.specs.List.{zip}
+use Rattle.std.specs.Prelude.{ℕ, suc, List, [], ◌∷◌, ◌++◌, length, map, drop, true, false, Option, Some, None, slice_get}
+use Rattle.std.specs.List.{zip, flat_map}
 use Rattle.std.specs.Str.Lossy.{utf8_lossy}
+use Rattle.aos_base.specs.declared.text.Pos.{Pos}
 use Rattle.aos_tree.specs.declared.name.Name.{Name}
 use Rattle.aos_tree.specs.declared.stat.Block.{Block}
 use Rattle.aos_tree.specs.declared.decl.Def.{Def}
@@ -12,32 +13,34 @@ use Rattle.aos_tree.specs.declared.decl.TypeExpr.TheVariants as type
 use Rattle.aos_tree.specs.declared.module.Module.{Module as Tree}
 use Rattle.aos_types.specs.declared.row.TypeId.{TypeId}
 use Rattle.aos_types.specs.declared.row.TypeRow.{TypeRow}
-use Rattle.aos_typed.specs.Program.{Stat, Variable, ObjectType, Module, Program}
+use Rattle.aos_typed.specs.declared.tree.TType.{TType}
+use Rattle.aos_typed.specs.Program.{Stat, Stats, Nothing, Variable, Parameter, Procedure as TypedProcedure, ObjectType, Module, Program}
+use Rattle.aos_symbols.specs.declared.home.Parameter.{Parameter as Formal}
+use Rattle.aos_symbols.specs.declared.home.Gives.{Gives}
+use Rattle.aos_symbols.specs.declared.home.Gives.TheVariants as gives
+use Rattle.aos_symbols.specs.declared.home.Signature.{Signature}
 use Rattle.aos_symbols.specs.declared.env.Env.{Env}
 use Rattle.aos_symbols.specs.Judged.{Judged, judged, kept, bind, walk}
 use Rattle.aos_symbols.specs.Outcome.{Outcome, went, then, passed}
 use Rattle.aos_symbols.specs.Spelling.{word}
-use Rattle.aos_symbols.specs.Declarations.{type_defs, single_variables}
+use Rattle.aos_symbols.specs.Declarations.{Procedure, procedures, type_defs, single_variables, formal_names}
 use Rattle.aos_symbols.specs.Scope.{Scope}
 use Rattle.aos_symbols.specs.Home.{Home}
-use Rattle.aos_symbols.specs.Entries.{home_of, own_types}
 use Rattle.aos_symbols.specs.Names.{name_breaches}
 use Rattle.aos_symbols.specs.Env as env
 use Rattle.aos_check_expr.specs.Known.{type_of}
-use Rattle.aos_check_decl.specs.Headings.{headings, with_types}
+use Rattle.aos_check_decl.specs.Pass.{declare}
 use Rattle.aos_check_stat.specs.Bodies.{listed, body_of}
 
--- the modules that are elaborated: what they declare, the types of all, each with whether it is broken, and their programs
+-- the modules that are elaborated: what they declare, the types of all, and their programs
 pub record World : Type 0 where
   pub before : List Home
   pub types : List TypeRow
-  pub broken : List Bool
   pub modules : List Module
   pub objects : List ObjectType
 
 abbrev pub no_modules : World
-no_modules =
-    record { before = []; types = env.basic_rows; broken = map (λ r. false) env.basic_rows; modules = []; objects = [] }
+no_modules = record { before = []; types = env.basic_rows; modules = []; objects = [] }
 
 abbrev pub program_of : World → Program
 program_of w = record { modules = w.modules; types = w.types; objects = w.objects }
@@ -46,41 +49,48 @@ program_of w = record { modules = w.modules; types = w.types; objects = w.object
 abbrev pub spelling : List ℕ → Name → List ℕ
 spelling text n = utf8_lossy (word text n)
 
--- the environment of a module before any declaration is met: all its scopes, and the numbers of its types
-abbrev pub entered : World → List ℕ → Tree → Env
-entered w text m =
-    let number = length w.before in
-    with_types (own_types (type_defs m.decls)) (record {
-      number = number;
-      before = w.before;
-      here = home_of text w.before (length w.types) m;
-      path = env.own number ∷ [];
-      types = w.types;
-      broken = w.broken;
-    })
-
--- at a place in the scope of a type that the module defines, by the type's number in the order of the text
-abbrev pub within : Env → ℕ → Env
-within e k = record e { path = record { home = e.number; scope = k + 1 } ∷ e.path }
-
 abbrev pub object_body : TypeExpr → Option Block
 object_body (type.Object' p base shape row body end) = body
 object_body t = None
 
--- the object types behind those before them
+-- What stands beside the types: first those that a module's own declarations define, each in whose scope its body stands; then
+-- those of its procedures, and those that are written elsewhere.
+
 abbrev pub object_in : Env → List ObjectType → TypeDef → Judged (List ObjectType)
 object_in e os d =
-    bind (body_of (within e (length os)) true (object_body d.value)) (λ ss.
+    bind (body_of (env.within e (suc (length os))) true (object_body d.value)) (λ ss.
     kept (os ++ record { name = spelling e.here.text d.def.name; home = e.number; body = listed ss } ∷ []))
+
+abbrev pub local_type : Env → TypeDef → ObjectType
+local_type e d = record { name = spelling e.here.text d.def.name; home = e.number; body = Nothing }
+
+abbrev pub unnamed_type : Env → Pos → ObjectType
+unnamed_type e at = record { name = []; home = e.number; body = Nothing }
+
+abbrev pub other_types : Env → Tree → List ObjectType
+other_types e m =
+    map (local_type e) (flat_map (λ p. type_defs p.decls) (procedures m.decls)) ++ map (unnamed_type e) e.places
+
+-- The bodies of procedures, whose scopes have the numbers from k on, behind those before them.
+abbrev pub bodies_from : Env → ℕ → List Stats → List Procedure → Judged (List Stats)
+bodies_from e k done [] = kept done
+bodies_from e k done (p ∷ ps) =
+    bind (body_of (env.within e k) false p.body) (λ ss. bodies_from e (suc k) (done ++ listed ss ∷ []) ps)
+
+-- the scope of a module's first procedure
+abbrev pub first_scope : Tree → ℕ
+first_scope m = suc (length (type_defs m.decls))
 
 pub record Bodies : Type 0 where
   pub objects : List ObjectType
+  pub procedures : List Stats
   pub own : List Stat
 
 abbrev pub bodies : Env → Tree → Judged Bodies
 bodies e m =
-    bind (walk (object_in e) [] (type_defs m.decls)) (λ os. bind (body_of e false m.body) (λ ss.
-    kept (record { objects = os; own = ss })))
+    bind (walk (object_in e) [] (type_defs m.decls)) (λ os.
+    bind (bodies_from e (first_scope m) [] (procedures m.decls)) (λ ps.
+    bind (body_of e false m.body) (λ ss. kept (record { objects = os ++ other_types e m; procedures = ps; own = ss }))))
 
 abbrev pub variables_of : Option Scope → List (Option TypeId)
 variables_of None = []
@@ -89,14 +99,42 @@ variables_of (Some s) = s.variables
 abbrev pub variable_of : List ℕ → Def × Option TypeId → Variable
 variable_of text p = record { name = spelling text p.0.name; of = type_of p.1 }
 
-abbrev pub module_of : Env → Tree → List Stat → Module
-module_of e m ss =
+-- Procedures: the parameters stand first in a procedure's scope, and behind them its locals.
+
+abbrev pub parameter_of : List ℕ → Name × Formal → Parameter
+parameter_of text p = record { name = spelling text p.0; by_reference = p.1.by_reference; of = type_of p.1.of }
+
+abbrev pub result_of : Gives → Option TType
+result_of gives.Nothing = None
+result_of (gives.Value of) = Some (type_of of)
+
+abbrev pub procedure_of : List ℕ → Procedure → Signature → List (Option TypeId) → Stats → TypedProcedure
+procedure_of text p s variables body =
+    let names = formal_names p.formals in
+    record {
+      name = spelling text p.name;
+      parameters = map (parameter_of text) (zip names s.parameters);
+      locals = map (variable_of text) (zip (single_variables p.decls) (drop (length names) variables));
+      result = result_of s.gives;
+      body = body;
+    }
+
+-- the first of these procedures has the scope with the number k
+abbrev pub procedures_of : List ℕ → List Scope → ℕ → List Procedure → List Signature → List Stats → List TypedProcedure
+procedures_of text scopes k [] ss bs = []
+procedures_of text scopes k (p ∷ ps) [] bs = []
+procedures_of text scopes k (p ∷ ps) (s ∷ ss) [] = []
+procedures_of text scopes k (p ∷ ps) (s ∷ ss) (b ∷ bs) =
+    procedure_of text p s (variables_of (slice_get scopes k)) b ∷ procedures_of text scopes (suc k) ps ss bs
+
+abbrev pub module_of : Env → Tree → Bodies → Module
+module_of e m b =
     let text = e.here.text in
     record {
       name = spelling text m.name;
       variables = map (variable_of text) (zip (single_variables m.decls) (variables_of (slice_get e.here.scopes 0)));
-      procedures = [];
-      body = listed ss;
+      procedures = procedures_of text e.here.scopes (first_scope m) (procedures m.decls) e.here.signatures b.procedures;
+      body = listed b.own;
     }
 
 -- a module more
@@ -105,8 +143,7 @@ extended w e m b =
     record {
       before = w.before ++ e.here ∷ [];
       types = e.types;
-      broken = e.broken;
-      modules = w.modules ++ module_of e m b.own ∷ [];
+      modules = w.modules ++ module_of e m b ∷ [];
       objects = w.objects ++ b.objects;
     }
 
@@ -114,5 +151,5 @@ extended w e m b =
 abbrev pub elaborated : World → ℕ → List ℕ → Tree → Outcome World
 elaborated w file text m =
     then (passed file (judged (name_breaches text m) (tt {0}))) (λ names.
-    then (passed file (headings (entered w text m) m.decls)) (λ e.
+    then (passed file (declare (length w.before) w.before w.types text m)) (λ e.
     then (passed file (bodies e m)) (λ b. went (extended w e m b))))

@@ -1,6 +1,6 @@
 -- What the code's modules are seen as.
 use Rattle.std.specs.Prelude.{map}
-use Rattle.aos_typed.specs.Seen.{seen_stat, seen_module, seen_object}
+use Rattle.aos_typed.specs.Seen.{seen_stat, seen_stats, seen_module, seen_object}
 use Rattle.aos_compile.specs.declared.modules.World.{World as CodeWorld}
 use Rattle.aos_compile.specs.declared.objects.Bodies.{Bodies as CodeBodies}
 use Rattle.aos_compile.specs.Modules.{World, Bodies}
@@ -10,10 +10,14 @@ seen_world w =
     record {
       before = w.before;
       types = w.types;
-      broken = w.broken;
       modules = map seen_module w.modules.items;
       objects = map seen_object w.objects.items;
     }
 
 abbrev pub seen_bodies : CodeBodies → Bodies
-seen_bodies b = record { objects = map seen_object b.objects.items; own = map seen_stat b.own.items }
+seen_bodies b =
+    record {
+      objects = map seen_object b.objects.items;
+      procedures = map (λ ss. seen_stats ss.items) b.procedures.items;
+      own = map seen_stat b.own.items;
+    }

@@ -7,6 +7,7 @@ mod front;
 mod laws;
 pub mod modules;
 mod objects;
+mod procedures;
 pub mod program;
 mod variables;
 

@@ -1,15 +1,13 @@
 // Modules in load order, each in three passes.
 
-ghost use Rattle.std.specs.Prelude.{◌≡◌, ◌≤◌, ◌^◌, ◌+◌, ◌++◌, [], Some, None, false, length, map, IfOk, IfErr, OnOk};
+ghost use Rattle.std.specs.Prelude.{◌≡◌, ◌≤◌, ◌^◌, ◌+◌, ◌++◌, [], None, length, map, IfOk, IfErr, OnOk};
 ghost use Rattle.aos_types.specs.declared.row.TypeRow.TheVariants as row;
-ghost use Rattle.aos_typed.specs.Seen.{seen_stat, seen_module, seen_object, seen_program};
+ghost use Rattle.aos_typed.specs.Seen.{seen_stat, seen_stats, seen_module, seen_object, seen_program};
 ghost use Rattle.aos_symbols.specs.Breaches.{first};
 ghost use Rattle.aos_symbols.specs.Judged.{judged};
 ghost use Rattle.aos_symbols.specs.Outcome.{went, refused, passed, refusal_of};
-ghost use Rattle.aos_symbols.specs.Declarations.{types_in, type_defs};
-ghost use Rattle.aos_symbols.specs.Entries as entries;
 ghost use Rattle.aos_symbols.specs.Names.{name_breaches};
-ghost use Rattle.aos_check_decl.specs.Headings as headings_of;
+ghost use Rattle.aos_check_decl.specs.Pass.{declare as declare_of};
 ghost use Rattle.aos_compile.specs.declared.compile_err.CompileErr.TheVariants as err;
 ghost use Rattle.aos_compile.specs.Elaborates.{OnRefused};
 ghost use Rattle.aos_compile.specs.Modules as judge;
@@ -17,11 +15,12 @@ ghost use Rattle.aos_compile.specs.Seen.{seen_world, seen_bodies};
 
 use crate::compile_err::CompileErr;
 use crate::objects::{Bodies, bodies_of, spelling_of};
+use crate::procedures::procedures_of;
 use crate::variables::variables_of;
 use aos_base::{NoMemory, Refusal};
-use aos_check_decl::{add_types, headings};
-use aos_symbols::{Breach, Env, Home, Open, check_names, home_of};
-use aos_tree::{Decl, Items, Module, TypeDef, TypeExpr};
+use aos_check_decl::declare;
+use aos_symbols::{Breach, Env, Home, check_names};
+use aos_tree::{Items, Module};
 use aos_typed::{Program, TModule, TObject, TStat};
 use aos_types::{Basic, TypeRow, Types};
 use std::alloc::{AllocError, Global};
@@ -38,25 +37,21 @@ const BASIC_TYPES: [Basic; 8] = [
     Basic::Nil,
 ];
 
-/// The modules that are elaborated, in load order: what they declare, the types of all, each with whether it is broken, and
-/// their part of the typed program.
+/// The modules that are elaborated, in load order: what they declare, the types of all, and their part of the typed program.
 #[derive(Drop)]
 pub struct World<'a> {
     pub before: Items<Home<'a>>,
     pub types: Types,
-    pub broken: Items<bool>,
     pub modules: Vec<TModule>,
     pub objects: Vec<TObject>,
 }
 
-fn add_basic(types: &mut Types, broken: &mut Items<bool>, basic: &[Basic]) -> Result<(), NoMemory>
+fn add_basic(types: &mut Types, basic: &[Basic]) -> Result<(), NoMemory>
     requires { length types.old + length basic.now ≤ 2 ^ 32 }
-    ensures types { OnOk result (types.new ≡ types.old ++ map (λ b. row.Basic b) basic.now) }
-    ensures broken { OnOk result (broken.new ≡ broken.old ++ map (λ b. false) basic.now) }
+    ensures { OnOk result (types.new ≡ types.old ++ map (λ b. row.Basic b) basic.now) }
 {
     for of in basic {
         types.add(TypeRow::Basic(*of))?;
-        broken.push(false)?;
     }
     Ok(())
 }
@@ -66,101 +61,14 @@ pub fn no_modules<'a>(alloc: Global) -> Result<World<'a>, NoMemory>
     ensures { IfOk result (λ w. seen_world w ≡ judge.no_modules) }
 {
     let mut types = Types::new(alloc)?;
-    let mut broken = Items::new(alloc);
-    add_basic(&mut types, &mut broken, &BASIC_TYPES)?;
+    add_basic(&mut types, &BASIC_TYPES)?;
     types.add(TypeRow::Any)?;
-    broken.push(false)?;
     Ok(World {
         before: Items::new(alloc),
         types,
-        broken,
         modules: Vec::new(alloc),
         objects: Vec::new(alloc),
     })
-}
-
-fn is_alias(of: &TypeExpr) -> bool
-    ensures { result ≡ entries.is_alias of.now }
-{
-    matches!(of, TypeExpr::Named(_))
-}
-
-/// Counts the types that have numbers of their own, on top of those before them.
-#[tactic(auto, using(crate::proofs::Counts::own_step, crate::proofs::Counts::own_end))]
-fn count_types(count: &mut usize, defs: &[TypeDef]) -> Result<(), NoMemory>
-    ensures { OnOk result (count.new ≡ count.old + entries.own_types defs.now) }
-{
-    for def in defs {
-        if !is_alias(&def.value) {
-            let Some(more) = count.checked_add(1) else {
-                return Err(NoMemory);
-            };
-            *count = more;
-        }
-    }
-    Ok(())
-}
-
-fn count_types_in(count: &mut usize, decl: &Decl) -> Result<(), NoMemory>
-    ensures { OnOk result (count.new ≡ count.old + entries.own_types (types_in decl.now)) }
-{
-    match decl {
-        Decl::Types(_, defs) => count_types(count, defs.as_slice()),
-        _ => Ok(()),
-    }
-}
-
-/// How many types of declarations have numbers of their own.
-#[tactic(auto, using(crate::proofs::Counts::decls_step, crate::proofs::Counts::decls_end))]
-fn own_types(decls: &[Decl]) -> Result<usize, NoMemory>
-    ensures { IfOk result (λ n. n ≡ entries.own_types (type_defs decls.now)) }
-{
-    let mut count = 0;
-    for decl in decls {
-        count_types_in(&mut count, decl)?;
-    }
-    Ok(count)
-}
-
-/// The environment of a module before any of its declarations is met, behind these modules and types.
-fn entered<'a>(
-    alloc: Global,
-    before: Items<Home<'a>>,
-    types: Types,
-    broken: Items<bool>,
-    text: &'a [u8],
-    tree: &Module,
-) -> Result<Env<'a>, NoMemory>
-    requires { length before ≤ 64 }
-    ensures { IfOk result (λ e. e ≡ judge.entered (record {
-      before = before.entry;
-      types = types;
-      broken = broken;
-      modules = [];
-      objects = [];
-    }) text.now tree.now) }
-{
-    let number = before.len() as u32;
-    let Ok(next) = u32::try_from(types.len()) else {
-        return Err(NoMemory);
-    };
-    let here = home_of(alloc, before.as_slice(), next, text, tree)?;
-    let mut path = Items::new(alloc);
-    path.push(Open {
-        home: number,
-        scope: 0,
-    })?;
-    let count = own_types(tree.decls.as_slice())?;
-    let mut env = Env {
-        number,
-        before,
-        here,
-        path,
-        types,
-        broken,
-    };
-    add_types(&mut env, count)?;
-    Ok(env)
 }
 
 /// A breach as a refusal of a file.
@@ -186,20 +94,25 @@ fn with_names(alloc: Global, file: u32, text: &[u8], tree: &Module) -> Result<()
     }
 }
 
-/// The pass over constants, types and headings.
+/// The pass over constants, types and headings, of a module behind these in load order, whose types these are.
 fn with_headings<'a>(
     alloc: Global,
     file: u32,
-    mut env: Env<'a>,
+    before: Items<Home<'a>>,
+    types: Types,
+    text: &'a [u8],
     tree: &Module,
 ) -> Result<Env<'a>, CompileErr>
+    requires { length before ≤ 64 }
     ensures went { IfOk result (λ e.
-        passed file (headings_of.headings env.entry tree.now.decls) ≡ went e) }
+        passed file (declare_of (length before.entry) before.entry types text.now tree.now) ≡
+        went e) }
     ensures refused { IfErr result (λ e. OnRefused e (λ r.
-        passed file (headings_of.headings env.entry tree.now.decls) ≡ refused r)) }
+        passed file (declare_of (length before.entry) before.entry types text.now tree.now) ≡
+        refused r)) }
 {
     let mut found = None;
-    headings(alloc, &mut found, &mut env, tree.decls.as_slice())?;
+    let env = declare(alloc, &mut found, before, types, text, tree)?;
     match found {
         Some(breach) => Err(refusal(file, breach)),
         None => Ok(env),
@@ -227,19 +140,23 @@ fn with_bodies(
     }
 }
 
-/// A module of the typed program, whose statements these are.
+/// A module of the typed program, whose bodies these are.
 fn module_of(
     alloc: Global,
     env: &Env<'_>,
     tree: &Module,
+    bodies: Vec<Vec<TStat>>,
     body: Vec<TStat>,
 ) -> Result<TModule, AllocError>
-    ensures { IfOk result (λ m. seen_module m ≡
-        judge.module_of env.now tree.now (map seen_stat body.items)) }
+    ensures { IfOk result (λ m. seen_module m ≡ judge.module_of env.now tree.now (record {
+      objects = [];
+      procedures = map (λ ss. seen_stats ss.items) bodies.items;
+      own = map seen_stat body.items;
+    })) }
 {
     let name = spelling_of(alloc, env.here.text(), tree.name)?;
     let variables = variables_of(alloc, env, tree.decls.as_slice())?;
-    let procedures = Vec::new(alloc);
+    let procedures = procedures_of(alloc, env, tree.decls.as_slice(), bodies)?;
     Ok(TModule {
         name,
         variables,
@@ -270,27 +187,28 @@ fn extended<'a>(
     ensures { IfOk result (λ w. seen_world w ≡ judge.extended (record {
       before = env.entry.before;
       types = [];
-      broken = [];
       modules = map seen_module modules.items;
       objects = map seen_object objects.items;
     })
         env.entry tree.now (seen_bodies bodies)) }
 {
-    let Bodies { objects: more, own } = bodies;
-    modules.push(module_of(alloc, &env, tree, own)?)?;
+    let Bodies {
+        objects: more,
+        procedures,
+        own,
+    } = bodies;
+    modules.push(module_of(alloc, &env, tree, procedures, own)?)?;
     join_objects(&mut objects, more)?;
     let Env {
         mut before,
         here,
         types,
-        broken,
         ..
     } = env;
     before.push(here)?;
     Ok(World {
         before,
         types,
-        broken,
         modules,
         objects,
     })
@@ -314,12 +232,10 @@ pub fn elaborated<'a>(
     let World {
         before,
         types,
-        broken,
         modules,
         objects,
     } = world;
-    let env = entered(alloc, before, types, broken, text, tree)?;
-    let mut env = with_headings(alloc, file, env, tree)?;
+    let mut env = with_headings(alloc, file, before, types, text, tree)?;
     let bodies = with_bodies(alloc, file, &mut env, tree)?;
     let world = extended(alloc, env, modules, objects, tree, bodies)?;
     Ok(world)
@@ -332,7 +248,6 @@ pub fn program_of(world: World<'_>) -> Program
     let World {
         before: _,
         types,
-        broken: _,
         modules,
         objects,
     } = world;

@@ -1,26 +1,30 @@
 // The third pass over a module: the bodies of its object types, and its own.
 
-ghost use Rattle.std.specs.Prelude.{◌≡◌, [], true, false, OnOk, IfOk, map};
+ghost use Rattle.std.specs.Prelude.{◌≡◌, ◌++◌, suc, [], true, false, OnOk, IfOk, map};
+ghost use Rattle.std.specs.List.{flat_map};
 ghost use Rattle.std.specs.String.{string_bytes};
-ghost use Rattle.aos_typed.specs.Seen.{seen_stat, seen_object};
+ghost use Rattle.aos_typed.specs.Seen.{seen_stat, seen_stats, seen_object};
 ghost use Rattle.aos_symbols.specs.Breaches.{first_after};
 ghost use Rattle.aos_symbols.specs.Judged.{walk};
-ghost use Rattle.aos_symbols.specs.Declarations.{types_in, type_defs};
+ghost use Rattle.aos_symbols.specs.Declarations.{types_in, type_defs, procedures};
+ghost use Rattle.aos_symbols.specs.Env as env_of;
 ghost use Rattle.aos_check_stat.specs.Bodies.{body_of as body_of_env};
 ghost use Rattle.aos_compile.specs.Modules as judge;
 ghost use Rattle.aos_compile.specs.Seen.{seen_bodies};
 
+use aos_base::Pos;
 use aos_check_stat::body_of;
-use aos_symbols::{Breach, Env, Open, word};
-use aos_tree::{Decl, Items, Module, Name, TypeDef, TypeExpr};
+use aos_symbols::{Breach, Env, word};
+use aos_tree::{Block, Decl, Module, Name, TypeDef, TypeExpr};
 use aos_typed::{TObject, TStat};
 use std::alloc::{AllocError, Global};
-use std::mem;
 
-/// The bodies of a module, as the typed program has them: its object types, and the statements of its own body.
+/// The bodies of a module, as the typed program has them: what stands beside its types, the statements of its procedures, and
+/// those of its own body.
 #[derive(Drop)]
 pub struct Bodies {
     pub objects: Vec<TObject>,
+    pub procedures: Vec<Vec<TStat>>,
     pub own: Vec<TStat>,
 }
 
@@ -29,25 +33,6 @@ pub fn spelling_of(alloc: Global, text: &[u8], name: Name) -> Result<String, All
     ensures { IfOk result (λ s. string_bytes s ≡ judge.spelling text.now name) }
 {
     String::from_utf8_lossy(alloc, word(text, name))
-}
-
-/// The path of names within the type with a number among those that the module defines.
-fn inner_path(alloc: Global, env: &Env<'_>, number: usize) -> Result<Items<Open>, AllocError>
-    ensures { IfOk result (λ path. path ≡ (judge.within env.now number).path) }
-{
-    let Ok(number) = u32::try_from(number) else {
-        return Err(AllocError);
-    };
-    let Some(scope) = number.checked_add(1) else {
-        return Err(AllocError);
-    };
-    let home = env.number;
-    let mut path = Items::new(alloc);
-    path.push(Open { home, scope })?;
-    for open in env.path.as_slice() {
-        path.push(*open)?;
-    }
-    Ok(path)
 }
 
 /// The statements of a type's body; a type without a body has none.
@@ -68,25 +53,44 @@ fn statements_of(
     }
 }
 
-/// The statements of the body of the type with a number among those that the module defines.
+/// The statements of the body of a type, in the scope with a number.
 fn inner_statements(
     alloc: Global,
     found: &mut Option<Breach>,
     env: &mut Env<'_>,
-    number: usize,
+    scope: u32,
     of: &TypeExpr,
 ) -> Result<Vec<TStat>, AllocError>
     ensures noted { OnOk result (found.new ≡ first_after found.old
-        (body_of_env (judge.within env.old number) true (judge.object_body of.now)).breaches) }
+        (body_of_env (env_of.within env.old scope) true (judge.object_body of.now)).breaches) }
     ensures answer { IfOk result (λ ss. map seen_stat ss.items ≡
-        (body_of_env (judge.within env.old number) true (judge.object_body of.now)).answer) }
+        (body_of_env (env_of.within env.old scope) true (judge.object_body of.now)).answer) }
     ensures env { OnOk result (env.new ≡ env.old) }
 {
-    let inner = inner_path(alloc, env, number)?;
-    let outer = mem::replace(&mut env.path, inner);
+    let outer = env.enter(alloc, scope)?;
     let statements = statements_of(alloc, found, env, of)?;
     env.path = outer;
     Ok(statements)
+}
+
+/// The number behind another one.
+pub fn number_behind(number: u32) -> Result<u32, AllocError>
+    ensures { IfOk result (λ n. n ≡ suc number) }
+{
+    match number.checked_add(1) {
+        Some(next) => Ok(next),
+        None => Err(AllocError),
+    }
+}
+
+/// The number of the scope behind so many types.
+fn scope_behind(types: usize) -> Result<u32, AllocError>
+    ensures { IfOk result (λ n. n ≡ suc types) }
+{
+    let Ok(number) = u32::try_from(types) else {
+        return Err(AllocError);
+    };
+    number_behind(number)
 }
 
 /// The object type of a definition, behind those before it.
@@ -104,13 +108,11 @@ fn add_object(
         (judge.object_in env.old (map seen_object objects.old.items) def.now).answer) }
     ensures env { OnOk result (env.new ≡ env.old) }
 {
-    let body = inner_statements(alloc, found, env, objects.len(), &def.value)?;
+    let home = env.number;
+    let scope = scope_behind(objects.len())?;
+    let body = inner_statements(alloc, found, env, scope, &def.value)?;
     let name = spelling_of(alloc, env.here.text(), def.def.name)?;
-    objects.push(TObject {
-        name,
-        home: env.number,
-        body,
-    })?;
+    objects.push(TObject { name, home, body })?;
     Ok(())
 }
 
@@ -174,6 +176,143 @@ fn objects_of(
     Ok(objects)
 }
 
+/// Types that a procedure defines: none of them is an object type.
+fn add_local_types(
+    alloc: Global,
+    env: &Env<'_>,
+    objects: &mut Vec<TObject>,
+    defs: &[TypeDef],
+) -> Result<(), AllocError>
+    ensures { OnOk result (map seen_object objects.new.items ≡
+        map seen_object objects.old.items ++ map (judge.local_type env.now) defs.now) }
+{
+    for def in defs {
+        let name = spelling_of(alloc, env.here.text(), def.def.name)?;
+        objects.push(TObject {
+            name,
+            home: env.number,
+            body: Vec::new(alloc),
+        })?;
+    }
+    Ok(())
+}
+
+/// The types that the declarations of a procedure define.
+fn add_types_of(
+    alloc: Global,
+    env: &Env<'_>,
+    objects: &mut Vec<TObject>,
+    decls: &[Decl],
+) -> Result<(), AllocError>
+    ensures { OnOk result (map seen_object objects.new.items ≡
+        map seen_object objects.old.items ++ map (judge.local_type env.now) (type_defs decls.now)) }
+{
+    for decl in decls {
+        if let Decl::Types(_, defs) = decl {
+            add_local_types(alloc, env, objects, defs.as_slice())?;
+        }
+    }
+    Ok(())
+}
+
+/// The types that the procedures among declarations define.
+fn add_types_of_procedures(
+    alloc: Global,
+    env: &Env<'_>,
+    objects: &mut Vec<TObject>,
+    decls: &[Decl],
+) -> Result<(), AllocError>
+    ensures { OnOk result (map seen_object objects.new.items ≡ map seen_object objects.old.items
+        ++ map (judge.local_type env.now) (flat_map (λ p. type_defs p.decls) (procedures decls.now))) }
+{
+    for decl in decls {
+        if let Decl::Proc(proc) = decl {
+            add_types_of(alloc, env, objects, proc.decls.as_slice())?;
+        }
+    }
+    Ok(())
+}
+
+/// Types that are written elsewhere, at these places: they have no name.
+fn add_unnamed(
+    alloc: Global,
+    env: &Env<'_>,
+    objects: &mut Vec<TObject>,
+    places: &[Pos],
+) -> Result<(), AllocError>
+    ensures { OnOk result (map seen_object objects.new.items ≡
+        map seen_object objects.old.items ++ map (judge.unnamed_type env.now) places.now) }
+{
+    for _place in places {
+        objects.push(TObject {
+            name: String::new(alloc),
+            home: env.number,
+            body: Vec::new(alloc),
+        })?;
+    }
+    Ok(())
+}
+
+/// Puts what stands beside types that procedures define, and beside those that are written elsewhere, behind the others.
+fn add_others(
+    alloc: Global,
+    env: &Env<'_>,
+    objects: &mut Vec<TObject>,
+    tree: &Module,
+) -> Result<(), AllocError>
+    ensures { OnOk result (map seen_object objects.new.items ≡
+        map seen_object objects.old.items ++ judge.other_types env.now tree.now) }
+{
+    add_types_of_procedures(alloc, env, objects, tree.decls.as_slice())?;
+    add_unnamed(alloc, env, objects, env.places.as_slice())
+}
+
+/// The statements of a procedure's body, in the scope with a number.
+fn procedure_statements(
+    alloc: Global,
+    found: &mut Option<Breach>,
+    env: &mut Env<'_>,
+    scope: u32,
+    body: &Option<Block>,
+) -> Result<Vec<TStat>, AllocError>
+    ensures noted { OnOk result (found.new ≡ first_after found.old
+        (body_of_env (env_of.within env.old scope) false body.now).breaches) }
+    ensures answer { IfOk result (λ ss. map seen_stat ss.items ≡
+        (body_of_env (env_of.within env.old scope) false body.now).answer) }
+    ensures env { OnOk result (env.new ≡ env.old) }
+{
+    let outer = env.enter(alloc, scope)?;
+    let statements = body_of(alloc, found, env, false, body)?;
+    env.path = outer;
+    Ok(statements)
+}
+
+/// The statements of the bodies of procedures, of which the first has the scope with this number.
+#[tactic(auto, using(aos_symbols::proofs::Keeping::after_more))]
+fn procedure_bodies(
+    alloc: Global,
+    found: &mut Option<Breach>,
+    env: &mut Env<'_>,
+    first: u32,
+    decls: &[Decl],
+) -> Result<Vec<Vec<TStat>>, AllocError>
+    ensures noted { OnOk result (found.new ≡ first_after found.old
+        (judge.bodies_from env.old first [] (procedures decls.now)).breaches) }
+    ensures answer { IfOk result (λ bs. map (λ ss. seen_stats ss.items) bs.items ≡
+        (judge.bodies_from env.old first [] (procedures decls.now)).answer) }
+    ensures env { OnOk result (env.new ≡ env.old) }
+{
+    let mut bodies = Vec::new(alloc);
+    let mut scope = first;
+    for decl in decls {
+        if let Decl::Proc(proc) = decl {
+            bodies.push(procedure_statements(alloc, found, env, scope, &proc.body)?)?;
+            scope = number_behind(scope)?;
+        }
+    }
+    Ok(bodies)
+}
+
 /// The bodies of a module, in which names stand for what the environment says.
 #[tactic(auto, using(aos_symbols::proofs::Keeping::after_more))]
 pub fn bodies_of(
@@ -187,7 +326,15 @@ pub fn bodies_of(
     ensures answer { IfOk result (λ b. seen_bodies b ≡ (judge.bodies env.old tree.now).answer) }
     ensures env { OnOk result (env.new ≡ env.old) }
 {
-    let objects = objects_of(alloc, found, env, tree.decls.as_slice())?;
+    let decls = tree.decls.as_slice();
+    let mut objects = objects_of(alloc, found, env, decls)?;
+    let first = scope_behind(objects.len())?;
+    let procedures = procedure_bodies(alloc, found, env, first, decls)?;
     let own = body_of(alloc, found, env, false, &tree.body)?;
-    Ok(Bodies { objects, own })
+    add_others(alloc, env, &mut objects, tree)?;
+    Ok(Bodies {
+        objects,
+        procedures,
+        own,
+    })
 }

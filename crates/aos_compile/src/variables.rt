@@ -1,21 +1,19 @@
 // The variables of a module, as the typed program has them.
 
-ghost use Rattle.std.specs.Prelude.{◌≡◌, ◌++◌, map, slice_get, IfOk, OnOk};
+ghost use Rattle.std.specs.Prelude.{◌≡◌, ◌++◌, map, drop, slice_get, IfOk, OnOk};
 ghost use Rattle.std.specs.List.{flat_map, zip};
+ghost use Rattle.std.specs.Option.{option_copied};
 ghost use Rattle.aos_typed.specs.Seen.{seen_variable};
 ghost use Rattle.aos_symbols.specs.Declarations.{single_variables};
 ghost use Rattle.aos_compile.specs.Modules as judge;
 
-use crate::objects::spelling_of;
+use crate::objects::{number_behind, spelling_of};
 use aos_check_expr::type_of;
 use aos_symbols::{Env, Scope};
 use aos_tree::{Decl, Def, VarDef};
 use aos_typed::TVariable;
 use aos_types::TypeId;
 use std::alloc::{AllocError, Global};
-
-/// The most variables of a module that can be told apart by their numbers.
-const MOST_VARIABLES: usize = 4_294_967_296;
 
 fn add_defs(all: &mut Vec<Def>, defs: &[Def]) -> Result<(), AllocError>
     ensures { OnOk result (all.new.items ≡ all.old.items ++ defs.now) }
@@ -63,32 +61,51 @@ fn variable_of(
     })
 }
 
-/// Variables, each with the type that stands at its number in this scope.
-#[tactic(auto, using(crate::proofs::Pairs::variables_end, crate::proofs::Pairs::variables_out))]
+/// Variables, each with the type that stands at its number in this scope, of which the first has this one.
+#[tactic(auto, using(crate::proofs::Pairs::pairs_end, crate::proofs::Pairs::pairs_out))]
 fn variables_in(
     alloc: Global,
     text: &[u8],
     scope: &Scope<'_>,
+    first: u32,
     defs: &[Def],
 ) -> Result<Vec<TVariable>, AllocError>
     ensures { IfOk result (λ vs. map seen_variable vs.items ≡
-        map (judge.variable_of text.now) (zip defs.now scope.now.variables)) }
+        map (judge.variable_of text.now) (zip defs.now (drop first scope.now.variables))) }
 {
     let mut all = Vec::new(alloc);
-    if defs.len() > MOST_VARIABLES {
-        return Err(AllocError);
-    }
-    for (number, def) in defs.iter().enumerate() {
-        let Some(of) = scope.variable(number as u32) else {
+    let mut number = first;
+    for def in defs {
+        let Some(of) = scope.variable(number) else {
             return Ok(all);
         };
         all.push(variable_of(alloc, text, *def, of)?)?;
+        number = number_behind(number)?;
     }
     Ok(all)
 }
 
+/// The variables that declarations declare, each with the type that it has in their scope, where the first has this number.
+#[tactic(auto, using(crate::proofs::Pairs::zip_nothing, crate::proofs::Pairs::drop_nothing))]
+pub fn variables_from(
+    alloc: Global,
+    text: &[u8],
+    scope: Option<&Scope<'_>>,
+    first: u32,
+    decls: &[Decl],
+) -> Result<Vec<TVariable>, AllocError>
+    ensures { IfOk result (λ vs. map seen_variable vs.items ≡
+        map (judge.variable_of text.now) (zip (single_variables decls.now)
+        (drop first (judge.variables_of (option_copied scope.entry))))) }
+{
+    let defs = variable_defs(alloc, decls)?;
+    match scope {
+        Some(scope) => variables_in(alloc, text, scope, first, &defs),
+        None => Ok(Vec::new(alloc)),
+    }
+}
+
 /// The variables that declarations of a module declare, each with the type that it has in the module's own scope.
-#[tactic(auto, using(crate::proofs::Pairs::zip_nothing))]
 pub fn variables_of(
     alloc: Global,
     env: &Env<'_>,
@@ -99,9 +116,5 @@ pub fn variables_of(
         (zip (single_variables decls.now)
         (judge.variables_of (slice_get env.now.here.scopes 0)))) }
 {
-    let defs = variable_defs(alloc, decls)?;
-    match env.here.scope(0) {
-        Some(scope) => variables_in(alloc, env.here.text(), scope, &defs),
-        None => Ok(Vec::new(alloc)),
-    }
+    variables_from(alloc, env.here.text(), env.here.scope(0), 0, decls)
 }

@@ -1,8 +1,6 @@
 -- The passes of a module, composed: it goes where all of them do.
-use Rattle.std.proofs.Common.{[], ap, sym, ◌∙◌}
+use Rattle.std.proofs.Common.{[], ap, ◌∙◌}
 use Rattle.aos_symbols.specs.declared.env.Env.{Env}
-use Rattle.aos_symbols.specs.Outcome.{passed}
-use Rattle.aos_check_decl.specs.Headings.{headings}
 use Rattle.aos_compile.specs.Modules as judge
 use Rattle.aos_compile.specs.Seen.{seen_world, seen_bodies}
 use Rattle.aos_compile.proofs.Passes.{all_went}
@@ -13,8 +11,8 @@ returns-clause-went c =
     let w = seen_world c.args.world in
     let m = c.args.tree.now in
     let b = seen_bodies c.in_ok-bodies.bodies in
-    all_went w c.args.file c.args.text.now m c.in_ok-env-2.env b (seen_world c.in_ok-world.world) c.in_ok-with_names.ensures.went
-    (ap (λ e. passed c.args.file (headings e m.decls)) (sym c.in_ok-env.ensures) ∙ c.in_ok-env-2.ensures.went)
+    all_went w c.args.file c.args.text.now m c.in_ok-env.env b (seen_world c.in_ok-world.world) c.in_ok-with_names.ensures.went
+    c.in_ok-env.ensures.went
     c.in_ok-bodies.ensures.went
     (c.in_ok-world.ensures
-    ∙ ap (λ (e : Env). judge.extended (record { before = e.before; types = []; broken = []; modules = w.modules; objects = w.objects }) e m b) c.in_ok-bodies.ensures.env)
+    ∙ ap (λ (e : Env). judge.extended (record { before = e.before; types = []; modules = w.modules; objects = w.objects }) e m b) c.in_ok-bodies.ensures.env)

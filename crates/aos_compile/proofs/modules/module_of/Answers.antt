@@ -1,9 +1,9 @@
 -- A module of the typed program, from its parts.
-use Rattle.std.proofs.Common.{slice_get, map, [], ap, ◌∙◌}
-use Rattle.std.specs.String.{string_bytes}
+use Rattle.std.proofs.Common.{slice_get, suc, length, Vec, Global, map, ap, ◌∙◌}
 use Rattle.std.specs.List.{zip}
+use Rattle.aos_typed.specs.declared.tree.TStat.{TStat}
 use Rattle.aos_typed.specs.Seen.{seen_variable, seen_procedure, seen_stats}
-use Rattle.aos_symbols.specs.Declarations.{single_variables}
+use Rattle.aos_symbols.specs.Declarations.{procedures, type_defs, single_variables}
 use Rattle.aos_compile.specs.Modules as judge
 use Rattle.aos_compile.proofs.Passes.{stats_listed}
 use Rattle.aos_compile.proofs.modules.module_of.Goals as goal
@@ -12,10 +12,18 @@ pub returns : goal.returns
 returns c =
     let e = c.args.env.now in
     let tree = c.args.tree.now in
+    let bodies = map (λ (ss : Vec TStat Global). seen_stats ss.items) c.args.bodies.items in
+    let spelled = judge.spelling e.here.text tree.name in
+    let variables = map (judge.variable_of e.here.text) (zip (single_variables tree.decls) (judge.variables_of (slice_get e.here.scopes 0))) in
+    let procs = judge.procedures_of e.here.text e.here.scopes (judge.first_scope tree) (procedures tree.decls) e.here.signatures bodies in
     let name = c.in_ok-name.ensures ∙ ap (λ t. judge.spelling t tree.name) c.text.ensures in
-    let variables = c.in_ok-variables.ensures
+    let declared = c.in_ok-variables.ensures
     ∙ ap (λ ds. map (judge.variable_of e.here.text) (zip (single_variables ds) (judge.variables_of (slice_get e.here.scopes 0)))) c.as_slice.ensures in
-    ap (λ ps. record { name = string_bytes c.in_ok-name.name; variables = map seen_variable c.in_ok-variables.variables.items; procedures = map seen_procedure ps; body = seen_stats c.args.body.items }) c.new-procedures.ensures.items
-    ∙ ap (λ n. record { name = n; variables = map seen_variable c.in_ok-variables.variables.items; procedures = []; body = seen_stats c.args.body.items }) name
-    ∙ ap (λ vs. record { name = judge.spelling e.here.text tree.name; variables = vs; procedures = []; body = seen_stats c.args.body.items }) variables
-    ∙ ap (λ b. record { name = judge.spelling e.here.text tree.name; variables = map (judge.variable_of e.here.text) (zip (single_variables tree.decls) (judge.variables_of (slice_get e.here.scopes 0))); procedures = []; body = b }) (stats_listed c.args.body.items)
+    let procedures = c.in_ok-procedures.ensures
+    ∙ ap (λ ds. judge.procedures_of e.here.text e.here.scopes (suc (length (type_defs ds))) (procedures ds) e.here.signatures bodies) c.as_slice-2.ensures in
+    let body = seen_stats c.args.body.items in
+    let told = map seen_procedure c.in_ok-procedures.procedures.items in
+    ap (λ n. record { name = n; variables = map seen_variable c.in_ok-variables.variables.items; procedures = told; body = body }) name
+    ∙ ap (λ vs. record { name = spelled; variables = vs; procedures = told; body = body }) declared
+    ∙ ap (λ ps. record { name = spelled; variables = variables; procedures = ps; body = body }) procedures
+    ∙ ap (λ b. record { name = spelled; variables = variables; procedures = procs; body = b }) (stats_listed c.args.body.items)

@@ -5,7 +5,7 @@ use Rattle.aos_typed.specs.Seen.{seen_variable}
 use Rattle.aos_compile.specs.Modules as judge
 use Rattle.aos_compile.proofs.variables.variables_in.Given as goal
 
-abbrev pub invariant-loop-number : goal.invariant-loop-number
-invariant-loop-number l =
-    map seen_variable l.all.items ++ map (judge.variable_of l.text) (zip (drop l.number l.defs) (drop l.number l.scope.variables))
-    ≡ map (judge.variable_of l.text) (zip l.defs l.scope.variables)
+abbrev pub invariant-loop-def : goal.invariant-loop-def
+invariant-loop-def l =
+    map seen_variable l.all.items ++ map (judge.variable_of l.text) (zip (drop l.def-index l.defs) (drop l.number l.scope.variables))
+    ≡ map (judge.variable_of l.text) (zip l.defs (drop l.first l.scope.variables))

@@ -1,0 +1,190 @@
+-- Declarations leave the module's number, the modules before it and its text alone, in which the names of a module lie.
+use Rattle.std.proofs.Common.{◌≡◌, ℕ, zero, suc, List, [], ◌∷◌, Bool, true, false, ◌==◌, length, slice_get, Option, Some, None, refl, ap, ◌∙◌}
+use Rattle.aos_base.specs.declared.text.Pos.{Pos}
+use Rattle.aos_tree.specs.declared.name.Qualident.{Qualident}
+use Rattle.aos_tree.specs.declared.expr.Expr.{Expr}
+use Rattle.aos_tree.specs.declared.stat.Block.{Block}
+use Rattle.aos_tree.specs.declared.decl.Decl.{Decl, items-the_row-TypeDef, items-the_row-VarDef, items-the_row-Decl}
+use Rattle.aos_tree.specs.declared.decl.Decl.TheVariants as decl
+use Rattle.aos_tree.specs.declared.decl.Def.{Def}
+use Rattle.aos_tree.specs.declared.decl.VarDef.{VarDef}
+use Rattle.aos_tree.specs.declared.decl.ConstDef.{ConstDef}
+use Rattle.aos_tree.specs.declared.decl.Formals.{Formals}
+use Rattle.aos_tree.specs.declared.decl.Section.{Section}
+use Rattle.aos_tree.specs.declared.decl.Fields.{Fields}
+use Rattle.aos_tree.specs.declared.decl.Fields.TheVariants as fields
+use Rattle.aos_tree.specs.declared.decl.TypeExpr.{TypeExpr, Row_of-TypeExpr, end_of-TypeExpr, more_of-TypeExpr, Row_of-Fields, end_of-Fields, more_of-Fields}
+use Rattle.aos_tree.specs.declared.decl.TypeExpr.TheVariants as type
+use Rattle.aos_tree.specs.declared.module.Module.{Module}
+use Rattle.aos_types.specs.declared.row.TypeId.{TypeId}
+use Rattle.aos_types.specs.declared.row.TypeRow.{TypeRow}
+use Rattle.aos_types.specs.declared.row.TypeRow.TheVariants as row
+use Rattle.aos_symbols.specs.declared.home.Parameter.{Parameter}
+use Rattle.aos_symbols.specs.declared.env.Env.{Env}
+use Rattle.aos_symbols.specs.Env as env
+use Rattle.aos_symbols.specs.Judged.{Judged, walk}
+use Rattle.aos_symbols.specs.Declarations.{Procedure, procedures, type_defs}
+use Rattle.aos_symbols.specs.Scope.{Scope, with_constant as with_value, with_variable as with_type}
+use Rattle.aos_symbols.specs.Home.{Home, changed}
+use Rattle.aos_check_expr.specs.Expressions.{constant}
+use Rattle.aos_check_decl.specs.Types.{Met, met, FieldsMet, fields_met, placed, array_of, inner_arrays, arrays, lengths_of, array_in, record_in, object_in, named_type, type_in, held_in, fields_in, field_in}
+use Rattle.aos_check_decl.specs.Headings.{with_variable, with_variables, constant_def, type_def, variable_def, settled, declared, opened, FormalsMet, formals_met, with_section, HeadingMet, formals_in, with_parameters, with_signature, locals_in, procedure, procedures_from, headings, slot_in}
+use Rattle.aos_check_decl.specs.Pass.{begun, declare}
+
+-- what declarations leave alone
+abbrev pub fixed : Env → ℕ × List Home × List ℕ
+fixed e = (e.number, e.before, e.here.text)
+
+-- a walk keeps what each step keeps
+walk_keeps : {A X B : Type 0} (f : A → B) (step : A → X → Judged A) → ((a : A) (x : X) → f (step a x).answer ≡ f a) → (a : A) (xs : List X) →
+    f (walk step a xs).answer ≡ f a
+walk_keeps f step each a [] = refl
+walk_keeps f step each a (x ∷ xs) = walk_keeps f step each (step a x).answer xs ∙ each a x
+
+-- Types.
+
+placed_fixed : (slot : Option TypeId) (at : Pos) (r : TypeRow) (e : Env) → fixed (placed slot at r e).env ≡ fixed e
+placed_fixed (Some t) at r e = refl
+placed_fixed None at r e = refl
+
+array_fixed : (slot : Option TypeId) (at : Pos) (n : ℕ) (e : Env) (of : Option TypeId) → fixed (array_of slot at n (met e of)).env ≡ fixed e
+array_fixed slot at n e None = refl
+array_fixed slot at n e (Some t) = placed_fixed slot at (row.Array n t) e
+
+inner_fixed : (at : Pos) (ns : List ℕ) (m : Met) → fixed (inner_arrays at ns m).env ≡ fixed m.env
+inner_fixed at [] m = refl
+inner_fixed at (n ∷ ns) m = array_fixed None at n (inner_arrays at ns m).env (inner_arrays at ns m).of ∙ inner_fixed at ns m
+
+arrays_fixed : (slot : Option TypeId) (at : Pos) (ns : Option (List ℕ)) (m : Met) → fixed (arrays slot at ns m).env ≡ fixed m.env
+arrays_fixed slot at None m = refl
+arrays_fixed slot at (Some []) m = refl
+arrays_fixed slot at (Some (n ∷ ns)) m = array_fixed slot at n (inner_arrays at ns m).env (inner_arrays at ns m).of ∙ inner_fixed at ns m
+
+array_in_fixed : (slot : Option TypeId) (e : Env) (at : Pos) (xs : List Expr) (j : Judged Met) → fixed j.answer.env ≡ fixed e → fixed (array_in slot e at xs j).answer.env ≡ fixed e
+array_in_fixed slot e at [] j kept = refl
+array_in_fixed slot e at (x ∷ xs) j kept = arrays_fixed slot at (lengths_of e (x ∷ xs)).answer j.answer ∙ kept
+
+record_in_fixed : (slot : Option TypeId) (e : Env) (at : Pos) (base : Option Qualident) (j : Judged FieldsMet) → fixed j.answer.env ≡ fixed e →
+    fixed (record_in slot e at base j).answer.env ≡ fixed e
+record_in_fixed slot e at None j kept = placed_fixed slot at (row.Record None j.answer.types) j.answer.env ∙ kept
+record_in_fixed slot e at (Some base) j kept = refl
+
+object_in_fixed : (slot : Option TypeId) (e : Env) (at : Pos) (base : Option Qualident) (ds : List Decl) (body : Option Block) →
+    fixed (object_in slot e at base ds body).answer.env ≡ fixed e
+object_in_fixed slot e at base ds body = by (env.innermost e.path == 0) refl slot
+  where
+    by : (b : Bool) → (env.innermost e.path == 0) ≡ b → (slot : Option TypeId) → fixed (object_in slot e at base ds body).answer.env ≡ fixed e
+    by true is None = rw is refl
+    by true is (Some t) = rw is refl
+    by false is slot = rw is refl
+
+mutual
+  type_fixed : (slot : Option TypeId) (e : Env) (t : TypeExpr) → fixed (type_in slot e t).answer.env ≡ fixed e
+  type_fixed slot e (type.Named q) = refl
+  type_fixed slot e (type.Array' p lengths shape row) = array_in_fixed slot e p lengths (held_in e row) (held_fixed e row)
+  type_fixed slot e (type.Record' p base shape row) = record_in_fixed slot e p base (fields_in (fields_met e []) row) (fields_fixed (fields_met e []) row)
+  type_fixed slot e (type.Pointer' p shape row) = refl
+  type_fixed slot e (type.Proc p flag formals) = refl
+  type_fixed slot e (type.Object' p base shape row body end) = object_in_fixed slot e p base (items-the_row-Decl _ row) body
+
+  held_fixed : {m : _} (e : Env) (r : Row_of-TypeExpr m) → fixed (held_in e r).answer.env ≡ fixed e
+  held_fixed e end_of-TypeExpr = refl
+  held_fixed e (more_of-TypeExpr t ts) = type_fixed None e t
+
+  fields_fixed : {m : _} (f : FieldsMet) (r : Row_of-Fields m) → fixed (fields_in f r).answer.env ≡ fixed f.env
+  fields_fixed f end_of-Fields = refl
+  fields_fixed f (more_of-Fields x xs) = fields_fixed (field_in f x).answer xs ∙ field_fixed f x
+
+  field_fixed : (f : FieldsMet) (x : Fields) → fixed (field_in f x).answer.env ≡ fixed f.env
+  field_fixed f fields.Empty = refl
+  field_fixed f (fields.Of' defs of) = type_fixed None f.env of
+
+-- Constants, types and variables.
+
+text_kept : (f : Scope → Scope) (h : Home) (k : ℕ) (s : Option Scope) → (changed f h k s).text ≡ h.text
+text_kept f h k None = refl
+text_kept f h k (Some s) = refl
+
+changed_fixed : (f : Scope → Scope) (e : Env) (k : ℕ) → fixed (record e { here = changed f e.here k (slice_get e.here.scopes k) }) ≡ fixed e
+changed_fixed f e k = ap (λ t. (e.number, e.before, t)) (text_kept f e.here k (slice_get e.here.scopes k))
+
+constant_fixed : (e : Env) (d : ConstDef) → fixed (constant_def e d).answer ≡ fixed e
+constant_fixed e d = changed_fixed (λ s. with_value s (record { at = d.def.name.pos; value = (constant e d.value).answer })) e (env.innermost e.path)
+
+settled_fixed : (slot : Option TypeId) (e : Env) (of : Option TypeId) → fixed (settled slot (met e of)) ≡ fixed e
+settled_fixed (Some t) e None = refl
+settled_fixed (Some t) e (Some u) = refl
+settled_fixed None e None = refl
+settled_fixed None e (Some u) = refl
+
+defined_fixed : (slot : Option TypeId) (e : Env) (t : TypeExpr) → fixed (settled slot (type_in slot e t).answer) ≡ fixed e
+defined_fixed slot e t = settled_fixed slot (type_in slot e t).answer.env (type_in slot e t).answer.of ∙ type_fixed slot e t
+
+type_def_fixed : (e : Env) (def : Def) (t : TypeExpr) → fixed (type_def e (record { def = def; value = t })).answer ≡ fixed e
+type_def_fixed e def (type.Named q) = refl
+type_def_fixed e def (type.Array' p lengths shape row) = defined_fixed (slot_in (env.lookup e def.name)) e (type.Array' p lengths shape row)
+type_def_fixed e def (type.Record' p base shape row) = defined_fixed (slot_in (env.lookup e def.name)) e (type.Record' p base shape row)
+type_def_fixed e def (type.Pointer' p shape row) = defined_fixed (slot_in (env.lookup e def.name)) e (type.Pointer' p shape row)
+type_def_fixed e def (type.Proc p flag formals) = defined_fixed (slot_in (env.lookup e def.name)) e (type.Proc p flag formals)
+type_def_fixed e def (type.Object' p base shape row body end) = defined_fixed (slot_in (env.lookup e def.name)) e (type.Object' p base shape row body end)
+
+variables_fixed : (e : Env) (n : ℕ) (of : Option TypeId) → fixed (with_variables e n of) ≡ fixed e
+variables_fixed e zero of = refl
+variables_fixed e (suc n) of = variables_fixed (with_variable e of) n of ∙ changed_fixed (λ s. with_type s of) e (env.innermost e.path)
+
+variable_fixed : (e : Env) (v : VarDef) → fixed (variable_def e v).answer ≡ fixed e
+variable_fixed e v = let m = (type_in None e v.of).answer in variables_fixed m.env (length v.defs) m.of ∙ type_fixed None e v.of
+
+declared_fixed : (e : Env) (d : Decl) → fixed (declared e d).answer ≡ fixed e
+declared_fixed e (decl.Consts p cs) = walk_keeps fixed constant_def constant_fixed e cs
+declared_fixed e (decl.Types' p shape row) = walk_keeps fixed type_def (λ e d. type_def_fixed e d.def d.value) e (items-the_row-TypeDef _ row)
+declared_fixed e (decl.Vars' p shape row) = walk_keeps fixed variable_def variable_fixed e (items-the_row-VarDef _ row)
+declared_fixed e (decl.Proc' p i def formals shape row body end) = refl
+
+-- Headings.
+
+opened_fixed : (ats : List Pos) (m : Met) → fixed (opened ats m).env ≡ fixed m.env
+opened_fixed [] m = refl
+opened_fixed (at ∷ ats) m = by (opened ats m).of refl ∙ opened_fixed ats m
+  where
+    by : (of : Option TypeId) → (opened ats m).of ≡ of → fixed (opened (at ∷ ats) m).env ≡ fixed (opened ats m).env
+    by None is = rw is refl
+    by (Some t) is = rw is refl
+
+section_fixed : (f : FormalsMet) (s : Section) → fixed (with_section f s).answer.env ≡ fixed f.env
+section_fixed f s = opened_fixed s.arrays (met f.env (named_type f.env s.of).answer)
+
+formals_fixed : (e : Env) (fs : Option Formals) → fixed (formals_in e fs).answer.env ≡ fixed e
+formals_fixed e None = refl
+formals_fixed e (Some f) = walk_keeps (λ (m : FormalsMet). fixed m.env) with_section section_fixed (formals_met e []) f.sections
+
+parameters_fixed : (e : Env) (ps : List Parameter) → fixed (with_parameters e ps) ≡ fixed e
+parameters_fixed e [] = refl
+parameters_fixed e (p ∷ ps) = parameters_fixed (with_variable e p.of) ps ∙ changed_fixed (λ s. with_type s p.of) e (env.innermost e.path)
+
+locals_fixed : (k : ℕ) (h : HeadingMet) (ds : List Decl) → fixed (locals_in k h ds).answer ≡ fixed h.env
+locals_fixed k h ds =
+    let inner = env.within (with_signature h.env h.signature) k in
+    walk_keeps fixed declared declared_fixed (with_parameters inner h.signature.parameters) ds ∙ parameters_fixed inner h.signature.parameters
+
+procedures_fixed : (e : Env) (k : ℕ) (ps : List Procedure) → fixed (procedures_from e k ps).answer ≡ fixed e
+procedures_fixed e k [] = refl
+procedures_fixed e k (p ∷ ps) =
+    procedures_fixed (procedure e k p.initializer p.formals p.decls).answer (suc k) ps
+    ∙ locals_fixed k (formals_in e p.formals).answer p.decls ∙ formals_fixed e p.formals
+
+headings_fixed : (e : Env) (ds : List Decl) → fixed (headings e ds).answer ≡ fixed e
+headings_fixed e ds = procedures_fixed (walk declared e ds).answer (suc (length (type_defs ds))) (procedures ds) ∙ walk_keeps fixed declared declared_fixed e ds
+
+module _ (number : ℕ) (before : List Home) (types : List TypeRow) (text : List ℕ) (m : Module) where
+  declare_fixed : fixed (declare number before types text m).answer ≡ (number, before, text)
+  declare_fixed = headings_fixed (begun number before types text m).answer m.decls
+
+  pub number_kept : (declare number before types text m).answer.number ≡ number
+  number_kept = ap (λ (x : ℕ × List Home × List ℕ). x.0) declare_fixed
+
+  pub before_kept : (declare number before types text m).answer.before ≡ before
+  before_kept = ap (λ (x : ℕ × List Home × List ℕ). x.1) declare_fixed
+
+  pub text_same : (declare number before types text m).answer.here.text ≡ text
+  text_same = ap (λ (x : ℕ × List Home × List ℕ). x.2) declare_fixed

@@ -1,0 +1,179 @@
+-- Types of variables and parameters, by their numbers in the table. What is known of a type stays where its row does.
+use Rattle.std.proofs.Common.{◌≡◌, ℕ, zero, suc, ◌+◌, ◌-◌, ◌<◌, ◌≤◌, ◌⊎◌, inl, inr, List, [], ◌∷◌, ◌++◌, length, map, true, false, Option, Some, None, slice_get, refl, sym, ap, ◌∙◌, subst, lt-ltb, arith}
+use Rattle.std.proofs.lemmas.Option.{slice_get_within}
+use Rattle.aos_types.specs.declared.TheConstants.{MOST_SCALARS}
+use Rattle.aos_types.specs.declared.row.TypeId.{TypeId}
+use Rattle.aos_types.specs.declared.row.TypeRow.{TypeRow}
+use Rattle.aos_types.specs.declared.row.TypeRow.TheVariants as row
+use Rattle.aos_types.specs.Table.{row_of, is_open, is_scalar}
+use Rattle.aos_types.specs.Shape.{Shape, size}
+use Rattle.aos_types.specs.Contents.{with_parts, unfolded, scalars}
+use Rattle.aos_types.specs.Chain.{parts_of, IsOneOf, IsChain}
+use Rattle.aos_types.specs.Count.{named_in}
+use Rattle.aos_typed.specs.Numbers.{id_of}
+use Rattle.aos_typed.specs.Program.{Variable, Program}
+use Rattle.aos_typed.specs.WellTyped.{IsType, IsVariableType}
+use Rattle.aos_symbols.specs.Env.{basic_rows}
+use Rattle.aos_symbols.proofs.Each.{Each}
+use Rattle.aos_symbols.proofs.Told.{IsTold, basic, defined, IsKnown}
+use Rattle.aos_check_expr.specs.Known.{type_as, type_of}
+use Rattle.aos_check_expr.proofs.Types.{integer_cases, basic_cases}
+use Rattle.aos_check_decl.proofs.Typing.{AreReady, IsThere}
+use Rattle.aos_check_stat.proofs.Places.{as_object}
+
+-- the number of a type in the typed program is that in the table
+pub number_is : (t : TypeId) → (t.0 < 7) ⊎ (9 ≤ t.0) → id_of (type_as t) ≡ t
+number_is t (inl below) =
+    basic_cases (λ t. id_of (type_as t) ≡ t) (integer_cases (λ t. id_of (type_as t) ≡ t) refl refl refl refl) refl refl refl t (lt-ltb t.0 7 below)
+number_is t (inr from) = ap id_of (as_object t (omega arith)) ∙ ap (λ (n : ℕ). record { 0 = n }) (above t.0 from)
+  where
+    above : (n : ℕ) → 9 ≤ n → (n - 9) + 9 ≡ n
+    above n h = omega arith
+
+pub told_number : (rows : List TypeRow) (t : TypeId) → IsTold rows t → (t.0 < 7) ⊎ (9 ≤ t.0)
+told_number rows t (basic below) = inl below
+told_number rows t (defined r from is closed) = inr from
+
+-- Rows that stay.
+
+abbrev pub RowsStay : List TypeRow → List TypeRow → Type 0
+RowsStay ts us = (k : ℕ) → k < length ts → slice_get us k ≡ slice_get ts k
+
+pub some_at : {X : Type 0} (xs : List X) (k : ℕ) → k < length xs → (x : X) × (slice_get xs k ≡ Some x)
+some_at [] k h = absurd (omega arith)
+some_at (x ∷ xs) zero h = (x, refl)
+some_at (x ∷ xs) (suc k) h = some_at xs k (omega arith)
+
+no_scalar : is_scalar None ≡ true → ⊥
+no_scalar e = cc
+
+module _ (ts us : List TypeRow) (stay : RowsStay ts us) where
+  pub there_stays : (k : ℕ) → k < length ts → k < length us
+  there_stays k h = let one = some_at ts k h in slice_get_within us k one.0 (stay k h ∙ one.1)
+
+  pub closed_stays : (k : ℕ) → k < length ts → is_open (slice_get ts k) ≡ false → is_open (slice_get us k) ≡ false
+  closed_stays k h closed = ap is_open (stay k h) ∙ closed
+
+  pub scalar_stays : (k : ℕ) → is_scalar (slice_get ts k) ≡ true → is_scalar (slice_get us k) ≡ true
+  scalar_stays k h = by (slice_get ts k) refl h
+    where
+      by : (o : Option TypeRow) → slice_get ts k ≡ o → is_scalar o ≡ true → is_scalar (slice_get us k) ≡ true
+      by None is h = absurd (no_scalar h)
+      by (Some r) is h = ap is_scalar (stay k (slice_get_within ts k r is) ∙ is) ∙ h
+
+-- The predeclared types.
+
+-- rows without parts
+abbrev IsFlat : Option TypeRow → Type 0
+IsFlat (Some (row.Basic b)) = Unit {0}
+IsFlat (Some row.Any) = Unit {0}
+IsFlat None = Unit {0}
+IsFlat _ = ⊥
+
+basic_flat : (k : ℕ) → IsFlat (slice_get basic_rows k)
+basic_flat zero = tt
+basic_flat (suc zero) = tt
+basic_flat (suc (suc zero)) = tt
+basic_flat (suc (suc (suc zero))) = tt
+basic_flat (suc (suc (suc (suc zero)))) = tt
+basic_flat (suc (suc (suc (suc (suc zero))))) = tt
+basic_flat (suc (suc (suc (suc (suc (suc zero)))))) = tt
+basic_flat (suc (suc (suc (suc (suc (suc (suc zero))))))) = tt
+basic_flat (suc (suc (suc (suc (suc (suc (suc (suc zero)))))))) = tt
+basic_flat (suc (suc (suc (suc (suc (suc (suc (suc (suc k))))))))) = tt
+
+flat_closed : (o : Option TypeRow) → IsFlat o → is_open o ≡ false
+flat_closed None h = refl
+flat_closed (Some (row.Basic b)) h = refl
+flat_closed (Some row.Any) h = refl
+flat_closed (Some (row.Array n t)) h = absurd h
+flat_closed (Some (row.Open t)) h = absurd h
+flat_closed (Some (row.Record b fs)) h = absurd h
+flat_closed (Some (row.Pointer t)) h = absurd h
+flat_closed (Some (row.Object b fs)) h = absurd h
+flat_closed (Some (row.Procedure fs r)) h = absurd h
+
+flat_parts : (rows : List TypeRow) (o : Option TypeRow) → IsFlat o → (p : TypeId) → IsOneOf p (parts_of rows o) → ⊥
+flat_parts rows None h p e = e
+flat_parts rows (Some (row.Basic b)) h p e = e
+flat_parts rows (Some row.Any) h p e = e
+flat_parts rows (Some (row.Array n t)) h p e = h
+flat_parts rows (Some (row.Open t)) h p e = h
+flat_parts rows (Some (row.Record b fs)) h p e = h
+flat_parts rows (Some (row.Pointer t)) h p e = h
+flat_parts rows (Some (row.Object b fs)) h p e = h
+flat_parts rows (Some (row.Procedure fs r)) h p e = h
+
+flat_names : (r : TypeRow) → IsFlat (Some r) → (p : TypeId) → IsOneOf p (named_in r) → ⊥
+flat_names (row.Basic b) h p e = e
+flat_names row.Any h p e = e
+flat_names (row.Array n t) h p e = h
+flat_names (row.Open t) h p e = h
+flat_names (row.Record b fs) h p e = h
+flat_names (row.Pointer t) h p e = h
+flat_names (row.Object b fs) h p e = h
+flat_names (row.Procedure fs r) h p e = h
+
+flat_size : (contents : TypeId → Shape TypeId) (rows : List TypeRow) (t : TypeId) (o : Option TypeRow) → IsFlat o →
+    size (with_parts contents rows t o) ≤ 1
+flat_size contents rows t None h = omega arith
+flat_size contents rows t (Some (row.Basic b)) h = omega arith
+flat_size contents rows t (Some row.Any) h = omega arith
+flat_size contents rows t (Some (row.Array n u)) h = absurd h
+flat_size contents rows t (Some (row.Open u)) h = absurd h
+flat_size contents rows t (Some (row.Record b fs)) h = absurd h
+flat_size contents rows t (Some (row.Pointer u)) h = absurd h
+flat_size contents rows t (Some (row.Object b fs)) h = absurd h
+flat_size contents rows t (Some (row.Procedure fs r)) h = absurd h
+
+-- none contains itself, each has one scalar, and none names another
+pub basic_ready : AreReady basic_rows
+basic_ready = record {
+  basic = λ k h. refl;
+  closed = λ k r is p e. absurd (flat_names r (subst IsFlat is (basic_flat k)) p e);
+  sound = record { none_contains_itself = λ t e. by t e.between e.chain; sizes = λ t. few t };
+}
+  where
+    by : (t : TypeId) (between : List TypeId) → IsChain basic_rows t (between ++ t ∷ []) → ⊥
+    by t [] e = flat_parts basic_rows (row_of basic_rows t) (basic_flat t.0) t e.0
+    by t (p ∷ ps) e = flat_parts basic_rows (row_of basic_rows t) (basic_flat t.0) p e.0
+
+    few : (t : TypeId) → scalars basic_rows t ≤ MOST_SCALARS
+    few t = let one = flat_size (unfolded 9 basic_rows) basic_rows t (row_of basic_rows t) (basic_flat t.0) in omega (arith, one)
+
+-- Variables.
+
+module _ (p : Program) (begins : RowsStay basic_rows p.types) where
+  pub there : (of : Option TypeId) → IsThere p.types of → IsType p (type_of of)
+  there None h = absurd h
+  there (Some t) h = subst (λ (u : TypeId). u.0 < length p.types) (sym (number_is t h.1)) h.0
+
+  numbered : (t : TypeId) → (t.0 < 7) ⊎ (9 ≤ t.0) → t.0 < length p.types → is_open (row_of p.types t) ≡ false → IsVariableType p (type_as t)
+  numbered t number within closed = record {
+    there = subst (λ (u : TypeId). u.0 < length p.types) (sym (number_is t number)) within;
+    closed = subst (λ (u : TypeId). is_open (row_of p.types u) ≡ false) (sym (number_is t number)) closed;
+  }
+
+  told : (t : TypeId) → IsTold p.types t → IsVariableType p (type_as t)
+  told t (basic below) =
+      let here : t.0 < length basic_rows = omega arith in
+      numbered t (inl below) (there_stays basic_rows p.types begins t.0 here)
+      (closed_stays basic_rows p.types begins t.0 here (flat_closed (slice_get basic_rows t.0) (basic_flat t.0)))
+  told t (defined r from is closed) = numbered t (inr from) (slice_get_within p.types t.0 r is) (ap is_open is ∙ closed)
+
+  pub known_type : (of : Option TypeId) → IsKnown p.types of → IsVariableType p (type_of of)
+  known_type None known = absurd known
+  known_type (Some t) known = told t known
+
+  of_types : (ofs : List (Option TypeId)) → Each (IsKnown p.types) ofs → Each (IsVariableType p) (map type_of ofs)
+  of_types [] each = tt
+  of_types (of ∷ ofs) each = (known_type of each.0, of_types ofs each.1)
+
+  of_variables : (vs : List Variable) → Each (IsVariableType p) (map (λ v. v.of) vs) → Each (λ v. IsVariableType p v.of) vs
+  of_variables [] each = tt
+  of_variables (v ∷ vs) each = (each.0, of_variables vs each.1)
+
+  -- variables of these types
+  pub known_variables : (vs : List Variable) (ofs : List (Option TypeId)) → map (λ v. v.of) vs ≡ map type_of ofs → Each (IsKnown p.types) ofs →
+      Each (λ v. IsVariableType p v.of) vs
+  known_variables vs ofs is each = of_variables vs (subst (Each (IsVariableType p)) (sym is) (of_types ofs each))
