@@ -349,7 +349,7 @@ fn parted(row: &str) -> (&str, &str) {
 }
 
 // Each row is what follows these lines, and what the whole prints.
-fn expect_outputs<R: Abort + Wait>(
+pub fn expect_outputs<R: Abort + Wait>(
     rt: &R,
     alloc: Global,
     lines: &str,
@@ -383,7 +383,7 @@ fn expect_traps<R: Abort + Wait>(
 }
 
 // Each row is what follows these lines, and the rule that it breaks with its column.
-fn expect_refusals<R: Abort + Wait>(
+pub fn expect_refusals<R: Abort + Wait>(
     rt: &R,
     alloc: Global,
     lines: &str,

@@ -49,8 +49,8 @@ fn refuses_texts(rt: HostRuntime) -> Result<(), Fail> {
             "M.Mod:1:18: rule 14: unknown name\n",
         ),
         (
-            "MODULE M; PROCEDURE P; END P; END M.",
-            "M.Mod:1:11: rule 99: not built yet\n",
+            "MODULE M; PROCEDURE P; END P; BEGIN P END M.",
+            "M.Mod:1:37: rule 99: not built yet\n",
         ),
         (
             "MODULE M; BEGIN RETURN END M.",
