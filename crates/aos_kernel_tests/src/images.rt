@@ -3,7 +3,8 @@
 use aos_code::{Body, Image, Instr, ModuleDesc, ProcShape};
 use std::alloc::{AllocError, Global};
 
-fn body_shape(alloc: Global) -> ProcShape {
+/// The shape of a body without variables of its own.
+pub fn body_shape(alloc: Global) -> ProcShape {
     ProcShape {
         module: 0,
         params: Vec::new(alloc),

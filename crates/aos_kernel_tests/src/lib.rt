@@ -1,4 +1,5 @@
-//! Tests of what a run stands on: arithmetic, locks, shelves and sinks, scripts, the kernel, and replays.
+//! Tests of what a run stands on: arithmetic, locks, shelves and sinks, scripts, soundness of code, the
+//! kernel, and replays.
 #![tactic(auto)]
 
 #[cfg(test)]
@@ -15,3 +16,5 @@ mod outside;
 mod replays;
 #[cfg(test)]
 mod scripts;
+#[cfg(test)]
+mod soundness;

@@ -1,0 +1,3 @@
+mod Tries
+mod Searches
+mod Searched

@@ -1,0 +1,3 @@
+pub mod Sound
+pub mod Stacks
+pub mod Search

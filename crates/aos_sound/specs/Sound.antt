@@ -1,0 +1,189 @@
+-- Soundness of a body: what may stand at its places, and what every path through it meets.
+use Rattle.std.specs.Prelude.{◌≡◌, ◌≤◌, ℕ, ◌+◌, List, [], ◌∷◌, length, Bool, true, false, ◌&&◌, ◌||◌, Option, Some, None, nat_lt, if◌then◌else◌, slice_get, IsTrue, ◌⊎◌, option_map}
+use Rattle.aos_code.specs.declared.instr.Kind.{Kind}
+use Rattle.aos_code.specs.declared.instr.Kind.TheVariants.{N, R, C, A}
+use Rattle.aos_code.specs.declared.instr.Instr.{Instr}
+use Rattle.aos_code.specs.declared.instr.Instr.TheVariants.{Num, Dup, Swap, Module, Unary, Binary, Fail, Assert, Halt, Jump, JumpFalse, Begin, Load, Store, NewObject, Start, Return, OutChar, OutInt, OutLn, OutOpen}
+use Rattle.aos_code.specs.declared.image.ModuleDesc.{ModuleDesc}
+use Rattle.aos_code.specs.declared.image.ProcShape.{ProcShape}
+use Rattle.aos_code.specs.declared.image.Image.{Image}
+use Rattle.aos_code.specs.Numbered.{numbered}
+use Rattle.aos_sound.specs.declared.effect.Effect.{Effect}
+use Rattle.aos_sound.specs.declared.effect.Effect.TheVariants.{Pass, Gives, Takes, TakesTwo, Turns, Joins, Twice, Swaps, Returns}
+use Rattle.aos_sound.specs.declared.effect.Next.{Next}
+use Rattle.aos_sound.specs.declared.effect.Next.TheVariants.{Ends, On, To, Either}
+use Rattle.aos_sound.specs.declared.stand.Role.{Role}
+use Rattle.aos_sound.specs.declared.stand.Role.TheVariants.{Procedure, Condition}
+
+-- the kinds of the operands, the topmost first
+abbrev pub Kinds : Type 0
+Kinds = List Kind
+
+-- what each instruction takes and gives
+abbrev pub effect_of : Instr → Effect
+effect_of (Num n) = Gives N
+effect_of Dup = Twice
+effect_of Swap = Swaps
+effect_of (Module m c) = Gives A
+effect_of (Unary op) = Turns N N
+effect_of (Binary op) = Joins N N N
+effect_of (Fail n) = Pass
+effect_of (Assert c) = Takes N
+effect_of (Halt c) = Pass
+effect_of (Jump to) = Pass
+effect_of (JumpFalse to) = Takes N
+effect_of (Begin line col) = Pass
+effect_of (Load k) = Turns A k
+effect_of (Store k) = TakesTwo k A
+effect_of (NewObject t) = Gives R
+effect_of Start = Takes R
+effect_of Return = Returns
+effect_of OutChar = Takes N
+effect_of OutInt = TakesTwo N N
+effect_of OutLn = Pass
+effect_of OutOpen = Pass
+
+-- where code goes on behind each instruction
+abbrev pub next_of : Instr → Next
+next_of (Fail n) = Ends
+next_of (Halt c) = Ends
+next_of Return = Ends
+next_of (Jump to) = To to
+next_of (JumpFalse to) = Either to
+next_of _ = On
+
+-- from this place the code may go on at that one
+abbrev pub Leads : Next → (at to : ℕ) → Type 0
+Leads Ends at to = ⊥
+Leads On at to = to ≡ at + 1
+Leads (To t) at to = to ≡ t
+Leads (Either t) at to = (to ≡ t) ⊎ (to ≡ at + 1)
+
+-- the two kinds are one
+abbrev pub same_kind : Kind → Kind → Bool
+same_kind N N = true
+same_kind R R = true
+same_kind C C = true
+same_kind A A = true
+same_kind _ _ = false
+
+-- what is left where these are taken from the top, None where others are found
+abbrev pub without : Kinds → Kinds → Option Kinds
+without [] s = Some s
+without (k ∷ ks) [] = None
+without (k ∷ ks) (x ∷ s) = if same_kind k x then without ks s else None
+
+-- with this one on top of what is left
+abbrev pub topped : Kind → Option Kinds → Option Kinds
+topped k below = option_map (λ s. k ∷ s) below
+
+-- the topmost one once more
+abbrev pub twice : Kinds → Option Kinds
+twice [] = None
+twice (k ∷ s) = Some (k ∷ k ∷ s)
+
+-- the two topmost ones exchanged
+abbrev pub swapped : Kinds → Option Kinds
+swapped [] = None
+swapped (k ∷ []) = None
+swapped (k ∷ j ∷ s) = Some (j ∷ k ∷ s)
+
+-- none, where there are none
+abbrev pub if_empty : Kinds → Option Kinds
+if_empty [] = Some []
+if_empty (k ∷ s) = None
+
+-- nothing is left where the result is taken, or where there is none nothing is there
+abbrev pub alone : Option Kind → Kinds → Option Kinds
+alone None s = if_empty s
+alone (Some k) [] = None
+alone (Some k) (x ∷ s) = if same_kind k x then if_empty s else None
+
+-- the end of a procedure with this shape
+abbrev pub returned : Option ProcShape → Kinds → Option Kinds
+returned None s = None
+returned (Some f) s = alone f.result s
+
+-- a statement begins there
+abbrev pub is_begin : Option Instr → Bool
+is_begin (Some (Begin line col)) = true
+is_begin _ = false
+
+-- the code is that of a procedure
+abbrev pub is_procedure : Role → Bool
+is_procedure Procedure = true
+is_procedure Condition = false
+
+-- a jump stays in the code; where it doesn't go forth it goes to a Begin, and stands in no condition
+abbrev pub may_jump : Role → List Instr → (to at : ℕ) → Bool
+may_jump role code to at = nat_lt to (length code) && (nat_lt at to || (is_procedure role && is_begin (slice_get code to)))
+
+-- how many cells a module has, none where there is no such module
+abbrev pub cells_in : Option ModuleDesc → ℕ
+cells_in None = 0
+cells_in (Some m) = length m.cells.items
+
+-- there is one
+abbrev pub is_some : {X : Type 0} → Option X → Bool
+is_some None = false
+is_some (Some x) = true
+
+-- what may stand at a place, on a path or not: numbers name what the image has, and a condition has no visible work but Load
+abbrev pub may_stand : Image → Role → List Instr → (at : ℕ) → Instr → Bool
+may_stand image role code at (Module m c) = nat_lt c (cells_in (slice_get image.modules.items m))
+may_stand image role code at (Jump to) = may_jump role code to at
+may_stand image role code at (JumpFalse to) = may_jump role code to at
+may_stand image role code at (NewObject t) = is_procedure role && is_some (numbered image.types.items t)
+may_stand image role code at (Assert c) = is_procedure role
+may_stand image role code at (Halt c) = is_procedure role
+may_stand image role code at (Begin line col) = is_procedure role
+may_stand image role code at (Store k) = is_procedure role
+may_stand image role code at Start = is_procedure role
+may_stand image role code at Return = is_procedure role
+may_stand image role code at OutChar = is_procedure role
+may_stand image role code at OutInt = is_procedure role
+may_stand image role code at OutLn = is_procedure role
+may_stand image role code at OutOpen = is_procedure role
+may_stand image role code at _ = true
+
+-- in an image, as the procedure of this number
+module _ (image : Image) (own : ℕ) where
+  -- the operands behind an instruction of this effect, None where it doesn't find what it takes
+  abbrev pub left_by : Effect → Kinds → Option Kinds
+  left_by Pass s = Some s
+  left_by (Gives k) s = Some (k ∷ s)
+  left_by (Takes k) s = without (k ∷ []) s
+  left_by (TakesTwo k j) s = without (k ∷ j ∷ []) s
+  left_by (Turns k r) s = topped r (without (k ∷ []) s)
+  left_by (Joins k j r) s = topped r (without (k ∷ j ∷ []) s)
+  left_by Twice s = twice s
+  left_by Swaps s = swapped s
+  left_by Returns s = returned (numbered image.shapes.items own) s
+
+  -- the operands behind an instruction, on whichever way the code goes on
+  abbrev pub after : Instr → Kinds → Option Kinds
+  after i s = left_by (effect_of i) s
+
+  -- a path from the beginning comes to this place with these operands
+  pub data Comes (code : List Instr) : ℕ → Kinds → Type 0 where
+    Begins : Comes code 0 []
+    Goes : {at : ℕ} {s : Kinds} → Comes code at s → (i : Instr) → slice_get code at ≡ Some i → (t : Kinds) → after i s ≡ Some t → (to : ℕ) → Leads (next_of i) at to → Comes code to t
+
+  -- an instruction stands at this place, and finds what it takes
+  pub record Finds (code : List Instr) (at : ℕ) (s : Kinds) : Type 0 where
+    pub instr : Instr
+    pub stands : slice_get code at ≡ Some instr
+    pub left : Kinds
+    pub finds : after instr s ≡ Some left
+
+  -- wherever a path comes it finds an instruction and what this takes, among at most `depth` operands, and all paths that come
+  -- to one place come with the same kinds
+  pub record ArePathsSound (code : List Instr) (depth : ℕ) : Type 0 where
+    pub find : (at : ℕ) (s : Kinds) → Comes code at s → Finds code at s
+    pub few : (at : ℕ) (s : Kinds) → Comes code at s → length s ≤ depth
+    pub same : (at : ℕ) (s t : Kinds) → Comes code at s → Comes code at t → s ≡ t
+
+  -- each instruction may stand where it does, and the paths are sound
+  pub record IsSound (role : Role) (code : List Instr) (depth : ℕ) : Type 0 where
+    pub stand : (at : ℕ) (i : Instr) → slice_get code at ≡ Some i → IsTrue (may_stand image role code at i)
+    pub paths : ArePathsSound code depth

@@ -1,0 +1,85 @@
+// What each instruction takes from the stack and gives, and where the code goes on behind it.
+
+ghost use Rattle.std.specs.Prelude.{◌≡◌};
+ghost use Rattle.aos_sound.specs.Sound as sound;
+
+use aos_code::{Instr, Kind};
+
+/// What an instruction takes from the stack and gives, the topmost operand first.
+#[derive(Clone, Copy, PartialEq, Eq, Debug)]
+pub enum Effect {
+    /// It leaves the stack as it is.
+    Pass,
+    /// Gives an operand of this kind.
+    Gives(Kind),
+    /// Takes one of this kind.
+    Takes(Kind),
+    /// Takes one of the first kind and below it one of the second.
+    TakesTwo(Kind, Kind),
+    /// Takes one of the first kind and gives one of the second.
+    Turns(Kind, Kind),
+    /// Takes one of the first kind and below it one of the second, and gives one of the third.
+    Joins(Kind, Kind, Kind),
+    /// Gives the topmost operand once more.
+    Twice,
+    /// Exchanges the two topmost operands.
+    Swaps,
+    /// Takes the result of the procedure, where nothing else is there.
+    Returns,
+}
+
+/// Where code goes on behind an instruction.
+#[derive(Clone, Copy, PartialEq, Eq, Debug)]
+pub enum Next {
+    /// Nowhere.
+    Ends,
+    /// At the place behind it.
+    On,
+    /// At the place of this number.
+    To(u32),
+    /// At the place of this number or at the one behind it.
+    Either(u32),
+}
+
+/// What an instruction takes from the stack and gives.
+pub fn effect_of(i: &Instr) -> Effect
+    ensures { result ≡ sound.effect_of i.now }
+{
+    match *i {
+        Instr::Num(_) => Effect::Gives(Kind::N),
+        Instr::Dup => Effect::Twice,
+        Instr::Swap => Effect::Swaps,
+        Instr::Module(_, _) => Effect::Gives(Kind::A),
+        Instr::Unary(_) => Effect::Turns(Kind::N, Kind::N),
+        Instr::Binary(_) => Effect::Joins(Kind::N, Kind::N, Kind::N),
+        Instr::Fail(_) => Effect::Pass,
+        Instr::Assert(_) => Effect::Takes(Kind::N),
+        Instr::Halt(_) => Effect::Pass,
+        Instr::Jump(_) => Effect::Pass,
+        Instr::JumpFalse(_) => Effect::Takes(Kind::N),
+        Instr::Begin(_, _) => Effect::Pass,
+        Instr::Load(kind) => Effect::Turns(Kind::A, kind),
+        Instr::Store(kind) => Effect::TakesTwo(kind, Kind::A),
+        Instr::NewObject(_) => Effect::Gives(Kind::R),
+        Instr::Start => Effect::Takes(Kind::R),
+        Instr::Return => Effect::Returns,
+        Instr::OutChar => Effect::Takes(Kind::N),
+        Instr::OutInt => Effect::TakesTwo(Kind::N, Kind::N),
+        Instr::OutLn => Effect::Pass,
+        Instr::OutOpen => Effect::Pass,
+    }
+}
+
+/// Where code goes on behind an instruction.
+pub fn next_of(i: &Instr) -> Next
+    ensures { result ≡ sound.next_of i.now }
+{
+    match *i {
+        Instr::Fail(_) => Next::Ends,
+        Instr::Halt(_) => Next::Ends,
+        Instr::Return => Next::Ends,
+        Instr::Jump(to) => Next::To(to),
+        Instr::JumpFalse(to) => Next::Either(to),
+        _ => Next::On,
+    }
+}

@@ -1,0 +1,13 @@
+//! Soundness of bodies, decided: what may stand in stack code, and what each path through it meets.
+#![tactic(auto)]
+
+mod behind;
+mod effect;
+mod search;
+mod sound;
+mod stacks;
+mod stand;
+
+pub use effect::{Effect, Next, effect_of, next_of};
+pub use sound::{is_sound, is_sound_cond};
+pub use stand::Role;
