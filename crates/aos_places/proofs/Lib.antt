@@ -1,0 +1,5 @@
+pub mod Zoom
+pub mod Grow
+pub mod Roots
+pub mod Places
+pub mod Makes

@@ -1,0 +1,4 @@
+pub mod Rooted
+pub mod Content
+pub mod World
+pub mod Shows
