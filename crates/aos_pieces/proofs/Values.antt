@@ -1,0 +1,102 @@
+-- The code of each place and each expression is a piece that gives one operand more.
+use Rattle.std.proofs.Common.{◌≡◌, ◌≤◌, ℕ, ◌+◌, pos, List, [], ◌∷◌, Some, length, refl, sym, ap, subst, arith}
+use Rattle.std.specs.Prelude.{slice_get}
+use Rattle.std.proofs.lemmas.Bool.{lt-ltb}
+use Rattle.aos_base.specs.Operators.{flag}
+use Rattle.aos_base.specs.declared.operator.Unary.TheVariants.{Range}
+use Rattle.aos_base.specs.declared.operator.Binary.TheVariants.{SetSpan}
+use Rattle.aos_base.specs.declared.number.Width.TheVariants.{W64}
+use Rattle.aos_code.specs.declared.instr.Kind.{Kind}
+use Rattle.aos_code.specs.declared.instr.Kind.TheVariants.{N, A}
+use Rattle.aos_code.specs.declared.instr.Instr.{Instr}
+use Rattle.aos_code.specs.declared.instr.Instr.TheVariants as i
+use Rattle.aos_code.specs.declared.image.Image.{Image}
+use Rattle.aos_sound.specs.declared.stand.Role.{Role}
+use Rattle.aos_sound.specs.Sound.{Kinds, cells_in}
+use Rattle.aos_typed.specs.Program.{Program, Place, ModuleVar, Expr, Lit, Read, Unary, Binary, And, Or, Element, Ord, Chr}
+use Rattle.aos_typed.specs.declared.tree.Literal.{Literal}
+use Rattle.aos_typed.specs.declared.tree.Literal.TheVariants as literal
+use Rattle.aos_typed.specs.declared.tree.TType.{TType}
+use Rattle.aos_typed.specs.declared.tree.TType.TheVariants.{Integer, Boolean, Char}
+use Rattle.aos_typed.specs.WellTyped.{place_type, taken, IsOf}
+use Rattle.aos_sim.specs.Code.{kind_of, literal_code, place_code, value_code}
+use Rattle.aos_pieces.specs.Piece.{Round, Piece}
+use Rattle.aos_pieces.specs.Need.{place_need, value_need}
+use Rattle.aos_pieces.proofs.Pieces.{one, both, one_then, then_one, choose}
+use Rattle.aos_pieces.proofs.Operands.{included_kind, literal_kind, taken_kind, given_kind, given_of_two_kind, taken_kinds}
+use Rattle.aos_pieces.proofs.Numbers.{HasNumbers}
+
+-- a place needs room for one operand at least
+pub some_place : (x : Place) → 1 ≤ place_need x
+some_place (ModuleVar m c) = omega arith
+
+-- and so does an expression
+pub some_need : (e : Expr) → 1 ≤ value_need e
+some_need (Lit l) = omega arith
+some_need (Read t x) = some_place x
+some_need (Unary op a) = some_need a
+some_need (Binary op a b) = omega arith
+some_need (And a b) = let h = some_need a in omega (arith, h)
+some_need (Or a b) = let h = some_need a in omega (arith, h)
+some_need (Element a) = omega arith
+some_need (Ord a) = some_need a
+some_need (Chr a) = some_need a
+
+module _ (p : Program) (image : Image) (own : ℕ) (role : Role) (depth : ℕ) (has : HasNumbers p image) where
+  -- a piece whose operand is of this kind, which is that one
+  as_kind : {Asks : Round} {code : List Instr} {at : ℕ} {s : Kinds} {k j : Kind} → k ≡ j → Piece image own role depth Asks code at s (k ∷ s) → Piece image own role depth Asks code at s (j ∷ s)
+  as_kind {Asks} {code} {at} {s} e c = subst (λ x. Piece image own role depth Asks code at s (x ∷ s)) e c
+
+  -- a literal
+  literal_piece : {Asks : Round} (l : Literal) {at : ℕ} {s : Kinds} → length s ≤ depth → Piece image own role depth Asks (literal_code l ∷ []) at s (N ∷ s)
+  literal_piece (literal.Int n) few = one (i.Num n) refl refl few (λ whole q. refl)
+  literal_piece (literal.Bool b) few = one (i.Num (flag b)) refl refl few (λ whole q. refl)
+  literal_piece (literal.Char c) few = one (i.Num (pos c)) refl refl few (λ whole q. refl)
+  literal_piece (literal.Set b) few = one (i.Num (pos b)) refl refl few (λ whole q. refl)
+
+  -- a place
+  pub place_piece : {Asks : Round} (x : Place) (t : TType) → place_type p x ≡ Some t → (at : ℕ) (s : Kinds) → length s + place_need x ≤ depth → Piece image own role depth Asks (place_code x at) at s (A ∷ s)
+  place_piece (ModuleVar m c) t e at s room = one (i.Module m c) refl refl (omega (arith, room)) (λ whole q. lt-ltb c (cells_in (slice_get image.modules.items m)) (has.cells m c t e))
+
+  -- an expression of a type gives an operand of the type's kind
+  pub value_piece : {Asks : Round} (e : Expr) (t : TType) → IsOf p e t → (at : ℕ) (s : Kinds) → length s + value_need e ≤ depth → Piece image own role depth Asks (value_code e at) at s (kind_of t ∷ s)
+  value_piece (Lit l) t h at s room = as_kind (sym (literal_kind l t h)) (literal_piece l (omega (arith, room)))
+  value_piece (Read u x) t h at s room =
+      let k = some_place x in
+      as_kind (sym (included_kind t u h.1)) (then_one (place_piece x u h.0 at s room) (i.Load (kind_of u)) refl refl (omega (arith, room, k)) (λ whole q. refl))
+  value_piece (Unary op a) t h at s room =
+      let k = some_need a in
+      as_kind (sym (given_kind op t h.1)) (then_one
+      (as_kind (taken_kind op) (value_piece a (taken op) h.0 at s room))
+      (i.Unary op) refl refl (omega (arith, room, k)) (λ whole q. refl))
+  value_piece (Binary op a b) t h at s room =
+      let k = some_need b in
+      let o = taken_kinds op (IsOf p a) (IsOf p b) h.0 in
+      as_kind (sym (given_of_two_kind op t h.1)) (both
+      (as_kind o.4 (value_piece a o.0 o.2 at s (omega (arith, room))))
+      (then_one
+      (as_kind o.5 (value_piece b o.1 o.3 (at + length (value_code a at)) (N ∷ s) (omega (arith, room))))
+      (i.Binary op) refl refl (omega (arith, room, k)) (λ whole q. refl)))
+  value_piece (And a b) t h at s room =
+      let here = at + length (value_code a at) + 1 in
+      let other = here + length (value_code b here) + 1 in
+      let k = some_need a in
+      as_kind (ap kind_of (sym h.2)) (choose other (here + length (value_code b here) + 2) refl (omega arith) (omega (arith, room, k)) (omega (arith, room, k))
+      (value_piece a Boolean h.0 at s (omega (arith, room)))
+      (value_piece b Boolean h.1 here s (omega (arith, room)))
+      (one (i.Num (pos 0)) refl refl (omega (arith, room)) (λ whole q. refl)))
+  value_piece (Or a b) t h at s room =
+      let other = at + length (value_code a at) + 3 in
+      let n : other ≡ at + length (value_code a at) + 1 + 1 + 1 = omega arith in
+      let k = some_need a in
+      as_kind (ap kind_of (sym h.2)) (choose other (other + length (value_code b other)) n refl (omega (arith, room, k)) (omega (arith, room, k))
+      (value_piece a Boolean h.0 at s (omega (arith, room)))
+      (one (i.Num (pos 1)) refl refl (omega (arith, room)) (λ whole q. refl))
+      (value_piece b Boolean h.1 other s (omega (arith, room))))
+  value_piece (Element a) t h at s room =
+      as_kind (ap kind_of (sym h.1)) (both (value_piece a (Integer W64) h.0 at s (omega (arith, room)))
+      (one_then i.Dup refl refl (omega (arith, room)) (λ whole q. refl) (one (i.Binary SetSpan) refl refl (omega (arith, room)) (λ whole q. refl))))
+  value_piece (Ord a) t h at s room = as_kind (sym (included_kind t _ h.1)) (value_piece a Char h.0 at s room)
+  value_piece (Chr a) t h at s room =
+      let k = some_need a in
+      as_kind (ap kind_of (sym h.1)) (then_one (value_piece a (Integer W64) h.0 at s room) (i.Unary (Range (pos 0) (pos 255))) refl refl (omega (arith, room, k)) (λ whole q. refl))

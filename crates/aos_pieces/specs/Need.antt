@@ -1,0 +1,42 @@
+-- How many operands code has at most, beyond those that are there where it begins.
+use Rattle.std.specs.Prelude.{ℕ, ◌+◌, max}
+use Rattle.aos_typed.specs.Program.{Place, ModuleVar, Expr, Lit, Read, Unary, Binary, And, Or, Element, Ord, Chr, Call, Open, Char, Int, Ln, Stat, Assign, While, New, Out, Stats, Nothing, Then}
+
+-- the place of a variable
+abbrev pub place_need : Place → ℕ
+place_need (ModuleVar m i) = 1
+
+-- an expression; what its left operand gives lies below its right one
+abbrev pub value_need : Expr → ℕ
+value_need (Lit l) = 1
+value_need (Read t p) = place_need p
+value_need (Unary op a) = value_need a
+value_need (Binary op a b) = max (value_need a) (1 + value_need b)
+value_need (And a b) = max (value_need a) (value_need b)
+value_need (Or a b) = max (value_need a) (value_need b)
+value_need (Element a) = max (value_need a) 2
+value_need (Ord a) = value_need a
+value_need (Chr a) = value_need a
+
+-- a call of a procedure of module Out
+abbrev pub out_need : Call → ℕ
+out_need Open = 0
+out_need (Char e) = value_need e
+out_need (Int e n) = max (value_need e) (1 + value_need n)
+out_need Ln = 0
+
+-- a statement, and a sequence of them; a new object lies twice below the place that it is stored at
+abbrev mutual
+  pub stat_need : Stat → ℕ
+  stat_need (Assign here t p e) = max (place_need p) (1 + value_need e)
+  stat_need (While here e body) = max (value_need e) (stats_need body)
+  stat_need (New here p t) = 2 + place_need p
+  stat_need (Out here call) = out_need call
+
+  pub stats_need : Stats → ℕ
+  stats_need Nothing = 0
+  stats_need (Then s ss) = max (stat_need s) (stats_need ss)
+
+-- a body, whose end takes nothing
+abbrev pub body_need : Stats → ℕ
+body_need ss = stats_need ss
