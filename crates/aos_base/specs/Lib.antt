@@ -7,3 +7,5 @@ pub mod Machine
 pub mod Schedule
 pub mod Observation
 pub mod Question
+pub mod Rooted
+pub mod Text

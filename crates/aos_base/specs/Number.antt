@@ -27,9 +27,12 @@ pub record IsWithin (w : Width) (z : ℤ) : Type 0 where
   pub low : negsuc (greatest w) ≤ℤ z
   pub high : z ≤ℤ pos (greatest w)
 
+abbrev pub is_within : Width → ℤ → Bool
+is_within w z = int_le (negsuc (greatest w)) z && int_le z (pos (greatest w))
+
 -- a sum and a difference of a width, where they are in it
 abbrev pub if_within : Width → ℤ → Option ℤ
-if_within w z = if int_le (negsuc (greatest w)) z && int_le z (pos (greatest w)) then Some z else None
+if_within w z = if is_within w z then Some z else None
 
 -- a times 2 to the power b, rounded down (Oberon-2 report, 10.3)
 abbrev pub shifted : ℤ → ℤ → ℤ

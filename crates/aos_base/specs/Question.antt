@@ -1,5 +1,6 @@
 -- What a piece of a program does, as a tree of questions: a value, a trap, or one question with what follows each answer.
-use Rattle.std.specs.Prelude.{ℕ, Option, List, [], ◌∷◌}
+use Rattle.std.specs.Prelude.{ℕ, Bool, Option, List, [], ◌∷◌}
+use Rattle.aos_base.specs.declared.number.Relation.{Relation}
 
 -- Q: questions; V: answers; A: values
 pub data Tree (Q V A : Type 0) : Type 0 where
@@ -24,14 +25,22 @@ feed (v ∷ vs) (Val a) = Traps 0 0
 feed (v ∷ vs) (Asks q f) = feed vs (f v)
 feed (v ∷ vs) (Traps n c) = Traps n c
 
--- a piece of visible work that a frame asks for. P: places, V: values
-pub data Ask (P V : Type 0) : Type 0 where
-  Reads : (place : P) → Ask P V
-  Stores : (place : P) → (value : V) → Ask P V
-  Ends : (result : Option V) → Ask P V  -- the end of the frame, which has no answer
-  Makes : (type : ℕ) → Ask P V  -- a new object of this type, which is the answer
-  Starts : (object : V) → Ask P V  -- the activity of an object
-  PutsInt : (value places : V) → Ask P V
-  PutsChar : (code : V) → Ask P V
-  PutsNothing : Ask P V  -- a call that writes nothing
-  PutsLn : Ask P V
+-- A piece of work that a frame asks for. P: places; V: values; K: what a scalar is, its type or its kind; C: what is copied, its
+-- shape or how many cells it has. Behind the visible pieces stand those that are answered at once.
+pub data Ask (P V K C : Type 0) : Type 0 where
+  Reads : K → (place : P) → Ask P V K C
+  Stores : (place : P) → (value : V) → Ask P V K C
+  Copies : C → (from to : P) → Ask P V K C
+  PutsText : (strict : Bool) → (from : P) → (length : V) → (to : P) → (room : V) → Ask P V K C
+  ComparesTexts : Relation → (left : P) → (length : V) → (right : P) → (other : V) → Ask P V K C
+  Calls : (procedure : ℕ) → (arguments : List V) → Ask P V K C
+  Ends : (result : Option V) → Ask P V K C  -- the end of the frame, which has no answer
+  Makes : (type : ℕ) → Ask P V K C  -- a new object of this type, which is the answer
+  Starts : (object : V) → Ask P V K C  -- the activity of an object
+  PutsInt : (value places : V) → Ask P V K C
+  PutsChar : (code : V) → Ask P V K C
+  PutsString : (from : P) → (length : V) → Ask P V K C
+  PutsNothing : Ask P V K C  -- a call that writes nothing
+  PutsLn : Ask P V K C
+  Places : (parameter : P) → Ask P V K C  -- the place that a parameter stands for
+  Lengths : (parameter : P) → Ask P V K C  -- a length of an open array parameter

@@ -5,11 +5,13 @@
 pub mod kernel;
 pub mod number;
 pub mod operator;
+pub mod place;
 pub mod set;
 pub mod text;
 
 pub use kernel::{Did, Event, LockName, MAX_STEPS, Outcome, Sched, Verdict};
 pub use number::{Relation, Width, abs, add, ash, div, fits, modulo, mul, neg, related, sub};
 pub use operator::{Binary, Given, Unary, apply_binary, apply_unary, truth};
+pub use place::Root;
 pub use set::{set_has, set_span};
 pub use text::{NoMemory, Pos, Refusal};

@@ -3,7 +3,7 @@
 ghost use Rattle.std.specs.Prelude.{◌↔◌, ◌≡◌, ◌^◌, ◌≤◌, ◌<ℤ◌, ◌+ℤ◌, ◌-ℤ◌, ◌*ℤ◌, neg_ℤ, unsigned_abs, IsTrue, FitsSigned, ℤ, pos};
 ghost use Rattle.std.specs.Option.{SomeIff};
 ghost use Rattle.std.specs.Int.{w64, int_div_euclid, int_rem_euclid};
-ghost use Rattle.aos_base.specs.Number.{greatest as greatest_of, IsWithin, holds, shifted};
+ghost use Rattle.aos_base.specs.Number.{greatest as greatest_of, IsWithin, is_within, holds, shifted};
 
 /// The width of an integer type in bits.
 #[derive(Clone, Copy, PartialEq, Eq, Debug)]
@@ -53,7 +53,8 @@ fn greatest(w: Width) -> i64
 
 /// Whether an integer is one of this width.
 pub fn fits(w: Width, a: i64) -> bool
-    ensures { IsTrue result ↔ IsWithin w a }
+    ensures test { result ≡ is_within w a }
+    ensures range { IsTrue result ↔ IsWithin w a }
 {
     let most = greatest(w);
     -most - 1 <= a && a <= most

@@ -1,9 +1,10 @@
 // Operators on numbers, truth values, characters and sets, each given as a number, with their traps.
 
-ghost use Rattle.std.specs.Prelude.{◌≡◌, ℕ, pos};
+ghost use Rattle.std.specs.Prelude.{◌≡◌, ◌&&◌, ℕ, pos, if◌then◌else◌};
+ghost use Rattle.aos_base.specs.Number.{is_within};
 ghost use Rattle.aos_base.specs.Operators.{flag, natural as natural_of, or_undefined, or_trap as or_trap_of, or_divisor as or_divisor_of, set_of, capital as capital_of, unary as unary_of, binary as binary_of};
 
-use crate::number::{Relation, Width, abs, add, ash, div, modulo, mul, neg, related, sub};
+use crate::number::{Relation, Width, abs, add, ash, div, fits, modulo, mul, neg, related, sub};
 use crate::set::{set_has, set_span};
 
 /// An operator on one number.
@@ -135,13 +136,20 @@ fn ranged(low: i64, high: i64, a: i64) -> Given
     }
 }
 
+/// What an operator of a width gives, where its operands are of that width.
+fn if_fit(fit: bool, value: Given) -> Given
+    ensures { result ≡ (if fit then value else Given.Undefined) }
+{
+    if fit { value } else { Given::Undefined }
+}
+
 /// What an operator gives of a number.
 pub fn apply_unary(operator: Unary, a: i64) -> Given
     ensures { result ≡ unary_of operator a }
 {
     match operator {
-        Unary::Neg(w) => or_trap(5, neg(w, a)),
-        Unary::Abs(w) => or_trap(5, abs(w, a)),
+        Unary::Neg(w) => if_fit(fits(w, a), or_trap(5, neg(w, a))),
+        Unary::Abs(w) => if_fit(fits(w, a), or_trap(5, abs(w, a))),
         Unary::Not => or_none(natural(a, 2).map(|n| 1 - n)),
         Unary::Odd => Given::Number(a.rem_euclid(2)),
         Unary::Cap => or_none(natural(a, 256).map(capital)),
@@ -160,17 +168,24 @@ fn within(a: i64, b: i64) -> Given
     }
 }
 
+/// Whether two numbers are of a width.
+fn both_fit(w: Width, a: i64, b: i64) -> bool
+    ensures { result ≡ (is_within w a && is_within w b) }
+{
+    fits(w, a) && fits(w, b)
+}
+
 /// What an operator gives of two numbers.
 pub fn apply_binary(operator: Binary, a: i64, b: i64) -> Given
     ensures { result ≡ binary_of operator a b }
 {
     match operator {
-        Binary::Add(w) => or_trap(5, add(w, a, b)),
-        Binary::Sub(w) => or_trap(5, sub(w, a, b)),
-        Binary::Mul(w) => or_trap(5, mul(w, a, b)),
-        Binary::Div(w) => or_divisor(b, div(w, a, b)),
-        Binary::Mod(w) => or_divisor(b, modulo(w, a, b)),
-        Binary::Ash(w) => or_trap(5, ash(w, a, b)),
+        Binary::Add(w) => if_fit(both_fit(w, a, b), or_trap(5, add(w, a, b))),
+        Binary::Sub(w) => if_fit(both_fit(w, a, b), or_trap(5, sub(w, a, b))),
+        Binary::Mul(w) => if_fit(both_fit(w, a, b), or_trap(5, mul(w, a, b))),
+        Binary::Div(w) => if_fit(both_fit(w, a, b), or_divisor(b, div(w, a, b))),
+        Binary::Mod(w) => if_fit(both_fit(w, a, b), or_divisor(b, modulo(w, a, b))),
+        Binary::Ash(w) => if_fit(fits(w, a), or_trap(5, ash(w, a, b))),
         Binary::Cmp(relation) => Given::Number(truth(related(relation, a, b))),
         Binary::Union => or_none(set(a).zip(set(b)).map(|(x, y)| x | y)),
         Binary::Minus => or_none(set(a).zip(set(b)).map(|(x, y)| x & !y)),

@@ -3,10 +3,12 @@ use Rattle.std.proofs.Common.{◌≡◌, ℕ, zero, suc, ◌<◌, List, [], ◌�
 use Rattle.std.specs.Prelude.{option_and_then, option_map, slice_get, Bool, true, false, nat_eq, if◌then◌else◌}
 use Rattle.std.proofs.lemmas.List.{map-append}
 use Rattle.std.proofs.lemmas.Bool.{eqb-true}
-use Rattle.aos_places.specs.Rooted.{Root, Frame, Module, Object, from_last, by_number}
+use Rattle.aos_base.specs.declared.place.Root.{Root}
+use Rattle.aos_base.specs.declared.place.Root.TheVariants.{Frame, Module, Object}
+use Rattle.aos_base.specs.Rooted.{Made, from_last, by_number}
 use Rattle.aos_types.specs.Shape.{Shape, One, Nothing, Pair, inside, offset, number_of}
-use Rattle.aos_places.specs.Content.{Content, Scalar, Empty, Row, flatten, Fits, EachSort}
-use Rattle.aos_places.specs.World.{Made, World, MadeAlike, Grows, shape_at, cell_at, Scheme, world, root_shape}
+use Rattle.aos_types.specs.Content.{Content, Scalar, Empty, Row, flatten, Fits, EachSort}
+use Rattle.aos_types.specs.World.{World, MadeAlike, Grows, shape_at, cell_at, Scheme, world, root_shape}
 use Rattle.aos_places.specs.Shows.{AreKept}
 
 module _ {S : Type 0} where

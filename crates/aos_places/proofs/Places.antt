@@ -4,10 +4,11 @@ use Rattle.std.proofs.Common.{◌≡◌, ℕ, ◌+◌, ◌≤◌, List, [], ◌�
 use Rattle.std.specs.Prelude.{option_and_then, option_map, slice_get}
 use Rattle.std.proofs.Math.Seq.{take-append_seam, take-append-add, drop-append_seam, drop-append-add}
 use Rattle.std.proofs.lemmas.List.{map-append, length-map, take-append-le, take-append-drop, length-take-le}
-use Rattle.aos_places.specs.Rooted.{Root, Rooted, at_root, change_root, spliced, load, load_all, store_all, copy_all}
+use Rattle.aos_base.specs.declared.place.Root.{Root}
+use Rattle.aos_base.specs.Rooted.{Made, Rooted, at_root, change_root, spliced, load, load_all, store_all, copy_all}
 use Rattle.aos_types.specs.Shape.{Shape, One, Nothing, Pair, inside, offset, number_of, size, join}
-use Rattle.aos_places.specs.Content.{Content, Scalar, Empty, Row, flatten, found, placed, overlay, Fits, EachSort}
-use Rattle.aos_places.specs.World.{Made, World, shape_at, cell_at, Scheme, world, root_shape, read, write}
+use Rattle.aos_types.specs.Content.{Content, Scalar, Empty, Row, flatten, found, placed, overlay, Fits, EachSort}
+use Rattle.aos_types.specs.World.{World, MadeAlike, shape_at, cell_at, Scheme, world, root_shape, read, write}
 use Rattle.aos_places.specs.Shows.{Shows, AreKept}
 use Rattle.aos_places.proofs.Zoom.{zoomed, as_many}
 use Rattle.aos_places.proofs.Grow.{fits_grows, fits_plain, cells_grow}

@@ -3,7 +3,7 @@
 use Rattle.std.proofs.Common.{◌≡◌, ℕ, zero, suc, ◌+◌, List, [], ◌∷◌, ◌++◌, length, Option, Some, None, refl, sym, ap, ◌∙◌, subst, append_assoc, append-nil, length-append}
 use Rattle.std.specs.Prelude.{option_and_then}
 use Rattle.aos_types.specs.Shape.{Shape, One, Nothing, Pair, size, part, before, inside, offset, number_of}
-use Rattle.aos_places.specs.Content.{Content, Scalar, Empty, Row, flatten, element, with_element, found, placed, Fits}
+use Rattle.aos_types.specs.Content.{Content, Scalar, Empty, Row, flatten, element, with_element, found, placed, Fits}
 
 joined_five : {A : Type 0} (a b c d e : List A) → a ++ ((b ++ (c ++ d)) ++ e) ≡ (a ++ b) ++ (c ++ (d ++ e))
 joined_five a b c d e = simp append_assoc

@@ -1,4 +1,1 @@
-pub mod Rooted
-pub mod Content
-pub mod World
 pub mod Shows

@@ -1,15 +1,9 @@
 -- When cells show contents: each scalar's cell, at the offset of its way, holds its value.
 use Rattle.std.specs.Prelude.{◌≡◌, List, [], ◌∷◌, ◌++◌, map}
-use Rattle.aos_places.specs.Rooted.{Rooted}
-use Rattle.aos_types.specs.Shape.{Shape, One, Nothing, Pair}
-use Rattle.aos_places.specs.Content.{Content, flatten, Fits}
-use Rattle.aos_places.specs.World.{Made, World, Grows, MadeAlike, Scheme, world}
-
--- the sorts of a shape in order
-abbrev pub sorts : {S : Type 0} → Shape S → List S
-sorts (One k) = k ∷ []
-sorts Nothing = []
-sorts (Pair a b) = sorts a ++ sorts b
+use Rattle.aos_base.specs.Rooted.{Made, Rooted}
+use Rattle.aos_types.specs.Shape.{Shape}
+use Rattle.aos_types.specs.Content.{Content, flatten, Fits}
+use Rattle.aos_types.specs.World.{World, Grows, MadeAlike, Scheme, world}
 
 -- S: sorts; V: values; C: cells. A value is of a sort in a world, and has a cell there
 module _ {S V C : Type 0} (Is : World S → S → V → Type 0) (cell : World S → V → C) where

@@ -9,3 +9,5 @@ pub mod Walk
 pub mod Count
 pub mod Limit
 pub mod Laws
+pub mod Content
+pub mod World

@@ -1,5 +1,5 @@
 -- A type without its names: a scalar, or a row of parts. Its size, and where its parts lie.
-use Rattle.std.specs.Prelude.{ℕ, zero, suc, ◌+◌, List, [], ◌∷◌, Option, Some, None, option_and_then}
+use Rattle.std.specs.Prelude.{ℕ, zero, suc, ◌+◌, List, [], ◌∷◌, ◌++◌, Option, Some, None, option_and_then}
 
 -- a scalar of some sort, or a row of parts: the fields of a record or an object, or the elements of an array
 pub data Shape (S : Type 0) : Type 0 where
@@ -57,3 +57,15 @@ module _ {S : Type 0} where
   abbrev pub offset : List ℕ → Shape S → ℕ
   offset [] s = 0
   offset (i ∷ p) s = before i s + number_of (offset p) (part i s)
+
+  -- the scalars in order
+  abbrev pub leaves : Shape S → List S
+  leaves (One k) = k ∷ []
+  leaves Nothing = []
+  leaves (Pair a b) = leaves a ++ leaves b
+
+-- a shape with other scalars
+abbrev pub shaped : {S T : Type 0} → (S → T) → Shape S → Shape T
+shaped f (One k) = One (f k)
+shaped f Nothing = Nothing
+shaped f (Pair a b) = Pair (shaped f a) (shaped f b)

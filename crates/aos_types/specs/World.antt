@@ -1,13 +1,10 @@
 -- What is known of a store whatever it holds: the shape of what stands below each root, and what each object was made as.
-use Rattle.std.specs.Prelude.{◌≡◌, ℕ, List, Option, Some, slice_get, option_and_then, option_map}
-use Rattle.aos_places.specs.Rooted.{Root, Frame, Module, Object, Rooted, from_last, by_number, at_root, change_root}
+use Rattle.std.specs.Prelude.{◌≡◌, ℕ, List, map, Option, Some, slice_get, option_and_then, option_map}
+use Rattle.aos_base.specs.declared.place.Root.{Root}
+use Rattle.aos_base.specs.declared.place.Root.TheVariants.{Frame, Module, Object}
+use Rattle.aos_base.specs.Rooted.{Made, Rooted, from_last, by_number, at_root, change_root}
 use Rattle.aos_types.specs.Shape.{Shape, inside, offset, number_of}
-use Rattle.aos_places.specs.Content.{Content, found, placed}
-
--- what an object was made as: a type, and lengths if it is an open array
-pub record Made : Type 0 where
-  pub type : ℕ
-  pub lengths : List ℕ
+use Rattle.aos_types.specs.Content.{Content, found, placed, overlay}
 
 -- S: sorts of scalars
 pub record World (S : Type 0) : Type 0 where

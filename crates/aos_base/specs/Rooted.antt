@@ -1,12 +1,12 @@
 -- What stands below roots: once what the variables of a program hold, once the cells of an image.
 use Rattle.std.specs.Prelude.{ℕ, zero, suc, ◌+◌, List, [], ◌∷◌, ◌++◌, length, take, drop, Option, Some, None, option_map, option_and_then, slice_get, nat_eq, if◌then◌else◌}
+use Rattle.aos_base.specs.declared.place.Root.{Root}
+use Rattle.aos_base.specs.declared.place.Root.TheVariants.{Frame, Module, Object}
 
--- what a place is in: the frame above so many frames of the same activity; a module, by its number in load order from 0; an
--- object, by its number from 1 in the order of making
-pub data Root : Type 0 where
-  Frame : (below : ℕ) → Root
-  Module : (number : ℕ) → Root
-  Object : (number : ℕ) → Root
+-- what an object was made as: a type, by its number from 1, and lengths if it is an open array
+pub record Made : Type 0 where
+  pub type : ℕ
+  pub lengths : List ℕ
 
 -- of one activity's frames, the topmost first, of the modules, and of the objects
 pub record Rooted (X : Type 0) : Type 0 where
