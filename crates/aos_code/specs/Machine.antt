@@ -1,179 +1,401 @@
 -- An image as a machine: its memory, its frames, and the turns of an activity.
-use Rattle.std.specs.Prelude.{ℕ, zero, suc, ◌+◌, List, [], ◌∷◌, Bool, true, false, Option, Some, None, map, flat_map, option_and_then}
+use Rattle.std.specs.Prelude.{ℕ, zero, suc, ℤ, pos, negsuc, ◌+◌, ◌*◌, List, [], ◌∷◌, ◌++◌, length, take, drop, Bool, true, false, ◌&&◌, Option, Some, None, map, sum_by, nat_le, nat_lt, nat_eq, if◌then◌else◌, is_some, option_and_then, option_map, slice_get, slice_set}
+use Rattle.std.specs.List.{flat_map}
 use Rattle.aos_base.specs.declared.text.Pos.{Pos}
+use Rattle.aos_base.specs.declared.number.Relation.{Relation}
+use Rattle.aos_base.specs.declared.place.Root.{Root}
+use Rattle.aos_base.specs.declared.place.Root.TheVariants.{Frame as FrameRoot, Module as ModuleRoot, Object as ObjectRoot}
 use Rattle.aos_base.specs.declared.kernel.Did.{Did}
 use Rattle.aos_base.specs.declared.kernel.Did.TheVariants.{Went, Ended as NoFrame, Start, Trapped}
 use Rattle.aos_base.specs.declared.kernel.Verdict.TheVariants.{Fails as NeverHolds}
-use Rattle.aos_base.specs.Number.{places_of, justified}
-use Rattle.aos_base.specs.Operators.{natural}
+use Rattle.aos_base.specs.Number.{places_of, justified, holds}
+use Rattle.aos_base.specs.Operators.{natural, flag}
+use Rattle.aos_base.specs.Text.{order, ended_within, cut_within}
 use Rattle.aos_base.specs.Book.{Where}
 use Rattle.aos_base.specs.Machine.{Turn, Machine, State, start_of}
-use Rattle.aos_base.specs.Question.{Reads, Stores, Ends, Makes, Starts, PutsInt, PutsChar, PutsNothing, PutsLn}
+use Rattle.aos_base.specs.Rooted.{Rooted, from_last, change_from_last, change_at, change_by_number, at_root, load, load_all, spliced}
+use Rattle.aos_base.specs.Question.{Reads, Stores, Copies, PutsText, ComparesTexts, Calls, Ends, Makes, Starts, PutsInt, PutsChar, PutsString, PutsNothing, PutsLn, Places, Lengths}
 use Rattle.aos_code.specs.declared.instr.Cell.{Cell}
-use Rattle.aos_code.specs.declared.instr.Cell.TheVariants.{Num, Ref, Place}
+use Rattle.aos_code.specs.declared.instr.Cell.TheVariants.{Num, Ref, Call as CallCell, Place}
+use Rattle.aos_code.specs.declared.instr.Kind.{Kind}
+use Rattle.aos_code.specs.declared.instr.Kind.TheVariants.{N, R, C, A}
 use Rattle.aos_code.specs.declared.instr.Instr.{Instr}
+use Rattle.aos_code.specs.declared.image.ParamKind.{ParamKind}
+use Rattle.aos_code.specs.declared.image.ParamKind.TheVariants as param
 use Rattle.aos_code.specs.declared.image.Body.{Body}
 use Rattle.aos_code.specs.declared.image.ProcShape.{ProcShape}
 use Rattle.aos_code.specs.declared.image.TypeDesc.{TypeDesc}
 use Rattle.aos_code.specs.declared.image.Image.{Image}
 use Rattle.aos_code.specs.Numbered.{numbered}
-use Rattle.aos_code.specs.Memory.{Memory, load, store, type_of_object, with_object, new_number, has_room}
-use Rattle.aos_code.specs.Silent.{Stack, Question, Begins, Fails, Stop, Work, Ended, silent}
+use Rattle.aos_code.specs.Memory.{Addr, Memory, type_of_object, with_object, new_number, has_room}
+use Rattle.aos_code.specs.Silent.{Stack, Keeps, Question, Begins, Fails, Stop, Work, Ended, is_of, cells_of, silent}
 
--- a frame: its procedure, the place of the next instruction, the statement last begun, and the operands
+-- a frame: its procedure, the object whose method or body it is, 0 for none, the place of the next instruction, the statement last
+-- begun, its cells and how many of them count as scalars, what it keeps, and its operands
 pub record Frame : Type 0 where
   pub procedure : ℕ
+  pub object : ℕ
   pub next : ℕ
   pub at : Option Pos
+  pub cells : List Cell
+  pub counted : ℕ
+  pub keeps : Keeps
   pub stack : Stack
 
--- an activity's frames, the topmost first; below those of a module's body stand those of the bodies that are to follow
-abbrev pub Frames : Type 0
-Frames = List Frame
+-- an activity's frames, the topmost first, and the bodies that are to follow once it has none
+pub record Frames : Type 0 where
+  pub following : List ℕ
+  pub frames : List Frame
 
 abbrev pub Turned : Type 0
 Turned = Turn Memory Frames
 
-abbrev pub goes_on : Frames → Memory → Turned
-goes_on fs mem = record { store = mem; frames = fs; output = []; begun = false; left = Went }
+abbrev pub first_cell : Kind → Cell
+first_cell N = Num (pos 0)
+first_cell R = Ref 0
+first_cell C = CallCell 0 0
+first_cell A = Num (pos 0)
 
-abbrev pub puts : List ℕ → Frames → Memory → Turned
-puts bytes fs mem = record { store = mem; frames = fs; output = bytes; begun = false; left = Went }
+-- The memory below the roots of an activity.
 
-abbrev pub leaves : Did → Frames → Memory → Turned
-leaves work fs mem = record { store = mem; frames = fs; output = []; begun = false; left = work }
+abbrev pub rooted : List Frame → Memory → Rooted (List Cell)
+rooted fs mem = record { frames = map (λ f. f.cells) fs; modules = mem.modules; objects = mem.objects }
 
--- the end of a frame
-abbrev pub ends : Frames → Memory → Turned
-ends fs mem = goes_on fs mem
+abbrev pub frames_with : Root → (List Cell → List Cell) → List Frame → List Frame
+frames_with (FrameRoot d) g fs = change_from_last d (λ f. record f { cells = g f.cells }) fs
+frames_with (ModuleRoot m) g fs = fs
+frames_with (ObjectRoot o) g fs = fs
+
+abbrev pub memory_with : Root → (List Cell → List Cell) → Memory → Memory
+memory_with (FrameRoot d) g mem = mem
+memory_with (ModuleRoot m) g mem = record mem { modules = change_at m g mem.modules }
+memory_with (ObjectRoot o) g mem = record mem { objects = change_by_number o g mem.objects }
+
+-- so many cells, where there are so many
+abbrev pub if_all : ℕ → List Cell → Option (List Cell)
+if_all n vs = if nat_eq (length vs) n then Some vs else None
 
 -- the text that OutInt writes, where the number of places is 0 to 255
 abbrev pub written : Cell → Cell → Option (List ℕ)
 written (Num z) (Num n) = justified z (places_of n)
-written (Num z) (Ref o) = None
-written (Num z) (Place root cell type) = None
-written (Ref o) v = None
-written (Place root cell type) v = None
+written _ _ = None
 
--- the byte that OutChar writes, where the code is one of a character
-abbrev pub character : Cell → Option ℕ
-character (Num z) = natural 256 z
-character (Ref o) = None
-character (Place root cell type) = None
+abbrev pub cells_at : ℕ → Addr → Rooted (List Cell) → Option (List Cell)
+cells_at n a x = option_and_then (if_all n) (load_all n a.root a.cell x)
 
--- the frame goes on behind the instruction at this place, with these operands
-abbrev pub behind : ℕ → Stack → Frame → Frame
-behind at s f = record f { next = at + 1; stack = s }
+-- an activity's frames, of which the topmost runs
+module _ (following : List ℕ) where
+  abbrev pub all_frames : List Frame → Frames
+  all_frames fs = record { following = following; frames = fs }
 
-abbrev pub loads : Option Cell → ℕ → Stack → Frame → Frames → Memory → Turned
-loads None at s f fs mem = leaves (Trapped 16 0) (f ∷ fs) mem
-loads (Some v) at s f fs mem = goes_on (behind at (v ∷ s) f ∷ fs) mem
+  abbrev pub goes_on : List Frame → Memory → Turned
+  goes_on fs mem = record { store = mem; frames = all_frames fs; output = []; begun = false; left = Went }
 
-abbrev pub prints : Option (List ℕ) → ℕ → Stack → Frame → Frames → Memory → Turned
-prints None at s f fs mem = leaves (Trapped 14 0) (f ∷ fs) mem
-prints (Some bytes) at s f fs mem = puts bytes (behind at s f ∷ fs) mem
+  abbrev pub puts : List ℕ → List Frame → Memory → Turned
+  puts bytes fs mem = record { store = mem; frames = all_frames fs; output = bytes; begun = false; left = Went }
 
-abbrev pub puts_char : Option ℕ → ℕ → Stack → Frame → Frames → Memory → Turned
-puts_char None at s f fs mem = leaves (Trapped 16 0) (f ∷ fs) mem
-puts_char (Some byte) at s f fs mem = puts (byte ∷ []) (behind at s f ∷ fs) mem
+  abbrev pub leaves : Did → List Frame → Memory → Turned
+  leaves work fs mem = record { store = mem; frames = all_frames fs; output = []; begun = false; left = work }
 
--- an object is made, where the heap has room for it
-abbrev pub makes : Bool → ℕ → ℕ → Stack → Frame → Frames → Memory → Turned
-makes true t at s f fs mem = goes_on (behind at (Ref (new_number mem) ∷ s) f ∷ fs) (with_object t mem)
-makes false t at s f fs mem = leaves (Trapped 12 0) (f ∷ fs) mem
+  -- the frame goes on behind the instruction at this place, with these operands
+  abbrev pub behind : ℕ → Keeps → Stack → Frame → Frame
+  behind at k s f = record f { next = at + 1; stack = s; keeps = k }
 
--- an object's activity is left to the kernel
-abbrev pub starts : Cell → Frame → Frames → Memory → Turned
-starts (Ref zero) f fs mem = leaves (Trapped 16 0) (f ∷ fs) mem
-starts (Ref (suc k)) f fs mem = leaves (Start (suc k)) (f ∷ fs) mem
-starts (Num z) f fs mem = leaves (Trapped 16 0) (f ∷ fs) mem
-starts (Place root cell type) f fs mem = leaves (Trapped 16 0) (f ∷ fs) mem
+  -- it stands at the instruction, whose operands lie there still
+  abbrev pub before : ℕ → Keeps → Stack → Frame → Frame
+  before at k s f = record f { next = at; stack = s; keeps = k }
 
--- the question of the instruction at this place is answered; s has the operands below its own
-abbrev pub answer : Question → ℕ → Stack → Frame → Frames → Memory → Turned
-answer (Reads a) at s f fs mem = loads (load a mem) at s f fs mem
-answer (Stores a v) at s f fs mem = goes_on (behind at s f ∷ fs) (store a v mem)
-answer (Ends result) at s f fs mem = ends fs mem
-answer (Makes t) at s f fs mem = makes (has_room mem) t at s f fs mem
-answer (Starts v) at s f fs mem = starts v f fs mem
-answer (PutsInt v n) at s f fs mem = prints (written v n) at s f fs mem
-answer (PutsChar v) at s f fs mem = puts_char (character v) at s f fs mem
-answer PutsNothing at s f fs mem = puts [] (behind at s f ∷ fs) mem
-answer PutsLn at s f fs mem = puts (10 ∷ []) (behind at s f ∷ fs) mem
+  -- the instruction at this place stores cells, where there are such cells
+  abbrev pub writes : Bool → Addr → List Cell → ℕ → Keeps → Stack → Frame → List Frame → Memory → Turned
+  writes true a vs at k s f fs mem =
+      goes_on (frames_with a.root (spliced a.cell vs) (behind at k s f ∷ fs)) (memory_with a.root (spliced a.cell vs) mem)
+  writes false a vs at k s f fs mem = leaves (Trapped 16 0) (f ∷ fs) mem
 
-abbrev pub goes : Stop → Frame → Frames → Memory → Turned
-goes (Work q at s) f fs mem = answer q at s f fs mem
-goes (Ended (Begins at p s)) f fs mem =
-    record {
-      store = mem;
-      frames = record f { next = at + 1; at = Some p; stack = s } ∷ fs;
-      output = [];
-      begun = true;
-      left = Went;
-    }
-goes (Ended (Fails n c)) f fs mem = leaves (Trapped n c) (f ∷ fs) mem
+  abbrev pub reads : Kind → Option Cell → ℕ → Keeps → Stack → Frame → List Frame → Memory → Turned
+  reads kind None at k s f fs mem = leaves (Trapped 16 0) (f ∷ fs) mem
+  reads kind (Some v) at k s f fs mem =
+      if is_of kind v then goes_on (behind at k (v ∷ s) f ∷ fs) mem else leaves (Trapped 16 0) (f ∷ fs) mem
 
--- behind the instruction at which silent work stops
-abbrev pub behind_stop : Stop → Frame → Frame
-behind_stop (Work q at s) f = behind at s f
-behind_stop (Ended end) f = f
+  abbrev pub copies : Option (List Cell) → Bool → Addr → ℕ → Keeps → Stack → Frame → List Frame → Memory → Turned
+  copies None there to at k s f fs mem = leaves (Trapped 16 0) (f ∷ fs) mem
+  copies (Some vs) there to at k s f fs mem = writes there to vs at k s f fs mem
 
--- a frame at the beginning of a procedure
-abbrev pub frame_of : ℕ → Frame
-frame_of p = record { procedure = p; next = 0; at = None; stack = [] }
+  -- the end of a frame, which hands its result to the one below
+  abbrev pub with_result : Option Cell → List Frame → List Frame
+  with_result None fs = fs
+  with_result (Some v) [] = []
+  with_result (Some v) (f ∷ fs) = record f { stack = v ∷ f.stack } ∷ fs
 
-abbrev pub code_in : Option Body → List Instr
-code_in None = []
-code_in (Some b) = b.code.items
+  abbrev pub ends : Option Cell → List Frame → Memory → Turned
+  ends result fs mem = goes_on (with_result result fs) mem
+
+  abbrev pub prints : Option (List ℕ) → ℕ → Keeps → Stack → Frame → List Frame → Memory → Turned
+  prints None at k s f fs mem = leaves (Trapped 14 0) (f ∷ fs) mem
+  prints (Some bytes) at k s f fs mem = puts bytes (behind at k s f ∷ fs) mem
+
+  -- bytes that must be there
+  abbrev pub writes_out : Option (List ℕ) → ℕ → Keeps → Stack → Frame → List Frame → Memory → Turned
+  writes_out None at k s f fs mem = leaves (Trapped 16 0) (f ∷ fs) mem
+  writes_out (Some bytes) at k s f fs mem = puts bytes (behind at k s f ∷ fs) mem
+
+  -- an object is made, where the heap has room for it
+  abbrev pub makes : Bool → ℕ → ℕ → Keeps → Stack → Frame → List Frame → Memory → Turned
+  makes true t at k s f fs mem = goes_on (behind at k (Ref (new_number mem) ∷ s) f ∷ fs) (with_object t mem)
+  makes false t at k s f fs mem = leaves (Trapped 12 0) (f ∷ fs) mem
+
+  -- an object's activity is left to the kernel
+  abbrev pub starts : Cell → ℕ → Keeps → Stack → Frame → List Frame → Memory → Turned
+  starts (Ref (suc o)) at k s f fs mem = leaves (Start (suc o)) (before at k (Ref (suc o) ∷ s) f ∷ fs) mem
+  starts v at k s f fs mem = leaves (Trapped 16 0) (f ∷ fs) mem
+
+  -- Texts: the characters before the first 0X, or all where there is none.
+
+  abbrev pub character_then : Option ℕ → Option (List ℕ) → Option (List ℕ)
+  character_then None rest = None
+  character_then (Some zero) rest = Some []
+  character_then (Some (suc c)) rest = option_map (λ cs. suc c ∷ cs) rest
+
+  abbrev pub code_in : Cell → Option ℕ
+  code_in (Num z) = natural 256 z
+  code_in (Ref o) = None
+  code_in (CallCell p o) = None
+  code_in (Place root cell type) = None
+
+  -- none where a cell before the end has no character
+  abbrev pub text_in : List Cell → Option (List ℕ)
+  text_in [] = Some []
+  text_in (v ∷ vs) = character_then (code_in v) (text_in vs)
+
+  abbrev pub length_in : Cell → Option ℕ
+  length_in (Num (pos n)) = Some n
+  length_in (Num (negsuc n)) = None
+  length_in (Ref o) = None
+  length_in (CallCell p o) = None
+  length_in (Place root cell type) = None
+
+  -- the text at a place, in an array of this length
+  abbrev pub text_at : Addr → Cell → Rooted (List Cell) → Option (List ℕ)
+  text_at a n x = option_and_then text_in (option_and_then (λ m. cells_at m a x) (length_in n))
+
+  abbrev pub character_cells : List ℕ → List Cell
+  character_cells cs = map (λ c. Num (pos c)) cs
+
+  abbrev pub stores_text : Option (List ℕ) → Addr → Rooted (List Cell) → ℕ → Keeps → Stack → Frame → List Frame → Memory → Turned
+  stores_text None to x at k s f fs mem = leaves (Trapped 15 0) (f ∷ fs) mem
+  stores_text (Some cs) to x at k s f fs mem =
+      writes (is_some (cells_at (length cs) to x)) to (character_cells cs) at k s f fs mem
+
+  abbrev pub fitted : Bool → ℕ → List ℕ → Option (List ℕ)
+  fitted true room cs = ended_within room cs
+  fitted false room cs = Some (cut_within room cs)
+
+  abbrev pub puts_text : Bool → Option (List ℕ) → Option ℕ → Addr → Rooted (List Cell) → ℕ → Keeps → Stack → Frame → List Frame → Memory → Turned
+  puts_text strict None room to x at k s f fs mem = leaves (Trapped 16 0) (f ∷ fs) mem
+  puts_text strict (Some cs) None to x at k s f fs mem = leaves (Trapped 16 0) (f ∷ fs) mem
+  puts_text strict (Some cs) (Some room) to x at k s f fs mem = stores_text (fitted strict room cs) to x at k s f fs mem
+
+  abbrev pub compares : Relation → Option (List ℕ) → Option (List ℕ) → ℕ → Keeps → Stack → Frame → List Frame → Memory → Turned
+  compares r (Some a) (Some b) at k s f fs mem = goes_on (behind at k (Num (flag (holds r (order a b) (pos 0))) ∷ s) f ∷ fs) mem
+  compares r (Some a) None at k s f fs mem = leaves (Trapped 16 0) (f ∷ fs) mem
+  compares r None b at k s f fs mem = leaves (Trapped 16 0) (f ∷ fs) mem
+
+  -- Calls.
+
+  -- what parameters get: the cells of the frame, and behind all of these the cells of copied open arrays
+  pub record Handed : Type 0 where
+    pub cells : List Cell
+    pub copies : List Cell
+
+  abbrev pub hand : List Cell → List Cell → Handed → Handed
+  hand vs copied h = record { cells = vs ++ h.cells; copies = copied ++ h.copies }
+
+  abbrev pub lengths_in : List Cell → Option (List ℕ)
+  lengths_in [] = Some []
+  lengths_in (v ∷ vs) = option_and_then (λ n. option_map (λ ns. n ∷ ns) (lengths_in vs)) (length_in v)
+
+  -- the cells that stand at a place, which a value parameter copies
+  abbrev pub whole_at : ℕ → Cell → Rooted (List Cell) → Option (List Cell)
+  whole_at n (Num z) x = None
+  whole_at n (Ref o) x = None
+  whole_at n (CallCell p o) x = None
+  whole_at n (Place root cell type) x = cells_at n (record { root = root; cell = cell }) x
+
+  abbrev pub handed_more : Option Handed → List Cell → List Cell → Option Handed
+  handed_more rest vs copied = option_map (hand vs copied) rest
+
+  -- what is handed over for parameters, in a frame above so many; copies begin at this cell
+  module _ (here : ℕ) (x : Rooted (List Cell)) where
+    abbrev pub copied_open : (at : ℕ) → List Cell → Option (List Cell) → (ℕ → Option Handed) → Option Handed
+    copied_open at lengths None k = None
+    copied_open at lengths (Some vs) k = option_map (hand (Place (FrameRoot here) at 0 ∷ lengths) vs) (k (at + length vs))
+
+    abbrev pub handed : List ParamKind → List Cell → (at : ℕ) → Option Handed
+    handed [] vs at = Some (record { cells = []; copies = [] })
+    handed (p ∷ ps) [] at = None
+    handed (param.Scalar kind ∷ ps) (v ∷ vs) at = option_map (hand (v ∷ []) []) (handed ps vs at)
+    handed (param.Whole n ∷ ps) (v ∷ vs) at =
+        option_and_then (λ cells. option_map (hand cells []) (handed ps vs at)) (whole_at n v x)
+    handed (param.Place ∷ ps) (v ∷ vs) at = option_map (hand (v ∷ []) []) (handed ps vs at)
+    handed (param.Open d false n ∷ ps) (v ∷ vs) at =
+        option_and_then (λ ns. option_map (hand (v ∷ take d vs) []) (handed ps (drop d vs) at)) (lengths_in (take d vs))
+    handed (param.Open d true n ∷ ps) (v ∷ vs) at =
+        option_and_then (λ ns. copied_open at (take d vs) (whole_at (cells_of ns n) v x) (λ at'. handed ps (drop d vs) at'))
+        (lengths_in (take d vs))
+
+  -- the cells behind the parameters begin as their kinds say
+  abbrev pub called_frame : ℕ → ProcShape → Handed → Frame
+  called_frame p f h =
+      record {
+        procedure = p;
+        object = 0;
+        next = 0;
+        at = None;
+        cells = h.cells ++ (map first_cell (drop (length h.cells) f.kinds.items) ++ h.copies);
+        counted = f.counted + length h.copies;
+        keeps = λ c. Num (pos 0);
+        stack = [];
+      }
+
+  -- an activity has 512 frames and 65,536 scalars in them at most
+  abbrev pub is_deep : Frame → List Frame → Bool
+  is_deep g fs = if nat_lt (length fs) 512 then nat_lt 65536 (g.counted + sum_by (λ f. f.counted) fs) else true
+
+  abbrev pub enters : Bool → Frame → ℕ → Keeps → Stack → Frame → List Frame → Memory → Turned
+  enters true g at k s f fs mem = leaves (Trapped 11 0) (f ∷ fs) mem
+  enters false g at k s f fs mem = goes_on (g ∷ behind at k s f ∷ fs) mem
+
+  abbrev pub calls_with : ℕ → ProcShape → Option Handed → ℕ → Keeps → Stack → Frame → List Frame → Memory → Turned
+  calls_with p shape None at k s f fs mem = leaves (Trapped 16 0) (f ∷ fs) mem
+  calls_with p shape (Some h) at k s f fs mem =
+      let g = called_frame p shape h in enters (is_deep g (f ∷ fs)) g at k s f fs mem
+
+  abbrev pub calls : Option ProcShape → ℕ → List Cell → ℕ → Keeps → Stack → Frame → List Frame → Memory → Turned
+  calls None p vs at k s f fs mem = leaves (Trapped 16 0) (f ∷ fs) mem
+  calls (Some shape) p vs at k s f fs mem =
+      calls_with p shape (handed (suc (length fs)) (rooted (f ∷ fs) mem) shape.params.items vs (length shape.kinds.items)) at k s f fs mem
+
+  -- the question of the instruction at this place is answered; s has the operands below its own
+  module _ (shapes : List ProcShape) where
+    abbrev pub answer : Question → ℕ → Keeps → Stack → Frame → List Frame → Memory → Turned
+    answer (Reads kind a) at k s f fs mem = reads kind (load a.root a.cell (rooted (f ∷ fs) mem)) at k s f fs mem
+    answer (Stores a v) at k s f fs mem =
+        writes (is_some (load a.root a.cell (rooted (f ∷ fs) mem))) a (v ∷ []) at k s f fs mem
+    answer (Copies n from to) at k s f fs mem =
+        let x = rooted (f ∷ fs) mem in copies (cells_at n from x) (is_some (cells_at n to x)) to at k s f fs mem
+    answer (PutsText strict from n to room) at k s f fs mem =
+        let x = rooted (f ∷ fs) mem in puts_text strict (text_at from n x) (length_in room) to x at k s f fs mem
+    answer (ComparesTexts r a n b m) at k s f fs mem =
+        let x = rooted (f ∷ fs) mem in compares r (text_at a n x) (text_at b m x) at k s f fs mem
+    answer (Calls p vs) at k s f fs mem = calls (numbered shapes p) p vs at k s f fs mem
+    answer (Ends result) at k s f fs mem = ends result fs mem
+    answer (Makes t) at k s f fs mem = makes (has_room mem) t at k s f fs mem
+    answer (Starts v) at k s f fs mem = starts v at k s f fs mem
+    answer (PutsInt v n) at k s f fs mem = prints (written v n) at k s f fs mem
+    answer (PutsChar v) at k s f fs mem = writes_out (option_map (λ c. c ∷ []) (code_in v)) at k s f fs mem
+    answer (PutsString a n) at k s f fs mem = writes_out (text_at a n (rooted (f ∷ fs) mem)) at k s f fs mem
+    answer PutsNothing at k s f fs mem = puts [] (behind at k s f ∷ fs) mem
+    answer PutsLn at k s f fs mem = puts (10 ∷ []) (behind at k s f ∷ fs) mem
+    -- answered at once, before a turn comes here
+    answer (Places a) at k s f fs mem = leaves (Trapped 16 0) (f ∷ fs) mem
+    answer (Lengths a) at k s f fs mem = leaves (Trapped 16 0) (f ∷ fs) mem
+
+    abbrev pub goes : Stop → Frame → List Frame → Memory → Turned
+    goes (Work q at k s) f fs mem = answer q at k s f fs mem
+    goes (Ended (Begins at p s) k) f fs mem =
+        record {
+          store = mem;
+          frames = all_frames (record f { next = at + 1; at = Some p; stack = s; keeps = k } ∷ fs);
+          output = [];
+          begun = true;
+          left = Went;
+        }
+    goes (Ended (Fails n c) k) f fs mem = leaves (Trapped n c) (f ∷ fs) mem
+
+-- a frame at the beginning of a body, which has no variables
+abbrev pub body_frame : (object procedure : ℕ) → Frame
+body_frame o p = record { procedure = p; object = o; next = 0; at = None; cells = []; counted = 0; keeps = λ c. Num (pos 0); stack = [] }
+
+abbrev pub code_in_body : Option Body → List Instr
+code_in_body None = []
+code_in_body (Some b) = b.code.items
 
 abbrev pub home_in : Option ProcShape → ℕ
 home_in None = 0
 home_in (Some s) = s.module
 
--- the frames with which a body begins: the frame of its procedure, and none where the body is 0
-abbrev pub body_frames : ℕ → Frames
-body_frames zero = []
-body_frames (suc p) = frame_of (suc p) ∷ []
+-- where no frame is left the next body begins
+abbrev pub opened_by : List Frame → List ℕ → Frames
+opened_by [] [] = record { following = []; frames = [] }
+opened_by [] (p ∷ ps) = record { following = ps; frames = body_frame 0 p ∷ [] }
+opened_by (f ∷ fs) ps = record { following = ps; frames = f ∷ fs }
 
-abbrev pub body_in : Option TypeDesc → Frames
-body_in None = []
-body_in (Some t) = body_frames t.body
+abbrev pub opened : Frames → Frames
+opened fs = opened_by fs.frames fs.following
+
+-- a body's number is 0 where there is none
+abbrev pub bodies : ℕ → List ℕ
+bodies zero = []
+bodies (suc p) = suc p ∷ []
+
+-- the bodies of modules, one after the other
+abbrev pub module_frames : List ℕ → Frames
+module_frames ps = record { following = ps; frames = [] }
+
+-- the body of an object
+abbrev pub object_frames : ℕ → Option TypeDesc → Frames
+object_frames o None = record { following = []; frames = [] }
+object_frames o (Some t) = record { following = []; frames = map (body_frame o) (bodies t.body) }
 
 abbrev pub or_below : Option Pos → ℕ → Where → Where
 or_below None home below = below
 or_below (Some p) home below = record { module_ = home; pos = p }
 
+-- past the work that was left to the kernel, to which silent work has come
+abbrev pub past_stop : Stop → Frame → Frame
+past_stop (Work q at k s) f = record f { next = at + 1; keeps = k; stack = s }
+past_stop (Ended end k) f = f
+
 module _ (image : Image) where
   abbrev pub code_of : ℕ → List Instr
-  code_of p = code_in (numbered image.bodies.items p)
+  code_of p = code_in_body (numbered image.bodies.items p)
 
   -- the number of the module in which a procedure stands
   abbrev pub home_of : ℕ → ℕ
   home_of p = home_in (numbered image.shapes.items p)
 
+  abbrev pub stop_of : Frame → List Frame → Stop
+  stop_of f fs = silent image.shapes.items f.procedure (length fs) f.cells (code_of f.procedure) f.next f.keeps f.stack
+
+  abbrev pub turn_at : List ℕ → List Frame → Memory → Turned
+  turn_at following [] mem = leaves following NoFrame [] mem
+  turn_at following (f ∷ fs) mem = goes following image.shapes.items (stop_of f fs) f fs mem
+
   -- all silent work up to and with the next visible instruction
   abbrev pub turn : Memory → Frames → Turned
-  turn mem [] = leaves NoFrame [] mem
-  turn mem (f ∷ fs) = goes (silent (code_of f.procedure) f.next f.stack) f fs mem
+  turn mem fs = let now = opened fs in turn_at now.following now.frames mem
 
-  -- past the work that was left to the kernel
+  abbrev pub past_all : List Frame → List Frame
+  past_all [] = []
+  past_all (f ∷ fs) = past_stop (stop_of f fs) f ∷ fs
+
   abbrev pub past : Frames → Frames
-  past [] = []
-  past (f ∷ fs) = behind_stop (silent (code_of f.procedure) f.next f.stack) f ∷ fs
+  past fs = let now = opened fs in record now { frames = past_all now.frames }
 
   -- the frames with which an object's activity begins
   abbrev pub body_of : Memory → ℕ → Frames
-  body_of mem o = body_in (option_and_then (numbered image.types.items) (type_of_object o mem))
+  body_of mem o = object_frames o (option_and_then (numbered image.types.items) (type_of_object o mem))
 
-  abbrev pub position_or : Where → Frames → Where
+  abbrev pub position_or : Where → List Frame → Where
   position_or none [] = none
   position_or none (f ∷ fs) = or_below f.at (home_of f.procedure) (position_or none fs)
 
   -- where the topmost frame that has begun a statement stands; line 0 and column 0 where none has
+  abbrev pub position_in : List Frame → Where
+  position_in [] = record { module_ = 0; pos = record { line = 0; col = 0 } }
+  position_in (f ∷ fs) = position_or (record { module_ = home_of f.procedure; pos = record { line = 0; col = 0 } }) (f ∷ fs)
+
   abbrev pub position : Frames → Where
-  position [] = record { module_ = 0; pos = record { line = 0; col = 0 } }
-  position (f ∷ fs) =
-      position_or (record { module_ = home_of f.procedure; pos = record { line = 0; col = 0 } }) (f ∷ fs)
+  position fs = position_in (opened fs).frames
 
   -- an image as a machine under the kernel
   abbrev pub machine : Machine Memory Frames
@@ -190,12 +412,11 @@ module _ (image : Image) where
       }
 
   abbrev pub first_memory : Memory
-  first_memory = record { modules = map (λ m. m.cells.items) image.modules.items; objects = [] }
+  first_memory = record { modules = map (λ m. m.cells.items) image.modules.items; objects = []; made = [] }
 
-module _ (image : Image) where
   -- activity 0 runs the bodies of the modules, in load order
   abbrev pub first_frames : Frames
-  first_frames = flat_map (λ m. body_frames m.body) image.modules.items
+  first_frames = module_frames (flat_map (λ m. bodies m.body) image.modules.items)
 
   abbrev pub first_state : ℕ → State Memory Frames
-  first_state budget = start_of (first_memory image) first_frames budget
+  first_state budget = start_of first_memory first_frames budget

@@ -1,25 +1,37 @@
 -- What each instruction does, and the silent work up to the next visible instruction.
-use Rattle.std.specs.Prelude.{ℕ, zero, suc, ℤ, pos, negsuc, ◌+◌, ◌-◌, List, [], ◌∷◌, Option, Some, None, nat_lt, if◌then◌else◌, slice_get, drop}
+use Rattle.std.specs.Prelude.{ℕ, zero, suc, ℤ, pos, negsuc, ◌+◌, ◌-◌, ◌*◌, ◌^◌, List, [], ◌∷◌, ◌++◌, map, reverse, Bool, true, false, Option, Some, None, option_and_then, nat_eq, nat_lt, if◌then◌else◌, slice_get, drop, replicate}
+use Rattle.std.specs.List.{flat_map}
 use Rattle.aos_base.specs.declared.text.Pos.{Pos}
-use Rattle.aos_base.specs.Question.{Ask, Reads, Stores, Ends, Makes, Starts, PutsInt, PutsChar, PutsNothing, PutsLn}
-use Rattle.aos_code.specs.declared.instr.Cell.{Cell}
-use Rattle.aos_code.specs.declared.instr.Cell.TheVariants.{Num, Ref, Place}
-use Rattle.aos_code.specs.declared.instr.Kind.{Kind}
-use Rattle.aos_code.specs.declared.instr.Kind.TheVariants.{N, R, C, A}
-use Rattle.aos_code.specs.declared.instr.Root.TheVariants.{Module as ModuleRoot}
-use Rattle.aos_code.specs.declared.instr.Instr.{Instr}
-use Rattle.aos_code.specs.declared.instr.Instr.TheVariants.{Num as NumInstr, Dup, Swap, Module, Unary, Binary, Fail, Assert, Halt, Jump, JumpFalse, Begin, Load, Store, NewObject, Start, Return, OutChar, OutInt, OutLn, OutOpen}
+use Rattle.aos_base.specs.declared.number.Relation.{Relation}
+use Rattle.aos_base.specs.declared.place.Root.{Root}
+use Rattle.aos_base.specs.declared.place.Root.TheVariants.{Frame as FrameRoot, Module as ModuleRoot}
 use Rattle.aos_base.specs.declared.operator.Given.{Given}
 use Rattle.aos_base.specs.declared.operator.Given.TheVariants.{Number, Trap, Undefined}
+use Rattle.aos_base.specs.Question.{Ask, Reads, Stores, Copies, PutsText, ComparesTexts, Calls, Ends, Makes, Starts, PutsInt, PutsChar, PutsString, PutsNothing, PutsLn, Places, Lengths}
+use Rattle.aos_base.specs.Operators.{unary, binary, natural}
+use Rattle.aos_code.specs.declared.instr.Cell.{Cell}
+use Rattle.aos_code.specs.declared.instr.Cell.TheVariants.{Num, Ref, Call as CallCell, Place}
+use Rattle.aos_code.specs.declared.instr.Kind.{Kind}
+use Rattle.aos_code.specs.declared.instr.Kind.TheVariants.{N, R, C, A}
+use Rattle.aos_code.specs.declared.instr.Instr.{Instr}
+use Rattle.aos_code.specs.declared.instr.Instr.TheVariants as instr
+use Rattle.aos_code.specs.declared.image.ParamKind.{ParamKind}
+use Rattle.aos_code.specs.declared.image.ParamKind.TheVariants as param
+use Rattle.aos_code.specs.declared.image.ProcShape.{ProcShape}
 use Rattle.aos_code.specs.Memory.{Addr}
-use Rattle.aos_base.specs.Operators.{unary, binary}
+use Rattle.aos_code.specs.Numbered.{numbered}
 
 -- the operands, the topmost first
 abbrev pub Stack : Type 0
 Stack = List Cell
 
+-- what a frame keeps for its statements, by number
+abbrev pub Keeps : Type 0
+Keeps = ℕ → Cell
+
+-- a scalar is known by its kind, and what is copied by its number of cells
 abbrev pub Question : Type 0
-Question = Ask Addr Cell
+Question = Ask Addr Cell Kind ℕ
 
 -- where silent work ends without a question: at a Begin, with its place in the code and the text, or with a trap
 pub data End : Type 0 where
@@ -28,12 +40,15 @@ pub data End : Type 0 where
 
 -- where silent work ends: at a question, with the place of its instruction and the operands below its own, or at an end
 pub data Stop : Type 0 where
-  Work : Question → (at : ℕ) → (stack : Stack) → Stop
-  Ended : End → Stop
+  Work : Question → (at : ℕ) → Keeps → (stack : Stack) → Stop
+  Ended : End → Keeps → Stop
 
--- what one instruction does: silent work after which so many instructions are passed over, a question, or an end
+-- What one instruction does: silent work after which so many instructions are passed over, a value that is kept or one that was
+-- kept of this kind, a question, or an end.
 pub data Act : Type 0 where
   Goes : (over : ℕ) → (stack : Stack) → Act
+  Puts : (keep : ℕ) → Cell → (stack : Stack) → Act
+  Takes : (keep : ℕ) → Kind → (stack : Stack) → Act
   Sees : Question → (stack : Stack) → Act
   Stops : End → Act
 
@@ -41,47 +56,81 @@ pub data Act : Type 0 where
 abbrev pub lost : End
 lost = Fails 16 0
 
+-- The operands.
+
+abbrev pub is_of : Kind → Cell → Bool
+is_of N (Num z) = true
+is_of R (Ref o) = true
+is_of C (CallCell p o) = true
+is_of A (Place root cell type) = true
+is_of _ _ = false
+
+abbrev pub if_of : Kind → Cell → Act → Act
+if_of kind v k = if is_of kind v then k else Stops lost
+
+abbrev pub on_any : (Cell → Stack → Act) → Stack → Act
+on_any k [] = Stops lost
+on_any k (v ∷ s) = k v s
+
+-- an operand of this kind
+abbrev pub on_kind : Kind → (Cell → Stack → Act) → Stack → Act
+on_kind kind k s = on_any (λ v s'. if_of kind v (k v s')) s
+
+abbrev pub number_then : (ℤ → Act) → Cell → Act
+number_then k (Num a) = k a
+number_then k (Ref o) = Stops lost
+number_then k (CallCell p o) = Stops lost
+number_then k (Place root cell type) = Stops lost
+
 abbrev pub on_number : (ℤ → Stack → Act) → Stack → Act
-on_number k [] = Stops lost
-on_number k (Num a ∷ s) = k a s
-on_number k (Ref o ∷ s) = Stops lost
-on_number k (Place root cell type ∷ s) = Stops lost
+on_number k s = on_any (λ v s'. number_then (λ a. k a s') v) s
 
 -- the second number is the topmost operand
 abbrev pub on_numbers : (ℤ → ℤ → Stack → Act) → Stack → Act
 on_numbers k s = on_number (λ b s1. on_number (λ a s2. k a b s2) s1) s
 
-abbrev pub on_place : (Addr → Stack → Act) → Stack → Act
-on_place k [] = Stops lost
-on_place k (Num a ∷ s) = Stops lost
-on_place k (Ref o ∷ s) = Stops lost
-on_place k (Place root cell type ∷ s) = k (record { root = root; cell = cell }) s
+-- a place, with the dynamic type of a record there
+abbrev pub place_then : (Addr → ℕ → Act) → Cell → Act
+place_then k (Num a) = Stops lost
+place_then k (Ref o) = Stops lost
+place_then k (CallCell p o) = Stops lost
+place_then k (Place root cell type) = k (record { root = root; cell = cell }) type
 
-abbrev pub on_object : (ℕ → Stack → Act) → Stack → Act
-on_object k [] = Stops lost
-on_object k (Num a ∷ s) = Stops lost
-on_object k (Ref o ∷ s) = k o s
-on_object k (Place root cell type ∷ s) = Stops lost
+abbrev pub on_place : (Addr → ℕ → Stack → Act) → Stack → Act
+on_place k s = on_any (λ v s'. place_then (λ a t. k a t s') v) s
+
+-- a place and above it a length
+abbrev pub on_text : (Addr → Cell → Stack → Act) → Stack → Act
+on_text k s = on_kind N (λ n s1. on_place (λ a t s2. k a n s2) s1) s
+
+abbrev pub length_then : ℤ → (ℕ → Act) → Act
+length_then (pos n) k = k n
+length_then (negsuc n) k = Stops lost
+
+-- so many lengths, of which the last is the topmost operand, before these
+abbrev pub lengths_on : ℕ → List ℕ → (List ℕ → Stack → Act) → Stack → Act
+lengths_on zero ls k s = k ls s
+lengths_on (suc j) ls k s = on_number (λ z s'. length_then z (λ n. lengths_on j (n ∷ ls) k s')) s
+
+-- so many numbers, of which the last is the topmost operand, before these
+abbrev pub counted_on : ℕ → List ℤ → (List ℤ → Stack → Act) → Stack → Act
+counted_on zero zs k s = k zs s
+counted_on (suc j) zs k s = on_number (λ z s'. counted_on j (z ∷ zs) k s') s
+
+-- What instructions do.
 
 abbrev pub duplicates : Stack → Act
-duplicates [] = Stops lost
-duplicates (v ∷ s) = Goes 0 (v ∷ v ∷ s)
+duplicates s = on_any (λ v s'. Goes 0 (v ∷ v ∷ s')) s
 
 abbrev pub swaps : Stack → Act
-swaps [] = Stops lost
-swaps (v ∷ []) = Stops lost
-swaps (v ∷ w ∷ s) = Goes 0 (w ∷ v ∷ s)
+swaps s = on_any (λ v s1. on_any (λ w s2. Goes 0 (w ∷ v ∷ s2)) s1) s
 
 abbrev pub gives : Cell → Stack → Act
 gives v s = Goes 0 (v ∷ s)
 
 -- a value of this kind lies above the place that it's stored at
 abbrev pub stores : Kind → Stack → Act
-stores N s = on_number (λ v s1. on_place (λ p s2. Sees (Stores p (Num v)) s2) s1) s
-stores R s = on_object (λ o s1. on_place (λ p s2. Sees (Stores p (Ref o)) s2) s1) s
--- no operand is of these kinds yet
-stores C s = Stops lost
-stores A s = Stops lost
+stores kind s = on_kind kind (λ v s1. on_place (λ a t s2. Sees (Stores a v) s2) s1) s
 
 abbrev pub given : Given → Stack → Act
 given (Number z) s = gives (Num z) s
@@ -94,9 +143,70 @@ asserts code (pos (suc zero)) s = Goes 0 s
 asserts code (pos (suc (suc n))) s = Stops lost
 asserts code (negsuc n) s = Stops lost
 
+-- cells have numbers of 32 bits
+abbrev pub gives_place : Root → (cell type : ℕ) → List Cell → Stack → Act
+gives_place root cell type above s =
+    if nat_lt cell (2 ^ 32) then Goes 0 (above ++ Place root cell type ∷ s) else Stops lost
+
+-- the element of this number, each having so many cells, below these operands
+abbrev pub element : Addr → Option ℕ → ℕ → List Cell → Stack → Act
+element a None k above s = Stops (Fails 2 0)
+element a (Some i) k above s = gives_place a.root (a.cell + i * k) 0 above s
+
+abbrev pub indexes : (elements cells : ℕ) → Stack → Act
+indexes n k s = on_number (λ z s1. on_place (λ a t s2. element a (natural n z) k [] s2) s1) s
+
+-- how many cells an element has that is an array of these lengths
+abbrev pub cells_of : List ℕ → ℕ → ℕ
+cells_of [] k = k
+cells_of (n ∷ ns) k = n * cells_of ns k
+
+abbrev pub length_cells : List ℕ → List Cell
+length_cells ns = reverse (map (λ n. Num (pos n)) ns)
+
+abbrev pub in_rows : List ℕ → ℤ → ℕ → Stack → Act
+in_rows [] z k s = Stops lost
+in_rows (n ∷ ns) z k s = on_place (λ a t s'. element a (natural n z) (cells_of ns k) (length_cells ns) s') s
+
+abbrev pub indexes_open : (lengths cells : ℕ) → Stack → Act
+indexes_open j k s = on_number (λ z s1. lengths_on j [] (λ ns s2. in_rows ns z k s2) s1) s
+
+abbrev pub gives_picked : Option ℤ → Stack → Act
+gives_picked None s = Stops lost
+gives_picked (Some z) s = gives (Num z) s
+
+-- a length is given as it is found, also where no array has it
+abbrev pub picks : (number lengths : ℕ) → Stack → Act
+picks d j s = counted_on j [] (λ zs s1. on_place (λ a t s2. gives_picked (slice_get zs d) s2) s1) s
+
+-- the kinds of what is handed over for parameters, in their order
+abbrev pub kinds_of : List ParamKind → List Kind
+kinds_of [] = []
+kinds_of (param.Scalar k ∷ ps) = k ∷ kinds_of ps
+kinds_of (param.Whole n ∷ ps) = A ∷ kinds_of ps
+kinds_of (param.Place ∷ ps) = A ∷ kinds_of ps
+kinds_of (param.Open d v n ∷ ps) = A ∷ (replicate d N ++ kinds_of ps)
+
+-- operands of these kinds, the first of them topmost, before these
+abbrev pub on_kinds : List Kind → List Cell → (List Cell → Stack → Act) → Stack → Act
+on_kinds [] vs k s = k vs s
+on_kinds (kind ∷ kinds) vs k s = on_kind kind (λ v s'. on_kinds kinds (v ∷ vs) k s') s
+
+abbrev pub calls : Option ProcShape → ℕ → Stack → Act
+calls None p s = Stops lost
+calls (Some f) p s = on_kinds (reverse (kinds_of f.params.items)) [] (λ vs s'. Sees (Calls p vs) s') s
+
+abbrev pub ends : Option ProcShape → Stack → Act
+ends None s = Stops lost
+ends (Some f) s = with_result f.result s
+  where
+    with_result : Option Kind → Stack → Act
+    with_result None s = Sees (Ends None) s
+    with_result (Some k) s = on_kind k (λ v s'. Sees (Ends (Some v)) s') s
+
 -- a jump back comes to a Begin, which is visible work
 abbrev pub lands : Option Instr → ℕ → Stack → Act
-lands (Some (Begin line col)) to s = Stops (Begins to (record { line = line; col = col }) s)
+lands (Some (instr.Begin line col)) to s = Stops (Begins to (record { line = line; col = col }) s)
 lands _ to s = Stops lost
 
 abbrev pub jumps : List Instr → (to at : ℕ) → Stack → Act
@@ -108,41 +218,97 @@ jumps_on_false code to at (pos (suc zero)) s = Goes 0 s
 jumps_on_false code to at (pos (suc (suc n))) s = Stops lost
 jumps_on_false code to at (negsuc n) s = Stops lost
 
--- the instruction at this place of the code
-abbrev pub act : Instr → List Instr → ℕ → Stack → Act
-act (NumInstr n) code at s = gives (Num n) s
-act Dup code at s = duplicates s
-act Swap code at s = swaps s
-act (Module m c) code at s = gives (Place (ModuleRoot m) c 0) s
-act (Unary op) code at s = on_number (λ a s'. given (unary op a) s') s
-act (Binary op) code at s = on_numbers (λ a b s'. given (binary op a b) s') s
-act (Fail n) code at s = Stops (Fails n 0)
-act (Assert c) code at s = on_number (λ a s'. asserts c a s') s
-act (Halt c) code at s = Stops (Fails 8 c)
-act (Jump to) code at s = jumps code to at s
-act (JumpFalse to) code at s = on_number (λ a s'. jumps_on_false code to at a s') s
-act (Begin line col) code at s = Stops (Begins at (record { line = line; col = col }) s)
-act (Load kind) code at s = on_place (λ p s'. Sees (Reads p) s') s
-act (Store kind) code at s = stores kind s
-act (NewObject t) code at s = Sees (Makes t) s
-act Start code at s = on_object (λ o s'. Sees (Starts (Ref o)) s') s
-act Return code at s = Sees (Ends None) s
-act OutChar code at s = on_number (λ a s'. Sees (PutsChar (Num a)) s') s
-act OutInt code at s = on_numbers (λ a n s'. Sees (PutsInt (Num a) (Num n)) s') s
-act OutLn code at s = Sees PutsLn s
-act OutOpen code at s = Sees PutsNothing s
+abbrev pub keeps_in : Option ProcShape → ℕ
+keeps_in None = 0
+keeps_in (Some f) = f.keeps
 
-abbrev pub on_act : Act → (ℕ → ℕ → Stack → Stop) → ℕ → Stop
-on_act (Goes over s) next at = next over (at + 1) s
-on_act (Sees q s) next at = Work q at s
-on_act (Stops end) next at = Ended end
+-- where a frame of this shape keeps something under this number
+abbrev pub if_kept : ℕ → Option ProcShape → Act → Act
+if_kept c shape k = if nat_lt c (keeps_in shape) then k else Stops lost
 
--- silent work over the instructions from `at` on, of which the first `over` are passed over
-abbrev pub walk : List Instr → List Instr → (over at : ℕ) → Stack → Stop
-walk code [] over at s = Ended lost
-walk code (i ∷ rest) zero at s = on_act (act i code at s) (walk code rest) at
-walk code (i ∷ rest) (suc n) at s = walk code rest n (at + 1) s
+-- in a frame of procedure `own`, above so many others of its activity
+module _ (shapes : List ProcShape) (own here : ℕ) where
+  abbrev pub own_place : ℕ → Addr
+  own_place c = record { root = FrameRoot here; cell = c }
 
--- silent work from a place of the code
-abbrev pub silent : List Instr → ℕ → Stack → Stop
-silent code at s = walk code (drop at code) 0 at s
+  -- the instruction at this place of the code
+  abbrev pub act : Instr → List Instr → ℕ → Stack → Act
+  act (instr.Num n) code at s = gives (Num n) s
+  act instr.Dup code at s = duplicates s
+  act instr.Drop code at s = on_any (λ v s'. Goes 0 s') s
+  act instr.Swap code at s = swaps s
+  act (instr.Frame c) code at s = gives (Place (FrameRoot here) c 0) s
+  act (instr.Module m c) code at s = gives (Place (ModuleRoot m) c 0) s
+  act (instr.Param c) code at s = Sees (Places (own_place c)) s
+  act (instr.Length c) code at s = Sees (Lengths (own_place c)) s
+  act (instr.Offset c t) code at s = on_place (λ a u s'. gives_place a.root (a.cell + c) t [] s') s
+  act (instr.Index n k) code at s = indexes n k s
+  act (instr.IndexOpen j k) code at s = indexes_open j k s
+  act (instr.PickLen d j) code at s = picks d j s
+  act (instr.Unary op) code at s = on_number (λ a s'. given (unary op a) s') s
+  act (instr.Binary op) code at s = on_numbers (λ a b s'. given (binary op a b) s') s
+  act (instr.Keep c k) code at s = if_kept c (numbered shapes own) (on_kind k (λ v s'. Puts c v s') s)
+  act (instr.Kept c k) code at s = if_kept c (numbered shapes own) (Takes c k s)
+  act (instr.Fail n) code at s = Stops (Fails n 0)
+  act (instr.Assert c) code at s = on_number (λ a s'. asserts c a s') s
+  act (instr.Halt c) code at s = Stops (Fails 8 c)
+  act (instr.Jump to) code at s = jumps code to at s
+  act (instr.JumpFalse to) code at s = on_number (λ a s'. jumps_on_false code to at a s') s
+  act (instr.Begin line col) code at s = Stops (Begins at (record { line = line; col = col }) s)
+  act (instr.Load kind) code at s = on_place (λ a t s'. Sees (Reads kind a) s') s
+  act (instr.Store kind) code at s = stores kind s
+  act (instr.Copy n) code at s = on_place (λ from t s1. on_place (λ to u s2. Sees (Copies n from to) s2) s1) s
+  act (instr.PutText strict) code at s = on_text (λ to room s1. on_text (λ from n s2. Sees (PutsText strict from n to room) s2) s1) s
+  act (instr.CmpText r) code at s = on_text (λ b m s1. on_text (λ a n s2. Sees (ComparesTexts r a n b m) s2) s1) s
+  act (instr.Call p) code at s = calls (numbered shapes p) p s
+  act (instr.NewObject t) code at s = Sees (Makes t) s
+  act instr.Start code at s = on_kind R (λ o s'. Sees (Starts o) s') s
+  act instr.Return code at s = ends (numbered shapes own) s
+  act instr.OutChar code at s = on_kind N (λ c s'. Sees (PutsChar c) s') s
+  act instr.OutInt code at s = on_kind N (λ n s1. on_kind N (λ v s2. Sees (PutsInt v n) s2) s1) s
+  act instr.OutString code at s = on_text (λ a n s'. Sees (PutsString a n) s') s
+  act instr.OutLn code at s = Sees PutsLn s
+  act instr.OutOpen code at s = Sees PutsNothing s
+
+-- Silent questions are answered at once, by the frame's own cells.
+
+pub data Noted : Type 0 where
+  Visible : Noted
+  Answered : Cell → Noted
+  Unknown : Noted
+
+abbrev pub noted_as : Kind → Option Cell → Noted
+noted_as kind None = Unknown
+noted_as kind (Some v) = if is_of kind v then Answered v else Unknown
+
+abbrev pub noted : List Cell → Question → Noted
+noted cells (Places a) = noted_as A (slice_get cells a.cell)
+noted cells (Lengths a) = noted_as N (slice_get cells a.cell)
+noted cells q = Visible
+
+abbrev pub on_noted : Noted → Question → (ℕ → ℕ → Keeps → Stack → Stop) → ℕ → Keeps → Stack → Stop
+on_noted Visible q next at k s = Work q at k s
+on_noted (Answered v) q next at k s = next 0 (at + 1) k (v ∷ s)
+on_noted Unknown q next at k s = Ended lost k
+
+-- the value kept under a number
+abbrev pub kept : ℕ → Cell → Keeps → Keeps
+kept c v k = λ x. if nat_eq x c then v else k x
+
+abbrev pub on_act : List Cell → Act → (ℕ → ℕ → Keeps → Stack → Stop) → ℕ → Keeps → Stop
+on_act cells (Goes over s) next at k = next over (at + 1) k s
+on_act cells (Puts c v s) next at k = next 0 (at + 1) (kept c v k) s
+on_act cells (Takes c kind s) next at k = if is_of kind (k c) then next 0 (at + 1) k (k c ∷ s) else Ended lost k
+on_act cells (Sees q s) next at k = on_noted (noted cells q) q next at k s
+on_act cells (Stops end) next at k = Ended end k
+
+module _ (shapes : List ProcShape) (own here : ℕ) (cells : List Cell) where
+  -- silent work over the instructions from `at` on, of which the first `over` are passed over
+  abbrev pub walk : List Instr → List Instr → (over at : ℕ) → Keeps → Stack → Stop
+  walk code [] over at k s = Ended lost k
+  walk code (i ∷ rest) zero at k s = on_act cells (act shapes own here i code at s) (walk code rest) at k
+  walk code (i ∷ rest) (suc n) at k s = walk code rest n (at + 1) k s
+
+  -- silent work from a place of the code
+  abbrev pub silent : List Instr → ℕ → Keeps → Stack → Stop
+  silent code at k s = walk code (drop at code) 0 at k s

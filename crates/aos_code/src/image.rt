@@ -2,10 +2,11 @@
 
 use crate::instr::{Cell, Instr, Kind};
 
-/// The code of a procedure.
+/// The code of a procedure, and how many operands it has at most.
 #[derive(Drop, Debug)]
 pub struct Body {
     pub code: Vec<Instr>,
+    pub depth: u32,
 }
 
 /// What a parameter takes in a frame.

@@ -1,12 +1,6 @@
 // Instructions, and the cells that they work on.
 
-use aos_base::{Binary, Unary};
-
-/// The memory that a place is in: that of a module, by its number in load order from 0.
-#[derive(Clone, Copy, PartialEq, Eq, Debug)]
-pub enum Root {
-    Module(u32),
-}
+use aos_base::{Binary, Relation, Root, Unary};
 
 /// What a cell or an operand holds.
 #[derive(Clone, Copy, PartialEq, Eq, Debug)]
@@ -14,6 +8,8 @@ pub enum Cell {
     Num(i64),
     /// An object, by its number from 1 in the order of making; 0 is NIL.
     Ref(u32),
+    /// A procedure, by its number from 1, and the object whose method it is, 0 for none; procedure 0 is NIL.
+    Call(u32, u32),
     /// A place: its root, the number of its cell, and the dynamic type of a record there, 0 for none.
     Place(Root, u32, u32),
 }
@@ -25,7 +21,7 @@ pub enum Kind {
     N,
     /// An object or NIL.
     R,
-    /// A procedure value; no cell holds one yet.
+    /// A procedure value.
     C,
     /// A place.
     A,
@@ -38,14 +34,36 @@ pub enum Instr {
     Num(i64),
     /// Gives the topmost operand once more.
     Dup,
+    /// Takes an operand.
+    Drop,
     /// Exchanges the two topmost operands.
     Swap,
+    /// Gives the place of a cell of the frame itself.
+    Frame(u32),
     /// Gives the place of a cell of a module, by the numbers of both.
     Module(u32, u32),
+    /// Gives the place that a parameter's cell holds.
+    Param(u32),
+    /// Gives the length that a parameter's cell holds.
+    Length(u32),
+    /// Takes a place and gives the one so many cells on, with this dynamic type of a record there, 0 for none.
+    Offset(u32, u32),
+    /// Takes the place of an array of so many elements, each of so many cells, and an index, and gives the element's place;
+    /// trap 2 outside.
+    Index(u32, u32),
+    /// Takes the place of an open array, so many lengths, of which the first is the array's own, and an index, and gives the
+    /// element's place and the other lengths, where an element of the last dimension has so many cells; trap 2 outside.
+    IndexOpen(u32, u32),
+    /// Takes the place of an open array and so many lengths, and gives the length of this number from 0.
+    PickLen(u32, u32),
     /// Takes a number and gives what the operator does; trap 16 where the operator isn't defined for it.
     Unary(Unary),
     /// Takes two numbers and gives what the operator does; trap 16 where the operator isn't defined for them.
     Binary(Binary),
+    /// Takes a value of this kind and keeps it in the frame, under this number.
+    Keep(u32, Kind),
+    /// Gives what is kept under this number, which is of this kind.
+    Kept(u32, Kind),
     /// Traps with this number.
     Fail(u8),
     /// Takes 1; traps with 7 and this code where it finds 0.
@@ -62,16 +80,27 @@ pub enum Instr {
     Load(Kind),
     /// Takes a place and what its cell is to hold.
     Store(Kind),
+    /// Takes two places, the second one from the top, and copies so many cells from the second to the first.
+    Copy(u32),
+    /// Takes the place of a text and its length, and those of an array of characters, and stores the text there; where it doesn't
+    /// fit, trap 15 if the flag is set, and else its beginning.
+    PutText(bool),
+    /// Takes the places and lengths of two texts and gives whether they are so related.
+    CmpText(Relation),
+    /// Takes its arguments, the last one from the top, and calls the procedure of this number; trap 11 where it is too deep.
+    Call(u32),
     /// Makes an object of the type of this number, from 1, and gives it; trap 12 where the heap is full.
     NewObject(u32),
     /// Takes an object and starts its activity; trap 13 where there is no room for one.
     Start,
-    /// Ends the frame.
+    /// Ends the frame, with the result on the stack where there is one.
     Return,
     /// Takes the code of a character and writes it.
     OutChar,
     /// Takes a number and in how many places it is written.
     OutInt,
+    /// Takes the place of a text and its length and writes it.
+    OutString,
     /// Ends the line.
     OutLn,
     /// Writes nothing.

@@ -5,6 +5,7 @@ pub mod image;
 pub mod instr;
 pub mod report;
 
+pub use aos_base::Root;
 pub use image::{Body, Image, ModuleDesc, ParamKind, ProcShape, TypeDesc};
-pub use instr::{Cell, Instr, Kind, Root};
+pub use instr::{Cell, Instr, Kind};
 pub use report::TrapRec;

@@ -1,3 +1,4 @@
 mod Tries
 mod Searches
 mod Searched
+mod Taken

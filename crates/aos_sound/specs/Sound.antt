@@ -1,15 +1,16 @@
 -- Soundness of a body: what may stand at its places, and what every path through it meets.
-use Rattle.std.specs.Prelude.{◌≡◌, ◌≤◌, ℕ, ◌+◌, List, [], ◌∷◌, length, Bool, true, false, ◌&&◌, ◌||◌, Option, Some, None, nat_lt, if◌then◌else◌, slice_get, IsTrue, ◌⊎◌, option_map}
+use Rattle.std.specs.Prelude.{◌≡◌, ◌≤◌, ℕ, zero, suc, ◌+◌, ◌-◌, List, [], ◌∷◌, ◌++◌, length, replicate, reverse, Bool, true, false, ◌&&◌, ◌||◌, Option, Some, None, nat_lt, if◌then◌else◌, slice_get, IsTrue, ◌⊎◌, option_map}
 use Rattle.aos_code.specs.declared.instr.Kind.{Kind}
 use Rattle.aos_code.specs.declared.instr.Kind.TheVariants.{N, R, C, A}
 use Rattle.aos_code.specs.declared.instr.Instr.{Instr}
-use Rattle.aos_code.specs.declared.instr.Instr.TheVariants.{Num, Dup, Swap, Module, Unary, Binary, Fail, Assert, Halt, Jump, JumpFalse, Begin, Load, Store, NewObject, Start, Return, OutChar, OutInt, OutLn, OutOpen}
+use Rattle.aos_code.specs.declared.instr.Instr.TheVariants.{Num, Dup, Drop, Swap, Frame, Module, Param, Length, Offset, Index, IndexOpen, PickLen, Unary, Binary, Keep, Kept, Fail, Assert, Halt, Jump, JumpFalse, Begin, Load, Store, Copy, PutText, CmpText, Call, NewObject, Start, Return, OutChar, OutInt, OutString, OutLn, OutOpen}
 use Rattle.aos_code.specs.declared.image.ModuleDesc.{ModuleDesc}
 use Rattle.aos_code.specs.declared.image.ProcShape.{ProcShape}
 use Rattle.aos_code.specs.declared.image.Image.{Image}
 use Rattle.aos_code.specs.Numbered.{numbered}
+use Rattle.aos_code.specs.Silent.{kinds_of, keeps_in}
 use Rattle.aos_sound.specs.declared.effect.Effect.{Effect}
-use Rattle.aos_sound.specs.declared.effect.Effect.TheVariants.{Pass, Gives, Takes, TakesTwo, Turns, Joins, Twice, Swaps, Returns}
+use Rattle.aos_sound.specs.declared.effect.Effect.TheVariants.{Pass, Gives, Takes, TakesTwo, Turns, Joins, Twice, Drops, Swaps, Rows, Picks, Texts, Calls, Returns}
 use Rattle.aos_sound.specs.declared.effect.Next.{Next}
 use Rattle.aos_sound.specs.declared.effect.Next.TheVariants.{Ends, On, To, Either}
 use Rattle.aos_sound.specs.declared.stand.Role.{Role}
@@ -23,10 +24,20 @@ Kinds = List Kind
 abbrev pub effect_of : Instr → Effect
 effect_of (Num n) = Gives N
 effect_of Dup = Twice
+effect_of Drop = Drops
 effect_of Swap = Swaps
+effect_of (Frame c) = Gives A
 effect_of (Module m c) = Gives A
+effect_of (Param c) = Gives A
+effect_of (Length c) = Gives N
+effect_of (Offset c t) = Turns A A
+effect_of (Index n k) = Joins N A A
+effect_of (IndexOpen j k) = Rows j
+effect_of (PickLen d j) = Picks j
 effect_of (Unary op) = Turns N N
 effect_of (Binary op) = Joins N N N
+effect_of (Keep c k) = Takes k
+effect_of (Kept c k) = Gives k
 effect_of (Fail n) = Pass
 effect_of (Assert c) = Takes N
 effect_of (Halt c) = Pass
@@ -35,11 +46,16 @@ effect_of (JumpFalse to) = Takes N
 effect_of (Begin line col) = Pass
 effect_of (Load k) = Turns A k
 effect_of (Store k) = TakesTwo k A
+effect_of (Copy n) = TakesTwo A A
+effect_of (PutText strict) = Texts None
+effect_of (CmpText r) = Texts (Some N)
+effect_of (Call p) = Calls p
 effect_of (NewObject t) = Gives R
 effect_of Start = Takes R
 effect_of Return = Returns
 effect_of OutChar = Takes N
 effect_of OutInt = TakesTwo N N
+effect_of OutString = TakesTwo N A
 effect_of OutLn = Pass
 effect_of OutOpen = Pass
 
@@ -77,6 +93,24 @@ without (k ∷ ks) (x ∷ s) = if same_kind k x then without ks s else None
 abbrev pub topped : Kind → Option Kinds → Option Kinds
 topped k below = option_map (λ s. k ∷ s) below
 
+-- with these on top of what is left
+abbrev pub all_topped : Kinds → Option Kinds → Option Kinds
+all_topped new below = option_map (λ s. new ++ s) below
+
+-- with this one on top of what is left, where there is one
+abbrev pub given : Option Kind → Option Kinds → Option Kinds
+given None below = below
+given (Some k) below = topped k below
+
+-- the place of an open array, and above it the lengths of so many dimensions
+abbrev pub row : (j : ℕ) → Kinds
+row j = replicate j N ++ A ∷ []
+
+-- what is left below the topmost one
+abbrev pub dropped : Kinds → Option Kinds
+dropped [] = None
+dropped (k ∷ s) = Some s
+
 -- the topmost one once more
 abbrev pub twice : Kinds → Option Kinds
 twice [] = None
@@ -104,6 +138,11 @@ abbrev pub returned : Option ProcShape → Kinds → Option Kinds
 returned None s = None
 returned (Some f) s = alone f.result s
 
+-- a call of a procedure with this shape: the arguments are taken, of which the last is the topmost, and the result is given
+abbrev pub called : Option ProcShape → Kinds → Option Kinds
+called None s = None
+called (Some f) s = given f.result (without (reverse (kinds_of f.params.items)) s)
+
 -- a statement begins there
 abbrev pub is_begin : Option Instr → Bool
 is_begin (Some (Begin line col)) = true
@@ -123,31 +162,54 @@ abbrev pub cells_in : Option ModuleDesc → ℕ
 cells_in None = 0
 cells_in (Some m) = length m.cells.items
 
+-- how many cells a frame has that a procedure of this shape names, none where there is no such shape
+abbrev pub frame_cells : Option ProcShape → ℕ
+frame_cells None = 0
+frame_cells (Some f) = f.cells
+
 -- there is one
 abbrev pub is_some : {X : Type 0} → Option X → Bool
 is_some None = false
 is_some (Some x) = true
 
--- what may stand at a place, on a path or not: numbers name what the image has, and a condition has no visible work but Load
-abbrev pub may_stand : Image → Role → List Instr → (at : ℕ) → Instr → Bool
-may_stand image role code at (Module m c) = nat_lt c (cells_in (slice_get image.modules.items m))
-may_stand image role code at (Jump to) = may_jump role code to at
-may_stand image role code at (JumpFalse to) = may_jump role code to at
-may_stand image role code at (NewObject t) = is_procedure role && is_some (numbered image.types.items t)
-may_stand image role code at (Assert c) = is_procedure role
-may_stand image role code at (Halt c) = is_procedure role
-may_stand image role code at (Begin line col) = is_procedure role
-may_stand image role code at (Store k) = is_procedure role
-may_stand image role code at Start = is_procedure role
-may_stand image role code at Return = is_procedure role
-may_stand image role code at OutChar = is_procedure role
-may_stand image role code at OutInt = is_procedure role
-may_stand image role code at OutLn = is_procedure role
-may_stand image role code at OutOpen = is_procedure role
-may_stand image role code at _ = true
+-- the number of a type, or 0 for none
+abbrev pub is_type_or_none : Image → (t : ℕ) → Bool
+is_type_or_none image zero = true
+is_type_or_none image (suc t) = is_some (numbered image.types.items (suc t))
 
 -- in an image, as the procedure of this number
 module _ (image : Image) (own : ℕ) where
+  -- what may stand at a place, on a path or not: numbers name what the image and the procedure have, and a condition has no visible
+  -- work but Load and CmpText, and keeps nothing
+  abbrev pub may_stand : Role → List Instr → (at : ℕ) → Instr → Bool
+  may_stand role code at (Frame c) = nat_lt c (frame_cells (numbered image.shapes.items own))
+  may_stand role code at (Module m c) = nat_lt c (cells_in (slice_get image.modules.items m))
+  may_stand role code at (Param c) = nat_lt c (frame_cells (numbered image.shapes.items own))
+  may_stand role code at (Length c) = nat_lt c (frame_cells (numbered image.shapes.items own))
+  may_stand role code at (Offset c t) = is_type_or_none image t
+  may_stand role code at (IndexOpen j k) = nat_lt 0 j
+  may_stand role code at (PickLen d j) = nat_lt d j
+  may_stand role code at (Keep c k) = is_procedure role && nat_lt c (keeps_in (numbered image.shapes.items own))
+  may_stand role code at (Kept c k) = nat_lt c (keeps_in (numbered image.shapes.items own))
+  may_stand role code at (Jump to) = may_jump role code to at
+  may_stand role code at (JumpFalse to) = may_jump role code to at
+  may_stand role code at (Call p) = is_procedure role && is_some (numbered image.shapes.items p)
+  may_stand role code at (NewObject t) = is_procedure role && is_some (numbered image.types.items t)
+  may_stand role code at (Assert c) = is_procedure role
+  may_stand role code at (Halt c) = is_procedure role
+  may_stand role code at (Begin line col) = is_procedure role
+  may_stand role code at (Store k) = is_procedure role
+  may_stand role code at (Copy n) = is_procedure role
+  may_stand role code at (PutText strict) = is_procedure role
+  may_stand role code at Start = is_procedure role
+  may_stand role code at Return = is_procedure role
+  may_stand role code at OutChar = is_procedure role
+  may_stand role code at OutInt = is_procedure role
+  may_stand role code at OutString = is_procedure role
+  may_stand role code at OutLn = is_procedure role
+  may_stand role code at OutOpen = is_procedure role
+  may_stand role code at _ = true
+
   -- the operands behind an instruction of this effect, None where it doesn't find what it takes
   abbrev pub left_by : Effect → Kinds → Option Kinds
   left_by Pass s = Some s
@@ -157,7 +219,12 @@ module _ (image : Image) (own : ℕ) where
   left_by (Turns k r) s = topped r (without (k ∷ []) s)
   left_by (Joins k j r) s = topped r (without (k ∷ j ∷ []) s)
   left_by Twice s = twice s
+  left_by Drops s = dropped s
   left_by Swaps s = swapped s
+  left_by (Rows j) s = all_topped (row (j - 1)) (without (N ∷ row j) s)
+  left_by (Picks j) s = topped N (without (row j) s)
+  left_by (Texts r) s = given r (without (N ∷ A ∷ N ∷ A ∷ []) s)
+  left_by (Calls p) s = called (numbered image.shapes.items p) s
   left_by Returns s = returned (numbered image.shapes.items own) s
 
   -- the operands behind an instruction, on whichever way the code goes on
@@ -185,5 +252,5 @@ module _ (image : Image) (own : ℕ) where
 
   -- each instruction may stand where it does, and the paths are sound
   pub record IsSound (role : Role) (code : List Instr) (depth : ℕ) : Type 0 where
-    pub stand : (at : ℕ) (i : Instr) → slice_get code at ≡ Some i → IsTrue (may_stand image role code at i)
+    pub stand : (at : ℕ) (i : Instr) → slice_get code at ≡ Some i → IsTrue (may_stand role code at i)
     pub paths : ArePathsSound code depth

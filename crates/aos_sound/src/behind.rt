@@ -1,61 +1,21 @@
 // The stack behind an instruction.
 
-ghost use Rattle.std.specs.Prelude.{◌≡◌, ◌<◌, List, [], ◌∷◌, length, Option, IfOk};
+ghost use Rattle.std.specs.Prelude.{◌≡◌, ◌<◌, ◌-◌, List, ◌∷◌, length, Option, IfOk};
 ghost use Rattle.aos_code.specs.declared.instr.Kind.{Kind};
+ghost use Rattle.aos_code.specs.declared.instr.Kind.TheVariants.{N};
 ghost use Rattle.aos_code.specs.Numbered.{numbered};
 ghost use Rattle.aos_sound.specs.Sound as sound;
-ghost use Rattle.aos_sound.specs.Sound.{Kinds, without, topped, twice, swapped, returned};
+ghost use Rattle.aos_sound.specs.Sound.{Kinds, without, topped, all_topped, given, row, called, twice, swapped, returned};
 ghost use Rattle.aos_sound.specs.Stacks.{stack_at, Extends, Means};
 
 use crate::effect::Effect;
 use crate::stacks::Stacks;
+use crate::take::{drop_one, take, take_arguments, take_row, take_texts, take_two};
 use aos_base::NoMemory;
 use aos_code::{Image, Kind, ProcShape};
 
-fn same_kind(a: Kind, b: Kind) -> bool
-    ensures { result ≡ sound.same_kind a b }
-{
-    match (a, b) {
-        (Kind::N, Kind::N) => true,
-        (Kind::R, Kind::R) => true,
-        (Kind::C, Kind::C) => true,
-        (Kind::A, Kind::A) => true,
-        _ => false,
-    }
-}
-
-/// What is left where one of this kind is taken.
-fn take(stacks: &Stacks, kind: Kind, id: u32) -> Option<u32>
-    requires { id < length stacks.now }
-    ensures { Means stacks.now result (without (kind ∷ []) (stack_at stacks.now id)) }
-{
-    match stacks.split(id) {
-        Some((top, below)) => if same_kind(kind, top) {
-            Some(below)
-        } else {
-            None
-        },
-        None => None,
-    }
-}
-
-/// What is left where one of the first kind is taken, and one of the second.
-fn take_two(stacks: &Stacks, first: Kind, second: Kind, id: u32) -> Option<u32>
-    requires { id < length stacks.now }
-    ensures { Means stacks.now result (without (first ∷ second ∷ []) (stack_at stacks.now id)) }
-{
-    match stacks.split(id) {
-        Some((top, below)) => if same_kind(first, top) {
-            take(stacks, second, below)
-        } else {
-            None
-        },
-        None => None,
-    }
-}
-
 /// One of this kind is given on what is left, if any.
-fn give(stacks: &mut Stacks, kind: Kind, below: Option<u32>) -> Result<Option<u32>, NoMemory>
+fn give(below: Option<u32>, kind: Kind, stacks: &mut Stacks) -> Result<Option<u32>, NoMemory>
     requires { (s : Option Kinds) × Means stacks.old below s }
     ensures kept { IfOk result (λ r. Extends stacks.old stacks.new) }
     ensures given { IfOk result (λ r. (s : Option Kinds) →
@@ -65,6 +25,73 @@ fn give(stacks: &mut Stacks, kind: Kind, below: Option<u32>) -> Result<Option<u3
         Some(id) => Ok(Some(stacks.on_top(kind, id)?)),
         None => Ok(None),
     }
+}
+
+/// One of this kind, if any, is given on what is left, if any.
+fn give_any(
+    below: Option<u32>,
+    kind: Option<Kind>,
+    stacks: &mut Stacks,
+) -> Result<Option<u32>, NoMemory>
+    requires { (s : Option Kinds) × Means stacks.old below s }
+    ensures kept { IfOk result (λ r. Extends stacks.old stacks.new) }
+    ensures given { IfOk result (λ r. (s : Option Kinds) →
+        Means stacks.old below s → Means stacks.new r (given kind s)) }
+{
+    match kind {
+        Some(kind) => give(below, kind, stacks),
+        None => Ok(below),
+    }
+}
+
+/// The same stack, where so many lengths lie on it, and the place of an open array below them.
+fn if_row(stacks: &Stacks, lengths: u32, id: u32) -> Option<u32>
+    requires { id < length stacks.now }
+    ensures { Means stacks.now result
+        (all_topped (row lengths) (without (row lengths) (stack_at stacks.now id))) }
+{
+    match take_row(stacks, lengths, id) {
+        Some(_) => Some(id),
+        None => None,
+    }
+}
+
+/// An index is taken, so many lengths and the place of an open array, and a place and one length less are given: the index goes
+/// and one length, where the place and the others lie below them.
+fn take_index(stacks: &Stacks, lengths: u32, id: u32) -> Option<u32>
+    requires { id < length stacks.now }
+    ensures { Means stacks.now result
+        (all_topped (row (lengths - 1)) (without (N ∷ row lengths) (stack_at stacks.now id))) }
+{
+    match take(stacks, Kind::N, id) {
+        Some(array) => if lengths == 0 {
+            if_row(stacks, 0, array)
+        } else {
+            match take(stacks, Kind::N, array) {
+                Some(element) => if_row(stacks, lengths - 1, element),
+                None => None,
+            }
+        },
+        None => None,
+    }
+}
+
+/// The procedure of this number is called.
+fn call(shapes: &[ProcShape], p: u32, stacks: &mut Stacks, id: u32) -> Result<Option<u32>, NoMemory>
+    requires { id < length stacks.old }
+    ensures kept { IfOk result (λ r. Extends stacks.old stacks.new) }
+    ensures left { IfOk result (λ r. Means stacks.new r
+        (called (numbered shapes.now p) (stack_at stacks.old id))) }
+{
+    if p == 0 || p as usize > shapes.len() {
+        return Ok(None);
+    }
+    let shape = &shapes[p as usize - 1];
+    give_any(
+        take_arguments(stacks, &shape.params, id),
+        shape.result,
+        stacks,
+    )
 }
 
 /// The topmost operand once more.
@@ -114,12 +141,8 @@ fn take_result(stacks: &Stacks, result_kind: Option<Kind>, id: u32) -> Option<u3
 {
     match result_kind {
         None => if_empty(stacks, id),
-        Some(kind) => match stacks.split(id) {
-            Some((top, below)) => if same_kind(kind, top) {
-                if_empty(stacks, below)
-            } else {
-                None
-            },
+        Some(kind) => match take(stacks, kind, id) {
+            Some(below) => if_empty(stacks, below),
             None => None,
         },
     }
@@ -154,16 +177,15 @@ pub fn left_by(
         Effect::Gives(kind) => Ok(Some(stacks.on_top(kind, id)?)),
         Effect::Takes(kind) => Ok(take(stacks, kind, id)),
         Effect::TakesTwo(first, second) => Ok(take_two(stacks, first, second, id)),
-        Effect::Turns(from, to) => {
-            let below = take(stacks, from, id);
-            give(stacks, to, below)
-        }
-        Effect::Joins(first, second, to) => {
-            let below = take_two(stacks, first, second, id);
-            give(stacks, to, below)
-        }
+        Effect::Turns(from, to) => give(take(stacks, from, id), to, stacks),
+        Effect::Joins(first, second, to) => give(take_two(stacks, first, second, id), to, stacks),
         Effect::Twice => double(stacks, id),
+        Effect::Drops => Ok(drop_one(stacks, id)),
         Effect::Swaps => swap(stacks, id),
+        Effect::Rows(lengths) => Ok(take_index(stacks, lengths, id)),
+        Effect::Picks(lengths) => give(take_row(stacks, lengths, id), Kind::N, stacks),
+        Effect::Texts(to) => give_any(take_texts(stacks, id), to, stacks),
+        Effect::Calls(p) => call(&image.shapes, p, stacks, id),
         Effect::Returns => Ok(ends(&image.shapes, own, stacks, id)),
     }
 }

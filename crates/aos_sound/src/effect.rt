@@ -22,8 +22,18 @@ pub enum Effect {
     Joins(Kind, Kind, Kind),
     /// Gives the topmost operand once more.
     Twice,
+    /// Takes the topmost operand.
+    Drops,
     /// Exchanges the two topmost operands.
     Swaps,
+    /// Takes an index, so many lengths and below them the place of an open array, and gives a place and one length less.
+    Rows(u32),
+    /// Takes so many lengths and below them the place of an open array, and gives a number.
+    Picks(u32),
+    /// Takes two texts, each a place and above it a length, and gives an operand of this kind, if any.
+    Texts(Option<Kind>),
+    /// Takes the arguments of the procedure of this number, the last one from the top, and gives its result, if any.
+    Calls(u32),
     /// Takes the result of the procedure, where nothing else is there.
     Returns,
 }
@@ -48,10 +58,20 @@ pub fn effect_of(i: &Instr) -> Effect
     match *i {
         Instr::Num(_) => Effect::Gives(Kind::N),
         Instr::Dup => Effect::Twice,
+        Instr::Drop => Effect::Drops,
         Instr::Swap => Effect::Swaps,
+        Instr::Frame(_) => Effect::Gives(Kind::A),
         Instr::Module(_, _) => Effect::Gives(Kind::A),
+        Instr::Param(_) => Effect::Gives(Kind::A),
+        Instr::Length(_) => Effect::Gives(Kind::N),
+        Instr::Offset(_, _) => Effect::Turns(Kind::A, Kind::A),
+        Instr::Index(_, _) => Effect::Joins(Kind::N, Kind::A, Kind::A),
+        Instr::IndexOpen(j, _) => Effect::Rows(j),
+        Instr::PickLen(_, j) => Effect::Picks(j),
         Instr::Unary(_) => Effect::Turns(Kind::N, Kind::N),
         Instr::Binary(_) => Effect::Joins(Kind::N, Kind::N, Kind::N),
+        Instr::Keep(_, kind) => Effect::Takes(kind),
+        Instr::Kept(_, kind) => Effect::Gives(kind),
         Instr::Fail(_) => Effect::Pass,
         Instr::Assert(_) => Effect::Takes(Kind::N),
         Instr::Halt(_) => Effect::Pass,
@@ -60,11 +80,16 @@ pub fn effect_of(i: &Instr) -> Effect
         Instr::Begin(_, _) => Effect::Pass,
         Instr::Load(kind) => Effect::Turns(Kind::A, kind),
         Instr::Store(kind) => Effect::TakesTwo(kind, Kind::A),
+        Instr::Copy(_) => Effect::TakesTwo(Kind::A, Kind::A),
+        Instr::PutText(_) => Effect::Texts(None),
+        Instr::CmpText(_) => Effect::Texts(Some(Kind::N)),
+        Instr::Call(p) => Effect::Calls(p),
         Instr::NewObject(_) => Effect::Gives(Kind::R),
         Instr::Start => Effect::Takes(Kind::R),
         Instr::Return => Effect::Returns,
         Instr::OutChar => Effect::Takes(Kind::N),
         Instr::OutInt => Effect::TakesTwo(Kind::N, Kind::N),
+        Instr::OutString => Effect::TakesTwo(Kind::N, Kind::A),
         Instr::OutLn => Effect::Pass,
         Instr::OutOpen => Effect::Pass,
     }

@@ -7,6 +7,7 @@ mod search;
 mod sound;
 mod stacks;
 mod stand;
+mod take;
 
 pub use effect::{Effect, Next, effect_of, next_of};
 pub use sound::{is_sound, is_sound_cond};

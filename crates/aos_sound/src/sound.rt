@@ -14,44 +14,37 @@ fn is_sound_as(
     alloc: Global,
     role: Role,
     body: &Body,
-    depth: u32,
     own: u32,
     image: &Image,
 ) -> Result<bool, NoMemory>
-    ensures { IfOk result (λ b. IsTrue b ↔ IsSound image.now own role body.now.code.items depth) }
+    ensures { IfOk result (λ b. IsTrue b ↔ IsSound image.now own role body.now.code.items body.now.depth) }
 {
-    if !all_stand(image, role, &body.code) {
+    if !all_stand(image, own, role, &body.code) {
         return Ok(false);
     }
-    Ok(explores(alloc, image, own, &body.code, depth)?)
+    Ok(explores(alloc, image, own, &body.code, body.depth)?)
 }
 
-/// Whether a body is sound as that of the procedure of this number, with so many operands at most. It looks at each
-/// instruction once as it stands, and once as a path comes to it, so its time grows with the length of the code.
-pub fn is_sound(
-    alloc: Global,
-    body: &Body,
-    depth: u32,
-    own: u32,
-    image: &Image,
-) -> Result<bool, NoMemory>
+/// Whether a body is sound as that of the procedure of this number, with as many operands at most as it says. It looks at each
+/// instruction once as it stands, and once as a path comes to it, so its time grows with the length of the code, and with how
+/// many arguments and lengths are taken in it, of which it takes no more than there are.
+pub fn is_sound(alloc: Global, body: &Body, own: u32, image: &Image) -> Result<bool, NoMemory>
     requires { (0 < own) × (own ≤ length image.now.shapes.items) }
-    ensures { IfOk result (λ b. IsTrue b ↔ IsSound image.now own Procedure body.now.code.items depth) }
+    ensures { IfOk result (λ b. IsTrue b ↔ IsSound image.now own Procedure body.now.code.items body.now.depth) }
 {
-    is_sound_as(alloc, Role::Procedure, body, depth, own, image)
+    is_sound_as(alloc, Role::Procedure, body, own, image)
 }
 
-/// Whether code is sound as a condition in the procedure of this number, with so many operands at most.
+/// Whether code is sound as a condition in the procedure of this number.
 pub fn is_sound_cond(
     alloc: Global,
     condition: &Body,
-    depth: u32,
     own: u32,
     image: &Image,
 ) -> Result<bool, NoMemory>
     requires { (0 < own) × (own ≤ length image.now.shapes.items) }
     ensures { IfOk result (λ b. IsTrue b ↔
-        IsSound image.now own Condition condition.now.code.items depth) }
+        IsSound image.now own Condition condition.now.code.items condition.now.depth) }
 {
-    is_sound_as(alloc, Role::Condition, condition, depth, own, image)
+    is_sound_as(alloc, Role::Condition, condition, own, image)
 }

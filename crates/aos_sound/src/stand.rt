@@ -1,12 +1,13 @@
 // What may stand at a place of the code, whether or not a path comes there.
 
-ghost use Rattle.std.specs.Prelude.{◌≡◌, ◌↔◌, ℕ, slice_get, Some, IsTrue};
+ghost use Rattle.std.specs.Prelude.{◌≡◌, ◌↔◌, ℕ, nat_lt, slice_get, Some, IsTrue};
 ghost use Rattle.aos_code.specs.declared.instr.Instr.{Instr};
 ghost use Rattle.aos_code.specs.Numbered.{numbered};
 ghost use Rattle.aos_sound.specs.Sound as sound;
-ghost use Rattle.aos_sound.specs.Sound.{is_begin, is_procedure, may_jump, cells_in, is_some};
+ghost use Rattle.aos_code.specs.Silent.{keeps_in};
+ghost use Rattle.aos_sound.specs.Sound.{is_begin, is_procedure, may_jump, cells_in, frame_cells, is_some};
 
-use aos_code::{Image, Instr, ModuleDesc, TypeDesc};
+use aos_code::{Image, Instr, ModuleDesc, ProcShape, TypeDesc};
 
 /// What code is for.
 #[derive(Clone, Copy, PartialEq, Eq, Debug)]
@@ -65,23 +66,63 @@ fn has_type(types: &[TypeDesc], t: u32) -> bool
     t > 0 && (t as usize) <= types.len()
 }
 
+/// Whether this is the number of a type, or 0 for none.
+fn is_type_or_none(image: &Image, t: u32) -> bool
+    ensures { result ≡ sound.is_type_or_none image.now t }
+{
+    t == 0 || has_type(&image.types, t)
+}
+
+/// Whether a procedure has this number.
+fn has_procedure(shapes: &[ProcShape], p: u32) -> bool
+    ensures { result ≡ is_some (numbered shapes.now p) }
+{
+    p > 0 && (p as usize) <= shapes.len()
+}
+
+/// Whether a frame of the procedure of this number has this cell.
+fn has_cell(shapes: &[ProcShape], own: u32, c: u32) -> bool
+    ensures { result ≡ nat_lt c (frame_cells (numbered shapes.now own)) }
+{
+    has_procedure(shapes, own) && c < shapes[own as usize - 1].cells
+}
+
+/// Whether a frame of the procedure of this number keeps something under this number.
+fn has_keep(shapes: &[ProcShape], own: u32, c: u32) -> bool
+    ensures { result ≡ nat_lt c (keeps_in (numbered shapes.now own)) }
+{
+    has_procedure(shapes, own) && c < shapes[own as usize - 1].keeps
+}
+
 /// Whether an instruction may stand at this place.
-fn may_stand(image: &Image, role: Role, code: &[Instr], at: usize, i: &Instr) -> bool
-    ensures { result ≡ sound.may_stand image.now role code.now at i.now }
+fn may_stand(image: &Image, own: u32, role: Role, code: &[Instr], at: usize, i: &Instr) -> bool
+    ensures { result ≡ sound.may_stand image.now own role code.now at i.now }
 {
     match *i {
+        Instr::Frame(c) => has_cell(&image.shapes, own, c),
         Instr::Module(m, c) => (c as usize) < cells_of(&image.modules, m),
+        Instr::Param(c) => has_cell(&image.shapes, own, c),
+        Instr::Length(c) => has_cell(&image.shapes, own, c),
+        Instr::Offset(_, t) => is_type_or_none(image, t),
+        Instr::IndexOpen(j, _) => 0 < j,
+        Instr::PickLen(d, j) => d < j,
+        Instr::Keep(c, _) => for_procedure(role) && has_keep(&image.shapes, own, c),
+        Instr::Kept(c, _) => has_keep(&image.shapes, own, c),
         Instr::Jump(to) => jumps(role, code, to as usize, at),
         Instr::JumpFalse(to) => jumps(role, code, to as usize, at),
+        Instr::Call(p) => for_procedure(role) && has_procedure(&image.shapes, p),
         Instr::NewObject(t) => for_procedure(role) && has_type(&image.types, t),
         Instr::Assert(_) => for_procedure(role),
         Instr::Halt(_) => for_procedure(role),
         Instr::Begin(_, _) => for_procedure(role),
         Instr::Store(_) => for_procedure(role),
+        Instr::Copy(_) => for_procedure(role),
+        Instr::PutText(_) => for_procedure(role),
         Instr::Start => for_procedure(role),
         Instr::Return => for_procedure(role),
         Instr::OutChar => for_procedure(role),
         Instr::OutInt => for_procedure(role),
+        Instr::OutString => for_procedure(role),
         Instr::OutLn => for_procedure(role),
         Instr::OutOpen => for_procedure(role),
         _ => true,
@@ -89,13 +130,13 @@ fn may_stand(image: &Image, role: Role, code: &[Instr], at: usize, i: &Instr) ->
 }
 
 /// Whether each instruction may stand where it does.
-pub fn all_stand(image: &Image, role: Role, code: &[Instr]) -> bool
-    ensures { IsTrue result ↔ ((at : ℕ) (i : Instr) →
-        slice_get code.now at ≡ Some i → IsTrue (sound.may_stand image.now role code.now at i)) }
+pub fn all_stand(image: &Image, own: u32, role: Role, code: &[Instr]) -> bool
+    ensures { IsTrue result ↔ ((at : ℕ) (i : Instr) → slice_get code.now at ≡ Some i →
+        IsTrue (sound.may_stand image.now own role code.now at i)) }
 {
     let mut at = 0;
     while at < code.len() {
-        if !may_stand(image, role, code, at, &code[at]) {
+        if !may_stand(image, own, role, code, at, &code[at]) {
             return false;
         }
         at += 1;
