@@ -12,7 +12,7 @@ use Rattle.aos_base.specs.declared.operator.Binary.{Binary as BinaryOperator}
 use Rattle.aos_base.specs.declared.operator.Binary.TheVariants as two
 use Rattle.aos_base.specs.declared.operator.Given.{Given}
 use Rattle.aos_base.specs.declared.operator.Given.TheVariants.{Number, Trap, Undefined}
-use Rattle.aos_base.specs.Number.{greatest, shifted, IsWithin, if_within}
+use Rattle.aos_base.specs.Number.{is_within, greatest, shifted, IsWithin, if_within}
 use Rattle.aos_base.specs.Operators.{or_trap, natural, unary as unary_of, binary as binary_of}
 use Rattle.aos_types.specs.declared.row.TypeId.{TypeId}
 use Rattle.aos_typed.specs.declared.tree.Literal.{Literal}
@@ -45,9 +45,6 @@ MayBe P None = Unit {0}
 MayBe P (Some x) = P x
 
 -- Numbers.
-
-abbrev is_within : Width → ℤ → Bool
-is_within w z = int_le (negsuc (greatest w)) z && int_le z (pos (greatest w))
 
 within_test : (w : Width) (z : ℤ) → is_within w z ≡ true → IsWithin w z
 within_test w z e =
@@ -178,9 +175,14 @@ range_given : (b : Bool) (z : ℤ) → IsWithin W64 z → MayBe IsGood (literal_
 range_given true z h = number_good z h
 range_given false z h = tt
 
+-- what is given where a test holds, and nothing else is
+given_if : (b : Bool) (g : Given) → MayBe IsGood (literal_given Integer g) → MayBe IsGood (literal_given Integer (if b then g else Undefined))
+given_if true g h = h
+given_if false g h = tt
+
 one_good : (op : UnaryOperator) (a : Literal) → IsGood a → MayBe IsGood (computed_one op a)
-one_good (one.Neg w) a h = number_given (neg_ℤ (number a))
-one_good (one.Abs w) a h = number_given (pos (unsigned_abs (number a)))
+one_good (one.Neg w) a h = given_if (is_within W64 (number a)) _ (number_given (neg_ℤ (number a)))
+one_good (one.Abs w) a h = given_if (is_within W64 (number a)) _ (number_given (pos (unsigned_abs (number a))))
 one_good one.Not a h = boolean_given (unary_of one.Not (number a))
 one_good one.Odd a h = boolean_given (unary_of one.Odd (number a))
 one_good one.Cap a h = character_given (unary_of one.Cap (number a))
@@ -188,12 +190,14 @@ one_good one.Compl a h = set_given_good (unary_of one.Compl (number a))
 one_good (one.Range low high) a h = range_given (int_le low (number a) && int_le (number a) high) (number a) (good_number a h)
 
 two_good : (op : BinaryOperator) (a b : Literal) → MayBe IsGood (computed op a b)
-two_good (two.Add w) a b = number_given (number a +ℤ number b)
-two_good (two.Sub w) a b = number_given (number a -ℤ number b)
-two_good (two.Mul w) a b = number_given (number a *ℤ number b)
-two_good (two.Div w) a b = divisor_given (int_lt (pos 0) (number b)) (int_div_euclid (number a) (number b))
-two_good (two.Mod w) a b = divisor_given (int_lt (pos 0) (number b)) (int_rem_euclid (number a) (number b))
-two_good (two.Ash w) a b = number_given (shifted (number a) (number b))
+two_good (two.Add w) a b = given_if (is_within W64 (number a) && is_within W64 (number b)) _ (number_given (number a +ℤ number b))
+two_good (two.Sub w) a b = given_if (is_within W64 (number a) && is_within W64 (number b)) _ (number_given (number a -ℤ number b))
+two_good (two.Mul w) a b = given_if (is_within W64 (number a) && is_within W64 (number b)) _ (number_given (number a *ℤ number b))
+two_good (two.Div w) a b =
+    given_if (is_within W64 (number a) && is_within W64 (number b)) _ (divisor_given (int_lt (pos 0) (number b)) (int_div_euclid (number a) (number b)))
+two_good (two.Mod w) a b =
+    given_if (is_within W64 (number a) && is_within W64 (number b)) _ (divisor_given (int_lt (pos 0) (number b)) (int_rem_euclid (number a) (number b)))
+two_good (two.Ash w) a b = given_if (is_within W64 (number a)) _ (number_given (shifted (number a) (number b)))
 two_good (two.Cmp r) a b = boolean_given (binary_of (two.Cmp r) (number a) (number b))
 two_good two.Union a b = set_given_good (binary_of two.Union (number a) (number b))
 two_good two.Minus a b = set_given_good (binary_of two.Minus (number a) (number b))

@@ -34,7 +34,7 @@ use Rattle.aos_check_expr.specs.declared.designators.Head.{Head}
 use Rattle.aos_check_expr.specs.Known.{Answer, Spot, Held, Stands, Value, passes, is_basic, is_lost, type_as, type_of, read_from, known_as, spot_of, answered, constant_answer, nothing}
 use Rattle.aos_check_expr.specs.Expressions as judge
 use Rattle.aos_check_expr.specs.Designators as desig
-use Rattle.aos_check_expr.proofs.Types.{includes_itself}
+use Rattle.aos_check_expr.proofs.Types.{includes_itself, as_basic}
 use Rattle.aos_check_expr.proofs.Good.{IsGood, HasGood, IsKnownClass}
 use Rattle.aos_check_expr.proofs.Sound.{IsSound}
 use Rattle.aos_check_expr.proofs.Parts.{IsPart, constant_part}
@@ -48,12 +48,13 @@ pub record IsTyped (p : Program) (e : Env) (place : Place) (of : Option TypeId) 
 abbrev pub GoodConstants : Env → Type 0
 GoodConstants e = (o : Open) (s : Scope) → env.scope e o ≡ Some s → Each (λ (c : Declared). HasGood c.value) s.constants
 
--- The environment is that of bodies: each variable in the scope of a module has its type, and the types behind the first nine
--- are the object types of the program.
+-- The environment is that of bodies: each variable in the scope of a module has its type, the table is the program's, and the
+-- types behind the first nine are its object types.
 pub record IsWhole (p : Program) (e : Env) : Type 0 where
   pub variables : (o : Open) (s : Scope) (w : List ℕ) (x : Entry) (k : ℕ) → o.scope ≡ 0 → env.scope e o ≡ Some s → find s w ≡ Some x →
       x.means ≡ means.Variable k → IsTyped p e (ModuleVar o.home k) (env.variable_type e o k)
   pub constants : GoodConstants e
+  pub rows : p.types ≡ e.types
   pub objects : length e.types ≡ 9 + length p.objects
 
 -- a designator is a variable of its type, or a sound value
@@ -223,7 +224,7 @@ module _ (p : Program) (e : Env) where
   stands_sound : (place : Place) (of : Option TypeId) → IsTyped p e place of → passes is_basic of ≡ true →
       (t : TypeId) × (of ≡ Some t) × (is_basic t ≡ true) × IsOf p (Read (type_of of) place) (type_as t)
   stands_sound place None h b = absurd h.known
-  stands_sound place (Some t) h b = (t, refl, b, (h.typed, includes_itself (type_as t)))
+  stands_sound place (Some t) h b = (t, refl, b, (h.typed, as_basic t b, includes_itself (type_as t)))
 
   read_sound : (k : Known) (x : Held) → IsSoundHeld p e k x → passes is_basic k.of ≡ true → IsSound p (record { known = k; typed = read_from k.of x })
   read_sound k (Stands place) h b = let r = stands_sound place k.of h b in record { of = r.0; known = r.1; basic = r.2; typed = r.3 }

@@ -14,7 +14,7 @@ use Rattle.aos_typed.specs.declared.tree.Literal.TheVariants as literal
 use Rattle.aos_typed.specs.declared.tree.TType.{TType}
 use Rattle.aos_typed.specs.declared.tree.TType.TheVariants as type
 use Rattle.aos_typed.specs.Program.{Expr, Lit, Read, Unary, Binary, And, Or, Element, Ord, Chr, Program}
-use Rattle.aos_typed.specs.WellTyped.{bits, Includes, IsLiteral, HasRange, Gives, GivesOfTwo, IsOf}
+use Rattle.aos_typed.specs.WellTyped.{bits, Includes, IsLiteral, HasRange, Gives, GivesOfTwo, is_basic as is_basic_type, IsOf}
 use Rattle.aos_symbols.specs.Env.{shortint, integer, longint, hugeint, boolean, char, set}
 use Rattle.aos_check_expr.specs.Known.{is_integer, is_basic, is, fits_type, width_of_type, type_as}
 
@@ -174,7 +174,7 @@ gives_of_two_wider two.In t u i g = boolean_wider t u i g
 
 pub wider : (p : Program) (x : Expr) (t u : TType) → IsOf p x t → Includes u t → IsOf p x u
 wider p (Lit l) t u h i = literal_wider l t u i h
-wider p (Read of place) t u h i = (h.0, includes_on u t of i h.1)
+wider p (Read of place) t u h i = (h.0, h.1, includes_on u t of i h.2)
 wider p (Unary op a) t u h i = (h.0, gives_wider op t u i h.1)
 wider p (Binary op a b) t u h i = (h.0, gives_of_two_wider op t u i h.1)
 wider p (And a b) t u h i = (h.0, h.1, boolean_wider t u i h.2)
@@ -218,6 +218,9 @@ integer_basic = integer_cases (λ t. is_basic t ≡ true) refl refl refl refl
 
 pub as_integer : (t : TypeId) → is_integer t ≡ true → type_as t ≡ type.Integer (width_of_type t)
 as_integer = integer_cases (λ t. type_as t ≡ type.Integer (width_of_type t)) refl refl refl refl
+
+pub as_basic : (t : TypeId) → is_basic t ≡ true → is_basic_type (type_as t) ≡ true
+as_basic = let P = λ (t : TypeId). is_basic_type (type_as t) ≡ true in basic_cases P (integer_cases P refl refl refl refl) refl refl refl
 
 -- an integer type includes those before it
 pub order_includes : (t u : TypeId) → is_integer t ≡ true → is_integer u ≡ true → t.0 ≤ u.0 → Includes (type_as u) (type_as t)

@@ -1,12 +1,14 @@
 -- Variables that are assigned, and those of which NEW makes an object, have the types that their statements ask for.
 use Rattle.std.proofs.Common.{◌≡◌, ℕ, ◌+◌, ◌-◌, ◌<◌, ◌≤◌, [], length, true, false, not, ◌&&◌, Option, Some, None, slice_get, refl, sym, ap, ◌∙◌, subst, lt-ltb, le-ltb, ne_eqb, arith, if◌then◌else◌}
+use Rattle.std.proofs.lemmas.Bool.{and_parts}
 use Rattle.std.proofs.lemmas.Option.{slice_get_within}
 use Rattle.aos_base.specs.declared.text.Pos.{Pos}
 use Rattle.aos_tree.specs.declared.expr.Desig.{Desig}
 use Rattle.aos_types.specs.declared.row.TypeId.{TypeId}
 use Rattle.aos_types.specs.declared.row.TypeRow.TheVariants as row
-use Rattle.aos_types.specs.Table.{is_object as is_object_row}
+use Rattle.aos_types.specs.Table.{row_of, is_object as is_object_row}
 use Rattle.aos_typed.specs.declared.tree.TType.TheVariants as type
+use Rattle.aos_typed.specs.Numbers.{id_of}
 use Rattle.aos_typed.specs.Program.{Program}
 use Rattle.aos_typed.specs.WellTyped.{place_type}
 use Rattle.aos_symbols.specs.declared.env.Env.{Env}
@@ -77,17 +79,23 @@ module _ (p : Program) (e : Env) (whole : IsWhole p e) where
 
   -- an object that NEW makes
   abbrev pub IsMade : Spot → Type 0
-  IsMade a = (place_type p (place_of a.held) ≡ Some (type.Named (object_of a.known.of))) × (object_of a.known.of < length p.objects)
+  IsMade a =
+      (place_type p (place_of a.held) ≡ Some (type.Named (object_of a.known.of)))
+      × (is_object_row (row_of p.types (id_of (type.Named (object_of a.known.of)))) ≡ true) × (object_of a.known.of < length p.objects)
 
   object_type : (of : Option TypeId) → IsKnown e.types of → is_object e of ≡ true →
-      (type_of of ≡ type.Named (object_of of)) × (object_of of < length p.objects)
+      (type_of of ≡ type.Named (object_of of)) × (is_object_row (row_of p.types (id_of (type.Named (object_of of)))) ≡ true) × (object_of of < length p.objects)
   object_type None known test = absurd known
   object_type (Some t) (basic below) test =
       absurd (not_both (ap (λ b. not b && is_object_row (slice_get e.types t.0)) (sym (lt-ltb t.0 7 below)) ∙ test))
   object_type (Some t) (defined r from there closed) test =
       let within : t.0 < length e.types = slice_get_within e.types t.0 r there in
-      (as_object t (omega arith), below t.0 (length p.objects) from (subst (λ n. t.0 < n) whole.objects within))
+      let row = ap (λ n. is_object_row (slice_get p.types n)) (back t.0 from) ∙ ap (λ rows. is_object_row (row_of rows t)) whole.rows ∙ (and_parts _ _ test).1 in
+      (as_object t (omega arith), row, below t.0 (length p.objects) from (subst (λ n. t.0 < n) whole.objects within))
     where
+      back : (n : ℕ) → 9 ≤ n → (n - 9) + 9 ≡ n
+      back n from = omega arith
+
       below : (t n : ℕ) → 9 ≤ t → t < 9 + n → t - 9 < n
       below t n from h = omega arith
 
@@ -98,7 +106,7 @@ module _ (p : Program) (e : Env) (whole : IsWhole p e) where
   made_is : (a : Spot) (h : Held) → h ≡ a.held → IsSoundSpot p e (record { known = a.known; held = h; at = a.at }) → is_object e a.known.of ≡ true → IsMade a
   made_is a (Stands place) is sound test =
       let o = object_type a.known.of sound.known test in
-      (ap (λ h. place_type p (place_of h)) (sym is) ∙ sound.typed ∙ ap Some o.0, o.1)
+      (ap (λ h. place_type p (place_of h)) (sym is) ∙ sound.typed ∙ ap Some o.0, o.1, o.2)
   made_is a (Value x) is sound test = absurd (no_object a a.known.of sound.of sound.known sound.basic test)
 
   pub made_sound : (at first : Pos) (a : Spot) → IsRead a → new_breaches e at first a ≡ [] → IsMade a

@@ -12,7 +12,7 @@ use Rattle.aos_tree.specs.declared.stat.Stat.{Stat as TreeStat, Row_of-Stat, end
 use Rattle.aos_tree.specs.declared.stat.Stat.TheVariants as stat
 use Rattle.aos_typed.specs.declared.tree.TType.TheVariants as type
 use Rattle.aos_typed.specs.Program.{Program, Expr, Call, Open, Char, Int, Ln, Stat, Assign, While, Out}
-use Rattle.aos_typed.specs.WellTyped.{IsOf, IsCall, IsStatement, AreStatements}
+use Rattle.aos_typed.specs.WellTyped.{is_basic, IsOf, IsCall, IsStatement, AreStatements}
 use Rattle.aos_symbols.specs.declared.scope.Meaning.{Meaning}
 use Rattle.aos_symbols.specs.declared.scope.Meaning.TheVariants as means
 use Rattle.aos_symbols.specs.declared.env.Lookup.{Lookup}
@@ -28,6 +28,7 @@ use Rattle.aos_check_expr.specs.declared.known.Class.TheVariants.{Unknown, Const
 use Rattle.aos_check_expr.specs.Known.{Answer, Spot, fits, type_of, is_number, is_char}
 use Rattle.aos_check_expr.specs.Designators.{assigned, place_of}
 use Rattle.aos_check_expr.specs.Expressions.{expr, condition, argument, designator, desig_alone}
+use Rattle.aos_check_expr.proofs.Types.{as_basic}
 use Rattle.aos_check_expr.proofs.Typing.{IsWhole, IsSound, expr_sound, condition_sound, argument_sound, fits_sound}
 use Rattle.aos_check_stat.specs.Bodies as judge
 use Rattle.aos_check_stat.specs.Bodies.{listed, put, made, new_breaches, outs, ended, arguments, behind_arguments, modifier_breaches}
@@ -64,7 +65,7 @@ module _ (p : Program) (e : Env) (whole : IsWhole p e) where
       (λ a is. holds_bind (IsSound p) MayBe (expr e x)
       (λ v. judged (breach_unless (fits v.known.of a.known.of) 31 at) (Some (Assign d.name.pos (type_of a.known.of) (place_of a.held) v.typed)))
       (expr_sound p e whole x) (λ v sound h.
-      (is.3 ∙ ap (λ o. Some (type_of o)) (sym is.1), fitting a v is sound (test_is (fits v.known.of a.known.of) 31 at h))))
+      (is.3 ∙ ap (λ o. Some (type_of o)) (sym is.1), ap (λ o. is_basic (type_of o)) is.1 ∙ as_basic is.0 is.2, fitting a v is sound (test_is (fits v.known.of a.known.of) 31 at h))))
 
   -- The procedures of Out.
 

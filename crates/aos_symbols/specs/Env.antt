@@ -8,10 +8,9 @@ use Rattle.std.specs.Map.{lookup as lookup_in}
 use Rattle.aos_base.specs.declared.text.Pos.{Pos}
 use Rattle.aos_tree.specs.declared.name.Name.{Name}
 use Rattle.aos_types.specs.declared.row.TypeId.{TypeId}
-use Rattle.aos_types.specs.declared.row.Basic.TheVariants as basic
 use Rattle.aos_types.specs.declared.row.TypeRow.{TypeRow}
-use Rattle.aos_types.specs.declared.row.TypeRow.TheVariants as kind
 use Rattle.aos_typed.specs.declared.tree.Literal.{Literal}
+use Rattle.aos_typed.specs.Numbers.{predeclared_rows}
 use Rattle.aos_symbols.specs.declared.scope.Meaning.{Meaning}
 use Rattle.aos_symbols.specs.declared.scope.Meaning.TheVariants as means
 use Rattle.aos_symbols.specs.declared.scope.Entry.{Entry}
@@ -28,9 +27,7 @@ use Rattle.aos_symbols.specs.Home.{Home}
 
 -- the types that stand first in each table; those that modules declare come behind them
 abbrev pub basic_rows : List TypeRow
-basic_rows =
-    kind.Basic basic.ShortInt ∷ kind.Basic basic.Integer ∷ kind.Basic basic.LongInt ∷ kind.Basic basic.HugeInt
-    ∷ kind.Basic basic.Boolean ∷ kind.Basic basic.Char ∷ kind.Basic basic.Set ∷ kind.Basic basic.Nil ∷ kind.Any ∷ []
+basic_rows = predeclared_rows
 
 abbrev pub shortint : TypeId
 shortint = record { 0 = 0 }

@@ -6,3 +6,6 @@ pub mod Meaning
 pub mod Source
 pub mod Numbers
 pub mod WellTyped
+pub mod Sort
+pub mod Spot
+pub mod Typing

@@ -1,26 +1,31 @@
 -- What expressions and statements do, as trees of questions.
-use Rattle.std.specs.Prelude.{List, [], ◌∷◌, ◌++◌, true, false, if◌then◌else◌}
+use Rattle.std.specs.Prelude.{suc, List, [], ◌∷◌, ◌++◌, true, false, if◌then◌else◌}
 use Rattle.aos_base.specs.declared.text.Pos.{Pos}
 use Rattle.aos_base.specs.Question.{Tree, Val, bind, ask, Ask, Reads, Stores, Makes, Starts, PutsInt, PutsChar, PutsLn, PutsNothing}
 use Rattle.aos_typed.specs.Program.{Place, ModuleVar, Expr, Lit, Read, Unary, Binary, And, Or, Element, Ord, Chr, Call, Open as OutOpen, Char as OutChar, Int as OutInt, Ln as OutLn, Stat, Assign, While, New, Out, Stats, Nothing, Then}
 use Rattle.aos_typed.specs.Value.{Value, Flag, literal_value, unary, binary, element, ord, chr, is_true}
-use Rattle.aos_typed.specs.Store.{Spot, ModuleRoot}
+use Rattle.aos_base.specs.declared.place.Root.TheVariants.{Module as ModuleRoot}
+use Rattle.aos_types.specs.Shape.{Shape}
+use Rattle.aos_typed.specs.declared.tree.TType.{TType}
+use Rattle.aos_typed.specs.Sort.{Sort}
+use Rattle.aos_typed.specs.Spot.{Spot, OfModule}
 
+-- a scalar is known by its type, and what is copied by its shape
 abbrev pub Question : Type 0
-Question = Ask Spot Value
+Question = Ask Spot Value TType (Shape Sort)
 
 abbrev pub Doing : Type 0 → Type 0
 Doing A = Tree Question Value A
 
 -- the place that a designator names
 abbrev pub place_of : Place → Doing Spot
-place_of (ModuleVar m i) = Val (record { root = ModuleRoot m; variable = i })
+place_of (ModuleVar m i) = Val (record { root = ModuleRoot m; path = i ∷ []; type = 0; of = OfModule m i })
 
 -- operands are evaluated from left to right, and reading a scalar is visible; & and OR evaluate their second operand where
 -- the first doesn't tell
 abbrev pub value_of : Expr → Doing Value
 value_of (Lit l) = Val (literal_value l)
-value_of (Read t p) = bind (place_of p) (λ s. ask (Reads s))
+value_of (Read t p) = bind (place_of p) (λ s. ask (Reads t s))
 value_of (Unary op a) = bind (value_of a) (λ x. unary op x)
 value_of (Binary op a b) = bind (value_of a) (λ x. bind (value_of b) (λ y. binary op x y))
 value_of (And a b) = bind (value_of a) (λ x. if is_true x then value_of b else Val (Flag false))
@@ -37,21 +42,25 @@ abbrev pub items_of : Stats → List Item
 items_of Nothing = []
 items_of (Then s ss) = Do s ∷ items_of ss
 
-abbrev pub out_of : Call → Doing (List Item)
-out_of OutOpen = bind (ask PutsNothing) (λ _. Val [])
-out_of (OutChar e) = bind (value_of e) (λ x. bind (ask (PutsChar x)) (λ _. Val []))
+-- what follows a statement
+pub data After : Type 0 where
+  Into : List Item → After  -- these items take its place
+
+abbrev pub out_of : Call → Doing After
+out_of OutOpen = bind (ask PutsNothing) (λ _. Val (Into []))
+out_of (OutChar e) = bind (value_of e) (λ x. bind (ask (PutsChar x)) (λ _. Val (Into [])))
 out_of (OutInt e n) =
-    bind (value_of e) (λ x. bind (value_of n) (λ y. bind (ask (PutsInt x y)) (λ _. Val [])))
-out_of OutLn = bind (ask PutsLn) (λ _. Val [])
+    bind (value_of e) (λ x. bind (value_of n) (λ y. bind (ask (PutsInt x y)) (λ _. Val (Into []))))
+out_of OutLn = bind (ask PutsLn) (λ _. Val (Into []))
 
 -- what a statement that has begun does, and the items that take its place
-abbrev pub stat_of : Stat → Doing (List Item)
-stat_of (Assign at t p e) = bind (place_of p) (λ s. bind (value_of e) (λ v. bind (ask (Stores s v)) (λ _. Val [])))
+abbrev pub stat_of : Stat → Doing After
+stat_of (Assign at t p e) = bind (place_of p) (λ s. bind (value_of e) (λ v. bind (ask (Stores s v)) (λ _. Val (Into []))))
 stat_of (While at e body) =
-    bind (value_of e) (λ v. Val (if is_true v then items_of body ++ Do (While at e body) ∷ [] else []))
+    bind (value_of e) (λ v. Val (Into (if is_true v then items_of body ++ Do (While at e body) ∷ [] else [])))
 -- the object is made, then stored, and then its activity is started
 stat_of (New at p t) =
-    bind (place_of p) (λ s. bind (ask (Makes t)) (λ o. bind (ask (Stores s o)) (λ _. bind (ask (Starts o)) (λ _. Val []))))
+    bind (place_of p) (λ s. bind (ask (Makes (suc t))) (λ o. bind (ask (Stores s o)) (λ _. bind (ask (Starts o)) (λ _. Val (Into [])))))
 stat_of (Out at call) = out_of call
 
 abbrev pub pos_of : Stat → Pos
@@ -60,5 +69,5 @@ pos_of (While at e body) = at
 pos_of (New at p t) = at
 pos_of (Out at call) = at
 
-abbrev pub item_of : Item → Doing (List Item)
+abbrev pub item_of : Item → Doing After
 item_of (Do s) = stat_of s

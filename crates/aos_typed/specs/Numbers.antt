@@ -1,10 +1,13 @@
 -- Numbers of what a program declares. Modules are numbered from 0 in load order, types from 0 in the table, a module's variables
 -- and procedures, and a procedure's parameters and behind them its locals, from 0 in the order of the text, a record's fields
 -- from 0, its base's first. Procedures that run are numbered from 1 over the whole program.
-use Rattle.std.specs.Prelude.{ℕ, suc, ◌+◌, List, length, sum_by, take}
+use Rattle.std.specs.Prelude.{ℕ, suc, ◌+◌, List, [], ◌∷◌, length, sum_by, take}
 use Rattle.aos_base.specs.declared.number.Width.{Width}
 use Rattle.aos_base.specs.declared.number.Width.TheVariants.{W8, W16, W32, W64}
+use Rattle.aos_types.specs.declared.row.Basic.TheVariants as basic
 use Rattle.aos_types.specs.declared.row.TypeId.{TypeId}
+use Rattle.aos_types.specs.declared.row.TypeRow.{TypeRow}
+use Rattle.aos_types.specs.declared.row.TypeRow.TheVariants as row
 use Rattle.aos_typed.specs.declared.tree.TType.{TType}
 use Rattle.aos_typed.specs.declared.tree.TType.TheVariants.{Integer, Boolean, Char, Set, Named}
 use Rattle.aos_typed.specs.Program.{Program}
@@ -12,6 +15,11 @@ use Rattle.aos_typed.specs.Program.{Program}
 -- how many types are predeclared; they stand first in the table
 abbrev pub predeclared_types : ℕ
 predeclared_types = 9
+
+abbrev pub predeclared_rows : List TypeRow
+predeclared_rows =
+    row.Basic basic.ShortInt ∷ row.Basic basic.Integer ∷ row.Basic basic.LongInt ∷ row.Basic basic.HugeInt
+    ∷ row.Basic basic.Boolean ∷ row.Basic basic.Char ∷ row.Basic basic.Set ∷ row.Basic basic.Nil ∷ row.Any ∷ []
 
 abbrev pub integer_id : Width → ℕ
 integer_id W8 = 0

@@ -1,44 +1,51 @@
 -- A program as a machine: its store, its frames, and the turns of an activity.
-use Rattle.std.specs.Prelude.{ℕ, suc, ◌++◌, List, [], ◌∷◌, Bool, true, false, Option, Some, None, map, pos, unsigned_abs, slice_get, option_and_then}
+use Rattle.std.specs.Prelude.{ℕ, suc, ◌++◌, List, [], ◌∷◌, length, Bool, true, false, Option, Some, None, map, pos, unsigned_abs, slice_get, option_and_then}
+use Rattle.std.specs.List.{range_with_len}
 use Rattle.aos_base.specs.declared.text.Pos.{Pos}
+use Rattle.aos_base.specs.declared.place.Root.{Root}
+use Rattle.aos_base.specs.declared.place.Root.TheVariants.{Frame as FrameRoot, Module as ModuleRoot, Object as ObjectRoot}
 use Rattle.aos_base.specs.declared.kernel.Did.{Did}
 use Rattle.aos_base.specs.declared.kernel.Did.TheVariants.{Went, Ended, Start, Trapped}
 use Rattle.aos_base.specs.declared.kernel.Verdict.TheVariants.{Fails}
 use Rattle.aos_base.specs.Number.{places_of, justified}
 use Rattle.aos_base.specs.Book.{Where}
 use Rattle.aos_base.specs.Machine.{Turn, Machine, State, start_of}
-use Rattle.aos_base.specs.Question.{Val, Asks, Traps, feed, Reads, Stores, Ends, Makes, Starts, PutsInt, PutsChar, PutsLn, PutsNothing}
-use Rattle.aos_typed.specs.declared.tree.TType.{TType}
-use Rattle.aos_typed.specs.declared.tree.TType.TheVariants as type
-use Rattle.aos_typed.specs.Program.{Stats, Variable, ObjectType, Module, Program}
-use Rattle.aos_typed.specs.Value.{Value, Int, Flag, Char, Set, Object, number_of}
-use Rattle.aos_typed.specs.Store.{Content, Scalar, Store, read, write, type_of_object, with_object, new_number, has_room}
-use Rattle.aos_typed.specs.Meaning.{Question, Doing, Item, Do, items_of, item_of, pos_of}
+use Rattle.aos_base.specs.Rooted.{Rooted, by_number, change_from_last}
+use Rattle.aos_base.specs.Question.{Val, Asks, Traps, feed, Reads, Stores, Copies, PutsText, ComparesTexts, Calls, Ends, Makes, Starts, PutsInt, PutsChar, PutsString, PutsNothing, PutsLn, Places, Lengths}
+use Rattle.aos_types.specs.declared.row.Basic.{Basic}
+use Rattle.aos_types.specs.declared.row.Basic.TheVariants as basic
+use Rattle.aos_types.specs.declared.row.TypeRow.{TypeRow}
+use Rattle.aos_types.specs.declared.row.TypeRow.TheVariants as row
+use Rattle.aos_types.specs.Table.{row_of}
+use Rattle.aos_types.specs.Shape.{Shape, Nothing}
+use Rattle.aos_types.specs.Shape as shape
+use Rattle.aos_types.specs.Content.{Content, Scalar, Empty, placed, first_content}
+use Rattle.aos_typed.specs.Program.{Stats, ObjectType, Module, Program}
+use Rattle.aos_typed.specs.Numbers.{id_of}
+use Rattle.aos_typed.specs.Sort.{Sort, Plain, Variable, Alias, Elements, Length, variable_shape}
+use Rattle.aos_typed.specs.Value.{Value, Int, Flag, Char, Set, Object, Callable, number_of}
+use Rattle.aos_typed.specs.Store.{Store, rooted, value_at, store_with, type_of_object, with_object, new_number, has_room}
+use Rattle.aos_typed.specs.Meaning.{Question, Doing, Item, Do, After, Into, items_of, item_of, pos_of}
 
--- a frame: the module of its text, the statement last begun, the items that remain, and the answers that the first of
--- them has had, if it has begun
+-- a frame: the module of its text, the object whose method or body it is, 0 for none, the shape of its variables and what they
+-- hold, how many of them count, the statement last begun, the items that remain, and the answers that the first of them has had, if
+-- it has begun
 pub record Frame : Type 0 where
   pub home : ℕ
+  pub object : ℕ
+  pub shape : Shape Sort
+  pub variables : Content Value
   pub at : Option Pos
   pub items : List Item
   pub answers : Option (List Value)
 
--- an activity's frames, the topmost first; below those of a module's body stand those of the bodies that are to follow
-abbrev pub Frames : Type 0
-Frames = List Frame
+-- an activity's frames, the topmost first, and the modules whose bodies are to follow once it has none
+pub record Frames : Type 0 where
+  pub following : List ℕ
+  pub frames : List Frame
 
 abbrev pub Turned : Type 0
 Turned = Turn Store Frames
-
--- a turn that leaves nothing to the kernel
-abbrev pub goes_on : Frames → Store → Turned
-goes_on fs s = record { store = s; frames = fs; output = []; begun = false; left = Went }
-
-abbrev pub puts : List ℕ → Frames → Store → Turned
-puts bytes fs s = record { store = s; frames = fs; output = bytes; begun = false; left = Went }
-
-abbrev pub leaves : Did → Frames → Store → Turned
-leaves work fs s = record { store = s; frames = fs; output = []; begun = false; left = work }
 
 abbrev pub told : Value → Option (List Value) → Option (List Value)
 told v None = None
@@ -52,137 +59,214 @@ answered v f = record f { answers = told v f.answers }
 abbrev pub done : Value
 done = Int (pos 0)
 
--- the end of a frame
-abbrev pub ends : Frames → Store → Turned
-ends fs s = goes_on fs s
+-- The variables below the roots of an activity.
 
--- the next item begins, or the frame ends where there is none
-abbrev pub settles : List Item → Frame → Frames → Store → Turned
-settles [] f fs s = ends fs s
-settles (Do st ∷ is) f fs s =
-    record {
-      store = s;
-      frames = record f { at = Some (pos_of st); items = Do st ∷ is; answers = Some [] } ∷ fs;
-      output = [];
-      begun = true;
-      left = Went;
-    }
+abbrev pub all_rooted : List Frame → Store → Rooted (Content Value)
+all_rooted fs s = rooted (map (λ f. f.variables) fs) s
+
+abbrev pub frames_with : Root → (Content Value → Content Value) → List Frame → List Frame
+frames_with (FrameRoot d) g fs = change_from_last d (λ f. record f { variables = g f.variables }) fs
+frames_with (ModuleRoot m) g fs = fs
+frames_with (ObjectRoot o) g fs = fs
 
 -- the text that Out.Int writes, where the number of places is 0 to 255
 abbrev pub written : Value → Value → Option (List ℕ)
 written v n = justified (number_of v) (places_of (number_of n))
 
-abbrev pub reads : Value → Frame → Frames → Store → Turned
-reads v f fs s = goes_on (answered v f ∷ fs) s
+-- an activity's frames, of which the topmost runs
+module _ (following : List ℕ) where
+  abbrev pub all_frames : List Frame → Frames
+  all_frames fs = record { following = following; frames = fs }
 
-abbrev pub prints : Option (List ℕ) → Frame → Frames → Store → Turned
-prints None f fs s = leaves (Trapped 14 0) (f ∷ fs) s
-prints (Some bytes) f fs s = puts bytes (answered done f ∷ fs) s
+  -- a turn that leaves nothing to the kernel
+  abbrev pub goes_on : List Frame → Store → Turned
+  goes_on fs s = record { store = s; frames = all_frames fs; output = []; begun = false; left = Went }
 
--- an object is made, where the heap has room for it
-abbrev pub makes : Bool → ℕ → Frame → Frames → Store → Turned
-makes true t f fs s = goes_on (answered (Object (new_number s)) f ∷ fs) (with_object t s)
-makes false t f fs s = leaves (Trapped 12 0) (f ∷ fs) s
+  abbrev pub puts : List ℕ → List Frame → Store → Turned
+  puts bytes fs s = record { store = s; frames = all_frames fs; output = bytes; begun = false; left = Went }
 
--- an object's activity is left to the kernel; nothing is where there is no object, to which no well-typed program comes
-abbrev pub starts : Value → Frame → Frames → Store → Turned
-starts (Object (suc k)) f fs s = leaves (Start (suc k)) (f ∷ fs) s
-starts v f fs s = goes_on (answered done f ∷ fs) s
+  abbrev pub leaves : Did → List Frame → Store → Turned
+  leaves work fs s = record { store = s; frames = all_frames fs; output = []; begun = false; left = work }
 
--- a question is answered
-abbrev pub answer : Question → Frame → Frames → Store → Turned
-answer (Reads p) f fs s = reads (read p s) f fs s
-answer (Stores p v) f fs s = goes_on (answered done f ∷ fs) (write p v s)
-answer (Ends result) f fs s = ends fs s
-answer (Makes t) f fs s = makes (has_room s) t f fs s
-answer (Starts v) f fs s = starts v f fs s
-answer (PutsInt v n) f fs s = prints (written v n) f fs s
-answer (PutsChar v) f fs s = puts (unsigned_abs (number_of v) ∷ []) (answered done f ∷ fs) s
-answer PutsNothing f fs s = puts [] (answered done f ∷ fs) s
-answer PutsLn f fs s = puts (10 ∷ []) (answered done f ∷ fs) s
+  -- the end of a frame, whose result is the answer for the one below
+  abbrev pub with_result : Value → List Frame → List Frame
+  with_result v [] = []
+  with_result v (f ∷ fs) = answered v f ∷ fs
 
-abbrev pub goes : Doing (List Item) → List Item → Frame → Frames → Store → Turned
-goes (Val is) rest f fs s = settles (is ++ rest) f fs s
-goes (Asks q k) rest f fs s = answer q f fs s
-goes (Traps n c) rest f fs s = leaves (Trapped n c) (f ∷ fs) s
+  abbrev pub ends : Option Value → List Frame → Store → Turned
+  ends None fs s = goes_on (with_result done fs) s
+  ends (Some v) fs s = goes_on (with_result v fs) s
 
--- the first item goes on from the answers that it has had
-abbrev pub turn_at : Option (List Value) → List Item → Frame → Frames → Store → Turned
-turn_at None is f fs s = settles is f fs s
-turn_at (Some vs) [] f fs s = ends fs s
-turn_at (Some vs) (i ∷ is) f fs s = goes (feed vs (item_of i)) is f fs s
+  -- the next item begins, or the frame ends where there is none
+  abbrev pub settles : List Item → Frame → List Frame → Store → Turned
+  settles [] f fs s = ends None fs s
+  settles (Do st ∷ is) f fs s =
+      record {
+        store = s;
+        frames = all_frames (record f { at = Some (pos_of st); items = Do st ∷ is; answers = Some [] } ∷ fs);
+        output = [];
+        begun = true;
+        left = Went;
+      }
 
--- all silent work up to and with the next visible work
-abbrev pub turn : Store → Frames → Turned
-turn s [] = leaves Ended [] s
-turn s (f ∷ fs) = turn_at f.answers f.items f fs s
+  abbrev pub writes : Root → (Content Value → Content Value) → List Frame → Store → Turned
+  writes r g fs s = goes_on (frames_with r g fs) (store_with r g s)
+
+  abbrev pub prints : Option (List ℕ) → Frame → List Frame → Store → Turned
+  prints None f fs s = leaves (Trapped 14 0) (f ∷ fs) s
+  prints (Some bytes) f fs s = puts bytes (answered done f ∷ fs) s
+
+  -- an object is made, where the heap has room for it
+  abbrev pub makes : Bool → ℕ → Frame → List Frame → Store → Turned
+  makes true t f fs s = goes_on (answered (Object (new_number s)) f ∷ fs) (with_object t s)
+  makes false t f fs s = leaves (Trapped 12 0) (f ∷ fs) s
+
+  -- an object's activity is left to the kernel; nothing is where there is no object, to which no well-typed program comes
+  abbrev pub starts : Value → Frame → List Frame → Store → Turned
+  starts (Object (suc k)) f fs s = leaves (Start (suc k)) (f ∷ fs) s
+  starts v f fs s = goes_on (answered done f ∷ fs) s
+
+  -- a question is answered; so far no program asks the others
+  abbrev pub answer : Question → Frame → List Frame → Store → Turned
+  answer (Reads t p) f fs s = goes_on (answered (value_at p (all_rooted (f ∷ fs) s)) f ∷ fs) s
+  answer (Stores p v) f fs s = writes p.root (placed p.path (Scalar v)) (answered done f ∷ fs) s
+  answer (Ends result) f fs s = ends result fs s
+  answer (Makes t) f fs s = makes (has_room s) t f fs s
+  answer (Starts v) f fs s = starts v f fs s
+  answer (PutsInt v n) f fs s = prints (written v n) f fs s
+  answer (PutsChar v) f fs s = puts (unsigned_abs (number_of v) ∷ []) (answered done f ∷ fs) s
+  answer PutsNothing f fs s = puts [] (answered done f ∷ fs) s
+  answer PutsLn f fs s = puts (10 ∷ []) (answered done f ∷ fs) s
+  answer (Copies c from to) f fs s = goes_on (answered done f ∷ fs) s
+  answer (PutsText strict from n to room) f fs s = goes_on (answered done f ∷ fs) s
+  answer (ComparesTexts r a n b m) f fs s = goes_on (answered done f ∷ fs) s
+  answer (Calls p vs) f fs s = goes_on (answered done f ∷ fs) s
+  answer (PutsString a n) f fs s = goes_on (answered done f ∷ fs) s
+  answer (Places a) f fs s = goes_on (answered done f ∷ fs) s
+  answer (Lengths a) f fs s = goes_on (answered done f ∷ fs) s
+
+  abbrev pub goes : Doing After → List Item → Frame → List Frame → Store → Turned
+  goes (Val (Into is)) rest f fs s = settles (is ++ rest) f fs s
+  goes (Asks q k) rest f fs s = answer q f fs s
+  goes (Traps n c) rest f fs s = leaves (Trapped n c) (f ∷ fs) s
+
+  -- the first item goes on from the answers that it has had
+  abbrev pub item_turn : Option (List Value) → List Item → Frame → List Frame → Store → Turned
+  item_turn None is f fs s = settles is f fs s
+  item_turn (Some vs) [] f fs s = ends None fs s
+  item_turn (Some vs) (i ∷ is) f fs s = goes (feed vs (item_of i)) is f fs s
+
+  abbrev pub turn_at : List Frame → Store → Turned
+  turn_at [] s = leaves Ended [] s
+  turn_at (f ∷ fs) s = item_turn f.answers f.items f fs s
+
+-- the frame of a body, which has no variables: of this module, on this object, and with these statements
+abbrev pub body_frame : (home object : ℕ) → Stats → Frame
+body_frame home o ss =
+    record { home = home; object = o; shape = Nothing; variables = Empty; at = None; items = items_of ss; answers = None }
 
 abbrev pub or_below : Option Pos → ℕ → Where → Where
 or_below None home below = below
 or_below (Some p) home below = record { module_ = home; pos = p }
 
-abbrev pub position_or : Where → Frames → Where
+abbrev pub position_or : Where → List Frame → Where
 position_or none [] = none
 position_or none (f ∷ fs) = or_below f.at f.home (position_or none fs)
 
 -- where the topmost frame that has begun a statement stands; line 0 and column 0 where none has
-abbrev pub position : Frames → Where
-position [] = record { module_ = 0; pos = record { line = 0; col = 0 } }
-position (f ∷ fs) = position_or (record { module_ = f.home; pos = record { line = 0; col = 0 } }) (f ∷ fs)
+abbrev pub position_in : List Frame → Where
+position_in [] = record { module_ = 0; pos = record { line = 0; col = 0 } }
+position_in (f ∷ fs) = position_or (record { module_ = f.home; pos = record { line = 0; col = 0 } }) (f ∷ fs)
 
 -- past the work that was left to the kernel, which is the first item's latest question
-abbrev pub past : Frames → Frames
-past [] = []
-past (f ∷ fs) = answered done f ∷ fs
+abbrev pub past_all : List Frame → List Frame
+past_all [] = []
+past_all (f ∷ fs) = answered done f ∷ fs
 
--- the frame of a body: of this module, and with these statements
-abbrev pub body_frame : ℕ → Stats → Frame
-body_frame home ss = record { home = home; at = None; items = items_of ss; answers = None }
+abbrev pub object_frames : ℕ → Option ObjectType → Frames
+object_frames o None = record { following = []; frames = [] }
+object_frames o (Some t) = record { following = []; frames = body_frame t.home o t.body ∷ [] }
 
-abbrev pub object_frames : Option ObjectType → Frames
-object_frames None = []
-object_frames (Some t) = body_frame t.home t.body ∷ []
+-- what a variable of a type begins with: 0, FALSE, 0X, {} or NIL
+abbrev pub first_basic : Basic → Value
+first_basic basic.ShortInt = Int (pos 0)
+first_basic basic.Integer = Int (pos 0)
+first_basic basic.LongInt = Int (pos 0)
+first_basic basic.HugeInt = Int (pos 0)
+first_basic basic.Boolean = Flag false
+first_basic basic.Char = Char 0
+first_basic basic.Set = Set 0
+first_basic basic.Nil = Object 0
+first_basic (basic.Text n) = Int (pos 0)
 
--- the frames with which an object's activity begins
-abbrev pub body_of : Program → Store → ℕ → Frames
-body_of p s o = object_frames (option_and_then (slice_get p.objects) (type_of_object o s))
+abbrev pub first_in : Option TypeRow → Value
+first_in None = Int (pos 0)
+first_in (Some (row.Basic b)) = first_basic b
+first_in (Some (row.Array n t)) = Int (pos 0)
+first_in (Some (row.Open t)) = Int (pos 0)
+first_in (Some (row.Record base fields)) = Int (pos 0)
+first_in (Some (row.Pointer to)) = Object 0
+first_in (Some (row.Object base fields)) = Object 0
+first_in (Some (row.Procedure formals r)) = Callable 0 0
+first_in (Some row.Any) = Object 0
 
--- a program as a machine under the kernel
-abbrev pub source : Program → Machine Store Frames
-source p =
-    record {
-      turn = turn;
-      past = past;
-      verdict = λ s fs c. Fails;
-      regions = λ fs. [];
-      position = position;
-      body = body_of p;
-      priority = λ s o. 2;
-      anew = λ fs. None;
-    }
+module _ (p : Program) where
+  abbrev pub first_value : Sort → Value
+  first_value (Plain t) = first_in (row_of p.types t)
+  first_value (Variable t) = Int (pos 0)
+  first_value (Alias t) = Int (pos 0)
+  first_value (Elements t ns) = Int (pos 0)
+  first_value (Length n) = Int (pos 0)
 
--- a variable begins as 0, FALSE, 0X, {} or NIL
-abbrev pub first_value : TType → Value
-first_value (type.Integer w) = Int (pos 0)
-first_value type.Boolean = Flag false
-first_value type.Char = Char 0
-first_value type.Set = Set 0
-first_value (type.Named t) = Object 0
+  -- what a module's variables hold: a row of them
+  abbrev pub module_shape : Module → Shape Sort
+  module_shape m = shape.row (map (λ v. variable_shape p.types (id_of v.of)) m.variables)
 
-abbrev pub first_contents : List Variable → List Content
-first_contents vs = map (λ v. Scalar (first_value v.of)) vs
+  abbrev pub first_store : Store
+  first_store = record { modules = map (λ m. first_content first_value (module_shape m)) p.modules; objects = []; made = [] }
 
-abbrev pub first_store : Program → Store
-first_store p = record { modules = map (λ m. first_contents m.variables) p.modules; objects = [] }
+  -- where no frame is left the next module's body begins
+  abbrev pub next_body : ℕ → List ℕ → Option Module → Frames
+  next_body m ms None = record { following = ms; frames = [] }
+  next_body m ms (Some x) = record { following = ms; frames = body_frame m 0 x.body ∷ [] }
 
--- the frames of the bodies, in load order; the first module has the number `from`
-abbrev pub bodies_from : ℕ → List Module → Frames
-bodies_from from [] = []
-bodies_from from (m ∷ ms) = body_frame from m.body ∷ bodies_from (suc from) ms
+  abbrev pub opened_by : List Frame → List ℕ → Frames
+  opened_by [] [] = record { following = []; frames = [] }
+  opened_by [] (m ∷ ms) = next_body m ms (slice_get p.modules m)
+  opened_by (f ∷ fs) ms = record { following = ms; frames = f ∷ fs }
 
--- activity 0 runs the bodies of the modules
-abbrev pub first_frames : Program → Frames
-first_frames p = bodies_from 0 p.modules
+  abbrev pub opened : Frames → Frames
+  opened fs = opened_by fs.frames fs.following
 
-abbrev pub first_state : Program → ℕ → State Store Frames
-first_state p budget = start_of (first_store p) (first_frames p) budget
+  -- all silent work up to and with the next visible work
+  abbrev pub turn : Store → Frames → Turned
+  turn s fs = let now = opened fs in turn_at now.following now.frames s
+
+  -- past the work that was left to the kernel
+  abbrev pub past : Frames → Frames
+  past fs = let now = opened fs in record now { frames = past_all now.frames }
+
+  -- the frames with which an object's activity begins
+  abbrev pub body_of : Store → ℕ → Frames
+  body_of s o = object_frames o (option_and_then (λ t. by_number t p.objects) (type_of_object o s))
+
+  -- a program as a machine under the kernel
+  abbrev pub source : Machine Store Frames
+  source =
+      record {
+        turn = turn;
+        past = past;
+        verdict = λ s fs c. Fails;
+        regions = λ fs. [];
+        position = λ fs. position_in (opened fs).frames;
+        body = body_of;
+        priority = λ s o. 2;
+        anew = λ fs. None;
+      }
+
+  -- activity 0 runs the bodies of the modules, in load order
+  abbrev pub first_frames : Frames
+  first_frames = record { following = range_with_len 0 (length p.modules); frames = [] }
+
+  abbrev pub first_state : ℕ → State Store Frames
+  first_state budget = start_of first_store first_frames budget

@@ -1,60 +1,50 @@
--- The store: below each root stand contents, which a path reads and writes.
-use Rattle.std.specs.Prelude.{ℕ, zero, suc, List, [], ◌∷◌, ◌++◌, length, nat_lt, Bool, Option, Some, None, slice_get, slice_set, option_and_then, pos}
+-- The store: below each root stand contents, which a way reads and writes.
+use Rattle.std.specs.Prelude.{ℕ, suc, List, [], ◌∷◌, ◌++◌, length, nat_lt, Bool, Option, Some, None, map, pos, option_map}
+use Rattle.aos_base.specs.declared.place.Root.{Root}
+use Rattle.aos_base.specs.declared.place.Root.TheVariants.{Frame as FrameRoot, Module as ModuleRoot, Object as ObjectRoot}
+use Rattle.aos_base.specs.Rooted.{Made, Rooted, by_number, change_at, change_by_number}
+use Rattle.aos_types.specs.Content.{Content, Scalar, Empty, Row, placed}
+use Rattle.aos_types.specs.World.{read}
 use Rattle.aos_typed.specs.Value.{Value, Int}
+use Rattle.aos_typed.specs.Spot.{Spot}
 
--- what a variable holds: a scalar
-pub data Content : Type 0 where
-  Scalar : (value : Value) → Content
-
--- a module, by its number in load order
-pub data Root : Type 0 where
-  ModuleRoot : (number : ℕ) → Root
-
--- a root, and the number of the variable there
-pub record Spot : Type 0 where
-  pub root : Root
-  pub variable : ℕ
-
+-- what each module's variables hold, in load order, and the fields of each object, in the order of making, with what it was made as
 pub record Store : Type 0 where
-  pub modules : List (List Content)
-  pub objects : List ℕ  -- the type of each object, in the order of making
+  pub modules : List (Content Value)
+  pub objects : List (Content Value)
+  pub made : List Made
 
--- the objects' numbers begin with 1
+-- the type of an object, by its number from 1
 abbrev pub type_of_object : ℕ → Store → Option ℕ
-type_of_object zero s = None
-type_of_object (suc k) s = slice_get s.objects k
+type_of_object o s = option_map (λ m. m.type) (by_number o s.made)
 
--- a new object of this type, and its number
+-- a new object of this type, which has no fields, and its number
 abbrev pub with_object : ℕ → Store → Store
-with_object t s = record s { objects = s.objects ++ t ∷ [] }
+with_object t s = record s { objects = s.objects ++ Empty ∷ []; made = s.made ++ (record { type = t; lengths = [] }) ∷ [] }
 
 abbrev pub new_number : Store → ℕ
-new_number s = suc (length s.objects)
+new_number s = suc (length s.made)
 
 -- the heap has room for so many scalars; an object without fields counts as one
 abbrev pub has_room : Store → Bool
-has_room s = nat_lt (length s.objects) 16777216
+has_room s = nat_lt (length s.made) 16777216
 
-abbrev pub value_in : Content → Value
-value_in (Scalar v) = v
+-- what a scalar place holds; a place that isn't there, or is no scalar's, holds some value, and no well-typed program comes to it
+abbrev pub scalar_in : Option (Content Value) → Value
+scalar_in None = Int (pos 0)
+scalar_in (Some (Scalar v)) = v
+scalar_in (Some Empty) = Int (pos 0)
+scalar_in (Some (Row a b)) = Int (pos 0)
 
--- what a place holds; a place that isn't there holds some value, and no well-typed program comes to it
-abbrev pub held : Option Content → Value
-held None = Int (pos 0)
-held (Some c) = value_in c
+-- the contents below the roots of an activity, whose frames' variables are these
+abbrev pub rooted : List (Content Value) → Store → Rooted (Content Value)
+rooted variables s = record { frames = variables; modules = s.modules; objects = s.objects }
 
-abbrev pub read_at : Root → ℕ → Store → Value
-read_at (ModuleRoot m) i s = held (option_and_then (λ vs. slice_get vs i) (slice_get s.modules m))
+abbrev pub value_at : Spot → Rooted (Content Value) → Value
+value_at p x = scalar_in (read p.root p.path x)
 
-abbrev pub put_in : Option (List Content) → ℕ → ℕ → Value → Store → Store
-put_in None m i v s = s
-put_in (Some vs) m i v s = record s { modules = slice_set s.modules m (slice_set vs i (Scalar v)) }
-
-abbrev pub store_at : Root → ℕ → Value → Store → Store
-store_at (ModuleRoot m) i v s = put_in (slice_get s.modules m) m i v s
-
-abbrev pub read : Spot → Store → Value
-read p s = read_at p.root p.variable s
-
-abbrev pub write : Spot → Value → Store → Store
-write p v s = store_at p.root p.variable v s
+-- the store with other contents below a root
+abbrev pub store_with : Root → (Content Value → Content Value) → Store → Store
+store_with (FrameRoot d) g s = s
+store_with (ModuleRoot m) g s = record s { modules = change_at m g s.modules }
+store_with (ObjectRoot o) g s = record s { objects = change_by_number o g s.objects }

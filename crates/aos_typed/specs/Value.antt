@@ -12,6 +12,7 @@ use Rattle.aos_base.specs.Operators.{flag, unary as unary_of, binary as binary_o
 use Rattle.aos_base.specs.Question.{Tree, Val, Traps}
 use Rattle.aos_typed.specs.declared.tree.Literal.{Literal}
 use Rattle.aos_typed.specs.declared.tree.Literal.TheVariants as literal
+use Rattle.aos_typed.specs.Spot.{Spot}
 
 pub data Value : Type 0 where
   Int : (number : ℤ) → Value
@@ -19,6 +20,8 @@ pub data Value : Type 0 where
   Char : (code : ℕ) → Value
   Set : (elements : ℕ) → Value  -- whose bits are the elements
   Object : (number : ℕ) → Value  -- by its number, from 1 in the order of making; 0 is NIL
+  Callable : (procedure object : ℕ) → Value  -- a procedure by its number, and the object whose method it is, 0 for none; procedure 0 is NIL
+  Place : Spot → Value  -- what a parameter stands for
 
 abbrev pub literal_value : Literal → Value
 literal_value (literal.Int n) = Int n
@@ -26,13 +29,15 @@ literal_value (literal.Bool b) = Flag b
 literal_value (literal.Char c) = Char c
 literal_value (literal.Set s) = Set s
 
--- the number that a value is given as; an object is given as none, here as 0
+-- the number that a value is given as; what is no number is given as none, here as 0
 abbrev pub number_of : Value → ℤ
 number_of (Int z) = z
 number_of (Flag b) = flag b
 number_of (Char c) = pos c
 number_of (Set s) = pos s
 number_of (Object o) = pos 0
+number_of (Callable p o) = pos 0
+number_of (Place s) = pos 0
 
 -- what kind of value an operator gives
 pub data Sort : Type 0 where

@@ -1,8 +1,8 @@
 -- Programs whose expressions have the types that their places ask for (Oberon-2 report, 8.2 and 9.1; Reali 2002, section on
--- basic types): each operator has operands of the types that it takes, an assigned value is of the variable's type, what a
--- loop tests is a truth value, and NEW makes an object of its variable's type. No type contains itself, and none has more
--- scalars than a type may have (Oberon-2 report, 6.2 and 6.3); only parameters are of open arrays, and a function gives a
--- scalar (Oberon-2 report, 10.1).
+-- basic types): each operator has operands of the types that it takes, what is read and assigned is of a basic type, an assigned
+-- value is of the variable's type, what a loop tests is a truth value, and NEW makes an object of its variable's type. No type
+-- contains itself, and none has more scalars than a type may have (Oberon-2 report, 6.2 and 6.3); only parameters are of open
+-- arrays, and a function gives a scalar (Oberon-2 report, 10.1). The predeclared types stand first in the table.
 use Rattle.std.specs.Prelude.{◌≡◌, ◌≢◌, ℕ, ℤ, ◌≤◌, ◌<◌, ◌+◌, ◌==◌, ◌^◌, nat_le, List, [], ◌∷◌, length, All, Bool, true, false, ◌&&◌, ◌||◌, Option, Some, None, slice_get, option_map, option_and_then}
 use Rattle.std.specs.List.{AllPairs, list_all}
 use Rattle.std.specs.Char.{is_ascii_digit, is_ascii_alphabetic}
@@ -18,7 +18,7 @@ use Rattle.aos_base.specs.Number.{IsWithin}
 use Rattle.aos_types.specs.declared.TheConstants.{MOST_SCALARS}
 use Rattle.aos_types.specs.declared.row.TypeId.{TypeId}
 use Rattle.aos_types.specs.declared.row.TypeRow.{TypeRow}
-use Rattle.aos_types.specs.Table.{row_of, is_open, is_scalar}
+use Rattle.aos_types.specs.Table.{row_of, is_open, is_scalar, is_object}
 use Rattle.aos_types.specs.Contents.{scalars}
 use Rattle.aos_types.specs.Chain.{NoneContainsItself}
 use Rattle.aos_typed.specs.declared.tree.Literal.{Literal}
@@ -26,7 +26,7 @@ use Rattle.aos_typed.specs.declared.tree.Literal.TheVariants as literal
 use Rattle.aos_typed.specs.declared.tree.TType.{TType}
 use Rattle.aos_typed.specs.declared.tree.TType.TheVariants.{Integer, Boolean, Char, Set, Named}
 use Rattle.aos_typed.specs.Program.{Place, ModuleVar, Expr, Lit, Read, Unary, Binary, And, Or, Element, Ord, Chr, Call, Open as OutOpen, Char as OutChar, Int as OutInt, Ln as OutLn, Stat, Assign, While, New, Out, Stats, Nothing, Then, Parameter, Procedure, Program}
-use Rattle.aos_typed.specs.Numbers.{id_of, predeclared_types}
+use Rattle.aos_typed.specs.Numbers.{id_of, predeclared_types, predeclared_rows}
 
 -- Types.
 
@@ -140,7 +140,7 @@ module _ (p : Program) where
   -- each value of an expression is of a type
   abbrev pub IsOf : Expr → TType → Type 0
   IsOf (Lit l) t = IsLiteral l t
-  IsOf (Read u place) t = (place_type place ≡ Some u) × Includes t u
+  IsOf (Read u place) t = (place_type place ≡ Some u) × (is_basic u ≡ true) × Includes t u
   IsOf (Unary op a) t = IsOf a (taken op) × Gives op t
   IsOf (Binary op a b) t = Takes op (IsOf a) (IsOf b) × GivesOfTwo op t
   IsOf (And a b) t = IsOf a Boolean × IsOf b Boolean × (t ≡ Boolean)
@@ -158,9 +158,9 @@ module _ (p : Program) where
   -- a statement is well typed, and so is each of a sequence
   abbrev mutual
     pub IsStatement : Stat → Type 0
-    IsStatement (Assign at t place e) = (place_type place ≡ Some t) × IsOf e t
+    IsStatement (Assign at t place e) = (place_type place ≡ Some t) × (is_basic t ≡ true) × IsOf e t
     IsStatement (While at e body) = IsOf e Boolean × AreStatements body
-    IsStatement (New at place t) = (place_type place ≡ Some (Named t)) × (t < length p.objects)
+    IsStatement (New at place t) = (place_type place ≡ Some (Named t)) × (is_object (row_of p.types (id_of (Named t))) ≡ true) × (t < length p.objects)
     IsStatement (Out at call) = IsCall call
 
     pub AreStatements : Stats → Type 0
@@ -211,6 +211,7 @@ pub record IsWellTyped (p : Program) : Type 0 where
   pub objects : All (λ o. AreStatements p o.body) p.objects
   pub homes : All (λ o. o.home < length p.modules) p.objects
   pub types : AreTypes p.types
+  pub predeclared : (k : ℕ) → k < predeclared_types → slice_get p.types k ≡ slice_get predeclared_rows k
   pub beside : length p.types ≡ length p.objects + predeclared_types
   pub variables : All (λ m. All (λ v. IsVariableType p v.of) m.variables) p.modules
   pub procedures : All (λ m. All (IsProcedure p) m.procedures) p.modules

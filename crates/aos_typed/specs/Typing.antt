@@ -1,0 +1,109 @@
+-- Which values are of which sorts, in a world that knows the shape of what stands below each root and what objects were made as.
+use Rattle.std.specs.Prelude.{◌≡◌, ℕ, zero, suc, pos, ◌+◌, ◌<◌, ◌^◌, List, [], ◌∷◌, true, Option, Some, None}
+use Rattle.aos_base.specs.declared.number.Width.{Width}
+use Rattle.aos_base.specs.declared.number.Width.TheVariants.{W8, W16, W32, W64}
+use Rattle.aos_base.specs.Number.{IsWithin}
+use Rattle.aos_base.specs.Rooted.{Made}
+use Rattle.aos_types.specs.declared.row.Basic.{Basic}
+use Rattle.aos_types.specs.declared.row.Basic.TheVariants as basic
+use Rattle.aos_types.specs.declared.row.TypeId.{TypeId}
+use Rattle.aos_types.specs.declared.row.TypeRow.{TypeRow}
+use Rattle.aos_types.specs.declared.row.TypeRow.TheVariants as row
+use Rattle.aos_types.specs.Table.{row_of}
+use Rattle.aos_types.specs.Extension.{comes_to}
+use Rattle.aos_types.specs.Shape.{Shape, repeated}
+use Rattle.aos_types.specs.World.{World, shape_at}
+use Rattle.aos_typed.specs.Numbers.{predeclared_types}
+use Rattle.aos_typed.specs.Spot.{Spot}
+use Rattle.aos_typed.specs.Value.{Value, Int, Flag, Char, Set, Object, Callable, Place}
+use Rattle.aos_typed.specs.Source.{first_in}
+use Rattle.aos_typed.specs.Sort.{Sort, Plain, Variable, Alias, Elements, Length, variable_shape, object_shape}
+
+-- an object's type by its number from 1 among those of modules, and its number in the table
+abbrev pub id_of_made : ℕ → TypeId
+id_of_made zero = record { 0 = 0 }
+id_of_made (suc k) = record { 0 = k + predeclared_types }
+
+-- rows within one another, of these lengths
+abbrev pub nested : {S : Type 0} → List ℕ → Shape S → Shape S
+nested [] s = s
+nested (n ∷ ns) s = repeated n (nested ns s)
+
+abbrev pub IsInteger : Width → Value → Type 0
+IsInteger w (Int z) = IsWithin w z
+IsInteger w v = ⊥
+
+abbrev pub IsFlag : Value → Type 0
+IsFlag (Flag b) = Unit {0}
+IsFlag v = ⊥
+
+abbrev pub IsCharacter : Value → Type 0
+IsCharacter (Char c) = c < 256
+IsCharacter v = ⊥
+
+abbrev pub IsSet : Value → Type 0
+IsSet (Set s) = s < 2 ^ 32
+IsSet v = ⊥
+
+-- a value of a basic type; what is of the others is what it begins with
+abbrev pub IsBasic : Basic → Value → Type 0
+IsBasic basic.ShortInt v = IsInteger W8 v
+IsBasic basic.Integer v = IsInteger W16 v
+IsBasic basic.LongInt v = IsInteger W32 v
+IsBasic basic.HugeInt v = IsInteger W64 v
+IsBasic basic.Boolean v = IsFlag v
+IsBasic basic.Char v = IsCharacter v
+IsBasic basic.Set v = IsSet v
+IsBasic basic.Nil v = v ≡ Object 0
+IsBasic (basic.Text n) v = v ≡ Int (pos 0)
+
+abbrev pub OnPlace : (Spot → Type 0) → Value → Type 0
+OnPlace P (Place p) = P p
+OnPlace P v = ⊥
+
+module _ (rows : List TypeRow) where
+  -- NIL, or an object whose type extends this one
+  abbrev pub Refers : World Sort → TypeId → ℕ → Type 0
+  Refers w t zero = Unit {0}
+  Refers w t (suc o) = (m : Made) × (w.made (suc o) ≡ Some m) × (m.lengths ≡ []) × (comes_to rows (id_of_made m.type) t ≡ true)
+
+  abbrev pub IsReference : World Sort → TypeId → Value → Type 0
+  IsReference w t (Object o) = Refers w t o
+  IsReference w t v = ⊥
+
+  -- a value of a type, by the type's row; what is of a type that has no values of its own, or of which none are made so far, is what
+  -- it begins with
+  abbrev pub IsPlainly : World Sort → TypeId → Option TypeRow → Value → Type 0
+  IsPlainly w t (Some (row.Basic b)) v = IsBasic b v
+  IsPlainly w t (Some (row.Object base fields)) v = IsReference w t v
+  IsPlainly w t r v = v ≡ first_in r
+
+  -- the place of a record whose type, which the place names, extends this one
+  pub record Names (w : World Sort) (t : TypeId) (p : Spot) : Type 0 where
+    pub dynamic : ℕ
+    pub named : p.type ≡ suc dynamic
+    pub extends : comes_to rows (id_of_made p.type) t ≡ true
+    pub there : shape_at w p.root p.path ≡ Some (object_shape rows (id_of_made p.type))
+
+  abbrev pub IsPlace : World Sort → Sort → Spot → Type 0
+  IsPlace w (Plain t) p = ⊥
+  IsPlace w (Variable t) p = Names w t p
+  IsPlace w (Alias t) p = (shape_at w p.root p.path ≡ Some (variable_shape rows t)) × (p.type ≡ 0)
+  IsPlace w (Elements t ns) p = (shape_at w p.root p.path ≡ Some (nested ns (variable_shape rows t))) × (p.type ≡ 0)
+  IsPlace w (Length n) p = ⊥
+
+  -- a value is of a sort
+  abbrev pub Is : World Sort → Sort → Value → Type 0
+  Is w (Plain t) v = IsPlainly w t (row_of rows t) v
+  Is w (Variable t) v = OnPlace (IsPlace w (Variable t)) v
+  Is w (Alias t) v = OnPlace (IsPlace w (Alias t)) v
+  Is w (Elements t ns) v = OnPlace (IsPlace w (Elements t ns)) v
+  Is w (Length n) v = (v ≡ Int (pos n)) × IsWithin W32 (pos n)
+
+-- a sort whose values are no places: all that a way to a variable's parts leads to
+abbrev pub IsPlain : Sort → Type 0
+IsPlain (Plain t) = Unit {0}
+IsPlain (Variable t) = ⊥
+IsPlain (Alias t) = ⊥
+IsPlain (Elements t ns) = ⊥
+IsPlain (Length n) = ⊥
