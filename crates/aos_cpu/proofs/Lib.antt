@@ -1,0 +1,9 @@
+pub mod Behind
+pub mod Asking
+pub mod Own
+pub mod Turns
+pub mod Answering
+pub mod Characters
+pub mod Storing
+pub mod Handing
+pub mod Calling

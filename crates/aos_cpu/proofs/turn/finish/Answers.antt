@@ -1,0 +1,38 @@
+use Rattle.std.proofs.Common.{subst}
+use Rattle.aos_store.specs.Store.{list_in, memory_in}
+use Rattle.aos_silent.specs.declared.silent.Stop.{Stop}
+use Rattle.aos_cpu.specs.Turns.{StandsAtStop, HasAnswered, WhereLeft, Same, IsTurned}
+use Rattle.aos_silent.proofs.Oks.{ok_more, ok_both}
+use Rattle.aos_cpu.proofs.Turns.{shown_alike, worked, stands_at, stands_before}
+use Rattle.aos_cpu.proofs.turn.finish.Goals as goal
+
+pub answer-requires-clause-stands : goal.answer-requires-clause-stands
+answer-requires-clause-stands c =
+    stands_at c.args.image.now c.in-Work.question c.in-Work.at c.args.frames.now
+    (subst (λ (s : Stop). StandsAtStop c.args.image.now s (list_in c.args.frames.now.list.items)) c.in-Work.is c.requires)
+
+pub returns-in-Work-clause-ok : goal.returns-in-Work-clause-ok
+returns-in-Work-clause-ok c =
+    let old = c.args.frames.now in
+    let stands = subst (λ (s : Stop). StandsAtStop c.args.image.now s (list_in old.list.items)) c.in-Work.is c.requires in
+    let before = memory_in c.args.store.now in
+    let after = memory_in c.answer.new.store in
+    ok_more c.answer.result
+    (λ did. HasAnswered c.args.image.now c.in-Work.question c.in-Work.at old c.answer.new.frames before after did c.args.output.now.items c.answer.new.output.items)
+    (λ did. IsTurned c.args.image.now did old c.answer.new.frames before after c.args.output.now.items c.answer.new.output.items)
+    (λ did answered fs h. shown_alike c.args.image.now old c.answer.new.frames before after fs did c.args.output.now.items c.answer.new.output.items h
+    (worked c.args.image.now c.in-Work.question c.in-Work.at old c.answer.new.frames before after did c.args.output.now.items c.answer.new.output.items stands answered c.answer.ensures.counts.0))
+    c.answer.ensures.ok
+
+pub returns-in-Work-clause-before : goal.returns-in-Work-clause-before
+returns-in-Work-clause-before c =
+    let old = c.args.frames.now in
+    let stands = subst (λ (s : Stop). StandsAtStop c.args.image.now s (list_in old.list.items)) c.in-Work.is c.requires in
+    let before = memory_in c.args.store.now in
+    let after = memory_in c.answer.new.store in
+    ok_both c.answer.result
+    (λ did. HasAnswered c.args.image.now c.in-Work.question c.in-Work.at old c.answer.new.frames before after did c.args.output.now.items c.answer.new.output.items)
+    (λ did. WhereLeft did (Same old c.answer.new.frames before after c.args.output.now.items c.answer.new.output.items))
+    _
+    (λ did answered left. stands_before c.args.image.now c.in-Work.question c.in-Work.at old c.answer.new.frames before after did c.args.output.now.items c.answer.new.output.items stands answered left)
+    c.answer.ensures.ok c.answer.ensures.left

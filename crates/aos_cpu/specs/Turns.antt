@@ -1,0 +1,135 @@
+-- What a turn of an activity shows of the definitions: frames are seen up to silent work.
+use Rattle.std.specs.Prelude.{◌≡◌, ◌<◌, ◌+◌, ◌^◌, ℕ, suc, List, [], ◌∷◌, ◌++◌, Bool, true, false, Option, Some, None, drop, length, reverse, ◌%◌}
+use Rattle.aos_base.specs.declared.text.Pos.{Pos}
+use Rattle.aos_base.specs.declared.kernel.Did.{Did}
+use Rattle.aos_base.specs.declared.kernel.Did.TheVariants.{Went, Ended, Enter, Leave, Await, Start, Trapped}
+use Rattle.aos_base.specs.Question.{Starts}
+use Rattle.aos_base.specs.Book.{Where}
+use Rattle.aos_code.specs.declared.instr.Cell.TheVariants.{Ref}
+use Rattle.aos_code.specs.declared.image.Image.{Image}
+use Rattle.aos_code.specs.Memory.{Memory}
+use Rattle.aos_code.specs.Silent.{Work}
+use Rattle.aos_code.specs.Machine.{Frame, Frames, Turned, opened, home_of, stop_of, turn, answer}
+use Rattle.aos_store.specs.declared.frames.Frames.{Frames as KeptFrames}
+use Rattle.aos_store.specs.Store.{list_in, frames_in}
+use Rattle.aos_silent.specs.declared.act.Question.{Question as KeptQuestion}
+use Rattle.aos_silent.specs.declared.act.Question.TheVariants.{Starts as AsksStart}
+use Rattle.aos_silent.specs.declared.silent.Stop.{Stop as KeptStop}
+use Rattle.aos_silent.specs.Acts.{question_in, operands_of}
+use Rattle.aos_silent.specs.Silent.{Seen, stop_in, IsStopOf, seen_at}
+use Rattle.aos_cpu.specs.Answers.{Made}
+
+-- what is seen of an activity's frames: of the topmost one, what is seen of a frame; those below as they are
+pub record SeenFrames : Type 0 where
+  pub following : List ℕ
+  pub top : Option Seen
+  pub below : List Frame
+
+-- a module's number and a place in it
+abbrev pub where_in : (ℕ × Pos) → Where
+where_in p = record { module_ = p.0; pos = p.1 }
+
+-- how many statements have begun, where one more has or not
+abbrev pub counted : Bool → ℕ → ℕ
+counted true n = suc n % 2 ^ 64
+counted false n = n
+
+module _ (image : Image) where
+  abbrev pub seen : Frame → List Frame → Seen
+  seen f fs = seen_at image (length fs) f
+
+  abbrev pub seen_all : List ℕ → List Frame → SeenFrames
+  seen_all following [] = record { following = following; top = None; below = [] }
+  seen_all following (f ∷ fs) = record { following = following; top = Some (seen f fs); below = fs }
+
+  abbrev pub seen_frames : Frames → SeenFrames
+  seen_frames fs = seen_all fs.following fs.frames
+
+  -- the same frames up to silent work, to which the opening of the next body belongs
+  abbrev pub Alike : Frames → Frames → Type 0
+  Alike fs gs = seen_frames (opened fs) ≡ seen_frames (opened gs)
+
+  -- the topmost frame stands where its silent work ends so
+  abbrev pub StandsAtStop : KeptStop → List Frame → Type 0
+  StandsAtStop stop [] = ⊥
+  StandsAtStop stop (f ∷ fs) = (stop_of image f fs ≡ stop_in stop f) × IsStopOf stop f
+
+  -- silent work has come to its end; none where there is no frame, nor a body that is to follow
+  abbrev pub HasCome : Option KeptStop → Frames → Type 0
+  HasCome None fs = fs ≡ record { following = []; frames = [] }
+  HasCome (Some stop) fs = StandsAtStop stop fs.frames
+
+  abbrev pub home_of_list : List Frame → Where
+  home_of_list [] = record { module_ = 0; pos = record { line = 0; col = 0 } }
+  home_of_list (f ∷ fs) = record { module_ = home_of image f.procedure; pos = record { line = 0; col = 0 } }
+
+  -- no place in the module of the topmost frame, or of the next body that is to follow
+  abbrev pub home_of_top : Frames → Where
+  home_of_top fs = home_of_list (opened fs).frames
+
+  -- a turn has come to this; the output grows from one list to another
+  pub record Shown (t : Turned) (did : Did) (old new : KeptFrames) (mem : Memory) (before after : List ℕ) : Type 0 where
+    pub store : t.store ≡ mem
+    pub alike : Alike t.frames (frames_in new)
+    pub output : after ≡ before ++ t.output
+    pub begun : new.begun ≡ counted t.begun old.begun
+    pub left : t.left ≡ did
+
+  -- a turn has been made, from any frames that are alike to the old ones
+  abbrev pub IsTurned : Did → (old new : KeptFrames) → (old_memory new_memory : Memory) → (before after : List ℕ) → Type 0
+  IsTurned did old new old_memory new_memory before after =
+      (fs : Frames) → Alike fs (frames_in old) → Shown (turn image old_memory fs) did old new new_memory before after
+
+  -- nothing has been done but silent work
+  pub record Rests (old new : KeptFrames) (old_memory new_memory : Memory) (before after : List ℕ) : Type 0 where
+    pub alike : Alike (frames_in old) (frames_in new)
+    pub begun : new.begun ≡ old.begun
+    pub memory : new_memory ≡ old_memory
+    pub output : after ≡ before
+
+  -- the topmost frame stands before the instruction that starts this object's activity
+  abbrev pub IsBeforeStart : ℕ → List Frame → Type 0
+  IsBeforeStart o [] = ⊥
+  IsBeforeStart o (f ∷ fs) = (f.next + 1 < 2 ^ 64) × (stop_of image f fs ≡ Work (Starts (Ref o)) f.next f.keeps (drop 1 f.stack))
+
+  -- where an activity's start is left to the kernel, the frames stand before it
+  abbrev pub IsBefore : Did → Frames → Type 0
+  IsBefore (Start o) fs = IsBeforeStart o fs.frames
+  IsBefore Went fs = Unit {0}
+  IsBefore Ended fs = Unit {0}
+  IsBefore (Enter l) fs = Unit {0}
+  IsBefore (Leave l) fs = Unit {0}
+  IsBefore (Await l c) fs = Unit {0}
+  IsBefore (Trapped n c) fs = Unit {0}
+
+-- where work is left to the kernel
+abbrev pub WhereLeft : Did → Type 0 → Type 0
+WhereLeft Went P = Unit {0}
+WhereLeft Ended P = P
+WhereLeft (Enter l) P = P
+WhereLeft (Leave l) P = P
+WhereLeft (Await l c) P = P
+WhereLeft (Start o) P = P
+WhereLeft (Trapped n c) P = P
+
+-- Answers.
+
+-- the question at which the topmost frame stands has been answered
+abbrev pub HasAnswered : Image → KeptQuestion → (at : ℕ) → (old new : KeptFrames) → (old_memory new_memory : Memory) → Did → (before after : List ℕ) → Type 0
+HasAnswered image q at old new old_memory new_memory did before after =
+    (f : Frame) (fs : List Frame) → list_in old.list.items ≡ f ∷ fs →
+    Made (answer (reverse old.following.items) image.shapes.items (question_in q f.stack) at f.keeps (drop (operands_of q) f.stack) f fs old_memory) false did (frames_in new) new_memory before after
+
+-- the topmost frame stands at this place; where it asks for the start of an activity, the object is its topmost operand
+abbrev pub Stands : KeptQuestion → (at : ℕ) → KeptFrames → Type 0
+Stands q at old = (f : Frame) (fs : List Frame) → list_in old.list.items ≡ f ∷ fs → (at ≡ f.next) × HasOperand q f
+  where
+    HasOperand : KeptQuestion → Frame → Type 0
+    HasOperand (AsksStart o) f = f.stack ≡ Ref o ∷ drop 1 f.stack
+    HasOperand q f = Unit {0}
+
+-- all is as it was
+pub record Same (old new : KeptFrames) (old_memory new_memory : Memory) (before after : List ℕ) : Type 0 where
+  pub frames : frames_in new ≡ frames_in old
+  pub memory : new_memory ≡ old_memory
+  pub output : after ≡ before

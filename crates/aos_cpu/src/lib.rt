@@ -1,0 +1,12 @@
+//! The processor: an activity's turns, with the answers to what its topmost frame asks for.
+#![tactic(auto)]
+
+pub mod alone;
+pub mod answers;
+pub mod calls;
+pub mod texts;
+pub mod turn;
+
+pub use alone::{PrivateStop, next_private, private};
+pub use aos_silent::{code_of, home_of, numbered};
+pub use turn::{begin_body, open, pass, position, shared};

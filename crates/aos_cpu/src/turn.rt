@@ -1,0 +1,182 @@
+// One turn of an activity: the silent work of its topmost frame, and the visible work that follows.
+ghost use Rattle.std.specs.Prelude.{◌≡◌, ◌<◌, ◌+◌, ◌^◌, ℕ, List, [], ◌∷◌, reverse, true, IfOk, OnOk, OnErr};
+ghost use Rattle.aos_code.specs.Machine.{Frame as FrameOf, Frames as FramesOf, opened, past, position as position_at, body_frame};
+ghost use Rattle.aos_store.specs.Store.{list_in, frames_in, memory_in, SameCounts};
+ghost use Rattle.aos_cpu.specs.Answers.{begun_at};
+ghost use Rattle.aos_cpu.specs.Turns.{where_in, counted, home_of_top, Alike, HasCome, StandsAtStop, IsTurned, IsBefore, Rests, WhereLeft};
+
+use crate::answers::answer;
+use aos_base::{Did, NoMemory, Pos};
+use aos_code::Image;
+use aos_silent::{Stop, home_of, numbered, silent_from, take};
+use aos_store::{Frames, Store};
+use std::alloc::Global;
+
+/// Puts the frame with which a body of an object, or of a module where that is 0, begins above no others.
+pub fn begin_body(
+    alloc: Global,
+    image: &Image,
+    frames: &mut Frames,
+    object: u32,
+    procedure: u32,
+) -> Result<(), NoMemory>
+    requires { frames.old.list.items ≡ [] }
+    ensures ok { OnOk result (frames_in frames.new ≡ record { following = reverse frames.old.following.items; frames = body_frame object procedure ∷ [] }) }
+    ensures err { OnErr result (frames_in frames.new ≡ frames_in frames.old) }
+    ensures following { frames.new.following ≡ frames.old.following }
+    ensures counts { SameCounts frames.old frames.new }
+{
+    let keeps = match numbered(&image.shapes, procedure) {
+        None => 0,
+        Some(shape) => shape.keeps,
+    };
+    let depth = match numbered(&image.bodies, procedure) {
+        None => 0,
+        Some(body) => body.depth,
+    };
+    match frames.grow(alloc, procedure, object, &[], 0, keeps, depth, 0) {
+        Ok(()) => Ok(()),
+        Err(_) => Err(NoMemory),
+    }
+}
+
+/// Where there is no frame, the next body that is to follow begins.
+pub fn open(alloc: Global, image: &Image, frames: &mut Frames) -> Result<(), NoMemory>
+    ensures ok { OnOk result (frames_in frames.new ≡ opened (frames_in frames.old)) }
+    ensures err { OnErr result (frames_in frames.new ≡ frames_in frames.old) }
+    ensures counts { SameCounts frames.old frames.new }
+{
+    if frames.count() > 0 {
+        return Ok(());
+    }
+    let Some(procedure) = frames.following.last().copied() else {
+        return Ok(());
+    };
+    begin_body(alloc, image, frames, 0, procedure)?;
+    frames.following.pop();
+    Ok(())
+}
+
+/// The silent work of the topmost frame, up to where it ends; none where there is no frame, nor a body that is to follow.
+pub(crate) fn come_to_stop(
+    alloc: Global,
+    image: &Image,
+    frames: &mut Frames,
+) -> Result<Option<Stop>, NoMemory>
+    ensures stop { IfOk result (λ stop. HasCome image.now stop (frames_in frames.new)) }
+    ensures alike { Alike image.now (frames_in frames.old) (frames_in frames.new) }
+    ensures counts { SameCounts frames.old frames.new }
+{
+    open(alloc, image, frames)?;
+    let here = frames.count().saturating_sub(1);
+    let Some(frame) = frames.list.last_mut() else {
+        return Ok(None);
+    };
+    let stop = silent_from(image, here, frame)?;
+    Ok(Some(stop))
+}
+
+/// The topmost frame begins the statement of the instruction at this place.
+fn begin_statement(frames: &mut Frames, at: usize, pos: Pos)
+    requires { at + 1 < 2 ^ 64 }
+    ensures frames { (f : FrameOf) (fs : List FrameOf) → list_in frames.old.list.items ≡ f ∷ fs →
+        list_in frames.new.list.items ≡ begun_at at pos f ∷ fs }
+    ensures following { frames.new.following ≡ frames.old.following }
+    ensures begun { frames.new.begun ≡ counted true frames.old.begun }
+    ensures turns { frames.new.turns ≡ frames.old.turns }
+{
+    frames.begun = frames.begun.wrapping_add(1);
+    if let Some(frame) = frames.list.last_mut() {
+        frame.next = at + 1;
+        frame.at = Some(pos);
+    }
+}
+
+/// The visible work at which silent work ends, up to the kernel's part, which is told. What it takes is taken first: where memory runs
+/// out, and where work is left to the kernel, nothing has changed.
+pub(crate) fn finish(
+    alloc: Global,
+    image: &Image,
+    stop: Stop,
+    frames: &mut Frames,
+    store: &mut Store,
+    output: &mut Vec<u8>,
+) -> Result<Did, NoMemory>
+    requires { StandsAtStop image.now stop (list_in frames.old.list.items) }
+    ensures ok { IfOk result (λ did. IsTurned image.now did frames.old frames.new (memory_in store.old) (memory_in store.new) output.old.items output.new.items) }
+    ensures before { IfOk result (λ did. IsBefore image.now did (frames_in frames.new)) }
+    ensures left { IfOk result (λ did. WhereLeft did (Rests image.now frames.old frames.new (memory_in store.old) (memory_in store.new) output.old.items output.new.items)) }
+    ensures err { OnErr result (Rests image.now frames.old frames.new (memory_in store.old) (memory_in store.new) output.old.items output.new.items) }
+    ensures turns { frames.new.turns ≡ frames.old.turns }
+{
+    match stop {
+        Stop::Work(question, at) => answer(alloc, image, question, at, frames, store, output),
+        Stop::Begins(at, pos) => {
+            begin_statement(frames, at, pos);
+            Ok(Did::Went)
+        }
+        Stop::Fails(number, code) => Ok(Did::Trapped(number, code)),
+    }
+}
+
+/// One turn, up to the kernel's part, which is told. What it needs is taken behind the silent work; where memory runs out, only silent
+/// work has been done. Where it leaves work to the kernel, the topmost frame stands before that instruction still.
+pub fn shared(
+    alloc: Global,
+    image: &Image,
+    frames: &mut Frames,
+    store: &mut Store,
+    output: &mut Vec<u8>,
+) -> Result<Did, NoMemory>
+    ensures ok { IfOk result (λ did. IsTurned image.now did frames.old frames.new (memory_in store.old) (memory_in store.new) output.old.items output.new.items) }
+    ensures before { IfOk result (λ did. IsBefore image.now did (frames_in frames.new)) }
+    ensures left { IfOk result (λ did. WhereLeft did (Rests image.now frames.old frames.new (memory_in store.old) (memory_in store.new) output.old.items output.new.items)) }
+    ensures err { OnErr result (Rests image.now frames.old frames.new (memory_in store.old) (memory_in store.new) output.old.items output.new.items) }
+    ensures turns { frames.new.turns ≡ frames.old.turns }
+{
+    match come_to_stop(alloc, image, frames)? {
+        None => Ok(Did::Ended),
+        Some(stop) => finish(alloc, image, stop, frames, store, output),
+    }
+}
+
+/// Past a Start, whose activity has been started.
+pub fn pass(frames: &mut Frames)
+    ensures past { (image : Image) (object : ℕ) (fs : FramesOf) →
+        IsBefore image (Did.Start object) (frames_in frames.old) → Alike image fs (frames_in frames.old) →
+        Alike image (past image fs) (frames_in frames.new) }
+    ensures counts { SameCounts frames.old frames.new }
+{
+    if let Some(frame) = frames.list.last_mut() {
+        take(&mut frame.operands, 1);
+        frame.next = frame.next.saturating_add(1);
+    }
+}
+
+/// The module of the topmost frame, or of the next body that is to follow, and no place in it.
+fn top_home(image: &Image, frames: &Frames) -> (u32, Pos)
+    ensures { where_in result ≡ home_of_top image.now (frames_in frames.now) }
+{
+    let procedure = match frames.list.last() {
+        None => frames.following.last().copied(),
+        Some(frame) => Some(frame.procedure),
+    };
+    match procedure {
+        None => (0, Pos { line: 0, col: 0 }),
+        Some(procedure) => (home_of(image, procedure), Pos { line: 0, col: 0 }),
+    }
+}
+
+/// Where the topmost frame that has begun a statement stands: the module's number, and the place. An activity without frames stands
+/// where the next body that is to follow begins.
+pub fn position(image: &Image, frames: &Frames) -> (u32, Pos)
+    ensures { (fs : FramesOf) → Alike image.now fs (frames_in frames.now) → position_at image.now fs ≡ where_in result }
+{
+    let mut found = top_home(image, frames);
+    for frame in frames.list.as_slice() {
+        if let Some(pos) = frame.at {
+            found = (home_of(image, frame.procedure), pos);
+        }
+    }
+    found
+}

@@ -1,0 +1,6 @@
+pub mod Topmost
+pub mod Oks
+pub mod Arguments
+pub mod Lengths
+pub mod Walks
+pub mod Stepped

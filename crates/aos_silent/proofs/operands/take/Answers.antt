@@ -1,0 +1,6 @@
+use Rattle.std.proofs.Common.{arith}
+use Rattle.aos_silent.proofs.Topmost.{taken}
+use Rattle.aos_silent.proofs.operands.take.Goals as goal
+
+pub returns : goal.returns
+returns c = taken _ _ _ c.saturating_sub.result (omega arith) c.truncate.ensures.items

@@ -1,0 +1,40 @@
+-- The silent work of a frame: where it ends, and what is seen of a frame besides.
+use Rattle.std.specs.Prelude.{◌≡◌, ◌<◌, ◌+◌, ◌^◌, ℕ, List, Option, drop}
+use Rattle.aos_base.specs.declared.text.Pos.{Pos}
+use Rattle.aos_code.specs.declared.instr.Cell.{Cell}
+use Rattle.aos_code.specs.declared.image.Image.{Image}
+use Rattle.aos_code.specs.Silent.{Stop, Work, Ended as StopsAt, Begins, Fails, silent}
+use Rattle.aos_code.specs.Machine.{Frame, code_of}
+use Rattle.aos_silent.specs.declared.silent.Stop.{Stop as KeptStop}
+use Rattle.aos_silent.specs.declared.silent.Stop.TheVariants.{Work as AtWork, Begins as AtBegin, Fails as AtFault}
+use Rattle.aos_silent.specs.Acts.{question_in, operands_of}
+
+-- what is seen of a frame: how far its silent work has come isn't
+pub record Seen : Type 0 where
+  pub procedure : ℕ
+  pub object : ℕ
+  pub at : Option Pos
+  pub cells : List Cell
+  pub counted : ℕ
+  pub stop : Stop
+
+-- where a frame's silent work ends, from what the code keeps of it
+abbrev pub stop_in : KeptStop → Frame → Stop
+stop_in (AtWork q at) f = Work (question_in q f.stack) at f.keeps (drop (operands_of q) f.stack)
+stop_in (AtBegin at pos) f = StopsAt (Begins at pos f.stack) f.keeps
+stop_in (AtFault n c) f = StopsAt (Fails n c) f.keeps
+
+-- at a question the frame stands at the instruction that asks; and places behind it have 64 bits
+abbrev pub IsStopOf : KeptStop → Frame → Type 0
+IsStopOf (AtWork q at) f = (at ≡ f.next) × (at + 1 < 2 ^ 64)
+IsStopOf (AtBegin at pos) f = at + 1 < 2 ^ 64
+IsStopOf (AtFault n c) f = Unit {0}
+
+module _ (image : Image) where
+  -- the silent work of a frame above so many others
+  abbrev pub silent_at : ℕ → Frame → Stop
+  silent_at here f = silent image.shapes.items f.procedure here f.cells (code_of image f.procedure) f.next f.keeps f.stack
+
+  abbrev pub seen_at : ℕ → Frame → Seen
+  seen_at here f =
+      record { procedure = f.procedure; object = f.object; at = f.at; cells = f.cells; counted = f.counted; stop = silent_at here f }

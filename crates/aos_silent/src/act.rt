@@ -1,0 +1,47 @@
+// What an instruction does.
+
+use aos_base::{Pos, Relation, Root};
+use aos_code::{Cell, Kind};
+
+/// The place of a cell: its root and its number.
+#[derive(Clone, Copy)]
+pub struct Spot {
+    pub root: Root,
+    pub cell: u32,
+}
+
+/// Visible work that an instruction asks for. Its operands lie on the stack still.
+#[derive(Clone, Copy)]
+pub enum Question {
+    Reads(Kind, Spot),
+    Stores(Spot, Cell),
+    /// So many cells are copied from the first place to the second.
+    Copies(u32, Spot, Spot),
+    /// A text is stored: whether it has to fit, its place and length, and those of the array that gets it.
+    PutsText(bool, Spot, i64, Spot, i64),
+    /// The places and lengths of two texts that are compared.
+    ComparesTexts(Relation, Spot, i64, Spot, i64),
+    /// A procedure is called, whose arguments are so many operands.
+    Calls(u32, usize),
+    /// The end of the frame, with the result where there is one.
+    Ends(Option<Cell>),
+    Makes(u32),
+    Starts(u32),
+    PutsInt(i64, i64),
+    PutsChar(i64),
+    PutsString(Spot, i64),
+    PutsNothing,
+    PutsLn,
+}
+
+/// What one instruction does: silent work after which so many instructions are passed over, or where that ends.
+#[derive(Clone, Copy)]
+pub enum Act {
+    Goes(usize),
+    Sees(Question),
+    Begins(usize, Pos),
+    Fails(u8, u8),
+}
+
+/// Code that finds another operand than it takes, or runs past its end.
+pub const LOST: Act = Act::Fails(16, 0);

@@ -1,0 +1,80 @@
+// The silent work of a frame, up to where it ends.
+ghost use Rattle.std.specs.Prelude.{◌≡◌, IfOk};
+ghost use Rattle.aos_code.specs.Numbered.{numbered as numbered_of};
+ghost use Rattle.aos_code.specs.Silent.{keeps_in};
+ghost use Rattle.aos_code.specs.Machine.{code_of as code_at};
+ghost use Rattle.aos_store.specs.Store.{frame_in};
+ghost use Rattle.aos_silent.specs.Silent.{stop_in, silent_at, seen_at, IsStopOf};
+
+use crate::act::{Act, Question};
+use crate::image::{code_of, numbered};
+use crate::instruction::do_one;
+use aos_base::{NoMemory, Pos};
+use aos_code::{Image, Instr, ProcShape};
+use aos_store::Frame;
+
+/// Where silent work ends: at a question or at a Begin, with its place in the code, or with a trap. The question's operands lie
+/// on the stack still.
+#[derive(Clone, Copy)]
+pub enum Stop {
+    Work(Question, usize),
+    Begins(usize, Pos),
+    Fails(u8, u8),
+}
+
+/// In how many cells the frames of a procedure keep values.
+fn keeps_of(shapes: &[ProcShape], procedure: u32) -> u32
+    ensures { result ≡ keeps_in (numbered_of shapes.now procedure) }
+{
+    match numbered(shapes, procedure) {
+        None => 0,
+        Some(shape) => shape.keeps,
+    }
+}
+
+/// The silent work of a frame of this code above so many others, which keeps values under so many numbers.
+fn walk_from(
+    image: &Image,
+    code: &[Instr],
+    keeps: u32,
+    here: u32,
+    frame: &mut Frame,
+) -> Result<Stop, NoMemory>
+    requires code { code.now ≡ code_at image.now frame.old.procedure }
+    requires keeps { keeps ≡ keeps_in (numbered_of image.now.shapes.items frame.old.procedure) }
+    ensures stop { IfOk result (λ stop. stop_in stop (frame_in frame.new) ≡ silent_at image.now here (frame_in frame.old)) }
+    ensures place { IfOk result (λ stop. IsStopOf stop (frame_in frame.new)) }
+    ensures alike { seen_at image.now here (frame_in frame.new) ≡ seen_at image.now here (frame_in frame.old) }
+{
+    while frame.next < code.len() {
+        let at = frame.next;
+        match do_one(code[at], &image.shapes, keeps, here, code, at, frame)? {
+            Act::Goes(over) => frame.next = (at + 1).saturating_add(over),
+            Act::Sees(question) => return Ok(Stop::Work(question, at)),
+            Act::Begins(to, pos) => {
+                frame.next = to;
+                return Ok(Stop::Begins(to, pos));
+            }
+            Act::Fails(number, code) => return Ok(Stop::Fails(number, code)),
+        }
+    }
+    Ok(Stop::Fails(16, 0))
+}
+
+/// The silent work of a frame above so many others, up to where it ends. Where memory runs out, some of it has been done.
+pub fn silent_from(image: &Image, here: usize, frame: &mut Frame) -> Result<Stop, NoMemory>
+    ensures stop { IfOk result (λ stop. stop_in stop (frame_in frame.new) ≡ silent_at image.now here (frame_in frame.old)) }
+    ensures place { IfOk result (λ stop. IsStopOf stop (frame_in frame.new)) }
+    ensures alike { seen_at image.now here (frame_in frame.new) ≡ seen_at image.now here (frame_in frame.old) }
+{
+    let Ok(above) = u32::try_from(here) else {
+        return Err(NoMemory);
+    };
+    walk_from(
+        image,
+        code_of(image, frame.procedure),
+        keeps_of(&image.shapes, frame.procedure),
+        above,
+        frame,
+    )
+}

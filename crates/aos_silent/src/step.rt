@@ -1,0 +1,127 @@
+// Silent steps that give a frame an operand more, and those that work on what it keeps.
+ghost use Rattle.std.specs.Prelude.{◌≡◌, ℕ, List, slice_get, IfOk, OnErr};
+ghost use Rattle.aos_base.specs.Question.{Places, Lengths};
+ghost use Rattle.aos_code.specs.Silent.{Question as QuestionOf, Puts, Takes, Sees, gives, duplicates, on_kind, noted, noted_as};
+ghost use Rattle.aos_code.specs.declared.instr.Instr.{Instr as InstrOf};
+ghost use Rattle.aos_store.specs.Store.{frame_in};
+ghost use Rattle.aos_silent.specs.Acts.{IsBeginOf, WhereStays};
+ghost use Rattle.aos_silent.specs.Steps.{IsStep, given_more};
+
+use crate::act::{Act, LOST};
+use crate::operands::{is_of, of_kind, operand, take};
+use aos_base::{NoMemory, Root};
+use aos_code::{Cell, Kind};
+use aos_store::Frame;
+
+/// A frame gets an operand more.
+pub fn give(frame: &mut Frame, cell: Cell) -> Result<(), NoMemory>
+    ensures ok { IfOk result (λ _. frame_in frame.new ≡ given_more cell (frame_in frame.old)) }
+    ensures err { OnErr result (frame_in frame.new ≡ frame_in frame.old) }
+{
+    frame.operands.reserve(1)?;
+    frame.operands.push_reserved(cell);
+    Ok(())
+}
+
+/// An operand more.
+pub fn give_value(frame: &mut Frame, value: Cell) -> Result<Act, NoMemory>
+    ensures ok { IfOk result (λ did. IsStep (gives value (frame_in frame.old).stack) did (frame_in frame.old) (frame_in frame.new)) }
+    ensures stays { IfOk result (λ did. WhereStays did (frame_in frame.new ≡ frame_in frame.old)) }
+    ensures begins { (code : List InstrOf) → IfOk result (λ did. IsBeginOf code did) }
+    ensures err { OnErr result (frame_in frame.new ≡ frame_in frame.old) }
+{
+    give(frame, value)?;
+    Ok(Act::Goes(0))
+}
+
+/// The topmost operand once more.
+pub fn give_again(frame: &mut Frame) -> Result<Act, NoMemory>
+    ensures ok { IfOk result (λ did. IsStep (duplicates (frame_in frame.old).stack) did (frame_in frame.old) (frame_in frame.new)) }
+    ensures stays { IfOk result (λ did. WhereStays did (frame_in frame.new ≡ frame_in frame.old)) }
+    ensures begins { (code : List InstrOf) → IfOk result (λ did. IsBeginOf code did) }
+    ensures err { OnErr result (frame_in frame.new ≡ frame_in frame.old) }
+{
+    match operand(&frame.operands, 0) {
+        None => Ok(LOST),
+        Some(value) => give_value(frame, value),
+    }
+}
+
+/// A value of this kind is kept under a number.
+pub fn keep_value(frame: &mut Frame, number: u32, kind: Kind) -> Result<Act, NoMemory>
+    ensures ok { IfOk result (λ did. IsStep (on_kind kind (λ v s. Puts number v s) (frame_in frame.old).stack) did (frame_in frame.old) (frame_in frame.new)) }
+    ensures stays { IfOk result (λ did. WhereStays did (frame_in frame.new ≡ frame_in frame.old)) }
+    ensures begins { (code : List InstrOf) → IfOk result (λ did. IsBeginOf code did) }
+    ensures err { OnErr result (frame_in frame.new ≡ frame_in frame.old) }
+{
+    match of_kind(&frame.operands, 0, kind) {
+        None => Ok(LOST),
+        Some(value) => {
+            frame.keep(number, value)?;
+            take(&mut frame.operands, 1);
+            Ok(Act::Goes(0))
+        }
+    }
+}
+
+/// A value, where it is of this kind.
+fn give_kind(frame: &mut Frame, value: Cell, kind: Kind) -> Result<Act, NoMemory>
+    ensures ok { IfOk result (λ did. (number : ℕ) → value ≡ (frame_in frame.old).keeps number → IsStep (Takes number kind (frame_in frame.old).stack) did (frame_in frame.old) (frame_in frame.new)) }
+    ensures stays { IfOk result (λ did. WhereStays did (frame_in frame.new ≡ frame_in frame.old)) }
+    ensures begins { (code : List InstrOf) → IfOk result (λ did. IsBeginOf code did) }
+    ensures err { OnErr result (frame_in frame.new ≡ frame_in frame.old) }
+{
+    if !is_of(kind, value) {
+        return Ok(LOST);
+    }
+    give_value(frame, value)
+}
+
+/// What is kept under a number, which is of this kind.
+pub fn kept_value(frame: &mut Frame, number: u32, kind: Kind) -> Result<Act, NoMemory>
+    ensures ok { IfOk result (λ did. IsStep (Takes number kind (frame_in frame.old).stack) did (frame_in frame.old) (frame_in frame.new)) }
+    ensures stays { IfOk result (λ did. WhereStays did (frame_in frame.new ≡ frame_in frame.old)) }
+    ensures begins { (code : List InstrOf) → IfOk result (λ did. IsBeginOf code did) }
+    ensures err { OnErr result (frame_in frame.new ≡ frame_in frame.old) }
+{
+    let value = frame.kept(number);
+    give_kind(frame, value, kind)
+}
+
+/// What an own cell holds, which is of this kind.
+fn own_value(frame: &mut Frame, number: u32, kind: Kind) -> Result<Act, NoMemory>
+    ensures ok { IfOk result (λ did. (q : QuestionOf) → noted (frame_in frame.old).cells q ≡ noted_as kind (slice_get (frame_in frame.old).cells number) → IsStep (Sees q (frame_in frame.old).stack) did (frame_in frame.old) (frame_in frame.new)) }
+    ensures stays { IfOk result (λ did. WhereStays did (frame_in frame.new ≡ frame_in frame.old)) }
+    ensures begins { (code : List InstrOf) → IfOk result (λ did. IsBeginOf code did) }
+    ensures err { OnErr result (frame_in frame.new ≡ frame_in frame.old) }
+{
+    match frame.load(number as usize) {
+        None => Ok(LOST),
+        Some(value) => {
+            if !is_of(kind, value) {
+                return Ok(LOST);
+            }
+            give_value(frame, value)
+        }
+    }
+}
+
+/// The place that a parameter's cell holds.
+pub fn param_value(frame: &mut Frame, number: u32) -> Result<Act, NoMemory>
+    ensures ok { IfOk result (λ did. (here : ℕ) → IsStep (Sees (Places (record { root = Root.Frame here; cell = number })) (frame_in frame.old).stack) did (frame_in frame.old) (frame_in frame.new)) }
+    ensures stays { IfOk result (λ did. WhereStays did (frame_in frame.new ≡ frame_in frame.old)) }
+    ensures begins { (code : List InstrOf) → IfOk result (λ did. IsBeginOf code did) }
+    ensures err { OnErr result (frame_in frame.new ≡ frame_in frame.old) }
+{
+    own_value(frame, number, Kind::A)
+}
+
+/// The length that a parameter's cell holds.
+pub fn length_value(frame: &mut Frame, number: u32) -> Result<Act, NoMemory>
+    ensures ok { IfOk result (λ did. (here : ℕ) → IsStep (Sees (Lengths (record { root = Root.Frame here; cell = number })) (frame_in frame.old).stack) did (frame_in frame.old) (frame_in frame.new)) }
+    ensures stays { IfOk result (λ did. WhereStays did (frame_in frame.new ≡ frame_in frame.old)) }
+    ensures begins { (code : List InstrOf) → IfOk result (λ did. IsBeginOf code did) }
+    ensures err { OnErr result (frame_in frame.new ≡ frame_in frame.old) }
+{
+    own_value(frame, number, Kind::N)
+}
