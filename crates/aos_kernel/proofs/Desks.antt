@@ -1,25 +1,28 @@
 -- The desk after an operation shows the state after it.
-use Rattle.std.proofs.Common.{◌≡◌, ℕ, zero, suc, ◌<◌, ◌≤◌, ◌^◌, List, [], ◌∷◌, ◌++◌, Bool, true, false, refl, sym, ◌∙◌, ap, subst, arith, inl, inr, ◌==◌, not, ◌≢◌, length, map, append_assoc}
-use Rattle.std.specs.Prelude.{if◌then◌else◌, ◌||◌, nat_le, Option, Some, None, nat_eq, slice_get, slice_set, Vec, Result, Ok, Err, OnErr}
+use Rattle.std.proofs.Common.{◌≡◌, ℕ, zero, suc, ◌<◌, ◌≤◌, ◌^◌, List, [], ◌∷◌, ◌++◌, Bool, true, false, refl, sym, ◌∙◌, ap, subst, arith, inl, inr, ◌==◌, not, ◌≢◌, length, reverse, append_assoc}
+use Rattle.std.specs.Prelude.{if◌then◌else◌, ◌||◌, nat_le, nat_lt, Option, Some, None, nat_eq, get_or, slice_get, slice_set, Vec, Result, Ok, Err, OnErr}
 use Rattle.std.specs.declared.alloc.Global.{Global}
-use Rattle.std.proofs.lemmas.Bool.{leb-false}
+use Rattle.std.proofs.lemmas.Bool.{lt-ltb, le-ltb}
+use Rattle.std.proofs.Math.Nat.{mod-eq_of_lt}
 use Rattle.std.proofs.lemmas.Bool.Decides.{eqb_tells, leb_tells}
 use Rattle.std.proofs.lemmas.Option.{slice_get_cases, slice_get_within, slice_get-get_or, slice_get_past}
 use Rattle.std.proofs.lemmas.List.{get_or-set_same, get_or-set_other, length-set, length-map, map-append}
 use Rattle.aos_base.specs.declared.kernel.Event.{Event}
 use Rattle.aos_base.specs.declared.kernel.Event.TheVariants as event
 use Rattle.aos_base.specs.declared.kernel.Did.{Did}
+use Rattle.aos_base.specs.declared.kernel.Did.TheVariants.{Went, Ended, Enter, Leave, Await, Start, Trapped}
 use Rattle.aos_base.specs.declared.text.Pos.{Pos}
 use Rattle.aos_base.specs.Book as book
-use Rattle.aos_base.specs.Book.{put, place_of, leave_line, move, stands, ready, next_is, counted, spent_by, trapped, ended, first_at, first_ready, or_next, is_ready, may_restart, born, is_full}
-use Rattle.aos_base.specs.Machine.{State, on_book, with_frames, go_past, trap, turned, finish, turn_by, serve}
+use Rattle.aos_base.specs.Book.{put, leave_line, move, stands, ready, next_is, counted, spent_by, trapped, ended, first_at, on_worker, first_ready, or_next, is_ready, may_restart, born, is_full}
+use Rattle.aos_base.specs.Machine.{State, on_book, with_frames, go_past, trap, turned, finish, turn_by}
 use Rattle.aos_code.specs.declared.image.Image.{Image}
 use Rattle.aos_code.specs.declared.report.TrapRec.{TrapRec}
 use Rattle.aos_code.specs.Memory.{Memory}
-use Rattle.aos_code.specs.Machine.{Frames, body_frames, machine, past, position, turn}
-use Rattle.aos_code.specs.declared.instr.Cell.{Cell}
-use Rattle.aos_kernel.specs.declared.cpu.Frame.{Frame as Kept}
-use Rattle.aos_kernel.specs.declared.cpu.Shared.{Shared}
+use Rattle.aos_code.specs.Machine.{Frames, machine, past, position, turn}
+use Rattle.aos_store.specs.declared.frames.Frames.{Frames as Kept}
+use Rattle.aos_store.specs.declared.memory.Store.{Store}
+use Rattle.aos_store.specs.Store.{list_in, frames_in, memory_in}
+use Rattle.aos_cpu.specs.Turns.{where_in, counted as counted_on, Alike, Shown, Rests, WhereLeft}
 use Rattle.aos_kernel.specs.declared.desk.Place.{Place}
 use Rattle.aos_kernel.specs.declared.desk.Place.TheVariants.{Ready}
 use Rattle.aos_kernel.specs.declared.desk.Stand.{Stand}
@@ -27,9 +30,8 @@ use Rattle.aos_kernel.specs.declared.desk.Next.{Next}
 use Rattle.aos_kernel.specs.declared.desk.Next.TheVariants.{Runs, WillTrap, Unwinds, Gone}
 use Rattle.aos_kernel.specs.declared.desk.Activity.{Activity}
 use Rattle.aos_kernel.specs.declared.desk.Desk.{Desk}
-use Rattle.aos_kernel.specs.Cpu.{frame_in, frames_in, memory_in, where_in, Alike, Shown}
 use Rattle.aos_kernel.specs.Run.{rec_of}
-use Rattle.aos_kernel.specs.Shows.{place_in, stand_in, line_in, next_in, IsKnown, ShowsFrames, ShowsActivity, Shows, HasSame}
+use Rattle.aos_kernel.specs.Shows.{place_in, stand_in, line_in, IsRunning, next_in, IsKnown, ShowsFrames, ShowsActivity, Shows, ShowsSame, IsLive, HasSame}
 
 -- by whether two numbers are one
 by_case : (P : Bool → Type 0) (x k : ℕ) → (x ≡ k → P true) → (x ≢ k → P false) → P (x == k)
@@ -84,6 +86,10 @@ found_ready n line a e h =
     either n (first_at (is_ready 3) line) (or_next (first_at (is_ready 2) line) (first_at (is_ready 1) line)) a e (λ x f. found n (is_ready 3) line x f h)
     (λ y g. either n (first_at (is_ready 2) line) (first_at (is_ready 1) line) y g (λ x f. found n (is_ready 2) line x f h) (λ x f. found n (is_ready 1) line x f h))
 
+-- the workers' activities, as the code has read the line
+pub running_by : (running : List (Option ℕ)) (line xs : List Stand) → xs ≡ line → IsRunning running (line_in xs) → IsRunning running (line_in line)
+running_by running line xs e on = subst (λ l. IsRunning running (line_in l)) e on
+
 -- The activities
 
 pub get_below : {A : Type 0} (xs : List A) (i : ℕ) → i < length xs → (x : A) × (slice_get xs i ≡ Some x)
@@ -100,7 +106,7 @@ set_there xs i x g ne =
     ]
 
 -- the frames of an activity that hasn't ended
-pub frames_alike : (image : Image) (n : Next) (fs : Frames) (kept : List Kept) → n ≢ Gone → ShowsFrames image n fs kept → Alike image fs (frames_in kept)
+pub frames_alike : (image : Image) (n : Next) (fs : Frames) (kept : Kept) → n ≢ Gone → ShowsFrames image n fs kept → Alike image fs (frames_in kept)
 frames_alike image Runs fs kept live h = h
 frames_alike image (WillTrap k) fs kept live h = h
 frames_alike image Unwinds fs kept live h = h
@@ -160,17 +166,30 @@ not_spent true budget begun a spent less none =
       | inr e ↦ λ f. e.1
     ]) none
 
+-- a count of statements grows where one has begun
+begun_after : (does_begin : Bool) (old new : ℕ) → suc old < 2 ^ 64 → new ≡ counted_on does_begin old → (nat_lt old new ≡ does_begin) × (new ≡ (if does_begin then suc old else old))
+begun_after true old new fits e =
+    let n : new ≡ suc old = e ∙ mod-eq_of_lt fits in
+    (ap (nat_lt old) n ∙ lt-ltb old (suc old) (omega arith), n)
+begun_after false old new fits e = (ap (nat_lt old) e ∙ le-ltb old old (omega arith), e)
+
+-- who has reached the budget stays where none has begun
+pub spent_same : (before begun budget a : ℕ) (spent : Option ℕ) → begun ≡ before → spent_by (nat_lt before begun) budget begun a spent ≡ spent
+spent_same before begun budget a spent e = ap (λ q. spent_by q budget begun a spent) (ap (nat_lt before) e ∙ le-ltb before before (omega arith))
+
 -- Each operation
 
 module _ (image : Image) (earlier : List Event) (d : Desk) (st : State Memory Frames) (a : ℕ) (h : Shows image earlier d st) (there : a < st.book.started) where
   here_is : (kept : Activity) × (slice_get d.activities.items a ≡ Some kept)
   here_is = get_below d.activities.items a (subst (λ n. a < n) h.started there)
 
-  pub shows_stands : (line : Vec Stand Global) (p : Place) → line_in line.items ≡ move a (place_in p) (line_in d.line.items) → Shows image earlier (record d { line = line }) (on_book (stands a (place_in p)) st)
+  pub shows_stands : (line : Vec Stand Global) (running : List (Option ℕ)) (p : Place) → line_in line.items ≡ move a (place_in p) (line_in d.line.items) → IsRunning running (line_in line.items) →
+      Shows image earlier (record d { line = line; running = running }) (on_book (stands a (place_in p)) st)
   unfolding stands
-  shows_stands line p is = record {
+  shows_stands line running p is on = record {
     store = h.store;
     line = ap (move a (place_in p)) h.line ∙ sym is;
+    running = on;
     output = h.output;
     traps = h.traps;
     events = h.events;
@@ -182,15 +201,16 @@ module _ (image : Image) (earlier : List Event) (d : Desk) (st : State Memory Fr
     unspent = h.unspent;
   }
 
-  pub shows_ready : (line : Vec Stand Global) (p : ℕ) → line_in line.items ≡ move a (place_in (Ready p)) (line_in d.line.items) → ((kept : Activity) → slice_get d.activities.items a ≡ Some kept → p ≡ kept.priority) → Shows image earlier (record d { line = line }) (on_book (ready a) st)
+  pub shows_ready : (line : Vec Stand Global) (running : List (Option ℕ)) (p : ℕ) → line_in line.items ≡ move a (place_in (Ready p)) (line_in d.line.items) → IsRunning running (line_in line.items) → ((kept : Activity) → slice_get d.activities.items a ≡ Some kept → p ≡ kept.priority) → Shows image earlier (record d { line = line; running = running }) (on_book (ready a) st)
   unfolding ready
-  shows_ready line p is told =
+  shows_ready line running p is on told =
       let r = here_is in
       let q : p ≡ (st.book.activity a).priority = told r.0 r.1 ∙ sym (h.activities a r.0 r.1).priority in
       let to = book.Ready (st.book.activity a).priority in
       record {
         store = h.store;
         line = ap (move a to) h.line ∙ ap (λ n. move a (book.Ready n) (line_in d.line.items)) (sym q) ∙ sym is;
+        running = on;
         output = h.output;
         traps = h.traps;
         events = h.events;
@@ -203,14 +223,14 @@ module _ (image : Image) (earlier : List Event) (d : Desk) (st : State Memory Fr
       }
 
   -- the next turn has changed, with the frames
-  next_after : (activities : Vec Activity Global) (old : Activity) (n : Next) (frames : Vec Kept Global) → slice_get d.activities.items a ≡ Some old → activities.items ≡ slice_set d.activities.items a (record old { next = n; frames = frames }) →
-      ShowsFrames image n (st.frames a) frames.items → EachShows image activities.items (put nat_eq st.book.activity a (record (st.book.activity a) { next = next_in n })) st.frames
-  next_after activities old n frames was is shown =
+  next_after : (activities : Vec Activity Global) (old : Activity) (n : Next) (frames : Kept) → slice_get d.activities.items a ≡ Some old → activities.items ≡ slice_set d.activities.items a (record old { next = n; frames = frames }) →
+      frames.begun ≡ old.frames.begun → ShowsFrames image n (st.frames a) frames → EachShows image activities.items (put nat_eq st.book.activity a (record (st.book.activity a) { next = next_in n })) st.frames
+  next_after activities old n frames was is count shown =
       let s = h.activities a old was in
       let new : Activity = record old { next = n; frames = frames } in
       let v : book.Activity = record (st.book.activity a) { next = next_in n } in
       each_after image d.activities.items activities.items st.book.activity (put nat_eq st.book.activity a v) st.frames st.frames a old new was is
-      (subst (λ x. ShowsActivity image new x (st.frames a)) (sym (put_same st.book.activity a v)) (record { priority = s.priority; begun = s.begun; next = refl; frames = shown }))
+      (subst (λ x. ShowsActivity image new x (st.frames a)) (sym (put_same st.book.activity a v)) (record { priority = s.priority; begun = s.begun ∙ sym count; next = refl; frames = shown }))
       (λ x ne. put_other st.book.activity a v x ne) (λ x ne. refl) h.activities
 
   -- there are as many activities
@@ -223,13 +243,15 @@ module _ (image : Image) (earlier : List Event) (d : Desk) (st : State Memory Fr
       (subst (λ (v : book.Activity). v.begun < st.book.budget) (sym (put_same st.book.activity a (record (st.book.activity a) { next = n }))) (h.unspent a none))
       (λ y ne. subst (λ (v : book.Activity). v.begun < st.book.budget) (sym (put_other st.book.activity a (record (st.book.activity a) { next = n }) y ne)) (h.unspent y none)) x
 
-  pub shows_ended : (line : Vec Stand Global) (events : Vec Event Global) (activities : Vec Activity Global) (old : Activity) (frames : Vec Kept Global) → line_in line.items ≡ leave_line a (line_in d.line.items) →
-      events.items ≡ d.events.items ++ event.End a ∷ [] → slice_get d.activities.items a ≡ Some old → activities.items ≡ slice_set d.activities.items a (record old { next = Gone; frames = frames }) → frames.items ≡ [] →
-      Shows image earlier (record d { line = line; events = events; activities = activities }) (on_book (ended a) st)
+  pub shows_ended : (line : Vec Stand Global) (running : List (Option ℕ)) (events : Vec Event Global) (activities : Vec Activity Global) (old : Activity) (frames : Kept) → line_in line.items ≡ leave_line a (line_in d.line.items) → IsRunning running (line_in line.items) →
+      events.items ≡ d.events.items ++ event.End a ∷ [] → slice_get d.activities.items a ≡ Some old → activities.items ≡ slice_set d.activities.items a (record old { next = Gone; frames = frames }) →
+      frames.begun ≡ old.frames.begun → frames_in frames ≡ record { following = []; frames = [] } →
+      Shows image earlier (record d { line = line; running = running; events = events; activities = activities }) (on_book (ended a) st)
   unfolding ended next_is
-  shows_ended line events activities old frames gone is was set none = record {
+  shows_ended line running events activities old frames gone on is was set count none = record {
     store = h.store;
     line = ap (leave_line a) h.line ∙ sym gone;
+    running = on;
     output = h.output;
     traps = h.traps;
     events = ap (λ x. x ++ event.End a ∷ []) h.events ∙ append_assoc earlier d.events.items (event.End a ∷ []) ∙ ap (λ x. earlier ++ x) (sym is);
@@ -237,24 +259,25 @@ module _ (image : Image) (earlier : List Event) (d : Desk) (st : State Memory Fr
     spent = h.spent;
     started = started_after activities (record old { next = Gone; frames = frames }) set;
     known = known_left st.book.started a st.book.line h.known;
-    activities = next_after activities old Gone frames was set none;
+    activities = next_after activities old Gone frames was set count none;
     unspent = unspent_after book.Gone;
   }
 
   pub shows_trapped : (traps : Vec TrapRec Global) (events : Vec Event Global) (activities : Vec Activity Global) (n c : ℕ) (at : ℕ × Pos) →
       ((kept : Activity) → slice_get d.activities.items a ≡ Some kept → kept.next ≢ Gone) →
-      ((kept : Activity) (fs : Frames) → slice_get d.activities.items a ≡ Some kept → Alike image fs (frames_in kept.frames.items) → position image fs ≡ where_in at) →
+      ((kept : Activity) (fs : Frames) → slice_get d.activities.items a ≡ Some kept → Alike image fs (frames_in kept.frames) → position image fs ≡ where_in at) →
       traps.items ≡ d.traps.items ++ record { number = n; code = c; activity = a; «module» = at.0; pos = at.1 } ∷ [] → events.items ≡ d.events.items ++ event.Trap a n ∷ [] →
       ((kept : Activity) → slice_get d.activities.items a ≡ Some kept → activities.items ≡ slice_set d.activities.items a (record kept { next = Unwinds })) →
       Shows image earlier (record d { traps = traps; events = events; activities = activities }) (trap (machine image) a n c st)
   unfolding trap trapped next_is
   shows_trapped traps events activities n c at live placed told is set =
       let r = here_is in
-      let alike = frames_alike image r.0.next (st.frames a) r.0.frames.items (live r.0 r.1) (h.activities a r.0 r.1).frames in
+      let alike = frames_alike image r.0.next (st.frames a) r.0.frames (live r.0 r.1) (h.activities a r.0 r.1).frames in
       let p = placed r.0 (st.frames a) r.1 alike in
       record {
         store = h.store;
         line = h.line;
+        running = h.running;
         output = h.output;
         traps = map-append rec_of st.book.traps (record { number = n; code = c; activity = a; at = position image (st.frames a); restart = 0 } ∷ [])
             ∙ (λ i. h.traps i ++ rec_of (record { number = n; code = c; activity = a; at = p i; restart = 0 }) ∷ []) ∙ sym told;
@@ -263,39 +286,41 @@ module _ (image : Image) (earlier : List Event) (d : Desk) (st : State Memory Fr
         spent = h.spent;
         started = started_after activities (record r.0 { next = Unwinds }) (set r.0 r.1);
         known = h.known;
-        activities = next_after activities r.0 Unwinds r.0.frames r.1 (set r.0 r.1) alike;
+        activities = next_after activities r.0 Unwinds r.0.frames r.1 (set r.0 r.1) refl alike;
         unspent = unspent_after (book.Unwinds []);
       }
 
-  pub shows_turned : (shared : Shared) (activities : Vec Activity Global) (output : Vec ℕ Global) (spent : Option ℕ) (frames : Vec Kept Global) (old : Activity) (n : ℕ) (does_begin : Bool) (left : Did) →
-      slice_get d.activities.items a ≡ Some old → Runs ≡ old.next → activities.items ≡ slice_set d.activities.items a (record old { begun = n; frames = frames }) →
-      Shown image (turn image st.store (st.frames a)) does_begin left (frames_in frames.items) (memory_in shared) d.output.items output.items →
-      (suc old.begun < 2 ^ 64 → n ≡ (if does_begin then suc old.begun else old.begun)) → spent ≡ spent_by does_begin d.budget n a d.spent → st.book.spent ≡ None → d.budget < 2 ^ 64 →
-      Shows image earlier (record d { shared = shared; activities = activities; output = output; spent = spent }) (turned (machine image) a (turn image st.store (st.frames a)) st)
+  pub shows_turned : (store : Store) (activities : Vec Activity Global) (output : Vec ℕ Global) (spent : Option ℕ) (frames : Kept) (old : Activity) (left : Did) →
+      slice_get d.activities.items a ≡ Some old → Runs ≡ old.next → activities.items ≡ slice_set d.activities.items a (record old { frames = frames }) →
+      Shown image (turn image st.store (st.frames a)) left old.frames frames (memory_in store) d.output.items output.items →
+      spent ≡ spent_by (nat_lt old.frames.begun frames.begun) d.budget frames.begun a d.spent → st.book.spent ≡ None → d.budget < 2 ^ 64 →
+      Shows image earlier (record d { store = store; activities = activities; output = output; spent = spent }) (turned (machine image) a (turn image st.store (st.frames a)) st)
   unfolding turned counted
-  shows_turned shared activities output spent frames old n does_begin left was runs is shown told when none small =
+  shows_turned store activities output spent frames old left was runs is shown when none small =
       let t = turn image st.store (st.frames a) in
       let s = h.activities a old was in
       let begun = (st.book.activity a).begun in
-      let new : Activity = record old { begun = n; frames = frames } in
+      let new : Activity = record old { frames = frames } in
       let less : begun < st.book.budget = h.unspent a none in
-      let fits : suc old.begun < 2 ^ 64 = omega (arith, s.begun, h.budget) in
-      let count : (if t.begun then suc begun else begun) ≡ n = (λ i. if shown.begun i then suc (s.begun i) else s.begun i) ∙ sym (told fits) in
+      let fits : suc old.frames.begun < 2 ^ 64 = omega (arith, s.begun, h.budget) in
+      let told = begun_after t.begun old.frames.begun frames.begun fits shown.begun in
+      let count : (if t.begun then suc begun else begun) ≡ frames.begun = ap (λ n. if t.begun then suc n else n) s.begun ∙ sym told.1 in
       let v : book.Activity = record (st.book.activity a) { begun = if t.begun then suc begun else begun } in
       record {
         store = shown.store;
         line = h.line;
+        running = h.running;
         output = ap (λ o. o ++ t.output) h.output ∙ sym shown.output;
         traps = h.traps;
         events = h.events;
         budget = h.budget;
-        spent = (λ i. spent_by (shown.begun i) (h.budget i) (count i) a (h.spent i)) ∙ sym when;
+        spent = (λ i. spent_by (sym told.0 i) (h.budget i) (count i) a (h.spent i)) ∙ sym when;
         started = started_after activities new is;
         known = h.known;
         activities = each_after image d.activities.items activities.items st.book.activity (put nat_eq st.book.activity a v) st.frames (put nat_eq st.frames a t.frames) a old new was is
             (subst (λ x. ShowsActivity image new x (put nat_eq st.frames a t.frames a)) (sym (put_same st.book.activity a v))
             (subst (λ x. ShowsActivity image new v x) (sym (put_same st.frames a t.frames))
-            (record { priority = s.priority; begun = count; next = s.next; frames = subst (λ m. ShowsFrames image m t.frames frames.items) runs shown.alike })))
+            (record { priority = s.priority; begun = count; next = s.next; frames = subst (λ m. ShowsFrames image m t.frames frames) runs shown.alike })))
             (λ x ne. put_other st.book.activity a v x ne) (λ x ne. put_other st.frames a t.frames x ne) h.activities;
         unspent = λ x spends. each_at (λ y. (put nat_eq st.book.activity a v y).begun < st.book.budget) a
             (subst (λ (y : book.Activity). y.begun < st.book.budget) (sym (put_same st.book.activity a v)) (not_spent t.begun st.book.budget begun a st.book.spent less spends))
@@ -303,16 +328,17 @@ module _ (image : Image) (earlier : List Event) (d : Desk) (st : State Memory Fr
       }
 
   -- the activity goes on behind a start
-  pub shows_past : (activities : Vec Activity Global) (old : Activity) (frames : Vec Kept Global) → slice_get d.activities.items a ≡ Some old → Runs ≡ old.next →
-      activities.items ≡ slice_set d.activities.items a (record old { frames = frames }) → Alike image (past image (st.frames a)) (frames_in frames.items) → Shows image earlier (record d { activities = activities }) (go_past (machine image) a st)
+  pub shows_past : (activities : Vec Activity Global) (old : Activity) (frames : Kept) → slice_get d.activities.items a ≡ Some old → Runs ≡ old.next →
+      activities.items ≡ slice_set d.activities.items a (record old { frames = frames }) → frames.begun ≡ old.frames.begun → Alike image (past image (st.frames a)) (frames_in frames) → Shows image earlier (record d { activities = activities }) (go_past (machine image) a st)
   unfolding go_past
-  shows_past activities old frames was runs is alike =
+  shows_past activities old frames was runs is count alike =
       let s = h.activities a old was in
       let new : Activity = record old { frames = frames } in
       let fs = past image (st.frames a) in
       record {
         store = h.store;
         line = h.line;
+        running = h.running;
         output = h.output;
         traps = h.traps;
         events = h.events;
@@ -322,15 +348,12 @@ module _ (image : Image) (earlier : List Event) (d : Desk) (st : State Memory Fr
         known = h.known;
         activities = each_after image d.activities.items activities.items st.book.activity st.book.activity st.frames (put nat_eq st.frames a fs) a old new was is
             (subst (λ x. ShowsActivity image new (st.book.activity a) x) (sym (put_same st.frames a fs))
-            (record { priority = s.priority; begun = s.begun; next = s.next; frames = subst (λ m. ShowsFrames image m fs frames.items) runs alike }))
+            (record { priority = s.priority; begun = s.begun ∙ sym count; next = s.next; frames = subst (λ m. ShowsFrames image m fs frames) runs alike }))
             (λ x ne. refl) (λ x ne. put_other st.frames a fs x ne) h.activities;
         unspent = h.unspent;
       }
 
   -- the operations of a turn
-
-  pub shows_served : (d' : Desk) (left : Did) → Shows image earlier d' (serve (machine image) a left st) → (m : Did) → left ≡ m → Shows image earlier d' (serve (machine image) a m st)
-  shows_served d' left shown m e = subst (λ x. Shows image earlier d' (serve (machine image) a x st)) e shown
 
   -- the next turn, by what the desk has
   pub next_is_in : (n : Next) → ((kept : Activity) → slice_get d.activities.items a ≡ Some kept → n ≡ kept.next) → (st.book.activity a).next ≡ next_in n
@@ -340,19 +363,20 @@ module _ (image : Image) (earlier : List Event) (d : Desk) (st : State Memory Fr
   turns_by d' n e shown = subst (λ x. Shows image earlier d' (turn_by (machine image) a x st)) (sym e) shown
 
 -- a new activity is ready
-pub shows_born : (image : Image) (earlier : List Event) (d : Desk) (st : State Memory Frames) (n : ℕ) (activities : Vec Activity Global) (line : Vec Stand Global) (events : Vec Event Global) (spare frames : Vec Kept Global) (fs : Frames) →
-    n ≡ length d.activities.items → activities.items ≡ d.activities.items ++ record { priority = 2; begun = 0; next = Runs; frames = frames } ∷ [] → line_in line.items ≡ move n (place_in (Ready 2)) (line_in d.line.items) → events.items ≡ d.events.items ++ event.Start n ∷ [] →
-    Alike image fs (frames_in frames.items) → Shows image earlier d st →
-    Shows image earlier (record d { activities = activities; line = line; events = events; spare = spare }) (on_book (born 2) (with_frames st.book.started fs st))
+pub shows_born : (image : Image) (earlier : List Event) (d : Desk) (st : State Memory Frames) (n : ℕ) (activities : Vec Activity Global) (line : Vec Stand Global) (running : List (Option ℕ)) (events : Vec Event Global) (frames : Kept) (fs : Frames) →
+    n ≡ length d.activities.items → activities.items ≡ d.activities.items ++ record { priority = 2; next = Runs; frames = frames } ∷ [] → line_in line.items ≡ move n (place_in (Ready 2)) (line_in d.line.items) → IsRunning running (line_in line.items) → events.items ≡ d.events.items ++ event.Start n ∷ [] →
+    frames.begun ≡ 0 → Alike image fs (frames_in frames) → Shows image earlier d st →
+    Shows image earlier (record d { activities = activities; line = line; running = running; events = events }) (on_book (born 2) (with_frames st.book.started fs st))
 unfolding born
-shows_born image earlier d st n activities line events spare frames fs count is moved told alike h =
+shows_born image earlier d st n activities line running events frames fs count is moved on told none alike h =
     let k = st.book.started in
     let same : k ≡ n = h.started ∙ sym count in
-    let new : Activity = record { priority = 2; begun = 0; next = Runs; frames = frames } in
+    let new : Activity = record { priority = 2; next = Runs; frames = frames } in
     let act : book.Activity = record { priority = 2; begun = 0; restarts = 0; next = book.Runs } in
     record {
       store = h.store;
       line = (λ i. move (same i) (book.Ready 2) (h.line i)) ∙ sym moved;
+      running = on;
       output = h.output;
       traps = h.traps;
       events = ap (λ x. x ++ event.Start k ∷ []) h.events ∙ append_assoc earlier d.events.items (event.Start k ∷ []) ∙ (λ i. earlier ++ (d.events.items ++ event.Start (same i) ∷ [])) ∙ ap (λ x. earlier ++ x) (sym told);
@@ -360,10 +384,10 @@ shows_born image earlier d st n activities line events spare frames fs count is 
       spent = h.spent;
       started = ap suc h.started ∙ sym (ap length is ∙ added d.activities.items new);
       known = known_moved (suc k) k (book.Ready 2) st.book.line (known_more k st.book.line h.known) (omega arith);
-      activities = each_joined image d.activities.items activities.items st.book.activity st.frames k new act fs h.started is (record { priority = refl; begun = refl; next = refl; frames = alike }) h.activities;
-      unspent = λ x none. each_at (λ y. (put nat_eq st.book.activity k act y).begun < st.book.budget) k
-          (subst (λ (y : book.Activity). y.begun < st.book.budget) (sym (put_same st.book.activity k act)) (positive (st.book.activity 0).begun st.book.budget (h.unspent 0 none)))
-          (λ y ne. subst (λ (y : book.Activity). y.begun < st.book.budget) (sym (put_other st.book.activity k act y ne)) (h.unspent y none)) x;
+      activities = each_joined image d.activities.items activities.items st.book.activity st.frames k new act fs h.started is (record { priority = refl; begun = sym none; next = refl; frames = alike }) h.activities;
+      unspent = λ x spends. each_at (λ y. (put nat_eq st.book.activity k act y).begun < st.book.budget) k
+          (subst (λ (y : book.Activity). y.begun < st.book.budget) (sym (put_same st.book.activity k act)) (positive (st.book.activity 0).begun st.book.budget (h.unspent 0 spends)))
+          (λ y ne. subst (λ (y : book.Activity). y.begun < st.book.budget) (sym (put_other st.book.activity k act y ne)) (h.unspent y spends)) x;
     }
   where
     added : (xs : List Activity) (y : Activity) → length (xs ++ y ∷ []) ≡ suc (length xs)
@@ -380,14 +404,6 @@ full_is image earlier d st h = (λ i. nat_le 1024 (lines i) || nat_le 65536 (h.s
     lines : length st.book.line ≡ length d.line.items
     lines = ap length h.line ∙ length-map d.line.items stand_in
 
--- where it isn't full there are fewer activities than the most
-pub few_if : (live started : ℕ) → false ≡ (nat_le 1024 live || nat_le 65536 started) → started < 65536
-few_if live started e =
-    (elim (nat_le 1024 live) as (λ q. false ≡ (q || nat_le 65536 started) → started < 65536) [
-      | true ↦ λ f. absurd (cc f)
-      | false ↦ λ f. leb-false 65536 started (sym f)
-    ]) e
-
 finished : (image : Image) (earlier : List Event) (d : Desk) (a : ℕ) (st : State Memory Frames) (q : Bool) → Shows image earlier d (on_book (ended a) st) → Shows image earlier d (finish a q None st)
 finished image earlier d a st true h = h
 finished image earlier d a st false h = h
@@ -398,8 +414,9 @@ turn_ended image earlier d a st h = finished image earlier d a st (may_restart (
 -- room has been made, and no more
 pub shows_same : (image : Image) (earlier : List Event) (d new : Desk) (st : State Memory Frames) → HasSame d new → Shows image earlier d st → Shows image earlier new st
 shows_same image earlier d new st e h = record {
-  store = h.store ∙ (λ i. let mem : Memory = record { modules = map (λ (v : Vec Cell Global). v.items) (sym e.modules i).items; objects = sym e.objects i } in mem);
+  store = h.store ∙ ap memory_in (sym e.store);
   line = h.line ∙ ap line_in (sym e.line);
+  running = λ w less. ap (λ o. get_or o w None) e.running ∙ h.running w less ∙ ap (λ l. on_worker w (line_in l)) (sym e.line);
   output = h.output ∙ sym e.output;
   traps = h.traps ∙ sym e.traps;
   events = h.events ∙ ap (λ x. earlier ++ x) (sym e.events);
@@ -411,40 +428,67 @@ shows_same image earlier d new st e h = record {
   unspent = h.unspent;
 }
 
+pub shown_same : (image : Image) (d new : Desk) → HasSame d new → ShowsSame image d new
+shown_same image d new e earlier st h = shows_same image earlier d new st e h
+
+pub live_same : (d new : Desk) (a : ℕ) → HasSame d new → IsLive a d → IsLive a new
+live_same d new a e live = subst (λ (xs : List Activity). (kept : Activity) → slice_get xs a ≡ Some kept → kept.next ≢ Gone) (sym e.activities) live
+
+-- frames without any list
+pub no_frames : (frames : Kept) → frames.list.items ≡ [] → frames.following.items ≡ [] → frames_in frames ≡ record { following = []; frames = [] }
+no_frames frames none ends = (λ i. let fs : Frames = record { following = reverse (ends i); frames = list_in (none i) } in fs)
+
 -- only silent work has been done
-pub shows_silent : (image : Image) (earlier : List Event) (d : Desk) (st : State Memory Frames) (shared : Shared) (activities : Vec Activity Global) (output : Vec ℕ Global) (a : ℕ) (old : Activity) (frames : Vec Kept Global) →
-    slice_get d.activities.items a ≡ Some old → Runs ≡ old.next → activities.items ≡ slice_set d.activities.items a (record old { frames = frames }) → Alike image (frames_in old.frames.items) (frames_in frames.items) → shared ≡ d.shared → output ≡ d.output →
-    Shows image earlier d st → Shows image earlier (record d { shared = shared; activities = activities; output = output }) st
-shows_silent image earlier d st shared activities output a old frames was runs is alike same_memory same_output h =
+pub shows_silent : (image : Image) (earlier : List Event) (d : Desk) (st : State Memory Frames) (store : Store) (activities : Vec Activity Global) (output : Vec ℕ Global) (spent : Option ℕ) (a : ℕ) (old : Activity) (frames : Kept) →
+    slice_get d.activities.items a ≡ Some old → Runs ≡ old.next → activities.items ≡ slice_set d.activities.items a (record old { frames = frames }) → Rests image old.frames frames (memory_in d.store) (memory_in store) d.output.items output.items →
+    spent ≡ d.spent → Shows image earlier d st → Shows image earlier (record d { store = store; activities = activities; output = output; spent = spent }) st
+shows_silent image earlier d st store activities output spent a old frames was runs is rests same h =
     let s = h.activities a old was in
     let new : Activity = record old { frames = frames } in
     record {
-      store = h.store ∙ ap memory_in (sym same_memory);
+      store = h.store ∙ sym rests.memory;
       line = h.line;
-      output = h.output ∙ ap (λ (o : Vec ℕ Global). o.items) (sym same_output);
+      running = h.running;
+      output = h.output ∙ sym rests.output;
       traps = h.traps;
       events = h.events;
       budget = h.budget;
-      spent = h.spent;
+      spent = h.spent ∙ sym same;
       started = h.started ∙ sym (ap length is ∙ length-set d.activities.items a new);
       known = h.known;
       activities = each_after image d.activities.items activities.items st.book.activity st.book.activity st.frames st.frames a old new was is
           (record {
             priority = s.priority;
-            begun = s.begun;
+            begun = s.begun ∙ sym rests.begun;
             next = s.next;
-            frames = subst (λ m. ShowsFrames image m (st.frames a) old.frames.items → ShowsFrames image m (st.frames a) frames.items) runs (λ e. e ∙ alike) s.frames;
+            frames = subst (λ m. ShowsFrames image m (st.frames a) old.frames → ShowsFrames image m (st.frames a) frames) runs (λ e. e ∙ rests.alike) s.frames;
           }) (λ x ne. refl) (λ x ne. refl) h.activities;
       unspent = h.unspent;
     }
+
+-- work that is left to the kernel
+pub where_left : (left : Did) (P : Type 0) → left ≢ Went → WhereLeft left P → P
+where_left Went P ne h = absurd (ne refl)
+where_left Ended P ne h = h
+where_left (Enter l) P ne h = h
+where_left (Leave l) P ne h = h
+where_left (Await l c) P ne h = h
+where_left (Start o) P ne h = h
+where_left (Trapped n c) P ne h = h
+
+pub if_left : (left : Did) {P Q : Type 0} → (P → Q) → WhereLeft left P → WhereLeft left Q
+if_left Went f h = tt
+if_left Ended f h = f h
+if_left (Enter l) f h = f h
+if_left (Leave l) f h = f h
+if_left (Await l c) f h = f h
+if_left (Start o) f h = f h
+if_left (Trapped n c) f h = f h
 
 pub on_err : {A E : Type 0} {P : Type 0} (r : Result A E) → P → OnErr r P
 on_err (Ok x) p = tt
 on_err (Err e) p = p
 
--- a body's frames are one at most, and so in either order
-pub body_order : (frames : List Kept) (body : ℕ) → map frame_in frames ≡ body_frames body → frames_in frames ≡ body_frames body
-body_order [] body e = e
-body_order (f ∷ []) body e = e
-body_order (f ∷ g ∷ frames) zero e = absurd (cc e)
-body_order (f ∷ g ∷ frames) (suc p) e = absurd (cc e)
+pub on_err_both : {A E P Q R : Type 0} (r : Result A E) → (P → Q → R) → OnErr r P → OnErr r Q → OnErr r R
+on_err_both (Ok x) f p q = tt
+on_err_both (Err e) f p q = f p q

@@ -1,6 +1,6 @@
 -- A run with one choice more.
 use Rattle.std.proofs.Common.{◌≡◌, ◌≢◌, ℕ, ◌-◌, ◌<◌, List, [], ◌∷◌, ◌++◌, refl, sym, ◌∙◌, ap, subst, arith, length, take, drop, length-append}
-use Rattle.std.specs.Prelude.{Option, Some, None, All, Bool, true, false}
+use Rattle.std.specs.Prelude.{Option, Some, None, All, Bool, true, false, get_or}
 use Rattle.std.proofs.lemmas.List.{take_at, drop_at, append-nil as append_nil}
 use Rattle.aos_base.specs.declared.kernel.Event.{Event}
 use Rattle.aos_base.specs.declared.kernel.Outcome.{Outcome}
@@ -43,6 +43,7 @@ handed_out image earlier d new st h out =
     let shown : Shows image st.book.events kept st = record {
       store = h.store;
       line = h.line;
+      running = h.running;
       output = h.output;
       traps = h.traps;
       events = sym (append_nil st.book.events) ∙ ap (λ x. st.book.events ++ x) (sym out.0);
@@ -150,8 +151,8 @@ module _ (r : Run) (d : Desk) (told : List Event) (h : Keeps r d told) where
   pub outcome_is : outcome (state_of r).book ≡ outcome_of (line_in d.line.items) d.spent
   outcome_is = (λ i. outcome_of (h.shows.line i) (h.shows.spent i))
 
-  pub on_is : (w : ℕ) → on_worker w (state_of r).book.line ≡ on_worker w (line_in d.line.items)
-  on_is w = ap (on_worker w) h.shows.line
+  pub on_is : (w : ℕ) → w < r.workers → on_worker w (state_of r).book.line ≡ get_or d.running w None
+  on_is w less = let few : w < 16 = omega (arith, h.few_workers) in ap (on_worker w) h.shows.line ∙ sym (h.shows.running w few)
 
   pub first_is : first_ready (state_of r).book.line ≡ first_ready (line_in d.line.items)
   first_is = ap first_ready h.shows.line

@@ -1,8 +1,5 @@
-pub mod Operands
 pub mod Pieces
-pub mod Walks
-pub mod Turns
-pub mod Cells
+pub mod Served
 pub mod Desks
 pub mod Logs
 pub mod Histories

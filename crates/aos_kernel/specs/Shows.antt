@@ -1,5 +1,5 @@
 -- What the kernel keeps, and the state that it shows.
-use Rattle.std.specs.Prelude.{◌≡◌, ◌≢◌, ℕ, ◌<◌, List, [], ◌∷◌, ◌++◌, Some, None, map, length, slice_get, vec_len, vec_capacity}
+use Rattle.std.specs.Prelude.{◌≡◌, ◌≢◌, ℕ, ◌<◌, List, [], ◌∷◌, ◌++◌, Option, Some, None, map, length, get_or, slice_get}
 use Rattle.aos_base.specs.declared.kernel.Event.{Event}
 use Rattle.aos_base.specs.declared.kernel.Did.{Did}
 use Rattle.aos_base.specs.declared.kernel.Did.TheVariants.{Went, Ended, Enter, Leave, Await, Start, Trapped}
@@ -8,7 +8,9 @@ use Rattle.aos_base.specs.Machine.{State, turned}
 use Rattle.aos_code.specs.declared.image.Image.{Image}
 use Rattle.aos_code.specs.Memory.{Memory}
 use Rattle.aos_code.specs.Machine.{Frames, machine, turn}
-use Rattle.aos_kernel.specs.declared.cpu.Frame.{Frame as Kept}
+use Rattle.aos_store.specs.declared.frames.Frames.{Frames as Kept}
+use Rattle.aos_store.specs.Store.{frames_in, memory_in}
+use Rattle.aos_cpu.specs.Turns.{Alike, IsBefore}
 use Rattle.aos_kernel.specs.declared.desk.Place.{Place}
 use Rattle.aos_kernel.specs.declared.desk.Place.TheVariants.{On, Ready}
 use Rattle.aos_kernel.specs.declared.desk.Stand.{Stand}
@@ -16,7 +18,6 @@ use Rattle.aos_kernel.specs.declared.desk.Next.{Next}
 use Rattle.aos_kernel.specs.declared.desk.Next.TheVariants.{Runs, WillTrap, Unwinds, Gone}
 use Rattle.aos_kernel.specs.declared.desk.Activity.{Activity}
 use Rattle.aos_kernel.specs.declared.desk.Desk.{Desk}
-use Rattle.aos_kernel.specs.Cpu.{frames_in, memory_in, Alike, IsBefore}
 use Rattle.aos_kernel.specs.Run.{rec_of}
 
 abbrev pub place_in : Place → book.Place
@@ -29,6 +30,10 @@ stand_in s = record { activity = s.activity; place = place_in s.place }
 abbrev pub line_in : List Stand → List book.Stand
 line_in line = map stand_in line
 
+-- the activity of each of 16 workers
+abbrev pub IsRunning : List (Option ℕ) → List book.Stand → Type 0
+IsRunning running line = (w : ℕ) → w < 16 → get_or running w None ≡ book.on_worker w line
+
 -- no activity owns a lock yet, so none is to be released
 abbrev pub next_in : Next → book.Next
 next_in Runs = book.Runs
@@ -37,18 +42,18 @@ next_in Unwinds = book.Unwinds []
 next_in Gone = book.Gone
 
 -- an activity that has ended keeps no frames, and any other keeps its own, up to silent work
-abbrev pub ShowsFrames : Image → Next → Frames → List Kept → Type 0
+abbrev pub ShowsFrames : Image → Next → Frames → Kept → Type 0
 ShowsFrames image Runs fs kept = Alike image fs (frames_in kept)
 ShowsFrames image (WillTrap n) fs kept = Alike image fs (frames_in kept)
 ShowsFrames image Unwinds fs kept = Alike image fs (frames_in kept)
-ShowsFrames image Gone fs kept = kept ≡ []
+ShowsFrames image Gone fs kept = frames_in kept ≡ record { following = []; frames = [] }
 
 -- an activity with its frames
 pub record ShowsActivity (image : Image) (kept : Activity) (a : book.Activity) (fs : Frames) : Type 0 where
   pub priority : a.priority ≡ kept.priority
-  pub begun : a.begun ≡ kept.begun
+  pub begun : a.begun ≡ kept.frames.begun
   pub next : a.next ≡ next_in kept.next
-  pub frames : ShowsFrames image kept.next fs kept.frames.items
+  pub frames : ShowsFrames image kept.next fs kept.frames
 
 -- each stand is of one of so many activities
 abbrev pub IsKnown : ℕ → List book.Stand → Type 0
@@ -57,8 +62,9 @@ IsKnown n (s ∷ line) = (s.activity < n) × IsKnown n line
 
 -- `earlier` are the events before those that the desk keeps
 pub record Shows (image : Image) (earlier : List Event) (d : Desk) (st : State Memory Frames) : Type 0 where
-  pub store : st.store ≡ memory_in d.shared
+  pub store : st.store ≡ memory_in d.store
   pub line : st.book.line ≡ line_in d.line.items
+  pub running : IsRunning d.running (line_in d.line.items)
   pub output : st.book.output ≡ d.output.items
   pub traps : map rec_of st.book.traps ≡ d.traps.items
   pub events : st.book.events ≡ earlier ++ d.events.items
@@ -111,23 +117,14 @@ IsLive a d = (kept : Activity) → slice_get d.activities.items a ≡ Some kept 
 -- the activity runs, and its frames stand before the work that is left to the kernel
 abbrev pub StandsBefore : Image → ℕ → Did → Desk → Type 0
 StandsBefore image a left d =
-    (kept : Activity) → slice_get d.activities.items a ≡ Some kept → (Runs ≡ kept.next) × IsBefore image left (frames_in kept.frames.items)
-
--- there is room for the record of a trap, for an event, for a new object, and for a new activity with its frame
-pub record HasRoom (d : Desk) : Type 0 where
-  pub traps : vec_len d.traps < vec_capacity d.traps
-  pub events : vec_len d.events < vec_capacity d.events
-  pub activities : vec_len d.activities < vec_capacity d.activities
-  pub line : vec_len d.line < vec_capacity d.line
-  pub spare : d.spare.items ≡ []
-  pub spare_room : vec_len d.spare < vec_capacity d.spare
+    (kept : Activity) → slice_get d.activities.items a ≡ Some kept → (Runs ≡ kept.next) × IsBefore image left (frames_in kept.frames)
 
 -- the desk has what it had, and perhaps more room
 pub record HasSame (old new : Desk) : Type 0 where
-  pub modules : new.shared.modules ≡ old.shared.modules
-  pub objects : new.shared.objects.items ≡ old.shared.objects.items
+  pub store : new.store ≡ old.store
   pub activities : new.activities.items ≡ old.activities.items
   pub line : new.line.items ≡ old.line.items
+  pub running : new.running ≡ old.running
   pub output : new.output.items ≡ old.output.items
   pub traps : new.traps.items ≡ old.traps.items
   pub events : new.events.items ≡ old.events.items

@@ -1,19 +1,18 @@
 // What the kernel keeps of a run, and the operations on it, one for each of the definitions.
-ghost use Rattle.std.specs.Prelude.{◌≡◌, ℕ, suc, ◌+◌, ◌<◌, ◌≤◌, ◌^◌, ◌++◌, ◌∷◌, List, length, slice_get, slice_set, nat_le, ◌||◌, false, vec_len, vec_capacity, IfOk, OnOk, OnErr, Some, None, if◌then◌else◌};
-ghost use Rattle.aos_base.specs.Book.{outcome_of, leave_line, move, first_at, is_on, is_ready, on_worker as worker_in, first_ready, spent_by, stands, ready, ended, born, is_full, Runs, On};
-ghost use Rattle.aos_base.specs.Machine.{State, on_book, with_frames, go_past, trap, start, serve, turn_by, turned};
-ghost use Rattle.aos_code.specs.Numbered.{numbered};
-ghost use Rattle.aos_code.specs.Memory.{Memory, type_of_object};
-ghost use Rattle.aos_code.specs.Machine.{Frames, machine, body_of, body_in, body_frames, position, turn as turn_of};
-ghost use Rattle.aos_kernel.specs.Cpu.{Alike, frames_in, where_in, memory_in, IsBefore};
-ghost use Rattle.aos_kernel.specs.Shows.{place_in, line_in, Shows, Performs, PerformsUnspent, ShowsSame, HasTurned, IsServed, StandsBefore, NextIs, IsLive, HasRoom, HasSame};
+ghost use Rattle.std.specs.Prelude.{◌≡◌, ◌≢◌, ℕ, ◌<◌, ◌≤◌, [], ◌∷◌, List, length, map, get_or, slice_get, slice_set, nat_le, nat_lt, ◌||◌, vec_len, vec_capacity, IfOk, OnOk, OnErr, Some, None};
+ghost use Rattle.aos_base.specs.Book.{outcome_of, leave_line, move, or_next, first_at, is_ready, on_worker as worker_in, first_ready, spent_by, stands, ready, ended, born, is_full, Runs, On};
+ghost use Rattle.aos_base.specs.Machine.{State, on_book, with_frames, go_past, trap, start, serve, turn_by};
+ghost use Rattle.aos_code.specs.Memory.{Memory};
+ghost use Rattle.aos_code.specs.Machine.{Frames as FramesOf, machine, bodies, body_frame, body_of, position};
+ghost use Rattle.aos_store.specs.Store.{frames_in, memory_in};
+ghost use Rattle.aos_cpu.specs.Turns.{where_in, Alike, WhereLeft};
+ghost use Rattle.aos_kernel.specs.Shows.{place_in, line_in, IsRunning, Shows, Performs, PerformsUnspent, ShowsSame, HasTurned, IsServed, StandsBefore, NextIs, IsLive, HasSame};
 
-use crate::cpu;
-use crate::cpu::{Frame, MAX_BYTES, Shared};
 use aos_base::{Did, Event, NoMemory, Outcome, Pos};
 use aos_code::{Image, TrapRec};
+use aos_cpu::{begin_body, numbered, pass, position as position_of, shared};
+use aos_store::{Frames, Store};
 use std::alloc::Global;
-use std::mem;
 
 /// Where an activity stands: on a worker, or ready at a priority.
 #[derive(Clone, Copy)]
@@ -38,46 +37,57 @@ pub enum Next {
     Gone,
 }
 
-/// An activity: its priority, how many statements it has begun, its next turn, and its frames, the topmost last.
+/// An activity: its priority, its next turn, and its frames, with the statements that it has begun.
 #[derive(Drop)]
 pub struct Activity {
     pub priority: u8,
-    pub begun: u64,
     pub next: Next,
-    pub frames: Vec<Frame>,
+    pub frames: Frames,
 }
 
-/// What all share, the activities by their numbers, who stands where in the order in which they came there, and what has
-/// happened: the output, the traps, and the events of the last step or tick. The spare frames are the room for those of
-/// the next new activity.
+/// How many workers there may be.
+const WORKERS: usize = 16;
+
+/// What all share, the activities by their numbers, who stands where in the order in which they came there, the activity of each
+/// worker, and what has happened: the output, the traps, and the events of the last step or tick.
 #[derive(Drop)]
 pub struct Desk {
     pub alloc: Global,
-    pub shared: Shared,
+    pub store: Store,
     pub activities: Vec<Activity>,
     pub line: Vec<Stand>,
+    pub running: [Option<u32>; WORKERS],
     pub output: Vec<u8>,
     pub traps: Vec<TrapRec>,
     pub events: Vec<Event>,
     pub budget: u64,
     pub spent: Option<u32>,
-    pub spare: Vec<Frame>,
 }
 
 // Reading ----------------------------------------------------------------------------------
 
-/// The activity on a worker.
-fn on_worker(line: &[Stand], worker: u32) -> Option<u32>
-    ensures { result ≡ worker_in worker (line_in line.now) }
+/// An activity is that of the worker on whom it stands, where that has none yet.
+fn note(running: &mut [Option<u32>; WORKERS], stand: &Stand)
+    ensures { (w : ℕ) → w < 16 → get_or running.new w None ≡
+        or_next (get_or running.old w None) (worker_in w (line_in (stand.now ∷ []))) }
 {
-    for stand in line {
-        if let Place::On(w) = stand.place {
-            if w == worker {
-                return Some(stand.activity);
-            }
+    if let Place::On(w) = stand.place {
+        let worker = w as usize;
+        if worker < WORKERS && running[worker].is_none() {
+            running[worker] = Some(stand.activity);
         }
     }
-    None
+}
+
+/// The activity of each worker.
+pub fn workers_in(line: &[Stand]) -> [Option<u32>; WORKERS]
+    ensures { IsRunning result (line_in line.now) }
+{
+    let mut running = [None; WORKERS];
+    for stand in line {
+        note(&mut running, stand);
+    }
+    running
 }
 
 /// The first ready activity of a priority.
@@ -144,37 +154,26 @@ fn next_of(activities: &[Activity], activity: u32) -> Next
 
 /// Where an activity stands in the text.
 fn place_of(image: &Image, activities: &[Activity], activity: u32) -> (u32, Pos)
-    ensures { (kept : Activity) (fs : Frames) → slice_get activities.now activity ≡ Some kept →
-        Alike image.now fs (frames_in kept.frames.items) → position image.now fs ≡ where_in result }
+    ensures { (kept : Activity) (fs : FramesOf) → slice_get activities.now activity ≡ Some kept →
+        Alike image.now fs (frames_in kept.frames) → position image.now fs ≡ where_in result }
 {
     match activities.get(activity as usize) {
-        Some(kept) => cpu::position(image, &kept.frames),
+        Some(kept) => position_of(image, &kept.frames),
         None => (0, Pos { line: 0, col: 0 }),
     }
 }
 
-/// How many statements an activity has begun after a turn. The budget stops it long before the greatest number.
-fn count_after(begun: u64, does_begin: bool) -> u64
-    ensures { suc begun < 2 ^ 64 → result ≡ (if does_begin then suc begun else begun) }
-{
-    if does_begin {
-        begun.saturating_add(1)
-    } else {
-        begun
-    }
-}
-
-/// Who has reached the budget, after an activity has begun this many statements.
+/// Who has reached the budget, after a turn in which an activity's count of statements has gone from one number to another.
 fn spent_after(
     spent: Option<u32>,
     budget: u64,
+    before: u64,
     begun: u64,
     activity: u32,
-    does_begin: bool,
 ) -> Option<u32>
-    ensures { result ≡ spent_by does_begin budget begun activity spent }
+    ensures { result ≡ spent_by (nat_lt before begun) budget begun activity spent }
 {
-    if does_begin && budget <= begun {
+    if before < begun && budget <= begun {
         Some(activity)
     } else {
         spent
@@ -194,31 +193,37 @@ fn is_full_with(live: usize, started: usize) -> bool
     MAX_LIVE <= live || MAX_ACTIVITIES <= started
 }
 
-/// The type of an object.
-fn type_of(shared: &Shared, object: u32) -> Option<u32>
-    ensures { result ≡ type_of_object object (memory_in shared.now) }
+/// The procedure that is the body of an object, 0 for none.
+fn body_of_object(image: &Image, store: &Store, object: u32) -> u32
+    ensures { body_of image.now (memory_in store.now) object ≡
+        record { following = []; frames = map (body_frame object) (bodies result) } }
 {
-    cpu::numbered(&shared.objects, object).copied()
-}
-
-/// The procedure that is the body of a type's objects, 0 for none.
-fn body_of_type(image: &Image, of: u32) -> u32
-    ensures { body_in (numbered image.now.types.items of) ≡ body_frames result }
-{
-    match cpu::numbered(&image.types, of) {
-        Some(desc) => desc.body,
+    match store.type_of(object) {
         None => 0,
+        Some(of) => match numbered(&image.types, of) {
+            None => 0,
+            Some(desc) => desc.body,
+        },
     }
 }
 
-/// The procedure that is an object's body, 0 for none.
-fn body_of_object(image: &Image, shared: &Shared, object: u32) -> u32
-    ensures { body_of image.now (memory_in shared.now) object ≡ body_frames result }
+/// The frames with which an object's activity begins.
+fn frames_of_object(
+    alloc: Global,
+    image: &Image,
+    store: &Store,
+    object: u32,
+) -> Result<Frames, NoMemory>
+    ensures frames { IfOk result
+        (λ frames. frames_in frames ≡ body_of image.now (memory_in store.now) object) }
+    ensures begun { IfOk result (λ frames. frames.begun ≡ 0) }
 {
-    match type_of(shared, object) {
-        Some(of) => body_of_type(image, of),
-        None => 0,
+    let mut frames = Frames::new(alloc);
+    let body = body_of_object(image, store, object);
+    if body != 0 {
+        begin_body(alloc, image, &mut frames, object, body)?;
     }
+    Ok(frames)
 }
 
 // Writing -----------------------------------------------------------------------------------
@@ -261,9 +266,12 @@ impl Desk {
 
     /// The activity on a worker.
     pub fn on(&self, worker: u32) -> Option<u32>
-        ensures { result ≡ worker_in worker (line_in self.now.line.items) }
+        ensures { result ≡ get_or self.now.running worker None }
     {
-        on_worker(&self.line, worker)
+        match self.running.get(worker as usize) {
+            Some(activity) => *activity,
+            None => None,
+        }
     }
 
     /// The first ready activity of the highest priority.
@@ -281,6 +289,7 @@ impl Desk {
     {
         self.line.reserve(1)?;
         move_in(&mut self.line, activity, Place::On(worker));
+        self.running = workers_in(&self.line);
         Ok(())
     }
 
@@ -293,30 +302,70 @@ impl Desk {
         self.line.reserve(1)?;
         let priority = priority_of(&self.activities, activity);
         move_in(&mut self.line, activity, Place::Ready(priority));
+        self.running = workers_in(&self.line);
+        Ok(())
+    }
+
+    /// Takes the room for an event.
+    fn reserve_event(&mut self) -> Result<(), NoMemory>
+        ensures room { OnOk result (vec_len self.new.events < vec_capacity self.new.events) }
+        ensures same { HasSame self.old self.new }
+    {
+        self.events.reserve(1)?;
+        Ok(())
+    }
+
+    /// Takes the room for the record of a trap, and for its event.
+    fn reserve_trap(&mut self) -> Result<(), NoMemory>
+        ensures events { OnOk result (vec_len self.new.events < vec_capacity self.new.events) }
+        ensures traps { OnOk result (vec_len self.new.traps < vec_capacity self.new.traps) }
+        ensures same { HasSame self.old self.new }
+    {
+        self.events.reserve(1)?;
+        self.traps.reserve(1)?;
+        Ok(())
+    }
+
+    /// Takes the room for a new activity, for its place in the line, and for its event.
+    fn reserve_activity(&mut self) -> Result<(), NoMemory>
+        ensures events { OnOk result (vec_len self.new.events < vec_capacity self.new.events) }
+        ensures line { OnOk result (vec_len self.new.line < vec_capacity self.new.line) }
+        ensures activities { OnOk result
+            (vec_len self.new.activities < vec_capacity self.new.activities) }
+        ensures same { HasSame self.old self.new }
+    {
+        self.events.reserve(1)?;
+        self.line.reserve(1)?;
+        self.activities.reserve(1)?;
         Ok(())
     }
 
     /// The activity ends, and its frames are dropped.
-    fn ended(&mut self, activity: u32)
-        requires { vec_len self.old.events < vec_capacity self.old.events }
-        ensures { (image : Image) →
-            Performs image activity (on_book (ended activity)) self.old self.new }
+    fn ended(&mut self, activity: u32) -> Result<(), NoMemory>
+        ensures ok { OnOk result ((image : Image) →
+            Performs image activity (on_book (ended activity)) self.old self.new) }
+        ensures err { OnErr result ((image : Image) → ShowsSame image self.old self.new) }
     {
+        self.reserve_event()?;
         forget(&mut self.line, activity);
+        self.running = workers_in(&self.line);
         self.events.push_reserved(Event::End { activity });
         if let Some(kept) = self.activities.get_mut(activity as usize) {
             kept.next = Next::Gone;
-            kept.frames = Vec::new(self.alloc);
+            kept.frames.list = Vec::new(self.alloc);
+            kept.frames.following = Vec::new(self.alloc);
         }
+        Ok(())
     }
 
     /// A trap of the activity, which hasn't ended, is recorded, and its end follows.
-    fn trap(&mut self, image: &Image, activity: u32, number: u8, code: u8)
-        requires room { HasRoom self.old }
-        requires live { IsLive activity self.old }
-        ensures { Performs image.now activity
-            (trap (machine image.now) activity number code) self.old self.new }
+    fn trap(&mut self, image: &Image, activity: u32, number: u8, code: u8) -> Result<(), NoMemory>
+        requires { IsLive activity self.old }
+        ensures ok { OnOk result (Performs image.now activity
+            (trap (machine image.now) activity number code) self.old self.new) }
+        ensures err { OnErr result (ShowsSame image.now self.old self.new) }
     {
+        self.reserve_trap()?;
         let (module, pos) = place_of(image, &self.activities, activity);
         self.traps.push_reserved(TrapRec {
             number,
@@ -327,134 +376,119 @@ impl Desk {
         });
         self.events.push_reserved(Event::Trap { activity, number });
         set_next(&mut self.activities, activity, Next::Unwinds);
+        Ok(())
     }
 
     /// A new activity, for this object, is ready.
-    fn bear(&mut self, image: &Image, object: u32)
-        requires room { HasRoom self.old }
-        requires few { length self.old.activities.items < 65536 }
-        ensures before { (a : ℕ) (left : Did) → a < length self.old.activities.items →
-            StandsBefore image.now a left self.old → StandsBefore image.now a left self.new }
-        ensures born { (earlier : List Event) (st : State Memory Frames) →
+    fn bear(&mut self, image: &Image, object: u32) -> Result<(), NoMemory>
+        requires { length self.old.activities.items < 65536 }
+        ensures before { OnOk result ((a : ℕ) (left : Did) → a < length self.old.activities.items →
+            StandsBefore image.now a left self.old → StandsBefore image.now a left self.new) }
+        ensures born { OnOk result ((earlier : List Event) (st : State Memory FramesOf) →
             Shows image.now earlier self.old st →
             Shows image.now earlier self.new
             (on_book (born 2)
-            (with_frames st.book.started (body_of image.now st.store object) st)) }
+            (with_frames st.book.started (body_of image.now st.store object) st))) }
+        ensures err { OnErr result (ShowsSame image.now self.old self.new) }
     {
         let number = self.activities.len() as u32;
-        let body = body_of_object(image, &self.shared, object);
-        let mut frames = mem::replace(&mut self.spare, Vec::new(self.alloc));
-        cpu::push_body(self.alloc, &mut frames, body);
+        let frames = frames_of_object(self.alloc, image, &self.store, object)?;
+        self.reserve_activity()?;
         self.activities.push_reserved(Activity {
             priority: 2,
-            begun: 0,
             next: Next::Runs,
             frames,
         });
         move_in(&mut self.line, number, Place::Ready(2));
+        self.running = workers_in(&self.line);
         self.events.push_reserved(Event::Start { activity: number });
+        Ok(())
     }
 
     /// The activity goes on behind a start.
     fn go_past(&mut self, activity: u32)
-        ensures { (image : Image) (object : ℕ) (earlier : List Event) (st : State Memory Frames) →
+        ensures { (image : Image) (object : ℕ) (earlier : List Event) (st : State Memory FramesOf) →
             Shows image earlier self.old st → activity < st.book.started →
             StandsBefore image activity (Did.Start object) self.old →
             Shows image earlier self.new (go_past (machine image) activity st) }
     {
         if let Some(kept) = self.activities.get_mut(activity as usize) {
-            cpu::go_past(&mut kept.frames);
+            pass(&mut kept.frames);
         }
     }
 
     /// The activity starts that of an object, or traps where there is no room for one more.
-    fn start(&mut self, image: &Image, activity: u32, object: u32)
-        requires room { HasRoom self.old }
-        requires before { StandsBefore image.now activity (Did.Start object) self.old }
-        ensures { (earlier : List Event) (st : State Memory Frames) →
+    fn start(&mut self, image: &Image, activity: u32, object: u32) -> Result<(), NoMemory>
+        requires { StandsBefore image.now activity (Did.Start object) self.old }
+        ensures ok { OnOk result ((earlier : List Event) (st : State Memory FramesOf) →
             Shows image.now earlier self.old st →
             activity < st.book.started →
             Shows image.now earlier self.new
-            (start (machine image.now) activity object (is_full st.book) st) }
+            (start (machine image.now) activity object (is_full st.book) st)) }
+        ensures err { OnErr result (ShowsSame image.now self.old self.new) }
     {
         if is_full_with(self.line.len(), self.activities.len()) {
-            self.trap(image, activity, 13, 0);
+            self.trap(image, activity, 13, 0)
         } else {
-            self.bear(image, object);
+            self.bear(image, object)?;
             self.go_past(activity);
+            Ok(())
         }
     }
 
-    /// The own part of a turn of an activity that runs. Where memory runs out, only silent work has been done.
+    /// The own part of a turn of an activity that runs. Where memory runs out, or where work is left to the kernel, only
+    /// silent work has been done.
     fn turned(&mut self, image: &Image, activity: u32) -> Result<Did, NoMemory>
-        requires runs { NextIs activity Next.Runs self.old }
-        requires output { vec_len self.old.output + MAX_BYTES ≤ vec_capacity self.old.output }
-        requires heap { vec_len self.old.shared.objects < vec_capacity self.old.shared.objects }
+        requires { NextIs activity Next.Runs self.old }
         ensures before { IfOk result (λ left. StandsBefore image.now activity left self.new) }
-        ensures room { HasRoom self.old → HasRoom self.new }
         ensures ok { IfOk result (λ left. HasTurned image.now activity left self.old self.new) }
+        ensures left { IfOk result (λ left. WhereLeft left (ShowsSame image.now self.old self.new)) }
         ensures err { OnErr result (ShowsSame image.now self.old self.new) }
     {
         if let Some(kept) = self.activities.get_mut(activity as usize) {
-            let turned = cpu::turn(image, &mut kept.frames, &mut self.shared, &mut self.output)?;
-            kept.begun = count_after(kept.begun, turned.begun);
-            self.spent = spent_after(self.spent, self.budget, kept.begun, activity, turned.begun);
-            return Ok(turned.left);
+            let before = kept.frames.begun();
+            let left = shared(
+                self.alloc,
+                image,
+                &mut kept.frames,
+                &mut self.store,
+                &mut self.output,
+            )?;
+            let begun = kept.frames.begun();
+            self.spent = spent_after(self.spent, self.budget, before, begun, activity);
+            return Ok(left);
         }
         Ok(Did::Went)
     }
 
     /// The kernel's part of a turn. No instruction asks for a lock yet.
-    fn serve(&mut self, image: &Image, activity: u32, left: Did)
-        requires room { HasRoom self.old }
-        requires before { StandsBefore image.now activity left self.old }
-        ensures { (earlier : List Event) (st : State Memory Frames) →
+    fn serve(&mut self, image: &Image, activity: u32, left: Did) -> Result<(), NoMemory>
+        requires { StandsBefore image.now activity left self.old }
+        ensures ok { OnOk result ((earlier : List Event) (st : State Memory FramesOf) →
             Shows image.now earlier self.old st →
             activity < st.book.started → IsServed left →
-            Shows image.now earlier self.new (serve (machine image.now) activity left st) }
+            Shows image.now earlier self.new (serve (machine image.now) activity left st)) }
+        ensures err { OnErr result (ShowsSame image.now self.old self.new) }
+        ensures left { OnErr result (left ≢ Did.Went) }
     {
         match left {
             Did::Ended => self.ended(activity),
             Did::Trapped(number, code) => self.trap(image, activity, number, code),
             Did::Start(object) => self.start(image, activity, object),
-            _ => {}
+            _ => Ok(()),
         }
     }
 
-    /// A turn of an activity that runs.
+    /// A turn of an activity that runs. Where memory runs out, only silent work has been done.
     fn run(&mut self, image: &Image, activity: u32) -> Result<(), NoMemory>
-        requires runs { NextIs activity Next.Runs self.old }
-        requires room { HasRoom self.old }
-        requires heap { vec_len self.old.shared.objects < vec_capacity self.old.shared.objects }
-        requires output { vec_len self.old.output + MAX_BYTES ≤ vec_capacity self.old.output }
+        requires { NextIs activity Next.Runs self.old }
         ensures ok { OnOk result
             (PerformsUnspent image.now activity
             (turn_by (machine image.now) activity Runs) self.old self.new) }
         ensures err { OnErr result (ShowsSame image.now self.old self.new) }
     {
         let left = self.turned(image, activity)?;
-        self.serve(image, activity, left);
-        Ok(())
-    }
-
-    /// Room for all that a turn may write.
-    fn make_room(&mut self) -> Result<(), NoMemory>
-        ensures room { OnOk result (HasRoom self.new) }
-        ensures heap { OnOk result
-            (vec_len self.new.shared.objects < vec_capacity self.new.shared.objects) }
-        ensures output { OnOk result
-            (vec_len self.new.output + MAX_BYTES ≤ vec_capacity self.new.output) }
-        ensures same { HasSame self.old self.new }
-    {
-        self.spare.clear();
-        self.spare.reserve(1)?;
-        self.shared.objects.reserve(1)?;
-        self.activities.reserve(1)?;
-        self.line.reserve(1)?;
-        self.traps.reserve(1)?;
-        self.events.reserve(1)?;
-        self.output.reserve(MAX_BYTES)?;
-        Ok(())
+        self.serve(image, activity, left)
     }
 
     /// A turn of an activity, whatever its next one is. Where memory runs out, only silent work has been done.
@@ -464,13 +498,11 @@ impl Desk {
             (st.book.activity activity).next st) self.old self.new) }
         ensures err { OnErr result (ShowsSame image.now self.old self.new) }
     {
-        self.make_room()?;
         match next_of(&self.activities, activity) {
-            Next::Runs => self.run(image, activity)?,
+            Next::Runs => self.run(image, activity),
             Next::WillTrap(number) => self.trap(image, activity, number, 0),
             Next::Unwinds => self.ended(activity),
-            Next::Gone => {}
+            Next::Gone => Ok(()),
         }
-        Ok(())
     }
 }

@@ -1,19 +1,20 @@
 // The kernel over an image, seen as its log.
-ghost use Rattle.std.specs.Prelude.{◌≡◌, ◌<◌, ◌≤◌, [], IfOk, OnErr, All};
+ghost use Rattle.std.specs.Prelude.{◌≡◌, ◌<◌, ◌≤◌, [], ◌++◌, reverse, IfOk, OnErr, All};
+ghost use Rattle.std.specs.List.{flat_map};
 ghost use Rattle.std.specs.Arc.{arc_value};
 ghost use Rattle.aos_base.specs.Book.{outcome};
 ghost use Rattle.aos_base.specs.Machine.{Step, Tick, happens};
-ghost use Rattle.aos_code.specs.Machine.{machine, first_memory, first_frames, first_state};
-ghost use Rattle.aos_kernel.specs.Cpu.{memory_in, frames_in};
+ghost use Rattle.aos_code.specs.Machine.{machine, bodies, first_frames, first_state};
+ghost use Rattle.aos_store.specs.Store.{frames_in};
 ghost use Rattle.aos_base.specs.Schedule.{IsEntry};
 ghost use Rattle.aos_kernel.specs.Shows.{Shows, HandsOut};
 ghost use Rattle.aos_kernel.specs.Run.{state_of, events_of, traps_of, spent_of, comes_to, after_step, ticks, after_tick};
 
-use crate::cpu::{Frame, Shared, push_body};
-use crate::desk::{Activity, Desk, Next, Place, Stand};
+use crate::desk::{Activity, Desk, Next, Place, Stand, workers_in};
 use crate::log::{Stepped, add_step};
 use aos_base::{Event, NoMemory, Outcome, Sched};
 use aos_code::{Image, TrapRec};
+use aos_store::{Frames, Store};
 use std::alloc::Global;
 use std::marker::Model;
 use std::mem;
@@ -61,32 +62,37 @@ impl Model for Kernel {
         k.desk k.events.items };
 }
 
-/// What the cells of the modules hold at first.
-fn first_cells(alloc: Global, image: &Image) -> Result<Shared, NoMemory>
-    ensures { IfOk result (λ shared. memory_in shared ≡ first_memory image.now) }
+/// The body of this number behind the others, where there is one.
+fn add_body(found: &mut Vec<u32>, body: u32) -> Result<(), NoMemory>
+    ensures { IfOk result (λ _. found.new.items ≡ found.old.items ++ bodies body) }
 {
-    let mut modules = Vec::new(alloc);
-    for module in &image.modules {
-        let cells = Vec::from_slice(alloc, &module.cells)?;
-        modules.reserve(1)?;
-        modules.push_reserved(cells);
+    if body != 0 {
+        found.reserve(1)?;
+        found.push_reserved(body);
     }
-    Ok(Shared {
-        modules,
-        objects: Vec::new(alloc),
-    })
+    Ok(())
 }
 
-/// The frames with which activity 0 begins: those of the modules' bodies, the first module's topmost.
-fn first_bodies(alloc: Global, image: &Image) -> Result<Vec<Frame>, NoMemory>
-    ensures { IfOk result (λ frames. frames_in frames.items ≡ first_frames image.now) }
+/// The bodies of the modules, which activity 0 runs, the first module's last.
+fn first_bodies(alloc: Global, image: &Image) -> Result<Vec<u32>, NoMemory>
+    ensures { IfOk result
+        (λ found. reverse found.items ≡ flat_map (λ m. bodies m.body) image.now.modules.items) }
 {
-    let mut frames = Vec::new(alloc);
+    let mut found = Vec::new(alloc);
     for module in &image.modules {
-        frames.reserve(1)?;
-        push_body(alloc, &mut frames, module.body);
+        add_body(&mut found, module.body)?;
     }
-    frames.reverse();
+    found.reverse();
+    Ok(found)
+}
+
+/// The frames with which activity 0 begins.
+fn frames_of_modules(alloc: Global, image: &Image) -> Result<Frames, NoMemory>
+    ensures frames { IfOk result (λ frames. frames_in frames ≡ first_frames image.now) }
+    ensures begun { IfOk result (λ frames. frames.begun ≡ 0) }
+{
+    let mut frames = Frames::new(alloc);
+    frames.following = first_bodies(alloc, image)?;
     Ok(frames)
 }
 
@@ -95,11 +101,10 @@ fn first_desk(alloc: Global, image: &Image, budget: u64) -> Result<Desk, NoMemor
     requires { 1 ≤ budget }
     ensures { IfOk result (λ desk. Shows image.now [] desk (first_state image.now budget)) }
 {
-    let shared = first_cells(alloc, image)?;
-    let frames = first_bodies(alloc, image)?;
+    let store = Store::new(alloc, image)?;
+    let frames = frames_of_modules(alloc, image)?;
     let first = Activity {
         priority: 2,
-        begun: 0,
         next: Next::Runs,
         frames,
     };
@@ -112,17 +117,18 @@ fn first_desk(alloc: Global, image: &Image, budget: u64) -> Result<Desk, NoMemor
         activity: 0,
         place: Place::Ready(2),
     });
+    let running = workers_in(&line);
     Ok(Desk {
         alloc,
-        shared,
+        store,
         activities,
         line,
+        running,
         output: Vec::new(alloc),
         traps: Vec::new(alloc),
         events: Vec::new(alloc),
         budget,
         spent: None,
-        spare: Vec::new(alloc),
     })
 }
 

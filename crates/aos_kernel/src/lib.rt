@@ -1,7 +1,6 @@
 //! The kernel that runs an image: its state is at every moment the image's execution under the log that it keeps.
 #![tactic(auto)]
 
-mod cpu;
 mod desk;
 pub mod kernel;
 pub mod log;

@@ -11,8 +11,8 @@ returns-in-Some c image object earlier st h there before =
     let d = c.args.self.now in
     let a = c.args.activity in
     let kept = c.in-Some.kept.now in
-    let new : Activity = record kept { frames = c.go_past.new.frames } in
+    let new : Activity = record kept { frames = c.pass.new.frames } in
     let was = slice_get_read d.activities.items _ a kept refl c.in-Some.ensures.item.3.0 c.in-Some.ensures.item.1 in
     let b = before kept was in
-    let alike = subst (λ n. ShowsFrames image n (st.frames a) kept.frames.items) (sym b.0) (h.activities a kept was).frames in
-    shows_past image earlier d st a h there (with_item d.activities a new) kept c.go_past.new.frames was b.0 refl (c.go_past.ensures image object (st.frames a) b.1 alike)
+    let alike = subst (λ n. ShowsFrames image n (st.frames a) kept.frames) (sym b.0) (h.activities a kept was).frames in
+    shows_past image earlier d st a h there (with_item d.activities a new) kept c.pass.new.frames was b.0 refl c.pass.ensures.counts.0 (c.pass.ensures.past image object (st.frames a) b.1 alike)

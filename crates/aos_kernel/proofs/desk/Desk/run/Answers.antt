@@ -1,19 +1,29 @@
 use Rattle.std.proofs.Common.{sym, subst}
+use Rattle.std.proofs.lemmas.Result.{on_ok_weaker}
 use Rattle.aos_base.specs.declared.kernel.Did.{Did}
 use Rattle.aos_base.specs.Machine.{serve, turned}
 use Rattle.aos_base.specs.Book.{counted}
 use Rattle.aos_code.specs.Machine.{machine, turn}
-use Rattle.aos_kernel.specs.Shows.{Shows, IsServed}
-use Rattle.aos_kernel.proofs.Turns.{turn_served}
+use Rattle.aos_kernel.specs.Shows.{Shows, ShowsSame, IsServed}
+use Rattle.aos_kernel.proofs.Served.{turn_served}
+use Rattle.aos_kernel.proofs.Desks.{where_left, on_err_both}
 use Rattle.aos_kernel.proofs.desk.Desk.run.Goals as goal
 
 pub returns-clause-ok : goal.returns-clause-ok
 unfolding turned counted
-returns-clause-ok c earlier st h there none =
+returns-clause-ok c =
     let image = c.args.image.now in
     let a = c.args.activity in
+    on_ok_weaker c.serve.result
+    (λ done earlier st h there none.
     let t = turn image st.store (st.frames a) in
     let r = c.in_ok-left.ensures.ok earlier st h there none in
     let served : IsServed c.in_ok-left.left = subst (λ (x : Did). IsServed x) (sym r.0) (turn_served image st.store (st.frames a)) in
     subst (λ (x : Did). Shows image earlier c.serve.new.self (serve (machine image) a x (turned (machine image) a t st))) r.0
-    (c.serve.ensures earlier (turned (machine image) a t st) r.1 there served)
+    (done earlier (turned (machine image) a t st) r.1 there served))
+    c.serve.ensures.ok
+
+pub returns-clause-err : goal.returns-clause-err
+returns-clause-err c =
+    on_err_both c.serve.result (λ same ne earlier st h. same earlier st (where_left c.in_ok-left.left (ShowsSame c.args.image.now c.args.self.now c.turned.new.self) ne c.in_ok-left.ensures.left earlier st h))
+    c.serve.ensures.err c.serve.ensures.left

@@ -50,7 +50,7 @@ invariant_of-self-in-Some c =
     let w = c.args.w in
     let a = c.in-Some.activity in
     let going : outcome st.book ≡ Going = outcome_is r k.desk k.events.items h ∙ sym c.in-Going.ensures in
-    let on : on_worker c.args.w st.book.line ≡ Some a = on_is r k.desk k.events.items h c.args.w ∙ sym c.in-Some.ensures in
+    let on : on_worker c.args.w st.book.line ≡ Some a = on_is r k.desk k.events.items h c.args.w (subst (λ (x : Run). c.args.w < x.workers) (sym c.self.view_is) c.requires) ∙ sym c.in-Some.ensures in
     let logged = c.add_step.ensures ∙ ap (with_step w) c.reserve.ensures.items in
     let fits : w < r.workers = subst (λ (x : Run). w < x.workers) (sym c.self.view_is) c.requires in
     let shown = subst (λ (image : Image). (earlier : List Event) (x : State Memory Frames) → Shows image earlier k.desk x → a < x.book.started → x.book.spent ≡ None → Shows image earlier c.turn.new.self (turn_by (machine image) a (x.book.activity a).next x))
@@ -77,7 +77,7 @@ invariant_of-self-in-Some-first_ready c =
     let w = c.args.w in
     let a = c.in-Some-first_ready.activity in
     let going : outcome st.book ≡ Going = outcome_is r k.desk k.events.items h ∙ sym c.in-Going.ensures in
-    let on : on_worker c.args.w st.book.line ≡ None = on_is r k.desk k.events.items h c.args.w ∙ sym c.in-None.ensures in
+    let on : on_worker c.args.w st.book.line ≡ None = on_is r k.desk k.events.items h c.args.w (subst (λ (x : Run). c.args.w < x.workers) (sym c.self.view_is) c.requires) ∙ sym c.in-None.ensures in
     let next : first_ready st.book.line ≡ Some a = first_is r k.desk k.events.items h ∙ sym c.in-Some-first_ready.ensures in
     let logged = c.add_step-in-Some-first_ready.ensures ∙ ap (with_step w) c.reserve-in-Some-first_ready.ensures.items in
     let fits : w < r.workers = subst (λ (x : Run). w < x.workers) (sym c.self.view_is) c.requires in
@@ -95,7 +95,7 @@ returns-in_ok-turn-in-Some-clause-stepped c =
     let w = c.args.w in
     let a = c.in-Some.activity in
     let going : outcome st.book ≡ Going = outcome_is r k.desk k.events.items h ∙ sym c.in-Going.ensures in
-    let on : on_worker c.args.w st.book.line ≡ Some a = on_is r k.desk k.events.items h c.args.w ∙ sym c.in-Some.ensures in
+    let on : on_worker c.args.w st.book.line ≡ Some a = on_is r k.desk k.events.items h c.args.w (subst (λ (x : Run). c.args.w < x.workers) (sym c.self.view_is) c.requires) ∙ sym c.in-Some.ensures in
     sym (comes_turned w a r going on) ∙ ap (comes_to w) c.self.view_is
 
 pub returns-in_ok-turn-in-Some-clause-state : goal.returns-in_ok-turn-in-Some-clause-state
@@ -117,7 +117,7 @@ returns-in_ok-dispatch-in-Some-first_ready-clause-stepped c =
     let w = c.args.w in
     let a = c.in-Some-first_ready.activity in
     let going : outcome st.book ≡ Going = outcome_is r k.desk k.events.items h ∙ sym c.in-Going.ensures in
-    let on : on_worker c.args.w st.book.line ≡ None = on_is r k.desk k.events.items h c.args.w ∙ sym c.in-None.ensures in
+    let on : on_worker c.args.w st.book.line ≡ None = on_is r k.desk k.events.items h c.args.w (subst (λ (x : Run). c.args.w < x.workers) (sym c.self.view_is) c.requires) ∙ sym c.in-None.ensures in
     let next : first_ready st.book.line ≡ Some a = first_is r k.desk k.events.items h ∙ sym c.in-Some-first_ready.ensures in
     sym (comes_dispatched w a r going on next) ∙ ap (comes_to w) c.self.view_is
 
@@ -139,7 +139,7 @@ returns-in-None-first_ready-clause-stepped c =
     let st = state_of r in
     let w = c.args.w in
     let going : outcome st.book ≡ Going = outcome_is r k.desk k.events.items h ∙ sym c.in-Going.ensures in
-    let on : on_worker c.args.w st.book.line ≡ None = on_is r k.desk k.events.items h c.args.w ∙ sym c.in-None.ensures in
+    let on : on_worker c.args.w st.book.line ≡ None = on_is r k.desk k.events.items h c.args.w (subst (λ (x : Run). c.args.w < x.workers) (sym c.self.view_is) c.requires) ∙ sym c.in-None.ensures in
     let next : first_ready st.book.line ≡ None = first_is r k.desk k.events.items h ∙ sym c.in-None-first_ready.ensures in
     sym (comes_idle w r going on next) ∙ ap (comes_to w) c.self.view_is
 
@@ -151,6 +151,6 @@ returns-in-None-first_ready-clause-state c =
     let st = state_of r in
     let w = c.args.w in
     let going : outcome st.book ≡ Going = outcome_is r k.desk k.events.items h ∙ sym c.in-Going.ensures in
-    let on : on_worker c.args.w st.book.line ≡ None = on_is r k.desk k.events.items h c.args.w ∙ sym c.in-None.ensures in
+    let on : on_worker c.args.w st.book.line ≡ None = on_is r k.desk k.events.items h c.args.w (subst (λ (x : Run). c.args.w < x.workers) (sym c.self.view_is) c.requires) ∙ sym c.in-None.ensures in
     let next : first_ready st.book.line ≡ None = first_is r k.desk k.events.items h ∙ sym c.in-None-first_ready.ensures in
     subst (λ (x : Run). state_of x ≡ happens (machine x.image) (Step w) (state_of x)) c.self.view_is (sym (idles r.image st w going on next))

@@ -45,7 +45,7 @@ invariant_of-self-in-Some c =
     let w = c.args.w in
     let a = c.in-Some.activity in
     let going : outcome st.book ≡ Going = outcome_is r k.desk k.events.items h ∙ sym c.in-Going.ensures in
-    let on : on_worker c.args.w st.book.line ≡ Some a = on_is r k.desk k.events.items h c.args.w ∙ sym c.in-Some.ensures in
+    let on : on_worker c.args.w st.book.line ≡ Some a = on_is r k.desk k.events.items h c.args.w (subst (λ (x : Run). c.args.w < x.workers) (sym c.self.view_is) c.requires) ∙ sym c.in-Some.ensures in
     let logged : c.push_reserved.new.self.items ≡ with_tick w r.log = c.push_reserved.ensures.items ∙ ap (with_tick w) c.reserve.ensures.items in
     let fits : w < r.workers = subst (λ (x : Run). w < x.workers) (sym c.self.view_is) c.requires in
     keeps_after r c.push_reserved.new.self.items (Tick w) c.ready.new.self c.hand_out.new.desk c.hand_out.new.events.items (on_book (ready a) st)
@@ -62,7 +62,7 @@ returns-in_ok-ready-in-Some-clause-ticked c =
     let w = c.args.w in
     let a = c.in-Some.activity in
     let going : outcome st.book ≡ Going = outcome_is r k.desk k.events.items h ∙ sym c.in-Going.ensures in
-    let on : on_worker c.args.w st.book.line ≡ Some a = on_is r k.desk k.events.items h c.args.w ∙ sym c.in-Some.ensures in
+    let on : on_worker c.args.w st.book.line ≡ Some a = on_is r k.desk k.events.items h c.args.w (subst (λ (x : Run). c.args.w < x.workers) (sym c.self.view_is) c.requires) ∙ sym c.in-Some.ensures in
     sym (ticks_some w a r going on) ∙ ap (ticks w) c.self.view_is
 
 pub returns-in_ok-ready-in-Some-clause-state : goal.returns-in_ok-ready-in-Some-clause-state
@@ -83,5 +83,5 @@ returns-in-None-clause-state c =
     let st = state_of r in
     let w = c.args.w in
     let going : outcome st.book ≡ Going = outcome_is r k.desk k.events.items h ∙ sym c.in-Going.ensures in
-    let on : on_worker c.args.w st.book.line ≡ None = on_is r k.desk k.events.items h c.args.w ∙ sym c.in-None.ensures in
+    let on : on_worker c.args.w st.book.line ≡ None = on_is r k.desk k.events.items h c.args.w (subst (λ (x : Run). c.args.w < x.workers) (sym c.self.view_is) c.requires) ∙ sym c.in-None.ensures in
     subst (λ (x : Run). state_of x ≡ happens (machine x.image) (Tick w) (state_of x)) c.self.view_is (sym (ticks_nothing r.image st w going on))

@@ -1,6 +1,0 @@
-use Rattle.std.proofs.Common.{arith}
-use Rattle.aos_kernel.proofs.Operands.{replaced}
-use Rattle.aos_kernel.proofs.cpu.replace.Goals as goal
-
-pub returns : goal.returns
-returns c = replaced _ _ _ _ c.saturating_sub.result _ (omega arith) c.truncate.ensures.items c.push_reserved.ensures.items
