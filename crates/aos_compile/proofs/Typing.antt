@@ -1,6 +1,6 @@
 -- The program that texts come to is well typed.
 use Rattle.std.proofs.Common.{◌≡◌, ℕ, ◌+◌, ◌<◌, ◌≤◌, List, [], ◌∷◌, length, Option, Some, None, slice_get, zip, All, refl, subst, arith}
-use Rattle.aos_typed.specs.Numbers.{predeclared_types}
+use Rattle.aos_typed.specs.Numbers.{predeclared_types, predeclared_rows}
 use Rattle.aos_typed.specs.Program.{Module, Program}
 use Rattle.aos_typed.specs.WellTyped.{AreStatements, AreTypes, IsVariableType, IsProcedure, IsWellTyped}
 use Rattle.aos_symbols.specs.Home.{Home}
@@ -40,6 +40,7 @@ pub record TypedWell (p : Program) : Type 0 where
   pub objects : All (λ o. AreStatements p o.body) p.objects
   pub homes : All (λ o. o.home < length p.modules) p.objects
   pub types : AreTypes p.types
+  pub predeclared : (k : ℕ) → k < predeclared_types → slice_get p.types k ≡ slice_get predeclared_rows k
   pub beside : length p.types ≡ length p.objects + predeclared_types
   pub variables : All (λ m. All (λ v. IsVariableType p v.of) m.variables) p.modules
   pub procedures : All (λ m. All (IsProcedure p) m.procedures) p.modules
@@ -64,6 +65,7 @@ module _ (w : World) (sound : IsWorld w) where
     objects = all_of (λ o. AreStatements (program_of w) o.body) w.objects sound.objects;
     homes = all_of (λ o. o.home < length w.modules) w.objects sound.places;
     types = sound.table.sound;
+    predeclared = sound.table.basic;
     beside = omega (arith, sound.count);
     variables = all_of AreVariables w.modules (variables_of_homes w.before w.modules sound.homes);
     procedures = all_of (λ m. All (IsProcedure (program_of w)) m.procedures) w.modules sound.procedures;
@@ -90,6 +92,7 @@ well_typed texts p h some few =
       objects = typed.objects;
       homes = typed.homes;
       types = typed.types;
+      predeclared = typed.predeclared;
       beside = typed.beside;
       variables = typed.variables;
       procedures = typed.procedures;

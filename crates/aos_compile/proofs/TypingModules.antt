@@ -123,10 +123,11 @@ no_scope : {A : Type 0} {x : A} → None ≡ Some x → ⊥
 no_scope e = cc
 
 whole : (p : Program) (e : Env) (hs : List Home) → AreHomes e.types hs p.modules → ((m : ℕ) (h : Home) → env.home e m ≡ Some h → slice_get hs m ≡ Some h) →
-    length e.types ≡ 9 + length p.objects → IsWhole p e
-whole p e hs are at count = record {
+    p.types ≡ e.types → length e.types ≡ 9 + length p.objects → IsWhole p e
+whole p e hs are at rows count = record {
   variables = λ o s w x k first there found means. by_home o s w x k first found means there (env.home e o.home) refl there;
   constants = λ o s there. by_scope o s (env.home e o.home) refl there;
+  rows = rows;
   objects = count;
 }
   where
@@ -163,6 +164,7 @@ module _ (p : Program) (e : Env) (is_whole : IsWhole p e) where
   inside k = record {
     variables = λ o s w x n own there found means. let is = is_whole.variables o s w x n own there found means in record { typed = is.typed; known = is.known };
     constants = λ o s there. is_whole.constants o s there;
+    rows = is_whole.rows;
     objects = is_whole.objects;
   }
 
@@ -311,10 +313,10 @@ module _ (w : World) (sound : IsWorld w) (text : List ℕ) (m : Tree) where
       count_objects = omega (arith, is.long, sound.count, count, length-append w.objects b.objects)
 
       bodies_whole : IsWhole (program_of world) e
-      bodies_whole = whole (program_of world) e world.before homes_more at_home count_objects
+      bodies_whole = whole (program_of world) e world.before homes_more at_home refl count_objects
 
       grows : Grows (program_of w) (program_of world)
-      grows = grown w.modules (module_of e m b ∷ []) w.types e.types w.objects b.objects
+      grows = grown w.modules (module_of e m b ∷ []) w.types e.types w.objects b.objects is.stays
 
       longer : length world.modules ≡ length w.modules + 1
       longer = length-append w.modules (module_of e m b ∷ [])
@@ -362,7 +364,7 @@ module _ (w : World) (sound : IsWorld w) (text : List ℕ) (m : Tree) where
         all_procedures =
             joined AreProcedures w.modules (module_of e m b ∷ [])
             (implied (λ x. All (IsProcedure (program_of w)) x.procedures) AreProcedures
-            (λ x. All-weaker (IsProcedure (program_of w)) (IsProcedure (program_of world)) (procedure_grows (program_of w) (program_of world) grows is.stays) x.procedures) w.modules sound.procedures) (
+            (λ x. All-weaker (IsProcedure (program_of w)) (IsProcedure (program_of world)) (procedure_grows (program_of w) (program_of world) grows) x.procedures) w.modules sound.procedures) (
               all_of (IsProcedure (program_of world)) (module_of e m b).procedures
                   (procedures_typed (program_of world) is.table.basic e.here.text e.here.scopes (first_scope m) (procedures m.decls) e.here.signatures b.procedures headings are.procedures),
               tt,

@@ -23,7 +23,7 @@ use Rattle.aos_check_expr.specs.Known.{type_of}
 use Rattle.aos_check_decl.proofs.Typing.{IsThere, IsResult as IsScalarType, IsHeading}
 use Rattle.aos_compile.specs.Modules.{variables_of, variable_of, parameter_of, result_of, procedure_of, procedures_of}
 use Rattle.aos_compile.proofs.TypingPrograms.{Grows, statements_grow}
-use Rattle.aos_compile.proofs.TypingTypes.{RowsStay, there_stays, closed_stays, scalar_stays, number_is, told_number, there, known_type}
+use Rattle.aos_compile.proofs.TypingTypes.{RowsStay, there_stays, closed_stays, fact_stays, number_is, told_number, there, known_type}
 
 module _ (p : Program) (begins : RowsStay basic_rows p.types) (text : List ℕ) where
   parameters : (names : List Name) (ps : List Formal) → Each (λ a. IsThere p.types a.of) ps → Each (λ a. IsType p a.of) (map (parameter_of text) (zip names ps))
@@ -102,16 +102,16 @@ module _ (p : Program) (begins : RowsStay basic_rows p.types) (text : List ℕ) 
 
 -- With more modules, and more rows behind those that are there.
 
-module _ (p q : Program) (grows : Grows p q) (stay : RowsStay p.types q.types) where
+module _ (p q : Program) (grows : Grows p q) where
   type_grows : (t : TType) → IsType p t → IsType q t
-  type_grows t h = there_stays p.types q.types stay (id_of t).0 h
+  type_grows t h = there_stays p.types q.types grows.rows (id_of t).0 h
 
   variable_grows : (t : TType) → IsVariableType p t → IsVariableType q t
-  variable_grows t h = record { there = type_grows t h.there; closed = closed_stays p.types q.types stay (id_of t).0 h.there h.closed }
+  variable_grows t h = record { there = type_grows t h.there; closed = closed_stays p.types q.types grows.rows (id_of t).0 h.there h.closed }
 
   result_grows : (r : Option TType) → IsResult p r → IsResult q r
   result_grows None h = tt
-  result_grows (Some t) h = scalar_stays p.types q.types stay (id_of t).0 h
+  result_grows (Some t) h = fact_stays p.types q.types grows.rows is_scalar refl (id_of t).0 h
 
   pub procedure_grows : (x : TypedProcedure) → IsProcedure p x → IsProcedure q x
   procedure_grows x h = record {

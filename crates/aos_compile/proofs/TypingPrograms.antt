@@ -3,14 +3,19 @@ use Rattle.std.proofs.Common.{◌≡◌, ℕ, ◌<◌, ◌≤◌, List, ◌++◌
 use Rattle.aos_base.specs.declared.operator.Binary.{Binary as BinaryOperator}
 use Rattle.aos_base.specs.declared.operator.Binary.TheVariants.{Add, Sub, Mul, Div, Mod, Ash, Cmp, Union, Minus, Meet, Xor, SetSpan, In}
 use Rattle.aos_types.specs.declared.row.TypeRow.{TypeRow}
+use Rattle.aos_types.specs.Table.{is_object}
 use Rattle.aos_typed.specs.declared.tree.TType.{TType}
+use Rattle.aos_typed.specs.declared.tree.TType.TheVariants.{Named}
+use Rattle.aos_typed.specs.Numbers.{id_of}
 use Rattle.aos_typed.specs.Program.{Place, ModuleVar, Expr, Lit, Read, Unary, Binary, And, Or, Element, Ord, Chr, Call, Open, Char, Int, Ln, Stat, Assign, While, New, Out, Stats, Nothing, Then, Module, ObjectType, Program}
 use Rattle.aos_typed.specs.WellTyped.{variable_type, place_type, Takes, IsOf, IsCall, IsStatement, AreStatements}
 use Rattle.aos_symbols.proofs.Told.{get_front}
+use Rattle.aos_compile.proofs.TypingTypes.{RowsStay, fact_stays}
 
--- each variable has its type, and each object type its number
+-- each variable has its type, and each row and each object type its number
 pub record Grows (p q : Program) : Type 0 where
   pub variables : (m k : ℕ) (t : TType) → variable_type p m k ≡ Some t → variable_type q m k ≡ Some t
+  pub rows : RowsStay p.types q.types
   pub objects : length p.objects ≤ length q.objects
 
 no_type : {A : Type 0} {x : A} → None ≡ Some x → ⊥
@@ -38,7 +43,7 @@ module _ (p q : Program) (grows : Grows p q) where
 
   value_grows : (e : Expr) (t : TType) → IsOf p e t → IsOf q e t
   value_grows (Lit l) t h = h
-  value_grows (Read u x) t h = (place_grows x u h.0, h.1)
+  value_grows (Read u x) t h = (place_grows x u h.0, h.1, h.2)
   value_grows (Unary op a) t h = (value_grows a _ h.0, h.1)
   value_grows (Binary op a b) t h = (takes_more op (IsOf p a) (IsOf p b) (IsOf q a) (IsOf q b) (value_grows a) (value_grows b) h.0, h.1)
   value_grows (And a b) t h = (value_grows a _ h.0, value_grows b _ h.1, h.2)
@@ -55,9 +60,10 @@ module _ (p q : Program) (grows : Grows p q) where
 
   mutual
     statement_grows : (s : Stat) → IsStatement p s → IsStatement q s
-    statement_grows (Assign at t x e) h = (place_grows x t h.0, value_grows e t h.1)
+    statement_grows (Assign at t x e) h = (place_grows x t h.0, h.1, value_grows e t h.2)
     statement_grows (While at e body) h = (value_grows e _ h.0, statements_grow body h.1)
-    statement_grows (New at x t) h = (place_grows x _ h.0, fewer t (length p.objects) (length q.objects) h.1 grows.objects)
+    statement_grows (New at x t) h =
+        (place_grows x _ h.0, fact_stays p.types q.types grows.rows is_object refl (id_of (Named t)).0 h.1, fewer t (length p.objects) (length q.objects) h.2 grows.objects)
       where
         fewer : (t m n : ℕ) → t < m → m ≤ n → t < n
         fewer t m n a b = omega arith
@@ -67,11 +73,12 @@ module _ (p q : Program) (grows : Grows p q) where
     statements_grow Nothing h = tt
     statements_grow (Then s ss) h = (statement_grows s h.0, statements_grow ss h.1)
 
--- more modules and more objects behind those of a program, and whatever types
-pub grown : (ms ns : List Module) (ts us : List TypeRow) (os qs : List ObjectType) →
+-- more modules, more rows and more objects behind those of a program
+pub grown : (ms ns : List Module) (ts us : List TypeRow) (os qs : List ObjectType) → RowsStay ts us →
     Grows (record { modules = ms; types = ts; objects = os }) (record { modules = ms ++ ns; types = us; objects = os ++ qs })
-grown ms ns ts us os qs = record {
+grown ms ns ts us os qs stay = record {
   variables = λ m k t h. by m k t (slice_get ms m) refl h;
+  rows = stay;
   objects = omega (arith, length-append os qs);
 }
   where

@@ -1,11 +1,11 @@
 -- Types of variables and parameters, by their numbers in the table. What is known of a type stays where its row does.
-use Rattle.std.proofs.Common.{◌≡◌, ℕ, zero, suc, ◌+◌, ◌-◌, ◌<◌, ◌≤◌, ◌⊎◌, inl, inr, List, [], ◌∷◌, ◌++◌, length, map, true, false, Option, Some, None, slice_get, refl, sym, ap, ◌∙◌, subst, lt-ltb, arith}
+use Rattle.std.proofs.Common.{◌≡◌, ℕ, zero, suc, ◌+◌, ◌-◌, ◌<◌, ◌≤◌, ◌⊎◌, inl, inr, List, [], ◌∷◌, ◌++◌, length, map, Bool, true, false, Option, Some, None, slice_get, refl, sym, ap, ◌∙◌, subst, lt-ltb, arith}
 use Rattle.std.proofs.lemmas.Option.{slice_get_within}
 use Rattle.aos_types.specs.declared.TheConstants.{MOST_SCALARS}
 use Rattle.aos_types.specs.declared.row.TypeId.{TypeId}
 use Rattle.aos_types.specs.declared.row.TypeRow.{TypeRow}
 use Rattle.aos_types.specs.declared.row.TypeRow.TheVariants as row
-use Rattle.aos_types.specs.Table.{row_of, is_open, is_scalar}
+use Rattle.aos_types.specs.Table.{row_of, is_open}
 use Rattle.aos_types.specs.Shape.{Shape, size}
 use Rattle.aos_types.specs.Contents.{with_parts, unfolded, scalars}
 use Rattle.aos_types.specs.Chain.{parts_of, IsOneOf, IsChain}
@@ -44,9 +44,6 @@ some_at [] k h = absurd (omega arith)
 some_at (x ∷ xs) zero h = (x, refl)
 some_at (x ∷ xs) (suc k) h = some_at xs k (omega arith)
 
-no_scalar : is_scalar None ≡ true → ⊥
-no_scalar e = cc
-
 module _ (ts us : List TypeRow) (stay : RowsStay ts us) where
   pub there_stays : (k : ℕ) → k < length ts → k < length us
   there_stays k h = let one = some_at ts k h in slice_get_within us k one.0 (stay k h ∙ one.1)
@@ -54,12 +51,13 @@ module _ (ts us : List TypeRow) (stay : RowsStay ts us) where
   pub closed_stays : (k : ℕ) → k < length ts → is_open (slice_get ts k) ≡ false → is_open (slice_get us k) ≡ false
   closed_stays k h closed = ap is_open (stay k h) ∙ closed
 
-  pub scalar_stays : (k : ℕ) → is_scalar (slice_get ts k) ≡ true → is_scalar (slice_get us k) ≡ true
-  scalar_stays k h = by (slice_get ts k) refl h
+  -- what only a row that is there has
+  pub fact_stays : (has : Option TypeRow → Bool) → has None ≡ false → (k : ℕ) → has (slice_get ts k) ≡ true → has (slice_get us k) ≡ true
+  fact_stays has none k h = by (slice_get ts k) refl h
     where
-      by : (o : Option TypeRow) → slice_get ts k ≡ o → is_scalar o ≡ true → is_scalar (slice_get us k) ≡ true
-      by None is h = absurd (no_scalar h)
-      by (Some r) is h = ap is_scalar (stay k (slice_get_within ts k r is) ∙ is) ∙ h
+      by : (o : Option TypeRow) → slice_get ts k ≡ o → has o ≡ true → has (slice_get us k) ≡ true
+      by None is h = absurd (cc)
+      by (Some r) is h = ap has (stay k (slice_get_within ts k r is) ∙ is) ∙ h
 
 -- The predeclared types.
 

@@ -6,10 +6,10 @@ use Rattle.aos_base.specs.declared.operator.Unary.TheVariants.{Range}
 use Rattle.aos_base.specs.declared.operator.Binary.TheVariants.{SetSpan}
 use Rattle.aos_typed.specs.declared.tree.Literal.{Literal}
 use Rattle.aos_typed.specs.declared.tree.Literal.TheVariants as literal
-use Rattle.aos_typed.specs.Program.{ModuleVar, Expr, Lit, Read, Unary, Binary, And, Or, Element, Ord, Chr}
+use Rattle.aos_typed.specs.Program.{ModuleVar, Expr, Lit, Read, Unary, Binary, And, Or, Element, Ord, Chr, Program}
 use Rattle.aos_code.specs.declared.instr.Instr.{Instr}
 use Rattle.aos_code.specs.declared.instr.Instr.TheVariants.{Num, Dup, Module, Unary as OnOne, Binary as OnTwo, Jump, JumpFalse, Load}
-use Rattle.aos_sim.specs.Code.{literal_code, kind_of, value_code}
+use Rattle.aos_sim.specs.Code.{literal_code, kind_of, variable_cell, value_code}
 use Rattle.aos_emit.specs.Back.{back_code, placed}
 
 -- instructions that stand from the last to the first, as they are placed
@@ -40,70 +40,71 @@ literal_placed end (literal.Bool b) = refl
 literal_placed end (literal.Char c) = refl
 literal_placed end (literal.Set s) = refl
 
--- where an expression's code ends at a place, so it is placed
-abbrev pub IsPlaced : Expr → Type 0
-IsPlaced e =
-    (at : ℕ) (behind : List Instr) (end : ℕ)
-    → at + length (value_code e at) + length behind ≡ end
-    → forwards end (back_code e behind) ≡ value_code e at ++ forwards end behind
+module _ (p : Program) where
+  -- where an expression's code ends at a place, so it is placed
+  abbrev pub IsPlaced : Expr → Type 0
+  IsPlaced e =
+      (at : ℕ) (behind : List Instr) (end : ℕ)
+      → at + length (value_code p e at) + length behind ≡ end
+      → forwards end (back_code p e behind) ≡ value_code p e at ++ forwards end behind
 
--- an operand before what is placed
-operand : (a : Expr) (at end : ℕ) (ops some behind : List Instr) → IsPlaced a → forwards end some ≡ ops ++ forwards end behind → at + length (value_code a at ++ ops) + length behind ≡ end → forwards end (back_code a some) ≡ (value_code a at ++ ops) ++ forwards end behind
-operand a at end ops some behind is_placed is ends =
-    let counted = count end ops some behind is in
-    let both = length-append (value_code a at) ops in
-    before end (value_code a at) ops (back_code a some) some behind (is_placed at some end (omega arith)) is
+  -- an operand before what is placed
+  operand : (a : Expr) (at end : ℕ) (ops some behind : List Instr) → IsPlaced a → forwards end some ≡ ops ++ forwards end behind → at + length (value_code p a at ++ ops) + length behind ≡ end → forwards end (back_code p a some) ≡ (value_code p a at ++ ops) ++ forwards end behind
+  operand a at end ops some behind is_placed is ends =
+      let counted = count end ops some behind is in
+      let both = length-append (value_code p a at) ops in
+      before end (value_code p a at) ops (back_code p a some) some behind (is_placed at some end (omega arith)) is
 
-pub forth : (e : Expr) → IsPlaced e
-forth (Lit l) at behind end ends = last_first end behind (literal_code l) ∙ ap (λ i. i ∷ forwards end behind) (literal_placed end l)
-forth (Read t (ModuleVar m k)) at behind end ends = more end behind (Load (kind_of t) ∷ Module m k ∷ [])
-forth (Unary op a) at behind end ends =
-    operand a at end (OnOne op ∷ []) (behind ++ OnOne op ∷ []) behind (forth a) (last_first end behind (OnOne op)) ends
-forth (Binary op a b) at behind end ends =
-    let ca = value_code a at in
-    let cb = value_code b (at + length ca) in
-    let both = length-append ca (cb ++ OnTwo op ∷ []) in
-    let second = operand b (at + length ca) end (OnTwo op ∷ []) (behind ++ OnTwo op ∷ []) behind (forth b) (last_first end behind (OnTwo op)) (omega arith) in
-    operand a at end (cb ++ OnTwo op ∷ []) (back_code b (behind ++ OnTwo op ∷ [])) behind (forth a) second ends
-forth (And a b) at behind end ends =
-    let ca = value_code a at in
-    let cb = value_code b (at + length ca + 1) in
-    let from_false = at + length ca + 1 + length cb + 1 in
-    let past = at + length ca + 1 + length cb + 2 in
-    let ops = Jump past ∷ (Num (pos 0) ∷ []) in
-    let some = behind ++ Num (pos 0) ∷ Jump (length behind) ∷ [] in
-    let both = length-append ca (JumpFalse from_false ∷ (cb ++ ops)) in
-    let last = length-append cb ops in
-    let to_past : end - length behind ≡ past = omega arith in
-    let to_false : end - (length behind + 1) ≡ from_false = omega arith in
-    let placed_ops = more end behind (Num (pos 0) ∷ Jump (length behind) ∷ []) ∙ ap (λ n. Jump n ∷ (Num (pos 0) ∷ forwards end behind)) to_past in
-    let second = operand b (at + length ca + 1) end ops some behind (forth b) placed_ops (omega arith) in
-    let jump = last_first end (back_code b some) (JumpFalse (length behind + 1)) ∙ (λ j. JumpFalse (to_false j) ∷ second j) in
-    operand a at end (JumpFalse from_false ∷ (cb ++ ops)) (back_code b some ++ JumpFalse (length behind + 1) ∷ []) behind (forth a) jump ends
-forth (Or a b) at behind end ends =
-    let ca = value_code a at in
-    let from_second = at + length ca + 3 in
-    let cb = value_code b from_second in
-    let ops = JumpFalse from_second ∷ (Num (pos 1) ∷ (Jump (from_second + length cb) ∷ cb)) in
-    let some = back_code b behind in
-    let both = length-append ca ops in
-    let second = forth b from_second behind end (omega arith) in
-    let counted = count end cb some behind second in
-    let to_past : end - length behind ≡ from_second + length cb = omega arith in
-    let to_second : end - length some ≡ from_second = omega arith in
-    let jumps = Jump (length behind) ∷ Num (pos 1) ∷ JumpFalse (length some) ∷ [] in
-    let placed_ops = more end some jumps ∙ (λ j. JumpFalse (to_second j) ∷ (Num (pos 1) ∷ (Jump (to_past j) ∷ second j))) in
-    operand a at end ops (some ++ jumps) behind (forth a) placed_ops ends
-forth (Element a) at behind end ends =
-    operand a at end (Dup ∷ (OnTwo SetSpan ∷ [])) (behind ++ OnTwo SetSpan ∷ Dup ∷ []) behind (forth a) (more end behind (OnTwo SetSpan ∷ Dup ∷ [])) ends
-forth (Ord a) at behind end ends = forth a at behind end ends
-forth (Chr a) at behind end ends =
-    let range = OnOne (Range (pos 0) (pos 255)) in
-    operand a at end (range ∷ []) (behind ++ range ∷ []) behind (forth a) (last_first end behind range) ends
+  pub forth : (e : Expr) → IsPlaced e
+  forth (Lit l) at behind end ends = last_first end behind (literal_code l) ∙ ap (λ i. i ∷ forwards end behind) (literal_placed end l)
+  forth (Read t (ModuleVar m k)) at behind end ends = more end behind (Load (kind_of t) ∷ Module m (variable_cell p m k) ∷ [])
+  forth (Unary op a) at behind end ends =
+      operand a at end (OnOne op ∷ []) (behind ++ OnOne op ∷ []) behind (forth a) (last_first end behind (OnOne op)) ends
+  forth (Binary op a b) at behind end ends =
+      let ca = value_code p a at in
+      let cb = value_code p b (at + length ca) in
+      let both = length-append ca (cb ++ OnTwo op ∷ []) in
+      let second = operand b (at + length ca) end (OnTwo op ∷ []) (behind ++ OnTwo op ∷ []) behind (forth b) (last_first end behind (OnTwo op)) (omega arith) in
+      operand a at end (cb ++ OnTwo op ∷ []) (back_code p b (behind ++ OnTwo op ∷ [])) behind (forth a) second ends
+  forth (And a b) at behind end ends =
+      let ca = value_code p a at in
+      let cb = value_code p b (at + length ca + 1) in
+      let from_false = at + length ca + 1 + length cb + 1 in
+      let past = at + length ca + 1 + length cb + 2 in
+      let ops = Jump past ∷ (Num (pos 0) ∷ []) in
+      let some = behind ++ Num (pos 0) ∷ Jump (length behind) ∷ [] in
+      let both = length-append ca (JumpFalse from_false ∷ (cb ++ ops)) in
+      let last = length-append cb ops in
+      let to_past : end - length behind ≡ past = omega arith in
+      let to_false : end - (length behind + 1) ≡ from_false = omega arith in
+      let placed_ops = more end behind (Num (pos 0) ∷ Jump (length behind) ∷ []) ∙ ap (λ n. Jump n ∷ (Num (pos 0) ∷ forwards end behind)) to_past in
+      let second = operand b (at + length ca + 1) end ops some behind (forth b) placed_ops (omega arith) in
+      let jump = last_first end (back_code p b some) (JumpFalse (length behind + 1)) ∙ (λ j. JumpFalse (to_false j) ∷ second j) in
+      operand a at end (JumpFalse from_false ∷ (cb ++ ops)) (back_code p b some ++ JumpFalse (length behind + 1) ∷ []) behind (forth a) jump ends
+  forth (Or a b) at behind end ends =
+      let ca = value_code p a at in
+      let from_second = at + length ca + 3 in
+      let cb = value_code p b from_second in
+      let ops = JumpFalse from_second ∷ (Num (pos 1) ∷ (Jump (from_second + length cb) ∷ cb)) in
+      let some = back_code p b behind in
+      let both = length-append ca ops in
+      let second = forth b from_second behind end (omega arith) in
+      let counted = count end cb some behind second in
+      let to_past : end - length behind ≡ from_second + length cb = omega arith in
+      let to_second : end - length some ≡ from_second = omega arith in
+      let jumps = Jump (length behind) ∷ Num (pos 1) ∷ JumpFalse (length some) ∷ [] in
+      let placed_ops = more end some jumps ∙ (λ j. JumpFalse (to_second j) ∷ (Num (pos 1) ∷ (Jump (to_past j) ∷ second j))) in
+      operand a at end ops (some ++ jumps) behind (forth a) placed_ops ends
+  forth (Element a) at behind end ends =
+      operand a at end (Dup ∷ (OnTwo SetSpan ∷ [])) (behind ++ OnTwo SetSpan ∷ Dup ∷ []) behind (forth a) (more end behind (OnTwo SetSpan ∷ Dup ∷ [])) ends
+  forth (Ord a) at behind end ends = forth a at behind end ends
+  forth (Chr a) at behind end ends =
+      let range = OnOne (Range (pos 0) (pos 255)) in
+      operand a at end (range ∷ []) (behind ++ range ∷ []) behind (forth a) (last_first end behind range) ends
 
--- the whole of an expression's code, where the code ends behind it
-pub whole : (e : Expr) (at end : ℕ) → end ≡ at + length (back_code e []) → forwards end (back_code e []) ≡ value_code e at
-whole e at end ends =
-    let first = at + length (value_code e at) + 0 in
-    let counted = count first (value_code e at) (back_code e []) [] (forth e at [] first refl) in
-    forth e at [] end (omega arith) ∙ append-nil (value_code e at)
+  -- the whole of an expression's code, where the code ends behind it
+  pub whole : (e : Expr) (at end : ℕ) → end ≡ at + length (back_code p e []) → forwards end (back_code p e []) ≡ value_code p e at
+  whole e at end ends =
+      let first = at + length (value_code p e at) + 0 in
+      let counted = count first (value_code p e at) (back_code p e []) [] (forth e at [] first refl) in
+      forth e at [] end (omega arith) ∙ append-nil (value_code p e at)

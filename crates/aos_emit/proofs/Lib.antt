@@ -3,3 +3,4 @@ pub mod Codes
 pub mod Forth
 pub mod Parts
 pub mod Heights
+pub mod Found

@@ -10,12 +10,13 @@ use Rattle.aos_typed.specs.declared.tree.TStat.{TStat}
 use Rattle.aos_typed.specs.declared.tree.TStat.TheViews as code
 use Rattle.aos_typed.specs.Seen.{seen_expr, seen_stat, seen_stats}
 use Rattle.aos_typed.proofs.Seen.{while_seen}
+use Rattle.aos_typed.specs.Program.{Program}
 use Rattle.aos_code.specs.declared.instr.Instr.{Instr}
 use Rattle.aos_code.specs.declared.instr.Instr.TheVariants.{JumpFalse, Jump}
 use Rattle.aos_sim.specs.Code.{begin, value_code, while_code, stat_code, stats_code}
 
-pub while_is : (here : Pos) (e : TExpr) (b : Vec TStat Global) (at : ℕ) → let c1 = value_code (seen_expr e) (at + 1) in stat_code (seen_stat (code.While here e b)) at ≡ while_code here c1 (stats_code (seen_stats b.items) (at + 1 + length c1 + 1)) at
-while_is here e b at = ap (λ s. stat_code s at) (while_seen here e b)
+pub while_is : (p : Program) (here : Pos) (e : TExpr) (b : Vec TStat Global) (at : ℕ) → let c1 = value_code p (seen_expr e) (at + 1) in stat_code p (seen_stat (code.While here e b)) at ≡ while_code here c1 (stats_code p (seen_stats b.items) (at + 1 + length c1 + 1)) at
+while_is p here e b at = ap (λ s. stat_code p s at) (while_seen here e b)
 
 pub patch_while : (base : List Instr) (here : Pos) (ce cb : ℕ → List Instr) (c1 c2 c3 c4 c5 : List Instr) (x : Instr) (n0 n1 n2 : ℕ) → n0 ≡ length base → c1 ≡ base ++ begin here ∷ [] → c2 ≡ c1 ++ ce (length c1) → n1 ≡ length c2 → c3 ≡ c2 ++ x ∷ [] → c4 ≡ c3 ++ cb (length c3) → c5 ≡ c4 ++ Jump n0 ∷ [] → n2 ≡ length c5 → let e = ce (length base + 1) in slice_set c5 n1 (JumpFalse n2) ≡ base ++ while_code here e (cb (length base + 1 + length e + 1)) (length base)
 patch_while base here ce cb c1 c2 c3 c4 c5 x n0 n1 n2 m0 e1 e2' m1 e3 e4' e5 m2 =

@@ -1,2 +1,3 @@
 pub mod Back
-pub mod Typed
+pub mod Laid
+pub mod Made

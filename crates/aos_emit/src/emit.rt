@@ -1,11 +1,14 @@
 // From typed statements to instructions: what is emitted is the code that the definitions give.
 
 ghost use Rattle.std.specs.Prelude.{◌≡◌, ◌+◌, ◌<◌, ◌^◌, [], ◌∷◌, ◌++◌, length, pos, IfOk, OnOk};
-ghost use Rattle.aos_typed.specs.Seen.{seen_place, seen_expr, seen_call, seen_stat, seen_stats};
+ghost use Rattle.aos_typed.specs.WellTyped.{IsStatement, AreStatements};
+ghost use Rattle.aos_typed.specs.Seen.{seen_program, seen_place, seen_expr, seen_call, seen_stat, seen_stats};
 ghost use Rattle.aos_emit.specs.Back.{back_code, placed};
-ghost use Rattle.aos_emit.specs.Typed.{IsTyped, AreTyped};
+ghost use Rattle.aos_sim.specs.Need.{body_need};
 ghost use Rattle.aos_sim.specs.Code.{begin, literal_code, kind_of, place_code, value_code, out_code, new_code, stat_code, stats_code, body_code};
 
+use crate::laid::Laid;
+use crate::need::stats_need;
 use aos_base::{Binary, Pos, Unary, truth};
 use aos_code::{Body, Instr, Kind};
 use aos_typed::{Literal, OutCall, TExpr, TPlace, TStat, TType};
@@ -66,28 +69,40 @@ fn emit_begin(code: &mut Vec<Instr>, at: Pos) -> Result<(), AllocError>
     put(code, Instr::Begin(at.line, at.col))
 }
 
-fn emit_place(code: &mut Vec<Instr>, place: &TPlace) -> Result<(), AllocError>
-    ensures { OnOk result
-        (code.new.items ≡ code.old.items ++ place_code (seen_place place.now) (length code.old.items)) }
+fn emit_place(program: &Laid<'_>, code: &mut Vec<Instr>, place: &TPlace) -> Result<(), AllocError>
+    ensures { OnOk result (code.new.items ≡ code.old.items ++
+        place_code (seen_program program.now) (seen_place place.now) (length code.old.items)) }
 {
     match place {
-        TPlace::ModuleVar(module, variable) => put(code, Instr::Module(*module, *variable)),
+        TPlace::ModuleVar(module, variable) => {
+            let cell = program.cell(*module, *variable);
+            put(code, Instr::Module(*module, cell))
+        }
     }
 }
 
-fn emit_read_back(code: &mut Vec<Instr>, of: TType, place: &TPlace) -> Result<(), AllocError>
-    ensures { OnOk result
-        (code.new.items ≡ code.old.items ++ Instr.Load (kind_of of) ∷ place_code (seen_place place.now) 0) }
+fn emit_read_back(
+    program: &Laid<'_>,
+    code: &mut Vec<Instr>,
+    of: TType,
+    place: &TPlace,
+) -> Result<(), AllocError>
+    ensures { OnOk result (code.new.items ≡ code.old.items ++ Instr.Load (kind_of of) ∷
+        place_code (seen_program program.now) (seen_place place.now) 0) }
 {
     put(code, Instr::Load(cell_kind(of)))?;
-    emit_place(code, place)
+    emit_place(program, code, place)
 }
 
 // The second operand of `&` with what stands around it, from the last instruction to the first.
 #[cycle(emit_back)]
-fn emit_and_back(code: &mut Vec<Instr>, second: &TExpr) -> Result<(), AllocError>
+fn emit_and_back(
+    program: &Laid<'_>,
+    code: &mut Vec<Instr>,
+    second: &TExpr,
+) -> Result<(), AllocError>
     ensures { OnOk result
-        (code.new.items ≡ back_code (seen_expr second.now)
+        (code.new.items ≡ back_code (seen_program program.now) (seen_expr second.now)
         (code.old.items ++ Instr.Num (pos 0) ∷ Instr.Jump (length code.old.items) ∷ []) ++ Instr.JumpFalse
         (length code.old.items + 1) ∷ []) }
 {
@@ -95,18 +110,18 @@ fn emit_and_back(code: &mut Vec<Instr>, second: &TExpr) -> Result<(), AllocError
     put(code, Instr::Num(0))?;
     let from_false = next_place(code)?;
     put(code, Instr::Jump(past))?;
-    emit_back(code, second)?;
+    emit_back(program, code, second)?;
     put(code, Instr::JumpFalse(from_false))
 }
 
 // The second operand of OR with what stands before it, from the last instruction to the first.
 #[cycle(emit_back)]
-fn emit_or_back(code: &mut Vec<Instr>, second: &TExpr) -> Result<(), AllocError>
-    ensures { OnOk result (let all = back_code (seen_expr second.now) code.old.items in
+fn emit_or_back(program: &Laid<'_>, code: &mut Vec<Instr>, second: &TExpr) -> Result<(), AllocError>
+    ensures { OnOk result (let all = back_code (seen_program program.now) (seen_expr second.now) code.old.items in
         code.new.items ≡ all ++ Instr.Jump (length code.old.items) ∷ Instr.Num (pos 1) ∷ Instr.JumpFalse (length all) ∷ []) }
 {
     let behind = next_place(code)?;
-    emit_back(code, second)?;
+    emit_back(program, code, second)?;
     let from_second = next_place(code)?;
     put(code, Instr::Jump(behind))?;
     put(code, Instr::Num(1))?;
@@ -116,29 +131,29 @@ fn emit_or_back(code: &mut Vec<Instr>, second: &TExpr) -> Result<(), AllocError>
 // The code of an expression, from its last instruction to its first. A long sum has as many left operands, one in
 // another: the loop over them takes no stack. A jump is given the number of instructions from its target to the end.
 #[cycle(emit_back)]
-fn emit_back(code: &mut Vec<Instr>, value: &TExpr) -> Result<(), AllocError>
-    ensures { OnOk result (code.new.items ≡ back_code (seen_expr value.now) code.old.items) }
+fn emit_back(program: &Laid<'_>, code: &mut Vec<Instr>, value: &TExpr) -> Result<(), AllocError>
+    ensures { OnOk result (code.new.items ≡ back_code (seen_program program.now) (seen_expr value.now) code.old.items) }
 {
     let mut rest = value;
     loop {
         match rest {
             TExpr::Lit(literal) => return put(code, literal_instr(*literal)),
-            TExpr::Read(of, place) => return emit_read_back(code, *of, place),
+            TExpr::Read(of, place) => return emit_read_back(program, code, *of, place),
             TExpr::Unary(operator, operand) => {
                 put(code, Instr::Unary(*operator))?;
                 rest = operand;
             }
             TExpr::Binary(operator, left, right) => {
                 put(code, Instr::Binary(*operator))?;
-                emit_back(code, right)?;
+                emit_back(program, code, right)?;
                 rest = left;
             }
             TExpr::And(left, right) => {
-                emit_and_back(code, right)?;
+                emit_and_back(program, code, right)?;
                 rest = left;
             }
             TExpr::Or(left, right) => {
-                emit_or_back(code, right)?;
+                emit_or_back(program, code, right)?;
                 rest = left;
             }
             TExpr::Element(operand) => {
@@ -167,12 +182,17 @@ fn place_jump(instr: Instr, end: u32) -> Instr
     }
 }
 
-fn emit_value(alloc: Global, code: &mut Vec<Instr>, value: &TExpr) -> Result<(), AllocError>
-    ensures { OnOk result
-        (code.new.items ≡ code.old.items ++ value_code (seen_expr value.now) (length code.old.items)) }
+fn emit_value(
+    alloc: Global,
+    program: &Laid<'_>,
+    code: &mut Vec<Instr>,
+    value: &TExpr,
+) -> Result<(), AllocError>
+    ensures { OnOk result (code.new.items ≡ code.old.items ++
+        value_code (seen_program program.now) (seen_expr value.now) (length code.old.items)) }
 {
     let mut back = Vec::new(alloc);
-    emit_back(&mut back, value)?;
+    emit_back(program, &mut back, value)?;
     let end = number_of(code.len() + back.len())?;
     while let Some(instr) = back.pop() {
         put(code, place_jump(instr, end))?;
@@ -180,19 +200,24 @@ fn emit_value(alloc: Global, code: &mut Vec<Instr>, value: &TExpr) -> Result<(),
     Ok(())
 }
 
-fn emit_out(alloc: Global, code: &mut Vec<Instr>, call: &OutCall) -> Result<(), AllocError>
-    ensures { OnOk result
-        (code.new.items ≡ code.old.items ++ out_code (seen_call call.now) (length code.old.items)) }
+fn emit_out(
+    alloc: Global,
+    program: &Laid<'_>,
+    code: &mut Vec<Instr>,
+    call: &OutCall,
+) -> Result<(), AllocError>
+    ensures { OnOk result (code.new.items ≡ code.old.items ++
+        out_code (seen_program program.now) (seen_call call.now) (length code.old.items)) }
 {
     match call {
         OutCall::Open => put(code, Instr::OutOpen),
         OutCall::Char(value) => {
-            emit_value(alloc, code, value)?;
+            emit_value(alloc, program, code, value)?;
             put(code, Instr::OutChar)
         }
         OutCall::Int(value, places) => {
-            emit_value(alloc, code, value)?;
-            emit_value(alloc, code, places)?;
+            emit_value(alloc, program, code, value)?;
+            emit_value(alloc, program, code, places)?;
             put(code, Instr::OutInt)
         }
         OutCall::Ln => put(code, Instr::OutLn),
@@ -200,41 +225,50 @@ fn emit_out(alloc: Global, code: &mut Vec<Instr>, call: &OutCall) -> Result<(), 
 }
 
 // The object is stored before its activity is started.
-fn emit_new(code: &mut Vec<Instr>, place: &TPlace, object: u32) -> Result<(), AllocError>
+fn emit_new(
+    program: &Laid<'_>,
+    code: &mut Vec<Instr>,
+    place: &TPlace,
+    object: u32,
+) -> Result<(), AllocError>
     requires { object + 1 < 2 ^ 32 }
-    ensures { OnOk result
-        (code.new.items ≡ code.old.items ++ new_code (seen_place place.now) object
-        (length code.old.items)) }
+    ensures { OnOk result (code.new.items ≡ code.old.items ++
+        new_code (seen_program program.now) (seen_place place.now) object (length code.old.items)) }
 {
     put(code, Instr::NewObject(object + 1))?;
     put(code, Instr::Dup)?;
-    emit_place(code, place)?;
+    emit_place(program, code, place)?;
     put(code, Instr::Swap)?;
     put(code, Instr::Store(Kind::R))?;
     put(code, Instr::Start)
 }
 
 #[cycle(emit_stat)]
-fn emit_stat(alloc: Global, code: &mut Vec<Instr>, statement: &TStat) -> Result<(), AllocError>
-    requires { IsTyped (seen_stat statement.now) }
-    ensures { OnOk result
-        (code.new.items ≡ code.old.items ++ stat_code (seen_stat statement.now)
-        (length code.old.items)) }
+fn emit_stat(
+    alloc: Global,
+    program: &Laid<'_>,
+    code: &mut Vec<Instr>,
+    statement: &TStat,
+) -> Result<(), AllocError>
+    requires few { length program.now.objects.items < 2 ^ 32 }
+    requires typed { IsStatement (seen_program program.now) (seen_stat statement.now) }
+    ensures { OnOk result (code.new.items ≡ code.old.items ++
+        stat_code (seen_program program.now) (seen_stat statement.now) (length code.old.items)) }
 {
     match statement {
         TStat::Assign(at, of, place, value) => {
             emit_begin(code, *at)?;
-            emit_place(code, place)?;
-            emit_value(alloc, code, value)?;
+            emit_place(program, code, place)?;
+            emit_value(alloc, program, code, value)?;
             put(code, Instr::Store(cell_kind(*of)))
         }
         TStat::While(at, condition, body) => {
             let start = next_place(code)?;
             emit_begin(code, *at)?;
-            emit_value(alloc, code, condition)?;
+            emit_value(alloc, program, code, condition)?;
             let test_end = code.len();
             put(code, Instr::JumpFalse(0))?;
-            emit_stats(alloc, code, body)?;
+            emit_stats(alloc, program, code, body)?;
             put(code, Instr::Jump(start))?;
             let end = next_place(code)?;
             code[test_end] = Instr::JumpFalse(end);
@@ -242,35 +276,48 @@ fn emit_stat(alloc: Global, code: &mut Vec<Instr>, statement: &TStat) -> Result<
         }
         TStat::New(at, place, object) => {
             emit_begin(code, *at)?;
-            emit_new(code, place, *object)
+            emit_new(program, code, place, *object)
         }
         TStat::Out(at, call) => {
             emit_begin(code, *at)?;
-            emit_out(alloc, code, call)
+            emit_out(alloc, program, code, call)
         }
     }
 }
 
 #[cycle(emit_stat)]
-fn emit_stats(alloc: Global, code: &mut Vec<Instr>, statements: &[TStat]) -> Result<(), AllocError>
-    requires { AreTyped (seen_stats statements.now) }
-    ensures { OnOk result
-        (code.new.items ≡ code.old.items ++ stats_code (seen_stats statements.now)
-        (length code.old.items)) }
+fn emit_stats(
+    alloc: Global,
+    program: &Laid<'_>,
+    code: &mut Vec<Instr>,
+    statements: &[TStat],
+) -> Result<(), AllocError>
+    requires few { length program.now.objects.items < 2 ^ 32 }
+    requires typed { AreStatements (seen_program program.now) (seen_stats statements.now) }
+    ensures { OnOk result (code.new.items ≡ code.old.items ++
+        stats_code (seen_program program.now) (seen_stats statements.now) (length code.old.items)) }
 {
     for statement in statements {
-        emit_stat(alloc, code, statement)?;
+        emit_stat(alloc, program, code, statement)?;
     }
     Ok(())
 }
 
-/// The code of a body with these statements, which are well typed in a program of fewer than 2^32 object types.
-pub fn emit_body(alloc: Global, statements: &[TStat]) -> Result<Body, AllocError>
-    requires { AreTyped (seen_stats statements.now) }
-    ensures { IfOk result (λ body. body.code.items ≡ body_code (seen_stats statements.now)) }
+/// The body with these statements, which are well typed in a program of fewer than 2^32 object types.
+pub fn emit_body(
+    alloc: Global,
+    program: &Laid<'_>,
+    statements: &[TStat],
+) -> Result<Body, AllocError>
+    requires few { length program.now.objects.items < 2 ^ 32 }
+    requires typed { AreStatements (seen_program program.now) (seen_stats statements.now) }
+    ensures code { IfOk result
+        (λ body. body.code.items ≡ body_code (seen_program program.now) (seen_stats statements.now)) }
+    ensures depth { IfOk result (λ body. body.depth ≡ body_need (seen_stats statements.now)) }
 {
     let mut code = Vec::new(alloc);
-    emit_stats(alloc, &mut code, statements)?;
+    emit_stats(alloc, program, &mut code, statements)?;
     put(&mut code, Instr::Return)?;
-    Ok(Body { code })
+    let depth = stats_need(statements)?;
+    Ok(Body { code, depth })
 }

@@ -1,7 +1,9 @@
-//! From a typed program to the image that shows it.
+//! From a typed program to the image that has its code, and so shows it.
 #![tactic(auto)]
 
 mod emit;
 mod image;
+mod laid;
+mod need;
 
 pub use image::image_of;

@@ -10,7 +10,7 @@ use Rattle.aos_types.specs.Contents.{contents, scalars, variable_scalars}
 use Rattle.aos_types.specs.Shape.{Shape, One, Nothing, Pair, size, row}
 use Rattle.aos_code.specs.declared.instr.Kind.{Kind}
 use Rattle.aos_code.specs.declared.instr.Kind.TheVariants.{N}
-use Rattle.aos_layout.specs.Layout.{flatten, shaped, kind_of, kinds, cells}
+use Rattle.aos_layout.specs.Layout.{leaves, shaped, kind_of, kinds, cells}
 use Rattle.aos_layout.specs.Part.{variable}
 use Rattle.aos_code.specs.declared.image.ParamKind.TheVariants.{Whole, Open}
 use Rattle.aos_typed.specs.Program.{Parameter}
@@ -19,35 +19,35 @@ use Rattle.aos_layout.specs.Frame.{places_from, open_dimensions, open_element, p
 use Rattle.aos_layout.specs.Cells.{kinds_of}
 use Rattle.aos_layout.proofs.Outcomes.{other_kinds, kinds_counted}
 
-flatten_shaped : {S T : Type 0} (f : S → T) (s : Shape S) → flatten (shaped f s) ≡ map f (flatten s)
+flatten_shaped : {S T : Type 0} (f : S → T) (s : Shape S) → leaves (shaped f s) ≡ map f (leaves s)
 flatten_shaped f (One k) = refl
 flatten_shaped f Nothing = refl
 flatten_shaped f (Pair a b) =
-    (λ i. flatten_shaped f a i ++ flatten_shaped f b i) ∙ sym (map-append f (flatten a) (flatten b))
+    (λ i. flatten_shaped f a i ++ flatten_shaped f b i) ∙ sym (map-append f (leaves a) (leaves b))
 
 pub size_shaped : {S T : Type 0} (f : S → T) (s : Shape S) → size (shaped f s) ≡ size s
 size_shaped f (One k) = refl
 size_shaped f Nothing = refl
 size_shaped f (Pair a b) = λ i. size_shaped f a i + size_shaped f b i
 
-pub flatten_lengths : (n : ℕ) → flatten (row (replicate n (One N))) ≡ replicate n N
+pub flatten_lengths : (n : ℕ) → leaves (row (replicate n (One N))) ≡ replicate n N
 flatten_lengths zero = refl
 flatten_lengths (suc n) = ap (λ ks. N ∷ ks) (flatten_lengths n)
 
 -- a variable of another type than an object type has the type's own cells
-pub other_cells : (rows : List TypeRow) (t : TypeId) → is_object (row_of rows t) ≡ false → flatten (cells rows t) ≡ kinds rows t
+pub other_cells : (rows : List TypeRow) (t : TypeId) → is_object (row_of rows t) ≡ false → leaves (cells rows t) ≡ kinds rows t
 other_cells rows t e = flatten_shaped (kind_of rows) (variable rows t) ∙ other_kinds rows t e
 
 -- one more part
-kinds_of_more : (ss : List (Shape Kind)) (s : Shape Kind) → kinds_of (ss ++ s ∷ []) ≡ kinds_of ss ++ flatten s
-kinds_of_more [] s = append-nil (flatten s)
-kinds_of_more (x ∷ ss) s = ap (λ z. flatten x ++ z) (kinds_of_more ss s) ∙ sym (append_assoc (flatten x) (kinds_of ss) (flatten s))
+kinds_of_more : (ss : List (Shape Kind)) (s : Shape Kind) → kinds_of (ss ++ s ∷ []) ≡ kinds_of ss ++ leaves s
+kinds_of_more [] s = append-nil (leaves s)
+kinds_of_more (x ∷ ss) s = ap (λ z. leaves x ++ z) (kinds_of_more ss s) ∙ sym (append_assoc (leaves x) (kinds_of ss) (leaves s))
 
 places_more : (at : ℕ) (ss : List (Shape Kind)) (s : Shape Kind) → places_from at (ss ++ s ∷ []) ≡ places_from at ss ++ (at + length (kinds_of ss)) ∷ []
 places_more at [] s = ap (λ n. n ∷ []) (let h : at ≡ at + 0 = omega arith in h)
 places_more at (x ∷ ss) s =
     let c = kinds_counted x in
-    let a = length-append (flatten x) (kinds_of ss) in
+    let a = length-append (leaves x) (kinds_of ss) in
     let e : at + size x + length (kinds_of ss) ≡ at + length (kinds_of (x ∷ ss)) = omega (arith, a, c) in
     ap (λ z. at ∷ z) (places_more (at + size x) ss s ∙ ap (λ n. places_from (at + size x) ss ++ n ∷ []) e)
 
@@ -60,10 +60,10 @@ module _ {A B : Type 0} (f : B → Shape Kind) (g : A → B) (xs : List A) (i : 
       ap parts (take_more xs i d l) ∙ ap (map f) (map-append g (take i xs) (get_or xs i d ∷ [])) ∙ map-append f (map g (take i xs)) (g (get_or xs i d) ∷ [])
 
   module _ (ks kinds : List Kind) (is : kinds ≡ ks ++ kinds_of (parts (take i xs))) where
-    pub kinds_step : (kinds' : List Kind) → kinds' ≡ kinds ++ flatten (f (g (get_or xs i d))) → kinds' ≡ ks ++ kinds_of (parts (take (i + 1) xs))
+    pub kinds_step : (kinds' : List Kind) → kinds' ≡ kinds ++ leaves (f (g (get_or xs i d))) → kinds' ≡ ks ++ kinds_of (parts (take (i + 1) xs))
     kinds_step kinds' e =
         let s = f (g (get_or xs i d)) in
-        e ∙ ap (λ z. z ++ flatten s) is ∙ append_assoc ks (kinds_of (parts (take i xs))) (flatten s) ∙ ap (λ z. ks ++ z) (sym (ap kinds_of parts_more ∙ kinds_of_more (parts (take i xs)) s))
+        e ∙ ap (λ z. z ++ leaves s) is ∙ append_assoc ks (kinds_of (parts (take i xs))) (leaves s) ∙ ap (λ z. ks ++ z) (sym (ap kinds_of parts_more ∙ kinds_of_more (parts (take i xs)) s))
 
     pub places_step : (ps places places' : List ℕ) → places ≡ ps ++ places_from (length ks) (parts (take i xs)) → places' ≡ places ++ length kinds ∷ [] → places' ≡ ps ++ places_from (length ks) (parts (take (i + 1) xs))
     places_step ps places places' before e =
@@ -80,13 +80,13 @@ there_at P g xs i x l all is =
 -- parts behind others
 kinds_of_append : (ss ts : List (Shape Kind)) → kinds_of (ss ++ ts) ≡ kinds_of ss ++ kinds_of ts
 kinds_of_append [] ts = refl
-kinds_of_append (s ∷ ss) ts = ap (λ z. flatten s ++ z) (kinds_of_append ss ts) ∙ sym (append_assoc (flatten s) (kinds_of ss) (kinds_of ts))
+kinds_of_append (s ∷ ss) ts = ap (λ z. leaves s ++ z) (kinds_of_append ss ts) ∙ sym (append_assoc (leaves s) (kinds_of ss) (kinds_of ts))
 
 places_append : (at : ℕ) (ss ts : List (Shape Kind)) → places_from at (ss ++ ts) ≡ places_from at ss ++ places_from (at + length (kinds_of ss)) ts
 places_append at [] ts = ap (λ n. places_from n ts) (let h : at ≡ at + 0 = omega arith in h)
 places_append at (s ∷ ss) ts =
     let c = kinds_counted s in
-    let a = length-append (flatten s) (kinds_of ss) in
+    let a = length-append (leaves s) (kinds_of ss) in
     let e : at + size s + length (kinds_of ss) ≡ at + length (kinds_of (s ∷ ss)) = omega (arith, a, c) in
     ap (λ z. at ∷ z) (places_append (at + size s) ss ts ∙ ap (λ n. places_from (at + size s) ss ++ places_from n ts) e)
 
@@ -122,5 +122,5 @@ variable_fits rows t l = at_test (is_object (row_of rows t))
     at_test true = omega arith
     at_test false = l
 
-pub cells_counted : (s : Shape Kind) (ks : List Kind) → ks ≡ flatten s → length ks ≡ size s
+pub cells_counted : (s : Shape Kind) (ks : List Kind) → ks ≡ leaves s → length ks ≡ size s
 cells_counted s ks e = ap length e ∙ kinds_counted s

@@ -4,3 +4,4 @@ pub mod Ways
 pub mod Outcomes
 pub mod Opens
 pub mod Frames
+pub mod Blocks

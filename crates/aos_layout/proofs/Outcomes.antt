@@ -18,7 +18,7 @@ use Rattle.aos_types.proofs.Tables.{by_parts}
 use Rattle.aos_code.specs.declared.instr.Kind.{Kind}
 use Rattle.aos_code.specs.declared.instr.Kind.TheVariants.{R}
 use Rattle.aos_layout.specs.declared.work.Task.{Task}
-use Rattle.aos_layout.specs.Layout.{flatten, kind_in, kind_of, kinds}
+use Rattle.aos_layout.specs.Layout.{leaves, kind_in, kind_of, kinds}
 use Rattle.aos_layout.specs.Part.{variable, fields}
 use Rattle.aos_layout.specs.Work.{variable_kinds, field_kinds, base_kinds, again, fields_of, done, all_done, sum_of, steps_by, steps, variable_steps, field_steps, task_steps, all_steps}
 
@@ -46,10 +46,10 @@ object_kind (Some row.Any) e = absurd (cc)
 
 module _ (rows : List TypeRow) (t : TypeId) where
   pub object_kinds : is_object (row_of rows t) ≡ true → variable_kinds rows t ≡ R ∷ []
-  object_kinds e = ap (λ b. map (kind_of rows) (flatten (if b then One t else contents rows t))) e ∙ ap (λ k. k ∷ []) (object_kind (row_of rows t) e)
+  object_kinds e = ap (λ b. map (kind_of rows) (leaves (if b then One t else contents rows t))) e ∙ ap (λ k. k ∷ []) (object_kind (row_of rows t) e)
 
   pub other_kinds : is_object (row_of rows t) ≡ false → variable_kinds rows t ≡ kinds rows t
-  other_kinds e = ap (λ b. map (kind_of rows) (flatten (if b then One t else contents rows t))) e
+  other_kinds e = ap (λ b. map (kind_of rows) (leaves (if b then One t else contents rows t))) e
 
   pub other_steps : is_object (row_of rows t) ≡ false → variable_steps rows t ≡ steps rows t
   other_steps e = ap (λ b. sum_of (steps rows) (if b then [] else t ∷ [])) e ∙ omega arith
@@ -79,10 +79,10 @@ again_next ks from n l =
     ap (λ z. (ks ++ again n xs) ++ take (length ks - from) z) (drop-append-le from ks (again n xs) l) ∙ ap (λ z. (ks ++ again n xs) ++ z) r ∙ append_assoc ks (again n xs) xs ∙ ap (λ z. ks ++ z) (again_last n xs)
 
 -- a type has as many kinds as scalars
-pub kinds_counted : {S : Type 0} (s : Shape S) → length (flatten s) ≡ shape.size s
+pub kinds_counted : {S : Type 0} (s : Shape S) → length (leaves s) ≡ shape.size s
 kinds_counted (One k) = refl
 kinds_counted Nothing = refl
-kinds_counted (Pair a b) = let x = kinds_counted a in let y = kinds_counted b in omega (arith, length-append (flatten a) (flatten b), x, y)
+kinds_counted (Pair a b) = let x = kinds_counted a in let y = kinds_counted b in omega (arith, length-append (leaves a) (leaves b), x, y)
 
 none_of : (ks : List Kind) → length ks ≡ 0 → ks ≡ []
 none_of [] e = refl
@@ -91,27 +91,27 @@ none_of (k ∷ ks) e = absurd (omega arith)
 pub no_kinds : (rows : List TypeRow) (t : TypeId) → scalars rows t ≡ 0 → kinds rows t ≡ []
 no_kinds rows t e =
     none_of (kinds rows t)
-    (let c = kinds_counted (contents rows t) in let m = length-map (flatten (contents rows t)) (kind_of rows) in omega (arith, c, m, e))
+    (let c = kinds_counted (contents rows t) in let m = length-map (leaves (contents rows t)) (kind_of rows) in omega (arith, c, m, e))
 
 -- kinds of shapes that are put together
 module _ (f : TypeId → Kind) where
   abbrev of_shape : Shape TypeId → List Kind
-  of_shape s = map f (flatten s)
+  of_shape s = map f (leaves s)
 
   kinds_join : (a b : Shape TypeId) → of_shape (join a b) ≡ of_shape a ++ of_shape b
   kinds_join (One k) b = refl
   kinds_join Nothing b = refl
   kinds_join (Pair x y) b =
-      map-append f (flatten x) (flatten (join y b)) ∙ ap (λ z. of_shape x ++ z) (kinds_join y b) ∙ sym (append_assoc (of_shape x) (of_shape y) (of_shape b)) ∙ ap (λ z. z ++ of_shape b) (sym (map-append f (flatten x) (flatten y)))
+      map-append f (leaves x) (leaves (join y b)) ∙ ap (λ z. of_shape x ++ z) (kinds_join y b) ∙ sym (append_assoc (of_shape x) (of_shape y) (of_shape b)) ∙ ap (λ z. z ++ of_shape b) (sym (map-append f (leaves x) (leaves y)))
 
   kinds_repeated : (n : ℕ) (s : Shape TypeId) → of_shape (shape.repeated n s) ≡ again n (of_shape s)
   kinds_repeated zero s = refl
-  kinds_repeated (suc n) s = map-append f (flatten s) (flatten (shape.repeated n s)) ∙ ap (λ z. of_shape s ++ z) (kinds_repeated n s)
+  kinds_repeated (suc n) s = map-append f (leaves s) (leaves (shape.repeated n s)) ∙ ap (λ z. of_shape s ++ z) (kinds_repeated n s)
 
 module _ (rows : List TypeRow) where
   kinds_fields : (ts : List TypeId) → of_shape (kind_of rows) (fields rows ts) ≡ field_kinds rows ts
   kinds_fields [] = refl
-  kinds_fields (t ∷ ts) = map-append (kind_of rows) (flatten (variable rows t)) (flatten (fields rows ts)) ∙ ap (λ z. variable_kinds rows t ++ z) (kinds_fields ts)
+  kinds_fields (t ∷ ts) = map-append (kind_of rows) (leaves (variable rows t)) (leaves (fields rows ts)) ∙ ap (λ z. variable_kinds rows t ++ z) (kinds_fields ts)
 
   kinds_base : (b : Option TypeId) → of_shape (kind_of rows) (of_base (contents rows) b) ≡ base_kinds rows b
   kinds_base None = refl

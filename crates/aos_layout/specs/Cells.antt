@@ -6,7 +6,7 @@ use Rattle.aos_code.specs.declared.instr.Kind.{Kind}
 use Rattle.aos_typed.specs.declared.tree.TParameter.{TParameter}
 use Rattle.aos_typed.specs.declared.tree.TVariable.{TVariable}
 use Rattle.aos_typed.specs.Seen.{seen_parameter, seen_variable}
-use Rattle.aos_layout.specs.Layout.{flatten, variable_cells}
+use Rattle.aos_layout.specs.Layout.{leaves, variable_cells}
 use Rattle.aos_layout.specs.Frame.{parameter_cells}
 
 abbrev pub parameter_parts : List TypeRow → List TParameter → List (Shape Kind)
@@ -17,4 +17,4 @@ local_parts rows vs = variable_cells rows (map seen_variable vs)
 
 -- the kinds of the parts' cells
 abbrev pub kinds_of : List (Shape Kind) → List Kind
-kinds_of ss = flatten (row ss)
+kinds_of ss = leaves (row ss)

@@ -14,7 +14,7 @@ use Rattle.aos_code.specs.declared.image.ParamKind.TheVariants.{Scalar, Whole, P
 use Rattle.aos_typed.specs.declared.tree.TType.{TType}
 use Rattle.aos_typed.specs.Program.{Parameter, Procedure}
 use Rattle.aos_typed.specs.Numbers.{id_of}
-use Rattle.aos_layout.specs.Layout.{flatten, kind_of, cells, variable_cells}
+use Rattle.aos_layout.specs.Layout.{leaves, kind_of, cells, variable_cells}
 
 -- how many dimensions of a type are open, at most so many
 abbrev pub open_by : ℕ → List TypeRow → TypeId → ℕ
@@ -107,7 +107,7 @@ known rows home p =
       keeps = 0;
       result = option_map (λ t. kind_of rows (id_of t)) p.result;
       method = false;
-      kinds = flatten (frame rows p);
+      kinds = leaves (frame rows p);
     }
 
 -- a procedure's number, what code knows of it, and the first cell of each parameter and then of each local

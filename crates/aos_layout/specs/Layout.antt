@@ -1,31 +1,22 @@
 -- Where scalars lie: each has a cell, those of a type in order of declaration from 0, the base's first, and those of an array
 -- element by element.
-use Rattle.std.specs.Prelude.{List, [], ◌∷◌, ◌++◌, map, Option, Some}
+use Rattle.std.specs.Prelude.{List, map, Option, Some}
+use Rattle.aos_types.specs.declared.row.Basic.TheVariants as basic
 use Rattle.aos_types.specs.declared.row.TypeId.{TypeId}
 use Rattle.aos_types.specs.declared.row.TypeRow.{TypeRow}
 use Rattle.aos_types.specs.declared.row.TypeRow.TheVariants as row
 use Rattle.aos_types.specs.Table.{row_of}
-use Rattle.aos_types.specs.Shape.{Shape, One, Nothing, Pair, row as row_of_shapes}
+use Rattle.aos_types.specs.Shape.{Shape, row as row_of_shapes}
+pub use Rattle.aos_types.specs.Shape.{leaves, shaped}
 use Rattle.aos_types.specs.Contents.{contents, of_variable}
 use Rattle.aos_code.specs.declared.instr.Kind.{Kind}
 use Rattle.aos_code.specs.declared.instr.Kind.TheVariants.{N, R, C}
 use Rattle.aos_typed.specs.Program.{Variable, Module}
 use Rattle.aos_typed.specs.Numbers.{id_of}
 
--- a shape's scalars, in order
-abbrev pub flatten : {S : Type 0} → Shape S → List S
-flatten (One k) = k ∷ []
-flatten Nothing = []
-flatten (Pair a b) = flatten a ++ flatten b
-
--- a shape with other scalars
-abbrev pub shaped : {S T : Type 0} → (S → T) → Shape S → Shape T
-shaped f (One k) = One (f k)
-shaped f Nothing = Nothing
-shaped f (Pair a b) = Pair (shaped f a) (shaped f b)
-
--- the kind of a scalar's cell: a number's, a reference's or a procedure value's
+-- the kind of a scalar's cell: a number's, a reference's, which NIL is, or a procedure value's
 abbrev pub kind_in : Option TypeRow → Kind
+kind_in (Some (row.Basic basic.Nil)) = R
 kind_in (Some (row.Pointer to)) = R
 kind_in (Some (row.Object base fields)) = R
 kind_in (Some row.Any) = R
@@ -37,7 +28,7 @@ kind_of rows t = kind_in (row_of rows t)
 
 -- the kinds of a type's cells; of an object type, of those of an object
 abbrev pub kinds : List TypeRow → TypeId → List Kind
-kinds rows t = map (kind_of rows) (flatten (contents rows t))
+kinds rows t = map (kind_of rows) (leaves (contents rows t))
 
 -- the cells of a variable, an element or a field of a type
 abbrev pub cells : List TypeRow → TypeId → Shape Kind

@@ -4,3 +4,4 @@ pub mod Part
 pub mod Work
 pub mod Cells
 pub mod Seen
+pub mod Block

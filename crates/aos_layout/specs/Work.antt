@@ -11,12 +11,12 @@ use Rattle.aos_code.specs.declared.instr.Kind.{Kind}
 use Rattle.aos_layout.specs.declared.work.Task.{Task}
 use Rattle.aos_layout.specs.declared.work.Task.TheVariants.{Contents, Fields, Again}
 use Rattle.aos_layout.specs.declared.work.Work.{Work}
-use Rattle.aos_layout.specs.Layout.{flatten, kind_of, kinds}
+use Rattle.aos_layout.specs.Layout.{leaves, kind_of, kinds}
 use Rattle.aos_layout.specs.Part.{variable}
 
 -- the kinds of a variable, an element or a field of a type
 abbrev pub variable_kinds : List TypeRow → TypeId → List Kind
-variable_kinds rows t = map (kind_of rows) (flatten (variable rows t))
+variable_kinds rows t = map (kind_of rows) (leaves (variable rows t))
 
 abbrev pub field_kinds : List TypeRow → List TypeId → List Kind
 field_kinds rows ts = flat_map (variable_kinds rows) ts

@@ -90,7 +90,7 @@ fn push_variable(
 ) -> Result<(), AllocError>
     requires { NoneContainsItself types.now }
     ensures { OnOk result (kinds.new.items ≡
-        kinds.old.items ++ layout.flatten (layout.cells types.now t)) }
+        kinds.old.items ++ layout.leaves (layout.cells types.now t)) }
 {
     if is_object(types, t) {
         kinds.push(Kind::R)?;
@@ -104,7 +104,7 @@ fn push_variable(
 /// Puts the kinds of an open array's cells behind others: its place, and its lengths.
 fn push_open(dimensions: u64, kinds: &mut Vec<Kind>) -> Result<(), AllocError>
     ensures { OnOk result (kinds.new.items ≡
-        kinds.old.items ++ layout.flatten (frame.open_cells dimensions)) }
+        kinds.old.items ++ layout.leaves (frame.open_cells dimensions)) }
 {
     kinds.push(Kind::A)?;
     for _dimension in 0..dimensions {
@@ -124,7 +124,7 @@ fn push_parameter(
     requires few { length types.now ≤ 4294967296 }
     requires there { frame.IsThere types.now parameter.now.of }
     ensures { OnOk result (kinds.new.items ≡ kinds.old.items ++
-        layout.flatten (frame.parameter_cells types.now (seen_parameter parameter.now))) }
+        layout.leaves (frame.parameter_cells types.now (seen_parameter parameter.now))) }
 {
     let t = id_of(parameter.of);
     if is_open(types, t) {

@@ -109,7 +109,7 @@ fn cells_of(alloc: Global, types: &Types, procedure: &TProcedure) -> Result<Cell
     requires few { length types.now ≤ 4294967296 }
     requires typed { frame.AreThere types.now (seen_procedure procedure.now) }
     ensures kinds { IfOk result (λ cells. cells.kinds.items ≡
-        layout.flatten (frame.frame types.now (seen_procedure procedure.now))) }
+        layout.leaves (frame.frame types.now (seen_procedure procedure.now))) }
     ensures places { IfOk result (λ cells. cells.places.items ≡
         frame.places_from 0 (frame.frame_parts types.now (seen_procedure procedure.now))) }
 {

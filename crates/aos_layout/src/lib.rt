@@ -1,6 +1,7 @@
 //! Where scalars lie: the cells of types, of modules' variables and of procedures' frames (Oberon-2 report, 6.2, 6.3 and 10.1).
 #![tactic(auto)]
 
+mod block;
 mod cells;
 mod frame;
 mod laws;
@@ -8,6 +9,7 @@ mod layout;
 mod part;
 mod work;
 
+pub use block::{BlockShape, block_shape};
 pub use frame::{FrameShape, frame_shape};
 pub use laws::{law_of_blocks, law_of_frames, law_of_records};
 pub use layout::{offset, shape};

@@ -10,7 +10,7 @@ ghost use Rattle.aos_layout.specs.Work as work;
 
 use crate::part::{is_empty, row_of};
 use aos_code::Kind;
-use aos_types::{TypeId, TypeRow, Types};
+use aos_types::{Basic, TypeId, TypeRow, Types};
 use std::alloc::{AllocError, Global};
 
 /// What is to be put behind the kinds that are there.
@@ -36,6 +36,7 @@ pub(crate) fn kind_of(types: &Types, t: TypeId) -> Kind
     ensures { result ≡ layout.kind_of types.now t }
 {
     match row_of(types, t) {
+        Some(TypeRow::Basic(Basic::Nil)) => Kind::R,
         Some(TypeRow::Pointer(_)) => Kind::R,
         Some(TypeRow::Object(_, _)) => Kind::R,
         Some(TypeRow::Any) => Kind::R,

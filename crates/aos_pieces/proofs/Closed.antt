@@ -27,7 +27,7 @@ module _ (image : Image) (own : ℕ) (role : Role) (depth : ℕ) where
     pub flows : (whole : List Instr) (kinds : Typing) → Within whole kinds → Stands whole at code → Lies kinds at types → AreOk image own role depth whole kinds code at
 
   -- an instruction behind which the code doesn't go on
-  pub ends : (i : Instr) (at : ℕ) (s t : Kinds) → after image own i s ≡ Some t → next_of i ≡ Ends → length s ≤ depth → ((whole : List Instr) (p : ℕ) → IsTrue (may_stand image role whole p i)) → Closed (i ∷ []) at s
+  pub ends : (i : Instr) (at : ℕ) (s t : Kinds) → after image own i s ≡ Some t → next_of i ≡ Ends → length s ≤ depth → ((whole : List Instr) (p : ℕ) → IsTrue (may_stand image own role whole p i)) → Closed (i ∷ []) at s
   ends i at s t e n few may =
       record {
         types = s ∷ [];

@@ -6,7 +6,7 @@ use Rattle.aos_code.specs.declared.instr.Kind.TheVariants.{N}
 use Rattle.aos_code.specs.declared.instr.Instr.{Instr}
 use Rattle.aos_code.specs.declared.instr.Instr.TheVariants.{Jump, JumpFalse, Begin}
 use Rattle.aos_code.specs.declared.image.Image.{Image}
-use Rattle.aos_sound.specs.declared.effect.Next.TheVariants.{Ends, On}
+use Rattle.aos_sound.specs.declared.effect.Next.TheVariants.{On}
 use Rattle.aos_sound.specs.declared.stand.Role.{Role}
 use Rattle.aos_sound.specs.Sound.{Kinds, Leads, next_of, after, may_stand, may_jump, is_procedure, is_begin}
 use Rattle.aos_pieces.specs.Piece.{Typing, Stands, Lies, Within, Round, AreOk, Piece}
@@ -121,7 +121,7 @@ module _ {image : Image} {own : ℕ} {role : Role} {depth : ℕ} where
       }
 
   -- one instruction, where each way on from it leads to a place that has what is left
-  single : {Asks : Round} (i : Instr) {at : ℕ} {s : Kinds} (left : Kinds) {t : Kinds} → after image own i s ≡ Some left → length s ≤ depth → ((whole : List Instr) (kinds : Typing) → kinds (at + 1) ≡ Some t → Asks whole kinds → (to : ℕ) → Leads (next_of i) at to → kinds to ≡ Some left) → ((whole : List Instr) (kinds : Typing) → Within whole kinds → Asks whole kinds → IsTrue (may_stand image role whole at i)) → Piece image own role depth Asks (i ∷ []) at s t
+  single : {Asks : Round} (i : Instr) {at : ℕ} {s : Kinds} (left : Kinds) {t : Kinds} → after image own i s ≡ Some left → length s ≤ depth → ((whole : List Instr) (kinds : Typing) → kinds (at + 1) ≡ Some t → Asks whole kinds → (to : ℕ) → Leads (next_of i) at to → kinds to ≡ Some left) → ((whole : List Instr) (kinds : Typing) → Within whole kinds → Asks whole kinds → IsTrue (may_stand image own role whole at i)) → Piece image own role depth Asks (i ∷ []) at s t
   single i {at = at} {s = s} left e few on may =
       record {
         types = s ∷ [];
@@ -131,21 +131,16 @@ module _ {image : Image} {own : ℕ} {role : Role} {depth : ℕ} where
       }
 
   -- an instruction behind which the code goes on
-  pub one : {Asks : Round} (i : Instr) {at : ℕ} {s t : Kinds} → after image own i s ≡ Some t → next_of i ≡ On → length s ≤ depth → ((whole : List Instr) (p : ℕ) → IsTrue (may_stand image role whole p i)) → Piece image own role depth Asks (i ∷ []) at s t
+  pub one : {Asks : Round} (i : Instr) {at : ℕ} {s t : Kinds} → after image own i s ≡ Some t → next_of i ≡ On → length s ≤ depth → ((whole : List Instr) (p : ℕ) → IsTrue (may_stand image own role whole p i)) → Piece image own role depth Asks (i ∷ []) at s t
   one i {at = at} {t = t} e n few may =
       single i t e few (λ whole kinds f o to leads. (let z : to ≡ at + 1 = subst (λ x. Leads x at to) n leads in ap kinds z ∙ f)) (λ whole kinds w o. may whole at)
 
-  -- an instruction behind which it doesn't; code behind it may have any operands
-  pub last : {Asks : Round} (i : Instr) {at : ℕ} {s t u : Kinds} → after image own i s ≡ Some t → next_of i ≡ Ends → length s ≤ depth → ((whole : List Instr) (p : ℕ) → IsTrue (may_stand image role whole p i)) → Piece image own role depth Asks (i ∷ []) at s u
-  last i {at = at} {t = t} e n few may =
-      single i t e few (λ whole kinds f o to leads. absurd (subst (λ x. Leads x at to) n leads)) (λ whole kinds w o. may whole at)
-
   -- an instruction before a piece
-  pub one_then : {Asks : Round} (i : Instr) {d : List Instr} {at : ℕ} {s t u : Kinds} → after image own i s ≡ Some t → next_of i ≡ On → length s ≤ depth → ((whole : List Instr) (p : ℕ) → IsTrue (may_stand image role whole p i)) → Piece image own role depth Asks d (at + 1) t u → Piece image own role depth Asks (i ∷ d) at s u
+  pub one_then : {Asks : Round} (i : Instr) {d : List Instr} {at : ℕ} {s t u : Kinds} → after image own i s ≡ Some t → next_of i ≡ On → length s ≤ depth → ((whole : List Instr) (p : ℕ) → IsTrue (may_stand image own role whole p i)) → Piece image own role depth Asks d (at + 1) t u → Piece image own role depth Asks (i ∷ d) at s u
   one_then i e n few may p = both (one i e n few may) p
 
   -- an instruction behind a piece
-  pub then_one : {Asks : Round} {c : List Instr} {at : ℕ} {s t u : Kinds} → Piece image own role depth Asks c at s t → (i : Instr) → after image own i t ≡ Some u → next_of i ≡ On → length t ≤ depth → ((whole : List Instr) (p : ℕ) → IsTrue (may_stand image role whole p i)) → Piece image own role depth Asks (c ++ i ∷ []) at s u
+  pub then_one : {Asks : Round} {c : List Instr} {at : ℕ} {s t u : Kinds} → Piece image own role depth Asks c at s t → (i : Instr) → after image own i t ≡ Some u → next_of i ≡ On → length t ≤ depth → ((whole : List Instr) (p : ℕ) → IsTrue (may_stand image own role whole p i)) → Piece image own role depth Asks (c ++ i ∷ []) at s u
   then_one p i e n few may = both p (one i e n few may)
 
   -- a jump forth; code behind it may have any operands, since no path comes there but by another jump

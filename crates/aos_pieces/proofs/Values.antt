@@ -19,11 +19,12 @@ use Rattle.aos_typed.specs.declared.tree.Literal.TheVariants as literal
 use Rattle.aos_typed.specs.declared.tree.TType.{TType}
 use Rattle.aos_typed.specs.declared.tree.TType.TheVariants.{Integer, Boolean, Char}
 use Rattle.aos_typed.specs.WellTyped.{place_type, taken, IsOf}
-use Rattle.aos_sim.specs.Code.{kind_of, literal_code, place_code, value_code}
+use Rattle.aos_sim.specs.Code.{kind_of, literal_code, variable_cell, place_code, value_code}
 use Rattle.aos_pieces.specs.Piece.{Round, Piece}
-use Rattle.aos_pieces.specs.Need.{place_need, value_need}
+use Rattle.aos_sim.specs.Need.{place_need, value_need}
 use Rattle.aos_pieces.proofs.Pieces.{one, both, one_then, then_one, choose}
 use Rattle.aos_pieces.proofs.Operands.{included_kind, literal_kind, taken_kind, given_kind, given_of_two_kind, taken_kinds}
+use Rattle.aos_sim.proofs.Variables.{IsOne}
 use Rattle.aos_pieces.proofs.Numbers.{HasNumbers}
 
 -- a place needs room for one operand at least
@@ -55,15 +56,15 @@ module _ (p : Program) (image : Image) (own : ℕ) (role : Role) (depth : ℕ) (
   literal_piece (literal.Set b) few = one (i.Num (pos b)) refl refl few (λ whole q. refl)
 
   -- a place
-  pub place_piece : {Asks : Round} (x : Place) (t : TType) → place_type p x ≡ Some t → (at : ℕ) (s : Kinds) → length s + place_need x ≤ depth → Piece image own role depth Asks (place_code x at) at s (A ∷ s)
-  place_piece (ModuleVar m c) t e at s room = one (i.Module m c) refl refl (omega (arith, room)) (λ whole q. lt-ltb c (cells_in (slice_get image.modules.items m)) (has.cells m c t e))
+  pub place_piece : {Asks : Round} (x : Place) (t : TType) → place_type p x ≡ Some t → IsOne p t → (at : ℕ) (s : Kinds) → length s + place_need x ≤ depth → Piece image own role depth Asks (place_code p x at) at s (A ∷ s)
+  place_piece (ModuleVar m c) t e h at s room = one (i.Module m (variable_cell p m c)) refl refl (omega (arith, room)) (λ whole q. lt-ltb (variable_cell p m c) (cells_in (slice_get image.modules.items m)) (has.cells m c t e h))
 
   -- an expression of a type gives an operand of the type's kind
-  pub value_piece : {Asks : Round} (e : Expr) (t : TType) → IsOf p e t → (at : ℕ) (s : Kinds) → length s + value_need e ≤ depth → Piece image own role depth Asks (value_code e at) at s (kind_of t ∷ s)
+  pub value_piece : {Asks : Round} (e : Expr) (t : TType) → IsOf p e t → (at : ℕ) (s : Kinds) → length s + value_need e ≤ depth → Piece image own role depth Asks (value_code p e at) at s (kind_of t ∷ s)
   value_piece (Lit l) t h at s room = as_kind (sym (literal_kind l t h)) (literal_piece l (omega (arith, room)))
   value_piece (Read u x) t h at s room =
       let k = some_place x in
-      as_kind (sym (included_kind t u h.1)) (then_one (place_piece x u h.0 at s room) (i.Load (kind_of u)) refl refl (omega (arith, room, k)) (λ whole q. refl))
+      as_kind (sym (included_kind t u h.2)) (then_one (place_piece x u h.0 (has.basic u h.1) at s room) (i.Load (kind_of u)) refl refl (omega (arith, room, k)) (λ whole q. refl))
   value_piece (Unary op a) t h at s room =
       let k = some_need a in
       as_kind (sym (given_kind op t h.1)) (then_one
@@ -75,21 +76,21 @@ module _ (p : Program) (image : Image) (own : ℕ) (role : Role) (depth : ℕ) (
       as_kind (sym (given_of_two_kind op t h.1)) (both
       (as_kind o.4 (value_piece a o.0 o.2 at s (omega (arith, room))))
       (then_one
-      (as_kind o.5 (value_piece b o.1 o.3 (at + length (value_code a at)) (N ∷ s) (omega (arith, room))))
+      (as_kind o.5 (value_piece b o.1 o.3 (at + length (value_code p a at)) (N ∷ s) (omega (arith, room))))
       (i.Binary op) refl refl (omega (arith, room, k)) (λ whole q. refl)))
   value_piece (And a b) t h at s room =
-      let here = at + length (value_code a at) + 1 in
-      let other = here + length (value_code b here) + 1 in
+      let here = at + length (value_code p a at) + 1 in
+      let other = here + length (value_code p b here) + 1 in
       let k = some_need a in
-      as_kind (ap kind_of (sym h.2)) (choose other (here + length (value_code b here) + 2) refl (omega arith) (omega (arith, room, k)) (omega (arith, room, k))
+      as_kind (ap kind_of (sym h.2)) (choose other (here + length (value_code p b here) + 2) refl (omega arith) (omega (arith, room, k)) (omega (arith, room, k))
       (value_piece a Boolean h.0 at s (omega (arith, room)))
       (value_piece b Boolean h.1 here s (omega (arith, room)))
       (one (i.Num (pos 0)) refl refl (omega (arith, room)) (λ whole q. refl)))
   value_piece (Or a b) t h at s room =
-      let other = at + length (value_code a at) + 3 in
-      let n : other ≡ at + length (value_code a at) + 1 + 1 + 1 = omega arith in
+      let other = at + length (value_code p a at) + 3 in
+      let n : other ≡ at + length (value_code p a at) + 1 + 1 + 1 = omega arith in
       let k = some_need a in
-      as_kind (ap kind_of (sym h.2)) (choose other (other + length (value_code b other)) n refl (omega (arith, room, k)) (omega (arith, room, k))
+      as_kind (ap kind_of (sym h.2)) (choose other (other + length (value_code p b other)) n refl (omega (arith, room, k)) (omega (arith, room, k))
       (value_piece a Boolean h.0 at s (omega (arith, room)))
       (one (i.Num (pos 1)) refl refl (omega (arith, room)) (λ whole q. refl))
       (value_piece b Boolean h.1 other s (omega (arith, room))))

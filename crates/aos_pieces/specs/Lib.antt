@@ -1,3 +1,2 @@
 pub mod Piece
-pub mod Need
 pub mod Bodies

@@ -37,7 +37,7 @@ module _ (image : Image) (own : ℕ) (role : Role) (depth : ℕ) where
     pub finds : after image own i before ≡ Some left
     pub few : length before ≤ depth
     pub on : (to : ℕ) → Leads (next_of i) at to → kinds to ≡ Some left
-    pub stand : IsTrue (may_stand image role whole at i)
+    pub stand : IsTrue (may_stand image own role whole at i)
 
   -- so does each instruction of code at this place
   abbrev pub AreOk : List Instr → Typing → List Instr → ℕ → Type 0

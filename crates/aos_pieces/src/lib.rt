@@ -4,12 +4,15 @@
 ghost use Rattle.aos_typed.specs.Program.{Program};
 ghost use Rattle.aos_code.specs.declared.image.Image.{Image};
 ghost use Rattle.aos_typed.specs.WellTyped.{IsWellTyped};
+ghost use Rattle.aos_sim.specs.Need.{HasDepthsOf};
 ghost use Rattle.aos_sim.specs.Shows.{IsCodeOf};
-ghost use Rattle.aos_pieces.specs.Bodies.{GiveNothing, AreBodiesSound};
+ghost use Rattle.aos_pieces.specs.Bodies.{AreBodiesSound, AreSound};
 
 /// Each body of an image that has a well-typed program's code is sound as the procedure of its
-/// number, with room for as many operands as its statements need, where the procedures of these
-/// bodies give nothing.
+/// number, with room for as many operands as its statements need; and so with as many as it says,
+/// where that is what its statements need.
 pub fn law_of_soundness()
-    ensures { (p : Program) (image : Image) → IsWellTyped p → IsCodeOf p image → GiveNothing p image → AreBodiesSound p image }
+    ensures room { (p : Program) (image : Image) → IsWellTyped p → IsCodeOf p image → AreBodiesSound p image }
+    ensures depths { (p : Program) (image : Image) →
+        IsWellTyped p → IsCodeOf p image → HasDepthsOf p image → AreSound image }
 {}

@@ -1,148 +1,214 @@
--- Code that does what the source does: it asks the same questions, of values of the right types, and traps alike.
-use Rattle.std.proofs.Common.{◌≡◌, ℕ, suc, ◌+◌, ◌-◌, ◌<◌, Option, Some, List, [], ◌∷◌, ◌++◌, length, sym, ap, ◌∙◌, subst, arith, append_assoc}
-use Rattle.std.specs.Prelude.{option_map}
-use Rattle.std.proofs.lemmas.Bool.{lt-ltb}
+-- Code that does what the source does: it asks the same questions, of places that there are and values of the right types, and traps
+-- alike, in each world that has grown.
+use Rattle.std.proofs.Common.{◌≡◌, true, ℕ, suc, ◌<◌, Some, List, [], map, refl, sym, ap, ◌∙◌, subst}
+use Rattle.std.specs.Prelude.{option_map, slice_get}
 use Rattle.aos_base.specs.declared.number.Width.TheVariants.{W64}
-use Rattle.aos_base.specs.Question.{Val, Asks, Traps, bind, Reads, Stores, Ends, Makes, Starts, PutsInt, PutsChar, PutsNothing, PutsLn}
+use Rattle.aos_base.specs.Question.{Val, Asks, Traps, bind, Reads, Stores, Copies, PutsText, ComparesTexts, Calls, Ends, Makes, Starts, PutsInt, PutsChar, PutsString, PutsNothing, PutsLn, Places, Lengths}
+use Rattle.aos_base.specs.declared.place.Root.TheVariants.{Module}
+use Rattle.aos_types.specs.Shape.{Shape, One, Nothing, size}
+use Rattle.aos_types.specs.World.{World, Grows, Scheme, shape_at, cell_at}
 use Rattle.aos_typed.specs.declared.tree.TType.{TType}
 use Rattle.aos_typed.specs.declared.tree.TType.TheVariants as type
+use Rattle.aos_typed.specs.Numbers.{id_of, predeclared_types, predeclared_rows}
 use Rattle.aos_typed.specs.Program.{Program}
+use Rattle.aos_typed.specs.Sort.{Sort, Plain}
+use Rattle.aos_typed.specs.Spot.{Spot}
 use Rattle.aos_typed.specs.Value.{Value, Object}
-use Rattle.aos_typed.specs.Store.{Spot, Root, ModuleRoot}
+use Rattle.aos_typed.specs.Typing.{Is, IsPlain, IsInteger, IsCharacter}
+use Rattle.aos_typed.specs.Source.{module_shape}
+use Rattle.aos_typed.specs.WellTyped.{is_basic}
 use Rattle.aos_typed.specs.Meaning as source
 use Rattle.aos_typed.specs.Meaning.{Doing}
-use Rattle.aos_typed.specs.WellTyped.{variable_type}
 use Rattle.aos_code.specs.declared.instr.Cell.{Cell}
-use Rattle.aos_code.specs.declared.instr.Cell.TheVariants.{Place}
-use Rattle.aos_code.specs.declared.instr.Root.{Root as CodeRoot}
-use Rattle.aos_code.specs.declared.instr.Root.TheVariants.{Module as CodeModule}
-use Rattle.aos_code.specs.declared.instr.Instr.{Instr}
 use Rattle.aos_code.specs.Memory.{Addr}
-use Rattle.aos_code.specs.Silent.{Stack, Question, jumps}
-use Rattle.aos_sim.proofs.Runs.{Run, on_run, runs}
-use Rattle.aos_sim.proofs.Types.{cell_of, Is}
+use Rattle.aos_code.specs.Silent.{Question, Visible, noted}
+use Rattle.aos_places.proofs.Grow.{grows_same, grows_twice, shape_grows, cell_grows}
+use Rattle.aos_sim.specs.Code.{kind_of}
+use Rattle.aos_sim.specs.Cells.{cell_of}
+use Rattle.aos_sim.proofs.Runs.{Run, calm, calm_visible}
+use Rattle.aos_sim.proofs.Kept.{values_kept}
+use Rattle.aos_sim.proofs.Types.{IsValueOf, number_cell, integer_is, character_is}
 
-abbrev pub root_of : Root → CodeRoot
-root_of (ModuleRoot m) = CodeModule m
+-- the shapes of a program's modules; an object has no fields yet
+abbrev pub scheme : Program → Scheme Sort
+scheme p = record { modules = map (module_shape p) p.modules; made = λ m. Nothing }
 
-abbrev pub addr_of : Spot → Addr
-addr_of p = record { root = root_of p.root; cell = p.variable }
-
--- an operand that is a place
-abbrev pub place_in : Spot → Cell
-place_in p = Place (root_of p.root) p.variable 0
+abbrev pub addr_of : World Sort → Spot → Addr
+addr_of w p = record { root = p.root; cell = cell_at w p.root p.path }
 
 -- the question that the code asks where the source asks this one
-abbrev pub placed : source.Question → Question
-placed (Reads p) = Reads (addr_of p)
-placed (Stores p v) = Stores (addr_of p) (cell_of v)
-placed (Ends r) = Ends (option_map cell_of r)
-placed (Makes t) = Makes (t + 1)
-placed (Starts v) = Starts (cell_of v)
-placed (PutsInt v n) = PutsInt (cell_of v) (cell_of n)
-placed (PutsChar v) = PutsChar (cell_of v)
-placed PutsNothing = PutsNothing
-placed PutsLn = PutsLn
+abbrev pub placed : World Sort → source.Question → Question
+placed w (Reads t p) = Reads (kind_of t) (addr_of w p)
+placed w (Stores p v) = Stores (addr_of w p) (cell_of w v)
+placed w (Copies s p q) = Copies (size s) (addr_of w p) (addr_of w q)
+placed w (PutsText strict p n q m) = PutsText strict (addr_of w p) (cell_of w n) (addr_of w q) (cell_of w m)
+placed w (ComparesTexts r p n q m) = ComparesTexts r (addr_of w p) (cell_of w n) (addr_of w q) (cell_of w m)
+placed w (Calls p vs) = Calls p (map (cell_of w) vs)
+placed w (Ends r) = Ends (option_map (cell_of w) r)
+placed w (Makes t) = Makes t
+placed w (Starts v) = Starts (cell_of w v)
+placed w (PutsInt v n) = PutsInt (cell_of w v) (cell_of w n)
+placed w (PutsChar v) = PutsChar (cell_of w v)
+placed w (PutsString p n) = PutsString (addr_of w p) (cell_of w n)
+placed w PutsNothing = PutsNothing
+placed w PutsLn = PutsLn
+placed w (Places p) = Places (addr_of w p)
+placed w (Lengths p) = Lengths (addr_of w p)
 
 -- an object, and not NIL
 abbrev pub IsMade : Value → Type 0
 IsMade v = (k : ℕ) × (v ≡ Object (suc k))
 
+-- the predeclared types stand first
+abbrev pub HasPredeclared : Program → Type 0
+HasPredeclared p = (k : ℕ) → k < predeclared_types → slice_get p.types k ≡ slice_get predeclared_rows k
+
+-- a world in which the program's modules have their shapes
+abbrev pub Knows : Program → World Sort → Type 0
+Knows p w = (m : ℕ) (s : Shape Sort) → slice_get (map (module_shape p) p.modules) m ≡ Some s → w.shape (Module m) ≡ Some s
+
 module _ (program : Program) where
-  -- the type of a variable, by its root and number
-  abbrev pub type_below : Root → ℕ → Option TType
-  type_below (ModuleRoot m) k = variable_type program m k
+  -- there is a scalar of this sort at a place
+  abbrev pub HasScalar : World Sort → Spot → Sort → Type 0
+  HasScalar w p k = shape_at w p.root p.path ≡ Some (One k)
 
-  -- the type of the variable at a place
-  abbrev pub type_at : Spot → Option TType
-  type_at p = type_below p.root p.variable
+  -- a question is at places that there are, and its values are of the sorts that it takes: what is read is of a basic type, whose cell
+  -- is of the kind that its code takes; no program asks the others yet
+  abbrev pub Valid : World Sort → source.Question → Type 0
+  Valid w (Reads t p) = (is_basic t ≡ true) × HasScalar w p (Plain (id_of t))
+  Valid w (Stores p v) = (k : Sort) × IsPlain k × HasScalar w p k × Is program.types w k v
+  Valid w (Makes t) = Unit {0}
+  Valid w (Starts v) = IsMade v
+  Valid w (PutsInt v n) = IsInteger W64 v × IsInteger W64 n
+  Valid w (PutsChar v) = IsCharacter v
+  Valid w PutsNothing = Unit {0}
+  Valid w PutsLn = Unit {0}
+  Valid w (Copies s p q) = ⊥
+  Valid w (PutsText strict p n q m) = ⊥
+  Valid w (ComparesTexts r p n q m) = ⊥
+  Valid w (Calls p vs) = ⊥
+  Valid w (Ends r) = ⊥
+  Valid w (PutsString p n) = ⊥
+  Valid w (Places p) = ⊥
+  Valid w (Lengths p) = ⊥
 
-  -- a question is at a place that there is, and its values are of the types that it takes
-  abbrev pub IsAsk : source.Question → Type 0
-  IsAsk (Reads p) = (t : TType) × (type_at p ≡ Some t)
-  IsAsk (Stores p v) = (t : TType) × (type_at p ≡ Some t) × Is t v
-  IsAsk (Ends r) = Unit {0}
-  IsAsk (Makes t) = Unit {0}
-  IsAsk (Starts v) = IsMade v
-  IsAsk (PutsInt v n) = Is (type.Integer W64) v × Is (type.Integer W64) n
-  IsAsk (PutsChar v) = Is type.Char v
-  IsAsk PutsNothing = Unit {0}
-  IsAsk PutsLn = Unit {0}
+  -- an answer of the sort that the question has, where the answer matters
+  abbrev pub Conforms : World Sort → source.Question → Value → Type 0
+  Conforms w (Reads t p) v = Is program.types w (Plain (id_of t)) v
+  Conforms w (Makes t) v = (o : ℕ) × (v ≡ Object (suc o)) × (w.made (suc o) ≡ Some (record { type = t; lengths = [] }))
+  Conforms w q v = Unit {0}
 
-  -- an answer of the type that the question has, where the answer matters
-  abbrev pub IsAnswer : source.Question → Value → Type 0
-  IsAnswer (Reads p) v = (t : TType) → type_at p ≡ Some t → Is t v
-  IsAnswer (Stores p w) v = Unit {0}
-  IsAnswer (Ends r) v = Unit {0}
-  IsAnswer (Makes t) v = IsMade v
-  IsAnswer (Starts w) v = Unit {0}
-  IsAnswer (PutsInt w n) v = Unit {0}
-  IsAnswer (PutsChar w) v = Unit {0}
-  IsAnswer PutsNothing v = Unit {0}
-  IsAnswer PutsLn v = Unit {0}
+  -- the code does what the source does, for all answers of the right sorts: it asks the same questions and has the same traps, which
+  -- are those of the language, and where the source comes to a value a, the run that is left is related to a by R
+  abbrev pub Does : {A : Type 0} → (World Sort → A → Run → Type 0) → World Sort → Run → Doing A → Type 0
+  Does R w m (Val a) = R w a m
+  Does R w m (Asks q f) =
+      (g : Cell → Run) × (m ≡ Asks (placed w q) g) × Valid w q
+      × ((w' : World Sort) → Grows w w' → (v : Value) → Conforms w' q v → Does R w' (g (cell_of w' v)) (f v))
+  Does R w m (Traps n c) = (m ≡ Traps n c) × (n < 16)
 
-  -- the code does what the source does, for all answers of the right types: it asks the same questions and has the same
-  -- traps, which are those of the language, and where the source comes to a value a, the run that is left is related to a
-  -- by R
-  abbrev pub Does : {A : Type 0} → (A → Run → Type 0) → Run → Doing A → Type 0
-  Does R m (Val a) = R a m
-  Does R m (Asks q f) = (g : Cell → Run) × (m ≡ Asks (placed q) g) × IsAsk q × ((v : Value) → IsAnswer q v → Does R (g (cell_of v)) (f v))
-  Does R m (Traps n c) = (m ≡ Traps n c) × (n < 16)
+pub knows_grows : (p : Program) (w w' : World Sort) → Grows w w' → Knows p w → Knows p w'
+knows_grows p w w' g k m s e = g.shapes (Module m) s (k m s e)
 
+module _ (program : Program) where
   -- `Does` along equal runs
-  pub along : {A : Type 0} (R : A → Run → Type 0) (m m' : Run) (r : Doing A) → m ≡ m' → Does R m' r → Does R m r
-  along R m m' r e d = subst (λ x. Does R x r) (sym e) d
+  pub along : {A : Type 0} (R : World Sort → A → Run → Type 0) (w : World Sort) (m m' : Run) (r : Doing A) → m ≡ m' → Does program R w m' r → Does program R w m r
+  along R w m m' r e d = subst (λ x. Does program R w x r) (sym e) d
 
-  pub does_bind : {A C : Type 0} (R : A → Run → Type 0) (Q : C → Run → Type 0) (m : Run) (r : Doing A) (f : A → Doing C) → Does R m r → ((a : A) (m' : Run) → R a m' → Does Q m' (f a)) → Does Q m (bind r f)
-  does_bind R Q m (Val a) f d go = go a m d
-  does_bind R Q m (Asks q g) f d go = (d.0, d.1, d.2, λ v c. does_bind R Q (d.0 (cell_of v)) (g v) f (d.3 v c) go)
-  does_bind R Q m (Traps n c) f d go = d
+  -- one piece after another, which goes on in a world that has grown
+  pub does_bind : {A C : Type 0} (R : World Sort → A → Run → Type 0) (Q : World Sort → C → Run → Type 0) (w : World Sort) (m : Run) (r : Doing A) (f : A → Doing C) → Does program R w m r → ((w' : World Sort) → Grows w w' → (a : A) (m' : Run) → R w' a m' → Does program Q w' m' (f a)) → Does program Q w m (bind r f)
+  does_bind R Q w m (Val a) f d go = go w (grows_same w) a m d
+  does_bind R Q w m (Asks q g) f d go =
+      (d.0, d.1, d.2, λ w1 up v c. does_bind R Q w1 (d.0 (cell_of w1 v)) (g v) f (d.3 w1 up v c) (λ w2 up' a m' h. go w2 (grows_twice w w1 w2 up up') a m' h))
+  does_bind R Q w m (Traps n c) f d go = d
 
   -- and where the same is known of more
-  pub does_more : {A : Type 0} (R Q : A → Run → Type 0) (m : Run) (r : Doing A) → Does R m r → ((a : A) (m' : Run) → R a m' → Q a m') → Does Q m r
-  does_more R Q m (Val a) d go = go a m d
-  does_more R Q m (Asks q g) d go = (d.0, d.1, d.2, λ v c. does_more R Q (d.0 (cell_of v)) (g v) (d.3 v c) go)
-  does_more R Q m (Traps n c) d go = d
+  pub does_more : {A : Type 0} (R Q : World Sort → A → Run → Type 0) (w : World Sort) (m : Run) (r : Doing A) → Does program R w m r → ((w' : World Sort) → Grows w w' → (a : A) (m' : Run) → R w' a m' → Q w' a m') → Does program Q w m r
+  does_more R Q w m (Val a) d go = go w (grows_same w) a m d
+  does_more R Q w m (Asks q f) d go =
+      (d.0, d.1, d.2, λ w1 up v c. does_more R Q w1 (d.0 (cell_of w1 v)) (f v) (d.3 w1 up v c) (λ w2 up' a m' h. go w2 (grows_twice w w1 w2 up up') a m' h))
+  does_more R Q w m (Traps n c) d go = d
 
-module _ (code : List Instr) where
-  -- with a value of this type on the stack, the code goes on with the rest at this place
-  pub record Pushed (t : TType) (rest : List Instr) (at : ℕ) (s : Stack) (v : Value) (m : Run) : Type 0 where
-    pub is : Is t v
-    pub run : m ≡ runs code rest 0 at (cell_of v ∷ s)
+  module _ (w w' : World Sort) (g : Grows w w') where
+    pub scalar_grows : (p : Spot) (k : Sort) → HasScalar program w p k → HasScalar program w' p k
+    scalar_grows p k h = shape_grows w w' g p.root p.path (One k) h
 
-  pub passed : (xs rest : List Instr) (n at : ℕ) (s : Stack) → runs code (xs ++ rest) (length xs + n) at s ≡ runs code rest n (at + length xs) s
-  passed [] rest n at s =
-      let e : 0 + n ≡ n = omega arith in
-      let f : at ≡ at + 0 = omega arith in
-      ap (λ m. runs code rest m at s) e ∙ ap (λ m. runs code rest n m s) f
-  passed (x ∷ xs) rest n at s =
-      let e : suc (length xs) + n ≡ suc (length xs + n) = omega arith in
-      let f : at + 1 + length xs ≡ at + suc (length xs) = omega arith in
-      ap (λ m. runs code (x ∷ (xs ++ rest)) m at s) e ∙ passed xs rest n (at + 1) s ∙ ap (λ m. runs code rest n m s) f
+    -- a scalar stays at its cell
+    pub addr_grows : (p : Spot) (k : Sort) → HasScalar program w p k → addr_of w p ≡ addr_of w' p
+    addr_grows p k h = ap (λ n. record { root = p.root; cell = n }) (cell_grows w w' g p.root p.path (One k) h)
 
-  -- a jump forward
-  pub jump_on : (rest : List Instr) (to at n : ℕ) (s : Stack) → to ≡ at + 1 + n → on_run (jumps code to at s) (runs code rest) at ≡ runs code rest n (at + 1) s
-  jump_on rest to at n s e =
-      let lt : at < to = omega arith in
-      let d : to - (at + 1) ≡ n = omega arith in
-      rw (lt-ltb at to lt) (ap (λ m. runs code rest m (at + 1) s) d)
+    made_cell : (v : Value) → IsMade v → cell_of w v ≡ cell_of w' v
+    made_cell v h = ap (cell_of w) h.1 ∙ sym (ap (cell_of w') h.1)
 
-module _ (program : Program) (code : List Instr) where
-  -- the same with the place of a variable of this type
-  pub record Named (o : Option TType) (rest : List Instr) (at : ℕ) (s : Stack) (p : Spot) (m : Run) : Type 0 where
-    pub of : type_at program p ≡ o
-    pub run : m ≡ runs code rest 0 at (place_in p ∷ s)
+    -- a value of a basic type has the same cell everywhere
+    pub value_cell : (t : TType) (v : Value) → IsValueOf t v → cell_of w v ≡ cell_of w' v
+    value_cell t v h = number_cell w t v h ∙ sym (number_cell w' t v h)
 
-  -- this piece of code, at this place, evaluates an expression of this type and goes on behind itself
-  abbrev pub Evaluates : TType → List Instr → Doing Value → ℕ → Type 0
-  Evaluates t xs r at = (rest : List Instr) (s : Stack) → Does program (Pushed code t rest (at + length xs) s) (runs code (xs ++ rest) 0 at s) r
+    integer_cell : (v : Value) → IsInteger W64 v → cell_of w v ≡ cell_of w' v
+    integer_cell v h = value_cell (type.Integer W64) v (integer_is W64 v h)
 
-  -- an operand of this type, and what stands behind it
-  pub operand_does : {C : Type 0} (Q : C → Run → Type 0) (t : TType) (f : Value → Doing C) (xs tail : List Instr) (r : Doing Value) (at : ℕ) (rest : List Instr) (s : Stack) → Evaluates t xs r at → ((v : Value) (m : Run) → Is t v → m ≡ runs code (tail ++ rest) 0 (at + length xs) (cell_of v ∷ s) → Does program Q m (f v)) → Does program Q (runs code ((xs ++ tail) ++ rest) 0 at s) (bind r f)
-  operand_does Q t f xs tail r at rest s h go =
-      along program Q _ _ (bind r f) (ap (λ l. runs code l 0 at s) (append_assoc xs tail rest))
-      (does_bind program (Pushed code t (tail ++ rest) (at + length xs) s) Q _ r f (h (tail ++ rest) s) (λ v m p. go v m p.is p.run))
+    -- a valid question is the same one in a world that has grown
+    pub placed_same : (q : source.Question) → Valid program w q → placed w q ≡ placed w' q
+    placed_same (Reads t p) h = ap (Reads (kind_of t)) (addr_grows p (Plain (id_of t)) h.1)
+    placed_same (Stores p v) h = λ i. Stores (addr_grows p h.0 h.2 i) ((values_kept program.types).cells w w' g h.0 v h.3 i)
+    placed_same (Makes t) h = refl
+    placed_same (Starts v) h = ap Starts (made_cell v h)
+    placed_same (PutsInt v n) h = λ i. PutsInt (integer_cell v h.0 i) (integer_cell n h.1 i)
+    placed_same (PutsChar v) h = ap PutsChar (value_cell type.Char v (character_is v h))
+    placed_same PutsNothing h = refl
+    placed_same PutsLn h = refl
+    placed_same (Copies s p q) h = absurd h
+    placed_same (PutsText strict p n q m) h = absurd h
+    placed_same (ComparesTexts r p n q m) h = absurd h
+    placed_same (Calls p vs) h = absurd h
+    placed_same (Ends r) h = absurd h
+    placed_same (PutsString p n) h = absurd h
+    placed_same (Places p) h = absurd h
+    placed_same (Lengths p) h = absurd h
 
-  -- code that goes on at the place behind its own
-  pub ends_at : (t : TType) (rest : List Instr) (p q : ℕ) (s : Stack) (m : Run) (r : Doing Value) → p ≡ q → Does program (Pushed code t rest p s) m r → Does program (Pushed code t rest q s) m r
-  ends_at t rest p q s m r e d = subst (λ n. Does program (Pushed code t rest n s) m r) e d
+    pub valid_grows : (q : source.Question) → Valid program w q → Valid program w' q
+    valid_grows (Reads t p) h = (h.0, scalar_grows p (Plain (id_of t)) h.1)
+    valid_grows (Stores p v) h = (h.0, h.1, scalar_grows p h.0 h.2, (values_kept program.types).is w w' g h.0 v h.3)
+    valid_grows (Makes t) h = tt
+    valid_grows (Starts v) h = h
+    valid_grows (PutsInt v n) h = h
+    valid_grows (PutsChar v) h = h
+    valid_grows PutsNothing h = tt
+    valid_grows PutsLn h = tt
+    valid_grows (Copies s p q) h = absurd h
+    valid_grows (PutsText strict p n q m) h = absurd h
+    valid_grows (ComparesTexts r p n q m) h = absurd h
+    valid_grows (Calls p vs) h = absurd h
+    valid_grows (Ends r) h = absurd h
+    valid_grows (PutsString p n) h = absurd h
+    valid_grows (Places p) h = absurd h
+    valid_grows (Lengths p) h = absurd h
+
+    -- what was done in a world is done in the grown one
+    pub does_grows : {A : Type 0} (R : World Sort → A → Run → Type 0) → ((a : A) (m : Run) → R w a m → R w' a m) → (m : Run) (r : Doing A) → Does program R w m r → Does program R w' m r
+    does_grows R up m (Val a) d = up a m d
+    does_grows R up m (Asks q f) d =
+        (d.0, d.1 ∙ ap (λ p. Asks p d.0) (placed_same q d.2), valid_grows q d.2, λ w2 up' v c. d.3 w2 (grows_twice w w' w2 g up') v c)
+    does_grows R up m (Traps n c) d = d
+
+  -- no valid question is answered by the frame's own cells
+  pub placed_visible : (cells : List Cell) (w : World Sort) (q : source.Question) → Valid program w q → noted cells (placed w q) ≡ Visible
+  placed_visible cells w (Reads t p) h = refl
+  placed_visible cells w (Stores p v) h = refl
+  placed_visible cells w (Makes t) h = refl
+  placed_visible cells w (Starts v) h = refl
+  placed_visible cells w (PutsInt v n) h = refl
+  placed_visible cells w (PutsChar v) h = refl
+  placed_visible cells w PutsNothing h = refl
+  placed_visible cells w PutsLn h = refl
+  placed_visible cells w (Copies s p q) h = absurd h
+  placed_visible cells w (PutsText strict p n q m) h = absurd h
+  placed_visible cells w (ComparesTexts r p n q m) h = absurd h
+  placed_visible cells w (Calls p vs) h = absurd h
+  placed_visible cells w (Ends r) h = absurd h
+  placed_visible cells w (PutsString p n) h = absurd h
+  placed_visible cells w (Places p) h = absurd h
+  placed_visible cells w (Lengths p) h = absurd h
+
+  pub calm_placed : (cells : List Cell) (w : World Sort) (q : source.Question) (f : Cell → Run) → Valid program w q → calm cells (Asks (placed w q) f) ≡ Asks (placed w q) f
+  calm_placed cells w q f h = calm_visible cells (placed w q) f (placed_visible cells w q h)

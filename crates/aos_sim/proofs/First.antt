@@ -1,17 +1,34 @@
 -- What the variables hold at first, and where the elements of lists are.
-use Rattle.std.proofs.Common.{◌≡◌, ℕ, zero, suc, ◌+◌, pos, false, List, [], ◌∷◌, ◌++◌, map, length, Some, refl, ap, ◌∙◌, subst, arith}
+use Rattle.std.proofs.Common.{◌≡◌, ℕ, zero, suc, ◌+◌, List, [], ◌∷◌, ◌++◌, map, length, Option, Some, None, refl, sym, ap, ◌∙◌, subst, arith}
 use Rattle.std.specs.Prelude.{slice_get, option_map, All}
 use Rattle.std.proofs.lemmas.Int.{ints}
+use Rattle.std.proofs.lemmas.List.{map-append}
 use Rattle.std.proofs.lemmas.List.Elements.{All-tail}
-use Rattle.aos_typed.specs.Program.{Variable, Module}
-use Rattle.aos_typed.specs.declared.tree.TType.{TType}
-use Rattle.aos_typed.specs.declared.tree.TType.TheVariants as type
-use Rattle.aos_typed.specs.Store.{Scalar}
-use Rattle.aos_typed.specs.Source as S
-use Rattle.aos_sim.specs.Code.{zero_cell}
+use Rattle.aos_types.specs.declared.row.Basic.{Basic}
+use Rattle.aos_types.specs.declared.row.Basic.TheVariants as basic
+use Rattle.aos_types.specs.declared.row.TypeId.{TypeId}
+use Rattle.aos_types.specs.declared.row.TypeRow.{TypeRow}
+use Rattle.aos_types.specs.declared.row.TypeRow.TheVariants as row
+use Rattle.aos_types.specs.Table.{row_of}
+use Rattle.aos_types.specs.Shape.{Shape, One, Nothing, Pair, leaves, shaped, row as row_of_shapes}
+use Rattle.aos_types.specs.Contents.{contents, of_variable}
+use Rattle.aos_types.specs.Content.{EachSort, first_content}
+use Rattle.aos_types.specs.World.{World}
+use Rattle.aos_typed.specs.Program.{Variable, Module, Program}
+use Rattle.aos_typed.specs.Numbers.{id_of}
+use Rattle.aos_typed.specs.Sort.{Sort, Plain, Variable as RecordPlace, Alias, Elements, Length, variable_shape}
+use Rattle.aos_typed.specs.Typing.{IsBasic, IsPlainly, Is, IsPlain}
+use Rattle.aos_typed.specs.Source.{first_basic, first_in, first_value, module_shape}
+use Rattle.aos_code.specs.declared.instr.Cell.{Cell}
+use Rattle.aos_code.specs.declared.instr.Kind.{Kind}
+use Rattle.aos_code.specs.declared.instr.Kind.TheVariants.{N}
+use Rattle.aos_code.specs.Machine.{first_cell}
+use Rattle.aos_layout.specs.Layout.{kind_in, kind_of, cells, block}
+use Rattle.aos_places.specs.Shows.{AllShown}
+use Rattle.aos_places.proofs.Makes.{first_fits, first_cells}
+use Rattle.aos_sim.specs.Cells.{cell_of}
 use Rattle.aos_sim.specs.Shows.{numbers_from}
-use Rattle.aos_sim.proofs.Types.{cell_of, Is}
-use Rattle.aos_sim.proofs.Stores.{Each, each_map, cell_in, Holds, AllHold}
+use Rattle.aos_sim.proofs.Kept.{values_kept}
 
 -- Lists
 
@@ -41,27 +58,110 @@ length-numbers k (x ∷ xs) = ap (λ n. suc n) (length-numbers (suc k) xs)
 
 -- The beginning
 
-zero_first : (t : TType) → zero_cell t ≡ cell_of (S.first_value t)
-zero_first (type.Integer w) = refl
-zero_first type.Boolean = refl
-zero_first type.Char = refl
-zero_first type.Set = refl
-zero_first (type.Named t) = refl
+first_basic_is : (b : Basic) → IsBasic b (first_basic b)
+first_basic_is basic.ShortInt = record { low = omega (arith, ints); high = omega (arith, ints) }
+first_basic_is basic.Integer = record { low = omega (arith, ints); high = omega (arith, ints) }
+first_basic_is basic.LongInt = record { low = omega (arith, ints); high = omega (arith, ints) }
+first_basic_is basic.HugeInt = record { low = omega (arith, ints); high = omega (arith, ints) }
+first_basic_is basic.Boolean = tt
+first_basic_is basic.Char = omega arith
+first_basic_is basic.Set = omega arith
+first_basic_is basic.Nil = refl
+first_basic_is (basic.Text n) = refl
 
-first_is : (t : TType) → Is t (S.first_value t)
-first_is (type.Integer w) = (pos 0, refl, record { low = omega (arith, ints); high = omega (arith, ints) })
-first_is type.Boolean = (false, refl)
-first_is type.Char = (0, refl, omega arith)
-first_is type.Set = (0, refl, omega arith)
-first_is (type.Named t) = (0, refl)
+first_in_is : (rows : List TypeRow) (w : World Sort) (t : TypeId) (r : Option TypeRow) → IsPlainly rows w t r (first_in r)
+first_in_is rows w t None = refl
+first_in_is rows w t (Some (row.Basic b)) = first_basic_is b
+first_in_is rows w t (Some (row.Array n of)) = refl
+first_in_is rows w t (Some (row.Open of)) = refl
+first_in_is rows w t (Some (row.Record base fields)) = refl
+first_in_is rows w t (Some (row.Pointer to)) = refl
+first_in_is rows w t (Some (row.Object base fields)) = tt
+first_in_is rows w t (Some (row.Procedure formals r)) = refl
+first_in_is rows w t (Some row.Any) = refl
 
-first_cells : (vs : List Variable) → map (λ v. zero_cell v.of) vs ≡ map cell_in (S.first_contents vs)
-first_cells [] = refl
-first_cells (v ∷ vs) = λ j. zero_first v.of j ∷ first_cells vs j
+first_basic_same : (w : World Sort) (b : Basic) → cell_of w (first_basic b) ≡ first_cell (kind_in (Some (row.Basic b)))
+first_basic_same w basic.ShortInt = refl
+first_basic_same w basic.Integer = refl
+first_basic_same w basic.LongInt = refl
+first_basic_same w basic.HugeInt = refl
+first_basic_same w basic.Boolean = refl
+first_basic_same w basic.Char = refl
+first_basic_same w basic.Set = refl
+first_basic_same w basic.Nil = refl
+first_basic_same w (basic.Text n) = refl
 
-pub first_rows : (ms : List Module) → map (λ (m : Module). map (λ (v : Variable). zero_cell v.of) m.variables) ms ≡ map (λ vs. map cell_in vs) (map (λ (m : Module). S.first_contents m.variables) ms)
-first_rows [] = refl
-first_rows (m ∷ ms) = λ j. first_cells m.variables j ∷ first_rows ms j
+first_in_same : (w : World Sort) (r : Option TypeRow) → cell_of w (first_in r) ≡ first_cell (kind_in r)
+first_in_same w None = refl
+first_in_same w (Some (row.Basic b)) = first_basic_same w b
+first_in_same w (Some (row.Array n of)) = refl
+first_in_same w (Some (row.Open of)) = refl
+first_in_same w (Some (row.Record base fields)) = refl
+first_in_same w (Some (row.Pointer to)) = refl
+first_in_same w (Some (row.Object base fields)) = refl
+first_in_same w (Some (row.Procedure formals r)) = refl
+first_in_same w (Some row.Any) = refl
 
-pub first_typed : (ms : List Module) → Each AllHold ms (map (λ (m : Module). S.first_contents m.variables) ms)
-first_typed ms = each_map AllHold (λ m. S.first_contents m.variables) (λ m. each_map Holds (λ v. Scalar (S.first_value v.of)) (λ v. first_is v.of) m.variables) ms
+plain_parts : (s : Shape TypeId) → EachSort IsPlain (shaped Plain s)
+plain_parts (One t) = tt
+plain_parts Nothing = tt
+plain_parts (Pair a b) = (plain_parts a, plain_parts b)
+
+module _ (p : Program) where
+  -- the kind of a sort's cell
+  abbrev pub kind_at : Sort → Kind
+  kind_at (Plain t) = kind_of p.types t
+  kind_at (RecordPlace t) = N
+  kind_at (Alias t) = N
+  kind_at (Elements t ns) = N
+  kind_at (Length n) = N
+
+  -- the cell that a scalar of a sort begins with
+  abbrev pub zero_cell : Sort → Cell
+  zero_cell k = first_cell (kind_at k)
+
+  pub first_is : (w : World Sort) (k : Sort) → IsPlain k → Is p.types w k (first_value p k)
+  first_is w (Plain t) plain = first_in_is p.types w t (row_of p.types t)
+  first_is w (RecordPlace t) plain = absurd plain
+  first_is w (Alias t) plain = absurd plain
+  first_is w (Elements t ns) plain = absurd plain
+  first_is w (Length n) plain = absurd plain
+
+  pub first_same : (w : World Sort) (k : Sort) → cell_of w (first_value p k) ≡ zero_cell k
+  first_same w (Plain t) = first_in_same w (row_of p.types t)
+  first_same w (RecordPlace t) = refl
+  first_same w (Alias t) = refl
+  first_same w (Elements t ns) = refl
+  first_same w (Length n) = refl
+
+  plain_variables : (vs : List Variable) → EachSort IsPlain (row_of_shapes (map (λ v. variable_shape p.types (id_of v.of)) vs))
+  plain_variables [] = tt
+  plain_variables (v ∷ vs) = (plain_parts (of_variable (contents p.types) p.types (id_of v.of)), plain_variables vs)
+
+  part_cells : (s : Shape TypeId) → map first_cell (leaves (shaped (kind_of p.types) s)) ≡ map zero_cell (leaves (shaped Plain s))
+  part_cells (One t) = refl
+  part_cells Nothing = refl
+  part_cells (Pair a b) =
+      map-append first_cell (leaves (shaped (kind_of p.types) a)) (leaves (shaped (kind_of p.types) b))
+      ∙ (λ j. part_cells a j ++ part_cells b j)
+      ∙ sym (map-append zero_cell (leaves (shaped Plain a)) (leaves (shaped Plain b)))
+
+  variable_cells : (vs : List Variable) → map first_cell (leaves (row_of_shapes (map (λ v. cells p.types (id_of v.of)) vs))) ≡ map zero_cell (leaves (row_of_shapes (map (λ v. variable_shape p.types (id_of v.of)) vs)))
+  variable_cells [] = refl
+  variable_cells (v ∷ vs) =
+      let s = of_variable (contents p.types) p.types (id_of v.of) in
+      map-append first_cell (leaves (shaped (kind_of p.types) s)) (leaves (row_of_shapes (map (λ v. cells p.types (id_of v.of)) vs)))
+      ∙ (λ j. part_cells s j ++ variable_cells vs j)
+      ∙ sym (map-append zero_cell (leaves (shaped Plain s)) (leaves (row_of_shapes (map (λ v. variable_shape p.types (id_of v.of)) vs))))
+
+  -- the cells of the modules show what their variables hold
+  pub modules_shown : (w : World Sort) (ms : List Module) → AllShown (Is p.types) cell_of w (map (module_shape p) ms) (map (λ (m : Module). first_content (first_value p) (module_shape p m)) ms) (map (λ (m : Module). map first_cell (leaves (block p.types m))) ms)
+  modules_shown w [] = tt
+  modules_shown w (m ∷ ms) =
+      let s = module_shape p m in (
+        record {
+          fits = first_fits (Is p.types) cell_of IsPlain (values_kept p.types) (first_value p) zero_cell first_is first_same w s (plain_variables m.variables);
+          same = variable_cells m.variables ∙ sym (first_cells (Is p.types) cell_of IsPlain (values_kept p.types) (first_value p) zero_cell first_is first_same w s);
+        },
+        modules_shown w ms,
+      )

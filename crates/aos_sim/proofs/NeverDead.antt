@@ -4,12 +4,12 @@ use Rattle.std.specs.Prelude.{Option, Some, None}
 use Rattle.aos_base.specs.declared.kernel.Outcome.TheVariants.{Dead}
 use Rattle.aos_base.specs.Machine.{Choice, execution}
 use Rattle.aos_base.specs.Observation.{observation}
-use Rattle.aos_base.specs.Question.{Val, Asks, Traps, feed, Reads, Stores, Ends, Makes, Starts, PutsInt, PutsChar, PutsLn, PutsNothing}
+use Rattle.aos_base.specs.Question.{Val, Asks, Traps, feed, Reads, Stores, Copies, PutsText, ComparesTexts, Calls, Ends, Makes, Starts, PutsInt, PutsChar, PutsString, PutsLn, PutsNothing, Places, Lengths}
 use Rattle.aos_typed.specs.Program.{Program}
-use Rattle.aos_typed.specs.Value.{Value, Int, Flag, Char, Set, Object}
+use Rattle.aos_typed.specs.Value.{Value, Int, Flag, Char, Set, Object, Callable, Place}
 use Rattle.aos_typed.specs.Store.{Store, has_room}
-use Rattle.aos_typed.specs.Meaning.{Question, Doing, Item, Do, item_of}
-use Rattle.aos_typed.specs.Source.{Frame, Frames, Turned, settles, written, prints, makes, starts, answer, goes, turn_at, turn, source, first_state, first_store, first_frames}
+use Rattle.aos_typed.specs.Meaning.{Question, Doing, Item, Do, After, Into, item_of}
+use Rattle.aos_typed.specs.Source.{Frame, Turned, ends, settles, written, prints, makes, starts, answer, goes, item_turn, turn_at, opened, source, first_state, first_store, first_frames}
 use Rattle.aos_concurrency.specs.Spot.{NoOne}
 use Rattle.aos_concurrency.specs.Waits.{MayWait}
 use Rattle.aos_concurrency.proofs.Itself.{Any, anything}
@@ -18,53 +18,67 @@ use Rattle.aos_concurrency.proofs.NeverDead.{never_dead as machine_never_dead}
 abbrev Lively : Turned → Type 0
 Lively t = MayWait t.left → ⊥
 
-settles_lively : (is : List Item) (f : Frame) (fs : Frames) (s : Store) → Lively (settles is f fs s)
-settles_lively [] f fs s h = h
-settles_lively (Do st ∷ is) f fs s h = h
+module _ (following : List ℕ) where
+  ends_lively : (result : Option Value) (fs : List Frame) (s : Store) → Lively (ends following result fs s)
+  ends_lively None fs s h = h
+  ends_lively (Some v) fs s h = h
 
-prints_lively : (bytes : Option (List ℕ)) (f : Frame) (fs : Frames) (s : Store) → Lively (prints bytes f fs s)
-prints_lively None f fs s h = h
-prints_lively (Some bytes) f fs s h = h
+  settles_lively : (is : List Item) (f : Frame) (fs : List Frame) (s : Store) → Lively (settles following is f fs s)
+  settles_lively [] f fs s h = h
+  settles_lively (Do st ∷ is) f fs s h = h
 
-makes_lively : (room : Bool) (t : ℕ) (f : Frame) (fs : Frames) (s : Store) → Lively (makes room t f fs s)
-makes_lively true t f fs s h = h
-makes_lively false t f fs s h = h
+  prints_lively : (bytes : Option (List ℕ)) (f : Frame) (fs : List Frame) (s : Store) → Lively (prints following bytes f fs s)
+  prints_lively None f fs s h = h
+  prints_lively (Some bytes) f fs s h = h
 
-starts_lively : (v : Value) (f : Frame) (fs : Frames) (s : Store) → Lively (starts v f fs s)
-starts_lively (Object zero) f fs s h = h
-starts_lively (Object (suc k)) f fs s h = h
-starts_lively (Int z) f fs s h = h
-starts_lively (Flag b) f fs s h = h
-starts_lively (Char c) f fs s h = h
-starts_lively (Set x) f fs s h = h
+  makes_lively : (room : Bool) (t : ℕ) (f : Frame) (fs : List Frame) (s : Store) → Lively (makes following room t f fs s)
+  makes_lively true t f fs s h = h
+  makes_lively false t f fs s h = h
 
-answer_lively : (q : Question) (f : Frame) (fs : Frames) (s : Store) → Lively (answer q f fs s)
-answer_lively (Reads p) f fs s = λ h. h
-answer_lively (Stores p v) f fs s = λ h. h
-answer_lively (Ends result) f fs s = λ h. h
-answer_lively (Makes t) f fs s = makes_lively (has_room s) t f fs s
-answer_lively (Starts v) f fs s = starts_lively v f fs s
-answer_lively (PutsInt v n) f fs s = prints_lively (written v n) f fs s
-answer_lively (PutsChar v) f fs s = λ h. h
-answer_lively PutsNothing f fs s = λ h. h
-answer_lively PutsLn f fs s = λ h. h
+  starts_lively : (v : Value) (f : Frame) (fs : List Frame) (s : Store) → Lively (starts following v f fs s)
+  starts_lively (Object zero) f fs s h = h
+  starts_lively (Object (suc k)) f fs s h = h
+  starts_lively (Int z) f fs s h = h
+  starts_lively (Flag b) f fs s h = h
+  starts_lively (Char c) f fs s h = h
+  starts_lively (Set x) f fs s h = h
+  starts_lively (Callable p o) f fs s h = h
+  starts_lively (Place p) f fs s h = h
 
-goes_lively : (d : Doing (List Item)) (rest : List Item) (f : Frame) (fs : Frames) (s : Store) → Lively (goes d rest f fs s)
-goes_lively (Val is) rest f fs s = settles_lively (is ++ rest) f fs s
-goes_lively (Asks q k) rest f fs s = answer_lively q f fs s
-goes_lively (Traps n c) rest f fs s = λ h. h
+  answer_lively : (q : Question) (f : Frame) (fs : List Frame) (s : Store) → Lively (answer following q f fs s)
+  answer_lively (Ends result) f fs s = ends_lively result fs s
+  answer_lively (Makes t) f fs s = makes_lively (has_room s) t f fs s
+  answer_lively (Starts v) f fs s = starts_lively v f fs s
+  answer_lively (PutsInt v n) f fs s = prints_lively (written v n) f fs s
+  answer_lively (Reads t p) f fs s = λ h. h
+  answer_lively (Stores p v) f fs s = λ h. h
+  answer_lively (PutsChar v) f fs s = λ h. h
+  answer_lively PutsNothing f fs s = λ h. h
+  answer_lively PutsLn f fs s = λ h. h
+  answer_lively (Copies c from to) f fs s = λ h. h
+  answer_lively (PutsText strict from n to room) f fs s = λ h. h
+  answer_lively (ComparesTexts r a n b m) f fs s = λ h. h
+  answer_lively (Calls p vs) f fs s = λ h. h
+  answer_lively (PutsString a n) f fs s = λ h. h
+  answer_lively (Places a) f fs s = λ h. h
+  answer_lively (Lengths a) f fs s = λ h. h
 
-turn_at_lively : (answers : Option (List Value)) (is : List Item) (f : Frame) (fs : Frames) (s : Store) → Lively (turn_at answers is f fs s)
-turn_at_lively None is f fs s = settles_lively is f fs s
-turn_at_lively (Some vs) [] f fs s = λ h. h
-turn_at_lively (Some vs) (i ∷ is) f fs s = goes_lively (feed vs (item_of i)) is f fs s
+  goes_lively : (d : Doing After) (rest : List Item) (f : Frame) (fs : List Frame) (s : Store) → Lively (goes following d rest f fs s)
+  goes_lively (Val (Into is)) rest f fs s = settles_lively (is ++ rest) f fs s
+  goes_lively (Asks q k) rest f fs s = answer_lively q f fs s
+  goes_lively (Traps n c) rest f fs s = λ h. h
 
-turn_lively : (s : Store) (fs : Frames) → Lively (turn s fs)
-turn_lively s [] = λ h. h
-turn_lively s (f ∷ fs) = turn_at_lively f.answers f.items f fs s
+  item_lively : (answers : Option (List Value)) (is : List Item) (f : Frame) (fs : List Frame) (s : Store) → Lively (item_turn following answers is f fs s)
+  item_lively None is f fs s = settles_lively is f fs s
+  item_lively (Some vs) [] f fs s = λ h. h
+  item_lively (Some vs) (i ∷ is) f fs s = goes_lively (feed vs (item_of i)) is f fs s
+
+  turn_at_lively : (fs : List Frame) (s : Store) → Lively (turn_at following fs s)
+  turn_at_lively [] s = λ h. h
+  turn_at_lively (f ∷ fs) s = item_lively f.answers f.items f fs s
 
 pub never_dead : (p : Program) (budget : ℕ) (cs : List Choice) → (observation (source p) (execution (source p) cs (first_state p budget))).outcome ≢ Dead
 unfolding observation
 never_dead p budget cs =
-    machine_never_dead (source p) (Any (source p)) (record { fits = anything (source p) NoOne; turn = λ s fs rest. turn_lively s fs })
+    machine_never_dead (source p) (Any (source p)) (record { fits = anything (source p) NoOne; turn = λ s fs rest. turn_at_lively (opened p fs).following (opened p fs).frames s })
     (first_store p) (first_frames p) budget cs tt

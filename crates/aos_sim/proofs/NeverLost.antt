@@ -1,7 +1,9 @@
 -- No meaning of a program has trap 16, so no execution of an image that shows the program has one.
 use Rattle.std.proofs.Common.{ℕ, zero, suc, ◌<◌, List, [], ◌∷◌, ◌++◌, Bool, true, false, sym, subst, arith}
-use Rattle.std.specs.Prelude.{All, ℤ, pos, int_lt, ◌&&◌, int_le, if◌then◌else◌, Option, Some, None}
+use Rattle.std.specs.Prelude.{All, ℤ, pos, ◌+ℤ◌, ◌-ℤ◌, ◌*ℤ◌, neg_ℤ, unsigned_abs, int_lt, ◌&&◌, int_le, if◌then◌else◌, Option, Some, None}
 use Rattle.std.specs.Option.{option_zip}
+use Rattle.std.specs.Int.{int_div_euclid, int_rem_euclid}
+use Rattle.aos_base.specs.Number.{is_within, if_within, shifted}
 use Rattle.aos_base.specs.declared.operator.Unary.{Unary as UnaryOperator}
 use Rattle.aos_base.specs.declared.operator.Unary.TheVariants.{Neg, Abs, Not, Odd, Cap, Compl, Range}
 use Rattle.aos_base.specs.declared.operator.Binary.{Binary as BinaryOperator}
@@ -11,13 +13,13 @@ use Rattle.aos_base.specs.declared.operator.Given.TheVariants.{Number, Trap, Und
 use Rattle.aos_base.specs.Operators.{or_trap, or_undefined, set_of, on_sets, natural, unary as unary_of, binary as binary_of}
 use Rattle.aos_base.specs.Machine.{Choice, execution}
 use Rattle.aos_base.specs.Observation.{Observation, observation}
-use Rattle.aos_base.specs.Question.{Val, Asks, Traps, bind, feed, Reads, Stores, Ends, Makes, Starts, PutsInt, PutsChar, PutsLn, PutsNothing}
+use Rattle.aos_base.specs.Question.{Val, Asks, Traps, bind, feed, Reads, Stores, Copies, PutsText, ComparesTexts, Calls, Ends, Makes, Starts, PutsInt, PutsChar, PutsString, PutsLn, PutsNothing, Places, Lengths}
 use Rattle.aos_code.specs.declared.image.Image.{Image}
 use Rattle.aos_typed.specs.Program.{Place, ModuleVar, Expr, Lit, Read, Unary, Binary, And, Or, Element, Ord, Chr, Call, Open as OutOpen, Char as OutChar, Int as OutInt, Ln as OutLn, Stat, Assign, While, New, Out, Program}
-use Rattle.aos_typed.specs.Value.{Value, Int, Flag, Char, Set, Object, number_of, Sort, Character, Elements, given, unary_sort, binary_sort, is_true}
+use Rattle.aos_typed.specs.Value.{Value, Int, Flag, Char, Set, Object, Callable, Place as Spotted, number_of, Sort, Character, Elements, given, unary_sort, binary_sort, is_true}
 use Rattle.aos_typed.specs.Store.{Store, has_room}
-use Rattle.aos_typed.specs.Meaning.{Question, Doing, Item, Do, place_of, value_of, out_of, stat_of, item_of}
-use Rattle.aos_typed.specs.Source.{Frame, Frames, Turned, settles, written, prints, makes, starts, answer, goes, turn_at, turn, source, first_state, first_store, first_frames}
+use Rattle.aos_typed.specs.Meaning.{Question, Doing, Item, Do, After, Into, place_of, value_of, out_of, stat_of, item_of}
+use Rattle.aos_typed.specs.Source.{Frame, Turned, ends, settles, written, prints, makes, starts, answer, goes, item_turn, turn_at, opened, source, first_state, first_store, first_frames}
 use Rattle.aos_sim.specs.Shows.{Shows, NeverLost}
 use Rattle.aos_sim.proofs.Traps.{Leaves, traps_with}
 
@@ -48,9 +50,14 @@ range_gives : (within : Bool) (a : ℤ) → Gives (if within then Number a else 
 range_gives true a = tt
 range_gives false a = omega arith
 
+-- and else it is undefined
+if_gives : (b : Bool) (g : Given) → Gives g → Gives (if b then g else Undefined)
+if_gives true g h = h
+if_gives false g h = tt
+
 unary_gives : (op : UnaryOperator) (a : ℤ) → Gives (unary_of op a)
-unary_gives (Neg w) a = trap_gives 5 _ (omega arith)
-unary_gives (Abs w) a = trap_gives 5 _ (omega arith)
+unary_gives (Neg w) a = if_gives (is_within w a) _ (trap_gives 5 (if_within w (neg_ℤ a)) (omega arith))
+unary_gives (Abs w) a = if_gives (is_within w a) _ (trap_gives 5 (if_within w (pos (unsigned_abs a))) (omega arith))
 unary_gives Not a = undefined_gives (natural 2 a) _ (λ n. tt)
 unary_gives Odd a = tt
 unary_gives Cap a = undefined_gives (natural 256 a) _ (λ n. tt)
@@ -61,12 +68,12 @@ sets_give : (f : ℕ → ℕ → ℕ) (a b : ℤ) → Gives (on_sets f a b)
 sets_give f a b = undefined_gives (option_zip (set_of a) (set_of b)) _ (λ p. tt)
 
 binary_gives : (op : BinaryOperator) (a b : ℤ) → Gives (binary_of op a b)
-binary_gives (Add w) a b = trap_gives 5 _ (omega arith)
-binary_gives (Sub w) a b = trap_gives 5 _ (omega arith)
-binary_gives (Mul w) a b = trap_gives 5 _ (omega arith)
-binary_gives (Div w) a b = divisor_gives (int_lt (pos 0) b) _
-binary_gives (Mod w) a b = divisor_gives (int_lt (pos 0) b) _
-binary_gives (Ash w) a b = trap_gives 5 _ (omega arith)
+binary_gives (Add w) a b = if_gives (is_within w a && is_within w b) _ (trap_gives 5 (if_within w (a +ℤ b)) (omega arith))
+binary_gives (Sub w) a b = if_gives (is_within w a && is_within w b) _ (trap_gives 5 (if_within w (a -ℤ b)) (omega arith))
+binary_gives (Mul w) a b = if_gives (is_within w a && is_within w b) _ (trap_gives 5 (if_within w (a *ℤ b)) (omega arith))
+binary_gives (Div w) a b = if_gives (is_within w a && is_within w b) _ (divisor_gives (int_lt (pos 0) b) (if_within w (int_div_euclid a b)))
+binary_gives (Mod w) a b = if_gives (is_within w a && is_within w b) _ (divisor_gives (int_lt (pos 0) b) (if_within w (int_rem_euclid a b)))
+binary_gives (Ash w) a b = if_gives (is_within w a) _ (trap_gives 5 (if_within w (shifted a b)) (omega arith))
 binary_gives (Cmp relation) a b = tt
 binary_gives Union a b = sets_give _ a b
 binary_gives Minus a b = sets_give _ a b
@@ -140,55 +147,69 @@ item_comes (Do s) = stat_comes s
 abbrev Known : Turned → Type 0
 Known t = Leaves IsKnown t.left
 
-settles_known : (is : List Item) (f : Frame) (fs : Frames) (s : Store) → Known (settles is f fs s)
-settles_known [] f fs s = tt
-settles_known (Do st ∷ is) f fs s = tt
+module _ (following : List ℕ) where
+  ends_known : (result : Option Value) (fs : List Frame) (s : Store) → Known (ends following result fs s)
+  ends_known None fs s = tt
+  ends_known (Some v) fs s = tt
 
-prints_known : (bytes : Option (List ℕ)) (f : Frame) (fs : Frames) (s : Store) → Known (prints bytes f fs s)
-prints_known None f fs s = omega arith
-prints_known (Some bytes) f fs s = tt
+  settles_known : (is : List Item) (f : Frame) (fs : List Frame) (s : Store) → Known (settles following is f fs s)
+  settles_known [] f fs s = tt
+  settles_known (Do st ∷ is) f fs s = tt
 
-makes_known : (room : Bool) (t : ℕ) (f : Frame) (fs : Frames) (s : Store) → Known (makes room t f fs s)
-makes_known true t f fs s = tt
-makes_known false t f fs s = omega arith
+  prints_known : (bytes : Option (List ℕ)) (f : Frame) (fs : List Frame) (s : Store) → Known (prints following bytes f fs s)
+  prints_known None f fs s = omega arith
+  prints_known (Some bytes) f fs s = tt
 
-starts_known : (v : Value) (f : Frame) (fs : Frames) (s : Store) → Known (starts v f fs s)
-starts_known (Object zero) f fs s = tt
-starts_known (Object (suc k)) f fs s = tt
-starts_known (Int z) f fs s = tt
-starts_known (Flag b) f fs s = tt
-starts_known (Char c) f fs s = tt
-starts_known (Set x) f fs s = tt
+  makes_known : (room : Bool) (t : ℕ) (f : Frame) (fs : List Frame) (s : Store) → Known (makes following room t f fs s)
+  makes_known true t f fs s = tt
+  makes_known false t f fs s = omega arith
 
-answer_known : (q : Question) (f : Frame) (fs : Frames) (s : Store) → Known (answer q f fs s)
-answer_known (Reads p) f fs s = tt
-answer_known (Stores p v) f fs s = tt
-answer_known (Ends result) f fs s = tt
-answer_known (Makes t) f fs s = makes_known (has_room s) t f fs s
-answer_known (Starts v) f fs s = starts_known v f fs s
-answer_known (PutsInt v n) f fs s = prints_known (written v n) f fs s
-answer_known (PutsChar v) f fs s = tt
-answer_known PutsNothing f fs s = tt
-answer_known PutsLn f fs s = tt
+  starts_known : (v : Value) (f : Frame) (fs : List Frame) (s : Store) → Known (starts following v f fs s)
+  starts_known (Object zero) f fs s = tt
+  starts_known (Object (suc k)) f fs s = tt
+  starts_known (Int z) f fs s = tt
+  starts_known (Flag b) f fs s = tt
+  starts_known (Char c) f fs s = tt
+  starts_known (Set x) f fs s = tt
+  starts_known (Callable p o) f fs s = tt
+  starts_known (Spotted p) f fs s = tt
 
-goes_known : (d : Doing (List Item)) (rest : List Item) (f : Frame) (fs : Frames) (s : Store) → Comes d → Known (goes d rest f fs s)
-goes_known (Val is) rest f fs s h = settles_known (is ++ rest) f fs s
-goes_known (Asks q k) rest f fs s h = answer_known q f fs s
-goes_known (Traps n c) rest f fs s h = h
+  answer_known : (q : Question) (f : Frame) (fs : List Frame) (s : Store) → Known (answer following q f fs s)
+  answer_known (Ends result) f fs s = ends_known result fs s
+  answer_known (Makes t) f fs s = makes_known (has_room s) t f fs s
+  answer_known (Starts v) f fs s = starts_known v f fs s
+  answer_known (PutsInt v n) f fs s = prints_known (written v n) f fs s
+  answer_known (Reads t p) f fs s = tt
+  answer_known (Stores p v) f fs s = tt
+  answer_known (PutsChar v) f fs s = tt
+  answer_known PutsNothing f fs s = tt
+  answer_known PutsLn f fs s = tt
+  answer_known (Copies c from to) f fs s = tt
+  answer_known (PutsText strict from n to room) f fs s = tt
+  answer_known (ComparesTexts r a n b m) f fs s = tt
+  answer_known (Calls p vs) f fs s = tt
+  answer_known (PutsString a n) f fs s = tt
+  answer_known (Places a) f fs s = tt
+  answer_known (Lengths a) f fs s = tt
 
-turn_at_known : (answers : Option (List Value)) (is : List Item) (f : Frame) (fs : Frames) (s : Store) → Known (turn_at answers is f fs s)
-turn_at_known None is f fs s = settles_known is f fs s
-turn_at_known (Some vs) [] f fs s = tt
-turn_at_known (Some vs) (i ∷ is) f fs s = goes_known (feed vs (item_of i)) is f fs s (comes_fed vs (item_of i) (item_comes i))
+  goes_known : (d : Doing After) (rest : List Item) (f : Frame) (fs : List Frame) (s : Store) → Comes d → Known (goes following d rest f fs s)
+  goes_known (Val (Into is)) rest f fs s h = settles_known (is ++ rest) f fs s
+  goes_known (Asks q k) rest f fs s h = answer_known q f fs s
+  goes_known (Traps n c) rest f fs s h = h
 
-turn_known : (s : Store) (fs : Frames) → Known (turn s fs)
-turn_known s [] = tt
-turn_known s (f ∷ fs) = turn_at_known f.answers f.items f fs s
+  item_known : (answers : Option (List Value)) (is : List Item) (f : Frame) (fs : List Frame) (s : Store) → Known (item_turn following answers is f fs s)
+  item_known None is f fs s = settles_known is f fs s
+  item_known (Some vs) [] f fs s = tt
+  item_known (Some vs) (i ∷ is) f fs s = goes_known (feed vs (item_of i)) is f fs s (comes_fed vs (item_of i) (item_comes i))
+
+  turn_at_known : (fs : List Frame) (s : Store) → Known (turn_at following fs s)
+  turn_at_known [] s = tt
+  turn_at_known (f ∷ fs) s = item_known f.answers f.items f fs s
 
 source_traps : (p : Program) (budget : ℕ) (cs : List Choice) → All (λ t. t.number < 16) (observation (source p) (execution (source p) cs (first_state p budget))).traps
 unfolding observation
 source_traps p budget cs =
-    traps_with IsKnown (source p) (omega arith) (omega arith) (record { turn = turn_known; verdict = λ s f c. tt }) (first_store p) (first_frames p) budget cs
+    traps_with IsKnown (source p) (omega arith) (omega arith) (record { turn = λ s fs. turn_at_known (opened p fs).following (opened p fs).frames s; verdict = λ s f c. tt }) (first_store p) (first_frames p) budget cs
 
 pub never_lost : (p : Program) (image : Image) → Shows p image → NeverLost image
 never_lost p image shows budget cs =

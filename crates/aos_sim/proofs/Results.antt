@@ -1,5 +1,5 @@
 -- What an operator gives of numbers, by the kinds of operators: a number that a value of the type is given as, or a trap.
-use Rattle.std.proofs.Common.{◌≡◌, ℕ, zero, suc, ◌-◌, ◌≤◌, ◌<◌, ◌%◌, ◌^◌, ℤ, pos, negsuc, int_le, Bool, true, false, ◌&&◌, Option, Some, None, if◌then◌else◌, refl, sym, subst, arith}
+use Rattle.std.proofs.Common.{◌≡◌, ℕ, zero, suc, ◌-◌, ◌≤◌, ◌≤ℤ◌, ◌<◌, ◌%◌, ◌^◌, ℤ, pos, negsuc, int_le, Bool, true, false, ◌&&◌, Option, Some, None, if◌then◌else◌, refl, sym, subst, arith}
 use Rattle.std.specs.Prelude.{nat_lt, option_map, option_and_then}
 use Rattle.std.specs.Int.{int_rem_euclid}
 use Rattle.std.proofs.Math.Nat.{pow-le-pow_right}
@@ -10,29 +10,46 @@ use Rattle.aos_base.specs.declared.number.Width.{Width}
 use Rattle.aos_base.specs.declared.operator.Unary.TheVariants.{Range}
 use Rattle.aos_base.specs.declared.operator.Given.{Given}
 use Rattle.aos_base.specs.declared.operator.Given.TheVariants.{Number, Trap, Undefined}
-use Rattle.aos_base.specs.Number.{greatest, IsWithin, if_within}
+use Rattle.aos_base.specs.Number.{greatest, IsWithin, is_within, if_within}
 use Rattle.aos_base.specs.Set.{element, span}
 use Rattle.aos_base.specs.Operators.{flag, or_trap, natural, on_sets, unary as unary_of}
 use Rattle.aos_typed.specs.declared.tree.TType.{TType}
 use Rattle.aos_typed.specs.declared.tree.TType.TheVariants as type
 use Rattle.aos_typed.specs.Value.{Value, number_of, Sort, Integer, Boolean, Character, Elements, value_as}
 use Rattle.aos_typed.specs.WellTyped.{Includes}
-use Rattle.aos_code.specs.declared.instr.Cell.TheVariants.{Num}
-use Rattle.aos_sim.proofs.Types.{cell_of, Is, included}
+use Rattle.aos_sim.proofs.Types.{IsValueOf, included}
 
 -- what an operator gives is the number of a value of this type, or a trap of the language
 abbrev pub Agrees : TType → Sort → Given → Type 0
-Agrees t k (Number z) = Is t (value_as k z) × (cell_of (value_as k z) ≡ Num z)
+Agrees t k (Number z) = IsValueOf t (value_as k z) × (number_of (value_as k z) ≡ z)
 Agrees t k (Trap n) = n < 16
 Agrees t k Undefined = ⊥
 
+-- what is given of operands that are as an operator takes them
+pub agrees_if : (t : TType) (k : Sort) (g : Given) (b : Bool) → b ≡ true → Agrees t k g → Agrees t k (if b then g else Undefined)
+agrees_if t k g b e a = subst (λ c. Agrees t k (if c then g else Undefined)) (sym e) a
+
+is_least : (a b : ℤ) → a ≤ℤ b → int_le a b ≡ true
+is_least a b h = by (int_le a b) refl
+  where
+    by : (c : Bool) → int_le a b ≡ c → c ≡ true
+    by true e = refl
+    by false e = absurd (omega (arith, ints, e, h))
+
+-- a value of an integer type is of its width
+pub of_width : (w : Width) (v : Value) → IsValueOf (type.Integer w) v → is_within w (number_of v) ≡ true
+of_width w v h = subst (λ x. is_within w (number_of x) ≡ true) (sym h.1) (λ i. is_least (negsuc (greatest w)) h.0 h.2.low i && is_least h.0 (pos (greatest w)) h.2.high i)
+
+pub of_widths : (w : Width) (a b : Value) → IsValueOf (type.Integer w) a → IsValueOf (type.Integer w) b → (is_within w (number_of a) && is_within w (number_of b)) ≡ true
+of_widths w a b g h = λ i. of_width w a g i && of_width w b h i
+
 -- each type that has all values of another
-agrees_along : (t u : TType) (k : Sort) (g : Given) → ((v : Value) → Is u v → Is t v) → Agrees u k g → Agrees t k g
+agrees_along : (t u : TType) (k : Sort) (g : Given) → ((v : Value) → IsValueOf u v → IsValueOf t v) → Agrees u k g → Agrees t k g
 agrees_along t u k (Number z) more a = (more (value_as k z) a.0, a.1)
 agrees_along t u k (Trap n) more a = a
 agrees_along t u k Undefined more a = a
 
-number_within : (w : Width) (z : ℤ) (b : Bool) → (int_le (negsuc (greatest w)) z && int_le z (pos (greatest w))) ≡ b → Agrees (type.Integer w) Integer (or_trap 5 (if b then Some z else None))
+number_within : (w : Width) (z : ℤ) (b : Bool) → is_within w z ≡ b → Agrees (type.Integer w) Integer (or_trap 5 (if b then Some z else None))
 number_within w z true e = let p = and_parts (int_le (negsuc (greatest w)) z) (int_le z (pos (greatest w))) e in ((z, refl, record { low = omega (arith, ints, p.0); high = omega (arith, ints, p.1) }), refl)
 number_within w z false e = omega arith
 
@@ -76,7 +93,7 @@ pub set_agrees : (n : ℕ) → n < 2 ^ 32 → Agrees type.Set Elements (Number (
 set_agrees n h = ((n, refl, h), refl)
 
 -- a set of two sets
-pub sets_agree : (f : ℕ → ℕ → ℕ) (a b : Value) → ((x y : ℕ) → x < 2 ^ 32 → y < 2 ^ 32 → f x y < 2 ^ 32) → Is type.Set a → Is type.Set b → Agrees type.Set Elements (on_sets f (number_of a) (number_of b))
+pub sets_agree : (f : ℕ → ℕ → ℕ) (a b : Value) → ((x y : ℕ) → x < 2 ^ 32 → y < 2 ^ 32 → f x y < 2 ^ 32) → IsValueOf type.Set a → IsValueOf type.Set b → Agrees type.Set Elements (on_sets f (number_of a) (number_of b))
 sets_agree f a b below ha hb =
     subst (λ v. Agrees type.Set Elements (on_sets f (number_of v) (number_of b))) (sym ha.1)
     (subst (λ v. Agrees type.Set Elements (on_sets f (pos ha.0) (number_of v))) (sym hb.1)

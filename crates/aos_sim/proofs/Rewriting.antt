@@ -14,7 +14,7 @@ use Rattle.aos_typed.specs.declared.tree.Literal.{Literal}
 use Rattle.aos_typed.specs.declared.tree.TType.{TType}
 use Rattle.aos_typed.specs.Program.{Place, ModuleVar, Expr, Lit, Read, Unary, Binary, And, Or, Element, Ord, Chr, Assign}
 use Rattle.aos_typed.specs.Value.{Value, Flag, literal_value, number_of, Sort, Character, given, unary_sort, binary_sort, unary, binary, element, ord, chr, is_true}
-use Rattle.aos_typed.specs.Meaning.{Question, Doing, Item, value_of, stat_of}
+use Rattle.aos_typed.specs.Meaning.{Question, Doing, After, value_of, stat_of}
 use Rattle.aos_sim.specs.Rewriting.{is_asking, are_asked, with_first, rewritten}
 
 module _ {Q V A : Type 0} where
@@ -148,7 +148,7 @@ expression_rewrites e (l ∷ ls) asked =
     first_fed (literal_value l) (map literal_value ls) (value_of e) asks ∙ ap (feed (map literal_value ls)) (one_read l e asks)
     ∙ expression_rewrites (with_first l e) ls (rest_asked l ls e asked)
 
-pub statement_rewrites : (e : Expr) (onward : Value → Doing (List Item)) (ls : List Literal) → are_asked (map literal_value ls) (value_of e) ≡ true → feed (map literal_value ls) (bind (value_of e) onward) ≡ bind (value_of (rewritten ls e)) onward
+pub statement_rewrites : (e : Expr) (onward : Value → Doing After) (ls : List Literal) → are_asked (map literal_value ls) (value_of e) ≡ true → feed (map literal_value ls) (bind (value_of e) onward) ≡ bind (value_of (rewritten ls e)) onward
 statement_rewrites e onward [] asked = refl
 statement_rewrites e onward (l ∷ ls) asked =
     let asks = asks_read l ls e asked in

@@ -1,11 +1,14 @@
 -- An image that has a well-typed program's code shows the program.
 use Rattle.std.proofs.Common.{◌≡◌, ℕ, zero, suc, ◌+◌, List, [], ◌∷◌, ◌++◌, map, length, Option, Some, None, refl, sym, ap, ◌∙◌, subst, arith, append-nil}
-use Rattle.std.specs.Prelude.{slice_get, flat_map, option_map, option_and_then}
+use Rattle.std.specs.Prelude.{slice_get, flat_map, option_map, option_and_then, All}
+use Rattle.std.specs.List.{range_with_len}
 use Rattle.std.proofs.lemmas.List.{length-map}
 use Rattle.std.proofs.lemmas.Option.{slice_get-map}
 use Rattle.aos_base.specs.Book.{Where}
+use Rattle.aos_base.specs.Rooted.{Made, by_number}
 use Rattle.aos_base.specs.Machine.{Choice, execution}
 use Rattle.aos_typed.specs.Program.{Stats, ObjectType, Module, Program}
+use Rattle.aos_typed.specs.Typing.{Is}
 use Rattle.aos_typed.specs.Store.{Store}
 use Rattle.aos_typed.specs.Source as S
 use Rattle.aos_typed.specs.WellTyped.{AreStatements, IsWellTyped}
@@ -19,40 +22,53 @@ use Rattle.aos_code.specs.declared.image.TypeDesc.{TypeDesc}
 use Rattle.aos_code.specs.Numbered.{numbered}
 use Rattle.aos_code.specs.Memory.{Memory}
 use Rattle.aos_code.specs.Machine as I
-use Rattle.aos_code.specs.Machine.{machine, code_in, home_in, body_in, body_frames, code_of, home_of, frame_of}
+use Rattle.aos_code.specs.Machine.{machine, bodies, code_in_body, home_in, code_of, home_of}
 use Rattle.aos_concurrency.specs.Simulates.{Simulates, Matches}
 use Rattle.aos_concurrency.specs.Spot.{Anyone}
 use Rattle.aos_concurrency.proofs.Matching.{execution_matches, start_matches, observation_matches, events_match}
 use Rattle.aos_sim.specs.Code.{stats_code, body_code}
 use Rattle.aos_sim.specs.Shows.{numbers_from, IsCodeOf, Shows}
-use Rattle.aos_sim.proofs.Runs.{Stands}
-use Rattle.aos_sim.proofs.Stats.{carries_body}
-use Rattle.aos_sim.proofs.Stores.{SameStore}
-use Rattle.aos_sim.proofs.Turns.{SameFrame, SameFrames, Together, turn_alike}
-use Rattle.aos_sim.proofs.First.{all_get, get_left, get_right, number_at, length-numbers, first_rows, first_typed}
+use Rattle.aos_places.specs.Shows.{AllShown}
+use Rattle.aos_sim.specs.Cells.{cell_of}
+use Rattle.aos_sim.proofs.Carries.{Stands}
+use Rattle.aos_sim.proofs.Stats.{carries_body, statements_do}
+use Rattle.aos_sim.proofs.First.{all_get, get_left, get_right, number_at, length-numbers, modules_shown}
+use Rattle.aos_sim.proofs.States.{world_of, SameStore, IsBody, Follows, Waiting, SameFrames, Same, body_same, body_shown, opened_same, same_grows}
+use Rattle.aos_sim.proofs.Grown.{turn_grown}
+use Rattle.aos_sim.proofs.Turns.{Together, turn_alike}
 
 module _ (program : Program) (image : Image) where
-  position_or_same : (none : Where) (fs : S.Frames) (gs : I.Frames) → SameFrames program image fs gs → S.position_or none fs ≡ I.position_or image none gs
-  position_or_same none [] [] h = refl
-  position_or_same none [] (g ∷ gs) h = absurd h
-  position_or_same none (f ∷ fs) [] h = absurd h
-  position_or_same none (f ∷ fs) (g ∷ gs) h = λ j. S.or_below (sym h.0.at j) (sym h.0.home j) (position_or_same none fs gs h.1 j)
+  waiting_position : (made : List Made) (below : Where) (fs : List S.Frame) (gs : List I.Frame) → Waiting program image made fs gs → S.position_or below fs ≡ I.position_or image below gs
+  waiting_position made below [] [] h = refl
+  waiting_position made below [] (g ∷ gs) h = absurd h
+  waiting_position made below (f ∷ fs) [] h = absurd h
+  waiting_position made below (f ∷ fs) (g ∷ gs) h =
+      λ j. S.or_below (sym h.0.place.at_is j) (sym h.0.place.home_is j) (waiting_position made below fs gs h.1 j)
 
-  pub position_same : (fs : S.Frames) (gs : I.Frames) → SameFrames program image fs gs → S.position fs ≡ I.position image gs
-  position_same [] [] h = refl
-  position_same [] (g ∷ gs) h = absurd h
-  position_same (f ∷ fs) [] h = absurd h
-  position_same (f ∷ fs) (g ∷ gs) h =
-      position_or_same (record { module_ = f.home; pos = record { line = 0; col = 0 } }) (f ∷ fs) (g ∷ gs) h
-      ∙ ap (λ k. I.position_or image (record { module_ = k; pos = record { line = 0; col = 0 } }) (g ∷ gs)) (sym h.0.home)
+  pub position_same : (made : List Made) (fs : List S.Frame) (gs : List I.Frame) → SameFrames program image made fs gs → S.position_in fs ≡ I.position_in image gs
+  position_same made [] [] h = refl
+  position_same made [] (g ∷ gs) h = absurd h
+  position_same made (f ∷ fs) [] h = absurd h
+  position_same made (f ∷ fs) (g ∷ gs) h =
+      let from : ℕ → Where = λ m. record { module_ = m; pos = record { line = 0; col = 0 } } in
+      (λ j. S.or_below (sym h.0.place.at_is j) (sym h.0.place.home_is j) (waiting_position made (from f.home) fs gs h.1 j))
+      ∙ ap (λ m. I.position_or image (from m) (g ∷ gs)) (sym h.0.place.home_is)
 
-code_found : (o : Option Body) (is : List Instr) → option_map (λ (b : Body). b.code.items) o ≡ Some is → code_in o ≡ is
-code_found None is e = absurd (cc)
-code_found (Some b) is e = cc
+code_found : (o : Option Body) (is : List Instr) → option_map (λ (b : Body). b.code.items) o ≡ Some is → code_in_body o ≡ is
+code_found None is e = absurd (cc e)
+code_found (Some b) is e = cc e
 
 home_found : (o : Option ProcShape) (k : ℕ) → option_map (λ (s : ProcShape). s.module) o ≡ Some k → home_in o ≡ k
-home_found None k e = absurd (cc)
-home_found (Some b) k e = cc
+home_found None k e = absurd (cc e)
+home_found (Some b) k e = cc e
+
+-- where there is a shape, it is that of a procedure without a result
+nothing_given : (ss : List ProcShape) (k home : ℕ) → All (λ (s : ProcShape). s.result ≡ None) ss → option_map (λ (s : ProcShape). s.module) (slice_get ss k) ≡ Some home → (x : ProcShape) × (slice_get ss k ≡ Some x) × (x.result ≡ None)
+nothing_given ss k home h e = by (slice_get ss k) refl e
+  where
+    by : (o : Option ProcShape) → slice_get ss k ≡ o → option_map (λ (s : ProcShape). s.module) o ≡ Some home → (x : ProcShape) × (slice_get ss k ≡ Some x) × (x.result ≡ None)
+    by None there e' = absurd (cc e')
+    by (Some x) there e' = (x, there, all_get (λ s. s.result ≡ None) ss k x h there)
 
 module _ (p : Program) (image : Image) (well : IsWellTyped p) (ok : IsCodeOf p image) where
   abbrev ms : List Module
@@ -63,103 +79,116 @@ module _ (p : Program) (image : Image) (well : IsWellTyped p) (ok : IsCodeOf p i
 
   first_store_same : SameStore p (S.first_store p) (I.first_memory image)
   first_store_same =
-      record { cells = ok.cells ∙ first_rows ms; typed = first_typed ms; objects = refl }
-
-  -- what is known of the procedure of number k, counted from 0: the body of these statements, in this module
-  record Linked (k m : ℕ) (ss : Stats) : Type 0 where
-    pub home : home_of image (suc k) ≡ m
-    pub code : code_of image (suc k) ≡ body_code ss
-    pub typed : AreStatements p ss
-
-  linked : (k home : ℕ) (ss : Stats) → slice_get (numbers_from 0 ms ++ map (λ o. o.home) os) k ≡ Some home → slice_get (map (λ m. body_code m.body) ms ++ map (λ o. body_code o.body) os) k ≡ Some (body_code ss) → AreStatements p ss → Linked k home ss
-  linked k home ss eh ec typed =
       record {
-        home = home_found (slice_get image.shapes.items k) home (sym (slice_get-map (λ (s : ProcShape). s.module) image.shapes.items k) ∙ ap (λ l. slice_get l k) ok.homes ∙ eh);
-        code = code_found (slice_get image.bodies.items k) (body_code ss) (sym (slice_get-map (λ (b : Body). b.code.items) image.bodies.items k) ∙ ap (λ l. slice_get l k) ok.bodies ∙ ec);
-        typed = typed;
+        made = refl;
+        of_modules = subst (λ ys. AllShown (Is p.types) cell_of (world_of p [] []) (map (S.module_shape p) ms) (S.first_store p).modules ys) (sym ok.cells) (modules_shown p (world_of p [] []) ms);
+        of_objects = tt;
       }
 
-  linked_module : (k : ℕ) (m : Module) → slice_get ms k ≡ Some m → Linked k k m.body
-  linked_module k m e =
+  is_body : (k home : ℕ) (ss : Stats) → slice_get (numbers_from 0 ms ++ map (λ o. o.home) os) k ≡ Some home → slice_get (map (λ m. body_code p m.body) ms ++ map (λ o. body_code p o.body) os) k ≡ Some (body_code p ss) → AreStatements p ss → IsBody p image (suc k) home ss
+  is_body k home ss eh ec typed =
+      let shape : option_map (λ (s : ProcShape). s.module) (slice_get image.shapes.items k) ≡ Some home = sym (slice_get-map (λ (s : ProcShape). s.module) image.shapes.items k) ∙ ap (λ l. slice_get l k) ok.homes ∙ eh in
+      let code = code_found (slice_get image.bodies.items k) (body_code p ss) (sym (slice_get-map (λ (b : Body). b.code.items) image.bodies.items k) ∙ ap (λ l. slice_get l k) ok.bodies ∙ ec) in
+      let stands : Stands (code_of image (suc k)) 0 (stats_code p ss 0 ++ i.Return ∷ []) = record { rest = []; here = code ∙ sym (append-nil (body_code p ss)) } in
+      record {
+        home_is = home_found (slice_get image.shapes.items k) home shape;
+        gives = nothing_given image.shapes.items k home ok.results shape;
+        carries = λ here. carries_body p image.shapes.items (suc k) here (code_of image (suc k)) ss 0 typed stands;
+      }
+
+  module_is_body : (k : ℕ) (m : Module) → slice_get ms k ≡ Some m → IsBody p image (suc k) k m.body
+  module_is_body k m e =
       let z : 0 + k ≡ k = omega arith in
-      linked k k m.body
+      is_body k k m.body
       (get_left (numbers_from 0 ms) (map (λ o. o.home) os) k k (number_at 0 k ms ∙ ap (option_map (λ x. 0 + k)) e ∙ ap (λ j. Some j) z))
-      (get_left (map (λ m. body_code m.body) ms) (map (λ o. body_code o.body) os) k (body_code m.body) (slice_get-map (λ (x : Module). body_code x.body) ms k ∙ ap (option_map (λ (x : Module). body_code x.body)) e))
+      (get_left (map (λ m. body_code p m.body) ms) (map (λ o. body_code p o.body) os) k (body_code p m.body) (slice_get-map (λ (x : Module). body_code p x.body) ms k ∙ ap (option_map (λ (x : Module). body_code p x.body)) e))
       (all_get (λ x. AreStatements p x.body) ms k m well.bodies e)
 
-  linked_object : (t : ℕ) (o : ObjectType) → slice_get os t ≡ Some o → Linked (length ms + t) o.home o.body
-  linked_object t o e =
+  object_is_body : (t : ℕ) (o : ObjectType) → slice_get os t ≡ Some o → IsBody p image (suc (length ms + t)) o.home o.body
+  object_is_body t o e =
       let n : length ms + t ≡ length (numbers_from 0 ms) + t = ap (λ j. j + t) (sym (length-numbers 0 ms)) in
-      let c : length ms + t ≡ length (map (λ (m : Module). body_code m.body) ms) + t = ap (λ j. j + t) (sym (length-map ms (λ (m : Module). body_code m.body))) in
-      linked (length ms + t) o.home o.body
+      let c : length ms + t ≡ length (map (λ (m : Module). body_code p m.body) ms) + t = ap (λ j. j + t) (sym (length-map ms (λ (m : Module). body_code p m.body))) in
+      is_body (length ms + t) o.home o.body
       (get_right (numbers_from 0 ms) (map (λ o. o.home) os) (length ms + t) t n ∙ slice_get-map (λ (x : ObjectType). x.home) os t ∙ ap (option_map (λ (x : ObjectType). x.home)) e)
-      (get_right (map (λ m. body_code m.body) ms) (map (λ o. body_code o.body) os) (length ms + t) t c ∙ slice_get-map (λ (x : ObjectType). body_code x.body) os t ∙ ap (option_map (λ (x : ObjectType). body_code x.body)) e)
+      (get_right (map (λ m. body_code p m.body) ms) (map (λ o. body_code p o.body) os) (length ms + t) t c ∙ slice_get-map (λ (x : ObjectType). body_code p x.body) os t ∙ ap (option_map (λ (x : ObjectType). body_code p x.body)) e)
       (all_get (λ x. AreStatements p x.body) os t o well.objects e)
 
-  first_frame_same : (k home : ℕ) (ss : Stats) → Linked k home ss → SameFrame p image (S.body_frame home ss) (frame_of (suc k))
-  first_frame_same k home ss l =
-      let code = code_of image (suc k) in
-      let stands : Stands code 0 (stats_code ss 0 ++ i.Return ∷ []) = record { rest = []; here = l.code ∙ sym (append-nil (body_code ss)) } in
-      record { home = l.home; at = refl; remains = (refl, carries_body p code ss 0 l.typed stands) }
-
-  frames_same : (k : ℕ) (ms : List Module) (ds : List ModuleDesc) → ((j : ℕ) (m : Module) → slice_get ms j ≡ Some m → Linked (k + j) (k + j) m.body) → map (λ (d : ModuleDesc). d.body) ds ≡ numbers_from (suc k) ms → SameFrames p image (S.bodies_from k ms) (flat_map (λ (d : ModuleDesc). body_frames d.body) ds)
-  frames_same k [] [] each e = tt
-  frames_same k [] (d ∷ ds) each e = absurd (cc)
-  frames_same k (m ∷ ms) [] each e = absurd (cc)
-  frames_same k (m ∷ ms) (d ∷ ds) each e =
-      let here : d.body ≡ suc k = cc in
-      let rest : map (λ (x : ModuleDesc). x.body) ds ≡ numbers_from (suc (suc k)) ms = cc in
+  -- the bodies of modules follow one another
+  bodies_follow : (k : ℕ) (xs : List Module) (ds : List ModuleDesc) → ((j : ℕ) (m : Module) → slice_get xs j ≡ Some m → slice_get ms (k + j) ≡ Some m) → map (λ (d : ModuleDesc). d.body) ds ≡ numbers_from (suc k) xs → Follows p image (range_with_len k (length xs)) (flat_map (λ (d : ModuleDesc). bodies d.body) ds)
+  bodies_follow k [] [] each e = tt
+  bodies_follow k [] (d ∷ ds) each e = absurd (cc e)
+  bodies_follow k (m ∷ xs) [] each e = absurd (cc e)
+  bodies_follow k (m ∷ xs) (d ∷ ds) each e =
+      let here : d.body ≡ suc k = cc e in
+      let rest : map (λ (x : ModuleDesc). x.body) ds ≡ numbers_from (suc (suc k)) xs = cc e in
+      let up : suc k ≡ k + 1 = omega arith in
       let n : k + 0 ≡ k = omega arith in
-      let now = first_frame_same k k m.body (subst (λ j. Linked j j m.body) n (each 0 m refl)) in
-      let below = frames_same (suc k) ms ds (λ j x at. let n' : k + suc j ≡ suc k + j = omega arith in subst (λ q. Linked q q x.body) n' (each (suc j) x at)) rest in
-      subst (λ b. SameFrames p image (S.bodies_from k (m ∷ ms)) (body_frames b ++ flat_map (λ (x : ModuleDesc). body_frames x.body) ds)) (sym here) (now, below)
+      let there : slice_get ms k ≡ Some m = subst (λ j. slice_get ms j ≡ Some m) n (each 0 m refl) in
+      let below = bodies_follow (k + 1) xs ds (λ j x at. let n' : k + suc j ≡ k + 1 + j = omega arith in subst (λ q. slice_get ms q ≡ Some x) n' (each (suc j) x at)) (rest ∙ ap (λ n. numbers_from (suc n) xs) up) in
+      subst (λ b. Follows p image (k ∷ range_with_len (k + 1) (length xs)) (bodies b ++ flat_map (λ (x : ModuleDesc). bodies x.body) ds)) (sym here)
+      ((m, there, module_is_body k m there), below)
 
-  -- the frames of an object's activity, by the object's type on both sides
-  object_same : (t : ℕ) (o : Option ObjectType) (d : Option TypeDesc) → slice_get os t ≡ o → slice_get image.types.items t ≡ d → SameFrames p image (S.object_frames o) (body_in d)
-  object_same t o d eo ed = by_case o d eo (ap (option_map (λ (x : TypeDesc). x.body)) (sym ed) ∙ sym (slice_get-map (λ (x : TypeDesc). x.body) image.types.items t) ∙ ap (λ l. slice_get l t) ok.types ∙ number_at (suc (length ms)) t os ∙ ap (option_map (λ x. suc (length ms) + t)) eo)
+  -- the body of an object, by its type on both sides
+  object_same : (made : List Made) (o t : ℕ) (x : Option ObjectType) (d : Option TypeDesc) → slice_get os t ≡ x → slice_get image.types.items t ≡ d → Same p image made (S.object_frames o x) (I.object_frames o d)
+  object_same made o t x d ex ed = by_case x d ex (ap (option_map (λ (y : TypeDesc). y.body)) (sym ed) ∙ sym (slice_get-map (λ (y : TypeDesc). y.body) image.types.items t) ∙ ap (λ l. slice_get l t) ok.types ∙ number_at (suc (length ms)) t os ∙ ap (option_map (λ y. suc (length ms) + t)) ex)
     where
-      by_case : (o : Option ObjectType) (d : Option TypeDesc) → slice_get os t ≡ o → option_map (λ (x : TypeDesc). x.body) d ≡ option_map (λ x. suc (length ms) + t) o → SameFrames p image (S.object_frames o) (body_in d)
-      by_case None None eo e = tt
-      by_case None (Some d) eo e = absurd (cc)
-      by_case (Some o) None eo e = absurd (cc)
-      by_case (Some o) (Some d) eo e =
-          let here : d.body ≡ suc (length ms) + t = cc in
+      by_case : (x : Option ObjectType) (d : Option TypeDesc) → slice_get os t ≡ x → option_map (λ (y : TypeDesc). y.body) d ≡ option_map (λ y. suc (length ms) + t) x → Same p image made (S.object_frames o x) (I.object_frames o d)
+      by_case None None ex e = record { follows = tt; frames = tt; shown = tt }
+      by_case None (Some d) ex e = absurd (cc e)
+      by_case (Some x) None ex e = absurd (cc e)
+      by_case (Some x) (Some d) ex e =
+          let here : d.body ≡ suc (length ms) + t = cc e in
           let n : suc (length ms) + t ≡ suc (length ms + t) = omega arith in
-          subst (λ b. SameFrames p image (S.object_frames (Some o)) (body_frames b)) (sym (here ∙ n)) (first_frame_same (length ms + t) o.home o.body (linked_object t o eo), tt)
+          let number = suc (length ms + t) in
+          subst (λ b. Same p image made (S.object_frames o (Some x)) (record { following = []; frames = map (I.body_frame o) (bodies b) })) (sym (here ∙ n))
+          (record {
+            follows = tt;
+            frames = body_same p image made o number x.home x.body (object_is_body t x ex);
+            shown = body_shown p image made o number x.home x.body;
+          })
 
-  body_same : (s : Store) (mem : Memory) (o : ℕ) → SameStore p s mem → SameFrames p image (S.body_of p s o) (I.body_of image mem o)
-  body_same s mem zero stores = tt
-  body_same s mem (suc k) stores =
-      subst (λ x. SameFrames p image (S.object_frames (option_and_then (slice_get os) (slice_get s.objects k))) (body_in (option_and_then (numbered image.types.items) x)))
-      (sym (ap (λ l. slice_get l k) stores.objects ∙ slice_get-map (λ t. t + 1) s.objects k))
-      (of_type (slice_get s.objects k))
-    where
-      of_type : (t : Option ℕ) → SameFrames p image (S.object_frames (option_and_then (slice_get os) t)) (body_in (option_and_then (numbered image.types.items) (option_map (λ x. x + 1) t)))
-      of_type None = tt
-      of_type (Some t) =
-          let n : t + 1 ≡ suc t = omega arith in
-          subst (λ x. SameFrames p image (S.object_frames (slice_get os t)) (body_in (numbered image.types.items x))) (sym n)
-          (object_same t (slice_get os t) (slice_get image.types.items t) refl refl)
+  made_same : (made : List Made) (o : ℕ) (t : Option ℕ) → Same p image made (S.object_frames o (option_and_then (λ n. by_number n os) t)) (I.object_frames o (option_and_then (numbered image.types.items) t))
+  made_same made o None = record { follows = tt; frames = tt; shown = tt }
+  made_same made o (Some zero) = record { follows = tt; frames = tt; shown = tt }
+  made_same made o (Some (suc n)) = object_same made o n (slice_get os n) (slice_get image.types.items n) refl refl
+
+  object_body_same : (s : Store) (mem : Memory) (o : ℕ) → SameStore p s mem → Same p image s.made (S.body_of p s o) (I.body_of image mem o)
+  object_body_same s mem o stores =
+      let t : List Made → Option ℕ = λ l. option_map (λ (m : Made). m.type) (by_number o l) in
+      subst (λ l. Same p image s.made (S.body_of p s o) (I.object_frames o (option_and_then (numbered image.types.items) (t l)))) (sym stores.made) (made_same s.made o (t s.made))
 
   -- one turn of the image is one turn of the source
   simulates : Simulates (SameStore p) (Together p image) Anyone (S.source p) (machine image)
   simulates = record {
-    turn = λ s mem fs gs stores h. turn_alike p image s mem fs gs stores h.now;
-    kept = λ s mem fs gs stores h w fs' gs' h'. record { now = h'.now; behind = h'.behind };
+    turn = λ s mem fs gs stores h. turn_alike p image well.predeclared (statements_do p) s mem fs gs stores h.now;
+    kept = λ s mem fs gs stores h w fs' gs' h'.
+        let g = turn_grown (S.opened p fs).following (S.opened p fs).frames s in
+        record {
+          now = subst (λ l. Same p image l fs' gs') (sym g.1) (same_grows p image s.made g.0 fs' gs' h'.now);
+          behind = λ goes. subst (λ l. Same p image l (S.past p fs') (I.past image gs')) (sym g.1) (same_grows p image s.made g.0 (S.past p fs') (I.past image gs') (h'.behind goes));
+        };
     past = λ s mem w fs gs goes stores h. record { now = h.behind goes; behind = λ k. absurd k };
     verdict = λ s mem l c fs gs stores h. refl;
     regions = λ s mem w fs gs may stores h. refl;
-    position = λ s mem w fs gs may stores h. position_same p image fs gs h.now;
+    position = λ s mem w fs gs may stores h. position_same p image s.made (S.opened p fs).frames (I.opened gs).frames (opened_same p image s.made fs gs h.now).frames;
     anew = λ s mem w fs gs may stores h. tt;
-    body = λ s mem o fs gs stores h. record { now = body_same s mem o stores; behind = λ k. absurd k };
+    body = λ s mem o fs gs stores h. record { now = object_body_same s mem o stores; behind = λ k. absurd k };
     priority = λ s mem o fs gs stores h. refl;
   }
+
+  first_same : Same p image [] (S.first_frames p) (I.first_frames image)
+  first_same =
+      record {
+        follows = bodies_follow 0 ms image.modules.items (λ j m e. let n : j ≡ 0 + j = omega arith in subst (λ q. slice_get ms q ≡ Some m) n e) ok.starts;
+        frames = tt;
+        shown = tt;
+      }
 
   matched : (budget : ℕ) (choices : List Choice) → Matches (SameStore p) (Together p image) Anyone (execution (S.source p) choices (S.first_state p budget)) (execution (machine image) choices (I.first_state image budget))
   matched budget choices =
       execution_matches (SameStore p) (Together p image) Anyone (S.source p) (machine image) simulates choices (S.first_state p budget) (I.first_state image budget) (λ later a l asks. tt)
       (start_matches (SameStore p) (Together p image) Anyone (S.source p) (machine image) simulates (S.first_store p) (I.first_memory image) (S.first_frames p) (I.first_frames image) budget first_store_same
-      (record { now = frames_same 0 ms image.modules.items (λ j m e. let n : j ≡ 0 + j = omega arith in subst (λ q. Linked q q m.body) n (linked_module j m e)) ok.starts; behind = λ k. absurd k }))
+      (record { now = first_same; behind = λ k. absurd k }))
 
   pub shown : Shows p image
   shown = record {

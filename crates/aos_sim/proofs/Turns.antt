@@ -1,229 +1,415 @@
 -- One turn of each side from related frames gives related frames, with the same work left to the kernel.
-use Rattle.std.proofs.Common.{◌≡◌, ℕ, ◌+◌, ◌<◌, List, [], ◌∷◌, ◌++◌, length, map, drop, Option, Some, None, refl, sym, ap, ◌∙◌, subst}
-use Rattle.std.specs.Prelude.{Bool, true, false, suc, nat_lt}
-use Rattle.std.proofs.lemmas.List.{map-append, length-map}
+use Rattle.std.proofs.Common.{◌≡◌, ℕ, suc, ◌+◌, List, [], ◌∷◌, ◌++◌, length, drop, Option, Some, None, refl, sym, ap, ◌∙◌, subst, arith}
+use Rattle.std.specs.Prelude.{Bool, true, false, is_some, nat_lt, option_map, if◌then◌else◌}
 use Rattle.aos_base.specs.declared.number.Width.TheVariants.{W64}
 use Rattle.aos_base.specs.declared.text.Pos.{Pos}
 use Rattle.aos_base.specs.declared.kernel.Did.{Did}
-use Rattle.aos_base.specs.declared.kernel.Did.TheVariants.{Trapped}
-use Rattle.aos_base.specs.Question.{Val, Asks, Traps, feed, Reads, Stores, Ends, Makes, Starts, PutsInt, PutsChar, PutsNothing, PutsLn}
-use Rattle.aos_typed.specs.declared.tree.TType.TheVariants as type
-use Rattle.aos_typed.specs.Program.{Stat, Assign, While, New, Out, Program}
-use Rattle.aos_typed.specs.Value.{Value, Char, Object}
-use Rattle.aos_typed.specs.Store.{Spot, Store, read, has_room, new_number}
+use Rattle.aos_base.specs.declared.kernel.Did.TheVariants.{Went, Ended as NoFrame, Trapped}
+use Rattle.aos_base.specs.Question.{Val, Asks, Traps, feed, Reads, Stores, Copies, PutsText, ComparesTexts, Calls, Ends, Makes, Starts, PutsInt, PutsChar, PutsString, PutsNothing, PutsLn, Places, Lengths}
+use Rattle.aos_base.specs.Rooted.{Made, Rooted, spliced}
+use Rattle.aos_types.specs.Shape.{Shape, One}
+use Rattle.aos_types.specs.Content.{Content, Scalar, placed as placed_at}
+use Rattle.aos_types.specs.World.{World, Grows, shape_at}
+use Rattle.aos_typed.specs.declared.tree.TType.{TType}
+use Rattle.aos_typed.specs.Program.{Stat, Program}
+use Rattle.aos_typed.specs.Numbers.{id_of}
+use Rattle.aos_typed.specs.Sort.{Sort, Plain}
+use Rattle.aos_typed.specs.Spot.{Spot}
+use Rattle.aos_typed.specs.Value.{Value, Int, Char, Object}
+use Rattle.aos_typed.specs.Typing.{Is, IsPlain, IsInteger}
+use Rattle.aos_typed.specs.Store.{Store, scalar_in, has_room, new_number, with_object as with_one_more}
 use Rattle.aos_typed.specs.Meaning as source
-use Rattle.aos_typed.specs.Meaning.{Doing, Item, Do, stat_of, pos_of}
+use Rattle.aos_typed.specs.Meaning.{Doing, Item, Do, After, Into, item_of, pos_of}
 use Rattle.aos_typed.specs.Source as S
-use Rattle.aos_typed.specs.WellTyped.{IsStatement}
+use Rattle.aos_typed.specs.Source.{first_value}
+use Rattle.aos_typed.specs.WellTyped.{is_basic, IsStatement}
 use Rattle.aos_code.specs.declared.instr.Cell.{Cell}
 use Rattle.aos_code.specs.declared.instr.Cell.TheVariants.{Ref}
+use Rattle.aos_code.specs.declared.instr.Kind.TheVariants.{N}
 use Rattle.aos_code.specs.declared.instr.Instr.{Instr}
+use Rattle.aos_code.specs.declared.image.ProcShape.{ProcShape}
 use Rattle.aos_code.specs.declared.image.Image.{Image}
-use Rattle.aos_code.specs.Memory.{Memory, load, has_room as has_room_in, new_number as new_number_in, with_object as with_one}
-use Rattle.aos_code.specs.Silent.{Stack, Begins, Fails, Stop, Work, Ended, silent}
+use Rattle.aos_code.specs.Memory.{Memory, with_object as with_one}
+use Rattle.aos_code.specs.Silent.{Stack, Keeps, Question, Begins, Fails, Stop, Work, Ended, is_of, silent}
 use Rattle.aos_code.specs.Machine as I
 use Rattle.aos_code.specs.Machine.{code_of, home_of}
 use Rattle.aos_concurrency.specs.Spot.{Anyone, GoesPast}
 use Rattle.aos_concurrency.specs.Simulates.{SameTurn}
-use Rattle.aos_sim.specs.Code.{stat_code}
-use Rattle.aos_sim.proofs.Runs.{Run, AtBegin, at_work, past, runs, run, resume, run_by_silent, feed-append, Stands}
-use Rattle.aos_sim.proofs.Types.{cell_of, Is, integer_number}
+use Rattle.aos_places.specs.Shows.{Shows}
+use Rattle.aos_places.proofs.Grow.{grows_same, objects_grow}
+use Rattle.aos_places.proofs.Places.{ReadAlike, read_alike, stored_alike}
+use Rattle.aos_places.proofs.Makes.{made_alike}
+use Rattle.aos_sim.specs.Cells.{cell_of}
+use Rattle.aos_sim.specs.Code.{kind_of, stat_code}
+use Rattle.aos_sim.proofs.Kept.{values_kept}
+use Rattle.aos_sim.proofs.Runs.{Run, AtBegin, Onward, past, calm, runs, run, resume, run_by_silent, feed-append}
+use Rattle.aos_sim.proofs.Types.{number_cell, integer_is, character_is}
 use Rattle.aos_sim.proofs.Results.{natural_is}
-use Rattle.aos_sim.proofs.Does.{placed, addr_of, IsAsk, IsAnswer, Does, along}
-use Rattle.aos_sim.proofs.Stats.{Carries, Into, stat_does}
-use Rattle.aos_sim.proofs.Stores.{SameStore, read_same, write_same, made_same}
-use Rattle.aos_sim.proofs.Begun.{conforms_more, does_feed, Begun, Remains}
+use Rattle.aos_sim.proofs.Variables.{value_from}
+use Rattle.aos_sim.proofs.Does.{scheme, addr_of, placed, HasPredeclared, Knows, Valid, Conforms, Does, along, calm_placed}
+use Rattle.aos_sim.proofs.Carries.{Stands, Carries, Behind, Remains, StatementsDo}
+use Rattle.aos_sim.proofs.Stats.{basic_kind, carries_ends, carries_begins}
+use Rattle.aos_sim.proofs.First.{zero_cell, first_is, first_same, get_right}
+use Rattle.aos_sim.proofs.States.{world_of, shapes_of, SameStore, SameVariables, SamePlace, Waiting, SameFrames, Follows, Same, SameState, ends_same, ends_shown, opened_same, waiting_grow}
+use Rattle.aos_sim.proofs.Written.{written}
+use Rattle.aos_sim.proofs.Starting.{silent_at_start, run_at_start}
+
+-- Where silent work stops, by the run from there.
+
+module _ (shapes : List ProcShape) (own here : ℕ) (code : List Instr) where
+  stop_begins : (stop : Stop) (p : ℕ) (at : Pos) (k : Keeps) (st : Stack) → resume shapes own here code stop ≡ Val (AtBegin p at k st) → stop ≡ Ended (Begins p at st) k
+  stop_begins (Work q p' k' st') p at k st e = absurd (cc e)
+  stop_begins (Ended (Begins p' at' st') k') p at k st e =
+      let a : p' ≡ p = cc e in
+      let b : at' ≡ at = cc e in
+      let c : st' ≡ st = cc e in
+      let d : k' ≡ k = cc e in
+      λ j. Ended (Begins (a j) (b j) (c j)) (d j)
+  stop_begins (Ended (Fails n c) k') p at k st e = absurd (cc e)
+
+  stop_fails : (stop : Stop) (n c : ℕ) → resume shapes own here code stop ≡ Traps n c → (k : Keeps) × (stop ≡ Ended (Fails n c) k)
+  stop_fails (Work q p k st) n c e = absurd (cc e)
+  stop_fails (Ended (Begins p at st) k) n c e = absurd (cc e)
+  stop_fails (Ended (Fails n' c') k) n c e =
+      let a : n' ≡ n = cc e in
+      let b : c' ≡ c = cc e in
+      (k, λ j. Ended (Fails (a j) (b j)) k)
+
+  -- a stop at this question, behind which the run goes on as d says
+  record AtWork (q : Question) (d : Cell → Run) (stop : Stop) : Type 0 where
+    at : ℕ
+    keeps : Keeps
+    stack : Stack
+    is : stop ≡ Work q at keeps stack
+    on : (x : Cell) → d x ≡ past q x at keeps stack (λ over at' k' s'. runs shapes own here code (drop at' code) over at' k' s')
+
+  stop_works : (stop : Stop) (q : Question) (d : Cell → Run) → resume shapes own here code stop ≡ Asks q d → AtWork q d stop
+  stop_works (Ended (Begins p at st) k) q d e = absurd (cc e)
+  stop_works (Ended (Fails n c) k) q d e = absurd (cc e)
+  stop_works (Work q' p k st) q d e =
+      let a : q' ≡ q = cc e in
+      let b : (λ x. past q' x p k st (λ over at' k' s'. runs shapes own here code (drop at' code) over at' k' s')) ≡ d = cc e in
+      record { at = p; keeps = k; stack = st; is = λ j. Work (a j) p k st; on = λ x. sym (ap (λ h. h x) b) ∙ ap (λ z. past z x p k st (λ over at' k' s'. runs shapes own here code (drop at' code) over at' k' s')) a }
+
+-- What is written and read.
+
+kind_found : (program : Program) → HasPredeclared program → (t : TType) (w : World Sort) (v : Value) → is_basic t ≡ true → Is program.types w (Plain (id_of t)) v → is_of (kind_of t) (cell_of w v) ≡ true
+kind_found program p t w v e h = ap (λ k. is_of k (cell_of w v)) (basic_kind t e) ∙ ap (is_of N) (number_cell w t v (value_from program p t w v e h))
+
+written_alike : (w : World Sort) (v n : Value) → IsInteger W64 v → IsInteger W64 n → S.written v n ≡ I.written (cell_of w v) (cell_of w n)
+written_alike w v n hv hn =
+    let a = integer_is W64 v hv in
+    let b = integer_is W64 n hn in
+    subst (λ x. S.written x n ≡ I.written (cell_of w x) (cell_of w n)) (sym a.1)
+    (subst (λ x. S.written (Int a.0) x ≡ I.written (cell_of w (Int a.0)) (cell_of w x)) (sym b.1) refl)
 
 module _ (program : Program) (image : Image) where
-  pub record SameFrame (f : S.Frame) (g : I.Frame) : Type 0 where
-    pub home : home_of image g.procedure ≡ f.home
-    pub at : g.at ≡ f.at
-    pub remains : Remains program (code_of image g.procedure) f.answers f.items g.next g.stack
-
-  -- the frames of an activity
-  abbrev pub SameFrames : S.Frames → I.Frames → Type 0
-  SameFrames [] [] = Unit {0}
-  SameFrames [] (g ∷ gs) = ⊥
-  SameFrames (f ∷ fs) [] = ⊥
-  SameFrames (f ∷ fs) (g ∷ gs) = SameFrame f g × SameFrames fs gs
-
   -- the frames of an activity before work: the same, now and behind work that the kernel does
-  pub record Together (s : Store) (mem : Memory) (w : Did) (fs : S.Frames) (gs : I.Frames) : Type 0 where
-    pub now : SameFrames fs gs
-    pub behind : GoesPast Anyone w fs → SameFrames (S.past fs) (I.past image gs)
+  pub record Together (s : Store) (mem : Memory) (w : Did) (x : S.Frames) (y : I.Frames) : Type 0 where
+    pub now : Same program image s.made x y
+    pub behind : GoesPast Anyone w x → Same program image s.made (S.past program x) (I.past image y)
 
   abbrev pub Alike : S.Turned → I.Turned → Type 0
   Alike = SameTurn (SameStore program) Together
 
-  -- what the code comes to where these items are next: the end of the frame, or the beginning of the first
-  abbrev AtNext : List Instr → List Item → Run → Type 0
-  AtNext code [] m = (k : Cell → Run) × (m ≡ Asks (Ends None) k)
-  AtNext code (Do x ∷ is) m = (at : ℕ) × (m ≡ Val (AtBegin at (pos_of x) [])) × Stands code at (stat_code x at) × IsStatement program x × Carries program code is (at + length (stat_code x at))
+  -- what isn't gone past
+  went : (s : Store) (mem : Memory) (bytes : List ℕ) (begun : Bool) (w : Did) (x : S.Frames) (y : I.Frames) → (GoesPast Anyone w x → ⊥) → SameState program image s mem x y →
+      Alike (record { store = s; frames = x; output = bytes; begun = begun; left = w }) (record { store = mem; frames = y; output = bytes; begun = begun; left = w })
+  went s mem bytes begun w x y never h =
+      record { stores = h.stores; frames = record { now = h.same; behind = λ k. absurd (never k) }; left = refl; output = refl; begun = refl }
 
-  -- a statement's code begins with its Begin
-  begins_with : (x : Stat) (code : List Instr) (at : ℕ) → Stands code at (stat_code x at) → run code at [] ≡ Val (AtBegin at (pos_of x) [])
-  begins_with (Assign here t p e) code at st = ap (λ l. runs code l 0 at []) st.here
-  begins_with (While here e b) code at st = ap (λ l. runs code l 0 at []) st.here
-  begins_with (New here p t) code at st = ap (λ l. runs code l 0 at []) st.here
-  begins_with (Out here call) code at st = ap (λ l. runs code l 0 at []) st.here
+  -- the topmost frame
+  module _ (predeclared : HasPredeclared program) (statements : StatementsDo program) (ms ps : List ℕ) (f : S.Frame) (g : I.Frame) (fs : List S.Frame) (gs : List I.Frame) (s : Store) (mem : Memory) (place : SamePlace program image f.home f.object f.at g.procedure g.object g.at) (follows : Follows program image ms ps) (below : Waiting program image s.made fs gs) (stores : SameStore program s mem) (shown : SameVariables program s.made (f ∷ fs) (g ∷ gs)) where
+    abbrev shapes : List ProcShape
+    shapes = image.shapes.items
 
-  at_next : (code : List Instr) (is : List Item) (p : ℕ) (m : Run) → m ≡ run code p [] → Carries program code is p → AtNext code is m
-  at_next code [] p m e c = ((λ x. Traps 0 0), e ∙ c.1 [] ∙ ap (λ l. runs code l 0 c.0 []) c.2.here)
-  at_next code (Do x ∷ is) p m e c = (c.0, e ∙ c.1 [] ∙ begins_with x code c.0 c.2, c.2, c.3, c.4)
-
-  module _ (home procedure : ℕ) (at : Option Pos) (homes : home_of image procedure ≡ home) (fs : S.Frames) (gs : I.Frames) (s : Store) (mem : Memory) (below : SameFrames fs gs) (stores : SameStore program s mem) where
     abbrev code : List Instr
-    code = code_of image procedure
+    code = code_of image g.procedure
+
+    abbrev here : ℕ
+    here = length gs
+
+    abbrev now : World Sort
+    now = world_of program s.made (shapes_of (f ∷ fs))
+
+    abbrev run_from : ℕ → Keeps → Stack → Run
+    run_from = run shapes g.procedure here code
+
+    abbrev onward : Onward
+    onward over at k st = runs shapes g.procedure here code (drop at code) over at k st
+
+    abbrev stop_from : ℕ → Keeps → Stack → Stop
+    stop_from = silent shapes g.procedure here g.cells code
+
+    abbrev resumed : Stop → Run
+    resumed = resume shapes g.procedure here code
+
+    abbrev Leads : List Item → World Sort → After → Run → Type 0
+    Leads = Behind program shapes g.procedure here code
+
+    abbrev Left : World Sort → Option (List Value) → List Item → ℕ → Keeps → Stack → Type 0
+    Left = Remains program shapes g.procedure here code
 
     abbrev upper : List Item → Option (List Value) → S.Frame
-    upper items answers = record { home = home; at = at; items = items; answers = answers }
+    upper items answers = record f { items = items; answers = answers }
 
-    abbrev lower : ℕ → Stack → I.Frame
-    lower next stack = record { procedure = procedure; next = next; at = at; stack = stack }
+    abbrev lower : ℕ → Keeps → Stack → I.Frame
+    lower next k st = record g { next = next; keeps = k; stack = st }
+
+    abbrev uppers : List Item → Option (List Value) → S.Frames
+    uppers items answers = S.all_frames ms (upper items answers ∷ fs)
+
+    abbrev lowers : ℕ → Keeps → Stack → I.Frames
+    lowers next k st = I.all_frames ps (lower next k st ∷ gs)
+
+    knows : Knows program now
+    knows m x e = e
+
+    frames_now : (items : List Item) (answers : Option (List Value)) (next : ℕ) (k : Keeps) (st : Stack) → Left now answers items next k st → Same program image s.made (uppers items answers) (lowers next k st)
+    frames_now items answers next k st h =
+        record { follows = follows; frames = (record { place = place; remains = h }, below); shown = shown }
+
+    state : (items : List Item) (answers : Option (List Value)) (next : ℕ) (k : Keeps) (st : Stack) → Left now answers items next k st → SameState program image s mem (uppers items answers) (lowers next k st)
+    state items answers next k st h = record { stores = stores; same = frames_now items answers next k st h }
 
     -- the frame's end
-    ends_alike : (g : I.Frame) (stop : Stop) (k : Cell → Run) → resume code stop ≡ Asks (Ends None) k → Alike (S.ends fs s) (I.goes stop g gs mem)
-    ends_alike g (Work q p st) k e =
-        let h : Ends None ≡ q = cc in
-        subst (λ q'. Alike (S.ends fs s) (I.answer q' p st g gs mem)) h (record { stores = stores; frames = record { now = below; behind = λ k. absurd k }; left = refl; output = refl; begun = refl })
-    ends_alike g (Ended (Begins p w st)) k e = absurd (cc)
-    ends_alike g (Ended (Fails n c)) k e = absurd (cc)
+    ends_alike : (g' : I.Frame) (stop : Stop) (d : Cell → Run) → resumed stop ≡ Asks (Ends None) d → Alike (S.ends ms None fs s) (I.goes ps shapes stop g' gs mem)
+    ends_alike g' stop d e =
+        let v = stop_works shapes g.procedure here code stop (Ends None) d e in
+        subst (λ z. Alike (S.ends ms None fs s) (I.goes ps shapes z g' gs mem)) (sym v.is)
+        (went s mem [] false Went (S.all_frames ms (S.with_result ms S.done fs)) (I.all_frames ps gs) (λ k. k)
+        (record { stores = stores; same = record { follows = follows; frames = ends_same program image s.made ms fs gs below; shown = ends_shown program image s.made ms fs gs shown.1 } }))
 
     -- the next statement begins
-    begins_alike : (x : Stat) (is items : List Item) (answers : Option (List Value)) (next : ℕ) (stack : Stack) (stop : Stop) (start : ℕ) → Stands code start (stat_code x start) → IsStatement program x → Carries program code is (start + length (stat_code x start)) → resume code stop ≡ Val (AtBegin start (pos_of x) []) → Alike (S.settles (Do x ∷ is) (upper items answers) fs s) (I.goes stop (lower next stack) gs mem)
-    begins_alike x is items answers next stack (Work q p st) start stands typed after e = absurd (cc)
-    begins_alike x is items answers next stack (Ended (Fails n c)) start stands typed after e = absurd (cc)
-    begins_alike x is items answers next stack (Ended (Begins p w st)) start stands typed after e =
-        let h1 : start ≡ p = cc in
-        let h2 : pos_of x ≡ w = cc in
-        let h3 : [] ≡ st = cc in
-        let begun : Begun program code x is [] (start + 1) [] = record { start = start; stands = stands; typed = typed; after = after; conforms = tt; reached = refl } in
-        let goal = S.settles (Do x ∷ is) (upper items answers) fs s in
-        subst (λ p'. Alike goal (I.goes (Ended (Begins p' w st)) (lower next stack) gs mem)) h1
-        (subst (λ w'. Alike goal (I.goes (Ended (Begins start w' st)) (lower next stack) gs mem)) h2
-        (subst (λ st'. Alike goal (I.goes (Ended (Begins start (pos_of x) st')) (lower next stack) gs mem)) h3
-        (record { stores = stores; frames = record { now = (record { home = homes; at = refl; remains = begun }, below); behind = λ k. absurd k }; left = refl; output = refl; begun = refl })))
+    begins_alike : (x : Stat) (is items : List Item) (answers : Option (List Value)) (next : ℕ) (k0 : Keeps) (st0 : Stack) (stop : Stop) (start : ℕ) (k : Keeps) → Stands code start (stat_code program x start) → IsStatement program x → Carries program shapes g.procedure here code is (start + length (stat_code program x start)) → resumed stop ≡ Val (AtBegin start (pos_of x) k []) →
+        Alike (S.settles ms (Do x ∷ is) (upper items answers) fs s) (I.goes ps shapes stop (lower next k0 st0) gs mem)
+    begins_alike x is items answers next k0 st0 stop start k stands typed after e =
+        let left : Left now (Some []) (Do x ∷ is) (start + 1) k [] = statements shapes g.procedure here code now x start k is predeclared knows typed stands after in
+        subst (λ z. Alike (S.settles ms (Do x ∷ is) (upper items answers) fs s) (I.goes ps shapes z (lower next k0 st0) gs mem)) (sym (stop_begins shapes g.procedure here code stop start (pos_of x) k [] e))
+        (went s mem [] true Went _ _ (λ k. k)
+        (record {
+          stores = stores;
+          same = record {
+            follows = follows;
+            frames = (record { place = record { home_is = place.home_is; object_is = place.object_is; at_is = refl; gives = place.gives }; remains = left }, below);
+            shown = shown;
+          };
+        }))
 
-    settles_alike : (is items : List Item) (answers : Option (List Value)) (next : ℕ) (stack : Stack) (stop : Stop) → AtNext code is (resume code stop) → Alike (S.settles is (upper items answers) fs s) (I.goes stop (lower next stack) gs mem)
-    settles_alike [] items answers next stack stop a = ends_alike (lower next stack) stop a.0 a.1
-    settles_alike (Do x ∷ is) items answers next stack stop a = begins_alike x is items answers next stack stop a.0 a.2 a.3 a.4 a.1
+    -- what is next of these items
+    settles_alike : (is items : List Item) (answers : Option (List Value)) (next : ℕ) (k0 : Keeps) (st0 : Stack) (stop : Stop) (p : ℕ) (k : Keeps) → Carries program shapes g.procedure here code is p → resumed stop ≡ calm g.cells (run_from p k []) → Alike (S.settles ms is (upper items answers) fs s) (I.goes ps shapes stop (lower next k0 st0) gs mem)
+    settles_alike [] items answers next k0 st0 stop p k c e =
+        let x = carries_ends program shapes g.procedure here code p k place.gives.0 place.gives.1 place.gives.2 c in
+        ends_alike (lower next k0 st0) stop x.0 (e ∙ ap (calm g.cells) x.1)
+    settles_alike (Do x ∷ is) items answers next k0 st0 stop p k c e =
+        let b = carries_begins program shapes g.procedure here code x is p k c in
+        begins_alike x is items answers next k0 st0 stop b.at k b.stands b.typed b.carries (e ∙ ap (calm g.cells) b.run)
 
-    -- the questions of a statement that has begun
-    module _ (x : Stat) (is : List Item) (t : List Value) (next : ℕ) (stack : Stack) (b : Begun program code x is t next stack) where
-      abbrev start : Run
-      start = run code (b.start + 1) []
+    -- an item that has begun
+    module _ (i : Item) (is : List Item) (t : List Value) (next : ℕ) (k : Keeps) (st : Stack) (left : Left now (Some t) (i ∷ is) next k st) where
+      abbrev top : S.Frame
+      top = upper (i ∷ is) (Some t)
 
-      abbrev onward : ℕ → ℕ → Stack → Run
-      onward over at' st = runs code (drop at' code) over at' st
+      abbrev low : I.Frame
+      low = lower next k st
 
-      same : SameFrame (upper (Do x ∷ is) (Some t)) (lower next stack)
-      same = record { home = homes; at = refl; remains = b }
+      -- a question of it, to which its code has come: what both go on with, and where silent work stops
+      record Asking (q : source.Question) : Type 0 where
+        onto : Value → Doing After
+        code_on : Cell → Run
+        at : ℕ
+        keeps : Keeps
+        stack : Stack
+        asks : feed t (item_of i) ≡ Asks q onto
+        valid : Valid program now q
+        on : (x : Cell) → code_on x ≡ past (placed now q) x at keeps stack onward
+        after : (w : World Sort) → Grows now w → (v : Value) → Conforms program w q v → Does program (Leads is) w (code_on (cell_of w v)) (onto v)
+        stop : stop_from next k st ≡ Work (placed now q) at keeps stack
 
-      -- with one more answer the code has come behind its instruction
-      more : (q : source.Question) (f : Value → Doing (List Item)) (v : Value) (p : ℕ) (st st' : Stack) → feed t (stat_of x) ≡ Asks q f → IsAnswer program q v → feed (map cell_of t) start ≡ at_work (placed q) p st onward → past (placed q) (cell_of v) p st onward ≡ run code (p + 1) st' → SameFrame (upper (Do x ∷ is) (Some (t ++ v ∷ []))) (lower (p + 1) st')
-      more q f v p st st' asks k e on =
-          let reached : feed (map cell_of (t ++ v ∷ [])) start ≡ run code (p + 1) st' = ap (λ l. feed l start) (map-append cell_of t (v ∷ [])) ∙ feed-append (map cell_of t) (cell_of v ∷ []) start ∙ ap (feed (cell_of v ∷ [])) e ∙ on in
-          let begun : Begun program code x is (t ++ v ∷ []) (p + 1) st' = record { start = b.start; stands = b.stands; typed = b.typed; after = b.after; conforms = conforms_more program t (stat_of x) q f v b.conforms asks k; reached = reached } in
-          record { home = homes; at = refl; remains = begun }
+      module _ (q : source.Question) (x : Asking q) where
+        -- with one more answer the code has come behind its instruction
+        answered_so : (w : World Sort) → Grows now w → (v : Value) → Conforms program w q v → (st2 : Stack) → past (placed now q) (cell_of w v) x.at x.keeps x.stack onward ≡ run_from (x.at + 1) x.keeps st2 → Left w (Some (t ++ v ∷ [])) (i ∷ is) (x.at + 1) x.keeps st2
+        answered_so w up v c st2 e =
+            subst (λ r. Does program (Leads is) w (run_from (x.at + 1) x.keeps st2) r) (sym (feed-append t (v ∷ []) (item_of i) ∙ ap (feed (v ∷ [])) x.asks))
+            (along program (Leads is) w (run_from (x.at + 1) x.keeps st2) (x.code_on (cell_of w v)) (x.onto v) (sym (x.on (cell_of w v) ∙ e)) (x.after w up v c))
 
-      prints_alike : (o : Option (List ℕ)) (p : ℕ) (st : Stack) → SameFrame (upper (Do x ∷ is) (Some (t ++ S.done ∷ []))) (lower (p + 1) st) → Alike (S.prints o (upper (Do x ∷ is) (Some t)) fs s) (I.prints o p st (lower next stack) gs mem)
-      prints_alike None p st k = record { stores = stores; frames = record { now = (same, below); behind = λ k. absurd k }; left = refl; output = refl; begun = refl }
-      prints_alike (Some bytes) p st k = record { stores = stores; frames = record { now = (k, below); behind = λ k. absurd k }; left = refl; output = refl; begun = refl }
+        answered_now : (v : Value) → Conforms program now q v → (st2 : Stack) → past (placed now q) (cell_of now v) x.at x.keeps x.stack onward ≡ run_from (x.at + 1) x.keeps st2 → SameState program image s mem (uppers (i ∷ is) (Some (t ++ v ∷ []))) (lowers (x.at + 1) x.keeps st2)
+        answered_now v c st2 e = state (i ∷ is) (Some (t ++ v ∷ [])) (x.at + 1) x.keeps st2 (answered_so now (grows_same now) v c st2 e)
 
-      reads_alike : (a : Spot) (f : Value → Doing (List Item)) (p : ℕ) (st : Stack) → IsAsk program (Reads a) → feed t (stat_of x) ≡ Asks (Reads a) f → feed (map cell_of t) start ≡ at_work (placed (Reads a)) p st onward → Alike (S.reads (read a s) (upper (Do x ∷ is) (Some t)) fs s) (I.loads (load (addr_of a) mem) p st (lower next stack) gs mem)
-      reads_alike a f p st ok asks e =
-          let v = read a s in
-          let is_answer : IsAnswer program (Reads a) v = λ u of. (read_same program s mem stores a u of).1 in
-          subst (λ o. Alike (S.reads v (upper (Do x ∷ is) (Some t)) fs s) (I.loads o p st (lower next stack) gs mem)) (sym (read_same program s mem stores a ok.0 ok.1).0)
-          (record { stores = stores; frames = record { now = (more (Reads a) f v p st (cell_of v ∷ st) asks is_answer e refl, below); behind = λ k. absurd k }; left = refl; output = refl; begun = refl })
+        -- where the answer doesn't matter
+        done_so : Conforms program now q S.done → past (placed now q) (cell_of now S.done) x.at x.keeps x.stack onward ≡ run_from (x.at + 1) x.keeps x.stack → SameState program image s mem (uppers (i ∷ is) (Some (t ++ S.done ∷ []))) (lowers (x.at + 1) x.keeps x.stack)
+        done_so c e = answered_now S.done c x.stack e
 
-      written_alike : (v n : Value) → Is (type.Integer W64) v → Is (type.Integer W64) n → S.written v n ≡ I.written (cell_of v) (cell_of n)
-      written_alike v n kv kn = λ j. I.written (sym (integer_number W64 v kv) j) (sym (integer_number W64 n kn) j)
+      puts_alike : (bytes : List ℕ) (p : ℕ) (k' : Keeps) (st' : Stack) → SameState program image s mem (uppers (i ∷ is) (Some (t ++ S.done ∷ []))) (lowers (p + 1) k' st') → Alike (S.puts ms bytes (S.answered S.done top ∷ fs) s) (I.puts ps bytes (I.behind ps p k' st' low ∷ gs) mem)
+      puts_alike bytes p k' st' h = went s mem bytes false Went _ _ (λ x. x) h
 
-      puts_alike : (bytes : List ℕ) (p : ℕ) (st : Stack) → SameFrame (upper (Do x ∷ is) (Some (t ++ S.done ∷ []))) (lower (p + 1) st) → Alike (S.puts bytes (S.answered S.done (upper (Do x ∷ is) (Some t)) ∷ fs) s) (I.puts bytes (I.behind p st (lower next stack) ∷ gs) mem)
-      puts_alike bytes p st k = record { stores = stores; frames = record { now = (k, below); behind = λ k. absurd k }; left = refl; output = refl; begun = refl }
+      prints_alike : (o : Option (List ℕ)) (p : ℕ) (k' : Keeps) (st' : Stack) → SameState program image s mem (uppers (i ∷ is) (Some (t ++ S.done ∷ []))) (lowers (p + 1) k' st') → Alike (S.prints ms o top fs s) (I.prints ps o p k' st' low gs mem)
+      prints_alike None p k' st' h = went s mem [] false (Trapped 14 0) _ _ (λ x. x) (state (i ∷ is) (Some t) next k st left)
+      prints_alike (Some bytes) p k' st' h = puts_alike bytes p k' st' h
 
-      chars_alike : (c p : ℕ) (st : Stack) → c < 256 → SameFrame (upper (Do x ∷ is) (Some (t ++ S.done ∷ []))) (lower (p + 1) st) → Alike (S.answer (PutsChar (Char c)) (upper (Do x ∷ is) (Some t)) fs s) (I.answer (placed (PutsChar (Char c))) p st (lower next stack) gs mem)
-      chars_alike c p st lt k =
-          subst (λ o. Alike (S.answer (PutsChar (Char c)) (upper (Do x ∷ is) (Some t)) fs s) (I.puts_char o p st (lower next stack) gs mem)) (sym (natural_is 256 c lt)) (puts_alike (c ∷ []) p st k)
+      abbrev variables : Rooted (Content Value)
+      variables = S.all_rooted (f ∷ fs) s
 
-      makes_alike : (made : ℕ) (f : Value → Doing (List Item)) (p : ℕ) (st : Stack) (room : Bool) → feed t (stat_of x) ≡ Asks (Makes made) f → feed (map cell_of t) start ≡ at_work (placed (Makes made)) p st onward → Alike (S.makes room made (upper (Do x ∷ is) (Some t)) fs s) (I.makes room (made + 1) p st (lower next stack) gs mem)
-      makes_alike made f p st false asks e = record { stores = stores; frames = record { now = (same, below); behind = λ k. absurd k }; left = refl; output = refl; begun = refl }
-      makes_alike made f p st true asks e =
-          let number : new_number s ≡ new_number_in mem = ap (λ n. suc n) (sym (ap length stores.objects ∙ length-map s.objects (λ k. k + 1))) in
-          subst (λ n. Alike (S.makes true made (upper (Do x ∷ is) (Some t)) fs s) (I.goes_on (I.behind p (Ref n ∷ st) (lower next stack) ∷ gs) (with_one (made + 1) mem))) number
-          (record { stores = made_same program s mem stores made; frames = record { now = (more (Makes made) f (Object (new_number s)) p st (Ref (new_number s) ∷ st) asks (length s.objects, refl) e refl, below); behind = λ k. absurd k }; left = refl; output = refl; begun = refl })
+      abbrev cells : Rooted (List Cell)
+      cells = I.rooted (g ∷ gs) mem
+
+      abbrev shapes_now : List (Shape Sort)
+      shapes_now = shapes_of (f ∷ fs)
+
+      shows : Shows (Is program.types) cell_of (scheme program) s.made shapes_now variables cells
+      shows = record { of_frames = shown; of_modules = stores.of_modules; of_objects = stores.of_objects }
+
+      abbrev read_at : (p : Spot) (z : Sort) → shape_at now p.root p.path ≡ Some (One z) → ReadAlike (Is program.types) cell_of IsPlain (values_kept program.types) (scheme program) s.made shapes_now variables cells p.root p.path z
+      read_at p z e = read_alike (Is program.types) cell_of IsPlain (values_kept program.types) (scheme program) s.made shapes_now variables cells p.root p.path z shows e
+
+      -- a scalar is read
+      reads_alike : (u : TType) (a : Spot) (x : Asking (Reads u a)) → Alike (S.answer ms (Reads u a) top fs s) (I.answer ps shapes (placed now (Reads u a)) x.at x.keeps x.stack low gs mem)
+      reads_alike u a x =
+          let r = read_at a (Plain (id_of u)) x.valid.1 in
+          let source : Value → S.Turned = λ v. S.goes_on ms (S.answered v top ∷ fs) s in
+          let there = I.goes_on ps (I.behind ps x.at x.keeps (cell_of now r.value ∷ x.stack) low ∷ gs) mem in
+          let lost = I.leaves ps (Trapped 16 0) (low ∷ gs) mem in
+          subst (λ z. Alike (source z) (I.answer ps shapes (placed now (Reads u a)) x.at x.keeps x.stack low gs mem)) (sym (ap scalar_in r.source))
+          (subst (λ o. Alike (source r.value) (I.reads ps (kind_of u) o x.at x.keeps x.stack low gs mem)) (sym r.image)
+          (subst (λ b. Alike (source r.value) (if b then there else lost)) (sym (kind_found program predeclared u now r.value x.valid.0 r.is))
+          (went s mem [] false Went _ _ (λ z. z) (answered_now (Reads u a) x r.value r.is (cell_of now r.value ∷ x.stack) refl))))
+
+      -- a scalar is stored
+      stores_alike : (a : Spot) (v : Value) (x : Asking (Stores a v)) → Alike (S.answer ms (Stores a v) top fs s) (I.answer ps shapes (placed now (Stores a v)) x.at x.keeps x.stack low gs mem)
+      stores_alike a v x =
+          let sort = x.valid.0 in
+          let r = read_at a sort x.valid.2 in
+          let cell = cell_of now v in
+          let source = S.answer ms (Stores a v) top fs s in
+          let new = stored_alike (Is program.types) cell_of IsPlain (values_kept program.types) (scheme program) s.made shapes_now variables cells a.root a.path (One sort) (Scalar v) shows x.valid.2 x.valid.1 x.valid.3 in
+          let h = answered_now (Stores a v) x S.done tt x.stack refl in
+          subst (λ o. Alike source (I.writes ps (is_some o) (addr_of now a) (cell ∷ []) x.at x.keeps x.stack low gs mem)) (sym r.image)
+          (went _ _ [] false Went _ _ (λ z. z)
+          (written program image a.root (placed_at a.path (Scalar v)) (spliced (addr_of now a).cell (cell ∷ [])) s mem ms ps (S.answered S.done top ∷ fs) (I.behind ps x.at x.keeps x.stack low ∷ gs) stores.made follows h.same.frames new))
+
+      -- an object is made
+      abbrev one : ℕ → Made
+      one u = record { type = u; lengths = [] }
+
+      more : (u : ℕ) → Grows now (world_of program (s.made ++ one u ∷ []) shapes_now)
+      more u = objects_grow (scheme program) s.made (one u ∷ []) shapes_now
+
+      makes_alike : (u : ℕ) (x : Asking (Makes u)) (room : Bool) → Alike (S.makes ms room u top fs s) (I.makes ps room u x.at x.keeps x.stack low gs mem)
+      makes_alike u x false = went s mem [] false (Trapped 12 0) _ _ (λ z. z) (state (i ∷ is) (Some t) next k st left)
+      makes_alike u x true =
+          let w = world_of program (s.made ++ one u ∷ []) shapes_now in
+          let v = Object (new_number s) in
+          let new = made_alike (Is program.types) cell_of IsPlain (values_kept program.types) (first_value program) (zero_cell program) (first_is program) (first_same program) (scheme program) s.made shapes_now (one u) variables cells tt shows in
+          let last : length s.made ≡ length s.made + 0 = omega arith in
+          let found : w.made (new_number s) ≡ Some (one u) = get_right s.made (one u ∷ []) (length s.made) 0 last in
+          let here = answered_so (Makes u) x w (more u) v (length s.made, refl, found) (Ref (new_number s) ∷ x.stack) refl in
+          subst (λ n. Alike (S.makes ms true u top fs s) (I.goes_on ps (I.behind ps x.at x.keeps (Ref (suc n) ∷ x.stack) low ∷ gs) (with_one u mem))) (sym (ap length stores.made))
+          (went (with_one_more u s) (with_one u mem) [] false Went _ _ (λ z. z)
+          (record {
+            stores = record { made = ap (λ l. l ++ one u ∷ []) stores.made; of_modules = new.of_modules; of_objects = new.of_objects };
+            same = record {
+              follows = follows;
+              frames = (record { place = place; remains = here }, waiting_grow program image s.made (one u ∷ []) fs gs below);
+              shown = new.of_frames;
+            };
+          }))
 
       -- the frames stand before the work, and past it the code is behind the instruction
-      starts_alike : (o : ℕ) (f : Value → Doing (List Item)) (p : ℕ) (st : Stack) → feed t (stat_of x) ≡ Asks (Starts (Object (suc o))) f → feed (map cell_of t) start ≡ at_work (placed (Starts (Object (suc o)))) p st onward → silent code next stack ≡ Work (placed (Starts (Object (suc o)))) p st → Alike (S.starts (Object (suc o)) (upper (Do x ∷ is) (Some t)) fs s) (I.starts (Ref (suc o)) (lower next stack) gs mem)
-      starts_alike o f p st asks e here =
-          let past = subst (λ w. SameFrame (upper (Do x ∷ is) (Some (t ++ S.done ∷ []))) (I.behind_stop w (lower next stack))) (sym here) (more (Starts (Object (suc o))) f S.done p st st asks tt e refl) in
-          record { stores = stores; frames = record { now = (same, below); behind = λ k. (past, below) }; left = refl; output = refl; begun = refl }
+      starts_alike : (o : ℕ) (x : Asking (Starts (Object (suc o)))) → Alike (S.starts ms (Object (suc o)) top fs s) (I.starts ps (Ref (suc o)) x.at x.keeps x.stack low gs mem)
+      starts_alike o x =
+          let q = Starts (Object (suc o)) in
+          let at_start = I.before ps x.at x.keeps (Ref (suc o) ∷ x.stack) low in
+          let stop = silent_at_start shapes g.procedure here g.cells code next k st (Ref (suc o)) x.at x.keeps x.stack x.stop in
+          let ran = run_at_start shapes g.procedure here g.cells code next k st (Ref (suc o)) x.at x.keeps x.stack x.stop in
+          let on : (w : World Sort) → Grows now w → (v : Value) → Conforms program w q v → Does program (Leads is) w (run_from (x.at + 1) x.keeps x.stack) (x.onto v) = λ w up v c. along program (Leads is) w (run_from (x.at + 1) x.keeps x.stack) (x.code_on (cell_of w v)) (x.onto v) (sym (x.on (cell_of w v))) (x.after w up v c) in
+          let still : Left now (Some t) (i ∷ is) x.at x.keeps (Ref (suc o) ∷ x.stack) = subst (λ r. Does program (Leads is) now (run_from x.at x.keeps (Ref (suc o) ∷ x.stack)) r) (sym x.asks) ((λ z. run_from (x.at + 1) x.keeps x.stack), ran, x.valid, on) in
+          record {
+            stores = stores;
+            frames = record {
+              now = frames_now (i ∷ is) (Some t) x.at x.keeps (Ref (suc o) ∷ x.stack) still;
+              behind = λ z.
+                  subst (λ y. Same program image s.made (S.all_frames ms (S.answered S.done top ∷ fs)) (I.all_frames ps (I.past_stop y at_start ∷ gs))) (sym stop)
+                  (done_so q x tt refl).same;
+            };
+            left = refl;
+            output = refl;
+            begun = refl;
+          }
+
+      -- a character is written
+      chars_alike : (c : ℕ) (x : Asking (PutsChar (Char c))) → Alike (S.answer ms (PutsChar (Char c)) top fs s) (I.answer ps shapes (placed now (PutsChar (Char c))) x.at x.keeps x.stack low gs mem)
+      chars_alike c x =
+          subst (λ o. Alike (S.answer ms (PutsChar (Char c)) top fs s) (I.writes_out ps (option_map (λ n. n ∷ []) o) x.at x.keeps x.stack low gs mem)) (sym (natural_is 256 c x.valid))
+          (puts_alike (c ∷ []) x.at x.keeps x.stack (done_so (PutsChar (Char c)) x tt refl))
 
       -- a question is answered
-      work_alike : (q : source.Question) (f : Value → Doing (List Item)) (p : ℕ) (st : Stack) → IsAsk program q → feed t (stat_of x) ≡ Asks q f → feed (map cell_of t) start ≡ at_work (placed q) p st onward → silent code next stack ≡ Work (placed q) p st → Alike (S.answer q (upper (Do x ∷ is) (Some t)) fs s) (I.answer (placed q) p st (lower next stack) gs mem)
-      work_alike (Reads a) f p st ok asks e here = reads_alike a f p st ok asks e
-      work_alike (Stores a v) f p st ok asks e here =
-          record { stores = write_same program s mem stores a ok.0 v ok.1 ok.2; frames = record { now = (more (Stores a v) f S.done p st st asks tt e refl, below); behind = λ k. absurd k }; left = refl; output = refl; begun = refl }
-      work_alike (Ends r) f p st ok asks e here = record { stores = stores; frames = record { now = below; behind = λ k. absurd k }; left = refl; output = refl; begun = refl }
-      work_alike (Makes made) f p st ok asks e here =
-          let room : has_room s ≡ has_room_in mem = ap (λ n. nat_lt n 16777216) (sym (ap length stores.objects ∙ length-map s.objects (λ k. k + 1))) in
-          subst (λ r. Alike (S.makes (has_room s) made (upper (Do x ∷ is) (Some t)) fs s) (I.makes r (made + 1) p st (lower next stack) gs mem)) room
-          (makes_alike made f p st (has_room s) asks e)
-      work_alike (Starts v) f p st ok asks e here =
-          subst (λ v. feed t (stat_of x) ≡ Asks (Starts v) f → feed (map cell_of t) start ≡ at_work (placed (Starts v)) p st onward → silent code next stack ≡ Work (placed (Starts v)) p st → Alike (S.starts v (upper (Do x ∷ is) (Some t)) fs s) (I.starts (cell_of v) (lower next stack) gs mem)) (sym ok.1)
-          (starts_alike ok.0 f p st) asks e here
-      work_alike (PutsInt v n) f p st ok asks e here =
-          subst (λ o. Alike (S.prints (S.written v n) (upper (Do x ∷ is) (Some t)) fs s) (I.prints o p st (lower next stack) gs mem)) (written_alike v n ok.0 ok.1)
-          (prints_alike (S.written v n) p st (more (PutsInt v n) f S.done p st st asks tt e refl))
-      work_alike (PutsChar v) f p st ok asks e here =
-          subst (λ v. Alike (S.answer (PutsChar v) (upper (Do x ∷ is) (Some t)) fs s) (I.answer (placed (PutsChar v)) p st (lower next stack) gs mem)) (sym ok.1)
-          (chars_alike ok.0 p st ok.2 (more (PutsChar v) f S.done p st st asks tt e refl))
-      work_alike PutsNothing f p st ok asks e here = puts_alike [] p st (more PutsNothing f S.done p st st asks tt e refl)
-      work_alike PutsLn f p st ok asks e here = puts_alike (10 ∷ []) p st (more PutsLn f S.done p st st asks tt e refl)
+      work_alike : (q : source.Question) (x : Asking q) → Alike (S.answer ms q top fs s) (I.answer ps shapes (placed now q) x.at x.keeps x.stack low gs mem)
+      work_alike (Reads u a) x = reads_alike u a x
+      work_alike (Stores a v) x = stores_alike a v x
+      work_alike (Makes u) x =
+          subst (λ n. Alike (S.makes ms (has_room s) u top fs s) (I.makes ps (nat_lt n 16777216) u x.at x.keeps x.stack low gs mem)) (sym (ap length stores.made))
+          (makes_alike u x (has_room s))
+      work_alike (Starts v) x =
+          subst (λ z. (y : Asking (Starts z)) → Alike (S.starts ms z top fs s) (I.starts ps (cell_of now z) y.at y.keeps y.stack low gs mem)) (sym x.valid.1)
+          (starts_alike x.valid.0) x
+      work_alike (PutsInt v n) x =
+          subst (λ o. Alike (S.prints ms (S.written v n) top fs s) (I.prints ps o x.at x.keeps x.stack low gs mem)) (written_alike now v n x.valid.0 x.valid.1)
+          (prints_alike (S.written v n) x.at x.keeps x.stack (done_so (PutsInt v n) x tt refl))
+      work_alike (PutsChar v) x =
+          let c = character_is v x.valid in
+          subst (λ z. (y : Asking (PutsChar z)) → Alike (S.answer ms (PutsChar z) top fs s) (I.answer ps shapes (placed now (PutsChar z)) y.at y.keeps y.stack low gs mem)) (sym c.1)
+          (chars_alike c.0) x
+      work_alike PutsNothing x = puts_alike [] x.at x.keeps x.stack (done_so PutsNothing x tt refl)
+      work_alike PutsLn x = puts_alike (10 ∷ []) x.at x.keeps x.stack (done_so PutsLn x tt refl)
+      work_alike (Copies c from to) x = absurd x.valid
+      work_alike (PutsText strict from n to room) x = absurd x.valid
+      work_alike (ComparesTexts r a n b m) x = absurd x.valid
+      work_alike (Calls p vs) x = absurd x.valid
+      work_alike (Ends r) x = absurd x.valid
+      work_alike (PutsString a n) x = absurd x.valid
+      work_alike (Places a) x = absurd x.valid
+      work_alike (Lengths a) x = absurd x.valid
 
-      -- a question of the statement is the code's
-      asks_alike : (q : source.Question) (f : Value → Doing (List Item)) (stop : Stop) (k : Cell → Run) → IsAsk program q → feed t (stat_of x) ≡ Asks q f → feed (map cell_of t) start ≡ resume code stop → resume code stop ≡ Asks (placed q) k → silent code next stack ≡ stop → Alike (S.answer q (upper (Do x ∷ is) (Some t)) fs s) (I.goes stop (lower next stack) gs mem)
-      asks_alike q f (Ended (Begins p w st)) k ok asks e d here = absurd (cc)
-      asks_alike q f (Ended (Fails n c)) k ok asks e d here = absurd (cc)
-      asks_alike q f (Work q' p st) k ok asks e d here =
-          let h : placed q ≡ q' = cc in
-          subst (λ q2. Alike (S.answer q (upper (Do x ∷ is) (Some t)) fs s) (I.answer q2 p st (lower next stack) gs mem)) h
-          (work_alike q f p st ok asks (e ∙ ap (λ q2. at_work q2 p st onward) (sym h)) (here ∙ ap (λ q2. Work q2 p st) (sym h)))
+      -- a question of the item is its code's, and so is a trap
+      asks_alike : (q : source.Question) (f' : Value → Doing After) (d : Does program (Leads is) now (run_from next k st) (Asks q f')) (stop : Stop) → feed t (item_of i) ≡ Asks q f' → stop_from next k st ≡ stop → AtWork shapes g.procedure here code (placed now q) d.0 stop → Alike (S.answer ms q top fs s) (I.goes ps shapes stop low gs mem)
+      asks_alike q f' d stop asks e v =
+          subst (λ z. Alike (S.answer ms q top fs s) (I.goes ps shapes z low gs mem)) (sym v.is)
+          (work_alike q (record { onto = f'; code_on = d.0; at = v.at; keeps = v.keeps; stack = v.stack; asks = asks; valid = d.2; on = v.on; after = d.3; stop = e ∙ v.is }))
 
-      -- a trap of the statement is the code's
-      traps_alike : (n c : ℕ) (stop : Stop) → resume code stop ≡ Traps n c → Alike (S.leaves (Trapped n c) (upper (Do x ∷ is) (Some t) ∷ fs) s) (I.goes stop (lower next stack) gs mem)
-      traps_alike n c (Work q p st) e = absurd (cc)
-      traps_alike n c (Ended (Begins p w st)) e = absurd (cc)
-      traps_alike n c (Ended (Fails n' c')) e =
-          let h1 : n ≡ n' = cc in
-          let h2 : c ≡ c' = cc in
-          record { stores = stores; frames = record { now = (same, below); behind = λ k. absurd k }; left = λ j. Trapped (h1 j) (h2 j); output = refl; begun = refl }
+      traps_alike : (n c : ℕ) (stop : Stop) (k' : Keeps) → stop ≡ Ended (Fails n c) k' → Alike (S.leaves ms (Trapped n c) (top ∷ fs) s) (I.goes ps shapes stop low gs mem)
+      traps_alike n c stop k' e =
+          subst (λ z. Alike (S.leaves ms (Trapped n c) (top ∷ fs) s) (I.goes ps shapes z low gs mem)) (sym e)
+          (went s mem [] false (Trapped n c) _ _ (λ z. z) (state (i ∷ is) (Some t) next k st left))
 
-      -- what a begun statement comes to
-      goes_alike : (r : Doing (List Item)) (stop : Stop) → feed t (stat_of x) ≡ r → feed (map cell_of t) start ≡ resume code stop → Does program (Into program code is) (resume code stop) r → silent code next stack ≡ stop → Alike (S.goes r is (upper (Do x ∷ is) (Some t)) fs s) (I.goes stop (lower next stack) gs mem)
-      goes_alike (Val new) stop asks e d here = settles_alike (new ++ is) (Do x ∷ is) (Some t) next stack stop (at_next code (new ++ is) d.0 (resume code stop) d.1 d.2)
-      goes_alike (Asks q f) stop asks e d here = asks_alike q f stop d.0 d.2 asks e d.1 here
-      goes_alike (Traps n c) stop asks e d here = traps_alike n c stop d.0
+      -- what the item comes to
+      goes_alike : (r : Doing After) (stop : Stop) → feed t (item_of i) ≡ r → Does program (Leads is) now (run_from next k st) r → stop_from next k st ≡ stop → calm g.cells (run_from next k st) ≡ resumed stop → Alike (S.goes ms r is top fs s) (I.goes ps shapes stop low gs mem)
+      goes_alike (Val (Into new)) stop asks d e seen =
+          settles_alike (new ++ is) (i ∷ is) (Some t) next k st stop d.0 d.1 d.3 (sym seen ∙ ap (calm g.cells) d.2)
+      goes_alike (Asks q f') stop asks d e seen =
+          asks_alike q f' d stop asks e
+          (stop_works shapes g.procedure here code stop (placed now q) d.0 (sym seen ∙ ap (calm g.cells) d.1 ∙ calm_placed program g.cells now q d.0 d.2))
+      goes_alike (Traps n c) stop asks d e seen =
+          let v = stop_fails shapes g.procedure here code stop n c (sym seen ∙ ap (calm g.cells) d.0) in
+          traps_alike n c stop v.0 v.1
 
-      begun_alike : Alike (S.goes (feed t (stat_of x)) is (upper (Do x ∷ is) (Some t)) fs s) (I.goes (silent code next stack) (lower next stack) gs mem)
-      begun_alike =
-          let seen : feed (map cell_of t) start ≡ resume code (silent code next stack) = b.reached ∙ run_by_silent code next stack in
-          let fed = does_feed program (Into program code is) t start (stat_of x) b.conforms (stat_does program code x b.start is b.typed b.stands b.after) in
-          goes_alike (feed t (stat_of x)) (silent code next stack) refl seen (along program (Into program code is) _ _ (feed t (stat_of x)) (sym seen) fed) refl
+    -- what is left of the frame goes on
+    top_alike : (answers : Option (List Value)) (items : List Item) (next : ℕ) (k : Keeps) (st : Stack) → Left now answers items next k st → Alike (S.item_turn ms answers items (upper items answers) fs s) (I.goes ps shapes (stop_from next k st) (lower next k st) gs mem)
+    top_alike None is next k st r =
+        subst (λ y. Alike (S.settles ms is (upper is None) fs s) (I.goes ps shapes (stop_from next k y) (lower next k y) gs mem)) (sym r.0)
+        (settles_alike is is None next k [] (stop_from next k []) next k r.1 (sym (run_by_silent shapes g.procedure here g.cells code next k [])))
+    top_alike (Some t) [] next k st r = absurd r
+    top_alike (Some t) (i ∷ is) next k st r =
+        goes_alike i is t next k st r (feed t (item_of i)) (stop_from next k st) refl r refl (run_by_silent shapes g.procedure here g.cells code next k st)
 
-    -- frames with the same position
-    top_alike : (answers : Option (List Value)) (items : List Item) (next : ℕ) (stack : Stack) → Remains program code answers items next stack → Alike (S.turn_at answers items (upper items answers) fs s) (I.goes (silent code next stack) (lower next stack) gs mem)
-    top_alike None is next stack r =
-        subst (λ st. Alike (S.settles is (upper is None) fs s) (I.goes (silent code next st) (lower next st) gs mem)) (sym r.0)
-        (settles_alike is is None next [] (silent code next []) (at_next code is next (resume code (silent code next [])) (sym (run_by_silent code next [])) r.1))
-    top_alike (Some t) [] next stack r = absurd r
-    top_alike (Some t) (Do x ∷ is) next stack b = begun_alike x is t next stack b
+  frames_alike : HasPredeclared program → StatementsDo program → (ms ps : List ℕ) (fs : List S.Frame) (gs : List I.Frame) (s : Store) (mem : Memory) → SameStore program s mem → Follows program image ms ps → SameFrames program image s.made fs gs → SameVariables program s.made fs gs → Alike (S.turn_at ms fs s) (I.turn_at image ps gs mem)
+  frames_alike p d ms ps [] [] s mem stores follows h shown =
+      went s mem [] false NoFrame _ _ (λ z. z) (record { stores = stores; same = record { follows = follows; frames = tt; shown = tt } })
+  frames_alike p d ms ps [] (g ∷ gs) s mem stores follows h shown = absurd h
+  frames_alike p d ms ps (f ∷ fs) [] s mem stores follows h shown = absurd h
+  frames_alike p d ms ps (f ∷ fs) (g ∷ gs) s mem stores follows h shown =
+      top_alike p d ms ps f g fs gs s mem h.0.place follows h.1 stores shown f.answers f.items g.next g.keeps g.stack h.0.remains
 
-  pub turn_alike : (s : Store) (mem : Memory) (fs : S.Frames) (gs : I.Frames) → SameStore program s mem → SameFrames fs gs → Alike (S.turn s fs) (I.turn image mem gs)
-  turn_alike s mem [] [] stores h = record { stores = stores; frames = record { now = tt; behind = λ k. absurd k }; left = refl; output = refl; begun = refl }
-  turn_alike s mem [] (g ∷ gs) stores h = absurd h
-  turn_alike s mem (f ∷ fs) [] stores h = absurd h
-  turn_alike s mem (f ∷ fs) (g ∷ gs) stores h =
-      subst (λ w. Alike (S.turn s (f ∷ fs)) (I.goes (silent (code_of image g.procedure) g.next g.stack) (record g { at = w }) gs mem)) (sym h.0.at)
-      (top_alike f.home g.procedure f.at h.0.home fs gs s mem h.1 stores f.answers f.items g.next g.stack h.0.remains)
+  pub turn_alike : HasPredeclared program → StatementsDo program → (s : Store) (mem : Memory) (x : S.Frames) (y : I.Frames) → SameStore program s mem → Same program image s.made x y → Alike (S.turn program s x) (I.turn image mem y)
+  turn_alike p d s mem x y stores h =
+      let o = opened_same program image s.made x y h in
+      frames_alike p d (S.opened program x).following (I.opened y).following (S.opened program x).frames (I.opened y).frames s mem stores o.follows o.frames o.shown

@@ -1,48 +1,116 @@
--- Values of types, and the cells that hold them.
-use Rattle.std.proofs.Common.{◌≡◌, ℕ, ◌≤◌, ◌<◌, ◌^◌, ℤ, pos, Bool, true, refl, sym, subst, arith}
+-- Values of basic types, which are the same in each world, and the cells that hold them.
+use Rattle.std.proofs.Common.{◌≡◌, ℕ, ◌≤◌, ◌<◌, ◌^◌, ℤ, Bool, true, refl, sym, subst, arith}
 use Rattle.std.proofs.lemmas.Int.{ints}
 use Rattle.aos_base.specs.declared.number.Width.{Width}
 use Rattle.aos_base.specs.declared.number.Width.TheVariants.{W8, W16, W32, W64}
 use Rattle.aos_base.specs.Number.{greatest, IsWithin}
-use Rattle.aos_base.specs.Operators.{flag}
+use Rattle.aos_types.specs.declared.row.Basic.{Basic}
+use Rattle.aos_types.specs.declared.row.Basic.TheVariants as basic
+use Rattle.aos_types.specs.World.{World}
 use Rattle.aos_typed.specs.declared.tree.Literal.{Literal}
 use Rattle.aos_typed.specs.declared.tree.Literal.TheVariants as literal
 use Rattle.aos_typed.specs.declared.tree.TType.{TType}
 use Rattle.aos_typed.specs.declared.tree.TType.TheVariants as type
-use Rattle.aos_typed.specs.Value.{Value, Int, Flag, Char, Set, Object, literal_value, number_of}
+use Rattle.aos_typed.specs.Sort.{Sort}
+use Rattle.aos_typed.specs.Value.{Value, Int, Flag, Char, Set, Object, Callable, Place, literal_value, number_of}
+use Rattle.aos_typed.specs.Typing.{IsInteger, IsFlag, IsCharacter, IsSet, IsBasic}
 use Rattle.aos_typed.specs.WellTyped.{includes, Includes, IsLiteral, is_basic}
-use Rattle.aos_code.specs.declared.instr.Cell.{Cell}
-use Rattle.aos_code.specs.declared.instr.Cell.TheVariants.{Num, Ref}
+use Rattle.aos_code.specs.declared.instr.Cell.TheVariants.{Num}
+use Rattle.aos_sim.specs.Cells.{cell_of}
 
--- the cell that holds a value
-abbrev pub cell_of : Value → Cell
-cell_of (Int z) = Num z
-cell_of (Flag b) = Num (flag b)
-cell_of (Char c) = Num (pos c)
-cell_of (Set s) = Num (pos s)
-cell_of (Object o) = Ref o
+-- a value is of a basic type
+abbrev pub IsValueOf : TType → Value → Type 0
+IsValueOf (type.Integer w) v = (z : ℤ) × (v ≡ Int z) × IsWithin w z
+IsValueOf type.Boolean v = (b : Bool) × (v ≡ Flag b)
+IsValueOf type.Char v = (c : ℕ) × (v ≡ Char c) × (c < 256)
+IsValueOf type.Set v = (s : ℕ) × (v ≡ Set s) × (s < 2 ^ 32)
+IsValueOf (type.Named t) v = ⊥
 
--- a value is of a type
-abbrev pub Is : TType → Value → Type 0
-Is (type.Integer w) v = (z : ℤ) × (v ≡ Int z) × IsWithin w z
-Is type.Boolean v = (b : Bool) × (v ≡ Flag b)
-Is type.Char v = (c : ℕ) × (v ≡ Char c) × (c < 256)
-Is type.Set v = (s : ℕ) × (v ≡ Set s) × (s < 2 ^ 32)
-Is (type.Named t) v = (o : ℕ) × (v ≡ Object o)
+-- and is in a cell as the number that it is given as
+pub number_cell : (w : World Sort) (t : TType) (v : Value) → IsValueOf t v → cell_of w v ≡ Num (number_of v)
+number_cell w (type.Integer x) v h = subst (λ v. cell_of w v ≡ Num (number_of v)) (sym h.1) refl
+number_cell w type.Boolean v h = subst (λ v. cell_of w v ≡ Num (number_of v)) (sym h.1) refl
+number_cell w type.Char v h = subst (λ v. cell_of w v ≡ Num (number_of v)) (sym h.1) refl
+number_cell w type.Set v h = subst (λ v. cell_of w v ≡ Num (number_of v)) (sym h.1) refl
+number_cell w (type.Named t) v h = absurd h
 
--- a value of a basic type is in a cell as the number that it is given as
-abbrev pub IsNumber : Value → Type 0
-IsNumber v = cell_of v ≡ Num (number_of v)
+-- The values of the rows of basic types.
 
-pub basic_number : (t : TType) (v : Value) → is_basic t ≡ true → Is t v → IsNumber v
-basic_number (type.Integer w) v e h = subst IsNumber (sym h.1) refl
-basic_number type.Boolean v e h = subst IsNumber (sym h.1) refl
-basic_number type.Char v e h = subst IsNumber (sym h.1) refl
-basic_number type.Set v e h = subst IsNumber (sym h.1) refl
-basic_number (type.Named t) v e h = absurd (cc)
+abbrev pub basic_integer : Width → Basic
+basic_integer W8 = basic.ShortInt
+basic_integer W16 = basic.Integer
+basic_integer W32 = basic.LongInt
+basic_integer W64 = basic.HugeInt
 
-pub integer_number : (w : Width) (v : Value) → Is (type.Integer w) v → IsNumber v
-integer_number w v h = basic_number (type.Integer w) v refl h
+-- the row of a basic type
+abbrev pub basic_of : TType → Basic
+basic_of (type.Integer w) = basic_integer w
+basic_of type.Boolean = basic.Boolean
+basic_of type.Char = basic.Char
+basic_of type.Set = basic.Set
+basic_of (type.Named t) = basic.Nil
+
+pub integer_is : (w : Width) (v : Value) → IsInteger w v → IsValueOf (type.Integer w) v
+integer_is w (Int z) h = (z, refl, h)
+integer_is w (Flag b) h = absurd h
+integer_is w (Char c) h = absurd h
+integer_is w (Set s) h = absurd h
+integer_is w (Object o) h = absurd h
+integer_is w (Callable p o) h = absurd h
+integer_is w (Place p) h = absurd h
+
+pub flag_is : (v : Value) → IsFlag v → IsValueOf type.Boolean v
+flag_is (Int z) h = absurd h
+flag_is (Flag b) h = (b, refl)
+flag_is (Char c) h = absurd h
+flag_is (Set s) h = absurd h
+flag_is (Object o) h = absurd h
+flag_is (Callable p o) h = absurd h
+flag_is (Place p) h = absurd h
+
+pub character_is : (v : Value) → IsCharacter v → IsValueOf type.Char v
+character_is (Int z) h = absurd h
+character_is (Flag b) h = absurd h
+character_is (Char c) h = (c, refl, h)
+character_is (Set s) h = absurd h
+character_is (Object o) h = absurd h
+character_is (Callable p o) h = absurd h
+character_is (Place p) h = absurd h
+
+pub set_is : (v : Value) → IsSet v → IsValueOf type.Set v
+set_is (Int z) h = absurd h
+set_is (Flag b) h = absurd h
+set_is (Char c) h = absurd h
+set_is (Set s) h = (s, refl, h)
+set_is (Object o) h = absurd h
+set_is (Callable p o) h = absurd h
+set_is (Place p) h = absurd h
+
+pub is_integer : (w : Width) (v : Value) → IsValueOf (type.Integer w) v → IsInteger w v
+is_integer w v h = subst (IsInteger w) (sym h.1) h.2
+
+pub is_character : (v : Value) → IsValueOf type.Char v → IsCharacter v
+is_character v h = subst IsCharacter (sym h.1) h.2
+
+pub from_basic : (t : TType) (v : Value) → is_basic t ≡ true → IsBasic (basic_of t) v → IsValueOf t v
+from_basic (type.Integer W8) v e h = integer_is W8 v h
+from_basic (type.Integer W16) v e h = integer_is W16 v h
+from_basic (type.Integer W32) v e h = integer_is W32 v h
+from_basic (type.Integer W64) v e h = integer_is W64 v h
+from_basic type.Boolean v e h = flag_is v h
+from_basic type.Char v e h = character_is v h
+from_basic type.Set v e h = set_is v h
+from_basic (type.Named t) v e h = absurd (cc)
+
+pub to_basic : (t : TType) (v : Value) → IsValueOf t v → IsBasic (basic_of t) v
+to_basic (type.Integer W8) v h = is_integer W8 v h
+to_basic (type.Integer W16) v h = is_integer W16 v h
+to_basic (type.Integer W32) v h = is_integer W32 v h
+to_basic (type.Integer W64) v h = is_integer W64 v h
+to_basic type.Boolean v h = subst IsFlag (sym h.1) tt
+to_basic type.Char v h = is_character v h
+to_basic type.Set v h = subst IsSet (sym h.1) h.2
+to_basic (type.Named t) v h = absurd h
 
 -- Types that include others.
 
@@ -71,7 +139,7 @@ wider W64 w e = most w
 within_wider : (v w : Width) (z : ℤ) → greatest w ≤ greatest v → IsWithin w z → IsWithin v z
 within_wider v w z le h = record { low = omega (arith, ints, h.low); high = omega (arith, ints, h.high) }
 
-pub included : (t u : TType) (v : Value) → Includes t u → Is u v → Is t v
+pub included : (t u : TType) (v : Value) → Includes t u → IsValueOf u v → IsValueOf t v
 included (type.Integer x) (type.Integer y) v e h = (h.0, h.1, within_wider x y h.0 (wider x y e) h.2)
 included (type.Integer x) type.Boolean v e h = absurd (cc)
 included (type.Integer x) type.Char v e h = absurd (cc)
@@ -98,7 +166,7 @@ included (type.Named t) type.Char v e h = absurd (cc)
 included (type.Named t) type.Set v e h = absurd (cc)
 included (type.Named t) (type.Named u) v e h = h
 
-pub literal_is : (l : Literal) (t : TType) → IsLiteral l t → Is t (literal_value l)
+pub literal_is : (l : Literal) (t : TType) → IsLiteral l t → IsValueOf t (literal_value l)
 literal_is (literal.Int n) (type.Integer w) h = (n, refl, h)
 literal_is (literal.Int n) type.Boolean h = absurd h
 literal_is (literal.Int n) type.Char h = absurd h

@@ -1,18 +1,18 @@
 -- The code of a program. A jump names its target, so each piece of code is told where it stands.
-use Rattle.std.specs.Prelude.{ℕ, pos, ◌+◌, List, [], ◌∷◌, ◌++◌, length}
+use Rattle.std.specs.Prelude.{ℕ, pos, ◌+◌, List, [], ◌∷◌, ◌++◌, length, map, slice_get}
 use Rattle.aos_base.specs.declared.text.Pos.{Pos}
 use Rattle.aos_base.specs.declared.operator.Unary.TheVariants.{Range}
 use Rattle.aos_base.specs.declared.operator.Binary.TheVariants.{SetSpan}
 use Rattle.aos_base.specs.Operators.{flag}
+use Rattle.aos_types.specs.Shape.{number_of, offset}
 use Rattle.aos_typed.specs.declared.tree.Literal.{Literal}
 use Rattle.aos_typed.specs.declared.tree.Literal.TheVariants as literal
-use Rattle.aos_typed.specs.Program.{Place, ModuleVar, Expr, Lit, Read, Unary, Binary, And, Or, Element, Ord, Chr, Call, Open, Char, Int, Ln, Stat, Assign, While, New, Out, Stats, Nothing, Then}
-use Rattle.aos_code.specs.declared.instr.Cell.{Cell}
+use Rattle.aos_typed.specs.Program.{Place, ModuleVar, Expr, Lit, Read, Unary, Binary, And, Or, Element, Ord, Chr, Call, Open, Char, Int, Ln, Stat, Assign, While, New, Out, Stats, Nothing, Then, Program}
+use Rattle.aos_typed.specs.Source.{module_shape}
 use Rattle.aos_typed.specs.declared.tree.TType.{TType}
 use Rattle.aos_typed.specs.declared.tree.TType.TheVariants as type
 use Rattle.aos_code.specs.declared.instr.Kind.{Kind}
 use Rattle.aos_code.specs.declared.instr.Kind.TheVariants.{N, R}
-use Rattle.aos_code.specs.declared.instr.Cell.TheVariants as cell
 use Rattle.aos_code.specs.declared.instr.Instr.{Instr}
 use Rattle.aos_code.specs.declared.instr.Instr.TheVariants.{Num, Dup, Swap, Module, Unary as OnOne, Binary as OnTwo, Jump, JumpFalse, Begin, Load, Store, NewObject, Start, Return, OutChar, OutInt, OutLn, OutOpen}
 
@@ -34,10 +34,6 @@ kind_of type.Char = N
 kind_of type.Set = N
 kind_of (type.Named t) = R
 
--- a variable's cell has the variable's number
-abbrev pub place_code : Place → ℕ → List Instr
-place_code (ModuleVar m i) at = Module m i ∷ []
-
 -- two operands and their operator
 abbrev pub operands_code : List Instr → List Instr → Instr → List Instr
 operands_code a b operator = a ++ (b ++ operator ∷ [])
@@ -53,56 +49,57 @@ abbrev pub or_code : List Instr → List Instr → ℕ → List Instr
 or_code a b at =
     a ++ (JumpFalse (at + length a + 3) ∷ (Num (pos 1) ∷ (Jump (at + length a + 3 + length b) ∷ b)))
 
-abbrev pub value_code : Expr → ℕ → List Instr
-value_code (Lit l) at = literal_code l ∷ []
-value_code (Read t p) at = place_code p at ++ Load (kind_of t) ∷ []
-value_code (Unary op a) at = value_code a at ++ OnOne op ∷ []
-value_code (Binary op a b) at =
-    operands_code (value_code a at) (value_code b (at + length (value_code a at))) (OnTwo op)
-value_code (And a b) at = and_code (value_code a at) (value_code b (at + length (value_code a at) + 1)) at
-value_code (Or a b) at = or_code (value_code a at) (value_code b (at + length (value_code a at) + 3)) at
-value_code (Element a) at = value_code a at ++ (Dup ∷ (OnTwo SetSpan ∷ []))
-value_code (Ord a) at = value_code a at
-value_code (Chr a) at = value_code a at ++ OnOne (Range (pos 0) (pos 255)) ∷ []
-
-abbrev pub out_code : Call → ℕ → List Instr
-out_code Open at = OutOpen ∷ []
-out_code (Char e) at = value_code e at ++ OutChar ∷ []
-out_code (Int e n) at = operands_code (value_code e at) (value_code n (at + length (value_code e at))) OutInt
-out_code Ln at = OutLn ∷ []
-
--- a new object stays below the place that it's stored at, to be started. The place is a module's variable, whose code
--- does no visible work
-abbrev pub new_code : Place → ℕ → ℕ → List Instr
-new_code p t at = NewObject (t + 1) ∷ (Dup ∷ (place_code p (at + 2) ++ (Swap ∷ (Store R ∷ (Start ∷ [])))))
-
 -- a loop: where its condition is false the code goes on behind it, else its body and then the loop again
 abbrev pub while_code : Pos → List Instr → List Instr → ℕ → List Instr
 while_code here c b at =
     begin here ∷ (c ++ (JumpFalse (at + 1 + length c + 1 + length b + 1) ∷ (b ++ Jump at ∷ [])))
 
-abbrev mutual
-  pub stat_code : Stat → ℕ → List Instr
-  stat_code (Assign here t p e) at =
-      begin here
-      ∷ operands_code (place_code p (at + 1)) (value_code e (at + 1 + length (place_code p (at + 1)))) (Store (kind_of t))
-  stat_code (While here e body) at =
-      let c = value_code e (at + 1) in while_code here c (stats_code body (at + 1 + length c + 1)) at
-  stat_code (New here p t) at = begin here ∷ new_code p t (at + 1)
-  stat_code (Out here call) at = begin here ∷ out_code call (at + 1)
+-- in a program, whose variables have their cells
+module _ (program : Program) where
+  -- the first cell of a module's variable, by the numbers of both
+  abbrev pub variable_cell : (home number : ℕ) → ℕ
+  variable_cell m i = number_of (offset (i ∷ [])) (slice_get (map (module_shape program) program.modules) m)
 
-  pub stats_code : Stats → ℕ → List Instr
-  stats_code Nothing at = []
-  stats_code (Then s ss) at = stat_code s at ++ stats_code ss (at + length (stat_code s at))
+  abbrev pub place_code : Place → ℕ → List Instr
+  place_code (ModuleVar m i) at = Module m (variable_cell m i) ∷ []
 
--- a body: its statements, and the end of its frame
-abbrev pub body_code : Stats → List Instr
-body_code ss = stats_code ss 0 ++ Return ∷ []
+  abbrev pub value_code : Expr → ℕ → List Instr
+  value_code (Lit l) at = literal_code l ∷ []
+  value_code (Read t p) at = place_code p at ++ Load (kind_of t) ∷ []
+  value_code (Unary op a) at = value_code a at ++ OnOne op ∷ []
+  value_code (Binary op a b) at =
+      operands_code (value_code a at) (value_code b (at + length (value_code a at))) (OnTwo op)
+  value_code (And a b) at = and_code (value_code a at) (value_code b (at + length (value_code a at) + 1)) at
+  value_code (Or a b) at = or_code (value_code a at) (value_code b (at + length (value_code a at) + 3)) at
+  value_code (Element a) at = value_code a at ++ (Dup ∷ (OnTwo SetSpan ∷ []))
+  value_code (Ord a) at = value_code a at
+  value_code (Chr a) at = value_code a at ++ OnOne (Range (pos 0) (pos 255)) ∷ []
 
--- a variable's cell at first
-abbrev pub zero_cell : TType → Cell
-zero_cell (type.Integer w) = cell.Num (pos 0)
-zero_cell type.Boolean = cell.Num (pos 0)
-zero_cell type.Char = cell.Num (pos 0)
-zero_cell type.Set = cell.Num (pos 0)
-zero_cell (type.Named t) = cell.Ref 0
+  abbrev pub out_code : Call → ℕ → List Instr
+  out_code Open at = OutOpen ∷ []
+  out_code (Char e) at = value_code e at ++ OutChar ∷ []
+  out_code (Int e n) at = operands_code (value_code e at) (value_code n (at + length (value_code e at))) OutInt
+  out_code Ln at = OutLn ∷ []
+
+  -- a new object stays below the place that it's stored at, to be started. The place is a module's variable, whose code
+  -- does no visible work
+  abbrev pub new_code : Place → ℕ → ℕ → List Instr
+  new_code p t at = NewObject (t + 1) ∷ (Dup ∷ (place_code p (at + 2) ++ (Swap ∷ (Store R ∷ (Start ∷ [])))))
+
+  abbrev mutual
+    pub stat_code : Stat → ℕ → List Instr
+    stat_code (Assign here t p e) at =
+        begin here
+        ∷ operands_code (place_code p (at + 1)) (value_code e (at + 1 + length (place_code p (at + 1)))) (Store (kind_of t))
+    stat_code (While here e body) at =
+        let c = value_code e (at + 1) in while_code here c (stats_code body (at + 1 + length c + 1)) at
+    stat_code (New here p t) at = begin here ∷ new_code p t (at + 1)
+    stat_code (Out here call) at = begin here ∷ out_code call (at + 1)
+
+    pub stats_code : Stats → ℕ → List Instr
+    stats_code Nothing at = []
+    stats_code (Then s ss) at = stat_code s at ++ stats_code ss (at + length (stat_code s at))
+
+  -- a body: its statements, and the end of its frame
+  abbrev pub body_code : Stats → List Instr
+  body_code ss = stats_code ss 0 ++ Return ∷ []

@@ -1,3 +1,5 @@
 pub mod Code
+pub mod Cells
 pub mod Shows
 pub mod Rewriting
+pub mod Need

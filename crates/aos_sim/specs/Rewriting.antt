@@ -6,7 +6,7 @@ use Rattle.aos_typed.specs.declared.tree.Literal.{Literal}
 use Rattle.aos_typed.specs.declared.tree.TType.{TType}
 use Rattle.aos_typed.specs.Program.{Place, Expr, Lit, Read, Unary, Binary, And, Or, Element, Ord, Chr, Assign}
 use Rattle.aos_typed.specs.Value.{Value, literal_value}
-use Rattle.aos_typed.specs.Meaning.{Doing, Item, value_of, stat_of}
+use Rattle.aos_typed.specs.Meaning.{Doing, After, value_of, stat_of}
 
 -- whether a question stands first
 abbrev pub is_asking : {Q V A : Type 0} → Tree Q V A → Bool
@@ -54,5 +54,5 @@ AssignmentRewrites =
 -- and whatever goes on with the expression's value in a statement
 abbrev pub StatementRewrites : Type 0
 StatementRewrites =
-    (e : Expr) (onward : Value → Doing (List Item)) (ls : List Literal) → are_asked (map literal_value ls) (value_of e) ≡ true
+    (e : Expr) (onward : Value → Doing After) (ls : List Literal) → are_asked (map literal_value ls) (value_of e) ≡ true
     → feed (map literal_value ls) (bind (value_of e) onward) ≡ bind (value_of (rewritten ls e)) onward

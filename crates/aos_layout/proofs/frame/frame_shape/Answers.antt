@@ -7,13 +7,13 @@ use Rattle.aos_code.specs.declared.image.ParamKind.{ParamKind}
 use Rattle.aos_typed.specs.Program.{Procedure}
 use Rattle.aos_typed.specs.Numbers.{id_of}
 use Rattle.aos_typed.specs.Seen.{seen_procedure, seen_parameter}
-use Rattle.aos_layout.specs.Layout.{flatten, kind_of}
+use Rattle.aos_layout.specs.Layout.{leaves, kind_of}
 use Rattle.aos_layout.specs.Frame.{FrameShape, frame, frame_parts, frame_shape, parameter_kind, places_from}
 use Rattle.aos_layout.proofs.Frames.{cells_counted}
 use Rattle.aos_layout.proofs.frame.frame_shape.Goals as goal
 
 module _ (rows : List TypeRow) (own home : ℕ) (p : Procedure) where
-  whole : (params : List ParamKind) (count : ℕ) (of : Option Kind) (kinds : List Kind) (places : List ℕ) → params ≡ map (parameter_kind rows) p.parameters → count ≡ size (frame rows p) → of ≡ option_map (λ t. kind_of rows (id_of t)) p.result → kinds ≡ flatten (frame rows p) → places ≡ places_from 0 (frame_parts rows p) → ◌≡◌ {A = FrameShape} (record { own = own; shape = record { module_ = home; params = params; cells = count; counted = count; keeps = 0; result = of; method = false; kinds = kinds }; places = places }) (frame_shape rows own home p)
+  whole : (params : List ParamKind) (count : ℕ) (of : Option Kind) (kinds : List Kind) (places : List ℕ) → params ≡ map (parameter_kind rows) p.parameters → count ≡ size (frame rows p) → of ≡ option_map (λ t. kind_of rows (id_of t)) p.result → kinds ≡ leaves (frame rows p) → places ≡ places_from 0 (frame_parts rows p) → ◌≡◌ {A = FrameShape} (record { own = own; shape = record { module_ = home; params = params; cells = count; counted = count; keeps = 0; result = of; method = false; kinds = kinds }; places = places }) (frame_shape rows own home p)
   whole params count of kinds places a b c d e =
       λ i. record { own = own; shape = record { module_ = home; params = a i; cells = b i; counted = b i; keeps = 0; result = c i; method = false; kinds = d i }; places = e i }
 

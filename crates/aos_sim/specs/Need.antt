@@ -1,6 +1,7 @@
 -- How many operands code has at most, beyond those that are there where it begins.
-use Rattle.std.specs.Prelude.{ℕ, ◌+◌, max}
-use Rattle.aos_typed.specs.Program.{Place, ModuleVar, Expr, Lit, Read, Unary, Binary, And, Or, Element, Ord, Chr, Call, Open, Char, Int, Ln, Stat, Assign, While, New, Out, Stats, Nothing, Then}
+use Rattle.std.specs.Prelude.{◌≡◌, ℕ, ◌+◌, ◌++◌, map, max}
+use Rattle.aos_typed.specs.Program.{Place, ModuleVar, Expr, Lit, Read, Unary, Binary, And, Or, Element, Ord, Chr, Call, Open, Char, Int, Ln, Stat, Assign, While, New, Out, Stats, Nothing, Then, Program}
+use Rattle.aos_code.specs.declared.image.Image.{Image}
 
 -- the place of a variable
 abbrev pub place_need : Place → ℕ
@@ -40,3 +41,8 @@ abbrev mutual
 -- a body, whose end takes nothing
 abbrev pub body_need : Stats → ℕ
 body_need ss = stats_need ss
+
+-- each body of an image of the program has as many operands at most as its statements need
+abbrev pub HasDepthsOf : Program → Image → Type 0
+HasDepthsOf p image =
+    map (λ b. b.depth) image.bodies.items ≡ map (λ m. body_need m.body) p.modules ++ map (λ o. body_need o.body) p.objects

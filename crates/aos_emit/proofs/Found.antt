@@ -1,0 +1,39 @@
+-- The cells of a program's variables are found by the numbers of modules and variables.
+use Rattle.std.proofs.Common.{◌≡◌, ℕ, ◌<◌, List, [], ◌∷◌, length, get_or, map, Option, Some, None, refl, sym, ap, ◌∙◌}
+use Rattle.std.specs.Prelude.{slice_get, option_map}
+use Rattle.std.specs.Option.{unwrap_or}
+use Rattle.std.proofs.lemmas.Option.{slice_get-map, slice_get_read}
+use Rattle.aos_types.specs.Shape.{leaves, offset, number_of}
+use Rattle.aos_typed.specs.declared.tree.TModule.{TModule}
+use Rattle.aos_typed.specs.Program.{Module, Program}
+use Rattle.aos_typed.specs.Source.{module_shape}
+use Rattle.aos_layout.specs.declared.block.BlockShape.{BlockShape as CodeBlockShape}
+use Rattle.aos_layout.specs.Layout.{block}
+use Rattle.aos_layout.specs.Block.{BlockShape, block_shape}
+use Rattle.aos_layout.specs.Seen.{seen_block}
+use Rattle.aos_layout.proofs.Blocks.{first_cell}
+use Rattle.aos_sim.specs.Code.{variable_cell}
+use Rattle.aos_emit.specs.Laid.{AreBlocks, cell_in, module_kinds}
+
+module _ (p : Program) (bs : List CodeBlockShape) (are : AreBlocks p bs) where
+  found : (m : ℕ) → slice_get (map seen_block bs) m ≡ option_map (block_shape p.types) (slice_get p.modules m)
+  found m = ap (λ l. slice_get l m) are ∙ slice_get-map (block_shape p.types) p.modules m
+
+  pub cell_is : (m i : ℕ) → cell_in (slice_get (map seen_block bs) m) i ≡ variable_cell p m i
+  cell_is m i = ap (λ o. cell_in o i) (found m) ∙ at_module (slice_get p.modules m) ∙ ap (number_of (offset (i ∷ []))) (sym (slice_get-map (module_shape p) p.modules m))
+    where
+      at_module : (o : Option Module) → cell_in (option_map (block_shape p.types) o) i ≡ number_of (offset (i ∷ [])) (option_map (module_shape p) o)
+      at_module None = refl
+      at_module (Some x) = first_cell p.types x i
+
+  pub kinds_are : (m : ℕ) → unwrap_or (option_map (λ b. b.kinds) (slice_get (map seen_block bs) m)) [] ≡ module_kinds p m
+  kinds_are m = ap (λ o. unwrap_or (option_map (λ (b : BlockShape). b.kinds) o) []) (found m) ∙ at_module (slice_get p.modules m)
+    where
+      at_module : (o : Option Module) → unwrap_or (option_map (λ (b : BlockShape). b.kinds) (option_map (block_shape p.types) o)) [] ≡ unwrap_or (option_map (λ x. leaves (block p.types x)) o) []
+      at_module None = refl
+      at_module (Some x) = refl
+
+-- the kinds of the cells of a module of the program
+pub kinds_at : (p : Program) (see : TModule → Module) (ms : List TModule) (k : ℕ) (m : TModule) → p.modules ≡ map see ms → k < length ms → m ≡ get_or ms k m → module_kinds p k ≡ leaves (block p.types (see m))
+kinds_at p see ms k m are lt at =
+    ap (λ o. unwrap_or (option_map (λ x. leaves (block p.types x)) o) []) (ap (λ l. slice_get l k) are ∙ slice_get-map see ms k ∙ ap (option_map see) (slice_get_read ms (length ms) k m refl lt at))

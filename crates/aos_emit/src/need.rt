@@ -1,0 +1,103 @@
+// How many operands code has at most.
+
+ghost use Rattle.std.specs.Prelude.{◌≡◌, ◌+◌, IfOk};
+ghost use Rattle.aos_typed.specs.Seen.{seen_place, seen_expr, seen_call, seen_stat, seen_stats};
+ghost use Rattle.aos_sim.specs.Need as need_of;
+
+use aos_typed::{OutCall, TExpr, TPlace, TStat};
+use std::alloc::AllocError;
+
+fn place_need(place: &TPlace) -> u32
+    ensures { result ≡ need_of.place_need (seen_place place.now) }
+{
+    match place {
+        TPlace::ModuleVar(_, _) => 1,
+    }
+}
+
+// So many operands above so many others. As many as 2^32 are want of memory.
+fn above(others: u32, need: u32) -> Result<u32, AllocError>
+    ensures { IfOk result (λ n. n ≡ others + need) }
+{
+    match others.checked_add(need) {
+        Some(all) => Ok(all),
+        None => Err(AllocError),
+    }
+}
+
+// A long sum has as many left operands, one in another: the loop over them takes no stack.
+fn value_need(value: &TExpr) -> Result<u32, AllocError>
+    ensures { IfOk result (λ n. n ≡ need_of.value_need (seen_expr value.now)) }
+{
+    let mut rest = value;
+    let mut need = 0;
+    loop {
+        match rest {
+            TExpr::Lit(_) => return Ok(need.max(1)),
+            TExpr::Read(_, place) => return Ok(need.max(place_need(place))),
+            TExpr::Unary(_, operand) => rest = operand,
+            TExpr::Binary(_, left, right) => {
+                need = need.max(above(1, value_need(right)?)?);
+                rest = left;
+            }
+            TExpr::And(left, right) => {
+                need = need.max(value_need(right)?);
+                rest = left;
+            }
+            TExpr::Or(left, right) => {
+                need = need.max(value_need(right)?);
+                rest = left;
+            }
+            TExpr::Element(operand) => {
+                need = need.max(2);
+                rest = operand;
+            }
+            TExpr::Ord(operand) => rest = operand,
+            TExpr::Chr(operand) => rest = operand,
+        }
+    }
+}
+
+fn out_need(call: &OutCall) -> Result<u32, AllocError>
+    ensures { IfOk result (λ n. n ≡ need_of.out_need (seen_call call.now)) }
+{
+    match call {
+        OutCall::Open => Ok(0),
+        OutCall::Char(value) => value_need(value),
+        OutCall::Int(value, places) => {
+            let first = value_need(value)?;
+            Ok(first.max(above(1, value_need(places)?)?))
+        }
+        OutCall::Ln => Ok(0),
+    }
+}
+
+#[cycle(stat_need)]
+fn stat_need(statement: &TStat) -> Result<u32, AllocError>
+    ensures { IfOk result (λ n. n ≡ need_of.stat_need (seen_stat statement.now)) }
+{
+    match statement {
+        TStat::Assign(_, _, place, value) => {
+            let assigned = above(1, value_need(value)?)?;
+            Ok(assigned.max(place_need(place)))
+        }
+        TStat::While(_, condition, body) => {
+            let test = value_need(condition)?;
+            Ok(test.max(stats_need(body)?))
+        }
+        TStat::New(_, place, _) => above(2, place_need(place)),
+        TStat::Out(_, call) => out_need(call),
+    }
+}
+
+/// How many operands these statements have at most.
+#[cycle(stat_need)]
+pub fn stats_need(statements: &[TStat]) -> Result<u32, AllocError>
+    ensures { IfOk result (λ n. n ≡ need_of.stats_need (seen_stats statements.now)) }
+{
+    let mut need = 0;
+    for statement in statements {
+        need = need.max(stat_need(statement)?);
+    }
+    Ok(need)
+}

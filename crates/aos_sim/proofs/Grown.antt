@@ -1,0 +1,82 @@
+-- A turn of the source makes objects, and those that there are stay as they were made.
+use Rattle.std.proofs.Common.{◌≡◌, ℕ, zero, suc, List, [], ◌∷◌, ◌++◌, Bool, true, false, Option, Some, None, refl, sym, append-nil}
+use Rattle.aos_base.specs.declared.place.Root.{Root}
+use Rattle.aos_base.specs.declared.place.Root.TheVariants.{Frame as FrameRoot, Module as ModuleRoot, Object as ObjectRoot}
+use Rattle.aos_base.specs.Rooted.{Made}
+use Rattle.aos_base.specs.Question.{Val, Asks, Traps, feed, Reads, Stores, Copies, PutsText, ComparesTexts, Calls, Ends, Makes, Starts, PutsInt, PutsChar, PutsString, PutsLn, PutsNothing, Places, Lengths}
+use Rattle.aos_types.specs.Content.{Content, Scalar, placed}
+use Rattle.aos_typed.specs.Value.{Value, Int, Flag, Char, Set, Object, Callable, Place}
+use Rattle.aos_typed.specs.Store.{Store, store_with, has_room}
+use Rattle.aos_typed.specs.Meaning.{Question, Doing, Item, Do, After, Into, item_of}
+use Rattle.aos_typed.specs.Source.{Frame, ends, settles, written, prints, makes, starts, answer, goes, item_turn, turn_at}
+
+-- more objects than before
+abbrev pub Grown : List Made → List Made → Type 0
+Grown made made' = (more : List Made) × (made' ≡ made ++ more)
+
+none : (made : List Made) → Grown made made
+none made = ([], sym (append-nil made))
+
+module _ (following : List ℕ) where
+  ends_grown : (result : Option Value) (fs : List Frame) (s : Store) → Grown s.made (ends following result fs s).store.made
+  ends_grown None fs s = none s.made
+  ends_grown (Some v) fs s = none s.made
+
+  settles_grown : (is : List Item) (f : Frame) (fs : List Frame) (s : Store) → Grown s.made (settles following is f fs s).store.made
+  settles_grown [] f fs s = none s.made
+  settles_grown (Do st ∷ is) f fs s = none s.made
+
+  writes_grown : (r : Root) (g : Content Value → Content Value) (s : Store) → Grown s.made (store_with r g s).made
+  writes_grown (FrameRoot d) g s = none s.made
+  writes_grown (ModuleRoot m) g s = none s.made
+  writes_grown (ObjectRoot o) g s = none s.made
+
+  prints_grown : (bytes : Option (List ℕ)) (f : Frame) (fs : List Frame) (s : Store) → Grown s.made (prints following bytes f fs s).store.made
+  prints_grown None f fs s = none s.made
+  prints_grown (Some bytes) f fs s = none s.made
+
+  makes_grown : (room : Bool) (t : ℕ) (f : Frame) (fs : List Frame) (s : Store) → Grown s.made (makes following room t f fs s).store.made
+  makes_grown true t f fs s = ((record { type = t; lengths = [] }) ∷ [], refl)
+  makes_grown false t f fs s = none s.made
+
+  starts_grown : (v : Value) (f : Frame) (fs : List Frame) (s : Store) → Grown s.made (starts following v f fs s).store.made
+  starts_grown (Object zero) f fs s = none s.made
+  starts_grown (Object (suc k)) f fs s = none s.made
+  starts_grown (Int z) f fs s = none s.made
+  starts_grown (Flag b) f fs s = none s.made
+  starts_grown (Char c) f fs s = none s.made
+  starts_grown (Set x) f fs s = none s.made
+  starts_grown (Callable p o) f fs s = none s.made
+  starts_grown (Place p) f fs s = none s.made
+
+  answer_grown : (q : Question) (f : Frame) (fs : List Frame) (s : Store) → Grown s.made (answer following q f fs s).store.made
+  answer_grown (Stores p v) f fs s = writes_grown p.root (placed p.path (Scalar v)) s
+  answer_grown (Ends result) f fs s = ends_grown result fs s
+  answer_grown (Makes t) f fs s = makes_grown (has_room s) t f fs s
+  answer_grown (Starts v) f fs s = starts_grown v f fs s
+  answer_grown (PutsInt v n) f fs s = prints_grown (written v n) f fs s
+  answer_grown (Reads t p) f fs s = none s.made
+  answer_grown (PutsChar v) f fs s = none s.made
+  answer_grown PutsNothing f fs s = none s.made
+  answer_grown PutsLn f fs s = none s.made
+  answer_grown (Copies c from to) f fs s = none s.made
+  answer_grown (PutsText strict from n to room) f fs s = none s.made
+  answer_grown (ComparesTexts r a n b m) f fs s = none s.made
+  answer_grown (Calls p vs) f fs s = none s.made
+  answer_grown (PutsString a n) f fs s = none s.made
+  answer_grown (Places a) f fs s = none s.made
+  answer_grown (Lengths a) f fs s = none s.made
+
+  goes_grown : (d : Doing After) (rest : List Item) (f : Frame) (fs : List Frame) (s : Store) → Grown s.made (goes following d rest f fs s).store.made
+  goes_grown (Val (Into is)) rest f fs s = settles_grown (is ++ rest) f fs s
+  goes_grown (Asks q k) rest f fs s = answer_grown q f fs s
+  goes_grown (Traps n c) rest f fs s = none s.made
+
+  item_grown : (answers : Option (List Value)) (is : List Item) (f : Frame) (fs : List Frame) (s : Store) → Grown s.made (item_turn following answers is f fs s).store.made
+  item_grown None is f fs s = settles_grown is f fs s
+  item_grown (Some vs) [] f fs s = none s.made
+  item_grown (Some vs) (i ∷ is) f fs s = goes_grown (feed vs (item_of i)) is f fs s
+
+  pub turn_grown : (fs : List Frame) (s : Store) → Grown s.made (turn_at following fs s).store.made
+  turn_grown [] s = none s.made
+  turn_grown (f ∷ fs) s = item_grown f.answers f.items f fs s

@@ -1,0 +1,245 @@
+-- Silent work that ends at a question has come to the instruction that asks it; and what starts an activity asks so once more, where
+-- the object lies on top.
+use Rattle.std.proofs.Common.{◌≡◌, ◌+◌, ℕ, ℤ, zero, suc, pos, negsuc, List, [], ◌∷◌, drop, reverse, refl, sym, ap, ◌∙◌}
+use Rattle.std.specs.Prelude.{Option, Some, None, Bool, true, false, nat_lt, slice_get, if◌then◌else◌}
+use Rattle.aos_base.specs.declared.place.Root.{Root}
+use Rattle.aos_base.specs.declared.operator.Given.{Given}
+use Rattle.aos_base.specs.declared.operator.Given.TheVariants.{Number, Trap, Undefined}
+use Rattle.aos_base.specs.Question.{Asks, Reads, Stores, Copies, PutsText, ComparesTexts, Starts, PutsString}
+use Rattle.aos_base.specs.Operators.{unary, binary, natural}
+use Rattle.aos_code.specs.declared.instr.Cell.{Cell}
+use Rattle.aos_code.specs.declared.instr.Cell.TheVariants.{Num, Ref, Call as CallCell, Place}
+use Rattle.aos_code.specs.declared.instr.Kind.{Kind}
+use Rattle.aos_code.specs.declared.instr.Kind.TheVariants.{N, R}
+use Rattle.aos_code.specs.declared.instr.Instr.{Instr}
+use Rattle.aos_code.specs.declared.instr.Instr.TheVariants as instr
+use Rattle.aos_code.specs.declared.image.ProcShape.{ProcShape}
+use Rattle.aos_code.specs.Memory.{Addr}
+use Rattle.aos_code.specs.Numbered.{numbered}
+use Rattle.aos_code.specs.Silent.{Stack, Keeps, Question, Stop, Work, Ended, Act, Goes, Puts, Takes, Sees, Stops, lost, kept, is_of, on_any, on_kind, on_number, number_then, place_then, on_place, on_text, length_then, lengths_on, counted_on, given, asserts, gives_place, element, cells_of, length_cells, in_rows, gives_picked, on_kinds, kinds_of, calls, ends, lands, jumps, jumps_on_false, act, Noted, Visible, Answered, Unknown, noted, on_noted, on_act, walk, silent}
+use Rattle.aos_sim.proofs.Runs.{on_run, runs, run, drop_next}
+
+-- What isn't a start.
+
+abbrev mark : Act → ℕ
+mark (Sees (Starts v) s) = 1
+mark _ = 0
+
+calm_if : (b : Bool) (a : Act) → mark a ≡ 0 → mark (if b then a else Stops lost) ≡ 0
+calm_if true a h = h
+calm_if false a h = refl
+
+calm_any : (k : Cell → Stack → Act) (s : Stack) → ((v : Cell) (s' : Stack) → mark (k v s') ≡ 0) → mark (on_any k s) ≡ 0
+calm_any k [] h = refl
+calm_any k (v ∷ s) h = h v s
+
+calm_kind : (kind : Kind) (k : Cell → Stack → Act) (s : Stack) → ((v : Cell) (s' : Stack) → mark (k v s') ≡ 0) → mark (on_kind kind k s) ≡ 0
+calm_kind kind k s h = calm_any _ s (λ v s'. calm_if (is_of kind v) (k v s') (h v s'))
+
+calm_number_then : (k : ℤ → Act) (v : Cell) → ((a : ℤ) → mark (k a) ≡ 0) → mark (number_then k v) ≡ 0
+calm_number_then k (Num a) h = h a
+calm_number_then k (Ref o) h = refl
+calm_number_then k (CallCell p o) h = refl
+calm_number_then k (Place root cell type) h = refl
+
+calm_number : (k : ℤ → Stack → Act) (s : Stack) → ((a : ℤ) (s' : Stack) → mark (k a s') ≡ 0) → mark (on_number k s) ≡ 0
+calm_number k s h = calm_any _ s (λ v s'. calm_number_then (λ a. k a s') v (λ a. h a s'))
+
+calm_place_then : (k : Addr → ℕ → Act) (v : Cell) → ((a : Addr) (t : ℕ) → mark (k a t) ≡ 0) → mark (place_then k v) ≡ 0
+calm_place_then k (Num a) h = refl
+calm_place_then k (Ref o) h = refl
+calm_place_then k (CallCell p o) h = refl
+calm_place_then k (Place root cell type) h = h _ type
+
+calm_place : (k : Addr → ℕ → Stack → Act) (s : Stack) → ((a : Addr) (t : ℕ) (s' : Stack) → mark (k a t s') ≡ 0) → mark (on_place k s) ≡ 0
+calm_place k s h = calm_any _ s (λ v s'. calm_place_then (λ a t. k a t s') v (λ a t. h a t s'))
+
+calm_text : (k : Addr → Cell → Stack → Act) (s : Stack) → ((a : Addr) (n : Cell) (s' : Stack) → mark (k a n s') ≡ 0) → mark (on_text k s) ≡ 0
+calm_text k s h = calm_kind N _ s (λ n s1. calm_place _ s1 (λ a t s2. h a n s2))
+
+calm_length : (z : ℤ) (k : ℕ → Act) → ((n : ℕ) → mark (k n) ≡ 0) → mark (length_then z k) ≡ 0
+calm_length (pos n) k h = h n
+calm_length (negsuc n) k h = refl
+
+calm_lengths : (j : ℕ) (ls : List ℕ) (k : List ℕ → Stack → Act) (s : Stack) → ((ns : List ℕ) (s' : Stack) → mark (k ns s') ≡ 0) → mark (lengths_on j ls k s) ≡ 0
+calm_lengths zero ls k s h = h ls s
+calm_lengths (suc j) ls k s h = calm_number _ s (λ z s'. calm_length z _ (λ n. calm_lengths j (n ∷ ls) k s' h))
+
+calm_counted : (j : ℕ) (zs : List ℤ) (k : List ℤ → Stack → Act) (s : Stack) → ((ns : List ℤ) (s' : Stack) → mark (k ns s') ≡ 0) → mark (counted_on j zs k s) ≡ 0
+calm_counted zero zs k s h = h zs s
+calm_counted (suc j) zs k s h = calm_number _ s (λ z s'. calm_counted j (z ∷ zs) k s' h)
+
+calm_given : (x : Given) (s : Stack) → mark (given x s) ≡ 0
+calm_given (Number z) s = refl
+calm_given (Trap n) s = refl
+calm_given Undefined s = refl
+
+calm_asserts : (c : ℕ) (z : ℤ) (s : Stack) → mark (asserts c z s) ≡ 0
+calm_asserts c (pos zero) s = refl
+calm_asserts c (pos (suc zero)) s = refl
+calm_asserts c (pos (suc (suc n))) s = refl
+calm_asserts c (negsuc n) s = refl
+
+calm_gives : (root : Root) (cell type : ℕ) (above : List Cell) (s : Stack) → mark (gives_place root cell type above s) ≡ 0
+calm_gives root cell type above s = calm_if (nat_lt cell _) _ refl
+
+calm_element : (a : Addr) (i : Option ℕ) (k : ℕ) (above : List Cell) (s : Stack) → mark (element a i k above s) ≡ 0
+calm_element a None k above s = refl
+calm_element a (Some i) k above s = calm_gives a.root _ 0 above s
+
+calm_rows : (ns : List ℕ) (z : ℤ) (k : ℕ) (s : Stack) → mark (in_rows ns z k s) ≡ 0
+calm_rows [] z k s = refl
+calm_rows (n ∷ ns) z k s = calm_place _ s (λ a t s'. calm_element a (natural n z) (cells_of ns k) (length_cells ns) s')
+
+calm_picked : (z : Option ℤ) (s : Stack) → mark (gives_picked z s) ≡ 0
+calm_picked None s = refl
+calm_picked (Some z) s = refl
+
+calm_kinds : (kinds : List Kind) (vs : List Cell) (k : List Cell → Stack → Act) (s : Stack) → ((ws : List Cell) (s' : Stack) → mark (k ws s') ≡ 0) → mark (on_kinds kinds vs k s) ≡ 0
+calm_kinds [] vs k s h = h vs s
+calm_kinds (kind ∷ kinds) vs k s h = calm_kind kind _ s (λ v s'. calm_kinds kinds (v ∷ vs) k s' h)
+
+calm_calls : (f : Option ProcShape) (p : ℕ) (s : Stack) → mark (calls f p s) ≡ 0
+calm_calls None p s = refl
+calm_calls (Some f) p s = calm_kinds (reverse (kinds_of f.params.items)) [] _ s (λ ws s'. refl)
+
+calm_result : (f : ProcShape) (r : Option Kind) (s : Stack) → mark (ends (Some (record f { result = r })) s) ≡ 0
+calm_result f None s = refl
+calm_result f (Some kind) s = calm_kind kind _ s (λ v s'. refl)
+
+calm_ends : (f : Option ProcShape) (s : Stack) → mark (ends f s) ≡ 0
+calm_ends None s = refl
+calm_ends (Some f) s = calm_result f f.result s
+
+calm_lands : (i : Option Instr) (to : ℕ) (s : Stack) → mark (lands i to s) ≡ 0
+calm_lands (Some (instr.Begin line col)) to s = refl
+calm_lands _ to s = refl
+
+calm_jump : (b : Bool) (a c : Act) → mark a ≡ 0 → mark c ≡ 0 → mark (if b then a else c) ≡ 0
+calm_jump true a c h g = h
+calm_jump false a c h g = g
+
+calm_jumps : (code : List Instr) (to at : ℕ) (s : Stack) → mark (jumps code to at s) ≡ 0
+calm_jumps code to at s = calm_jump (nat_lt at to) _ _ refl (calm_lands (slice_get code to) to s)
+
+calm_on_false : (code : List Instr) (to at : ℕ) (z : ℤ) (s : Stack) → mark (jumps_on_false code to at z s) ≡ 0
+calm_on_false code to at (pos zero) s = calm_jumps code to at s
+calm_on_false code to at (pos (suc zero)) s = refl
+calm_on_false code to at (pos (suc (suc n))) s = refl
+calm_on_false code to at (negsuc n) s = refl
+
+marked : (a : Act) (v : Cell) (s s' : Stack) → mark a ≡ 0 → a ≡ Sees (Starts v) s' → s ≡ v ∷ s'
+marked a v s s' h e = (let z : 0 ≡ 1 = sym h ∙ ap mark e in absurd (cc z))
+
+start_if : (b : Bool) (w v : Cell) (s s' : Stack) → (if b then Sees (Starts w) s else Stops lost) ≡ Sees (Starts v) s' → w ∷ s ≡ v ∷ s'
+start_if true w v s s' e = (let p : w ≡ v = cc e in let q : s ≡ s' = cc e in λ i. p i ∷ q i)
+start_if false w v s s' e = absurd (cc e)
+
+start_on_top : (s : Stack) (v : Cell) (s' : Stack) → on_kind R (λ o s1. Sees (Starts o) s1) s ≡ Sees (Starts v) s' → s ≡ v ∷ s'
+start_on_top [] v s' e = absurd (cc e)
+start_on_top (w ∷ s) v s' e = start_if (is_of R w) w v s s' e
+
+-- whose activity is started lies on top
+act_starts : (shapes : List ProcShape) (own here : ℕ) (i : Instr) (code : List Instr) (at : ℕ) (s : Stack) (v : Cell) (s' : Stack) → act shapes own here i code at s ≡ Sees (Starts v) s' → s ≡ v ∷ s'
+act_starts shapes own here (instr.Num n) code at s v s' e = marked _ v s s' refl e
+act_starts shapes own here instr.Dup code at s v s' e = marked _ v s s' (calm_any _ s (λ w r. refl)) e
+act_starts shapes own here instr.Drop code at s v s' e = marked _ v s s' (calm_any _ s (λ w r. refl)) e
+act_starts shapes own here instr.Swap code at s v s' e = marked _ v s s' (calm_any _ s (λ w r. calm_any _ r (λ x y. refl))) e
+act_starts shapes own here (instr.Frame c) code at s v s' e = marked _ v s s' refl e
+act_starts shapes own here (instr.Module m c) code at s v s' e = marked _ v s s' refl e
+act_starts shapes own here (instr.Param c) code at s v s' e = marked _ v s s' refl e
+act_starts shapes own here (instr.Length c) code at s v s' e = marked _ v s s' refl e
+act_starts shapes own here (instr.Offset c t) code at s v s' e = marked _ v s s' (calm_place (λ a u r. gives_place a.root (a.cell + c) t [] r) s (λ a u r. calm_gives a.root (a.cell + c) t [] r)) e
+act_starts shapes own here (instr.Index n k) code at s v s' e = marked _ v s s' (calm_number _ s (λ z r. calm_place _ r (λ a t x. calm_element a (natural n z) k [] x))) e
+act_starts shapes own here (instr.IndexOpen j k) code at s v s' e = marked _ v s s' (calm_number _ s (λ z r. calm_lengths j [] _ r (λ ns x. calm_rows ns z k x))) e
+act_starts shapes own here (instr.PickLen d j) code at s v s' e = marked _ v s s' (calm_counted j [] _ s (λ zs r. calm_place _ r (λ a t x. calm_picked (slice_get zs d) x))) e
+act_starts shapes own here (instr.Unary op) code at s v s' e = marked _ v s s' (calm_number _ s (λ a r. calm_given (unary op a) r)) e
+act_starts shapes own here (instr.Binary op) code at s v s' e = marked _ v s s' (calm_number _ s (λ b r. calm_number _ r (λ a x. calm_given (binary op a b) x))) e
+act_starts shapes own here (instr.Keep c k) code at s v s' e = marked _ v s s' (calm_if (nat_lt c _) _ (calm_kind k _ s (λ w r. refl))) e
+act_starts shapes own here (instr.Kept c k) code at s v s' e = marked _ v s s' (calm_if (nat_lt c _) _ refl) e
+act_starts shapes own here (instr.Fail n) code at s v s' e = marked _ v s s' refl e
+act_starts shapes own here (instr.Assert c) code at s v s' e = marked _ v s s' (calm_number _ s (λ a r. calm_asserts c a r)) e
+act_starts shapes own here (instr.Halt c) code at s v s' e = marked _ v s s' refl e
+act_starts shapes own here (instr.Jump to) code at s v s' e = marked _ v s s' (calm_jumps code to at s) e
+act_starts shapes own here (instr.JumpFalse to) code at s v s' e = marked _ v s s' (calm_number _ s (λ a r. calm_on_false code to at a r)) e
+act_starts shapes own here (instr.Begin line col) code at s v s' e = marked _ v s s' refl e
+act_starts shapes own here (instr.Load kind) code at s v s' e = marked _ v s s' (calm_place (λ a t r. Sees (Reads kind a) r) s (λ a t r. refl)) e
+act_starts shapes own here (instr.Store kind) code at s v s' e = marked _ v s s' (calm_kind kind _ s (λ w r. calm_place (λ a t x. Sees (Stores a w) x) r (λ a t x. refl))) e
+act_starts shapes own here (instr.Copy n) code at s v s' e = marked _ v s s' (calm_place (λ a t r. on_place (λ b u x. Sees (Copies n a b) x) r) s (λ a t r. calm_place (λ b u x. Sees (Copies n a b) x) r (λ b u x. refl))) e
+act_starts shapes own here (instr.PutText strict) code at s v s' e = marked _ v s s' (calm_text (λ a n r. on_text (λ b m x. Sees (PutsText strict b m a n) x) r) s (λ a n r. calm_text (λ b m x. Sees (PutsText strict b m a n) x) r (λ b m x. refl))) e
+act_starts shapes own here (instr.CmpText o) code at s v s' e = marked _ v s s' (calm_text (λ b m r. on_text (λ a n x. Sees (ComparesTexts o a n b m) x) r) s (λ b m r. calm_text (λ a n x. Sees (ComparesTexts o a n b m) x) r (λ a n x. refl))) e
+act_starts shapes own here (instr.Call p) code at s v s' e = marked _ v s s' (calm_calls (numbered shapes p) p s) e
+act_starts shapes own here (instr.NewObject t) code at s v s' e = marked _ v s s' refl e
+act_starts shapes own here instr.Start code at s v s' e = start_on_top s v s' e
+act_starts shapes own here instr.Return code at s v s' e = marked _ v s s' (calm_ends (numbered shapes own) s) e
+act_starts shapes own here instr.OutChar code at s v s' e = marked _ v s s' (calm_kind N _ s (λ w r. refl)) e
+act_starts shapes own here instr.OutInt code at s v s' e = marked _ v s s' (calm_kind N _ s (λ w r. calm_kind N _ r (λ x y. refl))) e
+act_starts shapes own here instr.OutString code at s v s' e = marked _ v s s' (calm_text (λ a n r. Sees (PutsString a n) r) s (λ a n r. refl)) e
+act_starts shapes own here instr.OutLn code at s v s' e = marked _ v s s' refl e
+act_starts shapes own here instr.OutOpen code at s v s' e = marked _ v s s' refl e
+
+module _ (shapes : List ProcShape) (own here : ℕ) (cells : List Cell) (code : List Instr) (q : Question) (p : ℕ) (k' : Keeps) (s' : Stack) where
+  -- the instruction that asks, and the operands that it finds
+  record Asked : Type 0 where
+    instruction : Instr
+    rest : List Instr
+    there : drop p code ≡ instruction ∷ rest
+    stack : Stack
+    asks : act shapes own here instruction code p stack ≡ Sees q s'
+    visible : noted cells q ≡ Visible
+
+  module _ (i : Instr) (rest : List Instr) (at : ℕ) (there : drop at code ≡ i ∷ rest) (next : ℕ → ℕ → Keeps → Stack → Stop) (ih : (over : ℕ) (k : Keeps) (s : Stack) → next over (at + 1) k s ≡ Work q p k' s' → Asked) (s : Stack) where
+    noted_asks : (n : Noted) (asked : Question) (k : Keeps) (s1 : Stack) → noted cells asked ≡ n → act shapes own here i code at s ≡ Sees asked s1 → on_noted n asked next at k s1 ≡ Work q p k' s' → Asked
+    noted_asks Visible asked k s1 n seen e =
+        let a : asked ≡ q = cc e in
+        let b : at ≡ p = cc e in
+        let c : s1 ≡ s' = cc e in
+        record {
+          instruction = i;
+          rest = rest;
+          there = ap (λ x. drop x code) (sym b) ∙ there;
+          stack = s;
+          asks = ap (λ x. act shapes own here i code x s) (sym b) ∙ seen ∙ (λ j. Sees (a j) (c j));
+          visible = ap (noted cells) (sym a) ∙ n;
+        }
+    noted_asks (Answered v) asked k s1 n seen e = ih 0 k (v ∷ s1) e
+    noted_asks Unknown asked k s1 n seen e = absurd (cc e)
+
+    if_asks : (b : Bool) (k : Keeps) (s1 : Stack) → (if b then next 0 (at + 1) k s1 else Ended lost k) ≡ Work q p k' s' → Asked
+    if_asks true k s1 e = ih 0 k s1 e
+    if_asks false k s1 e = absurd (cc e)
+
+    act_asks : (a : Act) (k : Keeps) → act shapes own here i code at s ≡ a → on_act cells a next at k ≡ Work q p k' s' → Asked
+    act_asks (Goes over s1) k seen e = ih over k s1 e
+    act_asks (Puts c v s1) k seen e = ih 0 (kept c v k) s1 e
+    act_asks (Takes c kind s1) k seen e = if_asks (is_of kind (k c)) k (k c ∷ s1) e
+    act_asks (Sees asked s1) k seen e = noted_asks (noted cells asked) asked k s1 refl seen e
+    act_asks (Stops end) k seen e = absurd (cc e)
+
+  walk_asks : (rest : List Instr) (over at : ℕ) (k : Keeps) (s : Stack) → drop at code ≡ rest → walk shapes own here cells code rest over at k s ≡ Work q p k' s' → Asked
+  walk_asks [] over at k s there e = absurd (cc e)
+  walk_asks (i ∷ rest) (suc n) at k s there e = walk_asks rest n (at + 1) k s (drop_next at code i rest there) e
+  walk_asks (i ∷ rest) zero at k s there e =
+      act_asks i rest at there (walk shapes own here cells code rest) (λ over k1 s1 e1. walk_asks rest over (at + 1) k1 s1 (drop_next at code i rest there) e1) s (act shapes own here i code at s) k refl e
+
+-- from where silent work has come to a start, with the object on top
+module _ (shapes : List ProcShape) (own here : ℕ) (cells : List Cell) (code : List Instr) (at : ℕ) (k : Keeps) (s : Stack) (v : Cell) (p : ℕ) (k' : Keeps) (s' : Stack) (e : silent shapes own here cells code at k s ≡ Work (Starts v) p k' s') where
+  abbrev asking : Asked shapes own here cells code (Starts v) p k' s'
+  asking = walk_asks shapes own here cells code (Starts v) p k' s' (drop at code) 0 at k s refl e
+
+  starts_so : act shapes own here asking.instruction code p (v ∷ s') ≡ Sees (Starts v) s'
+  starts_so =
+      ap (λ x. act shapes own here asking.instruction code p x) (sym (act_starts shapes own here asking.instruction code p asking.stack v s' asking.asks)) ∙ asking.asks
+
+  -- it comes to the same
+  pub silent_at_start : silent shapes own here cells code p k' (v ∷ s') ≡ Work (Starts v) p k' s'
+  silent_at_start =
+      ap (λ l. walk shapes own here cells code l 0 p k' (v ∷ s')) asking.there
+      ∙ ap (λ a. on_act cells a (walk shapes own here cells code asking.rest) p k') starts_so
+
+  -- and the code goes on behind it
+  pub run_at_start : run shapes own here code p k' (v ∷ s') ≡ Asks (Starts v) (λ x. run shapes own here code (p + 1) k' s')
+  run_at_start =
+      ap (λ l. runs shapes own here code l 0 p k' (v ∷ s')) asking.there
+      ∙ ap (λ a. on_run a (runs shapes own here code asking.rest) p k') starts_so
+      ∙ ap (λ l. Asks (Starts v) (λ x. runs shapes own here code l 0 (p + 1) k' s')) (sym (drop_next p code asking.instruction asking.rest asking.there))

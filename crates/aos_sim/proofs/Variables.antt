@@ -1,0 +1,152 @@
+-- The variables of modules: each that is read or assigned is one scalar of its type, at the cell that its code names.
+use Rattle.std.proofs.Common.{◌≡◌, ℕ, zero, suc, ◌+◌, List, [], ◌∷◌, ◌++◌, length, map, Option, Some, None, true, if◌then◌else◌, refl, sym, ap, ◌∙◌, subst, arith}
+use Rattle.std.specs.Prelude.{slice_get, option_map, option_and_then}
+use Rattle.std.proofs.lemmas.Bool.{eq-eqb}
+use Rattle.std.proofs.lemmas.Option.{slice_get-map}
+use Rattle.aos_base.specs.declared.number.Width.TheVariants.{W8, W16, W32, W64}
+use Rattle.aos_base.specs.declared.place.Root.TheVariants.{Module as ModuleRoot}
+use Rattle.aos_types.specs.declared.row.TypeId.{TypeId}
+use Rattle.aos_types.specs.declared.row.TypeRow.{TypeRow}
+use Rattle.aos_types.specs.declared.row.TypeRow.TheVariants as row
+use Rattle.aos_types.specs.Table.{row_of, is_object}
+use Rattle.aos_types.specs.Shape as shape
+use Rattle.aos_types.specs.Shape.{Shape, One, part, offset, number_of, shaped}
+use Rattle.aos_types.specs.Contents.{contents, with_parts, unfolded}
+use Rattle.aos_types.specs.World.{World, shape_at, cell_at}
+use Rattle.aos_types.specs.Extension.{comes_by}
+use Rattle.aos_typed.specs.declared.tree.TType.{TType}
+use Rattle.aos_typed.specs.declared.tree.TType.TheVariants as type
+use Rattle.aos_typed.specs.Program.{Variable, Module, Place as Designator, ModuleVar, Program}
+use Rattle.aos_typed.specs.Numbers.{id_of}
+use Rattle.aos_typed.specs.Sort.{Sort, Plain, variable_shape}
+use Rattle.aos_typed.specs.Spot.{Spot}
+use Rattle.aos_typed.specs.Value.{Value, Object}
+use Rattle.aos_typed.specs.Typing.{Is, IsPlainly, IsReference}
+use Rattle.aos_typed.specs.Source.{module_shape}
+use Rattle.aos_typed.specs.Meaning.{place_of}
+use Rattle.aos_typed.specs.WellTyped.{is_basic, variable_type, place_type}
+use Rattle.aos_code.specs.declared.image.ProcShape.{ProcShape}
+use Rattle.aos_code.specs.declared.instr.Cell.TheVariants as cell
+use Rattle.aos_code.specs.declared.instr.Instr.{Instr}
+use Rattle.aos_code.specs.Silent.{Stack, Keeps}
+use Rattle.aos_sim.specs.Cells.{place_in}
+use Rattle.aos_sim.specs.Code.{variable_cell, place_code}
+use Rattle.aos_sim.proofs.Runs.{Run, runs}
+use Rattle.aos_sim.proofs.Types.{IsValueOf, basic_of, from_basic, to_basic}
+use Rattle.aos_sim.proofs.Does.{HasPredeclared, Knows, HasScalar, Does}
+
+part_of_row : {S : Type 0} (i : ℕ) (ss : List (Shape S)) → part i (shape.row ss) ≡ slice_get ss i
+part_of_row i [] = refl
+part_of_row zero (s ∷ ss) = refl
+part_of_row (suc i) (s ∷ ss) = part_of_row i ss
+
+-- each type comes to itself
+comes_same : (rows : List TypeRow) (n : ℕ) (t : TypeId) → comes_by n rows t t ≡ true
+comes_same rows zero t = eq-eqb t.0 t.0 refl
+comes_same rows (suc n) t = rw (eq-eqb t.0 t.0 refl) refl
+
+module _ (rows : List TypeRow) (t : TypeId) where
+  -- a variable of a basic type is one scalar
+  pub basic_variable : (b : _) → row_of rows t ≡ Some (row.Basic b) → variable_shape rows t ≡ One (Plain t)
+  basic_variable b e =
+      ap (λ o. shaped Plain (if is_object o then One t else with_parts (unfolded (length rows) rows) rows t o)) e
+
+  -- so is one of an object type
+  pub object_variable : is_object (row_of rows t) ≡ true → variable_shape rows t ≡ One (Plain t)
+  object_variable e = ap (λ b. shaped Plain (if b then One t else contents rows t)) e
+
+  -- a value of an object type is a reference
+  pub reference_value : (w : World Sort) (v : Value) → is_object (row_of rows t) ≡ true → IsReference rows w t v → Is rows w (Plain t) v
+  reference_value w v e h = by_row (row_of rows t) e
+    where
+      by_row : (o : Option TypeRow) → is_object o ≡ true → IsPlainly rows w t o v
+      by_row None e' = absurd (cc)
+      by_row (Some (row.Basic b)) e' = absurd (cc)
+      by_row (Some (row.Array n of)) e' = absurd (cc)
+      by_row (Some (row.Open of)) e' = absurd (cc)
+      by_row (Some (row.Record base fields)) e' = absurd (cc)
+      by_row (Some (row.Pointer to)) e' = absurd (cc)
+      by_row (Some (row.Object base fields)) e' = h
+      by_row (Some (row.Procedure formals r)) e' = absurd (cc)
+      by_row (Some row.Any) e' = absurd (cc)
+
+module _ (program : Program) where
+  -- an object is of the type that it's made as
+  pub made_value : (w : World Sort) (t o : ℕ) → is_object (row_of program.types (id_of (type.Named t))) ≡ true → w.made (suc o) ≡ Some (record { type = suc t; lengths = [] }) → Is program.types w (Plain (id_of (type.Named t))) (Object (suc o))
+  made_value w t o e made =
+      let id = id_of (type.Named t) in
+      reference_value program.types id w (Object (suc o)) e (record { type = suc t; lengths = [] }, made, refl, comes_same program.types (length program.types) id)
+
+  -- the predeclared types stand first in the table
+  pub basic_row : HasPredeclared program → (t : TType) → is_basic t ≡ true → row_of program.types (id_of t) ≡ Some (row.Basic (basic_of t))
+  basic_row p (type.Integer W8) e = p 0 (omega arith)
+  basic_row p (type.Integer W16) e = p 1 (omega arith)
+  basic_row p (type.Integer W32) e = p 2 (omega arith)
+  basic_row p (type.Integer W64) e = p 3 (omega arith)
+  basic_row p type.Boolean e = p 4 (omega arith)
+  basic_row p type.Char e = p 5 (omega arith)
+  basic_row p type.Set e = p 6 (omega arith)
+  basic_row p (type.Named t) e = absurd (cc)
+
+  -- a variable's type has one scalar
+  abbrev pub IsOne : TType → Type 0
+  IsOne t = variable_shape program.types (id_of t) ≡ One (Plain (id_of t))
+
+  pub basic_is_one : HasPredeclared program → (t : TType) → is_basic t ≡ true → IsOne t
+  basic_is_one p t e = basic_variable program.types (id_of t) (basic_of t) (basic_row p t e)
+
+  -- values of the row of a basic type are those of the type
+  pub value_from : HasPredeclared program → (t : TType) (w : World Sort) (v : Value) → is_basic t ≡ true → Is program.types w (Plain (id_of t)) v → IsValueOf t v
+  value_from p t w v e h = from_basic t v e (subst (λ o. IsPlainly program.types w (id_of t) o v) (basic_row p t e) h)
+
+  pub value_to : HasPredeclared program → (t : TType) (w : World Sort) (v : Value) → is_basic t ≡ true → IsValueOf t v → Is program.types w (Plain (id_of t)) v
+  value_to p t w v e h = subst (λ o. IsPlainly program.types w (id_of t) o v) (sym (basic_row p t e)) (to_basic t v h)
+
+  -- the shape of a module with a variable, and of the variable in it
+  record Stood (m k : ℕ) (t : TType) : Type 0 where
+    whole : Shape Sort
+    there : slice_get (map (module_shape program) program.modules) m ≡ Some whole
+    part : part k whole ≡ Some (variable_shape program.types (id_of t))
+
+  stood : (m k : ℕ) (t : TType) → variable_type program m k ≡ Some t → Stood m k t
+  stood m k t e = by_module (slice_get program.modules m) refl e
+    where
+      of_variable : Variable → Shape Sort
+      of_variable v = variable_shape program.types (id_of v.of)
+
+      by_variable : (x : Module) → slice_get program.modules m ≡ Some x → (o : Option Variable) → slice_get x.variables k ≡ o → option_map (λ v. v.of) o ≡ Some t → Stood m k t
+      by_variable x ex None eo e' = absurd (cc)
+      by_variable x ex (Some v) eo e' =
+          let q : v.of ≡ t = cc in
+          record {
+            whole = module_shape program x;
+            there = slice_get-map (module_shape program) program.modules m ∙ ap (option_map (module_shape program)) ex;
+            part = part_of_row k (map of_variable x.variables) ∙ slice_get-map of_variable x.variables k
+                ∙ ap (option_map of_variable) eo ∙ ap (λ u. Some (variable_shape program.types (id_of u))) q;
+          }
+
+      by_module : (o : Option Module) → slice_get program.modules m ≡ o → option_and_then (λ x. option_map (λ v. v.of) (slice_get x.variables k)) o ≡ Some t → Stood m k t
+      by_module None eo e' = absurd (cc)
+      by_module (Some x) eo e' = by_variable x eo (slice_get x.variables k) refl e'
+
+  module _ (w : World Sort) (known : Knows program w) (m k : ℕ) (t : TType) (of : variable_type program m k ≡ Some t) where
+    pub variable_there : shape_at w (ModuleRoot m) (k ∷ []) ≡ Some (variable_shape program.types (id_of t))
+    variable_there =
+        let s = stood m k t of in
+        ap (option_and_then (λ x. option_and_then (λ y. Some y) (part k x))) (known m s.whole s.there) ∙ ap (option_and_then (λ y. Some y)) s.part
+
+    pub cell_there : cell_at w (ModuleRoot m) (k ∷ []) ≡ variable_cell program m k
+    cell_there = let s = stood m k t of in ap (number_of (offset (k ∷ []))) (known m s.whole s.there ∙ sym s.there)
+
+module _ (program : Program) (shapes : List ProcShape) (own here : ℕ) (code : List Instr) where
+  -- the code goes on with the rest at this place, with the place of a scalar of this type on the stack
+  pub record Named (t : TType) (rest : List Instr) (at : ℕ) (k : Keeps) (s : Stack) (w : World Sort) (p : Spot) (m : Run) : Type 0 where
+    pub there : HasScalar program w p (Plain (id_of t))
+    pub run : m ≡ runs shapes own here code rest 0 at k (place_in w p ∷ s)
+
+  pub place_does : (p : Designator) (t : TType) → place_type program p ≡ Some t → IsOne program t → (w : World Sort) → Knows program w → (at : ℕ) (rest : List Instr) (k : Keeps) (s : Stack) → Does program (Named t rest (at + length (place_code program p at)) k s) w (runs shapes own here code (place_code program p at ++ rest) 0 at k s) (place_of p)
+  place_does (ModuleVar m i) t of one w known at rest k s =
+      record {
+        there = variable_there program w known m i t of ∙ ap (λ s. Some s) one;
+        run = ap (λ n. runs shapes own here code rest 0 (at + 1) k (cell.Place (ModuleRoot m) n 0 ∷ s)) (sym (cell_there program w known m i t of));
+      }
