@@ -1,6 +1,7 @@
 #!/usr/bin/env bash
 # How fast the program runs loops: examples/Forever.Mod, which stops at 1,000,000 statements, and examples/Mixed.Mod, with
-# sums, products, quotients and comparisons, against the same loops in CPython. Each figure is the best of five: the wall time, and the processor time, which other work on the machine
+# sums, products, quotients and comparisons, against the same loops in CPython; and how fast an activity makes private turns of
+# the first loop. Each figure is the best of five: the wall time, and the processor time, which other work on the machine
 # disturbs less. Usage: bench/loop.sh [PROGRAM], where PROGRAM is the built program.
 set -euo pipefail
 top=$(cd "$(dirname "${BASH_SOURCE[0]}")/.." && pwd)
@@ -14,6 +15,14 @@ if ! [ -x "$program" ]; then
     echo "$program isn't built: call ./aos once" >&2
     exit 1
 fi
+
+# Five runs of the program that makes so many private turns of the first loop, over a local variable.
+private_runs() {
+    local TIMEFORMAT='%3R %3U %3S'
+    for _ in 1 2 3 4 5; do
+        { time "$top/crates/aos_turn_bench/out/aos_turn_bench" "$turns" >/dev/null; } 2>&1
+    done | awk '{ print $1, $2 + $3 }'
+}
 
 # Five runs of the program on an example: a line each, with the wall time and the processor time in seconds. Fails where
 # the status is another one.
@@ -72,15 +81,12 @@ echo "model   $(LC_ALL=C lscpu | sed -n 's/^Model name: *//p' | head -1)"
 echo "cores   $(nproc)"
 echo "load    $(cut -d ' ' -f 1 /proc/loadavg)"
 
-# A loop's two figures beside those of CPython: its name, its example, the status, and its turns.
-beside_python() {
-    local name=$1 example=$2 status=$3 turns=$4
-    local ours theirs wall cpu python python_cpu
-    ours=$(five_runs "$example" "$status" | least)
-    theirs=$(python_runs "$name" | least)
-    read -r wall cpu <<<"$ours"
-    read -r python python_cpu <<<"$theirs"
-    echo "$name    $wall s wall, $cpu s processor  (examples/$example.Mod, the whole process)"
+# What was taken, beside CPython's: a loop's name, its turns, and both times of each.
+compare() {
+    local name=$1 turns=$2 what=$3 wall cpu python python_cpu
+    read -r wall cpu <<<"$4"
+    read -r python python_cpu <<<"$5"
+    echo "$name    $wall s wall, $cpu s processor  ($what, the whole process)"
     echo "python  $python s wall, $python_cpu s processor  ($(python3 --version), the loop alone)"
     awk -v a="$wall" -v ac="$cpu" -v p="$python" -v pc="$python_cpu" -v t="$turns" 'BEGIN {
         printf "turns   %.1f million a second of wall time, %.1f of processor time\n", t / a / 1e6, t / ac / 1e6
@@ -88,5 +94,13 @@ beside_python() {
     }'
 }
 
+# A loop's two figures beside those of CPython: its name, its example, the status, and its turns.
+beside_python() {
+    compare "$1" "$4" "examples/$2.Mod" "$(five_runs "$2" "$3" | least)" "$(python_runs "$1" | least)"
+}
+
 beside_python loop Forever 5 "$turns"
 beside_python mixed Mixed 0 "$mixed_turns"
+if [ -x "$top/crates/aos_turn_bench/out/aos_turn_bench" ]; then
+    compare private "$turns" "private turns, over a local variable" "$(private_runs | least)" "$(python_runs loop | least)"
+fi

@@ -28,7 +28,7 @@ pub fn of_code(alloc: Global, code: Vec<Instr>) -> Result<Image, AllocError> {
         modules: vec![in alloc; module]?,
         types: Vec::new(alloc),
         shapes: vec![in alloc; body_shape(alloc)]?,
-        bodies: vec![in alloc; Body { code }]?,
+        bodies: vec![in alloc; Body { code, depth: 4 }]?,
     })
 }
 

@@ -1,5 +1,5 @@
-//! Tests of what a run stands on: arithmetic, locks, shelves and sinks, scripts, soundness of code, the
-//! kernel, and replays.
+//! Tests of what a run stands on: arithmetic, locks, shelves and sinks, scripts, soundness of code,
+//! instructions, the kernel, and replays.
 #![tactic(auto)]
 
 #[cfg(test)]
@@ -8,6 +8,8 @@ mod arithmetic;
 mod handovers;
 #[cfg(test)]
 mod images;
+#[cfg(test)]
+mod instructions;
 #[cfg(test)]
 mod kernels;
 #[cfg(test)]
