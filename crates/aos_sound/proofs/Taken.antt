@@ -58,7 +58,7 @@ length_first zero ks = refl
 length_first (suc n) ks = ap (λ js. N ∷ js) (length_first n ks)
 
 -- lengths are the same in either order
-reverse_lengths : (n : ℕ) → reverse (replicate n N) ≡ replicate n N
+pub reverse_lengths : (n : ℕ) → reverse (replicate n N) ≡ replicate n N
 reverse_lengths zero = refl
 reverse_lengths (suc n) = reverse-append (N ∷ []) (replicate n N) ∙ ap (λ ks. ks ++ N ∷ []) (reverse_lengths n) ∙ length_first n [] ∙ ap (λ ks. N ∷ ks) (append-nil (replicate n N))
 

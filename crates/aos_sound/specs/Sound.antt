@@ -1,5 +1,5 @@
 -- Soundness of a body: what may stand at its places, and what every path through it meets.
-use Rattle.std.specs.Prelude.{◌≡◌, ◌≤◌, ℕ, zero, suc, ◌+◌, ◌-◌, List, [], ◌∷◌, ◌++◌, length, replicate, reverse, Bool, true, false, ◌&&◌, ◌||◌, Option, Some, None, nat_lt, if◌then◌else◌, slice_get, IsTrue, ◌⊎◌, option_map}
+use Rattle.std.specs.Prelude.{◌≡◌, ◌≤◌, ℕ, zero, suc, ◌+◌, ◌-◌, List, [], ◌∷◌, ◌++◌, length, replicate, reverse, Bool, true, false, ◌&&◌, ◌||◌, Option, Some, None, nat_lt, nat_le, if◌then◌else◌, slice_get, IsTrue, ◌⊎◌, option_map}
 use Rattle.aos_code.specs.declared.instr.Kind.{Kind}
 use Rattle.aos_code.specs.declared.instr.Kind.TheVariants.{N, R, C, A}
 use Rattle.aos_code.specs.declared.instr.Instr.{Instr}
@@ -157,10 +157,10 @@ is_procedure Condition = false
 abbrev pub may_jump : Role → List Instr → (to at : ℕ) → Bool
 may_jump role code to at = nat_lt to (length code) && (nat_lt at to || (is_procedure role && is_begin (slice_get code to)))
 
--- how many cells a module has, none where there is no such module
-abbrev pub cells_in : Option ModuleDesc → ℕ
-cells_in None = 0
-cells_in (Some m) = length m.cells.items
+-- a module has this place: that of one of its cells, or that behind the last one, where a variable without cells may stand
+abbrev pub has_place : Option ModuleDesc → (c : ℕ) → Bool
+has_place None c = false
+has_place (Some m) c = nat_le c (length m.cells.items)
 
 -- how many cells a frame has that a procedure of this shape names, none where there is no such shape
 abbrev pub frame_cells : Option ProcShape → ℕ
@@ -183,7 +183,7 @@ module _ (image : Image) (own : ℕ) where
   -- work but Load and CmpText, and keeps nothing
   abbrev pub may_stand : Role → List Instr → (at : ℕ) → Instr → Bool
   may_stand role code at (Frame c) = nat_lt c (frame_cells (numbered image.shapes.items own))
-  may_stand role code at (Module m c) = nat_lt c (cells_in (slice_get image.modules.items m))
+  may_stand role code at (Module m c) = has_place (slice_get image.modules.items m) c
   may_stand role code at (Param c) = nat_lt c (frame_cells (numbered image.shapes.items own))
   may_stand role code at (Length c) = nat_lt c (frame_cells (numbered image.shapes.items own))
   may_stand role code at (Offset c t) = is_type_or_none image t

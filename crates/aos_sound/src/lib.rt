@@ -3,6 +3,7 @@
 
 mod behind;
 mod effect;
+mod laws;
 mod search;
 mod sound;
 mod stacks;
@@ -10,5 +11,6 @@ mod stand;
 mod take;
 
 pub use effect::{Effect, Next, effect_of, next_of};
+pub use laws::{law_of_cells, law_of_frames, law_of_paths};
 pub use sound::{is_sound, is_sound_cond};
 pub use stand::Role;

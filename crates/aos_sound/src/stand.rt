@@ -5,7 +5,7 @@ ghost use Rattle.aos_code.specs.declared.instr.Instr.{Instr};
 ghost use Rattle.aos_code.specs.Numbered.{numbered};
 ghost use Rattle.aos_sound.specs.Sound as sound;
 ghost use Rattle.aos_code.specs.Silent.{keeps_in};
-ghost use Rattle.aos_sound.specs.Sound.{is_begin, is_procedure, may_jump, cells_in, frame_cells, is_some};
+ghost use Rattle.aos_sound.specs.Sound.{is_begin, is_procedure, may_jump, frame_cells, is_some};
 
 use aos_code::{Image, Instr, ModuleDesc, ProcShape, TypeDesc};
 
@@ -48,15 +48,11 @@ fn jumps(role: Role, code: &[Instr], to: usize, at: usize) -> bool
     to < code.len() && (at < to || (for_procedure(role) && begins(code, to)))
 }
 
-/// How many cells the module of this number has.
-fn cells_of(modules: &[ModuleDesc], m: u32) -> usize
-    ensures { result ≡ cells_in (slice_get modules.now m) }
+/// Whether the module of this number has this place: a cell's, or that behind its last cell.
+fn has_place(modules: &[ModuleDesc], m: u32, c: u32) -> bool
+    ensures { result ≡ sound.has_place (slice_get modules.now m) c }
 {
-    if (m as usize) < modules.len() {
-        modules[m as usize].cells.len()
-    } else {
-        0
-    }
+    (m as usize) < modules.len() && (c as usize) <= modules[m as usize].cells.len()
 }
 
 /// Whether a type has this number.
@@ -100,7 +96,7 @@ fn may_stand(image: &Image, own: u32, role: Role, code: &[Instr], at: usize, i: 
 {
     match *i {
         Instr::Frame(c) => has_cell(&image.shapes, own, c),
-        Instr::Module(m, c) => (c as usize) < cells_of(&image.modules, m),
+        Instr::Module(m, c) => has_place(&image.modules, m, c),
         Instr::Param(c) => has_cell(&image.shapes, own, c),
         Instr::Length(c) => has_cell(&image.shapes, own, c),
         Instr::Offset(_, t) => is_type_or_none(image, t),
