@@ -1,6 +1,7 @@
 pub mod Behind
 pub mod Asking
 pub mod Own
+pub mod InPlace
 pub mod Turns
 pub mod Answering
 pub mod Characters

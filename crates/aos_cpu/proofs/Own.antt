@@ -292,7 +292,7 @@ held image did old new mem mem' before after other e turned left same =
 abbrev pub AllTold : Image → (budget : ℕ) → (old new : KeptFrames) → Type 0
 AllTold image budget old new = IsMadePrivately image budget (turns_since old new) old new
 
-told : (old new made : ℕ) → old < 2 ^ 64 → made < 2 ^ 64 → new ≡ (old + made) % 2 ^ 64 → (new + (2 ^ 64 - old)) % 2 ^ 64 ≡ made
+pub told : (old new made : ℕ) → old < 2 ^ 64 → made < 2 ^ 64 → new ≡ (old + made) % 2 ^ 64 → (new + (2 ^ 64 - old)) % 2 ^ 64 ≡ made
 told old new made lt small e = omega arith
 
 one_more : (old mid new made : ℕ) → mid ≡ (old + made) % 2 ^ 64 → new ≡ (mid + 1) % 2 ^ 64 → new ≡ (old + suc made) % 2 ^ 64
@@ -309,7 +309,7 @@ none_made image budget old lt =
       sym z,
     )
 
-at_or_below : (P : ℕ → Type 0) (made : ℕ) → ((i : ℕ) → i < made → P i) → P made → (i : ℕ) → i < suc made → P i
+pub at_or_below : (P : ℕ → Type 0) (made : ℕ) → ((i : ℕ) → i < made → P i) → P made → (i : ℕ) → i < suc made → P i
 at_or_below P made below here i lt =
     elim (leb_tells made i) [
       | inl e ↦ (let same : made ≡ i = (let at : made ≤ i = e.1 in omega arith) in subst P same here)

@@ -2,3 +2,4 @@ pub mod Answers
 pub mod Turns
 pub mod Calls
 pub mod Private
+pub mod InPlace

@@ -1,11 +1,11 @@
 // Turns on an activity's own frames alone.
 ghost use Rattle.std.specs.Prelude.{◌≡◌, ◌≤◌, ◌∷◌, ◌&&◌, List, true, false, drop, reverse, if◌then◌else◌, IfOk, OnErr};
-ghost use Rattle.aos_code.specs.Machine.{Frames as FramesOf};
 ghost use Rattle.aos_store.specs.Store.{list_in, frames_in, memory_in, SameCounts};
 ghost use Rattle.aos_silent.specs.Acts.{question_in};
 ghost use Rattle.aos_cpu.specs.Turns.{Alike, StandsAtStop};
-ghost use Rattle.aos_cpu.specs.Private.{no_memory, is_of_frame as is_of_frame_root, is_own_value as is_own_cell, copies_own as copies_own_for, is_own as is_own_question, alone, is_own_turn, is_private, IsPrivate, HasTried, IsMadePrivately, turns_since, stop_after, WhereShared};
+ghost use Rattle.aos_cpu.specs.Private.{no_memory, is_of_frame as is_of_frame_root, is_own_value as is_own_cell, copies_own as copies_own_for, is_own as is_own_question, is_own_turn, is_private, HasTried, IsMadePrivately, turns_since, stop_after, WhereShared};
 
+use crate::in_place::make_in_place;
 use crate::turn::{come_to_stop, finish};
 use aos_base::{Did, NoMemory, Root};
 use aos_code::{Cell, Image, ParamKind};
@@ -109,7 +109,7 @@ fn is_own(image: &Image, question: Question, operands: &[Cell]) -> bool
 }
 
 /// Whether a turn needs nothing but the activity's own frames, which stand where their silent work ends.
-fn is_own_stop(image: &Image, frames: &Frames, stop: Stop) -> bool
+pub fn is_own_stop(image: &Image, frames: &Frames, stop: Stop) -> bool
     requires { StandsAtStop image.now stop (list_in frames.now.list.items) }
     ensures { result ≡ is_own_turn image.now (frames_in frames.now) }
 {
@@ -120,19 +120,6 @@ fn is_own_stop(image: &Image, frames: &Frames, stop: Stop) -> bool
         },
         Stop::Begins(_, _) => true,
         Stop::Fails(_, _) => false,
-    }
-}
-
-/// Whether the next turn needs nothing but the activity's own frames: it is private, unless it traps. Some silent work is done.
-pub fn next_private(alloc: Global, image: &Image, frames: &mut Frames) -> Result<bool, NoMemory>
-    ensures alike { Alike image.now (frames_in frames.old) (frames_in frames.new) }
-    ensures own { IfOk result (λ is. (fs : FramesOf) → Alike image.now fs (frames_in frames.old) → is ≡ is_own_turn image.now fs) }
-    ensures private { IfOk result (λ is. is ≡ true → (fs : FramesOf) → Alike image.now fs (frames_in frames.old) → (alone image.now fs).left ≡ Did.Went → IsPrivate image.now fs) }
-    ensures counts { SameCounts frames.old frames.new }
-{
-    match come_to_stop(alloc, image, frames)? {
-        None => Ok(false),
-        Some(stop) => Ok(is_own_stop(image, frames, stop)),
     }
 }
 
@@ -210,13 +197,15 @@ pub fn private(
         objects: Vec::new(alloc),
     };
     let mut output = Vec::new(alloc);
-    for made in 0..most {
+    let mut made = make_in_place(image, frames, &mut store, most, budget);
+    while made < most {
         if budget <= frames.begun {
             return Ok((made, PrivateStop::Budget));
         }
         if !make_private(alloc, image, frames, &mut store, &mut output)? {
             return Ok((made, PrivateStop::Shared));
         }
+        made += 1 + make_in_place(image, frames, &mut store, most - made - 1, budget);
     }
     if budget <= frames.begun {
         Ok((most, PrivateStop::Budget))

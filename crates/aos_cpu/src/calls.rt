@@ -187,7 +187,7 @@ fn past(args: &[Cell], taken: usize) -> &[Cell]
 }
 
 /// How many cells are copied for parameters, as far as a number goes; none where an argument can't be handed over.
-fn count_copied(
+pub fn count_copied(
     frames: &Frames,
     store: &Store,
     params: &[ParamKind],
@@ -364,7 +364,7 @@ fn last_of(stack: &[Cell], count: usize) -> &[Cell]
 }
 
 /// The arguments of a call: so many of the topmost frame's topmost operands, in their order.
-fn arguments(frames: &Frames, count: usize) -> &[Cell]
+pub fn arguments(frames: &Frames, count: usize) -> &[Cell]
     ensures { (f : FrameOf) (fs : List FrameOf) → list_in frames.now.list.items ≡ f ∷ fs → result.now ≡ reverse (take count f.stack) }
 {
     match frames.list.last() {
@@ -374,7 +374,7 @@ fn arguments(frames: &Frames, count: usize) -> &[Cell]
 }
 
 /// How many scalars count in a frame, with so many that are copied; at most as many as a number of 32 bits goes.
-fn count_with(counted: u32, copied: usize) -> u32
+pub fn count_with(counted: u32, copied: usize) -> u32
     ensures { result ≡ min (counted + copied) (2 ^ 32 - 1) }
 {
     match u32::try_from(copied).ok() {

@@ -4,9 +4,10 @@
 pub mod alone;
 pub mod answers;
 pub mod calls;
+pub mod in_place;
 pub mod texts;
 pub mod turn;
 
-pub use alone::{PrivateStop, next_private, private};
+pub use alone::{PrivateStop, private};
 pub use aos_silent::{code_of, home_of, numbered};
 pub use turn::{begin_body, open, pass, position, shared};

@@ -85,7 +85,12 @@ pub fn front(cells: &[Cell], from: usize, count: usize) -> Option<&[Cell]>
 }
 
 /// The cells of an array at a place, where there are as many as its length says.
-fn array_at<'a>(frames: &'a Frames, store: &'a Store, spot: Spot, number: i64) -> Option<&'a [Cell]>
+pub fn array_at<'a>(
+    frames: &'a Frames,
+    store: &'a Store,
+    spot: Spot,
+    number: i64,
+) -> Option<&'a [Cell]>
     ensures { option_copied result ≡ option_and_then (λ m. cells_of_place m (addr_in spot) (rooted_in frames.now store.now)) (length_in [] (Num number)) }
 {
     match length_of(number) {
@@ -98,7 +103,7 @@ fn array_at<'a>(frames: &'a Frames, store: &'a Store, spot: Spot, number: i64) -
 }
 
 /// The character in a cell, by its code.
-fn code(cell: Cell) -> Option<u8>
+pub fn code(cell: Cell) -> Option<u8>
     ensures { result ≡ code_in [] cell }
 {
     match cell {
@@ -260,7 +265,7 @@ fn compare_arrays(first: &[Cell], second: &[Cell]) -> Option<i64>
 }
 
 /// How the texts at two places compare, where there are both.
-fn compare_at(frames: &Frames, store: &Store, a: Spot, n: i64, b: Spot, m: i64) -> Option<i64>
+pub fn compare_at(frames: &Frames, store: &Store, a: Spot, n: i64, b: Spot, m: i64) -> Option<i64>
     ensures { result ≡ ordered (text_at [] (addr_in a) (Num n) (rooted_in frames.now store.now)) (text_at [] (addr_in b) (Num m) (rooted_in frames.now store.now)) }
 {
     match array_at(frames, store, a, n) {

@@ -6,6 +6,7 @@ ghost use Rattle.aos_cpu.specs.Answers.{begun_at};
 ghost use Rattle.aos_cpu.specs.Turns.{where_in, counted, home_of_top, Alike, HasCome, StandsAtStop, IsTurned, IsBefore, Rests, WhereLeft};
 
 use crate::answers::answer;
+use crate::in_place::{count, turn_in_place};
 use aos_base::{Did, NoMemory, Pos};
 use aos_code::Image;
 use aos_silent::{Stop, home_of, numbered, silent_from, take};
@@ -119,9 +120,8 @@ pub(crate) fn finish(
     }
 }
 
-/// One turn, up to the kernel's part, which is told. What it needs is taken behind the silent work; where memory runs out, only silent
-/// work has been done. Where it leaves work to the kernel, the topmost frame stands before that instruction still.
-pub fn shared(
+/// One turn, by the question or the end to which its silent work comes.
+fn by_stop(
     alloc: Global,
     image: &Image,
     frames: &mut Frames,
@@ -137,6 +137,30 @@ pub fn shared(
     match come_to_stop(alloc, image, frames)? {
         None => Ok(Did::Ended),
         Some(stop) => finish(alloc, image, stop, frames, store, output),
+    }
+}
+
+/// One turn, up to the kernel's part, which is told. What it needs is taken behind the silent work; where memory runs out, only silent
+/// work has been done. Where it leaves work to the kernel, the topmost frame stands before that instruction still.
+pub fn shared(
+    alloc: Global,
+    image: &Image,
+    frames: &mut Frames,
+    store: &mut Store,
+    output: &mut Vec<u8>,
+) -> Result<Did, NoMemory>
+    ensures ok { IfOk result (λ did. IsTurned image.now did frames.old frames.new (memory_in store.old) (memory_in store.new) output.old.items output.new.items) }
+    ensures before { IfOk result (λ did. IsBefore image.now did (frames_in frames.new)) }
+    ensures left { IfOk result (λ did. WhereLeft did (Rests image.now frames.old frames.new (memory_in store.old) (memory_in store.new) output.old.items output.new.items)) }
+    ensures err { OnErr result (Rests image.now frames.old frames.new (memory_in store.old) (memory_in store.new) output.old.items output.new.items) }
+    ensures turns { frames.new.turns ≡ frames.old.turns }
+{
+    match turn_in_place(image, frames, store) {
+        None => by_stop(alloc, image, frames, store, output),
+        Some(begins) => {
+            frames.begun = count(begins, frames.begun);
+            Ok(Did::Went)
+        }
     }
 }
 

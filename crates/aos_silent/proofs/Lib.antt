@@ -4,3 +4,4 @@ pub mod Arguments
 pub mod Lengths
 pub mod Walks
 pub mod Stepped
+pub mod Roomy

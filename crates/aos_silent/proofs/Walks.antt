@@ -39,7 +39,7 @@ module _ (shapes : List ProcShape) (own here : ℕ) (cells : List Cell) (code : 
       skips n (p + 1) rest k s (drop_next p code i rest e) ∙ ap (λ m. going m k s) z
 
   -- the first instruction
-  acts : (at : ℕ) (i : Instr) (k : Keeps) (s : Stack) → slice_get code at ≡ Some i →
+  pub acts : (at : ℕ) (i : Instr) (k : Keeps) (s : Stack) → slice_get code at ≡ Some i →
       going at k s ≡ on_act cells (act shapes own here i code at s) (walk shapes own here cells code (drop (at + 1) code)) at k
   acts at i k s here_is = ap (λ l. walk shapes own here cells code l 0 at k s) (at_and_behind code at i here_is)
 

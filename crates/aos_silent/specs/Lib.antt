@@ -2,3 +2,4 @@ pub mod Acts
 pub mod Taken
 pub mod Steps
 pub mod Silent
+pub mod Room

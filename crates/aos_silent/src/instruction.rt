@@ -1,12 +1,13 @@
 // The instruction at a place of the code.
-ghost use Rattle.std.specs.Prelude.{◌≡◌, ℕ, List, ◌<◌, Some, length, reverse, slice_get, IfOk, OnErr};
+ghost use Rattle.std.specs.Prelude.{◌≡◌, ℕ, List, ◌<◌, ◌≤◌, Some, length, reverse, slice_get, IfOk, OnErr, vec_capacity};
 ghost use Rattle.aos_code.specs.declared.instr.Instr.{Instr as InstrOf};
 ghost use Rattle.aos_code.specs.declared.image.ProcShape.{ProcShape as ShapeOf};
 ghost use Rattle.aos_code.specs.Numbered.{numbered as numbered_of};
 ghost use Rattle.aos_code.specs.Silent.{act, keeps_in};
-ghost use Rattle.aos_store.specs.Store.{frame_in};
+ghost use Rattle.aos_store.specs.Store.{frame_in, kept_cells};
 ghost use Rattle.aos_silent.specs.Acts.{operands_in, act_in, IsStay, IsBeginOf, WhereStays};
 ghost use Rattle.aos_silent.specs.Steps.{IsStep, Group, group_of};
+ghost use Rattle.aos_silent.specs.Room.{IsRefused};
 
 use crate::act::{Act, LOST, Question};
 use crate::ask::{
@@ -27,6 +28,7 @@ use aos_store::Frame;
 fn do_operands(instr: Instr, stack: &mut Vec<Cell>) -> Act
     requires { group_of instr ≡ Group.Operands }
     ensures kept { WhereStays result (stack.new ≡ stack.old) }
+    ensures room { vec_capacity stack.new ≡ vec_capacity stack.old }
     ensures act { (shapes : List ShapeOf) (own here at : ℕ) (code : List InstrOf) → act_in result (operands_in stack.new) ≡ act shapes own here instr code at (operands_in stack.old) }
     ensures begins { (code : List InstrOf) → IsBeginOf code result }
 {
@@ -49,6 +51,7 @@ fn do_jumps(instr: Instr, code: &[Instr], at: usize, stack: &mut Vec<Cell>) -> A
     requires within { at < length code.now }
     requires group { group_of instr ≡ Group.Jumps }
     ensures kept { WhereStays result (stack.new ≡ stack.old) }
+    ensures room { vec_capacity stack.new ≡ vec_capacity stack.old }
     ensures act { (shapes : List ShapeOf) (own here : ℕ) → act_in result (operands_in stack.new) ≡ act shapes own here instr code.now at (operands_in stack.old) }
     ensures begins { IsBeginOf code.now result }
 {
@@ -110,6 +113,9 @@ fn do_on_frame(instr: Instr, keeps: u32, here: u32, frame: &mut Frame) -> Result
     ensures stays { IfOk result (λ did. WhereStays did (frame_in frame.new ≡ frame_in frame.old)) }
     ensures begins { (code : List InstrOf) → IfOk result (λ did. IsBeginOf code did) }
     ensures err { OnErr result (frame_in frame.new ≡ frame_in frame.old) }
+    ensures full { OnErr result (IsRefused keeps instr frame.old) }
+    ensures room { vec_capacity frame.old.operands ≤ vec_capacity frame.new.operands }
+    ensures keeps { length (kept_cells frame.old) ≤ length (kept_cells frame.new) }
 {
     match instr {
         Instr::Num(n) => give_value(frame, Cell::Num(n)),
@@ -146,6 +152,9 @@ pub fn do_one(
     ensures stays { IfOk result (λ did. WhereStays did (frame_in frame.new ≡ frame_in frame.old)) }
     ensures begins { IfOk result (λ did. IsBeginOf code.now did) }
     ensures err { OnErr result (frame_in frame.new ≡ frame_in frame.old) }
+    ensures full { OnErr result (IsRefused keeps instr frame.old) }
+    ensures room { vec_capacity frame.old.operands ≤ vec_capacity frame.new.operands }
+    ensures keeps { length (kept_cells frame.old) ≤ length (kept_cells frame.new) }
 {
     match instr {
         Instr::Num(_)

@@ -14,5 +14,5 @@ pub mod values;
 pub use act::{Act, Question, Spot};
 pub use image::{code_of, home_of, numbered};
 pub use operands::{is_of, replace, take};
-pub use silent::{Stop, silent_from};
+pub use silent::{Stop, keeps_of, silent_from};
 pub use step::give;

@@ -83,7 +83,8 @@ pub fn of_kind(stack: &[Cell], depth: usize, kind: Kind) -> Option<Cell>
 /// One operand in place of the topmost ones.
 pub fn replace(stack: &mut Vec<Cell>, taken: usize, cell: Cell)
     requires { vec_len stack.old - taken < vec_capacity stack.old }
-    ensures { operands_in stack.new ≡ cell ∷ drop taken (operands_in stack.old) }
+    ensures operands { operands_in stack.new ≡ cell ∷ drop taken (operands_in stack.old) }
+    ensures room { vec_capacity stack.new ≡ vec_capacity stack.old }
 {
     stack.truncate(stack.len().saturating_sub(taken));
     stack.push_reserved(cell);
@@ -91,7 +92,8 @@ pub fn replace(stack: &mut Vec<Cell>, taken: usize, cell: Cell)
 
 /// Takes so many operands.
 pub fn take(stack: &mut Vec<Cell>, taken: usize)
-    ensures { operands_in stack.new ≡ drop taken (operands_in stack.old) }
+    ensures operands { operands_in stack.new ≡ drop taken (operands_in stack.old) }
+    ensures room { vec_capacity stack.new ≡ vec_capacity stack.old }
 {
     stack.truncate(stack.len().saturating_sub(taken));
 }

@@ -1,5 +1,5 @@
 // Places of elements of open arrays, and their lengths.
-ghost use Rattle.std.specs.Prelude.{◌≡◌, ℕ, ℤ, ◌+◌, ◌-◌, ◌<◌, ◌≤◌, ◌^◌, ◌++◌, ◌∷◌, [], List, min, map, length, reverse, take, drop, slice_get, if◌then◌else◌, IfSome, IfNone, IsTrue, vec_len};
+ghost use Rattle.std.specs.Prelude.{◌≡◌, ℕ, ℤ, ◌+◌, ◌-◌, ◌<◌, ◌≤◌, ◌^◌, ◌++◌, ◌∷◌, [], List, min, map, length, reverse, take, drop, slice_get, if◌then◌else◌, IfSome, IfNone, IsTrue, vec_len, vec_capacity};
 ghost use Rattle.aos_code.specs.Silent.{Stack, Act as ActOf, Stops, lost, counted_on, lengths_on, cells_of, length_cells, element, gives, indexes_open, picks};
 ghost use Rattle.aos_code.specs.declared.instr.Cell.TheVariants.{Num};
 ghost use Rattle.aos_code.specs.declared.instr.Instr.{Instr as InstrOf};
@@ -45,6 +45,7 @@ fn picked(stack: &[Cell], dimension: u32, lengths: u32) -> Option<i64>
 /// One of so many lengths of the array whose place lies below them.
 pub fn pick_length(stack: &mut Vec<Cell>, dimension: u32, lengths: u32) -> Act
     ensures kept { WhereStays result (stack.new ≡ stack.old) }
+    ensures room { vec_capacity stack.new ≡ vec_capacity stack.old }
     ensures act { act_in result (operands_in stack.new) ≡ picks dimension lengths (operands_in stack.old) }
     ensures begins { (code : List InstrOf) → IsBeginOf code result }
 {
@@ -110,7 +111,8 @@ fn element_on(stack: &[Cell], lengths: u32, cells: u32) -> Option<Element>
 fn put_row(stack: &mut Vec<Cell>, lengths: u32, place: Cell)
     requires deep { lengths + 2 ≤ vec_len stack.old }
     requires some { 1 ≤ lengths }
-    ensures { operands_in stack.new ≡ take (lengths - 1) (drop 1 (operands_in stack.old)) ++ place ∷ drop (lengths + 2) (operands_in stack.old) }
+    ensures operands { operands_in stack.new ≡ take (lengths - 1) (drop 1 (operands_in stack.old)) ++ place ∷ drop (lengths + 2) (operands_in stack.old) }
+    ensures room { vec_capacity stack.new ≡ vec_capacity stack.old }
 {
     let at = stack.len() - (lengths as usize + 2);
     stack.truncate(stack.len() - 1);
@@ -121,6 +123,7 @@ fn put_row(stack: &mut Vec<Cell>, lengths: u32, place: Cell)
 /// The place of an element of an open array, and the lengths that it has; trap 2 outside.
 pub fn index_open(stack: &mut Vec<Cell>, lengths: u32, cells: u32) -> Act
     ensures kept { WhereStays result (stack.new ≡ stack.old) }
+    ensures room { vec_capacity stack.new ≡ vec_capacity stack.old }
     ensures act { act_in result (operands_in stack.new) ≡ indexes_open lengths cells (operands_in stack.old) }
     ensures begins { (code : List InstrOf) → IsBeginOf code result }
 {

@@ -1,10 +1,12 @@
 // The silent work of a frame, up to where it ends.
-ghost use Rattle.std.specs.Prelude.{◌≡◌, IfOk};
+ghost use Rattle.std.specs.Prelude.{◌≡◌, ◌<◌, ◌^◌, ℕ, IfOk, IsOk};
 ghost use Rattle.aos_code.specs.Numbered.{numbered as numbered_of};
 ghost use Rattle.aos_code.specs.Silent.{keeps_in};
 ghost use Rattle.aos_code.specs.Machine.{code_of as code_at};
 ghost use Rattle.aos_store.specs.Store.{frame_in};
+ghost use Rattle.aos_sound.specs.Fits.{KeepsToPaths};
 ghost use Rattle.aos_silent.specs.Silent.{stop_in, silent_at, seen_at, IsStopOf};
+ghost use Rattle.aos_silent.specs.Room.{StandsInRoom};
 
 use crate::act::{Act, Question};
 use crate::image::{code_of, numbered};
@@ -23,7 +25,7 @@ pub enum Stop {
 }
 
 /// In how many cells the frames of a procedure keep values.
-fn keeps_of(shapes: &[ProcShape], procedure: u32) -> u32
+pub fn keeps_of(shapes: &[ProcShape], procedure: u32) -> u32
     ensures { result ≡ keeps_in (numbered_of shapes.now procedure) }
 {
     match numbered(shapes, procedure) {
@@ -45,6 +47,8 @@ fn walk_from(
     ensures stop { IfOk result (λ stop. stop_in stop (frame_in frame.new) ≡ silent_at image.now here (frame_in frame.old)) }
     ensures place { IfOk result (λ stop. IsStopOf stop (frame_in frame.new)) }
     ensures alike { seen_at image.now here (frame_in frame.new) ≡ seen_at image.now here (frame_in frame.old) }
+    ensures room { (depth : ℕ) → KeepsToPaths image.now frame.old.procedure code.now depth → StandsInRoom image.now depth keeps code.now frame.old →
+        IsOk result × StandsInRoom image.now depth keeps code.now frame.new }
 {
     while frame.next < code.len() {
         let at = frame.next;
@@ -66,6 +70,9 @@ pub fn silent_from(image: &Image, here: usize, frame: &mut Frame) -> Result<Stop
     ensures stop { IfOk result (λ stop. stop_in stop (frame_in frame.new) ≡ silent_at image.now here (frame_in frame.old)) }
     ensures place { IfOk result (λ stop. IsStopOf stop (frame_in frame.new)) }
     ensures alike { seen_at image.now here (frame_in frame.new) ≡ seen_at image.now here (frame_in frame.old) }
+    ensures room { (depth : ℕ) → KeepsToPaths image.now frame.old.procedure (code_at image.now frame.old.procedure) depth → here < 2 ^ 32 →
+        StandsInRoom image.now depth (keeps_in (numbered_of image.now.shapes.items frame.old.procedure)) (code_at image.now frame.old.procedure) frame.old →
+        IsOk result × StandsInRoom image.now depth (keeps_in (numbered_of image.now.shapes.items frame.old.procedure)) (code_at image.now frame.old.procedure) frame.new }
 {
     let Ok(above) = u32::try_from(here) else {
         return Err(NoMemory);

@@ -1,11 +1,12 @@
 // Silent steps that give a frame an operand more, and those that work on what it keeps.
-ghost use Rattle.std.specs.Prelude.{◌≡◌, ℕ, List, slice_get, IfOk, OnErr};
+ghost use Rattle.std.specs.Prelude.{◌≡◌, ◌≤◌, ℕ, List, length, slice_get, IfOk, OnErr, vec_capacity};
 ghost use Rattle.aos_base.specs.Question.{Places, Lengths};
 ghost use Rattle.aos_code.specs.Silent.{Question as QuestionOf, Puts, Takes, Sees, gives, duplicates, on_kind, noted, noted_as};
 ghost use Rattle.aos_code.specs.declared.instr.Instr.{Instr as InstrOf};
-ghost use Rattle.aos_store.specs.Store.{frame_in};
+ghost use Rattle.aos_store.specs.Store.{frame_in, kept_cells};
 ghost use Rattle.aos_silent.specs.Acts.{IsBeginOf, WhereStays};
 ghost use Rattle.aos_silent.specs.Steps.{IsStep, given_more};
+ghost use Rattle.aos_silent.specs.Room.{IsFull};
 
 use crate::act::{Act, LOST};
 use crate::operands::{is_of, of_kind, operand, take};
@@ -17,6 +18,9 @@ use aos_store::Frame;
 pub fn give(frame: &mut Frame, cell: Cell) -> Result<(), NoMemory>
     ensures ok { IfOk result (λ _. frame_in frame.new ≡ given_more cell (frame_in frame.old)) }
     ensures err { OnErr result (frame_in frame.new ≡ frame_in frame.old) }
+    ensures full { OnErr result (IsFull frame.old) }
+    ensures room { vec_capacity frame.old.operands ≤ vec_capacity frame.new.operands }
+    ensures keeps { length (kept_cells frame.old) ≤ length (kept_cells frame.new) }
 {
     frame.operands.reserve(1)?;
     frame.operands.push_reserved(cell);
@@ -29,6 +33,9 @@ pub fn give_value(frame: &mut Frame, value: Cell) -> Result<Act, NoMemory>
     ensures stays { IfOk result (λ did. WhereStays did (frame_in frame.new ≡ frame_in frame.old)) }
     ensures begins { (code : List InstrOf) → IfOk result (λ did. IsBeginOf code did) }
     ensures err { OnErr result (frame_in frame.new ≡ frame_in frame.old) }
+    ensures full { OnErr result (IsFull frame.old) }
+    ensures room { vec_capacity frame.old.operands ≤ vec_capacity frame.new.operands }
+    ensures keeps { length (kept_cells frame.old) ≤ length (kept_cells frame.new) }
 {
     give(frame, value)?;
     Ok(Act::Goes(0))
@@ -40,6 +47,9 @@ pub fn give_again(frame: &mut Frame) -> Result<Act, NoMemory>
     ensures stays { IfOk result (λ did. WhereStays did (frame_in frame.new ≡ frame_in frame.old)) }
     ensures begins { (code : List InstrOf) → IfOk result (λ did. IsBeginOf code did) }
     ensures err { OnErr result (frame_in frame.new ≡ frame_in frame.old) }
+    ensures full { OnErr result (IsFull frame.old) }
+    ensures room { vec_capacity frame.old.operands ≤ vec_capacity frame.new.operands }
+    ensures keeps { length (kept_cells frame.old) ≤ length (kept_cells frame.new) }
 {
     match operand(&frame.operands, 0) {
         None => Ok(LOST),
@@ -53,6 +63,9 @@ pub fn keep_value(frame: &mut Frame, number: u32, kind: Kind) -> Result<Act, NoM
     ensures stays { IfOk result (λ did. WhereStays did (frame_in frame.new ≡ frame_in frame.old)) }
     ensures begins { (code : List InstrOf) → IfOk result (λ did. IsBeginOf code did) }
     ensures err { OnErr result (frame_in frame.new ≡ frame_in frame.old) }
+    ensures full { OnErr result (length (kept_cells frame.old) ≤ number) }
+    ensures room { vec_capacity frame.old.operands ≤ vec_capacity frame.new.operands }
+    ensures keeps { length (kept_cells frame.old) ≤ length (kept_cells frame.new) }
 {
     match of_kind(&frame.operands, 0, kind) {
         None => Ok(LOST),
@@ -70,6 +83,9 @@ fn give_kind(frame: &mut Frame, value: Cell, kind: Kind) -> Result<Act, NoMemory
     ensures stays { IfOk result (λ did. WhereStays did (frame_in frame.new ≡ frame_in frame.old)) }
     ensures begins { (code : List InstrOf) → IfOk result (λ did. IsBeginOf code did) }
     ensures err { OnErr result (frame_in frame.new ≡ frame_in frame.old) }
+    ensures full { OnErr result (IsFull frame.old) }
+    ensures room { vec_capacity frame.old.operands ≤ vec_capacity frame.new.operands }
+    ensures keeps { length (kept_cells frame.old) ≤ length (kept_cells frame.new) }
 {
     if !is_of(kind, value) {
         return Ok(LOST);
@@ -83,6 +99,9 @@ pub fn kept_value(frame: &mut Frame, number: u32, kind: Kind) -> Result<Act, NoM
     ensures stays { IfOk result (λ did. WhereStays did (frame_in frame.new ≡ frame_in frame.old)) }
     ensures begins { (code : List InstrOf) → IfOk result (λ did. IsBeginOf code did) }
     ensures err { OnErr result (frame_in frame.new ≡ frame_in frame.old) }
+    ensures full { OnErr result (IsFull frame.old) }
+    ensures room { vec_capacity frame.old.operands ≤ vec_capacity frame.new.operands }
+    ensures keeps { length (kept_cells frame.old) ≤ length (kept_cells frame.new) }
 {
     let value = frame.kept(number);
     give_kind(frame, value, kind)
@@ -94,6 +113,9 @@ fn own_value(frame: &mut Frame, number: u32, kind: Kind) -> Result<Act, NoMemory
     ensures stays { IfOk result (λ did. WhereStays did (frame_in frame.new ≡ frame_in frame.old)) }
     ensures begins { (code : List InstrOf) → IfOk result (λ did. IsBeginOf code did) }
     ensures err { OnErr result (frame_in frame.new ≡ frame_in frame.old) }
+    ensures full { OnErr result (IsFull frame.old) }
+    ensures room { vec_capacity frame.old.operands ≤ vec_capacity frame.new.operands }
+    ensures keeps { length (kept_cells frame.old) ≤ length (kept_cells frame.new) }
 {
     match frame.load(number as usize) {
         None => Ok(LOST),
@@ -112,6 +134,9 @@ pub fn param_value(frame: &mut Frame, number: u32) -> Result<Act, NoMemory>
     ensures stays { IfOk result (λ did. WhereStays did (frame_in frame.new ≡ frame_in frame.old)) }
     ensures begins { (code : List InstrOf) → IfOk result (λ did. IsBeginOf code did) }
     ensures err { OnErr result (frame_in frame.new ≡ frame_in frame.old) }
+    ensures full { OnErr result (IsFull frame.old) }
+    ensures room { vec_capacity frame.old.operands ≤ vec_capacity frame.new.operands }
+    ensures keeps { length (kept_cells frame.old) ≤ length (kept_cells frame.new) }
 {
     own_value(frame, number, Kind::A)
 }
@@ -122,6 +147,9 @@ pub fn length_value(frame: &mut Frame, number: u32) -> Result<Act, NoMemory>
     ensures stays { IfOk result (λ did. WhereStays did (frame_in frame.new ≡ frame_in frame.old)) }
     ensures begins { (code : List InstrOf) → IfOk result (λ did. IsBeginOf code did) }
     ensures err { OnErr result (frame_in frame.new ≡ frame_in frame.old) }
+    ensures full { OnErr result (IsFull frame.old) }
+    ensures room { vec_capacity frame.old.operands ≤ vec_capacity frame.new.operands }
+    ensures keeps { length (kept_cells frame.old) ≤ length (kept_cells frame.new) }
 {
     own_value(frame, number, Kind::N)
 }

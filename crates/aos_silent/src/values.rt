@@ -13,6 +13,7 @@ use aos_code::{Cell, Instr};
 pub fn put_given(stack: &mut Vec<Cell>, taken: usize, value: Given) -> Act
     requires { vec_len stack.old - taken < vec_capacity stack.old }
     ensures kept { WhereStays result (stack.new ≡ stack.old) }
+    ensures room { vec_capacity stack.new ≡ vec_capacity stack.old }
     ensures act { act_in result (operands_in stack.new) ≡
         given value (drop taken (operands_in stack.old)) }
 {
@@ -28,6 +29,7 @@ pub fn put_given(stack: &mut Vec<Cell>, taken: usize, value: Given) -> Act
 
 pub fn operate_on_one(operator: Unary, stack: &mut Vec<Cell>) -> Act
     ensures kept { WhereStays result (stack.new ≡ stack.old) }
+    ensures room { vec_capacity stack.new ≡ vec_capacity stack.old }
     ensures act { act_in result (operands_in stack.new) ≡
         on_number (λ a s. given (unary_of operator a) s) (operands_in stack.old) }
 {
@@ -39,6 +41,7 @@ pub fn operate_on_one(operator: Unary, stack: &mut Vec<Cell>) -> Act
 
 pub fn operate_on_two(operator: Binary, stack: &mut Vec<Cell>) -> Act
     ensures kept { WhereStays result (stack.new ≡ stack.old) }
+    ensures room { vec_capacity stack.new ≡ vec_capacity stack.old }
     ensures act { act_in result (operands_in stack.new) ≡
         on_numbers (λ a b s. given (binary_of operator a b) s) (operands_in stack.old) }
 {
@@ -51,6 +54,7 @@ pub fn operate_on_two(operator: Binary, stack: &mut Vec<Cell>) -> Act
 /// Trap 7 where the condition on the stack is FALSE.
 pub fn assert_true(code: u8, stack: &mut Vec<Cell>) -> Act
     ensures kept { WhereStays result (stack.new ≡ stack.old) }
+    ensures room { vec_capacity stack.new ≡ vec_capacity stack.old }
     ensures act { act_in result (operands_in stack.new) ≡
         on_number (λ a s. asserts code a s) (operands_in stack.old) }
 {
@@ -67,6 +71,7 @@ pub fn assert_true(code: u8, stack: &mut Vec<Cell>) -> Act
 /// The two topmost operands, exchanged.
 pub fn swap(stack: &mut Vec<Cell>) -> Act
     ensures kept { WhereStays result (stack.new ≡ stack.old) }
+    ensures room { vec_capacity stack.new ≡ vec_capacity stack.old }
     ensures act { act_in result (operands_in stack.new) ≡ swaps (operands_in stack.old) }
 {
     match operand(stack, 0) {
@@ -113,6 +118,7 @@ pub fn jump(code: &[Instr], to: u32, at: usize) -> Act
 pub fn jump_on_false(code: &[Instr], to: u32, at: usize, stack: &mut Vec<Cell>) -> Act
     requires { at < length code.now }
     ensures kept { WhereStays result (stack.new ≡ stack.old) }
+    ensures room { vec_capacity stack.new ≡ vec_capacity stack.old }
     ensures act { act_in result (operands_in stack.new) ≡
         on_number (λ a s. jumps_on_false code.now to at a s) (operands_in stack.old) }
     ensures begins { IsBeginOf code.now result }
@@ -141,6 +147,7 @@ pub fn jump_on_false(code: &[Instr], to: u32, at: usize, stack: &mut Vec<Cell>) 
 /// Takes the topmost operand.
 pub fn drop_one(stack: &mut Vec<Cell>) -> Act
     ensures kept { WhereStays result (stack.new ≡ stack.old) }
+    ensures room { vec_capacity stack.new ≡ vec_capacity stack.old }
     ensures act { act_in result (operands_in stack.new) ≡ on_any (λ v s. Goes 0 s) (operands_in stack.old) }
 {
     match operand(stack, 0) {
@@ -162,6 +169,7 @@ fn put_place(
 ) -> Act
     requires { vec_len stack.old - taken < vec_capacity stack.old }
     ensures kept { WhereStays result (stack.new ≡ stack.old) }
+    ensures room { vec_capacity stack.new ≡ vec_capacity stack.old }
     ensures act { (n : ℕ) → cell ≡ small n → act_in result (operands_in stack.new) ≡ gives_place root n of_type [] (drop taken (operands_in stack.old)) }
 {
     match cell {
@@ -176,6 +184,7 @@ fn put_place(
 /// The place so many cells on, with this dynamic type.
 pub fn offset(stack: &mut Vec<Cell>, cells: u32, of_type: u32) -> Act
     ensures kept { WhereStays result (stack.new ≡ stack.old) }
+    ensures room { vec_capacity stack.new ≡ vec_capacity stack.old }
     ensures act { act_in result (operands_in stack.new) ≡ on_place (λ a u s. gives_place a.root (a.cell + cells) of_type [] s) (operands_in stack.old) }
 {
     match spot(stack, 0) {
@@ -208,6 +217,7 @@ pub fn cell_past(cell: u32, elements: u64, cells: u64) -> Option<u32>
 /// The place of an element of an array of so many elements, each of so many cells; trap 2 outside.
 pub fn index(stack: &mut Vec<Cell>, elements: u32, cells: u32) -> Act
     ensures kept { WhereStays result (stack.new ≡ stack.old) }
+    ensures room { vec_capacity stack.new ≡ vec_capacity stack.old }
     ensures act { act_in result (operands_in stack.new) ≡ indexes elements cells (operands_in stack.old) }
 {
     match number(stack, 0) {

@@ -79,6 +79,9 @@ impl Frame {
     fn reserve_keep(&mut self, number: u32) -> Result<(), NoMemory>
         ensures same { frame_in self.new ≡ frame_in self.old }
         ensures room { IfOk result (λ _. number < length (kept_cells self.new)) }
+        ensures full { OnErr result (length (kept_cells self.old) ≤ number) }
+        ensures keeps { length (kept_cells self.old) ≤ length (kept_cells self.new) }
+        ensures operands { self.new.operands ≡ self.old.operands }
     {
         let kept = self.cells.len() - self.len();
         if (number as usize) < kept {
@@ -98,6 +101,9 @@ impl Frame {
     pub fn keep(&mut self, number: u32, value: Cell) -> Result<(), NoMemory>
         ensures ok { IfOk result (λ _. frame_in self.new ≡ with_kept number value (frame_in self.old)) }
         ensures err { OnErr result (frame_in self.new ≡ frame_in self.old) }
+        ensures full { OnErr result (length (kept_cells self.old) ≤ number) }
+        ensures keeps { length (kept_cells self.old) ≤ length (kept_cells self.new) }
+        ensures operands { self.new.operands ≡ self.old.operands }
     {
         self.reserve_keep(number)?;
         let own = self.len();

@@ -1,21 +1,27 @@
 use Rattle.std.proofs.Common.{◌<◌, ◌^◌, ◌+◌, arith, subst}
 use Rattle.std.specs.Prelude.{Bool}
-use Rattle.aos_store.specs.declared.memory.Store.{Store}
 use Rattle.aos_cpu.specs.Private.{HasTried}
-use Rattle.aos_cpu.proofs.Own.{none_made, made_more, empty_store}
+use Rattle.aos_cpu.proofs.Own.{none_made, made_more}
+use Rattle.aos_cpu.proofs.InPlace.{told_both}
 use Rattle.aos_cpu.proofs.alone.private.Goals as goal
 
 pub loop-made-init : goal.loop-made-init
 loop-made-init c =
-    let lt : c.args.frames.now.turns < 2 ^ 64 = omega arith in
-    let none = none_made c.args.image.now c.args.budget c.args.frames.now lt in
-    let store : Store = record { modules = c.new.result; objects = c.new-2.result } in
-    record { turns = none.0; told = none.1; memory = empty_store store c.new.ensures.items c.new-2.ensures.items }
+    let old = c.args.frames.now in
+    let mid = c.make_in_place-made.new.frames in
+    let lt : old.turns < 2 ^ 64 = omega arith in
+    let none = none_made c.args.image.now c.args.budget old lt in
+    let small : 0 + c.make_in_place-made.result < 2 ^ 64 = omega arith in
+    let both = told_both c.args.image.now c.args.budget 0 c.make_in_place-made.result old old mid lt small none.0 none.1 c.make_in_place-made.ensures.made in
+    record { turns = both.0; told = omega (arith, both.1); most = c.make_in_place-made.ensures.most; memory = c.make_in_place-made.ensures.none }
 
 pub loop-made-preserved : goal.loop-made-preserved
 loop-made-preserved c =
-    let lt : c.args.frames.now.turns < 2 ^ 64 = omega arith in
+    let old = c.args.frames.now in
+    let lt : old.turns < 2 ^ 64 = omega arith in
     let small : c.loop-made.made + 1 < 2 ^ 64 = omega arith in
     let tried = subst (λ (is : Bool). HasTried c.args.image.now is c.loop-made.frames c.make_private.new.frames) c.if-not-branch.false c.in_ok-make_private.ensures.ok in
-    let more = made_more c.args.image.now c.args.budget c.loop-made.made c.args.frames.now c.loop-made.frames c.make_private.new.frames lt small c.loop-made.invariant.turns c.loop-made.invariant.told c.if-budget-frames.false tried in
-    record { turns = more.0; told = more.1; memory = c.make_private.ensures.none }
+    let one = made_more c.args.image.now c.args.budget c.loop-made.made old c.loop-made.frames c.make_private.new.frames lt small c.loop-made.invariant.turns c.loop-made.invariant.told c.if-budget-frames.false tried in
+    let all : c.loop-made.made + 1 + c.make_in_place.result < 2 ^ 64 = omega arith in
+    let both = told_both c.args.image.now c.args.budget (c.loop-made.made + 1) c.make_in_place.result old c.make_private.new.frames c.make_in_place.new.frames lt all one.0 one.1 c.make_in_place.ensures.made in
+    record { turns = both.0; told = omega (arith, both.1); most = omega arith; memory = c.make_in_place.ensures.none }

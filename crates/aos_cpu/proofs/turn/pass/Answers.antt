@@ -12,4 +12,4 @@ returns-in-Some-clause-past c image object fs before h =
     let here = last_read frames.items frames.len f all c.in-Some.ensures.item.3.0 c.in-Some.ensures.item.1 in
     let g : KeptFrame = record f { next = c.saturating_add-frame.result; operands = c.take.new.stack } in
     passed image object fs c.args.frames.now frames.len f g c.saturating_add-frame.result all here before h (λ small. omega arith)
-    (ap (λ s. record (frame_in f) { next = c.saturating_add-frame.result; stack = s }) c.take.ensures)
+    (ap (λ s. record (frame_in f) { next = c.saturating_add-frame.result; stack = s }) c.take.ensures.operands)

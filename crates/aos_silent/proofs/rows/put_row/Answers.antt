@@ -2,8 +2,8 @@ use Rattle.std.proofs.Common.{◌≡◌, ◌+◌, ◌-◌, ◌++◌, length, set
 use Rattle.aos_silent.proofs.Topmost.{row_put}
 use Rattle.aos_silent.proofs.rows.put_row.Goals as goal
 
-pub returns : goal.returns
-returns c =
+pub returns-clause-operands : goal.returns-clause-operands
+returns-clause-operands c =
     let xs = c.args.stack.now.items in
     let n = c.args.lengths in
     let at = c.len.result - (n + 2) in

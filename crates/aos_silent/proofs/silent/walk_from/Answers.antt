@@ -1,22 +1,32 @@
-use Rattle.std.proofs.Common.{◌≡◌, ◌<◌, length, sym, ap, ◌∙◌, arith, subst}
-use Rattle.std.proofs.lemmas.Option.{slice_get_within}
-use Rattle.aos_code.specs.declared.instr.Instr.TheVariants.{Begin}
+use Rattle.std.proofs.Common.{◌≡◌, ◌<◌, length, refl, sym, ap, ◌∙◌, arith, subst}
+use Rattle.std.proofs.lemmas.Option.{slice_get_within, slice_get-get_or}
+use Rattle.std.specs.Prelude.{pos, vec_len}
+use Rattle.aos_code.specs.declared.instr.Instr.TheVariants.{Begin, Num}
 use Rattle.aos_code.specs.Machine.{code_of}
+use Rattle.aos_sound.specs.Fits.{KeepsToPaths}
 use Rattle.aos_store.specs.Store.{frame_in}
 use Rattle.aos_silent.specs.declared.act.Act.TheVariants.{Begins as BeginsAt}
-use Rattle.aos_silent.specs.Acts.{IsBeginOf}
+use Rattle.aos_silent.specs.Acts.{IsBeginOf, WhereStays}
 use Rattle.aos_silent.specs.Silent.{Seen}
+use Rattle.aos_silent.proofs.Roomy.{never_refused, room_on, room_begin, room_stay}
 use Rattle.aos_silent.proofs.Walks.{seen_on, seen_begin}
 use Rattle.aos_silent.proofs.silent.walk_from.Goals as goal
 
 pub loop-frame-preserved : goal.loop-frame-preserved
 loop-frame-preserved c =
     let image = c.args.image.now in
-    let f = frame_in c.loop-frame.frame in
-    let code : c.args.code.now ≡ code_of image f.procedure = c.requires.code ∙ ap (λ (x : Seen). code_of image x.procedure) (sym c.loop-frame.invariant) in
-    seen_on image c.args.here f (frame_in c.do_one.new.frame) c.deref.result.now c.args.code.now c.in_ok-over.field-0 c.deref.ensures.value code (omega arith) c.in_ok-over.ensures.ok c.in-Goes.over c.saturating_add-frame.result
-    c.in-Goes.is c.saturating_add-frame.ensures (omega arith)
-    ∙ c.loop-frame.invariant
+    let f = c.loop-frame.frame in
+    let g = c.do_one.new.frame in
+    let code : c.args.code.now ≡ code_of image f.procedure = c.requires.code ∙ ap (λ (x : Seen). code_of image x.procedure) (sym c.loop-frame.invariant.seen) in
+    record {
+      seen = seen_on image c.args.here (frame_in f) (frame_in g) c.deref.result.now c.args.code.now c.in_ok-over.field-0 c.deref.ensures.value code (omega arith) c.in_ok-over.ensures.ok c.in-Goes.over c.saturating_add-frame.result
+          c.in-Goes.is c.saturating_add-frame.ensures (omega arith)
+          ∙ c.loop-frame.invariant.seen;
+      room = λ depth paths stands.
+          room_on image c.deref.result.now c.args.here depth c.args.keeps c.args.code.now f g c.in_ok-over.field-0 c.deref.ensures.value (omega arith) c.in_ok-over.ensures.ok c.do_one.ensures.room c.do_one.ensures.keeps
+          (subst (λ p. KeepsToPaths image p c.args.code.now depth) (sym (ap (λ (x : Seen). x.procedure) c.loop-frame.invariant.seen)) paths) (c.loop-frame.invariant.room depth paths stands) c.in-Goes.over c.saturating_add-frame.result c.in-Goes.is
+          c.saturating_add-frame.ensures (omega arith);
+    }
 
 pub returns-in-Begins-clause-place : goal.returns-in-Begins-clause-place
 returns-in-Begins-clause-place c =
@@ -29,7 +39,46 @@ pub returns-in-Begins-clause-alike : goal.returns-in-Begins-clause-alike
 returns-in-Begins-clause-alike c =
     let image = c.args.image.now in
     let f = frame_in c.loop-frame.frame in
-    let code : c.args.code.now ≡ code_of image f.procedure = c.requires.code ∙ ap (λ (x : Seen). code_of image x.procedure) (sym c.loop-frame.invariant) in
+    let code : c.args.code.now ≡ code_of image f.procedure = c.requires.code ∙ ap (λ (x : Seen). code_of image x.procedure) (sym c.loop-frame.invariant.seen) in
     seen_begin image c.args.here f (frame_in c.do_one.new.frame) c.deref.result.now c.args.code.now c.in_ok-over.field-0 c.deref.ensures.value code (omega arith) c.in_ok-over.ensures.ok c.in-Begins.to c.in-Begins.pos
     c.in-Begins.is c.in_ok-over.ensures.begins
-    ∙ c.loop-frame.invariant
+    ∙ c.loop-frame.invariant.seen
+
+pub returns-in-Begins-clause-room : goal.returns-in-Begins-clause-room
+returns-in-Begins-clause-room c depth paths stands = (
+  refl,
+  room_begin c.args.image.now c.deref.result.now c.args.here depth c.args.keeps c.args.code.now c.loop-frame.frame c.do_one.new.frame c.in_ok-over.field-0 c.deref.ensures.value (omega arith) c.in_ok-over.ensures.ok
+      c.do_one.ensures.room c.do_one.ensures.keeps
+      (subst (λ p. KeepsToPaths c.args.image.now p c.args.code.now depth) (sym (ap (λ (x : Seen). x.procedure) c.loop-frame.invariant.seen)) paths) (c.loop-frame.invariant.room depth paths stands) c.in-Begins.to
+      c.in-Begins.pos c.in-Begins.is,
+)
+
+pub returns-in-Sees-clause-room : goal.returns-in-Sees-clause-room
+returns-in-Sees-clause-room c depth paths stands = (
+  refl,
+  room_stay c.args.image.now c.deref.result.now c.args.here depth c.args.keeps c.args.code.now c.loop-frame.frame c.do_one.new.frame c.in_ok-over.field-0 c.deref.ensures.value (omega arith) c.in_ok-over.ensures.ok
+      c.do_one.ensures.room c.do_one.ensures.keeps
+      (subst (λ p. KeepsToPaths c.args.image.now p c.args.code.now depth) (sym (ap (λ (x : Seen). x.procedure) c.loop-frame.invariant.seen)) paths) (c.loop-frame.invariant.room depth paths stands)
+      (subst (λ d. WhereStays d (frame_in c.do_one.new.frame ≡ frame_in c.loop-frame.frame)) c.in-Sees.is c.in_ok-over.ensures.stays),
+)
+
+pub returns-in-Fails-clause-room : goal.returns-in-Fails-clause-room
+returns-in-Fails-clause-room c depth paths stands = (
+  refl,
+  room_stay c.args.image.now c.deref.result.now c.args.here depth c.args.keeps c.args.code.now c.loop-frame.frame c.do_one.new.frame c.in_ok-over.field-0 c.deref.ensures.value (omega arith) c.in_ok-over.ensures.ok
+      c.do_one.ensures.room c.do_one.ensures.keeps
+      (subst (λ p. KeepsToPaths c.args.image.now p c.args.code.now depth) (sym (ap (λ (x : Seen). x.procedure) c.loop-frame.invariant.seen)) paths) (c.loop-frame.invariant.room depth paths stands)
+      (subst (λ d. WhereStays d (frame_in c.do_one.new.frame ≡ frame_in c.loop-frame.frame)) c.in-Fails.is c.in_ok-over.ensures.stays),
+)
+
+pub returns-in_err-over-clause-room : goal.returns-in_err-over-clause-room
+returns-in_err-over-clause-room c depth paths stands =
+    let image = c.args.image.now in
+    let code = c.args.code.now in
+    let f = c.loop-frame.frame in
+    let len : vec_len f.operands ≡ length f.operands.items = omega arith in
+    absurd (never_refused image depth c.args.keeps code f (subst (λ p. KeepsToPaths image p code depth) (sym (ap (λ (x : Seen). x.procedure) c.loop-frame.invariant.seen)) paths) (c.loop-frame.invariant.room depth paths stands) len
+    _ (slice_get-get_or code f.next (Num (pos 0)) (omega arith)) c.in_err-over.ensures.full)
+
+pub returns-clause-room : goal.returns-clause-room
+returns-clause-room c depth paths stands = (refl, c.loop-frame.invariant.room depth paths stands)

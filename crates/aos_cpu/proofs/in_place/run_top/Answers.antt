@@ -1,0 +1,29 @@
+use Rattle.std.proofs.Common.{◌≡◌, ◌∙◌, subst, arith}
+use Rattle.aos_store.specs.Store.{frame_in, memory_in}
+use Rattle.aos_cpu.specs.InPlace.{HasRunTop}
+use Rattle.aos_cpu.proofs.InPlace.{run_still, run_more, still_none}
+use Rattle.aos_cpu.proofs.in_place.run_top.Goals as goal
+
+pub returns-in_default-clause-made : goal.returns-in_default-clause-made
+returns-in_default-clause-made c =
+    run_still c.args.image.now c.args.here c.args.budget c.loop-made.made c.args.begun c.loop-made.now (frame_in c.args.frame.now) (frame_in c.loop-made.frame) (frame_in c.turn_top.new.frame)
+    c.loop-made.invariant.run c.in_default.ensures.0
+
+pub returns-in_default-clause-none : goal.returns-in_default-clause-none
+returns-in_default-clause-none c = c.in_default.ensures.1 ∙ c.loop-made.invariant.none
+
+pub loop-made-preserved : goal.loop-made-preserved
+loop-made-preserved c =
+    let was = memory_in c.loop-made.store in
+    let now = memory_in c.turn_top.new.store in
+    let none = c.loop-made.invariant.none in
+    record {
+      run = run_more c.args.image.now c.args.here c.args.budget c.loop-made.made c.args.begun c.loop-made.now c.count-now.result c.in-Some.begins was now (frame_in c.args.frame.now) (frame_in c.loop-made.frame)
+          (frame_in c.turn_top.new.frame) none c.loop-made.invariant.run c.if-budget-now.false c.in-Some.ensures c.count-now.ensures;
+      none = still_none c.args.image.now c.args.here c.in-Some.begins was now (frame_in c.loop-made.frame) (frame_in c.turn_top.new.frame) c.in-Some.ensures none;
+    }
+
+pub returns-clause-made : goal.returns-clause-made
+returns-clause-made c =
+    let all : c.loop-made.made ≡ c.args.most = omega arith in
+    subst (λ n. HasRunTop c.args.image.now c.args.here c.args.budget n c.args.begun c.loop-made.now (frame_in c.args.frame.now) (frame_in c.loop-made.frame)) all c.loop-made.invariant.run

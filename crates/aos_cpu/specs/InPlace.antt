@@ -1,0 +1,88 @@
+-- What is done to the topmost frame in place, without the frames below.
+use Rattle.std.specs.Prelude.{◌≡◌, ◌<◌, ℕ, List, [], ◌∷◌, length, Bool, true, false, Option, Some, None, is_some}
+use Rattle.aos_base.specs.declared.kernel.Did.TheVariants.{Went}
+use Rattle.aos_base.specs.declared.place.Root.{Root}
+use Rattle.aos_base.specs.Rooted.{load, spliced}
+use Rattle.aos_code.specs.declared.instr.Cell.{Cell}
+use Rattle.aos_code.specs.declared.image.Image.{Image}
+use Rattle.aos_code.specs.Memory.{Memory}
+use Rattle.aos_code.specs.Silent.{Stack}
+use Rattle.aos_code.specs.Machine.{Frame, Frames, rooted, frames_with, memory_with, turn}
+use Rattle.aos_silent.specs.Silent.{seen_at}
+use Rattle.aos_cpu.specs.declared.in_place.Done.{Done}
+use Rattle.aos_cpu.specs.declared.in_place.Done.TheVariants.{Silent, Turned, Begun, Nothing}
+use Rattle.aos_cpu.specs.Turns.{Alike}
+use Rattle.aos_cpu.specs.Private.{no_memory, is_own_turn, IsPrivate, after_turns, begun_after}
+
+-- a frame above others
+abbrev pub on_top : List ℕ → Frame → List Frame → Frames
+on_top following f fs = record { following = following; frames = f ∷ fs }
+
+-- after silent work the place in the code is farther on
+abbrev pub IsAhead : Done → (old new : ℕ) → Type 0
+IsAhead Silent old new = old < new
+IsAhead Turned old new = Unit {0}
+IsAhead Begun old new = Unit {0}
+IsAhead Nothing old new = Unit {0}
+
+module _ (here : ℕ) where
+  -- the cell at a place that isn't in a frame below, where so many are, has been set
+  pub record IsSet (r : Root) (c : ℕ) (v : Cell) (mem now : Memory) (f g : Frame) : Type 0 where
+    pub there : (rest : List Frame) → length rest ≡ here → is_some (load r c (rooted (f ∷ rest) mem)) ≡ true
+    pub frames : (rest : List Frame) → length rest ≡ here → (n : ℕ) (s : Stack) →
+        frames_with r (spliced c (v ∷ [])) (record f { next = n; stack = s } ∷ rest) ≡ record g { next = n; stack = s } ∷ rest
+    pub memory : now ≡ memory_with r (spliced c (v ∷ [])) mem
+    pub others : g ≡ record f { cells = g.cells }
+
+  abbrev pub HasSet : Bool → Root → ℕ → Cell → (mem now : Memory) → (f g : Frame) → Type 0
+  HasSet true r c v mem now f g = IsSet r c v mem now f g
+  HasSet false r c v mem now f g = (g ≡ f) × (now ≡ mem)
+
+module _ (image : Image) where
+  -- one turn of these frames comes to those, which leaves nothing to the kernel; where there is no memory it needs nothing but the frames
+  pub record TurnsTo (begins : Bool) (mem now : Memory) (fs gs : Frames) : Type 0 where
+    pub own : mem ≡ no_memory → is_own_turn image fs ≡ true
+    pub store : (turn image mem fs).store ≡ now
+    pub alike : Alike image (turn image mem fs).frames gs
+    pub output : (turn image mem fs).output ≡ []
+    pub begun : (turn image mem fs).begun ≡ begins
+    pub left : (turn image mem fs).left ≡ Went
+
+  -- so many private turns come to those frames, none of which but the last may have used up the budget
+  pub record Runs (budget made begun now : ℕ) (fs gs : Frames) : Type 0 where
+    pub private : (i : ℕ) → i < made → IsPrivate image (after_turns image i fs)
+    pub below : (i : ℕ) → i < made → begun_after image i fs begun < budget
+    pub alike : Alike image (after_turns image made fs) gs
+    pub statements : now ≡ begun_after image made fs begun
+
+  module _ (here : ℕ) where
+    -- one such turn has been made of frames whose topmost one, above so many others, was this, and is that now
+    abbrev pub HasTurnedTop : Bool → (mem now : Memory) → (f g : Frame) → Type 0
+    HasTurnedTop begins mem now f g =
+        (g.procedure ≡ f.procedure) × ((following : List ℕ) (rest : List Frame) (fs : Frames) → length rest ≡ here → Alike image fs (on_top following f rest) → TurnsTo begins mem now fs (on_top following g rest))
+
+    -- silent work alone has been done
+    abbrev pub HasWorked : (mem now : Memory) → (f g : Frame) → Type 0
+    HasWorked mem now f g = (seen_at image here g ≡ seen_at image here f) × (now ≡ mem)
+
+    -- so many have been made
+    abbrev pub HasRunTop : (budget made begun now : ℕ) → (f g : Frame) → Type 0
+    HasRunTop budget made begun now f g =
+        (g.procedure ≡ f.procedure) × ((following : List ℕ) (rest : List Frame) (fs : Frames) → length rest ≡ here → Alike image fs (on_top following f rest) → Runs budget made begun now fs (on_top following g rest))
+
+    -- what an instruction has done
+    abbrev pub IsDone : Done → (mem now : Memory) → (f g : Frame) → Type 0
+    IsDone Silent mem now f g = HasWorked mem now f g
+    IsDone Turned mem now f g = HasTurnedTop false mem now f g
+    IsDone Begun mem now f g = HasTurnedTop true mem now f g
+    IsDone Nothing mem now f g = HasWorked mem now f g
+
+    -- one turn, in which a statement has begun or not, or else silent work
+    abbrev pub HasTriedTop : Option Bool → (mem now : Memory) → (f g : Frame) → Type 0
+    HasTriedTop None mem now f g = HasWorked mem now f g
+    HasTriedTop (Some begins) mem now f g = HasTurnedTop begins mem now f g
+
+  -- the same of the frames as they are kept
+  abbrev pub HasTriedInPlace : Option Bool → (mem now : Memory) → (old new : Frames) → Type 0
+  HasTriedInPlace None mem now old new = Alike image old new × (now ≡ mem)
+  HasTriedInPlace (Some begins) mem now old new = (fs : Frames) → Alike image fs old → TurnsTo begins mem now fs new

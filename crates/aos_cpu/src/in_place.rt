@@ -1,0 +1,335 @@
+// Turns that are made in place, on the topmost frame: no question is asked, and no frame is found by its number.
+ghost use Rattle.std.specs.Prelude.{◌≡◌, ◌<◌, ◌≤◌, ◌+◌, ◌^◌, ℕ, pos, List, ◌∷◌, Some, IfSome, length, slice_get, get_or};
+ghost use Rattle.aos_base.specs.Rooted.{load};
+ghost use Rattle.aos_code.specs.declared.instr.Instr.TheVariants.{Num, Load, Store as StoreInstr, Binary as BinaryInstr};
+ghost use Rattle.aos_code.specs.Numbered.{numbered as numbered_of};
+ghost use Rattle.aos_code.specs.Memory.{Memory};
+ghost use Rattle.aos_code.specs.Silent.{act, gives, keeps_in};
+ghost use Rattle.aos_code.specs.Machine.{Frame as FrameOf, rooted, code_of as code_at};
+ghost use Rattle.aos_store.specs.Store.{frame_in, frames_in, memory_in, SameCounts};
+ghost use Rattle.aos_silent.specs.Acts.{IsBeginOf, WhereStays};
+ghost use Rattle.aos_silent.specs.Steps.{IsStep};
+ghost use Rattle.aos_cpu.specs.Turns.{counted};
+ghost use Rattle.aos_cpu.specs.Private.{no_memory, IsMadePrivately};
+ghost use Rattle.aos_cpu.specs.InPlace.{IsAhead, HasSet, IsDone, HasRunTop, HasTriedTop, HasTriedInPlace};
+
+use aos_base::{Binary, Given, Pos, Root, apply_binary};
+use aos_code::{Cell, Image, Instr, Kind};
+use aos_silent::act::Act;
+use aos_silent::instruction::do_one;
+use aos_silent::operands::{is_of, numbers, of_kind, spot};
+use aos_silent::step::give_value;
+use aos_silent::values::{jump, jump_on_false};
+use aos_silent::{Spot, code_of, keeps_of, replace, take};
+use aos_store::{Change, Frame, Frames, Store};
+
+/// What an instruction has done to the topmost frame: silent work; a turn, in which no statement has begun, or one has; or nothing,
+/// where it needs more than this frame and the memory.
+#[derive(Clone, Copy)]
+pub enum Done {
+    Silent,
+    Turned,
+    Begun,
+    Nothing,
+}
+
+/// The frame goes on after an instruction whose act has been done on it. Where that comes to a Begin, its statement begins.
+fn go_after(code: &[Instr], at: usize, frame: &mut Frame, did: Act) -> Done
+    requires within { at < length code.now }
+    requires begins { IsBeginOf code.now did }
+    ensures done { (image : Image) (here : ℕ) (mem : Memory) (f : FrameOf) → code.now ≡ code_at image f.procedure → at ≡ f.next →
+        IsStep (act image.shapes.items f.procedure here (get_or code.now at (Num (pos 0))) code.now at f.stack) did f (frame_in frame.old) →
+        WhereStays did (frame_in frame.old ≡ f) → IsDone image here result mem mem f (frame_in frame.new) }
+    ensures ahead { IsAhead result at frame.new.next }
+{
+    match did {
+        Act::Goes(over) => {
+            frame.next = (at + 1).saturating_add(over);
+            Done::Silent
+        }
+        Act::Begins(to, pos) => {
+            frame.next = to + 1;
+            frame.at = Some(pos);
+            Done::Begun
+        }
+        Act::Sees(_) => Done::Nothing,
+        Act::Fails(_, _) => Done::Nothing,
+    }
+}
+
+/// The frame gets an operand more.
+fn give_top(code: &[Instr], at: usize, frame: &mut Frame, value: Cell) -> Done
+    requires within { at < length code.now }
+    ensures done { (image : Image) (here : ℕ) (mem : Memory) → code.now ≡ code_at image frame.old.procedure → at ≡ frame.old.next →
+        act image.shapes.items frame.old.procedure here (get_or code.now at (Num (pos 0))) code.now at (frame_in frame.old).stack ≡ gives value (frame_in frame.old).stack →
+        IsDone image here result mem mem (frame_in frame.old) (frame_in frame.new) }
+    ensures ahead { IsAhead result at frame.new.next }
+{
+    match give_value(frame, value) {
+        Ok(did) => go_after(code, at, frame, did),
+        Err(_) => Done::Nothing,
+    }
+}
+
+/// What the cell at a place holds that isn't in a frame below, where so many are.
+fn load_near(frame: &Frame, store: &Store, here: u32, at: Spot) -> Option<Cell>
+    ensures { IfSome result (λ v. (rest : List FrameOf) → length rest ≡ here → load at.root at.cell (rooted (frame_in frame.now ∷ rest) (memory_in store.now)) ≡ Some v) }
+{
+    match at.root {
+        Root::Frame(above) => {
+            if above == here {
+                frame.load(at.cell as usize)
+            } else {
+                None
+            }
+        }
+        Root::Module(number) => store.load_module(number as usize, at.cell as usize),
+        Root::Object(number) => store.load_object(number, at.cell as usize),
+    }
+}
+
+/// Sets the cell at a place that isn't in a frame below, where there is such a cell, and says whether there is.
+fn store_near(frame: &mut Frame, store: &mut Store, here: u32, at: Spot, value: Cell) -> bool
+    ensures { HasSet here result at.root at.cell value (memory_in store.old) (memory_in store.new) (frame_in frame.old) (frame_in frame.new) }
+{
+    match at.root {
+        Root::Frame(above) => {
+            if above == here {
+                frame.change(Change::Sets(at.cell as usize, value))
+            } else {
+                false
+            }
+        }
+        Root::Module(number) => store.change_module(number, Change::Sets(at.cell as usize, value)),
+        Root::Object(number) => store.change_object(number, Change::Sets(at.cell as usize, value)),
+    }
+}
+
+/// What a cell holds is read, where it isn't in a frame below.
+fn load_top(at: usize, kind: Kind, here: u32, frame: &mut Frame, store: &Store) -> Done
+    requires { at + 1 < 2 ^ 64 }
+    ensures done { (image : Image) → at ≡ frame.old.next → slice_get (code_at image frame.old.procedure) at ≡ Some (Load kind) →
+        IsDone image here result (memory_in store.now) (memory_in store.now) (frame_in frame.old) (frame_in frame.new) }
+    ensures ahead { IsAhead result at frame.new.next }
+{
+    let Some(place) = spot(&frame.operands, 0) else {
+        return Done::Nothing;
+    };
+    let Some(value) = load_near(frame, store, here, place) else {
+        return Done::Nothing;
+    };
+    if !is_of(kind, value) {
+        return Done::Nothing;
+    }
+    replace(&mut frame.operands, 1, value);
+    frame.next = at + 1;
+    Done::Turned
+}
+
+/// A value is stored in a cell, where it isn't in a frame below.
+fn store_top(at: usize, kind: Kind, here: u32, frame: &mut Frame, store: &mut Store) -> Done
+    requires { at + 1 < 2 ^ 64 }
+    ensures done { (image : Image) → at ≡ frame.old.next → slice_get (code_at image frame.old.procedure) at ≡ Some (StoreInstr kind) →
+        IsDone image here result (memory_in store.old) (memory_in store.new) (frame_in frame.old) (frame_in frame.new) }
+    ensures ahead { IsAhead result at frame.new.next }
+{
+    let Some(value) = of_kind(&frame.operands, 0, kind) else {
+        return Done::Nothing;
+    };
+    let Some(place) = spot(&frame.operands, 1) else {
+        return Done::Nothing;
+    };
+    if !store_near(frame, store, here, place, value) {
+        return Done::Nothing;
+    }
+    take(&mut frame.operands, 2);
+    frame.next = at + 1;
+    Done::Turned
+}
+
+/// An operator is applied to the two topmost numbers.
+fn operate_top(code: &[Instr], at: usize, operator: Binary, frame: &mut Frame) -> Done
+    requires within { at < length code.now }
+    ensures done { (image : Image) (here : ℕ) (mem : Memory) → code.now ≡ code_at image frame.old.procedure → at ≡ frame.old.next → get_or code.now at (Num (pos 0)) ≡ BinaryInstr operator →
+        IsDone image here result mem mem (frame_in frame.old) (frame_in frame.new) }
+    ensures ahead { IsAhead result at frame.new.next }
+{
+    let Some((a, b)) = numbers(&frame.operands) else {
+        return Done::Nothing;
+    };
+    let Given::Number(value) = apply_binary(operator, a, b) else {
+        return Done::Nothing;
+    };
+    replace(&mut frame.operands, 2, Cell::Num(value));
+    frame.next = at + 1;
+    Done::Silent
+}
+
+/// Any other instruction.
+fn rest_top(
+    instr: Instr,
+    image: &Image,
+    code: &[Instr],
+    keeps: u32,
+    here: u32,
+    at: usize,
+    frame: &mut Frame,
+) -> Done
+    requires place { slice_get code.now at ≡ Some instr }
+    requires within { at < length code.now }
+    requires keeps { keeps ≡ keeps_in (numbered_of image.now.shapes.items frame.old.procedure) }
+    ensures done { (mem : Memory) → code.now ≡ code_at image.now frame.old.procedure → at ≡ frame.old.next → IsDone image.now here result mem mem (frame_in frame.old) (frame_in frame.new) }
+    ensures ahead { IsAhead result at frame.new.next }
+{
+    match do_one(instr, &image.shapes, keeps, here, code, at, frame) {
+        Ok(did) => go_after(code, at, frame, did),
+        Err(_) => Done::Nothing,
+    }
+}
+
+/// Does the next instruction of a frame of this code above so many others, which keeps values under so many numbers. Those that come
+/// most often have an arm of their own.
+fn do_top(
+    image: &Image,
+    code: &[Instr],
+    keeps: u32,
+    here: u32,
+    frame: &mut Frame,
+    store: &mut Store,
+) -> Done
+    requires code { code.now ≡ code_at image.now frame.old.procedure }
+    requires keeps { keeps ≡ keeps_in (numbered_of image.now.shapes.items frame.old.procedure) }
+    requires within { frame.old.next < length code.now }
+    ensures done { IsDone image.now here result (memory_in store.old) (memory_in store.new) (frame_in frame.old) (frame_in frame.new) }
+    ensures ahead { IsAhead result frame.old.next frame.new.next }
+{
+    let at = frame.next;
+    match code[at] {
+        Instr::Load(kind) => load_top(at, kind, here, frame, store),
+        Instr::Store(kind) => store_top(at, kind, here, frame, store),
+        Instr::Num(n) => give_top(code, at, frame, Cell::Num(n)),
+        Instr::Frame(cell) => give_top(code, at, frame, Cell::Place(Root::Frame(here), cell, 0)),
+        Instr::Module(module, cell) => {
+            give_top(code, at, frame, Cell::Place(Root::Module(module), cell, 0))
+        }
+        Instr::Begin(line, col) => go_after(code, at, frame, Act::Begins(at, Pos { line, col })),
+        Instr::Jump(to) => go_after(code, at, frame, jump(code, to, at)),
+        Instr::JumpFalse(to) => {
+            let did = jump_on_false(code, to, at, &mut frame.operands);
+            go_after(code, at, frame, did)
+        }
+        Instr::Binary(operator) => operate_top(code, at, operator, frame),
+        instr => rest_top(instr, image, code, keeps, here, at, frame),
+    }
+}
+
+/// A turn of a frame, where its silent work comes to one that is made in place: whether a statement has begun in it.
+fn turn_top(
+    image: &Image,
+    code: &[Instr],
+    keeps: u32,
+    here: u32,
+    frame: &mut Frame,
+    store: &mut Store,
+) -> Option<bool>
+    requires code { code.now ≡ code_at image.now frame.old.procedure }
+    requires keeps { keeps ≡ keeps_in (numbered_of image.now.shapes.items frame.old.procedure) }
+    ensures { HasTriedTop image.now here result (memory_in store.old) (memory_in store.new) (frame_in frame.old) (frame_in frame.new) }
+{
+    while frame.next < code.len() {
+        match do_top(image, code, keeps, here, frame, store) {
+            Done::Silent => {}
+            Done::Turned => return Some(false),
+            Done::Begun => return Some(true),
+            Done::Nothing => return None,
+        }
+    }
+    None
+}
+
+/// How many statements have begun, with one more or not.
+pub(crate) fn count(begins: bool, begun: u64) -> u64
+    ensures { result ≡ counted begins begun }
+{
+    if begins { begun.wrapping_add(1) } else { begun }
+}
+
+/// Private turns of a frame, so many at most, as long as they can be made in place and fewer statements have begun than the budget:
+/// how many have been made, and how many statements have begun by then. There is no memory.
+fn run_top(
+    image: &Image,
+    code: &[Instr],
+    keeps: u32,
+    here: u32,
+    frame: &mut Frame,
+    store: &mut Store,
+    most: u32,
+    budget: u64,
+    begun: u64,
+) -> (u32, u64)
+    requires code { code.now ≡ code_at image.now frame.old.procedure }
+    requires keeps { keeps ≡ keeps_in (numbered_of image.now.shapes.items frame.old.procedure) }
+    requires memory { memory_in store.old ≡ no_memory }
+    ensures made { HasRunTop image.now here budget result.0 begun result.1 (frame_in frame.old) (frame_in frame.new) }
+    ensures most { result.0 ≤ most }
+    ensures none { memory_in store.new ≡ no_memory }
+{
+    let mut now = begun;
+    for made in 0..most {
+        if budget <= now {
+            return (made, now);
+        }
+        let Some(begins) = turn_top(image, code, keeps, here, frame, store) else {
+            return (made, now);
+        };
+        now = count(begins, now);
+    }
+    (most, now)
+}
+
+/// Private turns of the topmost frame that are made in place, so many at most, while fewer statements have begun than the budget: how
+/// many have been made. There may be private ones behind them, and some silent work is done. There is no memory.
+pub(crate) fn make_in_place(
+    image: &Image,
+    frames: &mut Frames,
+    store: &mut Store,
+    most: u32,
+    budget: u64,
+) -> u32
+    requires memory { memory_in store.old ≡ no_memory }
+    ensures made { IsMadePrivately image.now budget result frames.old frames.new }
+    ensures most { result ≤ most }
+    ensures none { memory_in store.new ≡ no_memory }
+{
+    let turns = frames.turns;
+    let begun = frames.begun;
+    let Ok(here) = u32::try_from(frames.count().saturating_sub(1)) else {
+        return 0;
+    };
+    let Some(frame) = frames.list.last_mut() else {
+        return 0;
+    };
+    let code = code_of(image, frame.procedure);
+    let keeps = keeps_of(&image.shapes, frame.procedure);
+    let (made, now) = run_top(image, code, keeps, here, frame, store, most, budget, begun);
+    frames.begun = now;
+    frames.turns = turns.wrapping_add(made as u64);
+    made
+}
+
+/// A turn of the topmost frame, where its silent work comes to one that is made in place: whether a statement has begun in it, which
+/// isn't counted yet. Else some silent work is done.
+pub(crate) fn turn_in_place(image: &Image, frames: &mut Frames, store: &mut Store) -> Option<bool>
+    ensures tried { HasTriedInPlace image.now result (memory_in store.old) (memory_in store.new) (frames_in frames.old) (frames_in frames.new) }
+    ensures counts { SameCounts frames.old frames.new }
+{
+    let Ok(here) = u32::try_from(frames.count().saturating_sub(1)) else {
+        return None;
+    };
+    let Some(frame) = frames.list.last_mut() else {
+        return None;
+    };
+    let code = code_of(image, frame.procedure);
+    let keeps = keeps_of(&image.shapes, frame.procedure);
+    turn_top(image, code, keeps, here, frame, store)
+}
