@@ -133,20 +133,31 @@ fn agrees_with_vectors(rt: HostRuntime) -> Result<(), Fail> {
     Ok(())
 }
 
+/// The first and the last element, and the set of those between.
+static SPANS: [(i64, i64, Option<u32>); 6] = [
+    (0, 31, Some(0xffff_ffff)),
+    (3, 5, Some(0b11_1000)),
+    (31, 31, Some(0x8000_0000)),
+    (5, 3, Some(0)),
+    (-1, 3, None),
+    (0, 32, None),
+];
+
+/// Whether the set of 3 to 5 has an element.
+static ELEMENTS: [(i64, Option<bool>); 4] = [
+    (3, Some(true)),
+    (2, Some(false)),
+    (-1, None),
+    (32, None),
+];
+
 #[test]
 fn has_elements(rt: HostRuntime) -> Result<(), Fail> {
-    for (a, b, set) in [
-        (0, 31, Some(0xffff_ffff)),
-        (3, 5, Some(0b11_1000)),
-        (31, 31, Some(0x8000_0000)),
-        (5, 3, Some(0)),
-        (-1, 3, None),
-        (0, 32, None),
-    ] {
-        assert_eq!(rt; set_span(a, b), set, "{a} {b}");
+    for (a, b, set) in &SPANS {
+        assert_eq!(rt; set_span(*a, *b), *set, "{a} {b}");
     }
-    for (x, has) in [(3, Some(true)), (2, Some(false)), (-1, None), (32, None)] {
-        assert_eq!(rt; set_has(0b11_1000, x), has, "{x}");
+    for (x, has) in &ELEMENTS {
+        assert_eq!(rt; set_has(0b11_1000, *x), *has, "{x}");
     }
     Ok(())
 }

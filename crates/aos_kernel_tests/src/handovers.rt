@@ -53,7 +53,7 @@ const ALL_FAIL: [Verdict; 4] = [Fails, Fails, Fails, Fails];
 
 /// Calls on one lock by 0 to 3, what their conditions come to, the answer, and those who wait then: `e` to enter, and `w`
 /// for a condition.
-const CALLS: [(Call, [Verdict; 4], Answer, &str); 11] = [
+static CALLS: [(Call, [Verdict; 4], Answer, &str); 11] = [
     (Enter(0), ALL_FAIL, Gets(Entered::Taken), ""),
     (Enter(1), ALL_FAIL, Gets(Entered::Waits), "1e"),
     (Wait(0), ALL_FAIL, Passes(Passed::Entrant(1)), "0w"),
@@ -247,18 +247,18 @@ fn passes_a_lock_on(rt: HostRuntime) -> Result<(), Fail> {
     let mut locks = Locks::new(alloc);
     locks.add()?;
     let mut waits = [false; 4];
-    for (call, of, wanted, list) in CALLS {
+    for (call, of, wanted, list) in &CALLS {
         let found = make_call(
             &rt,
             &mut links,
             &mut locks,
             &mut waits,
-            call,
-            Verdicts { of },
+            *call,
+            Verdicts { of: *of },
         );
-        assert_eq!(rt; found, wanted, "at {call:?}");
+        assert_eq!(rt; found, *wanted, "at {call:?}");
         let waiting = shown(alloc, &links, &waits)?;
-        assert_eq!(rt; waiting.as_str(), list, "behind {call:?}");
+        assert_eq!(rt; waiting.as_str(), *list, "behind {call:?}");
     }
     Ok(())
 }

@@ -59,19 +59,21 @@ fn shown(alloc: Global, first: Instr, second: Instr) -> Result<String, Fail> {
     Ok(out)
 }
 
+static INSTRUCTIONS: [(Instr, Instr, &str); 7] = [
+    (Instr::Num(65), Instr::OutChar, "Ended A"),
+    (Instr::Num(0), Instr::OutChar, "Ended \0"),
+    (Instr::Num(256), Instr::OutChar, "Ended  trap 16"),
+    (Instr::Num(-1), Instr::OutChar, "Ended  trap 16"),
+    (Instr::OutOpen, Instr::OutOpen, "Ended "),
+    (Instr::Num(1), Instr::Unary(Unary::Not), "Ended "),
+    (Instr::Num(2), Instr::Unary(Unary::Not), "Ended  trap 16"),
+];
+
 #[test]
 fn runs_instructions(rt: HostRuntime) -> Result<(), Fail> {
-    for (first, second, want) in [
-        (Instr::Num(65), Instr::OutChar, "Ended A"),
-        (Instr::Num(0), Instr::OutChar, "Ended \0"),
-        (Instr::Num(256), Instr::OutChar, "Ended  trap 16"),
-        (Instr::Num(-1), Instr::OutChar, "Ended  trap 16"),
-        (Instr::OutOpen, Instr::OutOpen, "Ended "),
-        (Instr::Num(1), Instr::Unary(Unary::Not), "Ended "),
-        (Instr::Num(2), Instr::Unary(Unary::Not), "Ended  trap 16"),
-    ] {
-        let found = shown(rt.alloc(), first, second)?;
-        assert_eq!(rt; found.as_str(), want, "at {first:?} {second:?}");
+    for (first, second, want) in &INSTRUCTIONS {
+        let found = shown(rt.alloc(), *first, *second)?;
+        assert_eq!(rt; found.as_str(), *want, "at {first:?} {second:?}");
     }
     Ok(())
 }

@@ -5,6 +5,8 @@
 #[cfg(test)]
 mod arithmetic;
 #[cfg(test)]
+mod assembly;
+#[cfg(test)]
 mod handovers;
 #[cfg(test)]
 mod images;

@@ -11,7 +11,7 @@ use std::test::Fail;
 
 /// Run lines for two workers, and the outcome, the output and the log that they come to. Twice 10^9 idle steps take no
 /// time.
-const RUNS: [(&str, &str); 6] = [
+static RUNS: [(&str, &str); 6] = [
     ("", "Going  []"),
     ("s 0 1\ns 1 5\ns 0 100\n", "Ended   7\n [Steps(0, 7)]"),
     ("s 1 4\n", "Going   7 [Steps(1, 4)]"),
@@ -45,9 +45,9 @@ fn shown(rt: &impl Abort, alloc: Global, runs: &str) -> Result<String, Fail> {
 
 #[test]
 fn replays_runs(rt: HostRuntime) -> Result<(), Fail> {
-    for (runs, want) in RUNS {
+    for (runs, want) in &RUNS {
         let found = shown(&rt, rt.alloc(), runs)?;
-        assert_eq!(rt; found.as_str(), want, "at {runs:?}");
+        assert_eq!(rt; found.as_str(), *want, "at {runs:?}");
     }
     Ok(())
 }

@@ -6,7 +6,7 @@ use std::process::Abort;
 use std::test::Fail;
 
 /// Each text, and its workers, budget and runs, or its refusal.
-const TEXTS: [(&str, &str); 24] = [
+static TEXTS: [(&str, &str); 24] = [
     (
         "aos-script 1\nworkers 2\nbudget 1000000\ns 0 18\nt 0\nend\n",
         "2 1000000 Steps(0, 18) Tick(0)",
@@ -108,9 +108,9 @@ fn shown(rt: &impl Abort, alloc: Global, text: &str) -> Result<String, Fail> {
 
 #[test]
 fn reads_texts(rt: HostRuntime) -> Result<(), Fail> {
-    for (text, want) in TEXTS {
+    for (text, want) in &TEXTS {
         let found = shown(&rt, rt.alloc(), text)?;
-        assert_eq!(rt; found.as_str(), want, "at {text:?}");
+        assert_eq!(rt; found.as_str(), *want, "at {text:?}");
     }
     Ok(())
 }

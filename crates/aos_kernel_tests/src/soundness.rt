@@ -1,10 +1,11 @@
 // Bodies at the edges of what is sound.
 
+use crate::assembly::code_of;
 use crate::images::body_shape;
-use aos_base::Relation;
-use aos_code::{Body, Cell, Image, Instr, Kind, ModuleDesc, ParamKind, TypeDesc};
+use aos_code::{Body, Cell, Image, Kind, ModuleDesc, ParamKind, TypeDesc};
 use aos_sound::{is_sound, is_sound_cond};
 use std::alloc::{AllocError, Global};
+use std::process::Abort;
 use std::test::Fail;
 
 /// A module of two cells, and one type. Procedure 1 gives nothing, and has a cell and keeps one value; procedure 2 gives a number;
@@ -35,9 +36,9 @@ fn image(alloc: Global) -> Result<Image, AllocError> {
 }
 
 /// Whether this code is sound as this procedure, and as a condition in it, with four operands at most.
-fn sound(alloc: Global, code: &[Instr], own: u32) -> Result<(bool, bool), Fail> {
+fn sound(rt: &impl Abort, alloc: Global, code: &str, own: u32) -> Result<(bool, bool), Fail> {
     let image = image(alloc)?;
-    let code = code.to_vec(alloc)?;
+    let code = code_of(rt, alloc, code)?;
     let body = Body { code, depth: 4 };
     if own == 0 || own as usize > image.shapes.len() {
         return Ok((false, false));
@@ -47,136 +48,108 @@ fn sound(alloc: Global, code: &[Instr], own: u32) -> Result<(bool, bool), Fail> 
     Ok((procedure, condition))
 }
 
+/// Wants this of each code, as procedure 1.
+fn expect(rt: &impl Abort, alloc: Global, codes: &[&str], want: (bool, bool)) -> Result<(), Fail> {
+    for code in codes {
+        assert_eq!(rt; sound(rt, alloc, code, 1)?, want, "{code}");
+    }
+    Ok(())
+}
+
+static PROCEDURES: [&str; 8] = [
+    "begin 1 1; module 0 1; num 1; store n; return",
+    "new_object 1; start; return",
+    // the jump back alone comes to the Begin
+    "jump 3; begin 1 1; return; jump 1",
+    // one stack by two ways
+    "num 1; jump_false 4; num 1; jump 5; num 1; out_char; return",
+    // nothing need be there for what no path comes to
+    "return; swap",
+    "begin 1 1; fail 7",
+    "new_object 1; fail 7",
+    "num 1; assert 1; fail 7",
+];
+
+static UNSOUND: [&str; 12] = [
+    // deeper than four
+    "num 1; num 1; num 1; num 1; num 1; fail 7",
+    // other kinds than a Store takes
+    "num 1; module 0 1; store n; return",
+    // no such place, module, type
+    "module 0 3; load n; out_char; return",
+    "module 1 0; load n; out_char; return",
+    "new_object 2; start; return",
+    // a result that isn't due
+    "num 1; return",
+    // past the end
+    "num 1",
+    "",
+    // back to no Begin
+    "jump 3; fail 7; return; jump 1",
+    // one more operand each round
+    "begin 1 1; num 1; jump 0",
+    // two stacks by two ways
+    "num 1; jump_false 4; num 1; jump 5; new_object 1; fail 7",
+    // out of the code, though no path comes there
+    "return; jump 2",
+];
+
 #[test]
 fn soundness(rt: HostRuntime) -> Result<(), Fail> {
     let alloc = rt.alloc();
-    let (begin, number, object) = (Instr::Begin(1, 1), Instr::Num(1), Instr::NewObject(1));
-    let (place, load) = (Instr::Module(0, 1), Instr::Load(Kind::N));
-    let (store, out) = (Instr::Store(Kind::N), Instr::OutChar);
-    let (test, over) = (Instr::JumpFalse(4), Instr::Jump(5));
-    let (end, ends) = (Instr::Fail(7), Instr::Return);
-    for code in [
-        [begin, place, number, store, ends].as_slice(),
-        [object, Instr::Start, ends].as_slice(),
-        // the jump back alone comes to the Begin
-        [Instr::Jump(3), begin, ends, Instr::Jump(1)].as_slice(),
-        // one stack by two ways
-        [number, test, number, over, number, out, ends].as_slice(),
-        // nothing need be there for what no path comes to
-        [ends, Instr::Swap].as_slice(),
-        [begin, end].as_slice(),
-        [object, end].as_slice(),
-        [number, Instr::Assert(1), end].as_slice(),
-    ] {
-        assert_eq!(rt; sound(alloc, code, 1)?, (true, false), "{code:?}");
-    }
-    for code in [
-        // deeper than four
-        [number, number, number, number, number, end].as_slice(),
-        // other kinds than a Store takes
-        [number, place, store, ends].as_slice(),
-        // no such cell, module, type
-        [Instr::Module(0, 2), load, out, ends].as_slice(),
-        [Instr::Module(1, 0), load, out, ends].as_slice(),
-        [Instr::NewObject(2), Instr::Start, ends].as_slice(),
-        // a result that isn't due
-        [number, ends].as_slice(),
-        // past the end
-        [number].as_slice(),
-        [].as_slice(),
-        // back to no Begin
-        [Instr::Jump(3), end, ends, Instr::Jump(1)].as_slice(),
-        // one more operand each round
-        [begin, number, Instr::Jump(0)].as_slice(),
-        // two stacks by two ways
-        [number, test, number, over, object, end].as_slice(),
-        // out of the code, though no path comes there
-        [ends, Instr::Jump(2)].as_slice(),
-    ] {
-        assert_eq!(rt; sound(alloc, code, 1)?, (false, false), "{code:?}");
-    }
-    assert_eq!(rt; sound(alloc, &[number, ends], 2)?, (true, false));
-    assert_eq!(rt; sound(alloc, &[number, number, ends], 2)?, (false, false));
-    let condition = [place, load, Instr::JumpFalse(3), end];
-    assert_eq!(rt; sound(alloc, &condition, 1)?, (true, true));
+    expect(&rt, alloc, &PROCEDURES, (true, false))?;
+    expect(&rt, alloc, &UNSOUND, (false, false))?;
+    expect(
+        &rt,
+        alloc,
+        &["module 0 1; load n; jump_false 3; fail 7"],
+        (true, true),
+    )?;
+    assert_eq!(rt; sound(&rt, alloc, "num 1; return", 2)?, (true, false));
+    assert_eq!(rt;
+        sound(&rt, alloc, "num 1; num 1; return", 2)?,
+        (false, false)
+    );
     Ok(())
 }
+
+static CALLS: [&str; 4] = [
+    // a number, and an array of one length
+    "num 1; module 0 1; num 1; call 3; out_char; return",
+    // an element of an array of two lengths is an array of one
+    "module 0 1; num 1; num 1; num 1; index_open 2 1; pick_len 0 1; out_char; return",
+    "frame 0; offset 0 1; load n; keep 0 n; return",
+    "module 0 1; num 1; module 0 1; num 1; put_text_strict; return",
+];
+
+static UNSOUND_CALLS: [&str; 10] = [
+    // the array below the number, and without its length
+    "module 0 1; num 1; num 1; call 3; out_char; return",
+    "num 1; module 0 1; call 3; out_char; return",
+    // no such procedure, cell, keep, type
+    "call 4; return",
+    "frame 1; load n; out_char; return",
+    "num 1; keep 1 n; return",
+    "module 0 1; offset 0 2; load n; out_char; return",
+    // more lengths than there are, and one that isn't among them
+    "module 0 1; num 1; pick_len 0 4294967295; out_char; return",
+    "module 0 1; num 1; index_open 4294967295 1; load n; out_char; return",
+    "module 0 1; num 1; pick_len 1 1; out_char; return",
+    // an index with no length
+    "module 0 1; num 1; index_open 0 1; load n; out_char; return",
+];
+
+static CONDITIONS: [&str; 3] = [
+    "module 0 1; num 1; module 0 1; num 1; cmp_text <; jump_false 6; fail 7",
+    "kept 0 n; jump_false 2; fail 7",
+    "param 0; length 0; index 3 1; drop; fail 7",
+];
 
 #[test]
 fn soundness_of_calls_and_arrays(rt: HostRuntime) -> Result<(), Fail> {
     let alloc = rt.alloc();
-    let (number, place, load) = (Instr::Num(1), Instr::Module(0, 1), Instr::Load(Kind::N));
-    let (call, out, ends) = (Instr::Call(3), Instr::OutChar, Instr::Return);
-    let keep = Instr::Keep(0, Kind::N);
-    for code in [
-        // a number, and an array of one length
-        [number, place, number, call, out, ends].as_slice(),
-        // an element of an array of two lengths is an array of one
-        [
-            place,
-            number,
-            number,
-            number,
-            Instr::IndexOpen(2, 1),
-            Instr::PickLen(0, 1),
-            out,
-            ends,
-        ]
-        .as_slice(),
-        [Instr::Frame(0), Instr::Offset(0, 1), load, keep, ends].as_slice(),
-        [place, number, place, number, Instr::PutText(true), ends].as_slice(),
-    ] {
-        assert_eq!(rt; sound(alloc, code, 1)?, (true, false), "{code:?}");
-    }
-    for code in [
-        // the array below the number, and without its length
-        [place, number, number, call, out, ends].as_slice(),
-        [number, place, call, out, ends].as_slice(),
-        // no such procedure, cell, keep, type
-        [Instr::Call(4), ends].as_slice(),
-        [Instr::Frame(1), load, out, ends].as_slice(),
-        [number, Instr::Keep(1, Kind::N), ends].as_slice(),
-        [place, Instr::Offset(0, 2), load, out, ends].as_slice(),
-        // more lengths than there are, and one that isn't among them
-        [place, number, Instr::PickLen(0, 0xFFFF_FFFF), out, ends].as_slice(),
-        [
-            place,
-            number,
-            Instr::IndexOpen(0xFFFF_FFFF, 1),
-            load,
-            out,
-            ends,
-        ]
-        .as_slice(),
-        [place, number, Instr::PickLen(1, 1), out, ends].as_slice(),
-        // an index with no length
-        [place, number, Instr::IndexOpen(0, 1), load, out, ends].as_slice(),
-    ] {
-        assert_eq!(rt; sound(alloc, code, 1)?, (false, false), "{code:?}");
-    }
-    let less = Instr::CmpText(Relation::Less);
-    for code in [
-        [
-            place,
-            number,
-            place,
-            number,
-            less,
-            Instr::JumpFalse(6),
-            Instr::Fail(7),
-        ]
-        .as_slice(),
-        [Instr::Kept(0, Kind::N), Instr::JumpFalse(2), Instr::Fail(7)].as_slice(),
-        [
-            Instr::Param(0),
-            Instr::Length(0),
-            Instr::Index(3, 1),
-            Instr::Drop,
-            Instr::Fail(7),
-        ]
-        .as_slice(),
-    ] {
-        assert_eq!(rt; sound(alloc, code, 1)?, (true, true), "{code:?}");
-    }
+    expect(&rt, alloc, &CALLS, (true, false))?;
+    expect(&rt, alloc, &UNSOUND_CALLS, (false, false))?;
+    expect(&rt, alloc, &CONDITIONS, (true, true))?;
     Ok(())
 }
