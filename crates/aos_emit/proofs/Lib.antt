@@ -4,3 +4,4 @@ pub mod Forth
 pub mod Parts
 pub mod Heights
 pub mod Found
+pub mod Fields

@@ -1,3 +1,4 @@
 pub mod Back
+pub mod Forwards
 pub mod Laid
 pub mod Made

@@ -3,9 +3,10 @@
 ghost use Rattle.std.specs.Prelude.{◌≡◌, ◌+◌, ◌<◌, ◌^◌, [], ◌∷◌, ◌++◌, length, pos, IfOk, OnOk};
 ghost use Rattle.aos_typed.specs.WellTyped.{IsStatement, AreStatements};
 ghost use Rattle.aos_typed.specs.Seen.{seen_program, seen_place, seen_expr, seen_call, seen_stat, seen_stats};
-ghost use Rattle.aos_emit.specs.Back.{back_code, placed};
+ghost use Rattle.aos_emit.specs.Back.{back_place, back_code, placed};
+ghost use Rattle.aos_emit.specs.Forwards.{forwards};
 ghost use Rattle.aos_sim.specs.Need.{body_need};
-ghost use Rattle.aos_sim.specs.Code.{begin, literal_code, kind_of, place_code, value_code, out_code, new_code, stat_code, stats_code, body_code};
+ghost use Rattle.aos_sim.specs.Code.{begin, literal_code, kind_of, place_code, value_code, out_code, new_code, while_code, stat_code, stats_code, body_code};
 
 use crate::laid::Laid;
 use crate::need::stats_need;
@@ -69,29 +70,50 @@ fn emit_begin(code: &mut Vec<Instr>, at: Pos) -> Result<(), AllocError>
     put(code, Instr::Begin(at.line, at.col))
 }
 
-fn emit_place(program: &Laid<'_>, code: &mut Vec<Instr>, place: &TPlace) -> Result<(), AllocError>
-    ensures { OnOk result (code.new.items ≡ code.old.items ++
-        place_code (seen_program program.now) (seen_place place.now) (length code.old.items)) }
+// The code of a designator, from its last instruction to its first. A long designator has as many parts, one in another: the
+// loop over them takes no stack.
+#[cycle(emit_back)]
+fn emit_place_back(
+    program: &Laid<'_>,
+    code: &mut Vec<Instr>,
+    place: &TPlace,
+) -> Result<(), AllocError>
+    ensures { OnOk result (code.new.items ≡ back_place (seen_program program.now) (seen_place place.now) code.old.items) }
 {
-    match place {
-        TPlace::ModuleVar(module, variable) => {
-            let cell = program.cell(*module, *variable);
-            put(code, Instr::Module(*module, cell))
+    let mut rest = place;
+    loop {
+        match rest {
+            TPlace::ModuleVar(module, variable) => {
+                let cell = program.cell(*module, *variable);
+                return put(code, Instr::Module(*module, cell));
+            }
+            TPlace::Field(whole, of, number) => {
+                let before = program.field(*of, *number)?;
+                put(code, Instr::Offset(before, 0))?;
+                rest = whole;
+            }
+            TPlace::Index(whole, elements, of, index) => {
+                let cells = program.cells_of(*of);
+                put(code, Instr::Index(*elements, cells))?;
+                emit_back(program, code, index)?;
+                rest = whole;
+            }
         }
     }
 }
 
+#[cycle(emit_back)]
 fn emit_read_back(
     program: &Laid<'_>,
     code: &mut Vec<Instr>,
     of: TType,
     place: &TPlace,
 ) -> Result<(), AllocError>
-    ensures { OnOk result (code.new.items ≡ code.old.items ++ Instr.Load (kind_of of) ∷
-        place_code (seen_program program.now) (seen_place place.now) 0) }
+    ensures { OnOk result (code.new.items ≡ back_place (seen_program program.now) (seen_place place.now)
+        (code.old.items ++ Instr.Load (kind_of of) ∷ [])) }
 {
     put(code, Instr::Load(cell_kind(of)))?;
-    emit_place(program, code, place)
+    emit_place_back(program, code, place)
 }
 
 // The second operand of `&` with what stands around it, from the last instruction to the first.
@@ -182,6 +204,32 @@ fn place_jump(instr: Instr, end: u32) -> Instr
     }
 }
 
+// Puts code that stands from its last instruction to its first, which ends behind what is there.
+fn put_forwards(code: &mut Vec<Instr>, mut back: Vec<Instr>) -> Result<(), AllocError>
+    ensures { OnOk result (code.new.items ≡ code.old.items ++
+        forwards (length code.old.items + length back.items) back.items) }
+{
+    let end = number_of(code.len() + back.len())?;
+    while let Some(instr) = back.pop() {
+        put(code, place_jump(instr, end))?;
+    }
+    Ok(())
+}
+
+fn emit_place(
+    alloc: Global,
+    program: &Laid<'_>,
+    code: &mut Vec<Instr>,
+    place: &TPlace,
+) -> Result<(), AllocError>
+    ensures { OnOk result (code.new.items ≡ code.old.items ++
+        place_code (seen_program program.now) (seen_place place.now) (length code.old.items)) }
+{
+    let mut back = Vec::new(alloc);
+    emit_place_back(program, &mut back, place)?;
+    put_forwards(code, back)
+}
+
 fn emit_value(
     alloc: Global,
     program: &Laid<'_>,
@@ -193,11 +241,7 @@ fn emit_value(
 {
     let mut back = Vec::new(alloc);
     emit_back(program, &mut back, value)?;
-    let end = number_of(code.len() + back.len())?;
-    while let Some(instr) = back.pop() {
-        put(code, place_jump(instr, end))?;
-    }
-    Ok(())
+    put_forwards(code, back)
 }
 
 fn emit_out(
@@ -226,6 +270,7 @@ fn emit_out(
 
 // The object is stored before its activity is started.
 fn emit_new(
+    alloc: Global,
     program: &Laid<'_>,
     code: &mut Vec<Instr>,
     place: &TPlace,
@@ -237,10 +282,39 @@ fn emit_new(
 {
     put(code, Instr::NewObject(object + 1))?;
     put(code, Instr::Dup)?;
-    emit_place(program, code, place)?;
+    emit_place(alloc, program, code, place)?;
     put(code, Instr::Swap)?;
     put(code, Instr::Store(Kind::R))?;
     put(code, Instr::Start)
+}
+
+// A loop. The jump behind its test is told its target when the loop's end is known.
+#[cycle(emit_stat)]
+fn emit_while(
+    alloc: Global,
+    program: &Laid<'_>,
+    code: &mut Vec<Instr>,
+    at: Pos,
+    condition: &TExpr,
+    body: &[TStat],
+) -> Result<(), AllocError>
+    requires few { length program.now.objects.items < 2 ^ 32 }
+    requires typed { AreStatements (seen_program program.now) (seen_stats body.now) }
+    ensures { OnOk result (let test = value_code (seen_program program.now) (seen_expr condition.now) (length code.old.items + 1) in
+        code.new.items ≡ code.old.items ++ while_code at test
+        (stats_code (seen_program program.now) (seen_stats body.now) (length code.old.items + 1 + length test + 1))
+        (length code.old.items)) }
+{
+    let start = next_place(code)?;
+    emit_begin(code, at)?;
+    emit_value(alloc, program, code, condition)?;
+    let test_end = code.len();
+    put(code, Instr::JumpFalse(0))?;
+    emit_stats(alloc, program, code, body)?;
+    put(code, Instr::Jump(start))?;
+    let end = next_place(code)?;
+    code[test_end] = Instr::JumpFalse(end);
+    Ok(())
 }
 
 #[cycle(emit_stat)]
@@ -258,25 +332,22 @@ fn emit_stat(
     match statement {
         TStat::Assign(at, of, place, value) => {
             emit_begin(code, *at)?;
-            emit_place(program, code, place)?;
+            emit_place(alloc, program, code, place)?;
             emit_value(alloc, program, code, value)?;
             put(code, Instr::Store(cell_kind(*of)))
         }
-        TStat::While(at, condition, body) => {
-            let start = next_place(code)?;
+        TStat::Copy(at, of, to, from) => {
             emit_begin(code, *at)?;
-            emit_value(alloc, program, code, condition)?;
-            let test_end = code.len();
-            put(code, Instr::JumpFalse(0))?;
-            emit_stats(alloc, program, code, body)?;
-            put(code, Instr::Jump(start))?;
-            let end = next_place(code)?;
-            code[test_end] = Instr::JumpFalse(end);
-            Ok(())
+            emit_place(alloc, program, code, to)?;
+            emit_place(alloc, program, code, from)?;
+            put(code, Instr::Copy(program.cells_of(*of)))
+        }
+        TStat::While(at, condition, body) => {
+            emit_while(alloc, program, code, *at, condition, body)
         }
         TStat::New(at, place, object) => {
             emit_begin(code, *at)?;
-            emit_new(program, code, place, *object)
+            emit_new(alloc, program, code, place, *object)
         }
         TStat::Out(at, call) => {
             emit_begin(code, *at)?;

@@ -3,15 +3,19 @@
 ghost use Rattle.std.specs.Prelude.{◌≡◌, ◌≤◌, ◌^◌, [], ◌∷◌, ◌++◌, length, map, slice_get, option_map, IfOk, OnOk};
 ghost use Rattle.std.specs.Option.{unwrap_or};
 ghost use Rattle.aos_typed.specs.Seen.{seen_program};
-ghost use Rattle.aos_typed.specs.WellTyped.{IsWellTyped};
+ghost use Rattle.aos_typed.specs.WellTyped.{AreTypes, IsWellTyped};
 ghost use Rattle.aos_layout.specs.Seen.{seen_block};
-ghost use Rattle.aos_sim.specs.Code.{variable_cell};
-ghost use Rattle.aos_emit.specs.Laid.{AreBlocks, cell_in, module_kinds};
+ghost use Rattle.aos_types.specs.Shape as shape;
+ghost use Rattle.aos_types.specs.Contents.{contents, variable_scalars};
+ghost use Rattle.aos_typed.specs.Numbers.{id_of};
+ghost use Rattle.aos_sim.specs.Code.{variable_cell, field_cell, cells_of};
+ghost use Rattle.aos_emit.specs.Laid.{AreBlocks, there_in, cell_in, module_kinds};
 
-use aos_base::NoMemory;
+use aos_base::{NoMemory, Width};
 use aos_code::Kind;
-use aos_layout::{BlockShape, block_shape};
-use aos_typed::Program;
+use aos_layout::{BlockShape, block_shape, offset};
+use aos_typed::{Program, TType};
+use aos_types::{TypeId, TypeRow, Types};
 use std::alloc::{AllocError, Global};
 use std::marker::Model;
 
@@ -60,6 +64,69 @@ fn kinds_of(blocks: &[BlockShape], home: u32) -> &[Kind]
     }
 }
 
+// How many types are predeclared, before those that a program names.
+const PREDECLARED_TYPES: u64 = 9;
+
+// The number of a type.
+fn type_number(of: TType) -> u64
+    ensures { result ≡ (id_of of).0 }
+{
+    match of {
+        TType::Integer(Width::W8) => 0,
+        TType::Integer(Width::W16) => 1,
+        TType::Integer(Width::W32) => 2,
+        TType::Integer(Width::W64) => 3,
+        TType::Boolean => 4,
+        TType::Char => 5,
+        TType::Set => 6,
+        TType::Named(number) => u64::from(number) + PREDECLARED_TYPES,
+    }
+}
+
+// A type of the table, where it is there.
+fn type_in(types: &Types, of: TType) -> Option<TypeId>
+    requires few { length types.now ≤ 2 ^ 32 }
+    ensures { result ≡ there_in types.now of }
+{
+    let number = type_number(of);
+    if number < types.len() as u64 {
+        Some(TypeId(number as u32))
+    } else {
+        None
+    }
+}
+
+// How many cells a variable of a type has.
+fn variable_cells(types: &Types, of: TType) -> u32
+    requires few { length types.now ≤ 2 ^ 32 }
+    requires typed { AreTypes types.now }
+    ensures { result ≡ variable_scalars types.now (id_of of) }
+{
+    match type_in(types, of) {
+        Some(t) => types.variable_scalars(t).unwrap_or(0),
+        None => 0,
+    }
+}
+
+// How many cells stand before a field in its record. One that a record doesn't have, or that is of a record with a base, is in
+// no well-typed program: there is no memory for it.
+fn cells_before(types: &Types, of: TType, number: u32) -> Result<u32, AllocError>
+    requires few { length types.now ≤ 2 ^ 32 }
+    requires typed { AreTypes types.now }
+    ensures { IfOk result (λ cells. cells ≡ shape.offset (number ∷ []) (contents types.now (id_of of))) }
+{
+    let Some(t) = type_in(types, of) else {
+        return Err(AllocError);
+    };
+    let TypeRow::Record(base, fields) = types.row(t) else {
+        return Err(AllocError);
+    };
+    if base.is_some() || number as usize >= fields.as_slice().len() {
+        return Err(AllocError);
+    }
+    Ok(offset(types, t, &[number]))
+}
+
 /// A program, and the cells of its modules' variables.
 #[derive(Drop)]
 pub struct Laid<'a> {
@@ -72,7 +139,7 @@ impl<'a> Model for Laid<'a> {
     ghost use Rattle.aos_typed.specs.Seen.{seen_program};
     ghost use Rattle.aos_typed.specs.contracts.tree.TStat as stat;
     ghost use Rattle.std.specs.Coded.{codes};
-    ghost use Rattle.aos_emit.specs.Laid.{AreBlocks};
+    ghost use Rattle.aos_emit.specs.Laid.{IsLaid};
 
     ghost Value = { Program };
 
@@ -80,7 +147,7 @@ impl<'a> Model for Laid<'a> {
 
     ghost view = { λ l. l.program.now };
 
-    ghost invariant = { λ l. AreBlocks (seen_program l.program.now) l.blocks.items };
+    ghost invariant = { λ l. IsLaid (seen_program l.program.now) l.blocks.items };
 }
 
 impl<'a> Laid<'a> {
@@ -99,6 +166,20 @@ impl<'a> Laid<'a> {
         ensures { result ≡ variable_cell (seen_program self.now) home number }
     {
         cell_of(&self.blocks, home, number)
+    }
+
+    /// How many cells stand before a field in its record, by the record type and the field's number.
+    pub fn field(&self, of: TType, number: u32) -> Result<u32, AllocError>
+        ensures { IfOk result (λ cells. cells ≡ field_cell (seen_program self.now) of number) }
+    {
+        cells_before(&self.program.types, of, number)
+    }
+
+    /// How many cells a variable of a type has.
+    pub fn cells_of(&self, of: TType) -> u32
+        ensures { result ≡ cells_of (seen_program self.now) of }
+    {
+        variable_cells(&self.program.types, of)
     }
 
     /// The kinds of the cells of the module with this number.

@@ -7,14 +7,6 @@ ghost use Rattle.aos_sim.specs.Need as need_of;
 use aos_typed::{OutCall, TExpr, TPlace, TStat};
 use std::alloc::AllocError;
 
-fn place_need(place: &TPlace) -> u32
-    ensures { result ≡ need_of.place_need (seen_place place.now) }
-{
-    match place {
-        TPlace::ModuleVar(_, _) => 1,
-    }
-}
-
 // So many operands above so many others. As many as 2^32 are want of memory.
 fn above(others: u32, need: u32) -> Result<u32, AllocError>
     ensures { IfOk result (λ n. n ≡ others + need) }
@@ -25,7 +17,27 @@ fn above(others: u32, need: u32) -> Result<u32, AllocError>
     }
 }
 
+// A long designator has as many parts, one in another: the loop over them takes no stack.
+#[cycle(value_need)]
+fn place_need(place: &TPlace) -> Result<u32, AllocError>
+    ensures { IfOk result (λ n. n ≡ need_of.place_need (seen_place place.now)) }
+{
+    let mut rest = place;
+    let mut need = 0;
+    loop {
+        match rest {
+            TPlace::ModuleVar(_, _) => return Ok(need.max(1)),
+            TPlace::Field(whole, _, _) => rest = whole,
+            TPlace::Index(whole, _, _, index) => {
+                need = need.max(above(1, value_need(index)?)?);
+                rest = whole;
+            }
+        }
+    }
+}
+
 // A long sum has as many left operands, one in another: the loop over them takes no stack.
+#[cycle(value_need)]
 fn value_need(value: &TExpr) -> Result<u32, AllocError>
     ensures { IfOk result (λ n. n ≡ need_of.value_need (seen_expr value.now)) }
 {
@@ -34,7 +46,7 @@ fn value_need(value: &TExpr) -> Result<u32, AllocError>
     loop {
         match rest {
             TExpr::Lit(_) => return Ok(need.max(1)),
-            TExpr::Read(_, place) => return Ok(need.max(place_need(place))),
+            TExpr::Read(_, place) => return Ok(need.max(place_need(place)?)),
             TExpr::Unary(_, operand) => rest = operand,
             TExpr::Binary(_, left, right) => {
                 need = need.max(above(1, value_need(right)?)?);
@@ -79,13 +91,17 @@ fn stat_need(statement: &TStat) -> Result<u32, AllocError>
     match statement {
         TStat::Assign(_, _, place, value) => {
             let assigned = above(1, value_need(value)?)?;
-            Ok(assigned.max(place_need(place)))
+            Ok(assigned.max(place_need(place)?))
+        }
+        TStat::Copy(_, _, to, from) => {
+            let copied = above(1, place_need(from)?)?;
+            Ok(copied.max(place_need(to)?))
         }
         TStat::While(_, condition, body) => {
             let test = value_need(condition)?;
             Ok(test.max(stats_need(body)?))
         }
-        TStat::New(_, place, _) => above(2, place_need(place)),
+        TStat::New(_, place, _) => above(2, place_need(place)?),
         TStat::Out(_, call) => out_need(call),
     }
 }

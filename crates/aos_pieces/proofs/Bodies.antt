@@ -76,7 +76,7 @@ module _ (p : Program) (image : Image) (well : IsWellTyped p) (ok : IsCodeOf p i
       record {
         statements = s.0;
         are = s.1;
-        sound = λ need le. subst (λ c. IsSound image (k + 1) Procedure c need) s.2 (body_sound p image (k + 1) need (has_numbers p image ok well) (ap (λ j. returned (numbered image.shapes.items j) []) (sym n) ∙ gives_nothing k s.0 s.1) s.0 (all_get (AreStatements p) (bodies_of p) k s.0 all_typed s.1) le);
+        sound = λ need le. subst (λ c. IsSound image (k + 1) Procedure c need) s.2 (body_sound p image (k + 1) need (has_numbers p image ok) (ap (λ j. returned (numbered image.shapes.items j) []) (sym n) ∙ gives_nothing k s.0 s.1) s.0 (all_get (AreStatements p) (bodies_of p) k s.0 all_typed s.1) le);
       }
 
   -- and each with as many operands as it says, where that is what its statements need

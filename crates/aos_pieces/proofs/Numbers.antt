@@ -1,6 +1,7 @@
--- The image has what the program's numbers name: a cell for each variable of one scalar, and a type for each object type.
-use Rattle.std.proofs.Common.{◌≡◌, ◌<◌, ℕ, zero, suc, ◌+◌, inl, inr, true, List, [], ◌∷◌, map, length, Option, Some, None, refl, sym, ap, ◌∙◌, subst, arith}
+-- The image has what the program's numbers name: the cells of each variable, and a type for each object type.
+use Rattle.std.proofs.Common.{◌≡◌, ◌<◌, ◌≤◌, ℕ, zero, suc, ◌+◌, inl, inr, true, List, [], ◌∷◌, map, length, Option, Some, None, refl, sym, ap, ◌∙◌, arith}
 use Rattle.std.specs.Prelude.{slice_get, option_map, option_and_then}
+use Rattle.std.proofs.lemmas.Bool.{le-leb}
 use Rattle.std.proofs.lemmas.List.{length-map}
 use Rattle.std.proofs.lemmas.Option.{slice_get-map, slice_get_cases}
 use Rattle.aos_types.specs.declared.row.TypeRow.{TypeRow}
@@ -15,22 +16,20 @@ use Rattle.aos_code.specs.Machine.{first_cell}
 use Rattle.aos_code.specs.Numbered.{numbered}
 use Rattle.aos_layout.specs.Layout.{kind_of, variable_cells, block}
 use Rattle.aos_layout.proofs.Frames.{size_shaped, cells_counted}
-use Rattle.aos_sound.specs.Sound.{cells_in, is_some}
+use Rattle.aos_sound.specs.Sound.{has_place, is_some}
 use Rattle.aos_typed.specs.Program.{Variable, Module, Program}
 use Rattle.aos_typed.specs.Numbers.{id_of}
 use Rattle.aos_typed.specs.Sort.{Plain, variable_shape}
 use Rattle.aos_typed.specs.Source.{module_shape}
 use Rattle.aos_typed.specs.declared.tree.TType.{TType}
-use Rattle.aos_typed.specs.WellTyped.{variable_type, is_basic, IsWellTyped}
+use Rattle.aos_typed.specs.WellTyped.{variable_type}
 use Rattle.aos_sim.proofs.First.{length-numbers}
-use Rattle.aos_sim.proofs.Variables.{IsOne, basic_is_one}
 use Rattle.aos_sim.specs.Code.{variable_cell}
 use Rattle.aos_sim.specs.Shows.{IsCodeOf}
 
--- so it has for each number with which the program names one; a variable of a basic type is one scalar
+-- so it has for each number with which the program names one; a variable without scalars may stand at the end of a module's cells
 pub record HasNumbers (p : Program) (image : Image) : Type 0 where
-  pub cells : (m c : ℕ) (t : TType) → variable_type p m c ≡ Some t → IsOne p t → variable_cell p m c < cells_in (slice_get image.modules.items m)
-  pub basic : (t : TType) → is_basic t ≡ true → IsOne p t
+  pub cells : (m c : ℕ) (t : TType) → variable_type p m c ≡ Some t → has_place (slice_get image.modules.items m) (variable_cell p m c) ≡ true
   pub types : (t : ℕ) → t < length p.objects → is_some (numbered image.types.items (t + 1)) ≡ true
 
 -- an element that a list of another's results has is that of the other one
@@ -62,32 +61,31 @@ same_size rows (v ∷ vs) =
     let one : size (variable_shape rows (id_of v.of)) ≡ size (shaped (kind_of rows) base) = size_shaped Plain base ∙ sym (size_shaped (kind_of rows) base) in
     λ i. one i + same_size rows vs i
 
--- a variable of one scalar has its cell among them
-cell_within : (p : Program) (x : Module) (c : ℕ) (v : Variable) → slice_get x.variables c ≡ Some v → IsOne p v.of → offset (c ∷ []) (module_shape p x) < size (block p.types x)
-cell_within p x c v e has =
+-- a variable begins among them, or where they end
+cell_within : (p : Program) (x : Module) (c : ℕ) (v : Variable) → slice_get x.variables c ≡ Some v → offset (c ∷ []) (module_shape p x) ≤ size (block p.types x)
+cell_within p x c v e =
     let f = λ (v : Variable). variable_shape p.types (id_of v.of) in
     let here : part c (module_shape p x) ≡ Some (f v) = part_of_row (map f x.variables) c ∙ slice_get-map f x.variables c ∙ ap (option_map f) e in
     let lies = inside_within (c ∷ []) (module_shape p x) (f v) (ap (option_and_then (inside [])) here) in
     let n = same_size p.types x.variables in
-    let one = ap size has in
-    omega (arith, lies, n, one)
+    omega (arith, lies, n)
 
 module _ (p : Program) (image : Image) (ok : IsCodeOf p image) where
   -- a module has the cells of its variables
-  has_cell : (m c : ℕ) (t : TType) → variable_type p m c ≡ Some t → IsOne p t → variable_cell p m c < cells_in (slice_get image.modules.items m)
-  has_cell m c t e has = of_module (slice_get p.modules m) refl e
+  has_cell : (m c : ℕ) (t : TType) → variable_type p m c ≡ Some t → has_place (slice_get image.modules.items m) (variable_cell p m c) ≡ true
+  has_cell m c t e = of_module (slice_get p.modules m) refl e
     where
-      of_module : (o : Option Module) → slice_get p.modules m ≡ o → option_and_then (λ x. option_map (λ v. v.of) (slice_get x.variables c)) o ≡ Some t → variable_cell p m c < cells_in (slice_get image.modules.items m)
+      of_module : (o : Option Module) → slice_get p.modules m ≡ o → option_and_then (λ x. option_map (λ v. v.of) (slice_get x.variables c)) o ≡ Some t → has_place (slice_get image.modules.items m) (variable_cell p m c) ≡ true
       of_module None here f = absurd (cc)
       of_module (Some x) here f =
           let row = map first_cell (leaves (block p.types x)) in
           let at : slice_get (map (λ (d : ModuleDesc). d.cells.items) image.modules.items) m ≡ Some row = ap (λ l. slice_get l m) ok.cells ∙ slice_get-map (λ (y : Module). map first_cell (leaves (block p.types y))) p.modules m ∙ ap (option_map (λ (y : Module). map first_cell (leaves (block p.types y)))) here in
           let d = mapped_at (λ (d : ModuleDesc). d.cells.items) image.modules.items m row at in
           let v = mapped_at (λ (v : Variable). v.of) x.variables c t (slice_get-map (λ (v : Variable). v.of) x.variables c ∙ f) in
-          let lt = cell_within p x c v.0 v.1 (subst (IsOne p) (sym v.2) has) in
+          let le = cell_within p x c v.0 v.1 in
           let first : variable_cell p m c ≡ offset (c ∷ []) (module_shape p x) = ap (number_of (offset (c ∷ []))) (slice_get-map (module_shape p) p.modules m ∙ ap (option_map (module_shape p)) here) in
           let n : length d.0.cells.items ≡ size (block p.types x) = ap length d.2 ∙ length-map (leaves (block p.types x)) first_cell ∙ cells_counted (block p.types x) (leaves (block p.types x)) refl in
-          subst (λ o. variable_cell p m c < cells_in o) (sym d.1) (omega (arith, lt, first, n))
+          ap (λ o. has_place o (variable_cell p m c)) d.1 ∙ le-leb (variable_cell p m c) (length d.0.cells.items) (omega (arith, le, first, n))
 
   -- there are as many types as object types
   has_type : (t : ℕ) → t < length p.objects → is_some (numbered image.types.items (t + 1)) ≡ true
@@ -99,6 +97,6 @@ module _ (p : Program) (image : Image) (ok : IsCodeOf p image) where
       let n : suc t ≡ t + 1 = omega arith in
       ap (λ k. is_some (numbered image.types.items k)) (sym n) ∙ some_within image.types.items t within
 
-  -- so it is where the image has the code of the program, which is well typed
-  pub has_numbers : IsWellTyped p → HasNumbers p image
-  has_numbers well = record { cells = has_cell; basic = basic_is_one p well.predeclared; types = has_type }
+  -- so it is where the image has the code of the program
+  pub has_numbers : HasNumbers p image
+  has_numbers = record { cells = has_cell; types = has_type }

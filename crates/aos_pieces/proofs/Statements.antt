@@ -9,15 +9,13 @@ use Rattle.aos_code.specs.declared.instr.Instr.TheVariants as i
 use Rattle.aos_code.specs.declared.image.Image.{Image}
 use Rattle.aos_sound.specs.declared.stand.Role.TheVariants.{Procedure}
 use Rattle.aos_sound.specs.Sound.{Kinds, without}
-use Rattle.aos_typed.specs.Program.{Program, Place, Call, Open, Char, Int, Ln, Stat, Assign, While, New, Out, Stats, Nothing, Then}
+use Rattle.aos_typed.specs.Program.{Program, Place, Call, Open, Char, Int, Ln, Stat, Assign, Copy, While, New, Out, Stats, Nothing, Then}
 use Rattle.aos_typed.specs.declared.tree.TType.TheVariants as type
-use Rattle.aos_typed.specs.WellTyped.{place_type, IsCall, IsStatement, AreStatements}
-use Rattle.aos_sim.specs.Code.{begin, kind_of, place_code, value_code, out_code, new_code, stat_code, stats_code}
+use Rattle.aos_typed.specs.WellTyped.{IsPlaceOf, IsCall, IsStatement, AreStatements}
+use Rattle.aos_sim.specs.Code.{begin, kind_of, cells_of, place_code, value_code, out_code, new_code, stat_code, stats_code}
 use Rattle.aos_pieces.specs.Piece.{Round, Piece}
 use Rattle.aos_sim.specs.Need.{place_need, out_need, stat_need, stats_need}
 use Rattle.aos_pieces.proofs.Pieces.{nothing, one, both, one_then, then_one, moved, repeats}
-use Rattle.aos_typed.specs.Numbers.{id_of}
-use Rattle.aos_sim.proofs.Variables.{IsOne, object_variable}
 use Rattle.aos_pieces.proofs.Numbers.{HasNumbers}
 use Rattle.aos_pieces.proofs.Values.{some_place, some_need, place_piece, value_piece}
 
@@ -47,12 +45,12 @@ module _ (p : Program) (image : Image) (own : ℕ) (depth : ℕ) (has : HasNumbe
   out_piece Ln h at s room = one i.OutLn refl refl (omega (arith, room)) (λ whole q. refl)
 
   -- the making of an object
-  new_piece : {Asks : Round} (x : Place) (t : ℕ) → place_type p x ≡ Some (type.Named t) → IsOne p (type.Named t) → t < length p.objects → (at : ℕ) (s : Kinds) → length s + (2 + place_need x) ≤ depth → Piece image own Procedure depth Asks (new_code p x t at) at s s
-  new_piece x t h cell lt at s room =
+  new_piece : {Asks : Round} (x : Place) (t : ℕ) → IsPlaceOf p x (type.Named t) → t < length p.objects → (at : ℕ) (s : Kinds) → length s + (2 + place_need x) ≤ depth → Piece image own Procedure depth Asks (new_code p x t at) at s s
+  new_piece x t h lt at s room =
       let k = some_place x in
       one_then (i.NewObject (t + 1)) refl refl (omega (arith, room)) (λ whole q. has.types t lt)
       (one_then i.Dup refl refl (omega (arith, room)) (λ whole q. refl)
-      (both (moved (omega arith) (place_piece p image own Procedure depth has x (type.Named t) h cell (at + 2) (R ∷ R ∷ s) (omega (arith, room))))
+      (both (moved (omega arith) (place_piece p image own Procedure depth has x (type.Named t) h (at + 2) (R ∷ R ∷ s) (omega (arith, room))))
       (one_then i.Swap refl refl (omega (arith, room, k)) (λ whole q. refl)
       (one_then (i.Store R) refl refl (omega (arith, room, k)) (λ whole q. refl)
       (one i.Start refl refl (omega (arith, room)) (λ whole q. refl))))))
@@ -62,17 +60,23 @@ module _ (p : Program) (image : Image) (own : ℕ) (depth : ℕ) (has : HasNumbe
     pub stat_piece : {Asks : Round} (t : Stat) → IsStatement p t → (at : ℕ) (s : Kinds) → length s + stat_need t ≤ depth → Piece image own Procedure depth Asks (stat_code p t at) at s s
     stat_piece (Assign here t x e) h at s room =
         begins here (omega (arith, room)) (both
-        (place_piece p image own Procedure depth has x t h.0 (has.basic t h.1) (at + 1) s (omega (arith, room)))
+        (place_piece p image own Procedure depth has x t h.0 (at + 1) s (omega (arith, room)))
         (then_one
         (value_piece p image own Procedure depth has e t h.2 (at + 1 + length (place_code p x (at + 1))) (A ∷ s) (omega (arith, room)))
         (i.Store (kind_of t)) (stored (kind_of t) s) refl (let k = some_need e in omega (arith, room, k)) (λ whole q. refl)))
+    stat_piece (Copy here t x y) h at s room =
+        begins here (omega (arith, room)) (both
+        (place_piece p image own Procedure depth has x t h.0 (at + 1) s (omega (arith, room)))
+        (then_one
+        (place_piece p image own Procedure depth has y t h.1 (at + 1 + length (place_code p x (at + 1))) (A ∷ s) (omega (arith, room)))
+        (i.Copy (cells_of p t)) refl refl (let k = some_place y in omega (arith, room, k)) (λ whole q. refl)))
     stat_piece (While here e body) h at s room =
         let c = value_code p e (at + 1) in
         let k = some_need e in
         repeats here.line here.col (at + 1 + length c + 1 + length (stats_code p body (at + 1 + length c + 1)) + 1) refl refl (omega (arith, room, k))
         (value_piece p image own Procedure depth has e type.Boolean h.0 (at + 1) s (omega (arith, room)))
         (stats_piece body h.1 (at + 1 + length c + 1) s (omega (arith, room)))
-    stat_piece (New here x t) h at s room = begins here (omega (arith, room)) (new_piece x t h.0 (object_variable p.types (id_of (type.Named t)) h.1) h.2 (at + 1) s room)
+    stat_piece (New here x t) h at s room = begins here (omega (arith, room)) (new_piece x t h.1 h.3 (at + 1) s room)
     stat_piece (Out here call) h at s room = begins here (omega (arith, room)) (out_piece call h (at + 1) s room)
 
     -- a sequence of statements

@@ -13,7 +13,7 @@ use Rattle.aos_code.specs.declared.image.ProcShape.{ProcShape}
 use Rattle.aos_code.specs.Silent.{Stack, Keeps}
 use Rattle.aos_sim.specs.Code.{stat_code}
 use Rattle.aos_sim.proofs.Runs.{Run, run}
-use Rattle.aos_sim.proofs.Does.{Does, HasPredeclared, Knows}
+use Rattle.aos_sim.proofs.Does.{Does, HasTypes, Knows}
 
 -- these instructions stand at this place
 pub record Stands (code : List Instr) (at : ℕ) (xs : List Instr) : Type 0 where
@@ -44,6 +44,6 @@ module _ (program : Program) (shapes : List ProcShape) (own here : ℕ) (code : 
 abbrev pub StatementsDo : Program → Type 0
 StatementsDo program =
     (shapes : List ProcShape) (own here : ℕ) (code : List Instr) (w : World Sort) (s : Stat) (at : ℕ) (k : Keeps) (after : List Item) →
-    HasPredeclared program → Knows program w → IsStatement program s →
+    HasTypes program → Knows program w → IsStatement program s →
     Stands code at (stat_code program s at) → Carries program shapes own here code after (at + length (stat_code program s at)) →
     Does program (Behind program shapes own here code after) w (run shapes own here code (at + 1) k []) (item_of (Do s))

@@ -1,29 +1,32 @@
 -- Code that does what the source does: it asks the same questions, of places that there are and values of the right types, and traps
 -- alike, in each world that has grown.
-use Rattle.std.proofs.Common.{◌≡◌, true, ℕ, suc, ◌<◌, Some, List, [], map, refl, sym, ap, ◌∙◌, subst}
+use Rattle.std.proofs.Common.{◌≡◌, true, ℕ, suc, ◌<◌, ◌≤◌, Some, List, [], map, refl, sym, ap, ◌∙◌, subst}
 use Rattle.std.specs.Prelude.{option_map, slice_get}
 use Rattle.aos_base.specs.declared.number.Width.TheVariants.{W64}
 use Rattle.aos_base.specs.Question.{Val, Asks, Traps, bind, Reads, Stores, Copies, PutsText, ComparesTexts, Calls, Ends, Makes, Starts, PutsInt, PutsChar, PutsString, PutsNothing, PutsLn, Places, Lengths}
 use Rattle.aos_base.specs.declared.place.Root.TheVariants.{Module}
 use Rattle.aos_types.specs.Shape.{Shape, One, Nothing, size}
+use Rattle.aos_types.specs.declared.TheConstants.{MOST_SCALARS}
+use Rattle.aos_types.specs.Table.{row_of}
+use Rattle.aos_types.specs.Chain.{IsRanked}
 use Rattle.aos_types.specs.World.{World, Grows, Scheme, shape_at, cell_at}
 use Rattle.aos_typed.specs.declared.tree.TType.{TType}
 use Rattle.aos_typed.specs.declared.tree.TType.TheVariants as type
 use Rattle.aos_typed.specs.Numbers.{id_of, predeclared_types, predeclared_rows}
 use Rattle.aos_typed.specs.Program.{Program}
-use Rattle.aos_typed.specs.Sort.{Sort, Plain}
+use Rattle.aos_typed.specs.Sort.{Sort, Plain, variable_shape}
 use Rattle.aos_typed.specs.Spot.{Spot}
 use Rattle.aos_typed.specs.Value.{Value, Object}
 use Rattle.aos_typed.specs.Typing.{Is, IsPlain, IsInteger, IsCharacter}
 use Rattle.aos_typed.specs.Source.{module_shape}
-use Rattle.aos_typed.specs.WellTyped.{is_basic}
+use Rattle.aos_typed.specs.WellTyped.{is_basic, is_whole}
 use Rattle.aos_typed.specs.Meaning as source
 use Rattle.aos_typed.specs.Meaning.{Doing}
 use Rattle.aos_code.specs.declared.instr.Cell.{Cell}
 use Rattle.aos_code.specs.Memory.{Addr}
 use Rattle.aos_code.specs.Silent.{Question, Visible, noted}
 use Rattle.aos_places.proofs.Grow.{grows_same, grows_twice, shape_grows, cell_grows}
-use Rattle.aos_sim.specs.Code.{kind_of}
+use Rattle.aos_sim.specs.Code.{kind_of, cells_of}
 use Rattle.aos_sim.specs.Cells.{cell_of}
 use Rattle.aos_sim.proofs.Runs.{Run, calm, calm_visible}
 use Rattle.aos_sim.proofs.Kept.{values_kept}
@@ -36,25 +39,6 @@ scheme p = record { modules = map (module_shape p) p.modules; made = λ m. Nothi
 abbrev pub addr_of : World Sort → Spot → Addr
 addr_of w p = record { root = p.root; cell = cell_at w p.root p.path }
 
--- the question that the code asks where the source asks this one
-abbrev pub placed : World Sort → source.Question → Question
-placed w (Reads t p) = Reads (kind_of t) (addr_of w p)
-placed w (Stores p v) = Stores (addr_of w p) (cell_of w v)
-placed w (Copies s p q) = Copies (size s) (addr_of w p) (addr_of w q)
-placed w (PutsText strict p n q m) = PutsText strict (addr_of w p) (cell_of w n) (addr_of w q) (cell_of w m)
-placed w (ComparesTexts r p n q m) = ComparesTexts r (addr_of w p) (cell_of w n) (addr_of w q) (cell_of w m)
-placed w (Calls p vs) = Calls p (map (cell_of w) vs)
-placed w (Ends r) = Ends (option_map (cell_of w) r)
-placed w (Makes t) = Makes t
-placed w (Starts v) = Starts (cell_of w v)
-placed w (PutsInt v n) = PutsInt (cell_of w v) (cell_of w n)
-placed w (PutsChar v) = PutsChar (cell_of w v)
-placed w (PutsString p n) = PutsString (addr_of w p) (cell_of w n)
-placed w PutsNothing = PutsNothing
-placed w PutsLn = PutsLn
-placed w (Places p) = Places (addr_of w p)
-placed w (Lengths p) = Lengths (addr_of w p)
-
 -- an object, and not NIL
 abbrev pub IsMade : Value → Type 0
 IsMade v = (k : ℕ) × (v ≡ Object (suc k))
@@ -63,27 +47,57 @@ IsMade v = (k : ℕ) × (v ≡ Object (suc k))
 abbrev pub HasPredeclared : Program → Type 0
 HasPredeclared p = (k : ℕ) → k < predeclared_types → slice_get p.types k ≡ slice_get predeclared_rows k
 
+-- what holds of a program's types, and of its modules: the predeclared types stand first, no type contains itself, and no module has
+-- more scalars than a type may have
+pub record HasTypes (p : Program) : Type 0 where
+  pub predeclared : HasPredeclared p
+  pub ranked : IsRanked p.types
+  pub few : (m : ℕ) (s : Shape Sort) → slice_get (map (module_shape p) p.modules) m ≡ Some s → size s ≤ MOST_SCALARS
+
 -- a world in which the program's modules have their shapes
 abbrev pub Knows : Program → World Sort → Type 0
 Knows p w = (m : ℕ) (s : Shape Sort) → slice_get (map (module_shape p) p.modules) m ≡ Some s → w.shape (Module m) ≡ Some s
 
 module _ (program : Program) where
+  -- the question that the code asks where the source asks this one
+  abbrev pub placed : World Sort → source.Question → Question
+  placed w (Reads t p) = Reads (kind_of t) (addr_of w p)
+  placed w (Stores p v) = Stores (addr_of w p) (cell_of w v)
+  placed w (Copies t p q) = Copies (cells_of program t) (addr_of w p) (addr_of w q)
+  placed w (PutsText strict p n q m) = PutsText strict (addr_of w p) (cell_of w n) (addr_of w q) (cell_of w m)
+  placed w (ComparesTexts r p n q m) = ComparesTexts r (addr_of w p) (cell_of w n) (addr_of w q) (cell_of w m)
+  placed w (Calls p vs) = Calls p (map (cell_of w) vs)
+  placed w (Ends r) = Ends (option_map (cell_of w) r)
+  placed w (Makes t) = Makes t
+  placed w (Starts v) = Starts (cell_of w v)
+  placed w (PutsInt v n) = PutsInt (cell_of w v) (cell_of w n)
+  placed w (PutsChar v) = PutsChar (cell_of w v)
+  placed w (PutsString p n) = PutsString (addr_of w p) (cell_of w n)
+  placed w PutsNothing = PutsNothing
+  placed w PutsLn = PutsLn
+  placed w (Places p) = Places (addr_of w p)
+  placed w (Lengths p) = Lengths (addr_of w p)
+
   -- there is a scalar of this sort at a place
   abbrev pub HasScalar : World Sort → Spot → Sort → Type 0
   HasScalar w p k = shape_at w p.root p.path ≡ Some (One k)
 
+  -- there is a variable of this type
+  abbrev pub HasPlace : World Sort → Spot → TType → Type 0
+  HasPlace w p t = shape_at w p.root p.path ≡ Some (variable_shape program.types (id_of t))
+
   -- a question is at places that there are, and its values are of the sorts that it takes: what is read is of a basic type, whose cell
-  -- is of the kind that its code takes; no program asks the others yet
+  -- is of the kind that its code takes, and what is copied is a record or an array; no program asks the others yet
   abbrev pub Valid : World Sort → source.Question → Type 0
   Valid w (Reads t p) = (is_basic t ≡ true) × HasScalar w p (Plain (id_of t))
   Valid w (Stores p v) = (k : Sort) × IsPlain k × HasScalar w p k × Is program.types w k v
+  Valid w (Copies t p q) = HasPlace w p t × HasPlace w q t × (is_whole (row_of program.types (id_of t)) ≡ true)
   Valid w (Makes t) = Unit {0}
   Valid w (Starts v) = IsMade v
   Valid w (PutsInt v n) = IsInteger W64 v × IsInteger W64 n
   Valid w (PutsChar v) = IsCharacter v
   Valid w PutsNothing = Unit {0}
   Valid w PutsLn = Unit {0}
-  Valid w (Copies s p q) = ⊥
   Valid w (PutsText strict p n q m) = ⊥
   Valid w (ComparesTexts r p n q m) = ⊥
   Valid w (Calls p vs) = ⊥
@@ -130,12 +144,12 @@ module _ (program : Program) where
   does_more R Q w m (Traps n c) d go = d
 
   module _ (w w' : World Sort) (g : Grows w w') where
-    pub scalar_grows : (p : Spot) (k : Sort) → HasScalar program w p k → HasScalar program w' p k
-    scalar_grows p k h = shape_grows w w' g p.root p.path (One k) h
+    -- a place stays there, at its cell
+    pub place_grows : (p : Spot) (s : Shape Sort) → shape_at w p.root p.path ≡ Some s → shape_at w' p.root p.path ≡ Some s
+    place_grows p s h = shape_grows w w' g p.root p.path s h
 
-    -- a scalar stays at its cell
-    pub addr_grows : (p : Spot) (k : Sort) → HasScalar program w p k → addr_of w p ≡ addr_of w' p
-    addr_grows p k h = ap (λ n. record { root = p.root; cell = n }) (cell_grows w w' g p.root p.path (One k) h)
+    pub addr_grows : (p : Spot) (s : Shape Sort) → shape_at w p.root p.path ≡ Some s → addr_of w p ≡ addr_of w' p
+    addr_grows p s h = ap (λ n. record { root = p.root; cell = n }) (cell_grows w w' g p.root p.path s h)
 
     made_cell : (v : Value) → IsMade v → cell_of w v ≡ cell_of w' v
     made_cell v h = ap (cell_of w) h.1 ∙ sym (ap (cell_of w') h.1)
@@ -148,16 +162,18 @@ module _ (program : Program) where
     integer_cell v h = value_cell (type.Integer W64) v (integer_is W64 v h)
 
     -- a valid question is the same one in a world that has grown
-    pub placed_same : (q : source.Question) → Valid program w q → placed w q ≡ placed w' q
-    placed_same (Reads t p) h = ap (Reads (kind_of t)) (addr_grows p (Plain (id_of t)) h.1)
-    placed_same (Stores p v) h = λ i. Stores (addr_grows p h.0 h.2 i) ((values_kept program.types).cells w w' g h.0 v h.3 i)
+    pub placed_same : (q : source.Question) → Valid program w q → placed program w q ≡ placed program w' q
+    placed_same (Reads t p) h = ap (Reads (kind_of t)) (addr_grows p (One (Plain (id_of t))) h.1)
+    placed_same (Stores p v) h = λ i. Stores (addr_grows p (One h.0) h.2 i) ((values_kept program.types).cells w w' g h.0 v h.3 i)
     placed_same (Makes t) h = refl
     placed_same (Starts v) h = ap Starts (made_cell v h)
     placed_same (PutsInt v n) h = λ i. PutsInt (integer_cell v h.0 i) (integer_cell n h.1 i)
     placed_same (PutsChar v) h = ap PutsChar (value_cell type.Char v (character_is v h))
     placed_same PutsNothing h = refl
     placed_same PutsLn h = refl
-    placed_same (Copies s p q) h = absurd h
+    placed_same (Copies t p q) h =
+        let s = variable_shape program.types (id_of t) in
+        λ i. Copies (cells_of program t) (addr_grows p s h.0 i) (addr_grows q s h.1 i)
     placed_same (PutsText strict p n q m) h = absurd h
     placed_same (ComparesTexts r p n q m) h = absurd h
     placed_same (Calls p vs) h = absurd h
@@ -167,15 +183,17 @@ module _ (program : Program) where
     placed_same (Lengths p) h = absurd h
 
     pub valid_grows : (q : source.Question) → Valid program w q → Valid program w' q
-    valid_grows (Reads t p) h = (h.0, scalar_grows p (Plain (id_of t)) h.1)
-    valid_grows (Stores p v) h = (h.0, h.1, scalar_grows p h.0 h.2, (values_kept program.types).is w w' g h.0 v h.3)
+    valid_grows (Reads t p) h = (h.0, place_grows p (One (Plain (id_of t))) h.1)
+    valid_grows (Stores p v) h = (h.0, h.1, place_grows p (One h.0) h.2, (values_kept program.types).is w w' g h.0 v h.3)
     valid_grows (Makes t) h = tt
     valid_grows (Starts v) h = h
     valid_grows (PutsInt v n) h = h
     valid_grows (PutsChar v) h = h
     valid_grows PutsNothing h = tt
     valid_grows PutsLn h = tt
-    valid_grows (Copies s p q) h = absurd h
+    valid_grows (Copies t p q) h =
+        let s = variable_shape program.types (id_of t) in
+        (place_grows p s h.0, place_grows q s h.1, h.2)
     valid_grows (PutsText strict p n q m) h = absurd h
     valid_grows (ComparesTexts r p n q m) h = absurd h
     valid_grows (Calls p vs) h = absurd h
@@ -192,7 +210,7 @@ module _ (program : Program) where
     does_grows R up m (Traps n c) d = d
 
   -- no valid question is answered by the frame's own cells
-  pub placed_visible : (cells : List Cell) (w : World Sort) (q : source.Question) → Valid program w q → noted cells (placed w q) ≡ Visible
+  pub placed_visible : (cells : List Cell) (w : World Sort) (q : source.Question) → Valid program w q → noted cells (placed program w q) ≡ Visible
   placed_visible cells w (Reads t p) h = refl
   placed_visible cells w (Stores p v) h = refl
   placed_visible cells w (Makes t) h = refl
@@ -201,7 +219,7 @@ module _ (program : Program) where
   placed_visible cells w (PutsChar v) h = refl
   placed_visible cells w PutsNothing h = refl
   placed_visible cells w PutsLn h = refl
-  placed_visible cells w (Copies s p q) h = absurd h
+  placed_visible cells w (Copies t p q) h = refl
   placed_visible cells w (PutsText strict p n q m) h = absurd h
   placed_visible cells w (ComparesTexts r p n q m) h = absurd h
   placed_visible cells w (Calls p vs) h = absurd h
@@ -210,5 +228,5 @@ module _ (program : Program) where
   placed_visible cells w (Places p) h = absurd h
   placed_visible cells w (Lengths p) h = absurd h
 
-  pub calm_placed : (cells : List Cell) (w : World Sort) (q : source.Question) (f : Cell → Run) → Valid program w q → calm cells (Asks (placed w q) f) ≡ Asks (placed w q) f
-  calm_placed cells w q f h = calm_visible cells (placed w q) f (placed_visible cells w q h)
+  pub calm_placed : (cells : List Cell) (w : World Sort) (q : source.Question) (f : Cell → Run) → Valid program w q → calm cells (Asks (placed program w q) f) ≡ Asks (placed program w q) f
+  calm_placed cells w q f h = calm_visible cells (placed program w q) f (placed_visible cells w q h)

@@ -1,5 +1,5 @@
--- Pieces of code that evaluate an expression, and go on behind themselves with its value on the stack.
-use Rattle.std.proofs.Common.{◌≡◌, ℕ, suc, ◌+◌, ◌-◌, ◌<◌, List, [], ◌∷◌, ◌++◌, length, ap, ◌∙◌, subst, arith, append_assoc}
+-- Pieces of code that evaluate an expression or find a designator's place, and go on behind themselves with it on the stack.
+use Rattle.std.proofs.Common.{◌≡◌, ℕ, suc, ◌+◌, ◌-◌, ◌<◌, List, [], ◌∷◌, ◌++◌, length, refl, ap, ◌∙◌, subst, arith, append_assoc}
 use Rattle.std.proofs.lemmas.Bool.{lt-ltb}
 use Rattle.aos_base.specs.Question.{bind}
 use Rattle.aos_types.specs.World.{World, Grows}
@@ -9,21 +9,34 @@ use Rattle.aos_typed.specs.Sort.{Sort}
 use Rattle.aos_typed.specs.Value.{Value, number_of}
 use Rattle.aos_typed.specs.Meaning.{Doing}
 use Rattle.aos_code.specs.declared.image.ProcShape.{ProcShape}
+use Rattle.aos_code.specs.declared.instr.Cell.{Cell}
 use Rattle.aos_code.specs.declared.instr.Cell.TheVariants.{Num}
 use Rattle.aos_code.specs.declared.instr.Instr.{Instr}
 use Rattle.aos_code.specs.Silent.{Stack, Keeps, jumps}
+use Rattle.aos_sim.specs.Code.{operands_code}
 use Rattle.aos_sim.proofs.Runs.{Run, Onward, on_run, runs}
 use Rattle.aos_sim.proofs.Types.{IsValueOf}
-use Rattle.aos_sim.proofs.Does.{Knows, Does, along, does_bind}
+use Rattle.aos_sim.proofs.Does.{Knows, Does, knows_grows, along, does_bind}
+
+-- a value of a basic type, and its cell, are the same in each world
+abbrev pub OfType : TType → World Sort → Value → Type 0
+OfType t w v = IsValueOf t v
+
+abbrev pub number_in : World Sort → Value → Cell
+number_in w v = Num (number_of v)
 
 module _ (shapes : List ProcShape) (own here : ℕ) (code : List Instr) where
   abbrev onward : List Instr → Onward
   onward = runs shapes own here code
 
-  -- the code goes on with the rest at this place, with a value of this type on the stack
-  pub record Pushed (t : TType) (rest : List Instr) (at : ℕ) (k : Keeps) (s : Stack) (w : World Sort) (v : Value) (m : Run) : Type 0 where
-    pub is : IsValueOf t v
-    pub run : m ≡ runs shapes own here code rest 0 at k (Num (number_of v) ∷ s)
+  -- the code goes on with the rest at this place, with the cell of what has this property on the stack
+  pub record OnStack {A : Type 0} (P : World Sort → A → Type 0) (cell : World Sort → A → Cell) (rest : List Instr) (at : ℕ) (k : Keeps) (s : Stack) (w : World Sort) (a : A) (m : Run) : Type 0 where
+    pub is : P w a
+    pub run : m ≡ runs shapes own here code rest 0 at k (cell w a ∷ s)
+
+  -- with a value of this type
+  abbrev pub Pushed : TType → List Instr → ℕ → Keeps → Stack → World Sort → Value → Run → Type 0
+  Pushed t = OnStack (OfType t) number_in
 
   pub passed : (xs rest : List Instr) (n at : ℕ) (k : Keeps) (s : Stack) → runs shapes own here code (xs ++ rest) (length xs + n) at k s ≡ runs shapes own here code rest n (at + length xs) k s
   passed [] rest n at k s =
@@ -43,17 +56,42 @@ module _ (shapes : List ProcShape) (own here : ℕ) (code : List Instr) where
       rw (lt-ltb at to lt) (ap (λ m. onward rest m (at + 1) k s) d)
 
 module _ (program : Program) (shapes : List ProcShape) (own here : ℕ) (code : List Instr) where
-  -- this piece of code, at this place, evaluates an expression of this type and goes on behind itself
-  abbrev pub Evaluates : TType → List Instr → Doing Value → ℕ → Type 0
-  Evaluates t xs r at =
+  -- this piece of code, at this place, comes to what has this property and goes on behind itself
+  abbrev pub ComesTo : {A : Type 0} → (World Sort → A → Type 0) → (World Sort → A → Cell) → List Instr → Doing A → ℕ → Type 0
+  ComesTo P cell xs r at =
       (w : World Sort) → Knows program w → (rest : List Instr) (k : Keeps) (s : Stack) →
-      Does program (Pushed shapes own here code t rest (at + length xs) k s) w (runs shapes own here code (xs ++ rest) 0 at k s) r
+      Does program (OnStack shapes own here code P cell rest (at + length xs) k s) w (runs shapes own here code (xs ++ rest) 0 at k s) r
+
+  -- it evaluates an expression of this type
+  abbrev pub Evaluates : TType → List Instr → Doing Value → ℕ → Type 0
+  Evaluates t = ComesTo (OfType t) number_in
+
+  -- a piece of code, and what stands behind it
+  pub piece_does : {A C : Type 0} (P : World Sort → A → Type 0) (cell : World Sort → A → Cell) (Q : World Sort → C → Run → Type 0) (f : A → Doing C) (xs tail : List Instr) (r : Doing A) (at : ℕ) (rest : List Instr) (k : Keeps) (s : Stack) → ComesTo P cell xs r at → (w : World Sort) → Knows program w → ((w' : World Sort) → Grows w w' → (a : A) (m : Run) → P w' a → m ≡ runs shapes own here code (tail ++ rest) 0 (at + length xs) k (cell w' a ∷ s) → Does program Q w' m (f a)) → Does program Q w (runs shapes own here code ((xs ++ tail) ++ rest) 0 at k s) (bind r f)
+  piece_does P cell Q f xs tail r at rest k s h w known go =
+      along program Q w _ _ (bind r f) (ap (λ l. runs shapes own here code l 0 at k s) (append_assoc xs tail rest))
+      (does_bind program (OnStack shapes own here code P cell (tail ++ rest) (at + length xs) k s) Q w _ r f (h w known (tail ++ rest) k s) (λ w' up a m p. go w' up a m p.is p.run))
+
+  -- what a piece of code has come to stays, and its cell, as the world grows
+  abbrev pub Stays : {A : Type 0} → (World Sort → A → Type 0) → (World Sort → A → Cell) → Type 0
+  Stays {A = A} P cell = (w w' : World Sort) → Grows w w' → (a : A) → P w a → P w' a × (cell w a ≡ cell w' a)
+
+  -- two pieces of code, and an instruction on what they come to
+  pub pieces_do : {A B C : Type 0} (P : World Sort → A → Type 0) (c : World Sort → A → Cell) (R : World Sort → B → Type 0) (d : World Sort → B → Cell) (Q : World Sort → C → Run → Type 0) (x : Instr) (f : A → B → Doing C) (ca cb : List Instr) (ra : Doing A) (rb : Doing B) (at : ℕ) (rest : List Instr) (k : Keeps) (s : Stack) → Stays P c → ComesTo P c ca ra at → ComesTo R d cb rb (at + length ca) → (w : World Sort) → Knows program w → ((w' : World Sort) (a : A) (b : B) (m : Run) → P w' a → R w' b → m ≡ runs shapes own here code (x ∷ rest) 0 (at + length ca + length cb) k (d w' b ∷ (c w' a ∷ s)) → Does program Q w' m (f a b)) → Does program Q w (runs shapes own here code (operands_code ca cb x ++ rest) 0 at k s) (bind ra (λ a. bind rb (λ b. f a b)))
+  pieces_do P c R d Q x f ca cb ra rb at rest k s stays ha hb w known op =
+      piece_does P c Q (λ a. bind rb (λ b. f a b)) ca (cb ++ x ∷ []) ra at rest k s ha w known
+      (λ w1 up a m p e. along program Q w1 m _ (bind rb (λ b. f a b)) e
+      (piece_does R d Q (λ b. f a b) cb (x ∷ []) rb (at + length ca) rest k (c w1 a ∷ s) hb w1 (knows_grows program w w1 up known)
+      (λ w2 up' b m' q e'. let h = stays w1 w2 up' a p in
+      op w2 a b m' h.0 q (e' ∙ ap (λ y. runs shapes own here code (x ∷ rest) 0 (at + length ca + length cb) k (d w2 b ∷ (y ∷ s))) h.1))))
+
+  pub values_stay : (t : TType) → Stays (OfType t) number_in
+  values_stay t w w' g v h = (h, refl)
 
   -- an operand of this type, and what stands behind it
   pub operand_does : {C : Type 0} (Q : World Sort → C → Run → Type 0) (t : TType) (f : Value → Doing C) (xs tail : List Instr) (r : Doing Value) (at : ℕ) (rest : List Instr) (k : Keeps) (s : Stack) → Evaluates t xs r at → (w : World Sort) → Knows program w → ((w' : World Sort) → Grows w w' → (v : Value) (m : Run) → IsValueOf t v → m ≡ runs shapes own here code (tail ++ rest) 0 (at + length xs) k (Num (number_of v) ∷ s) → Does program Q w' m (f v)) → Does program Q w (runs shapes own here code ((xs ++ tail) ++ rest) 0 at k s) (bind r f)
   operand_does Q t f xs tail r at rest k s h w known go =
-      along program Q w _ _ (bind r f) (ap (λ l. runs shapes own here code l 0 at k s) (append_assoc xs tail rest))
-      (does_bind program (Pushed shapes own here code t (tail ++ rest) (at + length xs) k s) Q w _ r f (h w known (tail ++ rest) k s) (λ w' up v m p. go w' up v m p.is p.run))
+      piece_does (OfType t) number_in Q f xs tail r at rest k s h w known go
 
   -- code that goes on at the place behind its own
   pub ends_at : (t : TType) (rest : List Instr) (p q : ℕ) (k : Keeps) (s : Stack) (w : World Sort) (m : Run) (r : Doing Value) → p ≡ q → Does program (Pushed shapes own here code t rest p k s) w m r → Does program (Pushed shapes own here code t rest q k s) w m r

@@ -1,5 +1,5 @@
--- The code of a well-typed expression does what the expression does, for all answers of the right types.
-use Rattle.std.proofs.Common.{◌≡◌, ℕ, pos, ◌+◌, List, [], ◌∷◌, ◌++◌, length, refl, sym, ap, ◌∙◌, subst, arith, append_assoc, length-append}
+-- The code of a well-typed designator or expression does what this does, for all answers of the right types.
+use Rattle.std.proofs.Common.{◌≡◌, ℕ, pos, true, Some, ◌+◌, List, [], ◌∷◌, ◌++◌, length, refl, sym, ap, ◌∙◌, subst, arith, length-append}
 use Rattle.std.proofs.lemmas.Int.{ints}
 use Rattle.aos_base.specs.declared.number.Width.TheVariants.{W16, W64}
 use Rattle.aos_base.specs.declared.operator.Unary.{Unary as UnaryOperator}
@@ -15,23 +15,26 @@ use Rattle.aos_typed.specs.declared.tree.Literal.{Literal}
 use Rattle.aos_typed.specs.declared.tree.Literal.TheVariants as literal
 use Rattle.aos_typed.specs.declared.tree.TType.{TType}
 use Rattle.aos_typed.specs.declared.tree.TType.TheVariants as type
-use Rattle.aos_typed.specs.Program.{Place as Designator, Expr, Lit, Read, Unary, Binary, And, Or, Element, Ord, Chr, Program}
+use Rattle.aos_typed.specs.Program.{Place as Designator, ModuleVar, Field, Index, Expr, Lit, Read, Unary, Binary, And, Or, Element, Ord, Chr, Program}
 use Rattle.aos_typed.specs.Sort.{Sort}
 use Rattle.aos_typed.specs.Value.{Value, Sort as Kind, Character, literal_value, number_of, given as given_value, unary_sort, binary_sort, binary, element, ord}
 use Rattle.aos_typed.specs.Meaning.{Doing, place_of, value_of}
-use Rattle.aos_typed.specs.WellTyped.{taken, GivesOfTwo, IsOf}
+use Rattle.aos_typed.specs.Spot.{Spot}
+use Rattle.aos_typed.specs.WellTyped.{is_basic, Includes, taken, GivesOfTwo, IsPlaceOf, IsOf}
 use Rattle.aos_code.specs.declared.image.ProcShape.{ProcShape}
 use Rattle.aos_code.specs.declared.instr.Cell.TheVariants.{Num}
 use Rattle.aos_code.specs.declared.instr.Instr.{Instr}
 use Rattle.aos_code.specs.declared.instr.Instr.TheVariants as i
 use Rattle.aos_code.specs.Silent.{Stack, Keeps, given}
+use Rattle.aos_sim.specs.Cells.{place_in}
 use Rattle.aos_sim.specs.Code.{literal_code, kind_of, place_code, operands_code, value_code}
 use Rattle.aos_sim.proofs.Runs.{Run, Onward, on_run, runs}
 use Rattle.aos_sim.proofs.Types.{IsValueOf, number_cell, included, literal_is}
 use Rattle.aos_sim.proofs.Operators.{unary_agrees, Suit, operands_suit, binary_agrees}
-use Rattle.aos_sim.proofs.Does.{HasPredeclared, Knows, Does, knows_grows, along, does_bind}
-use Rattle.aos_sim.proofs.Variables.{basic_is_one, value_from, Named, place_does}
-use Rattle.aos_sim.proofs.Evaluates.{Pushed, Evaluates, operand_does, ends_at}
+use Rattle.aos_sim.proofs.Does.{HasPredeclared, HasTypes, Does, does_bind}
+use Rattle.aos_sim.proofs.Variables.{basic_is_one, value_from}
+use Rattle.aos_sim.proofs.Evaluates.{OfType, number_in, Pushed, Evaluates, piece_does, pieces_do, values_stay, operand_does, ends_at}
+use Rattle.aos_sim.proofs.Designators.{IsFound, Finds, variable_does, field_does, index_does}
 use Rattle.aos_sim.proofs.Results.{Agrees, chr_agrees}
 use Rattle.aos_sim.proofs.Shortcuts.{and_does, or_does}
 
@@ -48,14 +51,6 @@ module _ (program : Program) (shapes : List ProcShape) (own here : ℕ) (code : 
 
   abbrev Comes : TType → List Instr → Doing Value → ℕ → Type 0
   Comes = Evaluates program shapes own here code
-
-  -- two operands of these types and an instruction on them
-  pub operands_do : {C : Type 0} (Q : World Sort → C → Run → Type 0) (t u : TType) (x : Instr) (f : Value → Value → Doing C) (ca cb : List Instr) (ra rb : Doing Value) (at : ℕ) (rest : List Instr) (k : Keeps) (s : Stack) → Evaluates program shapes own here code t ca ra at → Evaluates program shapes own here code u cb rb (at + length ca) → (w : World Sort) → Knows program w → ((w' : World Sort) (a b : Value) (m : Run) → IsValueOf t a → IsValueOf u b → m ≡ runs shapes own here code (x ∷ rest) 0 (at + length ca + length cb) k (Num (number_of b) ∷ (Num (number_of a) ∷ s)) → Does program Q w' m (f a b)) → Does program Q w (runs shapes own here code (operands_code ca cb x ++ rest) 0 at k s) (bind ra (λ a. bind rb (λ b. f a b)))
-  operands_do Q t u x f ca cb ra rb at rest k s ha hb w known op =
-      operand_does program shapes own here code Q t (λ a. bind rb (λ b. f a b)) ca (cb ++ x ∷ []) ra at rest k s ha w known
-      (λ w1 up a m p e. along program Q w1 m _ (bind rb (λ b. f a b)) e
-      (operand_does program shapes own here code Q u (λ b. f a b) cb (x ∷ []) rb (at + length ca) rest k (Num (number_of a) ∷ s) hb w1 (knows_grows program w w1 up known)
-      (λ w2 up' b m' q e'. op w2 a b m' p q e')))
 
   -- what an operator gives
   given_does : (t : TType) (z : Kind) (g : Given) → Agrees t z g → (rest : List Instr) (at : ℕ) (k : Keeps) (s : Stack) (w : World Sort) (m : Run) → m ≡ on_run (given g s) (onward rest) at k → Does program (With t rest (at + 1) k s) w m (given_value z g)
@@ -88,7 +83,8 @@ module _ (program : Program) (shapes : List ProcShape) (own here : ℕ) (code : 
   binary_does t u v op ca cb ra rb at suit g ha hb w known rest k s =
       let x = i.Binary op in
       let n : at + length ca + length cb + 1 ≡ at + length (operands_code ca cb x) = omega (arith, length-append ca (cb ++ x ∷ []), length-append cb (x ∷ [])) in
-      operands_do (With t rest (at + length (operands_code ca cb x)) k s) u v x (binary op) ca cb ra rb at rest k s ha hb w known
+      pieces_do program shapes own here code (OfType u) number_in (OfType v) number_in (With t rest (at + length (operands_code ca cb x)) k s) x (λ a b. binary op a b) ca cb ra rb at rest k s
+      (values_stay program shapes own here code u) ha hb w known
       (λ w' a b m p q e. ends_at program shapes own here code t rest (at + length ca + length cb + 1) (at + length (operands_code ca cb x)) k s w' m (binary op a b) n
       (on_numbers_does op t a b (suit a b p q) g rest (at + length ca + length cb) k s w' m e))
 
@@ -105,48 +101,55 @@ module _ (program : Program) (shapes : List ProcShape) (own here : ℕ) (code : 
       does_bind program (With type.Char rest (at + length xs) k s) (With t rest (at + length xs) k s) w (onward (xs ++ rest) 0 at k s) r (λ v. Val (ord v)) (h w known rest k s)
       (λ w' up v m p. record { is = more (ord v) (ord_is v p.is); run = p.run })
 
-  module _ (predeclared : HasPredeclared program) where
-    read_does : (t u : TType) (p : Designator) (at : ℕ) → IsOf program (Read u p) t → Comes t (value_code program (Read u p) at) (value_of (Read u p)) at
-    read_does t u p at ok w known rest k s =
-        let cp = place_code program p at in
-        let tail = i.Load (kind_of u) ∷ rest in
-        let q = at + length (cp ++ i.Load (kind_of u) ∷ []) in
-        let n : at + length cp + 1 ≡ q = omega (arith, length-append cp (i.Load (kind_of u) ∷ [])) in
-        along program (With t rest q k s) w _ _ (value_of (Read u p)) (ap (λ l. onward l 0 at k s) (append_assoc cp (i.Load (kind_of u) ∷ []) rest))
-        (does_bind program (Named program shapes own here code u tail (at + length cp) k s) (With t rest q k s) w _ (place_of p) (λ a. ask (Reads u a))
-        (place_does program shapes own here code p u ok.0 (basic_is_one program predeclared u ok.1) w known at tail k s)
-        (λ w1 up a m h. (
-          (λ x. onward rest 0 (at + length cp + 1) k (x ∷ s)),
-          h.run,
-          (ok.1, h.there),
-          λ w2 up' v c.
-              let is = value_from program predeclared u w2 v ok.1 c in
-              ends_at program shapes own here code t rest (at + length cp + 1) q k s w2 _ (Val v) n
-              (record { is = included t u v ok.2 is; run = ap (λ c. onward rest 0 (at + length cp + 1) k (c ∷ s)) (number_cell w2 u v is) }),
-        )))
+  -- a place of a basic type is read
+  read_does : HasPredeclared program → (t u : TType) (xs : List Instr) (r : Doing Spot) (at : ℕ) → is_basic u ≡ true → Includes t u → Finds program shapes own here code u xs r at → Comes t (xs ++ i.Load (kind_of u) ∷ []) (bind r (λ p. ask (Reads u p))) at
+  read_does predeclared t u xs r at basic more h w known rest k s =
+      let q = at + length (xs ++ i.Load (kind_of u) ∷ []) in
+      let n : at + length xs + 1 ≡ q = omega (arith, length-append xs (i.Load (kind_of u) ∷ [])) in
+      piece_does program shapes own here code (IsFound program u) place_in (With t rest q k s) (λ p. ask (Reads u p)) xs (i.Load (kind_of u) ∷ []) r at rest k s h w known
+      (λ w1 up p m found e. (
+        (λ x. onward rest 0 (at + length xs + 1) k (x ∷ s)),
+        e,
+        (basic, found.there ∙ ap (λ z. Some z) (basic_is_one program predeclared u basic)),
+        λ w2 up' v c.
+            let is = value_from program predeclared u w2 v basic c in
+            ends_at program shapes own here code t rest (at + length xs + 1) q k s w2 _ (Val v) n
+            (record { is = included t u v more is; run = ap (λ c. onward rest 0 (at + length xs + 1) k (c ∷ s)) (number_cell w2 u v is) }),
+      ))
 
-    pub value_does : (e : Expr) (t : TType) → IsOf program e t → (at : ℕ) → Evaluates program shapes own here code t (value_code program e at) (value_of e) at
-    value_does (Lit l) t ok at = literal_does t l at ok
-    value_does (Read u p) t ok at = read_does t u p at ok
-    value_does (Unary op a) t ok at =
-        unary_does t (taken op) op (unary_sort op) (value_code program a at) (value_of a) at (λ v h. unary_agrees op t v h ok.1) (value_does a (taken op) ok.0 at)
-    value_does (Binary op a b) t ok at =
-        let o = operands_suit op (IsOf program a) (IsOf program b) ok.0 in
-        let pb = at + length (value_code program a at) in
-        binary_does t o.0 o.1 op (value_code program a at) (value_code program b pb) (value_of a) (value_of b) at o.4 ok.1 (value_does a o.0 o.2 at) (value_does b o.1 o.3 pb)
-    value_does (And a b) t ok at =
-        let ca = value_code program a at in
-        let pb = at + length ca + 1 in
-        subst (λ x. Comes x (value_code program (And a b) at) (value_of (And a b)) at) (sym ok.2)
-        (and_does program shapes own here code ca (value_code program b pb) (value_of a) (value_of b) at (value_does a type.Boolean ok.0 at) (value_does b type.Boolean ok.1 pb))
-    value_does (Or a b) t ok at =
-        let ca = value_code program a at in
-        let pb = at + length ca + 3 in
-        subst (λ x. Comes x (value_code program (Or a b) at) (value_of (Or a b)) at) (sym ok.2)
-        (or_does program shapes own here code ca (value_code program b pb) (value_of a) (value_of b) at (value_does a type.Boolean ok.0 at) (value_does b type.Boolean ok.1 pb))
-    value_does (Element a) t ok at =
-        subst (λ x. Comes x (value_code program (Element a) at) (value_of (Element a)) at) (sym ok.1) (element_does (value_code program a at) (value_of a) at (value_does a (type.Integer W64) ok.0 at))
-    value_does (Ord a) t ok at = ord_does t (value_code program a at) (value_of a) at (λ v. included t (type.Integer W16) v ok.1) (value_does a type.Char ok.0 at)
-    value_does (Chr a) t ok at =
-        subst (λ x. Comes x (value_code program (Chr a) at) (value_of (Chr a)) at) (sym ok.1)
-        (unary_does type.Char (type.Integer W64) (Range (pos 0) (pos 255)) Character (value_code program a at) (value_of a) at (λ v h. chr_agrees (number_of v)) (value_does a (type.Integer W64) ok.0 at))
+  module _ (typed : HasTypes program) where
+    mutual
+      pub place_does : (p : Designator) (t : TType) → IsPlaceOf program p t → (at : ℕ) → Finds program shapes own here code t (place_code program p at) (place_of p) at
+      place_does (ModuleVar m k) t ok at = variable_does program shapes own here code typed m k t at ok
+      place_does (Field p u k) t ok at = field_does program shapes own here code typed u t k (place_code program p at) (place_of p) at ok.1 (place_does p u ok.0 at)
+      place_does (Index p n u e) t ok at =
+          let ca = place_code program p at in
+          let pb = at + length ca in
+          subst (λ x. Finds program shapes own here code x (place_code program (Index p n u e) at) (place_of (Index p n u e)) at) (sym ok.4)
+          (index_does program shapes own here code typed ok.0 u n ca (value_code program e pb) (place_of p) (value_of e) at ok.2 (place_does p ok.0 ok.1 at) (value_does e (type.Integer W64) ok.3 pb))
+
+      pub value_does : (e : Expr) (t : TType) → IsOf program e t → (at : ℕ) → Evaluates program shapes own here code t (value_code program e at) (value_of e) at
+      value_does (Lit l) t ok at = literal_does t l at ok
+      value_does (Read u p) t ok at = read_does typed.predeclared t u (place_code program p at) (place_of p) at ok.1 ok.2 (place_does p u ok.0 at)
+      value_does (Unary op a) t ok at =
+          unary_does t (taken op) op (unary_sort op) (value_code program a at) (value_of a) at (λ v h. unary_agrees op t v h ok.1) (value_does a (taken op) ok.0 at)
+      value_does (Binary op a b) t ok at =
+          let o = operands_suit op (IsOf program a) (IsOf program b) ok.0 in
+          let pb = at + length (value_code program a at) in
+          binary_does t o.0 o.1 op (value_code program a at) (value_code program b pb) (value_of a) (value_of b) at o.4 ok.1 (value_does a o.0 o.2 at) (value_does b o.1 o.3 pb)
+      value_does (And a b) t ok at =
+          let ca = value_code program a at in
+          let pb = at + length ca + 1 in
+          subst (λ x. Comes x (value_code program (And a b) at) (value_of (And a b)) at) (sym ok.2)
+          (and_does program shapes own here code ca (value_code program b pb) (value_of a) (value_of b) at (value_does a type.Boolean ok.0 at) (value_does b type.Boolean ok.1 pb))
+      value_does (Or a b) t ok at =
+          let ca = value_code program a at in
+          let pb = at + length ca + 3 in
+          subst (λ x. Comes x (value_code program (Or a b) at) (value_of (Or a b)) at) (sym ok.2)
+          (or_does program shapes own here code ca (value_code program b pb) (value_of a) (value_of b) at (value_does a type.Boolean ok.0 at) (value_does b type.Boolean ok.1 pb))
+      value_does (Element a) t ok at =
+          subst (λ x. Comes x (value_code program (Element a) at) (value_of (Element a)) at) (sym ok.1) (element_does (value_code program a at) (value_of a) at (value_does a (type.Integer W64) ok.0 at))
+      value_does (Ord a) t ok at = ord_does t (value_code program a at) (value_of a) at (λ v. included t (type.Integer W16) v ok.1) (value_does a type.Char ok.0 at)
+      value_does (Chr a) t ok at =
+          subst (λ x. Comes x (value_code program (Chr a) at) (value_of (Chr a)) at) (sym ok.1)
+          (unary_does type.Char (type.Integer W64) (Range (pos 0) (pos 255)) Character (value_code program a at) (value_of a) at (λ v h. chr_agrees (number_of v)) (value_does a (type.Integer W64) ok.0 at))

@@ -29,6 +29,7 @@ use Rattle.aos_places.proofs.Makes.{first_fits, first_cells}
 use Rattle.aos_sim.specs.Cells.{cell_of}
 use Rattle.aos_sim.specs.Shows.{numbers_from}
 use Rattle.aos_sim.proofs.Kept.{values_kept}
+use Rattle.aos_sim.proofs.Parts.{plain_parts}
 
 -- Lists
 
@@ -101,11 +102,6 @@ first_in_same w (Some (row.Pointer to)) = refl
 first_in_same w (Some (row.Object base fields)) = refl
 first_in_same w (Some (row.Procedure formals r)) = refl
 first_in_same w (Some row.Any) = refl
-
-plain_parts : (s : Shape TypeId) → EachSort IsPlain (shaped Plain s)
-plain_parts (One t) = tt
-plain_parts Nothing = tt
-plain_parts (Pair a b) = (plain_parts a, plain_parts b)
 
 module _ (p : Program) where
   -- the kind of a sort's cell

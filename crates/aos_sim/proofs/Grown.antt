@@ -4,11 +4,17 @@ use Rattle.aos_base.specs.declared.place.Root.{Root}
 use Rattle.aos_base.specs.declared.place.Root.TheVariants.{Frame as FrameRoot, Module as ModuleRoot, Object as ObjectRoot}
 use Rattle.aos_base.specs.Rooted.{Made}
 use Rattle.aos_base.specs.Question.{Val, Asks, Traps, feed, Reads, Stores, Copies, PutsText, ComparesTexts, Calls, Ends, Makes, Starts, PutsInt, PutsChar, PutsString, PutsLn, PutsNothing, Places, Lengths}
-use Rattle.aos_types.specs.Content.{Content, Scalar, placed}
+use Rattle.aos_types.specs.Shape.{Shape}
+use Rattle.aos_types.specs.Content.{Content, Scalar, placed, overlay}
+use Rattle.aos_types.specs.World.{read}
+use Rattle.aos_typed.specs.Program.{Program}
+use Rattle.aos_typed.specs.Numbers.{id_of}
+use Rattle.aos_typed.specs.Sort.{Sort, variable_shape}
+use Rattle.aos_typed.specs.Spot.{Spot}
 use Rattle.aos_typed.specs.Value.{Value, Int, Flag, Char, Set, Object, Callable, Place}
 use Rattle.aos_typed.specs.Store.{Store, store_with, has_room}
 use Rattle.aos_typed.specs.Meaning.{Question, Doing, Item, Do, After, Into, item_of}
-use Rattle.aos_typed.specs.Source.{Frame, ends, settles, written, prints, makes, starts, answer, goes, item_turn, turn_at}
+use Rattle.aos_typed.specs.Source.{Frame, answered, done, all_rooted, ends, settles, written, prints, makes, starts, copies, answer, goes, item_turn, turn_at}
 
 -- more objects than before
 abbrev pub Grown : List Made → List Made → Type 0
@@ -49,17 +55,25 @@ module _ (following : List ℕ) where
   starts_grown (Callable p o) f fs s = none s.made
   starts_grown (Place p) f fs s = none s.made
 
-  answer_grown : (q : Question) (f : Frame) (fs : List Frame) (s : Store) → Grown s.made (answer following q f fs s).store.made
-  answer_grown (Stores p v) f fs s = writes_grown p.root (placed p.path (Scalar v)) s
-  answer_grown (Ends result) f fs s = ends_grown result fs s
-  answer_grown (Makes t) f fs s = makes_grown (has_room s) t f fs s
-  answer_grown (Starts v) f fs s = starts_grown v f fs s
-  answer_grown (PutsInt v n) f fs s = prints_grown (written v n) f fs s
+  copies_grown : (c : Shape Sort) (from to : Option (Content Value)) (p : Spot) (fs : List Frame) (s : Store) → Grown s.made (copies following c from to p fs s).store.made
+  copies_grown c (Some new) (Some old) p fs s = writes_grown p.root (placed p.path (overlay c new old)) s
+  copies_grown c (Some new) None p fs s = none s.made
+  copies_grown c None to p fs s = none s.made
+
+module _ (program : Program) (following : List ℕ) where
+  answer_grown : (q : Question) (f : Frame) (fs : List Frame) (s : Store) → Grown s.made (answer program following q f fs s).store.made
+  answer_grown (Stores p v) f fs s = writes_grown following p.root (placed p.path (Scalar v)) s
+  answer_grown (Ends result) f fs s = ends_grown following result fs s
+  answer_grown (Makes t) f fs s = makes_grown following (has_room s) t f fs s
+  answer_grown (Starts v) f fs s = starts_grown following v f fs s
+  answer_grown (PutsInt v n) f fs s = prints_grown following (written v n) f fs s
   answer_grown (Reads t p) f fs s = none s.made
   answer_grown (PutsChar v) f fs s = none s.made
   answer_grown PutsNothing f fs s = none s.made
   answer_grown PutsLn f fs s = none s.made
-  answer_grown (Copies c from to) f fs s = none s.made
+  answer_grown (Copies t from to) f fs s =
+      let x = all_rooted (f ∷ fs) s in
+      copies_grown following (variable_shape program.types (id_of t)) (read from.root from.path x) (read to.root to.path x) to (answered done f ∷ fs) s
   answer_grown (PutsText strict from n to room) f fs s = none s.made
   answer_grown (ComparesTexts r a n b m) f fs s = none s.made
   answer_grown (Calls p vs) f fs s = none s.made
@@ -67,16 +81,16 @@ module _ (following : List ℕ) where
   answer_grown (Places a) f fs s = none s.made
   answer_grown (Lengths a) f fs s = none s.made
 
-  goes_grown : (d : Doing After) (rest : List Item) (f : Frame) (fs : List Frame) (s : Store) → Grown s.made (goes following d rest f fs s).store.made
-  goes_grown (Val (Into is)) rest f fs s = settles_grown (is ++ rest) f fs s
+  goes_grown : (d : Doing After) (rest : List Item) (f : Frame) (fs : List Frame) (s : Store) → Grown s.made (goes program following d rest f fs s).store.made
+  goes_grown (Val (Into is)) rest f fs s = settles_grown following (is ++ rest) f fs s
   goes_grown (Asks q k) rest f fs s = answer_grown q f fs s
   goes_grown (Traps n c) rest f fs s = none s.made
 
-  item_grown : (answers : Option (List Value)) (is : List Item) (f : Frame) (fs : List Frame) (s : Store) → Grown s.made (item_turn following answers is f fs s).store.made
-  item_grown None is f fs s = settles_grown is f fs s
+  item_grown : (answers : Option (List Value)) (is : List Item) (f : Frame) (fs : List Frame) (s : Store) → Grown s.made (item_turn program following answers is f fs s).store.made
+  item_grown None is f fs s = settles_grown following is f fs s
   item_grown (Some vs) [] f fs s = none s.made
   item_grown (Some vs) (i ∷ is) f fs s = goes_grown (feed vs (item_of i)) is f fs s
 
-  pub turn_grown : (fs : List Frame) (s : Store) → Grown s.made (turn_at following fs s).store.made
+  pub turn_grown : (fs : List Frame) (s : Store) → Grown s.made (turn_at program following fs s).store.made
   turn_grown [] s = none s.made
   turn_grown (f ∷ fs) s = item_grown f.answers f.items f fs s

@@ -5,11 +5,17 @@ use Rattle.aos_base.specs.declared.kernel.Outcome.TheVariants.{Dead}
 use Rattle.aos_base.specs.Machine.{Choice, execution}
 use Rattle.aos_base.specs.Observation.{observation}
 use Rattle.aos_base.specs.Question.{Val, Asks, Traps, feed, Reads, Stores, Copies, PutsText, ComparesTexts, Calls, Ends, Makes, Starts, PutsInt, PutsChar, PutsString, PutsLn, PutsNothing, Places, Lengths}
+use Rattle.aos_types.specs.Shape.{Shape}
+use Rattle.aos_types.specs.Content.{Content}
+use Rattle.aos_types.specs.World.{read}
 use Rattle.aos_typed.specs.Program.{Program}
+use Rattle.aos_typed.specs.Numbers.{id_of}
+use Rattle.aos_typed.specs.Sort.{Sort, variable_shape}
+use Rattle.aos_typed.specs.Spot.{Spot}
 use Rattle.aos_typed.specs.Value.{Value, Int, Flag, Char, Set, Object, Callable, Place}
 use Rattle.aos_typed.specs.Store.{Store, has_room}
 use Rattle.aos_typed.specs.Meaning.{Question, Doing, Item, Do, After, Into, item_of}
-use Rattle.aos_typed.specs.Source.{Frame, Turned, ends, settles, written, prints, makes, starts, answer, goes, item_turn, turn_at, opened, source, first_state, first_store, first_frames}
+use Rattle.aos_typed.specs.Source.{Frame, Turned, answered, done, all_rooted, ends, settles, written, prints, makes, starts, copies, answer, goes, item_turn, turn_at, opened, source, first_state, first_store, first_frames}
 use Rattle.aos_concurrency.specs.Spot.{NoOne}
 use Rattle.aos_concurrency.specs.Waits.{MayWait}
 use Rattle.aos_concurrency.proofs.Itself.{Any, anything}
@@ -45,17 +51,25 @@ module _ (following : List ℕ) where
   starts_lively (Callable p o) f fs s h = h
   starts_lively (Place p) f fs s h = h
 
-  answer_lively : (q : Question) (f : Frame) (fs : List Frame) (s : Store) → Lively (answer following q f fs s)
-  answer_lively (Ends result) f fs s = ends_lively result fs s
-  answer_lively (Makes t) f fs s = makes_lively (has_room s) t f fs s
-  answer_lively (Starts v) f fs s = starts_lively v f fs s
-  answer_lively (PutsInt v n) f fs s = prints_lively (written v n) f fs s
+  copies_lively : (c : Shape Sort) (from to : Option (Content Value)) (p : Spot) (fs : List Frame) (s : Store) → Lively (copies following c from to p fs s)
+  copies_lively c (Some new) (Some old) p fs s h = h
+  copies_lively c (Some new) None p fs s h = h
+  copies_lively c None to p fs s h = h
+
+module _ (program : Program) (following : List ℕ) where
+  answer_lively : (q : Question) (f : Frame) (fs : List Frame) (s : Store) → Lively (answer program following q f fs s)
+  answer_lively (Ends result) f fs s = ends_lively following result fs s
+  answer_lively (Makes t) f fs s = makes_lively following (has_room s) t f fs s
+  answer_lively (Starts v) f fs s = starts_lively following v f fs s
+  answer_lively (PutsInt v n) f fs s = prints_lively following (written v n) f fs s
   answer_lively (Reads t p) f fs s = λ h. h
   answer_lively (Stores p v) f fs s = λ h. h
   answer_lively (PutsChar v) f fs s = λ h. h
   answer_lively PutsNothing f fs s = λ h. h
   answer_lively PutsLn f fs s = λ h. h
-  answer_lively (Copies c from to) f fs s = λ h. h
+  answer_lively (Copies t from to) f fs s =
+      let x = all_rooted (f ∷ fs) s in
+      copies_lively following (variable_shape program.types (id_of t)) (read from.root from.path x) (read to.root to.path x) to (answered done f ∷ fs) s
   answer_lively (PutsText strict from n to room) f fs s = λ h. h
   answer_lively (ComparesTexts r a n b m) f fs s = λ h. h
   answer_lively (Calls p vs) f fs s = λ h. h
@@ -63,22 +77,22 @@ module _ (following : List ℕ) where
   answer_lively (Places a) f fs s = λ h. h
   answer_lively (Lengths a) f fs s = λ h. h
 
-  goes_lively : (d : Doing After) (rest : List Item) (f : Frame) (fs : List Frame) (s : Store) → Lively (goes following d rest f fs s)
-  goes_lively (Val (Into is)) rest f fs s = settles_lively (is ++ rest) f fs s
+  goes_lively : (d : Doing After) (rest : List Item) (f : Frame) (fs : List Frame) (s : Store) → Lively (goes program following d rest f fs s)
+  goes_lively (Val (Into is)) rest f fs s = settles_lively following (is ++ rest) f fs s
   goes_lively (Asks q k) rest f fs s = answer_lively q f fs s
   goes_lively (Traps n c) rest f fs s = λ h. h
 
-  item_lively : (answers : Option (List Value)) (is : List Item) (f : Frame) (fs : List Frame) (s : Store) → Lively (item_turn following answers is f fs s)
-  item_lively None is f fs s = settles_lively is f fs s
+  item_lively : (answers : Option (List Value)) (is : List Item) (f : Frame) (fs : List Frame) (s : Store) → Lively (item_turn program following answers is f fs s)
+  item_lively None is f fs s = settles_lively following is f fs s
   item_lively (Some vs) [] f fs s = λ h. h
   item_lively (Some vs) (i ∷ is) f fs s = goes_lively (feed vs (item_of i)) is f fs s
 
-  turn_at_lively : (fs : List Frame) (s : Store) → Lively (turn_at following fs s)
+  turn_at_lively : (fs : List Frame) (s : Store) → Lively (turn_at program following fs s)
   turn_at_lively [] s = λ h. h
   turn_at_lively (f ∷ fs) s = item_lively f.answers f.items f fs s
 
 pub never_dead : (p : Program) (budget : ℕ) (cs : List Choice) → (observation (source p) (execution (source p) cs (first_state p budget))).outcome ≢ Dead
 unfolding observation
 never_dead p budget cs =
-    machine_never_dead (source p) (Any (source p)) (record { fits = anything (source p) NoOne; turn = λ s fs rest. turn_at_lively (opened p fs).following (opened p fs).frames s })
+    machine_never_dead (source p) (Any (source p)) (record { fits = anything (source p) NoOne; turn = λ s fs rest. turn_at_lively p (opened p fs).following (opened p fs).frames s })
     (first_store p) (first_frames p) budget cs tt

@@ -1,5 +1,5 @@
 -- No meaning of a program has trap 16, so no execution of an image that shows the program has one.
-use Rattle.std.proofs.Common.{ℕ, zero, suc, ◌<◌, List, [], ◌∷◌, ◌++◌, Bool, true, false, sym, subst, arith}
+use Rattle.std.proofs.Common.{◌≡◌, ℕ, zero, suc, ◌<◌, List, [], ◌∷◌, ◌++◌, Bool, true, false, refl, sym, subst, arith}
 use Rattle.std.specs.Prelude.{All, ℤ, pos, ◌+ℤ◌, ◌-ℤ◌, ◌*ℤ◌, neg_ℤ, unsigned_abs, int_lt, ◌&&◌, int_le, if◌then◌else◌, Option, Some, None}
 use Rattle.std.specs.Option.{option_zip}
 use Rattle.std.specs.Int.{int_div_euclid, int_rem_euclid}
@@ -14,12 +14,18 @@ use Rattle.aos_base.specs.Operators.{or_trap, or_undefined, set_of, on_sets, nat
 use Rattle.aos_base.specs.Machine.{Choice, execution}
 use Rattle.aos_base.specs.Observation.{Observation, observation}
 use Rattle.aos_base.specs.Question.{Val, Asks, Traps, bind, feed, Reads, Stores, Copies, PutsText, ComparesTexts, Calls, Ends, Makes, Starts, PutsInt, PutsChar, PutsString, PutsLn, PutsNothing, Places, Lengths}
+use Rattle.aos_types.specs.Shape.{Shape}
+use Rattle.aos_types.specs.Content.{Content}
+use Rattle.aos_types.specs.World.{read}
 use Rattle.aos_code.specs.declared.image.Image.{Image}
-use Rattle.aos_typed.specs.Program.{Place, ModuleVar, Expr, Lit, Read, Unary, Binary, And, Or, Element, Ord, Chr, Call, Open as OutOpen, Char as OutChar, Int as OutInt, Ln as OutLn, Stat, Assign, While, New, Out, Program}
+use Rattle.aos_typed.specs.Program.{Place, ModuleVar, Field, Index, Expr, Lit, Read, Unary, Binary, And, Or, Element, Ord, Chr, Call, Open as OutOpen, Char as OutChar, Int as OutInt, Ln as OutLn, Stat, Assign, Copy, While, New, Out, Program}
+use Rattle.aos_typed.specs.Numbers.{id_of}
+use Rattle.aos_typed.specs.Sort.{Sort as ScalarSort, variable_shape}
+use Rattle.aos_typed.specs.Spot.{Spot}
 use Rattle.aos_typed.specs.Value.{Value, Int, Flag, Char, Set, Object, Callable, Place as Spotted, number_of, Sort, Character, Elements, given, unary_sort, binary_sort, is_true}
 use Rattle.aos_typed.specs.Store.{Store, has_room}
-use Rattle.aos_typed.specs.Meaning.{Question, Doing, Item, Do, After, Into, place_of, value_of, out_of, stat_of, item_of}
-use Rattle.aos_typed.specs.Source.{Frame, Turned, ends, settles, written, prints, makes, starts, answer, goes, item_turn, turn_at, opened, source, first_state, first_store, first_frames}
+use Rattle.aos_typed.specs.Meaning.{Question, Doing, Item, Do, After, Into, element_of, place_of, value_of, out_of, stat_of, item_of}
+use Rattle.aos_typed.specs.Source.{Frame, Turned, answered, done, all_rooted, ends, settles, written, prints, makes, starts, copies, answer, goes, item_turn, turn_at, opened, source, first_state, first_store, first_frames}
 use Rattle.aos_sim.specs.Shows.{Shows, NeverLost}
 use Rattle.aos_sim.proofs.Traps.{Leaves, traps_with}
 
@@ -110,22 +116,32 @@ either_comes : {A : Type 0} (c : Bool) (t u : Doing A) → Comes t → Comes u �
 either_comes true t u h k = h
 either_comes false t u h k = k
 
-place_comes : (p : Place) → Comes (place_of p)
-place_comes (ModuleVar m i) = tt
+element_comes : (n : ℕ) (v : Value) (s : Spot) → Comes (element_of n v s)
+element_comes n v s = by (natural n (number_of v)) refl
+  where
+    by : (o : Option ℕ) → natural n (number_of v) ≡ o → Comes (element_of n v s)
+    by None e = rw e (omega arith)
+    by (Some i) e = rw e tt
 
-value_comes : (e : Expr) → Comes (value_of e)
-value_comes (Lit l) = tt
-value_comes (Read t p) = comes_then (place_of p) _ (place_comes p) (λ s v. tt)
-value_comes (Unary op a) = comes_then (value_of a) _ (value_comes a) (λ x. given_comes (unary_sort op) _ (unary_gives op (number_of x)))
-value_comes (Binary op a b) =
-    comes_then (value_of a) _ (value_comes a) (λ x. comes_then (value_of b) _ (value_comes b) (λ y. given_comes (binary_sort op) _ (binary_gives op (number_of x) (number_of y))))
-value_comes (And a b) =
-    comes_then (value_of a) _ (value_comes a) (λ x. either_comes (is_true x) (value_of b) (Val (Flag false)) (value_comes b) tt)
-value_comes (Or a b) =
-    comes_then (value_of a) _ (value_comes a) (λ x. either_comes (is_true x) (Val (Flag true)) (value_of b) tt (value_comes b))
-value_comes (Element a) = comes_then (value_of a) _ (value_comes a) (λ x. given_comes Elements _ (binary_gives SetSpan (number_of x) (number_of x)))
-value_comes (Ord a) = comes_then (value_of a) _ (value_comes a) (λ x. tt)
-value_comes (Chr a) = comes_then (value_of a) _ (value_comes a) (λ x. given_comes Character _ (unary_gives (Range (pos 0) (pos 255)) (number_of x)))
+mutual
+  place_comes : (p : Place) → Comes (place_of p)
+  place_comes (ModuleVar m i) = tt
+  place_comes (Field p t k) = comes_then (place_of p) _ (place_comes p) (λ s. tt)
+  place_comes (Index p n t e) = comes_then (place_of p) _ (place_comes p) (λ s. comes_then (value_of e) _ (value_comes e) (λ v. element_comes n v s))
+
+  value_comes : (e : Expr) → Comes (value_of e)
+  value_comes (Lit l) = tt
+  value_comes (Read t p) = comes_then (place_of p) _ (place_comes p) (λ s v. tt)
+  value_comes (Unary op a) = comes_then (value_of a) _ (value_comes a) (λ x. given_comes (unary_sort op) _ (unary_gives op (number_of x)))
+  value_comes (Binary op a b) =
+      comes_then (value_of a) _ (value_comes a) (λ x. comes_then (value_of b) _ (value_comes b) (λ y. given_comes (binary_sort op) _ (binary_gives op (number_of x) (number_of y))))
+  value_comes (And a b) =
+      comes_then (value_of a) _ (value_comes a) (λ x. either_comes (is_true x) (value_of b) (Val (Flag false)) (value_comes b) tt)
+  value_comes (Or a b) =
+      comes_then (value_of a) _ (value_comes a) (λ x. either_comes (is_true x) (Val (Flag true)) (value_of b) tt (value_comes b))
+  value_comes (Element a) = comes_then (value_of a) _ (value_comes a) (λ x. given_comes Elements _ (binary_gives SetSpan (number_of x) (number_of x)))
+  value_comes (Ord a) = comes_then (value_of a) _ (value_comes a) (λ x. tt)
+  value_comes (Chr a) = comes_then (value_of a) _ (value_comes a) (λ x. given_comes Character _ (unary_gives (Range (pos 0) (pos 255)) (number_of x)))
 
 out_comes : (call : Call) → Comes (out_of call)
 out_comes OutOpen = λ v. tt
@@ -135,6 +151,7 @@ out_comes OutLn = λ v. tt
 
 stat_comes : (s : Stat) → Comes (stat_of s)
 stat_comes (Assign at t p e) = comes_then (place_of p) _ (place_comes p) (λ s. comes_then (value_of e) _ (value_comes e) (λ x v. tt))
+stat_comes (Copy at t p q) = comes_then (place_of p) _ (place_comes p) (λ to. comes_then (place_of q) _ (place_comes q) (λ from v. tt))
 stat_comes (While at e body) = comes_then (value_of e) _ (value_comes e) (λ x. tt)
 stat_comes (New at p t) = comes_then (place_of p) _ (place_comes p) (λ s o v w. tt)
 stat_comes (Out at call) = out_comes call
@@ -174,17 +191,25 @@ module _ (following : List ℕ) where
   starts_known (Callable p o) f fs s = tt
   starts_known (Spotted p) f fs s = tt
 
-  answer_known : (q : Question) (f : Frame) (fs : List Frame) (s : Store) → Known (answer following q f fs s)
-  answer_known (Ends result) f fs s = ends_known result fs s
-  answer_known (Makes t) f fs s = makes_known (has_room s) t f fs s
-  answer_known (Starts v) f fs s = starts_known v f fs s
-  answer_known (PutsInt v n) f fs s = prints_known (written v n) f fs s
+  copies_known : (c : Shape ScalarSort) (from to : Option (Content Value)) (p : Spot) (fs : List Frame) (s : Store) → Known (copies following c from to p fs s)
+  copies_known c (Some new) (Some old) p fs s = tt
+  copies_known c (Some new) None p fs s = tt
+  copies_known c None to p fs s = tt
+
+module _ (program : Program) (following : List ℕ) where
+  answer_known : (q : Question) (f : Frame) (fs : List Frame) (s : Store) → Known (answer program following q f fs s)
+  answer_known (Ends result) f fs s = ends_known following result fs s
+  answer_known (Makes t) f fs s = makes_known following (has_room s) t f fs s
+  answer_known (Starts v) f fs s = starts_known following v f fs s
+  answer_known (PutsInt v n) f fs s = prints_known following (written v n) f fs s
   answer_known (Reads t p) f fs s = tt
   answer_known (Stores p v) f fs s = tt
   answer_known (PutsChar v) f fs s = tt
   answer_known PutsNothing f fs s = tt
   answer_known PutsLn f fs s = tt
-  answer_known (Copies c from to) f fs s = tt
+  answer_known (Copies t from to) f fs s =
+      let x = all_rooted (f ∷ fs) s in
+      copies_known following (variable_shape program.types (id_of t)) (read from.root from.path x) (read to.root to.path x) to (answered done f ∷ fs) s
   answer_known (PutsText strict from n to room) f fs s = tt
   answer_known (ComparesTexts r a n b m) f fs s = tt
   answer_known (Calls p vs) f fs s = tt
@@ -192,24 +217,24 @@ module _ (following : List ℕ) where
   answer_known (Places a) f fs s = tt
   answer_known (Lengths a) f fs s = tt
 
-  goes_known : (d : Doing After) (rest : List Item) (f : Frame) (fs : List Frame) (s : Store) → Comes d → Known (goes following d rest f fs s)
-  goes_known (Val (Into is)) rest f fs s h = settles_known (is ++ rest) f fs s
+  goes_known : (d : Doing After) (rest : List Item) (f : Frame) (fs : List Frame) (s : Store) → Comes d → Known (goes program following d rest f fs s)
+  goes_known (Val (Into is)) rest f fs s h = settles_known following (is ++ rest) f fs s
   goes_known (Asks q k) rest f fs s h = answer_known q f fs s
   goes_known (Traps n c) rest f fs s h = h
 
-  item_known : (answers : Option (List Value)) (is : List Item) (f : Frame) (fs : List Frame) (s : Store) → Known (item_turn following answers is f fs s)
-  item_known None is f fs s = settles_known is f fs s
+  item_known : (answers : Option (List Value)) (is : List Item) (f : Frame) (fs : List Frame) (s : Store) → Known (item_turn program following answers is f fs s)
+  item_known None is f fs s = settles_known following is f fs s
   item_known (Some vs) [] f fs s = tt
   item_known (Some vs) (i ∷ is) f fs s = goes_known (feed vs (item_of i)) is f fs s (comes_fed vs (item_of i) (item_comes i))
 
-  turn_at_known : (fs : List Frame) (s : Store) → Known (turn_at following fs s)
+  turn_at_known : (fs : List Frame) (s : Store) → Known (turn_at program following fs s)
   turn_at_known [] s = tt
   turn_at_known (f ∷ fs) s = item_known f.answers f.items f fs s
 
 source_traps : (p : Program) (budget : ℕ) (cs : List Choice) → All (λ t. t.number < 16) (observation (source p) (execution (source p) cs (first_state p budget))).traps
 unfolding observation
 source_traps p budget cs =
-    traps_with IsKnown (source p) (omega arith) (omega arith) (record { turn = λ s fs. turn_at_known (opened p fs).following (opened p fs).frames s; verdict = λ s f c. tt }) (first_store p) (first_frames p) budget cs
+    traps_with IsKnown (source p) (omega arith) (omega arith) (record { turn = λ s fs. turn_at_known p (opened p fs).following (opened p fs).frames s; verdict = λ s f c. tt }) (first_store p) (first_frames p) budget cs
 
 pub never_lost : (p : Program) (image : Image) → Shows p image → NeverLost image
 never_lost p image shows budget cs =

@@ -1,21 +1,21 @@
--- To answer an expression's reads is to replace them by literals.
-use Rattle.std.proofs.Common.{◌≡◌, List, [], ◌∷◌, map, Bool, true, false, refl, sym, ap, ◌∙◌}
+-- To answer a designator's or an expression's reads is to replace them by literals.
+use Rattle.std.proofs.Common.{◌≡◌, ℕ, Option, Some, None, List, [], ◌∷◌, map, Bool, true, false, refl, sym, ap, ◌∙◌}
 use Rattle.std.specs.Prelude.{pos, if◌then◌else◌}
-use Rattle.aos_base.specs.declared.text.Pos.{Pos}
 use Rattle.aos_base.specs.declared.operator.Unary.{Unary as UnaryOperator}
 use Rattle.aos_base.specs.declared.operator.Unary.TheVariants.{Range}
 use Rattle.aos_base.specs.declared.operator.Binary.{Binary as BinaryOperator}
 use Rattle.aos_base.specs.declared.operator.Binary.TheVariants.{SetSpan}
 use Rattle.aos_base.specs.declared.operator.Given.{Given}
 use Rattle.aos_base.specs.declared.operator.Given.TheVariants.{Number, Trap, Undefined}
-use Rattle.aos_base.specs.Operators.{unary as unary_of, binary as binary_of}
-use Rattle.aos_base.specs.Question.{Tree, Val, Asks, Traps, bind, feed}
+use Rattle.aos_base.specs.Operators.{natural, unary as unary_of, binary as binary_of}
+use Rattle.aos_base.specs.Question.{Tree, Val, Asks, Traps, bind, feed, ask, Reads, Stores}
 use Rattle.aos_typed.specs.declared.tree.Literal.{Literal}
 use Rattle.aos_typed.specs.declared.tree.TType.{TType}
-use Rattle.aos_typed.specs.Program.{Place, ModuleVar, Expr, Lit, Read, Unary, Binary, And, Or, Element, Ord, Chr, Assign}
+use Rattle.aos_typed.specs.Program.{Place, ModuleVar, Field, Index, Expr, Lit, Read, Unary, Binary, And, Or, Element, Ord, Chr}
+use Rattle.aos_typed.specs.Spot.{Spot}
 use Rattle.aos_typed.specs.Value.{Value, Flag, literal_value, number_of, Sort, Character, given, unary_sort, binary_sort, unary, binary, element, ord, chr, is_true}
-use Rattle.aos_typed.specs.Meaning.{Question, Doing, After, value_of, stat_of}
-use Rattle.aos_sim.specs.Rewriting.{is_asking, are_asked, with_first, rewritten}
+use Rattle.aos_typed.specs.Meaning.{Question, Doing, After, Into, part_of, element_of, place_of, value_of}
+use Rattle.aos_sim.specs.Rewriting.{is_asking, are_asked, with_first_index, with_first, rewritten_place, rewritten, DesignatorRewrites, ExpressionRewrites, AssignedRewrites, AssignmentRewrites, StatementRewrites}
 
 module _ {Q V A : Type 0} where
   -- the first of several answers
@@ -80,81 +80,117 @@ binary_silent op x y = given_silent (binary_sort op) (binary_of op (number_of x)
 chr_silent : (x : Value) → is_asking {Q = Question} {V = Value} (chr x) ≡ false
 chr_silent x = given_silent Character (unary_of (Range (pos 0) (pos 255)) (number_of x))
 
+element_silent : (n : ℕ) (x : Value) (s : Spot) → is_asking (element_of n x s) ≡ false
+element_silent n x s = by (natural n (number_of x)) refl
+  where
+    by : (o : Option ℕ) → natural n (number_of x) ≡ o → is_asking (element_of n x s) ≡ false
+    by None e = rw e refl
+    by (Some i) e = rw e refl
+
 -- One answer
 
-abbrev Rewrites : Literal → Expr → Type 0
-Rewrites l e = is_asking (value_of e) ≡ true → feed (literal_value l ∷ []) (value_of e) ≡ value_of (with_first l e)
+-- what is meant, of which this answer makes another
+abbrev Makes : {A : Type 0} → Value → Doing A → Doing A → Type 0
+Makes v t t' = is_asking t ≡ true → feed (v ∷ []) t ≡ t'
 
--- an operand, and an operator on its value
-on_one : (l : Literal) (a : Expr) (k : Value → Doing Value) → ((x : Value) → is_asking (k x) ≡ false) → Rewrites l a → is_asking (bind (value_of a) k) ≡ true → feed (literal_value l ∷ []) (bind (value_of a) k) ≡ bind (value_of (with_first l a)) k
-on_one l a k silent one asks =
-    let first = asks_first (value_of a) k silent asks in
-    fed_before (literal_value l) (value_of a) k first ∙ ap (λ t. bind t k) (one first)
+-- an operand, and what goes on with its value without a question
+on_one : {A B : Type 0} (v : Value) (t t' : Doing A) (k : A → Doing B) → ((x : A) → is_asking (k x) ≡ false) → Makes v t t' → Makes v (bind t k) (bind t' k)
+on_one v t t' k silent one asks =
+    let first = asks_first t k silent asks in
+    fed_before v t k first ∙ ap (λ r. bind r k) (one first)
 
--- two operands: `both` is what is done with them, `second` the choice behind the value of the first
-module _ (l : Literal) (a b : Expr) (both : Expr → Expr → Expr) (second : Expr → Value → Doing Value) (is : (c d : Expr) → value_of (both c d) ≡ bind (value_of c) (second d)) where
-  on_two : Rewrites l a
-      → ((x : Value) → is_asking (second b x) ≡ true → feed (literal_value l ∷ []) (second b x) ≡ second (with_first l b) x)
-      → (c : Bool) → is_asking (value_of a) ≡ c → is_asking (bind (value_of a) (second b)) ≡ true
-      → feed (literal_value l ∷ []) (bind (value_of a) (second b)) ≡ value_of (if c then both (with_first l a) b else both a (with_first l b))
-  on_two one other true first asks =
-      fed_before (literal_value l) (value_of a) (second b) first ∙ ap (λ t. bind t (second b)) (one first) ∙ sym (is (with_first l a) b)
-  on_two one other false none asks =
-      fed_behind (literal_value l) (value_of a) (second b) (second (with_first l b)) none asks other ∙ sym (is a (with_first l b))
+-- two operands: `k` is what is done behind the value of the first, and `k'` where the second has the answer
+module _ {A B X : Type 0} (of : X → Doing B) (v : Value) (t t' : Doing A) (k k' : A → Doing B) (x y : X) where
+  on_two : (of x ≡ bind t' k) → (of y ≡ bind t k') → Makes v t t' → ((a : A) → Makes v (k a) (k' a)) → (c : Bool) → is_asking t ≡ c → Makes v (bind t k) (of (if c then x else y))
+  on_two is_x is_y one other true first asks = fed_before v t k first ∙ ap (λ r. bind r k) (one first) ∙ sym is_x
+  on_two is_x is_y one other false none asks = fed_behind v t k k' none asks other ∙ sym is_y
 
 -- where the first operand of & is TRUE the second one tells, and where that of OR is FALSE
-if_true : (l : Literal) (b : Expr) (c : Bool) → Rewrites l b → is_asking (if c then value_of b else Val (Flag false)) ≡ true
-    → feed (literal_value l ∷ []) (if c then value_of b else Val (Flag false)) ≡ (if c then value_of (with_first l b) else Val (Flag false))
-if_true l b true one asks = one asks
-if_true l b false one asks = absurd (cc asks)
+if_true : (v : Value) (t t' : Doing Value) (c : Bool) → Makes v t t' → Makes v (if c then t else Val (Flag false)) (if c then t' else Val (Flag false))
+if_true v t t' true one asks = one asks
+if_true v t t' false one asks = absurd (cc asks)
 
-if_false : (l : Literal) (b : Expr) (c : Bool) → Rewrites l b → is_asking (if c then Val (Flag true) else value_of b) ≡ true
-    → feed (literal_value l ∷ []) (if c then Val (Flag true) else value_of b) ≡ (if c then Val (Flag true) else value_of (with_first l b))
-if_false l b true one asks = absurd (cc asks)
-if_false l b false one asks = one asks
+if_false : (v : Value) (t t' : Doing Value) (c : Bool) → Makes v t t' → Makes v (if c then Val (Flag true) else t) (if c then Val (Flag true) else t')
+if_false v t t' true one asks = absurd (cc asks)
+if_false v t t' false one asks = one asks
 
-one_read : (l : Literal) (e : Expr) → Rewrites l e
-one_read l (Lit m) asks = absurd (cc asks)
-one_read l (Read t (ModuleVar m i)) asks = refl
-one_read l (Unary op a) asks = on_one l a (on_operand op) (unary_silent op) (one_read l a) asks
-one_read l (Binary op a b) asks =
-    on_two l a b (Binary op) (λ d x. bind (value_of d) (on_operands op x)) (λ c d. refl) (one_read l a)
-    (λ x. on_one l b (on_operands op x) (binary_silent op x) (one_read l b)) (is_asking (value_of a)) refl asks
-one_read l (And a b) asks =
-    on_two l a b And (λ d x. if is_true x then value_of d else Val (Flag false)) (λ c d. refl) (one_read l a)
-    (λ x. if_true l b (is_true x) (one_read l b)) (is_asking (value_of a)) refl asks
-one_read l (Or a b) asks =
-    on_two l a b Or (λ d x. if is_true x then Val (Flag true) else value_of d) (λ c d. refl) (one_read l a)
-    (λ x. if_false l b (is_true x) (one_read l b)) (is_asking (value_of a)) refl asks
-one_read l (Element a) asks = on_one l a (λ x. element x) (λ x. binary_silent SetSpan x x) (one_read l a) asks
-one_read l (Ord a) asks = on_one l a (λ x. Val (ord x)) (λ x. refl) (one_read l a) asks
-one_read l (Chr a) asks = on_one l a (λ x. chr x) chr_silent (one_read l a) asks
+-- a read, of which the place is asked for first
+module _ (l : Literal) (t : TType) (p : Place) where
+  behind_value : (r : Doing Spot) → is_asking r ≡ false → is_asking (bind r (λ s. ask (Reads t s))) ≡ true → bind r (λ s. Val (literal_value l)) ≡ value_of (Lit l)
+  behind_value (Val s) none asks = refl
+  behind_value (Asks q f) none asks = absurd (cc none)
+  behind_value (Traps n c) none asks = absurd (cc asks)
+
+  read_makes : Makes (literal_value l) (place_of p) (place_of (with_first_index l p)) → (c : Bool) → is_asking (place_of p) ≡ c → Makes (literal_value l) (value_of (Read t p)) (value_of (if c then Read t (with_first_index l p) else Lit l))
+  read_makes one true first asks = fed_before (literal_value l) (place_of p) (λ s. ask (Reads t s)) first ∙ ap (λ r. bind r (λ s. ask (Reads t s))) (one first)
+  read_makes one false none asks =
+      fed_behind (literal_value l) (place_of p) (λ s. ask (Reads t s)) (λ s. Val (literal_value l)) none asks (λ s a. refl) ∙ behind_value (place_of p) none asks
+
+module _ (l : Literal) where
+  abbrev v : Value
+  v = literal_value l
+
+  mutual
+    one_index : (p : Place) → Makes v (place_of p) (place_of (with_first_index l p))
+    one_index (ModuleVar m k) asks = absurd (cc asks)
+    one_index (Field p t k) asks = on_one v (place_of p) (place_of (with_first_index l p)) (λ s. Val (part_of k s)) (λ s. refl) (one_index p) asks
+    one_index (Index p n t e) asks =
+        let at : Expr → Spot → Doing Spot = λ d s. bind (value_of d) (λ x. element_of n x s) in
+        on_two place_of v (place_of p) (place_of (with_first_index l p)) (at e) (at (with_first l e)) (Index (with_first_index l p) n t e) (Index p n t (with_first l e)) refl refl (one_index p)
+        (λ s. on_one v (value_of e) (value_of (with_first l e)) (λ x. element_of n x s) (λ x. element_silent n x s) (one_read e)) (is_asking (place_of p)) refl asks
+
+    one_read : (e : Expr) → Makes v (value_of e) (value_of (with_first l e))
+    one_read (Lit m) asks = absurd (cc asks)
+    one_read (Read t p) asks = read_makes l t p (one_index p) (is_asking (place_of p)) refl asks
+    one_read (Unary op a) asks = on_one v (value_of a) (value_of (with_first l a)) (on_operand op) (unary_silent op) (one_read a) asks
+    one_read (Binary op a b) asks =
+        let second : Expr → Value → Doing Value = λ d x. bind (value_of d) (on_operands op x) in
+        on_two value_of v (value_of a) (value_of (with_first l a)) (second b) (second (with_first l b)) (Binary op (with_first l a) b) (Binary op a (with_first l b)) refl refl (one_read a)
+        (λ x. on_one v (value_of b) (value_of (with_first l b)) (on_operands op x) (binary_silent op x) (one_read b)) (is_asking (value_of a)) refl asks
+    one_read (And a b) asks =
+        let second : Expr → Value → Doing Value = λ d x. if is_true x then value_of d else Val (Flag false) in
+        on_two value_of v (value_of a) (value_of (with_first l a)) (second b) (second (with_first l b)) (And (with_first l a) b) (And a (with_first l b)) refl refl (one_read a)
+        (λ x. if_true v (value_of b) (value_of (with_first l b)) (is_true x) (one_read b)) (is_asking (value_of a)) refl asks
+    one_read (Or a b) asks =
+        let second : Expr → Value → Doing Value = λ d x. if is_true x then Val (Flag true) else value_of d in
+        on_two value_of v (value_of a) (value_of (with_first l a)) (second b) (second (with_first l b)) (Or (with_first l a) b) (Or a (with_first l b)) refl refl (one_read a)
+        (λ x. if_false v (value_of b) (value_of (with_first l b)) (is_true x) (one_read b)) (is_asking (value_of a)) refl asks
+    one_read (Element a) asks = on_one v (value_of a) (value_of (with_first l a)) (λ x. element x) (λ x. binary_silent SetSpan x x) (one_read a) asks
+    one_read (Ord a) asks = on_one v (value_of a) (value_of (with_first l a)) (λ x. Val (ord x)) (λ x. refl) (one_read a) asks
+    one_read (Chr a) asks = on_one v (value_of a) (value_of (with_first l a)) (λ x. chr x) chr_silent (one_read a) asks
 
 -- One answer after another
 
--- the first one, and that the others are asked for behind it
-module _ (l : Literal) (ls : List Literal) (e : Expr) (asked : are_asked (map literal_value (l ∷ ls)) (value_of e) ≡ true) where
-  asks_read : is_asking (value_of e) ≡ true
-  asks_read = asks_now (literal_value l) (map literal_value ls) (value_of e) asked
+-- what is meant by x, and what `first` makes of x with one answer and `all` with some; `onto` goes on with what is meant
+module _ {A B X : Type 0} (of : X → Doing A) (first : Literal → X → X) (all : List Literal → X → X) (none : (x : X) → all [] x ≡ x) (more : (l : Literal) (ls : List Literal) (x : X) → all (l ∷ ls) x ≡ all ls (first l x)) (one : (l : Literal) (x : X) → Makes (literal_value l) (of x) (of (first l x))) (onto : Doing A → Doing B) (asks_on : (t : Doing A) → is_asking t ≡ true → is_asking (onto t) ≡ true) (fed_on : (v : Value) (t : Doing A) → is_asking t ≡ true → feed (v ∷ []) (onto t) ≡ onto (feed (v ∷ []) t)) where
+  all_fed : (x : X) (ls : List Literal) → are_asked (map literal_value ls) (of x) ≡ true → feed (map literal_value ls) (onto (of x)) ≡ onto (of (all ls x))
+  all_fed x [] asked = ap (λ y. onto (of y)) (sym (none x))
+  all_fed x (l ∷ ls) asked =
+      let vs = map literal_value ls in
+      let asks = asks_now (literal_value l) vs (of x) asked in
+      let rest : are_asked vs (of (first l x)) ≡ true = ap (are_asked vs) (sym (one l x asks)) ∙ asks_then (literal_value l) vs (of x) asked in
+      first_fed (literal_value l) vs (onto (of x)) (asks_on (of x) asks) ∙ ap (feed vs) (fed_on (literal_value l) (of x) asks ∙ ap onto (one l x asks))
+      ∙ all_fed (first l x) ls rest ∙ ap (λ y. onto (of y)) (sym (more l ls x))
 
-  rest_asked : are_asked (map literal_value ls) (value_of (with_first l e)) ≡ true
-  rest_asked =
-      ap (are_asked (map literal_value ls)) (sym (one_read l e asks_read)) ∙ asks_then (literal_value l) (map literal_value ls) (value_of e) asked
+pub designator_rewrites : DesignatorRewrites
+designator_rewrites p ls asked = all_fed place_of with_first_index rewritten_place (λ x. refl) (λ l ls x. refl) one_index (λ t. t) (λ t a. a) (λ v t a. refl) p ls asked
 
-pub expression_rewrites : (e : Expr) (ls : List Literal) → are_asked (map literal_value ls) (value_of e) ≡ true → feed (map literal_value ls) (value_of e) ≡ value_of (rewritten ls e)
-expression_rewrites e [] asked = refl
-expression_rewrites e (l ∷ ls) asked =
-    let asks = asks_read l ls e asked in
-    first_fed (literal_value l) (map literal_value ls) (value_of e) asks ∙ ap (feed (map literal_value ls)) (one_read l e asks)
-    ∙ expression_rewrites (with_first l e) ls (rest_asked l ls e asked)
+pub expression_rewrites : ExpressionRewrites
+expression_rewrites e ls asked = all_fed value_of with_first rewritten (λ x. refl) (λ l ls x. refl) one_read (λ t. t) (λ t a. a) (λ v t a. refl) e ls asked
 
-pub statement_rewrites : (e : Expr) (onward : Value → Doing After) (ls : List Literal) → are_asked (map literal_value ls) (value_of e) ≡ true → feed (map literal_value ls) (bind (value_of e) onward) ≡ bind (value_of (rewritten ls e)) onward
-statement_rewrites e onward [] asked = refl
-statement_rewrites e onward (l ∷ ls) asked =
-    let asks = asks_read l ls e asked in
-    first_fed (literal_value l) (map literal_value ls) (bind (value_of e) onward) (asks_before (value_of e) onward asks)
-    ∙ ap (feed (map literal_value ls)) (fed_before (literal_value l) (value_of e) onward asks ∙ ap (λ t. bind t onward) (one_read l e asks))
-    ∙ statement_rewrites (with_first l e) onward ls (rest_asked l ls e asked)
+pub statement_rewrites : StatementRewrites
+statement_rewrites e onward ls asked =
+    all_fed value_of with_first rewritten (λ x. refl) (λ l ls x. refl) one_read (λ t. bind t onward) (λ t a. asks_before t onward a) (λ v t a. fed_before v t onward a) e ls asked
 
-pub assignment_rewrites : (at : Pos) (t : TType) (p : Place) (e : Expr) (ls : List Literal) → are_asked (map literal_value ls) (value_of e) ≡ true → feed (map literal_value ls) (stat_of (Assign at t p e)) ≡ stat_of (Assign at t p (rewritten ls e))
-assignment_rewrites at t (ModuleVar m i) e ls asked = statement_rewrites e _ ls asked
+abbrev stored : Expr → Spot → Doing After
+stored e s = bind (value_of e) (λ v. bind (ask (Stores s v)) (λ _. Val (Into [])))
+
+pub assigned_rewrites : AssignedRewrites
+assigned_rewrites at t p e ls asked =
+    all_fed place_of with_first_index rewritten_place (λ x. refl) (λ l ls x. refl) one_index (λ r. bind r (stored e)) (λ r a. asks_before r (stored e) a) (λ v r a. fed_before v r (stored e) a) p ls asked
+
+pub assignment_rewrites : AssignmentRewrites
+assignment_rewrites at t p s e ls is asked =
+    ap (λ r. feed (map literal_value ls) (bind r (stored e))) is
+    ∙ statement_rewrites e (λ v. bind (ask (Stores s v)) (λ _. Val (Into []))) ls asked
+    ∙ ap (λ r. bind r (stored (rewritten ls e))) (sym is)

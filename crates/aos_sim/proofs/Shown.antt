@@ -33,6 +33,7 @@ use Rattle.aos_sim.specs.Cells.{cell_of}
 use Rattle.aos_sim.proofs.Carries.{Stands}
 use Rattle.aos_sim.proofs.Stats.{carries_body, statements_do}
 use Rattle.aos_sim.proofs.First.{all_get, get_left, get_right, number_at, length-numbers, modules_shown}
+use Rattle.aos_sim.proofs.Typed.{has_types}
 use Rattle.aos_sim.proofs.States.{world_of, SameStore, IsBody, Follows, Waiting, SameFrames, Same, body_same, body_shown, opened_same, same_grows}
 use Rattle.aos_sim.proofs.Grown.{turn_grown}
 use Rattle.aos_sim.proofs.Turns.{Together, turn_alike}
@@ -160,9 +161,9 @@ module _ (p : Program) (image : Image) (well : IsWellTyped p) (ok : IsCodeOf p i
   -- one turn of the image is one turn of the source
   simulates : Simulates (SameStore p) (Together p image) Anyone (S.source p) (machine image)
   simulates = record {
-    turn = λ s mem fs gs stores h. turn_alike p image well.predeclared (statements_do p) s mem fs gs stores h.now;
+    turn = λ s mem fs gs stores h. turn_alike p image (has_types p well) (statements_do p) s mem fs gs stores h.now;
     kept = λ s mem fs gs stores h w fs' gs' h'.
-        let g = turn_grown (S.opened p fs).following (S.opened p fs).frames s in
+        let g = turn_grown p (S.opened p fs).following (S.opened p fs).frames s in
         record {
           now = subst (λ l. Same p image l fs' gs') (sym g.1) (same_grows p image s.made g.0 fs' gs' h'.now);
           behind = λ goes. subst (λ l. Same p image l (S.past p fs') (I.past image gs')) (sym g.1) (same_grows p image s.made g.0 (S.past p fs') (I.past image gs') (h'.behind goes));

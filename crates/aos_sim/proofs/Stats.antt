@@ -6,11 +6,11 @@ use Rattle.aos_base.specs.declared.number.Width.TheVariants.{W64}
 use Rattle.aos_base.specs.declared.place.Root.TheVariants.{Module as ModuleRoot}
 use Rattle.aos_base.specs.declared.text.Pos.{Pos}
 use Rattle.aos_base.specs.Operators.{flag}
-use Rattle.aos_base.specs.Question.{Val, Asks, Traps, bind, ask, Stores, Ends, Makes, Starts, PutsInt, PutsChar, PutsNothing, PutsLn}
+use Rattle.aos_base.specs.Question.{Val, Asks, Traps, bind, ask, Stores, Copies, Ends, Makes, Starts, PutsInt, PutsChar, PutsNothing, PutsLn}
 use Rattle.aos_types.specs.World.{World}
 use Rattle.aos_typed.specs.declared.tree.TType.{TType}
 use Rattle.aos_typed.specs.declared.tree.TType.TheVariants as type
-use Rattle.aos_typed.specs.Program.{Place, ModuleVar, Expr, Call, Open as OutOpen, Char as OutChar, Int as OutInt, Ln as OutLn, Stat, Assign, While, New, Out, Stats, Nothing, Then, Program}
+use Rattle.aos_typed.specs.Program.{Place, ModuleVar, Field, Index, Expr, Call, Open as OutOpen, Char as OutChar, Int as OutInt, Ln as OutLn, Stat, Assign, Copy, While, New, Out, Stats, Nothing, Then, Program}
 use Rattle.aos_typed.specs.Numbers.{id_of}
 use Rattle.aos_typed.specs.Sort.{Sort, Plain}
 use Rattle.aos_typed.specs.Spot.{Spot, OfModule}
@@ -28,13 +28,14 @@ use Rattle.aos_code.specs.declared.instr.Kind.TheVariants.{N, R}
 use Rattle.aos_code.specs.Numbered.{numbered}
 use Rattle.aos_code.specs.Silent.{Stack, Keeps, act, jumps, lands}
 use Rattle.aos_sim.specs.Cells.{place_in, cell_of}
-use Rattle.aos_sim.specs.Code.{begin, kind_of, variable_cell, place_code, operands_code, value_code, while_code, stat_code, stats_code}
+use Rattle.aos_sim.specs.Code.{begin, kind_of, variable_cell, cells_of, place_code, operands_code, value_code, while_code, stat_code, stats_code}
 use Rattle.aos_sim.proofs.Runs.{Run, Onward, AtBegin, on_run, runs, run, drop_next, drop_past, get_at}
 use Rattle.aos_sim.proofs.Types.{IsValueOf, number_cell, is_integer, is_character}
-use Rattle.aos_sim.proofs.Does.{HasPredeclared, Knows, addr_of, placed, Valid, Does, knows_grows, along, does_bind, scalar_grows, addr_grows}
-use Rattle.aos_sim.proofs.Variables.{basic_is_one, object_variable, value_to, made_value, variable_there, cell_there, Named, place_does}
-use Rattle.aos_sim.proofs.Evaluates.{Pushed, passed, jump_on, operand_does}
-use Rattle.aos_sim.proofs.Exprs.{operands_do, value_does}
+use Rattle.aos_sim.proofs.Does.{HasTypes, Knows, addr_of, placed, Valid, Does, knows_grows, along, does_bind}
+use Rattle.aos_sim.proofs.Variables.{basic_is_one, object_variable, value_to, made_value, variable_there, cell_there}
+use Rattle.aos_sim.proofs.Evaluates.{OfType, number_in, Pushed, passed, jump_on, ComesTo, Stays, pieces_do, values_stay, operand_does}
+use Rattle.aos_sim.proofs.Designators.{IsFound, places_stay}
+use Rattle.aos_sim.proofs.Exprs.{place_does, value_does}
 use Rattle.aos_sim.proofs.Carries.{Stands, Same, Carries, Behind, StatementsDo}
 
 pub basic_kind : (t : TType) → is_basic t ≡ true → kind_of t ≡ N
@@ -88,12 +89,12 @@ module _ (program : Program) (shapes : List ProcShape) (own here : ℕ) (code : 
   lands_back to p at rest k s le here' = rw (le-ltb p to le) (ap (λ o. on_run (lands o to s) (onward rest) p k) here')
 
   -- the statement's last instruction asks, and with the answer the statement is done
-  last_asks : (q : source.Question) (w : World Sort) (m : Run) (p : ℕ) (rest : List Instr) (k : Keeps) (after : List Item) → m ≡ Asks (placed w q) (λ x. onward rest 0 (p + 1) k []) → Valid program w q → drop (p + 1) code ≡ rest → CarriesOn after (p + 1) → Does program (Leaves after) w m (bind (ask q) (λ _. Val (Into [])))
+  last_asks : (q : source.Question) (w : World Sort) (m : Run) (p : ℕ) (rest : List Instr) (k : Keeps) (after : List Item) → m ≡ Asks (placed program w q) (λ x. onward rest 0 (p + 1) k []) → Valid program w q → drop (p + 1) code ≡ rest → CarriesOn after (p + 1) → Does program (Leaves after) w m (bind (ask q) (λ _. Val (Into [])))
   last_asks q w m p rest k after e ok there c =
       ((λ x. onward rest 0 (p + 1) k []), e, ok, λ w' up v a. (p + 1, k, sym (from_here (p + 1) rest k [] there), c))
 
   -- a value of a basic type above the place that it's stored at
-  store_asks : (t : TType) (w : World Sort) (a : Spot) (rest : List Instr) (p : ℕ) (k : Keeps) (v : Value) → is_basic t ≡ true → IsValueOf t v → onward (i.Store (kind_of t) ∷ rest) 0 p k (Num (number_of v) ∷ (place_in w a ∷ [])) ≡ Asks (placed w (Stores a v)) (λ x. onward rest 0 (p + 1) k [])
+  store_asks : (t : TType) (w : World Sort) (a : Spot) (rest : List Instr) (p : ℕ) (k : Keeps) (v : Value) → is_basic t ≡ true → IsValueOf t v → onward (i.Store (kind_of t) ∷ rest) 0 p k (Num (number_of v) ∷ (place_in w a ∷ [])) ≡ Asks (placed program w (Stores a v)) (λ x. onward rest 0 (p + 1) k [])
   store_asks t w a rest p k v b is =
       ap (λ kind. onward (i.Store kind ∷ rest) 0 p k (Num (number_of v) ∷ (place_in w a ∷ []))) (basic_kind t b)
       ∙ ap (λ c. Asks (Stores (addr_of w a) c) (λ x. onward rest 0 (p + 1) k [])) (sym (number_cell w t v is))
@@ -111,6 +112,7 @@ module _ (program : Program) (shapes : List ProcShape) (own here : ℕ) (code : 
   -- a statement's code begins with its Begin
   begins_with : (x : Stat) (at : ℕ) (k : Keeps) → Stands code at (stat_code program x at) → from at k [] ≡ Val (AtBegin at (pos_of x) k [])
   begins_with (Assign there t p e) at k st = ap (λ l. onward l 0 at k []) st.here
+  begins_with (Copy there t p q) at k st = ap (λ l. onward l 0 at k []) st.here
   begins_with (While there e b) at k st = ap (λ l. onward l 0 at k []) st.here
   begins_with (New there p t) at k st = ap (λ l. onward l 0 at k []) st.here
   begins_with (Out there call) at k st = ap (λ l. onward l 0 at k []) st.here
@@ -126,34 +128,44 @@ module _ (program : Program) (shapes : List ProcShape) (own here : ℕ) (code : 
   pub carries_begins : (x : Stat) (is : List Item) (p : ℕ) (k : Keeps) → Carries program shapes own here code (Do x ∷ is) p → BeginsAt x is p k
   carries_begins x is p k c = record { at = c.0; run = c.1 k [] ∙ begins_with x c.0 k c.2; stands = c.2; typed = c.3; carries = c.4 }
 
-  module _ (predeclared : HasPredeclared program) where
+  -- a statement whose code comes to two operands and does its work with its last instruction, which asks
+  two_ask : {A B : Type 0} (P : World Sort → A → Type 0) (c : World Sort → A → Cell) (G : World Sort → B → Type 0) (d : World Sort → B → Cell) (x : Instr) (q : A → B → source.Question) (ca cb : List Instr) (ra : Doing A) (rb : Doing B) (there : Pos) (w : World Sort) (at : ℕ) (k : Keeps) (after : List Item) → Stays program shapes own here code P c → Knows program w → Stands code at (begin there ∷ operands_code ca cb x) → CarriesOn after (at + suc (length (operands_code ca cb x))) → ComesTo program shapes own here code P c ca ra (at + 1) → ComesTo program shapes own here code G d cb rb (at + 1 + length ca) → ((w' : World Sort) (a : A) (b : B) → P w' a → G w' b → Valid program w' (q a b) × ((rest : List Instr) (p : ℕ) → onward (x ∷ rest) 0 p k (d w' b ∷ (c w' a ∷ [])) ≡ Asks (placed program w' (q a b)) (λ y. onward rest 0 (p + 1) k []))) → Does program (Leaves after) w (from (at + 1) k []) (bind ra (λ a. bind rb (λ b. bind (ask (q a b)) (λ _. Val (Into [])))))
+  two_ask {A = A} {B = B} P c G d x q ca cb ra rb there w at k after stays known st cont ha hb asks =
+      let xs = operands_code ca cb x in
+      let p = at + 1 + length ca + length cb in
+      let flat : xs ++ st.rest ≡ ca ++ (cb ++ (x ∷ st.rest)) = simp append_assoc in
+      let h1 : drop (at + 1) code ≡ xs ++ st.rest = drop_next at code (begin there) (xs ++ st.rest) st.here in
+      let h2 : drop p code ≡ x ∷ st.rest = drop_past cb (at + 1 + length ca) code (x ∷ st.rest) (drop_past ca (at + 1) code (cb ++ (x ∷ st.rest)) (h1 ∙ flat)) in
+      let len : at + suc (length xs) ≡ p + 1 = omega (arith, length-append ca (cb ++ x ∷ []), length-append cb (x ∷ [])) in
+      let does : A → B → Doing After = λ a b. bind (ask (q a b)) (λ _. Val (Into [])) in
+      along program (Leaves after) w _ _ (bind ra (λ a. bind rb (λ b. does a b))) (from_here (at + 1) (xs ++ st.rest) k [] h1)
+      (pieces_do program shapes own here code P c G d (Leaves after) x does ca cb ra rb (at + 1) st.rest k [] stays ha hb w known
+      (λ w' a b m ia ib e. let h = asks w' a b ia ib in
+      last_asks (q a b) w' m p st.rest k after (e ∙ h.1 st.rest p) h.0 (drop_next p code x st.rest h2) (subst (CarriesOn after) len cont)))
+
+  module _ (typed : HasTypes program) where
     assign_does : (t : TType) (pl : Place) (e : Expr) (there : Pos) (w : World Sort) (at : ℕ) (k : Keeps) (after : List Item) → Knows program w → IsStatement program (Assign there t pl e) → Stands code at (stat_code program (Assign there t pl e) at) → CarriesOn after (at + length (stat_code program (Assign there t pl e) at)) → Does program (Leaves after) w (from (at + 1) k []) (stat_of (Assign there t pl e))
     assign_does t pl e there w at k after known ok st c =
-        let x = i.Store (kind_of t) in
         let cp = place_code program pl (at + 1) in
         let pe = at + 1 + length cp in
-        let ce = value_code program e pe in
-        let p = pe + length ce in
-        let tail = x ∷ st.rest in
-        let flat : operands_code cp ce x ++ st.rest ≡ cp ++ (ce ++ tail) = simp append_assoc in
-        let h1 : drop (at + 1) code ≡ cp ++ (ce ++ tail) = drop_next at code (begin there) (operands_code cp ce x ++ st.rest) st.here ∙ flat in
-        let h2 : drop p code ≡ tail = drop_past ce pe code tail (drop_past cp (at + 1) code (ce ++ tail) h1) in
-        let len : at + suc (length (operands_code cp ce x)) ≡ p + 1 = omega (arith, length-append cp (ce ++ x ∷ []), length-append ce (x ∷ [])) in
-        let stores : Spot → Value → Doing After = λ a v. bind (ask (Stores a v)) (λ _. Val (Into [])) in
-        along program (Leaves after) w _ _ (bind (place_of pl) (λ a. bind (value_of e) (stores a))) (from_here (at + 1) (cp ++ (ce ++ tail)) k [] h1)
-        (does_bind program (Named program shapes own here code t (ce ++ tail) pe k []) (Leaves after) w _ (place_of pl) (λ a. bind (value_of e) (stores a))
-        (place_does program shapes own here code pl t ok.0 (basic_is_one program predeclared t ok.1) w known (at + 1) (ce ++ tail) k [])
-        (λ w1 up1 a m h. along program (Leaves after) w1 m _ (bind (value_of e) (stores a)) h.run
-        (does_bind program (Pushed shapes own here code t tail p k (place_in w1 a ∷ [])) (Leaves after) w1 _ (value_of e) (stores a)
-        (value_does program shapes own here code predeclared e t ok.2 pe w1 (knows_grows program w w1 up1 known) tail k (place_in w1 a ∷ []))
-        (λ w2 up2 v m' h'.
         let number = Plain (id_of t) in
-        last_asks (Stores a v) w2 m' p st.rest k after
-        (h'.run
-        ∙ ap (λ y. onward tail 0 p k (Num (number_of v) ∷ (cell.Place a.root y.cell a.type ∷ []))) (addr_grows program w1 w2 up2 a number h.there)
-        ∙ store_asks t w2 a st.rest p k v ok.1 h'.is)
-        (number, tt, scalar_grows program w1 w2 up2 a number h.there, value_to program predeclared t w2 v ok.1 h'.is)
-        (drop_next p code x st.rest h2) (subst (CarriesOn after) len c)))))
+        two_ask (IsFound program t) place_in (OfType t) number_in (i.Store (kind_of t)) (λ a v. Stores a v) cp (value_code program e pe) (place_of pl) (value_of e) there w at k after
+        (places_stay program shapes own here code t) known st c
+        (place_does program shapes own here code typed pl t ok.0 (at + 1)) (value_does program shapes own here code typed e t ok.2 pe)
+        (λ w' a v found is. (
+          (number, tt, found.there ∙ ap (λ z. Some z) (basic_is_one program typed.predeclared t ok.1), value_to program typed.predeclared t w' v ok.1 is),
+          λ rest p. store_asks t w' a rest p k v ok.1 is,
+        ))
+
+    -- a whole record or array
+    copy_does : (t : TType) (to from : Place) (there : Pos) (w : World Sort) (at : ℕ) (k : Keeps) (after : List Item) → Knows program w → IsStatement program (Copy there t to from) → Stands code at (stat_code program (Copy there t to from) at) → CarriesOn after (at + length (stat_code program (Copy there t to from) at)) → Does program (Leaves after) w (run shapes own here code (at + 1) k []) (stat_of (Copy there t to from))
+    copy_does t to from there w at k after known ok st c =
+        let cp = place_code program to (at + 1) in
+        let pe = at + 1 + length cp in
+        two_ask (IsFound program t) place_in (IsFound program t) place_in (i.Copy (cells_of program t)) (λ a b. Copies t b a) cp (place_code program from pe) (place_of to) (place_of from) there w at k after
+        (places_stay program shapes own here code t) known st c
+        (place_does program shapes own here code typed to t ok.0 (at + 1)) (place_does program shapes own here code typed from t ok.1 pe)
+        (λ w' a b found_to found_from. ((found_from.there, found_to.there, ok.2), λ rest p. refl))
 
     out_does : (call : Call) (there : Pos) (w : World Sort) (at : ℕ) (k : Keeps) (after : List Item) → Knows program w → IsCall program call → Stands code at (stat_code program (Out there call) at) → CarriesOn after (at + length (stat_code program (Out there call) at)) → Does program (Leaves after) w (from (at + 1) k []) (out_of call)
     out_does OutLn there w at k after known ok st c =
@@ -172,28 +184,26 @@ module _ (program : Program) (shapes : List ProcShape) (own here : ℕ) (code : 
         let len : at + suc (length (ce ++ i.OutChar ∷ [])) ≡ p + 1 = omega (arith, length-append ce (i.OutChar ∷ [])) in
         along program (Leaves after) w _ _ (out_of (OutChar e)) (from_here (at + 1) ((ce ++ i.OutChar ∷ []) ++ st.rest) k [] h1)
         (operand_does program shapes own here code (Leaves after) type.Char (λ x. bind (ask (PutsChar x)) (λ _. Val (Into []))) ce (i.OutChar ∷ []) (value_of e) (at + 1) st.rest k []
-        (value_does program shapes own here code predeclared e type.Char ok (at + 1)) w known
+        (value_does program shapes own here code typed e type.Char ok (at + 1)) w known
         (λ w' up v m is e'. last_asks (PutsChar v) w' m p st.rest k after
         (e' ∙ ap (λ y. Asks (PutsChar y) (λ x. onward st.rest 0 (p + 1) k [])) (sym (number_cell w' type.Char v is)))
         (is_character v is) (drop_next p code i.OutChar st.rest h2) (subst (CarriesOn after) len c)))
     out_does (OutInt e n) there w at k after known ok st c =
         let ca = value_code program e (at + 1) in
-        let cb = value_code program n (at + 1 + length ca) in
-        let p = at + 1 + length ca + length cb in
+        let pn = at + 1 + length ca in
         let number = type.Integer W64 in
-        let flat : operands_code ca cb i.OutInt ++ st.rest ≡ ca ++ (cb ++ (i.OutInt ∷ st.rest)) = simp append_assoc in
-        let h1 : drop (at + 1) code ≡ operands_code ca cb i.OutInt ++ st.rest = drop_next at code (begin there) (operands_code ca cb i.OutInt ++ st.rest) st.here in
-        let h2 : drop p code ≡ i.OutInt ∷ st.rest = drop_past cb (at + 1 + length ca) code (i.OutInt ∷ st.rest) (drop_past ca (at + 1) code (cb ++ (i.OutInt ∷ st.rest)) (h1 ∙ flat)) in
-        let len : at + suc (length (operands_code ca cb i.OutInt)) ≡ p + 1 = omega (arith, length-append ca (cb ++ i.OutInt ∷ []), length-append cb (i.OutInt ∷ [])) in
-        along program (Leaves after) w _ _ (out_of (OutInt e n)) (from_here (at + 1) (operands_code ca cb i.OutInt ++ st.rest) k [] h1)
-        (operands_do program shapes own here code (Leaves after) number number i.OutInt (λ x y. bind (ask (PutsInt x y)) (λ _. Val (Into []))) ca cb (value_of e) (value_of n) (at + 1) st.rest k []
-        (value_does program shapes own here code predeclared e number ok.0 (at + 1)) (value_does program shapes own here code predeclared n number ok.1 (at + 1 + length ca)) w known
-        (λ w' a b m ia ib e'. last_asks (PutsInt a b) w' m p st.rest k after
-        (e' ∙ sym (λ j. Asks (PutsInt (number_cell w' number a ia j) (number_cell w' number b ib j)) (λ x. onward st.rest 0 (p + 1) k [])))
-        (is_integer W64 a ia, is_integer W64 b ib) (drop_next p code i.OutInt st.rest h2) (subst (CarriesOn after) len c)))
+        two_ask (OfType number) number_in (OfType number) number_in i.OutInt (λ x y. PutsInt x y) ca (value_code program n pn) (value_of e) (value_of n) there w at k after
+        (values_stay program shapes own here code number) known st c
+        (value_does program shapes own here code typed e number ok.0 (at + 1)) (value_does program shapes own here code typed n number ok.1 pn)
+        (λ w' a b ia ib. (
+          (is_integer W64 a ia, is_integer W64 b ib),
+          λ rest p. sym (λ j. Asks (PutsInt (number_cell w' number a ia j) (number_cell w' number b ib j)) (λ x. onward rest 0 (p + 1) k [])),
+        ))
 
     -- the object stays below the place while it's stored, and is started then
     new_does : (pl : Place) (t : ℕ) (there : Pos) (w : World Sort) (at : ℕ) (k : Keeps) (after : List Item) → Knows program w → IsStatement program (New there pl t) → Stands code at (stat_code program (New there pl t) at) → CarriesOn after (at + length (stat_code program (New there pl t) at)) → Does program (Leaves after) w (from (at + 1) k []) (stat_of (New there pl t))
+    new_does (Field p u n) t there w at k after known ok st c = absurd (let h = ok.0 in cc h)
+    new_does (Index p n u e) t there w at k after known ok st c = absurd (let h = ok.0 in cc h)
     new_does (ModuleVar m n) t there w at k after known ok st c =
         let cell_number = variable_cell program m n in
         let p = at + 1 + 1 + 1 + 1 + 1 in
@@ -233,8 +243,8 @@ module _ (program : Program) (shapes : List ProcShape) (own here : ℕ) (code : 
         stored w1 known1 o v is made p rest h c' =
             subst (λ v. Does program (Leaves after) w1 (onward (i.Store R ∷ (i.Start ∷ rest)) 0 p k (stack o)) (left v)) (sym is) (
               (λ x. onward (i.Start ∷ rest) 0 (p + 1) k (cell.Ref (suc o) ∷ [])),
-              ap (λ y. Asks (Stores (record { root = ModuleRoot m; cell = y }) (cell.Ref (suc o))) (λ x. onward (i.Start ∷ rest) 0 (p + 1) k (cell.Ref (suc o) ∷ []))) (sym (cell_there program w1 known1 m n (type.Named t) ok.0)),
-              (Plain (id_of (type.Named t)), tt, variable_there program w1 known1 m n (type.Named t) ok.0 ∙ ap (λ s. Some s) (object_variable program.types (id_of (type.Named t)) ok.1), made_value program w1 t o ok.1 made),
+              ap (λ y. Asks (Stores (record { root = ModuleRoot m; cell = y }) (cell.Ref (suc o))) (λ x. onward (i.Start ∷ rest) 0 (p + 1) k (cell.Ref (suc o) ∷ []))) (sym (cell_there program w1 known1 m n (type.Named t) ok.1)),
+              (Plain (id_of (type.Named t)), tt, variable_there program w1 known1 m n (type.Named t) ok.1 ∙ ap (λ s. Some s) (object_variable program.types (id_of (type.Named t)) ok.2), made_value program w1 t o ok.2 made),
               λ w2 up2 u a. last_asks (Starts (Object (suc o))) w2 _ (p + 1) rest k after refl (o, refl) h c',
             )
 
@@ -271,16 +281,18 @@ module _ (program : Program) (shapes : List ProcShape) (own here : ℕ) (code : 
         let over : on_run (jumps code end p []) (onward (b1 ++ (i.Jump at ∷ st.rest))) p k ≡ from end k [] = jump_on shapes own here code (b1 ++ (i.Jump at ∷ st.rest)) end p (length b1 + 1) k [] (omega arith) ∙ passed shapes own here code b1 (i.Jump at ∷ st.rest) 1 (p + 1) k [] ∙ sym (from_here end st.rest k [] h5) in
         let chooses : Value → Doing After = λ v. Val (Into (if is_true v then items_of b ++ Do l ∷ [] else [])) in
         along program (Leaves after) w _ _ (bind (value_of e) chooses) (from_here (at + 1) (c1 ++ tail) k [] h1)
-        (does_bind program (Pushed shapes own here code type.Boolean tail p k []) (Leaves after) w _ (value_of e) chooses (value_does program shapes own here code predeclared e type.Boolean oke (at + 1) w known tail k [])
+        (does_bind program (Pushed shapes own here code type.Boolean tail p k []) (Leaves after) w _ (value_of e) chooses (value_does program shapes own here code typed e type.Boolean oke (at + 1) w known tail k [])
         (λ w' up v m h. chosen (items_of b ++ Do l ∷ []) [] end pb p (b1 ++ (i.Jump at ∷ st.rest)) k after w' v m h.is h.run over (sym (from_here pb (b1 ++ (i.Jump at ∷ st.rest)) k [] h3)) to_b (subst (CarriesOn after) len c)))
 
 -- the code of each statement does what the statement does
 pub statements_do : (program : Program) → StatementsDo program
-statements_do program shapes own here code w (Assign there t pl e) at k after predeclared known ok st c =
-    assign_does program shapes own here code predeclared t pl e there w at k after known ok st c
-statements_do program shapes own here code w (While there e b) at k after predeclared known ok st c =
-    while_does program shapes own here code predeclared (While there e b) e b there w at k after refl known ok ok.0 ok.1 st c
-statements_do program shapes own here code w (New there pl t) at k after predeclared known ok st c =
-    new_does program shapes own here code predeclared pl t there w at k after known ok st c
-statements_do program shapes own here code w (Out there call) at k after predeclared known ok st c =
-    out_does program shapes own here code predeclared call there w at k after known ok st c
+statements_do program shapes own here code w (Assign there t pl e) at k after typed known ok st c =
+    assign_does program shapes own here code typed t pl e there w at k after known ok st c
+statements_do program shapes own here code w (Copy there t p q) at k after typed known ok st c =
+    copy_does program shapes own here code typed t p q there w at k after known ok st c
+statements_do program shapes own here code w (While there e b) at k after typed known ok st c =
+    while_does program shapes own here code typed (While there e b) e b there w at k after refl known ok ok.0 ok.1 st c
+statements_do program shapes own here code w (New there pl t) at k after typed known ok st c =
+    new_does program shapes own here code typed pl t there w at k after known ok st c
+statements_do program shapes own here code w (Out there call) at k after typed known ok st c =
+    out_does program shapes own here code typed call there w at k after known ok st c

@@ -8,12 +8,12 @@ use Rattle.aos_base.specs.declared.kernel.Did.TheVariants.{Went, Ended as NoFram
 use Rattle.aos_base.specs.Question.{Val, Asks, Traps, feed, Reads, Stores, Copies, PutsText, ComparesTexts, Calls, Ends, Makes, Starts, PutsInt, PutsChar, PutsString, PutsNothing, PutsLn, Places, Lengths}
 use Rattle.aos_base.specs.Rooted.{Made, Rooted, spliced}
 use Rattle.aos_types.specs.Shape.{Shape, One}
-use Rattle.aos_types.specs.Content.{Content, Scalar, placed as placed_at}
+use Rattle.aos_types.specs.Content.{Content, Scalar, placed as placed_at, overlay}
 use Rattle.aos_types.specs.World.{World, Grows, shape_at}
 use Rattle.aos_typed.specs.declared.tree.TType.{TType}
 use Rattle.aos_typed.specs.Program.{Stat, Program}
 use Rattle.aos_typed.specs.Numbers.{id_of}
-use Rattle.aos_typed.specs.Sort.{Sort, Plain}
+use Rattle.aos_typed.specs.Sort.{Sort, Plain, variable_shape}
 use Rattle.aos_typed.specs.Spot.{Spot}
 use Rattle.aos_typed.specs.Value.{Value, Int, Char, Object}
 use Rattle.aos_typed.specs.Typing.{Is, IsPlain, IsInteger}
@@ -46,12 +46,13 @@ use Rattle.aos_sim.proofs.Runs.{Run, AtBegin, Onward, past, calm, runs, run, res
 use Rattle.aos_sim.proofs.Types.{number_cell, integer_is, character_is}
 use Rattle.aos_sim.proofs.Results.{natural_is}
 use Rattle.aos_sim.proofs.Variables.{value_from}
-use Rattle.aos_sim.proofs.Does.{scheme, addr_of, placed, HasPredeclared, Knows, Valid, Conforms, Does, along, calm_placed}
+use Rattle.aos_sim.proofs.Does.{scheme, addr_of, placed, HasPredeclared, HasTypes, Knows, Valid, Conforms, Does, along, calm_placed}
 use Rattle.aos_sim.proofs.Carries.{Stands, Carries, Behind, Remains, StatementsDo}
 use Rattle.aos_sim.proofs.Stats.{basic_kind, carries_ends, carries_begins}
 use Rattle.aos_sim.proofs.First.{zero_cell, first_is, first_same, get_right}
 use Rattle.aos_sim.proofs.States.{world_of, shapes_of, SameStore, SameVariables, SamePlace, Waiting, SameFrames, Follows, Same, SameState, ends_same, ends_shown, opened_same, waiting_grow}
 use Rattle.aos_sim.proofs.Written.{written}
+use Rattle.aos_sim.proofs.Copied.{copied_alike}
 use Rattle.aos_sim.proofs.Starting.{silent_at_start, run_at_start}
 
 -- Where silent work stops, by the run from there.
@@ -119,7 +120,7 @@ module _ (program : Program) (image : Image) where
       record { stores = h.stores; frames = record { now = h.same; behind = λ k. absurd (never k) }; left = refl; output = refl; begun = refl }
 
   -- the topmost frame
-  module _ (predeclared : HasPredeclared program) (statements : StatementsDo program) (ms ps : List ℕ) (f : S.Frame) (g : I.Frame) (fs : List S.Frame) (gs : List I.Frame) (s : Store) (mem : Memory) (place : SamePlace program image f.home f.object f.at g.procedure g.object g.at) (follows : Follows program image ms ps) (below : Waiting program image s.made fs gs) (stores : SameStore program s mem) (shown : SameVariables program s.made (f ∷ fs) (g ∷ gs)) where
+  module _ (typed : HasTypes program) (statements : StatementsDo program) (ms ps : List ℕ) (f : S.Frame) (g : I.Frame) (fs : List S.Frame) (gs : List I.Frame) (s : Store) (mem : Memory) (place : SamePlace program image f.home f.object f.at g.procedure g.object g.at) (follows : Follows program image ms ps) (below : Waiting program image s.made fs gs) (stores : SameStore program s mem) (shown : SameVariables program s.made (f ∷ fs) (g ∷ gs)) where
     abbrev shapes : List ProcShape
     shapes = image.shapes.items
 
@@ -183,8 +184,8 @@ module _ (program : Program) (image : Image) where
     -- the next statement begins
     begins_alike : (x : Stat) (is items : List Item) (answers : Option (List Value)) (next : ℕ) (k0 : Keeps) (st0 : Stack) (stop : Stop) (start : ℕ) (k : Keeps) → Stands code start (stat_code program x start) → IsStatement program x → Carries program shapes g.procedure here code is (start + length (stat_code program x start)) → resumed stop ≡ Val (AtBegin start (pos_of x) k []) →
         Alike (S.settles ms (Do x ∷ is) (upper items answers) fs s) (I.goes ps shapes stop (lower next k0 st0) gs mem)
-    begins_alike x is items answers next k0 st0 stop start k stands typed after e =
-        let left : Left now (Some []) (Do x ∷ is) (start + 1) k [] = statements shapes g.procedure here code now x start k is predeclared knows typed stands after in
+    begins_alike x is items answers next k0 st0 stop start k stands stated after e =
+        let left : Left now (Some []) (Do x ∷ is) (start + 1) k [] = statements shapes g.procedure here code now x start k is typed knows stated stands after in
         subst (λ z. Alike (S.settles ms (Do x ∷ is) (upper items answers) fs s) (I.goes ps shapes z (lower next k0 st0) gs mem)) (sym (stop_begins shapes g.procedure here code stop start (pos_of x) k [] e))
         (went s mem [] true Went _ _ (λ k. k)
         (record {
@@ -222,22 +223,22 @@ module _ (program : Program) (image : Image) where
         stack : Stack
         asks : feed t (item_of i) ≡ Asks q onto
         valid : Valid program now q
-        on : (x : Cell) → code_on x ≡ past (placed now q) x at keeps stack onward
+        on : (x : Cell) → code_on x ≡ past (placed program now q) x at keeps stack onward
         after : (w : World Sort) → Grows now w → (v : Value) → Conforms program w q v → Does program (Leads is) w (code_on (cell_of w v)) (onto v)
-        stop : stop_from next k st ≡ Work (placed now q) at keeps stack
+        stop : stop_from next k st ≡ Work (placed program now q) at keeps stack
 
       module _ (q : source.Question) (x : Asking q) where
         -- with one more answer the code has come behind its instruction
-        answered_so : (w : World Sort) → Grows now w → (v : Value) → Conforms program w q v → (st2 : Stack) → past (placed now q) (cell_of w v) x.at x.keeps x.stack onward ≡ run_from (x.at + 1) x.keeps st2 → Left w (Some (t ++ v ∷ [])) (i ∷ is) (x.at + 1) x.keeps st2
+        answered_so : (w : World Sort) → Grows now w → (v : Value) → Conforms program w q v → (st2 : Stack) → past (placed program now q) (cell_of w v) x.at x.keeps x.stack onward ≡ run_from (x.at + 1) x.keeps st2 → Left w (Some (t ++ v ∷ [])) (i ∷ is) (x.at + 1) x.keeps st2
         answered_so w up v c st2 e =
             subst (λ r. Does program (Leads is) w (run_from (x.at + 1) x.keeps st2) r) (sym (feed-append t (v ∷ []) (item_of i) ∙ ap (feed (v ∷ [])) x.asks))
             (along program (Leads is) w (run_from (x.at + 1) x.keeps st2) (x.code_on (cell_of w v)) (x.onto v) (sym (x.on (cell_of w v) ∙ e)) (x.after w up v c))
 
-        answered_now : (v : Value) → Conforms program now q v → (st2 : Stack) → past (placed now q) (cell_of now v) x.at x.keeps x.stack onward ≡ run_from (x.at + 1) x.keeps st2 → SameState program image s mem (uppers (i ∷ is) (Some (t ++ v ∷ []))) (lowers (x.at + 1) x.keeps st2)
+        answered_now : (v : Value) → Conforms program now q v → (st2 : Stack) → past (placed program now q) (cell_of now v) x.at x.keeps x.stack onward ≡ run_from (x.at + 1) x.keeps st2 → SameState program image s mem (uppers (i ∷ is) (Some (t ++ v ∷ []))) (lowers (x.at + 1) x.keeps st2)
         answered_now v c st2 e = state (i ∷ is) (Some (t ++ v ∷ [])) (x.at + 1) x.keeps st2 (answered_so now (grows_same now) v c st2 e)
 
         -- where the answer doesn't matter
-        done_so : Conforms program now q S.done → past (placed now q) (cell_of now S.done) x.at x.keeps x.stack onward ≡ run_from (x.at + 1) x.keeps x.stack → SameState program image s mem (uppers (i ∷ is) (Some (t ++ S.done ∷ []))) (lowers (x.at + 1) x.keeps x.stack)
+        done_so : Conforms program now q S.done → past (placed program now q) (cell_of now S.done) x.at x.keeps x.stack onward ≡ run_from (x.at + 1) x.keeps x.stack → SameState program image s mem (uppers (i ∷ is) (Some (t ++ S.done ∷ []))) (lowers (x.at + 1) x.keeps x.stack)
         done_so c e = answered_now S.done c x.stack e
 
       puts_alike : (bytes : List ℕ) (p : ℕ) (k' : Keeps) (st' : Stack) → SameState program image s mem (uppers (i ∷ is) (Some (t ++ S.done ∷ []))) (lowers (p + 1) k' st') → Alike (S.puts ms bytes (S.answered S.done top ∷ fs) s) (I.puts ps bytes (I.behind ps p k' st' low ∷ gs) mem)
@@ -263,29 +264,42 @@ module _ (program : Program) (image : Image) where
       read_at p z e = read_alike (Is program.types) cell_of IsPlain (values_kept program.types) (scheme program) s.made shapes_now variables cells p.root p.path z shows e
 
       -- a scalar is read
-      reads_alike : (u : TType) (a : Spot) (x : Asking (Reads u a)) → Alike (S.answer ms (Reads u a) top fs s) (I.answer ps shapes (placed now (Reads u a)) x.at x.keeps x.stack low gs mem)
+      reads_alike : (u : TType) (a : Spot) (x : Asking (Reads u a)) → Alike (S.answer program ms (Reads u a) top fs s) (I.answer ps shapes (placed program now (Reads u a)) x.at x.keeps x.stack low gs mem)
       reads_alike u a x =
           let r = read_at a (Plain (id_of u)) x.valid.1 in
           let source : Value → S.Turned = λ v. S.goes_on ms (S.answered v top ∷ fs) s in
           let there = I.goes_on ps (I.behind ps x.at x.keeps (cell_of now r.value ∷ x.stack) low ∷ gs) mem in
           let lost = I.leaves ps (Trapped 16 0) (low ∷ gs) mem in
-          subst (λ z. Alike (source z) (I.answer ps shapes (placed now (Reads u a)) x.at x.keeps x.stack low gs mem)) (sym (ap scalar_in r.source))
+          subst (λ z. Alike (source z) (I.answer ps shapes (placed program now (Reads u a)) x.at x.keeps x.stack low gs mem)) (sym (ap scalar_in r.source))
           (subst (λ o. Alike (source r.value) (I.reads ps (kind_of u) o x.at x.keeps x.stack low gs mem)) (sym r.image)
-          (subst (λ b. Alike (source r.value) (if b then there else lost)) (sym (kind_found program predeclared u now r.value x.valid.0 r.is))
+          (subst (λ b. Alike (source r.value) (if b then there else lost)) (sym (kind_found program typed.predeclared u now r.value x.valid.0 r.is))
           (went s mem [] false Went _ _ (λ z. z) (answered_now (Reads u a) x r.value r.is (cell_of now r.value ∷ x.stack) refl))))
 
       -- a scalar is stored
-      stores_alike : (a : Spot) (v : Value) (x : Asking (Stores a v)) → Alike (S.answer ms (Stores a v) top fs s) (I.answer ps shapes (placed now (Stores a v)) x.at x.keeps x.stack low gs mem)
+      stores_alike : (a : Spot) (v : Value) (x : Asking (Stores a v)) → Alike (S.answer program ms (Stores a v) top fs s) (I.answer ps shapes (placed program now (Stores a v)) x.at x.keeps x.stack low gs mem)
       stores_alike a v x =
           let sort = x.valid.0 in
           let r = read_at a sort x.valid.2 in
           let cell = cell_of now v in
-          let source = S.answer ms (Stores a v) top fs s in
+          let source = S.answer program ms (Stores a v) top fs s in
           let new = stored_alike (Is program.types) cell_of IsPlain (values_kept program.types) (scheme program) s.made shapes_now variables cells a.root a.path (One sort) (Scalar v) shows x.valid.2 x.valid.1 x.valid.3 in
           let h = answered_now (Stores a v) x S.done tt x.stack refl in
           subst (λ o. Alike source (I.writes ps (is_some o) (addr_of now a) (cell ∷ []) x.at x.keeps x.stack low gs mem)) (sym r.image)
           (went _ _ [] false Went _ _ (λ z. z)
           (written program image a.root (placed_at a.path (Scalar v)) (spliced (addr_of now a).cell (cell ∷ [])) s mem ms ps (S.answered S.done top ∷ fs) (I.behind ps x.at x.keeps x.stack low ∷ gs) stores.made follows h.same.frames new))
+
+      -- a whole record or array is copied
+      copies_alike : (u : TType) (from to : Spot) (x : Asking (Copies u from to)) → Alike (S.answer program ms (Copies u from to) top fs s) (I.answer ps shapes (placed program now (Copies u from to)) x.at x.keeps x.stack low gs mem)
+      copies_alike u from to x =
+          let c = copied_alike program typed.ranked s.made shapes_now variables cells shows u x.valid.2 from to x.valid.0 x.valid.1 in
+          let shape = variable_shape program.types (id_of u) in
+          let source : Option (Content Value) → Option (Content Value) → S.Turned = λ new old. S.copies ms shape new old to (S.answered S.done top ∷ fs) s in
+          let image_so : Option (List Cell) → Bool → I.Turned = λ all there. I.copies ps all there (addr_of now to) x.at x.keeps x.stack low gs mem in
+          let h = answered_now (Copies u from to) x S.done tt x.stack refl in
+          subst (λ z. Alike z (I.answer ps shapes (placed program now (Copies u from to)) x.at x.keeps x.stack low gs mem)) (sym (λ j. source (c.read_from j) (c.read_to j)))
+          (subst (Alike (source (Some c.new) (Some c.old))) (sym (λ j. image_so (c.image j) (c.there j)))
+          (went _ _ [] false Went _ _ (λ z. z)
+          (written program image to.root (placed_at to.path (overlay shape c.new c.old)) (spliced (addr_of now to).cell c.cells) s mem ms ps (S.answered S.done top ∷ fs) (I.behind ps x.at x.keeps x.stack low ∷ gs) stores.made follows h.same.frames c.alike)))
 
       -- an object is made
       abbrev one : ℕ → Made
@@ -337,13 +351,13 @@ module _ (program : Program) (image : Image) where
           }
 
       -- a character is written
-      chars_alike : (c : ℕ) (x : Asking (PutsChar (Char c))) → Alike (S.answer ms (PutsChar (Char c)) top fs s) (I.answer ps shapes (placed now (PutsChar (Char c))) x.at x.keeps x.stack low gs mem)
+      chars_alike : (c : ℕ) (x : Asking (PutsChar (Char c))) → Alike (S.answer program ms (PutsChar (Char c)) top fs s) (I.answer ps shapes (placed program now (PutsChar (Char c))) x.at x.keeps x.stack low gs mem)
       chars_alike c x =
-          subst (λ o. Alike (S.answer ms (PutsChar (Char c)) top fs s) (I.writes_out ps (option_map (λ n. n ∷ []) o) x.at x.keeps x.stack low gs mem)) (sym (natural_is 256 c x.valid))
+          subst (λ o. Alike (S.answer program ms (PutsChar (Char c)) top fs s) (I.writes_out ps (option_map (λ n. n ∷ []) o) x.at x.keeps x.stack low gs mem)) (sym (natural_is 256 c x.valid))
           (puts_alike (c ∷ []) x.at x.keeps x.stack (done_so (PutsChar (Char c)) x tt refl))
 
       -- a question is answered
-      work_alike : (q : source.Question) (x : Asking q) → Alike (S.answer ms q top fs s) (I.answer ps shapes (placed now q) x.at x.keeps x.stack low gs mem)
+      work_alike : (q : source.Question) (x : Asking q) → Alike (S.answer program ms q top fs s) (I.answer ps shapes (placed program now q) x.at x.keeps x.stack low gs mem)
       work_alike (Reads u a) x = reads_alike u a x
       work_alike (Stores a v) x = stores_alike a v x
       work_alike (Makes u) x =
@@ -357,11 +371,11 @@ module _ (program : Program) (image : Image) where
           (prints_alike (S.written v n) x.at x.keeps x.stack (done_so (PutsInt v n) x tt refl))
       work_alike (PutsChar v) x =
           let c = character_is v x.valid in
-          subst (λ z. (y : Asking (PutsChar z)) → Alike (S.answer ms (PutsChar z) top fs s) (I.answer ps shapes (placed now (PutsChar z)) y.at y.keeps y.stack low gs mem)) (sym c.1)
+          subst (λ z. (y : Asking (PutsChar z)) → Alike (S.answer program ms (PutsChar z) top fs s) (I.answer ps shapes (placed program now (PutsChar z)) y.at y.keeps y.stack low gs mem)) (sym c.1)
           (chars_alike c.0) x
       work_alike PutsNothing x = puts_alike [] x.at x.keeps x.stack (done_so PutsNothing x tt refl)
       work_alike PutsLn x = puts_alike (10 ∷ []) x.at x.keeps x.stack (done_so PutsLn x tt refl)
-      work_alike (Copies c from to) x = absurd x.valid
+      work_alike (Copies u from to) x = copies_alike u from to x
       work_alike (PutsText strict from n to room) x = absurd x.valid
       work_alike (ComparesTexts r a n b m) x = absurd x.valid
       work_alike (Calls p vs) x = absurd x.valid
@@ -371,9 +385,9 @@ module _ (program : Program) (image : Image) where
       work_alike (Lengths a) x = absurd x.valid
 
       -- a question of the item is its code's, and so is a trap
-      asks_alike : (q : source.Question) (f' : Value → Doing After) (d : Does program (Leads is) now (run_from next k st) (Asks q f')) (stop : Stop) → feed t (item_of i) ≡ Asks q f' → stop_from next k st ≡ stop → AtWork shapes g.procedure here code (placed now q) d.0 stop → Alike (S.answer ms q top fs s) (I.goes ps shapes stop low gs mem)
+      asks_alike : (q : source.Question) (f' : Value → Doing After) (d : Does program (Leads is) now (run_from next k st) (Asks q f')) (stop : Stop) → feed t (item_of i) ≡ Asks q f' → stop_from next k st ≡ stop → AtWork shapes g.procedure here code (placed program now q) d.0 stop → Alike (S.answer program ms q top fs s) (I.goes ps shapes stop low gs mem)
       asks_alike q f' d stop asks e v =
-          subst (λ z. Alike (S.answer ms q top fs s) (I.goes ps shapes z low gs mem)) (sym v.is)
+          subst (λ z. Alike (S.answer program ms q top fs s) (I.goes ps shapes z low gs mem)) (sym v.is)
           (work_alike q (record { onto = f'; code_on = d.0; at = v.at; keeps = v.keeps; stack = v.stack; asks = asks; valid = d.2; on = v.on; after = d.3; stop = e ∙ v.is }))
 
       traps_alike : (n c : ℕ) (stop : Stop) (k' : Keeps) → stop ≡ Ended (Fails n c) k' → Alike (S.leaves ms (Trapped n c) (top ∷ fs) s) (I.goes ps shapes stop low gs mem)
@@ -382,18 +396,18 @@ module _ (program : Program) (image : Image) where
           (went s mem [] false (Trapped n c) _ _ (λ z. z) (state (i ∷ is) (Some t) next k st left))
 
       -- what the item comes to
-      goes_alike : (r : Doing After) (stop : Stop) → feed t (item_of i) ≡ r → Does program (Leads is) now (run_from next k st) r → stop_from next k st ≡ stop → calm g.cells (run_from next k st) ≡ resumed stop → Alike (S.goes ms r is top fs s) (I.goes ps shapes stop low gs mem)
+      goes_alike : (r : Doing After) (stop : Stop) → feed t (item_of i) ≡ r → Does program (Leads is) now (run_from next k st) r → stop_from next k st ≡ stop → calm g.cells (run_from next k st) ≡ resumed stop → Alike (S.goes program ms r is top fs s) (I.goes ps shapes stop low gs mem)
       goes_alike (Val (Into new)) stop asks d e seen =
           settles_alike (new ++ is) (i ∷ is) (Some t) next k st stop d.0 d.1 d.3 (sym seen ∙ ap (calm g.cells) d.2)
       goes_alike (Asks q f') stop asks d e seen =
           asks_alike q f' d stop asks e
-          (stop_works shapes g.procedure here code stop (placed now q) d.0 (sym seen ∙ ap (calm g.cells) d.1 ∙ calm_placed program g.cells now q d.0 d.2))
+          (stop_works shapes g.procedure here code stop (placed program now q) d.0 (sym seen ∙ ap (calm g.cells) d.1 ∙ calm_placed program g.cells now q d.0 d.2))
       goes_alike (Traps n c) stop asks d e seen =
           let v = stop_fails shapes g.procedure here code stop n c (sym seen ∙ ap (calm g.cells) d.0) in
           traps_alike n c stop v.0 v.1
 
     -- what is left of the frame goes on
-    top_alike : (answers : Option (List Value)) (items : List Item) (next : ℕ) (k : Keeps) (st : Stack) → Left now answers items next k st → Alike (S.item_turn ms answers items (upper items answers) fs s) (I.goes ps shapes (stop_from next k st) (lower next k st) gs mem)
+    top_alike : (answers : Option (List Value)) (items : List Item) (next : ℕ) (k : Keeps) (st : Stack) → Left now answers items next k st → Alike (S.item_turn program ms answers items (upper items answers) fs s) (I.goes ps shapes (stop_from next k st) (lower next k st) gs mem)
     top_alike None is next k st r =
         subst (λ y. Alike (S.settles ms is (upper is None) fs s) (I.goes ps shapes (stop_from next k y) (lower next k y) gs mem)) (sym r.0)
         (settles_alike is is None next k [] (stop_from next k []) next k r.1 (sym (run_by_silent shapes g.procedure here g.cells code next k [])))
@@ -401,7 +415,7 @@ module _ (program : Program) (image : Image) where
     top_alike (Some t) (i ∷ is) next k st r =
         goes_alike i is t next k st r (feed t (item_of i)) (stop_from next k st) refl r refl (run_by_silent shapes g.procedure here g.cells code next k st)
 
-  frames_alike : HasPredeclared program → StatementsDo program → (ms ps : List ℕ) (fs : List S.Frame) (gs : List I.Frame) (s : Store) (mem : Memory) → SameStore program s mem → Follows program image ms ps → SameFrames program image s.made fs gs → SameVariables program s.made fs gs → Alike (S.turn_at ms fs s) (I.turn_at image ps gs mem)
+  frames_alike : HasTypes program → StatementsDo program → (ms ps : List ℕ) (fs : List S.Frame) (gs : List I.Frame) (s : Store) (mem : Memory) → SameStore program s mem → Follows program image ms ps → SameFrames program image s.made fs gs → SameVariables program s.made fs gs → Alike (S.turn_at program ms fs s) (I.turn_at image ps gs mem)
   frames_alike p d ms ps [] [] s mem stores follows h shown =
       went s mem [] false NoFrame _ _ (λ z. z) (record { stores = stores; same = record { follows = follows; frames = tt; shown = tt } })
   frames_alike p d ms ps [] (g ∷ gs) s mem stores follows h shown = absurd h
@@ -409,7 +423,7 @@ module _ (program : Program) (image : Image) where
   frames_alike p d ms ps (f ∷ fs) (g ∷ gs) s mem stores follows h shown =
       top_alike p d ms ps f g fs gs s mem h.0.place follows h.1 stores shown f.answers f.items g.next g.keeps g.stack h.0.remains
 
-  pub turn_alike : HasPredeclared program → StatementsDo program → (s : Store) (mem : Memory) (x : S.Frames) (y : I.Frames) → SameStore program s mem → Same program image s.made x y → Alike (S.turn program s x) (I.turn image mem y)
+  pub turn_alike : HasTypes program → StatementsDo program → (s : Store) (mem : Memory) (x : S.Frames) (y : I.Frames) → SameStore program s mem → Same program image s.made x y → Alike (S.turn program s x) (I.turn image mem y)
   turn_alike p d s mem x y stores h =
       let o = opened_same program image s.made x y h in
       frames_alike p d (S.opened program x).following (I.opened y).following (S.opened program x).frames (I.opened y).frames s mem stores o.follows o.frames o.shown

@@ -1,5 +1,5 @@
--- The variables of modules: each that is read or assigned is one scalar of its type, at the cell that its code names.
-use Rattle.std.proofs.Common.{◌≡◌, ℕ, zero, suc, ◌+◌, List, [], ◌∷◌, ◌++◌, length, map, Option, Some, None, true, if◌then◌else◌, refl, sym, ap, ◌∙◌, subst, arith}
+-- The variables of modules: each stands at the cell that its code names, and one of a basic type or of an object type is one scalar.
+use Rattle.std.proofs.Common.{◌≡◌, ℕ, zero, suc, List, [], ◌∷◌, length, map, Option, Some, None, true, if◌then◌else◌, refl, sym, ap, ◌∙◌, subst, arith}
 use Rattle.std.specs.Prelude.{slice_get, option_map, option_and_then}
 use Rattle.std.proofs.lemmas.Bool.{eq-eqb}
 use Rattle.std.proofs.lemmas.Option.{slice_get-map}
@@ -9,36 +9,23 @@ use Rattle.aos_types.specs.declared.row.TypeId.{TypeId}
 use Rattle.aos_types.specs.declared.row.TypeRow.{TypeRow}
 use Rattle.aos_types.specs.declared.row.TypeRow.TheVariants as row
 use Rattle.aos_types.specs.Table.{row_of, is_object}
-use Rattle.aos_types.specs.Shape as shape
 use Rattle.aos_types.specs.Shape.{Shape, One, part, offset, number_of, shaped}
 use Rattle.aos_types.specs.Contents.{contents, with_parts, unfolded}
 use Rattle.aos_types.specs.World.{World, shape_at, cell_at}
 use Rattle.aos_types.specs.Extension.{comes_by}
 use Rattle.aos_typed.specs.declared.tree.TType.{TType}
 use Rattle.aos_typed.specs.declared.tree.TType.TheVariants as type
-use Rattle.aos_typed.specs.Program.{Variable, Module, Place as Designator, ModuleVar, Program}
+use Rattle.aos_typed.specs.Program.{Variable, Module, Program}
 use Rattle.aos_typed.specs.Numbers.{id_of}
 use Rattle.aos_typed.specs.Sort.{Sort, Plain, variable_shape}
-use Rattle.aos_typed.specs.Spot.{Spot}
 use Rattle.aos_typed.specs.Value.{Value, Object}
 use Rattle.aos_typed.specs.Typing.{Is, IsPlainly, IsReference}
 use Rattle.aos_typed.specs.Source.{module_shape}
-use Rattle.aos_typed.specs.Meaning.{place_of}
-use Rattle.aos_typed.specs.WellTyped.{is_basic, variable_type, place_type}
-use Rattle.aos_code.specs.declared.image.ProcShape.{ProcShape}
-use Rattle.aos_code.specs.declared.instr.Cell.TheVariants as cell
-use Rattle.aos_code.specs.declared.instr.Instr.{Instr}
-use Rattle.aos_code.specs.Silent.{Stack, Keeps}
-use Rattle.aos_sim.specs.Cells.{place_in}
-use Rattle.aos_sim.specs.Code.{variable_cell, place_code}
-use Rattle.aos_sim.proofs.Runs.{Run, runs}
+use Rattle.aos_typed.specs.WellTyped.{is_basic, variable_type}
+use Rattle.aos_sim.specs.Code.{variable_cell}
 use Rattle.aos_sim.proofs.Types.{IsValueOf, basic_of, from_basic, to_basic}
-use Rattle.aos_sim.proofs.Does.{HasPredeclared, Knows, HasScalar, Does}
-
-part_of_row : {S : Type 0} (i : ℕ) (ss : List (Shape S)) → part i (shape.row ss) ≡ slice_get ss i
-part_of_row i [] = refl
-part_of_row zero (s ∷ ss) = refl
-part_of_row (suc i) (s ∷ ss) = part_of_row i ss
+use Rattle.aos_sim.proofs.Parts.{part_of_row}
+use Rattle.aos_sim.proofs.Does.{HasPredeclared, Knows}
 
 -- each type comes to itself
 comes_same : (rows : List TypeRow) (n : ℕ) (t : TypeId) → comes_by n rows t t ≡ true
@@ -103,12 +90,12 @@ module _ (program : Program) where
   value_to p t w v e h = subst (λ o. IsPlainly program.types w (id_of t) o v) (sym (basic_row p t e)) (to_basic t v h)
 
   -- the shape of a module with a variable, and of the variable in it
-  record Stood (m k : ℕ) (t : TType) : Type 0 where
-    whole : Shape Sort
-    there : slice_get (map (module_shape program) program.modules) m ≡ Some whole
-    part : part k whole ≡ Some (variable_shape program.types (id_of t))
+  pub record Stood (m k : ℕ) (t : TType) : Type 0 where
+    pub whole : Shape Sort
+    pub there : slice_get (map (module_shape program) program.modules) m ≡ Some whole
+    pub part : part k whole ≡ Some (variable_shape program.types (id_of t))
 
-  stood : (m k : ℕ) (t : TType) → variable_type program m k ≡ Some t → Stood m k t
+  pub stood : (m k : ℕ) (t : TType) → variable_type program m k ≡ Some t → Stood m k t
   stood m k t e = by_module (slice_get program.modules m) refl e
     where
       of_variable : Variable → Shape Sort
@@ -137,16 +124,3 @@ module _ (program : Program) where
 
     pub cell_there : cell_at w (ModuleRoot m) (k ∷ []) ≡ variable_cell program m k
     cell_there = let s = stood m k t of in ap (number_of (offset (k ∷ []))) (known m s.whole s.there ∙ sym s.there)
-
-module _ (program : Program) (shapes : List ProcShape) (own here : ℕ) (code : List Instr) where
-  -- the code goes on with the rest at this place, with the place of a scalar of this type on the stack
-  pub record Named (t : TType) (rest : List Instr) (at : ℕ) (k : Keeps) (s : Stack) (w : World Sort) (p : Spot) (m : Run) : Type 0 where
-    pub there : HasScalar program w p (Plain (id_of t))
-    pub run : m ≡ runs shapes own here code rest 0 at k (place_in w p ∷ s)
-
-  pub place_does : (p : Designator) (t : TType) → place_type program p ≡ Some t → IsOne program t → (w : World Sort) → Knows program w → (at : ℕ) (rest : List Instr) (k : Keeps) (s : Stack) → Does program (Named t rest (at + length (place_code program p at)) k s) w (runs shapes own here code (place_code program p at ++ rest) 0 at k s) (place_of p)
-  place_does (ModuleVar m i) t of one w known at rest k s =
-      record {
-        there = variable_there program w known m i t of ∙ ap (λ s. Some s) one;
-        run = ap (λ n. runs shapes own here code rest 0 (at + 1) k (cell.Place (ModuleRoot m) n 0 ∷ s)) (sym (cell_there program w known m i t of));
-      }

@@ -5,16 +5,18 @@ use Rattle.aos_base.specs.declared.operator.Unary.TheVariants.{Range}
 use Rattle.aos_base.specs.declared.operator.Binary.TheVariants.{SetSpan}
 use Rattle.aos_base.specs.Operators.{flag}
 use Rattle.aos_types.specs.Shape.{number_of, offset}
+use Rattle.aos_types.specs.Contents.{contents, variable_scalars}
 use Rattle.aos_typed.specs.declared.tree.Literal.{Literal}
 use Rattle.aos_typed.specs.declared.tree.Literal.TheVariants as literal
-use Rattle.aos_typed.specs.Program.{Place, ModuleVar, Expr, Lit, Read, Unary, Binary, And, Or, Element, Ord, Chr, Call, Open, Char, Int, Ln, Stat, Assign, While, New, Out, Stats, Nothing, Then, Program}
+use Rattle.aos_typed.specs.Numbers.{id_of}
+use Rattle.aos_typed.specs.Program.{Place, ModuleVar, Field, Index, Expr, Lit, Read, Unary, Binary, And, Or, Element, Ord, Chr, Call, Open, Char, Int, Ln, Stat, Assign, Copy, While, New, Out, Stats, Nothing, Then, Program}
 use Rattle.aos_typed.specs.Source.{module_shape}
 use Rattle.aos_typed.specs.declared.tree.TType.{TType}
 use Rattle.aos_typed.specs.declared.tree.TType.TheVariants as type
 use Rattle.aos_code.specs.declared.instr.Kind.{Kind}
 use Rattle.aos_code.specs.declared.instr.Kind.TheVariants.{N, R}
 use Rattle.aos_code.specs.declared.instr.Instr.{Instr}
-use Rattle.aos_code.specs.declared.instr.Instr.TheVariants.{Num, Dup, Swap, Module, Unary as OnOne, Binary as OnTwo, Jump, JumpFalse, Begin, Load, Store, NewObject, Start, Return, OutChar, OutInt, OutLn, OutOpen}
+use Rattle.aos_code.specs.declared.instr.Instr.TheVariants.{Num, Dup, Swap, Module, Offset, Index as IndexOf, Unary as OnOne, Binary as OnTwo, Jump, JumpFalse, Begin, Load, Store, Copy as CopyOf, NewObject, Start, Return, OutChar, OutInt, OutLn, OutOpen}
 
 abbrev pub begin : Pos → Instr
 begin at = Begin at.line at.col
@@ -60,20 +62,31 @@ module _ (program : Program) where
   abbrev pub variable_cell : (home number : ℕ) → ℕ
   variable_cell m i = number_of (offset (i ∷ [])) (slice_get (map (module_shape program) program.modules) m)
 
-  abbrev pub place_code : Place → ℕ → List Instr
-  place_code (ModuleVar m i) at = Module m (variable_cell m i) ∷ []
+  -- how many cells stand before a field in its record, and how many a variable of a type has
+  abbrev pub field_cell : TType → ℕ → ℕ
+  field_cell t k = offset (k ∷ []) (contents program.types (id_of t))
 
-  abbrev pub value_code : Expr → ℕ → List Instr
-  value_code (Lit l) at = literal_code l ∷ []
-  value_code (Read t p) at = place_code p at ++ Load (kind_of t) ∷ []
-  value_code (Unary op a) at = value_code a at ++ OnOne op ∷ []
-  value_code (Binary op a b) at =
-      operands_code (value_code a at) (value_code b (at + length (value_code a at))) (OnTwo op)
-  value_code (And a b) at = and_code (value_code a at) (value_code b (at + length (value_code a at) + 1)) at
-  value_code (Or a b) at = or_code (value_code a at) (value_code b (at + length (value_code a at) + 3)) at
-  value_code (Element a) at = value_code a at ++ (Dup ∷ (OnTwo SetSpan ∷ []))
-  value_code (Ord a) at = value_code a at
-  value_code (Chr a) at = value_code a at ++ OnOne (Range (pos 0) (pos 255)) ∷ []
+  abbrev pub cells_of : TType → ℕ
+  cells_of t = variable_scalars program.types (id_of t)
+
+  abbrev mutual
+    pub place_code : Place → ℕ → List Instr
+    place_code (ModuleVar m i) at = Module m (variable_cell m i) ∷ []
+    place_code (Field p t k) at = place_code p at ++ Offset (field_cell t k) 0 ∷ []
+    place_code (Index p n t e) at =
+        operands_code (place_code p at) (value_code e (at + length (place_code p at))) (IndexOf n (cells_of t))
+
+    pub value_code : Expr → ℕ → List Instr
+    value_code (Lit l) at = literal_code l ∷ []
+    value_code (Read t p) at = place_code p at ++ Load (kind_of t) ∷ []
+    value_code (Unary op a) at = value_code a at ++ OnOne op ∷ []
+    value_code (Binary op a b) at =
+        operands_code (value_code a at) (value_code b (at + length (value_code a at))) (OnTwo op)
+    value_code (And a b) at = and_code (value_code a at) (value_code b (at + length (value_code a at) + 1)) at
+    value_code (Or a b) at = or_code (value_code a at) (value_code b (at + length (value_code a at) + 3)) at
+    value_code (Element a) at = value_code a at ++ (Dup ∷ (OnTwo SetSpan ∷ []))
+    value_code (Ord a) at = value_code a at
+    value_code (Chr a) at = value_code a at ++ OnOne (Range (pos 0) (pos 255)) ∷ []
 
   abbrev pub out_code : Call → ℕ → List Instr
   out_code Open at = OutOpen ∷ []
@@ -81,7 +94,7 @@ module _ (program : Program) where
   out_code (Int e n) at = operands_code (value_code e at) (value_code n (at + length (value_code e at))) OutInt
   out_code Ln at = OutLn ∷ []
 
-  -- a new object stays below the place that it's stored at, to be started. The place is a module's variable, whose code
+  -- a new object stays below the place that it's stored at, to be started. The place is a variable, no part of another, whose code
   -- does no visible work
   abbrev pub new_code : Place → ℕ → ℕ → List Instr
   new_code p t at = NewObject (t + 1) ∷ (Dup ∷ (place_code p (at + 2) ++ (Swap ∷ (Store R ∷ (Start ∷ [])))))
@@ -91,6 +104,9 @@ module _ (program : Program) where
     stat_code (Assign here t p e) at =
         begin here
         ∷ operands_code (place_code p (at + 1)) (value_code e (at + 1 + length (place_code p (at + 1)))) (Store (kind_of t))
+    stat_code (Copy here t p q) at =
+        begin here
+        ∷ operands_code (place_code p (at + 1)) (place_code q (at + 1 + length (place_code p (at + 1)))) (CopyOf (cells_of t))
     stat_code (While here e body) at =
         let c = value_code e (at + 1) in while_code here c (stats_code body (at + 1 + length c + 1)) at
     stat_code (New here p t) at = begin here ∷ new_code p t (at + 1)

@@ -1,23 +1,26 @@
 -- How many operands code has at most, beyond those that are there where it begins.
 use Rattle.std.specs.Prelude.{◌≡◌, ℕ, ◌+◌, ◌++◌, map, max}
-use Rattle.aos_typed.specs.Program.{Place, ModuleVar, Expr, Lit, Read, Unary, Binary, And, Or, Element, Ord, Chr, Call, Open, Char, Int, Ln, Stat, Assign, While, New, Out, Stats, Nothing, Then, Program}
+use Rattle.aos_typed.specs.Program.{Place, ModuleVar, Field, Index, Expr, Lit, Read, Unary, Binary, And, Or, Element, Ord, Chr, Call, Open, Char, Int, Ln, Stat, Assign, Copy, While, New, Out, Stats, Nothing, Then, Program}
 use Rattle.aos_code.specs.declared.image.Image.{Image}
 
--- the place of a variable
-abbrev pub place_need : Place → ℕ
-place_need (ModuleVar m i) = 1
+abbrev mutual
+  -- a designator; the place of an array lies below its index
+  pub place_need : Place → ℕ
+  place_need (ModuleVar m i) = 1
+  place_need (Field p t k) = place_need p
+  place_need (Index p n t e) = max (place_need p) (1 + value_need e)
 
--- an expression; what its left operand gives lies below its right one
-abbrev pub value_need : Expr → ℕ
-value_need (Lit l) = 1
-value_need (Read t p) = place_need p
-value_need (Unary op a) = value_need a
-value_need (Binary op a b) = max (value_need a) (1 + value_need b)
-value_need (And a b) = max (value_need a) (value_need b)
-value_need (Or a b) = max (value_need a) (value_need b)
-value_need (Element a) = max (value_need a) 2
-value_need (Ord a) = value_need a
-value_need (Chr a) = value_need a
+  -- an expression; what its left operand gives lies below its right one
+  pub value_need : Expr → ℕ
+  value_need (Lit l) = 1
+  value_need (Read t p) = place_need p
+  value_need (Unary op a) = value_need a
+  value_need (Binary op a b) = max (value_need a) (1 + value_need b)
+  value_need (And a b) = max (value_need a) (value_need b)
+  value_need (Or a b) = max (value_need a) (value_need b)
+  value_need (Element a) = max (value_need a) 2
+  value_need (Ord a) = value_need a
+  value_need (Chr a) = value_need a
 
 -- a call of a procedure of module Out
 abbrev pub out_need : Call → ℕ
@@ -30,6 +33,7 @@ out_need Ln = 0
 abbrev mutual
   pub stat_need : Stat → ℕ
   stat_need (Assign here t p e) = max (place_need p) (1 + value_need e)
+  stat_need (Copy here t p q) = max (place_need p) (1 + place_need q)
   stat_need (While here e body) = max (value_need e) (stats_need body)
   stat_need (New here p t) = 2 + place_need p
   stat_need (Out here call) = out_need call

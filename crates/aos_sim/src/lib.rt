@@ -6,7 +6,7 @@ ghost use Rattle.aos_typed.specs.Program.{Program};
 ghost use Rattle.aos_code.specs.declared.image.Image.{Image};
 ghost use Rattle.aos_typed.specs.WellTyped.{IsWellTyped};
 ghost use Rattle.aos_sim.specs.Shows.{IsCodeOf, Shows, NeverLost};
-ghost use Rattle.aos_sim.specs.Rewriting.{ExpressionRewrites, StatementRewrites, AssignmentRewrites};
+ghost use Rattle.aos_sim.specs.Rewriting.{DesignatorRewrites, ExpressionRewrites, StatementRewrites, AssignedRewrites, AssignmentRewrites};
 
 /// An image that has a well-typed program's code shows the program: for every budget and every
 /// schedule of any number of workers the two executions have the same observation and the same
@@ -21,11 +21,13 @@ pub fn image_is_never_lost()
     ensures { (p : Program) (image : Image) → IsWellTyped p → IsCodeOf p image → NeverLost image }
 {}
 
-/// An expression whose first reads have been answered means the same as the one in which each of
-/// these reads is replaced by a literal of its answer; and so does a statement that has come so
-/// far, whatever it does with the value.
+/// A designator or an expression whose first reads have been answered means the same as the one in
+/// which each of these reads is replaced by a literal of its answer; and so does a statement that has
+/// come so far, whatever it does with the value.
 pub fn feeding_is_rewriting()
+    ensures designator { DesignatorRewrites }
     ensures expression { ExpressionRewrites }
     ensures statement { StatementRewrites }
+    ensures assigned { AssignedRewrites }
     ensures assignment { AssignmentRewrites }
 {}

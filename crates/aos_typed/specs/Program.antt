@@ -8,20 +8,24 @@ use Rattle.aos_types.specs.declared.row.TypeRow.{TypeRow}
 use Rattle.aos_typed.specs.declared.tree.Literal.{Literal}
 use Rattle.aos_typed.specs.declared.tree.TType.{TType}
 
--- a designator: a variable of a module, by the module's number in load order and the variable's number
-pub data Place : Type 0 where
-  ModuleVar : (home number : ℕ) → Place
+mutual
+  -- a designator: a variable of a module, by the module's number in load order and the variable's number; a field of a record, by
+  -- the type that declares it and its number; or an element of an array, which has so many of this type, by its index
+  pub data Place : Type 0 where
+    ModuleVar : (home number : ℕ) → Place
+    Field : (whole : Place) → (of : TType) → (number : ℕ) → Place
+    Index : (whole : Place) → (elements : ℕ) → (of : TType) → Expr → Place
 
-pub data Expr : Type 0 where
-  Lit : Literal → Expr
-  Read : TType → Place → Expr
-  Unary : UnaryOperator → Expr → Expr
-  Binary : BinaryOperator → Expr → Expr → Expr
-  And : Expr → Expr → Expr
-  Or : Expr → Expr → Expr
-  Element : Expr → Expr
-  Ord : Expr → Expr
-  Chr : Expr → Expr
+  pub data Expr : Type 0 where
+    Lit : Literal → Expr
+    Read : TType → Place → Expr
+    Unary : UnaryOperator → Expr → Expr
+    Binary : BinaryOperator → Expr → Expr → Expr
+    And : Expr → Expr → Expr
+    Or : Expr → Expr → Expr
+    Element : Expr → Expr
+    Ord : Expr → Expr
+    Chr : Expr → Expr
 
 -- a call of a procedure of module Out: the number, and in how many places it stands
 pub data Call : Type 0 where
@@ -34,6 +38,7 @@ pub data Call : Type 0 where
 mutual
   pub data Stat : Type 0 where
     Assign : Pos → TType → Place → Expr → Stat
+    Copy : Pos → TType → (to from : Place) → Stat
     While : Pos → Expr → Stats → Stat
     New : Pos → Place → ℕ → Stat
     Out : Pos → Call → Stat

@@ -15,21 +15,24 @@ use Rattle.aos_typed.specs.declared.tree.TProcedure.{TProcedure}
 use Rattle.aos_typed.specs.declared.tree.TObject.{TObject}
 use Rattle.aos_typed.specs.declared.tree.TModule.{TModule}
 use Rattle.aos_typed.specs.declared.tree.Program.{Program as TProgram}
-use Rattle.aos_typed.specs.Program.{Place, ModuleVar, Expr, Lit, Read, Unary, Binary, And, Or, Element, Ord, Chr, Call, Open, Char, Int, Ln, Stat, Assign, While, New, Out, Stats, Nothing, Then, Variable, Parameter, Procedure, ObjectType, Module, Program}
+use Rattle.aos_typed.specs.Program.{Place, ModuleVar, Field, Index, Expr, Lit, Read, Unary, Binary, And, Or, Element, Ord, Chr, Call, Open, Char, Int, Ln, Stat, Assign, Copy, While, New, Out, Stats, Nothing, Then, Variable, Parameter, Procedure, ObjectType, Module, Program}
 
-abbrev pub seen_place : TPlace → Place
-seen_place (place.ModuleVar m k) = ModuleVar m k
+abbrev mutual
+  pub seen_place : TPlace → Place
+  seen_place (place.ModuleVar m k) = ModuleVar m k
+  seen_place (place.Field' p whole t k) = Field (seen_place whole) t k
+  seen_place (place.Index' p whole n t q e) = Index (seen_place whole) n t (seen_expr e)
 
-abbrev pub seen_expr : TExpr → Expr
-seen_expr (expr.Lit l) = Lit l
-seen_expr (expr.Read t p) = Read t (seen_place p)
-seen_expr (expr.Unary' op p a) = Unary op (seen_expr a)
-seen_expr (expr.Binary' op p a q b) = Binary op (seen_expr a) (seen_expr b)
-seen_expr (expr.And' p a q b) = And (seen_expr a) (seen_expr b)
-seen_expr (expr.Or' p a q b) = Or (seen_expr a) (seen_expr b)
-seen_expr (expr.Element' p a) = Element (seen_expr a)
-seen_expr (expr.Ord' p a) = Ord (seen_expr a)
-seen_expr (expr.Chr' p a) = Chr (seen_expr a)
+  pub seen_expr : TExpr → Expr
+  seen_expr (expr.Lit l) = Lit l
+  seen_expr (expr.Read t p) = Read t (seen_place p)
+  seen_expr (expr.Unary' op p a) = Unary op (seen_expr a)
+  seen_expr (expr.Binary' op p a q b) = Binary op (seen_expr a) (seen_expr b)
+  seen_expr (expr.And' p a q b) = And (seen_expr a) (seen_expr b)
+  seen_expr (expr.Or' p a q b) = Or (seen_expr a) (seen_expr b)
+  seen_expr (expr.Element' p a) = Element (seen_expr a)
+  seen_expr (expr.Ord' p a) = Ord (seen_expr a)
+  seen_expr (expr.Chr' p a) = Chr (seen_expr a)
 
 abbrev pub seen_call : OutCall → Call
 seen_call call.Open = Open
@@ -40,6 +43,7 @@ seen_call call.Ln = Ln
 abbrev mutual
   pub seen_stat : TStat → Stat
   seen_stat (stat.Assign at t p e) = Assign at t (seen_place p) (seen_expr e)
+  seen_stat (stat.Copy at t p q) = Copy at t (seen_place p) (seen_place q)
   seen_stat (stat.While' at e shape body) = While at (seen_expr e) (seen_row body)
   seen_stat (stat.New at p t) = New at (seen_place p) t
   seen_stat (stat.Out at c) = Out at (seen_call c)

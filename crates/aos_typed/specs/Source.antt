@@ -19,10 +19,12 @@ use Rattle.aos_types.specs.declared.row.TypeRow.TheVariants as row
 use Rattle.aos_types.specs.Table.{row_of}
 use Rattle.aos_types.specs.Shape.{Shape, Nothing}
 use Rattle.aos_types.specs.Shape as shape
-use Rattle.aos_types.specs.Content.{Content, Scalar, Empty, placed, first_content}
+use Rattle.aos_types.specs.Content.{Content, Scalar, Empty, placed, overlay, first_content}
+use Rattle.aos_types.specs.World.{read}
 use Rattle.aos_typed.specs.Program.{Stats, ObjectType, Module, Program}
 use Rattle.aos_typed.specs.Numbers.{id_of}
 use Rattle.aos_typed.specs.Sort.{Sort, Plain, Variable, Alias, Elements, Length, variable_shape}
+use Rattle.aos_typed.specs.Spot.{Spot}
 use Rattle.aos_typed.specs.Value.{Value, Int, Flag, Char, Set, Object, Callable, number_of}
 use Rattle.aos_typed.specs.Store.{Store, rooted, value_at, store_with, type_of_object, with_object, new_number, has_room}
 use Rattle.aos_typed.specs.Meaning.{Question, Doing, Item, Do, After, Into, items_of, item_of, pos_of}
@@ -126,38 +128,48 @@ module _ (following : List ℕ) where
   starts (Object (suc k)) f fs s = leaves (Start (suc k)) (f ∷ fs) s
   starts v f fs s = goes_on (answered done f ∷ fs) s
 
+  -- a place's contents take the parts of a shape from another's, which are read before; what isn't there is not, and no well-typed
+  -- program comes to it
+  abbrev pub copies : Shape Sort → (from to : Option (Content Value)) → Spot → List Frame → Store → Turned
+  copies c (Some new) (Some old) to fs s = writes to.root (placed to.path (overlay c new old)) fs s
+  copies c _ _ to fs s = goes_on fs s
+
+-- and the program, which knows what is copied
+module _ (p : Program) (following : List ℕ) where
   -- a question is answered; so far no program asks the others
   abbrev pub answer : Question → Frame → List Frame → Store → Turned
-  answer (Reads t p) f fs s = goes_on (answered (value_at p (all_rooted (f ∷ fs) s)) f ∷ fs) s
-  answer (Stores p v) f fs s = writes p.root (placed p.path (Scalar v)) (answered done f ∷ fs) s
-  answer (Ends result) f fs s = ends result fs s
-  answer (Makes t) f fs s = makes (has_room s) t f fs s
-  answer (Starts v) f fs s = starts v f fs s
-  answer (PutsInt v n) f fs s = prints (written v n) f fs s
-  answer (PutsChar v) f fs s = puts (unsigned_abs (number_of v) ∷ []) (answered done f ∷ fs) s
-  answer PutsNothing f fs s = puts [] (answered done f ∷ fs) s
-  answer PutsLn f fs s = puts (10 ∷ []) (answered done f ∷ fs) s
-  answer (Copies c from to) f fs s = goes_on (answered done f ∷ fs) s
-  answer (PutsText strict from n to room) f fs s = goes_on (answered done f ∷ fs) s
-  answer (ComparesTexts r a n b m) f fs s = goes_on (answered done f ∷ fs) s
-  answer (Calls p vs) f fs s = goes_on (answered done f ∷ fs) s
-  answer (PutsString a n) f fs s = goes_on (answered done f ∷ fs) s
-  answer (Places a) f fs s = goes_on (answered done f ∷ fs) s
-  answer (Lengths a) f fs s = goes_on (answered done f ∷ fs) s
+  answer (Reads t q) f fs s = goes_on following (answered (value_at q (all_rooted (f ∷ fs) s)) f ∷ fs) s
+  answer (Stores q v) f fs s = writes following q.root (placed q.path (Scalar v)) (answered done f ∷ fs) s
+  answer (Ends result) f fs s = ends following result fs s
+  answer (Makes t) f fs s = makes following (has_room s) t f fs s
+  answer (Starts v) f fs s = starts following v f fs s
+  answer (PutsInt v n) f fs s = prints following (written v n) f fs s
+  answer (PutsChar v) f fs s = puts following (unsigned_abs (number_of v) ∷ []) (answered done f ∷ fs) s
+  answer PutsNothing f fs s = puts following [] (answered done f ∷ fs) s
+  answer PutsLn f fs s = puts following (10 ∷ []) (answered done f ∷ fs) s
+  answer (Copies t from to) f fs s =
+      let x = all_rooted (f ∷ fs) s in
+      copies following (variable_shape p.types (id_of t)) (read from.root from.path x) (read to.root to.path x) to (answered done f ∷ fs) s
+  answer (PutsText strict from n to room) f fs s = goes_on following (answered done f ∷ fs) s
+  answer (ComparesTexts r a n b m) f fs s = goes_on following (answered done f ∷ fs) s
+  answer (Calls q vs) f fs s = goes_on following (answered done f ∷ fs) s
+  answer (PutsString a n) f fs s = goes_on following (answered done f ∷ fs) s
+  answer (Places a) f fs s = goes_on following (answered done f ∷ fs) s
+  answer (Lengths a) f fs s = goes_on following (answered done f ∷ fs) s
 
   abbrev pub goes : Doing After → List Item → Frame → List Frame → Store → Turned
-  goes (Val (Into is)) rest f fs s = settles (is ++ rest) f fs s
+  goes (Val (Into is)) rest f fs s = settles following (is ++ rest) f fs s
   goes (Asks q k) rest f fs s = answer q f fs s
-  goes (Traps n c) rest f fs s = leaves (Trapped n c) (f ∷ fs) s
+  goes (Traps n c) rest f fs s = leaves following (Trapped n c) (f ∷ fs) s
 
   -- the first item goes on from the answers that it has had
   abbrev pub item_turn : Option (List Value) → List Item → Frame → List Frame → Store → Turned
-  item_turn None is f fs s = settles is f fs s
-  item_turn (Some vs) [] f fs s = ends None fs s
+  item_turn None is f fs s = settles following is f fs s
+  item_turn (Some vs) [] f fs s = ends following None fs s
   item_turn (Some vs) (i ∷ is) f fs s = goes (feed vs (item_of i)) is f fs s
 
   abbrev pub turn_at : List Frame → Store → Turned
-  turn_at [] s = leaves Ended [] s
+  turn_at [] s = leaves following Ended [] s
   turn_at (f ∷ fs) s = item_turn f.answers f.items f fs s
 
 -- the frame of a body, which has no variables: of this module, on this object, and with these statements
@@ -240,7 +252,7 @@ module _ (p : Program) where
 
   -- all silent work up to and with the next visible work
   abbrev pub turn : Store → Frames → Turned
-  turn s fs = let now = opened fs in turn_at now.following now.frames s
+  turn s fs = let now = opened fs in turn_at p now.following now.frames s
 
   -- past the work that was left to the kernel
   abbrev pub past : Frames → Frames

@@ -1,9 +1,9 @@
 -- The store: below each root stand contents, which a way reads and writes.
-use Rattle.std.specs.Prelude.{ℕ, suc, List, [], ◌∷◌, ◌++◌, length, nat_lt, Bool, Option, Some, None, map, pos, option_map}
+use Rattle.std.specs.Prelude.{ℕ, suc, List, [], ◌∷◌, ◌++◌, length, nat_lt, Bool, Option, Some, None, pos, option_map}
 use Rattle.aos_base.specs.declared.place.Root.{Root}
 use Rattle.aos_base.specs.declared.place.Root.TheVariants.{Frame as FrameRoot, Module as ModuleRoot, Object as ObjectRoot}
 use Rattle.aos_base.specs.Rooted.{Made, Rooted, by_number, change_at, change_by_number}
-use Rattle.aos_types.specs.Content.{Content, Scalar, Empty, Row, placed}
+use Rattle.aos_types.specs.Content.{Content, Scalar, Empty, Row}
 use Rattle.aos_types.specs.World.{read}
 use Rattle.aos_typed.specs.Value.{Value, Int}
 use Rattle.aos_typed.specs.Spot.{Spot}

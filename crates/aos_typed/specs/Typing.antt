@@ -1,5 +1,5 @@
 -- Which values are of which sorts, in a world that knows the shape of what stands below each root and what objects were made as.
-use Rattle.std.specs.Prelude.{◌≡◌, ℕ, zero, suc, pos, ◌+◌, ◌<◌, ◌^◌, List, [], ◌∷◌, true, Option, Some, None}
+use Rattle.std.specs.Prelude.{◌≡◌, ℕ, zero, suc, pos, ◌+◌, ◌<◌, ◌^◌, List, [], ◌∷◌, true, Option, Some}
 use Rattle.aos_base.specs.declared.number.Width.{Width}
 use Rattle.aos_base.specs.declared.number.Width.TheVariants.{W8, W16, W32, W64}
 use Rattle.aos_base.specs.Number.{IsWithin}
@@ -15,7 +15,7 @@ use Rattle.aos_types.specs.Shape.{Shape, repeated}
 use Rattle.aos_types.specs.World.{World, shape_at}
 use Rattle.aos_typed.specs.Numbers.{predeclared_types}
 use Rattle.aos_typed.specs.Spot.{Spot}
-use Rattle.aos_typed.specs.Value.{Value, Int, Flag, Char, Set, Object, Callable, Place}
+use Rattle.aos_typed.specs.Value.{Value, Int, Flag, Char, Set, Object, Place}
 use Rattle.aos_typed.specs.Source.{first_in}
 use Rattle.aos_typed.specs.Sort.{Sort, Plain, Variable, Alias, Elements, Length, variable_shape, object_shape}
 

@@ -1,9 +1,10 @@
 -- Programs whose expressions have the types that their places ask for (Oberon-2 report, 8.2 and 9.1; Reali 2002, section on
--- basic types): each operator has operands of the types that it takes, what is read and assigned is of a basic type, an assigned
--- value is of the variable's type, what a loop tests is a truth value, and NEW makes an object of its variable's type. No type
--- contains itself, and none has more scalars than a type may have (Oberon-2 report, 6.2 and 6.3); only parameters are of open
+-- basic types): each operator has operands of the types that it takes, an index is an integer, what is read and assigned is of a
+-- basic type, an assigned value is of the variable's type, a whole record or array is copied to a variable of its type, what a loop
+-- tests is a truth value, and NEW makes an object of its variable's type. No type
+-- contains itself, and none has more scalars than a type may have (Oberon-2 report, 6.2 and 6.3), nor have the variables of a module; only parameters are of open
 -- arrays, and a function gives a scalar (Oberon-2 report, 10.1). The predeclared types stand first in the table.
-use Rattle.std.specs.Prelude.{◌≡◌, ◌≢◌, ℕ, ℤ, ◌≤◌, ◌<◌, ◌+◌, ◌==◌, ◌^◌, nat_le, List, [], ◌∷◌, length, All, Bool, true, false, ◌&&◌, ◌||◌, Option, Some, None, slice_get, option_map, option_and_then}
+use Rattle.std.specs.Prelude.{◌≡◌, ◌≢◌, ℕ, ℤ, ◌≤◌, ◌<◌, ◌+◌, ◌==◌, ◌^◌, nat_le, List, [], ◌∷◌, length, All, Bool, true, false, ◌&&◌, ◌||◌, Option, Some, None, slice_get, sum_by, option_map, option_and_then}
 use Rattle.std.specs.List.{AllPairs, list_all}
 use Rattle.std.specs.Char.{is_ascii_digit, is_ascii_alphabetic}
 use Rattle.aos_base.specs.declared.number.Width.{Width}
@@ -18,14 +19,15 @@ use Rattle.aos_base.specs.Number.{IsWithin}
 use Rattle.aos_types.specs.declared.TheConstants.{MOST_SCALARS}
 use Rattle.aos_types.specs.declared.row.TypeId.{TypeId}
 use Rattle.aos_types.specs.declared.row.TypeRow.{TypeRow}
+use Rattle.aos_types.specs.declared.row.TypeRow.TheVariants as row
 use Rattle.aos_types.specs.Table.{row_of, is_open, is_scalar, is_object}
-use Rattle.aos_types.specs.Contents.{scalars}
+use Rattle.aos_types.specs.Contents.{scalars, variable_scalars}
 use Rattle.aos_types.specs.Chain.{NoneContainsItself}
 use Rattle.aos_typed.specs.declared.tree.Literal.{Literal}
 use Rattle.aos_typed.specs.declared.tree.Literal.TheVariants as literal
 use Rattle.aos_typed.specs.declared.tree.TType.{TType}
 use Rattle.aos_typed.specs.declared.tree.TType.TheVariants.{Integer, Boolean, Char, Set, Named}
-use Rattle.aos_typed.specs.Program.{Place, ModuleVar, Expr, Lit, Read, Unary, Binary, And, Or, Element, Ord, Chr, Call, Open as OutOpen, Char as OutChar, Int as OutInt, Ln as OutLn, Stat, Assign, While, New, Out, Stats, Nothing, Then, Parameter, Procedure, Program}
+use Rattle.aos_typed.specs.Program.{Place, ModuleVar, Field, Index, Expr, Lit, Read, Unary, Binary, And, Or, Element, Ord, Chr, Call, Open as OutOpen, Char as OutChar, Int as OutInt, Ln as OutLn, Stat, Assign, Copy, While, New, Out, Stats, Nothing, Then, Procedure, Module, Program}
 use Rattle.aos_typed.specs.Numbers.{id_of, predeclared_types, predeclared_rows}
 
 -- Types.
@@ -127,6 +129,29 @@ GivesOfTwo Xor t = t ≡ Set
 GivesOfTwo SetSpan t = t ≡ Set
 GivesOfTwo In t = t ≡ Boolean
 
+-- Designators.
+
+-- the type of a record's field, by its number; a record with a base isn't built
+abbrev pub field_type : Option TypeRow → ℕ → Option TypeId
+field_type (Some (row.Record None fields)) k = slice_get fields k
+field_type _ k = None
+
+-- an array of so many elements of this type
+abbrev pub IsArray : ℕ → TypeId → Option TypeRow → Type 0
+IsArray n t r = r ≡ Some (row.Array n t)
+
+-- a record or an array, which is copied as a whole
+abbrev pub is_whole : Option TypeRow → Bool
+is_whole (Some (row.Array n t)) = true
+is_whole (Some (row.Record base fields)) = true
+is_whole _ = false
+
+-- a variable that is no part of another
+abbrev pub is_variable : Place → Bool
+is_variable (ModuleVar m k) = true
+is_variable (Field place t k) = false
+is_variable (Index place n t e) = false
+
 -- Programs.
 
 module _ (p : Program) where
@@ -134,20 +159,24 @@ module _ (p : Program) where
   abbrev pub variable_type : (home number : ℕ) → Option TType
   variable_type m k = option_and_then (λ x. option_map (λ v. v.of) (slice_get x.variables k)) (slice_get p.modules m)
 
-  abbrev pub place_type : Place → Option TType
-  place_type (ModuleVar m k) = variable_type m k
+  abbrev mutual
+    -- a designator is of a type
+    pub IsPlaceOf : Place → TType → Type 0
+    IsPlaceOf (ModuleVar m k) t = variable_type m k ≡ Some t
+    IsPlaceOf (Field place of k) t = IsPlaceOf place of × (field_type (row_of p.types (id_of of)) k ≡ Some (id_of t))
+    IsPlaceOf (Index place n of e) t = (u : TType) × IsPlaceOf place u × IsArray n (id_of of) (row_of p.types (id_of u)) × IsOf e (Integer W64) × (t ≡ of)
 
-  -- each value of an expression is of a type
-  abbrev pub IsOf : Expr → TType → Type 0
-  IsOf (Lit l) t = IsLiteral l t
-  IsOf (Read u place) t = (place_type place ≡ Some u) × (is_basic u ≡ true) × Includes t u
-  IsOf (Unary op a) t = IsOf a (taken op) × Gives op t
-  IsOf (Binary op a b) t = Takes op (IsOf a) (IsOf b) × GivesOfTwo op t
-  IsOf (And a b) t = IsOf a Boolean × IsOf b Boolean × (t ≡ Boolean)
-  IsOf (Or a b) t = IsOf a Boolean × IsOf b Boolean × (t ≡ Boolean)
-  IsOf (Element a) t = IsOf a (Integer W64) × (t ≡ Set)
-  IsOf (Ord a) t = IsOf a Char × Includes t (Integer W16)
-  IsOf (Chr a) t = IsOf a (Integer W64) × (t ≡ Char)
+    -- each value of an expression is of a type
+    pub IsOf : Expr → TType → Type 0
+    IsOf (Lit l) t = IsLiteral l t
+    IsOf (Read u place) t = IsPlaceOf place u × (is_basic u ≡ true) × Includes t u
+    IsOf (Unary op a) t = IsOf a (taken op) × Gives op t
+    IsOf (Binary op a b) t = Takes op (IsOf a) (IsOf b) × GivesOfTwo op t
+    IsOf (And a b) t = IsOf a Boolean × IsOf b Boolean × (t ≡ Boolean)
+    IsOf (Or a b) t = IsOf a Boolean × IsOf b Boolean × (t ≡ Boolean)
+    IsOf (Element a) t = IsOf a (Integer W64) × (t ≡ Set)
+    IsOf (Ord a) t = IsOf a Char × Includes t (Integer W16)
+    IsOf (Chr a) t = IsOf a (Integer W64) × (t ≡ Char)
 
   abbrev pub IsCall : Call → Type 0
   IsCall OutOpen = Unit {0}
@@ -158,9 +187,10 @@ module _ (p : Program) where
   -- a statement is well typed, and so is each of a sequence
   abbrev mutual
     pub IsStatement : Stat → Type 0
-    IsStatement (Assign at t place e) = (place_type place ≡ Some t) × (is_basic t ≡ true) × IsOf e t
+    IsStatement (Assign at t place e) = IsPlaceOf place t × (is_basic t ≡ true) × IsOf e t
+    IsStatement (Copy at t to from) = IsPlaceOf to t × IsPlaceOf from t × (is_whole (row_of p.types (id_of t)) ≡ true)
     IsStatement (While at e body) = IsOf e Boolean × AreStatements body
-    IsStatement (New at place t) = (place_type place ≡ Some (Named t)) × (is_object (row_of p.types (id_of (Named t))) ≡ true) × (t < length p.objects)
+    IsStatement (New at place t) = (is_variable place ≡ true) × IsPlaceOf place (Named t) × (is_object (row_of p.types (id_of (Named t))) ≡ true) × (t < length p.objects)
     IsStatement (Out at call) = IsCall call
 
     pub AreStatements : Stats → Type 0
@@ -200,6 +230,10 @@ pub record IsProcedure (p : Program) (x : Procedure) : Type 0 where
   pub result : IsResult p x.result
   pub body : AreStatements p x.body
 
+-- how many scalars the variables of a module have
+abbrev pub module_scalars : Program → Module → ℕ
+module_scalars p m = sum_by (λ v. variable_scalars p.types (id_of v.of)) m.variables
+
 -- A program has 1 to 64 modules, whose names are idents and differ; all statements of all bodies are well typed, what stands
 -- beside a type is of a module of the program, and all declarations are as they are to be.
 pub record IsWellTyped (p : Program) : Type 0 where
@@ -214,4 +248,5 @@ pub record IsWellTyped (p : Program) : Type 0 where
   pub predeclared : (k : ℕ) → k < predeclared_types → slice_get p.types k ≡ slice_get predeclared_rows k
   pub beside : length p.types ≡ length p.objects + predeclared_types
   pub variables : All (λ m. All (λ v. IsVariableType p v.of) m.variables) p.modules
+  pub few_scalars : All (λ m. module_scalars p m ≤ MOST_SCALARS) p.modules
   pub procedures : All (λ m. All (IsProcedure p) m.procedures) p.modules

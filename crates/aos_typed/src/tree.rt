@@ -14,13 +14,37 @@ pub enum Literal {
     Set(u32),
 }
 
-/// A designator: a variable of a module, by the module's number in load order and the variable's number, each from 0.
-#[derive(Drop, Debug)]
+/// A designator.
+#[cycle(parts)]
+#[derive(Debug)]
 pub enum TPlace {
+    /// A variable of a module, by the module's number in load order and the variable's number, each from 0.
     ModuleVar(u32, u32),
+    /// A field of a record, by the record type that declares it and its number from 0, that type's base's first.
+    Field(Box<TPlace>, TType, u32),
+    /// An element of an array of so many elements, each of this type, by its index; trap 2 where that isn't one of them.
+    Index(Box<TPlace>, u32, TType, Box<TExpr>),
+}
+
+// A long designator has as many parts, one in another: it is dropped by a loop, which takes no stack.
+impl Drop for TPlace {
+    #[cycle(drops)]
+    fn drop(mut self) {
+        loop {
+            match self {
+                TPlace::ModuleVar(_, _) => return,
+                TPlace::Field(whole, _, _) => self = Box::into_inner(whole),
+                TPlace::Index(whole, _, _, index) => {
+                    drop(index);
+                    self = Box::into_inner(whole);
+                }
+            }
+        }
+    }
 }
 
 /// An expression.
+#[cycle(parts)]
 #[derive(Debug)]
 pub enum TExpr {
     Lit(Literal),
@@ -42,6 +66,7 @@ pub enum TExpr {
 
 // A long sum has as many left operands, one in another: it is dropped by a loop, which takes no stack.
 impl Drop for TExpr {
+    #[cycle(drops)]
     fn drop(mut self) {
         loop {
             match self {
@@ -83,6 +108,8 @@ pub enum OutCall {
 pub enum TStat {
     /// A value for a variable of this type.
     Assign(Pos, TType, TPlace, TExpr),
+    /// A whole record or array of this type: the variable that gets it, and the one that is copied.
+    Copy(Pos, TType, TPlace, TPlace),
     While(Pos, TExpr, Vec<TStat>),
     /// NEW of a variable: an object of this type, by the type's number in the program, whose activity is started.
     New(Pos, TPlace, u32),

@@ -13,5 +13,5 @@ returns c =
     let i = c.args.number in
     c.cell_of.ensures
     ∙ ap (λ bs. cell_in (slice_get (map seen_block bs) m) i) c.deref.ensures.value
-    ∙ cell_is (seen_program c.self.inside.program.now) c.self.inside.blocks.items c.self.invariant m i
+    ∙ cell_is (seen_program c.self.inside.program.now) c.self.inside.blocks.items c.self.invariant.blocks m i
     ∙ ap (λ p. variable_cell (seen_program p) m i) c.self.view_is

@@ -13,5 +13,5 @@ returns c =
     let m = c.args.home in
     c.kinds_of.ensures
     ∙ ap (λ bs. unwrap_or (option_map (λ (b : BlockShape). b.kinds) (slice_get (map seen_block bs) m)) []) c.deref.ensures.value
-    ∙ kinds_are (seen_program c.self.inside.program.now) c.self.inside.blocks.items c.self.invariant m
+    ∙ kinds_are (seen_program c.self.inside.program.now) c.self.inside.blocks.items c.self.invariant.blocks m
     ∙ ap (λ p. module_kinds (seen_program p) m) c.self.view_is

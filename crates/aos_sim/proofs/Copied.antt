@@ -1,0 +1,95 @@
+-- A whole record or array is copied in the store and in the memory alike.
+use Rattle.std.proofs.Common.{◌≡◌, ℕ, List, length, take, map, Some, true, refl, sym, ap, ◌∙◌, subst, arith}
+use Rattle.std.specs.Prelude.{is_some, option_map, option_and_then}
+use Rattle.std.proofs.lemmas.Bool.{eq-eqb}
+use Rattle.std.proofs.lemmas.List.{length-map, length-take-le}
+use Rattle.aos_base.specs.Rooted.{Made, Rooted, load_all, store_all}
+use Rattle.aos_types.specs.Shape.{Shape, Nothing, size, join}
+use Rattle.aos_types.specs.Content.{Content, flatten, overlay, EachSort}
+use Rattle.aos_types.specs.Contents.{contents, of_variable}
+use Rattle.aos_types.specs.Chain.{IsRanked}
+use Rattle.aos_types.specs.Table.{row_of}
+use Rattle.aos_types.specs.World.{World, shape_at, read, write}
+use Rattle.aos_typed.specs.declared.tree.TType.{TType}
+use Rattle.aos_typed.specs.Program.{Program}
+use Rattle.aos_typed.specs.Numbers.{id_of}
+use Rattle.aos_typed.specs.Sort.{Sort, variable_shape}
+use Rattle.aos_typed.specs.Spot.{Spot}
+use Rattle.aos_typed.specs.Value.{Value}
+use Rattle.aos_typed.specs.Typing.{Is, IsPlain}
+use Rattle.aos_typed.specs.WellTyped.{is_whole}
+use Rattle.aos_code.specs.declared.instr.Cell.{Cell}
+use Rattle.aos_code.specs.Machine.{if_all, cells_at}
+use Rattle.aos_places.specs.Shows.{Shows}
+use Rattle.aos_places.proofs.Zoom.{as_many}
+use Rattle.aos_places.proofs.Places.{loads_alike, copy_alike}
+use Rattle.aos_sim.specs.Cells.{cell_of}
+use Rattle.aos_sim.specs.Code.{cells_of}
+use Rattle.aos_sim.proofs.Kept.{values_kept}
+use Rattle.aos_sim.proofs.Parts.{variable_size, plain_parts, whole_ends}
+use Rattle.aos_sim.proofs.Does.{scheme, addr_of, HasPlace}
+use Rattle.aos_sim.proofs.States.{world_of}
+
+some_same : {A : Type 0} (x y : A) → Some x ≡ Some y → x ≡ y
+some_same x y e = cc
+
+all_there : (n : ℕ) (cells : List Cell) → length cells ≡ n → if_all n cells ≡ Some cells
+all_there n cells e = rw (eq-eqb (length cells) n e) refl
+
+module _ (program : Program) (ranked : IsRanked program.types) (made : List Made) (frames : List (Shape Sort)) (x : Rooted (Content Value)) (y : Rooted (List Cell)) (shows : Shows (Is program.types) cell_of (scheme program) made frames x y) (t : TType) (whole : is_whole (row_of program.types (id_of t)) ≡ true) where
+  abbrev now : World Sort
+  now = world_of program made frames
+
+  abbrev shape : Shape Sort
+  shape = variable_shape program.types (id_of t)
+
+  -- it's a row, with which the place begins
+  begins : (p : Spot) → HasPlace program now p t → shape_at now p.root p.path ≡ Some (join shape Nothing)
+  begins p h = h ∙ ap (λ s. Some s) (sym (whole_ends program.types ranked (id_of t) whole))
+
+  -- all cells of a place
+  record AllCells (p : Spot) : Type 0 where
+    cells : List Cell
+    loaded : load_all (cells_of program t) p.root (addr_of now p).cell y ≡ Some cells
+    there : cells_at (cells_of program t) (addr_of now p) y ≡ Some cells
+
+  all_cells : (p : Spot) → HasPlace program now p t → AllCells p
+  all_cells p h =
+      let a = loads_alike (Is program.types) cell_of IsPlain (values_kept program.types) (scheme program) made frames x y shape Nothing p.root p.path shows (begins p h) in
+      let all = map (cell_of now) (flatten a.inner) in
+      let cells = take (size shape) all in
+      let n = variable_size program.types (id_of t) in
+      let long : length all ≡ size shape = length-map (flatten a.inner) (cell_of now) ∙ as_many (Is program.types now) (join shape Nothing) a.inner a.fits ∙ ap size (whole_ends program.types ranked (id_of t) whole) in
+      let many : length cells ≡ cells_of program t = length-take-le (size shape) all (omega (arith, long)) ∙ n in
+      let loaded : load_all (cells_of program t) p.root (addr_of now p).cell y ≡ Some cells = ap (λ m. load_all m p.root (addr_of now p).cell y) (sym n) ∙ a.image in
+      record { cells = cells; loaded = loaded; there = ap (option_and_then (if_all (cells_of program t))) loaded ∙ all_there (cells_of program t) cells many }
+
+  -- what both sides find, and that the one shows the other behind the copy
+  pub record CopiedAlike (from to : Spot) : Type 0 where
+    pub new : Content Value
+    pub old : Content Value
+    pub read_from : read from.root from.path x ≡ Some new
+    pub read_to : read to.root to.path x ≡ Some old
+    pub cells : List Cell
+    pub image : cells_at (cells_of program t) (addr_of now from) y ≡ Some cells
+    pub there : is_some (cells_at (cells_of program t) (addr_of now to) y) ≡ true
+    pub alike : Shows (Is program.types) cell_of (scheme program) made frames (write to.root to.path (overlay shape new old) x) (store_all to.root (addr_of now to).cell cells y)
+
+  pub copied_alike : (from to : Spot) → HasPlace program now from t → HasPlace program now to t → CopiedAlike from to
+  copied_alike from to hf ht =
+      let plain : EachSort IsPlain (join shape Nothing) = subst (EachSort IsPlain) (sym (whole_ends program.types ranked (id_of t) whole)) (plain_parts (of_variable (contents program.types) program.types (id_of t))) in
+      let c = copy_alike (Is program.types) cell_of IsPlain (values_kept program.types) (scheme program) made frames x y shape Nothing Nothing from.root from.path to.root to.path shows (begins from hf) (begins to ht) plain in
+      let a = all_cells from hf in
+      let stored = λ (cells : List Cell). store_all to.root (addr_of now to).cell cells y in
+      let loaded : load_all (size shape) from.root (addr_of now from).cell y ≡ Some a.cells = ap (λ m. load_all m from.root (addr_of now from).cell y) (variable_size program.types (id_of t)) ∙ a.loaded in
+      let same : c.after ≡ stored a.cells = some_same c.after (stored a.cells) (sym c.image ∙ ap (option_map stored) loaded) in
+      record {
+        new = c.inner;
+        old = c.old;
+        read_from = c.read_from;
+        read_to = c.read_to;
+        cells = a.cells;
+        image = a.there;
+        there = ap is_some (all_cells to ht).there;
+        alike = subst (Shows (Is program.types) cell_of (scheme program) made frames (write to.root to.path (overlay shape c.inner c.old) x)) same c.alike;
+      }

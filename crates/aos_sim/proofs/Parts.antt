@@ -1,0 +1,193 @@
+-- The parts of what a place holds: what they are, and where their cells stand.
+use Rattle.std.proofs.Common.{◌≡◌, ℕ, zero, suc, ◌+◌, ◌*◌, ◌<◌, ◌≤◌, true, false, List, [], ◌∷◌, ◌++◌, map, Option, Some, None, if◌then◌else◌, refl, sym, ap, ◌∙◌, arith}
+use Rattle.std.specs.Prelude.{slice_get, option_map, option_and_then}
+use Rattle.std.proofs.lemmas.Option.{slice_get-map}
+use Rattle.aos_base.specs.declared.place.Root.{Root}
+use Rattle.aos_types.specs.declared.row.TypeId.{TypeId}
+use Rattle.aos_types.specs.declared.row.TypeRow.{TypeRow}
+use Rattle.aos_types.specs.declared.row.TypeRow.TheVariants as row
+use Rattle.aos_types.specs.Table.{row_of, is_object}
+use Rattle.aos_types.specs.Shape as shape
+use Rattle.aos_types.specs.Shape.{Shape, One, Nothing, Pair, size, join, repeated, part, before, inside, offset, number_of, shaped}
+use Rattle.aos_types.specs.Contents.{of_variable, of_base, with_parts, contents, variable_scalars}
+use Rattle.aos_types.specs.Content.{EachSort}
+use Rattle.aos_types.specs.Chain.{IsRanked}
+use Rattle.aos_types.specs.World.{World, shape_at, cell_at}
+use Rattle.aos_types.proofs.Offsets.{inside_within}
+use Rattle.aos_types.proofs.Tables.{by_parts}
+use Rattle.aos_typed.specs.Sort.{Plain, variable_shape}
+use Rattle.aos_typed.specs.Typing.{IsPlain}
+use Rattle.aos_typed.specs.WellTyped.{field_type, is_whole}
+use Rattle.aos_layout.proofs.Frames.{size_shaped}
+use Rattle.aos_layout.proofs.Joins.{part_repeated, before_repeated, join_assoc, row_ends, repeated_ends}
+
+-- Ways
+
+module _ {S : Type 0} where
+  -- a way that goes on where another leads to
+  inside_on : (p q : List ℕ) (s m : Shape S) → inside p s ≡ Some m → inside (p ++ q) s ≡ inside q m
+  inside_on [] q s m e = let h : s ≡ m = cc in ap (inside q) h
+  inside_on (i ∷ p) q s m e = at_part (λ n f. inside_on p q n m f) (part i s) e
+    where
+      at_part : ((n : Shape S) → inside p n ≡ Some m → inside (p ++ q) n ≡ inside q m) → (o : Option (Shape S)) → option_and_then (inside p) o ≡ Some m → option_and_then (inside (p ++ q)) o ≡ inside q m
+      at_part on None f = absurd (cc)
+      at_part on (Some n) f = on n f
+
+  offset_on : (p q : List ℕ) (s m : Shape S) → inside p s ≡ Some m → offset (p ++ q) s ≡ offset p s + offset q m
+  offset_on [] q s m e = let h : s ≡ m = cc in let k = ap (offset q) h in omega (arith, k)
+  offset_on (i ∷ p) q s m e = at_part (λ n f. offset_on p q n m f) (part i s) e
+    where
+      at_part : ((n : Shape S) → inside p n ≡ Some m → offset (p ++ q) n ≡ offset p n + offset q m) → (o : Option (Shape S)) → option_and_then (inside p) o ≡ Some m → before i s + number_of (offset (p ++ q)) o ≡ before i s + number_of (offset p) o + offset q m
+      at_part on None f = absurd (cc)
+      at_part on (Some n) f = let h = on n f in omega (arith, h)
+
+  -- before one part
+  before_step : (i : ℕ) (s : Shape S) → offset (i ∷ []) s ≡ before i s
+  before_step i s = let h = no_more (part i s) in omega (arith, h)
+    where
+      no_more : (o : Option (Shape S)) → number_of (offset []) o ≡ 0
+      no_more None = refl
+      no_more (Some m) = refl
+
+  module _ (w : World S) (r : Root) (p : List ℕ) (s : Shape S) (e : shape_at w r p ≡ Some s) where
+    -- a part of what a place holds
+    pub shape_on : (q : List ℕ) → shape_at w r (p ++ q) ≡ inside q s
+    shape_on q = by_root (w.shape r) e
+      where
+        by_root : (o : Option (Shape S)) → option_and_then (inside p) o ≡ Some s → option_and_then (inside (p ++ q)) o ≡ inside q s
+        by_root None f = absurd (cc)
+        by_root (Some whole) f = inside_on p q whole s f
+
+    pub cell_on : (q : List ℕ) → cell_at w r (p ++ q) ≡ cell_at w r p + offset q s
+    cell_on q = by_root (w.shape r) e
+      where
+        by_root : (o : Option (Shape S)) → option_and_then (inside p) o ≡ Some s → number_of (offset (p ++ q)) o ≡ number_of (offset p) o + offset q s
+        by_root None f = absurd (cc)
+        by_root (Some whole) f = offset_on p q whole s f
+
+    -- it's among the cells of its root
+    pub cell_within : (whole : Shape S) → w.shape r ≡ Some whole → cell_at w r p ≤ size whole
+    cell_within whole k =
+        let h = inside_within p whole s (sym (ap (option_and_then (inside p)) k) ∙ e) in
+        let c = ap (number_of (offset p)) k in
+        omega (arith, h, c)
+
+-- Shapes with other scalars
+
+module _ {S T : Type 0} (f : S → T) where
+  part_shaped : (i : ℕ) (s : Shape S) → part i (shaped f s) ≡ option_map (shaped f) (part i s)
+  part_shaped i (One k) = refl
+  part_shaped i Nothing = refl
+  part_shaped zero (Pair a b) = refl
+  part_shaped (suc i) (Pair a b) = part_shaped i b
+
+  before_shaped : (i : ℕ) (s : Shape S) → before i (shaped f s) ≡ before i s
+  before_shaped i (One k) = refl
+  before_shaped i Nothing = refl
+  before_shaped zero (Pair a b) = refl
+  before_shaped (suc i) (Pair a b) = λ j. size_shaped f a j + before_shaped i b j
+
+  shaped_repeated : (n : ℕ) (s : Shape S) → shaped f (repeated n s) ≡ repeated n (shaped f s)
+  shaped_repeated zero s = refl
+  shaped_repeated (suc n) s = ap (Pair (shaped f s)) (shaped_repeated n s)
+
+  shaped_join : (a b : Shape S) → shaped f (join a b) ≡ join (shaped f a) (shaped f b)
+  shaped_join (One k) b = refl
+  shaped_join Nothing b = refl
+  shaped_join (Pair x y) b = ap (Pair (shaped f x)) (shaped_join y b)
+
+  -- a row that ends
+  shaped_ends : (s : Shape S) → join s Nothing ≡ s → join (shaped f s) Nothing ≡ shaped f s
+  shaped_ends s e = sym (shaped_join s Nothing) ∙ ap (shaped f) e
+
+pub part_of_row : {S : Type 0} (i : ℕ) (ss : List (Shape S)) → part i (shape.row ss) ≡ slice_get ss i
+part_of_row i [] = refl
+part_of_row zero (s ∷ ss) = refl
+part_of_row (suc i) (s ∷ ss) = part_of_row i ss
+
+-- no scalar of a variable is a place
+pub plain_parts : (s : Shape TypeId) → EachSort IsPlain (shaped Plain s)
+plain_parts (One t) = tt
+plain_parts Nothing = tt
+plain_parts (Pair a b) = (plain_parts a, plain_parts b)
+
+-- Records and arrays
+
+-- a record that has such a field
+record HasField (o : Option TypeRow) (k : ℕ) (u : TypeId) : Type 0 where
+  fields : List TypeId
+  is : o ≡ Some (row.Record None fields)
+  field : slice_get fields k ≡ Some u
+
+has_field : (o : Option TypeRow) (k : ℕ) (u : TypeId) → field_type o k ≡ Some u → HasField o k u
+has_field None k u e = absurd (cc)
+has_field (Some (row.Basic b)) k u e = absurd (cc)
+has_field (Some (row.Array n of)) k u e = absurd (cc)
+has_field (Some (row.Open of)) k u e = absurd (cc)
+has_field (Some (row.Record None fields)) k u e = record { fields = fields; is = refl; field = e }
+has_field (Some (row.Record (Some b) fields)) k u e = absurd (cc)
+has_field (Some (row.Pointer to)) k u e = absurd (cc)
+has_field (Some (row.Object base fields)) k u e = absurd (cc)
+has_field (Some (row.Procedure formals r)) k u e = absurd (cc)
+has_field (Some row.Any) k u e = absurd (cc)
+
+module _ (rows : List TypeRow) where
+  -- a variable that is no reference to an object has its type's contents
+  own_contents : (t : TypeId) → is_object (row_of rows t) ≡ false → variable_shape rows t ≡ shaped Plain (contents rows t)
+  own_contents t e = ap (λ b. shaped Plain (if b then One t else contents rows t)) e
+
+  pub variable_size : (t : TypeId) → size (variable_shape rows t) ≡ variable_scalars rows t
+  variable_size t = size_shaped Plain (of_variable (contents rows) rows t)
+
+  pub field_offset : (t u : TypeId) (k : ℕ) → field_type (row_of rows t) k ≡ Some u → offset (k ∷ []) (variable_shape rows t) ≡ offset (k ∷ []) (contents rows t)
+  field_offset t u k e =
+      ap (offset (k ∷ [])) (own_contents t (ap is_object (has_field (row_of rows t) k u e).is))
+      ∙ before_step k (shaped Plain (contents rows t)) ∙ before_shaped Plain k (contents rows t) ∙ sym (before_step k (contents rows t))
+
+  module _ (ranked : IsRanked rows) where
+    by_row : (t : TypeId) (o : Option TypeRow) → row_of rows t ≡ o → is_object o ≡ false → variable_shape rows t ≡ shaped Plain (with_parts (contents rows) rows t o)
+    by_row t o e n = own_contents t (ap is_object e ∙ n) ∙ ap (shaped Plain) (by_parts rows ranked t ∙ ap (with_parts (contents rows) rows t) e)
+
+    pub field_part : (t u : TypeId) (k : ℕ) → field_type (row_of rows t) k ≡ Some u → inside (k ∷ []) (variable_shape rows t) ≡ Some (variable_shape rows u)
+    field_part t u k e =
+        let r = has_field (row_of rows t) k u e in
+        let of = of_variable (contents rows) rows in
+        ap (inside (k ∷ [])) (by_row t (Some (row.Record None r.fields)) r.is refl)
+        ∙ ap (option_and_then (λ s. Some s))
+        (part_shaped Plain k (shape.row (map of r.fields))
+        ∙ ap (option_map (shaped Plain)) (part_of_row k (map of r.fields) ∙ slice_get-map of r.fields k ∙ ap (option_map of) r.field))
+
+    module _ (t u : TypeId) (n : ℕ) (e : row_of rows t ≡ Some (row.Array n u)) where
+      array_shape : variable_shape rows t ≡ repeated n (variable_shape rows u)
+      array_shape = by_row t (Some (row.Array n u)) e refl ∙ shaped_repeated Plain n (of_variable (contents rows) rows u)
+
+      pub element_part : (i : ℕ) → i < n → inside (i ∷ []) (variable_shape rows t) ≡ Some (variable_shape rows u)
+      element_part i l = ap (inside (i ∷ [])) array_shape ∙ ap (option_and_then (λ s. Some s)) (part_repeated n i (variable_shape rows u) l)
+
+      pub element_offset : (i : ℕ) → i < n → offset (i ∷ []) (variable_shape rows t) ≡ i * variable_scalars rows u
+      element_offset i l =
+          ap (offset (i ∷ [])) array_shape ∙ before_step i (repeated n (variable_shape rows u))
+          ∙ before_repeated n i (variable_shape rows u) l ∙ ap (λ z. i * z) (variable_size u)
+
+    -- what is copied as a whole is a row
+    pub whole_ends : (t : TypeId) → is_whole (row_of rows t) ≡ true → join (variable_shape rows t) Nothing ≡ variable_shape rows t
+    whole_ends t whole = by_whole (row_of rows t) refl whole
+      where
+        ends : (o : Option TypeRow) → row_of rows t ≡ o → is_object o ≡ false → (let s = with_parts (contents rows) rows t o in join s Nothing ≡ s) → join (variable_shape rows t) Nothing ≡ variable_shape rows t
+        ends o e n h =
+            let s = by_row t o e n in
+            ap (λ z. join z Nothing) s ∙ shaped_ends Plain (with_parts (contents rows) rows t o) h ∙ sym s
+
+        by_whole : (o : Option TypeRow) → row_of rows t ≡ o → is_whole o ≡ true → join (variable_shape rows t) Nothing ≡ variable_shape rows t
+        by_whole None e h = absurd (cc)
+        by_whole (Some (row.Basic b)) e h = absurd (cc)
+        by_whole (Some (row.Array n of)) e h = ends (Some (row.Array n of)) e refl (repeated_ends n (of_variable (contents rows) rows of))
+        by_whole (Some (row.Open of)) e h = absurd (cc)
+        by_whole (Some (row.Record base fields)) e h =
+            let own = map (of_variable (contents rows) rows) fields in
+            ends (Some (row.Record base fields)) e refl
+            (join_assoc (of_base (contents rows) base) (shape.row own) Nothing ∙ ap (join (of_base (contents rows) base)) (row_ends own))
+        by_whole (Some (row.Pointer to)) e h = absurd (cc)
+        by_whole (Some (row.Object base fields)) e h = absurd (cc)
+        by_whole (Some (row.Procedure formals r)) e h = absurd (cc)
+        by_whole (Some row.Any) e h = absurd (cc)
