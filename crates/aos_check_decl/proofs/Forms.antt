@@ -12,8 +12,9 @@ use Rattle.aos_types.specs.declared.row.TypeId.{TypeId}
 use Rattle.aos_types.specs.declared.row.TypeRow.TheVariants as row
 use Rattle.aos_symbols.specs.declared.breach.Breach.{Breach}
 use Rattle.aos_symbols.specs.declared.env.Env.{Env}
+use Rattle.aos_symbols.specs.Scope.{empty}
 use Rattle.aos_symbols.specs.Judged.{Judged, judged, walk}
-use Rattle.aos_check_decl.specs.Types.{FieldsMet, fields_met, placed, arrays, lengths_of, type_in, held_in, fields_in, field_in, array_in, record_in}
+use Rattle.aos_check_decl.specs.Types.{Met, FieldsMet, fields_met, placed, with_record, arrays, lengths_of, type_in, held_in, fields_in, field_in, array_in, record_in}
 
 -- the fields of a record, as a row and as a list
 fields_row : (n : _) (f : FieldsMet) (r : Row_of-Fields n) → fields_in f r ≡ walk field_in f (items-the_row-Fields n r)
@@ -39,20 +40,24 @@ array_met slot e t p ls element is some = ap (type_in slot e) is ∙ ap (λ j. a
         ap (λ (bs : List Breach). judged ((lengths_of e (l ∷ ls)).breaches ++ bs) (arrays slot p (lengths_of e (l ∷ ls)).answer (type_in None e element).answer))
         (append-nil (type_in None e element).breaches)
 
+-- a record of these fields
+abbrev pub record_of : Option TypeId → Pos → FieldsMet → Met
+record_of slot p f = with_record f.scope (placed slot p (row.Record None f.types) f.env)
+
 -- a record without a base
 pub record_met : (slot : Option TypeId) (e : Env) (t : TypeExpr) (p : Pos) (base : Option Qualident) (fs : List Fields) → t ≡ type.Record p base fs → is_some base ≡ false →
     type_in slot e t
-    ≡ judged (walk field_in (fields_met e []) fs).breaches
-    (placed slot p (row.Record None (walk field_in (fields_met e []) fs).answer.types) (walk field_in (fields_met e []) fs).answer.env)
+    ≡ judged (walk field_in (fields_met e [] empty) fs).breaches
+    (record_of slot p (walk field_in (fields_met e [] empty) fs).answer)
 record_met slot e t p base fs is none =
     ap (type_in slot e) is
-    ∙ ap (λ j. record_in slot e p base j) (fields_row _ (fields_met e []) (hidden-the_row-Fields-4 fs) ∙ ap (λ xs. walk field_in (fields_met e []) xs) (items_hidden-the_row-Fields-4 fs))
+    ∙ ap (λ j. record_in slot e p base j) (fields_row _ (fields_met e [] empty) (hidden-the_row-Fields-4 fs) ∙ ap (λ xs. walk field_in (fields_met e [] empty) xs) (items_hidden-the_row-Fields-4 fs))
     ∙ by base none
   where
-    by : (base : Option Qualident) → is_some base ≡ false → record_in slot e p base (walk field_in (fields_met e []) fs)
-        ≡ judged (walk field_in (fields_met e []) fs).breaches
-        (placed slot p (row.Record None (walk field_in (fields_met e []) fs).answer.types) (walk field_in (fields_met e []) fs).answer.env)
+    by : (base : Option Qualident) → is_some base ≡ false → record_in slot e p base (walk field_in (fields_met e [] empty) fs)
+        ≡ judged (walk field_in (fields_met e [] empty) fs).breaches
+        (record_of slot p (walk field_in (fields_met e [] empty) fs).answer)
     by None none =
-        ap (λ (bs : List Breach). judged bs (placed slot p (row.Record None (walk field_in (fields_met e []) fs).answer.types) (walk field_in (fields_met e []) fs).answer.env))
-        (append-nil (walk field_in (fields_met e []) fs).breaches)
+        ap (λ (bs : List Breach). judged bs (record_of slot p (walk field_in (fields_met e [] empty) fs).answer))
+        (append-nil (walk field_in (fields_met e [] empty) fs).breaches)
     by (Some b) none = absurd (cc)

@@ -1,12 +1,14 @@
 -- A module whose declarations break no rule: each type that has a name is told, each variable has a type, each constant has a
 -- value that is good, no type contains itself or is past the limit, and the headings of its procedures are whole.
 use Rattle.std.proofs.Common.{◌≡◌, ℕ, suc, ◌+◌, ◌<◌, ◌≤◌, List, [], ◌∷◌, ◌++◌, length, map, take, drop, true, Option, Some, None, slice_get, option_map, refl, sym, ap, ◌∙◌, subst, arith, length-append}
+use Rattle.std.specs.Prelude.{sum_by, zip}
 use Rattle.std.proofs.lemmas.List.{length-map}
 use Rattle.std.proofs.lemmas.Option.{same_Some, slice_get_within}
 use Rattle.std.proofs.Math.Seq.{take-append_seam, drop-append_seam}
 use mathlib.Core.Logic.{◌⊎◌, inl, inr}
 use Rattle.aos_tree.specs.declared.decl.Formals.{Formals}
 use Rattle.aos_tree.specs.declared.module.Module.{Module}
+use Rattle.aos_types.specs.declared.TheConstants.{MOST_SCALARS}
 use Rattle.aos_types.specs.declared.row.TypeId.{TypeId}
 use Rattle.aos_types.specs.declared.row.TypeRow.{TypeRow}
 use Rattle.aos_types.specs.declared.row.TypeRow.TheVariants as row
@@ -29,7 +31,7 @@ use Rattle.aos_symbols.specs.Entries as entries
 use Rattle.aos_symbols.specs.Env as env
 use Rattle.aos_symbols.proofs.Each.{Each, implied}
 use Rattle.aos_symbols.proofs.Holds.{Holds, none_left, none_right}
-use Rattle.aos_symbols.proofs.Told.{IsTold, IsKnown, GoOn, known_on, told_behind}
+use Rattle.aos_symbols.proofs.Told.{IsTold, IsKnown, GoOn, known_on, told_behind, PartsAreTold, FieldsAgree}
 use Rattle.aos_check_decl.specs.declared.aliases.Target.{Target}
 use Rattle.aos_check_decl.specs.Aliases.{first_rows, targets}
 use Rattle.aos_check_decl.specs.Headings.{headings}
@@ -38,13 +40,14 @@ use Rattle.aos_check_decl.specs.Pass.{own_numbers, entered, begun, declare}
 use Rattle.aos_check_decl.proofs.TypingLists.{mapped_at}
 use Rattle.aos_check_decl.proofs.TypingScopes.{variables_of, variables_at}
 use Rattle.aos_check_decl.proofs.TypingEntries.{scope_fresh, procedure_there}
-use Rattle.aos_check_decl.proofs.TypingLimits.{result_scalar, result_kept}
+use Rattle.aos_check_decl.proofs.TypingLimits.{result_scalar, result_kept, variables_kept, few_from}
 use Rattle.aos_check_decl.proofs.TypingProcedures.{types_of, HasResult, HasMade, IsHeaded}
 use Rattle.aos_check_decl.proofs.TypingTargets.{AreLed, targets_sound}
 use Rattle.aos_check_decl.proofs.TypingWalks.{MayBeOpen, told_below}
 use Rattle.aos_check_decl.proofs.TypingWhole as whole
 use Rattle.aos_check_decl.proofs.TypingWhole.{AreOld}
 pub use Rattle.aos_check_decl.proofs.TypingScopes.{AreGood}
+pub use Rattle.aos_check_decl.proofs.TypingLimits.{variable_cells}
 
 -- The table of types behind whole modules: the basic types come first, rows name types that are there, and types are as those of
 -- a program are to be.
@@ -52,12 +55,14 @@ pub record AreReady (types : List TypeRow) : Type 0 where
   pub basic : (k : ℕ) → k < 9 → slice_get types k ≡ slice_get env.basic_rows k
   pub closed : (k : ℕ) (r : TypeRow) → slice_get types k ≡ Some r → AreBelow (length types) r
   pub sound : AreTypes types
+  pub parts : PartsAreTold types
 
 -- what is known of the modules before, and of the types so far
 pub record IsReady (before : List Home) (types : List TypeRow) : Type 0 where
   pub names : (m : ℕ) (h : Home) (s : Scope) (w : List ℕ) (x : Entry) (of : Option TypeId) → slice_get before m ≡ Some h →
       slice_get h.scopes 0 ≡ Some s → find s w ≡ Some x → x.means ≡ means.Type of → IsKnown types of
   pub constants : (m : ℕ) (h : Home) (k : ℕ) (s : Scope) → slice_get before m ≡ Some h → slice_get h.scopes k ≡ Some s → AreGood s.constants
+  pub fields : (m : ℕ) (h : Home) → slice_get before m ≡ Some h → FieldsAgree types h
   pub table : AreReady types
 
 -- a type that is there, which may be an open array; no variable or parameter is of NIL's type or of ANY
@@ -104,6 +109,8 @@ pub record IsDeclared (number : ℕ) (before : List Home) (types : List TypeRow)
       ≡ option_map (λ (s : Scope). s.entries) (slice_get (entries.scopes text before numbers m) k)
   pub names : (w : List ℕ) (x : Entry) (of : Option TypeId) → find own w ≡ Some x → x.means ≡ means.Type of → IsKnown e.types of
   pub variables : Each (IsKnown e.types) own.variables
+  pub few : sum_by (variable_cells e.types) own.variables ≤ MOST_SCALARS
+  pub fields : FieldsAgree e.types e.here
   pub count : length own.variables ≡ length (single_variables m.decls)
   pub constants : (k : ℕ) (s : Scope) → slice_get e.here.scopes k ≡ Some s → AreGood s.constants
   pub goes_on : GoOn types e.types
@@ -124,6 +131,7 @@ table_old before types ready = record {
   closed = ready.table.closed;
   free = ready.table.sound.none_contains_itself;
   sizes = ready.table.sound.sizes;
+  parts = ready.table.parts;
 }
 
 module _ (number : ℕ) (before : List Home) (types : List TypeRow) (text : List ℕ) (m : Module) (ready : IsReady before types) (ts : List Target)
@@ -151,6 +159,11 @@ module _ (number : ℕ) (before : List Home) (types : List TypeRow) (text : List
     basics k low = stays k (let l = old.nine in omega (arith, l, low)) ∙ ready.table.basic k low
 
     module _ (fine : limits.all_breaches (circles e.types) (cut (circles e.types) e.types) e (length types) m.decls ≡ []) where
+      headed : IsHeaded (whole.second_walk number before types text m ts ready.names ready.constants old led once none fine)
+          (whole.path number before types text m ts ready.names ready.constants old led once)
+          (whole.second_searched number before types text m ts ready.names ready.constants old led once none fine) m.decls start e
+      headed = whole.headed number before types text m ts ready.names ready.constants old led once none fine
+
       table : AreReady e.types
       table = record {
         basic = basics;
@@ -159,12 +172,8 @@ module _ (number : ℕ) (before : List Home) (types : List TypeRow) (text : List
           none_contains_itself = whole.free number before types text m ts ready.names ready.constants old led once none fine;
           sizes = whole.sizes number before types text m ts ready.names ready.constants old led once none fine;
         };
+        parts = headed.fit.agrees.parts;
       }
-
-      headed : IsHeaded (whole.second_walk number before types text m ts ready.names ready.constants old led once none fine)
-          (whole.path number before types text m ts ready.names ready.constants old led once)
-          (whole.second_searched number before types text m ts ready.names ready.constants old led once none fine) m.decls start e
-      headed = whole.headed number before types text m ts ready.names ready.constants old led once none fine
 
       -- The module's own scope.
 
@@ -185,6 +194,15 @@ module _ (number : ℕ) (before : List Home) (types : List TypeRow) (text : List
           known_on (types ++ first_rows (length types) ts) e.types headed.goes.on of
           ((whole.second_walk number before types text m ts ready.names ready.constants old led once none fine).own 0 (entries.own_scope text before numbers m) w x of (inl refl) refl
           (ap (λ ns. find (record own_there.0 { entries = ns }) w) (sym own_entries) ∙ found) means)
+
+      own_few : sum_by (variable_cells e.types) own_there.0.variables ≤ MOST_SCALARS
+      own_few =
+          let flags = circles e.types in
+          let ds = single_variables m.decls in
+          let kept = variables_kept flags e.types e (length types) m.decls (whole.kept_whole number before types text m ts ready.names ready.constants old led once none fine) in
+          few_from flags e.types table.sound.sizes ds own_there.0.variables 0 (sum_by (limits.scalars_of flags e.types) e.before)
+          (ap length own_there.2 ∙ headed.count) (omega arith) (omega arith)
+          (ap (λ o. limits.variables_past flags e.types (sum_by (limits.scalars_of flags e.types) e.before) (zip ds (limits.variables_of flags e.types o))) (sym own_there.1) ∙ kept)
 
       goes_on : GoOn types e.types
       goes_on t told = headed.goes.on t (told_behind types (first_rows (length types) ts) t told)
@@ -282,6 +300,8 @@ module _ (number : ℕ) (before : List Home) (types : List TypeRow) (text : List
         all_entries_are = headed.fit.names_are;
         names = own_names;
         variables = subst (Each (IsKnown e.types)) (sym own_there.2) headed.known;
+        few = own_few;
+        fields = headed.fit.agrees.fields;
         count = ap length own_there.2 ∙ headed.count;
         constants = headed.fit.good;
         goes_on = goes_on;

@@ -29,7 +29,7 @@ use Rattle.aos_check_expr.proofs.Typing.{constant_good as good_value}
 use Rattle.aos_check_decl.specs.Types.{met, type_in}
 use Rattle.aos_check_decl.specs.Aliases.{nil}
 use Rattle.aos_check_decl.specs.Headings as judge
-use Rattle.aos_check_decl.proofs.TypingScopes.{AllGood, IsMore, no_more, more_and_more, variable_more, variable_good, constant_more, constant_good}
+use Rattle.aos_check_decl.proofs.TypingScopes.{AllGood, IsMore, no_more, same_more, more_and_more, variable_more, variable_good, variable_records, constant_more, constant_good, constant_records}
 use Rattle.aos_check_decl.proofs.TypingTypes.{Telling, IsSearched, IsSlotted, IsFit, IsBeyond, beyond_on, fit_beyond, IsMet, type_sound, good_constants}
 
 abbrev pub is_name : TypeExpr → Bool
@@ -102,7 +102,7 @@ module _ (c : Telling) (path : List Open) (searched : Each (IsSearched c) path) 
     count = refl;
     known = tt;
     grown = record {
-      here = subst (λ (h : Home). IsMore (env.innermost path) [] e.here h) (sym one.here) (no_more (env.innermost path) e.here);
+      here = same_more (env.innermost path) e.here f.here one.name one.text one.scopes one.signatures;
       fit = fit_beyond c path e f fit one;
       goes = one.goes;
       long = one.long;
@@ -110,8 +110,9 @@ module _ (c : Telling) (path : List Open) (searched : Each (IsSearched c) path) 
   }
 
   -- scopes are changed alone
-  changed : (e : Env) → IsFit c path e → (more : List (Option TypeId)) (h : Home) → IsMore (env.innermost e.path) more e.here h → AllGood h → IsGrown more e (record e { here = h })
-  changed e fit more h here good = record {
+  changed : (e : Env) → IsFit c path e → (more : List (Option TypeId)) (h : Home) → IsMore (env.innermost e.path) more e.here h → AllGood h → h.records ≡ e.here.records →
+      IsGrown more e (record e { here = h })
+  changed e fit more h here good records = record {
     here = subst (λ os. IsMore (env.innermost os) more e.here h) fit.path_is here;
     fit = record {
       number_is = fit.number_is;
@@ -122,6 +123,7 @@ module _ (c : Telling) (path : List Open) (searched : Each (IsSearched c) path) 
       path_is = fit.path_is;
       good = good;
       table = fit.table;
+      agrees = subst (c.Agrees e.types) (sym records) fit.agrees;
     };
     goes = c.stays e.types;
     long = refl;
@@ -129,7 +131,7 @@ module _ (c : Telling) (path : List Open) (searched : Each (IsSearched c) path) 
 
   pub one_variable : (e : Env) → IsFit c path e → (of : Option TypeId) → IsGrown (of ∷ []) e (judge.with_variable e of)
   one_variable e fit of =
-      let k = env.innermost e.path in changed e fit (of ∷ []) (add_variable e.here k of) (variable_more e.here k of) (variable_good e.here k of fit.good)
+      let k = env.innermost e.path in changed e fit (of ∷ []) (add_variable e.here k of) (variable_more e.here k of) (variable_good e.here k of fit.good) (variable_records e.here k of)
 
   -- Variables.
 
@@ -169,7 +171,7 @@ module _ (c : Telling) (path : List Open) (searched : Each (IsSearched c) path) 
       one v is =
           let k = env.innermost e.path in
           let x : Constant = record { at = d.def.name.pos; value = v } in
-          changed e fit [] (add_constant e.here k x) (constant_more e.here k x) (constant_good e.here k x is fit.good)
+          changed e fit [] (add_constant e.here k x) (constant_more e.here k x) (constant_good e.here k x is fit.good) (constant_records e.here k x)
 
   -- Types that are defined.
 
@@ -181,8 +183,12 @@ module _ (c : Telling) (path : List Open) (searched : Each (IsSearched c) path) 
       record {
         number = refl;
         before = refl;
-        here = refl;
+        name = refl;
+        text = refl;
+        scopes = refl;
+        signatures = refl;
         path = refl;
+        agree = c.agree_unsettled f.types f.here.records t is.of;
         goes = c.unsettled f.types t (fit_beyond c path e f fit is.beyond).table ok is.of;
         long = ap (λ n. n + length f.places) (length-set f.types t.0 (row.Open nil));
       }

@@ -1,21 +1,24 @@
 -- What is judged of all types together, where no rule is broken: no type contains itself, none is the first past the limit, and
 -- results are of scalar types.
-use Rattle.std.proofs.Common.{◌≡◌, ℕ, zero, suc, ◌+◌, ◌-◌, ◌<◌, ◌≤◌, List, [], ◌∷◌, ◌++◌, length, map, Bool, true, false, not, ◌&&◌, Some, slice_get, refl, sym, ap, ◌∙◌, subst, arith, length-append}
+use Rattle.std.proofs.Common.{◌≡◌, ℕ, zero, suc, ◌+◌, ◌-◌, ◌<◌, ◌≤◌, List, [], ◌∷◌, ◌++◌, length, map, fold, Bool, true, false, not, ◌&&◌, nat_le, if◌then◌else◌, Option, Some, None, slice_get, refl, sym, ap, ◌∙◌, subst, arith, length-append}
 use Rattle.std.specs.List.{zip}
-use Rattle.std.specs.Prelude.{sum_by}
-use Rattle.std.proofs.lemmas.Bool.{cases_lt}
+use Rattle.std.specs.Prelude.{sum_by, unwrap_or}
+use Rattle.std.proofs.lemmas.Bool.{cases_lt, le-leb, leb-true}
 use Rattle.std.proofs.lemmas.List.{length-map}
 use Rattle.std.proofs.lemmas.List.FromFn.{get_or-map-range_with_len}
 use Rattle.std.proofs.lemmas.Option.{none-some, same_Some, unwrap_or-slice_get}
 use mathlib.Core.Logic.{◌⊎◌, inl, inr}
 use Rattle.aos_tree.specs.declared.name.Qualident.{Qualident}
+use Rattle.aos_tree.specs.declared.decl.Def.{Def}
 use Rattle.aos_tree.specs.declared.decl.Decl.{Decl}
 use Rattle.aos_types.specs.declared.TheConstants.{MOST_SCALARS}
 use Rattle.aos_types.specs.declared.row.TypeId.{TypeId}
 use Rattle.aos_types.specs.declared.row.TypeRow.{TypeRow}
 use Rattle.aos_types.specs.declared.row.TypeRow.TheVariants as row
-use Rattle.aos_types.specs.Table.{row_of, is_open, is_scalar}
-use Rattle.aos_types.specs.Contents.{scalars}
+use Rattle.aos_types.specs.Table.{row_of, is_open, is_scalar, is_object}
+use Rattle.aos_types.specs.Shape as shape
+use Rattle.aos_types.specs.Shape.{size}
+use Rattle.aos_types.specs.Contents.{contents, scalars, variable_scalars, at_most}
 use Rattle.aos_types.specs.Chain.{NoneContainsItself, contains_itself, circles}
 use Rattle.aos_types.specs.Limit.{is_past, is_first_past}
 use Rattle.aos_types.proofs.Circles.{circle_test}
@@ -91,9 +94,49 @@ module _ (flags : List Bool) (rows : List TypeRow) where
         subst (λ n. (judge.is_circular flags rows (record { 0 = n }) ≡ false) × (is_first_past rows (record { 0 = n }) ≡ false)) number
         (types_kept (written e ds) first (none_left types results (none_left (types ++ results) variables none)) (t.0 - first) (omega (arith, from, to, written_long)))
 
+    pub variables_kept : variables ≡ []
+    variables_kept = none_right (types ++ results) variables none
+
     pub result_kept : (j : ℕ) (p : Procedure) (s : Signature) → slice_get (procedures ds) j ≡ Some p → slice_get e.here.signatures j ≡ Some s →
         judge.result_breaches flags rows (judge.result_of flags rows p.formals) s.gives ≡ []
     result_kept = results_kept (procedures ds) e.here.signatures (none_right types results (none_left (types ++ results) variables none))
+
+-- Variables of a module.
+
+variable_within : (rows : List TypeRow) (t : TypeId) → scalars rows t ≤ MOST_SCALARS → variable_scalars rows t ≤ MOST_SCALARS
+variable_within rows t small = by (is_object (row_of rows t))
+  where
+    by : (b : Bool) → size (if b then shape.One t else contents rows t) ≤ MOST_SCALARS
+    by true = omega arith
+    by false = small
+
+at_most_is : (most n : ℕ) → n ≤ most → at_most most n ≡ Some n
+at_most_is most n small = ap (λ b. if b then Some n else None) (le-leb n most small)
+
+-- how many scalars a variable of a type has
+abbrev pub variable_cells : List TypeRow → Option TypeId → ℕ
+variable_cells rows None = 0
+variable_cells rows (Some t) = variable_scalars rows t
+
+module _ (flags : List Bool) (rows : List TypeRow) (small : (t : TypeId) → scalars rows t ≤ MOST_SCALARS) where
+  counted_is : (of : Option TypeId) → judge.counted flags rows of ≡ variable_cells rows of
+  counted_is None = refl
+  counted_is (Some t) = ap (λ o. unwrap_or o 0) (at_most_is MOST_SCALARS (variable_scalars rows t) (variable_within rows t (small t)))
+
+  -- the sum so far counts these variables, and maybe others
+  pub few_from : (ds : List Def) (vs : List (Option TypeId)) (own sum : ℕ) → length vs ≡ length ds → own ≤ MOST_SCALARS → own ≤ sum →
+      judge.variables_past flags rows sum (zip ds vs) ≡ [] → fold (λ n v. n + variable_cells rows v) own vs ≤ MOST_SCALARS
+  few_from [] [] own sum long few less none = few
+  few_from [] (v ∷ vs) own sum long few less none = absurd (omega (arith, long))
+  few_from (d ∷ ds) [] own sum long few less none = few
+  few_from (d ∷ ds) (v ∷ vs) own sum long few less none =
+      let n = sum + judge.counted flags rows v in
+      let rest = judge.variables_past flags rows n (zip ds vs) in
+      let one : nat_le n MOST_SCALARS ≡ true = test_is (nat_le n MOST_SCALARS) 19 d.name.pos (none_left (breach_unless (nat_le n MOST_SCALARS) 19 d.name.pos) rest none) in
+      let most : n ≤ MOST_SCALARS = leb-true n MOST_SCALARS one in
+      let same = counted_is v in
+      few_from ds vs (own + variable_cells rows v) n (omega (arith, long)) (omega (arith, less, same, most)) (omega (arith, less, same))
+      (none_right (breach_unless (nat_le n MOST_SCALARS) 19 d.name.pos) rest none)
 
 -- the flag of a type that is there
 pub flag_is : (rows rows' : List TypeRow) (t : TypeId) → t.0 < length rows → judge.is_circular (circles rows) rows' t ≡ contains_itself rows t

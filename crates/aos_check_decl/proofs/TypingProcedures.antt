@@ -20,7 +20,7 @@ use Rattle.aos_symbols.specs.declared.env.Open.{Open}
 use Rattle.aos_symbols.specs.declared.env.Env.{Env}
 use Rattle.aos_symbols.specs.Judged.{kept, bind, walk}
 use Rattle.aos_symbols.specs.Declarations.{Procedure, procedures, type_defs, single_variables, formal_names}
-use Rattle.aos_symbols.specs.Home.{Home}
+use Rattle.aos_symbols.specs.Scope.{Scope}
 use Rattle.aos_symbols.specs.Env as env
 use Rattle.aos_symbols.proofs.Each.{Each, joined, implied, repeated}
 use Rattle.aos_symbols.proofs.Holds.{Holds, holds_bind, none_right}
@@ -60,8 +60,12 @@ module _ (c : Telling) (path : List Open) (searched : Each (IsSearched c) path) 
             record {
               number = refl;
               before = refl;
-              here = refl;
+              name = refl;
+              text = refl;
+              scopes = refl;
+              signatures = refl;
               path = refl;
+              agree = c.agree_open f.types f.here.records t;
               goes = c.push f.types (row.Open t) (λ p one. element p one);
               long = omega (arith, length-append f.types (row.Open t ∷ []), length-append f.places (at ∷ []));
             }
@@ -206,9 +210,9 @@ module _ (c : Telling) (path : List Open) (searched : Each (IsSearched c) path) 
       record {
         signature = h.signature;
         locals = locals;
-        signatures = grown.here.signatures ∙ ap (λ (z : Home). z.signatures ++ h.signature ∷ []) head.beyond.here;
-        others = λ j other. grown.here.others j other ∙ ap (λ (z : Home). variables_at z.scopes j) head.beyond.here;
-        own = grown.here.own ∙ ap (λ (z : Home). option_map (behind (types_of h.signature.parameters ++ locals)) (variables_at z.scopes k)) head.beyond.here;
+        signatures = grown.here.signatures ∙ ap (λ (ss : List Signature). ss ++ h.signature ∷ []) head.beyond.signatures;
+        others = λ j other. grown.here.others j other ∙ ap (λ (ss : List Scope). variables_at ss j) head.beyond.scopes;
+        own = grown.here.own ∙ ap (λ (ss : List Scope). option_map (behind (types_of h.signature.parameters ++ locals)) (variables_at ss k)) head.beyond.scopes;
         there = implied (λ (a : Parameter). There h.env.types a.of) (λ (a : Parameter). There x.types a.of)
             (λ a there. c.there_on h.env.types x.types grown.goes a.of there) h.signature.parameters head.there;
         count = head.count;
@@ -224,6 +228,7 @@ module _ (c : Telling) (path : List Open) (searched : Each (IsSearched c) path) 
           path_is = head.beyond.path ∙ fit.path_is;
           good = grown.fit.good;
           table = grown.fit.table;
+          agrees = grown.fit.agrees;
         };
         goes = c.on e.types h.env.types x.types head.beyond.goes grown.goes;
         long = omega (arith, m, n);
@@ -246,6 +251,7 @@ module _ (c : Telling) (path : List Open) (searched : Each (IsSearched c) path) 
         path_is = (λ i. record { home = out.number_is i; scope = k } ∷ out.path_is i);
         good = out.good;
         table = out.table;
+        agrees = out.agrees;
       } in
       let one = parameters_grown c (inside k) deeper s.parameters f f_fit in
       holds_bind (IsBehind c (inside k) deeper (length (single_variables ds)) g) (IsMade k formals ds e) (walk judge.declared g ds) (λ x. kept (env.back_at h.env.path x))

@@ -58,6 +58,17 @@ no_more k h = record {
   own = behind_none (variables_at h.scopes k);
 }
 
+-- a module of the same name, text, scopes and signatures
+pub same_more : (k : ℕ) (h h' : Home) → h'.name ≡ h.name → h'.text ≡ h.text → h'.scopes ≡ h.scopes → h'.signatures ≡ h.signatures → IsMore k [] h h'
+same_more k h h' name text scopes signatures = record {
+  name = name;
+  text = text;
+  signatures = signatures;
+  names = λ j. ap (λ (ss : List Scope). names_at ss j) scopes;
+  others = λ j other. ap (λ (ss : List Scope). variables_at ss j) scopes;
+  own = ap (λ (ss : List Scope). variables_at ss k) scopes ∙ behind_none (variables_at h.scopes k);
+}
+
 pub more_and_more : (k : ℕ) (a b : List (Option TypeId)) (h h' h'' : Home) → IsMore k a h h' → IsMore k b h' h'' → IsMore k (a ++ b) h h''
 more_and_more k a b h h' h'' one two = record {
   name = two.name ∙ one.name;
@@ -116,6 +127,17 @@ pub constant_good : (h : Home) (k : ℕ) (c : Constant) → HasGood c.value → 
 constant_good h k c is =
     changed_good (λ s. scope.with_constant s c) [] (λ s. refl) (λ s. sym (append-nil s.variables))
     (λ s good. joined (λ (x : Constant). HasGood x.value) s.constants (c ∷ []) good (is, tt)) h k
+
+-- the fields of record types stay
+changed_records : (f : Scope → Scope) (h : Home) (k : ℕ) (o : Option Scope) → (changed f h k o).records ≡ h.records
+changed_records f h k None = refl
+changed_records f h k (Some s) = refl
+
+pub variable_records : (h : Home) (k : ℕ) (of : Option TypeId) → (add_variable h k of).records ≡ h.records
+variable_records h k of = changed_records (λ s. scope.with_variable s of) h k (slice_get h.scopes k)
+
+pub constant_records : (h : Home) (k : ℕ) (c : Constant) → (add_constant h k c).records ≡ h.records
+constant_records h k c = changed_records (λ s. scope.with_constant s c) h k (slice_get h.scopes k)
 
 -- a scope of which the names are known
 pub scope_at : (ss : List Scope) (k : ℕ) (ns : List Named) → names_at ss k ≡ Some ns → (s : Scope) × (slice_get ss k ≡ Some s) × (s.entries ≡ ns)

@@ -1,6 +1,6 @@
 -- A walk over declarations in a module's environment, and what is told of types on it: the types that are written break no rule,
 -- and so their numbers are known.
-use Rattle.std.proofs.Common.{◌≡◌, ℕ, ◌+◌, ◌<◌, ◌==◌, List, [], ◌∷◌, ◌++◌, length, pos, int_le, Bool, true, false, ◌&&◌, Option, Some, None, option_and_then, slice_get, slice_set, if◌then◌else◌, refl, sym, ap, ◌∙◌, subst, arith, length-append, length-set}
+use Rattle.std.proofs.Common.{◌≡◌, ℕ, ◌+◌, ◌<◌, ◌==◌, List, [], ◌∷◌, ◌++◌, length, replicate, pos, int_le, Bool, true, false, ◌&&◌, Option, Some, None, option_and_then, slice_get, slice_set, if◌then◌else◌, refl, sym, ap, ◌∙◌, subst, arith, length-append, length-set}
 use Rattle.std.specs.Prelude.{unsigned_abs}
 use Rattle.std.proofs.lemmas.Option.{none-some}
 use mathlib.Core.Logic.{inl, inr}
@@ -8,6 +8,7 @@ use Rattle.aos_base.specs.declared.text.Pos.{Pos}
 use Rattle.aos_tree.specs.declared.name.Qualident.{Qualident}
 use Rattle.aos_tree.specs.declared.expr.Expr.{Expr, out-Expr}
 use Rattle.aos_tree.specs.declared.stat.Block.{Block}
+use Rattle.aos_tree.specs.declared.decl.Def.{Def}
 use Rattle.aos_tree.specs.declared.decl.Decl.{Decl, items-the_row-Decl}
 use Rattle.aos_tree.specs.declared.decl.Fields.{Fields}
 use Rattle.aos_tree.specs.declared.decl.Fields.TheVariants as fields
@@ -25,8 +26,8 @@ use Rattle.aos_typed.specs.declared.tree.Literal.TheVariants as literal
 use Rattle.aos_symbols.specs.declared.env.Open.{Open}
 use Rattle.aos_symbols.specs.declared.env.Env.{Env}
 use Rattle.aos_symbols.specs.Judged.{Judged, judged, kept, bind, walk}
-use Rattle.aos_symbols.specs.Scope.{Scope}
-use Rattle.aos_symbols.specs.Home.{Home}
+use Rattle.aos_symbols.specs.Scope.{Scope, empty}
+use Rattle.aos_symbols.specs.Home.{Home, add_record}
 use Rattle.aos_symbols.specs.Env as env
 use Rattle.aos_symbols.proofs.Each.{Each, joined, implied, repeated}
 use Rattle.aos_symbols.proofs.Holds.{Holds, holds_bind, holds_walk, broken}
@@ -38,10 +39,12 @@ use Rattle.aos_check_decl.specs.Types.{Met, met, FieldsMet, fields_met}
 use Rattle.aos_check_decl.specs.Aliases.{nil}
 use Rattle.aos_check_decl.proofs.TypingNames.{IsSearchedIn, AreOwnNamed, AreOthersNamed, all_named_in, named_sound}
 use Rattle.aos_check_decl.proofs.TypingScopes.{AreGood, AllGood, names_at}
+use Rattle.aos_check_decl.proofs.TypingFields.{IsNoRecord, field_variables}
 
 -- A walk: the module's number, the modules before it, its name and text, its scopes as its names make them, how many of them are those of
--- types, and the first table of types; and what is told of types. `Known` is told of the types of variables, `There` of those of
--- parameters, elements and fields, `IsSlot` of the numbers of definitions, and `GoesTo` of two tables, one before the other.
+-- types, and the first table of types; and what is told of types. `Known` is told of the types of variables, elements and fields,
+-- `There` of those of parameters, `IsSlot` of the numbers of definitions, `GoesTo` of two tables, one before the other, `Agrees` of a
+-- table and the fields of record types that the module knows, and `AreAll` of a record's variables and the types in its row.
 pub record Telling : Type 1 where
   pub number : ℕ
   pub before : List Home
@@ -66,6 +69,23 @@ pub record Telling : Type 1 where
   pub push : (ts : List TypeRow) (r : TypeRow) → ((p : TypeId) → IsOneOf p (named_in r) → There ts (Some p)) → GoesTo ts (ts ++ r ∷ [])
   pub pushed : (ts : List TypeRow) (r : TypeRow) → GoesTo first ts → is_open (Some r) ≡ false → Known (ts ++ r ∷ []) (Some (record { 0 = length ts }))
   pub pushed_open : (ts : List TypeRow) (t : TypeId) → GoesTo first ts → There (ts ++ row.Open t ∷ []) (Some (record { 0 = length ts }))
+  pub Agrees : List TypeRow → List (ℕ × Scope) → Type 0
+  pub AreAll : List (Option TypeId) → List TypeId → Type 0
+  pub none_all : AreAll [] []
+  pub more_all : (ts : List TypeRow) (vs : List (Option TypeId)) (us : List TypeId) (n : ℕ) (of : Option TypeId) → Known ts of → AreAll vs us →
+      AreAll (vs ++ replicate n of) (us ++ judge.fields_of n of)
+  pub agree_set : (ts : List TypeRow) (rs : List (ℕ × Scope)) (t : TypeId) (r : TypeRow) → is_open (Some r) ≡ false → IsNoRecord r →
+      ((p : TypeId) → IsOneOf p (named_in r) → Known ts (Some p)) → Agrees ts rs → Agrees (slice_set ts t.0 r) rs
+  pub agree_push : (ts : List TypeRow) (rs : List (ℕ × Scope)) (r : TypeRow) → IsNoRecord r →
+      ((p : TypeId) → IsOneOf p (named_in r) → Known ts (Some p)) → Agrees ts rs → Agrees (ts ++ r ∷ []) rs
+  pub agree_open : (ts : List TypeRow) (rs : List (ℕ × Scope)) (t : TypeId) → Agrees ts rs → Agrees (ts ++ row.Open t ∷ []) rs
+  pub agree_unsettled : (ts : List TypeRow) (rs : List (ℕ × Scope)) (t : TypeId) → Known ts None → Agrees ts rs → Agrees (slice_set ts t.0 (row.Open nil)) rs
+  pub agree_record_set : (ts : List TypeRow) (h : Home) (t : TypeId) (us : List TypeId) (s : Scope) → GoesTo first ts → IsSlot t →
+      ((p : TypeId) → IsOneOf p us → Known ts (Some p)) → AreAll s.variables us → Agrees ts h.records →
+      Agrees (slice_set ts t.0 (row.Record None us)) (add_record h t s).records
+  pub agree_record_push : (ts : List TypeRow) (h : Home) (us : List TypeId) (s : Scope) →
+      ((p : TypeId) → IsOneOf p us → Known ts (Some p)) → AreAll s.variables us → Agrees ts h.records →
+      Agrees (ts ++ row.Record None us ∷ []) (add_record h (record { 0 = length ts }) s).records
   pub own : AreOwnNamed inner scopes (Known first)
   pub others : AreOthersNamed before (Known first)
   pub constants : (m : ℕ) (h : Home) (k : ℕ) (s : Scope) → slice_get before m ≡ Some h → slice_get h.scopes k ≡ Some s → AreGood s.constants
@@ -103,18 +123,34 @@ module _ (c : Telling) where
     pub path_is : e.path ≡ path
     pub good : AllGood e.here
     pub table : GoesTo c.first e.types
+    pub agrees : c.Agrees e.types e.here.records
 
-  -- the same environment with a later table
+  -- the same environment with a later table, and with more fields
   pub record IsBeyond (e e' : Env) : Type 0 where
     pub number : e'.number ≡ e.number
     pub before : e'.before ≡ e.before
-    pub here : e'.here ≡ e.here
+    pub name : e'.here.name ≡ e.here.name
+    pub text : e'.here.text ≡ e.here.text
+    pub scopes : e'.here.scopes ≡ e.here.scopes
+    pub signatures : e'.here.signatures ≡ e.here.signatures
     pub path : e'.path ≡ e.path
+    pub agree : c.Agrees e.types e.here.records → c.Agrees e'.types e'.here.records
     pub goes : GoesTo e.types e'.types
     pub long : length e'.types + length e.places ≡ length e.types + length e'.places
 
   pub beyond_same : (e : Env) → IsBeyond e e
-  beyond_same e = record { number = refl; before = refl; here = refl; path = refl; goes = c.stays e.types; long = refl }
+  beyond_same e = record {
+    number = refl;
+    before = refl;
+    name = refl;
+    text = refl;
+    scopes = refl;
+    signatures = refl;
+    path = refl;
+    agree = λ a. a;
+    goes = c.stays e.types;
+    long = refl;
+  }
 
   pub beyond_on : (e f g : Env) → IsBeyond e f → IsBeyond f g → IsBeyond e g
   beyond_on e f g one two =
@@ -123,8 +159,12 @@ module _ (c : Telling) where
       record {
         number = two.number ∙ one.number;
         before = two.before ∙ one.before;
-        here = two.here ∙ one.here;
+        name = two.name ∙ one.name;
+        text = two.text ∙ one.text;
+        scopes = two.scopes ∙ one.scopes;
+        signatures = two.signatures ∙ one.signatures;
         path = two.path ∙ one.path;
+        agree = λ a. two.agree (one.agree a);
         goes = c.on e.types f.types g.types one.goes two.goes;
         long = omega (arith, m, n);
       }
@@ -133,12 +173,13 @@ module _ (c : Telling) where
   fit_beyond path e f fit one = record {
     number_is = one.number ∙ fit.number_is;
     before_is = one.before ∙ fit.before_is;
-    name_is = ap (λ (h : Home). h.name) one.here ∙ fit.name_is;
-    text_is = ap (λ (h : Home). h.text) one.here ∙ fit.text_is;
-    names_are = λ j. ap (λ (h : Home). names_at h.scopes j) one.here ∙ fit.names_are j;
+    name_is = one.name ∙ fit.name_is;
+    text_is = one.text ∙ fit.text_is;
+    names_are = λ j. ap (λ (ss : List Scope). names_at ss j) one.scopes ∙ fit.names_are j;
     path_is = one.path ∙ fit.path_is;
-    good = subst AllGood (sym one.here) fit.good;
+    good = λ k s there. fit.good k s (ap (λ (ss : List Scope). slice_get ss k) (sym one.scopes) ∙ there);
     table = c.on c.first e.types f.types fit.table one.goes;
+    agrees = one.agree fit.agrees;
   }
 
   module _ (path : List Open) (searched : Each IsSearched path) where
@@ -217,29 +258,37 @@ module _ (c : Telling) where
     met_on : (e f : Env) (slot : Option TypeId) (m : Met) → IsBeyond e f → IsMet f slot m → IsMet e slot m
     met_on e f slot m one two = record { beyond = beyond_on e f m.env one two.beyond; of = two.of }
 
-    abbrev AreThere : List TypeRow → TypeRow → Type 0
-    AreThere ts r = (p : TypeId) → IsOneOf p (named_in r) → c.There ts (Some p)
+    abbrev AreKnown : List TypeRow → TypeRow → Type 0
+    AreKnown ts r = (p : TypeId) → IsOneOf p (named_in r) → c.Known ts (Some p)
 
     placed_sound : (e : Env) → IsFit path e → (slot : Option TypeId) → IsSlotted slot → (at : Pos) (r : TypeRow) → is_open (Some r) ≡ false →
-        AreThere e.types r → IsMet e slot (judge.placed slot at r e)
-    placed_sound e fit (Some t) ok at r closed there = record {
+        IsNoRecord r → AreKnown e.types r → IsMet e slot (judge.placed slot at r e)
+    placed_sound e fit (Some t) ok at r closed other known = record {
       beyond = record {
         number = refl;
         before = refl;
-        here = refl;
+        name = refl;
+        text = refl;
+        scopes = refl;
+        signatures = refl;
         path = refl;
-        goes = c.set e.types t r fit.table ok closed there;
+        agree = c.agree_set e.types e.here.records t r closed other known;
+        goes = c.set e.types t r fit.table ok closed (λ p one. c.known_there e.types (Some p) (known p one));
         long = ap (λ n. n + length e.places) (length-set e.types t.0 r);
       };
       of = tt;
     }
-    placed_sound e fit None ok at r closed there = record {
+    placed_sound e fit None ok at r closed other known = record {
       beyond = record {
         number = refl;
         before = refl;
-        here = refl;
+        name = refl;
+        text = refl;
+        scopes = refl;
+        signatures = refl;
         path = refl;
-        goes = c.push e.types r there;
+        agree = c.agree_push e.types e.here.records r other known;
+        goes = c.push e.types r (λ p one. c.known_there e.types (Some p) (known p one));
         long = omega (arith, length-append e.types (r ∷ []), length-append e.places (at ∷ []));
       };
       of = c.pushed e.types r fit.table closed;
@@ -251,10 +300,10 @@ module _ (c : Telling) where
     array_sound e fit slot ok at n f None is = record { beyond = is.beyond; of = of_slot slot f.types None is.of }
     array_sound e fit slot ok at n f (Some t) is =
         met_on e f slot (judge.placed slot at (row.Array n t) f) is.beyond
-        (placed_sound f (fit_beyond path e f fit is.beyond) slot ok at (row.Array n t) refl (λ p one. element p one))
+        (placed_sound f (fit_beyond path e f fit is.beyond) slot ok at (row.Array n t) refl (λ ts e. cc) (λ p one. element p one))
       where
-        element : (p : TypeId) → IsOneOf p (t ∷ []) → c.There f.types (Some p)
-        element p (inl e) = subst (λ (q : TypeId). c.There f.types (Some q)) e (c.known_there f.types (Some t) is.of)
+        element : (p : TypeId) → IsOneOf p (t ∷ []) → c.Known f.types (Some p)
+        element p (inl e) = subst (λ (q : TypeId). c.Known f.types (Some q)) e is.of
         element p (inr h) = absurd h
 
     inner_sound : (e : Env) → IsFit path e → (at : Pos) (ns : List ℕ) (m : Met) → IsMet e None m → IsMet e None (judge.inner_arrays at ns m)
@@ -281,28 +330,65 @@ module _ (c : Telling) where
 
     pub record AreFields (e : Env) (f : FieldsMet) : Type 0 where
       pub beyond : IsBeyond e f.env
-      pub parts : Each (λ t. c.There f.env.types (Some t)) f.types
+      pub parts : Each (λ t. c.Known f.env.types (Some t)) f.types
+      pub all : c.AreAll f.scope.variables f.types
 
-    more_fields : (e : Env) (f : FieldsMet) → AreFields e f → (n : ℕ) (g : Env) (of : Option TypeId) → IsMet f.env None (met g of) →
-        AreFields e (judge.with_fields f n (met g of))
-    more_fields e f are n g of is = record {
+    more_fields : (e : Env) (f : FieldsMet) → AreFields e f → (ds : List Def) (g : Env) (of : Option TypeId) → IsMet f.env None (met g of) →
+        AreFields e (judge.with_fields f ds (met g of))
+    more_fields e f are ds g of is = record {
       beyond = beyond_on e f.env g are.beyond is.beyond;
       parts =
-          joined (λ t. c.There g.types (Some t)) f.types (judge.fields_of n of)
-          (implied (λ t. c.There f.env.types (Some t)) (λ t. c.There g.types (Some t)) (λ t there. c.there_on f.env.types g.types is.beyond.goes (Some t) there) f.types are.parts)
+          joined (λ t. c.Known g.types (Some t)) f.types (judge.fields_of (length ds) of)
+          (implied (λ t. c.Known f.env.types (Some t)) (λ t. c.Known g.types (Some t)) (λ t known. c.known_on f.env.types g.types is.beyond.goes (Some t) known) f.types are.parts)
           (new of is.of);
+      all = subst (λ vs. c.AreAll vs (f.types ++ judge.fields_of (length ds) of)) (sym (field_variables g.here.text of ds f.scope))
+          (c.more_all g.types f.scope.variables f.types (length ds) of is.of are.all);
     }
       where
-        new : (of : Option TypeId) → Known g.types of → Each (λ t. c.There g.types (Some t)) (judge.fields_of n of)
+        new : (of : Option TypeId) → Known g.types of → Each (λ t. c.Known g.types (Some t)) (judge.fields_of (length ds) of)
         new None known = tt
-        new (Some t) known = repeated (λ t. c.There g.types (Some t)) n t (c.known_there g.types (Some t) known)
+        new (Some t) known = repeated (λ t. c.Known g.types (Some t)) (length ds) t known
+
+    -- a record's row, and what the module knows of its fields
+    record_placed : (e : Env) → IsFit path e → (slot : Option TypeId) → IsSlotted slot → (at : Pos) (us : List TypeId) (s : Scope) →
+        ((p : TypeId) → IsOneOf p us → c.Known e.types (Some p)) → c.AreAll s.variables us → IsMet e slot (judge.with_record s (judge.placed slot at (row.Record None us) e))
+    record_placed e fit (Some t) ok at us s known all = record {
+      beyond = record {
+        number = refl;
+        before = refl;
+        name = refl;
+        text = refl;
+        scopes = refl;
+        signatures = refl;
+        path = refl;
+        agree = c.agree_record_set e.types e.here t us s fit.table ok known all;
+        goes = c.set e.types t (row.Record None us) fit.table ok refl (λ p one. c.known_there e.types (Some p) (known p one));
+        long = ap (λ n. n + length e.places) (length-set e.types t.0 (row.Record None us));
+      };
+      of = tt;
+    }
+    record_placed e fit None ok at us s known all = record {
+      beyond = record {
+        number = refl;
+        before = refl;
+        name = refl;
+        text = refl;
+        scopes = refl;
+        signatures = refl;
+        path = refl;
+        agree = c.agree_record_push e.types e.here us s known all;
+        goes = c.push e.types (row.Record None us) (λ p one. c.known_there e.types (Some p) (known p one));
+        long = omega (arith, length-append e.types (row.Record None us ∷ []), length-append e.places (at ∷ []));
+      };
+      of = c.pushed e.types (row.Record None us) fit.table refl;
+    }
 
     record_sound : (e : Env) → IsFit path e → (slot : Option TypeId) → IsSlotted slot → (at : Pos) (base : Option Qualident) (fs : Judged FieldsMet) →
         Holds (AreFields e) fs → Holds (IsMet e slot) (judge.record_in slot e at base fs)
     record_sound e fit slot ok at None fs are =
-        holds_bind (AreFields e) (IsMet e slot) fs (λ f. kept (judge.placed slot at (row.Record None f.types) f.env)) are
-        (λ f is h. met_on e f.env slot (judge.placed slot at (row.Record None f.types) f.env) is.beyond
-        (placed_sound f.env (fit_beyond path e f.env fit is.beyond) slot ok at (row.Record None f.types) refl (each_of (λ t. c.There f.env.types (Some t)) f.types is.parts)))
+        holds_bind (AreFields e) (IsMet e slot) fs (λ f. kept (judge.with_record f.scope (judge.placed slot at (row.Record None f.types) f.env))) are
+        (λ f is h. met_on e f.env slot (judge.with_record f.scope (judge.placed slot at (row.Record None f.types) f.env)) is.beyond
+        (record_placed f.env (fit_beyond path e f.env fit is.beyond) slot ok at f.types f.scope (each_of (λ t. c.Known f.env.types (Some t)) f.types is.parts) is.all))
     record_sound e fit slot ok at (Some base) fs are = broken (IsMet e slot) _ [] _
 
     object_sound : (e : Env) → IsFit path e → (slot : Option TypeId) → IsSlotted slot → (at : Pos) (base : Option Qualident) (decls : List Decl) (body : Option Block) →
@@ -312,7 +398,7 @@ module _ (c : Telling) where
     object_sound e fit (Some t) ok at base decls body =
         let object = judge.placed (Some t) at (row.Object None []) e in
         chosen (IsMet e (Some t)) (env.innermost e.path == 0) (judged (judge.object_breaches e at base decls body) object) (judge.refused_type 26 at e)
-        (λ h. placed_sound e fit (Some t) ok at (row.Object None []) refl (λ p none. absurd none)) (broken (IsMet e (Some t)) _ [] _)
+        (λ h. placed_sound e fit (Some t) ok at (row.Object None []) refl (λ ts e. cc) (λ p none. absurd none)) (broken (IsMet e (Some t)) _ [] _)
 
     -- Types.
 
@@ -323,7 +409,8 @@ module _ (c : Telling) where
           (λ of known h. record { beyond = beyond_same e; of = of_slot slot e.types of known })
       type_sound e fit slot ok (type.Array' p lengths shape row) = array_in_sound e fit slot ok p lengths (judge.held_in e row) (held_sound e fit row)
       type_sound e fit slot ok (type.Record' p base shape row) =
-          record_sound e fit slot ok p base (judge.fields_in (fields_met e []) row) (fields_sound e fit (fields_met e []) (record { beyond = beyond_same e; parts = tt }) row)
+          record_sound e fit slot ok p base (judge.fields_in (fields_met e [] empty) row)
+          (fields_sound e fit (fields_met e [] empty) (record { beyond = beyond_same e; parts = tt; all = c.none_all }) row)
       type_sound e fit slot ok (type.Pointer' p shape row) = broken (IsMet e slot) _ [] _
       type_sound e fit slot ok (type.Proc p flag formals) = broken (IsMet e slot) _ [] _
       type_sound e fit slot ok (type.Object' p base shape row body end) = object_sound e fit slot ok p base (items-the_row-Decl _ row) body
@@ -340,6 +427,6 @@ module _ (c : Telling) where
       field_sound : (e : Env) → IsFit path e → (f : FieldsMet) → AreFields e f → (x : Fields) → Holds (AreFields e) (judge.field_in f x)
       field_sound e fit f are fields.Empty = λ h. are
       field_sound e fit f are (fields.Of' defs of) =
-          holds_bind (IsMet f.env None) (AreFields e) (judge.type_in None f.env of) (λ m. kept (judge.with_fields f (length defs) m))
+          holds_bind (IsMet f.env None) (AreFields e) (judge.type_in None f.env of) (λ m. kept (judge.with_fields f defs m))
           (type_sound f.env (fit_beyond path e f.env fit are.beyond) None tt of)
-          (λ m is h. more_fields e f are (length defs) m.env m.of is)
+          (λ m is h. more_fields e f are defs m.env m.of is)

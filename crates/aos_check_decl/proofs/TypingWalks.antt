@@ -1,7 +1,6 @@
 -- Two walks over the declarations of a module. On the first all rows name types that are there, and those of types of other
 -- modules and of names for other types stay; on the second, which takes it that each name for a type leads to one, types are told.
-use Rattle.std.proofs.Common.{◌≡◌, ℕ, suc, ◌+◌, ◌<◌, ◌≤◌, List, [], ◌∷◌, ◌++◌, length, Bool, true, false, Option, Some, None, slice_get, slice_set, refl, sym, ap, ◌∙◌, subst, arith, length-append, length-set}
-use Rattle.std.proofs.lemmas.Bool.{cases_order}
+use Rattle.std.proofs.Common.{◌≡◌, ℕ, suc, ◌+◌, ◌<◌, ◌≤◌, List, [], ◌∷◌, ◌++◌, length, map, replicate, Bool, true, false, Option, Some, None, slice_get, slice_set, refl, sym, ap, ◌∙◌, subst, arith, length-append, length-set}
 use Rattle.std.proofs.lemmas.Option.{same_Some, slice_get_within}
 use mathlib.Core.Logic.{◌⊎◌, inl, inr}
 use Rattle.aos_tree.specs.declared.decl.TypeDef.{TypeDef}
@@ -21,12 +20,14 @@ use Rattle.aos_symbols.proofs.Told.{IsTold, basic, defined, IsKnown, GoOn, known
 use Rattle.aos_check_decl.specs.declared.aliases.Target.{Target}
 use Rattle.aos_check_decl.specs.declared.aliases.Target.TheVariants.{Own, Of, Nothing}
 use Rattle.aos_check_decl.specs.Aliases.{nil, follow, stands_for, first_rows, numbers}
-use Rattle.aos_check_decl.proofs.TypingLists.{set_here, set_other, set_gives, push_gives, get_below}
+use Rattle.aos_check_decl.specs.Types.{fields_of}
+use Rattle.aos_check_decl.proofs.TypingLists.{set_other, set_gives, push_gives, get_below}
 use Rattle.aos_check_decl.proofs.TypingScopes.{AreGood}
 use Rattle.aos_check_decl.proofs.TypingNames.{AreOthersNamed}
 use Rattle.aos_check_decl.proofs.TypingTables.{AllBelow}
 use Rattle.aos_check_decl.proofs.TypingEntries.{scopes_typed}
 use Rattle.aos_check_decl.proofs.TypingTypes.{Telling}
+use Rattle.aos_check_decl.proofs.TypingFields.{Agree, set_on, more_some, agree_set, agree_push, agree_open, agree_record_set, agree_record_push}
 use Rattle.aos_check_decl.proofs.TypingHeadings.{is_name}
 use Rattle.aos_check_decl.proofs.TypingSlots.{AreNumbers}
 use Rattle.aos_check_decl.proofs.TypingTargets.{number_of, IsMeant, IsLed, AreLed, led_long, led_at}
@@ -186,6 +187,16 @@ module _ (number : ℕ) (before : List Home) (types : List TypeRow) (text : List
     push = push_goes;
     pushed = λ us r goes closed. last_below us r;
     pushed_open = λ us t goes. last_below us (row.Open t);
+    Agrees = λ us rs. Unit {0};
+    AreAll = λ vs us. Unit {0};
+    none_all = tt;
+    more_all = λ ts vs us n of known all. tt;
+    agree_set = λ ts rs t r closed other known a. tt;
+    agree_push = λ ts rs r other known a. tt;
+    agree_open = λ ts rs t a. tt;
+    agree_unsettled = λ ts rs t known a. tt;
+    agree_record_set = λ ts h t us s goes slot known all a. tt;
+    agree_record_push = λ ts h us s known all a. tt;
     own = scopes_typed text before standing m (IsBelow first) number_below;
     others = λ j h s w x of there own found means t e.
         let known = subst (IsKnown types) e (others j h s w x of there own found means) in
@@ -242,21 +253,6 @@ module _ (number : ℕ) (before : List Home) (types : List TypeRow) (text : List
     pub long : length us ≤ length vs
     pub on : GoOn us vs
 
-  pub set_on : (us : List TypeRow) (t : TypeId) (r : TypeRow) → is_open (Some r) ≡ false → GoOn us (slice_set us t.0 r)
-  set_on us t r closed u (basic low) = basic low
-  set_on us t r closed u (defined q high there whole) = by (cases_order u.0 t.0)
-    where
-      here : u.0 ≡ t.0 → IsTold (slice_set us t.0 r) u
-      here same = defined r high (ap (slice_get (slice_set us t.0 r)) same ∙ set_here us t.0 q r (ap (slice_get us) (sym same) ∙ there)) closed
-
-      elsewhere : (u.0 ≡ t.0 → ⊥) → IsTold (slice_set us t.0 r) u
-      elsewhere other = defined q high (set_other us t.0 u.0 r other ∙ there) whole
-
-      by : (u.0 ≡ t.0) ⊎ ((u.0 < t.0) ⊎ (t.0 < u.0)) → IsTold (slice_set us t.0 r) u
-      by (inl same) = here same
-      by (inr (inl l)) = elsewhere (λ same. omega (arith, l, same))
-      by (inr (inr l)) = elsewhere (λ same. omega (arith, l, same))
-
   pub known_open : (us : List TypeRow) (of : Option TypeId) → IsKnown us of → MayBeOpen us of
   known_open us None known = known
   known_open us (Some t) (basic low) = inl low
@@ -275,6 +271,15 @@ module _ (number : ℕ) (before : List Home) (types : List TypeRow) (text : List
 
   pub last_open : (us : List TypeRow) (r : TypeRow) → GoesOn first us → MayBeOpen (us ++ r ∷ []) (Some (record { 0 = length us }))
   last_open us r goes = let l = goes.long in inr (omega (arith, l, first_nine), omega (arith, length-append us (r ∷ [])))
+
+  -- the variables of a record are the types in its row
+  abbrev pub AreSome : List (Option TypeId) → List TypeId → Type 0
+  AreSome vs us = vs ≡ map (λ (t : TypeId). Some t) us
+
+  pub more_fields : (us : List TypeRow) (vs : List (Option TypeId)) (fs : List TypeId) (n : ℕ) (of : Option TypeId) → IsKnown us of → AreSome vs fs →
+      AreSome (vs ++ replicate n of) (fs ++ fields_of n of)
+  more_fields us vs fs n None known all = absurd known
+  more_fields us vs fs n (Some t) known all = more_some vs fs n t all
 
   module _ (ends : (t : TypeId) → IsProper (length types) ts (follow (length types) ts (length ts) t)) where
     pub number_known : (k : ℕ) → k < length (all_type_defs m.decls) → IsKnown first (number_at standing k)
@@ -295,7 +300,7 @@ module _ (number : ℕ) (before : List Home) (types : List TypeRow) (text : List
       Known = IsKnown;
       There = MayBeOpen;
       GoesTo = GoesOn;
-      IsSlot = λ t. Unit {0};
+      IsSlot = λ t. t.0 < length first;
       stays = λ us. record { long = omega arith; on = λ t told. told };
       on = λ us vs ws one two. (let a = one.long in let b = two.long in record { long = omega (arith, a, b); on = λ t told. two.on t (one.on t told) });
       known_on = λ us vs goes of known. known_on us vs goes.on of known;
@@ -307,7 +312,25 @@ module _ (number : ℕ) (before : List Home) (types : List TypeRow) (text : List
       push = λ us r there. push_on us r;
       pushed = λ us r goes closed. last_told us r goes closed;
       pushed_open = λ us t goes. last_open us (row.Open t) goes;
+      Agrees = Agree;
+      AreAll = AreSome;
+      none_all = refl;
+      more_all = λ us vs fs n of. more_fields us vs fs n of;
+      agree_set = λ us rs t r closed other known a. agree_set us rs t r closed other known a;
+      agree_push = λ us rs r other known a. agree_push us rs r other known a;
+      agree_open = λ us rs t a. agree_open us rs t a;
+      agree_unsettled = λ us rs t known a. absurd known;
+      agree_record_set = λ us h t fs s goes slot known all a. (let l = goes.long in agree_record_set us h t fs s (omega (arith, slot, l)) known all a);
+      agree_record_push = λ us h fs s known all a. agree_record_push us h fs s known all a;
       own = scopes_typed text before standing m (IsKnown first) number_known;
       others = λ j h s w x of there own found means. known_on types first (told_behind types (first_rows (length types) ts)) of (others j h s w x of there own found means);
       constants = constants;
     }
+
+    -- the numbers of definitions are those of rows that there are
+    below_numbers : (ds : List TypeDef) (k : ℕ) → k + length ds ≤ length (all_type_defs m.decls) → AreNumbers told standing k ds
+    below_numbers [] k most = tt
+    below_numbers (d ∷ ds) k most = (λ not_name t e. number_below k (omega (arith, most)) t e, below_numbers ds (suc k) (omega (arith, most)))
+
+    pub told_numbers : AreNumbers told standing 0 (all_type_defs m.decls)
+    told_numbers = below_numbers (all_type_defs m.decls) 0 (omega arith)

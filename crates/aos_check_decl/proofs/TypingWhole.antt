@@ -1,10 +1,9 @@
 -- A module's environment behind its declarations, where none of them breaks a rule, and what is judged of all its types breaks
 -- none: no type contains itself, so that each name for a type leads to one, and all types are told.
-use Rattle.std.proofs.Common.{◌≡◌, ℕ, suc, ◌+◌, ◌-◌, ◌<◌, ◌≤◌, List, [], ◌∷◌, length, true, false, Option, Some, slice_get, refl, sym, ap, ◌∙◌, subst, arith}
+use Rattle.std.proofs.Common.{◌≡◌, ℕ, ◌+◌, ◌-◌, ◌<◌, ◌≤◌, List, [], ◌∷◌, length, true, false, Option, Some, slice_get, refl, sym, ap, ◌∙◌, subst, arith}
 use Rattle.std.proofs.lemmas.Bool.{cases_Bool, cases_lt}
-use Rattle.std.proofs.lemmas.Option.{slice_get_within}
+use Rattle.std.proofs.lemmas.Option.{none-some, slice_get_within}
 use mathlib.Core.Logic.{◌⊎◌, inl, inr}
-use Rattle.aos_tree.specs.declared.decl.TypeDef.{TypeDef}
 use Rattle.aos_tree.specs.declared.module.Module.{Module}
 use Rattle.aos_types.specs.declared.TheConstants.{MOST_SCALARS}
 use Rattle.aos_types.specs.declared.row.TypeId.{TypeId}
@@ -18,13 +17,13 @@ use Rattle.aos_types.proofs.Circles.{circle_test}
 use Rattle.aos_types.proofs.Cut.{nothing_cut}
 use Rattle.aos_symbols.specs.declared.env.Open.{Open}
 use Rattle.aos_symbols.specs.declared.env.Env.{Env}
-use Rattle.aos_symbols.specs.Declarations.{Procedure, type_defs, all_type_defs, procedures}
+use Rattle.aos_symbols.specs.Declarations.{all_type_defs}
 use Rattle.aos_symbols.specs.Scope.{Scope}
 use Rattle.aos_symbols.specs.Home.{Home}
 use Rattle.aos_symbols.specs.Names.{name_breaches}
 use Rattle.aos_symbols.specs.Env as env
 use Rattle.aos_symbols.proofs.Each.{Each}
-use Rattle.aos_symbols.proofs.Told.{IsKnown}
+use Rattle.aos_symbols.proofs.Told.{IsKnown, GoOn, told_behind, AreToldParts, PartsAreTold}
 use Rattle.aos_check_decl.specs.declared.aliases.Target.{Target}
 use Rattle.aos_check_decl.specs.declared.aliases.Target.TheVariants.{Own, Of, Nothing}
 use Rattle.aos_check_decl.specs.Aliases.{first_row, first_rows, follow}
@@ -35,26 +34,16 @@ use Rattle.aos_check_decl.proofs.TypingLists.{get_below, get_behind, mapped_at}
 use Rattle.aos_check_decl.proofs.TypingScopes.{AreGood, AllGood}
 use Rattle.aos_check_decl.proofs.TypingNames.{AreOthersNamed}
 use Rattle.aos_check_decl.proofs.TypingTypes.{Telling, IsSearched, IsFit}
-use Rattle.aos_check_decl.proofs.TypingHeadings.{HasSlot}
-use Rattle.aos_check_decl.proofs.TypingProcedures.{inside, AreSlotted, IsHeaded, headings_sound}
+use Rattle.aos_check_decl.proofs.TypingFields.{parts_on}
+use Rattle.aos_check_decl.proofs.TypingProcedures.{IsHeaded, headings_sound}
 use Rattle.aos_check_decl.proofs.TypingEntries.{scope_fresh}
 use Rattle.aos_check_decl.proofs.TypingTargets.{AreLed}
-use Rattle.aos_check_decl.proofs.TypingAliases.{IsProper, rows_at, first_row_at, ends}
+use Rattle.aos_check_decl.proofs.TypingAliases.{IsProper, IsSound, rows_at, first_row_at, told_first, ends}
 use Rattle.aos_check_decl.proofs.TypingTables.{AllBelow, all_within}
 use Rattle.aos_check_decl.proofs.TypingLimits.{type_kept, flag_is, none_circular}
 use Rattle.aos_check_decl.proofs.TypingOnce.{module_alike, procedures_alike}
 use Rattle.aos_check_decl.proofs.TypingSlots.{own_slots, procedures_slots}
-use Rattle.aos_check_decl.proofs.TypingWalks.{GoesTo, first, standing, count, table_long, sound, meant_below, outline, told, all_numbers}
-
--- a walk on which all numbers are of definitions
-module _ (c : Telling) (path : List Open) (searched : Each (IsSearched c) path) (any : (t : TypeId) → c.IsSlot t) where
-  any_slots : (path : List Open) (ds : List TypeDef) → Each (HasSlot c path) ds
-  any_slots path [] = tt
-  any_slots path (d ∷ ds) = (λ not_name e fit t is. any t, any_slots path ds)
-
-  any_slotted : (k : ℕ) (ps : List Procedure) → AreSlotted c path searched k ps
-  any_slotted k [] = tt
-  any_slotted k (p ∷ ps) = (any_slots (inside c path searched k) (type_defs p.decls), any_slotted (suc k) ps)
+use Rattle.aos_check_decl.proofs.TypingWalks.{GoesTo, first, standing, count, table_long, sound, meant_below, place_meant, outline, told, all_numbers, told_numbers}
 
 -- what is known of the types before
 pub record AreOld (types : List TypeRow) : Type 0 where
@@ -62,6 +51,7 @@ pub record AreOld (types : List TypeRow) : Type 0 where
   pub closed : AllBelow (length types) types
   pub free : NoneContainsItself types
   pub sizes : (t : TypeId) → scalars types t ≤ MOST_SCALARS
+  pub parts : PartsAreTold types
 
 module _ (number : ℕ) (before : List Home) (types : List TypeRow) (text : List ℕ) (m : Module) (ts : List Target)
     (others : AreOthersNamed before (IsKnown types))
@@ -82,6 +72,33 @@ module _ (number : ℕ) (before : List Home) (types : List TypeRow) (text : List
   pub begun_good : AllGood begun.here
   begun_good k s there = subst AreGood (sym (scope_fresh text before own m k s there).0) tt
 
+  -- The parts of rows are told before any declaration is met.
+
+  on_table : GoOn types table
+  on_table = told_behind types (first_rows (length types) ts)
+
+  abbrev is_sound : (k : ℕ) (x : Target) → slice_get ts k ≡ Some x → IsSound types (length ts) x
+  is_sound = sound number before types text m ts others constants old.nine led
+
+  first_parts : (k : ℕ) (x : Target) → k < length ts → slice_get ts k ≡ Some x → AreToldParts table (first_row (length types + k) x)
+  first_parts k Own l is =
+      told_first types ts old.nine is_sound (record { 0 = length types + k })
+      (place_meant number before types text m ts others constants old.nine led k l)
+  first_parts k (Of u) l is = told_first types ts old.nine is_sound u (is_sound k (Of u) is)
+  first_parts k Nothing l is = tt
+
+  table_parts : PartsAreTold table
+  table_parts k r is = by (cases_lt k (length types))
+    where
+      by : (k < length types) ⊎ (length types ≤ k) → AreToldParts table r
+      by (inl below) = parts_on types table on_table r (old.parts k r (sym (get_below types (first_rows (length types) ts) k below) ∙ is))
+      by (inr behind) =
+          let j = k - length types in
+          let place : length types + j ≡ k = omega (arith, behind) in
+          let at = sym (rows_at (length types) ts j) ∙ sym (get_behind types (first_rows (length types) ts) j) ∙ ap (slice_get table) place ∙ is in
+          let x = mapped_at (first_row (length types + j)) (slice_get ts j) r at in
+          subst (AreToldParts table) x.2 (first_parts j x.0 (slice_get_within ts j x.0 x.1) x.1)
+
   -- The first walk.
 
   abbrev first_walk : Telling
@@ -100,6 +117,7 @@ module _ (number : ℕ) (before : List Home) (types : List TypeRow) (text : List
     path_is = refl;
     good = begun_good;
     table = first_walk.stays table;
+    agrees = tt;
   }
 
   first_searched : Each (IsSearched first_walk) path
@@ -206,8 +224,9 @@ module _ (number : ℕ) (before : List Home) (types : List TypeRow) (text : List
 
       pub headed : IsHeaded second_walk path second_searched m.decls begun ended
       headed =
-          headings_sound second_walk path second_searched refl m.decls refl (any_slots second_walk path second_searched (λ t. tt) path (type_defs m.decls))
-          (any_slotted second_walk path second_searched (λ t. tt) (suc (length (type_defs m.decls))) (procedures m.decls)) begun (record {
+          let all = told_numbers number before types text m ts others constants old.nine led all_end in
+          headings_sound second_walk path second_searched refl m.decls refl (own_slots second_walk own before m refl (module_alike text m once) all)
+          (procedures_slots second_walk own path second_searched before m refl (procedures_alike text m once) all) begun (record {
             number_is = refl;
             before_is = refl;
             name_is = refl;
@@ -216,4 +235,5 @@ module _ (number : ℕ) (before : List Home) (types : List TypeRow) (text : List
             path_is = refl;
             good = begun_good;
             table = second_walk.stays table;
+            agrees = record { parts = table_parts; fields = λ t s found. absurd (none-some s found) };
           }) none

@@ -1,6 +1,6 @@
 -- Types that are named or written: the rules that they break, their rows in the table of types, and their numbers. What isn't
 -- built is refused by rule 99 at its first token; nothing behind that in it is looked at.
-use Rattle.std.specs.Prelude.{ℕ, pos, int_le, unsigned_abs, List, [], ◌∷◌, ◌++◌, length, replicate, Bool, false, ◌==◌, ◌&&◌, Option, Some, None, slice_set, if◌then◌else◌}
+use Rattle.std.specs.Prelude.{ℕ, pos, int_le, unsigned_abs, List, [], ◌∷◌, ◌++◌, length, replicate, fold, Bool, false, ◌==◌, ◌&&◌, Option, Some, None, slice_set, if◌then◌else◌}
 use Rattle.std.specs.List.{flat_map, list_any}
 use Rattle.std.specs.Option.{is_none}
 use Rattle.aos_base.specs.declared.text.Pos.{Pos}
@@ -8,6 +8,7 @@ use Rattle.aos_tree.specs.declared.name.Name.{Name}
 use Rattle.aos_tree.specs.declared.name.Qualident.{Qualident}
 use Rattle.aos_tree.specs.declared.expr.Expr.{Expr, out-Expr}
 use Rattle.aos_tree.specs.declared.stat.Block.{Block}
+use Rattle.aos_tree.specs.declared.decl.Def.{Def}
 use Rattle.aos_tree.specs.declared.decl.Decl.{Decl, items-the_row-Decl}
 use Rattle.aos_tree.specs.declared.decl.Decl.TheVariants as decl
 use Rattle.aos_tree.specs.declared.decl.Fields.{Fields}
@@ -28,6 +29,9 @@ use Rattle.aos_symbols.specs.declared.env.Lookup.TheVariants.{Unknown, NotExport
 use Rattle.aos_symbols.specs.declared.env.Env.{Env}
 use Rattle.aos_symbols.specs.Breaches.{breach, breach_unless, not_built}
 use Rattle.aos_symbols.specs.Judged.{Judged, judged, kept, bind, walk}
+use Rattle.aos_symbols.specs.Scope.{Scope, empty, with_name, with_variable}
+use Rattle.aos_symbols.specs.Home.{add_record}
+use Rattle.aos_symbols.specs.Entries.{entry}
 use Rattle.aos_symbols.specs.Spelling.{word, is_among, is_active, procedures_of_out}
 use Rattle.aos_symbols.specs.Env as env
 use Rattle.aos_check_expr.specs.Expressions.{constant, no_place}
@@ -147,25 +151,39 @@ array_in slot e at [] element = refused_type 21 at e
 array_in slot e at (x ∷ xs) element =
     bind (lengths_of e (x ∷ xs)) (λ ns. bind element (λ m. kept (arrays slot at ns m)))
 
--- Records. A field whose type breaks a rule is left out.
+-- Records. A field whose type breaks a rule has no type, and the record's row leaves it out.
 
 pub record FieldsMet : Type 0 where
   pub env : Env
   pub types : List TypeId
+  pub scope : Scope
 
-abbrev pub fields_met : Env → List TypeId → FieldsMet
-fields_met e ts = record { env = e; types = ts }
+abbrev pub fields_met : Env → List TypeId → Scope → FieldsMet
+fields_met e ts s = record { env = e; types = ts; scope = s }
 
 abbrev pub fields_of : ℕ → Option TypeId → List TypeId
 fields_of n None = []
 fields_of n (Some t) = replicate n t
 
-abbrev pub with_fields : FieldsMet → ℕ → Met → FieldsMet
-with_fields f n m = fields_met m.env (f.types ++ fields_of n m.of)
+-- the next field of a record
+abbrev pub with_field : List ℕ → Option TypeId → Scope → Def → Scope
+with_field text of s d = with_variable (with_name s (entry text d (means.Variable (length s.variables)))) of
+
+abbrev pub with_fields : FieldsMet → List Def → Met → FieldsMet
+with_fields f ds m =
+    fields_met m.env (f.types ++ fields_of (length ds) m.of) (fold (with_field m.env.here.text m.of) f.scope ds)
+
+-- the environment that knows a record type's fields, where the type has a number
+abbrev pub with_record : Scope → Met → Met
+with_record s m = by m.of
+  where
+    by : Option TypeId → Met
+    by None = m
+    by (Some t) = met (record m.env { here = add_record m.env.here t s }) (Some t)
 
 -- a record with a base isn't built
 abbrev pub record_in : Option TypeId → Env → Pos → Option Qualident → Judged FieldsMet → Judged Met
-record_in slot e at None fs = bind fs (λ f. kept (placed slot at (row.Record None f.types) f.env))
+record_in slot e at None fs = bind fs (λ f. kept (with_record f.scope (placed slot at (row.Record None f.types) f.env)))
 record_in slot e at (Some base) fs = refused_type 99 at e
 
 -- Object types: at module level alone; built are those that a declaration names, without base and declarations, whose body is
@@ -193,7 +211,7 @@ abbrev mutual
   pub type_in : Option TypeId → Env → TypeExpr → Judged Met
   type_in slot e (type.Named q) = bind (named_type e q) (λ of. kept (met e of))
   type_in slot e (type.Array' p lengths shape row) = array_in slot e p lengths (held_in e row)
-  type_in slot e (type.Record' p base shape row) = record_in slot e p base (fields_in (fields_met e []) row)
+  type_in slot e (type.Record' p base shape row) = record_in slot e p base (fields_in (fields_met e [] empty) row)
   type_in slot e (type.Pointer' p shape row) = refused_type 99 p e
   type_in slot e (type.Proc p flag formals) = refused_type 99 p e
   type_in slot e (type.Object' p base shape row body end) = object_in slot e p base (items-the_row-Decl _ row) body
@@ -209,4 +227,4 @@ abbrev mutual
 
   pub field_in : FieldsMet → Fields → Judged FieldsMet
   field_in f fields.Empty = kept f
-  field_in f (fields.Of' defs of) = bind (type_in None f.env of) (λ m. kept (with_fields f (length defs) m))
+  field_in f (fields.Of' defs of) = bind (type_in None f.env of) (λ m. kept (with_fields f defs m))

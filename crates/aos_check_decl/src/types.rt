@@ -1,6 +1,6 @@
 // Types that are named or defined, and the rules that they break.
 
-ghost use Rattle.std.specs.Prelude.{◌≡◌, ◌++◌, OnOk, IfOk, replicate};
+ghost use Rattle.std.specs.Prelude.{◌≡◌, ◌++◌, OnOk, IfOk, fold, replicate};
 ghost use Rattle.std.specs.List.{flat_map};
 ghost use Rattle.aos_symbols.specs.Breaches.{first_after};
 ghost use Rattle.aos_symbols.specs.Judged.{walk};
@@ -11,9 +11,9 @@ use aos_base::{NoMemory, Pos};
 use aos_check_expr::constant;
 use aos_symbols::{
     ANY, Breach, Env, Lookup, Meaning, NOT_BUILT, NOT_CONSTANT, NOT_EXPORTED, OBJECT_INSIDE,
-    OPEN_ARRAY, OTHER_KIND, UNKNOWN, is_active, is_procedure_of_out, note, word,
+    OPEN_ARRAY, OTHER_KIND, Scope, UNKNOWN, declare, is_active, is_procedure_of_out, note, word,
 };
-use aos_tree::{Block, Decl, Expr, Fields, Items as Parts, Name, Qualident, TypeExpr};
+use aos_tree::{Block, Decl, Def, Expr, Fields, Items as Parts, Name, Qualident, TypeExpr};
 use aos_typed::Literal;
 use aos_types::{Items, MOST_SCALARS, TypeId, TypeRow};
 use std::alloc::{AllocError, Global};
@@ -301,6 +301,66 @@ fn place_arrays(
     place_array(env, slot, at, *first, of)
 }
 
+/// The next field of a record.
+fn add_field<'a>(
+    scope: &mut Scope<'a>,
+    text: &'a [u8],
+    of: Option<TypeId>,
+    def: &Def,
+) -> Result<(), NoMemory>
+    ensures { OnOk result (scope.new ≡ judge.with_field text.now of scope.old def.now) }
+{
+    let Ok(number) = u32::try_from(scope.variable_count()) else {
+        return Err(NoMemory);
+    };
+    declare(scope, text, def, Meaning::Variable(number))?;
+    scope.add_variable(of)?;
+    Ok(())
+}
+
+/// The next fields of a record, which are of one type.
+fn add_all_fields<'a>(
+    scope: &mut Scope<'a>,
+    text: &'a [u8],
+    of: Option<TypeId>,
+    defs: &[Def],
+) -> Result<(), NoMemory>
+    ensures { OnOk result (scope.new ≡ fold (judge.with_field text.now of) scope.old defs.now) }
+{
+    for def in defs {
+        add_field(scope, text, of, def)?;
+    }
+    Ok(())
+}
+
+/// The environment knows a record type's fields, where the type has a number.
+fn add_record<'a>(env: &mut Env<'a>, of: Option<TypeId>, fields: Scope<'a>) -> Result<(), NoMemory>
+    ensures { OnOk result (env.new ≡ (judge.with_record fields.entry (judge.met env.old of)).env) }
+{
+    if let Some(of) = of {
+        env.here.add_record(of, fields)?;
+    }
+    Ok(())
+}
+
+/// A record whose fields are of these types, and are the variables of this scope.
+fn place_record<'a>(
+    env: &mut Env<'a>,
+    slot: Option<TypeId>,
+    at: Pos,
+    types: Items<TypeId>,
+    scope: Scope<'a>,
+) -> Result<Option<TypeId>, NoMemory>
+    ensures env { OnOk result (env.new ≡ (judge.with_record scope.entry
+        (judge.placed slot at (kind.Record None types) env.old)).env) }
+    ensures of { IfOk result (λ of. of ≡ (judge.with_record scope.entry
+        (judge.placed slot at (kind.Record None types) env.old)).of) }
+{
+    let of = place_row(env, slot, at, TypeRow::Record(None, types))?;
+    add_record(env, of, scope)?;
+    Ok(of)
+}
+
 /// So many fields of one type behind these, where it is known.
 fn add_fields(types: &mut Items<TypeId>, count: usize, of: Option<TypeId>) -> Result<(), AllocError>
     ensures { OnOk result (types.new ≡ types.old ++ judge.fields_of count of) }
@@ -381,24 +441,28 @@ fn object_in(
 /// The fields of a record behind these, so far as their types are known.
 #[cycle(types)]
 #[tactic(auto, using(aos_symbols::proofs::Keeping::after_more))]
-fn fields_in(
+fn fields_in<'a>(
     alloc: Global,
     found: &mut Option<Breach>,
-    env: &mut Env<'_>,
+    env: &mut Env<'a>,
     types: &mut Items<TypeId>,
+    scope: &mut Scope<'a>,
     fields: &Parts<Fields>,
 ) -> Result<(), NoMemory>
     ensures noted { OnOk result (found.new ≡ first_after found.old
-        (walk judge.field_in (judge.fields_met env.old types.old) fields.now).breaches) }
+        (walk judge.field_in (judge.fields_met env.old types.old scope.old) fields.now).breaches) }
     ensures env { OnOk result (env.new ≡
-        (walk judge.field_in (judge.fields_met env.old types.old) fields.now).answer.env) }
+        (walk judge.field_in (judge.fields_met env.old types.old scope.old) fields.now).answer.env) }
     ensures types { OnOk result (types.new ≡
-        (walk judge.field_in (judge.fields_met env.old types.old) fields.now).answer.types) }
+        (walk judge.field_in (judge.fields_met env.old types.old scope.old) fields.now).answer.types) }
+    ensures scope { OnOk result (scope.new ≡
+        (walk judge.field_in (judge.fields_met env.old types.old scope.old) fields.now).answer.scope) }
 {
     for field in fields.as_slice() {
         if let Fields::Of(def) = field {
             let of = type_in(alloc, found, env, None, &def.of)?;
             add_fields(types, def.defs.len(), of)?;
+            add_all_fields(scope, env.here.text(), of, def.defs.as_slice())?;
         }
     }
     Ok(())
@@ -407,10 +471,10 @@ fn fields_in(
 /// A type, which is that of a definition where it has a number: its number, none where it breaks a rule.
 #[cycle(types)]
 #[tactic(auto, using(aos_symbols::proofs::Keeping::after_more))]
-pub(crate) fn type_in(
+pub(crate) fn type_in<'a>(
     alloc: Global,
     found: &mut Option<Breach>,
-    env: &mut Env<'_>,
+    env: &mut Env<'a>,
     slot: Option<TypeId>,
     of: &TypeExpr,
 ) -> Result<Option<TypeId>, NoMemory>
@@ -434,8 +498,9 @@ pub(crate) fn type_in(
                 return Ok(refuse_type(found, NOT_BUILT, *at));
             }
             let mut types = Items::new(alloc);
-            fields_in(alloc, found, env, &mut types, fields)?;
-            place_row(env, slot, *at, TypeRow::Record(None, types))
+            let mut scope = Scope::new(alloc);
+            fields_in(alloc, found, env, &mut types, &mut scope, fields)?;
+            place_record(env, slot, *at, types, scope)
         },
         TypeExpr::Pointer(at, _) => Ok(refuse_type(found, NOT_BUILT, *at)),
         TypeExpr::Proc(at, _, _) => Ok(refuse_type(found, NOT_BUILT, *at)),

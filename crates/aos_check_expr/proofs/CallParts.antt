@@ -2,8 +2,6 @@
 use Rattle.std.proofs.Common.{◌≡◌, List, [], ◌∷◌, Bool, true, false, Option, Some, None, if◌then◌else◌, refl}
 use Rattle.aos_base.specs.declared.text.Pos.{Pos}
 use Rattle.aos_tree.specs.declared.expr.Expr.{Expr, out-Expr}
-use Rattle.aos_tree.specs.declared.expr.Selector.{Selector}
-use Rattle.aos_tree.specs.declared.expr.Selector.TheVariants as s
 use Rattle.aos_types.specs.declared.row.TypeId.{TypeId}
 use Rattle.aos_typed.specs.declared.tree.Literal.{Literal}
 use Rattle.aos_typed.specs.Program.{Program}
@@ -26,9 +24,9 @@ use Rattle.aos_check_expr.specs.Designators as desig
 use Rattle.aos_check_expr.specs.Expressions as judge
 use Rattle.aos_check_expr.specs.Expressions.{Callee, Calls, Converts, Neither}
 use Rattle.aos_check_expr.proofs.Good.{IsGood, MayBe, greatest_good, least_good}
-use Rattle.aos_check_expr.proofs.Sound.{IsStep, applied_step, converted_step}
+use Rattle.aos_check_expr.proofs.Sound.{IsStep, TestsOne, applied_step, applied_tests, converted_step, converted_tests}
 use Rattle.aos_check_expr.proofs.Parts.{argument_part, arguments_part, limit_part}
-use Rattle.aos_check_expr.proofs.Spots.{IsWhole, Part, refused_part, selected_part, guarded_part}
+use Rattle.aos_check_expr.proofs.Spots.{IsWhole, Part, Valued, refused_part, guarded_part}
 
 -- a conversion is into an integer type
 abbrev IsRightCallee : Callee → Type 0
@@ -56,10 +54,10 @@ callee_right (Found x) = meant_right x.means
 
 module _ (p : Program) (e : Env) where
   abbrev IsFine : Judged Answer → Type 0
-  IsFine = Holds (Part p e)
+  IsFine = Holds (Valued p e)
 
   abbrev pub Parts : List (Judged Answer) → Type 0
-  Parts = Each IsFine
+  Parts = Each (Holds (Part p e))
 
   -- MAX and MIN of a type.
 
@@ -87,14 +85,14 @@ module _ (p : Program) (e : Env) where
 
   -- Functions of one argument and of two.
 
-  of_one : (f : Option TypeId → Step) → IsStep p f → (at : Pos) (js : List (Judged Answer)) → Parts js → (xs : List Expr) → IsFine (judge.one_of f at js xs)
-  of_one f right at [] parts xs = refused_part p e 34 at
-  of_one f right at (j ∷ []) parts [] = refused_part p e 34 at
-  of_one f right at (j ∷ []) parts (x ∷ []) =
-      holds_bind (Part p e) (Part p e) j (λ a. judge.one_argument at (out-Expr x).pos (f a.known.of) a) parts.0
-      (λ a h. argument_part p (IsWhole p e) f right at (out-Expr x).pos a h)
-  of_one f right at (j ∷ []) parts (x ∷ y ∷ xs) = refused_part p e 34 at
-  of_one f right at (j ∷ k ∷ js) parts xs = refused_part p e 34 at
+  of_one : (f : Option TypeId → Step) → IsStep p f → TestsOne f → (at : Pos) (js : List (Judged Answer)) → Parts js → (xs : List Expr) → IsFine (judge.one_of f at js xs)
+  of_one f right tests at [] parts xs = refused_part p e 34 at
+  of_one f right tests at (j ∷ []) parts [] = refused_part p e 34 at
+  of_one f right tests at (j ∷ []) parts (x ∷ []) =
+      holds_bind (Part p e) (Valued p e) j (λ a. judge.one_argument at (out-Expr x).pos (f a.known.of) a) parts.0
+      (λ a h. argument_part p (IsWhole p e) f right tests at (out-Expr x).pos a h)
+  of_one f right tests at (j ∷ []) parts (x ∷ y ∷ xs) = refused_part p e 34 at
+  of_one f right tests at (j ∷ k ∷ js) parts xs = refused_part p e 34 at
 
   of_two : (at : Pos) (js : List (Judged Answer)) → Parts js → (xs : List Expr) → IsFine (judge.two_of at js xs)
   of_two at [] parts xs = refused_part p e 34 at
@@ -102,16 +100,16 @@ module _ (p : Program) (e : Env) where
   of_two at (j ∷ k ∷ []) parts [] = refused_part p e 34 at
   of_two at (j ∷ k ∷ []) parts (x ∷ []) = refused_part p e 34 at
   of_two at (j ∷ k ∷ []) parts (x ∷ y ∷ []) =
-      holds_bind (Part p e) (Part p e) j (λ a. bind k (λ b. judge.two_arguments at (out-Expr x).pos (out-Expr y).pos a b)) parts.0
-      (λ a g. holds_bind (Part p e) (Part p e) k (λ b. judge.two_arguments at (out-Expr x).pos (out-Expr y).pos a b) parts.1.0
+      holds_bind (Part p e) (Valued p e) j (λ a. bind k (λ b. judge.two_arguments at (out-Expr x).pos (out-Expr y).pos a b)) parts.0
+      (λ a g. holds_bind (Part p e) (Valued p e) k (λ b. judge.two_arguments at (out-Expr x).pos (out-Expr y).pos a b) parts.1.0
       (λ b h. arguments_part p (IsWhole p e) at (out-Expr x).pos (out-Expr y).pos a b g h))
   of_two at (j ∷ k ∷ []) parts (x ∷ y ∷ z ∷ xs) = refused_part p e 34 at
   of_two at (j ∷ k ∷ l ∷ js) parts xs = refused_part p e 34 at
 
   -- what can't be called
-  guard_part : (is_guard : Bool) (at first : Pos) (j : Judged Spot) → IsFine (bind j (λ a. desig.guarded a.known.of is_guard at first))
+  guard_part : (is_guard : Bool) (at first : Pos) (j : Judged Spot) → IsFine (bind j (λ a. desig.guarded e a.known.of is_guard at first))
   guard_part is_guard at first j =
-      holds_bind (λ (a : Spot). Unit {0}) (Part p e) j (λ a. desig.guarded a.known.of is_guard at first) (λ none. tt) (λ a any. guarded_part p e a.known.of is_guard at first)
+      holds_bind (λ (a : Spot). Unit {0}) (Valued p e) j (λ a. desig.guarded e a.known.of is_guard at first) (λ none. tt) (λ a any. guarded_part p e a.known.of is_guard at first)
 
   not_meant : (m : Meaning) (o : Open) (mark : Option Export) (named first at : Pos) (xs : List Expr) →
       IsFine (judge.not_called e (record { found = Found (record { at = o; mark = mark; means = m }); at = named; first = first }) at xs)
@@ -128,17 +126,15 @@ module _ (p : Program) (e : Env) where
   called (Calls function.Max) right h at js parts xs = limit_of_type op.greatest_value greatest_good xs h.first
   called (Calls function.Min) right h at js parts xs = limit_of_type op.least_value least_good xs h.first
   called (Calls function.Ash) right h at js parts xs = of_two h.first js parts xs
-  called (Calls f) right h at js parts xs = of_one (op.applied f) (applied_step p f) h.first js parts xs
-  called (Converts t) right h at js parts xs = of_one (op.converted t) (converted_step p t right) h.first js parts xs
+  called (Calls function.Abs) right h at js parts xs = of_one (op.applied function.Abs) (applied_step p function.Abs) (applied_tests function.Abs tt) h.first js parts xs
+  called (Calls function.Odd) right h at js parts xs = of_one (op.applied function.Odd) (applied_step p function.Odd) (applied_tests function.Odd tt) h.first js parts xs
+  called (Calls function.Cap) right h at js parts xs = of_one (op.applied function.Cap) (applied_step p function.Cap) (applied_tests function.Cap tt) h.first js parts xs
+  called (Calls function.Ord) right h at js parts xs = of_one (op.applied function.Ord) (applied_step p function.Ord) (applied_tests function.Ord tt) h.first js parts xs
+  called (Calls function.Chr) right h at js parts xs = of_one (op.applied function.Chr) (applied_step p function.Chr) (applied_tests function.Chr tt) h.first js parts xs
+  called (Calls function.Long) right h at js parts xs = of_one (op.applied function.Long) (applied_step p function.Long) (applied_tests function.Long tt) h.first js parts xs
+  called (Calls function.Short) right h at js parts xs = of_one (op.applied function.Short) (applied_step p function.Short) (applied_tests function.Short tt) h.first js parts xs
+  called (Converts t) right h at js parts xs = of_one (op.converted t) (converted_step p t right) (converted_tests t) h.first js parts xs
   called Neither right h at js parts xs = not_found h.found h.at h.first at xs
 
   pub called_part : (h : Head) (at : Pos) (js : List (Judged Answer)) → Parts js → (xs : List Expr) → IsFine (judge.called e h at js xs)
   called_part h at js parts xs = called (judge.callee h.found) (callee_right h.found) h at js parts xs
-
-  -- and what stands behind a call
-  pub ended_part : (first : Pos) (j : Judged Answer) → IsFine j → (xs : List Selector) → IsFine (judge.ended first j xs)
-  ended_part first j h [] = h
-  ended_part first j h (s.Field q n ∷ xs) = holds_bind (Part p e) (Part p e) j (λ a. desig.selected a.known.of q) h (λ a x. selected_part p e a.known.of q)
-  ended_part first j h (s.Index' q shape row ∷ xs) = holds_bind (Part p e) (Part p e) j (λ a. desig.selected a.known.of q) h (λ a x. selected_part p e a.known.of q)
-  ended_part first j h (s.Follow q ∷ xs) = holds_bind (Part p e) (Part p e) j (λ a. desig.selected a.known.of q) h (λ a x. selected_part p e a.known.of q)
-  ended_part first j h (s.Paren' q shape row ∷ xs) = holds_bind (Part p e) (Part p e) j (λ a. desig.guarded a.known.of false q first) h (λ a x. guarded_part p e a.known.of false q first)

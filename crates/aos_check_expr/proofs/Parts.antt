@@ -1,5 +1,5 @@
 -- Parts of expressions that break no rule: what is known of their values, and that they are sound where the environment is whole.
-use Rattle.std.proofs.Common.{◌≡◌, ℕ, ◌<◌, ℤ, List, [], ◌++◌, Bool, true, false, ◌&&◌, not, Option, Some, None, if◌then◌else◌, refl, sym, ap, subst, arith}
+use Rattle.std.proofs.Common.{◌≡◌, ℕ, ◌<◌, ℤ, List, [], ◌++◌, Bool, true, false, ◌&&◌, not, inl, Option, Some, None, if◌then◌else◌, refl, sym, ap, subst, arith}
 use Rattle.std.proofs.lemmas.Bool.{and_parts}
 use Rattle.aos_base.specs.declared.text.Pos.{Pos}
 use Rattle.aos_base.specs.declared.number.Width.TheVariants.{W64}
@@ -17,8 +17,10 @@ use Rattle.aos_typed.specs.declared.tree.TType.TheVariants as type
 use Rattle.aos_typed.specs.Program.{Expr, Binary, Element, Program}
 use Rattle.aos_typed.specs.WellTyped.{IsOf}
 use Rattle.aos_symbols.specs.declared.breach.Breach.{Breach}
-use Rattle.aos_symbols.specs.Breaches.{breach_unless}
-use Rattle.aos_symbols.specs.Env.{set}
+use Rattle.aos_symbols.specs.declared.env.Env.{Env}
+use Rattle.aos_symbols.specs.Breaches.{breach_unless, not_built}
+use Rattle.aos_symbols.specs.Judged.{Judged, judged}
+use Rattle.aos_symbols.specs.Env.{boolean, set}
 use Rattle.aos_symbols.proofs.Holds.{Holds, none_left, none_right, test_is, broken}
 use Rattle.aos_check_expr.specs.declared.known.Class.{Class}
 use Rattle.aos_check_expr.specs.declared.known.Class.TheVariants.{Unknown, Constant, Variable, ReadOnly, Computed}
@@ -26,17 +28,23 @@ use Rattle.aos_check_expr.specs.declared.operations.Single.TheVariants as single
 use Rattle.aos_check_expr.specs.declared.operations.Joint.TheVariants as joint
 use Rattle.aos_check_expr.specs.declared.operations.Step.{Step}
 use Rattle.aos_check_expr.specs.declared.operations.Operation.{Operation}
-use Rattle.aos_check_expr.specs.Known.{Answer, is_number, is_lost, lost, answered, constant_answer, type_of_literal}
+use Rattle.aos_check_expr.specs.Known.{Answer, is_number, is_lost, lost, answered, constant_answer, type_of_literal, nothing}
 use Rattle.aos_check_expr.specs.Operations as op
 use Rattle.aos_check_expr.specs.Expressions as judge
 use Rattle.aos_check_expr.proofs.Good.{IsGood, IsSet, MayBe, IsKnownClass, number_good, type_basic, set_type, set_good, set_given, single_good, joint_good, class_of_one_known, class_of_known}
-use Rattle.aos_check_expr.proofs.Sound.{IsSound, sound_number, IsStep, IsOperation, stepped_sound, joined_sound, signed_step, opposite_step, added_operation, multiplied_operation, related_operation, shifted_operation}
+use Rattle.aos_check_expr.proofs.Sound.{IsSound, IsPlain, plain_sound, sound_number, IsStep, IsOperation, TestsOne, TestsTwo, stepped_plain, joined_plain, signed_step, signed_tests, opposite_step, opposite_tests, added_operation, added_tests, multiplied_operation, multiplied_tests, related_operation, related_tests, shifted_operation, shifted_tests}
 
 -- of a part's class, that it is known, with a good value where it is constant; the part is sound where what W says is so
 pub record IsPart (p : Program) (W : Type 0) (a : Answer) : Type 0 where
   pub class : IsKnownClass IsGood a.known.class
   pub valued : not (is_lost a.known.class) ≡ true
   pub sound : W → IsSound p a
+
+-- the same of one whose value is of a basic type
+pub record IsValue (p : Program) (W : Type 0) (a : Answer) : Type 0 where
+  pub class : IsKnownClass IsGood a.known.class
+  pub valued : not (is_lost a.known.class) ≡ true
+  pub plain : W → IsPlain p a
 
 -- of the elements of a set so far: they may be constants that have no value, since the whole needn't be constant
 pub record AreElements (p : Program) (W : Type 0) (a : Answer) : Type 0 where
@@ -88,61 +96,82 @@ module _ (p : Program) (W : Type 0) where
   abbrev Part : Answer → Type 0
   Part = IsPart p W
 
+  abbrev Valued : Answer → Type 0
+  Valued = IsValue p W
+
+  pub as_part : (j : Judged Answer) → Holds Valued j → Holds Part j
+  as_part j h e = let x = h e in record { class = x.class; valued = x.valued; sound = λ w. plain_sound p j.answer (x.plain w) }
+
   -- Operators.
 
-  step_part : (f : Option TypeId → Step) → IsStep p f → (first : Pos) (own : List Breach) (a : Answer) → (own ≡ [] → (f a.known.of).is_kept ≡ true) → Part a →
-      Holds Part (op.told first own (op.stepped (f a.known.of) a))
-  step_part f right first own a test x e =
+  step_part : (f : Option TypeId → Step) → IsStep p f → TestsOne f → (first : Pos) (own : List Breach) (a : Answer) → (own ≡ [] → (f a.known.of).is_kept ≡ true) → Part a →
+      Holds Valued (op.told first own (op.stepped (f a.known.of) a))
+  step_part f right tests first own a test x e =
       let s = f a.known.of in
       let k : s.is_kept ≡ true = test (none_left own (lost (op.stepped s a).known.class first) e) in
       record {
         class = stepped_class IsGood s a (single_good s.single) k x.class;
         valued = test_is (not (is_lost (op.stepped s a).known.class)) 20 first (none_right own (lost (op.stepped s a).known.class first) e);
-        sound = λ w. stepped_sound p f right a (x.sound w) x.class k;
+        plain = λ w. stepped_plain p f right tests a (x.sound w) x.class k;
       }
 
-  operation_part : (f : Option TypeId → Option TypeId → Operation) → IsOperation p f → (first : Pos) (own : List Breach) (a b : Answer) →
-      (own ≡ [] → (f a.known.of b.known.of).is_kept ≡ true) → Part a → Part b → Holds Part (op.told first own (op.joined (f a.known.of b.known.of) a b))
-  operation_part f right first own a b test x y e =
+  operation_part : (f : Option TypeId → Option TypeId → Operation) → IsOperation p f → TestsTwo f → (first : Pos) (own : List Breach) (a b : Answer) →
+      (own ≡ [] → (f a.known.of b.known.of).is_kept ≡ true) → Part a → Part b → Holds Valued (op.told first own (op.joined (f a.known.of b.known.of) a b))
+  operation_part f right tests first own a b test x y e =
       let o = f a.known.of b.known.of in
       let k : o.is_kept ≡ true = test (none_left own (lost (op.joined o a b).known.class first) e) in
       record {
         class = joined_class IsGood o a b (joint_good o.joint) k x.class y.class;
         valued = test_is (not (is_lost (op.joined o a b).known.class)) 20 first (none_right own (lost (op.joined o a b).known.class first) e);
-        sound = λ w. joined_sound p f right a b (x.sound w) (y.sound w) x.class y.class k;
+        plain = λ w. joined_plain p f right tests a b (x.sound w) (y.sound w) x.class y.class k;
       }
 
   pub added_part : (first at : Pos) (o : AddOp) (a b : Answer) → Part a → Part b → Holds Part (judge.added first at o a b)
-  added_part first at o a b = operation_part (op.added o) (added_operation p o) first (breach_unless (op.added o a.known.of b.known.of).is_kept 30 at) a b (test_is _ 30 at)
+  added_part first at o a b x y =
+      as_part (judge.added first at o a b)
+      (operation_part (op.added o) (added_operation p o) (added_tests o) first (breach_unless (op.added o a.known.of b.known.of).is_kept 30 at) a b (test_is _ 30 at) x y)
 
   pub multiplied_part : (first at : Pos) (o : MulOp) (a b : Answer) → Part a → Part b → Holds Part (judge.multiplied first at o a b)
-  multiplied_part first at o a b = operation_part (op.multiplied o) (multiplied_operation p o) first (breach_unless (op.multiplied o a.known.of b.known.of).is_kept 30 at) a b (test_is _ 30 at)
+  multiplied_part first at o a b x y =
+      as_part (judge.multiplied first at o a b)
+      (operation_part (op.multiplied o) (multiplied_operation p o) (multiplied_tests o) first (breach_unless (op.multiplied o a.known.of b.known.of).is_kept 30 at) a b (test_is _ 30 at) x y)
 
-  tested_breaks : (of : Option TypeId) (at : Pos) → Holds Part (judge.tested of at)
-  tested_breaks None at = broken Part _ [] _
-  tested_breaks (Some t) at = broken Part _ [] _
+  tested_breaks : (e : Env) (of : Option TypeId) (at : Pos) → Holds Part (judge.tested e of at)
+  tested_breaks e None at = broken Part _ [] _
+  tested_breaks e (Some t) at = broken Part _ [] _
 
-  pub related_part : (first at : Pos) (o : RelationOp) (a b : Answer) → Part a → Part b → Holds Part (judge.related_by first at o a b)
-  related_part first at o a b x y = by (judge.is_test o) refl
+  pub related_part : (e : Env) (first at : Pos) (o : RelationOp) (a b : Answer) → Part a → Part b → Holds Part (judge.related_by e first at o a b)
+  related_part e first at o a b x y = by (judge.is_test o) refl (judge.compares_texts e o a.known b.known)
     where
-      by : (w : Bool) → judge.is_test o ≡ w → Holds Part (if w then judge.tested a.known.of at else op.operands first at (op.related o a.known.of b.known.of) a b)
-      by true e = tested_breaks a.known.of at
-      by false e = operation_part (op.related o) (related_operation p o e) first (breach_unless (op.related o a.known.of b.known.of).is_kept 30 at) a b (test_is _ 30 at) x y
+      no_texts : Judged Answer
+      no_texts = judged (not_built at) (answered Unknown (Some boolean) nothing)
+
+      operated : Judged Answer
+      operated = op.operands first at (op.related o a.known.of b.known.of) a b
+
+      by : (w : Bool) → judge.is_test o ≡ w → (v : Bool) → Holds Part (if w then judge.tested e a.known.of at else if v then no_texts else operated)
+      by true i v = tested_breaks e a.known.of at
+      by false i true = broken Part _ [] _
+      by false i false =
+          as_part operated
+          (operation_part (op.related o) (related_operation p o i) (related_tests o i) first (breach_unless (op.related o a.known.of b.known.of).is_kept 30 at) a b (test_is _ 30 at) x y)
 
   pub signed_part : (g : Option Sign) (at : Pos) (a : Answer) → Part a → Holds Part (judge.signed g at a)
   signed_part None at a x = λ e. x
-  signed_part (Some g) at a x = step_part (op.signed g) (signed_step p g) at (breach_unless (op.signed g a.known.of).is_kept 30 at) a (test_is _ 30 at) x
+  signed_part (Some g) at a x =
+      as_part (judge.signed (Some g) at a) (step_part (op.signed g) (signed_step p g) (signed_tests g) at (breach_unless (op.signed g a.known.of).is_kept 30 at) a (test_is _ 30 at) x)
 
   pub opposite_part : (at : Pos) (a : Answer) → Part a → Holds Part (judge.opposite at a)
-  opposite_part at a x = step_part op.opposite (opposite_step p) at (breach_unless (op.opposite a.known.of).is_kept 30 at) a (test_is _ 30 at) x
+  opposite_part at a x =
+      as_part (judge.opposite at a) (step_part op.opposite (opposite_step p) opposite_tests at (breach_unless (op.opposite a.known.of).is_kept 30 at) a (test_is _ 30 at) x)
 
   -- Predeclared functions and conversions, of one argument and of two.
 
-  pub argument_part : (f : Option TypeId → Step) → IsStep p f → (at first : Pos) (a : Answer) → Part a → Holds Part (judge.one_argument at first (f a.known.of) a)
-  argument_part f right at first a x = step_part f right at (op.argument (f a.known.of).is_kept first) a (test_is _ 35 first) x
+  pub argument_part : (f : Option TypeId → Step) → IsStep p f → TestsOne f → (at first : Pos) (a : Answer) → Part a → Holds Valued (judge.one_argument at first (f a.known.of) a)
+  argument_part f right tests at first a x = step_part f right tests at (op.argument (f a.known.of).is_kept first) a (test_is _ 35 first) x
 
-  pub arguments_part : (at first second : Pos) (a b : Answer) → Part a → Part b → Holds Part (judge.two_arguments at first second a b)
-  arguments_part at first second a b = operation_part op.shifted (shifted_operation p) at (op.argument (is_number a.known.of) first ++ op.argument (is_number b.known.of) second) a b both
+  pub arguments_part : (at first second : Pos) (a b : Answer) → Part a → Part b → Holds Valued (judge.two_arguments at first second a b)
+  arguments_part at first second a b = operation_part op.shifted (shifted_operation p) shifted_tests at (op.argument (is_number a.known.of) first ++ op.argument (is_number b.known.of) second) a b both
     where
       both : (op.argument (is_number a.known.of) first ++ op.argument (is_number b.known.of) second) ≡ [] → (op.shifted a.known.of b.known.of).is_kept ≡ true
       both e =
@@ -152,19 +181,19 @@ module _ (p : Program) (W : Type 0) where
 
   -- Literals.
 
-  pub constant_part : (v : Literal) → IsGood v → Part (constant_answer v)
-  constant_part v g = record { class = g; valued = refl; sound = λ w. record { of = type_of_literal v; known = refl; basic = type_basic v; typed = g } }
+  pub constant_part : (v : Literal) → IsGood v → Valued (constant_answer v)
+  constant_part v g = record { class = g; valued = refl; plain = λ w. record { of = type_of_literal v; known = refl; basic = type_basic v; typed = g } }
 
   pub number_part : (o : Option ℤ) → MayBe (IsWithin W64) o → (at : Pos) → Holds Part (judge.number o at)
   number_part None h at = broken Part _ [] _
-  number_part (Some n) h at = λ e. constant_part (literal.Int n) (number_good n h)
+  number_part (Some n) h at = as_part (judge.number (Some n) at) (λ e. constant_part (literal.Int n) (number_good n h))
 
   pub character_part : (o : Option ℕ) → MayBe (λ c. c < 256) o → (at : Pos) → Holds Part (judge.character o at)
   character_part None h at = broken Part _ [] _
-  character_part (Some c) h at = λ e. constant_part (literal.Char c) h
+  character_part (Some c) h at = as_part (judge.character (Some c) at) (λ e. constant_part (literal.Char c) h)
 
-  pub limit_part : (o : Option Literal) → MayBe IsGood o → (at : Pos) → Holds Part (judge.limit_value o at)
-  limit_part None h at = broken Part _ [] _
+  pub limit_part : (o : Option Literal) → MayBe IsGood o → (at : Pos) → Holds Valued (judge.limit_value o at)
+  limit_part None h at = broken Valued _ [] _
   limit_part (Some v) h at = λ e. constant_part v h
 
   -- Sets.
@@ -216,5 +245,5 @@ module _ (p : Program) (W : Type 0) where
   whole_part at a h e = record {
     class = known_class_on IsSet IsGood set_good a.known.class h.class;
     valued = test_is (not (is_lost a.known.class)) 20 at e;
-    sound = λ w. record { of = set; known = h.known; basic = refl; typed = h.typed w };
+    sound = λ w. record { of = set; known = h.known; typed = inl (refl, h.typed w) };
   }

@@ -1,8 +1,7 @@
 -- The parts of a tree, read as lists and as records.
-use Rattle.std.proofs.Common.{◌≡◌, ◌≤◌, ◌<◌, List, [], ◌∷◌, ◌++◌, map, length, get_or, Option, Some, None, refl, ap, ◌∙◌, sym, append-nil, append_assoc, arith}
+use Rattle.std.proofs.Common.{◌≡◌, ◌≤◌, ◌<◌, List, [], ◌∷◌, map, length, get_or, Option, Some, None, refl, ap, ◌∙◌, sym, arith}
 use denote.Hole.Carrier.{hidden, out, roll}
 use Rattle.aos_base.specs.declared.text.Pos.{Pos}
-use Rattle.aos_tree.specs.declared.name.Name.{Name}
 use Rattle.aos_tree.specs.declared.expr.Sign.{Sign}
 use Rattle.aos_tree.specs.declared.expr.Expr.{Expr, Expr', out-Expr, Expr-right-None', Expr-right-Some'}
 use Rattle.aos_tree.specs.declared.expr.Relation.{Relation, Relation', out-Relation}
@@ -18,12 +17,11 @@ use Rattle.aos_tree.specs.declared.expr.Desig.{Desig, Row_of-Selector, end_of-Se
 use Rattle.aos_tree.specs.declared.expr.Selector.{Selector, Row_of-Expr, end_of-Expr, more_of-Expr, items-the_row-Expr, items_hidden-the_row-Expr-4}
 use Rattle.aos_tree.specs.declared.expr.Selector.TheVariants as s
 use Rattle.aos_symbols.specs.declared.env.Env.{Env}
-use Rattle.aos_symbols.specs.Judged.{Judged, judged, kept, bind, walk}
-use Rattle.aos_check_expr.specs.declared.designators.Head.{Head}
+use Rattle.aos_symbols.specs.Judged.{Judged, bind, walk}
 use Rattle.aos_check_expr.specs.Known.{Answer, Spot}
 use Rattle.aos_check_expr.specs.Operations.{no_elements}
-use Rattle.aos_check_expr.specs.Designators.{read, spotted}
-use Rattle.aos_check_expr.specs.Expressions.{expr, relation, relation_if, simple, addition, additions, term, product, products, factor, elements, element, desig_of, selected, designator, selector, arguments, called, ended, added, related_by, signed, opposite, whole_set, with_element, with_span}
+use Rattle.aos_check_expr.specs.Designators.{plain, read}
+use Rattle.aos_check_expr.specs.Expressions.{expr, relation, relation_if, simple, addition, additions, term, product, products, factor, elements, element, Part, Begun, spot_of_part, as_part, designator, selectors, selector, indices, index, indexed, arguments, bracketed, added, related_by, signed, opposite, whole_set, with_element, with_span}
 
 -- a list of two
 pub two_items : {X : Type 0} (xs : List X) (x y d d' : X) → 2 ≤ length xs → length xs < 3 → x ≡ get_or xs 0 d → y ≡ get_or xs 1 d' → xs ≡ x ∷ y ∷ []
@@ -31,13 +29,6 @@ two_items [] x y d d' least below a b = absurd (omega arith)
 two_items (u ∷ []) x y d d' least below a b = absurd (omega arith)
 two_items (u ∷ v ∷ []) x y d d' least below a b = ap (λ z. z ∷ v ∷ []) (sym a) ∙ ap (λ z. x ∷ z ∷ []) (sym b)
 two_items (u ∷ v ∷ w ∷ ws) x y d d' least below a b = absurd (omega arith)
-
-pub ended_is : (first : Pos) (j : Judged Answer) (xs : List Selector) → ended first j xs ≡ bind j (λ a. ended first (kept a) xs)
-ended_is first j [] = ap (λ bs. judged bs j.answer) (sym (append-nil j.breaches))
-ended_is first j (s.Field p n ∷ xs) = refl
-ended_is first j (s.Index' p shape row ∷ xs) = refl
-ended_is first j (s.Follow p ∷ xs) = refl
-ended_is first j (s.Paren' p shape row ∷ xs) = refl
 
 module _ (e : Env) where
   additions_row : (n : _) (first : Pos) (a : Answer) (r : Row_of-Addition n) → additions e first a r ≡ walk (addition e first) a (items-the_row-Addition n r)
@@ -58,10 +49,13 @@ module _ (e : Env) where
   arguments_row _ end_of-Expr = refl
   arguments_row _ (more_of-Expr x xs) = ap (λ js. expr e x ∷ js) (arguments_row _ xs)
 
-  selectors_row : (n : _) (name : Name) (r : Row_of-Selector n) → desig_of e name r ≡ selected e name (items-the_row-Selector n r)
-  selectors_row _ name end_of-Selector = refl
-  selectors_row _ name (more_of-Selector x end_of-Selector) = refl
-  selectors_row _ name (more_of-Selector x (more_of-Selector y ys)) = refl
+  selectors_row : (n : _) (first : Pos) (a : Part) (r : Row_of-Selector n) → selectors e first a r ≡ walk (selector e first) a (items-the_row-Selector n r)
+  selectors_row _ first a end_of-Selector = refl
+  selectors_row _ first a (more_of-Selector x xs) = ap (λ z. bind (selector e first a x) (λ b. z)) (selectors_row _ first (selector e first a x).answer xs)
+
+  indices_row : (n : _) (at : Pos) (a : Spot) (r : Row_of-Expr n) → indices e at a r ≡ walk (index e at) a (items-the_row-Expr n r)
+  indices_row _ at a end_of-Expr = refl
+  indices_row _ at a (more_of-Expr x xs) = ap (λ z. bind (index e at a x) (λ b. z)) (indices_row _ at (index e at a x).answer xs)
 
   pub expr_is : (x : Expr) → expr e x ≡ bind (simple e (out-Expr x).left) (λ a. relation_if e (out-Expr x).pos a (out-Expr x).right)
   unfolding out-Expr out
@@ -69,7 +63,7 @@ module _ (e : Env) where
   expr_is (Expr' at left (Expr-right-Some' r)) = refl
 
   pub relation_is : (first : Pos) (a : Answer) (r : Relation) → relation e first a r
-      ≡ bind (simple e (out-Relation r).right) (λ b. related_by first (out-Relation r).pos (out-Relation r).op a b)
+      ≡ bind (simple e (out-Relation r).right) (λ b. related_by e first (out-Relation r).pos (out-Relation r).op a b)
   unfolding out-Relation out
   relation_is first a (Relation' at op right) = refl
 
@@ -101,10 +95,12 @@ module _ (e : Env) where
   pub term_is : (x : Term) → term e x ≡ bind (factor e (out-Term x).first) (λ a. walk (product e (out-Term x).pos) a (out-Term x).rest)
   term_is x = ap (λ z. term e z) (sym (roll-out-Term x)) ∙ term_rolled (out-Term x).pos (out-Term x).first (out-Term x).rest
 
-  pub factor_desig : (x : Factor) (d : Desig) → x ≡ f.Desig d → factor e x ≡ bind (designator e d) read
+  pub factor_desig : (x : Factor) (d : Desig) → x ≡ f.Desig d → factor e x ≡ bind (designator e d) (read e)
   factor_desig x d is =
       ap (λ y. factor e y) is
-      ∙ ap (λ z. bind z read) (selectors_row _ d.name (hidden-the_row-Selector-0 d.selectors) ∙ ap (λ xs. selected e d.name xs) (items_hidden-the_row-Selector-0 d.selectors))
+      ∙ ap (λ z. bind (bind z (spot_of_part e)) (read e))
+      (selectors_row _ d.name.pos (Begun (plain e d.name)) (hidden-the_row-Selector-0 d.selectors)
+      ∙ ap (λ xs. walk (selector e d.name.pos) (Begun (plain e d.name)) xs) (items_hidden-the_row-Selector-0 d.selectors))
 
   pub factor_paren : (x : Factor) (p : Pos) (y : Expr) → x ≡ f.Paren p y → factor e x ≡ expr e y
   unfolding hidden-the_row-Expr-2 shape-the_row-Expr-2 hidden
@@ -130,14 +126,15 @@ module _ (e : Env) where
   element_is at a (Elem' x Elem-last-None') = refl
   element_is at a (Elem' x (Elem-last-Some' y)) = refl
 
-  pub selector_paren : (h : Head) (x : Selector) (p : Pos) (es : List Expr) (xs : List Selector) → x ≡ s.Paren p es →
-      selector e h x xs ≡ bind (called e h p (map (expr e) es) es) (λ a. spotted h.first (ended h.first (kept a) xs))
-  selector_paren h x p es xs is =
-      ap (λ y. selector e h y xs) is
-      ∙ ap (λ js. spotted h.first (ended h.first (called e h p js (items-the_row-Expr _ (hidden-the_row-Expr-4 es))) xs)) (arguments_row _ (hidden-the_row-Expr-4 es))
-      ∙ ap (λ ys. spotted h.first (ended h.first (called e h p (map (expr e) ys) ys) xs)) (items_hidden-the_row-Expr-4 es)
-      ∙ ap (λ j. spotted h.first j) (ended_is h.first (called e h p (map (expr e) es) es) xs)
-      ∙ again (called e h p (map (expr e) es) es)
-    where
-      again : (j : Judged Answer) → spotted h.first (bind j (λ a. ended h.first (kept a) xs)) ≡ bind j (λ a. spotted h.first (ended h.first (kept a) xs))
-      again j = ap (λ bs. judged bs (spotted h.first (ended h.first (kept j.answer) xs)).answer) (append_assoc j.breaches (ended h.first (kept j.answer) xs).breaches [])
+  pub selector_index : (first : Pos) (a : Part) (x : Selector) (p : Pos) (es : List Expr) → x ≡ s.Index p es → selector e first a x ≡ indexed e p a es
+  selector_index first a x p es is =
+      ap (λ y. selector e first a y) is
+      ∙ ap (λ z. as_part (bind (spot_of_part e a) (λ b. z)))
+      (indices_row _ p (spot_of_part e a).answer (hidden-the_row-Expr-4 es) ∙ ap (λ xs. walk (index e p) (spot_of_part e a).answer xs) (items_hidden-the_row-Expr-4 es))
+
+  pub selector_paren : (first : Pos) (a : Part) (x : Selector) (p : Pos) (es : List Expr) → x ≡ s.Paren p es →
+      selector e first a x ≡ bracketed e first a p (map (expr e) es) es
+  selector_paren first a x p es is =
+      ap (λ y. selector e first a y) is
+      ∙ ap (λ js. bracketed e first a p js (items-the_row-Expr _ (hidden-the_row-Expr-4 es))) (arguments_row _ (hidden-the_row-Expr-4 es))
+      ∙ ap (λ ys. bracketed e first a p (map (expr e) ys) ys) (items_hidden-the_row-Expr-4 es)

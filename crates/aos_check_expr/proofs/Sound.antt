@@ -19,8 +19,8 @@ use Rattle.aos_tree.specs.declared.expr.Sign.TheVariants as sign
 use Rattle.aos_types.specs.declared.row.TypeId.{TypeId}
 use Rattle.aos_typed.specs.declared.tree.TType.{TType}
 use Rattle.aos_typed.specs.declared.tree.TType.TheVariants as type
-use Rattle.aos_typed.specs.Program.{Expr, Binary, Program}
-use Rattle.aos_typed.specs.WellTyped.{Includes, HasRange, is_ordered, is_basic as is_basic_type, is_compared, IsOf}
+use Rattle.aos_typed.specs.Program.{Place, Expr, Read, Binary, Program}
+use Rattle.aos_typed.specs.WellTyped.{Includes, HasRange, is_ordered, is_basic as is_basic_type, is_compared, IsPlaceOf, IsOf}
 use Rattle.aos_symbols.specs.declared.scope.Function.{Function}
 use Rattle.aos_symbols.specs.declared.scope.Function.TheVariants as function
 use Rattle.aos_symbols.specs.Env.{shortint, integer, longint, hugeint, boolean, char, set}
@@ -32,7 +32,7 @@ use Rattle.aos_check_expr.specs.declared.operations.Operation.{Operation}
 use Rattle.aos_check_expr.specs.Known.{Answer, is_basic, is_integer, is, fits, is_number, is_boolean, is_char, is_set, larger, width_of_type, width_of, least_of, greatest_of, type_of_literal, type_as, answered}
 use Rattle.aos_check_expr.specs.Operations as op
 use Rattle.aos_check_expr.specs.Expressions.{is_test}
-use Rattle.aos_check_expr.proofs.Types.{most_includes, includes_itself, wider, same_type, integer_cases, basic_cases, integer_basic, as_integer, order_includes, fits_includes}
+use Rattle.aos_check_expr.proofs.Types.{most_includes, includes_itself, wider, same_type, integer_cases, basic_cases, integer_basic, as_integer, order_includes, fits_includes, fits_basic, fits_same}
 use Rattle.aos_check_expr.proofs.Good.{IsGood, IsKnownClass, type_basic, single_good, joint_good, class_of_one_known, class_of_known}
 
 both_true : (a b : Bool) → (a && b) ≡ true → (a ≡ true) × (b ≡ true)
@@ -49,13 +49,133 @@ range_of W16 = omega (arith, ints)
 range_of W32 = omega (arith, ints)
 range_of W64 = omega (arith, ints)
 
+not_both : true ≡ false → ⊥
+not_both e = cc
+
+-- Operators take operands of basic types alone.
+
+abbrev AreBasic : TypeId → TypeId → Type 0
+AreBasic t u = (is_basic t ≡ true) × (is_basic u ≡ true)
+
+basic_same : (s t : TypeId) → is_basic s ≡ true → is s t ≡ true → is_basic t ≡ true
+basic_same s t b k = subst (λ u. is_basic u ≡ true) (same_type s t k) b
+
+abbrev pub TestsOne : (Option TypeId → Step) → Type 0
+TestsOne f = (t : TypeId) → (f (Some t)).is_kept ≡ true → is_basic t ≡ true
+
+abbrev pub TestsTwo : (Option TypeId → Option TypeId → Operation) → Type 0
+TestsTwo f = (t u : TypeId) → (f (Some t) (Some u)).is_kept ≡ true → AreBasic t u
+
+number_or_set : (t : TypeId) → (is_integer t ≡ true) ⊎ (is set t ≡ true) → is_basic t ≡ true
+number_or_set t (inl k) = integer_basic t k
+number_or_set t (inr k) = basic_same set t refl k
+
+pub signed_tests : (g : Sign) → TestsOne (op.signed g)
+signed_tests sign.Plus t k = integer_basic t k
+signed_tests sign.Minus t k = number_or_set t (either_true (is_integer t) (is set t) k)
+
+pub opposite_tests : TestsOne op.opposite
+opposite_tests t k = basic_same boolean t refl k
+
+pub converted_tests : (u : TypeId) → TestsOne (op.converted u)
+converted_tests u t k = integer_basic t k
+
+-- each function but those whose argument isn't one value
+abbrev pub IsOfOne : Function → Type 0
+IsOfOne function.Ash = ⊥
+IsOfOne function.Max = ⊥
+IsOfOne function.Min = ⊥
+IsOfOne f = Unit {0}
+
+pub applied_tests : (f : Function) → IsOfOne f → TestsOne (op.applied f)
+applied_tests function.Abs one t k = integer_basic t k
+applied_tests function.Odd one t k = integer_basic t k
+applied_tests function.Cap one t k = basic_same char t refl k
+applied_tests function.Ord one t k = basic_same char t refl k
+applied_tests function.Chr one t k = integer_basic t k
+applied_tests function.Long one t k = integer_basic t (both_true (is_integer t) _ k).0
+applied_tests function.Short one t k = integer_basic t (both_true (is_integer t) _ k).0
+applied_tests function.Ash one t k = absurd one
+applied_tests function.Max one t k = absurd one
+applied_tests function.Min one t k = absurd one
+
+numbers_basic : (t u : TypeId) → op.are_numbers (Some t) (Some u) ≡ true → AreBasic t u
+numbers_basic t u k = let i = both_true (is_integer t) (is_integer u) k in (integer_basic t i.0, integer_basic u i.1)
+
+same_basic : (s : TypeId) → is_basic s ≡ true → (t u : TypeId) → (is s t && is s u) ≡ true → AreBasic t u
+same_basic s b t u k = let i = both_true (is s t) (is s u) k in (basic_same s t b i.0, basic_same s u b i.1)
+
+either_basic : (a b : Bool) (t u : TypeId) → (a ≡ true → AreBasic t u) → (b ≡ true → AreBasic t u) → (a || b) ≡ true → AreBasic t u
+either_basic a b t u f g k = by (either_true a b k)
+  where
+    by : (a ≡ true) ⊎ (b ≡ true) → AreBasic t u
+    by (inl e) = f e
+    by (inr e) = g e
+
+sums_basic : (t u : TypeId) → (op.are_numbers (Some t) (Some u) || op.are_sets (Some t) (Some u)) ≡ true → AreBasic t u
+sums_basic t u k = either_basic (op.are_numbers (Some t) (Some u)) (op.are_sets (Some t) (Some u)) t u (numbers_basic t u) (same_basic set refl t u) k
+
+ordered_basic : (t u : TypeId) → (op.are_numbers (Some t) (Some u) || op.are_chars (Some t) (Some u)) ≡ true → AreBasic t u
+ordered_basic t u k = either_basic (op.are_numbers (Some t) (Some u)) (op.are_chars (Some t) (Some u)) t u (numbers_basic t u) (same_basic char refl t u) k
+
+compared_basic : (t u : TypeId) → ((op.are_numbers (Some t) (Some u) || op.are_chars (Some t) (Some u)) || (op.are_booleans (Some t) (Some u) || op.are_sets (Some t) (Some u))) ≡ true → AreBasic t u
+compared_basic t u k =
+    either_basic (op.are_numbers (Some t) (Some u) || op.are_chars (Some t) (Some u)) (op.are_booleans (Some t) (Some u) || op.are_sets (Some t) (Some u)) t u (ordered_basic t u)
+    (λ l. either_basic (op.are_booleans (Some t) (Some u)) (op.are_sets (Some t) (Some u)) t u (same_basic boolean refl t u) (same_basic set refl t u) l) k
+
+pub added_tests : (o : AddOp) → TestsTwo (op.added o)
+added_tests add.Plus t u k = sums_basic t u k
+added_tests add.Minus t u k = sums_basic t u k
+added_tests add.Or t u k = same_basic boolean refl t u k
+
+pub multiplied_tests : (o : MulOp) → TestsTwo (op.multiplied o)
+multiplied_tests mul.Times t u k = sums_basic t u k
+multiplied_tests mul.Divide t u k = same_basic set refl t u k
+multiplied_tests mul.Div t u k = numbers_basic t u k
+multiplied_tests mul.Mod t u k = numbers_basic t u k
+multiplied_tests mul.And t u k = same_basic boolean refl t u k
+
+pub related_tests : (o : RelationOp) → is_test o ≡ false → TestsTwo (op.related o)
+related_tests relation.Equal n t u k = compared_basic t u k
+related_tests relation.NotEqual n t u k = compared_basic t u k
+related_tests relation.Less n t u k = ordered_basic t u k
+related_tests relation.LessEqual n t u k = ordered_basic t u k
+related_tests relation.Greater n t u k = ordered_basic t u k
+related_tests relation.GreaterEqual n t u k = ordered_basic t u k
+related_tests relation.In n t u k = let i = both_true (is_integer t) (is set u) k in (integer_basic t i.0, basic_same set u refl i.1)
+related_tests relation.Is n t u k = absurd (cc)
+
+pub shifted_tests : TestsTwo op.shifted
+shifted_tests t u k = numbers_basic t u k
+
 module _ (p : Program) where
+  -- a value of a basic type, or a whole variable that is read
+  abbrev pub IsScalar : TypeId → Expr → Type 0
+  IsScalar t x = (is_basic t ≡ true) × IsOf p x (type_as t)
+
+  abbrev pub IsWholeRead : TypeId → Expr → Type 0
+  IsWholeRead t x = (is_basic t ≡ false) × (place : Place) × (x ≡ Read (type_as t) place) × IsPlaceOf p place (type_as t)
+
   -- an expression whose type is known, and which is of it
   pub record IsSound (a : Answer) : Type 0 where
     pub of : TypeId
     pub known : a.known.of ≡ Some of
+    pub typed : IsScalar of a.typed ⊎ IsWholeRead of a.typed
+
+  -- one of a basic type
+  pub record IsPlain (a : Answer) : Type 0 where
+    pub of : TypeId
+    pub known : a.known.of ≡ Some of
     pub basic : is_basic of ≡ true
     pub typed : IsOf p a.typed (type_as of)
+
+  pub plain_sound : (a : Answer) → IsPlain a → IsSound a
+  plain_sound a x = record { of = x.of; known = x.known; typed = inl (x.basic, x.typed) }
+
+  -- whose type is a basic one is a value of it
+  scalar_of : (t : TypeId) (x : Expr) → IsScalar t x ⊎ IsWholeRead t x → is_basic t ≡ true → IsOf p x (type_as t)
+  scalar_of t x (inl s) b = s.1
+  scalar_of t x (inr w) b = absurd (not_both (sym b ∙ w.0))
 
   -- Operands, by the types that they are tested to have.
 
@@ -298,51 +418,74 @@ module _ (p : Program) where
 
   -- Parts.
 
-  answered_sound : (c : Class) (t : TypeId) (x : Expr) → IsKnownClass IsGood c → is_basic t ≡ true → IsOf p x (type_as t) → IsSound (answered c (Some t) x)
-  answered_sound (Constant (Some v)) t x g b h = record { of = type_of_literal v; known = refl; basic = type_basic v; typed = g }
-  answered_sound (Constant None) t x g b h = record { of = t; known = refl; basic = b; typed = h }
-  answered_sound Unknown t x g b h = absurd g
-  answered_sound Variable t x g b h = record { of = t; known = refl; basic = b; typed = h }
-  answered_sound ReadOnly t x g b h = record { of = t; known = refl; basic = b; typed = h }
-  answered_sound Computed t x g b h = record { of = t; known = refl; basic = b; typed = h }
+  answered_plain : (c : Class) (t : TypeId) (x : Expr) → IsKnownClass IsGood c → is_basic t ≡ true → IsOf p x (type_as t) → IsPlain (answered c (Some t) x)
+  answered_plain (Constant (Some v)) t x g b h = record { of = type_of_literal v; known = refl; basic = type_basic v; typed = g }
+  answered_plain (Constant None) t x g b h = record { of = t; known = refl; basic = b; typed = h }
+  answered_plain Unknown t x g b h = absurd g
+  answered_plain Variable t x g b h = record { of = t; known = refl; basic = b; typed = h }
+  answered_plain ReadOnly t x g b h = record { of = t; known = refl; basic = b; typed = h }
+  answered_plain Computed t x g b h = record { of = t; known = refl; basic = b; typed = h }
 
   -- a value that is tested to be of a type
   pub sound_number : (a : Answer) → IsSound a → is_number a.known.of ≡ true → IsOf p a.typed (type.Integer W64)
-  sound_number a x k = as_number x.of a.typed x.typed (sym (ap is_number x.known) ∙ k)
+  sound_number a x k =
+      let i : is_integer x.of ≡ true = sym (ap is_number x.known) ∙ k in
+      as_number x.of a.typed (scalar_of x.of a.typed x.typed (integer_basic x.of i)) i
 
   pub sound_char : (a : Answer) → IsSound a → is_char a.known.of ≡ true → IsOf p a.typed type.Char
-  sound_char a x k = as_char x.of a.typed x.typed (sym (ap is_char x.known) ∙ k)
+  sound_char a x k =
+      let i : is_char (Some x.of) ≡ true = sym (ap is_char x.known) ∙ k in
+      as_char x.of a.typed (scalar_of x.of a.typed x.typed (basic_same char x.of refl i)) i
 
   pub sound_boolean : (a : Answer) → IsSound a → is_boolean a.known.of ≡ true → IsOf p a.typed type.Boolean
-  sound_boolean a x k = as_boolean x.of a.typed x.typed (sym (ap is_boolean x.known) ∙ k)
+  sound_boolean a x k =
+      let i : is_boolean (Some x.of) ≡ true = sym (ap is_boolean x.known) ∙ k in
+      as_boolean x.of a.typed (scalar_of x.of a.typed x.typed (basic_same boolean x.of refl i)) i
 
-  -- a value of a type that another fits
-  pub fits_sound : (a : Answer) (x : IsSound a) (to : TypeId) → fits (Some x.of) (Some to) ≡ true → IsOf p a.typed (type_as to)
-  fits_sound a x to h = wider p a.typed (type_as x.of) (type_as to) x.typed (fits_includes x.of to h)
+  -- a value of a type that another fits: of a basic type, or a whole variable that is read
+  pub fits_sound : (a : Answer) (x : IsSound a) (to : TypeId) → is_basic to ≡ true → fits (Some x.of) (Some to) ≡ true → IsOf p a.typed (type_as to)
+  fits_sound a x to b h =
+      wider p a.typed (type_as x.of) (type_as to) (scalar_of x.of a.typed x.typed (fits_basic x.of to h b)) (fits_includes x.of to h)
 
-  kept_sound : (kept : Bool) (c : Class) (of : Option TypeId) (t : TypeId) (x : Expr) → kept ≡ true → IsKnownClass IsGood c → of ≡ Some t → is_basic t ≡ true → IsOf p x (type_as t) →
-      IsSound (answered (op.kept_class kept c) (op.kept_type kept of) x)
-  kept_sound true c of t x k g is b h = subst (λ o. IsSound (answered c o x)) (sym is) (answered_sound c t x g b h)
-  kept_sound false c of t x k g is b h = absurd (cc)
+  pub fits_scalar : (a : Answer) → IsSound a → (to : TypeId) → is_basic to ≡ true → fits a.known.of (Some to) ≡ true → IsOf p a.typed (type_as to)
+  fits_scalar a x to b h = fits_sound a x to b (sym (ap (λ of. fits of (Some to)) x.known) ∙ h)
 
-  pub stepped_sound : (f : Option TypeId → Step) → IsStep f → (a : Answer) → IsSound a → IsKnownClass IsGood a.known.class → (f a.known.of).is_kept ≡ true → IsSound (op.stepped (f a.known.of) a)
-  stepped_sound f right a x g k = subst (λ of. (f of).is_kept ≡ true → IsSound (op.stepped (f of) a)) (sym x.known) at k
+  abbrev pub IsReadOf : TypeId → Expr → Type 0
+  IsReadOf t x = (place : Place) × (x ≡ Read (type_as t) place) × IsPlaceOf p place (type_as t)
+
+  pub fits_whole : (a : Answer) → IsSound a → (to : TypeId) → is_basic to ≡ false → fits a.known.of (Some to) ≡ true → IsReadOf to a.typed
+  fits_whole a x to b h = by (fits_same x.of to (sym (ap (λ of. fits of (Some to)) x.known) ∙ h) b) x.typed
     where
-      at : (f (Some x.of)).is_kept ≡ true → IsSound (op.stepped (f (Some x.of)) a)
+      by : x.of ≡ to → IsScalar x.of a.typed ⊎ IsWholeRead x.of a.typed → IsReadOf to a.typed
+      by e (inl s) = absurd (not_both (sym (subst (λ t. is_basic t ≡ true) e s.0) ∙ b))
+      by e (inr w) = subst (λ t. IsReadOf t a.typed) e (w.1, w.2, w.3)
+
+  kept_plain : (kept : Bool) (c : Class) (of : Option TypeId) (t : TypeId) (x : Expr) → kept ≡ true → IsKnownClass IsGood c → of ≡ Some t → is_basic t ≡ true → IsOf p x (type_as t) →
+      IsPlain (answered (op.kept_class kept c) (op.kept_type kept of) x)
+  kept_plain true c of t x k g is b h = subst (λ o. IsPlain (answered c o x)) (sym is) (answered_plain c t x g b h)
+  kept_plain false c of t x k g is b h = absurd (cc)
+
+  pub stepped_plain : (f : Option TypeId → Step) → IsStep f → TestsOne f → (a : Answer) → IsSound a → IsKnownClass IsGood a.known.class → (f a.known.of).is_kept ≡ true →
+      IsPlain (op.stepped (f a.known.of) a)
+  stepped_plain f right tests a x g k = subst (λ of. (f of).is_kept ≡ true → IsPlain (op.stepped (f of) a)) (sym x.known) at k
+    where
+      at : (f (Some x.of)).is_kept ≡ true → IsPlain (op.stepped (f (Some x.of)) a)
       at k =
           let s = f (Some x.of) in
-          let r = right x.of a.typed x.basic x.typed k in
-          kept_sound s.is_kept (op.class_of_one s.single a.known.class) s.of r.0 (op.single_typed s.single a.typed) k (class_of_one_known IsGood s.single (single_good s.single) a.known.class g) r.1 r.2 r.3
+          let b = tests x.of k in
+          let r = right x.of a.typed b (scalar_of x.of a.typed x.typed b) k in
+          kept_plain s.is_kept (op.class_of_one s.single a.known.class) s.of r.0 (op.single_typed s.single a.typed) k (class_of_one_known IsGood s.single (single_good s.single) a.known.class g) r.1 r.2 r.3
 
-  pub joined_sound : (f : Option TypeId → Option TypeId → Operation) → IsOperation f → (a b : Answer) → IsSound a → IsSound b → IsKnownClass IsGood a.known.class → IsKnownClass IsGood b.known.class →
-      (f a.known.of b.known.of).is_kept ≡ true → IsSound (op.joined (f a.known.of b.known.of) a b)
-  joined_sound f right a b x y g h k =
-      subst (λ of. (f of b.known.of).is_kept ≡ true → IsSound (op.joined (f of b.known.of) a b)) (sym x.known)
-      (subst (λ of. (f (Some x.of) of).is_kept ≡ true → IsSound (op.joined (f (Some x.of) of) a b)) (sym y.known) at) k
+  pub joined_plain : (f : Option TypeId → Option TypeId → Operation) → IsOperation f → TestsTwo f → (a b : Answer) → IsSound a → IsSound b → IsKnownClass IsGood a.known.class →
+      IsKnownClass IsGood b.known.class → (f a.known.of b.known.of).is_kept ≡ true → IsPlain (op.joined (f a.known.of b.known.of) a b)
+  joined_plain f right tests a b x y g h k =
+      subst (λ of. (f of b.known.of).is_kept ≡ true → IsPlain (op.joined (f of b.known.of) a b)) (sym x.known)
+      (subst (λ of. (f (Some x.of) of).is_kept ≡ true → IsPlain (op.joined (f (Some x.of) of) a b)) (sym y.known) at) k
     where
-      at : (f (Some x.of) (Some y.of)).is_kept ≡ true → IsSound (op.joined (f (Some x.of) (Some y.of)) a b)
+      at : (f (Some x.of) (Some y.of)).is_kept ≡ true → IsPlain (op.joined (f (Some x.of) (Some y.of)) a b)
       at k =
           let o = f (Some x.of) (Some y.of) in
-          let r = right x.of y.of a.typed b.typed x.basic y.basic x.typed y.typed k in
-          kept_sound o.is_kept (op.class_of o.joint a.known.class b.known.class) o.of r.0 (op.joint_typed o.joint a.typed b.typed) k
+          let t = tests x.of y.of k in
+          let r = right x.of y.of a.typed b.typed t.0 t.1 (scalar_of x.of a.typed x.typed t.0) (scalar_of y.of b.typed y.typed t.1) k in
+          kept_plain o.is_kept (op.class_of o.joint a.known.class b.known.class) o.of r.0 (op.joint_typed o.joint a.typed b.typed) k
           (class_of_known IsGood o.joint (joint_good o.joint) a.known.class b.known.class g h) r.1 r.2 r.3

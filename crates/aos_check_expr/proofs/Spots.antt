@@ -1,21 +1,27 @@
 -- Designators that break no rule: variables of their types, and sound values.
-use Rattle.std.proofs.Common.{◌≡◌, ℕ, ◌+◌, ◌==◌, List, [], ◌∷◌, length, Bool, true, false, ◌&&◌, not, Option, Some, None, slice_get, option_and_then, if◌then◌else◌, refl, sym, subst, eqb-true}
+use Rattle.std.proofs.Common.{◌≡◌, ℕ, ◌+◌, ◌==◌, List, [], ◌∷◌, length, Bool, true, false, ◌&&◌, ◌||◌, ◌⊎◌, inl, inr, not, Option, Some, None, is_some, slice_get, option_and_then, if◌then◌else◌, refl, sym, ap, ◌∙◌, subst, eqb-true}
 use Rattle.std.proofs.lemmas.Option.{none-some, same_Some, option_and_then_some}
 use Rattle.aos_base.specs.declared.text.Pos.{Pos}
 use Rattle.aos_tree.specs.declared.name.Name.{Name}
 use Rattle.aos_tree.specs.declared.decl.Export.{Export}
 use Rattle.aos_tree.specs.declared.decl.Export.TheVariants.{ReadWrite, ReadOnly as OnlyRead}
 use Rattle.aos_types.specs.declared.row.TypeId.{TypeId}
+use Rattle.aos_types.specs.declared.row.TypeRow.{TypeRow}
+use Rattle.aos_types.specs.declared.row.TypeRow.TheVariants as row
+use Rattle.aos_types.specs.Table.{row_of}
 use Rattle.aos_typed.specs.declared.tree.Literal.{Literal}
 use Rattle.aos_typed.specs.declared.tree.Literal.TheVariants as literal
-use Rattle.aos_typed.specs.Program.{Place, ModuleVar, Read, Program}
-use Rattle.aos_typed.specs.WellTyped.{place_type, IsOf}
+use Rattle.aos_typed.specs.Numbers.{id_of}
+use Rattle.aos_typed.specs.Program.{Place, ModuleVar, Index, Expr, Read, Program}
+use Rattle.aos_typed.specs.Program.{Field as FieldOf}
+use Rattle.aos_typed.specs.WellTyped.{field_type, IsPlaceOf}
 use Rattle.aos_symbols.specs.declared.scope.Entry.{Entry}
 use Rattle.aos_symbols.specs.declared.scope.Constant.{Constant as Declared}
 use Rattle.aos_symbols.specs.declared.scope.Meaning.{Meaning}
 use Rattle.aos_symbols.specs.declared.scope.Meaning.TheVariants as means
 use Rattle.aos_symbols.specs.declared.env.Open.{Open}
 use Rattle.aos_symbols.specs.declared.env.Symbol.{Symbol}
+use Rattle.aos_symbols.specs.declared.env.Field.{Field}
 use Rattle.aos_symbols.specs.declared.env.Lookup.{Lookup}
 use Rattle.aos_symbols.specs.declared.env.Lookup.TheVariants.{Unknown as NoName, NotExported, Found}
 use Rattle.aos_symbols.specs.declared.env.Env.{Env}
@@ -24,24 +30,23 @@ use Rattle.aos_symbols.specs.Spelling.{word, is_among, procedures_of_out}
 use Rattle.aos_symbols.specs.Scope.{Scope, find}
 use Rattle.aos_symbols.specs.Env as env
 use Rattle.aos_symbols.proofs.Each.{Each, each_at}
-use Rattle.aos_symbols.proofs.Holds.{Holds, holds_bind, broken, test_is}
+use Rattle.aos_symbols.proofs.Holds.{Holds, holds_bind, broken}
 use Rattle.aos_symbols.proofs.Lookups.{IsPredeclared, another, IsOfAll, lookup_is, member_is}
-use Rattle.aos_symbols.proofs.Told.{IsKnown}
+use Rattle.aos_symbols.proofs.Told.{IsTold, IsKnown, PartsAreTold}
 use Rattle.aos_check_expr.specs.declared.known.Class.{Class}
 use Rattle.aos_check_expr.specs.declared.known.Class.TheVariants.{Unknown, Constant, Variable, ReadOnly, Computed}
 use Rattle.aos_check_expr.specs.declared.known.Known.{Known}
 use Rattle.aos_check_expr.specs.declared.designators.Head.{Head}
-use Rattle.aos_check_expr.specs.Known.{Answer, Spot, Held, Stands, Value, passes, is_basic, is_lost, type_as, type_of, read_from, known_as, spot_of, answered, constant_answer, nothing}
-use Rattle.aos_check_expr.specs.Expressions as judge
+use Rattle.aos_check_expr.specs.Known.{Answer, Spot, Held, Stands, Value, is_basic, is_number, is_lost, type_as, type_of, read_from, known_as, spot_of, answered, constant_answer, nothing}
 use Rattle.aos_check_expr.specs.Designators as desig
-use Rattle.aos_check_expr.proofs.Types.{includes_itself, as_basic}
+use Rattle.aos_check_expr.proofs.Types.{includes_itself, as_basic, id_as}
 use Rattle.aos_check_expr.proofs.Good.{IsGood, HasGood, IsKnownClass}
-use Rattle.aos_check_expr.proofs.Sound.{IsSound}
-use Rattle.aos_check_expr.proofs.Parts.{IsPart, constant_part}
+use Rattle.aos_check_expr.proofs.Sound.{IsScalar, IsWholeRead, IsSound, IsPlain, plain_sound, sound_number}
+use Rattle.aos_check_expr.proofs.Parts.{IsPart, IsValue, constant_part}
 
 -- a variable has the type that is known of it
 pub record IsTyped (p : Program) (e : Env) (place : Place) (of : Option TypeId) : Type 0 where
-  pub typed : place_type p place ≡ Some (type_of of)
+  pub typed : IsPlaceOf p place (type_of of)
   pub known : IsKnown e.types of
 
 -- in each scope that the environment has, each constant has a value that is good
@@ -54,21 +59,35 @@ pub record IsWhole (p : Program) (e : Env) : Type 0 where
   pub variables : (o : Open) (s : Scope) (w : List ℕ) (x : Entry) (k : ℕ) → o.scope ≡ 0 → env.scope e o ≡ Some s → find s w ≡ Some x →
       x.means ≡ means.Variable k → IsTyped p e (ModuleVar o.home k) (env.variable_type e o k)
   pub constants : GoodConstants e
+  pub parts : PartsAreTold e.types
+  pub fields : (t : TypeId) (n : Name) (f : Field) (ts : List TypeId) → env.field e t n ≡ Some f → env.row_of e (Some t) ≡ Some (row.Record None ts) →
+      (u : TypeId) × (f.of ≡ Some u) × (slice_get ts f.number ≡ Some u)
   pub rows : p.types ≡ e.types
   pub objects : length e.types ≡ 9 + length p.objects
 
 -- a designator is a variable of its type, or a sound value
 abbrev IsSoundHeld : Program → Env → Known → Held → Type 0
 IsSoundHeld p e k (Stands place) = IsTyped p e place k.of
-IsSoundHeld p e k (Value x) = IsSound p (record { known = k; typed = x })
+IsSoundHeld p e k (Value x) = IsPlain p (record { known = k; typed = x })
 
 abbrev pub IsSoundSpot : Program → Env → Spot → Type 0
 IsSoundSpot p e a = IsSoundHeld p e a.known a.held
+
+-- a variable may be written, or read alone
+abbrev IsStored : Class → Type 0
+IsStored Variable = Unit {0}
+IsStored ReadOnly = Unit {0}
+IsStored c = ⊥
+
+abbrev IsStoredHeld : Held → Class → Type 0
+IsStoredHeld (Stands place) c = IsStored c
+IsStoredHeld (Value x) c = Unit {0}
 
 -- a designator as a part of an expression
 pub record IsSpot (p : Program) (e : Env) (a : Spot) : Type 0 where
   pub class : IsKnownClass IsGood a.known.class
   pub valued : not (is_lost a.known.class) ≡ true
+  pub stored : IsStoredHeld a.held a.known.class
   pub sound : IsWhole p e → IsSoundSpot p e a
 
 -- what is predeclared is no variable
@@ -83,21 +102,59 @@ any_scope : (os : List Open) → Each AnyScope os
 any_scope [] = tt
 any_scope (o ∷ os) = (tt, any_scope os)
 
--- a variable may be written, or read alone
-abbrev IsStored : Class → Type 0
-IsStored Variable = Unit {0}
-IsStored ReadOnly = Unit {0}
-IsStored c = ⊥
-
 access_stored : (here : Bool) (mark : Option Export) → IsStored (desig.access here mark)
 access_stored here None = tt
 access_stored here (Some ReadWrite) = tt
 access_stored true (Some OnlyRead) = tt
 access_stored false (Some OnlyRead) = tt
 
+-- The classes of parts.
+
+class_as : (P : Class → Type 0) (c : Class) (of : Option TypeId) → P c → P (known_as c of).class
+class_as P (Constant (Some v)) of h = h
+class_as P (Constant None) of h = h
+class_as P Unknown of h = h
+class_as P Variable of h = h
+class_as P ReadOnly of h = h
+class_as P Computed of h = h
+
+part_known : (may : Bool) (c : Class) → IsKnownClass IsGood c → IsKnownClass IsGood (desig.part_class may c)
+part_known true Variable h = tt
+part_known false Variable h = tt
+part_known may (Constant v) h = h
+part_known may Unknown h = h
+part_known may ReadOnly h = h
+part_known may Computed h = h
+
+part_valued : (may : Bool) (c : Class) → not (is_lost c) ≡ true → not (is_lost (desig.part_class may c)) ≡ true
+part_valued true Variable h = refl
+part_valued false Variable h = refl
+part_valued may (Constant v) h = h
+part_valued may Unknown h = h
+part_valued may ReadOnly h = h
+part_valued may Computed h = h
+
+part_stored : (may : Bool) (c : Class) (part : Place → Place) (h : Held) → IsStoredHeld h c → IsStoredHeld (desig.part_held part h) (desig.part_class may c)
+part_stored may c part (Stands place) s = by may c s
+  where
+    by : (may : Bool) (c : Class) → IsStored c → IsStored (desig.part_class may c)
+    by true Variable s = tt
+    by false Variable s = tt
+    by may ReadOnly s = tt
+    by may (Constant v) s = absurd s
+    by may Unknown s = absurd s
+    by may Computed s = absurd s
+part_stored may c part (Value x) s = tt
+
+not_both : true ≡ false → ⊥
+not_both e = cc
+
 module _ (p : Program) (e : Env) where
   abbrev pub Part : Answer → Type 0
   Part = IsPart p (IsWhole p e)
+
+  abbrev pub Valued : Answer → Type 0
+  Valued = IsValue p (IsWhole p e)
 
   -- What is found of a name.
 
@@ -134,41 +191,34 @@ module _ (p : Program) (e : Env) where
   of_meaning means.Out n = of_out n
   of_meaning m n = none_found
 
-  pub member_head : (m n : Name) → MayFind (desig.member e m n).found
-  member_head m n = by (env.lookup e m)
-    where
-      by : (l : Lookup) → MayFind (desig.member_in e l n)
-      by NoName = none_found
-      by NotExported = λ whole x is. absurd (cc)
-      by (Found x) = of_meaning x.means n
+  pub behind_head : (l : Lookup) (n : Name) → MayFind (desig.member_in e l n)
+  behind_head NoName n = none_found
+  behind_head NotExported n = λ whole x is. absurd (cc)
+  behind_head (Found x) n = of_meaning x.means n
 
   -- Values.
 
-  pub refused_part : (rule : ℕ) (at : Pos) → Holds Part (desig.refused rule at)
-  refused_part rule at = broken Part _ [] _
+  pub refused_part : (rule : ℕ) (at : Pos) → Holds Valued (desig.refused rule at)
+  refused_part rule at = broken Valued _ [] _
 
-  refused_value_part : (rule : ℕ) (at : Pos) → Holds Part (desig.refused_value rule at)
-  refused_value_part rule at = broken Part _ [] _
+  refused_value_part : (rule : ℕ) (at : Pos) → Holds Valued (desig.refused_value rule at)
+  refused_value_part rule at = broken Valued _ [] _
 
-  pub selected_part : (of : Option TypeId) (at : Pos) → Holds Part (desig.selected of at)
-  selected_part None at = refused_part 99 at
-  selected_part (Some t) at = refused_part (if is_basic t then 42 else 99) at
-
-  pub guarded_part : (of : Option TypeId) (is_guard : Bool) (at first : Pos) → Holds Part (desig.guarded of is_guard at first)
+  pub guarded_part : (of : Option TypeId) (is_guard : Bool) (at first : Pos) → Holds Valued (desig.guarded e of is_guard at first)
   guarded_part None is_guard at first = refused_part 99 at
-  guarded_part (Some t) true at first = refused_part (if is_basic t then 41 else 99) at
+  guarded_part (Some t) true at first = refused_part (if desig.is_built e t then 41 else 99) at
   guarded_part (Some t) false at first = refused_part 36 first
 
-  value_part : (later : Bool) (v : Option Literal) → HasGood v → (at : Pos) → Holds Part (desig.constant_of (if later then None else Some v) at)
-  value_part true v h at = broken Part _ [] _
+  value_part : (later : Bool) (v : Option Literal) → HasGood v → (at : Pos) → Holds Valued (desig.constant_of (if later then None else Some v) at)
+  value_part true v h at = broken Valued _ [] _
   value_part false None h at = absurd (none-some h.0 h.1)
   value_part false (Some v) h at = λ none. constant_part p (IsWhole p e) v (subst IsGood (sym (same_Some v h.0 h.1)) h.2)
 
-  constant_there : GoodConstants e → (o : Open) (k : ℕ) (here at : Pos) → Holds Part (desig.constant_of (env.constant e o k here) at)
+  constant_there : GoodConstants e → (o : Open) (k : ℕ) (here at : Pos) → Holds Valued (desig.constant_of (env.constant e o k here) at)
   constant_there good o k here at = by (option_and_then (λ s. slice_get s.constants k) (env.scope e o)) refl
     where
-      by : (c : Option Declared) → option_and_then (λ s. slice_get s.constants k) (env.scope e o) ≡ c → Holds Part (desig.constant_of (env.constant e o k here) at)
-      by None q = rw q (broken Part (record { rule = 20; pos = at }) [] (answered (Constant None) None nothing))
+      by : (c : Option Declared) → option_and_then (λ s. slice_get s.constants k) (env.scope e o) ≡ c → Holds Valued (desig.constant_of (env.constant e o k here) at)
+      by None q = rw q (broken Valued (record { rule = 20; pos = at }) [] (answered (Constant None) None nothing))
       by (Some c) q =
           rw q (value_part ((o.home == e.number) && env.precedes here c.at) c.value
           (option_and_then_some (λ s. slice_get s.constants k) (env.scope e o) c q (λ s there is. each_at (λ (c : Declared). HasGood c.value) s.constants k c (good o s there) is)) at)
@@ -178,12 +228,12 @@ module _ (p : Program) (e : Env) where
   abbrev pub Spotted : Spot → Type 0
   Spotted = IsSpot p e
 
-  pub spotted : (at : Pos) (j : Judged Answer) → Holds Part j → Holds Spotted (desig.spotted at j)
-  spotted at j h = holds_bind Part Spotted j (λ a. kept (spot_of at a)) h (λ a x e. record { class = x.class; valued = x.valued; sound = x.sound })
+  pub spotted : (at : Pos) (j : Judged Answer) → Holds Valued j → Holds Spotted (desig.spotted at j)
+  spotted at j h = holds_bind Valued Spotted j (λ a. kept (spot_of at a)) h (λ a x e. record { class = x.class; valued = x.valued; stored = tt; sound = x.plain })
 
   stored : (c : Class) (of : Option TypeId) (place : Place) (at : Pos) → IsStored c → (IsWhole p e → IsTyped p e place of) → Spotted (record { known = known_as c of; held = Stands place; at = at })
-  stored Variable of place at s h = record { class = tt; valued = refl; sound = h }
-  stored ReadOnly of place at s h = record { class = tt; valued = refl; sound = h }
+  stored Variable of place at s h = record { class = tt; valued = refl; stored = tt; sound = h }
+  stored ReadOnly of place at s h = record { class = tt; valued = refl; stored = tt; sound = h }
   stored (Constant v) of place at s h = absurd s
   stored Unknown of place at s h = absurd s
   stored Computed of place at s h = absurd s
@@ -213,22 +263,164 @@ module _ (p : Program) (e : Env) where
   pub named_spot : GoodConstants e → (h : Head) → MayFind h.found → Holds Spotted (desig.named e h)
   named_spot good h may = found_spot good h.found may h
 
-  -- a selector that nothing has
-  pub behind_spot : (j : Judged Spot) (at : Pos) → Holds Spotted (judge.behind j at)
-  behind_spot j at =
-      holds_bind (λ (a : Spot). Unit {0}) Spotted j (λ a. desig.spotted a.at (desig.selected a.known.of at)) (λ none. tt)
-      (λ a any. spotted a.at (desig.selected a.known.of at) (selected_part a.known.of at))
+  -- Parts of variables.
+
+  -- a part whose type isn't known is none where all types are
+  no_type : (k : Known) (h : Held) → k.of ≡ None → IsSoundHeld p e k h → ⊥
+  no_type k (Stands place) is s = subst (λ o. IsKnown e.types o) is s.known
+  no_type k (Value x) is s = none-some s.of (sym is ∙ s.known)
+
+  unknown_fine : (a : Spot) → Spotted a → a.known.of ≡ None → (at : Pos) → Spotted (desig.unknown_part at a)
+  unknown_fine a x is at = record {
+    class = class_as (IsKnownClass IsGood) a.known.class None x.class;
+    valued = class_as (λ c. not (is_lost c) ≡ true) a.known.class None x.valued;
+    stored = class_as (IsStoredHeld a.held) a.known.class None x.stored;
+    sound = λ whole. absurd (no_type a.known a.held is (x.sound whole));
+  }
+
+  -- what is told of the places of a part, and that a value has none
+  abbrev IsPartOf : Option TypeId → Option TypeId → (Place → Place) → Type 0
+  IsPartOf whole of part = (place : Place) → IsTyped p e place whole → IsTyped p e (part place) of
+
+  class_typed : (may : Bool) (c : Class) (of : Option TypeId) (place : Place) → IsStored c → IsTyped p e place of → IsTyped p e place (known_as (desig.part_class may c) of).of
+  class_typed true Variable of place s h = h
+  class_typed false Variable of place s h = h
+  class_typed may ReadOnly of place s h = h
+  class_typed may (Constant v) of place s h = absurd s
+  class_typed may Unknown of place s h = absurd s
+  class_typed may Computed of place s h = absurd s
+
+  held_part : (k : Known) (h : Held) (may : Bool) (of : Option TypeId) (part : Place → Place) (t : TypeId) → k.of ≡ Some t → is_basic t ≡ false → IsPartOf k.of of part →
+      IsStoredHeld h k.class → IsSoundHeld p e k h → IsSoundHeld p e (known_as (desig.part_class may k.class) of) (desig.part_held part h)
+  held_part k (Stands place) may of part t is other typed stored s = class_typed may k.class of (part place) stored (typed place s)
+  held_part k (Value x) may of part t is other typed stored s =
+      absurd (not_both (sym (subst (λ u. is_basic u ≡ true) (sym (same_Some t s.of (sym is ∙ s.known))) s.basic) ∙ other))
+
+  part_fine : (may : Bool) (of : Option TypeId) (part : Place → Place) (at : Pos) (a : Spot) → Spotted a → (t : TypeId) → a.known.of ≡ Some t → is_basic t ≡ false →
+      (IsWhole p e → IsPartOf a.known.of of part) → Spotted (desig.part_spot may of part at a)
+  part_fine may of part at a x t is other typed = record {
+    class = class_as (IsKnownClass IsGood) (desig.part_class may a.known.class) of (part_known may a.known.class x.class);
+    valued = class_as (λ c. not (is_lost c) ≡ true) (desig.part_class may a.known.class) of (part_valued may a.known.class x.valued);
+    stored = class_as (IsStoredHeld (desig.part_held part a.held)) (desig.part_class may a.known.class) of (part_stored may a.known.class part a.held x.stored);
+    sound = λ whole. held_part a.known a.held may of part t is other (typed whole) x.stored (x.sound whole);
+  }
+
+  lacking_fine : (t : TypeId) (at : Pos) → Holds Spotted (desig.lacking e t at)
+  lacking_fine t at = spotted at (desig.refused (if desig.is_built e t then 42 else 99) at) (refused_part (if desig.is_built e t then 42 else 99) at)
+
+  -- a field of a record
+  field_typed : IsWhole p e → (t : TypeId) (n : Name) (f : Field) (ts : List TypeId) → env.field e t n ≡ Some f → env.row_of e (Some t) ≡ Some (row.Record None ts) →
+      IsPartOf (Some t) f.of (λ place. FieldOf place (type_as t) f.number)
+  field_typed whole t n f ts is r place h =
+      let g = whole.fields t n f ts is r in
+      let u = g.0 in
+      let told : IsTold e.types u = each_at (IsTold e.types) ts f.number u (whole.parts t.0 (row.Record None ts) r) g.2 in
+      let there : field_type (row_of p.types (id_of (type_as t))) f.number ≡ Some (id_of (type_as u)) =
+      ap (λ i. field_type (row_of p.types i) f.number) (id_as e.types t h.known) ∙ ap (λ rows. field_type (row_of rows t) f.number) whole.rows
+      ∙ ap (λ w. field_type w f.number) r ∙ g.2 ∙ ap (λ i. Some i) (sym (id_as e.types u told)) in
+      subst (λ o. IsTyped p e (FieldOf place (type_as t) f.number) o) (sym g.1) (record { typed = (h.typed, there); known = told })
+
+  field_in : (t : TypeId) (c : Class) (held : Held) (at : Pos) → Spotted (record { known = record { of = Some t; class = c }; held = held; at = at }) → (q : Pos) (n : Name) →
+      Holds Spotted (desig.field e (record { known = record { of = Some t; class = c }; held = held; at = at }) q n)
+  field_in t c held at x q n = by (is_basic t) refl
+    where
+      a : Spot
+      a = record { known = record { of = Some t; class = c }; held = held; at = at }
+
+      seen : (f : Field) (b : Bool) → Spotted (desig.field_spot t f n.pos a) →
+          Holds Spotted (if b then kept (desig.field_spot t f n.pos a) else desig.spotted n.pos (desig.refused 15 n.pos))
+      seen f true s = λ none. s
+      seen f false s = spotted n.pos (desig.refused 15 n.pos) (refused_part 15 n.pos)
+
+      there : is_basic t ≡ false → (ts : List TypeId) → env.row_of e (Some t) ≡ Some (row.Record None ts) → (o : Option Field) → env.field e t n ≡ o →
+          Holds Spotted (desig.field_found e a q n t o)
+      there other ts r None is = lacking_fine t q
+      there other ts r (Some f) is =
+          seen f (f.is_own || is_some f.mark)
+          (part_fine (desig.may_write f) f.of (λ place. FieldOf place (type_as t) f.number) n.pos a x t refl other (λ whole. field_typed whole t n f ts is r))
+
+      in_row : is_basic t ≡ false → (r : Option TypeRow) → env.row_of e (Some t) ≡ r → Holds Spotted (desig.field_in_row e a q n t r)
+      in_row other (Some (row.Record None ts)) r = there other ts r (env.field e t n) refl
+      in_row other w r = lacking_fine t q
+
+      by : (b : Bool) → is_basic t ≡ b → Holds Spotted (if b then desig.lacking e t q else desig.field_in_row e a q n t (env.row_of e (Some t)))
+      by true low = lacking_fine t q
+      by false other = in_row other (env.row_of e (Some t)) refl
+
+  field_of : (of : Option TypeId) (c : Class) (held : Held) (at : Pos) → Spotted (record { known = record { of = of; class = c }; held = held; at = at }) → (q : Pos) (n : Name) →
+      Holds Spotted (desig.field e (record { known = record { of = of; class = c }; held = held; at = at }) q n)
+  field_of None c held at x q n = λ none. unknown_fine (record { known = record { of = None; class = c }; held = held; at = at }) x refl n.pos
+  field_of (Some t) c held at x q n = field_in t c held at x q n
+
+  pub field_part : (a : Spot) → Spotted a → (q : Pos) (n : Name) → Holds Spotted (desig.field e a q n)
+  field_part a x q n = field_of a.known.of a.known.class a.held a.at x q n
+
+  -- an element of an array
+  element_typed : IsWhole p e → (t u : TypeId) (m : ℕ) (i : Answer) → env.row_of e (Some t) ≡ Some (row.Array m u) → IsSound p i → is_number i.known.of ≡ true →
+      IsPartOf (Some t) (Some u) (λ place. Index place m (type_as u) i.typed)
+  element_typed whole t u m i r s k place h =
+      let told : IsTold e.types u = whole.parts t.0 (row.Array m u) r in
+      let there : row_of p.types (id_of (type_as t)) ≡ Some (row.Array m (id_of (type_as u))) =
+      ap (λ i. row_of p.types i) (id_as e.types t h.known) ∙ ap (λ rows. row_of rows t) whole.rows
+      ∙ r ∙ ap (λ v. Some (row.Array m v)) (sym (id_as e.types u told)) in
+      record { typed = (type_as t, h.typed, there, sound_number p i s k, refl); known = told }
+
+  element_in : (t : TypeId) (c : Class) (held : Held) (at : Pos) → Spotted (record { known = record { of = Some t; class = c }; held = held; at = at }) → (q : Pos) (i : Answer) → Part i →
+      Holds Spotted (desig.element e q (record { known = record { of = Some t; class = c }; held = held; at = at }) i)
+  element_in t c held at x q i y = by (is_basic t) refl
+    where
+      a : Spot
+      a = record { known = record { of = Some t; class = c }; held = held; at = at }
+
+      tested : is_basic t ≡ false → (m : ℕ) (u : TypeId) → env.row_of e (Some t) ≡ Some (row.Array m u) → (b : Bool) → is_number i.known.of ≡ b →
+          Holds Spotted (if b then kept (desig.element_spot m u i a) else desig.spotted q (desig.refused 42 q))
+      tested other m u r true k =
+          λ none. part_fine true (Some u) (λ place. Index place m (type_as u) i.typed) at a x t refl other (λ whole. element_typed whole t u m i r (y.sound whole) k)
+      tested other m u r false k = spotted q (desig.refused 42 q) (refused_part 42 q)
+
+      in_row : is_basic t ≡ false → (r : Option TypeRow) → env.row_of e (Some t) ≡ r → Holds Spotted (desig.element_in_row e q a i t r)
+      in_row other (Some (row.Array m u)) r = tested other m u r (is_number i.known.of) refl
+      in_row other w r = lacking_fine t q
+
+      by : (b : Bool) → is_basic t ≡ b → Holds Spotted (if b then desig.lacking e t q else desig.element_in_row e q a i t (env.row_of e (Some t)))
+      by true low = lacking_fine t q
+      by false other = in_row other (env.row_of e (Some t)) refl
+
+  element_of : (of : Option TypeId) (c : Class) (held : Held) (at : Pos) → Spotted (record { known = record { of = of; class = c }; held = held; at = at }) → (q : Pos) (i : Answer) → Part i →
+      Holds Spotted (desig.element e q (record { known = record { of = of; class = c }; held = held; at = at }) i)
+  element_of None c held at x q i y = λ none. unknown_fine (record { known = record { of = None; class = c }; held = held; at = at }) x refl at
+  element_of (Some t) c held at x q i y = element_in t c held at x q i y
+
+  pub element_part : (a : Spot) → Spotted a → (q : Pos) (i : Answer) → Part i → Holds Spotted (desig.element e q a i)
+  element_part a x q i y = element_of a.known.of a.known.class a.held a.at x q i y
+
+  followed_of : (of : Option TypeId) (c : Class) (held : Held) (at : Pos) → Spotted (record { known = record { of = of; class = c }; held = held; at = at }) → (q : Pos) →
+      Holds Spotted (desig.followed e (record { known = record { of = of; class = c }; held = held; at = at }) q)
+  followed_of None c held at x q = λ none. unknown_fine (record { known = record { of = None; class = c }; held = held; at = at }) x refl at
+  followed_of (Some t) c held at x q = lacking_fine t q
+
+  pub followed_part : (a : Spot) → Spotted a → (q : Pos) → Holds Spotted (desig.followed e a q)
+  followed_part a x q = followed_of a.known.of a.known.class a.held a.at x q
 
   -- What is read.
 
-  stands_sound : (place : Place) (of : Option TypeId) → IsTyped p e place of → passes is_basic of ≡ true →
-      (t : TypeId) × (of ≡ Some t) × (is_basic t ≡ true) × IsOf p (Read (type_of of) place) (type_as t)
-  stands_sound place None h b = absurd h.known
-  stands_sound place (Some t) h b = (t, refl, b, (h.typed, as_basic t b, includes_itself (type_as t)))
+  abbrev IsScalarOrWhole : TypeId → Expr → Type 0
+  IsScalarOrWhole t x = IsScalar p t x ⊎ IsWholeRead p t x
 
-  read_sound : (k : Known) (x : Held) → IsSoundHeld p e k x → passes is_basic k.of ≡ true → IsSound p (record { known = k; typed = read_from k.of x })
-  read_sound k (Stands place) h b = let r = stands_sound place k.of h b in record { of = r.0; known = r.1; basic = r.2; typed = r.3 }
-  read_sound k (Value x) h b = h
+  place_read : (place : Place) (t : TypeId) → IsPlaceOf p place (type_as t) → IsScalarOrWhole t (Read (type_as t) place)
+  place_read place t h = by (is_basic t) refl
+    where
+      by : (b : Bool) → is_basic t ≡ b → IsScalarOrWhole t (Read (type_as t) place)
+      by true low = inl (low, (h, as_basic t low, includes_itself (type_as t)))
+      by false other = inr (other, place, refl, h)
 
-  pub read_part : (a : Spot) → Spotted a → Holds Part (desig.read a)
-  read_part a x none = record { class = x.class; valued = x.valued; sound = λ whole. read_sound a.known a.held (x.sound whole) (test_is (passes is_basic a.known.of) 99 a.at none) }
+  stands_sound : (place : Place) (of : Option TypeId) → IsTyped p e place of → (t : TypeId) × (of ≡ Some t) × IsScalarOrWhole t (Read (type_of of) place)
+  stands_sound place None h = absurd h.known
+  stands_sound place (Some t) h = (t, refl, place_read place t h.typed)
+
+  read_sound : (k : Known) (x : Held) → IsSoundHeld p e k x → IsSound p (record { known = k; typed = read_from k.of x })
+  read_sound k (Stands place) h = let r = stands_sound place k.of h in record { of = r.0; known = r.1; typed = r.2 }
+  read_sound k (Value x) h = plain_sound p (record { known = k; typed = x }) h
+
+  pub read_part : (a : Spot) → Spotted a → Holds Part (desig.read e a)
+  read_part a x none = record { class = x.class; valued = x.valued; sound = λ whole. read_sound a.known a.held (x.sound whole) }

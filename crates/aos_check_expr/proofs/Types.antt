@@ -1,5 +1,5 @@
 -- Types that include others: what is of a type is of each that includes it.
-use Rattle.std.proofs.Common.{◌≡◌, ℕ, zero, suc, ◌-◌, ◌≤◌, ◌<◌, ℤ, Bool, true, false, ◌&&◌, nat_le, refl, sym, ap, subst, eqb-true, eq-eqb, ltb-true, ltb-false, le-leb, leb-true, arith, if◌then◌else◌}
+use Rattle.std.proofs.Common.{◌≡◌, ℕ, zero, suc, ◌+◌, ◌-◌, ◌≤◌, ◌<◌, ℤ, List, Bool, true, false, ◌&&◌, nat_le, refl, sym, ap, ◌∙◌, subst, eqb-true, eq-eqb, ltb-true, ltb-false, lt-ltb, le-ltb, ne_eqb, le-leb, leb-true, arith, if◌then◌else◌}
 use Rattle.std.proofs.lemmas.Int.{ints}
 use Rattle.aos_base.specs.declared.number.Width.{Width}
 use Rattle.aos_base.specs.declared.number.Width.TheVariants.{W8, W16, W32, W64}
@@ -9,14 +9,17 @@ use Rattle.aos_base.specs.declared.operator.Binary.{Binary as BinaryOperator}
 use Rattle.aos_base.specs.declared.operator.Binary.TheVariants as two
 use Rattle.aos_base.specs.Number.{greatest, IsWithin}
 use Rattle.aos_types.specs.declared.row.TypeId.{TypeId}
+use Rattle.aos_types.specs.declared.row.TypeRow.{TypeRow}
 use Rattle.aos_typed.specs.declared.tree.Literal.{Literal}
 use Rattle.aos_typed.specs.declared.tree.Literal.TheVariants as literal
 use Rattle.aos_typed.specs.declared.tree.TType.{TType}
 use Rattle.aos_typed.specs.declared.tree.TType.TheVariants as type
+use Rattle.aos_typed.specs.Numbers.{id_of}
 use Rattle.aos_typed.specs.Program.{Expr, Lit, Read, Unary, Binary, And, Or, Element, Ord, Chr, Program}
 use Rattle.aos_typed.specs.WellTyped.{bits, Includes, IsLiteral, HasRange, Gives, GivesOfTwo, is_basic as is_basic_type, IsOf}
 use Rattle.aos_symbols.specs.Env.{shortint, integer, longint, hugeint, boolean, char, set}
-use Rattle.aos_check_expr.specs.Known.{is_integer, is_basic, is, fits_type, width_of_type, type_as}
+use Rattle.aos_symbols.proofs.Told.{IsTold, basic, defined}
+use Rattle.aos_check_expr.specs.Known.{is_integer, is_basic, is, fits_type, width_of_type, type_as, object_number}
 
 -- Integer types.
 
@@ -243,3 +246,43 @@ fits_includes t u h = by (is_integer t) (is_integer u) refl refl h
     by true true p q e = order_includes t u p q (leb-true t.0 u.0 e)
     by true false p q e = same e
     by false b p q e = same e
+
+-- one that fits a basic type is a basic one, and one that fits another type is that type
+pub fits_basic : (t u : TypeId) → fits_type t u ≡ true → is_basic u ≡ true → is_basic t ≡ true
+fits_basic t u h b = by (is_integer t) (is_integer u) refl h
+  where
+    same : is t u ≡ true → is_basic t ≡ true
+    same e = subst (λ v. is_basic v ≡ true) (sym (same_type t u e)) b
+
+    by : (a c : Bool) → is_integer t ≡ a → (if a && c then nat_le t.0 u.0 else is t u) ≡ true → is_basic t ≡ true
+    by true c q e = integer_basic t q
+    by false c q e = same e
+
+pub fits_same : (t u : TypeId) → fits_type t u ≡ true → is_basic u ≡ false → t ≡ u
+fits_same t u h b = by (is_integer t) (is_integer u) refl h
+  where
+    not_both : true ≡ false → ⊥
+    not_both e = cc
+
+    by : (a c : Bool) → is_integer u ≡ c → (if a && c then nat_le t.0 u.0 else is t u) ≡ true → t ≡ u
+    by true true q e = absurd (not_both (sym (integer_basic u q) ∙ b))
+    by true false q e = same_type t u e
+    by false c q e = same_type t u e
+
+-- Types that are told: their numbers in the table are theirs in the typed program.
+
+as_named : (t : TypeId) → 7 ≤ t.0 → type_as t ≡ type.Named (object_number t)
+as_named t from =
+    let o = type.Named (object_number t) in
+    ap (λ w. if w then type.Integer (width_of_type t) else if is boolean t then type.Boolean else if is char t then type.Char else if is set t then type.Set else o) (le-ltb t.0 4 (omega arith))
+    ∙ ap (λ w. if w then type.Boolean else if is char t then type.Char else if is set t then type.Set else o) (ne_eqb 4 t.0 (λ h. omega arith))
+    ∙ ap (λ w. if w then type.Char else if is set t then type.Set else o) (ne_eqb 5 t.0 (λ h. omega arith))
+    ∙ ap (λ w. if w then type.Set else o) (ne_eqb 6 t.0 (λ h. omega arith))
+
+pub id_as : (types : List TypeRow) (t : TypeId) → IsTold types t → id_of (type_as t) ≡ t
+id_as types t (basic below) = basic_cases (λ t. id_of (type_as t) ≡ t) (integer_cases (λ t. id_of (type_as t) ≡ t) refl refl refl refl) refl refl refl t (lt-ltb t.0 7 below)
+id_as types t (defined r from there closed) =
+    ap id_of (as_named t (omega arith)) ∙ ap (λ (n : ℕ). record { 0 = n }) (back t.0 from)
+  where
+    back : (n : ℕ) → 9 ≤ n → (n - 9) + 9 ≡ n
+    back n from = omega arith

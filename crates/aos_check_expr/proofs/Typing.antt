@@ -1,5 +1,5 @@
 -- Expressions that break no rule are well typed, where the types of all variables are known and all constants have values.
-use Rattle.std.proofs.Common.{◌≡◌, ℕ, ◌+◌, ◌<◌, ◌==◌, pos, List, [], ◌∷◌, Bool, true, false, not, Option, Some, None, slice_get, option_and_then, if◌then◌else◌, refl}
+use Rattle.std.proofs.Common.{◌≡◌, ℕ, ◌+◌, ◌<◌, ◌==◌, pos, List, [], Bool, true, false, not, Option, Some, None, slice_get, option_and_then, if◌then◌else◌, refl}
 use Rattle.aos_base.specs.declared.text.Pos.{Pos}
 use Rattle.aos_base.specs.declared.number.Width.TheVariants.{W64}
 use Rattle.aos_tree.specs.declared.name.Name.{Name}
@@ -12,7 +12,7 @@ use Rattle.aos_tree.specs.declared.expr.Term.{Term, Term', Row_of-Product, end_o
 use Rattle.aos_tree.specs.declared.expr.Factor.{Factor, Row_of-Expr, end_of-Expr, more_of-Expr, Row_of-Factor, end_of-Factor, more_of-Factor, Row_of-Elem, end_of-Elem, more_of-Elem}
 use Rattle.aos_tree.specs.declared.expr.Factor.TheVariants as f
 use Rattle.aos_tree.specs.declared.expr.Elem.{Elem, Elem', Elem-last-None', Elem-last-Some'}
-use Rattle.aos_tree.specs.declared.expr.Desig.{Desig, Row_of-Selector, end_of-Selector, more_of-Selector, items-the_row-Selector}
+use Rattle.aos_tree.specs.declared.expr.Desig.{Desig, Row_of-Selector, end_of-Selector, more_of-Selector}
 use Rattle.aos_tree.specs.declared.expr.Selector.{Selector, items-the_row-Expr}
 use Rattle.aos_tree.specs.declared.expr.Selector.TheVariants as s
 use Rattle.aos_typed.specs.declared.tree.TType.TheVariants as type
@@ -20,25 +20,23 @@ use Rattle.aos_typed.specs.Program.{Program}
 use Rattle.aos_typed.specs.WellTyped.{IsOf}
 use Rattle.aos_symbols.specs.declared.env.Env.{Env}
 use Rattle.aos_symbols.specs.Breaches.{breach_unless}
-use Rattle.aos_symbols.specs.Judged.{Judged, judged, bind}
-use Rattle.aos_symbols.specs.Env as env
-use Rattle.aos_symbols.proofs.Holds.{Holds, holds_bind, broken, test_is}
+use Rattle.aos_symbols.specs.Judged.{Judged, judged, kept, bind, walk}
+use Rattle.aos_symbols.proofs.Holds.{Holds, holds_bind, holds_walk, broken, test_is}
 use Rattle.aos_base.specs.Number.{if_within}
 use Rattle.aos_base.specs.Operators.{natural}
 use Rattle.aos_check_expr.specs.declared.known.Class.{Class}
 use Rattle.aos_check_expr.specs.declared.known.Class.TheVariants.{Unknown, Constant, Variable, ReadOnly, Computed}
-use Rattle.aos_check_expr.specs.declared.designators.Head.{Head}
 use Rattle.aos_check_expr.specs.Known.{Answer, Spot, is_number, is_boolean, is_char, is_lost}
 use Rattle.aos_check_expr.specs.Operations as op
 use Rattle.aos_check_expr.specs.Designators as desig
 use Rattle.aos_check_expr.specs.Expressions as judge
 use Rattle.aos_check_expr.proofs.Good.{MayBe, IsKnownClass, within_if, natural_below}
 use Rattle.aos_check_expr.proofs.Parts.{Elements, added_part, multiplied_part, related_part, signed_part, opposite_part, number_part, character_part, no_elements, with_element_part, with_span_part, whole_part}
-use Rattle.aos_check_expr.proofs.Spots.{MayFind, Part, Spotted, refused_part, plain_head, member_head, spotted, named_spot, behind_spot, read_part}
-use Rattle.aos_check_expr.proofs.CallParts.{Parts, called_part, ended_part}
+use Rattle.aos_check_expr.proofs.Spots.{MayFind, Part, Spotted, guarded_part, plain_head, behind_head, spotted, named_spot, field_part, element_part, followed_part, read_part}
+use Rattle.aos_check_expr.proofs.CallParts.{Parts, called_part}
 pub use Rattle.aos_check_expr.proofs.Types.{wider}
 pub use Rattle.aos_check_expr.proofs.Good.{IsGood, HasGood}
-pub use Rattle.aos_check_expr.proofs.Sound.{IsSound, sound_number, sound_char, sound_boolean, fits_sound}
+pub use Rattle.aos_check_expr.proofs.Sound.{IsSound, sound_number, sound_char, sound_boolean, fits_sound, fits_scalar, fits_whole}
 pub use Rattle.aos_check_expr.proofs.Spots.{IsTyped, GoodConstants, IsWhole, IsSoundSpot}
 
 -- The walk over an expression.
@@ -56,20 +54,46 @@ module _ (p : Program) (e : Env) (good : GoodConstants e) where
   after : (j : Judged Answer) (g : Answer → Judged Answer) → IsFine j → ((a : Answer) → Part p e a → IsFine (g a)) → IsFine (bind j g)
   after = holds_bind (Part p e) (Part p e)
 
-  refused_spot : (rule : ℕ) (at : Pos) → IsFineSpot (desig.spotted at (desig.refused rule at))
-  refused_spot rule at = spotted p e at (desig.refused rule at) (refused_part p e rule at)
+  -- what a designator is so far
+  abbrev Parted : judge.Part → Type 0
+  Parted (judge.Begun h) = MayFind p e h.found
+  Parted (judge.Meant a) = Spotted p e a
 
-  in_module_fine : (n : Name) (x : Selector) (j : Judged Spot) → IsFineSpot j → IsFineSpot (judge.in_module n x j)
-  in_module_fine n (s.Field q y) j h = h
-  in_module_fine n x j h = refused_spot 16 n.pos
+  abbrev IsFinePart : Judged judge.Part → Type 0
+  IsFinePart = Holds Parted
 
-  head_fine : (n : Name) (x : Selector) → MayFind p e (judge.head_in e n x).found
-  head_fine n (s.Field q y) = member_head p e n y
-  head_fine n x = plain_head p e n
+  part_of : (j : Judged Spot) → IsFineSpot j → IsFinePart (judge.as_part j)
+  part_of j h = holds_bind (Spotted p e) Parted j (λ a. kept (judge.Meant a)) h (λ a x none. x)
 
-  chosen : (b : Bool) (i j : Judged Spot) → IsFineSpot i → IsFineSpot j → IsFineSpot (if b then i else j)
-  chosen true i j g h = g
-  chosen false i j g h = h
+  spot_fine : (a : judge.Part) → Parted a → IsFineSpot (judge.spot_of_part e a)
+  spot_fine (judge.Begun h) may = named_spot p e good h may
+  spot_fine (judge.Meant a) x = λ none. x
+
+  pointed_fine : (a : judge.Part) → Parted a → (q : Pos) (n : Name) → IsFinePart (judge.pointed e a q n)
+  pointed_fine (judge.Begun h) may q n = by (desig.is_module h.found)
+    where
+      by : (b : Bool) → IsFinePart (if b then kept (judge.Begun (desig.member_behind e h n)) else judge.pointed_name e h q n)
+      by true = λ none. behind_head p e h.found n
+      by false = holds_bind (Spotted p e) Parted (desig.named e h) (λ a. judge.as_part (desig.field e a q n)) (named_spot p e good h may) (λ a x. part_of (desig.field e a q n) (field_part p e a x q n))
+  pointed_fine (judge.Meant a) x q n = part_of (desig.field e a q n) (field_part p e a x q n)
+
+  followed_part_fine : (a : judge.Part) → Parted a → (q : Pos) → IsFinePart (judge.followed_part e a q)
+  followed_part_fine a may q =
+      part_of (bind (judge.spot_of_part e a) (λ b. desig.followed e b q))
+      (holds_bind (Spotted p e) (Spotted p e) (judge.spot_of_part e a) (λ b. desig.followed e b q) (spot_fine a may) (λ b x. followed_part p e b x q))
+
+  bracketed_fine : (first : Pos) (a : judge.Part) → Parted a → (q : Pos) (js : List (Judged Answer)) → Parts p e js → (xs : List Expr) → IsFinePart (judge.bracketed e first a q js xs)
+  bracketed_fine first (judge.Begun h) may q js parts xs = by (desig.is_module h.found)
+    where
+      by : (b : Bool) → IsFinePart (if b then judge.as_part (desig.named e h) else judge.as_part (desig.spotted h.first (judge.called e h q js xs)))
+      by true = part_of (desig.named e h) (named_spot p e good h may)
+      by false = part_of (desig.spotted h.first (judge.called e h q js xs)) (spotted p e h.first (judge.called e h q js xs) (called_part p e h q js parts xs))
+  bracketed_fine first (judge.Meant a) x q js parts xs =
+      let j = desig.guarded e a.known.of (judge.is_guard e xs) q first in
+      part_of (desig.spotted a.at j) (spotted p e a.at j (guarded_part p e a.known.of (judge.is_guard e xs) q first))
+
+  refused_answer : (rule : ℕ) (at : Pos) → IsFine (desig.refused rule at)
+  refused_answer rule at = broken (Part p e) _ [] _
 
   text_fine : (t : Text) → IsFine (judge.character (judge.character_in e.here.text t) t.pos)
   text_fine t = character_part p (IsWhole p e) (judge.character_in e.here.text t) (by (t.start + 3 == t.end) (slice_get e.here.text (t.start + 1))) t.pos
@@ -88,7 +112,7 @@ module _ (p : Program) (e : Env) (good : GoodConstants e) where
     relation_of_fine first a h (Expr-right-Some' r) = relation_fine first a h r
 
     relation_fine : (first : Pos) (a : Answer) → Part p e a → (r : Relation) → IsFine (judge.relation e first a r)
-    relation_fine first a h (Relation' at o right) = after (judge.simple e right) (λ b. judge.related_by first at o a b) (simple_fine right) (λ b k. related_part p (IsWhole p e) first at o a b h k)
+    relation_fine first a h (Relation' at o right) = after (judge.simple e right) (λ b. judge.related_by e first at o a b) (simple_fine right) (λ b k. related_part p (IsWhole p e) e first at o a b h k)
 
     simple_fine : (x : Simple) → IsFine (judge.simple e x)
     simple_fine (Simple' at sign first shape rest) =
@@ -115,11 +139,15 @@ module _ (p : Program) (e : Env) (good : GoodConstants e) where
         (λ b k. products_fine first b k xs)
 
     factor_fine : (x : Factor) → IsFine (judge.factor e x)
-    factor_fine (f.Desig' n shape row) = holds_bind (Spotted p e) (Part p e) (judge.desig_of e n row) desig.read (desig_fine n row) (λ a h. read_part p e a h)
+    factor_fine (f.Desig' n shape row) =
+        let begun = judge.Begun (desig.plain e n) in
+        let j = judge.selectors e n.pos begun row in
+        holds_bind (Spotted p e) (Part p e) (bind j (judge.spot_of_part e)) (desig.read e)
+        (holds_bind Parted (Spotted p e) j (judge.spot_of_part e) (selectors_fine n.pos begun (plain_head p e n) row) spot_fine) (read_part p e)
     factor_fine (f.Number q n) = number_part p (IsWhole p e) (if_within W64 n) (within_if W64 n) q
     factor_fine (f.Char q n) = character_part p (IsWhole p e) (natural 256 n) (natural_below 256 n) q
     factor_fine (f.Text t) = text_fine t
-    factor_fine (f.Nil q) = refused_part p e 99 q
+    factor_fine (f.Nil q) = refused_answer 99 q
     factor_fine (f.Set' q shape row) =
         holds_bind (Elements p (IsWhole p e)) (Part p e) (judge.elements e q op.no_elements row) (λ a. judge.whole_set q a)
         (elements_fine q op.no_elements (no_elements p (IsWhole p e)) row) (λ a h. whole_part p (IsWhole p e) q a h)
@@ -127,11 +155,11 @@ module _ (p : Program) (e : Env) (good : GoodConstants e) where
     factor_fine (f.Not' q shape row) = after (judge.held_factor e row) (λ a. judge.opposite q a) (held_factor_fine row) (λ a h. opposite_part p (IsWhole p e) q a h)
 
     held_fine : {m : _} (r : Row_of-Expr m) → IsFine (judge.held e r)
-    held_fine end_of-Expr = refused_part p e 99 judge.no_place
+    held_fine end_of-Expr = refused_answer 99 judge.no_place
     held_fine (more_of-Expr x xs) = expr_fine x
 
     held_factor_fine : {m : _} (r : Row_of-Factor m) → IsFine (judge.held_factor e r)
-    held_factor_fine end_of-Factor = refused_part p e 99 judge.no_place
+    held_factor_fine end_of-Factor = refused_answer 99 judge.no_place
     held_factor_fine (more_of-Factor x xs) = factor_fine x
 
     elements_fine : {m : _} (at : Pos) (a : Answer) → Elements p (IsWhole p e) a → (r : Row_of-Elem m) → AreFine (judge.elements e at a r)
@@ -147,42 +175,37 @@ module _ (p : Program) (e : Env) (good : GoodConstants e) where
         holds_bind (Part p e) (Elements p (IsWhole p e)) (judge.expr e x) (λ b. bind (judge.expr e y) (λ c. judge.with_span at a b c)) (expr_fine x)
         (λ b k. holds_bind (Part p e) (Elements p (IsWhole p e)) (judge.expr e y) (λ c. judge.with_span at a b c) (expr_fine y) (λ c l. with_span_part p (IsWhole p e) at a b c h k l))
 
-    desig_fine : {m : _} (n : Name) (r : Row_of-Selector m) → IsFineSpot (judge.desig_of e n r)
-    desig_fine n end_of-Selector = named_spot p e good (desig.plain e n) (plain_head p e n)
-    desig_fine n (more_of-Selector x end_of-Selector) =
-        chosen (desig.is_module (env.lookup e n)) (judge.in_module n x (desig.named e (judge.head_in e n x))) (judge.selector e (desig.plain e n) x [])
-        (in_module_fine n x (desig.named e (judge.head_in e n x)) (named_spot p e good (judge.head_in e n x) (head_fine n x)))
-        (selector_fine (desig.plain e n) (plain_head p e n) x [])
-    desig_fine n (more_of-Selector x (more_of-Selector y ys)) =
-        chosen (desig.is_module (env.lookup e n)) (judge.in_module n x (judge.selector e (judge.head_in e n x) y (items-the_row-Selector _ ys)))
-        (judge.selector e (desig.plain e n) x (y ∷ items-the_row-Selector _ ys))
-        (in_module_fine n x (judge.selector e (judge.head_in e n x) y (items-the_row-Selector _ ys)) (selector_fine (judge.head_in e n x) (head_fine n x) y (items-the_row-Selector _ ys)))
-        (selector_fine (desig.plain e n) (plain_head p e n) x (y ∷ items-the_row-Selector _ ys))
+    selectors_fine : {m : _} (first : Pos) (a : judge.Part) → Parted a → (r : Row_of-Selector m) → IsFinePart (judge.selectors e first a r)
+    selectors_fine first a h end_of-Selector = λ none. h
+    selectors_fine first a h (more_of-Selector x xs) =
+        holds_bind Parted Parted (judge.selector e first a x) (λ b. judge.selectors e first b xs) (selector_fine first a h x) (λ b k. selectors_fine first b k xs)
 
-    selector_fine : (h : Head) → MayFind p e h.found → (x : Selector) (xs : List Selector) → IsFineSpot (judge.selector e h x xs)
-    selector_fine h may (s.Field q n) xs = behind_spot p e (desig.named e h) q
-    selector_fine h may (s.Index' q shape row) xs = behind_spot p e (desig.named e h) q
-    selector_fine h may (s.Follow q) xs = behind_spot p e (desig.named e h) q
-    selector_fine h may (s.Paren' q shape row) xs =
-        let j = judge.called e h q (judge.arguments e row) (items-the_row-Expr _ row) in
-        spotted p e h.first (judge.ended h.first j xs)
-        (ended_part p e h.first j (called_part p e h q (judge.arguments e row) (arguments_fine row) (items-the_row-Expr _ row)) xs)
+    selector_fine : (first : Pos) (a : judge.Part) → Parted a → (x : Selector) → IsFinePart (judge.selector e first a x)
+    selector_fine first a h (s.Field q n) = pointed_fine a h q n
+    selector_fine first a h (s.Index' q shape row) =
+        part_of (bind (judge.spot_of_part e a) (λ b. judge.indices e q b row))
+        (holds_bind (Spotted p e) (Spotted p e) (judge.spot_of_part e a) (λ b. judge.indices e q b row) (spot_fine a h) (λ b k. indices_fine q b k row))
+    selector_fine first a h (s.Follow q) = followed_part_fine a h q
+    selector_fine first a h (s.Paren' q shape row) = bracketed_fine first a h q (judge.arguments e row) (arguments_fine row) (items-the_row-Expr _ row)
+
+    indices_fine : {m : _} (at : Pos) (a : Spot) → Spotted p e a → (r : Row_of-Expr m) → IsFineSpot (judge.indices e at a r)
+    indices_fine at a h end_of-Expr = λ none. h
+    indices_fine at a h (more_of-Expr x xs) =
+        holds_bind (Spotted p e) (Spotted p e) (bind (judge.expr e x) (λ i. desig.element e at a i)) (λ b. judge.indices e at b xs)
+        (holds_bind (Part p e) (Spotted p e) (judge.expr e x) (λ i. desig.element e at a i) (expr_fine x) (λ i k. element_part p e a h at i k))
+        (λ b k. indices_fine at b k xs)
 
     arguments_fine : {m : _} (r : Row_of-Expr m) → Parts p e (judge.arguments e r)
     arguments_fine end_of-Expr = tt
     arguments_fine (more_of-Expr x xs) = (expr_fine x, arguments_fine xs)
 
   -- a designator, by the list of its selectors
-  from_head_fine : (h : Head) → MayFind p e h.found → (xs : List Selector) → IsFineSpot (judge.from_head e h xs)
-  from_head_fine h may [] = named_spot p e good h may
-  from_head_fine h may (x ∷ xs) = selector_fine h may x xs
-
-  selected_fine : (n : Name) (xs : List Selector) → IsFineSpot (judge.selected e n xs)
-  selected_fine n [] = named_spot p e good (desig.plain e n) (plain_head p e n)
-  selected_fine n (x ∷ xs) =
-      chosen (desig.is_module (env.lookup e n)) (judge.in_module n x (judge.from_head e (judge.head_in e n x) xs)) (judge.selector e (desig.plain e n) x xs)
-      (in_module_fine n x (judge.from_head e (judge.head_in e n x) xs) (from_head_fine (judge.head_in e n x) (head_fine n x) xs))
-      (selector_fine (desig.plain e n) (plain_head p e n) x xs)
+  designator_fine : (d : Desig) → IsFineSpot (judge.designator e d)
+  designator_fine d =
+      let begun = judge.Begun (desig.plain e d.name) in
+      let step = judge.selector e d.name.pos in
+      holds_bind Parted (Spotted p e) (walk step begun d.selectors) (judge.spot_of_part e)
+      (holds_walk Parted step (λ a x h. selector_fine d.name.pos a h x) d.selectors begun (plain_head p e d.name)) spot_fine
 
 -- The law.
 
@@ -190,11 +213,11 @@ pub expr_sound : (p : Program) (e : Env) → IsWhole p e → (x : Expr) → Hold
 expr_sound p e whole x none = (expr_fine p e whole.constants x none).sound whole
 
 pub designator_sound : (p : Program) (e : Env) → IsWhole p e → (d : Desig) → Holds (IsSoundSpot p e) (judge.designator e d)
-designator_sound p e whole d none = (selected_fine p e whole.constants d.name d.selectors none).sound whole
+designator_sound p e whole d none = (designator_fine p e whole.constants d none).sound whole
 
 -- and its class is known
 pub designator_known : (p : Program) (e : Env) → IsWhole p e → (d : Desig) → Holds (λ a. IsKnownClass IsGood a.known.class) (judge.designator e d)
-designator_known p e whole d none = (selected_fine p e whole.constants d.name d.selectors none).class
+designator_known p e whole d none = (designator_fine p e whole.constants d none).class
 
 pub condition_sound : (p : Program) (e : Env) → IsWhole p e → (x : Expr) → Holds (λ t. IsOf p t type.Boolean) (judge.condition e x)
 condition_sound p e whole x =

@@ -1,17 +1,22 @@
 -- Designators: what a name, or a name behind that of a module, stands for, and what is known of it.
-use Rattle.std.specs.Prelude.{ℕ, List, [], ◌++◌, Bool, true, false, ◌==◌, Option, Some, None, if◌then◌else◌}
+use Rattle.std.specs.Prelude.{ℕ, List, [], ◌++◌, Bool, true, false, not, ◌==◌, ◌&&◌, ◌||◌, Option, Some, None, is_some, if◌then◌else◌}
 use Rattle.aos_base.specs.declared.text.Pos.{Pos}
 use Rattle.aos_tree.specs.declared.name.Name.{Name}
 use Rattle.aos_tree.specs.declared.decl.Export.{Export}
 use Rattle.aos_tree.specs.declared.decl.Export.TheVariants.{ReadWrite, ReadOnly as OnlyRead}
 use Rattle.aos_types.specs.declared.row.TypeId.{TypeId}
+use Rattle.aos_types.specs.declared.row.TypeRow.{TypeRow}
+use Rattle.aos_types.specs.declared.row.TypeRow.TheVariants as row
 use Rattle.aos_typed.specs.declared.tree.Literal.{Literal}
 use Rattle.aos_typed.specs.declared.tree.Literal.TheVariants as literal
-use Rattle.aos_typed.specs.Program.{Place, ModuleVar}
+use Rattle.aos_typed.specs.Program.{Place, ModuleVar, Index, Expr, Read}
+use Rattle.aos_typed.specs.Program.{Field as FieldOf}
+use Rattle.aos_typed.specs.WellTyped.{is_whole}
 use Rattle.aos_symbols.specs.declared.breach.Breach.{Breach}
 use Rattle.aos_symbols.specs.declared.scope.Meaning.{Meaning}
 use Rattle.aos_symbols.specs.declared.scope.Meaning.TheVariants as means
 use Rattle.aos_symbols.specs.declared.env.Symbol.{Symbol}
+use Rattle.aos_symbols.specs.declared.env.Field.{Field}
 use Rattle.aos_symbols.specs.declared.env.Lookup.{Lookup}
 use Rattle.aos_symbols.specs.declared.env.Lookup.TheVariants.{Unknown as NoName, NotExported, Found}
 use Rattle.aos_symbols.specs.declared.env.Env.{Env}
@@ -22,7 +27,7 @@ use Rattle.aos_symbols.specs.Env as env
 use Rattle.aos_check_expr.specs.declared.known.Class.{Class}
 use Rattle.aos_check_expr.specs.declared.known.Class.TheVariants.{Unknown, Constant, Variable, ReadOnly, Computed}
 use Rattle.aos_check_expr.specs.declared.designators.Head.{Head}
-use Rattle.aos_check_expr.specs.Known.{Answer, Spot, Held, Stands, Value, passes, is_basic, unknown, some_value, constant_answer, answered, nothing, spot_of, read_from, known_as, lost}
+use Rattle.aos_check_expr.specs.Known.{Answer, Spot, Held, Stands, Value, passes, is_basic, is_number, type_as, unknown, some_value, constant_answer, answered, nothing, spot_of, read_from, known_as, lost}
 
 -- A head is what is found of a name, where the name stands, and where the designator begins.
 
@@ -67,6 +72,10 @@ member_in e (Found x) n = member_of e x.means n
 -- a name behind that of a module
 abbrev pub member : Env → Name → Name → Head
 member e m n = record { found = member_in e (env.lookup e m) n; at = n.pos; first = m.pos }
+
+-- the same, where what is found of the module's name is known
+abbrev pub member_behind : Env → Head → Name → Head
+member_behind e h n = record { found = member_in e h.found n; at = n.pos; first = h.first }
 
 -- a name marked `-` may only be read in other modules
 abbrev pub access : Bool → Option Export → Class
@@ -120,24 +129,107 @@ found e (Found x) h = meant e x x.means h
 abbrev pub named : Env → Head → Judged Spot
 named e h = found e h.found h
 
--- a selector that a basic type hasn't; what other types have isn't built
-abbrev pub selected : Option TypeId → Pos → Judged Answer
-selected None at = refused 99 at
-selected (Some t) at = refused (if is_basic t then 42 else 99) at
+-- Types of variables: a basic type, or that of records or arrays, which have parts. What is of the others isn't built.
 
--- whether an argument is the name of a type: then `x(T)` is a guard, which no basic type has, and else x can't be called
-abbrev pub guarded : Option TypeId → Bool → Pos → Pos → Judged Answer
-guarded None is_guard at first = refused 99 at
-guarded (Some t) true at first = refused (if is_basic t then 41 else 99) at
-guarded (Some t) false at first = refused 36 first
+abbrev pub has_parts : Env → TypeId → Bool
+has_parts e t = not (is_basic t) && is_whole (env.row_of e (Some t))
+
+abbrev pub is_built : Env → TypeId → Bool
+is_built e t = is_basic t || has_parts e t
+
+-- Parts of variables.
+
+-- a selector that a type hasn't; what types that aren't built have isn't built either
+abbrev pub lacking : Env → TypeId → Pos → Judged Spot
+lacking e t at = spotted at (refused (if is_built e t then 42 else 99) at)
+
+-- a part of a variable is one, and may be written where that may
+abbrev pub part_class : Bool → Class → Class
+part_class may Variable = if may then Variable else ReadOnly
+part_class may Unknown = Unknown
+part_class may (Constant v) = Constant v
+part_class may ReadOnly = ReadOnly
+part_class may Computed = Computed
+
+abbrev pub part_held : (Place → Place) → Held → Held
+part_held part (Stands p) = Stands (part p)
+part_held part (Value x) = Value x
+
+abbrev pub part_spot : Bool → Option TypeId → (Place → Place) → Pos → Spot → Spot
+part_spot may of part at a = record { known = known_as (part_class may a.known.class) of; held = part_held part a.held; at = at }
+
+-- a part of what may be anything may be anything, as a variable where the whole is one, and breaks no rule of its own
+abbrev pub unknown_part : Pos → Spot → Spot
+unknown_part at a = record { known = known_as a.known.class None; held = a.held; at = at }
+
+-- a field of a record; one marked `-` may only be read in other modules
+abbrev pub may_write : Field → Bool
+may_write f = f.is_own || not (is_read_only f.mark)
+  where
+    is_read_only : Option Export → Bool
+    is_read_only (Some OnlyRead) = true
+    is_read_only m = false
+
+abbrev pub field_spot : TypeId → Field → Pos → Spot → Spot
+field_spot t f at a = part_spot (may_write f) f.of (λ p. FieldOf p (type_as t) f.number) at a
+
+-- with a point at a place: a field of another module's record has an export mark
+abbrev pub field_found : Env → Spot → Pos → Name → TypeId → Option Field → Judged Spot
+field_found e a p n t None = lacking e t p
+field_found e a p n t (Some f) =
+    if f.is_own || is_some f.mark then kept (field_spot t f n.pos a) else spotted n.pos (refused 15 n.pos)
+
+abbrev pub field_in_row : Env → Spot → Pos → Name → TypeId → Option TypeRow → Judged Spot
+field_in_row e a p n t (Some (row.Record None fields)) = field_found e a p n t (env.field e t n)
+field_in_row e a p n t r = lacking e t p
+
+abbrev pub field : Env → Spot → Pos → Name → Judged Spot
+field e a p n = by a.known.of
+  where
+    by : Option TypeId → Judged Spot
+    by None = kept (unknown_part n.pos a)
+    by (Some t) = if is_basic t then lacking e t p else field_in_row e a p n t (env.row_of e (Some t))
+
+-- an element of an array, by an index of an integer type, with the bracket at a place
+abbrev pub element_spot : ℕ → TypeId → Answer → Spot → Spot
+element_spot m u i a = part_spot true (Some u) (λ p. Index p m (type_as u) i.typed) a.at a
+
+abbrev pub element_found : ℕ → TypeId → Pos → Spot → Answer → Judged Spot
+element_found m u p a i = if is_number i.known.of then kept (element_spot m u i a) else spotted p (refused 42 p)
+
+abbrev pub element_in_row : Env → Pos → Spot → Answer → TypeId → Option TypeRow → Judged Spot
+element_in_row e p a i t (Some (row.Array m u)) = element_found m u p a i
+element_in_row e p a i t r = lacking e t p
+
+abbrev pub element : Env → Pos → Spot → Answer → Judged Spot
+element e p a i = by a.known.of
+  where
+    by : Option TypeId → Judged Spot
+    by None = kept (unknown_part a.at a)
+    by (Some t) = if is_basic t then lacking e t p else element_in_row e p a i t (env.row_of e (Some t))
+
+-- `x^`: no type that is built has it
+abbrev pub followed : Env → Spot → Pos → Judged Spot
+followed e a p = by a.known.of
+  where
+    by : Option TypeId → Judged Spot
+    by None = kept (unknown_part a.at a)
+    by (Some t) = lacking e t p
+
+-- whether an argument is the name of a type: then `x(T)` is a guard, which no basic type has and no variable that is a record or an
+-- array, and else x can't be called
+abbrev pub guarded : Env → Option TypeId → Bool → Pos → Pos → Judged Answer
+guarded e None is_guard at first = refused 99 at
+guarded e (Some t) true at first = refused (if is_built e t then 41 else 99) at
+guarded e (Some t) false at first = refused 36 first
 
 -- a variable of a type that isn't built yet can't be read
-abbrev pub read : Spot → Judged Answer
-read a =
-    let own = breach_unless (passes is_basic a.known.of) 99 a.at in
+abbrev pub read : Env → Spot → Judged Answer
+read e a =
+    let own = breach_unless (passes (is_built e) a.known.of) 99 a.at in
     judged own (record { known = a.known; typed = read_from a.known.of a.held })
 
--- a designator that is assigned: a variable, which may be written, of a basic type
+-- a designator that is assigned: a variable, which may be written, of a type that is built
 abbrev pub written : Class → Pos → List Breach
 written Unknown first = []
 written Variable first = []
@@ -145,10 +237,14 @@ written ReadOnly first = breach 33 first
 written (Constant v) first = breach 32 first
 written Computed first = breach 32 first
 
-abbrev pub assigned : Pos → Spot → Judged Spot
-assigned first a = judged (written a.known.class first ++ breach_unless (passes is_basic a.known.of) 99 a.at) a
+abbrev pub assigned : Env → Pos → Spot → Judged Spot
+assigned e first a = judged (written a.known.class first ++ breach_unless (passes (is_built e) a.known.of) 99 a.at) a
 
--- the place of a variable
+-- the place of a variable, and that which an expression reads
 abbrev pub place_of : Held → Place
 place_of (Stands p) = p
 place_of (Value e) = ModuleVar 0 0
+
+abbrev pub place_in : Expr → Place
+place_in (Read t p) = p
+place_in e = ModuleVar 0 0

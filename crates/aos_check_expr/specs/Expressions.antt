@@ -1,6 +1,6 @@
 -- Expressions: which rules they break, what is known of them and what they are in the typed program (Oberon-2 report, section
 -- 8). A type test, NIL and texts but those of one character aren't built.
-use Rattle.std.specs.Prelude.{ℕ, ◌+◌, ℤ, pos, List, [], ◌∷◌, ◌++◌, Bool, true, false, ◌&&◌, ◌==◌, Option, Some, None, slice_get, option_and_then, if◌then◌else◌}
+use Rattle.std.specs.Prelude.{ℕ, ◌+◌, ℤ, pos, List, [], ◌∷◌, ◌++◌, Bool, true, false, not, ◌&&◌, ◌||◌, ◌==◌, Option, Some, None, slice_get, option_and_then, if◌then◌else◌}
 use Rattle.std.specs.Option.{is_none}
 use Rattle.aos_base.specs.declared.text.Pos.{Pos}
 use Rattle.aos_base.specs.declared.number.Width.TheVariants.{W64}
@@ -26,6 +26,8 @@ use Rattle.aos_tree.specs.declared.expr.Desig.{Desig, Row_of-Selector, end_of-Se
 use Rattle.aos_tree.specs.declared.expr.Selector.{Selector, items-the_row-Expr}
 use Rattle.aos_tree.specs.declared.expr.Selector.TheVariants as s
 use Rattle.aos_types.specs.declared.row.TypeId.{TypeId}
+use Rattle.aos_types.specs.declared.row.TypeRow.{TypeRow}
+use Rattle.aos_types.specs.declared.row.TypeRow.TheVariants as row
 use Rattle.aos_typed.specs.declared.tree.Literal.{Literal}
 use Rattle.aos_typed.specs.declared.tree.Literal.TheVariants as literal
 use Rattle.aos_typed.specs.Program.{Expr as Typed}
@@ -37,10 +39,11 @@ use Rattle.aos_symbols.specs.declared.env.Lookup.{Lookup}
 use Rattle.aos_symbols.specs.declared.env.Lookup.TheVariants.{Unknown as NoName, NotExported, Found}
 use Rattle.aos_symbols.specs.declared.env.Env.{Env}
 use Rattle.aos_symbols.specs.Breaches.{breach, breach_unless, not_built}
-use Rattle.aos_symbols.specs.Judged.{Judged, judged, kept, bind}
+use Rattle.aos_symbols.specs.Judged.{Judged, judged, kept, bind, walk}
 use Rattle.aos_symbols.specs.Env as env
 use Rattle.aos_check_expr.specs.declared.known.Class.{Class}
 use Rattle.aos_check_expr.specs.declared.known.Class.TheVariants.{Unknown, Constant, Variable, ReadOnly, Computed}
+use Rattle.aos_check_expr.specs.declared.known.Known.{Known}
 use Rattle.aos_check_expr.specs.declared.designators.Head.{Head}
 use Rattle.aos_check_expr.specs.declared.operations.Step.{Step}
 use Rattle.aos_check_expr.specs.declared.calls.Limit.{Limit}
@@ -182,7 +185,7 @@ abbrev pub not_called : Env → Head → Pos → List Expr → Judged Answer
 not_called e h at args = by_lookup h.found
   where
     by_value : Judged Spot → Judged Answer
-    by_value j = bind j (λ a. desig.guarded a.known.of (is_guard e args) at h.first)
+    by_value j = bind j (λ a. desig.guarded e a.known.of (is_guard e args) at h.first)
 
     by_meaning : Meaning → Judged Answer
     by_meaning (means.Type None) = desig.refused 99 h.first
@@ -223,25 +226,42 @@ called_by e Neither h at js xs = not_called e h at xs
 abbrev pub called : Env → Head → Pos → List (Judged Answer) → List Expr → Judged Answer
 called e h at js xs = called_by e (callee h.found) h at js xs
 
--- the name that stands behind that of a module
-abbrev pub head_in : Env → Name → Selector → Head
-head_in e n (s.Field p x) = desig.member e n x
-head_in e n _ = desig.plain e n
+-- what a designator is so far: a name, which a bracket may call, or a variable or a value
+pub data Part : Type 0 where
+  Begun : Head → Part
+  Meant : Spot → Part
 
-abbrev pub in_module : Name → Selector → Judged Spot → Judged Spot
-in_module n (s.Field p x) j = j
-in_module n _ j = desig.spotted n.pos (desig.refused 16 n.pos)
+-- as a variable or a value
+abbrev pub spot_of_part : Env → Part → Judged Spot
+spot_of_part e (Begun h) = desig.named e h
+spot_of_part e (Meant a) = kept a
 
--- behind a call there is no selector of a basic type's value
-abbrev pub ended : Pos → Judged Answer → List Selector → Judged Answer
-ended first j [] = j
-ended first j (s.Field p n ∷ xs) = bind j (λ a. desig.selected a.known.of p)
-ended first j (s.Index' p shape row ∷ xs) = bind j (λ a. desig.selected a.known.of p)
-ended first j (s.Follow p ∷ xs) = bind j (λ a. desig.selected a.known.of p)
-ended first j (s.Paren' p shape row ∷ xs) = bind j (λ a. desig.guarded a.known.of false p first)
+abbrev pub as_part : Judged Spot → Judged Part
+as_part j = bind j (λ a. kept (Meant a))
 
-abbrev pub behind : Judged Spot → Pos → Judged Spot
-behind j at = bind j (λ a. desig.spotted a.at (desig.selected a.known.of at))
+-- a point behind what there is so far: a name of a module, or a field
+abbrev pub pointed_name : Env → Head → Pos → Name → Judged Part
+pointed_name e h p n = bind (desig.named e h) (λ a. as_part (desig.field e a p n))
+
+abbrev pub pointed : Env → Part → Pos → Name → Judged Part
+pointed e (Begun h) p n =
+    if desig.is_module h.found then kept (Begun (desig.member_behind e h n)) else pointed_name e h p n
+pointed e (Meant a) p n = as_part (desig.field e a p n)
+
+-- `^` behind it
+abbrev pub followed_part : Env → Part → Pos → Judged Part
+followed_part e a p = as_part (bind (spot_of_part e a) (λ b. desig.followed e b p))
+
+-- a bracket behind it, whose arguments are judged so: a call, or a guard
+abbrev pub bracketed_name : Env → Head → Pos → List (Judged Answer) → List Expr → Judged Part
+bracketed_name e h p js xs =
+    if desig.is_module h.found
+    then as_part (desig.named e h)
+    else as_part (desig.spotted h.first (called e h p js xs))
+
+abbrev pub bracketed : Env → Pos → Part → Pos → List (Judged Answer) → List Expr → Judged Part
+bracketed e first (Begun h) p js xs = bracketed_name e h p js xs
+bracketed e first (Meant a) p js xs = as_part (desig.spotted a.at (desig.guarded e a.known.of (is_guard e xs) p first))
 
 -- The tables at a place.
 
@@ -251,18 +271,48 @@ added first at o a b = op.operands first at (op.added o a.known.of b.known.of) a
 abbrev pub multiplied : Pos → Pos → MulOp → Answer → Answer → Judged Answer
 multiplied first at o a b = op.operands first at (op.multiplied o a.known.of b.known.of) a b
 
--- a value of a basic type has no type test
-abbrev pub tested : Option TypeId → Pos → Judged Answer
-tested None at = judged (not_built at) (answered Unknown (Some env.boolean) nothing)
-tested (Some t) at = judged (breach (if is_basic t then 41 else 99) at) (answered Unknown (Some env.boolean) nothing)
+-- a value of a basic type has no type test, nor has a variable that is a record or an array
+abbrev pub tested : Env → Option TypeId → Pos → Judged Answer
+tested e None at = judged (not_built at) (answered Unknown (Some env.boolean) nothing)
+tested e (Some t) at = judged (breach (if desig.is_built e t then 41 else 99) at) (answered Unknown (Some env.boolean) nothing)
 
 abbrev pub is_test : RelationOp → Bool
 is_test relation_op.Is = true
 is_test o = false
 
-abbrev pub related_by : Pos → Pos → RelationOp → Answer → Answer → Judged Answer
-related_by first at o a b =
-    if is_test o then tested a.known.of at else op.operands first at (op.related o a.known.of b.known.of) a b
+-- an array of characters is a text, and so is a constant that is a character
+abbrev pub is_characters : Env → Known → Bool
+is_characters e k = by k.of
+  where
+    of_row : Option TypeRow → Bool
+    of_row (Some (row.Array n t)) = t.0 == env.char.0
+    of_row r = false
+
+    by : Option TypeId → Bool
+    by None = false
+    by (Some t) = not (is_basic t) && of_row (env.row_of e (Some t))
+
+abbrev pub is_character : Class → Bool
+is_character (Constant (Some (literal.Char c))) = true
+is_character c = false
+
+abbrev pub is_text : Env → Known → Bool
+is_text e k = is_characters e k || is_character k.class
+
+-- texts aren't compared yet
+abbrev pub are_texts : Env → Known → Known → Bool
+are_texts e a b = (is_characters e a && is_text e b) || (is_text e a && is_characters e b)
+
+abbrev pub compares_texts : Env → RelationOp → Known → Known → Bool
+compares_texts e relation_op.In a b = false
+compares_texts e relation_op.Is a b = false
+compares_texts e o a b = are_texts e a b
+
+abbrev pub related_by : Env → Pos → Pos → RelationOp → Answer → Answer → Judged Answer
+related_by e first at o a b =
+    if is_test o then tested e a.known.of at
+    else if compares_texts e o a.known b.known then judged (not_built at) (answered Unknown (Some env.boolean) nothing)
+    else op.operands first at (op.related o a.known.of b.known.of) a b
 
 abbrev pub signed : Option Sign → Pos → Answer → Judged Answer
 signed None at a = kept a
@@ -307,7 +357,7 @@ module _ (e : Env) where
     relation_of first a (Expr-right-Some' r) = relation first a r
 
     pub relation : Pos → Answer → Relation → Judged Answer
-    relation first a (Relation' at o right) = bind (simple right) (λ b. related_by first at o a b)
+    relation first a (Relation' at o right) = bind (simple right) (λ b. related_by e first at o a b)
 
     pub simple : Simple → Judged Answer
     simple (Simple' at sign first shape rest) = bind (bind (term first) (λ a. signed sign at a)) (λ a. additions at a rest)
@@ -328,7 +378,7 @@ module _ (e : Env) where
         bind (bind (factor right) (λ b. multiplied first at o a b)) (λ b. products first b xs)
 
     pub factor : Factor → Judged Answer
-    factor (f.Desig' n shape row) = bind (desig_of n row) desig.read
+    factor (f.Desig' n shape row) = bind (bind (selectors n.pos (Begun (desig.plain e n)) row) (spot_of_part e)) (desig.read e)
     factor (f.Number p n) = number (if_within W64 n) p
     factor (f.Char p n) = character (natural 256 n) p
     factor (f.Text t) = character (character_in e.here.text t) t.pos
@@ -354,22 +404,21 @@ module _ (e : Env) where
     element at a (Elem' x Elem-last-None') = bind (expr x) (λ b. with_element at a b)
     element at a (Elem' x (Elem-last-Some' y)) = bind (expr x) (λ b. bind (expr y) (λ c. with_span at a b c))
 
-    pub desig_of : {m : _} → Name → Row_of-Selector m → Judged Spot
-    desig_of n end_of-Selector = desig.named e (desig.plain e n)
-    desig_of n (more_of-Selector x end_of-Selector) =
-        if desig.is_module (env.lookup e n) then in_module n x (desig.named e (head_in e n x)) else selector (desig.plain e n) x []
-    desig_of n (more_of-Selector x (more_of-Selector y ys)) =
-        if desig.is_module (env.lookup e n)
-        then in_module n x (selector (head_in e n x) y (items-the_row-Selector _ ys))
-        else selector (desig.plain e n) x (y ∷ items-the_row-Selector _ ys)
+    -- one selector after another, of a designator that begins here
+    pub selectors : {m : _} → Pos → Part → Row_of-Selector m → Judged Part
+    selectors first a end_of-Selector = kept a
+    selectors first a (more_of-Selector x xs) = bind (selector first a x) (λ b. selectors first b xs)
 
-    -- the first selector behind a name, and those that follow
-    pub selector : Head → Selector → List Selector → Judged Spot
-    selector h (s.Field p n) xs = behind (desig.named e h) p
-    selector h (s.Index' p shape row) xs = behind (desig.named e h) p
-    selector h (s.Follow p) xs = behind (desig.named e h) p
-    selector h (s.Paren' p shape row) xs =
-        desig.spotted h.first (ended h.first (called e h p (arguments row) (items-the_row-Expr _ row)) xs)
+    pub selector : Pos → Part → Selector → Judged Part
+    selector first a (s.Field p n) = pointed e a p n
+    selector first a (s.Index' p shape row) = as_part (bind (spot_of_part e a) (λ b. indices p b row))
+    selector first a (s.Follow p) = followed_part e a p
+    selector first a (s.Paren' p shape row) = bracketed e first a p (arguments row) (items-the_row-Expr _ row)
+
+    -- `a[i, j]` is `a[i][j]`
+    pub indices : {m : _} → Pos → Spot → Row_of-Expr m → Judged Spot
+    indices at a end_of-Expr = kept a
+    indices at a (more_of-Expr x xs) = bind (bind (expr x) (λ i. desig.element e at a i)) (λ b. indices at b xs)
 
     pub arguments : {m : _} → Row_of-Expr m → List (Judged Answer)
     arguments end_of-Expr = []
@@ -386,17 +435,15 @@ module _ (e : Env) where
   -- What statements and declarations ask of expressions.
 
   -- a designator, by the list of its selectors
-  abbrev pub from_head : Head → List Selector → Judged Spot
-  from_head h [] = desig.named e h
-  from_head h (x ∷ xs) = selector h x xs
-
-  abbrev pub selected : Name → List Selector → Judged Spot
-  selected n [] = desig.named e (desig.plain e n)
-  selected n (x ∷ xs) =
-      if desig.is_module (env.lookup e n) then in_module n x (from_head (head_in e n x) xs) else selector (desig.plain e n) x xs
-
   abbrev pub designator : Desig → Judged Spot
-  designator d = selected d.name d.selectors
+  designator d = bind (walk (selector d.name.pos) (Begun (desig.plain e d.name)) d.selectors) (spot_of_part e)
+
+  -- the same index, of a bracket's list, and the whole list
+  abbrev pub index : Pos → Spot → Expr → Judged Spot
+  index at a x = bind (expr x) (λ i. desig.element e at a i)
+
+  abbrev pub indexed : Pos → Part → List Expr → Judged Part
+  indexed at a xs = as_part (bind (spot_of_part e a) (λ b. walk (index at) b xs))
 
   -- a constant expression, with its value where it breaks no rule
   abbrev pub constant : Expr → Judged (Option Literal)

@@ -4,6 +4,9 @@ use Rattle.aos_check_expr.specs.declared.known.Answer.{Answer as CodeAnswer}
 use Rattle.aos_check_expr.specs.declared.known.Held.{Held as CodeHeld}
 use Rattle.aos_check_expr.specs.declared.known.Held.TheVariants as held
 use Rattle.aos_check_expr.specs.declared.known.Spot.{Spot as CodeSpot}
+use Rattle.aos_check_expr.specs.declared.selectors.Part.{Part as CodePart}
+use Rattle.aos_check_expr.specs.declared.selectors.Part.TheVariants as code_part
+use Rattle.aos_check_expr.specs.Expressions.{Part, Begun, Meant}
 use Rattle.aos_check_expr.specs.Known.{Answer, Spot, Held, Stands, Value}
 
 abbrev pub seen_answer : CodeAnswer → Answer
@@ -15,3 +18,7 @@ seen_held (held.Value e) = Value (seen_expr e)
 
 abbrev pub seen_spot : CodeSpot → Spot
 seen_spot a = record { known = a.known; held = seen_held a.held; at = a.at }
+
+abbrev pub seen_part : CodePart → Part
+seen_part (code_part.Begun h) = Begun h
+seen_part (code_part.Meant a) = Meant (seen_spot a)

@@ -1,15 +1,15 @@
-// Calls: what is called, the arguments that are names of types, and the values of functions; and what stands behind a name.
+// Calls: what is called, the arguments that are names of types, and the values of functions.
 
 ghost use Rattle.std.specs.Prelude.{◌≡◌, OnOk, IfOk};
 ghost use Rattle.std.specs.Option.{option_copied};
 ghost use Rattle.aos_symbols.specs.Breaches.{first_after};
-ghost use Rattle.aos_symbols.specs.Judged.{bind, kept};
+ghost use Rattle.aos_symbols.specs.Judged.{bind};
 ghost use Rattle.aos_check_expr.specs.Designators as designators;
 ghost use Rattle.aos_check_expr.specs.Expressions as judge;
-ghost use Rattle.aos_check_expr.specs.Seen.{seen_answer, seen_spot};
+ghost use Rattle.aos_check_expr.specs.Seen.{seen_answer};
 
-use crate::designators::{Head, guarded, is_module, member, named, plain, refused, selected};
-use crate::known::{Answer, Spot, constant_answer, is_number, spot_of};
+use crate::designators::{Head, guarded, is_module, member, named, plain, refused};
+use crate::known::{Answer, constant_answer, is_number};
 use crate::operations::{self, Step};
 use aos_base::Pos;
 use aos_symbols::{
@@ -94,7 +94,7 @@ fn is_type(head: Option<Head>) -> bool
 }
 
 /// Whether the arguments are one, which is the name of a type.
-fn is_guard(env: &Env<'_>, arguments: &[Expr]) -> bool
+pub fn is_guard(env: &Env<'_>, arguments: &[Expr]) -> bool
     ensures { result ≡ judge.is_guard env.now arguments.now }
 {
     match arguments {
@@ -187,14 +187,15 @@ fn value_called(
 ) -> Answer
     ensures noted { found.new ≡ first_after found.old
         (bind (designators.named env.now head)
-        (λ a. designators.guarded a.known.of (judge.is_guard env.now arguments.now) at head.first)).breaches }
+        (λ a. designators.guarded env.now a.known.of (judge.is_guard env.now arguments.now) at head.first)).breaches }
     ensures answer { seen_answer result ≡
         (bind (designators.named env.now head)
-        (λ a. designators.guarded a.known.of (judge.is_guard env.now arguments.now) at head.first)).answer }
+        (λ a. designators.guarded env.now a.known.of (judge.is_guard env.now arguments.now) at head.first)).answer }
 {
     let spot = named(found, env, head);
     guarded(
         found,
+        env,
         spot.known.of,
         is_guard(env, arguments),
         at,
@@ -266,51 +267,4 @@ pub fn value_of_two(
     let value = operations::joined(alloc, operations::shifted(a.known.of, b.known.of), a, b)?;
     operations::told(found, at, &value);
     Ok(value)
-}
-
-/// The value of a call that begins here, behind which no selector may stand.
-fn ended(found: &mut Option<Breach>, first: Pos, value: Answer, selectors: &[Selector]) -> Answer
-    ensures noted { found.new ≡ first_after found.old
-        (judge.ended first (kept (seen_answer value)) selectors.now).breaches }
-    ensures answer { seen_answer result ≡
-        (judge.ended first (kept (seen_answer value)) selectors.now).answer }
-{
-    match selectors.first() {
-        None => value,
-        Some(selector) => match selector {
-            Selector::Field(at, _) => selected(found, value.known.of, *at),
-            Selector::Index(at, _) => selected(found, value.known.of, *at),
-            Selector::Follow(at) => selected(found, value.known.of, *at),
-            Selector::Paren(at, _) => guarded(found, value.known.of, false, *at, first),
-        },
-    }
-}
-
-/// The same, as a designator.
-#[tactic(auto, using(aos_symbols::proofs::Keeping::after_more))]
-pub fn spot_ended(
-    found: &mut Option<Breach>,
-    first: Pos,
-    value: Answer,
-    selectors: &[Selector],
-) -> Spot
-    ensures noted { found.new ≡ first_after found.old
-        (designators.spotted first
-        (judge.ended first (kept (seen_answer value)) selectors.now)).breaches }
-    ensures answer { seen_spot result ≡
-        (designators.spotted first
-        (judge.ended first (kept (seen_answer value)) selectors.now)).answer }
-{
-    spot_of(first, ended(found, first, value, selectors))
-}
-
-/// A selector behind a name that is no call.
-#[tactic(auto, using(aos_symbols::proofs::Keeping::after_more))]
-pub fn behind(found: &mut Option<Breach>, env: &Env<'_>, head: Head, at: Pos) -> Spot
-    ensures noted { found.new ≡ first_after found.old
-        (judge.behind (designators.named env.now head) at).breaches }
-    ensures answer { seen_spot result ≡ (judge.behind (designators.named env.now head) at).answer }
-{
-    let spot = named(found, env, head);
-    spot_of(spot.at, selected(found, spot.known.of, at))
 }

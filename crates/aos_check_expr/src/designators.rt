@@ -1,7 +1,7 @@
 // Designators: what a name, or a name behind that of a module, stands for.
 
 ghost use Rattle.std.specs.Prelude.{◌≡◌};
-ghost use Rattle.aos_typed.specs.Seen.{seen_place};
+ghost use Rattle.aos_typed.specs.Seen.{seen_expr, seen_place};
 ghost use Rattle.aos_symbols.specs.Breaches.{breach_unless, first_after};
 ghost use Rattle.aos_check_expr.specs.Known as known;
 ghost use Rattle.aos_check_expr.specs.Designators as judge;
@@ -14,12 +14,12 @@ use crate::known::{
 use aos_base::Pos;
 use aos_symbols::{
     Breach, Env, Lookup, Meaning, NO_VARIABLE, NOT_BUILT, NOT_CONSTANT, NOT_EXPORTED, OTHER_KIND,
-    Open, READ_ONLY, Symbol, UNKNOWN, WRONG_CALL, WRONG_SELECTOR, WRONG_TEST, is_procedure_of_out,
-    note, word,
+    Open, READ_ONLY, Symbol, UNKNOWN, WRONG_CALL, WRONG_TEST, is_procedure_of_out, note, word,
 };
 use aos_tree::{Export, Name};
-use aos_typed::{Literal, TPlace};
-use aos_types::TypeId;
+use aos_typed::{Literal, TExpr, TPlace};
+use aos_types::{TypeId, TypeRow};
+use std::mem;
 
 /// What is found of a name, where the name stands, and where its designator begins.
 #[derive(Clone, Copy, PartialEq, Eq, Debug)]
@@ -82,6 +82,17 @@ fn member_in(env: &Env<'_>, lookup: Lookup, name: Name) -> Lookup
     match lookup {
         Lookup::Found(symbol) => member_of(env, symbol.means, name),
         _ => lookup,
+    }
+}
+
+/// What is found of a name behind that of a module, of which this is found.
+pub fn member_behind(env: &Env<'_>, head: Head, name: Name) -> Head
+    ensures { result ≡ judge.member_behind env.now head name }
+{
+    Head {
+        found: member_in(env, head.found, name),
+        at: name.pos,
+        first: head.first,
     }
 }
 
@@ -224,41 +235,45 @@ pub fn named(found: &mut Option<Breach>, env: &Env<'_>, head: Head) -> Spot
     }
 }
 
-/// A selector behind what is of this type.
-pub fn selected(found: &mut Option<Breach>, of: Option<TypeId>, at: Pos) -> Answer
-    ensures noted { found.new ≡ first_after found.old (judge.selected of at).breaches }
-    ensures answer { seen_answer result ≡ (judge.selected of at).answer }
+/// Whether a type that isn't a basic one is that of records or arrays, which have parts.
+pub fn has_parts(env: &Env<'_>, of: TypeId) -> bool
+    ensures { result ≡ judge.has_parts env.now of }
 {
-    match of {
-        Some(of) => {
-            if is_basic(of) {
-                refused(found, WRONG_SELECTOR, at)
-            } else {
-                refused(found, NOT_BUILT, at)
-            }
-        }
-        None => refused(found, NOT_BUILT, at),
+    if is_basic(of) {
+        return false;
     }
+    matches!(
+        env.row(Some(of)),
+        Some(TypeRow::Array(_, _) | TypeRow::Record(_, _))
+    )
+}
+
+/// Whether variables of a type are built: of a basic type, or of one that has parts.
+pub fn is_built(env: &Env<'_>, of: TypeId) -> bool
+    ensures { result ≡ judge.is_built env.now of }
+{
+    is_basic(of) || has_parts(env, of)
 }
 
 /// A call of what is of this type, or a guard, where the argument is the name of a type.
 pub fn guarded(
     found: &mut Option<Breach>,
+    env: &Env<'_>,
     of: Option<TypeId>,
     is_guard: bool,
     at: Pos,
     first: Pos,
 ) -> Answer
     ensures noted { found.new ≡
-        first_after found.old (judge.guarded of is_guard at first).breaches }
-    ensures answer { seen_answer result ≡ (judge.guarded of is_guard at first).answer }
+        first_after found.old (judge.guarded env.now of is_guard at first).breaches }
+    ensures answer { seen_answer result ≡ (judge.guarded env.now of is_guard at first).answer }
 {
     match of {
         None => refused(found, NOT_BUILT, at),
         Some(of) => {
             if !is_guard {
                 refused(found, WRONG_CALL, first)
-            } else if is_basic(of) {
+            } else if is_built(env, of) {
                 refused(found, WRONG_TEST, at)
             } else {
                 refused(found, NOT_BUILT, at)
@@ -267,33 +282,35 @@ pub fn guarded(
     }
 }
 
-fn refuse_others(found: &mut Option<Breach>, of: Option<TypeId>, at: Pos)
+fn refuse_others(found: &mut Option<Breach>, env: &Env<'_>, of: Option<TypeId>, at: Pos)
     ensures { found.new ≡
-        first_after found.old (breach_unless (known.passes known.is_basic of) 99 at) }
+        first_after found.old (breach_unless (known.passes (judge.is_built env.now) of) 99 at) }
 {
     if let Some(of) = of {
-        if !is_basic(of) {
+        if !is_built(env, of) {
             note(found, NOT_BUILT, at);
         }
     }
 }
 
 /// The value of a designator; a variable of a type that isn't built yet can't be read.
-pub fn read(found: &mut Option<Breach>, spot: Spot) -> Answer
-    ensures noted { found.new ≡ first_after found.old (judge.read (seen_spot spot)).breaches }
-    ensures answer { seen_answer result ≡ (judge.read (seen_spot spot)).answer }
+pub fn read(found: &mut Option<Breach>, env: &Env<'_>, spot: Spot) -> Answer
+    ensures noted { found.new ≡
+        first_after found.old (judge.read env.now (seen_spot spot)).breaches }
+    ensures answer { seen_answer result ≡ (judge.read env.now (seen_spot spot)).answer }
 {
-    refuse_others(found, spot.known.of, spot.at);
+    refuse_others(found, env, spot.known.of, spot.at);
     Answer {
         known: spot.known,
         typed: read_from(spot.known.of, spot.held),
     }
 }
 
-/// A designator that is assigned, which begins here: it must be a variable that may be written, of a basic type.
+/// A designator that is assigned, which begins here: it must be a variable that may be written, of a type that is built.
 #[tactic(auto, using(aos_symbols::proofs::Keeping::after_more))]
-pub fn refuse_assigned(found: &mut Option<Breach>, first: Pos, spot: &Spot)
-    ensures { found.new ≡ first_after found.old (judge.assigned first (seen_spot spot.now)).breaches }
+pub fn refuse_assigned(found: &mut Option<Breach>, env: &Env<'_>, first: Pos, spot: &Spot)
+    ensures { found.new ≡
+        first_after found.old (judge.assigned env.now first (seen_spot spot.now)).breaches }
 {
     match spot.known.class {
         Class::Unknown => {}
@@ -302,7 +319,7 @@ pub fn refuse_assigned(found: &mut Option<Breach>, first: Pos, spot: &Spot)
         Class::Constant(_) => note(found, NO_VARIABLE, first),
         Class::Computed => note(found, NO_VARIABLE, first),
     }
-    refuse_others(found, spot.known.of, spot.at);
+    refuse_others(found, env, spot.known.of, spot.at);
 }
 
 /// The place of a variable; some place where it is a value.
@@ -312,5 +329,16 @@ pub fn place_of(held: Held) -> TPlace
     match held {
         Held::Stands(place) => place,
         Held::Value(_) => TPlace::ModuleVar(0, 0),
+    }
+}
+
+/// The place that an expression reads; some place where it reads none.
+pub fn place_in(part: TExpr) -> TPlace
+    ensures { seen_place result ≡ judge.place_in (seen_expr part) }
+{
+    let mut part = part;
+    match &mut part {
+        TExpr::Read(_, place) => mem::replace(place, TPlace::ModuleVar(0, 0)),
+        _ => TPlace::ModuleVar(0, 0),
     }
 }

@@ -7,26 +7,22 @@ ghost use Rattle.aos_symbols.specs.Judged.{walk};
 ghost use Rattle.aos_check_expr.specs.Known as known;
 ghost use Rattle.aos_check_expr.specs.Operations as operations;
 ghost use Rattle.aos_check_expr.specs.Expressions as judge;
-ghost use Rattle.aos_check_expr.specs.Seen.{seen_answer, seen_spot};
+ghost use Rattle.aos_check_expr.specs.Seen.{seen_answer, seen_part, seen_spot};
 
-use crate::calls::{
-    Limit, behind, limit_called, not_called, spot_ended, value_of_one, value_of_two,
-};
-use crate::designators::{Head, is_module, member, named, plain, read, refused, refused_at};
+use crate::calls::{Limit, is_guard, limit_called, not_called, value_of_one, value_of_two};
+use crate::designators::{Head, guarded, is_module, named, plain, read, refused};
 use crate::forms::{
     added, byte_of, character, character_in, multiplied, not_yet, number, opposite, related,
     signed, whole_set, with_element, with_span,
 };
-use crate::known::{Answer, Class, Spot, is_boolean, is_char, is_integer, is_number};
+use crate::known::{Answer, Class, Spot, is_boolean, is_char, is_integer, is_number, spot_of};
 use crate::operations;
+use crate::selectors::{self, Part, followed_part, pointed, spot_of_part};
 use aos_base::Pos;
 use aos_symbols::{
-    ARGUMENT_COUNT, Breach, Env, Function, Lookup, Meaning, NO_CONDITION, NOT_CONSTANT, OTHER_KIND,
-    note,
+    ARGUMENT_COUNT, Breach, Env, Function, Lookup, Meaning, NO_CONDITION, NOT_CONSTANT, note,
 };
-use aos_tree::{
-    Addition, Desig, Elem, Expr, Factor, Name, Product, Relation, Selector, Simple, Term,
-};
+use aos_tree::{Addition, Desig, Elem, Expr, Factor, Product, Relation, Selector, Simple, Term};
 use aos_typed::{Literal, TExpr};
 use aos_types::TypeId;
 use std::alloc::{AllocError, Global};
@@ -67,7 +63,7 @@ fn relation(
         (judge.relation env.now first (seen_answer left) part.now).answer) }
 {
     let right = simple(alloc, found, env, &part.right)?;
-    related(alloc, found, first, part.pos, part.op, left, right)
+    related(alloc, found, env, first, part.pos, part.op, left, right)
 }
 
 #[cycle(exprs)]
@@ -200,7 +196,7 @@ fn factor(
     match part {
         Factor::Desig(desig) => {
             let spot = designator(alloc, found, env, desig)?;
-            Ok(read(found, spot))
+            Ok(read(found, env, spot))
         }
         Factor::Number(_, n) => Ok(number(*n)),
         Factor::Char(at, n) => Ok(character(found, byte_of(*n), *at)),
@@ -281,67 +277,177 @@ pub fn designator(
         (judge.designator env.now part.now).breaches) }
     ensures answer { IfOk result (λ r. seen_spot r ≡ (judge.designator env.now part.now).answer) }
 {
-    selected(alloc, found, env, part.name, part.selectors.as_slice())
+    let begun = Part::Begun(plain(env, part.name));
+    let first = part.name.pos;
+    let whole = selectors(alloc, found, env, first, begun, part.selectors.as_slice())?;
+    Ok(spot_of_part(found, env, whole))
 }
 
-/// A name, and what stands behind it.
+/// What a designator that begins here is so far, and its selectors.
 #[cycle(exprs)]
-#[tactic(auto, using(aos_symbols::proofs::Keeping::after_more))]
-fn selected(
+#[tactic(auto, using(aos_symbols::proofs::Keeping::after_more, aos_symbols::proofs::Steps::walk_step, aos_symbols::proofs::Steps::walk_end))]
+fn selectors(
     alloc: Global,
     found: &mut Option<Breach>,
     env: &Env<'_>,
-    name: Name,
-    selectors: &[Selector],
-) -> Result<Spot, AllocError>
+    first: Pos,
+    begun: Part,
+    all: &[Selector],
+) -> Result<Part, AllocError>
     ensures noted { OnOk result (found.new ≡ first_after found.old
-        (judge.selected env.now name selectors.now).breaches) }
-    ensures answer { IfOk result (λ r. seen_spot r ≡
-        (judge.selected env.now name selectors.now).answer) }
+        (walk (judge.selector env.now first) (seen_part begun) all.now).breaches) }
+    ensures answer { IfOk result (λ r. seen_part r ≡
+        (walk (judge.selector env.now first) (seen_part begun) all.now).answer) }
 {
-    let head = plain(env, name);
-    if !is_module(head.found) {
-        return from_head(alloc, found, env, head, selectors);
+    let mut whole = begun;
+    for part in all {
+        whole = selector(alloc, found, env, first, whole, part)?;
     }
-    match selectors.split_first() {
-        None => Ok(named(found, env, head)),
-        Some((selector, more)) => match selector {
-            Selector::Field(_, own) => {
-                let head = member(env, name, *own);
-                from_head(alloc, found, env, head, more)
-            }
-            _ => Ok(refused_at(found, OTHER_KIND, name.pos)),
-        },
+    Ok(whole)
+}
+
+/// One selector.
+#[cycle(exprs)]
+#[tactic(auto, using(crate::proofs::Rows::selector_index, crate::proofs::Rows::selector_paren))]
+fn selector(
+    alloc: Global,
+    found: &mut Option<Breach>,
+    env: &Env<'_>,
+    first: Pos,
+    whole: Part,
+    part: &Selector,
+) -> Result<Part, AllocError>
+    ensures noted { OnOk result (found.new ≡ first_after found.old
+        (judge.selector env.now first (seen_part whole) part.now).breaches) }
+    ensures answer { IfOk result (λ r. seen_part r ≡
+        (judge.selector env.now first (seen_part whole) part.now).answer) }
+{
+    match part {
+        Selector::Field(at, name) => pointed(alloc, found, env, whole, *at, *name),
+        Selector::Index(at, all) => { indexed(alloc, found, env, whole, *at, all.as_slice()) }
+        Selector::Follow(at) => Ok(followed_part(found, env, whole, *at)),
+        Selector::Paren(at, arguments) => {
+            bracketed(alloc, found, env, first, whole, *at, arguments.as_slice())
+        }
     }
 }
 
-/// What is found of a name, and what stands behind it.
+/// The indices of a bracket that stands here, behind what a designator is so far.
 #[cycle(exprs)]
-#[tactic(auto, using(aos_symbols::proofs::Keeping::after_more, crate::proofs::Rows::selector_paren))]
-fn from_head(
+#[tactic(auto, using(aos_symbols::proofs::Keeping::after_more))]
+fn indexed(
+    alloc: Global,
+    found: &mut Option<Breach>,
+    env: &Env<'_>,
+    whole: Part,
+    at: Pos,
+    all: &[Expr],
+) -> Result<Part, AllocError>
+    ensures noted { OnOk result (found.new ≡ first_after found.old
+        (judge.indexed env.now at (seen_part whole) all.now).breaches) }
+    ensures answer { IfOk result (λ r. seen_part r ≡
+        (judge.indexed env.now at (seen_part whole) all.now).answer) }
+{
+    let begun = spot_of_part(found, env, whole);
+    let reached = indices(alloc, found, env, at, begun, all)?;
+    Ok(Part::Meant(reached))
+}
+
+/// One index after another: `a[i, j]` is `a[i][j]`.
+#[cycle(exprs)]
+#[tactic(auto, using(aos_symbols::proofs::Keeping::after_more, aos_symbols::proofs::Steps::walk_step, aos_symbols::proofs::Steps::walk_end))]
+fn indices(
+    alloc: Global,
+    found: &mut Option<Breach>,
+    env: &Env<'_>,
+    at: Pos,
+    begun: Spot,
+    all: &[Expr],
+) -> Result<Spot, AllocError>
+    ensures noted { OnOk result (found.new ≡ first_after found.old
+        (walk (judge.index env.now at) (seen_spot begun) all.now).breaches) }
+    ensures answer { IfOk result (λ r. seen_spot r ≡
+        (walk (judge.index env.now at) (seen_spot begun) all.now).answer) }
+{
+    let mut whole = begun;
+    for part in all {
+        whole = index(alloc, found, env, at, whole, part)?;
+    }
+    Ok(whole)
+}
+
+/// One index, in a bracket that stands here.
+#[cycle(exprs)]
+#[tactic(auto, using(aos_symbols::proofs::Keeping::after_more))]
+fn index(
+    alloc: Global,
+    found: &mut Option<Breach>,
+    env: &Env<'_>,
+    at: Pos,
+    whole: Spot,
+    part: &Expr,
+) -> Result<Spot, AllocError>
+    ensures noted { OnOk result (found.new ≡ first_after found.old
+        (judge.index env.now at (seen_spot whole) part.now).breaches) }
+    ensures answer { IfOk result (λ r. seen_spot r ≡
+        (judge.index env.now at (seen_spot whole) part.now).answer) }
+{
+    let index = expr(alloc, found, env, part)?;
+    selectors::element(alloc, found, env, at, whole, index)
+}
+
+/// A bracket that stands here, behind what a designator is so far: a call, or a guard.
+#[cycle(exprs)]
+#[tactic(auto, using(aos_symbols::proofs::Keeping::after_more))]
+fn bracketed(
+    alloc: Global,
+    found: &mut Option<Breach>,
+    env: &Env<'_>,
+    first: Pos,
+    whole: Part,
+    at: Pos,
+    arguments: &[Expr],
+) -> Result<Part, AllocError>
+    ensures noted { OnOk result (found.new ≡ first_after found.old
+        (judge.bracketed env.now first (seen_part whole) at
+        (map (judge.expr env.now) arguments.now) arguments.now).breaches) }
+    ensures answer { IfOk result (λ r. seen_part r ≡
+        (judge.bracketed env.now first (seen_part whole) at
+        (map (judge.expr env.now) arguments.now) arguments.now).answer) }
+{
+    match whole {
+        Part::Begun(head) => bracketed_name(alloc, found, env, head, at, arguments),
+        Part::Meant(spot) => {
+            let is_guard = is_guard(env, arguments);
+            let value = guarded(found, env, spot.known.of, is_guard, at, first);
+            Ok(Part::Meant(spot_of(spot.at, value)))
+        }
+    }
+}
+
+/// A bracket that stands here, behind a name.
+#[cycle(exprs)]
+#[tactic(auto, using(aos_symbols::proofs::Keeping::after_more))]
+fn bracketed_name(
     alloc: Global,
     found: &mut Option<Breach>,
     env: &Env<'_>,
     head: Head,
-    selectors: &[Selector],
-) -> Result<Spot, AllocError>
+    at: Pos,
+    arguments: &[Expr],
+) -> Result<Part, AllocError>
     ensures noted { OnOk result (found.new ≡ first_after found.old
-        (judge.from_head env.now head selectors.now).breaches) }
-    ensures answer { IfOk result (λ r. seen_spot r ≡
-        (judge.from_head env.now head selectors.now).answer) }
+        (judge.bracketed_name env.now head at
+        (map (judge.expr env.now) arguments.now) arguments.now).breaches) }
+    ensures answer { IfOk result (λ r. seen_part r ≡
+        (judge.bracketed_name env.now head at
+        (map (judge.expr env.now) arguments.now) arguments.now).answer) }
 {
-    let Some((selector, more)) = selectors.split_first() else {
-        return Ok(named(found, env, head));
-    };
-    match selector {
-        Selector::Field(at, _) => Ok(behind(found, env, head, *at)),
-        Selector::Index(at, _) => Ok(behind(found, env, head, *at)),
-        Selector::Follow(at) => Ok(behind(found, env, head, *at)),
-        Selector::Paren(at, arguments) => {
-            let value = called(alloc, found, env, head, *at, arguments.as_slice())?;
-            Ok(spot_ended(found, head.first, value, more))
-        }
+    if is_module(head.found) {
+        return Ok(Part::Meant(named(found, env, head)));
     }
+    let value = called(alloc, found, env, head, at, arguments)?;
+    Ok(Part::Meant(spot_of(head.first, value)))
 }
 
 /// A call, whose bracket stands here.

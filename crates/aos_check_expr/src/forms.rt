@@ -10,14 +10,14 @@ ghost use Rattle.aos_symbols.specs.Judged.{kept};
 ghost use Rattle.aos_check_expr.specs.Expressions as judge;
 ghost use Rattle.aos_check_expr.specs.Seen.{seen_answer};
 
-use crate::designators::refused;
-use crate::known::{Answer, Class, answered, constant_answer, is_basic, nothing};
+use crate::designators::{is_built, refused};
+use crate::known::{Answer, Class, Known, answered, constant_answer, is_basic, nothing};
 use crate::operations;
 use aos_base::Pos;
-use aos_symbols::{BOOLEAN, Breach, NOT_BUILT, WRONG_TEST, note};
+use aos_symbols::{BOOLEAN, Breach, CHAR, Env, NOT_BUILT, WRONG_TEST, note};
 use aos_tree::{AddOp, MulOp, RelationOp, Sign, Text};
 use aos_typed::Literal;
-use aos_types::TypeId;
+use aos_types::{TypeId, TypeRow};
 use std::alloc::{AllocError, Global};
 
 /// A form that isn't built.
@@ -103,14 +103,14 @@ pub fn multiplied(
     operations::operands(alloc, found, first, at, product, a, b)
 }
 
-/// A type test, which no basic type has.
-pub fn tested(found: &mut Option<Breach>, of: Option<TypeId>, at: Pos) -> Answer
-    ensures noted { found.new ≡ first_after found.old (judge.tested of at).breaches }
-    ensures answer { seen_answer result ≡ (judge.tested of at).answer }
+/// A type test, which no value of a basic type has, nor a variable that is a record or an array.
+pub fn tested(found: &mut Option<Breach>, env: &Env<'_>, of: Option<TypeId>, at: Pos) -> Answer
+    ensures noted { found.new ≡ first_after found.old (judge.tested env.now of at).breaches }
+    ensures answer { seen_answer result ≡ (judge.tested env.now of at).answer }
 {
     match of {
         Some(of) => {
-            if is_basic(of) {
+            if is_built(env, of) {
                 note(found, WRONG_TEST, at);
             } else {
                 note(found, NOT_BUILT, at);
@@ -121,10 +121,57 @@ pub fn tested(found: &mut Option<Breach>, of: Option<TypeId>, at: Pos) -> Answer
     answered(Class::Unknown, Some(BOOLEAN), nothing())
 }
 
+/// Whether what is known of a part is that it is an array of characters, which is a text.
+pub fn is_characters(env: &Env<'_>, known: Known) -> bool
+    ensures { result ≡ judge.is_characters env.now known }
+{
+    let Some(of) = known.of else {
+        return false;
+    };
+    if is_basic(of) {
+        return false;
+    }
+    match env.row(Some(of)) {
+        Some(TypeRow::Array(_, of)) => of.0 == CHAR.0,
+        _ => false,
+    }
+}
+
+/// Whether a part is a constant that is a character.
+pub fn is_character(class: Class) -> bool
+    ensures { result ≡ judge.is_character class }
+{
+    matches!(class, Class::Constant(Some(Literal::Char(_))))
+}
+
+fn is_text(env: &Env<'_>, known: Known) -> bool
+    ensures { result ≡ judge.is_text env.now known }
+{
+    is_characters(env, known) || is_character(known.class)
+}
+
+fn are_texts(env: &Env<'_>, a: Known, b: Known) -> bool
+    ensures { result ≡ judge.are_texts env.now a b }
+{
+    (is_characters(env, a) && is_text(env, b)) || (is_text(env, a) && is_characters(env, b))
+}
+
+/// Whether an operator compares two texts.
+fn compares_texts(env: &Env<'_>, op: RelationOp, a: Known, b: Known) -> bool
+    ensures { result ≡ judge.compares_texts env.now op a b }
+{
+    match op {
+        RelationOp::In => false,
+        RelationOp::Is => false,
+        _ => are_texts(env, a, b),
+    }
+}
+
 /// A relation of two operands, whose operator stands here.
 pub fn related(
     alloc: Global,
     found: &mut Option<Breach>,
+    env: &Env<'_>,
     first: Pos,
     at: Pos,
     op: RelationOp,
@@ -132,12 +179,16 @@ pub fn related(
     b: Answer,
 ) -> Result<Answer, AllocError>
     ensures noted { OnOk result (found.new ≡ first_after found.old
-        (judge.related_by first at op (seen_answer a) (seen_answer b)).breaches) }
+        (judge.related_by env.now first at op (seen_answer a) (seen_answer b)).breaches) }
     ensures answer { IfOk result (λ r. seen_answer r ≡
-        (judge.related_by first at op (seen_answer a) (seen_answer b)).answer) }
+        (judge.related_by env.now first at op (seen_answer a) (seen_answer b)).answer) }
 {
     if let RelationOp::Is = op {
-        return Ok(tested(found, a.known.of, at));
+        return Ok(tested(found, env, a.known.of, at));
+    }
+    if compares_texts(env, op, a.known, b.known) {
+        note(found, NOT_BUILT, at);
+        return Ok(answered(Class::Unknown, Some(BOOLEAN), nothing()));
     }
     let relation = operations::related(op, a.known.of, b.known.of);
     operations::operands(alloc, found, first, at, relation, a, b)

@@ -258,7 +258,8 @@ pub fn type_of_literal(value: Literal) -> TypeId
     }
 }
 
-fn type_as(of: TypeId) -> TType
+/// A type in the typed program.
+pub fn type_as(of: TypeId) -> TType
     ensures { result ≡ known.type_as of }
 {
     if is_integer(of) {

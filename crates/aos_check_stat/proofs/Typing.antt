@@ -1,5 +1,5 @@
 -- Statements that break no rule are well typed, where the types of all variables are known.
-use Rattle.std.proofs.Common.{◌≡◌, List, [], ◌∷◌, ◌++◌, Bool, true, false, codes, Option, Some, None, sym, ap, ◌∙◌, subst, if◌then◌else◌}
+use Rattle.std.proofs.Common.{◌≡◌, List, [], ◌∷◌, ◌++◌, Bool, true, false, ◌&&◌, ◌||◌, codes, Option, Some, None, refl, sym, ◌∙◌, if◌then◌else◌}
 use Rattle.aos_base.specs.declared.text.Pos.{Pos}
 use Rattle.aos_base.specs.declared.number.Width.TheVariants.{W64}
 use Rattle.aos_tree.specs.declared.name.Name.{Name}
@@ -11,8 +11,8 @@ use Rattle.aos_tree.specs.declared.stat.Block.{Block}
 use Rattle.aos_tree.specs.declared.stat.Stat.{Stat as TreeStat, Row_of-Stat, end_of-Stat, more_of-Stat}
 use Rattle.aos_tree.specs.declared.stat.Stat.TheVariants as stat
 use Rattle.aos_typed.specs.declared.tree.TType.TheVariants as type
-use Rattle.aos_typed.specs.Program.{Program, Expr, Call, Open, Char, Int, Ln, Stat, Assign, While, Out}
-use Rattle.aos_typed.specs.WellTyped.{is_basic, IsOf, IsCall, IsStatement, AreStatements}
+use Rattle.aos_typed.specs.Program.{Program, Expr, Call, Open, Char, Int, Ln, Stat, Assign, Copy, While, Out}
+use Rattle.aos_typed.specs.WellTyped.{IsOf, IsCall, IsStatement, AreStatements}
 use Rattle.aos_symbols.specs.declared.scope.Meaning.{Meaning}
 use Rattle.aos_symbols.specs.declared.scope.Meaning.TheVariants as means
 use Rattle.aos_symbols.specs.declared.env.Lookup.{Lookup}
@@ -25,14 +25,14 @@ use Rattle.aos_symbols.specs.Env as env
 use Rattle.aos_symbols.proofs.Holds.{Holds, holds_bind, holds_walk, test_is}
 use Rattle.aos_check_expr.specs.declared.known.Class.{Class}
 use Rattle.aos_check_expr.specs.declared.known.Class.TheVariants.{Unknown, Constant, Variable, ReadOnly, Computed}
-use Rattle.aos_check_expr.specs.Known.{Answer, Spot, fits, type_of, is_number, is_char}
-use Rattle.aos_check_expr.specs.Designators.{assigned, place_of}
-use Rattle.aos_check_expr.specs.Expressions.{expr, condition, argument, designator, desig_alone}
+use Rattle.aos_check_expr.specs.Known.{Answer, Spot, fits, type_as, is_basic as is_basic_type, is_number, is_char}
+use Rattle.aos_check_expr.specs.Designators.{has_parts, assigned, place_of, place_in}
+use Rattle.aos_check_expr.specs.Expressions.{is_characters, is_character, expr, condition, argument, designator, desig_alone}
 use Rattle.aos_check_expr.proofs.Types.{as_basic}
-use Rattle.aos_check_expr.proofs.Typing.{IsWhole, IsSound, expr_sound, condition_sound, argument_sound, fits_sound}
+use Rattle.aos_check_expr.proofs.Typing.{IsWhole, IsSound, expr_sound, condition_sound, argument_sound}
 use Rattle.aos_check_stat.specs.Bodies as judge
 use Rattle.aos_check_stat.specs.Bodies.{listed, put, made, new_breaches, outs, ended, arguments, behind_arguments, modifier_breaches}
-use Rattle.aos_check_stat.proofs.Places.{IsRead, read_sound, IsAssigned, assigned_sound, made_sound}
+use Rattle.aos_check_stat.proofs.Places.{some_breach, IsRead, read_sound, IsAssigned, assigned_sound, fitting, copying, made_sound}
 
 module _ (p : Program) (e : Env) (whole : IsWhole p e) where
   abbrev MayBe : Option Stat → Type 0
@@ -52,20 +52,35 @@ module _ (p : Program) (e : Env) (whole : IsWhole p e) where
 
   -- Assignments.
 
-  fitting : (a : Spot) (v : Answer) → IsAssigned p e whole a → IsSound p v → fits v.known.of a.known.of ≡ true → IsOf p v.typed (type_of a.known.of)
-  fitting a v is sound h =
-      subst (λ o. IsOf p v.typed (type_of o)) (sym is.1)
-      (fits_sound p v sound is.0 (ap (λ o. fits o (Some is.0)) (sym sound.known) ∙ ap (fits v.known.of) (sym is.1) ∙ h))
+  -- an assigned value fits, and is no text
+  unbroken : (at first : Pos) (a : Spot) (v : Answer) → judge.assign_breaches e at first a v ≡ [] → fits v.known.of a.known.of ≡ true
+  unbroken at first a v = by (is_characters e a.known && is_character v.known.class)
+    where
+      by : (text : Bool) → (if text then breach 99 first else breach_unless (fits v.known.of a.known.of) 31 at) ≡ [] → fits v.known.of a.known.of ≡ true
+      by true none = absurd (some_breach none)
+      by false none = test_is (fits v.known.of a.known.of) 31 at none
+
+  stat_sound_of : (first : Pos) (a : Spot) (v : Answer) → IsAssigned p e whole a → IsSound p v → fits v.known.of a.known.of ≡ true → IsStatement p (judge.assigned_stat e first a v)
+  stat_sound_of first a v is sound h = rw is.known (by (has_parts e is.of) refl)
+    where
+      without_parts : (b c : Bool) → (b || c) ≡ true → c ≡ false → b ≡ true
+      without_parts true c e n = refl
+      without_parts false c e n = sym n ∙ e
+
+      by : (parts : Bool) → has_parts e is.of ≡ parts →
+          IsStatement p (if parts then Copy first (type_as is.of) (place_of a.held) (place_in v.typed) else Assign first (type_as is.of) (place_of a.held) v.typed)
+      by true parts = let c = copying p e whole a v is parts sound h in (is.typed, c.from, c.row)
+      by false parts =
+          let low : is_basic_type is.of ≡ true = without_parts (is_basic_type is.of) (has_parts e is.of) is.built parts in
+          (is.typed, as_basic is.of low, fitting p e whole a v is low sound h)
 
   assign_sound : (d : Desig) (at : Pos) (x : TreeExpr) → Holds MayBe (judge.assign e d at x)
   assign_sound d at x =
-      holds_bind (IsAssigned p e whole) MayBe (bind (designator e d) (λ a. assigned d.name.pos a))
-      (λ a. bind (expr e x) (λ v. judged (breach_unless (fits v.known.of a.known.of) 31 at) (Some (Assign d.name.pos (type_of a.known.of) (place_of a.held) v.typed))))
-      (holds_bind (IsRead p e whole) (IsAssigned p e whole) (designator e d) (λ a. assigned d.name.pos a) (read_sound p e whole d) (λ a is. assigned_sound p e whole a d.name.pos is))
-      (λ a is. holds_bind (IsSound p) MayBe (expr e x)
-      (λ v. judged (breach_unless (fits v.known.of a.known.of) 31 at) (Some (Assign d.name.pos (type_of a.known.of) (place_of a.held) v.typed)))
-      (expr_sound p e whole x) (λ v sound h.
-      (is.3 ∙ ap (λ o. Some (type_of o)) (sym is.1), ap (λ o. is_basic (type_of o)) is.1 ∙ as_basic is.0 is.2, fitting a v is sound (test_is (fits v.known.of a.known.of) 31 at h))))
+      let last = λ (a : Spot) (v : Answer). judged (judge.assign_breaches e at (out-Expr x).pos a v) (Some (judge.assigned_stat e d.name.pos a v)) in
+      holds_bind (IsAssigned p e whole) MayBe (bind (designator e d) (λ a. assigned e d.name.pos a)) (λ a. bind (expr e x) (λ v. last a v))
+      (holds_bind (IsRead p e whole) (IsAssigned p e whole) (designator e d) (λ a. assigned e d.name.pos a) (read_sound p e whole d) (λ a is. assigned_sound p e whole a d.name.pos is))
+      (λ a is. holds_bind (IsSound p) MayBe (expr e x) (λ v. last a v) (expr_sound p e whole x)
+      (λ v sound h. stat_sound_of d.name.pos a v is sound (unbroken at (out-Expr x).pos a v h)))
 
   -- The procedures of Out.
 

@@ -1,23 +1,28 @@
 -- A designator that is a value is no variable.
-use Rattle.std.proofs.Common.{List, [], ◌∷◌, Bool, true, false, ◌==◌, Option, Some, None, if◌then◌else◌}
+use Rattle.std.proofs.Common.{◌≡◌, List, [], ◌∷◌, Bool, true, false, ◌||◌, ◌==◌, Option, Some, None, is_some, if◌then◌else◌, refl}
 use Rattle.aos_base.specs.declared.text.Pos.{Pos}
 use Rattle.aos_tree.specs.declared.name.Name.{Name}
 use Rattle.aos_tree.specs.declared.decl.Export.{Export}
 use Rattle.aos_tree.specs.declared.expr.Expr.{Expr as TreeExpr, out-Expr}
 use Rattle.aos_tree.specs.declared.expr.Desig.{Desig}
+use Rattle.aos_tree.specs.declared.expr.Factor.{Row_of-Expr, end_of-Expr, more_of-Expr}
 use Rattle.aos_tree.specs.declared.expr.Selector.{Selector, items-the_row-Expr}
 use Rattle.aos_tree.specs.declared.expr.Selector.TheVariants as s
 use Rattle.aos_types.specs.declared.row.TypeId.{TypeId}
+use Rattle.aos_types.specs.declared.row.TypeRow.{TypeRow}
+use Rattle.aos_types.specs.declared.row.TypeRow.TheVariants as row
 use Rattle.aos_typed.specs.declared.tree.Literal.{Literal}
 use Rattle.aos_symbols.specs.declared.scope.Meaning.{Meaning}
 use Rattle.aos_symbols.specs.declared.scope.Meaning.TheVariants as means
 use Rattle.aos_symbols.specs.declared.scope.Function.TheVariants as function
+use Rattle.aos_typed.specs.Program.{Place, Index, Field as FieldOf}
 use Rattle.aos_symbols.specs.declared.env.Open.{Open}
+use Rattle.aos_symbols.specs.declared.env.Field.{Field}
 use Rattle.aos_symbols.specs.declared.env.Symbol.{Symbol}
 use Rattle.aos_symbols.specs.declared.env.Lookup.{Lookup}
 use Rattle.aos_symbols.specs.declared.env.Lookup.TheVariants.{Unknown as NoName, NotExported, Found}
 use Rattle.aos_symbols.specs.declared.env.Env.{Env}
-use Rattle.aos_symbols.specs.Judged.{Judged, kept}
+use Rattle.aos_symbols.specs.Judged.{Judged, kept, walk}
 use Rattle.aos_symbols.specs.Env as env
 use Rattle.aos_check_expr.specs.declared.known.Class.{Class}
 use Rattle.aos_check_expr.specs.declared.known.Class.TheVariants.{Unknown, Constant, Variable, ReadOnly, Computed}
@@ -26,7 +31,7 @@ use Rattle.aos_check_expr.specs.declared.operations.Single.{Single}
 use Rattle.aos_check_expr.specs.declared.operations.Joint.{Joint}
 use Rattle.aos_check_expr.specs.declared.operations.Step.{Step}
 use Rattle.aos_check_expr.specs.declared.operations.Operation.{Operation}
-use Rattle.aos_check_expr.specs.Known.{Answer, Spot, Held, Stands, Value, known_as}
+use Rattle.aos_check_expr.specs.Known.{Answer, Spot, Held, Stands, Value, is_basic, is_number, type_as, known_as}
 use Rattle.aos_check_expr.specs.Operations as op
 use Rattle.aos_check_expr.specs.Designators as desig
 use Rattle.aos_check_expr.specs.Expressions as judge
@@ -46,8 +51,11 @@ MayBeHeld c (Value x) = IsValue c
 abbrev OfValue : Judged Answer → Type 0
 OfValue j = IsValue j.answer.known.class
 
+abbrev IsHeld : Spot → Type 0
+IsHeld a = MayBeHeld a.known.class a.held
+
 abbrev pub OfHeld : Judged Spot → Type 0
-OfHeld j = MayBeHeld j.answer.known.class j.answer.held
+OfHeld j = IsHeld j.answer
 
 -- Operators give values.
 
@@ -58,6 +66,13 @@ known_value (Constant None) of is = tt
 known_value Variable of is = is
 known_value ReadOnly of is = is
 known_value Computed of is = tt
+
+part_value : (may : Bool) (c : Class) → IsValue c → IsValue (desig.part_class may c)
+part_value may Unknown is = tt
+part_value may (Constant v) is = tt
+part_value may Variable is = absurd is
+part_value may ReadOnly is = absurd is
+part_value may Computed is = tt
 
 kept_value : (b : Bool) (c : Class) → IsValue c → IsValue (op.kept_class b c)
 kept_value true c is = is
@@ -147,16 +162,12 @@ two_of at (j ∷ k ∷ []) (x ∷ y ∷ []) = joined_value (op.shifted j.answer.
 two_of at (j ∷ k ∷ []) (x ∷ y ∷ z ∷ xs) = tt
 two_of at (j ∷ k ∷ l ∷ js) xs = tt
 
-guarded : (of : Option TypeId) (is_guard : Bool) (at first : Pos) → OfValue (desig.guarded of is_guard at first)
-guarded None b at first = tt
-guarded (Some t) true at first = tt
-guarded (Some t) false at first = tt
-
-selected : (of : Option TypeId) (at : Pos) → OfValue (desig.selected of at)
-selected None at = tt
-selected (Some t) at = tt
-
 module _ (e : Env) where
+  guarded : (of : Option TypeId) (is_guard : Bool) (at first : Pos) → OfValue (desig.guarded e of is_guard at first)
+  guarded None b at first = tt
+  guarded (Some t) true at first = tt
+  guarded (Some t) false at first = tt
+
   limit : (value : TypeId → Option Literal) (xs : List TreeExpr) (at : Pos) → OfValue (judge.limit e value xs at)
   limit value [] at = tt
   limit value (x ∷ []) at = limit_named value (judge.name_alone e x) (out-Expr x).pos
@@ -198,13 +209,6 @@ module _ (e : Env) where
   called_by (judge.Converts t) h at js xs = one_of (λ of. op.converted t of) h.first js xs
   called_by judge.Neither h at js xs = not_called h.found h.at h.first at xs
 
-  ended : (first : Pos) (j : Judged Answer) (ss : List Selector) → OfValue j → OfValue (judge.ended first j ss)
-  ended first j [] is = is
-  ended first j (s.Field p n ∷ ss) is = selected j.answer.known.of p
-  ended first j (s.Index' p shape row ∷ ss) is = selected j.answer.known.of p
-  ended first j (s.Follow p ∷ ss) is = selected j.answer.known.of p
-  ended first j (s.Paren' p shape row ∷ ss) is = guarded j.answer.known.of false p first
-
   -- Designators.
 
   constant_of : (v : Option (Option Literal)) (at : Pos) → OfValue (desig.constant_of v at)
@@ -234,29 +238,128 @@ module _ (e : Env) where
   found NotExported h = tt
   found (Found x) h = meant x x.means h
 
-  in_module : (n : Name) (x : Selector) (j : Judged Spot) → OfHeld j → OfHeld (judge.in_module n x j)
-  in_module n (s.Field p m) j is = is
-  in_module n (s.Index' p shape row) j is = tt
-  in_module n (s.Follow p) j is = tt
-  in_module n (s.Paren' p shape row) j is = tt
+  -- Parts of variables.
 
-  selector : (h : Head) (x : Selector) (ss : List Selector) → OfHeld (judge.selector e h x ss)
-  selector h (s.Field p n) ss = selected (desig.named e h).answer.known.of p
-  selector h (s.Index' p shape row) ss = selected (desig.named e h).answer.known.of p
-  selector h (s.Follow p) ss = selected (desig.named e h).answer.known.of p
-  selector h (s.Paren' p shape row) ss =
-      ended h.first (judge.called e h p (judge.arguments e row) (items-the_row-Expr _ row)) ss
-      (called_by (judge.callee h.found) h p (judge.arguments e row) (items-the_row-Expr _ row))
+  part : (may : Bool) (of : Option TypeId) (f : Place → Place) (at : Pos) (a : Spot) → IsHeld a → IsHeld (desig.part_spot may of f at a)
+  part may of f at a is = by a.held is
+    where
+      by : (h : Held) → MayBeHeld a.known.class h → MayBeHeld (known_as (desig.part_class may a.known.class) of).class (desig.part_held f h)
+      by (Stands place) is = tt
+      by (Value x) is = known_value (desig.part_class may a.known.class) of (part_value may a.known.class is)
 
-  from_head : (h : Head) (ss : List Selector) → OfHeld (judge.from_head e h ss)
-  from_head h [] = found h.found h
-  from_head h (x ∷ ss) = selector h x ss
+  unknown_part : (at : Pos) (a : Spot) → IsHeld a → IsHeld (desig.unknown_part at a)
+  unknown_part at a is = by a.held is
+    where
+      by : (h : Held) → MayBeHeld a.known.class h → MayBeHeld (known_as a.known.class None).class h
+      by (Stands place) is = tt
+      by (Value x) is = known_value a.known.class None is
 
-  by_selectors : (n : Name) (ss : List Selector) → OfHeld (judge.selected e n ss)
-  by_selectors n [] = found (desig.plain e n).found (desig.plain e n)
-  by_selectors n (x ∷ ss) =
-      either (desig.is_module (env.lookup e n)) (judge.in_module n x (judge.from_head e (judge.head_in e n x) ss)) (judge.selector e (desig.plain e n) x ss)
-      (in_module n x (judge.from_head e (judge.head_in e n x) ss) (from_head (judge.head_in e n x) ss)) (selector (desig.plain e n) x ss)
+  module _ (a : Spot) (is : IsHeld a) where
+    module _ (p : Pos) (n : Name) where
+      found_held : (t : TypeId) (f : Option Field) → OfHeld (desig.field_found e a p n t f)
+      found_held t None = tt
+      found_held t (Some f) =
+          either (f.is_own || is_some f.mark) (kept (desig.field_spot t f n.pos a)) (desig.spotted n.pos (desig.refused 15 n.pos))
+          (part (desig.may_write f) f.of (λ q. FieldOf q (type_as t) f.number) n.pos a is) tt
+
+      field_row : (t : TypeId) → a.known.of ≡ Some t → is_basic t ≡ false → (r : Option TypeRow) → env.row_of e (Some t) ≡ r → OfHeld (desig.field e a p n)
+      field_row t known other (Some (row.Record None fields)) here = rw known (rw other (rw here (found_held t (env.field e t n))))
+      field_row t known other None here = rw known (rw other (rw here tt))
+      field_row t known other (Some (row.Record (Some u) fields)) here = rw known (rw other (rw here tt))
+      field_row t known other (Some (row.Basic k)) here = rw known (rw other (rw here tt))
+      field_row t known other (Some (row.Array k u)) here = rw known (rw other (rw here tt))
+      field_row t known other (Some (row.Open u)) here = rw known (rw other (rw here tt))
+      field_row t known other (Some (row.Pointer u)) here = rw known (rw other (rw here tt))
+      field_row t known other (Some (row.Object u fields)) here = rw known (rw other (rw here tt))
+      field_row t known other (Some (row.Procedure us u)) here = rw known (rw other (rw here tt))
+      field_row t known other (Some row.Any) here = rw known (rw other (rw here tt))
+
+      field : OfHeld (desig.field e a p n)
+      field = by a.known.of refl
+        where
+          by_type : (t : TypeId) → a.known.of ≡ Some t → (b : Bool) → is_basic t ≡ b → OfHeld (desig.field e a p n)
+          by_type t known true low = rw known (rw low tt)
+          by_type t known false other = field_row t known other (env.row_of e (Some t)) refl
+
+          by : (of : Option TypeId) → a.known.of ≡ of → OfHeld (desig.field e a p n)
+          by None known = rw known (unknown_part n.pos a is)
+          by (Some t) known = by_type t known (is_basic t) refl
+
+    module _ (p : Pos) (i : Answer) where
+      element_row : (t : TypeId) → a.known.of ≡ Some t → is_basic t ≡ false → (r : Option TypeRow) → env.row_of e (Some t) ≡ r → OfHeld (desig.element e p a i)
+      element_row t known other (Some (row.Array k u)) here =
+          rw known (rw other (rw here (either (is_number i.known.of) (kept (desig.element_spot k u i a)) (desig.spotted p (desig.refused 42 p))
+          (part true (Some u) (λ q. Index q k (type_as u) i.typed) a.at a is) tt)))
+      element_row t known other None here = rw known (rw other (rw here tt))
+      element_row t known other (Some (row.Record u fields)) here = rw known (rw other (rw here tt))
+      element_row t known other (Some (row.Basic k)) here = rw known (rw other (rw here tt))
+      element_row t known other (Some (row.Open u)) here = rw known (rw other (rw here tt))
+      element_row t known other (Some (row.Pointer u)) here = rw known (rw other (rw here tt))
+      element_row t known other (Some (row.Object u fields)) here = rw known (rw other (rw here tt))
+      element_row t known other (Some (row.Procedure us u)) here = rw known (rw other (rw here tt))
+      element_row t known other (Some row.Any) here = rw known (rw other (rw here tt))
+
+      element : OfHeld (desig.element e p a i)
+      element = by a.known.of refl
+        where
+          by_type : (t : TypeId) → a.known.of ≡ Some t → (b : Bool) → is_basic t ≡ b → OfHeld (desig.element e p a i)
+          by_type t known true low = rw known (rw low tt)
+          by_type t known false other = element_row t known other (env.row_of e (Some t)) refl
+
+          by : (of : Option TypeId) → a.known.of ≡ of → OfHeld (desig.element e p a i)
+          by None known = rw known (unknown_part a.at a is)
+          by (Some t) known = by_type t known (is_basic t) refl
+
+    followed : (p : Pos) → OfHeld (desig.followed e a p)
+    followed p = by a.known.of refl
+      where
+        by : (of : Option TypeId) → a.known.of ≡ of → OfHeld (desig.followed e a p)
+        by None known = rw known (unknown_part a.at a is)
+        by (Some t) known = rw known tt
+
+  indices : {m : _} (at : Pos) (a : Spot) → IsHeld a → (r : Row_of-Expr m) → OfHeld (judge.indices e at a r)
+  indices at a is end_of-Expr = is
+  indices at a is (more_of-Expr x xs) =
+      let i = (judge.expr e x).answer in indices at (desig.element e at a i).answer (element a is at i) xs
+
+  -- A name and its selectors.
+
+  abbrev IsPart : judge.Part → Type 0
+  IsPart (judge.Begun h) = Unit {0}
+  IsPart (judge.Meant a) = IsHeld a
+
+  either_part : (b : Bool) (j k : Judged judge.Part) → IsPart j.answer → IsPart k.answer → IsPart (if b then j else k).answer
+  either_part true j k is also = is
+  either_part false j k is also = also
+
+  as_spot : (a : judge.Part) → IsPart a → OfHeld (judge.spot_of_part e a)
+  as_spot (judge.Begun h) is = found h.found h
+  as_spot (judge.Meant a) is = is
+
+  pointed : (a : judge.Part) → IsPart a → (p : Pos) (n : Name) → IsPart (judge.pointed e a p n).answer
+  pointed (judge.Begun h) is p n =
+      let a = (desig.named e h).answer in
+      either_part (desig.is_module h.found) (kept (judge.Begun (desig.member_behind e h n))) (judge.pointed_name e h p n)
+      tt (field a (found h.found h) p n)
+  pointed (judge.Meant a) is p n = field a is p n
+
+  bracketed : (first : Pos) (a : judge.Part) (p : Pos) (js : List (Judged Answer)) (xs : List TreeExpr) → IsPart (judge.bracketed e first a p js xs).answer
+  bracketed first (judge.Begun h) p js xs =
+      either_part (desig.is_module h.found) (judge.as_part (desig.named e h)) (judge.as_part (desig.spotted h.first (judge.called e h p js xs)))
+      (found h.found h) (called_by (judge.callee h.found) h p js xs)
+  bracketed first (judge.Meant a) p js xs = guarded a.known.of (judge.is_guard e xs) p first
+
+  selector : (first : Pos) (a : judge.Part) → IsPart a → (x : Selector) → IsPart (judge.selector e first a x).answer
+  selector first a is (s.Field p n) = pointed a is p n
+  selector first a is (s.Index' p shape row) = indices p (judge.spot_of_part e a).answer (as_spot a is) row
+  selector first a is (s.Follow p) = followed (judge.spot_of_part e a).answer (as_spot a is) p
+  selector first a is (s.Paren' p shape row) = bracketed first a p (judge.arguments e row) (items-the_row-Expr _ row)
+
+  selectors : (first : Pos) (xs : List Selector) (a : judge.Part) → IsPart a → IsPart (walk (judge.selector e first) a xs).answer
+  selectors first [] a is = is
+  selectors first (x ∷ xs) a is = selectors first xs (judge.selector e first a x).answer (selector first a is x)
 
   pub designator_held : (d : Desig) → OfHeld (judge.designator e d)
-  designator_held d = by_selectors d.name d.selectors
+  designator_held d =
+      let begun = judge.Begun (desig.plain e d.name) in
+      as_spot (walk (judge.selector e d.name.pos) begun d.selectors).answer (selectors d.name.pos d.selectors begun tt)

@@ -1,7 +1,8 @@
--- The third pass: bodies. Built are assignments to variables of basic types, WHILE, NEW of an object variable, the calls of Out
+-- The third pass: bodies. Built are assignments to variables of basic types and of whole records and arrays, WHILE, NEW of an
+-- object variable that is no part of another, the calls of Out
 -- but Out.String, and of the modifiers ACTIVE on an object's body. A statement that isn't built is refused at its first token,
 -- a modifier at itself.
-use Rattle.std.specs.Prelude.{ℕ, List, [], ◌∷◌, ◌++◌, codes, Bool, true, not, ◌&&◌, Option, Some, None, if◌then◌else◌}
+use Rattle.std.specs.Prelude.{ℕ, List, [], ◌∷◌, ◌++◌, codes, Bool, true, false, not, ◌&&◌, Option, Some, None, if◌then◌else◌}
 use Rattle.std.specs.Option.{is_none}
 use Rattle.aos_base.specs.declared.text.Pos.{Pos}
 use Rattle.aos_tree.specs.declared.name.Name.{Name}
@@ -13,7 +14,8 @@ use Rattle.aos_tree.specs.declared.stat.Block.{Block}
 use Rattle.aos_tree.specs.declared.stat.Modifier.{Modifier}
 use Rattle.aos_tree.specs.declared.stat.Stat.{Stat as TreeStat, Row_of-Stat, end_of-Stat, more_of-Stat}
 use Rattle.aos_tree.specs.declared.stat.Stat.TheVariants as stat
-use Rattle.aos_typed.specs.Program.{Call, Open, Char, Int, Ln, Stat, Assign, While, New, Out, Stats, Nothing, Then}
+use Rattle.aos_typed.specs.Program.{Call, Open, Char, Int, Ln, Stat, Assign, Copy, While, New, Out, Stats, Nothing, Then}
+use Rattle.aos_typed.specs.WellTyped.{is_variable}
 use Rattle.aos_symbols.specs.declared.breach.Breach.{Breach}
 use Rattle.aos_symbols.specs.declared.scope.Meaning.{Meaning}
 use Rattle.aos_symbols.specs.declared.scope.Meaning.TheVariants as means
@@ -28,9 +30,9 @@ use Rattle.aos_types.specs.declared.row.TypeId.{TypeId}
 use Rattle.aos_types.specs.Table.{is_object as is_object_row}
 use Rattle.aos_check_expr.specs.declared.known.Class.{Class}
 use Rattle.aos_check_expr.specs.declared.known.Class.TheVariants.{Unknown, Constant, Variable, ReadOnly, Computed}
-use Rattle.aos_check_expr.specs.Known.{Spot, is_number, is_char, is_basic, fits, type_of, object_number}
-use Rattle.aos_check_expr.specs.Designators.{assigned, place_of}
-use Rattle.aos_check_expr.specs.Expressions.{expr, condition, argument, designator, desig_alone}
+use Rattle.aos_check_expr.specs.Known.{Answer, Spot, is_number, is_char, is_basic, fits, type_of, object_number}
+use Rattle.aos_check_expr.specs.Designators.{has_parts, assigned, place_of, place_in}
+use Rattle.aos_check_expr.specs.Expressions.{is_characters, is_character, expr, condition, argument, designator, desig_alone}
 
 -- statements as a sequence of the typed program
 abbrev pub listed : List Stat → Stats
@@ -78,10 +80,10 @@ abbrev pub is_object : Env → Option TypeId → Bool
 is_object e None = true
 is_object e (Some t) = not (is_basic t) && is_object_row (env.row_of e (Some t))
 
--- NEW stands at the first place, its argument at the second
+-- NEW stands at the first place, its argument at the second; an object that is a part of another variable isn't built
 abbrev pub new_breaches : Env → Pos → Pos → Spot → List Breach
 new_breaches e at first a =
-    breach_unless (is_object e a.known.of) 47 at ++ new_class_at a.known.class
+    breach_unless (is_object e a.known.of) 47 at ++ new_class_at a.known.class ++ breach_unless (is_variable (place_of a.held)) 99 at
   where
     new_class_at : Class → List Breach
     new_class_at ReadOnly = breach 33 first
@@ -113,12 +115,28 @@ modifier_breaches text may_be_active (m ∷ ms) =
     ++ modifier_breaches text (may_be_active && not (is_active text m)) ms
 
 module _ (e : Env) where
-  -- the value must fit the variable, or else `:=` is refused
+  -- the value must fit the variable, or else `:=` is refused; a text for an array of characters isn't built
+  abbrev pub assign_breaches : Pos → Pos → Spot → Answer → List Breach
+  assign_breaches at first a v =
+      if is_characters e a.known && is_character v.known.class
+      then breach 99 first
+      else breach_unless (fits v.known.of a.known.of) 31 at
+
+  -- a whole record or array is copied
+  abbrev pub assigned_stat : Pos → Spot → Answer → Stat
+  assigned_stat first a v =
+      if passes_parts a.known.of
+      then Copy first (type_of a.known.of) (place_of a.held) (place_in v.typed)
+      else Assign first (type_of a.known.of) (place_of a.held) v.typed
+    where
+      passes_parts : Option TypeId → Bool
+      passes_parts None = false
+      passes_parts (Some t) = has_parts e t
+
   abbrev pub assign : Desig → Pos → TreeExpr → Judged (Option Stat)
   assign d at x =
-      bind (bind (designator e d) (λ a. assigned d.name.pos a)) (λ a. bind (expr e x) (λ v.
-      judged (breach_unless (fits v.known.of a.known.of) 31 at)
-      (Some (Assign d.name.pos (type_of a.known.of) (place_of a.held) v.typed))))
+      bind (bind (designator e d) (λ a. assigned e d.name.pos a)) (λ a. bind (expr e x) (λ v.
+      judged (assign_breaches at (out-Expr x).pos a v) (Some (assigned_stat d.name.pos a v))))
 
   -- the procedures of Out, with their arguments
   abbrev pub int_call : Pos → List TreeExpr → Judged (Option Stat)

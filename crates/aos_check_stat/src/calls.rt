@@ -6,20 +6,24 @@ ghost use Rattle.aos_typed.specs.Seen.{seen_stat};
 ghost use Rattle.aos_symbols.specs.Breaches.{first_after};
 ghost use Rattle.aos_symbols.specs.Env as scopes;
 ghost use Rattle.aos_symbols.specs.Judged.{bind};
-ghost use Rattle.aos_check_expr.specs.Seen.{seen_spot};
+ghost use Rattle.aos_typed.specs.WellTyped.{is_variable as is_variable_place};
+ghost use Rattle.aos_check_expr.specs.Seen.{seen_held, seen_spot};
+ghost use Rattle.aos_check_expr.specs.Designators.{place_of as place_held};
 ghost use Rattle.aos_check_expr.specs.Expressions as expression;
 ghost use Rattle.aos_check_stat.specs.Bodies as judge;
 
 use crate::out::out_selectors;
 use crate::refusals::{arguments, behind_arguments, not_yet, refuse_behind, refused};
 use aos_base::Pos;
-use aos_check_expr::{Class, Spot, desig_alone, designator, is_basic, object_number, place_of};
+use aos_check_expr::{
+    Class, Held, Spot, desig_alone, designator, is_basic, object_number, place_of,
+};
 use aos_symbols::{
-    ARGUMENT_COUNT, Breach, Env, Lookup, Meaning, NOT_EXPORTED, READ_ONLY, UNKNOWN, WRONG_CALL,
-    WRONG_NEW, note,
+    ARGUMENT_COUNT, Breach, Env, Lookup, Meaning, NOT_BUILT, NOT_EXPORTED, READ_ONLY, UNKNOWN,
+    WRONG_CALL, WRONG_NEW, note,
 };
 use aos_tree::{Desig, Expr, Selector};
-use aos_typed::TStat;
+use aos_typed::{TPlace, TStat};
 use aos_types::{TypeId, TypeRow};
 use std::alloc::{AllocError, Global};
 
@@ -36,8 +40,20 @@ fn is_object(env: &Env<'_>, of: Option<TypeId>) -> bool
     matches!(env.row(of), Some(TypeRow::Object(_, _)))
 }
 
+/// Whether what a designator stands for is no part of another variable.
+fn is_variable(held: &Held) -> bool
+    ensures { result ≡ is_variable_place (place_held (seen_held held.now)) }
+{
+    match held {
+        Held::Value(_) => true,
+        Held::Stands(TPlace::ModuleVar(_, _)) => true,
+        Held::Stands(TPlace::Field(_, _, _)) => false,
+        Held::Stands(TPlace::Index(_, _, _, _)) => false,
+    }
+}
+
 /// NEW stands at a place, and its argument begins at `first`: that must be an object variable that
-/// may be written.
+/// may be written; one that is a part of another isn't built.
 #[tactic(auto, using(aos_symbols::proofs::Keeping::after_more))]
 fn refuse_new(found: &mut Option<Breach>, env: &Env<'_>, at: Pos, first: Pos, spot: &Spot)
     ensures { found.new ≡
@@ -52,6 +68,9 @@ fn refuse_new(found: &mut Option<Breach>, env: &Env<'_>, at: Pos, first: Pos, sp
         Class::ReadOnly => note(found, READ_ONLY, first),
         Class::Constant(_) => note(found, WRONG_NEW, at),
         Class::Computed => note(found, WRONG_NEW, at),
+    }
+    if !is_variable(&spot.held) {
+        note(found, NOT_BUILT, at);
     }
 }
 

@@ -24,10 +24,10 @@ use Rattle.aos_symbols.specs.declared.env.Env.{Env}
 use Rattle.aos_symbols.specs.Env as env
 use Rattle.aos_symbols.specs.Judged.{Judged, walk}
 use Rattle.aos_symbols.specs.Declarations.{Procedure, procedures, type_defs}
-use Rattle.aos_symbols.specs.Scope.{Scope, with_constant as with_value, with_variable as with_type}
+use Rattle.aos_symbols.specs.Scope.{Scope, empty, with_constant as with_value, with_variable as with_type}
 use Rattle.aos_symbols.specs.Home.{Home, changed}
 use Rattle.aos_check_expr.specs.Expressions.{constant}
-use Rattle.aos_check_decl.specs.Types.{Met, met, FieldsMet, fields_met, placed, array_of, inner_arrays, arrays, lengths_of, array_in, record_in, object_in, named_type, type_in, held_in, fields_in, field_in}
+use Rattle.aos_check_decl.specs.Types.{Met, met, FieldsMet, fields_met, placed, array_of, inner_arrays, arrays, lengths_of, array_in, with_record, record_in, object_in, named_type, type_in, held_in, fields_in, field_in}
 use Rattle.aos_check_decl.specs.Headings.{with_variable, with_variables, constant_def, type_def, variable_def, settled, declared, opened, FormalsMet, formals_met, with_section, HeadingMet, formals_in, with_parameters, with_signature, locals_in, procedure, procedures_from, headings, slot_in}
 use Rattle.aos_check_decl.specs.Pass.{begun, declare}
 
@@ -64,9 +64,15 @@ array_in_fixed : (slot : Option TypeId) (e : Env) (at : Pos) (xs : List Expr) (j
 array_in_fixed slot e at [] j kept = refl
 array_in_fixed slot e at (x ∷ xs) j kept = arrays_fixed slot at (lengths_of e (x ∷ xs)).answer j.answer ∙ kept
 
+record_fixed : (s : Scope) (e : Env) (of : Option TypeId) → fixed (with_record s (met e of)).env ≡ fixed e
+record_fixed s e None = refl
+record_fixed s e (Some t) = refl
+
 record_in_fixed : (slot : Option TypeId) (e : Env) (at : Pos) (base : Option Qualident) (j : Judged FieldsMet) → fixed j.answer.env ≡ fixed e →
     fixed (record_in slot e at base j).answer.env ≡ fixed e
-record_in_fixed slot e at None j kept = placed_fixed slot at (row.Record None j.answer.types) j.answer.env ∙ kept
+record_in_fixed slot e at None j kept =
+    let m = placed slot at (row.Record None j.answer.types) j.answer.env in
+    record_fixed j.answer.scope m.env m.of ∙ placed_fixed slot at (row.Record None j.answer.types) j.answer.env ∙ kept
 record_in_fixed slot e at (Some base) j kept = refl
 
 object_in_fixed : (slot : Option TypeId) (e : Env) (at : Pos) (base : Option Qualident) (ds : List Decl) (body : Option Block) →
@@ -82,7 +88,7 @@ mutual
   type_fixed : (slot : Option TypeId) (e : Env) (t : TypeExpr) → fixed (type_in slot e t).answer.env ≡ fixed e
   type_fixed slot e (type.Named q) = refl
   type_fixed slot e (type.Array' p lengths shape row) = array_in_fixed slot e p lengths (held_in e row) (held_fixed e row)
-  type_fixed slot e (type.Record' p base shape row) = record_in_fixed slot e p base (fields_in (fields_met e []) row) (fields_fixed (fields_met e []) row)
+  type_fixed slot e (type.Record' p base shape row) = record_in_fixed slot e p base (fields_in (fields_met e [] empty) row) (fields_fixed (fields_met e [] empty) row)
   type_fixed slot e (type.Pointer' p shape row) = refl
   type_fixed slot e (type.Proc p flag formals) = refl
   type_fixed slot e (type.Object' p base shape row body end) = object_in_fixed slot e p base (items-the_row-Decl _ row) body

@@ -8,6 +8,8 @@ pub mod TypingPrograms
 pub mod TypingScopes
 pub mod TypingTypes
 pub mod TypingProcedures
+pub mod TypingScalars
+pub mod TypingFields
 pub mod TypingModules
 pub mod Typing
 pub mod Idents

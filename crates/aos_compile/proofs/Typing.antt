@@ -1,8 +1,9 @@
 -- The program that texts come to is well typed.
-use Rattle.std.proofs.Common.{◌≡◌, ℕ, ◌+◌, ◌<◌, ◌≤◌, List, [], ◌∷◌, length, Option, Some, None, slice_get, zip, All, refl, subst, arith}
+use Rattle.std.proofs.Common.{◌≡◌, ℕ, ◌+◌, ◌<◌, ◌≤◌, List, [], ◌∷◌, length, Option, Some, None, slice_get, zip, All, refl, sym, subst, arith}
+use Rattle.aos_types.specs.declared.TheConstants.{MOST_SCALARS}
 use Rattle.aos_typed.specs.Numbers.{predeclared_types, predeclared_rows}
 use Rattle.aos_typed.specs.Program.{Module, Program}
-use Rattle.aos_typed.specs.WellTyped.{AreStatements, AreTypes, IsVariableType, IsProcedure, IsWellTyped}
+use Rattle.aos_typed.specs.WellTyped.{AreStatements, AreTypes, IsVariableType, IsProcedure, module_scalars, IsWellTyped}
 use Rattle.aos_symbols.specs.Home.{Home}
 use Rattle.aos_symbols.specs.Outcome as outcome
 use Rattle.aos_symbols.specs.Outcome.{went, in_turn}
@@ -13,6 +14,7 @@ use Rattle.aos_compile.specs.Files.{Reading, Source, trees_from, loaded, load_or
 use Rattle.aos_compile.specs.Elaborates.{ComesTo}
 use Rattle.aos_compile.proofs.Names.{named_well}
 use Rattle.aos_compile.proofs.TypingTypes.{known_variables}
+use Rattle.aos_compile.proofs.TypingScalars.{sum_typed}
 use Rattle.aos_compile.proofs.TypingModules.{AreHomes, IsWorld, no_world, module_sound}
 
 module _ (ss : List Source) where
@@ -43,6 +45,7 @@ pub record TypedWell (p : Program) : Type 0 where
   pub predeclared : (k : ℕ) → k < predeclared_types → slice_get p.types k ≡ slice_get predeclared_rows k
   pub beside : length p.types ≡ length p.objects + predeclared_types
   pub variables : All (λ m. All (λ v. IsVariableType p v.of) m.variables) p.modules
+  pub few_scalars : All (λ m. module_scalars p m ≤ MOST_SCALARS) p.modules
   pub procedures : All (λ m. All (IsProcedure p) m.procedures) p.modules
 
 module _ (w : World) (sound : IsWorld w) where
@@ -59,6 +62,18 @@ module _ (w : World) (sound : IsWorld w) where
     variables_of_homes hs ms are.1,
   )
 
+  abbrev HasFew : Module → Type 0
+  HasFew m = module_scalars (program_of w) m ≤ MOST_SCALARS
+
+  few_of_homes : (hs : List Home) (ms : List Module) → AreHomes w.types hs ms → Each HasFew ms
+  few_of_homes [] [] are = tt
+  few_of_homes [] (m ∷ ms) are = absurd are
+  few_of_homes (h ∷ hs) [] are = absurd are
+  few_of_homes (h ∷ hs) (m ∷ ms) are = (
+    subst (λ n. n ≤ MOST_SCALARS) (sym (sum_typed w.types m.variables are.0.scope.variables are.0.typed are.0.known)) are.0.few,
+    few_of_homes hs ms are.1,
+  )
+
   world_typed : TypedWell (program_of w)
   world_typed = record {
     bodies = all_of (λ m. AreStatements (program_of w) m.body) w.modules sound.bodies;
@@ -68,6 +83,7 @@ module _ (w : World) (sound : IsWorld w) where
     predeclared = sound.table.basic;
     beside = omega (arith, sound.count);
     variables = all_of AreVariables w.modules (variables_of_homes w.before w.modules sound.homes);
+    few_scalars = all_of HasFew w.modules (few_of_homes w.before w.modules sound.homes);
     procedures = all_of (λ m. All (IsProcedure (program_of w)) m.procedures) w.modules sound.procedures;
   }
 
@@ -95,5 +111,6 @@ well_typed texts p h some few =
       predeclared = typed.predeclared;
       beside = typed.beside;
       variables = typed.variables;
+      few_scalars = typed.few_scalars;
       procedures = typed.procedures;
     }

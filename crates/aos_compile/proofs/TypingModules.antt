@@ -1,16 +1,18 @@
 -- One module more: where those before it are well typed and it breaks no rule, all are well typed.
-use Rattle.std.proofs.Common.{◌≡◌, ℕ, zero, suc, ◌+◌, ◌<◌, ◌==◌, List, [], ◌∷◌, ◌++◌, length, map, Bool, true, false, All, Option, Some, None, option_map, option_and_then, slice_get, zip, refl, sym, ap, ◌∙◌, subst, arith, eqb-true, length-append, if◌then◌else◌}
+use Rattle.std.proofs.Common.{◌≡◌, ℕ, zero, suc, ◌+◌, ◌<◌, ◌≤◌, ◌==◌, List, [], ◌∷◌, ◌++◌, length, map, Bool, true, false, All, Option, Some, None, option_map, option_and_then, slice_get, zip, sum_by, refl, sym, ap, ◌∙◌, subst, arith, eqb-true, length-append, if◌then◌else◌}
 use Rattle.std.specs.List.{flat_map}
 use Rattle.std.proofs.lemmas.List.{length-map}
 use Rattle.std.proofs.lemmas.List.Elements.{All-weaker}
-use Rattle.std.proofs.lemmas.Option.{none-some, same_Some, slice_get-map}
+use Rattle.std.proofs.lemmas.Option.{none-some, same_Some, slice_get-map, slice_get_within}
 use Rattle.aos_base.specs.declared.text.Pos.{Pos}
 use Rattle.aos_tree.specs.declared.stat.Block.{Block}
 use Rattle.aos_tree.specs.declared.decl.Def.{Def}
 use Rattle.aos_tree.specs.declared.decl.TypeDef.{TypeDef}
 use Rattle.aos_tree.specs.declared.module.Module.{Module as Tree}
 use Rattle.aos_types.specs.declared.row.TypeId.{TypeId}
+use Rattle.aos_types.specs.declared.TheConstants.{MOST_SCALARS}
 use Rattle.aos_types.specs.declared.row.TypeRow.{TypeRow}
+use Rattle.aos_types.specs.declared.row.TypeRow.TheVariants as row
 use Rattle.aos_typed.specs.Program.{ModuleVar, Stat, Stats, ObjectType, Module, Program}
 use Rattle.aos_typed.specs.WellTyped.{AreStatements, IsProcedure}
 use Rattle.aos_symbols.specs.declared.scope.Entry.{Entry}
@@ -27,17 +29,19 @@ use Rattle.aos_symbols.specs.Names.{name_breaches}
 use Rattle.aos_symbols.specs.Env as env
 use Rattle.aos_symbols.proofs.Each.{Each, all_of, joined, implied, each_at}
 use Rattle.aos_symbols.proofs.Holds.{Holds, holds_bind, holds_walk, passed_went, then_went, same_went}
-use Rattle.aos_symbols.proofs.Told.{IsKnown, GoOn, known_on, get_front, get_end}
+use Rattle.aos_symbols.proofs.Told.{IsKnown, GoOn, known_on, get_front, get_end, PartsAreTold, FieldsAgree}
 use Rattle.aos_check_expr.specs.Known.{type_of}
 use Rattle.aos_check_expr.proofs.Typing.{IsTyped, IsWhole}
 use Rattle.aos_check_decl.specs.Pass.{declare}
-use Rattle.aos_check_decl.proofs.Typing.{AreGood, AreReady, IsReady, IsDeclared, declare_sound}
+use Rattle.aos_check_decl.proofs.Typing.{AreGood, AreReady, IsReady, variable_cells, IsDeclared, declare_sound}
 use Rattle.aos_check_stat.specs.Bodies.{listed, body_of}
 use Rattle.aos_check_stat.proofs.Typing.{body_sound}
 use Rattle.aos_compile.specs.Modules.{World, no_modules, program_of, object_body, object_in, local_type, unnamed_type, other_types, bodies_from, first_scope, Bodies, bodies, variables_of, variable_of, module_of, extended, elaborated, spelling}
 use Rattle.aos_compile.proofs.TypingPrograms.{Grows, grown, statements_grow}
 use Rattle.aos_compile.proofs.TypingScopes.{variables_are}
-use Rattle.aos_compile.proofs.TypingTypes.{some_at, basic_ready}
+use Rattle.aos_compile.proofs.TypingTypes.{RowsStay, some_at, basic_ready}
+use Rattle.aos_compile.proofs.TypingScalars.{sum_stays}
+use Rattle.aos_compile.proofs.TypingFields.{fields_told, fields_on}
 use Rattle.aos_compile.proofs.TypingProcedures.{HaveHeadings, procedures_typed, procedure_grows}
 
 -- A module that breaks no rule, and what it declares: each type that its scope names is told, each variable of its scope has a
@@ -49,6 +53,8 @@ pub record IsHome (types : List TypeRow) (h : Home) (m : Module) : Type 0 where
   pub numbers : (w : List ℕ) (x : Entry) (k : ℕ) → find scope w ≡ Some x → x.means ≡ means.Variable k → k < length scope.variables
   pub known : Each (IsKnown types) scope.variables
   pub typed : map (λ v. v.of) m.variables ≡ map type_of scope.variables
+  pub few : sum_by (variable_cells types) scope.variables ≤ MOST_SCALARS
+  pub fields : FieldsAgree types h
   pub good : (k : ℕ) (s : Scope) → slice_get h.scopes k ≡ Some s → AreGood s.constants
 
 abbrev pub AreHomes : List TypeRow → List Home → List Module → Type 0
@@ -100,22 +106,30 @@ module _ (ts : List TypeRow) where
   one_more (g ∷ hs) [] h m are is = absurd are
   one_more (g ∷ hs) (x ∷ ms) h m are is = (are.0, one_more hs ms h m are.1 is)
 
-homes_on : (ts us : List TypeRow) → GoOn ts us → (hs : List Home) (ms : List Module) → AreHomes ts hs ms → AreHomes us hs ms
-homes_on ts us on [] [] are = tt
-homes_on ts us on [] (x ∷ ms) are = absurd are
-homes_on ts us on (g ∷ hs) [] are = absurd are
-homes_on ts us on (g ∷ hs) (x ∷ ms) are = (
-  record {
-    scope = are.0.scope;
-    is = are.0.is;
-    names = λ w x of found means. known_on ts us on of (are.0.names w x of found means);
-    numbers = are.0.numbers;
-    known = implied (IsKnown ts) (IsKnown us) (known_on ts us on) are.0.scope.variables are.0.known;
-    typed = are.0.typed;
-    good = are.0.good;
-  },
-  homes_on ts us on hs ms are.1,
-)
+module _ (ts us : List TypeRow) (old : AreReady ts) (new : AreReady us) (on : GoOn ts us) (stay : RowsStay ts us) where
+  nine : 9 ≤ length ts
+  nine = slice_get_within ts 8 row.Any (old.basic 8 (omega arith))
+
+  home_on : (h : Home) (m : Module) → IsHome ts h m → IsHome us h m
+  home_on h m is = record {
+    scope = is.scope;
+    is = is.is;
+    names = λ w x of found means. known_on ts us on of (is.names w x of found means);
+    numbers = is.numbers;
+    known = implied (IsKnown ts) (IsKnown us) (known_on ts us on) is.scope.variables is.known;
+    typed = is.typed;
+    few =
+        subst (λ n. n ≤ MOST_SCALARS)
+        (sym (sum_stays ts us nine old.closed stay old.sound.none_contains_itself new.sound.none_contains_itself is.scope.variables is.known)) is.few;
+    fields = fields_on ts us stay h is.fields;
+    good = is.good;
+  }
+
+  homes_on : (hs : List Home) (ms : List Module) → AreHomes ts hs ms → AreHomes us hs ms
+  homes_on [] [] are = tt
+  homes_on [] (x ∷ ms) are = absurd are
+  homes_on (g ∷ hs) [] are = absurd are
+  homes_on (g ∷ hs) (x ∷ ms) are = (home_on g x are.0, homes_on hs ms are.1)
 
 -- The environment of bodies.
 
@@ -123,10 +137,13 @@ no_scope : {A : Type 0} {x : A} → None ≡ Some x → ⊥
 no_scope e = cc
 
 whole : (p : Program) (e : Env) (hs : List Home) → AreHomes e.types hs p.modules → ((m : ℕ) (h : Home) → env.home e m ≡ Some h → slice_get hs m ≡ Some h) →
+    PartsAreTold e.types → FieldsAgree e.types e.here → ((m : ℕ) (h : Home) → slice_get e.before m ≡ Some h → FieldsAgree e.types h) →
     p.types ≡ e.types → length e.types ≡ 9 + length p.objects → IsWhole p e
-whole p e hs are at rows count = record {
+whole p e hs are at parts here before rows count = record {
   variables = λ o s w x k first there found means. by_home o s w x k first found means there (env.home e o.home) refl there;
   constants = λ o s there. by_scope o s (env.home e o.home) refl there;
+  parts = parts;
+  fields = fields_told e here before;
   rows = rows;
   objects = count;
 }
@@ -164,6 +181,8 @@ module _ (p : Program) (e : Env) (is_whole : IsWhole p e) where
   inside k = record {
     variables = λ o s w x n own there found means. let is = is_whole.variables o s w x n own there found means in record { typed = is.typed; known = is.known };
     constants = λ o s there. is_whole.constants o s there;
+    parts = is_whole.parts;
+    fields = λ t n f ts found is. is_whole.fields t n f ts found is;
     rows = is_whole.rows;
     objects = is_whole.objects;
   }
@@ -269,6 +288,7 @@ module _ (w : World) (sound : IsWorld w) (text : List ℕ) (m : Tree) where
         let same : one.2.scope ≡ s = same_Some one.2.scope s (sym one.2.is ∙ here) in
         one.2.names v x of (ap (λ z. find z v) same ∙ found) means;
     constants = λ k h j s at here. (home_at w.types w.before w.modules sound.homes k h at).2.good j s here;
+    fields = λ k h at. (home_at w.types w.before w.modules sound.homes k h at).2.fields;
     table = sound.table;
   }
 
@@ -291,16 +311,23 @@ module _ (w : World) (sound : IsWorld w) (text : List ℕ) (m : Tree) where
       typed =
           ap (λ (o : Option Scope). map (λ v. v.of) (map (variable_of e.here.text) (zip (single_variables m.decls) (variables_of o)))) is.own_is
           ∙ types_beside e.here.text (single_variables m.decls) is.own.variables is.count;
+      few = is.few;
+      fields = is.fields;
       good = is.constants;
     }
+
+    homes_now : AreHomes e.types w.before w.modules
+    homes_now = homes_on w.types e.types sound.table is.table is.goes_on is.stays w.before w.modules sound.homes
+
+    fields_before : (k : ℕ) (h : Home) → slice_get e.before k ≡ Some h → FieldsAgree e.types h
+    fields_before k h at = (home_at e.types w.before w.modules homes_now k h (ap (λ hs. slice_get hs k) (sym is.before_is) ∙ at)).2.fields
 
     module _ (b : Bodies) (count : length b.objects ≡ length (all_type_defs m.decls) + length e.places) where
       abbrev world : World
       world = extended w e m b
 
       homes_more : AreHomes e.types world.before world.modules
-      homes_more =
-          one_more e.types w.before w.modules e.here (module_of e m b) (homes_on w.types e.types is.goes_on w.before w.modules sound.homes) (home b)
+      homes_more = one_more e.types w.before w.modules e.here (module_of e m b) homes_now (home b)
 
       at_home : (k : ℕ) (h : Home) → env.home e k ≡ Some h → slice_get world.before k ≡ Some h
       at_home k h = by (k == e.number) refl
@@ -313,7 +340,7 @@ module _ (w : World) (sound : IsWorld w) (text : List ℕ) (m : Tree) where
       count_objects = omega (arith, is.long, sound.count, count, length-append w.objects b.objects)
 
       bodies_whole : IsWhole (program_of world) e
-      bodies_whole = whole (program_of world) e world.before homes_more at_home refl count_objects
+      bodies_whole = whole (program_of world) e world.before homes_more at_home is.table.parts is.fields fields_before refl count_objects
 
       grows : Grows (program_of w) (program_of world)
       grows = grown w.modules (module_of e m b ∷ []) w.types e.types w.objects b.objects is.stays

@@ -1,14 +1,18 @@
 -- A program with more modules and more objects: what is well typed stays so.
 use Rattle.std.proofs.Common.{◌≡◌, ℕ, ◌<◌, ◌≤◌, List, ◌++◌, length, Option, Some, None, option_map, option_and_then, slice_get, refl, ap, ◌∙◌, length-append, arith}
+use Rattle.std.proofs.lemmas.Option.{slice_get_within}
 use Rattle.aos_base.specs.declared.operator.Binary.{Binary as BinaryOperator}
 use Rattle.aos_base.specs.declared.operator.Binary.TheVariants.{Add, Sub, Mul, Div, Mod, Ash, Cmp, Union, Minus, Meet, Xor, SetSpan, In}
+use Rattle.aos_base.specs.declared.number.Width.TheVariants.{W64}
+use Rattle.aos_types.specs.declared.row.TypeId.{TypeId}
 use Rattle.aos_types.specs.declared.row.TypeRow.{TypeRow}
+use Rattle.aos_types.specs.declared.row.TypeRow.TheVariants as row
 use Rattle.aos_types.specs.Table.{is_object}
 use Rattle.aos_typed.specs.declared.tree.TType.{TType}
-use Rattle.aos_typed.specs.declared.tree.TType.TheVariants.{Named}
+use Rattle.aos_typed.specs.declared.tree.TType.TheVariants.{Integer, Named}
 use Rattle.aos_typed.specs.Numbers.{id_of}
-use Rattle.aos_typed.specs.Program.{Place, ModuleVar, Expr, Lit, Read, Unary, Binary, And, Or, Element, Ord, Chr, Call, Open, Char, Int, Ln, Stat, Assign, While, New, Out, Stats, Nothing, Then, Module, ObjectType, Program}
-use Rattle.aos_typed.specs.WellTyped.{variable_type, place_type, Takes, IsOf, IsCall, IsStatement, AreStatements}
+use Rattle.aos_typed.specs.Program.{Place, ModuleVar, Field, Index, Expr, Lit, Read, Unary, Binary, And, Or, Element, Ord, Chr, Call, Open, Char, Int, Ln, Stat, Assign, Copy, While, New, Out, Stats, Nothing, Then, Module, ObjectType, Program}
+use Rattle.aos_typed.specs.WellTyped.{variable_type, field_type, is_whole, Takes, IsPlaceOf, IsOf, IsCall, IsStatement, AreStatements}
 use Rattle.aos_symbols.proofs.Told.{get_front}
 use Rattle.aos_compile.proofs.TypingTypes.{RowsStay, fact_stays}
 
@@ -38,19 +42,33 @@ takes_more SetSpan A B C D f g h = (f _ h.0, g _ h.1)
 takes_more In A B C D f g h = (f _ h.0, g _ h.1)
 
 module _ (p q : Program) (grows : Grows p q) where
-  place_grows : (x : Place) (t : TType) → place_type p x ≡ Some t → place_type q x ≡ Some t
-  place_grows (ModuleVar m k) t h = grows.variables m k t h
+  -- rows
+  row_grows : (k : ℕ) (r : TypeRow) → slice_get p.types k ≡ Some r → slice_get q.types k ≡ Some r
+  row_grows k r is = grows.rows k (slice_get_within p.types k r is) ∙ is
 
-  value_grows : (e : Expr) (t : TType) → IsOf p e t → IsOf q e t
-  value_grows (Lit l) t h = h
-  value_grows (Read u x) t h = (place_grows x u h.0, h.1, h.2)
-  value_grows (Unary op a) t h = (value_grows a _ h.0, h.1)
-  value_grows (Binary op a b) t h = (takes_more op (IsOf p a) (IsOf p b) (IsOf q a) (IsOf q b) (value_grows a) (value_grows b) h.0, h.1)
-  value_grows (And a b) t h = (value_grows a _ h.0, value_grows b _ h.1, h.2)
-  value_grows (Or a b) t h = (value_grows a _ h.0, value_grows b _ h.1, h.2)
-  value_grows (Element a) t h = (value_grows a _ h.0, h.1)
-  value_grows (Ord a) t h = (value_grows a _ h.0, h.1)
-  value_grows (Chr a) t h = (value_grows a _ h.0, h.1)
+  field_grows : (i k : ℕ) (t : TypeId) → field_type (slice_get p.types i) k ≡ Some t → field_type (slice_get q.types i) k ≡ Some t
+  field_grows i k t h = by (slice_get p.types i) refl h
+    where
+      by : (o : Option TypeRow) → slice_get p.types i ≡ o → field_type o k ≡ Some t → field_type (slice_get q.types i) k ≡ Some t
+      by None is h = absurd (no_type h)
+      by (Some r) is h = ap (λ o. field_type o k) (row_grows i r is) ∙ h
+
+  mutual
+    place_grows : (x : Place) (t : TType) → IsPlaceOf p x t → IsPlaceOf q x t
+    place_grows (ModuleVar m k) t h = grows.variables m k t h
+    place_grows (Field x of k) t h = (place_grows x of h.0, field_grows (id_of of).0 k (id_of t) h.1)
+    place_grows (Index x n of e) t h = (h.0, place_grows x h.0 h.1, row_grows (id_of h.0).0 (row.Array n (id_of of)) h.2, value_grows e (Integer W64) h.3, h.4)
+
+    value_grows : (e : Expr) (t : TType) → IsOf p e t → IsOf q e t
+    value_grows (Lit l) t h = h
+    value_grows (Read u x) t h = (place_grows x u h.0, h.1, h.2)
+    value_grows (Unary op a) t h = (value_grows a _ h.0, h.1)
+    value_grows (Binary op a b) t h = (takes_more op (IsOf p a) (IsOf p b) (IsOf q a) (IsOf q b) (value_grows a) (value_grows b) h.0, h.1)
+    value_grows (And a b) t h = (value_grows a _ h.0, value_grows b _ h.1, h.2)
+    value_grows (Or a b) t h = (value_grows a _ h.0, value_grows b _ h.1, h.2)
+    value_grows (Element a) t h = (value_grows a _ h.0, h.1)
+    value_grows (Ord a) t h = (value_grows a _ h.0, h.1)
+    value_grows (Chr a) t h = (value_grows a _ h.0, h.1)
 
   call_grows : (c : Call) → IsCall p c → IsCall q c
   call_grows Open h = tt
@@ -61,9 +79,10 @@ module _ (p q : Program) (grows : Grows p q) where
   mutual
     statement_grows : (s : Stat) → IsStatement p s → IsStatement q s
     statement_grows (Assign at t x e) h = (place_grows x t h.0, h.1, value_grows e t h.2)
+    statement_grows (Copy at t x y) h = (place_grows x t h.0, place_grows y t h.1, fact_stays p.types q.types grows.rows is_whole refl (id_of t).0 h.2)
     statement_grows (While at e body) h = (value_grows e _ h.0, statements_grow body h.1)
     statement_grows (New at x t) h =
-        (place_grows x _ h.0, fact_stays p.types q.types grows.rows is_object refl (id_of (Named t)).0 h.1, fewer t (length p.objects) (length q.objects) h.2 grows.objects)
+        (h.0, place_grows x (Named t) h.1, fact_stays p.types q.types grows.rows is_object refl (id_of (Named t)).0 h.2, fewer t (length p.objects) (length q.objects) h.3 grows.objects)
       where
         fewer : (t m n : ℕ) → t < m → m ≤ n → t < n
         fewer t m n a b = omega arith

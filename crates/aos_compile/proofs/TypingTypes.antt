@@ -15,7 +15,7 @@ use Rattle.aos_typed.specs.Program.{Variable, Program}
 use Rattle.aos_typed.specs.WellTyped.{IsType, IsVariableType}
 use Rattle.aos_symbols.specs.Env.{basic_rows}
 use Rattle.aos_symbols.proofs.Each.{Each}
-use Rattle.aos_symbols.proofs.Told.{IsTold, basic, defined, IsKnown}
+use Rattle.aos_symbols.proofs.Told.{IsTold, basic, defined, IsKnown, AreToldParts}
 use Rattle.aos_check_expr.specs.Known.{type_as, type_of}
 use Rattle.aos_check_expr.proofs.Types.{integer_cases, basic_cases}
 use Rattle.aos_check_decl.proofs.Typing.{AreReady, IsThere}
@@ -112,6 +112,16 @@ flat_names (row.Pointer t) h p e = h
 flat_names (row.Object b fs) h p e = h
 flat_names (row.Procedure fs r) h p e = h
 
+flat_told : (rows : List TypeRow) (r : TypeRow) → IsFlat (Some r) → AreToldParts rows r
+flat_told rows (row.Basic b) h = tt
+flat_told rows row.Any h = tt
+flat_told rows (row.Array n t) h = absurd h
+flat_told rows (row.Open t) h = absurd h
+flat_told rows (row.Record b fs) h = absurd h
+flat_told rows (row.Pointer t) h = absurd h
+flat_told rows (row.Object b fs) h = absurd h
+flat_told rows (row.Procedure fs r) h = absurd h
+
 flat_size : (contents : TypeId → Shape TypeId) (rows : List TypeRow) (t : TypeId) (o : Option TypeRow) → IsFlat o →
     size (with_parts contents rows t o) ≤ 1
 flat_size contents rows t None h = omega arith
@@ -130,6 +140,7 @@ basic_ready = record {
   basic = λ k h. refl;
   closed = λ k r is p e. absurd (flat_names r (subst IsFlat is (basic_flat k)) p e);
   sound = record { none_contains_itself = λ t e. by t e.between e.chain; sizes = λ t. few t };
+  parts = λ k r is. flat_told basic_rows r (subst IsFlat is (basic_flat k));
 }
   where
     by : (t : TypeId) (between : List TypeId) → IsChain basic_rows t (between ++ t ∷ []) → ⊥

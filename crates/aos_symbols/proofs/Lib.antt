@@ -11,3 +11,4 @@ pub mod Found
 pub mod Told
 pub mod Lookups
 pub mod Steps
+pub mod Records

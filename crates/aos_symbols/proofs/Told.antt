@@ -1,10 +1,14 @@
 -- Types that are told: the basic types of values, which each table begins with, and types that modules define, whose rows stand
 -- in the table and are no open arrays. What is told stays told where the table goes on.
-use Rattle.std.proofs.Common.{◌≡◌, ℕ, zero, suc, ◌<◌, ◌≤◌, List, [], ◌∷◌, ◌++◌, length, false, Option, Some, None, slice_get, refl}
+use Rattle.std.proofs.Common.{◌≡◌, ℕ, zero, suc, ◌<◌, ◌≤◌, List, [], ◌∷◌, ◌++◌, length, map, false, Option, Some, None, slice_get, refl}
 use Rattle.std.proofs.lemmas.Option.{none-some}
 use Rattle.aos_types.specs.declared.row.TypeId.{TypeId}
 use Rattle.aos_types.specs.declared.row.TypeRow.{TypeRow}
+use Rattle.aos_types.specs.declared.row.TypeRow.TheVariants as row
 use Rattle.aos_types.specs.Table.{is_open}
+use Rattle.aos_symbols.specs.Scope.{Scope}
+use Rattle.aos_symbols.specs.Home.{Home, fields_of}
+use Rattle.aos_symbols.proofs.Each.{Each}
 
 pub data IsTold (types : List TypeRow) (t : TypeId) : Type 0 where
   basic : t.0 < 7 → IsTold types t
@@ -35,3 +39,18 @@ get_end (a ∷ xs) x = get_end xs x
 pub told_behind : (ts us : List TypeRow) → GoOn ts (ts ++ us)
 told_behind ts us t (basic first) = basic first
 told_behind ts us t (defined r from e closed) = defined r from (get_front ts us t.0 r e) closed
+
+-- the elements of an array and the fields of a record are told
+abbrev pub AreToldParts : List TypeRow → TypeRow → Type 0
+AreToldParts types (row.Array n t) = IsTold types t
+AreToldParts types (row.Record None ts) = Each (IsTold types) ts
+AreToldParts types r = Unit {0}
+
+abbrev pub PartsAreTold : List TypeRow → Type 0
+PartsAreTold types = (k : ℕ) (r : TypeRow) → slice_get types k ≡ Some r → AreToldParts types r
+
+-- the fields of record types that a module knows are those of their rows
+abbrev pub FieldsAgree : List TypeRow → Home → Type 0
+FieldsAgree types h =
+    (t : TypeId) (s : Scope) → fields_of h t ≡ Some s →
+    (t.0 < length types) × ((ts : List TypeId) → slice_get types t.0 ≡ Some (row.Record None ts) → s.variables ≡ map (λ t. Some t) ts)

@@ -115,4 +115,4 @@ module _ (text : List ℕ) where
 
   abbrev pub home_of : List Home → List (Option TypeId) → Module → Home
   home_of homes numbers m =
-      record { name = word text m.name; text = text; scopes = scopes homes numbers m; signatures = [] }
+      record { name = word text m.name; text = text; scopes = scopes homes numbers m; signatures = []; records = [] }

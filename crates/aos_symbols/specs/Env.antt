@@ -18,12 +18,13 @@ use Rattle.aos_symbols.specs.declared.scope.Constant.{Constant}
 use Rattle.aos_symbols.specs.declared.scope.Function.TheVariants as function
 use Rattle.aos_symbols.specs.declared.env.Open.{Open}
 use Rattle.aos_symbols.specs.declared.env.Symbol.{Symbol}
+use Rattle.aos_symbols.specs.declared.env.Field.{Field}
 use Rattle.aos_symbols.specs.declared.env.Lookup.{Lookup}
 use Rattle.aos_symbols.specs.declared.env.Lookup.TheVariants.{Unknown, NotExported, Found}
 use Rattle.aos_symbols.specs.declared.env.Env.{Env}
 use Rattle.aos_symbols.specs.Spelling.{word}
 use Rattle.aos_symbols.specs.Scope.{Scope, find}
-use Rattle.aos_symbols.specs.Home.{Home}
+use Rattle.aos_symbols.specs.Home.{Home, fields_of}
 
 -- the types that stand first in each table; those that modules declare come behind them
 abbrev pub basic_rows : List TypeRow
@@ -143,6 +144,30 @@ joined (Some a) = a
 -- the type of the variable with a number of a scope, where it is known
 abbrev pub variable_type : Env → Open → ℕ → Option TypeId
 variable_type e o k = joined (option_and_then (λ s. slice_get s.variables k) (scope e o))
+
+-- Fields of record types: each is known in the module that writes the type.
+
+-- the field with this word among those of a record type, which this module writes or another one
+abbrev pub field_in : Bool → Scope → List ℕ → Option Field
+field_in own s w = option_and_then (λ x. by x x.means) (find s w)
+  where
+    by : Entry → Meaning → Option Field
+    by x (means.Variable k) =
+        option_map (λ of. record { is_own = own; mark = x.mark; number = k; of = of }) (slice_get s.variables k)
+    by x m = None
+
+-- the same of a type that there is, and else another
+abbrev pub field_or : Bool → List ℕ → Option Field → Option Scope → Option Field
+field_or own w other None = other
+field_or own w other (Some s) = field_in own s w
+
+abbrev pub field_among : List Home → TypeId → List ℕ → Option Field
+field_among [] t w = None
+field_among (h ∷ hs) t w = field_or false w (field_among hs t w) (fields_of h t)
+
+-- the field of a record type that has a name
+abbrev pub field : Env → TypeId → Name → Option Field
+field e t n = let w = word e.here.text n in field_or true w (field_among e.before t w) (fields_of e.here t)
 
 -- a place of a text is before another
 abbrev pub precedes : Pos → Pos → Bool

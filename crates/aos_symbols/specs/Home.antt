@@ -1,7 +1,9 @@
--- What a module has declared: its name, its text, its scopes, and the signatures of its procedures. The first scope is the
--- module's own; behind it come those of the types that it defines, in which the names within an object type stand, and then
--- those of its procedures, each in the order of the text.
-use Rattle.std.specs.Prelude.{ℕ, List, [], ◌∷◌, ◌++◌, Option, Some, None, slice_get, slice_set}
+-- What a module has declared: its name, its text, its scopes, the signatures of its procedures, and the fields of the record types
+-- that it writes. The first scope is the module's own; behind it come those of the types that it defines, in which the names within
+-- an object type stand, and then those of its procedures, each in the order of the text.
+use Rattle.std.specs.Prelude.{ℕ, nat_eq, List, [], ◌∷◌, ◌++◌, Option, Some, None, slice_get, slice_set}
+use Rattle.std.specs.Map.{lookup}
+use Rattle.indexmap.specs.IndexMap.{insert_entry}
 use Rattle.aos_types.specs.declared.row.TypeId.{TypeId}
 use Rattle.aos_symbols.specs.declared.scope.Constant.{Constant}
 use Rattle.aos_symbols.specs.declared.home.Signature.{Signature}
@@ -12,6 +14,7 @@ pub record Home : Type 0 where
   pub text : List ℕ
   pub scopes : List Scope
   pub signatures : List Signature
+  pub records : List (ℕ × Scope)  -- by the types' numbers
 
 -- with another scope in the place of the one with this number
 abbrev pub with_scope : Home → ℕ → Scope → Home
@@ -27,6 +30,13 @@ add_constant h k c = changed (λ s. with_constant s c) h k (slice_get h.scopes k
 
 abbrev pub add_variable : Home → ℕ → Option TypeId → Home
 add_variable h k of = changed (λ s. with_variable s of) h k (slice_get h.scopes k)
+
+-- with the fields of a record type, in a scope of which they are the variables
+abbrev pub add_record : Home → TypeId → Scope → Home
+add_record h t s = record h { records = insert_entry nat_eq h.records t.0 s }
+
+abbrev pub fields_of : Home → TypeId → Option Scope
+fields_of h t = lookup (λ k. nat_eq t.0 k) h.records
 
 -- with the signature of the next procedure
 abbrev pub add_signature : Home → Signature → Home

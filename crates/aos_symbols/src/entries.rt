@@ -134,7 +134,8 @@ fn procedures_of(alloc: Global, decls: &[Decl]) -> Result<Vec<Def>, AllocError>
     Ok(all)
 }
 
-fn declare<'a>(
+/// Declares a name that stands for this, with its mark; one that is there stays as it is.
+pub fn declare<'a>(
     scope: &mut Scope<'a>,
     text: &'a [u8],
     def: &Def,

@@ -60,6 +60,16 @@ pub enum Lookup {
     Found(Symbol),
 }
 
+/// A field of a record type: whether this module writes the type, the field's mark, its number in the record, and its type,
+/// which is none where it breaks a rule.
+#[derive(Clone, Copy, PartialEq, Eq, Debug)]
+pub struct Field {
+    pub is_own: bool,
+    pub mark: Option<Export>,
+    pub number: u32,
+    pub of: Option<TypeId>,
+}
+
 /// What names stand for at a place of a module.
 #[derive(Drop)]
 pub struct Env<'a> {
@@ -167,6 +177,34 @@ fn own(number: u32) -> Open
     }
 }
 
+/// The field with this word among those of a record type.
+fn field_in(is_own: bool, fields: &Scope<'_>, word: &[u8]) -> Option<Field>
+    ensures { result ≡ env.field_in is_own fields.now word.now }
+{
+    let entry = fields.find(word)?;
+    let Meaning::Variable(number) = entry.means else {
+        return None;
+    };
+    Some(Field {
+        is_own,
+        mark: entry.mark,
+        number,
+        of: fields.variable(number)?,
+    })
+}
+
+/// The field with this word of a record type that one of these modules writes.
+fn field_among(homes: &[Home<'_>], of: TypeId, word: &[u8]) -> Option<Field>
+    ensures { result ≡ env.field_among homes.now of word.now }
+{
+    for home in homes {
+        if let Some(fields) = home.fields(of) {
+            return field_in(false, fields, word);
+        }
+    }
+    None
+}
+
 impl<'a> Env<'a> {
     /// What a module has declared, by its number: this one, or one before it.
     pub fn home(&self, number: u32) -> Option<&Home<'a>>
@@ -271,6 +309,17 @@ impl<'a> Env<'a> {
         match self.scope(at) {
             Some(scope) => scope.variable(number)?,
             None => None,
+        }
+    }
+
+    /// The field of a record type that has a name; none where it hasn't one.
+    pub fn field(&self, of: TypeId, name: Name) -> Option<Field>
+        ensures { result ≡ env.field self.now of name }
+    {
+        let word = word(self.here.text(), name);
+        match self.here.fields(of) {
+            Some(fields) => field_in(true, fields, word),
+            None => field_among(self.before.as_slice(), of, word),
         }
     }
 

@@ -7,6 +7,7 @@ ghost use Rattle.aos_symbols.specs.Home as home;
 use crate::scope::{Constant, Scope};
 use aos_tree::Items;
 use aos_types::TypeId;
+use indexmap::IndexMap;
 use std::alloc::{AllocError, Global};
 use std::marker::Model;
 
@@ -31,14 +32,16 @@ pub struct Signature {
     pub gives: Gives,
 }
 
-/// A module's name, its text, its scopes and the signatures of its procedures. The first scope is the module's own; behind it
-/// come those of the types that it defines and then those of its procedures, each in the order of the text.
+/// A module's name, its text, its scopes, the signatures of its procedures, and the fields of the record types that it writes,
+/// by the types' numbers: they are the variables of a scope. The first scope is the module's own; behind it come those of the
+/// types that it defines and then those of its procedures, each in the order of the text.
 #[derive(Drop)]
 pub struct Home<'a> {
     name: &'a [u8],
     text: &'a [u8],
     scopes: Vec<Scope<'a>>,
     signatures: Vec<Signature>,
+    records: IndexMap<u32, Scope<'a>>,
 }
 
 impl<'a> Model for Home<'a> {
@@ -51,17 +54,19 @@ impl<'a> Model for Home<'a> {
       text = h.text.now;
       scopes = h.scopes.items;
       signatures = h.signatures.items;
+      records = h.records.entries;
     } };
 }
 
 impl<'a> Home<'a> {
-    /// A module of this name, with these scopes; no procedure has its signature yet.
+    /// A module of this name, with these scopes; no procedure has its signature yet, and no record type its fields.
     pub fn new(alloc: Global, name: &'a [u8], text: &'a [u8], scopes: Vec<Scope<'a>>) -> Home<'a>
         ensures { result ≡ record {
           name = name.now;
           text = text.now;
           scopes = scopes.entry.items;
           signatures = [];
+          records = [];
         } }
     {
         Home {
@@ -69,6 +74,7 @@ impl<'a> Home<'a> {
             text,
             scopes,
             signatures: Vec::new(alloc),
+            records: IndexMap::new(alloc),
         }
     }
 
@@ -113,6 +119,22 @@ impl<'a> Home<'a> {
             Some(scope) => scope.add_variable(of),
             None => Ok(()),
         }
+    }
+
+    /// The fields of a record type, where this module writes it.
+    pub fn fields(&self, of: TypeId) -> Option<&Scope<'a>>
+        ensures { option_copied result ≡ home.fields_of self.now of }
+    {
+        self.records.get(&of.0)
+    }
+
+    /// The fields of a record type. Without memory all stays as it was.
+    pub fn add_record(&mut self, of: TypeId, fields: Scope<'a>) -> Result<(), AllocError>
+        ensures ok { OnOk result (self.new ≡ home.add_record self.old of fields.entry) }
+        ensures err { OnErr result (self.new ≡ self.old) }
+    {
+        self.records.insert(of.0, fields)?;
+        Ok(())
     }
 
     /// The signature of the procedure with a number, where its heading is met.

@@ -17,10 +17,10 @@ pub use breach::{
     READ_ONLY, TOO_MANY_SCALARS, TWICE, UNFIT, UNKNOWN, WRONG_CALL, WRONG_INITIALIZER, WRONG_NEW,
     WRONG_OPERANDS, WRONG_RESULT, WRONG_SELECTOR, WRONG_TEST, note,
 };
-pub use entries::home_of;
+pub use entries::{declare, home_of};
 pub use env::{
-    ANY, BASIC_TYPES, BOOLEAN, CHAR, Env, HUGEINT, INTEGER, LONGINT, Lookup, Open, SET, SHORTINT,
-    Symbol,
+    ANY, BASIC_TYPES, BOOLEAN, CHAR, Env, Field, HUGEINT, INTEGER, LONGINT, Lookup, Open, SET,
+    SHORTINT, Symbol,
 };
 pub use home::{Gives, Home, Parameter, Signature};
 pub use laws::law_of_first;

@@ -1,6 +1,6 @@
 // Scopes: names by their bytes, and what they stand for.
 
-ghost use Rattle.std.specs.Prelude.{◌≡◌, OnErr, OnOk, IfOk, not, slice_get};
+ghost use Rattle.std.specs.Prelude.{◌≡◌, length, OnErr, OnOk, IfOk, not, slice_get};
 ghost use Rattle.aos_symbols.specs.Scope as names;
 
 use aos_base::Pos;
@@ -132,6 +132,13 @@ impl<'a> Scope<'a> {
         ensures { result ≡ slice_get self.now.variables number }
     {
         self.variables.get(number as usize).copied()
+    }
+
+    /// How many variables there are so far.
+    pub fn variable_count(&self) -> usize
+        ensures { result ≡ length self.now.variables }
+    {
+        self.variables.len()
     }
 
     /// The next constant. Without memory the scope stays as it was.

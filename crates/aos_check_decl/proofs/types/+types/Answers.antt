@@ -1,17 +1,16 @@
 -- Arrays and records, whose parts are met before they are.
-use Rattle.std.proofs.Common.{◌≡◌, List, length, ◌==◌, None, OnOk, IfOk, sym, ap, ◌∙◌, subst}
+use Rattle.std.proofs.Common.{◌≡◌, List, [], length, ◌==◌, None, OnOk, IfOk, sym, ap, ◌∙◌, subst}
 use Rattle.std.proofs.Math.Path.{ap₂}
 use Rattle.std.proofs.lemmas.Result.{on_ok_weaker}
 use Rattle.aos_tree.specs.declared.decl.TypeExpr.{TypeExpr}
 use Rattle.aos_types.specs.declared.row.TypeId.{TypeId}
-use Rattle.aos_types.specs.declared.row.TypeRow.TheVariants as row
-use Rattle.aos_symbols.specs.declared.env.Env.{Env}
 use Rattle.aos_symbols.specs.Breaches.{first_after}
 use Rattle.aos_symbols.specs.Judged.{walk}
+use Rattle.aos_symbols.specs.Scope.{Scope, empty}
 use Rattle.aos_symbols.proofs.Keeping.{after_two}
 use Rattle.aos_check_decl.specs.Types as judge
 use Rattle.aos_check_decl.specs.Types.{Met}
-use Rattle.aos_check_decl.proofs.Forms.{array_met, record_met}
+use Rattle.aos_check_decl.proofs.Forms.{array_met, record_of, record_met}
 use Rattle.aos_check_decl.proofs.types.+types.Goals as goal
 
 pub type_in-returns-in_ok-element-in-Array : goal.type_in-returns-in_ok-element-in-Array
@@ -46,16 +45,17 @@ type_in-returns-in_ok-fields_in-in-Record t c =
     let at = c.in-Record.at in
     let fs = c.in-Record.fields in
     let is = record_met slot e c.args.of.now at c.in-Record.base fs c.in-Record.is (sym c.is_some.ensures ∙ c.if-is_some.false) in
-    let empty = λ (ts : List TypeId). walk judge.field_in (judge.fields_met e ts) fs in
+    let walked = λ (ts : List TypeId) (s : Scope). walk judge.field_in (judge.fields_met e ts s) fs in
     let noted : c.fields_in.new.found ≡ first_after c.args.found.now (judge.type_in slot e c.args.of.now).breaches =
-    c.in_ok-fields_in-in-Record.ensures.noted ∙ ap (λ ts. first_after c.args.found.now (empty ts).breaches) c.new-types.ensures
+    c.in_ok-fields_in-in-Record.ensures.noted ∙ ap₂ (λ ts s. first_after c.args.found.now (walked ts s).breaches) c.new-types.ensures c.new-scope.ensures
     ∙ ap (λ j. first_after c.args.found.now j.breaches) (sym is) in
-    let same : judge.placed slot at (row.Record None c.fields_in.new.types) c.fields_in.new.env ≡ (judge.type_in slot e c.args.of.now).answer =
-    ap₂ (λ (ts : List TypeId) (e : Env). judge.placed slot at (row.Record None ts) e) c.in_ok-fields_in-in-Record.ensures.types c.in_ok-fields_in-in-Record.ensures.env
-    ∙ ap (λ ts. judge.placed slot at (row.Record None (empty ts).answer.types) (empty ts).answer.env) c.new-types.ensures
-    ∙ ap (λ j. j.answer) (sym is) in
+    let met : judge.fields_met c.fields_in.new.env c.fields_in.new.types c.fields_in.new.scope ≡ (walked [] empty).answer =
+    (λ i. judge.fields_met (c.in_ok-fields_in-in-Record.ensures.env i) (c.in_ok-fields_in-in-Record.ensures.types i) (c.in_ok-fields_in-in-Record.ensures.scope i))
+    ∙ ap₂ (λ ts s. (walked ts s).answer) c.new-types.ensures c.new-scope.ensures in
+    let same : record_of slot at (judge.fields_met c.fields_in.new.env c.fields_in.new.types c.fields_in.new.scope) ≡ (judge.type_in slot e c.args.of.now).answer =
+    ap (record_of slot at) met ∙ ap (λ j. j.answer) (sym is) in
     record {
-      noted = on_ok_weaker c.place_row.result (λ _. noted) c.place_row.ensures.env;
-      env = subst (λ (m : Met). OnOk c.place_row.result (c.place_row.new.env ≡ m.env)) same c.place_row.ensures.env;
-      of = subst (λ (m : Met). IfOk c.place_row.result (λ t. t ≡ m.of)) same c.place_row.ensures.of;
+      noted = on_ok_weaker c.place_record.result (λ _. noted) c.place_record.ensures.env;
+      env = subst (λ (m : Met). OnOk c.place_record.result (c.place_record.new.env ≡ m.env)) same c.place_record.ensures.env;
+      of = subst (λ (m : Met). IfOk c.place_record.result (λ t. t ≡ m.of)) same c.place_record.ensures.of;
     }

@@ -1,17 +1,17 @@
 -- Numbers, the forms of a factor and of a selector that stand in a row or a box, spans, and calls with two arguments.
-use Rattle.std.proofs.Common.{◌≡◌, List, map, IfOk, OnOk, refl, sym, ap, ◌∙◌, subst, w64, to_z, of_z, to_z-of_z, arith}
+use Rattle.std.proofs.Common.{◌≡◌, map, IfOk, OnOk, refl, sym, ap, ◌∙◌, subst, w64, to_z, of_z, to_z-of_z, arith}
 use Rattle.aos_base.specs.declared.number.Width.TheVariants.{W64}
 use Rattle.aos_base.specs.Number.{if_within}
-use Rattle.aos_tree.specs.declared.expr.Expr.{Expr, out-Expr}
+use Rattle.aos_tree.specs.declared.expr.Expr.{out-Expr}
 use Rattle.aos_tree.specs.declared.expr.Elem.{out-Elem}
 use Rattle.aos_symbols.specs.Breaches.{first_after}
-use Rattle.aos_symbols.specs.Judged.{Judged, kept, bind, walk}
+use Rattle.aos_symbols.specs.Judged.{Judged, bind, walk}
 use Rattle.aos_check_expr.specs.Known.{Answer}
 use Rattle.aos_check_expr.specs.Operations.{no_elements}
-use Rattle.aos_check_expr.specs.Designators.{read, spotted}
+use Rattle.aos_check_expr.specs.Designators.{read}
 use Rattle.aos_check_expr.specs.Expressions as judge
 use Rattle.aos_check_expr.specs.Seen.{seen_answer, seen_spot}
-use Rattle.aos_check_expr.proofs.Rows.{two_items, factor_desig, factor_set, factor_not, element_as, element_is, selector_paren}
+use Rattle.aos_check_expr.proofs.Rows.{two_items, factor_desig, factor_set, factor_not, element_as, element_is}
 use Rattle.aos_check_expr.proofs.Told as told
 use Rattle.aos_check_expr.proofs.expressions.+exprs.Goals as goal
 
@@ -30,7 +30,7 @@ factor-returns-in_ok-spot-in-Desig-clause-noted t c =
     let is = factor_desig env c.args.part.now w.desig w.is in
     let one = c.in_ok-spot-in-Desig in
     c.read.ensures.noted
-    ∙ told.noted (judge.factor env c.args.part.now) (judge.designator env w.desig) read (seen_spot one.spot) is one.ensures.answer
+    ∙ told.noted (judge.factor env c.args.part.now) (judge.designator env w.desig) (read env) (seen_spot one.spot) is one.ensures.answer
     c.args.found.now c.designator.new.found one.ensures.noted
 
 pub factor-returns-in_ok-spot-in-Desig-clause-answer : goal.factor-returns-in_ok-spot-in-Desig-clause-answer
@@ -39,7 +39,7 @@ factor-returns-in_ok-spot-in-Desig-clause-answer t c =
     let w = c.in-Desig in
     let is = factor_desig env c.args.part.now w.desig w.is in
     let one = c.in_ok-spot-in-Desig in
-    c.read.ensures.answer ∙ told.answer (judge.factor env c.args.part.now) (judge.designator env w.desig) read (seen_spot one.spot) is one.ensures.answer
+    c.read.ensures.answer ∙ told.answer (judge.factor env c.args.part.now) (judge.designator env w.desig) (read env) (seen_spot one.spot) is one.ensures.answer
 
 pub factor-returns-in_ok-set-in-Set-clause-noted : goal.factor-returns-in_ok-set-in-Set-clause-noted
 factor-returns-in_ok-set-in-Set-clause-noted t c =
@@ -107,37 +107,6 @@ element-returns-in_ok-last-in-Some-clause-noted t c =
     ∙ told.noted (judge.element env at set c.args.part.now) (judge.expr env x) behind (seen_answer low.first) is low.ensures.answer
     c.args.found.now c.expr.new.found low.ensures.noted)
     c.with_span.ensures.noted
-
-pub from_head-returns-in_ok-value-in-Paren-clause-noted : goal.from_head-returns-in_ok-value-in-Paren-clause-noted
-from_head-returns-in_ok-value-in-Paren-clause-noted t c =
-    let env = c.args.env.now in
-    let h = c.args.head in
-    let w = c.in-Paren in
-    let more = c.in-Some.more.now in
-    let called = λ (xs : List Expr). judge.called env h w.at (map (judge.expr env) xs) xs in
-    let ended = λ (a : Answer). spotted h.first (judge.ended h.first (kept a) more) in
-    let is = ap (λ xs. judge.from_head env h xs) c.in-Some.ensures.cases.0 ∙ selector_paren env h c.in-Some.selector.now w.at w.arguments more w.is in
-    let same = ap called c.as_slice.ensures in
-    let one = c.in_ok-value-in-Paren in
-    c.spot_ended.ensures.noted
-    ∙ told.noted (judge.from_head env h c.args.selectors.now) (called w.arguments) ended (seen_answer one.value) is
-    (one.ensures.answer ∙ ap (λ z. z.answer) same) c.args.found.now c.called.new.found
-    (one.ensures.noted ∙ ap (λ z. first_after c.args.found.now z.breaches) same)
-
-pub from_head-returns-in_ok-value-in-Paren-clause-answer : goal.from_head-returns-in_ok-value-in-Paren-clause-answer
-from_head-returns-in_ok-value-in-Paren-clause-answer t c =
-    let env = c.args.env.now in
-    let h = c.args.head in
-    let w = c.in-Paren in
-    let more = c.in-Some.more.now in
-    let called = λ (xs : List Expr). judge.called env h w.at (map (judge.expr env) xs) xs in
-    let ended = λ (a : Answer). spotted h.first (judge.ended h.first (kept a) more) in
-    let is = ap (λ xs. judge.from_head env h xs) c.in-Some.ensures.cases.0 ∙ selector_paren env h c.in-Some.selector.now w.at w.arguments more w.is in
-    let same = ap called c.as_slice.ensures in
-    let one = c.in_ok-value-in-Paren in
-    c.spot_ended.ensures.answer
-    ∙ told.answer (judge.from_head env h c.args.selectors.now) (called w.arguments) ended (seen_answer one.value) is
-    (one.ensures.answer ∙ ap (λ z. z.answer) same)
 
 pub shifted-returns-in_ok-by-in-len2-clause-noted : goal.shifted-returns-in_ok-by-in-len2-clause-noted
 shifted-returns-in_ok-by-in-len2-clause-noted t c =

@@ -3,7 +3,7 @@ use Rattle.std.proofs.Common.{◌≡◌, drop}
 use Rattle.aos_symbols.specs.Breaches.{first_after}
 use Rattle.aos_symbols.specs.Judged.{walk}
 use Rattle.aos_check_expr.specs.Operations.{no_elements}
-use Rattle.aos_check_expr.specs.Seen.{seen_answer}
+use Rattle.aos_check_expr.specs.Seen.{seen_answer, seen_part, seen_spot}
 use Rattle.aos_check_expr.specs.Expressions as judge
 use Rattle.aos_check_expr.proofs.expressions.+exprs.Given as goal
 
@@ -23,4 +23,16 @@ abbrev pub invariant-elements-loop-part : goal.invariant-elements-loop-part
 invariant-elements-loop-part l = record {
   noted : first_after l.found (walk (judge.element l.env l.at) (seen_answer l.whole) (drop l.part-index l.all)).breaches ≡ first_after l.initial.found (walk (judge.element l.env l.at) no_elements l.all).breaches;
   answer : (walk (judge.element l.env l.at) (seen_answer l.whole) (drop l.part-index l.all)).answer ≡ (walk (judge.element l.env l.at) no_elements l.all).answer;
+}
+
+abbrev pub invariant-selectors-loop-part : goal.invariant-selectors-loop-part
+invariant-selectors-loop-part l = record {
+  noted : first_after l.found (walk (judge.selector l.env l.first) (seen_part l.whole) (drop l.part-index l.all)).breaches ≡ first_after l.initial.found (walk (judge.selector l.env l.first) (seen_part l.initial.whole) l.all).breaches;
+  answer : (walk (judge.selector l.env l.first) (seen_part l.whole) (drop l.part-index l.all)).answer ≡ (walk (judge.selector l.env l.first) (seen_part l.initial.whole) l.all).answer;
+}
+
+abbrev pub invariant-indices-loop-part : goal.invariant-indices-loop-part
+invariant-indices-loop-part l = record {
+  noted : first_after l.found (walk (judge.index l.env l.at) (seen_spot l.whole) (drop l.part-index l.all)).breaches ≡ first_after l.initial.found (walk (judge.index l.env l.at) (seen_spot l.initial.whole) l.all).breaches;
+  answer : (walk (judge.index l.env l.at) (seen_spot l.whole) (drop l.part-index l.all)).answer ≡ (walk (judge.index l.env l.at) (seen_spot l.initial.whole) l.all).answer;
 }

@@ -1,0 +1,335 @@
+// Parts of variables: the fields of records and the elements of arrays; and what a designator is so far.
+
+ghost use Rattle.std.specs.Prelude.{◌≡◌, OnOk, IfOk};
+ghost use Rattle.aos_typed.specs.Program.{Index};
+ghost use Rattle.aos_typed.specs.Program.{Field as FieldOf};
+ghost use Rattle.aos_typed.specs.Seen.{seen_expr};
+ghost use Rattle.aos_symbols.specs.Breaches.{first_after};
+ghost use Rattle.aos_check_expr.specs.Known as known;
+ghost use Rattle.aos_check_expr.specs.Designators as judge;
+ghost use Rattle.aos_check_expr.specs.Expressions as expressions;
+ghost use Rattle.aos_check_expr.specs.Seen.{seen_answer, seen_held, seen_part, seen_spot};
+
+use crate::designators::{Head, is_built, is_module, member_behind, named, refused_at};
+use crate::known::{Answer, Class, Held, Spot, is_basic, is_number, known_as, type_as};
+use aos_base::Pos;
+use aos_symbols::{Breach, Env, Field, NOT_BUILT, NOT_EXPORTED, WRONG_SELECTOR};
+use aos_tree::{Export, Name};
+use aos_typed::{TExpr, TPlace};
+use aos_types::{TypeId, TypeRow};
+use std::alloc::{AllocError, Global};
+
+/// A selector that a type hasn't.
+pub fn lacking(found: &mut Option<Breach>, env: &Env<'_>, of: TypeId, at: Pos) -> Spot
+    ensures noted { found.new ≡ first_after found.old (judge.lacking env.now of at).breaches }
+    ensures answer { seen_spot result ≡ (judge.lacking env.now of at).answer }
+{
+    if is_built(env, of) {
+        refused_at(found, WRONG_SELECTOR, at)
+    } else {
+        refused_at(found, NOT_BUILT, at)
+    }
+}
+
+/// The class of a part, by that of the whole and whether the part may be written.
+fn part_class(may_write: bool, class: Class) -> Class
+    ensures { result ≡ judge.part_class may_write class }
+{
+    match class {
+        Class::Variable => {
+            if may_write {
+                Class::Variable
+            } else {
+                Class::ReadOnly
+            }
+        }
+        _ => class,
+    }
+}
+
+/// A part whose type isn't known.
+fn unknown_part(at: Pos, whole: Spot) -> Spot
+    ensures { seen_spot result ≡ judge.unknown_part at (seen_spot whole) }
+{
+    Spot {
+        known: known_as(whole.known.class, None),
+        held: whole.held,
+        at,
+    }
+}
+
+/// Whether a field may be written: one marked `-` may only be read in other modules.
+fn may_write(field: Field) -> bool
+    ensures { result ≡ judge.may_write field }
+{
+    field.is_own || !matches!(field.mark, Some(Export::ReadOnly))
+}
+
+fn field_held(alloc: Global, of: TypeId, number: u32, whole: Held) -> Result<Held, AllocError>
+    ensures { IfOk result (λ r. seen_held r ≡
+        judge.part_held (λ p. FieldOf p (known.type_as of) number) (seen_held whole)) }
+{
+    match whole {
+        Held::Stands(place) => {
+            let place = Box::new(alloc, place)?;
+            Ok(Held::Stands(TPlace::Field(place, type_as(of), number)))
+        }
+        Held::Value(value) => Ok(Held::Value(value)),
+    }
+}
+
+/// A field of a variable that is of this record type.
+fn field_spot(
+    alloc: Global,
+    of: TypeId,
+    field: Field,
+    at: Pos,
+    whole: Spot,
+) -> Result<Spot, AllocError>
+    ensures { IfOk result (λ r. seen_spot r ≡ judge.field_spot of field at (seen_spot whole)) }
+{
+    Ok(Spot {
+        known: known_as(part_class(may_write(field), whole.known.class), field.of),
+        held: field_held(alloc, of, field.number, whole.held)?,
+        at,
+    })
+}
+
+/// The field of a record, where it has one: a field of another module's record has an export mark.
+fn found_field(
+    alloc: Global,
+    found: &mut Option<Breach>,
+    env: &Env<'_>,
+    of: TypeId,
+    field: Option<Field>,
+    whole: Spot,
+    at: Pos,
+    name: Name,
+) -> Result<Spot, AllocError>
+    ensures noted { OnOk result (found.new ≡ first_after found.old
+        (judge.field_found env.now (seen_spot whole) at name of field).breaches) }
+    ensures answer { IfOk result (λ r. seen_spot r ≡
+        (judge.field_found env.now (seen_spot whole) at name of field).answer) }
+{
+    match field {
+        None => Ok(lacking(found, env, of, at)),
+        Some(field) => {
+            if field.is_own || field.mark.is_some() {
+                field_spot(alloc, of, field, name.pos, whole)
+            } else {
+                Ok(refused_at(found, NOT_EXPORTED, name.pos))
+            }
+        }
+    }
+}
+
+/// A field, behind a point that stands here.
+pub fn field(
+    alloc: Global,
+    found: &mut Option<Breach>,
+    env: &Env<'_>,
+    whole: Spot,
+    at: Pos,
+    name: Name,
+) -> Result<Spot, AllocError>
+    ensures noted { OnOk result (found.new ≡ first_after found.old
+        (judge.field env.now (seen_spot whole) at name).breaches) }
+    ensures answer { IfOk result (λ r. seen_spot r ≡
+        (judge.field env.now (seen_spot whole) at name).answer) }
+{
+    let Some(of) = whole.known.of else {
+        return Ok(unknown_part(name.pos, whole));
+    };
+    if is_basic(of) {
+        return Ok(lacking(found, env, of, at));
+    }
+    match env.row(Some(of)) {
+        Some(TypeRow::Record(None, _)) => {
+            let field = env.field(of, name);
+            found_field(alloc, found, env, of, field, whole, at, name)
+        }
+        _ => Ok(lacking(found, env, of, at)),
+    }
+}
+
+fn element_held(
+    alloc: Global,
+    elements: u32,
+    of: TypeId,
+    index: TExpr,
+    whole: Held,
+) -> Result<Held, AllocError>
+    ensures { IfOk result (λ r. seen_held r ≡
+        judge.part_held (λ p. Index p elements (known.type_as of) (seen_expr index))
+        (seen_held whole)) }
+{
+    match whole {
+        Held::Stands(place) => {
+            let place = Box::new(alloc, place)?;
+            let index = Box::new(alloc, index)?;
+            Ok(Held::Stands(TPlace::Index(place, elements, type_as(of), index)))
+        }
+        Held::Value(value) => Ok(Held::Value(value)),
+    }
+}
+
+/// An element of a variable that is an array of so many elements of this type.
+fn element_spot(
+    alloc: Global,
+    elements: u32,
+    of: TypeId,
+    index: Answer,
+    whole: Spot,
+) -> Result<Spot, AllocError>
+    ensures { IfOk result (λ r. seen_spot r ≡
+        judge.element_spot elements of (seen_answer index) (seen_spot whole)) }
+{
+    Ok(Spot {
+        known: known_as(part_class(true, whole.known.class), Some(of)),
+        held: element_held(alloc, elements, of, index.typed, whole.held)?,
+        at: whole.at,
+    })
+}
+
+/// The same, with the bracket here: the index must be of an integer type.
+fn found_element(
+    alloc: Global,
+    found: &mut Option<Breach>,
+    elements: u32,
+    of: TypeId,
+    at: Pos,
+    whole: Spot,
+    index: Answer,
+) -> Result<Spot, AllocError>
+    ensures noted { OnOk result (found.new ≡ first_after found.old
+        (judge.element_found elements of at (seen_spot whole) (seen_answer index)).breaches) }
+    ensures answer { IfOk result (λ r. seen_spot r ≡
+        (judge.element_found elements of at (seen_spot whole) (seen_answer index)).answer) }
+{
+    if is_number(index.known.of) {
+        element_spot(alloc, elements, of, index, whole)
+    } else {
+        Ok(refused_at(found, WRONG_SELECTOR, at))
+    }
+}
+
+/// An element, in a bracket that stands here.
+pub fn element(
+    alloc: Global,
+    found: &mut Option<Breach>,
+    env: &Env<'_>,
+    at: Pos,
+    whole: Spot,
+    index: Answer,
+) -> Result<Spot, AllocError>
+    ensures noted { OnOk result (found.new ≡ first_after found.old
+        (judge.element env.now at (seen_spot whole) (seen_answer index)).breaches) }
+    ensures answer { IfOk result (λ r. seen_spot r ≡
+        (judge.element env.now at (seen_spot whole) (seen_answer index)).answer) }
+{
+    let Some(of) = whole.known.of else {
+        return Ok(unknown_part(whole.at, whole));
+    };
+    if is_basic(of) {
+        return Ok(lacking(found, env, of, at));
+    }
+    match env.row(Some(of)) {
+        Some(TypeRow::Array(elements, of)) => {
+            found_element(alloc, found, *elements, *of, at, whole, index)
+        }
+        _ => Ok(lacking(found, env, of, at)),
+    }
+}
+
+/// `^`, which stands here: no type that is built has it.
+fn followed(found: &mut Option<Breach>, env: &Env<'_>, whole: Spot, at: Pos) -> Spot
+    ensures noted { found.new ≡
+        first_after found.old (judge.followed env.now (seen_spot whole) at).breaches }
+    ensures answer { seen_spot result ≡ (judge.followed env.now (seen_spot whole) at).answer }
+{
+    match whole.known.of {
+        None => unknown_part(whole.at, whole),
+        Some(of) => lacking(found, env, of, at),
+    }
+}
+
+/// What a designator is so far: a name, which a bracket may call, or a variable or a value.
+#[derive(Drop, Debug)]
+pub enum Part {
+    Begun(Head),
+    Meant(Spot),
+}
+
+/// What a designator is so far, as a variable or a value.
+pub fn spot_of_part(found: &mut Option<Breach>, env: &Env<'_>, part: Part) -> Spot
+    ensures noted { found.new ≡ first_after found.old
+        (expressions.spot_of_part env.now (seen_part part)).breaches }
+    ensures answer { seen_spot result ≡
+        (expressions.spot_of_part env.now (seen_part part)).answer }
+{
+    match part {
+        Part::Begun(head) => named(found, env, head),
+        Part::Meant(spot) => spot,
+    }
+}
+
+/// A field of what a name stands for, behind a point that stands here.
+#[tactic(auto, using(aos_symbols::proofs::Keeping::after_more))]
+fn pointed_name(
+    alloc: Global,
+    found: &mut Option<Breach>,
+    env: &Env<'_>,
+    head: Head,
+    at: Pos,
+    name: Name,
+) -> Result<Part, AllocError>
+    ensures noted { OnOk result (found.new ≡ first_after found.old
+        (expressions.pointed_name env.now head at name).breaches) }
+    ensures answer { IfOk result (λ r. seen_part r ≡
+        (expressions.pointed_name env.now head at name).answer) }
+{
+    let whole = named(found, env, head);
+    let part = field(alloc, found, env, whole, at, name)?;
+    Ok(Part::Meant(part))
+}
+
+/// A point behind what a designator is so far: a name of a module, or a field.
+pub fn pointed(
+    alloc: Global,
+    found: &mut Option<Breach>,
+    env: &Env<'_>,
+    part: Part,
+    at: Pos,
+    name: Name,
+) -> Result<Part, AllocError>
+    ensures noted { OnOk result (found.new ≡ first_after found.old
+        (expressions.pointed env.now (seen_part part) at name).breaches) }
+    ensures answer { IfOk result (λ r. seen_part r ≡
+        (expressions.pointed env.now (seen_part part) at name).answer) }
+{
+    match part {
+        Part::Begun(head) => {
+            if is_module(head.found) {
+                Ok(Part::Begun(member_behind(env, head, name)))
+            } else {
+                pointed_name(alloc, found, env, head, at, name)
+            }
+        }
+        Part::Meant(whole) => {
+            let part = field(alloc, found, env, whole, at, name)?;
+            Ok(Part::Meant(part))
+        }
+    }
+}
+
+/// `^`, which stands here, behind what a designator is so far.
+#[tactic(auto, using(aos_symbols::proofs::Keeping::after_more))]
+pub fn followed_part(found: &mut Option<Breach>, env: &Env<'_>, part: Part, at: Pos) -> Part
+    ensures noted { found.new ≡ first_after found.old
+        (expressions.followed_part env.now (seen_part part) at).breaches }
+    ensures answer { seen_part result ≡
+        (expressions.followed_part env.now (seen_part part) at).answer }
+{
+    let whole = spot_of_part(found, env, part);
+    Part::Meant(followed(found, env, whole, at))
+}
