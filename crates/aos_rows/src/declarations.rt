@@ -75,8 +75,6 @@ PROCEDURE P(a, a: LONGINT); END P; => 16: rule 13: name declared twice
 PROCEDURE P(a: LONGINT); VAR a: LONGINT; END P; => 30: rule 13: name declared twice
 PROCEDURE P; TYPE T = SET; END P; VAR v: T; => 42: rule 14: unknown name
 VAR o: ARRAY 2 OF LONGINT; BEGIN NEW(o) => 34: rule 47: wrong NEW
-VAR a: ARRAY 2 OF LONGINT; BEGIN a[0] := 1 => 35: rule 99: not built yet
-VAR a, b: RECORD x: LONGINT END; BEGIN a := b => 40: rule 99: not built yet
 PROCEDURE P(x: LONGINT); BEGIN x := 1 END P; => 32: rule 99: not built yet
 PROCEDURE P; VAR x: LONGINT; BEGIN Out.Int(x, 0) END P; => 44: rule 99: not built yet
 PROCEDURE P; BEGIN u := 1 END P; => 20: rule 14: unknown name

@@ -365,7 +365,7 @@ pub fn expect_outputs<R: Abort + Wait>(
 }
 
 // Each row is what follows these lines, a statement in the next one, and its trap.
-fn expect_traps<R: Abort + Wait>(
+pub fn expect_traps<R: Abort + Wait>(
     rt: &R,
     alloc: Global,
     lines: &str,

@@ -4,6 +4,8 @@
 #[cfg(test)]
 mod declarations;
 #[cfg(test)]
+mod designators;
+#[cfg(test)]
 mod expressions;
 #[cfg(test)]
 mod modules;
