@@ -4,6 +4,7 @@ ghost use Rattle.std.specs.Prelude.{◌≡◌, ◌≢◌, ◌≤◌, ◌<◌, �
 ghost use Rattle.aos_tree.specs.Ended.{IsEnded};
 ghost use Rattle.aos_tree.specs.Nesting.{shallow};
 ghost use Rattle.aos_tree.specs.ModuleGrammar.{IsImport, IsImportList, IsImports, Reads};
+ghost use Rattle.aos_tree.specs.ModuleGrammar as grammar;
 ghost use Rattle.aos_parse_expr.specs.Machine.{Moves};
 ghost use Rattle.aos_parse_mod.specs.Symbols as m;
 
@@ -12,8 +13,8 @@ use crate::declaration::decls;
 use crate::token::{end, ident, split, then_name, word};
 use aos_parse_expr::ParseErr;
 use aos_scan::{Token, TokenKind};
-use aos_tree::{Import, Items, Module};
-use std::alloc::Global;
+use aos_tree::{Import, Items, Module, Text};
+use std::alloc::{AllocError, Global};
 
 pub fn import<'a>(tokens: &'a [Token], depth: u32) -> Result<(Import, &'a [Token]), ParseErr>
     requires ended { IsEnded tokens.now }
@@ -84,6 +85,23 @@ pub fn import_list<'a>(
     }
 }
 
+/// The strings among tokens.
+fn strings_in(alloc: Global, tokens: &[Token]) -> Result<Items<Text>, AllocError>
+    ensures { IfOk result (λ strings. strings ≡ grammar.strings_in tokens.now) }
+{
+    let mut found = Items::new(alloc);
+    for token in tokens {
+        if let TokenKind::Text = token.kind {
+            found.push(Text {
+                start: token.start,
+                end: token.end,
+                pos: token.pos,
+            })?;
+        }
+    }
+    Ok(found)
+}
+
 /// A module, and the end of its text.
 pub fn text(alloc: Global, tokens: &[Token]) -> Result<Module, ParseErr>
     requires ended { IsEnded tokens.now }
@@ -99,6 +117,7 @@ pub fn text(alloc: Global, tokens: &[Token]) -> Result<Module, ParseErr>
     let (last, rest) = ident(rest, 0)?;
     let (_, rest) = word(rest, 0, TokenKind::Period)?;
     end(rest)?;
+    let strings = strings_in(alloc, tokens)?;
     Ok(Module {
         pos: place,
         name,
@@ -106,5 +125,6 @@ pub fn text(alloc: Global, tokens: &[Token]) -> Result<Module, ParseErr>
         decls,
         body,
         end: last,
+        strings,
     })
 }

@@ -1,10 +1,12 @@
 -- The grammar of modules, and which tree reads a whole token list
 -- (Active Oberon Language Report, Reali 2002, syntax).
-use Rattle.std.specs.Prelude.{◌≡◌, ℕ, List, [], ◌∷◌, Option, Some, None, false}
+use Rattle.std.specs.Prelude.{◌≡◌, ℕ, List, [], ◌∷◌, Option, Some, None, Bool, true, false, filter, map}
 use Rattle.aos_base.specs.declared.text.Pos.{Pos}
 use Rattle.aos_scan.specs.declared.token.Token.{Token}
+use Rattle.aos_scan.specs.declared.token.TokenKind.{TokenKind}
 use Rattle.aos_scan.specs.declared.token.TokenKind.TheVariants as k
 use Rattle.aos_tree.specs.declared.name.Name.{Name}
+use Rattle.aos_tree.specs.declared.name.Text.{Text}
 use Rattle.aos_tree.specs.declared.stat.Block.{Block}
 use Rattle.aos_tree.specs.declared.decl.Decl.{Decl}
 use Rattle.aos_tree.specs.declared.module.Module.{Module}
@@ -12,6 +14,7 @@ use Rattle.aos_tree.specs.declared.module.Import.{Import}
 use Rattle.aos_tree.specs.Nesting.{Rule, shallow}
 use Rattle.aos_tree.specs.DeclGrammar.{IsDecls, IsBody}
 use Rattle.aos_tree.specs.Words.{IsWord, IsName}
+use Rattle.aos_tree.specs.Operators.{text_at}
 
 -- Import = ident [":=" ident].
 pub data IsImport (may : Rule) (d : ℕ) : Import → List Token → List Token → Type 0 where
@@ -38,12 +41,20 @@ pub data IsImportList (may : Rule) (d : ℕ) : List Import → List Token → Li
   import_list : {p : Pos} {all : List Import} {ts mid rest : List Token} →
       IsWord may d k.KwImport p ts mid → IsImports may d all mid rest → IsImportList may d all ts rest
 
--- Module = MODULE ident ";" [IMPORT Import {"," Import} ";"] {Decl} Body ident ".".
+-- the strings among tokens
+abbrev pub is_string : TokenKind → Bool
+is_string k.Text = true
+is_string other = false
+
+abbrev pub strings_in : List Token → List Text
+strings_in ts = map text_at (filter (λ t. is_string t.kind) ts)
+
+-- Module = MODULE ident ";" [IMPORT Import {"," Import} ";"] {Decl} Body ident ".". Beside its parts it has all strings of its text.
 pub data IsModule (may : Rule) (d : ℕ) : Module → List Token → List Token → Type 0 where
   whole : {p q r : Pos} {name end : Name} {all : List Import} {decls : List Decl} {body : Option Block} {ts t1 t2 t3 t4 t5 t6 t7 rest : List Token} →
       IsWord may d k.KwModule p ts t1 → IsName may d name t1 t2 → IsWord may d k.Semicolon q t2 t3 → IsImportList may d all t3 t4 →
       IsDecls may false d decls t4 t5 → IsBody may d body t5 t6 → IsName may d end t6 t7 → IsWord may d k.Period r t7 rest →
-      IsModule may d (record { pos = p; name = name; imports = all; decls = decls; body = body; end = end }) ts rest
+      IsModule may d (record { pos = p; name = name; imports = all; decls = decls; body = body; end = end; strings = strings_in ts }) ts rest
 
 -- the tree reads the whole token list, up to its end, and no token is nested deeper than 200
 pub record Reads (tree : Module) (tokens : List Token) : Type 0 where

@@ -2,12 +2,12 @@
 
 use crate::decl::Decl;
 use crate::items::Items;
-use crate::name::Name;
+use crate::name::{Name, Text};
 use crate::stat::Block;
 use aos_base::Pos;
 
 /// `Module = MODULE ident ";" [IMPORT Import {"," Import} ";"] {Decl} Body ident ".".` A body that is END alone is no
-/// block.
+/// block. Beside its parts stand all strings of its text, in their order.
 #[derive(Drop)]
 pub struct Module {
     pub pos: Pos,
@@ -16,6 +16,7 @@ pub struct Module {
     pub decls: Items<Decl>,
     pub body: Option<Block>,
     pub end: Name,
+    pub strings: Items<Text>,
 }
 
 /// `Import = ident [":=" ident].` Its place is that of its first name.

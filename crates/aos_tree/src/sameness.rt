@@ -64,6 +64,7 @@ impl Alike for Module {
             && self.decls.same(&other.decls)
             && self.body.same(&other.body)
             && self.end.same(&other.end)
+            && self.strings.same(&other.strings)
     }
 }
 

@@ -49,4 +49,4 @@ returns-clause-moves c =
 
 pub returns-clause-tree : goal.returns-clause-tree
 returns-clause-tree c =
-    tree.reads_of (imported.whole c.in_ok-place.ensures.tree c.in_ok-name.ensures.tree c.in_ok-rest.ensures.tree c.in_ok-imports.ensures.tree c.in_ok-decls.ensures.tree c.in_ok-body.ensures.tree c.in_ok-last.ensures.tree c.in_ok-rest-2.ensures.tree) c.in_ok-end.ensures.whole
+    rw c.in_ok-strings.ensures (tree.reads_of (imported.whole c.in_ok-place.ensures.tree c.in_ok-name.ensures.tree c.in_ok-rest.ensures.tree c.in_ok-imports.ensures.tree c.in_ok-decls.ensures.tree c.in_ok-body.ensures.tree c.in_ok-last.ensures.tree c.in_ok-rest-2.ensures.tree) c.in_ok-end.ensures.whole)
