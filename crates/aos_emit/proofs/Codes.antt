@@ -1,22 +1,26 @@
 -- The code of one more module or object type.
 use Rattle.std.proofs.Common.{◌≡◌, ℕ, suc, ◌+◌, All, List, [], ◌∷◌, ◌++◌, ◌<◌, ◌≤◌, None, get_or, take, length, map, refl, sym, ap, ◌∙◌, subst, arith, append-nil, append_assoc}
 use Rattle.std.specs.String.{string_bytes}
+use Rattle.std.specs.List.{flat_map}
+use Rattle.std.specs.declared.vec.Vec.{Vec}
+use Rattle.std.specs.declared.alloc.Global.{Global}
 use Rattle.std.proofs.lemmas.List.{map-append, map_more, length-map, length-take-le}
 use Rattle.std.proofs.lemmas.List.Elements.{All-append, All-replicate}
 use Rattle.aos_typed.specs.declared.tree.TModule.{TModule}
 use Rattle.aos_typed.specs.declared.tree.TObject.{TObject}
 use Rattle.aos_typed.specs.Program.{Module, ObjectType, Program}
 use Rattle.aos_typed.specs.Seen.{seen_stats, seen_module, seen_object}
-use Rattle.aos_types.specs.Shape.{leaves}
+use Rattle.aos_types.specs.declared.row.TypeRow.{TypeRow}
+use Rattle.aos_types.specs.Shape.{leaves, row}
+use Rattle.aos_layout.specs.Layout.{variable_cells}
+use Rattle.aos_code.specs.Machine.{first_cell}
 use Rattle.aos_code.specs.declared.image.Body.{Body}
 use Rattle.aos_code.specs.declared.image.ProcShape.{ProcShape}
 use Rattle.aos_code.specs.declared.image.ModuleDesc.{ModuleDesc}
 use Rattle.aos_code.specs.declared.image.TypeDesc.{TypeDesc}
-use Rattle.aos_code.specs.Machine.{first_cell}
-use Rattle.aos_layout.specs.Layout.{block}
 use Rattle.aos_sim.specs.Code.{body_code}
 use Rattle.aos_sim.specs.Need.{body_need}
-use Rattle.aos_sim.specs.Shows.{numbers_from}
+use Rattle.aos_sim.specs.Shows.{numbers_from, text_cells, first_cells}
 use Rattle.aos_emit.specs.Made.{AreMade}
 
 numbers-append : {A : Type 0} (k : ℕ) (xs : List A) (x : A) → numbers_from k (xs ++ x ∷ []) ≡ numbers_from k xs ++ (k + length xs) ∷ []
@@ -46,8 +50,16 @@ more_before f g xs zs x z e h = more_of f g xs zs x z (e ∙ append-nil (map g z
 nothing_more : (ss : List ProcShape) (s : ProcShape) → All (λ x. x.result ≡ None) ss → s.result ≡ None → All (λ x. x.result ≡ None) (ss ++ s ∷ [])
 nothing_more ss s all is = All-append (λ (x : ProcShape). x.result ≡ None) ss (s ∷ []) all (All-replicate (λ (x : ProcShape). x.result ≡ None) 1 s is)
 
+-- what a module's cells hold at first, from its string constants as the code has them
+pub first_cells_are : (rows : List TypeRow) (m : TModule) → map first_cell (leaves (row (variable_cells rows (seen_module m).variables))) ++ flat_map (λ t. text_cells t.items) m.texts.items ≡ first_cells rows (seen_module m)
+first_cells_are rows m = ap (λ l. map first_cell (leaves (row (variable_cells rows (seen_module m).variables))) ++ l) (seen m.texts.items)
+  where
+    seen : (ts : List (Vec ℕ Global)) → flat_map (λ t. text_cells t.items) ts ≡ flat_map text_cells (map (λ t. t.items) ts)
+    seen [] = refl
+    seen (t ∷ ts) = ap (λ l. text_cells t.items ++ l) (seen ts)
+
 module _ (p : Program) where
-  pub more_module : (ms : List Module) (bs : List Body) (ss : List ProcShape) (ds : List ModuleDesc) (m : Module) (b : Body) (s : ProcShape) (d : ModuleDesc) → AreMade p ms [] bs ss ds [] → b.code.items ≡ body_code p m.body → b.depth ≡ body_need m.body → s.module ≡ length ms → s.result ≡ None → d.body ≡ length ms + 1 → d.cells.items ≡ map first_cell (leaves (block p.types m)) → string_bytes d.name ≡ m.name → AreMade p (ms ++ m ∷ []) [] (bs ++ b ∷ []) (ss ++ s ∷ []) (ds ++ d ∷ []) []
+  pub more_module : (ms : List Module) (bs : List Body) (ss : List ProcShape) (ds : List ModuleDesc) (m : Module) (b : Body) (s : ProcShape) (d : ModuleDesc) → AreMade p ms [] bs ss ds [] → b.code.items ≡ body_code p m.body → b.depth ≡ body_need m.body → s.module ≡ length ms → s.result ≡ None → d.body ≡ length ms + 1 → d.cells.items ≡ first_cells p.types m → string_bytes d.name ≡ m.name → AreMade p (ms ++ m ∷ []) [] (bs ++ b ∷ []) (ss ++ s ∷ []) (ds ++ d ∷ []) []
   more_module ms bs ss ds m b s d h code depth home nothing start cells name =
       let n0 : s.module ≡ 0 + length ms = omega arith in
       let n1 : d.body ≡ 1 + length ms = omega arith in
@@ -58,7 +70,7 @@ module _ (p : Program) where
         results = nothing_more ss s h.results nothing;
         starts = more (λ (x : ModuleDesc). x.body) ds _ d (1 + length ms) h.starts n1 ∙ sym (numbers-append 1 ms m);
         types = refl;
-        cells = more_of (λ (x : ModuleDesc). x.cells.items) (λ (x : Module). map first_cell (leaves (block p.types x))) ds ms d m h.cells cells;
+        cells = more_of (λ (x : ModuleDesc). x.cells.items) (first_cells p.types) ds ms d m h.cells cells;
         names = more_of (λ (x : ModuleDesc). string_bytes x.name) (λ (x : Module). x.name) ds ms d m h.names name;
       }
 
@@ -89,7 +101,7 @@ module _ (p : Program) where
   count_of f xs k lt = let le : k ≤ length xs = omega arith in length-map (take k xs) f ∙ length-take-le k xs le
 
   -- the same for the modules up to one, in a list
-  pub more_module_of : (ms : List TModule) (k : ℕ) (m : TModule) (bs bs' : List Body) (ss ss' : List ProcShape) (ds ds' : List ModuleDesc) (ts : List TypeDesc) (b : Body) (s : ProcShape) (d : ModuleDesc) → k < length ms → m ≡ get_or ms k m → AreMade p (map seen_module (take k ms)) [] bs ss ds ts → ts ≡ [] → bs' ≡ bs ++ b ∷ [] → ss' ≡ ss ++ s ∷ [] → ds' ≡ ds ++ d ∷ [] → b.code.items ≡ body_code p (seen_stats m.body.items) → b.depth ≡ body_need (seen_stats m.body.items) → s.module ≡ k → s.result ≡ None → d.body ≡ k + 1 → d.cells.items ≡ map first_cell (leaves (block p.types (seen_module m))) → string_bytes d.name ≡ string_bytes m.name → AreMade p (map seen_module (take (k + 1) ms)) [] bs' ss' ds' ts
+  pub more_module_of : (ms : List TModule) (k : ℕ) (m : TModule) (bs bs' : List Body) (ss ss' : List ProcShape) (ds ds' : List ModuleDesc) (ts : List TypeDesc) (b : Body) (s : ProcShape) (d : ModuleDesc) → k < length ms → m ≡ get_or ms k m → AreMade p (map seen_module (take k ms)) [] bs ss ds ts → ts ≡ [] → bs' ≡ bs ++ b ∷ [] → ss' ≡ ss ++ s ∷ [] → ds' ≡ ds ++ d ∷ [] → b.code.items ≡ body_code p (seen_stats m.body.items) → b.depth ≡ body_need (seen_stats m.body.items) → s.module ≡ k → s.result ≡ None → d.body ≡ k + 1 → d.cells.items ≡ first_cells p.types (seen_module m) → string_bytes d.name ≡ string_bytes m.name → AreMade p (map seen_module (take (k + 1) ms)) [] bs' ss' ds' ts
   more_module_of ms k m bs bs' ss ss' ds ds' ts b s d lt at h et eb es ed code depth home nothing start cells name =
       let len = count_of seen_module ms k lt in
       let now = subst (λ l. AreMade p (map seen_module (take k ms)) [] bs ss ds l) et h in

@@ -6,10 +6,10 @@ use Rattle.aos_base.specs.declared.operator.Unary.TheVariants.{Range}
 use Rattle.aos_base.specs.declared.operator.Binary.TheVariants.{SetSpan}
 use Rattle.aos_typed.specs.declared.tree.Literal.{Literal}
 use Rattle.aos_typed.specs.declared.tree.Literal.TheVariants as literal
-use Rattle.aos_typed.specs.Program.{Place, ModuleVar, Field, Index, Expr, Lit, Read, Unary, Binary, And, Or, Element, Ord, Chr, Program}
+use Rattle.aos_typed.specs.Program.{Place, ModuleVar, Field, Index, Expr, Lit, Read, Unary, Binary, And, Or, Element, Ord, Chr, CompareTexts, Len, Program}
 use Rattle.aos_code.specs.declared.instr.Instr.{Instr}
-use Rattle.aos_code.specs.declared.instr.Instr.TheVariants.{Num, Dup, Module, Offset, Index as IndexOf, Unary as OnOne, Binary as OnTwo, Jump, JumpFalse, Load}
-use Rattle.aos_sim.specs.Code.{literal_code, kind_of, variable_cell, field_cell, cells_of, place_code, value_code}
+use Rattle.aos_code.specs.declared.instr.Instr.TheVariants.{Num, Dup, Drop, Module, Offset, Index as IndexOf, Unary as OnOne, Binary as OnTwo, Jump, JumpFalse, Load, CmpText}
+use Rattle.aos_sim.specs.Code.{literal_code, kind_of, variable_cell, field_cell, cells_of, with_length, place_code, value_code}
 use Rattle.aos_emit.specs.Back.{back_place, back_code, placed}
 use Rattle.aos_emit.specs.Forwards.{forwards}
 
@@ -36,6 +36,7 @@ literal_placed end (literal.Int n) = refl
 literal_placed end (literal.Bool b) = refl
 literal_placed end (literal.Char c) = refl
 literal_placed end (literal.Set s) = refl
+literal_placed end (literal.Text t) = refl
 
 -- where code ends at a place, so it is placed from its last instruction to its first
 abbrev pub IsPlaced : (ℕ → List Instr) → (List Instr → List Instr) → Type 0
@@ -57,6 +58,11 @@ whole code back at end is_placed ends =
     let first = at + length (code at) + 0 in
     let counted = count first (code at) (back []) [] (is_placed at [] first refl) in
     is_placed at [] end (omega arith) ∙ append-nil (code at)
+
+-- a length behind what is placed
+lengthened : (code : ℕ → List Instr) (back : List Instr → List Instr) (n : ℕ) → IsPlaced code back → IsPlaced (λ at. with_length (code at) n) (λ behind. back (behind ++ Num (pos n) ∷ []))
+lengthened code back n is_placed at behind end ends =
+    operand code back at end (Num (pos n) ∷ []) (behind ++ Num (pos n) ∷ []) behind is_placed (last_first end behind (Num (pos n))) ends
 
 module _ (p : Program) where
   mutual
@@ -121,3 +127,15 @@ module _ (p : Program) where
     forth (Chr a) at behind end ends =
         let range = OnOne (Range (pos 0) (pos 255)) in
         operand (value_code p a) (back_code p a) at end (range ∷ []) (behind ++ range ∷ []) behind (forth a) (last_first end behind range) ends
+    forth (CompareTexts r x n y m) at behind end ends =
+        let cx = with_length (place_code p x at) n in
+        let cy = with_length (place_code p y (at + length cx)) m in
+        let compare = CmpText r in
+        let back = λ (l : List Instr). back_place p x (back_place p y l ++ Num (pos n) ∷ []) in
+        let both = length-append cx (cy ++ compare ∷ []) in
+        let second = operand (λ k. with_length (place_code p y k) m) (λ l. back_place p y (l ++ Num (pos m) ∷ [])) (at + length cx) end (compare ∷ []) (behind ++ compare ∷ []) behind (lengthened (place_code p y) (back_place p y) m (place_forth y)) (last_first end behind compare) (omega arith) in
+        ap (λ l. forwards end (back l)) (sym (append_assoc behind (compare ∷ []) (Num (pos m) ∷ [])))
+        ∙ operand (λ k. with_length (place_code p x k) n) (λ l. back_place p x (l ++ Num (pos n) ∷ [])) at end (cy ++ compare ∷ []) (back_place p y ((behind ++ compare ∷ []) ++ Num (pos m) ∷ [])) behind (lengthened (place_code p x) (back_place p x) n (place_forth x)) second ends
+    forth (Len x n) at behind end ends =
+        let found = Num (pos n) ∷ Drop ∷ [] in
+        operand (place_code p x) (back_place p x) at end (Drop ∷ (Num (pos n) ∷ [])) (behind ++ found) behind (place_forth x) (more end behind found) ends

@@ -1,19 +1,22 @@
--- The cells of a program's variables are found by the numbers of modules and variables.
-use Rattle.std.proofs.Common.{◌≡◌, ℕ, ◌<◌, List, [], ◌∷◌, length, get_or, map, Option, Some, None, refl, sym, ap, ◌∙◌}
+-- The cells of a program's variables and string constants are found by the numbers of modules and variables.
+use Rattle.std.proofs.Common.{◌≡◌, ℕ, ◌<◌, List, [], ◌∷◌, length, get_or, map, take, Option, Some, None, refl, sym, ap, ◌∙◌}
 use Rattle.std.specs.Prelude.{slice_get, option_map}
 use Rattle.std.specs.Option.{unwrap_or}
+use Rattle.std.proofs.lemmas.List.{length-map}
 use Rattle.std.proofs.lemmas.Option.{slice_get-map, slice_get_read}
-use Rattle.aos_types.specs.Shape.{leaves, offset, number_of}
+use Rattle.aos_types.specs.Shape.{leaves, row, offset, number_of}
 use Rattle.aos_typed.specs.declared.tree.TModule.{TModule}
 use Rattle.aos_typed.specs.Program.{Module, Program}
+use Rattle.aos_typed.specs.Seen.{seen_module, seen_variable}
 use Rattle.aos_typed.specs.Source.{module_shape}
+use Rattle.aos_code.specs.declared.instr.Kind.{Kind}
 use Rattle.aos_layout.specs.declared.block.BlockShape.{BlockShape as CodeBlockShape}
-use Rattle.aos_layout.specs.Layout.{block}
+use Rattle.aos_layout.specs.Layout.{variable_cells}
 use Rattle.aos_layout.specs.Block.{BlockShape, block_shape}
 use Rattle.aos_layout.specs.Seen.{seen_block}
-use Rattle.aos_layout.proofs.Blocks.{first_cell}
+use Rattle.aos_layout.proofs.Blocks.{first_cell, variable_kinds}
 use Rattle.aos_sim.specs.Code.{variable_cell}
-use Rattle.aos_emit.specs.Laid.{AreBlocks, cell_in, module_kinds}
+use Rattle.aos_emit.specs.Laid.{AreBlocks, cell_in, variables_in, module_kinds}
 
 module _ (p : Program) (bs : List CodeBlockShape) (are : AreBlocks p bs) where
   found : (m : ℕ) → slice_get (map seen_block bs) m ≡ option_map (block_shape p.types) (slice_get p.modules m)
@@ -26,14 +29,22 @@ module _ (p : Program) (bs : List CodeBlockShape) (are : AreBlocks p bs) where
       at_module None = refl
       at_module (Some x) = first_cell p.types x i
 
-  pub kinds_are : (m : ℕ) → unwrap_or (option_map (λ b. b.kinds) (slice_get (map seen_block bs) m)) [] ≡ module_kinds p m
-  kinds_are m = ap (λ o. unwrap_or (option_map (λ (b : BlockShape). b.kinds) o) []) (found m) ∙ at_module (slice_get p.modules m)
+  pub kinds_are : (ms : List TModule) (m : ℕ) → p.modules ≡ map seen_module ms → take (cell_in (slice_get (map seen_block bs) m) (variables_in (slice_get ms m))) (unwrap_or (option_map (λ b. b.kinds) (slice_get (map seen_block bs) m)) []) ≡ module_kinds p m
+  kinds_are ms m seen =
+      let there = ap (λ l. slice_get l m) seen ∙ slice_get-map seen_module ms m in
+      let first = λ (o : Option BlockShape). take (cell_in o (variables_in (slice_get ms m))) (unwrap_or (option_map (λ (b : BlockShape). b.kinds) o) []) in
+      ap first (found m ∙ ap (option_map (block_shape p.types)) there) ∙ at_module (slice_get ms m) ∙ sym (ap variable_kinds_in there)
     where
-      at_module : (o : Option Module) → unwrap_or (option_map (λ (b : BlockShape). b.kinds) (option_map (block_shape p.types) o)) [] ≡ unwrap_or (option_map (λ x. leaves (block p.types x)) o) []
-      at_module None = refl
-      at_module (Some x) = refl
+      variable_kinds_in : Option Module → List Kind
+      variable_kinds_in o = unwrap_or (option_map (λ x. leaves (row (variable_cells p.types x.variables))) o) []
 
--- the kinds of the cells of a module of the program
-pub kinds_at : (p : Program) (see : TModule → Module) (ms : List TModule) (k : ℕ) (m : TModule) → p.modules ≡ map see ms → k < length ms → m ≡ get_or ms k m → module_kinds p k ≡ leaves (block p.types (see m))
+      at_module : (o : Option TModule) → take (cell_in (option_map (block_shape p.types) (option_map seen_module o)) (variables_in o)) (unwrap_or (option_map (λ (b : BlockShape). b.kinds) (option_map (block_shape p.types) (option_map seen_module o))) []) ≡ variable_kinds_in (option_map seen_module o)
+      at_module None = refl
+      at_module (Some x) =
+          let b = block_shape p.types (seen_module x) in
+          ap (λ n. take (cell_in (Some b) n) b.kinds) (sym (length-map x.variables.items seen_variable)) ∙ variable_kinds p.types (seen_module x)
+
+-- the kinds of the cells of the variables of a module of the program
+pub kinds_at : (p : Program) (see : TModule → Module) (ms : List TModule) (k : ℕ) (m : TModule) → p.modules ≡ map see ms → k < length ms → m ≡ get_or ms k m → module_kinds p k ≡ leaves (row (variable_cells p.types (see m).variables))
 kinds_at p see ms k m are lt at =
-    ap (λ o. unwrap_or (option_map (λ x. leaves (block p.types x)) o) []) (ap (λ l. slice_get l k) are ∙ slice_get-map see ms k ∙ ap (option_map see) (slice_get_read ms (length ms) k m refl lt at))
+    ap (λ (o : Option Module). unwrap_or (option_map (λ x. leaves (row (variable_cells p.types x.variables))) o) []) (ap (λ l. slice_get l k) are ∙ slice_get-map see ms k ∙ ap (option_map see) (slice_get_read ms (length ms) k m refl lt at))

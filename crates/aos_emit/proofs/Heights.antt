@@ -6,7 +6,7 @@ use Rattle.aos_base.specs.declared.text.Pos.{Pos}
 use Rattle.aos_typed.specs.declared.tree.TExpr.{TExpr}
 use Rattle.aos_typed.specs.declared.tree.TStat.{TStat}
 use Rattle.aos_typed.specs.declared.tree.TStat.TheViews as code
-use Rattle.aos_typed.specs.Program.{Stat, Assign, Copy, While, New, Out, Stats, Nothing, Then}
+use Rattle.aos_typed.specs.Program.{Stat, Assign, Copy, PutText, While, New, Out, Stats, Nothing, Then}
 use Rattle.aos_typed.specs.Seen.{seen_stat, seen_stats}
 use Rattle.aos_typed.proofs.Seen.{while_seen}
 
@@ -14,6 +14,7 @@ abbrev mutual
   pub height : Stat → ℕ
   height (Assign at t p e) = 0
   height (Copy at t p q) = 0
+  height (PutText at strict p n q m) = 0
   height (While at e body) = suc (heights body)
   height (New at p t) = 0
   height (Out at call) = 0

@@ -2,9 +2,9 @@
 use Rattle.std.specs.Prelude.{ℕ, pos, ◌+◌, ◌-◌, List, [], ◌∷◌, ◌++◌, length}
 use Rattle.aos_base.specs.declared.operator.Unary.TheVariants.{Range}
 use Rattle.aos_base.specs.declared.operator.Binary.TheVariants.{SetSpan}
-use Rattle.aos_typed.specs.Program.{Place, ModuleVar, Field, Index, Expr, Lit, Read, Unary, Binary, And, Or, Element, Ord, Chr, Program}
+use Rattle.aos_typed.specs.Program.{Place, ModuleVar, Field, Index, Expr, Lit, Read, Unary, Binary, And, Or, Element, Ord, Chr, CompareTexts, Len, Program}
 use Rattle.aos_code.specs.declared.instr.Instr.{Instr}
-use Rattle.aos_code.specs.declared.instr.Instr.TheVariants.{Num, Dup, Module, Offset, Index as IndexOf, Unary as OnOne, Binary as OnTwo, Jump, JumpFalse, Load}
+use Rattle.aos_code.specs.declared.instr.Instr.TheVariants.{Num, Dup, Drop, Module, Offset, Index as IndexOf, Unary as OnOne, Binary as OnTwo, Jump, JumpFalse, Load, CmpText}
 use Rattle.aos_sim.specs.Code.{literal_code, kind_of, variable_cell, field_cell, cells_of}
 
 -- in a program, whose variables have their cells
@@ -31,6 +31,9 @@ module _ (program : Program) where
     back_code (Element a) behind = back_code a (behind ++ OnTwo SetSpan ∷ Dup ∷ [])
     back_code (Ord a) behind = back_code a behind
     back_code (Chr a) behind = back_code a (behind ++ OnOne (Range (pos 0) (pos 255)) ∷ [])
+    back_code (CompareTexts r p n q m) behind =
+        back_place p (back_place q (behind ++ CmpText r ∷ Num (pos m) ∷ []) ++ Num (pos n) ∷ [])
+    back_code (Len p n) behind = back_place p (behind ++ Num (pos n) ∷ Drop ∷ [])
 
 -- the same instruction, where the code ends at this place: a jump has its target's place
 abbrev pub placed : ℕ → Instr → Instr

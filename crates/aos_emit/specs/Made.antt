@@ -1,18 +1,15 @@
 -- The code of some of a program's modules and object types.
 use Rattle.std.specs.Prelude.{◌≡◌, suc, All, None, List, ◌++◌, map, length}
 use Rattle.std.specs.String.{string_bytes}
-use Rattle.aos_types.specs.Shape.{leaves}
 use Rattle.aos_typed.specs.Program.{Module, ObjectType, Program}
 use Rattle.aos_code.specs.declared.image.Body.{Body}
 use Rattle.aos_code.specs.declared.image.ProcShape.{ProcShape}
 use Rattle.aos_code.specs.declared.image.ModuleDesc.{ModuleDesc}
 use Rattle.aos_code.specs.declared.image.TypeDesc.{TypeDesc}
 use Rattle.aos_code.specs.declared.image.Image.{Image}
-use Rattle.aos_code.specs.Machine.{first_cell}
-use Rattle.aos_layout.specs.Layout.{block}
 use Rattle.aos_sim.specs.Code.{body_code}
 use Rattle.aos_sim.specs.Need.{body_need}
-use Rattle.aos_sim.specs.Shows.{numbers_from}
+use Rattle.aos_sim.specs.Shows.{numbers_from, first_cells}
 
 -- these bodies, shapes and descriptions are those of these modules and object types, and each body has as many operands at most
 -- as its statements need
@@ -23,7 +20,7 @@ pub record AreMade (p : Program) (modules : List Module) (objects : List ObjectT
   pub results : All (λ s. s.result ≡ None) ss
   pub starts : map (λ d. d.body) ds ≡ numbers_from 1 modules
   pub types : map (λ t. t.body) ts ≡ numbers_from (suc (length modules)) objects
-  pub cells : map (λ d. d.cells.items) ds ≡ map (λ m. map first_cell (leaves (block p.types m))) modules
+  pub cells : map (λ d. d.cells.items) ds ≡ map (first_cells p.types) modules
   pub names : map (λ d. string_bytes d.name) ds ≡ map (λ m. m.name) modules
 
 -- all that an image has are those of a program

@@ -1,16 +1,17 @@
 // From typed statements to instructions: what is emitted is the code that the definitions give.
 
 ghost use Rattle.std.specs.Prelude.{◌≡◌, ◌+◌, ◌<◌, ◌^◌, [], ◌∷◌, ◌++◌, length, pos, IfOk, OnOk};
+ghost use Rattle.aos_base.specs.declared.operator.Binary.TheVariants as binary;
 ghost use Rattle.aos_typed.specs.WellTyped.{IsStatement, AreStatements};
 ghost use Rattle.aos_typed.specs.Seen.{seen_program, seen_place, seen_expr, seen_call, seen_stat, seen_stats};
 ghost use Rattle.aos_emit.specs.Back.{back_place, back_code, placed};
 ghost use Rattle.aos_emit.specs.Forwards.{forwards};
 ghost use Rattle.aos_sim.specs.Need.{body_need};
-ghost use Rattle.aos_sim.specs.Code.{begin, literal_code, kind_of, place_code, value_code, out_code, new_code, while_code, stat_code, stats_code, body_code};
+ghost use Rattle.aos_sim.specs.Code.{begin, literal_code, kind_of, with_length, place_code, value_code, out_code, new_code, while_code, stat_code, stats_code, body_code};
 
 use crate::laid::Laid;
 use crate::need::stats_need;
-use aos_base::{Binary, Pos, Unary, truth};
+use aos_base::{Binary, Pos, Relation, Unary, truth};
 use aos_code::{Body, Instr, Kind};
 use aos_typed::{Literal, OutCall, TExpr, TPlace, TStat, TType};
 use std::alloc::{AllocError, Global};
@@ -61,6 +62,7 @@ fn literal_instr(literal: Literal) -> Instr
         Literal::Bool(b) => Instr::Num(truth(b)),
         Literal::Char(c) => Instr::Num(i64::from(c)),
         Literal::Set(s) => Instr::Num(i64::from(s)),
+        Literal::Text(text) => Instr::Num(i64::from(text.first)),
     }
 }
 
@@ -116,6 +118,45 @@ fn emit_read_back(
     emit_place_back(program, code, place)
 }
 
+// Two texts and their relation, from the last instruction to the first. Behind a text's place stands how many elements are there.
+#[cycle(emit_back)]
+fn emit_texts_back(
+    program: &Laid<'_>,
+    code: &mut Vec<Instr>,
+    relation: Relation,
+    left: &TPlace,
+    left_elements: u32,
+    right: &TPlace,
+    right_elements: u32,
+) -> Result<(), AllocError>
+    ensures { OnOk result (let second = back_place (seen_program program.now) (seen_place right.now)
+        (code.old.items ++ Instr.CmpText relation ∷ Instr.Num (pos right_elements) ∷ []) in
+        code.new.items ≡ back_place (seen_program program.now) (seen_place left.now)
+        (second ++ Instr.Num (pos left_elements) ∷ [])) }
+{
+    put(code, Instr::CmpText(relation))?;
+    put(code, Instr::Num(i64::from(right_elements)))?;
+    emit_place_back(program, code, right)?;
+    put(code, Instr::Num(i64::from(left_elements)))?;
+    emit_place_back(program, code, left)
+}
+
+// The length of what stands at a place, which is found first, from the last instruction to the first.
+#[cycle(emit_back)]
+fn emit_length_back(
+    program: &Laid<'_>,
+    code: &mut Vec<Instr>,
+    place: &TPlace,
+    length: u32,
+) -> Result<(), AllocError>
+    ensures { OnOk result (code.new.items ≡ back_place (seen_program program.now) (seen_place place.now)
+        (code.old.items ++ Instr.Num (pos length) ∷ Instr.Drop ∷ [])) }
+{
+    put(code, Instr::Num(i64::from(length)))?;
+    put(code, Instr::Drop)?;
+    emit_place_back(program, code, place)
+}
+
 // The second operand of `&` with what stands around it, from the last instruction to the first.
 #[cycle(emit_back)]
 fn emit_and_back(
@@ -150,6 +191,14 @@ fn emit_or_back(program: &Laid<'_>, code: &mut Vec<Instr>, second: &TExpr) -> Re
     put(code, Instr::JumpFalse(from_second))
 }
 
+// The set of one element, from the last instruction to the first.
+fn put_element(code: &mut Vec<Instr>) -> Result<(), AllocError>
+    ensures { OnOk result (code.new.items ≡ code.old.items ++ Instr.Binary binary.SetSpan ∷ Instr.Dup ∷ []) }
+{
+    put(code, Instr::Binary(Binary::SetSpan))?;
+    put(code, Instr::Dup)
+}
+
 // The code of an expression, from its last instruction to its first. A long sum has as many left operands, one in
 // another: the loop over them takes no stack. A jump is given the number of instructions from its target to the end.
 #[cycle(emit_back)]
@@ -161,6 +210,10 @@ fn emit_back(program: &Laid<'_>, code: &mut Vec<Instr>, value: &TExpr) -> Result
         match rest {
             TExpr::Lit(literal) => return put(code, literal_instr(*literal)),
             TExpr::Read(of, place) => return emit_read_back(program, code, *of, place),
+            TExpr::Len(place, length) => return emit_length_back(program, code, place, *length),
+            TExpr::CompareTexts(relation, left, n, right, m) => {
+                return emit_texts_back(program, code, *relation, left, *n, right, *m);
+            }
             TExpr::Unary(operator, operand) => {
                 put(code, Instr::Unary(*operator))?;
                 rest = operand;
@@ -179,8 +232,7 @@ fn emit_back(program: &Laid<'_>, code: &mut Vec<Instr>, value: &TExpr) -> Result
                 rest = left;
             }
             TExpr::Element(operand) => {
-                put(code, Instr::Binary(Binary::SetSpan))?;
-                put(code, Instr::Dup)?;
+                put_element(code)?;
                 rest = operand;
             }
             TExpr::Ord(operand) => rest = operand,
@@ -230,6 +282,21 @@ fn emit_place(
     put_forwards(code, back)
 }
 
+// A text: its place, and how many elements are there.
+fn emit_text(
+    alloc: Global,
+    program: &Laid<'_>,
+    code: &mut Vec<Instr>,
+    place: &TPlace,
+    elements: u32,
+) -> Result<(), AllocError>
+    ensures { OnOk result (code.new.items ≡ code.old.items ++
+        with_length (place_code (seen_program program.now) (seen_place place.now) (length code.old.items)) elements) }
+{
+    emit_place(alloc, program, code, place)?;
+    put(code, Instr::Num(i64::from(elements)))
+}
+
 fn emit_value(
     alloc: Global,
     program: &Laid<'_>,
@@ -263,6 +330,10 @@ fn emit_out(
             emit_value(alloc, program, code, value)?;
             emit_value(alloc, program, code, places)?;
             put(code, Instr::OutInt)
+        }
+        OutCall::String(place, elements) => {
+            emit_text(alloc, program, code, place, *elements)?;
+            put(code, Instr::OutString)
         }
         OutCall::Ln => put(code, Instr::OutLn),
     }
@@ -341,6 +412,12 @@ fn emit_stat(
             emit_place(alloc, program, code, to)?;
             emit_place(alloc, program, code, from)?;
             put(code, Instr::Copy(program.cells_of(*of)))
+        }
+        TStat::PutText(at, strict, from, elements, to, room) => {
+            emit_begin(code, *at)?;
+            emit_text(alloc, program, code, from, *elements)?;
+            emit_text(alloc, program, code, to, *room)?;
+            put(code, Instr::PutText(*strict))
         }
         TStat::While(at, condition, body) => {
             emit_while(alloc, program, code, *at, condition, body)

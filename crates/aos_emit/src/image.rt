@@ -1,13 +1,14 @@
 // The image of a program.
 
-ghost use Rattle.std.specs.Prelude.{◌≡◌, ◌≤◌, ◌^◌, length, map, None, IfOk};
+ghost use Rattle.std.specs.Prelude.{◌≡◌, ◌≤◌, ◌^◌, ◌++◌, length, map, None, IfOk, OnOk};
+ghost use Rattle.std.specs.List.{flat_map};
 ghost use Rattle.std.specs.String.{string_bytes};
 ghost use Rattle.aos_typed.specs.Seen.{seen_program};
 ghost use Rattle.aos_typed.specs.WellTyped.{IsWellTyped};
 ghost use Rattle.aos_code.specs.Machine as machine;
 ghost use Rattle.aos_emit.specs.Made.{AreMadeOf};
 ghost use Rattle.aos_sim.specs.Need.{HasDepthsOf};
-ghost use Rattle.aos_sim.specs.Shows.{IsCodeOf, Shows};
+ghost use Rattle.aos_sim.specs.Shows.{text_cells, IsCodeOf, Shows};
 
 use crate::emit::emit_body;
 use crate::laid::Laid;
@@ -30,10 +31,33 @@ fn first_cell(kind: Kind) -> Cell
 }
 
 // What cells of these kinds hold at first.
-fn first_cells(alloc: Global, kinds: &[Kind]) -> Result<Vec<Cell>, AllocError>
+fn cells_of(alloc: Global, kinds: &[Kind]) -> Result<Vec<Cell>, AllocError>
     ensures { IfOk result (λ cells. cells.items ≡ map machine.first_cell kinds.now) }
 {
     kinds.iter().map(|kind| first_cell(*kind)).collect(alloc)
+}
+
+// One more string constant: its characters, and the 0X behind them.
+fn put_text(cells: &mut Vec<Cell>, text: &[u8]) -> Result<(), AllocError>
+    ensures { OnOk result (cells.new.items ≡ cells.old.items ++ text_cells text.now) }
+{
+    for character in text {
+        cells.push(Cell::Num(i64::from(*character)))?;
+    }
+    cells.push(Cell::Num(0))?;
+    Ok(())
+}
+
+// What the cells of a module hold at first, whose variables' are of these kinds and which has these string constants.
+fn first_cells(alloc: Global, kinds: &[Kind], texts: &[Vec<u8>]) -> Result<Vec<Cell>, AllocError>
+    ensures { IfOk result (λ cells. cells.items ≡
+        map machine.first_cell kinds.now ++ flat_map (λ t. text_cells t.items) texts.now) }
+{
+    let mut cells = cells_of(alloc, kinds)?;
+    for text in texts {
+        put_text(&mut cells, text)?;
+    }
+    Ok(cells)
 }
 
 // The shape of a body in a module: its frame has no cells, and it gives nothing.
@@ -53,7 +77,7 @@ fn body_shape(alloc: Global, home: u32) -> ProcShape
     }
 }
 
-// A module whose cells are of these kinds, and whose body is the procedure of this number.
+// A module whose variables' cells are of these kinds, and whose body is the procedure of this number.
 fn describe(
     alloc: Global,
     module: &TModule,
@@ -61,17 +85,18 @@ fn describe(
     body: u32,
 ) -> Result<ModuleDesc, AllocError>
     ensures name { IfOk result (λ d. string_bytes d.name ≡ string_bytes module.now.name) }
-    ensures cells { IfOk result (λ d. d.cells.items ≡ map machine.first_cell kinds.now) }
+    ensures cells { IfOk result (λ d. d.cells.items ≡
+        map machine.first_cell kinds.now ++ flat_map (λ t. text_cells t.items) module.now.texts.items) }
     ensures start { IfOk result (λ d. d.body ≡ body) }
 {
     Ok(ModuleDesc {
         name: module.name.clone()?,
-        cells: first_cells(alloc, kinds)?,
+        cells: first_cells(alloc, kinds, &module.texts)?,
         body,
     })
 }
 
-// The code of a well-typed program whose variables have their cells.
+// The code of a well-typed program whose variables and string constants have their cells.
 fn code_of(alloc: Global, laid: &Laid<'_>, program: &Program) -> Result<Image, AllocError>
     requires few { length program.now.modules.items ≤ 64 }
     requires few_types { length program.now.objects.items ≤ 2 ^ 26 }

@@ -1,6 +1,6 @@
-// A program whose variables have their cells.
+// A program whose variables and string constants have their cells.
 
-ghost use Rattle.std.specs.Prelude.{◌≡◌, ◌≤◌, ◌^◌, [], ◌∷◌, ◌++◌, length, map, slice_get, option_map, IfOk, OnOk};
+ghost use Rattle.std.specs.Prelude.{◌≡◌, ◌≤◌, ◌^◌, [], ◌∷◌, ◌++◌, length, map, take, slice_get, option_map, IfOk, OnOk};
 ghost use Rattle.std.specs.Option.{unwrap_or};
 ghost use Rattle.aos_typed.specs.Seen.{seen_program};
 ghost use Rattle.aos_typed.specs.WellTyped.{AreTypes, IsWellTyped};
@@ -9,17 +9,17 @@ ghost use Rattle.aos_types.specs.Shape as shape;
 ghost use Rattle.aos_types.specs.Contents.{contents, variable_scalars};
 ghost use Rattle.aos_typed.specs.Numbers.{id_of};
 ghost use Rattle.aos_sim.specs.Code.{variable_cell, field_cell, cells_of};
-ghost use Rattle.aos_emit.specs.Laid.{AreBlocks, there_in, cell_in, module_kinds};
+ghost use Rattle.aos_emit.specs.Laid.{AreBlocks, there_in, cell_in, variables_in, module_kinds};
 
 use aos_base::{NoMemory, Width};
 use aos_code::Kind;
 use aos_layout::{BlockShape, block_shape, offset};
-use aos_typed::{Program, TType};
+use aos_typed::{Program, TModule, TType};
 use aos_types::{TypeId, TypeRow, Types};
 use std::alloc::{AllocError, Global};
 use std::marker::Model;
 
-// The cells of one more module's variables.
+// The cells of one more module.
 fn put(blocks: &mut Vec<BlockShape>, block: BlockShape) -> Result<(), AllocError>
     ensures { OnOk result (blocks.new.items ≡ blocks.old.items ++ block ∷ []) }
 {
@@ -27,7 +27,7 @@ fn put(blocks: &mut Vec<BlockShape>, block: BlockShape) -> Result<(), AllocError
     Ok(())
 }
 
-// The cells of each module's variables.
+// The cells of each module.
 fn blocks_of(alloc: Global, program: &Program) -> Result<Vec<BlockShape>, NoMemory>
     requires few { length program.now.objects.items ≤ 2 ^ 26 }
     requires typed { IsWellTyped (seen_program program.now) }
@@ -40,12 +40,12 @@ fn blocks_of(alloc: Global, program: &Program) -> Result<Vec<BlockShape>, NoMemo
     Ok(blocks)
 }
 
-// The first cell of a variable of one of these modules, by the numbers of both.
-fn cell_of(blocks: &[BlockShape], home: u32, number: u32) -> u32
+// The first cell of a variable or a string constant of one of these modules, by the numbers of both.
+fn cell_of(blocks: &[BlockShape], home: u32, number: usize) -> u32
     ensures { result ≡ cell_in (slice_get (map seen_block blocks.now) home) number }
 {
     match blocks.get(home as usize) {
-        Some(block) => match block.places.get(number as usize) {
+        Some(block) => match block.places.get(number) {
             Some(cell) => *cell,
             None => block.cells,
         },
@@ -64,8 +64,28 @@ fn kinds_of(blocks: &[BlockShape], home: u32) -> &[Kind]
     }
 }
 
+// How many variables one of these modules has.
+fn variables_of(modules: &[TModule], home: u32) -> usize
+    ensures { result ≡ variables_in (slice_get modules.now home) }
+{
+    match modules.get(home as usize) {
+        Some(module) => module.variables.len(),
+        None => 0,
+    }
+}
+
+// The first ones of these kinds.
+fn first_of(kinds: &[Kind], count: u32) -> &[Kind]
+    ensures { result.now ≡ take count kinds.now }
+{
+    match kinds.get(..count as usize) {
+        Some(first) => first,
+        None => kinds,
+    }
+}
+
 // How many types are predeclared, before those that a program names.
-const PREDECLARED_TYPES: u64 = 9;
+const PREDECLARED_TYPES: u64 = 10;
 
 // The number of a type.
 fn type_number(of: TType) -> u64
@@ -127,7 +147,7 @@ fn cells_before(types: &Types, of: TType, number: u32) -> Result<u32, AllocError
     Ok(offset(types, t, &[number]))
 }
 
-/// A program, and the cells of its modules' variables.
+/// A program, and the cells of its modules.
 #[derive(Drop)]
 pub struct Laid<'a> {
     program: &'a Program,
@@ -151,7 +171,7 @@ impl<'a> Model for Laid<'a> {
 }
 
 impl<'a> Laid<'a> {
-    /// A well-typed program, whose variables have their cells.
+    /// A well-typed program, whose variables and string constants have their cells.
     pub fn new(alloc: Global, program: &'a Program) -> Result<Laid<'a>, NoMemory>
         requires few { length program.now.objects.items ≤ 2 ^ 26 }
         requires typed { IsWellTyped (seen_program program.now) }
@@ -161,11 +181,11 @@ impl<'a> Laid<'a> {
         Ok(Laid { program, blocks })
     }
 
-    /// The first cell of a module's variable, by the numbers of both.
+    /// The first cell of a module's variable or string constant, by the numbers of both.
     pub fn cell(&self, home: u32, number: u32) -> u32
         ensures { result ≡ variable_cell (seen_program self.now) home number }
     {
-        cell_of(&self.blocks, home, number)
+        cell_of(&self.blocks, home, number as usize)
     }
 
     /// How many cells stand before a field in its record, by the record type and the field's number.
@@ -182,10 +202,12 @@ impl<'a> Laid<'a> {
         variable_cells(&self.program.types, of)
     }
 
-    /// The kinds of the cells of the module with this number.
+    /// The kinds of the cells of a module's variables, by the module's number. Behind them stand its string constants.
     pub fn kinds(&self, home: u32) -> &[Kind]
         ensures { result.now ≡ module_kinds (seen_program self.now) home }
     {
-        kinds_of(&self.blocks, home)
+        let variables = variables_of(&self.program.modules, home);
+        let cells = cell_of(&self.blocks, home, variables);
+        first_of(kinds_of(&self.blocks, home), cells)
     }
 }

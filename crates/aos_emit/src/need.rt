@@ -36,6 +36,24 @@ fn place_need(place: &TPlace) -> Result<u32, AllocError>
     }
 }
 
+// A text: its length lies above its place.
+#[cycle(value_need)]
+fn text_need(place: &TPlace) -> Result<u32, AllocError>
+    ensures { IfOk result (λ n. n ≡ need_of.text_need (need_of.place_need (seen_place place.now))) }
+{
+    Ok(place_need(place)?.max(2))
+}
+
+// Two texts: the first lies below the second.
+#[cycle(value_need)]
+fn texts_need(left: &TPlace, right: &TPlace) -> Result<u32, AllocError>
+    ensures { IfOk result (λ n. n ≡ need_of.texts_need
+        (need_of.place_need (seen_place left.now)) (need_of.place_need (seen_place right.now))) }
+{
+    let first = text_need(left)?;
+    Ok(first.max(above(2, text_need(right)?)?))
+}
+
 // A long sum has as many left operands, one in another: the loop over them takes no stack.
 #[cycle(value_need)]
 fn value_need(value: &TExpr) -> Result<u32, AllocError>
@@ -47,6 +65,10 @@ fn value_need(value: &TExpr) -> Result<u32, AllocError>
         match rest {
             TExpr::Lit(_) => return Ok(need.max(1)),
             TExpr::Read(_, place) => return Ok(need.max(place_need(place)?)),
+            TExpr::Len(place, _) => return Ok(need.max(place_need(place)?)),
+            TExpr::CompareTexts(_, left, _, right, _) => {
+                return Ok(need.max(texts_need(left, right)?));
+            }
             TExpr::Unary(_, operand) => rest = operand,
             TExpr::Binary(_, left, right) => {
                 need = need.max(above(1, value_need(right)?)?);
@@ -80,6 +102,7 @@ fn out_need(call: &OutCall) -> Result<u32, AllocError>
             let first = value_need(value)?;
             Ok(first.max(above(1, value_need(places)?)?))
         }
+        OutCall::String(place, _) => text_need(place),
         OutCall::Ln => Ok(0),
     }
 }
@@ -97,6 +120,7 @@ fn stat_need(statement: &TStat) -> Result<u32, AllocError>
             let copied = above(1, place_need(from)?)?;
             Ok(copied.max(place_need(to)?))
         }
+        TStat::PutText(_, _, from, _, to, _) => texts_need(from, to),
         TStat::While(_, condition, body) => {
             let test = value_need(condition)?;
             Ok(test.max(stats_need(body)?))

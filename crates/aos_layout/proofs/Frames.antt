@@ -1,4 +1,4 @@
--- The cells of a frame's parts: their kinds, how many there are, and where they begin.
+-- The cells of the parts of a frame and of a module: their kinds, how many there are, and where they begin.
 use Rattle.std.proofs.Common.{◌≡◌, All, subst, ℕ, zero, suc, ◌+◌, ◌<◌, ◌≤◌, take, get_or, List, [], ◌∷◌, ◌++◌, length, map, replicate, refl, sym, ap, ◌∙◌, arith, append_assoc, append-nil, length-append}
 use Rattle.std.specs.Prelude.{Bool, true, false, not, if◌then◌else◌}
 use Rattle.std.proofs.lemmas.List.{map-append, take_more, get_or-map, length-map}
@@ -7,10 +7,10 @@ use Rattle.aos_types.specs.declared.row.TypeRow.{TypeRow}
 use Rattle.aos_types.specs.Table.{row_of, is_object, is_open, is_scalar}
 use Rattle.aos_types.specs.declared.TheConstants.{MOST_SCALARS}
 use Rattle.aos_types.specs.Contents.{contents, scalars, variable_scalars}
-use Rattle.aos_types.specs.Shape.{Shape, One, Nothing, Pair, size, row}
+use Rattle.aos_types.specs.Shape.{Shape, One, Nothing, Pair, size, row, repeated}
 use Rattle.aos_code.specs.declared.instr.Kind.{Kind}
 use Rattle.aos_code.specs.declared.instr.Kind.TheVariants.{N}
-use Rattle.aos_layout.specs.Layout.{leaves, shaped, kind_of, kinds, cells}
+use Rattle.aos_layout.specs.Layout.{leaves, shaped, kind_of, kinds, cells, text_cells}
 use Rattle.aos_layout.specs.Part.{variable}
 use Rattle.aos_code.specs.declared.image.ParamKind.TheVariants.{Whole, Open}
 use Rattle.aos_typed.specs.Program.{Parameter}
@@ -33,6 +33,14 @@ size_shaped f (Pair a b) = λ i. size_shaped f a i + size_shaped f b i
 pub flatten_lengths : (n : ℕ) → leaves (row (replicate n (One N))) ≡ replicate n N
 flatten_lengths zero = refl
 flatten_lengths (suc n) = ap (λ ks. N ∷ ks) (flatten_lengths n)
+
+flatten_ones : (n : ℕ) → leaves (repeated n (One N)) ≡ replicate n N
+flatten_ones zero = refl
+flatten_ones (suc n) = ap (λ ks. N ∷ ks) (flatten_ones n)
+
+-- a string constant has a cell for each character and one for its 0X
+pub flatten_text : (cs : List ℕ) → leaves (text_cells cs) ≡ replicate (length cs + 1) N
+flatten_text cs = flatten_ones (suc (length cs)) ∙ ap (λ n. replicate n N) (let e : suc (length cs) ≡ length cs + 1 = omega arith in e)
 
 -- a variable of another type than an object type has the type's own cells
 pub other_cells : (rows : List TypeRow) (t : TypeId) → is_object (row_of rows t) ≡ false → leaves (cells rows t) ≡ kinds rows t
@@ -78,7 +86,7 @@ there_at P g xs i x l all is =
     subst P (get_or-map g xs i x (g x) l ∙ ap g (sym is)) (all i (g x) (let h = length-map xs g in omega (arith, l, h)))
 
 -- parts behind others
-kinds_of_append : (ss ts : List (Shape Kind)) → kinds_of (ss ++ ts) ≡ kinds_of ss ++ kinds_of ts
+pub kinds_of_append : (ss ts : List (Shape Kind)) → kinds_of (ss ++ ts) ≡ kinds_of ss ++ kinds_of ts
 kinds_of_append [] ts = refl
 kinds_of_append (s ∷ ss) ts = ap (λ z. leaves s ++ z) (kinds_of_append ss ts) ∙ sym (append_assoc (leaves s) (kinds_of ss) (kinds_of ts))
 

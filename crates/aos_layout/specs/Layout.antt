@@ -1,12 +1,12 @@
 -- Where scalars lie: each has a cell, those of a type in order of declaration from 0, the base's first, and those of an array
 -- element by element.
-use Rattle.std.specs.Prelude.{List, map, Option, Some}
+use Rattle.std.specs.Prelude.{ℕ, suc, List, ◌++◌, length, map, Option, Some}
 use Rattle.aos_types.specs.declared.row.Basic.TheVariants as basic
 use Rattle.aos_types.specs.declared.row.TypeId.{TypeId}
 use Rattle.aos_types.specs.declared.row.TypeRow.{TypeRow}
 use Rattle.aos_types.specs.declared.row.TypeRow.TheVariants as row
 use Rattle.aos_types.specs.Table.{row_of}
-use Rattle.aos_types.specs.Shape.{Shape, row as row_of_shapes}
+use Rattle.aos_types.specs.Shape.{Shape, One, repeated, row as row_of_shapes}
 pub use Rattle.aos_types.specs.Shape.{leaves, shaped}
 use Rattle.aos_types.specs.Contents.{contents, of_variable}
 use Rattle.aos_code.specs.declared.instr.Kind.{Kind}
@@ -38,6 +38,13 @@ cells rows t = shaped (kind_of rows) (of_variable (contents rows) rows t)
 abbrev pub variable_cells : List TypeRow → List Variable → List (Shape Kind)
 variable_cells rows vs = map (λ v. cells rows (id_of v.of)) vs
 
--- the cells of a module's variables: the variable with number k is part k
+-- the cells of a string constant: one for each character, and one for the 0X behind them
+abbrev pub text_cells : List ℕ → Shape Kind
+text_cells cs = repeated (suc (length cs)) (One N)
+
+-- the cells of a module's variables, and those of its string constants behind them: the variable with number k is part k
+abbrev pub block_parts : List TypeRow → Module → List (Shape Kind)
+block_parts rows m = variable_cells rows m.variables ++ map text_cells m.texts
+
 abbrev pub block : List TypeRow → Module → Shape Kind
-block rows m = row_of_shapes (variable_cells rows m.variables)
+block rows m = row_of_shapes (block_parts rows m)

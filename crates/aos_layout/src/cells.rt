@@ -1,9 +1,10 @@
 // The cells of frames.
 
-ghost use Rattle.std.specs.Prelude.{◌≡◌, ◌<◌, ◌≤◌, ◌++◌, ◌∷◌, [], All, length, map, OnOk};
+ghost use Rattle.std.specs.Prelude.{◌≡◌, ◌<◌, ◌≤◌, ◌++◌, ◌∷◌, [], All, length, map, replicate, OnOk};
 ghost use Rattle.aos_types.specs.Chain.{NoneContainsItself};
 ghost use Rattle.aos_types.specs.Sameness.{element_of as element_in};
 ghost use Rattle.aos_types.specs.Table as table;
+ghost use Rattle.aos_code.specs.declared.instr.Kind.TheVariants as kind;
 ghost use Rattle.aos_typed.specs.Seen.{seen_parameter, seen_variable};
 ghost use Rattle.aos_typed.specs.Numbers.{id_of as number_of};
 ghost use Rattle.aos_layout.specs.Cells as cells_of;
@@ -19,7 +20,7 @@ use aos_types::{TypeId, TypeRow, Types};
 use std::alloc::{AllocError, Global};
 
 /// How many types are predeclared, before those that a program names.
-const PREDECLARED_TYPES: u32 = 9;
+const PREDECLARED_TYPES: u32 = 10;
 
 /// The number of a type in the table.
 pub(crate) fn id_of(of: TType) -> TypeId
@@ -101,16 +102,31 @@ fn push_variable(
     Ok(())
 }
 
+/// Puts so many numbers behind other kinds.
+fn push_numbers(count: u64, kinds: &mut Vec<Kind>) -> Result<(), AllocError>
+    ensures { OnOk result (kinds.new.items ≡ kinds.old.items ++ replicate count kind.N) }
+{
+    for _number in 0..count {
+        kinds.push(Kind::N)?;
+    }
+    Ok(())
+}
+
 /// Puts the kinds of an open array's cells behind others: its place, and its lengths.
 fn push_open(dimensions: u64, kinds: &mut Vec<Kind>) -> Result<(), AllocError>
     ensures { OnOk result (kinds.new.items ≡
         kinds.old.items ++ layout.leaves (frame.open_cells dimensions)) }
 {
     kinds.push(Kind::A)?;
-    for _dimension in 0..dimensions {
-        kinds.push(Kind::N)?;
-    }
-    Ok(())
+    push_numbers(dimensions, kinds)
+}
+
+/// Puts the kinds of a string constant's cells behind others: its characters, and the 0X behind them.
+fn push_text(text: &[u8], kinds: &mut Vec<Kind>) -> Result<(), AllocError>
+    ensures { OnOk result (kinds.new.items ≡
+        kinds.old.items ++ layout.leaves (layout.text_cells text.now)) }
+{
+    push_numbers(text.len() as u64 + 1, kinds)
 }
 
 /// Puts the kinds of a parameter's cells behind others.
@@ -137,7 +153,7 @@ fn push_parameter(
     push_variable(alloc, types, t, kinds)
 }
 
-/// The cells of a frame's first parts: their kinds, and the first cell of each part.
+/// The cells of the first parts of a frame or a module: their kinds, and the first cell of each part.
 #[derive(Drop)]
 pub(crate) struct Cells {
     pub kinds: Vec<Kind>,
@@ -200,6 +216,20 @@ impl Cells {
         for local in locals {
             self.begin_part()?;
             push_variable(alloc, types, id_of(local.of), &mut self.kinds)?;
+        }
+        Ok(())
+    }
+
+    /// Puts the parts of string constants behind those that are there.
+    pub(crate) fn put_texts(&mut self, texts: &[Vec<u8>]) -> Result<(), AllocError>
+        ensures kinds { OnOk result (self.new.kinds.items ≡ self.old.kinds.items ++
+            cells_of.kinds_of (cells_of.text_parts texts.now)) }
+        ensures places { OnOk result (self.new.places.items ≡ self.old.places.items ++
+            frame.places_from (length self.old.kinds.items) (cells_of.text_parts texts.now)) }
+    {
+        for text in texts {
+            self.begin_part()?;
+            push_text(text, &mut self.kinds)?;
         }
         Ok(())
     }

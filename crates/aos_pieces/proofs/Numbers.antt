@@ -1,35 +1,43 @@
--- The image has what the program's numbers name: the cells of each variable, and a type for each object type.
-use Rattle.std.proofs.Common.{◌≡◌, ◌<◌, ◌≤◌, ℕ, zero, suc, ◌+◌, inl, inr, true, List, [], ◌∷◌, map, length, Option, Some, None, refl, sym, ap, ◌∙◌, arith}
-use Rattle.std.specs.Prelude.{slice_get, option_map, option_and_then}
+-- The image has what the program's numbers name: the cells of each variable and each string constant, and a type for each object
+-- type.
+use Rattle.std.proofs.Common.{◌≡◌, ◌<◌, ℕ, zero, suc, ◌+◌, inl, inr, true, List, [], ◌∷◌, ◌++◌, map, length, Option, Some, None, refl, sym, ap, ◌∙◌, arith, length-append}
+use Rattle.std.specs.Prelude.{slice_get, option_map, option_and_then, pos}
+use Rattle.std.specs.List.{flat_map}
 use Rattle.std.proofs.lemmas.Bool.{le-leb}
 use Rattle.std.proofs.lemmas.List.{length-map}
 use Rattle.std.proofs.lemmas.Option.{slice_get-map, slice_get_cases}
 use Rattle.aos_types.specs.declared.row.TypeRow.{TypeRow}
-use Rattle.aos_types.specs.Shape.{Shape, One, Pair, shaped, size, part, inside, offset, number_of, leaves}
+use Rattle.aos_types.specs.Shape.{Shape, One, shaped, size, part, inside, offset, number_of, leaves, repeated}
 use Rattle.aos_types.specs.Shape as shape
 use Rattle.aos_types.specs.Contents.{contents, of_variable}
 use Rattle.aos_types.proofs.Offsets.{inside_within}
 use Rattle.aos_code.specs.declared.image.Image.{Image}
 use Rattle.aos_code.specs.declared.image.ModuleDesc.{ModuleDesc}
 use Rattle.aos_code.specs.declared.image.TypeDesc.{TypeDesc}
+use Rattle.aos_code.specs.declared.instr.Cell.TheVariants.{Num}
 use Rattle.aos_code.specs.Machine.{first_cell}
 use Rattle.aos_code.specs.Numbered.{numbered}
-use Rattle.aos_layout.specs.Layout.{kind_of, variable_cells, block}
+use Rattle.aos_layout.specs.Layout.{kind_of, variable_cells}
 use Rattle.aos_layout.proofs.Frames.{size_shaped, cells_counted}
 use Rattle.aos_sound.specs.Sound.{has_place, is_some}
-use Rattle.aos_typed.specs.Program.{Variable, Module, Program}
+use Rattle.aos_typed.specs.Program.{ModuleVar, Variable, Module, Program}
 use Rattle.aos_typed.specs.Numbers.{id_of}
-use Rattle.aos_typed.specs.Sort.{Plain, variable_shape}
+use Rattle.aos_typed.specs.Sort.{Sort, Plain, variable_shape}
+use Rattle.aos_typed.specs.Text.{text_shape}
 use Rattle.aos_typed.specs.Source.{module_shape}
 use Rattle.aos_typed.specs.declared.tree.TType.{TType}
-use Rattle.aos_typed.specs.WellTyped.{variable_type}
-use Rattle.aos_sim.proofs.First.{length-numbers}
+use Rattle.aos_typed.specs.declared.tree.TType.TheVariants.{Char}
+use Rattle.aos_typed.specs.WellTyped.{variable_type, IsConstantText}
+use Rattle.aos_sim.proofs.First.{get_left, get_right, length-numbers}
+use Rattle.aos_sim.proofs.Parts.{part_of_row}
+use Rattle.aos_sim.proofs.Variables.{declared}
 use Rattle.aos_sim.specs.Code.{variable_cell}
-use Rattle.aos_sim.specs.Shows.{IsCodeOf}
+use Rattle.aos_sim.specs.Shows.{text_cells, first_cells, IsCodeOf}
 
 -- so it has for each number with which the program names one; a variable without scalars may stand at the end of a module's cells
 pub record HasNumbers (p : Program) (image : Image) : Type 0 where
   pub cells : (m c : ℕ) (t : TType) → variable_type p m c ≡ Some t → has_place (slice_get image.modules.items m) (variable_cell p m c) ≡ true
+  pub constants : (m c n : ℕ) → IsConstantText p (ModuleVar m c) n → has_place (slice_get image.modules.items m) (variable_cell p m c) ≡ true
   pub types : (t : ℕ) → t < length p.objects → is_some (numbered image.types.items (t + 1)) ≡ true
 
 -- an element that a list of another's results has is that of the other one
@@ -47,45 +55,75 @@ some_within xs k lt = elim (slice_get_cases xs k).1 [
   | inr h ↦ let le = h.0 in absurd (omega (arith, lt, le))
 ]
 
--- a part of a row is the shape of its number
-part_of_row : {S : Type 0} (ss : List (Shape S)) (i : ℕ) → part i (shape.row ss) ≡ slice_get ss i
-part_of_row [] i = refl
-part_of_row (s ∷ ss) zero = refl
-part_of_row (s ∷ ss) (suc i) = part_of_row ss i
+-- a text has as many cells as scalars
+sized : {S : Type 0} (n : ℕ) (k : S) → size (repeated n (One k)) ≡ n
+sized zero k = refl
+sized (suc n) k = let h = sized n k in omega (arith, h)
 
--- a module's variables have as many cells as scalars
-same_size : (rows : List TypeRow) (vs : List Variable) → size (shape.row (map (λ v. variable_shape rows (id_of v.of)) vs)) ≡ size (shape.row (variable_cells rows vs))
-same_size rows [] = refl
-same_size rows (v ∷ vs) =
+text_sized : (cs : List ℕ) → size (text_shape cs) ≡ length (text_cells cs)
+text_sized cs =
+    let n = sized (suc (length cs)) (Plain (id_of Char)) in
+    let a = length-append (map (λ c. Num (pos c)) cs) (Num (pos 0) ∷ []) in
+    let b = length-map cs (λ c. Num (pos c)) in
+    omega (arith, n, a, b)
+
+texts_sized : (ts : List (List ℕ)) → size (shape.row (map text_shape ts)) ≡ length (flat_map text_cells ts)
+texts_sized [] = refl
+texts_sized (cs ∷ ts) =
+    let one = text_sized cs in
+    let rest = texts_sized ts in
+    let a = length-append (text_cells cs) (flat_map text_cells ts) in
+    omega (arith, one, rest, a)
+
+-- and so have variables with string constants behind them
+parts_sized : (rows : List TypeRow) (vs : List Variable) (ts : List (List ℕ)) → size (shape.row (map (λ v. variable_shape rows (id_of v.of)) vs ++ map text_shape ts)) ≡ size (shape.row (variable_cells rows vs)) + length (flat_map text_cells ts)
+parts_sized rows [] ts = let h = texts_sized ts in omega (arith, h)
+parts_sized rows (v ∷ vs) ts =
     let base = of_variable (contents rows) rows (id_of v.of) in
     let one : size (variable_shape rows (id_of v.of)) ≡ size (shaped (kind_of rows) base) = size_shaped Plain base ∙ sym (size_shaped (kind_of rows) base) in
-    λ i. one i + same_size rows vs i
+    let rest = parts_sized rows vs ts in
+    omega (arith, one, rest)
 
--- a variable begins among them, or where they end
-cell_within : (p : Program) (x : Module) (c : ℕ) (v : Variable) → slice_get x.variables c ≡ Some v → offset (c ∷ []) (module_shape p x) ≤ size (block p.types x)
-cell_within p x c v e =
-    let f = λ (v : Variable). variable_shape p.types (id_of v.of) in
-    let here : part c (module_shape p x) ≡ Some (f v) = part_of_row (map f x.variables) c ∙ slice_get-map f x.variables c ∙ ap (option_map f) e in
-    let lies = inside_within (c ∷ []) (module_shape p x) (f v) (ap (option_and_then (inside [])) here) in
-    let n = same_size p.types x.variables in
-    omega (arith, lies, n)
+-- so a module has a cell for each scalar
+module_sized : (p : Program) (x : Module) → size (module_shape p x) ≡ length (first_cells p.types x)
+module_sized p x =
+    let s = parts_sized p.types x.variables x.texts in
+    let row = shape.row (variable_cells p.types x.variables) in
+    let a = length-append (map first_cell (leaves row)) (flat_map text_cells x.texts) in
+    let b = length-map (leaves row) first_cell in
+    let c = cells_counted row (leaves row) refl in
+    omega (arith, s, a, b, c)
+
+-- the shapes of a module's variables
+abbrev shapes : Program → Module → List (Shape Sort)
+shapes p x = map (λ v. variable_shape p.types (id_of v.of)) x.variables
 
 module _ (p : Program) (image : Image) (ok : IsCodeOf p image) where
-  -- a module has the cells of its variables
+  -- a part of a module's variables and string constants begins among its cells, or where they end
+  has_part : (m c : ℕ) (x : Module) (s : Shape Sort) → slice_get p.modules m ≡ Some x → slice_get (shapes p x ++ map text_shape x.texts) c ≡ Some s → has_place (slice_get image.modules.items m) (variable_cell p m c) ≡ true
+  has_part m c x s here e =
+      let at : slice_get (map (λ (d : ModuleDesc). d.cells.items) image.modules.items) m ≡ Some (first_cells p.types x) = ap (λ l. slice_get l m) ok.cells ∙ slice_get-map (first_cells p.types) p.modules m ∙ ap (option_map (first_cells p.types)) here in
+      let d = mapped_at (λ (d : ModuleDesc). d.cells.items) image.modules.items m (first_cells p.types x) at in
+      let there : part c (module_shape p x) ≡ Some s = part_of_row c (shapes p x ++ map text_shape x.texts) ∙ e in
+      let lies = inside_within (c ∷ []) (module_shape p x) s (ap (option_and_then (inside [])) there) in
+      let first : variable_cell p m c ≡ offset (c ∷ []) (module_shape p x) = ap (number_of (offset (c ∷ []))) (slice_get-map (module_shape p) p.modules m ∙ ap (option_map (module_shape p)) here) in
+      let n : length d.0.cells.items ≡ size (module_shape p x) = ap length d.2 ∙ sym (module_sized p x) in
+      ap (λ o. has_place o (variable_cell p m c)) d.1 ∙ le-leb (variable_cell p m c) (length d.0.cells.items) (omega (arith, lies, first, n))
+
+  -- so a module has the cells of its variables
   has_cell : (m c : ℕ) (t : TType) → variable_type p m c ≡ Some t → has_place (slice_get image.modules.items m) (variable_cell p m c) ≡ true
-  has_cell m c t e = of_module (slice_get p.modules m) refl e
-    where
-      of_module : (o : Option Module) → slice_get p.modules m ≡ o → option_and_then (λ x. option_map (λ v. v.of) (slice_get x.variables c)) o ≡ Some t → has_place (slice_get image.modules.items m) (variable_cell p m c) ≡ true
-      of_module None here f = absurd (cc)
-      of_module (Some x) here f =
-          let row = map first_cell (leaves (block p.types x)) in
-          let at : slice_get (map (λ (d : ModuleDesc). d.cells.items) image.modules.items) m ≡ Some row = ap (λ l. slice_get l m) ok.cells ∙ slice_get-map (λ (y : Module). map first_cell (leaves (block p.types y))) p.modules m ∙ ap (option_map (λ (y : Module). map first_cell (leaves (block p.types y)))) here in
-          let d = mapped_at (λ (d : ModuleDesc). d.cells.items) image.modules.items m row at in
-          let v = mapped_at (λ (v : Variable). v.of) x.variables c t (slice_get-map (λ (v : Variable). v.of) x.variables c ∙ f) in
-          let le = cell_within p x c v.0 v.1 in
-          let first : variable_cell p m c ≡ offset (c ∷ []) (module_shape p x) = ap (number_of (offset (c ∷ []))) (slice_get-map (module_shape p) p.modules m ∙ ap (option_map (module_shape p)) here) in
-          let n : length d.0.cells.items ≡ size (block p.types x) = ap length d.2 ∙ length-map (leaves (block p.types x)) first_cell ∙ cells_counted (block p.types x) (leaves (block p.types x)) refl in
-          ap (λ o. has_place o (variable_cell p m c)) d.1 ∙ le-leb (variable_cell p m c) (length d.0.cells.items) (omega (arith, le, first, n))
+  has_cell m c t e =
+      let d = declared p m c t e in
+      let s = variable_shape p.types (id_of t) in
+      has_part m c d.of s d.there (get_left (shapes p d.of) (map text_shape d.of.texts) c s d.shape)
+
+  -- and those of its string constants
+  has_constant : (m c n : ℕ) → IsConstantText p (ModuleVar m c) n → has_place (slice_get image.modules.items m) (variable_cell p m c) ≡ true
+  has_constant m c n h =
+      let x = h.0 in
+      let l = length-map x.variables (λ (v : Variable). variable_shape p.types (id_of v.of)) in
+      let is = h.2.is in
+      has_part m c x (text_shape h.2.characters) h.1 (get_right (shapes p x) (map text_shape x.texts) c h.2.behind (omega (arith, l, is)) ∙ slice_get-map text_shape x.texts h.2.behind ∙ ap (option_map text_shape) h.2.there)
 
   -- there are as many types as object types
   has_type : (t : ℕ) → t < length p.objects → is_some (numbered image.types.items (t + 1)) ≡ true
@@ -99,4 +137,4 @@ module _ (p : Program) (image : Image) (ok : IsCodeOf p image) where
 
   -- so it is where the image has the code of the program
   pub has_numbers : HasNumbers p image
-  has_numbers = record { cells = has_cell; types = has_type }
+  has_numbers = record { cells = has_cell; constants = has_constant; types = has_type }

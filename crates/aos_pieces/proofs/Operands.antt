@@ -33,6 +33,7 @@ literal_kind (literal.Int n) (Named t) h = absurd h
 literal_kind (literal.Bool b) (Named t) h = absurd h
 literal_kind (literal.Char c) (Named t) h = absurd h
 literal_kind (literal.Set s) (Named t) h = absurd h
+literal_kind (literal.Text c) (Named t) h = absurd h
 literal_kind l t h = refl
 
 -- a type of which some integers are has numbers

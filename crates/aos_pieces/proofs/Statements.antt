@@ -1,5 +1,5 @@
 -- The code of each statement and each sequence is a piece that leaves the operands as they were.
-use Rattle.std.proofs.Common.{◌≡◌, ◌≤◌, ◌<◌, ℕ, ◌+◌, List, [], ◌∷◌, Some, length, refl, arith}
+use Rattle.std.proofs.Common.{◌≡◌, ◌≤◌, ◌<◌, inl, ℕ, ◌+◌, List, [], ◌∷◌, Some, length, refl, arith}
 use Rattle.aos_base.specs.declared.text.Pos.{Pos}
 use Rattle.aos_base.specs.declared.number.Width.TheVariants.{W64}
 use Rattle.aos_code.specs.declared.instr.Kind.{Kind}
@@ -9,15 +9,15 @@ use Rattle.aos_code.specs.declared.instr.Instr.TheVariants as i
 use Rattle.aos_code.specs.declared.image.Image.{Image}
 use Rattle.aos_sound.specs.declared.stand.Role.TheVariants.{Procedure}
 use Rattle.aos_sound.specs.Sound.{Kinds, without}
-use Rattle.aos_typed.specs.Program.{Program, Place, Call, Open, Char, Int, Ln, Stat, Assign, Copy, While, New, Out, Stats, Nothing, Then}
+use Rattle.aos_typed.specs.Program.{Program, Place, Call, Open, Char, Int, String, Ln, Stat, Assign, Copy, PutText, While, New, Out, Stats, Nothing, Then}
 use Rattle.aos_typed.specs.declared.tree.TType.TheVariants as type
 use Rattle.aos_typed.specs.WellTyped.{IsPlaceOf, IsCall, IsStatement, AreStatements}
-use Rattle.aos_sim.specs.Code.{begin, kind_of, cells_of, place_code, value_code, out_code, new_code, stat_code, stats_code}
+use Rattle.aos_sim.specs.Code.{begin, kind_of, cells_of, with_length, place_code, value_code, out_code, new_code, stat_code, stats_code}
 use Rattle.aos_pieces.specs.Piece.{Round, Piece}
 use Rattle.aos_sim.specs.Need.{place_need, out_need, stat_need, stats_need}
 use Rattle.aos_pieces.proofs.Pieces.{nothing, one, both, one_then, then_one, moved, repeats}
 use Rattle.aos_pieces.proofs.Numbers.{HasNumbers}
-use Rattle.aos_pieces.proofs.Values.{some_place, some_need, place_piece, value_piece}
+use Rattle.aos_pieces.proofs.Values.{some_place, some_need, place_piece, value_piece, text_piece, texts_piece}
 
 -- an operand of any kind is stored in a place
 stored : (k : Kind) (s : Kinds) → without (k ∷ A ∷ []) (k ∷ A ∷ s) ≡ Some s
@@ -42,6 +42,8 @@ module _ (p : Program) (image : Image) (own : ℕ) (depth : ℕ) (has : HasNumbe
       both
       (value_piece p image own Procedure depth has e (type.Integer W64) h.0 at s (omega (arith, room)))
       (then_one (value_piece p image own Procedure depth has n (type.Integer W64) h.1 (at + length (value_code p e at)) (N ∷ s) (omega (arith, room))) i.OutInt refl refl (omega (arith, room, k)) (λ whole q. refl))
+  out_piece (String x n) h at s room =
+      then_one (text_piece p image own Procedure depth has x n h at s room (λ u k. place_piece p image own Procedure depth has x u k at s (omega (arith, room)))) i.OutString refl refl (omega (arith, room)) (λ whole q. refl)
   out_piece Ln h at s room = one i.OutLn refl refl (omega (arith, room)) (λ whole q. refl)
 
   -- the making of an object
@@ -70,6 +72,12 @@ module _ (p : Program) (image : Image) (own : ℕ) (depth : ℕ) (has : HasNumbe
         (then_one
         (place_piece p image own Procedure depth has y t h.1 (at + 1 + length (place_code p x (at + 1))) (A ∷ s) (omega (arith, room)))
         (i.Copy (cells_of p t)) refl refl (let k = some_place y in omega (arith, room, k)) (λ whole q. refl)))
+    stat_piece (PutText here strict x n y m) h at s room =
+        let there = at + 1 + length (with_length (place_code p x (at + 1)) n) in
+        begins here (omega (arith, room)) (texts_piece p image own Procedure depth has x n h.0 y m (inl h.1) (i.PutText strict) (at + 1) s room
+        (λ u k. place_piece p image own Procedure depth has x u k (at + 1) s (omega (arith, room)))
+        (λ u k. place_piece p image own Procedure depth has y u k there (N ∷ A ∷ s) (omega (arith, room)))
+        refl refl (λ whole q. refl))
     stat_piece (While here e body) h at s room =
         let c = value_code p e (at + 1) in
         let k = some_need e in

@@ -1,25 +1,27 @@
 -- The code of each place and each expression is a piece that gives one operand more.
-use Rattle.std.proofs.Common.{◌≡◌, ◌≤◌, ℕ, ◌+◌, pos, List, [], ◌∷◌, length, refl, sym, ap, subst, arith}
+use Rattle.std.proofs.Common.{◌≡◌, ◌≤◌, inl, inr, ℕ, ◌+◌, pos, List, [], ◌∷◌, Some, length, refl, sym, ap, subst, arith}
+use Rattle.std.specs.Prelude.{IsTrue}
 use Rattle.aos_base.specs.Operators.{flag}
 use Rattle.aos_base.specs.declared.operator.Unary.TheVariants.{Range}
 use Rattle.aos_base.specs.declared.operator.Binary.TheVariants.{SetSpan}
-use Rattle.aos_base.specs.declared.number.Width.TheVariants.{W64}
+use Rattle.aos_base.specs.declared.number.Width.TheVariants.{W32, W64}
 use Rattle.aos_code.specs.declared.instr.Kind.{Kind}
 use Rattle.aos_code.specs.declared.instr.Kind.TheVariants.{N, A}
 use Rattle.aos_code.specs.declared.instr.Instr.{Instr}
 use Rattle.aos_code.specs.declared.instr.Instr.TheVariants as i
 use Rattle.aos_code.specs.declared.image.Image.{Image}
+use Rattle.aos_sound.specs.declared.effect.Next.TheVariants.{On}
 use Rattle.aos_sound.specs.declared.stand.Role.{Role}
-use Rattle.aos_sound.specs.Sound.{Kinds}
-use Rattle.aos_typed.specs.Program.{Program, Place, ModuleVar, Field, Index, Expr, Lit, Read, Unary, Binary, And, Or, Element, Ord, Chr}
+use Rattle.aos_sound.specs.Sound.{Kinds, next_of, after, may_stand}
+use Rattle.aos_typed.specs.Program.{Program, Place, ModuleVar, Field, Index, Expr, Lit, Read, Unary, Binary, And, Or, Element, Ord, Chr, CompareTexts, Len}
 use Rattle.aos_typed.specs.declared.tree.Literal.{Literal}
 use Rattle.aos_typed.specs.declared.tree.Literal.TheVariants as literal
 use Rattle.aos_typed.specs.declared.tree.TType.{TType}
 use Rattle.aos_typed.specs.declared.tree.TType.TheVariants.{Integer, Boolean, Char}
-use Rattle.aos_typed.specs.WellTyped.{taken, IsPlaceOf, IsOf}
-use Rattle.aos_sim.specs.Code.{kind_of, literal_code, variable_cell, field_cell, cells_of, place_code, value_code}
+use Rattle.aos_typed.specs.WellTyped.{taken, IsConstantText, IsPlaceOf, IsOf, IsText}
+use Rattle.aos_sim.specs.Code.{kind_of, literal_code, variable_cell, field_cell, cells_of, operands_code, with_length, place_code, value_code}
 use Rattle.aos_pieces.specs.Piece.{Round, Piece}
-use Rattle.aos_sim.specs.Need.{place_need, value_need}
+use Rattle.aos_sim.specs.Need.{text_need, texts_need, place_need, value_need}
 use Rattle.aos_pieces.proofs.Pieces.{one, both, one_then, then_one, choose}
 use Rattle.aos_pieces.proofs.Operands.{included_kind, literal_kind, taken_kind, given_kind, given_of_two_kind, taken_kinds}
 use Rattle.aos_pieces.proofs.Numbers.{HasNumbers}
@@ -42,6 +44,8 @@ mutual
   some_need (Element a) = omega arith
   some_need (Ord a) = some_need a
   some_need (Chr a) = some_need a
+  some_need (CompareTexts r x n y m) = omega arith
+  some_need (Len x n) = some_place x
 
 module _ (p : Program) (image : Image) (own : ℕ) (role : Role) (depth : ℕ) (has : HasNumbers p image) where
   -- a piece whose operand is of this kind, which is that one
@@ -54,6 +58,26 @@ module _ (p : Program) (image : Image) (own : ℕ) (role : Role) (depth : ℕ) (
   literal_piece (literal.Bool b) few = one (i.Num (flag b)) refl refl few (λ whole q. refl)
   literal_piece (literal.Char c) few = one (i.Num (pos c)) refl refl few (λ whole q. refl)
   literal_piece (literal.Set b) few = one (i.Num (pos b)) refl refl few (λ whole q. refl)
+  literal_piece (literal.Text t) few = one (i.Num (pos t.first)) refl refl few (λ whole q. refl)
+
+  -- the place of a string constant
+  constant_piece : {Asks : Round} (x : Place) (n : ℕ) → IsConstantText p x n → (at : ℕ) (s : Kinds) → length s + place_need x ≤ depth → Piece image own role depth Asks (place_code p x at) at s (A ∷ s)
+  constant_piece (ModuleVar m c) n h at s room = one (i.Module m (variable_cell p m c)) refl refl (omega (arith, room)) (λ whole q. has.constants m c n h)
+  constant_piece (Field x of c) n h at s room = absurd h
+  constant_piece (Index x l of e) n h at s room = absurd h
+
+  -- a text gives its place, and how many elements are there; where it is an array its place gives one operand
+  pub text_piece : {Asks : Round} (x : Place) (n : ℕ) → IsText p x n → (at : ℕ) (s : Kinds) → length s + text_need (place_need x) ≤ depth → ((u : TType) → IsPlaceOf p x u → Piece image own role depth Asks (place_code p x at) at s (A ∷ s)) → Piece image own role depth Asks (with_length (place_code p x at) n) at s (N ∷ A ∷ s)
+  text_piece x n h at s room array =
+      then_one
+      (elim h [ inl a ↦ array a.0 a.1 | inr c ↦ constant_piece x n c at s (omega (arith, room)) ])
+      (i.Num (pos n)) refl refl (omega (arith, room)) (λ whole q. refl)
+
+  -- two texts, and behind them an instruction that takes both
+  pub texts_piece : {Asks : Round} (x : Place) (n : ℕ) → IsText p x n → (y : Place) (m : ℕ) → IsText p y m → (take : Instr) (at : ℕ) (s : Kinds) {t : Kinds} → length s + texts_need (place_need x) (place_need y) ≤ depth → ((u : TType) → IsPlaceOf p x u → Piece image own role depth Asks (place_code p x at) at s (A ∷ s)) → ((u : TType) → IsPlaceOf p y u → (let there = at + length (with_length (place_code p x at) n) in Piece image own role depth Asks (place_code p y there) there (N ∷ A ∷ s) (A ∷ N ∷ A ∷ s))) → after image own take (N ∷ A ∷ N ∷ A ∷ s) ≡ Some t → next_of take ≡ On → ((whole : List Instr) (q : ℕ) → IsTrue (may_stand image own role whole q take)) → Piece image own role depth Asks (operands_code (with_length (place_code p x at) n) (with_length (place_code p y (at + length (with_length (place_code p x at) n))) m) take) at s t
+  texts_piece x n h y m g take at s room first second e goes may =
+      both (text_piece x n h at s (omega (arith, room)) first)
+      (then_one (text_piece y m g (at + length (with_length (place_code p x at) n)) (N ∷ A ∷ s) (omega (arith, room)) second) take e goes (omega (arith, room)) may)
 
   mutual
     -- a place
@@ -111,3 +135,12 @@ module _ (p : Program) (image : Image) (own : ℕ) (role : Role) (depth : ℕ) (
     value_piece (Chr a) t h at s room =
         let k = some_need a in
         as_kind (ap kind_of (sym h.1)) (then_one (value_piece a (Integer W64) h.0 at s room) (i.Unary (Range (pos 0) (pos 255))) refl refl (omega (arith, room, k)) (λ whole q. refl))
+    value_piece (CompareTexts r x n y m) t h at s room =
+        as_kind (ap kind_of (sym h.2)) (texts_piece x n h.0 y m h.1 (i.CmpText r) at s room
+        (λ u k. place_piece x u k at s (omega (arith, room)))
+        (λ u k. place_piece y u k (at + length (with_length (place_code p x at) n)) (N ∷ A ∷ s) (omega (arith, room)))
+        refl refl (λ whole q. refl))
+    value_piece (Len x n) t h at s room =
+        let k = some_place x in
+        as_kind (sym (included_kind t (Integer W32) h.5)) (both (place_piece x h.0 h.2 at s room)
+        (one_then i.Drop refl refl (omega (arith, room, k)) (λ whole q. refl) (one (i.Num (pos n)) refl refl (omega (arith, room, k)) (λ whole q. refl))))

@@ -1,14 +1,15 @@
 -- The same at each place: a scalar is read, contents are stored, and a whole record or array is copied or read, in the store
 -- and in the memory alike.
-use Rattle.std.proofs.Common.{◌≡◌, ℕ, ◌+◌, ◌≤◌, List, [], ◌∷◌, ◌++◌, length, map, take, drop, Option, Some, None, refl, sym, ap, ◌∙◌, arith, append_assoc}
+use Rattle.std.proofs.Common.{◌≡◌, ℕ, ◌+◌, ◌≤◌, List, [], ◌∷◌, ◌++◌, length, map, take, drop, Option, Some, None, refl, sym, ap, ◌∙◌, arith, append_assoc, append-nil}
 use Rattle.std.specs.Prelude.{option_and_then, option_map, slice_get}
 use Rattle.std.proofs.Math.Seq.{take-append_seam, take-append-add, drop-append_seam, drop-append-add}
 use Rattle.std.proofs.lemmas.List.{map-append, length-map, take-append-le, take-append-drop, length-take-le}
+use Rattle.std.proofs.Math.ListN.{drop_of_length-le}
 use Rattle.aos_base.specs.declared.place.Root.{Root}
 use Rattle.aos_base.specs.Rooted.{Made, Rooted, at_root, change_root, spliced, load, load_all, store_all, copy_all}
 use Rattle.aos_types.specs.Shape.{Shape, One, Nothing, Pair, inside, offset, number_of, size, join}
 use Rattle.aos_types.specs.Content.{Content, Scalar, Empty, Row, flatten, found, placed, overlay, Fits, EachSort}
-use Rattle.aos_types.specs.World.{World, MadeAlike, shape_at, cell_at, Scheme, world, root_shape, read, write}
+use Rattle.aos_types.specs.World.{World, shape_at, cell_at, Scheme, world, root_shape, read, write}
 use Rattle.aos_places.specs.Shows.{Shows, AreKept}
 use Rattle.aos_places.proofs.Zoom.{zoomed, as_many}
 use Rattle.aos_places.proofs.Grow.{fits_grows, fits_plain, cells_grow}
@@ -153,15 +154,37 @@ module _ {S V C : Type 0} (Is : World S → S → V → Type 0) (cell : World S 
       of_inner Empty same f = absurd f
       of_inner (Row a b) same f = absurd f
 
+  -- the first cells of what stands at a place are stored, which are those of new contents, and the others stay
+  pub first_stored : (r : Root) (p : List ℕ) (s : Shape S) (q : AtPlace r p s) (new : Content V) → Fits (Is here) s new → EachSort IsPlain s → (first : List C) → length first ≤ size s → map (cell here) (flatten new) ≡ first ++ drop (length first) (map (cell here) (flatten q.inner)) → Shows Is cell scheme made frames (write r p new x) (store_all r (cell_at here r p) first y)
+  first_stored r p s q new f plain first few same =
+      let n = length first in
+      let c = map (cell here) (flatten q.inner) in
+      let l : n ≤ length c = let k = q.long in omega (arith, k, few) in
+      q.written new f plain (spliced (cell_at here r p) first)
+      (ap (spliced (cell_at here r p) first) (q.whole ∙ ap (λ z. q.front ++ (z ++ q.back)) (sym (take-append-drop n c)) ∙ ap (λ z. q.front ++ z) (append_assoc (take n c) (drop n c) q.back))
+      ∙ ap (λ m. spliced m first (q.front ++ (take n c ++ (drop n c ++ q.back)))) (sym q.at)
+      ∙ splice_behind q.front first (take n c) (drop n c ++ q.back) (sym (length-take-le n c l))
+      ∙ ap (λ z. q.front ++ z) (sym (append_assoc first (drop n c) q.back))
+      ∙ ap (λ z. q.front ++ (z ++ q.back)) (sym same))
+
   -- contents of the place's shape are stored
   pub stored_alike : (r : Root) (p : List ℕ) (s : Shape S) (new : Content V) → Shows Is cell scheme made frames x y → shape_at here r p ≡ Some s → EachSort IsPlain s → Fits (Is here) s new → Shows Is cell scheme made frames (write r p new x) (store_all r (cell_at here r p) (map (cell here) (flatten new)) y)
   stored_alike r p s new h e plain f =
       let q = at_place r p s h e in
-      q.written new f plain (spliced (cell_at here r p) (map (cell here) (flatten new)))
-      (ap (spliced (cell_at here r p) (map (cell here) (flatten new))) q.whole
-      ∙ ap (λ n. spliced n (map (cell here) (flatten new)) (q.front ++ (map (cell here) (flatten q.inner) ++ q.back))) (sym q.at)
-      ∙ splice_behind q.front (map (cell here) (flatten new)) (map (cell here) (flatten q.inner)) q.back
-      (length-map (flatten new) (cell here) ∙ as_many (Is here) s new f ∙ sym q.long))
+      let all = map (cell here) (flatten new) in
+      let c = map (cell here) (flatten q.inner) in
+      let long : length all ≡ size s = length-map (flatten new) (cell here) ∙ as_many (Is here) s new f in
+      let more : length c ≤ length all = let k = q.long in omega (arith, k, long) in
+      first_stored r p s q new f plain all (omega (arith, long)) (sym (ap (λ z. all ++ z) (drop_of_length-le c more) ∙ append-nil all))
+
+  -- the first cells of what stands at a place are these
+  taken_at : (r : Root) (p : List ℕ) (s : Shape S) (q : AtPlace r p s) (n : ℕ) → n ≤ length (map (cell here) (flatten q.inner)) → take n (drop (cell_at here r p) q.row) ≡ take n (map (cell here) (flatten q.inner))
+  taken_at r p s q n few =
+      let c = map (cell here) (flatten q.inner) in
+      ap (λ z. take n (drop (cell_at here r p) z)) q.whole
+      ∙ ap (λ m. take n (drop m (q.front ++ (c ++ q.back)))) (sym q.at)
+      ∙ ap (take n) (drop-append_seam q.front (c ++ q.back))
+      ∙ take-append-le n c q.back few
 
   -- The parts of one shape, with which both places begin, are copied.
 
@@ -182,20 +205,10 @@ module _ {S V C : Type 0} (Is : World S → S → V → Type 0) (cell : World S 
       let cf = map (cell here) (flatten a.inner) in
       let ct = map (cell here) (flatten b.inner) in
       let nf : n ≤ length cf = let k = size_join s mf in let l = a.long in omega (arith, k, l) in
-      let nt : n ≤ length ct = let k = size_join s mt in let l = b.long in omega (arith, k, l) in
       let at = cell_at here to q in
-      let taken : take n (drop (cell_at here from p) a.row) ≡ take n cf =
-      ap (λ r. take n (drop (cell_at here from p) r)) a.whole
-      ∙ ap (λ m. take n (drop m (a.front ++ (cf ++ a.back)))) (sym a.at)
-      ∙ ap (take n) (drop-append_seam a.front (cf ++ a.back))
-      ∙ take-append-le n cf a.back nf in
+      let taken : take n (drop (cell_at here from p) a.row) ≡ take n cf = taken_at from p (join s mf) a n nf in
+      let long : length (take n cf) ≡ n = length-take-le n cf nf in
       let new = overlay s a.inner b.inner in
-      let put : spliced at (take n cf) b.row ≡ b.front ++ (map (cell here) (flatten new) ++ b.back) =
-      ap (spliced at (take n cf)) (b.whole ∙ ap (λ l. b.front ++ (l ++ b.back)) (sym (take-append-drop n ct)) ∙ ap (λ l. b.front ++ l) (append_assoc (take n ct) (drop n ct) b.back))
-      ∙ ap (λ m. spliced m (take n cf) (b.front ++ (take n ct ++ (drop n ct ++ b.back)))) (sym b.at)
-      ∙ splice_behind b.front (take n cf) (take n ct) (drop n ct ++ b.back) (length-take-le n cf nf ∙ sym (length-take-le n ct nt))
-      ∙ ap (λ l. b.front ++ l) (sym (append_assoc (take n cf) (drop n ct) b.back))
-      ∙ ap (λ l. b.front ++ (l ++ b.back)) (sym (overlay_flat (Is here) (cell here) s mf mt a.inner b.inner a.fits b.fits)) in
       record {
         inner = a.inner;
         old = b.inner;
@@ -204,29 +217,26 @@ module _ {S V C : Type 0} (Is : World S → S → V → Type 0) (cell : World S 
         after = change_root to (spliced at (take n cf)) y;
         image = ap (option_map (λ cells. store_all to at cells y)) (ap (option_map (λ cells. take n (drop (cell_at here from p) cells))) a.has)
             ∙ ap (λ cells. Some (store_all to at cells y)) taken;
-        alike = b.written new (overlay_fits (Is here) (cell here) s mf mt a.inner b.inner a.fits b.fits) plain (spliced at (take n cf)) put;
+        alike = first_stored to q (join s mt) b new (overlay_fits (Is here) (cell here) s mf mt a.inner b.inner a.fits b.fits) plain (take n cf) (let k = size_join s mt in omega (arith, k, long))
+            (overlay_flat (Is here) (cell here) s mf mt a.inner b.inner a.fits b.fits ∙ ap (λ m. take n cf ++ drop m ct) (sym long));
       }
 
-  -- the cells of the parts of one shape, with which a place begins
-  pub record LoadsAlike (s more : Shape S) (r : Root) (p : List ℕ) : Type 0 where
+  -- the first cells of what stands at a place, so many of them
+  pub record LoadsAlike (n : ℕ) (s : Shape S) (r : Root) (p : List ℕ) : Type 0 where
     pub inner : Content V
     pub source : read r p x ≡ Some inner
-    pub fits : Fits (Is here) (join s more) inner
-    pub image : load_all (size s) r (cell_at here r p) y ≡ Some (take (size s) (map (cell here) (flatten inner)))
+    pub fits : Fits (Is here) s inner
+    pub long : length (map (cell here) (flatten inner)) ≡ size s
+    pub image : load_all n r (cell_at here r p) y ≡ Some (take n (map (cell here) (flatten inner)))
 
-  pub loads_alike : (s more : Shape S) (r : Root) (p : List ℕ) → Shows Is cell scheme made frames x y → shape_at here r p ≡ Some (join s more) → LoadsAlike s more r p
-  loads_alike s more r p h e =
-      let a = at_place r p (join s more) h e in
-      let n = size s in
-      let c = map (cell here) (flatten a.inner) in
-      let l : n ≤ length c = let k = size_join s more in let q = a.long in omega (arith, k, q) in
+  pub loads_alike : (n : ℕ) (s : Shape S) (r : Root) (p : List ℕ) → Shows Is cell scheme made frames x y → shape_at here r p ≡ Some s → n ≤ size s → LoadsAlike n s r p
+  loads_alike n s r p h e few =
+      let a = at_place r p s h e in
       record {
         inner = a.inner;
         source = a.got;
         fits = a.fits;
+        long = a.long;
         image = ap (option_map (λ cells. take n (drop (cell_at here r p) cells))) a.has
-            ∙ ap (λ z. Some z) (ap (λ q. take n (drop (cell_at here r p) q)) a.whole
-            ∙ ap (λ m. take n (drop m (a.front ++ (c ++ a.back)))) (sym a.at)
-            ∙ ap (take n) (drop-append_seam a.front (c ++ a.back))
-            ∙ take-append-le n c a.back l);
+            ∙ ap (λ z. Some z) (taken_at r p s a n (let k = a.long in omega (arith, k, few)));
       }

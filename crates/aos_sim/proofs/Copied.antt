@@ -2,7 +2,7 @@
 use Rattle.std.proofs.Common.{◌≡◌, ℕ, List, length, take, map, Some, true, refl, sym, ap, ◌∙◌, subst, arith}
 use Rattle.std.specs.Prelude.{is_some, option_map, option_and_then}
 use Rattle.std.proofs.lemmas.Bool.{eq-eqb}
-use Rattle.std.proofs.lemmas.List.{length-map, length-take-le}
+use Rattle.std.proofs.lemmas.List.{length-take-le}
 use Rattle.aos_base.specs.Rooted.{Made, Rooted, load_all, store_all}
 use Rattle.aos_types.specs.Shape.{Shape, Nothing, size, join}
 use Rattle.aos_types.specs.Content.{Content, flatten, overlay, EachSort}
@@ -21,7 +21,6 @@ use Rattle.aos_typed.specs.WellTyped.{is_whole}
 use Rattle.aos_code.specs.declared.instr.Cell.{Cell}
 use Rattle.aos_code.specs.Machine.{if_all, cells_at}
 use Rattle.aos_places.specs.Shows.{Shows}
-use Rattle.aos_places.proofs.Zoom.{as_many}
 use Rattle.aos_places.proofs.Places.{loads_alike, copy_alike}
 use Rattle.aos_sim.specs.Cells.{cell_of}
 use Rattle.aos_sim.specs.Code.{cells_of}
@@ -33,7 +32,7 @@ use Rattle.aos_sim.proofs.States.{world_of}
 some_same : {A : Type 0} (x y : A) → Some x ≡ Some y → x ≡ y
 some_same x y e = cc
 
-all_there : (n : ℕ) (cells : List Cell) → length cells ≡ n → if_all n cells ≡ Some cells
+pub all_there : (n : ℕ) (cells : List Cell) → length cells ≡ n → if_all n cells ≡ Some cells
 all_there n cells e = rw (eq-eqb (length cells) n e) refl
 
 module _ (program : Program) (ranked : IsRanked program.types) (made : List Made) (frames : List (Shape Sort)) (x : Rooted (Content Value)) (y : Rooted (List Cell)) (shows : Shows (Is program.types) cell_of (scheme program) made frames x y) (t : TType) (whole : is_whole (row_of program.types (id_of t)) ≡ true) where
@@ -55,14 +54,12 @@ module _ (program : Program) (ranked : IsRanked program.types) (made : List Made
 
   all_cells : (p : Spot) → HasPlace program now p t → AllCells p
   all_cells p h =
-      let a = loads_alike (Is program.types) cell_of IsPlain (values_kept program.types) (scheme program) made frames x y shape Nothing p.root p.path shows (begins p h) in
-      let all = map (cell_of now) (flatten a.inner) in
-      let cells = take (size shape) all in
-      let n = variable_size program.types (id_of t) in
-      let long : length all ≡ size shape = length-map (flatten a.inner) (cell_of now) ∙ as_many (Is program.types now) (join shape Nothing) a.inner a.fits ∙ ap size (whole_ends program.types ranked (id_of t) whole) in
-      let many : length cells ≡ cells_of program t = length-take-le (size shape) all (omega (arith, long)) ∙ n in
-      let loaded : load_all (cells_of program t) p.root (addr_of now p).cell y ≡ Some cells = ap (λ m. load_all m p.root (addr_of now p).cell y) (sym n) ∙ a.image in
-      record { cells = cells; loaded = loaded; there = ap (option_and_then (if_all (cells_of program t))) loaded ∙ all_there (cells_of program t) cells many }
+      let n = cells_of program t in
+      let size_is : size shape ≡ n = variable_size program.types (id_of t) in
+      let a = loads_alike (Is program.types) cell_of IsPlain (values_kept program.types) (scheme program) made frames x y n shape p.root p.path shows h (omega (arith, size_is)) in
+      let cells = take n (map (cell_of now) (flatten a.inner)) in
+      let many : length cells ≡ n = length-take-le n (map (cell_of now) (flatten a.inner)) (let l = a.long in omega (arith, l, size_is)) in
+      record { cells = cells; loaded = a.image; there = ap (option_and_then (if_all n)) a.image ∙ all_there n cells many }
 
   -- what both sides find, and that the one shows the other behind the copy
   pub record CopiedAlike (from to : Spot) : Type 0 where

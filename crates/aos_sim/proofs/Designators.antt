@@ -1,5 +1,5 @@
 -- The code of a designator finds the place that the designator names, or traps as it does.
-use Rattle.std.proofs.Common.{◌≡◌, ℕ, ℤ, pos, negsuc, ◌+◌, ◌*◌, ◌<◌, ◌≤◌, ◌^◌, Bool, true, false, List, [], ◌∷◌, ◌++◌, length, Option, Some, None, if◌then◌else◌, refl, sym, ap, ◌∙◌, subst, arith, length-append}
+use Rattle.std.proofs.Common.{◌≡◌, ℕ, ℤ, pos, negsuc, ◌+◌, ◌*◌, ◌<◌, ◌≤◌, ◌^◌, Bool, true, false, List, [], ◌∷◌, ◌++◌, length, Option, Some, None, if◌then◌else◌, refl, sym, ap, ◌∙◌, subst, arith, append_assoc, length-append}
 use Rattle.std.specs.Prelude.{nat_lt}
 use Rattle.std.proofs.lemmas.Bool.{ltb-true, lt-ltb}
 use Rattle.aos_base.specs.declared.number.Width.TheVariants.{W64}
@@ -9,8 +9,9 @@ use Rattle.aos_base.specs.Question.{Val, Traps, bind}
 use Rattle.aos_types.specs.declared.TheConstants.{MOST_SCALARS}
 use Rattle.aos_types.specs.declared.row.TypeRow.TheVariants as row
 use Rattle.aos_types.specs.Table.{row_of}
-use Rattle.aos_types.specs.Shape.{Shape, size, inside, offset}
+use Rattle.aos_types.specs.Shape.{size, inside, offset, repeated}
 use Rattle.aos_types.specs.World.{World, Grows, cell_at}
+use Rattle.aos_types.proofs.Offsets.{inside_within}
 use Rattle.aos_typed.specs.declared.tree.TType.{TType}
 use Rattle.aos_typed.specs.declared.tree.TType.TheVariants as type
 use Rattle.aos_typed.specs.Program.{ModuleVar, Program}
@@ -19,7 +20,7 @@ use Rattle.aos_typed.specs.Sort.{Sort, variable_shape}
 use Rattle.aos_typed.specs.Spot.{Spot}
 use Rattle.aos_typed.specs.Value.{Value, number_of}
 use Rattle.aos_typed.specs.Meaning.{Doing, part_of, element_of, place_of}
-use Rattle.aos_typed.specs.WellTyped.{variable_type, field_type}
+use Rattle.aos_typed.specs.WellTyped.{variable_type, field_type, IsConstantText}
 use Rattle.aos_code.specs.declared.image.ProcShape.{ProcShape}
 use Rattle.aos_code.specs.declared.instr.Cell.TheVariants as cell
 use Rattle.aos_code.specs.declared.instr.Cell.TheVariants.{Num}
@@ -28,54 +29,50 @@ use Rattle.aos_code.specs.declared.instr.Instr.TheVariants as i
 use Rattle.aos_code.specs.Silent.{Stack, Keeps, Goes, gives_place, element}
 use Rattle.aos_places.proofs.Grow.{cell_grows}
 use Rattle.aos_sim.specs.Cells.{place_in}
-use Rattle.aos_sim.specs.Code.{field_cell, cells_of, place_code, operands_code}
+use Rattle.aos_sim.specs.Code.{field_cell, cells_of, with_length, place_code, operands_code}
 use Rattle.aos_sim.proofs.Runs.{Run, Onward, on_run, runs}
-use Rattle.aos_sim.proofs.Parts.{shape_on, cell_on, cell_within, field_part, field_offset, element_part, element_offset}
-use Rattle.aos_sim.proofs.Does.{HasTypes, HasPlace, Does, place_grows}
-use Rattle.aos_sim.proofs.Variables.{stood, variable_there, cell_there}
+use Rattle.aos_sim.proofs.Parts.{shape_on, cell_on, field_part, field_offset, array_shape, element_part, element_offset}
+use Rattle.aos_sim.proofs.Does.{HasTypes, HasPlace, HasCharacters, characters, Knows, Does, knows_grows, along, does_more, place_grows}
+use Rattle.aos_sim.proofs.Variables.{basic_is_one, variable_there, cell_there, constant_there, constant_cell}
 use Rattle.aos_sim.proofs.Evaluates.{OfType, number_in, OnStack, ComesTo, Stays, Evaluates, piece_does, pieces_do}
 
 module _ (program : Program) where
-  -- a variable of this type is there, below a root of no more scalars than a type may have
+  -- a variable of this type is there, among no more cells than a type may have scalars
   pub record IsFound (t : TType) (w : World Sort) (p : Spot) : Type 0 where
     pub there : HasPlace program w p t
-    pub whole : Shape Sort
-    pub below : w.shape p.root ≡ Some whole
-    pub few : size whole ≤ MOST_SCALARS
+    pub few : cell_at w p.root p.path + size (variable_shape program.types (id_of t)) ≤ MOST_SCALARS
 
   module _ (w w' : World Sort) (g : Grows w w') (t : TType) (p : Spot) (h : IsFound t w p) where
     -- it stays there, at its cell
+    same_cell : cell_at w p.root p.path ≡ cell_at w' p.root p.path
+    same_cell = cell_grows w w' g p.root p.path (variable_shape program.types (id_of t)) h.there
+
     pub found_grows : IsFound t w' p
     found_grows =
         record {
           there = place_grows program w w' g p (variable_shape program.types (id_of t)) h.there;
-          whole = h.whole;
-          below = g.shapes p.root h.whole h.below;
-          few = h.few;
+          few = subst (λ n. n + size (variable_shape program.types (id_of t)) ≤ MOST_SCALARS) same_cell h.few;
         }
 
     pub found_cell : place_in w p ≡ place_in w' p
-    found_cell = ap (λ n. cell.Place p.root n p.type) (cell_grows w w' g p.root p.path (variable_shape program.types (id_of t)) h.there)
+    found_cell = ap (λ n. cell.Place p.root n p.type) same_cell
 
   -- a part of it: it's there, and an instruction gives its place from the one of the whole
   module _ (w : World Sort) (t u : TType) (p : Spot) (h : IsFound t w p) (k : ℕ) (is : inside (k ∷ []) (variable_shape program.types (id_of t)) ≡ Some (variable_shape program.types (id_of u))) where
     pub part_found : IsFound u w (part_of k p)
     part_found =
-        record {
-          there = shape_on w p.root p.path (variable_shape program.types (id_of t)) h.there (k ∷ []) ∙ is;
-          whole = h.whole;
-          below = h.below;
-          few = h.few;
-        }
+        let whole = variable_shape program.types (id_of t) in
+        let on = cell_on w p.root p.path whole h.there (k ∷ []) in
+        let within = inside_within (k ∷ []) whole (variable_shape program.types (id_of u)) is in
+        record { there = shape_on w p.root p.path whole h.there (k ∷ []) ∙ is; few = omega (arith, on, within, h.few) }
 
     pub part_given : (n : ℕ) (s : Stack) → offset (k ∷ []) (variable_shape program.types (id_of t)) ≡ n → gives_place p.root (cell_at w p.root p.path + n) 0 [] s ≡ Goes 0 (place_in w (part_of k p) ∷ s)
     part_given n s e =
         let whole = variable_shape program.types (id_of t) in
         let at = cell_at w p.root p.path + n in
         let on : cell_at w (part_of k p).root (part_of k p).path ≡ at = cell_on w p.root p.path whole h.there (k ∷ []) ∙ ap (λ m. cell_at w p.root p.path + m) e in
-        let within = cell_within w (part_of k p).root (part_of k p).path (variable_shape program.types (id_of u)) part_found.there h.whole h.below in
-        let few = h.few in
-        let small : at < 2 ^ 32 = omega (arith, on, within, few) in
+        let few = part_found.few in
+        let small : at < 2 ^ 32 = omega (arith, on, few) in
         rw (lt-ltb at (2 ^ 32) small) (ap (λ m. Goes 0 (cell.Place p.root m 0 ∷ s)) (sym on))
 
 -- An index
@@ -112,9 +109,9 @@ module _ (program : Program) (shapes : List ProcShape) (own here : ℕ) (code : 
   module _ (typed : HasTypes program) where
     pub variable_does : (m k : ℕ) (t : TType) (at : ℕ) → variable_type program m k ≡ Some t → Finds t (place_code program (ModuleVar m k) at) (place_of (ModuleVar m k)) at
     variable_does m k t at of w known rest keeps s =
-        let x = stood program m k t of in
+        let few = subst (λ n. n + size (variable_shape program.types (id_of t)) ≤ MOST_SCALARS) (sym (cell_there program w known m k t of)) (typed.few m k t of) in
         record {
-          is = record { there = variable_there program w known m k t of; whole = x.whole; below = known m x.whole x.there; few = typed.few m x.whole x.there };
+          is = record { there = variable_there program w known m k t of; few = few };
           run = ap (λ n. onward rest 0 (at + 1) keeps (cell.Place (ModuleRoot m) n 0 ∷ s)) (sym (cell_there program w known m k t of));
         }
 
@@ -159,3 +156,46 @@ module _ (program : Program) (shapes : List ProcShape) (own here : ℕ) (code : 
         let behind : at + length ca + length cb + 1 ≡ q = omega (arith, length-append ca (cb ++ x ∷ []), length-append cb (x ∷ [])) in
         pieces_do program shapes own here code (IsFound program t) place_in (OfType (type.Integer W64)) number_in (Named u rest q k s) x (λ p v. element_of n v p) ca cb ra rb at rest k s (places_stay t) ha hb w known
         (λ w' p v m found is e. indexed t u n array w' p found v rest (at + length ca + length cb) q k s m behind e)
+
+  -- Texts: the code finds the place of so many characters, and behind it stands how many there are.
+
+  abbrev pub FindsText : ℕ → List Instr → Doing Spot → ℕ → Type 0
+  FindsText n = ComesTo program shapes own here code (λ w p. HasCharacters w p n) place_in
+
+  -- an array of characters is a place of them
+  pub array_found : HasTypes program → (t : TType) (n : ℕ) (xs : List Instr) (r : Doing Spot) (at : ℕ) → row_of program.types (id_of t) ≡ Some (row.Array n (id_of type.Char)) → Finds t xs r at → FindsText n xs r at
+  array_found typed t n xs r at array h w known rest k s =
+      let shape = array_shape program.types typed.ranked (id_of t) (id_of type.Char) n array ∙ ap (repeated n) (basic_is_one program typed.predeclared type.Char refl) in
+      does_more program (Named t rest (at + length xs) k s) (OnStack shapes own here code (λ w p. HasCharacters w p n) place_in rest (at + length xs) k s) w _ r (h w known rest k s)
+      (λ w' up p m x. record { is = x.is.there ∙ ap (λ z. Some z) shape; run = x.run })
+
+  -- so is a string constant
+  pub constant_found : (m k n at : ℕ) → IsConstantText program (ModuleVar m k) n → FindsText n (place_code program (ModuleVar m k) at) (place_of (ModuleVar m k)) at
+  constant_found m k n at of w known rest keeps s =
+      record {
+        is = constant_there program w known m k n of;
+        run = ap (λ c. onward rest 0 (at + 1) keeps (cell.Place (ModuleRoot m) c 0 ∷ s)) (sym (constant_cell program w known m k n of));
+      }
+
+  module _ {C : Type 0} (Q : World Sort → C → Run → Type 0) where
+    -- a text, and what stands behind it
+    pub text_does : (f : Spot → Doing C) (xs tail : List Instr) (n : ℕ) (r : Doing Spot) (at : ℕ) (rest : List Instr) (k : Keeps) (s : Stack) → FindsText n xs r at → (w : World Sort) → Knows program w → ((w' : World Sort) → Grows w w' → (p : Spot) (m : Run) → HasCharacters w' p n → m ≡ onward (tail ++ rest) 0 (at + length (with_length xs n)) k (Num (pos n) ∷ (place_in w' p ∷ s)) → Does program Q w' m (f p)) → Does program Q w (onward ((with_length xs n ++ tail) ++ rest) 0 at k s) (bind r f)
+    text_does f xs tail n r at rest k s h w known go =
+        let number = i.Num (pos n) in
+        let q : at + length xs + 1 ≡ at + length (with_length xs n) = omega (arith, length-append xs (number ∷ [])) in
+        along program Q w _ _ (bind r f) (ap (λ l. onward (l ++ rest) 0 at k s) (append_assoc xs (number ∷ []) tail))
+        (piece_does program shapes own here code (λ w p. HasCharacters w p n) place_in Q f xs (number ∷ tail) r at rest k s h w known
+        (λ w' up p m is e. go w' up p m is (e ∙ ap (λ j. onward (tail ++ rest) 0 j k (Num (pos n) ∷ (place_in w' p ∷ s))) q)))
+
+    -- two texts, and an instruction on them
+    pub texts_do : (x : Instr) (f : Spot → Spot → Doing C) (ca cb : List Instr) (n m : ℕ) (ra rb : Doing Spot) (at : ℕ) (rest : List Instr) (k : Keeps) (s : Stack) → FindsText n ca ra at → FindsText m cb rb (at + length (with_length ca n)) → (w : World Sort) → Knows program w →
+        ((w' : World Sort) (a b : Spot) (r : Run) → HasCharacters w' a n → HasCharacters w' b m → r ≡ onward (x ∷ rest) 0 (at + length (with_length ca n) + length (with_length cb m)) k (Num (pos m) ∷ (place_in w' b ∷ (Num (pos n) ∷ (place_in w' a ∷ s)))) → Does program Q w' r (f a b)) →
+        Does program Q w (onward (operands_code (with_length ca n) (with_length cb m) x ++ rest) 0 at k s) (bind ra (λ a. bind rb (λ b. f a b)))
+    texts_do x f ca cb n m ra rb at rest k s ha hb w known go =
+        let next = at + length (with_length ca n) in
+        let behind = next + length (with_length cb m) in
+        text_does (λ a. bind rb (λ b. f a b)) ca (with_length cb m ++ x ∷ []) n ra at rest k s ha w known
+        (λ w1 up a r is e. along program Q w1 r _ (bind rb (λ b. f a b)) e
+        (text_does (λ b. f a b) cb (x ∷ []) m rb next rest k (Num (pos n) ∷ (place_in w1 a ∷ s)) hb w1 (knows_grows program w w1 up known)
+        (λ w2 up' b r' is' e'. go w2 a b r' (place_grows program w1 w2 up' a (characters n) is) is'
+        (e' ∙ ap (λ c. onward (x ∷ rest) 0 behind k (Num (pos m) ∷ (place_in w2 b ∷ (Num (pos n) ∷ (cell.Place a.root c a.type ∷ s))))) (cell_grows w1 w2 up' a.root a.path (characters n) is)))))

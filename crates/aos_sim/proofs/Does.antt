@@ -1,11 +1,11 @@
 -- Code that does what the source does: it asks the same questions, of places that there are and values of the right types, and traps
 -- alike, in each world that has grown.
-use Rattle.std.proofs.Common.{◌≡◌, true, ℕ, suc, ◌<◌, ◌≤◌, Some, List, [], map, refl, sym, ap, ◌∙◌, subst}
-use Rattle.std.specs.Prelude.{option_map, slice_get}
+use Rattle.std.proofs.Common.{◌≡◌, true, ℕ, suc, ◌+◌, ◌<◌, ◌≤◌, Some, List, [], map, refl, sym, ap, ◌∙◌, subst}
+use Rattle.std.specs.Prelude.{pos, option_map, slice_get}
 use Rattle.aos_base.specs.declared.number.Width.TheVariants.{W64}
 use Rattle.aos_base.specs.Question.{Val, Asks, Traps, bind, Reads, Stores, Copies, PutsText, ComparesTexts, Calls, Ends, Makes, Starts, PutsInt, PutsChar, PutsString, PutsNothing, PutsLn, Places, Lengths}
 use Rattle.aos_base.specs.declared.place.Root.TheVariants.{Module}
-use Rattle.aos_types.specs.Shape.{Shape, One, Nothing, size}
+use Rattle.aos_types.specs.Shape.{Shape, One, Nothing, size, repeated}
 use Rattle.aos_types.specs.declared.TheConstants.{MOST_SCALARS}
 use Rattle.aos_types.specs.Table.{row_of}
 use Rattle.aos_types.specs.Chain.{IsRanked}
@@ -16,17 +16,17 @@ use Rattle.aos_typed.specs.Numbers.{id_of, predeclared_types, predeclared_rows}
 use Rattle.aos_typed.specs.Program.{Program}
 use Rattle.aos_typed.specs.Sort.{Sort, Plain, variable_shape}
 use Rattle.aos_typed.specs.Spot.{Spot}
-use Rattle.aos_typed.specs.Value.{Value, Object}
-use Rattle.aos_typed.specs.Typing.{Is, IsPlain, IsInteger, IsCharacter}
+use Rattle.aos_typed.specs.Value.{Value, Int, Object}
+use Rattle.aos_typed.specs.Typing.{Is, IsPlain, IsInteger, IsFlag, IsCharacter}
 use Rattle.aos_typed.specs.Source.{module_shape}
-use Rattle.aos_typed.specs.WellTyped.{is_basic, is_whole}
+use Rattle.aos_typed.specs.WellTyped.{is_basic, is_whole, variable_type}
 use Rattle.aos_typed.specs.Meaning as source
 use Rattle.aos_typed.specs.Meaning.{Doing}
 use Rattle.aos_code.specs.declared.instr.Cell.{Cell}
 use Rattle.aos_code.specs.Memory.{Addr}
 use Rattle.aos_code.specs.Silent.{Question, Visible, noted}
 use Rattle.aos_places.proofs.Grow.{grows_same, grows_twice, shape_grows, cell_grows}
-use Rattle.aos_sim.specs.Code.{kind_of, cells_of}
+use Rattle.aos_sim.specs.Code.{kind_of, cells_of, variable_cell}
 use Rattle.aos_sim.specs.Cells.{cell_of}
 use Rattle.aos_sim.proofs.Runs.{Run, calm, calm_visible}
 use Rattle.aos_sim.proofs.Kept.{values_kept}
@@ -43,16 +43,32 @@ addr_of w p = record { root = p.root; cell = cell_at w p.root p.path }
 abbrev pub IsMade : Value → Type 0
 IsMade v = (k : ℕ) × (v ≡ Object (suc k))
 
+-- so many characters
+abbrev pub characters : ℕ → Shape Sort
+characters n = repeated n (One (Plain (id_of type.Char)))
+
+-- there are so many characters at a place
+abbrev pub HasCharacters : World Sort → Spot → ℕ → Type 0
+HasCharacters w p n = shape_at w p.root p.path ≡ Some (characters n)
+
+-- as many as this value says
+abbrev pub HasText : World Sort → Spot → Value → Type 0
+HasText w p v = (n : ℕ) × (v ≡ Int (pos n)) × HasCharacters w p n
+
+-- and there is room for a 0X
+abbrev pub HasRoom : World Sort → Spot → Value → Type 0
+HasRoom w p v = (n : ℕ) × (v ≡ Int (pos n)) × HasCharacters w p n × (0 < n)
+
 -- the predeclared types stand first
 abbrev pub HasPredeclared : Program → Type 0
 HasPredeclared p = (k : ℕ) → k < predeclared_types → slice_get p.types k ≡ slice_get predeclared_rows k
 
--- what holds of a program's types, and of its modules: the predeclared types stand first, no type contains itself, and no module has
--- more scalars than a type may have
+-- what holds of a program's types, and of its modules: the predeclared types stand first, no type contains itself, and each variable
+-- lies among no more cells than a type may have scalars
 pub record HasTypes (p : Program) : Type 0 where
   pub predeclared : HasPredeclared p
   pub ranked : IsRanked p.types
-  pub few : (m : ℕ) (s : Shape Sort) → slice_get (map (module_shape p) p.modules) m ≡ Some s → size s ≤ MOST_SCALARS
+  pub few : (m k : ℕ) (t : TType) → variable_type p m k ≡ Some t → variable_cell p m k + size (variable_shape p.types (id_of t)) ≤ MOST_SCALARS
 
 -- a world in which the program's modules have their shapes
 abbrev pub Knows : Program → World Sort → Type 0
@@ -87,7 +103,8 @@ module _ (program : Program) where
   HasPlace w p t = shape_at w p.root p.path ≡ Some (variable_shape program.types (id_of t))
 
   -- a question is at places that there are, and its values are of the sorts that it takes: what is read is of a basic type, whose cell
-  -- is of the kind that its code takes, and what is copied is a record or an array; no program asks the others yet
+  -- is of the kind that its code takes, what is copied is a record or an array, and a text is so many characters, of which one that is
+  -- put somewhere has room for a 0X; no program asks the others yet
   abbrev pub Valid : World Sort → source.Question → Type 0
   Valid w (Reads t p) = (is_basic t ≡ true) × HasScalar w p (Plain (id_of t))
   Valid w (Stores p v) = (k : Sort) × IsPlain k × HasScalar w p k × Is program.types w k v
@@ -98,11 +115,11 @@ module _ (program : Program) where
   Valid w (PutsChar v) = IsCharacter v
   Valid w PutsNothing = Unit {0}
   Valid w PutsLn = Unit {0}
-  Valid w (PutsText strict p n q m) = ⊥
-  Valid w (ComparesTexts r p n q m) = ⊥
+  Valid w (PutsText strict p n q m) = HasText w p n × HasRoom w q m
+  Valid w (ComparesTexts r p n q m) = HasText w p n × HasText w q m
   Valid w (Calls p vs) = ⊥
   Valid w (Ends r) = ⊥
-  Valid w (PutsString p n) = ⊥
+  Valid w (PutsString p n) = HasText w p n
   Valid w (Places p) = ⊥
   Valid w (Lengths p) = ⊥
 
@@ -110,6 +127,7 @@ module _ (program : Program) where
   abbrev pub Conforms : World Sort → source.Question → Value → Type 0
   Conforms w (Reads t p) v = Is program.types w (Plain (id_of t)) v
   Conforms w (Makes t) v = (o : ℕ) × (v ≡ Object (suc o)) × (w.made (suc o) ≡ Some (record { type = t; lengths = [] }))
+  Conforms w (ComparesTexts r p n q m) v = IsFlag v
   Conforms w q v = Unit {0}
 
   -- the code does what the source does, for all answers of the right sorts: it asks the same questions and has the same traps, which
@@ -161,6 +179,12 @@ module _ (program : Program) where
     integer_cell : (v : Value) → IsInteger W64 v → cell_of w v ≡ cell_of w' v
     integer_cell v h = value_cell (type.Integer W64) v (integer_is W64 v h)
 
+    length_cell : (v : Value) (n : ℕ) → v ≡ Int (pos n) → cell_of w v ≡ cell_of w' v
+    length_cell v n e = ap (cell_of w) e ∙ sym (ap (cell_of w') e)
+
+    text_grows : (p : Spot) (v : Value) → HasText w p v → HasText w' p v
+    text_grows p v h = (h.0, h.1, place_grows p (characters h.0) h.2)
+
     -- a valid question is the same one in a world that has grown
     pub placed_same : (q : source.Question) → Valid program w q → placed program w q ≡ placed program w' q
     placed_same (Reads t p) h = ap (Reads (kind_of t)) (addr_grows p (One (Plain (id_of t))) h.1)
@@ -174,11 +198,13 @@ module _ (program : Program) where
     placed_same (Copies t p q) h =
         let s = variable_shape program.types (id_of t) in
         λ i. Copies (cells_of program t) (addr_grows p s h.0 i) (addr_grows q s h.1 i)
-    placed_same (PutsText strict p n q m) h = absurd h
-    placed_same (ComparesTexts r p n q m) h = absurd h
+    placed_same (PutsText strict p n q m) h =
+        λ i. PutsText strict (addr_grows p (characters h.0.0) h.0.2 i) (length_cell n h.0.0 h.0.1 i) (addr_grows q (characters h.1.0) h.1.2 i) (length_cell m h.1.0 h.1.1 i)
+    placed_same (ComparesTexts r p n q m) h =
+        λ i. ComparesTexts r (addr_grows p (characters h.0.0) h.0.2 i) (length_cell n h.0.0 h.0.1 i) (addr_grows q (characters h.1.0) h.1.2 i) (length_cell m h.1.0 h.1.1 i)
     placed_same (Calls p vs) h = absurd h
     placed_same (Ends r) h = absurd h
-    placed_same (PutsString p n) h = absurd h
+    placed_same (PutsString p n) h = λ i. PutsString (addr_grows p (characters h.0) h.2 i) (length_cell n h.0 h.1 i)
     placed_same (Places p) h = absurd h
     placed_same (Lengths p) h = absurd h
 
@@ -194,11 +220,11 @@ module _ (program : Program) where
     valid_grows (Copies t p q) h =
         let s = variable_shape program.types (id_of t) in
         (place_grows p s h.0, place_grows q s h.1, h.2)
-    valid_grows (PutsText strict p n q m) h = absurd h
-    valid_grows (ComparesTexts r p n q m) h = absurd h
+    valid_grows (PutsText strict p n q m) h = (text_grows p n h.0, (h.1.0, h.1.1, place_grows q (characters h.1.0) h.1.2, h.1.3))
+    valid_grows (ComparesTexts r p n q m) h = (text_grows p n h.0, text_grows q m h.1)
     valid_grows (Calls p vs) h = absurd h
     valid_grows (Ends r) h = absurd h
-    valid_grows (PutsString p n) h = absurd h
+    valid_grows (PutsString p n) h = text_grows p n h
     valid_grows (Places p) h = absurd h
     valid_grows (Lengths p) h = absurd h
 
@@ -220,11 +246,11 @@ module _ (program : Program) where
   placed_visible cells w PutsNothing h = refl
   placed_visible cells w PutsLn h = refl
   placed_visible cells w (Copies t p q) h = refl
-  placed_visible cells w (PutsText strict p n q m) h = absurd h
-  placed_visible cells w (ComparesTexts r p n q m) h = absurd h
+  placed_visible cells w (PutsText strict p n q m) h = refl
+  placed_visible cells w (ComparesTexts r p n q m) h = refl
   placed_visible cells w (Calls p vs) h = absurd h
   placed_visible cells w (Ends r) h = absurd h
-  placed_visible cells w (PutsString p n) h = absurd h
+  placed_visible cells w (PutsString p n) h = refl
   placed_visible cells w (Places p) h = absurd h
   placed_visible cells w (Lengths p) h = absurd h
 

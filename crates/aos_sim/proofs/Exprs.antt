@@ -1,7 +1,10 @@
 -- The code of a well-typed designator or expression does what this does, for all answers of the right types.
 use Rattle.std.proofs.Common.{◌≡◌, ℕ, pos, true, Some, ◌+◌, List, [], ◌∷◌, ◌++◌, length, refl, sym, ap, ◌∙◌, subst, arith, length-append}
+use Rattle.std.proofs.Common.{inl, inr}
 use Rattle.std.proofs.lemmas.Int.{ints}
-use Rattle.aos_base.specs.declared.number.Width.TheVariants.{W16, W64}
+use Rattle.aos_base.specs.declared.number.Width.TheVariants.{W16, W32, W64}
+use Rattle.aos_base.specs.declared.number.Relation.{Relation}
+use Rattle.aos_base.specs.Number.{IsWithin}
 use Rattle.aos_base.specs.declared.operator.Unary.{Unary as UnaryOperator}
 use Rattle.aos_base.specs.declared.operator.Unary.TheVariants.{Range}
 use Rattle.aos_base.specs.declared.operator.Binary.{Binary as BinaryOperator}
@@ -9,32 +12,32 @@ use Rattle.aos_base.specs.declared.operator.Binary.TheVariants.{SetSpan}
 use Rattle.aos_base.specs.declared.operator.Given.{Given}
 use Rattle.aos_base.specs.declared.operator.Given.TheVariants.{Number, Trap, Undefined}
 use Rattle.aos_base.specs.Operators.{unary as unary_of, binary as binary_of}
-use Rattle.aos_base.specs.Question.{Val, bind, ask, Reads}
+use Rattle.aos_base.specs.Question.{Val, bind, ask, Reads, ComparesTexts}
 use Rattle.aos_types.specs.World.{World}
 use Rattle.aos_typed.specs.declared.tree.Literal.{Literal}
 use Rattle.aos_typed.specs.declared.tree.Literal.TheVariants as literal
 use Rattle.aos_typed.specs.declared.tree.TType.{TType}
 use Rattle.aos_typed.specs.declared.tree.TType.TheVariants as type
-use Rattle.aos_typed.specs.Program.{Place as Designator, ModuleVar, Field, Index, Expr, Lit, Read, Unary, Binary, And, Or, Element, Ord, Chr, Program}
+use Rattle.aos_typed.specs.Program.{Place as Designator, ModuleVar, Field, Index, Expr, Lit, Read, Unary, Binary, And, Or, Element, Ord, Chr, CompareTexts, Len, Program}
 use Rattle.aos_typed.specs.Sort.{Sort}
-use Rattle.aos_typed.specs.Value.{Value, Sort as Kind, Character, literal_value, number_of, given as given_value, unary_sort, binary_sort, binary, element, ord}
+use Rattle.aos_typed.specs.Value.{Value, Int, Sort as Kind, Character, literal_value, number_of, given as given_value, unary_sort, binary_sort, binary, element, ord}
 use Rattle.aos_typed.specs.Meaning.{Doing, place_of, value_of}
 use Rattle.aos_typed.specs.Spot.{Spot}
-use Rattle.aos_typed.specs.WellTyped.{is_basic, Includes, taken, GivesOfTwo, IsPlaceOf, IsOf}
+use Rattle.aos_typed.specs.WellTyped.{is_basic, Includes, taken, GivesOfTwo, IsPlaceOf, IsOf, IsText}
 use Rattle.aos_code.specs.declared.image.ProcShape.{ProcShape}
 use Rattle.aos_code.specs.declared.instr.Cell.TheVariants.{Num}
 use Rattle.aos_code.specs.declared.instr.Instr.{Instr}
 use Rattle.aos_code.specs.declared.instr.Instr.TheVariants as i
 use Rattle.aos_code.specs.Silent.{Stack, Keeps, given}
 use Rattle.aos_sim.specs.Cells.{place_in}
-use Rattle.aos_sim.specs.Code.{literal_code, kind_of, place_code, operands_code, value_code}
+use Rattle.aos_sim.specs.Code.{literal_code, kind_of, place_code, with_length, operands_code, value_code}
 use Rattle.aos_sim.proofs.Runs.{Run, Onward, on_run, runs}
-use Rattle.aos_sim.proofs.Types.{IsValueOf, number_cell, included, literal_is}
+use Rattle.aos_sim.proofs.Types.{IsValueOf, number_cell, flag_is, included, literal_is}
 use Rattle.aos_sim.proofs.Operators.{unary_agrees, Suit, operands_suit, binary_agrees}
 use Rattle.aos_sim.proofs.Does.{HasPredeclared, HasTypes, Does, does_bind}
 use Rattle.aos_sim.proofs.Variables.{basic_is_one, value_from}
 use Rattle.aos_sim.proofs.Evaluates.{OfType, number_in, Pushed, Evaluates, piece_does, pieces_do, values_stay, operand_does, ends_at}
-use Rattle.aos_sim.proofs.Designators.{IsFound, Finds, variable_does, field_does, index_does}
+use Rattle.aos_sim.proofs.Designators.{IsFound, Finds, FindsText, variable_does, field_does, index_does, array_found, constant_found, texts_do}
 use Rattle.aos_sim.proofs.Results.{Agrees, chr_agrees}
 use Rattle.aos_sim.proofs.Shortcuts.{and_does, or_does}
 
@@ -70,6 +73,7 @@ module _ (program : Program) (shapes : List ProcShape) (own here : ℕ) (code : 
       loaded (literal.Bool b) = refl
       loaded (literal.Char c) = refl
       loaded (literal.Set n) = refl
+      loaded (literal.Text c) = refl
 
   unary_does : (t u : TType) (op : UnaryOperator) (z : Kind) (xs : List Instr) (r : Doing Value) (at : ℕ) → ((v : Value) → IsValueOf u v → Agrees t z (unary_of op (number_of v))) → Comes u xs r at → Comes t (xs ++ i.Unary op ∷ []) (bind r (λ v. given_value z (unary_of op (number_of v)))) at
   unary_does t u op z xs r at of h w known rest k s =
@@ -117,7 +121,44 @@ module _ (program : Program) (shapes : List ProcShape) (own here : ℕ) (code : 
             (record { is = included t u v more is; run = ap (λ c. onward rest 0 (at + length xs + 1) k (c ∷ s)) (number_cell w2 u v is) }),
       ))
 
+  -- two texts are compared
+  compare_does : (r : Relation) (n m : ℕ) (ca cb : List Instr) (ra rb : Doing Spot) (at : ℕ) → FindsText program shapes own here code n ca ra at → FindsText program shapes own here code m cb rb (at + length (with_length ca n)) → Comes type.Boolean (operands_code (with_length ca n) (with_length cb m) (i.CmpText r)) (bind ra (λ a. bind rb (λ b. ask (ComparesTexts r a (Int (pos n)) b (Int (pos m)))))) at
+  compare_does r n m ca cb ra rb at ha hb w known rest k s =
+      let x = i.CmpText r in
+      let p = at + length (with_length ca n) + length (with_length cb m) in
+      let q = at + length (operands_code (with_length ca n) (with_length cb m) x) in
+      let behind : p + 1 ≡ q = omega (arith, length-append (with_length ca n) (with_length cb m ++ x ∷ []), length-append (with_length cb m) (x ∷ [])) in
+      texts_do program shapes own here code (With type.Boolean rest q k s) x (λ a b. ask (ComparesTexts r a (Int (pos n)) b (Int (pos m)))) ca cb n m ra rb at rest k s ha hb w known
+      (λ w1 a b run first second e. (
+        (λ c. onward rest 0 (p + 1) k (c ∷ s)),
+        e,
+        ((n, refl, first), (m, refl, second)),
+        λ w2 up v flag.
+            let is = flag_is v flag in
+            ends_at program shapes own here code type.Boolean rest (p + 1) q k s w2 _ (Val v) behind
+            (record { is = is; run = ap (λ c. onward rest 0 (p + 1) k (c ∷ s)) (number_cell w2 type.Boolean v is) }),
+      ))
+
+  -- the length of an array whose place is found
+  length_does : (t u : TType) (n : ℕ) (xs : List Instr) (r : Doing Spot) (at : ℕ) → IsWithin W32 (pos n) → Includes t (type.Integer W32) → Finds program shapes own here code u xs r at → Comes t (xs ++ (i.Drop ∷ (i.Num (pos n) ∷ []))) (bind r (λ p. Val (Int (pos n)))) at
+  length_does t u n xs r at within more h w known rest k s =
+      let tail = i.Drop ∷ (i.Num (pos n) ∷ []) in
+      let q = at + length (xs ++ tail) in
+      let behind : at + length xs + 1 + 1 ≡ q = omega (arith, length-append xs tail) in
+      piece_does program shapes own here code (IsFound program u) place_in (With t rest q k s) (λ p. Val (Int (pos n))) xs tail r at rest k s h w known
+      (λ w' up p m found e. record {
+        is = included t (type.Integer W32) (Int (pos n)) more (pos n, refl, within);
+        run = e ∙ ap (λ j. onward rest 0 j k (Num (pos n) ∷ s)) behind;
+      })
+
   module _ (typed : HasTypes program) where
+    -- a text is at a place of so many characters
+    pub text_found : (p : Designator) (n at : ℕ) → ((t : TType) → IsPlaceOf program p t → Finds program shapes own here code t (place_code program p at) (place_of p) at) → IsText program p n → FindsText program shapes own here code n (place_code program p at) (place_of p) at
+    text_found p n at found (inl h) = array_found program shapes own here code typed h.0 n (place_code program p at) (place_of p) at h.2 (found h.0 h.1)
+    text_found (ModuleVar m k) n at found (inr h) = constant_found program shapes own here code m k n at h
+    text_found (Field p u k) n at found (inr h) = absurd h
+    text_found (Index p l u e) n at found (inr h) = absurd h
+
     mutual
       pub place_does : (p : Designator) (t : TType) → IsPlaceOf program p t → (at : ℕ) → Finds program shapes own here code t (place_code program p at) (place_of p) at
       place_does (ModuleVar m k) t ok at = variable_does program shapes own here code typed m k t at ok
@@ -153,3 +194,10 @@ module _ (program : Program) (shapes : List ProcShape) (own here : ℕ) (code : 
       value_does (Chr a) t ok at =
           subst (λ x. Comes x (value_code program (Chr a) at) (value_of (Chr a)) at) (sym ok.1)
           (unary_does type.Char (type.Integer W64) (Range (pos 0) (pos 255)) Character (value_code program a at) (value_of a) at (λ v h. chr_agrees (number_of v)) (value_does a (type.Integer W64) ok.0 at))
+      value_does (CompareTexts r p n q m) t ok at =
+          let ca = place_code program p at in
+          let pb = at + length (with_length ca n) in
+          subst (λ x. Comes x (value_code program (CompareTexts r p n q m) at) (value_of (CompareTexts r p n q m)) at) (sym ok.2)
+          (compare_does r n m ca (place_code program q pb) (place_of p) (place_of q) at
+          (text_found p n at (λ u h. place_does p u h at) ok.0) (text_found q m pb (λ u h. place_does q u h pb) ok.1))
+      value_does (Len p n) t ok at = length_does t ok.0 n (place_code program p at) (place_of p) at ok.4 ok.5 (place_does p ok.0 ok.2 at)

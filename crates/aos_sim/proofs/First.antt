@@ -1,6 +1,7 @@
--- What the variables hold at first, and where the elements of lists are.
-use Rattle.std.proofs.Common.{◌≡◌, ℕ, zero, suc, ◌+◌, List, [], ◌∷◌, ◌++◌, map, length, Option, Some, None, refl, sym, ap, ◌∙◌, subst, arith}
-use Rattle.std.specs.Prelude.{slice_get, option_map, All}
+-- What the variables and string constants hold at first, and where the elements of lists are.
+use Rattle.std.proofs.Common.{◌≡◌, ℕ, zero, suc, ◌+◌, List, [], ◌∷◌, ◌++◌, map, length, Option, Some, None, pos, refl, sym, ap, ◌∙◌, subst, arith, append_assoc}
+use Rattle.std.specs.Prelude.{◌<◌, slice_get, option_map, All}
+use Rattle.std.specs.List.{flat_map}
 use Rattle.std.proofs.lemmas.Int.{ints}
 use Rattle.std.proofs.lemmas.List.{map-append}
 use Rattle.std.proofs.lemmas.List.Elements.{All-tail}
@@ -9,25 +10,30 @@ use Rattle.aos_types.specs.declared.row.Basic.TheVariants as basic
 use Rattle.aos_types.specs.declared.row.TypeId.{TypeId}
 use Rattle.aos_types.specs.declared.row.TypeRow.{TypeRow}
 use Rattle.aos_types.specs.declared.row.TypeRow.TheVariants as row
-use Rattle.aos_types.specs.Table.{row_of}
+use Rattle.aos_types.specs.Table.{row_of as type_row}
 use Rattle.aos_types.specs.Shape.{Shape, One, Nothing, Pair, leaves, shaped, row as row_of_shapes}
 use Rattle.aos_types.specs.Contents.{contents, of_variable}
-use Rattle.aos_types.specs.Content.{EachSort, first_content}
+use Rattle.aos_types.specs.Content.{flatten, Fits}
 use Rattle.aos_types.specs.World.{World}
+use Rattle.aos_typed.specs.declared.tree.TType.TheVariants as type
 use Rattle.aos_typed.specs.Program.{Variable, Module, Program}
 use Rattle.aos_typed.specs.Numbers.{id_of}
 use Rattle.aos_typed.specs.Sort.{Sort, Plain, Variable as RecordPlace, Alias, Elements, Length, variable_shape}
 use Rattle.aos_typed.specs.Typing.{IsBasic, IsPlainly, Is, IsPlain}
-use Rattle.aos_typed.specs.Source.{first_basic, first_in, first_value, module_shape}
+use Rattle.aos_typed.specs.Source.{first_basic, first_in, first_value, row_of, module_shape, first_variable, first_module}
+use Rattle.aos_typed.specs.Text.{text_content, text_shape}
+use Rattle.aos_typed.specs.Value.{Char}
 use Rattle.aos_code.specs.declared.instr.Cell.{Cell}
+use Rattle.aos_code.specs.declared.instr.Cell.TheVariants.{Num}
 use Rattle.aos_code.specs.declared.instr.Kind.{Kind}
 use Rattle.aos_code.specs.declared.instr.Kind.TheVariants.{N}
 use Rattle.aos_code.specs.Machine.{first_cell}
-use Rattle.aos_layout.specs.Layout.{kind_in, kind_of, cells, block}
+use Rattle.aos_layout.specs.Layout.{kind_in, kind_of, cells, variable_cells}
 use Rattle.aos_places.specs.Shows.{AllShown}
 use Rattle.aos_places.proofs.Makes.{first_fits, first_cells}
 use Rattle.aos_sim.specs.Cells.{cell_of}
-use Rattle.aos_sim.specs.Shows.{numbers_from}
+use Rattle.aos_sim.specs.Shows.{numbers_from, text_cells, first_cells as module_cells}
+use Rattle.aos_sim.proofs.Does.{HasPredeclared}
 use Rattle.aos_sim.proofs.Kept.{values_kept}
 use Rattle.aos_sim.proofs.Parts.{plain_parts}
 
@@ -117,22 +123,18 @@ module _ (p : Program) where
   zero_cell k = first_cell (kind_at k)
 
   pub first_is : (w : World Sort) (k : Sort) → IsPlain k → Is p.types w k (first_value p k)
-  first_is w (Plain t) plain = first_in_is p.types w t (row_of p.types t)
+  first_is w (Plain t) plain = first_in_is p.types w t (type_row p.types t)
   first_is w (RecordPlace t) plain = absurd plain
   first_is w (Alias t) plain = absurd plain
   first_is w (Elements t ns) plain = absurd plain
   first_is w (Length n) plain = absurd plain
 
   pub first_same : (w : World Sort) (k : Sort) → cell_of w (first_value p k) ≡ zero_cell k
-  first_same w (Plain t) = first_in_same w (row_of p.types t)
+  first_same w (Plain t) = first_in_same w (type_row p.types t)
   first_same w (RecordPlace t) = refl
   first_same w (Alias t) = refl
   first_same w (Elements t ns) = refl
   first_same w (Length n) = refl
-
-  plain_variables : (vs : List Variable) → EachSort IsPlain (row_of_shapes (map (λ v. variable_shape p.types (id_of v.of)) vs))
-  plain_variables [] = tt
-  plain_variables (v ∷ vs) = (plain_parts (of_variable (contents p.types) p.types (id_of v.of)), plain_variables vs)
 
   part_cells : (s : Shape TypeId) → map first_cell (leaves (shaped (kind_of p.types) s)) ≡ map zero_cell (leaves (shaped Plain s))
   part_cells (One t) = refl
@@ -142,22 +144,56 @@ module _ (p : Program) where
       ∙ (λ j. part_cells a j ++ part_cells b j)
       ∙ sym (map-append zero_cell (leaves (shaped Plain a)) (leaves (shaped Plain b)))
 
-  variable_cells : (vs : List Variable) → map first_cell (leaves (row_of_shapes (map (λ v. cells p.types (id_of v.of)) vs))) ≡ map zero_cell (leaves (row_of_shapes (map (λ v. variable_shape p.types (id_of v.of)) vs)))
-  variable_cells [] = refl
-  variable_cells (v ∷ vs) =
-      let s = of_variable (contents p.types) p.types (id_of v.of) in
-      map-append first_cell (leaves (shaped (kind_of p.types) s)) (leaves (row_of_shapes (map (λ v. cells p.types (id_of v.of)) vs)))
-      ∙ (λ j. part_cells s j ++ variable_cells vs j)
-      ∙ sym (map-append zero_cell (leaves (shaped Plain s)) (leaves (row_of_shapes (map (λ v. variable_shape p.types (id_of v.of)) vs))))
+  module _ (w : World Sort) where
+    -- the cells that a variable begins with hold what it begins with
+    variable_same : (v : Variable) → map first_cell (leaves (cells p.types (id_of v.of))) ≡ map (cell_of w) (flatten (first_variable p v))
+    variable_same v =
+        part_cells (of_variable (contents p.types) p.types (id_of v.of))
+        ∙ sym (first_cells (Is p.types) cell_of IsPlain (values_kept p.types) (first_value p) zero_cell first_is first_same w (variable_shape p.types (id_of v.of)))
 
-  -- the cells of the modules show what their variables hold
-  pub modules_shown : (w : World Sort) (ms : List Module) → AllShown (Is p.types) cell_of w (map (module_shape p) ms) (map (λ (m : Module). first_content (first_value p) (module_shape p m)) ms) (map (λ (m : Module). map first_cell (leaves (block p.types m))) ms)
-  modules_shown w [] = tt
-  modules_shown w (m ∷ ms) =
-      let s = module_shape p m in (
-        record {
-          fits = first_fits (Is p.types) cell_of IsPlain (values_kept p.types) (first_value p) zero_cell first_is first_same w s (plain_variables m.variables);
-          same = variable_cells m.variables ∙ sym (first_cells (Is p.types) cell_of IsPlain (values_kept p.types) (first_value p) zero_cell first_is first_same w s);
-        },
-        modules_shown w ms,
+    text_same : (cs : List ℕ) → text_cells cs ≡ map (cell_of w) (flatten (text_content cs))
+    text_same [] = refl
+    text_same (c ∷ cs) = ap (λ l. Num (pos c) ∷ l) (text_same cs)
+
+    texts_same : (ts : List (List ℕ)) → flat_map text_cells ts ≡ map (cell_of w) (flatten (row_of (map text_content ts)))
+    texts_same [] = refl
+    texts_same (t ∷ ts) =
+        (λ j. text_same t j ++ texts_same ts j) ∙ sym (map-append (cell_of w) (flatten (text_content t)) (flatten (row_of (map text_content ts))))
+
+    all_same : (vs : List Variable) (ts : List (List ℕ)) → map first_cell (leaves (row_of_shapes (variable_cells p.types vs))) ++ flat_map text_cells ts ≡ map (cell_of w) (flatten (row_of (map (first_variable p) vs ++ map text_content ts)))
+    all_same [] ts = texts_same ts
+    all_same (v ∷ vs) ts =
+        let first = map first_cell (leaves (cells p.types (id_of v.of))) in
+        let rest = leaves (row_of_shapes (variable_cells p.types vs)) in
+        ap (λ l. l ++ flat_map text_cells ts) (map-append first_cell (leaves (cells p.types (id_of v.of))) rest)
+        ∙ append_assoc first (map first_cell rest) (flat_map text_cells ts)
+        ∙ (λ j. variable_same v j ++ all_same vs ts j)
+        ∙ sym (map-append (cell_of w) (flatten (first_variable p v)) (flatten (row_of (map (first_variable p) vs ++ map text_content ts))))
+
+    module _ (predeclared : HasPredeclared p) where
+      -- a string constant is of characters
+      character_fits : (c : ℕ) → c < 256 → Is p.types w (Plain (id_of type.Char)) (Char c)
+      character_fits c l = subst (λ o. IsPlainly p.types w (id_of type.Char) o (Char c)) (sym (predeclared 5 (omega arith))) l
+
+      text_fits : (cs : List ℕ) → All (λ c. c < 256) cs → Fits (Is p.types w) (text_shape cs) (text_content cs)
+      text_fits [] h = (character_fits 0 (omega arith), tt)
+      text_fits (c ∷ cs) h = (character_fits c (h 0 c (omega arith)), text_fits cs (All-tail (λ c. c < 256) c cs h))
+
+      abbrev AreTexts : List (List ℕ) → Type 0
+      AreTexts ts = All (λ t. All (λ c. c < 256) t) ts
+
+      all_fit : (vs : List Variable) (ts : List (List ℕ)) → AreTexts ts → Fits (Is p.types w) (row_of_shapes (map (λ v. variable_shape p.types (id_of v.of)) vs ++ map text_shape ts)) (row_of (map (first_variable p) vs ++ map text_content ts))
+      all_fit [] [] h = tt
+      all_fit [] (t ∷ ts) h = (text_fits t (h 0 t (omega arith)), all_fit [] ts (All-tail (λ t. All (λ c. c < 256) t) t ts h))
+      all_fit (v ∷ vs) ts h = (
+        first_fits (Is p.types) cell_of IsPlain (values_kept p.types) (first_value p) zero_cell first_is first_same w (variable_shape p.types (id_of v.of)) (plain_parts (of_variable (contents p.types) p.types (id_of v.of))),
+        all_fit vs ts h,
+      )
+
+      -- the cells of the modules show what their variables hold, and their string constants
+      pub modules_shown : (ms : List Module) → All (λ m. AreTexts m.texts) ms → AllShown (Is p.types) cell_of w (map (module_shape p) ms) (map (first_module p) ms) (map (module_cells p.types) ms)
+      modules_shown [] h = tt
+      modules_shown (m ∷ ms) h = (
+        record { fits = all_fit m.variables m.texts (h 0 m (omega arith)); same = all_same m.variables m.texts },
+        modules_shown ms (All-tail (λ m. AreTexts m.texts) m ms h),
       )

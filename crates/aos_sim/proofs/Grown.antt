@@ -1,5 +1,6 @@
 -- A turn of the source makes objects, and those that there are stay as they were made.
 use Rattle.std.proofs.Common.{◌≡◌, ℕ, zero, suc, List, [], ◌∷◌, ◌++◌, Bool, true, false, Option, Some, None, refl, sym, append-nil}
+use Rattle.std.specs.Prelude.{unsigned_abs}
 use Rattle.aos_base.specs.declared.place.Root.{Root}
 use Rattle.aos_base.specs.declared.place.Root.TheVariants.{Frame as FrameRoot, Module as ModuleRoot, Object as ObjectRoot}
 use Rattle.aos_base.specs.Rooted.{Made}
@@ -11,10 +12,11 @@ use Rattle.aos_typed.specs.Program.{Program}
 use Rattle.aos_typed.specs.Numbers.{id_of}
 use Rattle.aos_typed.specs.Sort.{Sort, variable_shape}
 use Rattle.aos_typed.specs.Spot.{Spot}
-use Rattle.aos_typed.specs.Value.{Value, Int, Flag, Char, Set, Object, Callable, Place}
+use Rattle.aos_typed.specs.Text.{text_in, with_text, fitted}
+use Rattle.aos_typed.specs.Value.{Value, Int, Flag, Char, Set, Object, Callable, Place, number_of}
 use Rattle.aos_typed.specs.Store.{Store, store_with, has_room}
 use Rattle.aos_typed.specs.Meaning.{Question, Doing, Item, Do, After, Into, item_of}
-use Rattle.aos_typed.specs.Source.{Frame, answered, done, all_rooted, ends, settles, written, prints, makes, starts, copies, answer, goes, item_turn, turn_at}
+use Rattle.aos_typed.specs.Source.{Frame, answered, done, all_rooted, ends, settles, written, prints, makes, starts, copies, stores_text, answer, goes, item_turn, turn_at}
 
 -- more objects than before
 abbrev pub Grown : List Made → List Made → Type 0
@@ -60,6 +62,11 @@ module _ (following : List ℕ) where
   copies_grown c (Some new) None p fs s = none s.made
   copies_grown c None to p fs s = none s.made
 
+  stores_text_grown : (text : Option (List ℕ)) (old : Option (Content Value)) (p : Spot) (f : Frame) (fs : List Frame) (s : Store) → Grown s.made (stores_text following text old p f fs s).store.made
+  stores_text_grown None old p f fs s = none s.made
+  stores_text_grown (Some cs) None p f fs s = none s.made
+  stores_text_grown (Some cs) (Some old) p f fs s = writes_grown p.root (placed p.path (with_text cs old)) s
+
 module _ (program : Program) (following : List ℕ) where
   answer_grown : (q : Question) (f : Frame) (fs : List Frame) (s : Store) → Grown s.made (answer program following q f fs s).store.made
   answer_grown (Stores p v) f fs s = writes_grown following p.root (placed p.path (Scalar v)) s
@@ -74,7 +81,10 @@ module _ (program : Program) (following : List ℕ) where
   answer_grown (Copies t from to) f fs s =
       let x = all_rooted (f ∷ fs) s in
       copies_grown following (variable_shape program.types (id_of t)) (read from.root from.path x) (read to.root to.path x) to (answered done f ∷ fs) s
-  answer_grown (PutsText strict from n to room) f fs s = none s.made
+  answer_grown (PutsText strict from n to room) f fs s =
+      let x = all_rooted (f ∷ fs) s in
+      let text = fitted strict (unsigned_abs (number_of room)) (text_in (read from.root from.path x)) in
+      stores_text_grown following text (read to.root to.path x) to f fs s
   answer_grown (ComparesTexts r a n b m) f fs s = none s.made
   answer_grown (Calls p vs) f fs s = none s.made
   answer_grown (PutsString a n) f fs s = none s.made

@@ -1,6 +1,6 @@
 -- No turn of a program enters a region or awaits a condition, so no execution of it comes to be Dead.
 use Rattle.std.proofs.Common.{◌≢◌, ℕ, zero, suc, List, [], ◌∷◌, ◌++◌, Bool, true, false}
-use Rattle.std.specs.Prelude.{Option, Some, None}
+use Rattle.std.specs.Prelude.{Option, Some, None, unsigned_abs}
 use Rattle.aos_base.specs.declared.kernel.Outcome.TheVariants.{Dead}
 use Rattle.aos_base.specs.Machine.{Choice, execution}
 use Rattle.aos_base.specs.Observation.{observation}
@@ -12,10 +12,11 @@ use Rattle.aos_typed.specs.Program.{Program}
 use Rattle.aos_typed.specs.Numbers.{id_of}
 use Rattle.aos_typed.specs.Sort.{Sort, variable_shape}
 use Rattle.aos_typed.specs.Spot.{Spot}
-use Rattle.aos_typed.specs.Value.{Value, Int, Flag, Char, Set, Object, Callable, Place}
+use Rattle.aos_typed.specs.Text.{text_in, fitted}
+use Rattle.aos_typed.specs.Value.{Value, Int, Flag, Char, Set, Object, Callable, Place, number_of}
 use Rattle.aos_typed.specs.Store.{Store, has_room}
 use Rattle.aos_typed.specs.Meaning.{Question, Doing, Item, Do, After, Into, item_of}
-use Rattle.aos_typed.specs.Source.{Frame, Turned, answered, done, all_rooted, ends, settles, written, prints, makes, starts, copies, answer, goes, item_turn, turn_at, opened, source, first_state, first_store, first_frames}
+use Rattle.aos_typed.specs.Source.{Frame, Turned, answered, done, all_rooted, ends, settles, written, prints, makes, starts, copies, stores_text, answer, goes, item_turn, turn_at, opened, source, first_state, first_store, first_frames}
 use Rattle.aos_concurrency.specs.Spot.{NoOne}
 use Rattle.aos_concurrency.specs.Waits.{MayWait}
 use Rattle.aos_concurrency.proofs.Itself.{Any, anything}
@@ -56,6 +57,11 @@ module _ (following : List ℕ) where
   copies_lively c (Some new) None p fs s h = h
   copies_lively c None to p fs s h = h
 
+  stores_text_lively : (text : Option (List ℕ)) (old : Option (Content Value)) (p : Spot) (f : Frame) (fs : List Frame) (s : Store) → Lively (stores_text following text old p f fs s)
+  stores_text_lively None old p f fs s h = h
+  stores_text_lively (Some cs) None p f fs s h = h
+  stores_text_lively (Some cs) (Some old) p f fs s h = h
+
 module _ (program : Program) (following : List ℕ) where
   answer_lively : (q : Question) (f : Frame) (fs : List Frame) (s : Store) → Lively (answer program following q f fs s)
   answer_lively (Ends result) f fs s = ends_lively following result fs s
@@ -70,7 +76,10 @@ module _ (program : Program) (following : List ℕ) where
   answer_lively (Copies t from to) f fs s =
       let x = all_rooted (f ∷ fs) s in
       copies_lively following (variable_shape program.types (id_of t)) (read from.root from.path x) (read to.root to.path x) to (answered done f ∷ fs) s
-  answer_lively (PutsText strict from n to room) f fs s = λ h. h
+  answer_lively (PutsText strict from n to room) f fs s =
+      let x = all_rooted (f ∷ fs) s in
+      let text = fitted strict (unsigned_abs (number_of room)) (text_in (read from.root from.path x)) in
+      stores_text_lively following text (read to.root to.path x) to f fs s
   answer_lively (ComparesTexts r a n b m) f fs s = λ h. h
   answer_lively (Calls p vs) f fs s = λ h. h
   answer_lively (PutsString a n) f fs s = λ h. h

@@ -18,14 +18,15 @@ use Rattle.aos_types.specs.Shape.{Shape}
 use Rattle.aos_types.specs.Content.{Content}
 use Rattle.aos_types.specs.World.{read}
 use Rattle.aos_code.specs.declared.image.Image.{Image}
-use Rattle.aos_typed.specs.Program.{Place, ModuleVar, Field, Index, Expr, Lit, Read, Unary, Binary, And, Or, Element, Ord, Chr, Call, Open as OutOpen, Char as OutChar, Int as OutInt, Ln as OutLn, Stat, Assign, Copy, While, New, Out, Program}
+use Rattle.aos_typed.specs.Program.{Place, ModuleVar, Field, Index, Expr, Lit, Read, Unary, Binary, And, Or, Element, Ord, Chr, CompareTexts, Len, Call, Open as OutOpen, Char as OutChar, Int as OutInt, String as OutString, Ln as OutLn, Stat, Assign, Copy, PutText, While, New, Out, Program}
 use Rattle.aos_typed.specs.Numbers.{id_of}
 use Rattle.aos_typed.specs.Sort.{Sort as ScalarSort, variable_shape}
 use Rattle.aos_typed.specs.Spot.{Spot}
+use Rattle.aos_typed.specs.Text.{text_in, fitted}
 use Rattle.aos_typed.specs.Value.{Value, Int, Flag, Char, Set, Object, Callable, Place as Spotted, number_of, Sort, Character, Elements, given, unary_sort, binary_sort, is_true}
 use Rattle.aos_typed.specs.Store.{Store, has_room}
 use Rattle.aos_typed.specs.Meaning.{Question, Doing, Item, Do, After, Into, element_of, place_of, value_of, out_of, stat_of, item_of}
-use Rattle.aos_typed.specs.Source.{Frame, Turned, answered, done, all_rooted, ends, settles, written, prints, makes, starts, copies, answer, goes, item_turn, turn_at, opened, source, first_state, first_store, first_frames}
+use Rattle.aos_typed.specs.Source.{Frame, Turned, answered, done, all_rooted, ends, settles, written, prints, makes, starts, copies, stores_text, answer, goes, item_turn, turn_at, opened, source, first_state, first_store, first_frames}
 use Rattle.aos_sim.specs.Shows.{Shows, NeverLost}
 use Rattle.aos_sim.proofs.Traps.{Leaves, traps_with}
 
@@ -142,16 +143,20 @@ mutual
   value_comes (Element a) = comes_then (value_of a) _ (value_comes a) (λ x. given_comes Elements _ (binary_gives SetSpan (number_of x) (number_of x)))
   value_comes (Ord a) = comes_then (value_of a) _ (value_comes a) (λ x. tt)
   value_comes (Chr a) = comes_then (value_of a) _ (value_comes a) (λ x. given_comes Character _ (unary_gives (Range (pos 0) (pos 255)) (number_of x)))
+  value_comes (CompareTexts r p n q m) = comes_then (place_of p) _ (place_comes p) (λ a. comes_then (place_of q) _ (place_comes q) (λ b v. tt))
+  value_comes (Len p n) = comes_then (place_of p) _ (place_comes p) (λ s. tt)
 
 out_comes : (call : Call) → Comes (out_of call)
 out_comes OutOpen = λ v. tt
 out_comes (OutChar e) = comes_then (value_of e) _ (value_comes e) (λ x v. tt)
 out_comes (OutInt e n) = comes_then (value_of e) _ (value_comes e) (λ x. comes_then (value_of n) _ (value_comes n) (λ y v. tt))
+out_comes (OutString p n) = comes_then (place_of p) _ (place_comes p) (λ s v. tt)
 out_comes OutLn = λ v. tt
 
 stat_comes : (s : Stat) → Comes (stat_of s)
 stat_comes (Assign at t p e) = comes_then (place_of p) _ (place_comes p) (λ s. comes_then (value_of e) _ (value_comes e) (λ x v. tt))
 stat_comes (Copy at t p q) = comes_then (place_of p) _ (place_comes p) (λ to. comes_then (place_of q) _ (place_comes q) (λ from v. tt))
+stat_comes (PutText at strict p n q m) = comes_then (place_of p) _ (place_comes p) (λ from. comes_then (place_of q) _ (place_comes q) (λ to v. tt))
 stat_comes (While at e body) = comes_then (value_of e) _ (value_comes e) (λ x. tt)
 stat_comes (New at p t) = comes_then (place_of p) _ (place_comes p) (λ s o v w. tt)
 stat_comes (Out at call) = out_comes call
@@ -196,6 +201,11 @@ module _ (following : List ℕ) where
   copies_known c (Some new) None p fs s = tt
   copies_known c None to p fs s = tt
 
+  stores_text_known : (text : Option (List ℕ)) (old : Option (Content Value)) (p : Spot) (f : Frame) (fs : List Frame) (s : Store) → Known (stores_text following text old p f fs s)
+  stores_text_known None old p f fs s = omega arith
+  stores_text_known (Some cs) None p f fs s = tt
+  stores_text_known (Some cs) (Some old) p f fs s = tt
+
 module _ (program : Program) (following : List ℕ) where
   answer_known : (q : Question) (f : Frame) (fs : List Frame) (s : Store) → Known (answer program following q f fs s)
   answer_known (Ends result) f fs s = ends_known following result fs s
@@ -210,7 +220,10 @@ module _ (program : Program) (following : List ℕ) where
   answer_known (Copies t from to) f fs s =
       let x = all_rooted (f ∷ fs) s in
       copies_known following (variable_shape program.types (id_of t)) (read from.root from.path x) (read to.root to.path x) to (answered done f ∷ fs) s
-  answer_known (PutsText strict from n to room) f fs s = tt
+  answer_known (PutsText strict from n to room) f fs s =
+      let x = all_rooted (f ∷ fs) s in
+      let text = fitted strict (unsigned_abs (number_of room)) (text_in (read from.root from.path x)) in
+      stores_text_known following text (read to.root to.path x) to f fs s
   answer_known (ComparesTexts r a n b m) f fs s = tt
   answer_known (Calls p vs) f fs s = tt
   answer_known (PutsString a n) f fs s = tt

@@ -1,5 +1,5 @@
 -- The parts of what a place holds: what they are, and where their cells stand.
-use Rattle.std.proofs.Common.{◌≡◌, ℕ, zero, suc, ◌+◌, ◌*◌, ◌<◌, ◌≤◌, true, false, List, [], ◌∷◌, ◌++◌, map, Option, Some, None, if◌then◌else◌, refl, sym, ap, ◌∙◌, arith}
+use Rattle.std.proofs.Common.{◌≡◌, ℕ, zero, suc, ◌+◌, ◌*◌, ◌<◌, true, false, List, [], ◌∷◌, ◌++◌, map, Option, Some, None, if◌then◌else◌, refl, sym, ap, ◌∙◌, arith}
 use Rattle.std.specs.Prelude.{slice_get, option_map, option_and_then}
 use Rattle.std.proofs.lemmas.Option.{slice_get-map}
 use Rattle.aos_base.specs.declared.place.Root.{Root}
@@ -13,7 +13,6 @@ use Rattle.aos_types.specs.Contents.{of_variable, of_base, with_parts, contents,
 use Rattle.aos_types.specs.Content.{EachSort}
 use Rattle.aos_types.specs.Chain.{IsRanked}
 use Rattle.aos_types.specs.World.{World, shape_at, cell_at}
-use Rattle.aos_types.proofs.Offsets.{inside_within}
 use Rattle.aos_types.proofs.Tables.{by_parts}
 use Rattle.aos_typed.specs.Sort.{Plain, variable_shape}
 use Rattle.aos_typed.specs.Typing.{IsPlain}
@@ -64,13 +63,6 @@ module _ {S : Type 0} where
         by_root : (o : Option (Shape S)) → option_and_then (inside p) o ≡ Some s → number_of (offset (p ++ q)) o ≡ number_of (offset p) o + offset q s
         by_root None f = absurd (cc)
         by_root (Some whole) f = offset_on p q whole s f
-
-    -- it's among the cells of its root
-    pub cell_within : (whole : Shape S) → w.shape r ≡ Some whole → cell_at w r p ≤ size whole
-    cell_within whole k =
-        let h = inside_within p whole s (sym (ap (option_and_then (inside p)) k) ∙ e) in
-        let c = ap (number_of (offset p)) k in
-        omega (arith, h, c)
 
 -- Shapes with other scalars
 
@@ -158,7 +150,7 @@ module _ (rows : List TypeRow) where
         ∙ ap (option_map (shaped Plain)) (part_of_row k (map of r.fields) ∙ slice_get-map of r.fields k ∙ ap (option_map of) r.field))
 
     module _ (t u : TypeId) (n : ℕ) (e : row_of rows t ≡ Some (row.Array n u)) where
-      array_shape : variable_shape rows t ≡ repeated n (variable_shape rows u)
+      pub array_shape : variable_shape rows t ≡ repeated n (variable_shape rows u)
       array_shape = by_row t (Some (row.Array n u)) e refl ∙ shaped_repeated Plain n (of_variable (contents rows) rows u)
 
       pub element_part : (i : ℕ) → i < n → inside (i ∷ []) (variable_shape rows t) ≡ Some (variable_shape rows u)

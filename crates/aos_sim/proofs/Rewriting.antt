@@ -1,6 +1,7 @@
 -- To answer a designator's or an expression's reads is to replace them by literals.
 use Rattle.std.proofs.Common.{◌≡◌, ℕ, Option, Some, None, List, [], ◌∷◌, map, Bool, true, false, refl, sym, ap, ◌∙◌}
 use Rattle.std.specs.Prelude.{pos, if◌then◌else◌}
+use Rattle.aos_base.specs.declared.number.Relation.{Relation}
 use Rattle.aos_base.specs.declared.operator.Unary.{Unary as UnaryOperator}
 use Rattle.aos_base.specs.declared.operator.Unary.TheVariants.{Range}
 use Rattle.aos_base.specs.declared.operator.Binary.{Binary as BinaryOperator}
@@ -8,12 +9,12 @@ use Rattle.aos_base.specs.declared.operator.Binary.TheVariants.{SetSpan}
 use Rattle.aos_base.specs.declared.operator.Given.{Given}
 use Rattle.aos_base.specs.declared.operator.Given.TheVariants.{Number, Trap, Undefined}
 use Rattle.aos_base.specs.Operators.{natural, unary as unary_of, binary as binary_of}
-use Rattle.aos_base.specs.Question.{Tree, Val, Asks, Traps, bind, feed, ask, Reads, Stores}
+use Rattle.aos_base.specs.Question.{Tree, Val, Asks, Traps, bind, feed, ask, Reads, Stores, ComparesTexts}
 use Rattle.aos_typed.specs.declared.tree.Literal.{Literal}
 use Rattle.aos_typed.specs.declared.tree.TType.{TType}
-use Rattle.aos_typed.specs.Program.{Place, ModuleVar, Field, Index, Expr, Lit, Read, Unary, Binary, And, Or, Element, Ord, Chr}
+use Rattle.aos_typed.specs.Program.{Place, ModuleVar, Field, Index, Expr, Lit, Read, Unary, Binary, And, Or, Element, Ord, Chr, CompareTexts, Len}
 use Rattle.aos_typed.specs.Spot.{Spot}
-use Rattle.aos_typed.specs.Value.{Value, Flag, literal_value, number_of, Sort, Character, given, unary_sort, binary_sort, unary, binary, element, ord, chr, is_true}
+use Rattle.aos_typed.specs.Value.{Value, Int, Flag, literal_value, number_of, Sort, Character, given, unary_sort, binary_sort, unary, binary, element, ord, chr, is_true}
 use Rattle.aos_typed.specs.Meaning.{Question, Doing, After, Into, part_of, element_of, place_of, value_of}
 use Rattle.aos_sim.specs.Rewriting.{is_asking, are_asked, with_first_index, with_first, rewritten_place, rewritten, DesignatorRewrites, ExpressionRewrites, AssignedRewrites, AssignmentRewrites, StatementRewrites}
 
@@ -57,6 +58,12 @@ module _ {Q V A B : Type 0} where
   fed_behind v (Val a) k k' none asks fed = fed a asks
   fed_behind v (Asks q f) k k' none asks fed = absurd (cc none)
   fed_behind v (Traps n c) k k' none asks fed = absurd (cc asks)
+
+  -- what asks behind what doesn't is behind a value
+  asks_behind : (t : Tree Q V A) (k : A → Tree Q V B) → is_asking t ≡ false → is_asking (bind t k) ≡ true → (a : A) × (t ≡ Val a) × (is_asking (k a) ≡ true)
+  asks_behind (Val a) k none asks = (a, refl, asks)
+  asks_behind (Asks q f) k none asks = absurd (cc none)
+  asks_behind (Traps n c) k none asks = absurd (cc asks)
 
 -- Operators ask nothing
 
@@ -115,16 +122,29 @@ if_false v t t' true one asks = absurd (cc asks)
 if_false v t t' false one asks = one asks
 
 -- a read, of which the place is asked for first
-module _ (l : Literal) (t : TType) (p : Place) where
-  behind_value : (r : Doing Spot) → is_asking r ≡ false → is_asking (bind r (λ s. ask (Reads t s))) ≡ true → bind r (λ s. Val (literal_value l)) ≡ value_of (Lit l)
-  behind_value (Val s) none asks = refl
-  behind_value (Asks q f) none asks = absurd (cc none)
-  behind_value (Traps n c) none asks = absurd (cc asks)
+read_makes : (l : Literal) (t : TType) (p : Place) → Makes (literal_value l) (place_of p) (place_of (with_first_index l p)) → (c : Bool) → is_asking (place_of p) ≡ c → Makes (literal_value l) (value_of (Read t p)) (value_of (if c then Read t (with_first_index l p) else Lit l))
+read_makes l t p one true first asks = fed_before (literal_value l) (place_of p) (λ s. ask (Reads t s)) first ∙ ap (λ r. bind r (λ s. ask (Reads t s))) (one first)
+read_makes l t p one false none asks = ap (λ r. feed (literal_value l ∷ []) (bind r (λ s. ask (Reads t s)))) (asks_behind (place_of p) (λ s. ask (Reads t s)) none asks).1
 
-  read_makes : Makes (literal_value l) (place_of p) (place_of (with_first_index l p)) → (c : Bool) → is_asking (place_of p) ≡ c → Makes (literal_value l) (value_of (Read t p)) (value_of (if c then Read t (with_first_index l p) else Lit l))
-  read_makes one true first asks = fed_before (literal_value l) (place_of p) (λ s. ask (Reads t s)) first ∙ ap (λ r. bind r (λ s. ask (Reads t s))) (one first)
-  read_makes one false none asks =
-      fed_behind (literal_value l) (place_of p) (λ s. ask (Reads t s)) (λ s. Val (literal_value l)) none asks (λ s a. refl) ∙ behind_value (place_of p) none asks
+-- two texts compared, of which the places are asked for first
+module _ (l : Literal) (r : Relation) (p q : Place) (n m : ℕ) where
+  abbrev compared : Spot → Spot → Doing Value
+  compared a b = ask (ComparesTexts r a (Int (pos n)) b (Int (pos m)))
+
+  -- the second one behind the first
+  abbrev second : Place → Spot → Doing Value
+  second x a = bind (place_of x) (compared a)
+
+  compare_makes : Makes (literal_value l) (place_of p) (place_of (with_first_index l p)) → Makes (literal_value l) (place_of q) (place_of (with_first_index l q)) → (c d : Bool) → is_asking (place_of p) ≡ c → is_asking (place_of q) ≡ d →
+      Makes (literal_value l) (value_of (CompareTexts r p n q m)) (value_of (if c then CompareTexts r (with_first_index l p) n q m else if d then CompareTexts r p n (with_first_index l q) m else Lit l))
+  compare_makes one other true d first e asks = fed_before (literal_value l) (place_of p) (second q) first ∙ ap (λ t. bind t (second q)) (one first)
+  compare_makes one other false true none first asks =
+      fed_behind (literal_value l) (place_of p) (second q) (second (with_first_index l q)) none asks
+      (λ a h. fed_before (literal_value l) (place_of q) (compared a) first ∙ ap (λ t. bind t (compared a)) (other first))
+  compare_makes one other false false none last asks =
+      let a = asks_behind (place_of p) (second q) none asks in
+      let b = asks_behind (place_of q) (compared a.0) last a.2 in
+      ap (λ t. feed (literal_value l ∷ []) (bind t (second q))) a.1 ∙ ap (λ t. feed (literal_value l ∷ []) (bind t (compared a.0))) b.1
 
 module _ (l : Literal) where
   abbrev v : Value
@@ -158,6 +178,8 @@ module _ (l : Literal) where
     one_read (Element a) asks = on_one v (value_of a) (value_of (with_first l a)) (λ x. element x) (λ x. binary_silent SetSpan x x) (one_read a) asks
     one_read (Ord a) asks = on_one v (value_of a) (value_of (with_first l a)) (λ x. Val (ord x)) (λ x. refl) (one_read a) asks
     one_read (Chr a) asks = on_one v (value_of a) (value_of (with_first l a)) (λ x. chr x) chr_silent (one_read a) asks
+    one_read (CompareTexts r p n q m) asks = compare_makes l r p q n m (one_index p) (one_index q) (is_asking (place_of p)) (is_asking (place_of q)) refl refl asks
+    one_read (Len p n) asks = on_one v (place_of p) (place_of (with_first_index l p)) (λ s. Val (Int (pos n))) (λ s. refl) (one_index p) asks
 
 -- One answer after another
 

@@ -82,7 +82,7 @@ module _ (p : Program) (image : Image) (well : IsWellTyped p) (ok : IsCodeOf p i
   first_store_same =
       record {
         made = refl;
-        of_modules = subst (λ ys. AllShown (Is p.types) cell_of (world_of p [] []) (map (S.module_shape p) ms) (S.first_store p).modules ys) (sym ok.cells) (modules_shown p (world_of p [] []) ms);
+        of_modules = subst (λ ys. AllShown (Is p.types) cell_of (world_of p [] []) (map (S.module_shape p) ms) (S.first_store p).modules ys) (sym ok.cells) (modules_shown p (world_of p [] []) well.predeclared ms well.texts);
         of_objects = tt;
       }
 

@@ -1,23 +1,23 @@
 -- The code of a statement does what the statement does, and what is left of a body is carried out from the place that it leaves.
-use Rattle.std.proofs.Common.{◌≡◌, ℕ, suc, ◌+◌, ◌≤◌, Bool, true, false, List, [], ◌∷◌, ◌++◌, length, drop, Some, None, if◌then◌else◌, refl, sym, ap, ◌∙◌, subst, arith, append-nil, append_assoc, length-append}
+use Rattle.std.proofs.Common.{◌≡◌, ℕ, suc, pos, ◌+◌, ◌≤◌, Bool, true, false, List, [], ◌∷◌, ◌++◌, length, drop, Some, None, if◌then◌else◌, refl, sym, ap, ◌∙◌, subst, arith, append-nil, append_assoc, length-append}
 use Rattle.std.specs.Prelude.{slice_get}
 use Rattle.std.proofs.lemmas.Bool.{le-ltb}
 use Rattle.aos_base.specs.declared.number.Width.TheVariants.{W64}
 use Rattle.aos_base.specs.declared.place.Root.TheVariants.{Module as ModuleRoot}
 use Rattle.aos_base.specs.declared.text.Pos.{Pos}
 use Rattle.aos_base.specs.Operators.{flag}
-use Rattle.aos_base.specs.Question.{Val, Asks, Traps, bind, ask, Stores, Copies, Ends, Makes, Starts, PutsInt, PutsChar, PutsNothing, PutsLn}
+use Rattle.aos_base.specs.Question.{Val, Asks, Traps, bind, ask, Stores, Copies, PutsText, Ends, Makes, Starts, PutsInt, PutsChar, PutsString, PutsNothing, PutsLn}
 use Rattle.aos_types.specs.World.{World}
 use Rattle.aos_typed.specs.declared.tree.TType.{TType}
 use Rattle.aos_typed.specs.declared.tree.TType.TheVariants as type
-use Rattle.aos_typed.specs.Program.{Place, ModuleVar, Field, Index, Expr, Call, Open as OutOpen, Char as OutChar, Int as OutInt, Ln as OutLn, Stat, Assign, Copy, While, New, Out, Stats, Nothing, Then, Program}
+use Rattle.aos_typed.specs.Program.{Place, ModuleVar, Field, Index, Expr, Call, Open as OutOpen, Char as OutChar, Int as OutInt, String as OutString, Ln as OutLn, Stat, Assign, Copy, PutText, While, New, Out, Stats, Nothing, Then, Program}
 use Rattle.aos_typed.specs.Numbers.{id_of}
 use Rattle.aos_typed.specs.Sort.{Sort, Plain}
 use Rattle.aos_typed.specs.Spot.{Spot, OfModule}
-use Rattle.aos_typed.specs.Value.{Value, Flag, Object, number_of, is_true}
+use Rattle.aos_typed.specs.Value.{Value, Int, Flag, Object, number_of, is_true}
 use Rattle.aos_typed.specs.Meaning as source
 use Rattle.aos_typed.specs.Meaning.{Doing, Item, Do, After, Into, items_of, place_of, value_of, stat_of, out_of, pos_of}
-use Rattle.aos_typed.specs.WellTyped.{is_basic, IsOf, IsStatement, AreStatements, IsCall}
+use Rattle.aos_typed.specs.WellTyped.{is_basic, IsPlaceOf, IsOf, IsStatement, AreStatements, IsCall}
 use Rattle.aos_code.specs.declared.image.ProcShape.{ProcShape}
 use Rattle.aos_code.specs.declared.instr.Cell.{Cell}
 use Rattle.aos_code.specs.declared.instr.Cell.TheVariants as cell
@@ -28,14 +28,14 @@ use Rattle.aos_code.specs.declared.instr.Kind.TheVariants.{N, R}
 use Rattle.aos_code.specs.Numbered.{numbered}
 use Rattle.aos_code.specs.Silent.{Stack, Keeps, act, jumps, lands}
 use Rattle.aos_sim.specs.Cells.{place_in, cell_of}
-use Rattle.aos_sim.specs.Code.{begin, kind_of, variable_cell, cells_of, place_code, operands_code, value_code, while_code, stat_code, stats_code}
+use Rattle.aos_sim.specs.Code.{begin, kind_of, variable_cell, cells_of, with_length, place_code, operands_code, value_code, while_code, stat_code, stats_code}
 use Rattle.aos_sim.proofs.Runs.{Run, Onward, AtBegin, on_run, runs, run, drop_next, drop_past, get_at}
 use Rattle.aos_sim.proofs.Types.{IsValueOf, number_cell, is_integer, is_character}
 use Rattle.aos_sim.proofs.Does.{HasTypes, Knows, addr_of, placed, Valid, Does, knows_grows, along, does_bind}
 use Rattle.aos_sim.proofs.Variables.{basic_is_one, object_variable, value_to, made_value, variable_there, cell_there}
 use Rattle.aos_sim.proofs.Evaluates.{OfType, number_in, Pushed, passed, jump_on, ComesTo, Stays, pieces_do, values_stay, operand_does}
-use Rattle.aos_sim.proofs.Designators.{IsFound, places_stay}
-use Rattle.aos_sim.proofs.Exprs.{place_does, value_does}
+use Rattle.aos_sim.proofs.Designators.{IsFound, Finds, FindsText, places_stay, array_found, text_does, texts_do}
+use Rattle.aos_sim.proofs.Exprs.{text_found, place_does, value_does}
 use Rattle.aos_sim.proofs.Carries.{Stands, Same, Carries, Behind, StatementsDo}
 
 pub basic_kind : (t : TType) → is_basic t ≡ true → kind_of t ≡ N
@@ -113,6 +113,7 @@ module _ (program : Program) (shapes : List ProcShape) (own here : ℕ) (code : 
   begins_with : (x : Stat) (at : ℕ) (k : Keeps) → Stands code at (stat_code program x at) → from at k [] ≡ Val (AtBegin at (pos_of x) k [])
   begins_with (Assign there t p e) at k st = ap (λ l. onward l 0 at k []) st.here
   begins_with (Copy there t p q) at k st = ap (λ l. onward l 0 at k []) st.here
+  begins_with (PutText there strict p n q m) at k st = ap (λ l. onward l 0 at k []) st.here
   begins_with (While there e b) at k st = ap (λ l. onward l 0 at k []) st.here
   begins_with (New there p t) at k st = ap (λ l. onward l 0 at k []) st.here
   begins_with (Out there call) at k st = ap (λ l. onward l 0 at k []) st.here
@@ -167,6 +168,29 @@ module _ (program : Program) (shapes : List ProcShape) (own here : ℕ) (code : 
         (place_does program shapes own here code typed to t ok.0 (at + 1)) (place_does program shapes own here code typed from t ok.1 pe)
         (λ w' a b found_to found_from. ((found_from.there, found_to.there, ok.2), λ rest p. refl))
 
+    abbrev found : (p : Place) (at : ℕ) (t : TType) → IsPlaceOf program p t → Finds program shapes own here code t (place_code program p at) (place_of p) at
+    found p at t ok = place_does program shapes own here code typed p t ok at
+
+    -- a text that is put in an array of characters
+    put_text_does : (strict : Bool) (from : Place) (n : ℕ) (to : Place) (m : ℕ) (there : Pos) (w : World Sort) (at : ℕ) (k : Keeps) (after : List Item) → Knows program w → IsStatement program (PutText there strict from n to m) → Stands code at (stat_code program (PutText there strict from n to m) at) → CarriesOn after (at + length (stat_code program (PutText there strict from n to m) at)) → Does program (Leaves after) w (run shapes own here code (at + 1) k []) (stat_of (PutText there strict from n to m))
+    put_text_does strict from n to m there w at k after known ok st c =
+        let ca = place_code program from (at + 1) in
+        let pb = at + 1 + length (with_length ca n) in
+        let cb = place_code program to pb in
+        let x = i.PutText strict in
+        let xs = operands_code (with_length ca n) (with_length cb m) x in
+        let p = pb + length (with_length cb m) in
+        let q : Spot → Spot → source.Question = λ a b. PutsText strict a (Int (pos n)) b (Int (pos m)) in
+        let flat : xs ++ st.rest ≡ with_length ca n ++ (with_length cb m ++ (x ∷ st.rest)) = append_assoc (with_length ca n) (with_length cb m ++ x ∷ []) st.rest ∙ ap (λ l. with_length ca n ++ l) (append_assoc (with_length cb m) (x ∷ []) st.rest) in
+        let h1 : drop (at + 1) code ≡ xs ++ st.rest = drop_next at code (begin there) (xs ++ st.rest) st.here in
+        let h2 : drop p code ≡ x ∷ st.rest = drop_past (with_length cb m) pb code (x ∷ st.rest) (drop_past (with_length ca n) (at + 1) code (with_length cb m ++ (x ∷ st.rest)) (h1 ∙ flat)) in
+        let len : at + suc (length xs) ≡ p + 1 = omega (arith, length-append (with_length ca n) (with_length cb m ++ x ∷ []), length-append (with_length cb m) (x ∷ [])) in
+        let room : FindsText program shapes own here code m cb (place_of to) pb = array_found program shapes own here code typed ok.1.0 m cb (place_of to) pb ok.1.2 (found to pb ok.1.0 ok.1.1) in
+        along program (Leaves after) w _ _ (stat_of (PutText there strict from n to m)) (from_here (at + 1) (xs ++ st.rest) k [] h1)
+        (texts_do program shapes own here code (Leaves after) x (λ a b. bind (ask (q a b)) (λ _. Val (Into []))) ca cb n m (place_of from) (place_of to) (at + 1) st.rest k []
+        (text_found program shapes own here code typed from n (at + 1) (found from (at + 1)) ok.0) room w known
+        (λ w' a b r ia ib e. last_asks (q a b) w' r p st.rest k after e ((n, refl, ia), (m, refl, ib, ok.2)) (drop_next p code x st.rest h2) (subst (CarriesOn after) len c)))
+
     out_does : (call : Call) (there : Pos) (w : World Sort) (at : ℕ) (k : Keeps) (after : List Item) → Knows program w → IsCall program call → Stands code at (stat_code program (Out there call) at) → CarriesOn after (at + length (stat_code program (Out there call) at)) → Does program (Leaves after) w (from (at + 1) k []) (out_of call)
     out_does OutLn there w at k after known ok st c =
         let h1 : drop (at + 1) code ≡ i.OutLn ∷ st.rest = drop_next at code (begin there) (i.OutLn ∷ st.rest) st.here in
@@ -199,6 +223,17 @@ module _ (program : Program) (shapes : List ProcShape) (own here : ℕ) (code : 
           (is_integer W64 a ia, is_integer W64 b ib),
           λ rest p. sym (λ j. Asks (PutsInt (number_cell w' number a ia j) (number_cell w' number b ib j)) (λ x. onward rest 0 (p + 1) k [])),
         ))
+    out_does (OutString pl n) there w at k after known ok st c =
+        let ca = place_code program pl (at + 1) in
+        let xs = with_length ca n in
+        let p = at + 1 + length xs in
+        let h1 : drop (at + 1) code ≡ (xs ++ i.OutString ∷ []) ++ st.rest = drop_next at code (begin there) ((xs ++ i.OutString ∷ []) ++ st.rest) st.here in
+        let h2 : drop p code ≡ i.OutString ∷ st.rest = drop_past xs (at + 1) code (i.OutString ∷ st.rest) (h1 ∙ append_assoc xs (i.OutString ∷ []) st.rest) in
+        let len : at + suc (length (xs ++ i.OutString ∷ [])) ≡ p + 1 = omega (arith, length-append xs (i.OutString ∷ [])) in
+        along program (Leaves after) w _ _ (out_of (OutString pl n)) (from_here (at + 1) ((xs ++ i.OutString ∷ []) ++ st.rest) k [] h1)
+        (text_does program shapes own here code (Leaves after) (λ a. bind (ask (PutsString a (Int (pos n)))) (λ _. Val (Into []))) ca (i.OutString ∷ []) n (place_of pl) (at + 1) st.rest k []
+        (text_found program shapes own here code typed pl n (at + 1) (found pl (at + 1)) ok) w known
+        (λ w' up a r is e. last_asks (PutsString a (Int (pos n))) w' r p st.rest k after e (n, refl, is) (drop_next p code i.OutString st.rest h2) (subst (CarriesOn after) len c)))
 
     -- the object stays below the place while it's stored, and is started then
     new_does : (pl : Place) (t : ℕ) (there : Pos) (w : World Sort) (at : ℕ) (k : Keeps) (after : List Item) → Knows program w → IsStatement program (New there pl t) → Stands code at (stat_code program (New there pl t) at) → CarriesOn after (at + length (stat_code program (New there pl t) at)) → Does program (Leaves after) w (from (at + 1) k []) (stat_of (New there pl t))
@@ -290,6 +325,8 @@ statements_do program shapes own here code w (Assign there t pl e) at k after ty
     assign_does program shapes own here code typed t pl e there w at k after known ok st c
 statements_do program shapes own here code w (Copy there t p q) at k after typed known ok st c =
     copy_does program shapes own here code typed t p q there w at k after known ok st c
+statements_do program shapes own here code w (PutText there strict p n q m) at k after typed known ok st c =
+    put_text_does program shapes own here code typed strict p n q m there w at k after known ok st c
 statements_do program shapes own here code w (While there e b) at k after typed known ok st c =
     while_does program shapes own here code typed (While there e b) e b there w at k after refl known ok ok.0 ok.1 st c
 statements_do program shapes own here code w (New there pl t) at k after typed known ok st c =

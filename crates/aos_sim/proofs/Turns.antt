@@ -1,7 +1,10 @@
 -- One turn of each side from related frames gives related frames, with the same work left to the kernel.
-use Rattle.std.proofs.Common.{◌≡◌, ℕ, suc, ◌+◌, List, [], ◌∷◌, ◌++◌, length, drop, Option, Some, None, refl, sym, ap, ◌∙◌, subst, arith}
-use Rattle.std.specs.Prelude.{Bool, true, false, is_some, nat_lt, option_map, if◌then◌else◌}
+use Rattle.std.proofs.Common.{◌≡◌, ℕ, suc, pos, ◌+◌, ◌<◌, List, [], ◌∷◌, ◌++◌, length, drop, Option, Some, None, refl, sym, ap, ◌∙◌, subst, arith}
+use Rattle.std.specs.Prelude.{Bool, true, false, is_some, unsigned_abs, nat_lt, option_map, if◌then◌else◌}
+use Rattle.aos_base.specs.declared.number.Relation.{Relation}
 use Rattle.aos_base.specs.declared.number.Width.TheVariants.{W64}
+use Rattle.aos_base.specs.Number.{holds}
+use Rattle.aos_base.specs.Text.{order}
 use Rattle.aos_base.specs.declared.text.Pos.{Pos}
 use Rattle.aos_base.specs.declared.kernel.Did.{Did}
 use Rattle.aos_base.specs.declared.kernel.Did.TheVariants.{Went, Ended as NoFrame, Trapped}
@@ -9,13 +12,14 @@ use Rattle.aos_base.specs.Question.{Val, Asks, Traps, feed, Reads, Stores, Copie
 use Rattle.aos_base.specs.Rooted.{Made, Rooted, spliced}
 use Rattle.aos_types.specs.Shape.{Shape, One}
 use Rattle.aos_types.specs.Content.{Content, Scalar, placed as placed_at, overlay}
-use Rattle.aos_types.specs.World.{World, Grows, shape_at}
+use Rattle.aos_types.specs.World.{World, Grows, shape_at, read}
 use Rattle.aos_typed.specs.declared.tree.TType.{TType}
 use Rattle.aos_typed.specs.Program.{Stat, Program}
 use Rattle.aos_typed.specs.Numbers.{id_of}
 use Rattle.aos_typed.specs.Sort.{Sort, Plain, variable_shape}
 use Rattle.aos_typed.specs.Spot.{Spot}
-use Rattle.aos_typed.specs.Value.{Value, Int, Char, Object}
+use Rattle.aos_typed.specs.Text.{with_text, fitted}
+use Rattle.aos_typed.specs.Value.{Value, Int, Flag, Char, Object, number_of}
 use Rattle.aos_typed.specs.Typing.{Is, IsPlain, IsInteger}
 use Rattle.aos_typed.specs.Store.{Store, scalar_in, has_room, new_number, with_object as with_one_more}
 use Rattle.aos_typed.specs.Meaning as source
@@ -46,13 +50,14 @@ use Rattle.aos_sim.proofs.Runs.{Run, AtBegin, Onward, past, calm, runs, run, res
 use Rattle.aos_sim.proofs.Types.{number_cell, integer_is, character_is}
 use Rattle.aos_sim.proofs.Results.{natural_is}
 use Rattle.aos_sim.proofs.Variables.{value_from}
-use Rattle.aos_sim.proofs.Does.{scheme, addr_of, placed, HasPredeclared, HasTypes, Knows, Valid, Conforms, Does, along, calm_placed}
+use Rattle.aos_sim.proofs.Does.{scheme, addr_of, placed, HasCharacters, HasText, HasPredeclared, HasTypes, Knows, Valid, Conforms, Does, along, calm_placed}
 use Rattle.aos_sim.proofs.Carries.{Stands, Carries, Behind, Remains, StatementsDo}
 use Rattle.aos_sim.proofs.Stats.{basic_kind, carries_ends, carries_begins}
 use Rattle.aos_sim.proofs.First.{zero_cell, first_is, first_same, get_right}
 use Rattle.aos_sim.proofs.States.{world_of, shapes_of, SameStore, SameVariables, SamePlace, Waiting, SameFrames, Follows, Same, SameState, ends_same, ends_shown, opened_same, waiting_grow}
 use Rattle.aos_sim.proofs.Written.{written}
 use Rattle.aos_sim.proofs.Copied.{copied_alike}
+use Rattle.aos_sim.proofs.Texts.{AreCodes, fitted_same, fitted_within, TextAlike, text_alike, stored_alike as text_stored_alike}
 use Rattle.aos_sim.proofs.Starting.{silent_at_start, run_at_start}
 
 -- Where silent work stops, by the run from there.
@@ -301,6 +306,61 @@ module _ (program : Program) (image : Image) where
           (went _ _ [] false Went _ _ (λ z. z)
           (written program image to.root (placed_at to.path (overlay shape c.new c.old)) (spliced (addr_of now to).cell c.cells) s mem ms ps (S.answered S.done top ∷ fs) (I.behind ps x.at x.keeps x.stack low ∷ gs) stores.made follows h.same.frames c.alike)))
 
+      -- the text at a place, which both find
+      text_both : (p : Spot) (n : ℕ) → HasCharacters now p n → TextAlike program typed.predeclared s.made shapes_now variables cells shows ps p n
+      text_both p n h = text_alike program typed.predeclared s.made shapes_now variables cells shows ps p n h
+
+      text_found : (p : Spot) (v : Value) (h : HasText now p v) → I.text_at ps (addr_of now p) (cell_of now v) cells ≡ Some (text_both p h.0 h.2).text
+      text_found p v h = ap (λ z. I.text_at ps (addr_of now p) (cell_of now z) cells) h.1 ∙ (text_both p h.0 h.2).image
+
+      -- what is stored of a text, where there is room for it
+      text_stored : (strict : Bool) (from : Spot) (n : Value) (to : Spot) (room : Value) (x : Asking (PutsText strict from n to room)) (m : ℕ) → HasCharacters now to m → 0 < m → (text : List ℕ) → AreCodes text → (o : Option (List ℕ)) → fitted strict m text ≡ o →
+          Alike (S.stores_text ms o (read to.root to.path variables) to top fs s) (I.stores_text ps o (addr_of now to) cells x.at x.keeps x.stack low gs mem)
+      text_stored strict from n to room x m has some text codes None e = went s mem [] false (Trapped 15 0) _ _ (λ z. z) (state (i ∷ is) (Some t) next k st left)
+      text_stored strict from n to room x m has some text codes (Some cs) e =
+          let c = text_stored_alike program typed.predeclared s.made shapes_now variables cells shows ps to m cs has (fitted_within strict m text cs some codes e) in
+          let source : Option (Content Value) → S.Turned = λ old. S.stores_text ms (Some cs) old to top fs s in
+          let image_so : Bool → I.Turned = λ there. I.writes ps there (addr_of now to) (I.character_cells ps cs) x.at x.keeps x.stack low gs mem in
+          let h = done_so (PutsText strict from n to room) x tt refl in
+          subst (λ z. Alike (source z) (image_so (is_some (I.cells_at (length cs) (addr_of now to) cells)))) (sym c.source)
+          (subst (λ b. Alike (source (Some c.old)) (image_so b)) (sym c.there)
+          (went _ _ [] false Went _ _ (λ z. z)
+          (written program image to.root (placed_at to.path (with_text cs c.old)) (spliced (addr_of now to).cell (I.character_cells ps cs)) s mem ms ps (S.answered S.done top ∷ fs) (I.behind ps x.at x.keeps x.stack low ∷ gs) stores.made follows h.same.frames c.alike)))
+
+      texts_put_alike : (strict : Bool) (from : Spot) (n : Value) (to : Spot) (room : Value) (x : Asking (PutsText strict from n to room)) → Alike (S.answer program ms (PutsText strict from n to room) top fs s) (I.answer ps shapes (placed program now (PutsText strict from n to room)) x.at x.keeps x.stack low gs mem)
+      texts_put_alike strict from n to room x =
+          let v = x.valid.0 in
+          let into = x.valid.1 in
+          let a = text_both from v.0 v.2 in
+          let source : Value → List ℕ → S.Turned = λ z text. S.stores_text ms (fitted strict (unsigned_abs (number_of z)) text) (read to.root to.path variables) to top fs s in
+          let image_so : Option (List ℕ) → Value → I.Turned = λ o z. I.puts_text ps strict o (I.length_in ps (cell_of now z)) (addr_of now to) cells x.at x.keeps x.stack low gs mem in
+          subst (λ z. Alike z (image_so (I.text_at ps (addr_of now from) (cell_of now n) cells) room)) (sym (λ j. source (into.1 j) (a.source j)))
+          (subst (Alike (source (Int (pos into.0)) a.text)) (sym (λ j. image_so (text_found from n v j) (into.1 j)))
+          (subst (λ o. Alike (source (Int (pos into.0)) a.text) (I.stores_text ps o (addr_of now to) cells x.at x.keeps x.stack low gs mem)) (fitted_same ps strict into.0 a.text)
+          (text_stored strict from n to room x into.0 into.2 into.3 a.text a.codes (fitted strict into.0 a.text) refl)))
+
+      -- a text is written
+      strings_alike : (a : Spot) (n : Value) (x : Asking (PutsString a n)) → Alike (S.answer program ms (PutsString a n) top fs s) (I.answer ps shapes (placed program now (PutsString a n)) x.at x.keeps x.stack low gs mem)
+      strings_alike a n x =
+          let b = text_both a x.valid.0 x.valid.2 in
+          let source : List ℕ → S.Turned = λ text. S.puts ms text (S.answered S.done top ∷ fs) s in
+          subst (λ z. Alike (source z) (I.answer ps shapes (placed program now (PutsString a n)) x.at x.keeps x.stack low gs mem)) (sym b.source)
+          (subst (λ o. Alike (source b.text) (I.writes_out ps o x.at x.keeps x.stack low gs mem)) (sym (text_found a n x.valid))
+          (puts_alike b.text x.at x.keeps x.stack (done_so (PutsString a n) x tt refl)))
+
+      -- two texts are compared
+      compares_alike : (r : Relation) (a : Spot) (n : Value) (b : Spot) (m : Value) (x : Asking (ComparesTexts r a n b m)) → Alike (S.answer program ms (ComparesTexts r a n b m) top fs s) (I.answer ps shapes (placed program now (ComparesTexts r a n b m)) x.at x.keeps x.stack low gs mem)
+      compares_alike r a n b m x =
+          let first = text_both a x.valid.0.0 x.valid.0.2 in
+          let second = text_both b x.valid.1.0 x.valid.1.2 in
+          let v : List ℕ → List ℕ → Value = λ l z. Flag (holds r (order l z) (pos 0)) in
+          let source : List ℕ → List ℕ → S.Turned = λ l z. S.goes_on ms (S.answered (v l z) top ∷ fs) s in
+          let image_so : Option (List ℕ) → Option (List ℕ) → I.Turned = λ l z. I.compares ps r l z x.at x.keeps x.stack low gs mem in
+          let is = v first.text second.text in
+          subst (λ z. Alike z (I.answer ps shapes (placed program now (ComparesTexts r a n b m)) x.at x.keeps x.stack low gs mem)) (sym (λ j. source (first.source j) (second.source j)))
+          (subst (Alike (source first.text second.text)) (sym (λ j. image_so (text_found a n x.valid.0 j) (text_found b m x.valid.1 j)))
+          (went s mem [] false Went _ _ (λ z. z) (answered_now (ComparesTexts r a n b m) x is tt (cell_of now is ∷ x.stack) refl)))
+
       -- an object is made
       abbrev one : ℕ → Made
       one u = record { type = u; lengths = [] }
@@ -376,11 +436,11 @@ module _ (program : Program) (image : Image) where
       work_alike PutsNothing x = puts_alike [] x.at x.keeps x.stack (done_so PutsNothing x tt refl)
       work_alike PutsLn x = puts_alike (10 ∷ []) x.at x.keeps x.stack (done_so PutsLn x tt refl)
       work_alike (Copies u from to) x = copies_alike u from to x
-      work_alike (PutsText strict from n to room) x = absurd x.valid
-      work_alike (ComparesTexts r a n b m) x = absurd x.valid
+      work_alike (PutsText strict from n to room) x = texts_put_alike strict from n to room x
+      work_alike (ComparesTexts r a n b m) x = compares_alike r a n b m x
       work_alike (Calls p vs) x = absurd x.valid
       work_alike (Ends r) x = absurd x.valid
-      work_alike (PutsString a n) x = absurd x.valid
+      work_alike (PutsString a n) x = strings_alike a n x
       work_alike (Places a) x = absurd x.valid
       work_alike (Lengths a) x = absurd x.valid
 

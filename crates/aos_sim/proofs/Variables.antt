@@ -1,7 +1,9 @@
--- The variables of modules: each stands at the cell that its code names, and one of a basic type or of an object type is one scalar.
-use Rattle.std.proofs.Common.{◌≡◌, ℕ, zero, suc, List, [], ◌∷◌, length, map, Option, Some, None, true, if◌then◌else◌, refl, sym, ap, ◌∙◌, subst, arith}
+-- The variables and string constants of modules: each stands at the cell that its code names, and a variable of a basic type or of an
+-- object type is one scalar.
+use Rattle.std.proofs.Common.{◌≡◌, ℕ, zero, suc, ◌+◌, List, [], ◌∷◌, ◌++◌, length, map, Option, Some, None, true, if◌then◌else◌, refl, sym, ap, ◌∙◌, subst, arith}
 use Rattle.std.specs.Prelude.{slice_get, option_map, option_and_then}
 use Rattle.std.proofs.lemmas.Bool.{eq-eqb}
+use Rattle.std.proofs.lemmas.List.{length-map}
 use Rattle.std.proofs.lemmas.Option.{slice_get-map}
 use Rattle.aos_base.specs.declared.number.Width.TheVariants.{W8, W16, W32, W64}
 use Rattle.aos_base.specs.declared.place.Root.TheVariants.{Module as ModuleRoot}
@@ -15,17 +17,19 @@ use Rattle.aos_types.specs.World.{World, shape_at, cell_at}
 use Rattle.aos_types.specs.Extension.{comes_by}
 use Rattle.aos_typed.specs.declared.tree.TType.{TType}
 use Rattle.aos_typed.specs.declared.tree.TType.TheVariants as type
-use Rattle.aos_typed.specs.Program.{Variable, Module, Program}
+use Rattle.aos_typed.specs.Program.{ModuleVar, Variable, Module, Program}
 use Rattle.aos_typed.specs.Numbers.{id_of}
 use Rattle.aos_typed.specs.Sort.{Sort, Plain, variable_shape}
+use Rattle.aos_typed.specs.Text.{text_shape}
 use Rattle.aos_typed.specs.Value.{Value, Object}
 use Rattle.aos_typed.specs.Typing.{Is, IsPlainly, IsReference}
 use Rattle.aos_typed.specs.Source.{module_shape}
-use Rattle.aos_typed.specs.WellTyped.{is_basic, variable_type}
+use Rattle.aos_typed.specs.WellTyped.{is_basic, variable_type, IsConstantText}
 use Rattle.aos_sim.specs.Code.{variable_cell}
 use Rattle.aos_sim.proofs.Types.{IsValueOf, basic_of, from_basic, to_basic}
 use Rattle.aos_sim.proofs.Parts.{part_of_row}
-use Rattle.aos_sim.proofs.Does.{HasPredeclared, Knows}
+use Rattle.aos_sim.proofs.Does.{HasPredeclared, Knows, characters}
+use Rattle.aos_sim.proofs.First.{get_left, get_right}
 
 -- each type comes to itself
 comes_same : (rows : List TypeRow) (n : ℕ) (t : TypeId) → comes_by n rows t t ≡ true
@@ -89,38 +93,81 @@ module _ (program : Program) where
   pub value_to : HasPredeclared program → (t : TType) (w : World Sort) (v : Value) → is_basic t ≡ true → IsValueOf t v → Is program.types w (Plain (id_of t)) v
   value_to p t w v e h = subst (λ o. IsPlainly program.types w (id_of t) o v) (sym (basic_row p t e)) (to_basic t v h)
 
-  -- the shape of a module with a variable, and of the variable in it
-  pub record Stood (m k : ℕ) (t : TType) : Type 0 where
+  -- the shape of a module, and of a variable or a string constant in it
+  pub record Stood (m k : ℕ) (s : Shape Sort) : Type 0 where
     pub whole : Shape Sort
     pub there : slice_get (map (module_shape program) program.modules) m ≡ Some whole
-    pub part : part k whole ≡ Some (variable_shape program.types (id_of t))
+    pub part : part k whole ≡ Some s
 
-  pub stood : (m k : ℕ) (t : TType) → variable_type program m k ≡ Some t → Stood m k t
-  stood m k t e = by_module (slice_get program.modules m) refl e
+  abbrev of_variable : Variable → Shape Sort
+  of_variable v = variable_shape program.types (id_of v.of)
+
+  part_stood : (m k : ℕ) (x : Module) (s : Shape Sort) → slice_get program.modules m ≡ Some x → slice_get (map of_variable x.variables ++ map text_shape x.texts) k ≡ Some s → Stood m k s
+  part_stood m k x s ex e =
+      record {
+        whole = module_shape program x;
+        there = slice_get-map (module_shape program) program.modules m ∙ ap (option_map (module_shape program)) ex;
+        part = part_of_row k (map of_variable x.variables ++ map text_shape x.texts) ∙ e;
+      }
+
+  -- a module's variable: its module, and its shape among those of the variables
+  pub record Declared (m k : ℕ) (t : TType) : Type 0 where
+    pub of : Module
+    pub there : slice_get program.modules m ≡ Some of
+    pub shape : slice_get (map of_variable of.variables) k ≡ Some (variable_shape program.types (id_of t))
+
+  pub declared : (m k : ℕ) (t : TType) → variable_type program m k ≡ Some t → Declared m k t
+  declared m k t e = by_module (slice_get program.modules m) refl e
     where
-      of_variable : Variable → Shape Sort
-      of_variable v = variable_shape program.types (id_of v.of)
-
-      by_variable : (x : Module) → slice_get program.modules m ≡ Some x → (o : Option Variable) → slice_get x.variables k ≡ o → option_map (λ v. v.of) o ≡ Some t → Stood m k t
+      by_variable : (x : Module) → slice_get program.modules m ≡ Some x → (o : Option Variable) → slice_get x.variables k ≡ o → option_map (λ v. v.of) o ≡ Some t → Declared m k t
       by_variable x ex None eo e' = absurd (cc)
       by_variable x ex (Some v) eo e' =
           let q : v.of ≡ t = cc in
           record {
-            whole = module_shape program x;
-            there = slice_get-map (module_shape program) program.modules m ∙ ap (option_map (module_shape program)) ex;
-            part = part_of_row k (map of_variable x.variables) ∙ slice_get-map of_variable x.variables k
-                ∙ ap (option_map of_variable) eo ∙ ap (λ u. Some (variable_shape program.types (id_of u))) q;
+            of = x;
+            there = ex;
+            shape = slice_get-map of_variable x.variables k ∙ ap (option_map of_variable) eo ∙ ap (λ u. Some (variable_shape program.types (id_of u))) q;
           }
 
-      by_module : (o : Option Module) → slice_get program.modules m ≡ o → option_and_then (λ x. option_map (λ v. v.of) (slice_get x.variables k)) o ≡ Some t → Stood m k t
+      by_module : (o : Option Module) → slice_get program.modules m ≡ o → option_and_then (λ x. option_map (λ v. v.of) (slice_get x.variables k)) o ≡ Some t → Declared m k t
       by_module None eo e' = absurd (cc)
       by_module (Some x) eo e' = by_variable x eo (slice_get x.variables k) refl e'
 
-  module _ (w : World Sort) (known : Knows program w) (m k : ℕ) (t : TType) (of : variable_type program m k ≡ Some t) where
-    pub variable_there : shape_at w (ModuleRoot m) (k ∷ []) ≡ Some (variable_shape program.types (id_of t))
-    variable_there =
-        let s = stood m k t of in
-        ap (option_and_then (λ x. option_and_then (λ y. Some y) (part k x))) (known m s.whole s.there) ∙ ap (option_and_then (λ y. Some y)) s.part
+  stood : (m k : ℕ) (t : TType) → variable_type program m k ≡ Some t → Stood m k (variable_shape program.types (id_of t))
+  stood m k t e =
+      let d = declared m k t e in
+      let s = variable_shape program.types (id_of t) in
+      part_stood m k d.of s d.there (get_left (map of_variable d.of.variables) (map text_shape d.of.texts) k s d.shape)
 
-    pub cell_there : cell_at w (ModuleRoot m) (k ∷ []) ≡ variable_cell program m k
-    cell_there = let s = stood m k t of in ap (number_of (offset (k ∷ []))) (known m s.whole s.there ∙ sym s.there)
+  constant_stood : (m k n : ℕ) → IsConstantText program (ModuleVar m k) n → Stood m k (characters n)
+  constant_stood m k n h =
+      let x = h.0 in
+      let is = h.2 in
+      let vs = map of_variable x.variables in
+      let behind : k ≡ length vs + is.behind = is.is ∙ ap (λ j. j + is.behind) (sym (length-map x.variables of_variable)) in
+      part_stood m k x (characters n) h.1
+      (get_right vs (map text_shape x.texts) k is.behind behind ∙ slice_get-map text_shape x.texts is.behind
+      ∙ ap (option_map text_shape) is.there ∙ ap (λ j. Some (characters j)) (sym is.long))
+
+  module _ (w : World Sort) (known : Knows program w) (m k : ℕ) where
+    part_there : (s : Shape Sort) → Stood m k s → shape_at w (ModuleRoot m) (k ∷ []) ≡ Some s
+    part_there s h =
+        ap (option_and_then (λ x. option_and_then (λ y. Some y) (part k x))) (known m h.whole h.there) ∙ ap (option_and_then (λ y. Some y)) h.part
+
+    part_cell : (s : Shape Sort) → Stood m k s → cell_at w (ModuleRoot m) (k ∷ []) ≡ variable_cell program m k
+    part_cell s h = ap (number_of (offset (k ∷ []))) (known m h.whole h.there ∙ sym h.there)
+
+    module _ (t : TType) (of : variable_type program m k ≡ Some t) where
+      pub variable_there : shape_at w (ModuleRoot m) (k ∷ []) ≡ Some (variable_shape program.types (id_of t))
+      variable_there = part_there (variable_shape program.types (id_of t)) (stood m k t of)
+
+      pub cell_there : cell_at w (ModuleRoot m) (k ∷ []) ≡ variable_cell program m k
+      cell_there = part_cell (variable_shape program.types (id_of t)) (stood m k t of)
+
+    -- a string constant
+    module _ (n : ℕ) (of : IsConstantText program (ModuleVar m k) n) where
+      pub constant_there : shape_at w (ModuleRoot m) (k ∷ []) ≡ Some (characters n)
+      constant_there = part_there (characters n) (constant_stood m k n of)
+
+      pub constant_cell : cell_at w (ModuleRoot m) (k ∷ []) ≡ variable_cell program m k
+      constant_cell = part_cell (characters n) (constant_stood m k n of)

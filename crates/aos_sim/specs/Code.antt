@@ -9,14 +9,14 @@ use Rattle.aos_types.specs.Contents.{contents, variable_scalars}
 use Rattle.aos_typed.specs.declared.tree.Literal.{Literal}
 use Rattle.aos_typed.specs.declared.tree.Literal.TheVariants as literal
 use Rattle.aos_typed.specs.Numbers.{id_of}
-use Rattle.aos_typed.specs.Program.{Place, ModuleVar, Field, Index, Expr, Lit, Read, Unary, Binary, And, Or, Element, Ord, Chr, Call, Open, Char, Int, Ln, Stat, Assign, Copy, While, New, Out, Stats, Nothing, Then, Program}
+use Rattle.aos_typed.specs.Program.{Place, ModuleVar, Field, Index, Expr, Lit, Read, Unary, Binary, And, Or, Element, Ord, Chr, CompareTexts, Len, Call, Open, Char, Int, String, Ln, Stat, Assign, Copy, PutText, While, New, Out, Stats, Nothing, Then, Program}
 use Rattle.aos_typed.specs.Source.{module_shape}
 use Rattle.aos_typed.specs.declared.tree.TType.{TType}
 use Rattle.aos_typed.specs.declared.tree.TType.TheVariants as type
 use Rattle.aos_code.specs.declared.instr.Kind.{Kind}
 use Rattle.aos_code.specs.declared.instr.Kind.TheVariants.{N, R}
 use Rattle.aos_code.specs.declared.instr.Instr.{Instr}
-use Rattle.aos_code.specs.declared.instr.Instr.TheVariants.{Num, Dup, Swap, Module, Offset, Index as IndexOf, Unary as OnOne, Binary as OnTwo, Jump, JumpFalse, Begin, Load, Store, Copy as CopyOf, NewObject, Start, Return, OutChar, OutInt, OutLn, OutOpen}
+use Rattle.aos_code.specs.declared.instr.Instr.TheVariants.{Num, Dup, Drop, Swap, Module, Offset, Index as IndexOf, Unary as OnOne, Binary as OnTwo, Jump, JumpFalse, Begin, Load, Store, Copy as CopyOf, PutText as PutTextOf, CmpText, NewObject, Start, Return, OutChar, OutInt, OutString, OutLn, OutOpen}
 
 abbrev pub begin : Pos → Instr
 begin at = Begin at.line at.col
@@ -27,6 +27,7 @@ literal_code (literal.Int n) = Num n
 literal_code (literal.Bool b) = Num (flag b)
 literal_code (literal.Char c) = Num (pos c)
 literal_code (literal.Set s) = Num (pos s)
+literal_code (literal.Text t) = Num (pos t.first)
 
 -- an object variable's cell has a reference, each other one's a number
 abbrev pub kind_of : TType → Kind
@@ -56,9 +57,13 @@ abbrev pub while_code : Pos → List Instr → List Instr → ℕ → List Instr
 while_code here c b at =
     begin here ∷ (c ++ (JumpFalse (at + 1 + length c + 1 + length b + 1) ∷ (b ++ Jump at ∷ [])))
 
+-- a place, and behind it how many elements are there
+abbrev pub with_length : List Instr → ℕ → List Instr
+with_length place n = place ++ Num (pos n) ∷ []
+
 -- in a program, whose variables have their cells
 module _ (program : Program) where
-  -- the first cell of a module's variable, by the numbers of both
+  -- the first cell of a module's variable, or of a string constant, by the numbers of both
   abbrev pub variable_cell : (home number : ℕ) → ℕ
   variable_cell m i = number_of (offset (i ∷ [])) (slice_get (map (module_shape program) program.modules) m)
 
@@ -87,11 +92,17 @@ module _ (program : Program) where
     value_code (Element a) at = value_code a at ++ (Dup ∷ (OnTwo SetSpan ∷ []))
     value_code (Ord a) at = value_code a at
     value_code (Chr a) at = value_code a at ++ OnOne (Range (pos 0) (pos 255)) ∷ []
+    value_code (CompareTexts r p n q m) at =
+        operands_code (with_length (place_code p at) n)
+        (with_length (place_code q (at + length (with_length (place_code p at) n))) m)
+        (CmpText r)
+    value_code (Len p n) at = place_code p at ++ (Drop ∷ (Num (pos n) ∷ []))
 
   abbrev pub out_code : Call → ℕ → List Instr
   out_code Open at = OutOpen ∷ []
   out_code (Char e) at = value_code e at ++ OutChar ∷ []
   out_code (Int e n) at = operands_code (value_code e at) (value_code n (at + length (value_code e at))) OutInt
+  out_code (String p n) at = with_length (place_code p at) n ++ OutString ∷ []
   out_code Ln at = OutLn ∷ []
 
   -- a new object stays below the place that it's stored at, to be started. The place is a variable, no part of another, whose code
@@ -107,6 +118,11 @@ module _ (program : Program) where
     stat_code (Copy here t p q) at =
         begin here
         ∷ operands_code (place_code p (at + 1)) (place_code q (at + 1 + length (place_code p (at + 1)))) (CopyOf (cells_of t))
+    stat_code (PutText here strict p n q m) at =
+        begin here
+        ∷ operands_code (with_length (place_code p (at + 1)) n)
+        (with_length (place_code q (at + 1 + length (with_length (place_code p (at + 1)) n))) m)
+        (PutTextOf strict)
     stat_code (While here e body) at =
         let c = value_code e (at + 1) in while_code here c (stats_code body (at + 1 + length c + 1)) at
     stat_code (New here p t) at = begin here ∷ new_code p t (at + 1)

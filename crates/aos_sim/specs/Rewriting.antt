@@ -4,7 +4,7 @@ use Rattle.aos_base.specs.declared.text.Pos.{Pos}
 use Rattle.aos_base.specs.Question.{Tree, Val, Asks, Traps, bind, feed}
 use Rattle.aos_typed.specs.declared.tree.Literal.{Literal}
 use Rattle.aos_typed.specs.declared.tree.TType.{TType}
-use Rattle.aos_typed.specs.Program.{Place, ModuleVar, Field, Index, Expr, Lit, Read, Unary, Binary, And, Or, Element, Ord, Chr, Assign}
+use Rattle.aos_typed.specs.Program.{Place, ModuleVar, Field, Index, Expr, Lit, Read, Unary, Binary, And, Or, Element, Ord, Chr, CompareTexts, Len, Assign}
 use Rattle.aos_typed.specs.Value.{Value, literal_value}
 use Rattle.aos_typed.specs.Spot.{Spot}
 use Rattle.aos_typed.specs.Meaning.{Doing, After, place_of, value_of, stat_of}
@@ -22,8 +22,8 @@ are_asked (v ∷ vs) (Val a) = false
 are_asked (v ∷ vs) (Asks q f) = are_asked vs (f v)
 are_asked (v ∷ vs) (Traps n c) = false
 
--- the first read that a designator or an expression comes to is replaced by this literal: it is in the first part that comes to a
--- read
+-- the first read, or comparison of texts, that a designator or an expression comes to is replaced by this literal: it is in the first
+-- part that comes to one
 abbrev mutual
   pub with_first_index : Literal → Place → Place
   with_first_index l (ModuleVar m k) = ModuleVar m k
@@ -42,6 +42,11 @@ abbrev mutual
   with_first l (Element a) = Element (with_first l a)
   with_first l (Ord a) = Ord (with_first l a)
   with_first l (Chr a) = Chr (with_first l a)
+  with_first l (CompareTexts r p n q m) =
+      if is_asking (place_of p) then CompareTexts r (with_first_index l p) n q m
+      else if is_asking (place_of q) then CompareTexts r p n (with_first_index l q) m
+      else Lit l
+  with_first l (Len p n) = Len (with_first_index l p) n
 
 -- and so are the next ones
 abbrev pub rewritten_place : List Literal → Place → Place

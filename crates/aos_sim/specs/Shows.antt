@@ -1,24 +1,36 @@
 -- When an image has a program's code, and when it shows the program.
-use Rattle.std.specs.Prelude.{◌≡◌, ◌<◌, ℕ, suc, None, All, List, [], ◌∷◌, ◌++◌, map, length}
+use Rattle.std.specs.Prelude.{◌≡◌, ◌<◌, ℕ, suc, pos, None, All, List, [], ◌∷◌, ◌++◌, map, length}
+use Rattle.std.specs.List.{flat_map}
 use Rattle.std.specs.String.{string_bytes}
 use Rattle.aos_base.specs.Machine.{Choice, execution}
 use Rattle.aos_base.specs.Observation.{observation}
-use Rattle.aos_types.specs.Shape.{leaves}
-use Rattle.aos_typed.specs.Program.{Program}
+use Rattle.aos_types.specs.declared.row.TypeRow.{TypeRow}
+use Rattle.aos_types.specs.Shape.{leaves, row}
+use Rattle.aos_typed.specs.Program.{Module, Program}
 use Rattle.aos_typed.specs.Source.{source, first_state}
+use Rattle.aos_code.specs.declared.instr.Cell.{Cell}
+use Rattle.aos_code.specs.declared.instr.Cell.TheVariants.{Num}
 use Rattle.aos_code.specs.declared.image.Body.{Body}
 use Rattle.aos_code.specs.declared.image.ProcShape.{ProcShape}
 use Rattle.aos_code.specs.declared.image.ModuleDesc.{ModuleDesc}
 use Rattle.aos_code.specs.declared.image.TypeDesc.{TypeDesc}
 use Rattle.aos_code.specs.declared.image.Image.{Image}
 use Rattle.aos_code.specs.Machine.{machine, first_cell, first_state as first_of}
-use Rattle.aos_layout.specs.Layout.{block}
+use Rattle.aos_layout.specs.Layout.{variable_cells}
 use Rattle.aos_sim.specs.Code.{body_code}
 
 -- as many numbers as the list has elements, from this one on
 abbrev pub numbers_from : {A : Type 0} → ℕ → List A → List ℕ
 numbers_from k [] = []
 numbers_from k (x ∷ xs) = k ∷ numbers_from (suc k) xs
+
+-- what the cells of a string constant hold: its characters, and a 0X
+abbrev pub text_cells : List ℕ → List Cell
+text_cells cs = map (λ c. Num (pos c)) cs ++ Num (pos 0) ∷ []
+
+-- what a module's cells begin with: those of its variables with 0 or NIL, and behind them its string constants
+abbrev pub first_cells : List TypeRow → Module → List Cell
+first_cells rows m = map first_cell (leaves (row (variable_cells rows m.variables))) ++ flat_map text_cells m.texts
 
 -- These bodies, shapes and descriptions are the code of a program: procedure k, counted from 1, is the body of the k-th module, and
 -- behind those of the modules come those of the object types. No body gives a result.
@@ -28,7 +40,7 @@ pub record IsCode (p : Program) (bs : List Body) (ss : List ProcShape) (ds : Lis
   pub results : All (λ s. s.result ≡ None) ss
   pub starts : map (λ d. d.body) ds ≡ numbers_from 1 p.modules
   pub types : map (λ t. t.body) ts ≡ numbers_from (suc (length p.modules)) p.objects
-  pub cells : map (λ d. d.cells.items) ds ≡ map (λ m. map first_cell (leaves (block p.types m))) p.modules
+  pub cells : map (λ d. d.cells.items) ds ≡ map (first_cells p.types) p.modules
   pub names : map (λ d. string_bytes d.name) ds ≡ map (λ m. m.name) p.modules
 
 -- the image has the program's code

@@ -7,5 +7,6 @@ pub mod Source
 pub mod Numbers
 pub mod WellTyped
 pub mod Sort
+pub mod Text
 pub mod Spot
 pub mod Typing

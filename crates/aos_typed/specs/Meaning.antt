@@ -1,10 +1,10 @@
 -- What expressions and statements do, as trees of questions.
-use Rattle.std.specs.Prelude.{ℕ, suc, List, [], ◌∷◌, ◌++◌, true, false, Option, Some, None, if◌then◌else◌}
+use Rattle.std.specs.Prelude.{ℕ, suc, pos, List, [], ◌∷◌, ◌++◌, true, false, Option, Some, None, if◌then◌else◌}
 use Rattle.aos_base.specs.declared.text.Pos.{Pos}
 use Rattle.aos_base.specs.Operators.{natural}
-use Rattle.aos_base.specs.Question.{Tree, Val, Traps, bind, ask, Ask, Reads, Stores, Copies, Makes, Starts, PutsInt, PutsChar, PutsLn, PutsNothing}
-use Rattle.aos_typed.specs.Program.{Place, ModuleVar, Field, Index, Expr, Lit, Read, Unary, Binary, And, Or, Element, Ord, Chr, Call, Open as OutOpen, Char as OutChar, Int as OutInt, Ln as OutLn, Stat, Assign, Copy, While, New, Out, Stats, Nothing, Then}
-use Rattle.aos_typed.specs.Value.{Value, Flag, number_of, literal_value, unary, binary, element, ord, chr, is_true}
+use Rattle.aos_base.specs.Question.{Tree, Val, Traps, bind, ask, Ask, Reads, Stores, Copies, PutsText, ComparesTexts, Makes, Starts, PutsInt, PutsChar, PutsString, PutsLn, PutsNothing}
+use Rattle.aos_typed.specs.Program.{Place, ModuleVar, Field, Index, Expr, Lit, Read, Unary, Binary, And, Or, Element, Ord, Chr, CompareTexts, Len, Call, Open as OutOpen, Char as OutChar, Int as OutInt, String as OutString, Ln as OutLn, Stat, Assign, Copy, PutText, While, New, Out, Stats, Nothing, Then}
+use Rattle.aos_typed.specs.Value.{Value, Int, Flag, number_of, literal_value, unary, binary, element, ord, chr, is_true}
 use Rattle.aos_base.specs.declared.place.Root.TheVariants.{Module as ModuleRoot}
 use Rattle.aos_typed.specs.declared.tree.TType.{TType}
 use Rattle.aos_typed.specs.Spot.{Spot, OfModule}
@@ -47,6 +47,9 @@ abbrev mutual
   value_of (Element a) = bind (value_of a) (λ x. element x)
   value_of (Ord a) = bind (value_of a) (λ x. Val (ord x))
   value_of (Chr a) = bind (value_of a) (λ x. chr x)
+  value_of (CompareTexts r p n q m) =
+      bind (place_of p) (λ a. bind (place_of q) (λ b. ask (ComparesTexts r a (Int (pos n)) b (Int (pos m)))))
+  value_of (Len p n) = bind (place_of p) (λ s. Val (Int (pos n)))
 
 -- what remains of a frame's statements
 pub data Item : Type 0 where
@@ -65,6 +68,7 @@ out_of OutOpen = bind (ask PutsNothing) (λ _. Val (Into []))
 out_of (OutChar e) = bind (value_of e) (λ x. bind (ask (PutsChar x)) (λ _. Val (Into [])))
 out_of (OutInt e n) =
     bind (value_of e) (λ x. bind (value_of n) (λ y. bind (ask (PutsInt x y)) (λ _. Val (Into []))))
+out_of (OutString p n) = bind (place_of p) (λ s. bind (ask (PutsString s (Int (pos n)))) (λ _. Val (Into [])))
 out_of OutLn = bind (ask PutsLn) (λ _. Val (Into []))
 
 -- what a statement that has begun does, and the items that take its place. A designator that is assigned is found before what
@@ -72,6 +76,9 @@ out_of OutLn = bind (ask PutsLn) (λ _. Val (Into []))
 abbrev pub stat_of : Stat → Doing After
 stat_of (Assign at t p e) = bind (place_of p) (λ s. bind (value_of e) (λ v. bind (ask (Stores s v)) (λ _. Val (Into []))))
 stat_of (Copy at t p q) = bind (place_of p) (λ to. bind (place_of q) (λ from. bind (ask (Copies t from to)) (λ _. Val (Into []))))
+stat_of (PutText at strict p n q m) =
+    bind (place_of p) (λ from. bind (place_of q) (λ to.
+    bind (ask (PutsText strict from (Int (pos n)) to (Int (pos m)))) (λ _. Val (Into []))))
 stat_of (While at e body) =
     bind (value_of e) (λ v. Val (Into (if is_true v then items_of body ++ Do (While at e body) ∷ [] else [])))
 -- the object is made, then stored, and then its activity is started
@@ -82,6 +89,7 @@ stat_of (Out at call) = out_of call
 abbrev pub pos_of : Stat → Pos
 pos_of (Assign at t p e) = at
 pos_of (Copy at t p q) = at
+pos_of (PutText at strict p n q m) = at
 pos_of (While at e body) = at
 pos_of (New at p t) = at
 pos_of (Out at call) = at

@@ -12,14 +12,16 @@ use Rattle.aos_typed.specs.declared.tree.TType.{TType}
 use Rattle.aos_typed.specs.declared.tree.TType.TheVariants.{Integer, Boolean, Char, Set, Named}
 use Rattle.aos_typed.specs.Program.{Program}
 
--- how many types are predeclared; they stand first in the table
+-- how many types are predeclared; they stand first in the table. The last one is that of all string constants but those of one
+-- character, however long they are
 abbrev pub predeclared_types : ℕ
-predeclared_types = 9
+predeclared_types = 10
 
 abbrev pub predeclared_rows : List TypeRow
 predeclared_rows =
     row.Basic basic.ShortInt ∷ row.Basic basic.Integer ∷ row.Basic basic.LongInt ∷ row.Basic basic.HugeInt
-    ∷ row.Basic basic.Boolean ∷ row.Basic basic.Char ∷ row.Basic basic.Set ∷ row.Basic basic.Nil ∷ row.Any ∷ []
+    ∷ row.Basic basic.Boolean ∷ row.Basic basic.Char ∷ row.Basic basic.Set ∷ row.Basic basic.Nil ∷ row.Any
+    ∷ row.Basic (basic.Text 0) ∷ []
 
 abbrev pub integer_id : Width → ℕ
 integer_id W8 = 0

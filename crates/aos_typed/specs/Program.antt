@@ -2,6 +2,7 @@
 -- Literals, operators and types have no parts in memory, so they are the code's own.
 use Rattle.std.specs.Prelude.{ℕ, List, Bool, Option}
 use Rattle.aos_base.specs.declared.text.Pos.{Pos}
+use Rattle.aos_base.specs.declared.number.Relation.{Relation}
 use Rattle.aos_base.specs.declared.operator.Unary.{Unary as UnaryOperator}
 use Rattle.aos_base.specs.declared.operator.Binary.{Binary as BinaryOperator}
 use Rattle.aos_types.specs.declared.row.TypeRow.{TypeRow}
@@ -9,13 +10,15 @@ use Rattle.aos_typed.specs.declared.tree.Literal.{Literal}
 use Rattle.aos_typed.specs.declared.tree.TType.{TType}
 
 mutual
-  -- a designator: a variable of a module, by the module's number in load order and the variable's number; a field of a record, by
-  -- the type that declares it and its number; or an element of an array, which has so many of this type, by its index
+  -- a designator: a variable of a module, by the module's number in load order and the variable's number, on from which its string
+  -- constants are numbered; a field of a record, by the type that declares it and its number; or an element of an array, which has
+  -- so many of this type, by its index
   pub data Place : Type 0 where
     ModuleVar : (home number : ℕ) → Place
     Field : (whole : Place) → (of : TType) → (number : ℕ) → Place
     Index : (whole : Place) → (elements : ℕ) → (of : TType) → Expr → Place
 
+  -- a text is compared by its place and the number of elements there; a length is that of an array whose place is found before
   pub data Expr : Type 0 where
     Lit : Literal → Expr
     Read : TType → Place → Expr
@@ -26,19 +29,25 @@ mutual
     Element : Expr → Expr
     Ord : Expr → Expr
     Chr : Expr → Expr
+    CompareTexts : Relation → (left : Place) → (elements : ℕ) → (right : Place) → (others : ℕ) → Expr
+    Len : Place → (length : ℕ) → Expr
 
--- a call of a procedure of module Out: the number, and in how many places it stands
+-- a call of a procedure of module Out: the number, and in how many places it stands; a text, by its place and the number of elements
+-- there
 pub data Call : Type 0 where
   Open : Call
   Char : Expr → Call
   Int : Expr → Expr → Call
+  String : Place → (elements : ℕ) → Call
   Ln : Call
 
--- a statement with its place in the text, and a sequence of them
+-- a statement with its place in the text, and a sequence of them. A text is put in an array of characters with room for so many; a
+-- strict one must fit
 mutual
   pub data Stat : Type 0 where
     Assign : Pos → TType → Place → Expr → Stat
     Copy : Pos → TType → (to from : Place) → Stat
+    PutText : Pos → (strict : Bool) → (from : Place) → (elements : ℕ) → (to : Place) → (room : ℕ) → Stat
     While : Pos → Expr → Stats → Stat
     New : Pos → Place → ℕ → Stat
     Out : Pos → Call → Stat
@@ -73,9 +82,11 @@ pub record ObjectType : Type 0 where
   pub home : ℕ
   pub body : Stats
 
+-- a module, with its string constants by the codes of their characters
 pub record Module : Type 0 where
   pub name : List ℕ
   pub variables : List Variable
+  pub texts : List (List ℕ)
   pub procedures : List Procedure
   pub body : Stats
 

@@ -15,7 +15,7 @@ use Rattle.aos_typed.specs.declared.tree.TProcedure.{TProcedure}
 use Rattle.aos_typed.specs.declared.tree.TObject.{TObject}
 use Rattle.aos_typed.specs.declared.tree.TModule.{TModule}
 use Rattle.aos_typed.specs.declared.tree.Program.{Program as TProgram}
-use Rattle.aos_typed.specs.Program.{Place, ModuleVar, Field, Index, Expr, Lit, Read, Unary, Binary, And, Or, Element, Ord, Chr, Call, Open, Char, Int, Ln, Stat, Assign, Copy, While, New, Out, Stats, Nothing, Then, Variable, Parameter, Procedure, ObjectType, Module, Program}
+use Rattle.aos_typed.specs.Program.{Place, ModuleVar, Field, Index, Expr, Lit, Read, Unary, Binary, And, Or, Element, Ord, Chr, CompareTexts, Len, Call, Open, Char, Int, String, Ln, Stat, Assign, Copy, PutText, While, New, Out, Stats, Nothing, Then, Variable, Parameter, Procedure, ObjectType, Module, Program}
 
 abbrev mutual
   pub seen_place : TPlace → Place
@@ -33,17 +33,21 @@ abbrev mutual
   seen_expr (expr.Element' p a) = Element (seen_expr a)
   seen_expr (expr.Ord' p a) = Ord (seen_expr a)
   seen_expr (expr.Chr' p a) = Chr (seen_expr a)
+  seen_expr (expr.CompareTexts r p n q m) = CompareTexts r (seen_place p) n (seen_place q) m
+  seen_expr (expr.Len p n) = Len (seen_place p) n
 
 abbrev pub seen_call : OutCall → Call
 seen_call call.Open = Open
 seen_call (call.Char e) = Char (seen_expr e)
 seen_call (call.Int e n) = Int (seen_expr e) (seen_expr n)
+seen_call (call.String p n) = String (seen_place p) n
 seen_call call.Ln = Ln
 
 abbrev mutual
   pub seen_stat : TStat → Stat
   seen_stat (stat.Assign at t p e) = Assign at t (seen_place p) (seen_expr e)
   seen_stat (stat.Copy at t p q) = Copy at t (seen_place p) (seen_place q)
+  seen_stat (stat.PutText at strict p n q m) = PutText at strict (seen_place p) n (seen_place q) m
   seen_stat (stat.While' at e shape body) = While at (seen_expr e) (seen_row body)
   seen_stat (stat.New at p t) = New at (seen_place p) t
   seen_stat (stat.Out at c) = Out at (seen_call c)
@@ -81,6 +85,7 @@ seen_module m =
     record {
       name = string_bytes m.name;
       variables = map seen_variable m.variables.items;
+      texts = map (λ t. t.items) m.texts.items;
       procedures = map seen_procedure m.procedures.items;
       body = seen_stats m.body.items;
     }

@@ -7,7 +7,8 @@ use Rattle.aos_base.specs.declared.place.Root.TheVariants.{Frame as FrameRoot, M
 use Rattle.aos_base.specs.declared.kernel.Did.{Did}
 use Rattle.aos_base.specs.declared.kernel.Did.TheVariants.{Went, Ended, Start, Trapped}
 use Rattle.aos_base.specs.declared.kernel.Verdict.TheVariants.{Fails}
-use Rattle.aos_base.specs.Number.{places_of, justified}
+use Rattle.aos_base.specs.Number.{places_of, justified, holds}
+use Rattle.aos_base.specs.Text.{order}
 use Rattle.aos_base.specs.Book.{Where}
 use Rattle.aos_base.specs.Machine.{Turn, Machine, State, start_of}
 use Rattle.aos_base.specs.Rooted.{Rooted, by_number, change_from_last}
@@ -16,15 +17,16 @@ use Rattle.aos_types.specs.declared.row.Basic.{Basic}
 use Rattle.aos_types.specs.declared.row.Basic.TheVariants as basic
 use Rattle.aos_types.specs.declared.row.TypeRow.{TypeRow}
 use Rattle.aos_types.specs.declared.row.TypeRow.TheVariants as row
-use Rattle.aos_types.specs.Table.{row_of}
+use Rattle.aos_types.specs.Table.{row_of as type_row}
 use Rattle.aos_types.specs.Shape.{Shape, Nothing}
 use Rattle.aos_types.specs.Shape as shape
-use Rattle.aos_types.specs.Content.{Content, Scalar, Empty, placed, overlay, first_content}
+use Rattle.aos_types.specs.Content.{Content, Scalar, Empty, Row, placed, overlay, first_content}
 use Rattle.aos_types.specs.World.{read}
-use Rattle.aos_typed.specs.Program.{Stats, ObjectType, Module, Program}
+use Rattle.aos_typed.specs.Program.{Stats, Variable as TypedVariable, ObjectType, Module, Program}
 use Rattle.aos_typed.specs.Numbers.{id_of}
 use Rattle.aos_typed.specs.Sort.{Sort, Plain, Variable, Alias, Elements, Length, variable_shape}
 use Rattle.aos_typed.specs.Spot.{Spot}
+use Rattle.aos_typed.specs.Text.{text_in, with_text, fitted, text_content, text_shape}
 use Rattle.aos_typed.specs.Value.{Value, Int, Flag, Char, Set, Object, Callable, number_of}
 use Rattle.aos_typed.specs.Store.{Store, rooted, value_at, store_with, type_of_object, with_object, new_number, has_room}
 use Rattle.aos_typed.specs.Meaning.{Question, Doing, Item, Do, After, Into, items_of, item_of, pos_of}
@@ -134,6 +136,12 @@ module _ (following : List ℕ) where
   copies c (Some new) (Some old) to fs s = writes to.root (placed to.path (overlay c new old)) fs s
   copies c _ _ to fs s = goes_on fs s
 
+  -- a text is stored at a place, where it fits
+  abbrev pub stores_text : Option (List ℕ) → Option (Content Value) → Spot → Frame → List Frame → Store → Turned
+  stores_text None old to f fs s = leaves (Trapped 15 0) (f ∷ fs) s
+  stores_text (Some cs) None to f fs s = goes_on (answered done f ∷ fs) s
+  stores_text (Some cs) (Some old) to f fs s = writes to.root (placed to.path (with_text cs old)) (answered done f ∷ fs) s
+
 -- and the program, which knows what is copied
 module _ (p : Program) (following : List ℕ) where
   -- a question is answered; so far no program asks the others
@@ -150,10 +158,17 @@ module _ (p : Program) (following : List ℕ) where
   answer (Copies t from to) f fs s =
       let x = all_rooted (f ∷ fs) s in
       copies following (variable_shape p.types (id_of t)) (read from.root from.path x) (read to.root to.path x) to (answered done f ∷ fs) s
-  answer (PutsText strict from n to room) f fs s = goes_on following (answered done f ∷ fs) s
-  answer (ComparesTexts r a n b m) f fs s = goes_on following (answered done f ∷ fs) s
+  answer (PutsText strict from n to room) f fs s =
+      let x = all_rooted (f ∷ fs) s in
+      let text = fitted strict (unsigned_abs (number_of room)) (text_in (read from.root from.path x)) in
+      stores_text following text (read to.root to.path x) to f fs s
+  answer (ComparesTexts r a n b m) f fs s =
+      let x = all_rooted (f ∷ fs) s in
+      let left = text_in (read a.root a.path x) in
+      let right = text_in (read b.root b.path x) in
+      goes_on following (answered (Flag (holds r (order left right) (pos 0))) f ∷ fs) s
   answer (Calls q vs) f fs s = goes_on following (answered done f ∷ fs) s
-  answer (PutsString a n) f fs s = goes_on following (answered done f ∷ fs) s
+  answer (PutsString a n) f fs s = puts following (text_in (read a.root a.path (all_rooted (f ∷ fs) s))) (answered done f ∷ fs) s
   answer (Places a) f fs s = goes_on following (answered done f ∷ fs) s
   answer (Lengths a) f fs s = goes_on following (answered done f ∷ fs) s
 
@@ -222,20 +237,31 @@ first_in (Some (row.Object base fields)) = Object 0
 first_in (Some (row.Procedure formals r)) = Callable 0 0
 first_in (Some row.Any) = Object 0
 
+-- a row of these contents
+abbrev pub row_of : List (Content Value) → Content Value
+row_of [] = Empty
+row_of (c ∷ cs) = Row c (row_of cs)
+
 module _ (p : Program) where
   abbrev pub first_value : Sort → Value
-  first_value (Plain t) = first_in (row_of p.types t)
+  first_value (Plain t) = first_in (type_row p.types t)
   first_value (Variable t) = Int (pos 0)
   first_value (Alias t) = Int (pos 0)
   first_value (Elements t ns) = Int (pos 0)
   first_value (Length n) = Int (pos 0)
 
-  -- what a module's variables hold: a row of them
+  -- what a module's variables hold: a row of them, behind which its string constants stand
   abbrev pub module_shape : Module → Shape Sort
-  module_shape m = shape.row (map (λ v. variable_shape p.types (id_of v.of)) m.variables)
+  module_shape m = shape.row (map (λ v. variable_shape p.types (id_of v.of)) m.variables ++ map text_shape m.texts)
+
+  abbrev pub first_variable : TypedVariable → Content Value
+  first_variable v = first_content first_value (variable_shape p.types (id_of v.of))
+
+  abbrev pub first_module : Module → Content Value
+  first_module m = row_of (map first_variable m.variables ++ map text_content m.texts)
 
   abbrev pub first_store : Store
-  first_store = record { modules = map (λ m. first_content first_value (module_shape m)) p.modules; objects = []; made = [] }
+  first_store = record { modules = map first_module p.modules; objects = []; made = [] }
 
   -- where no frame is left the next module's body begins
   abbrev pub next_body : ℕ → List ℕ → Option Module → Frames

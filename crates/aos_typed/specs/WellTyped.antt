@@ -4,7 +4,7 @@
 -- tests is a truth value, and NEW makes an object of its variable's type. No type
 -- contains itself, and none has more scalars than a type may have (Oberon-2 report, 6.2 and 6.3), nor have the variables of a module; only parameters are of open
 -- arrays, and a function gives a scalar (Oberon-2 report, 10.1). The predeclared types stand first in the table.
-use Rattle.std.specs.Prelude.{◌≡◌, ◌≢◌, ℕ, ℤ, ◌≤◌, ◌<◌, ◌+◌, ◌==◌, ◌^◌, nat_le, List, [], ◌∷◌, length, All, Bool, true, false, ◌&&◌, ◌||◌, Option, Some, None, slice_get, sum_by, option_map, option_and_then}
+use Rattle.std.specs.Prelude.{◌≡◌, ◌≢◌, ◌⊎◌, ℕ, zero, suc, ℤ, pos, ◌≤◌, ◌<◌, ◌+◌, ◌==◌, ◌^◌, nat_le, List, [], ◌∷◌, length, All, Bool, true, false, ◌&&◌, ◌||◌, Option, Some, None, slice_get, sum_by, option_map, option_and_then}
 use Rattle.std.specs.List.{AllPairs, list_all}
 use Rattle.std.specs.Char.{is_ascii_digit, is_ascii_alphabetic}
 use Rattle.aos_base.specs.declared.number.Width.{Width}
@@ -27,7 +27,7 @@ use Rattle.aos_typed.specs.declared.tree.Literal.{Literal}
 use Rattle.aos_typed.specs.declared.tree.Literal.TheVariants as literal
 use Rattle.aos_typed.specs.declared.tree.TType.{TType}
 use Rattle.aos_typed.specs.declared.tree.TType.TheVariants.{Integer, Boolean, Char, Set, Named}
-use Rattle.aos_typed.specs.Program.{Place, ModuleVar, Field, Index, Expr, Lit, Read, Unary, Binary, And, Or, Element, Ord, Chr, Call, Open as OutOpen, Char as OutChar, Int as OutInt, Ln as OutLn, Stat, Assign, Copy, While, New, Out, Stats, Nothing, Then, Procedure, Module, Program}
+use Rattle.aos_typed.specs.Program.{Place, ModuleVar, Field, Index, Expr, Lit, Read, Unary, Binary, And, Or, Element, Ord, Chr, CompareTexts, Len, Call, Open as OutOpen, Char as OutChar, Int as OutInt, String as OutString, Ln as OutLn, Stat, Assign, Copy, PutText, While, New, Out, Stats, Nothing, Then, Procedure, Module, Program}
 use Rattle.aos_typed.specs.Numbers.{id_of, predeclared_types, predeclared_rows}
 
 -- Types.
@@ -56,6 +56,7 @@ IsLiteral (literal.Int n) (Integer w) = IsWithin w n
 IsLiteral (literal.Bool b) Boolean = Unit {0}
 IsLiteral (literal.Char c) Char = c < 256
 IsLiteral (literal.Set s) Set = s < 2 ^ 32
+IsLiteral (literal.Text c) Char = (c.length ≡ 1) × (c.first < 256)
 IsLiteral _ _ = ⊥
 
 -- all integers from the first of these to the second are of a type
@@ -140,6 +141,12 @@ field_type _ k = None
 abbrev pub IsArray : ℕ → TypeId → Option TypeRow → Type 0
 IsArray n t r = r ≡ Some (row.Array n t)
 
+-- the length of a dimension of an array, of which the first is its own and the next that of its elements
+abbrev pub dimension : List TypeRow → ℕ → Option TypeRow → Option ℕ
+dimension rows zero (Some (row.Array n t)) = Some n
+dimension rows (suc d) (Some (row.Array n t)) = dimension rows d (row_of rows t)
+dimension rows d r = None
+
 -- a record or an array, which is copied as a whole
 abbrev pub is_whole : Option TypeRow → Bool
 is_whole (Some (row.Array n t)) = true
@@ -152,12 +159,34 @@ is_variable (ModuleVar m k) = true
 is_variable (Field place t k) = false
 is_variable (Index place n t e) = false
 
+-- a variable of this number, counted on from the variables of a module, is the module's string constant with so many elements
+pub record IsString (m : Module) (number elements : ℕ) : Type 0 where
+  pub behind : ℕ
+  pub is : number ≡ length m.variables + behind
+  pub characters : List ℕ
+  pub there : slice_get m.texts behind ≡ Some characters
+  pub long : elements ≡ suc (length characters)
+
 -- Programs.
 
 module _ (p : Program) where
   -- the type of a module's variable, by the numbers of both
   abbrev pub variable_type : (home number : ℕ) → Option TType
   variable_type m k = option_and_then (λ x. option_map (λ v. v.of) (slice_get x.variables k)) (slice_get p.modules m)
+
+  -- Texts. What is of each type of which P says so is an array of so many characters.
+  abbrev pub AreCharacters : (P : TType → Type 0) → ℕ → Type 0
+  AreCharacters P n = (u : TType) × P u × IsArray n (id_of Char) (row_of p.types (id_of u))
+
+  -- a string constant of a module, with so many elements
+  abbrev pub IsConstantText : Place → ℕ → Type 0
+  IsConstantText (ModuleVar m k) n = (x : Module) × (slice_get p.modules m ≡ Some x) × IsString x k n
+  IsConstantText (Field place t k) n = ⊥
+  IsConstantText (Index place l t e) n = ⊥
+
+  -- what has a text: an array of characters, or a string constant
+  abbrev pub IsTextOf : (P : TType → Type 0) → Place → ℕ → Type 0
+  IsTextOf P place n = AreCharacters P n ⊎ IsConstantText place n
 
   abbrev mutual
     -- a designator is of a type
@@ -177,11 +206,17 @@ module _ (p : Program) where
     IsOf (Element a) t = IsOf a (Integer W64) × (t ≡ Set)
     IsOf (Ord a) t = IsOf a Char × Includes t (Integer W16)
     IsOf (Chr a) t = IsOf a (Integer W64) × (t ≡ Char)
+    IsOf (CompareTexts r a n b m) t = IsTextOf (IsPlaceOf a) a n × IsTextOf (IsPlaceOf b) b m × (t ≡ Boolean)
+    IsOf (Len place n) t = (u : TType) × (d : ℕ) × IsPlaceOf place u × (dimension p.types d (row_of p.types (id_of u)) ≡ Some n) × IsWithin W32 (pos n) × Includes t (Integer W32)
+
+  abbrev pub IsText : Place → ℕ → Type 0
+  IsText place n = IsTextOf (IsPlaceOf place) place n
 
   abbrev pub IsCall : Call → Type 0
   IsCall OutOpen = Unit {0}
   IsCall (OutChar e) = IsOf e Char
   IsCall (OutInt a b) = IsOf a (Integer W64) × IsOf b (Integer W64)
+  IsCall (OutString place n) = IsText place n
   IsCall OutLn = Unit {0}
 
   -- a statement is well typed, and so is each of a sequence
@@ -189,6 +224,7 @@ module _ (p : Program) where
     pub IsStatement : Stat → Type 0
     IsStatement (Assign at t place e) = IsPlaceOf place t × (is_basic t ≡ true) × IsOf e t
     IsStatement (Copy at t to from) = IsPlaceOf to t × IsPlaceOf from t × (is_whole (row_of p.types (id_of t)) ≡ true)
+    IsStatement (PutText at strict from n to m) = IsText from n × AreCharacters (IsPlaceOf to) m × (1 ≤ m)
     IsStatement (While at e body) = IsOf e Boolean × AreStatements body
     IsStatement (New at place t) = (is_variable place ≡ true) × IsPlaceOf place (Named t) × (is_object (row_of p.types (id_of (Named t))) ≡ true) × (t < length p.objects)
     IsStatement (Out at call) = IsCall call
@@ -234,8 +270,8 @@ pub record IsProcedure (p : Program) (x : Procedure) : Type 0 where
 abbrev pub module_scalars : Program → Module → ℕ
 module_scalars p m = sum_by (λ v. variable_scalars p.types (id_of v.of)) m.variables
 
--- A program has 1 to 64 modules, whose names are idents and differ; all statements of all bodies are well typed, what stands
--- beside a type is of a module of the program, and all declarations are as they are to be.
+-- A program has 1 to 64 modules, whose names are idents and differ; all statements of all bodies are well typed, the codes of string constants are
+-- those of characters, what stands beside a type is of a module of the program, and all declarations are as they are to be.
 pub record IsWellTyped (p : Program) : Type 0 where
   pub some : 1 ≤ length p.modules
   pub few : length p.modules ≤ 64
@@ -245,6 +281,7 @@ pub record IsWellTyped (p : Program) : Type 0 where
   pub objects : All (λ o. AreStatements p o.body) p.objects
   pub homes : All (λ o. o.home < length p.modules) p.objects
   pub types : AreTypes p.types
+  pub texts : All (λ m. All (λ t. All (λ c. c < 256) t) m.texts) p.modules
   pub predeclared : (k : ℕ) → k < predeclared_types → slice_get p.types k ≡ slice_get predeclared_rows k
   pub beside : length p.types ≡ length p.objects + predeclared_types
   pub variables : All (λ m. All (λ v. IsVariableType p v.of) m.variables) p.modules

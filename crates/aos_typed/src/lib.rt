@@ -6,5 +6,5 @@ pub mod tree;
 
 pub use tree::{
     Literal, OutCall, Program, TExpr, TModule, TObject, TParameter, TPlace, TProcedure, TStat,
-    TType, TVariable,
+    TType, TVariable, TextConstant,
 };

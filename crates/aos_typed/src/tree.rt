@@ -1,7 +1,17 @@
 // The typed program.
 
-use aos_base::{Binary, Pos, Unary, Width};
+use aos_base::{Binary, Pos, Relation, Unary, Width};
 use aos_types::Types;
+
+/// A string constant: the module in whose text it stands and its number among the strings there, each from 0, how many characters
+/// it has, and the code of the first one, 0 where it has none.
+#[derive(Clone, Copy, PartialEq, Eq, Debug)]
+pub struct TextConstant {
+    pub home: u32,
+    pub number: u32,
+    pub length: u32,
+    pub first: u8,
+}
 
 /// A value that is written in the text.
 #[derive(Clone, Copy, PartialEq, Eq, Debug)]
@@ -12,9 +22,11 @@ pub enum Literal {
     Char(u8),
     /// A set, whose elements are the bits that are 1.
     Set(u32),
+    /// A string constant. One of one character is also a value, that character (Oberon-2 report, 3).
+    Text(TextConstant),
 }
 
-/// A designator.
+/// A designator. The string constants of a module are numbered on from its variables.
 #[cycle(parts)]
 #[derive(Debug)]
 pub enum TPlace {
@@ -62,6 +74,10 @@ pub enum TExpr {
     Ord(Box<TExpr>),
     /// The character of a code; trap 14 where that isn't 0 to 255.
     Chr(Box<TExpr>),
+    /// Two texts compared, each by its place and how many elements are there.
+    CompareTexts(Relation, TPlace, u32, TPlace, u32),
+    /// The length of an array, or of one of its dimensions. Its place is found first.
+    Len(TPlace, u32),
 }
 
 // A long sum has as many left operands, one in another: it is dropped by a loop, which takes no stack.
@@ -72,6 +88,8 @@ impl Drop for TExpr {
             match self {
                 TExpr::Lit(_) => return,
                 TExpr::Read(_, _) => return,
+                TExpr::CompareTexts(_, _, _, _, _) => return,
+                TExpr::Len(_, _) => return,
                 TExpr::Unary(_, operand) => self = Box::into_inner(operand),
                 TExpr::Element(operand) => self = Box::into_inner(operand),
                 TExpr::Ord(operand) => self = Box::into_inner(operand),
@@ -100,6 +118,8 @@ pub enum OutCall {
     Char(TExpr),
     /// The number, and in how many places it stands.
     Int(TExpr, TExpr),
+    /// A text, by its place and how many elements are there.
+    String(TPlace, u32),
     Ln,
 }
 
@@ -110,6 +130,9 @@ pub enum TStat {
     Assign(Pos, TType, TPlace, TExpr),
     /// A whole record or array of this type: the variable that gets it, and the one that is copied.
     Copy(Pos, TType, TPlace, TPlace),
+    /// The text of a place with so many elements, and a 0X behind it, for an array of characters with so many. Where there is no room
+    /// for it, that is trap 15 if the statement is strict, as an assignment is; else the text is cut, as COPY does.
+    PutText(Pos, bool, TPlace, u32, TPlace, u32),
     While(Pos, TExpr, Vec<TStat>),
     /// NEW of a variable: an object of this type, by the type's number in the program, whose activity is started.
     New(Pos, TPlace, u32),
@@ -162,11 +185,12 @@ pub struct TObject {
     pub body: Vec<TStat>,
 }
 
-/// A module, with its procedures and the statements of its body.
+/// A module, with its string constants, by the codes of their characters, its procedures, and the statements of its body.
 #[derive(Drop, Debug)]
 pub struct TModule {
     pub name: String,
     pub variables: Vec<TVariable>,
+    pub texts: Vec<Vec<u8>>,
     pub procedures: Vec<TProcedure>,
     pub body: Vec<TStat>,
 }

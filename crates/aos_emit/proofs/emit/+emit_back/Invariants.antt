@@ -1,4 +1,4 @@
-use Rattle.std.proofs.Common.{◌≡◌, ◌≤◌, ◌*◌, ◌+◌}
+use Rattle.std.proofs.Common.{◌≡◌, ◌≤◌, ◌*◌, ◌+◌, max}
 use Rattle.aos_typed.specs.declared.tree.TPlace.{size-TPlace}
 use Rattle.aos_typed.specs.declared.tree.TExpr.{size-TExpr}
 use Rattle.aos_typed.specs.Seen.{seen_program, seen_place, seen_expr}
@@ -19,6 +19,12 @@ decreases-emit_place_back l = 2 * size-TPlace l.place.now
 
 abbrev pub decreases-emit_read_back : goal.decreases-emit_read_back
 decreases-emit_read_back l = 2 * size-TPlace l.place.now + 1
+
+abbrev pub decreases-emit_texts_back : goal.decreases-emit_texts_back
+decreases-emit_texts_back l = 2 * max (size-TPlace l.left.now) (size-TPlace l.right.now) + 1
+
+abbrev pub decreases-emit_length_back : goal.decreases-emit_length_back
+decreases-emit_length_back l = 2 * size-TPlace l.place.now + 1
 
 abbrev pub decreases-emit_and_back : goal.decreases-emit_and_back
 decreases-emit_and_back l = 2 * size-TExpr l.second.now + 1

@@ -1,4 +1,5 @@
-use Rattle.std.proofs.Common.{◌<◌, ◌+◌, length, get_or, map, refl, sym, ap, ◌∙◌, subst, arith}
+use Rattle.std.proofs.Common.{◌<◌, ◌+◌, ◌++◌, length, get_or, map, refl, sym, ap, ◌∙◌, subst, arith}
+use Rattle.std.specs.List.{flat_map}
 use Rattle.std.proofs.lemmas.List.{length-map}
 use Rattle.aos_typed.specs.Program.{ObjectType, Module}
 use Rattle.aos_typed.specs.Seen.{seen_stats, seen_module, seen_object, seen_program}
@@ -6,8 +7,9 @@ use Rattle.aos_typed.specs.WellTyped.{AreStatements}
 use Rattle.aos_code.specs.Machine.{first_cell}
 use Rattle.aos_sim.specs.Code.{body_code}
 use Rattle.aos_sim.specs.Need.{body_need}
+use Rattle.aos_sim.specs.Shows.{text_cells}
 use Rattle.aos_emit.specs.Laid.{module_kinds}
-use Rattle.aos_emit.proofs.Codes.{more_module_of, more_object_of}
+use Rattle.aos_emit.proofs.Codes.{first_cells_are, more_module_of, more_object_of}
 use Rattle.aos_emit.proofs.Found.{kinds_at}
 use Rattle.aos_emit.proofs.Parts.{body_typed}
 use Rattle.aos_emit.proofs.image.code_of.Goals as goal
@@ -38,7 +40,7 @@ loop-module-preserved c =
     let at = c.module-item.is ∙ ap (λ l. get_or l k m) c.deref-module-items.ensures.value in
     let kinds = c.kinds.ensures ∙ (λ i. module_kinds (seen_program (laid i)) (n i)) ∙ kinds_at p seen_module ms k m refl lt at in
     record {
-      code = more_module_of p ms k m _ _ _ _ _ _ _ _ _ _ lt at c.loop-module.invariant.code c.new-types.ensures.items c.in_ok-push.ensures.items c.in_ok-push-2.ensures.items c.in_ok-push-3.ensures.items (made.code ∙ (λ i. body_code (seen_program (laid i)) (seen_stats (body i)))) (made.depth ∙ ap (λ l. body_need (seen_stats l)) body) (c.body_shape.ensures.home ∙ n) c.body_shape.ensures.nothing (told.start ∙ ap (λ j. j + 1) n) (told.cells ∙ ap (map first_cell) kinds) told.name;
+      code = more_module_of p ms k m _ _ _ _ _ _ _ _ _ _ lt at c.loop-module.invariant.code c.new-types.ensures.items c.in_ok-push.ensures.items c.in_ok-push-2.ensures.items c.in_ok-push-3.ensures.items (made.code ∙ (λ i. body_code (seen_program (laid i)) (seen_stats (body i)))) (made.depth ∙ ap (λ l. body_need (seen_stats l)) body) (c.body_shape.ensures.home ∙ n) c.body_shape.ensures.nothing (told.start ∙ ap (λ j. j + 1) n) (told.cells ∙ ap (λ ks. map first_cell ks ++ flat_map (λ t. text_cells t.items) m.texts.items) kinds ∙ first_cells_are p.types m) told.name;
       number = ap (λ j. j + 1) n;
     }
 

@@ -1,4 +1,4 @@
-use Rattle.std.proofs.Common.{◌≡◌, ◌≤◌, max}
+use Rattle.std.proofs.Common.{◌≡◌, ◌≤◌, ◌+◌, ◌*◌, max}
 use Rattle.aos_typed.specs.declared.tree.TPlace.{size-TPlace}
 use Rattle.aos_typed.specs.declared.tree.TExpr.{size-TExpr}
 use Rattle.aos_typed.specs.Seen.{seen_place, seen_expr}
@@ -15,7 +15,13 @@ invariant-value_need-loop-rest l =
     (max l.need (value_need (seen_expr l.rest)) ≡ value_need (seen_expr l.fn.value)) × (size-TExpr l.rest ≤ size-TExpr l.fn.value)
 
 abbrev pub decreases-place_need : goal.decreases-place_need
-decreases-place_need l = size-TPlace l.place.now
+decreases-place_need l = 3 * size-TPlace l.place.now
+
+abbrev pub decreases-text_need : goal.decreases-text_need
+decreases-text_need l = 3 * size-TPlace l.place.now + 1
+
+abbrev pub decreases-texts_need : goal.decreases-texts_need
+decreases-texts_need l = 3 * max (size-TPlace l.left.now) (size-TPlace l.right.now) + 2
 
 abbrev pub decreases-value_need : goal.decreases-value_need
-decreases-value_need l = size-TExpr l.value.now
+decreases-value_need l = 3 * size-TExpr l.value.now
