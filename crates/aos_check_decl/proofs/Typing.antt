@@ -9,6 +9,7 @@ use mathlib.Core.Logic.{◌⊎◌, inl, inr}
 use Rattle.aos_tree.specs.declared.decl.Formals.{Formals}
 use Rattle.aos_tree.specs.declared.module.Module.{Module}
 use Rattle.aos_types.specs.declared.TheConstants.{MOST_SCALARS}
+use Rattle.aos_types.specs.declared.row.Basic.TheVariants as basic
 use Rattle.aos_types.specs.declared.row.TypeId.{TypeId}
 use Rattle.aos_types.specs.declared.row.TypeRow.{TypeRow}
 use Rattle.aos_types.specs.declared.row.TypeRow.TheVariants as row
@@ -52,7 +53,7 @@ pub use Rattle.aos_check_decl.proofs.TypingLimits.{variable_cells}
 -- The table of types behind whole modules: the basic types come first, rows name types that are there, and types are as those of
 -- a program are to be.
 pub record AreReady (types : List TypeRow) : Type 0 where
-  pub basic : (k : ℕ) → k < 9 → slice_get types k ≡ slice_get env.basic_rows k
+  pub basic : (k : ℕ) → k < 10 → slice_get types k ≡ slice_get env.basic_rows k
   pub closed : (k : ℕ) (r : TypeRow) → slice_get types k ≡ Some r → AreBelow (length types) r
   pub sound : AreTypes types
   pub parts : PartsAreTold types
@@ -68,7 +69,7 @@ pub record IsReady (before : List Home) (types : List TypeRow) : Type 0 where
 -- a type that is there, which may be an open array; no variable or parameter is of NIL's type or of ANY
 abbrev pub IsThere : List TypeRow → Option TypeId → Type 0
 IsThere types None = ⊥
-IsThere types (Some t) = (t.0 < length types) × ((t.0 < 7) ⊎ (9 ≤ t.0))
+IsThere types (Some t) = (t.0 < length types) × ((t.0 < 7) ⊎ (10 ≤ t.0))
 
 -- a scalar's type
 pub record IsResult (types : List TypeRow) (of : Option TypeId) : Type 0 where
@@ -122,12 +123,12 @@ pub record IsDeclared (number : ℕ) (before : List Home) (types : List TypeRow)
 
 -- What is known of the table before.
 
-table_nine : (before : List Home) (types : List TypeRow) → IsReady before types → 9 ≤ length types
-table_nine before types ready = slice_get_within types 8 row.Any (ready.table.basic 8 (omega arith))
+table_ten : (before : List Home) (types : List TypeRow) → IsReady before types → 10 ≤ length types
+table_ten before types ready = slice_get_within types 9 (row.Basic (basic.Text 0)) (ready.table.basic 9 (omega arith))
 
 table_old : (before : List Home) (types : List TypeRow) → IsReady before types → AreOld types
 table_old before types ready = record {
-  nine = table_nine before types ready;
+  ten = table_ten before types ready;
   closed = ready.table.closed;
   free = ready.table.sound.none_contains_itself;
   sizes = ready.table.sound.sizes;
@@ -155,8 +156,8 @@ module _ (number : ℕ) (before : List Home) (types : List TypeRow) (text : List
     stays : (k : ℕ) → k < length types → slice_get e.types k ≡ slice_get types k
     stays = whole.stays number before types text m ts ready.names ready.constants old led once none
 
-    basics : (k : ℕ) → k < 9 → slice_get e.types k ≡ slice_get env.basic_rows k
-    basics k low = stays k (let l = old.nine in omega (arith, l, low)) ∙ ready.table.basic k low
+    basics : (k : ℕ) → k < 10 → slice_get e.types k ≡ slice_get env.basic_rows k
+    basics k low = stays k (let l = old.ten in omega (arith, l, low)) ∙ ready.table.basic k low
 
     module _ (fine : limits.all_breaches (circles e.types) (cut (circles e.types) e.types) e (length types) m.decls ≡ []) where
       headed : IsHeaded (whole.second_walk number before types text m ts ready.names ready.constants old led once none fine)
@@ -209,12 +210,12 @@ module _ (number : ℕ) (before : List Home) (types : List TypeRow) (text : List
 
       -- Procedures.
 
-      e_nine : 9 ≤ length e.types
-      e_nine = let l = old.nine in omega (arith, l, long)
+      e_ten : 10 ≤ length e.types
+      e_ten = let l = old.ten in omega (arith, l, long)
 
-      is_there : (of : Option TypeId) → MayBeOpen number before types text m ts ready.names ready.constants old.nine led e.types of → IsThere e.types of
+      is_there : (of : Option TypeId) → MayBeOpen number before types text m ts ready.names ready.constants old.ten led e.types of → IsThere e.types of
       is_there None may = may
-      is_there (Some t) (inl low) = (omega (arith, low, e_nine), inl low)
+      is_there (Some t) (inl low) = (omega (arith, low, e_ten), inl low)
       is_there (Some t) (inr r) = (r.1, inr r.0)
 
       result_of_some : (formals : Option Formals) (r : HasResult formals) → limits.result_of (circles e.types) e.types formals ≡ Some r.name
@@ -224,7 +225,7 @@ module _ (number : ℕ) (before : List Home) (types : List TypeRow) (text : List
           (of : Option TypeId) → s.gives ≡ gives.Value of → IsKnown e.types of → HasResult p.formals → IsResult e.types of
       result_is j p s is there None value known r = absurd known
       result_is j p s is there (Some t) value told r =
-          let l = told_below e.types e_nine t told in
+          let l = told_below e.types e_ten t told in
           let right = result_kept (circles e.types) e.types e (length types) m.decls
           (whole.kept_whole number before types text m ts ready.names ready.constants old led once none fine) j p s is there in
           let rule : limits.result_breaches (circles e.types) e.types (Some r.name) (gives.Value (Some t)) ≡ [] =
@@ -268,7 +269,7 @@ module _ (number : ℕ) (before : List Home) (types : List TypeRow) (text : List
             let ps = types_of made.signature.parameters in
             let all = made.all in
             record {
-              parameters = implied (λ (a : Parameter). MayBeOpen number before types text m ts ready.names ready.constants old.nine led e.types a.of) (λ (a : Parameter). IsThere e.types a.of)
+              parameters = implied (λ (a : Parameter). MayBeOpen number before types text m ts ready.names ready.constants old.ten led e.types a.of) (λ (a : Parameter). IsThere e.types a.of)
                   (λ a there. is_there a.of there) made.signature.parameters made.there;
               few = made.count;
               first = (λ i. take (sym names_long i) (scope_there.2 i)) ∙ take-append_seam ps made.locals;

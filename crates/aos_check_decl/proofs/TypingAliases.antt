@@ -104,7 +104,7 @@ pub first_row_at : (types : List TypeRow) (ts : List Target) (k : ℕ) (t : Targ
 first_row_at types ts k t is =
     get_behind types (first_rows (length types) ts) k ∙ rows_at (length types) ts k ∙ ap (option_map (first_row (length types + k))) is
 
-module _ (types : List TypeRow) (ts : List Target) (nine : 9 ≤ length types) (sound : (k : ℕ) (x : Target) → slice_get ts k ≡ Some x → IsSound types (length ts) x) where
+module _ (types : List TypeRow) (ts : List Target) (ten : 10 ≤ length types) (sound : (k : ℕ) (x : Target) → slice_get ts k ≡ Some x → IsSound types (length ts) x) where
   abbrev first : ℕ
   first = length types
 
@@ -130,7 +130,7 @@ module _ (types : List TypeRow) (ts : List Target) (nine : 9 ≤ length types) (
   not_nil : (t : TypeId) → Meant t → t.0 ≡ 7 → ⊥
   not_nil t (inl (basic low)) is = omega (arith, low, is)
   not_nil t (inl (defined r high there closed)) is = omega (arith, high, is)
-  not_nil t (inr own) is = let l = own.0 in omega (arith, nine, l, is)
+  not_nil t (inr own) is = let l = own.0 in omega (arith, ten, l, is)
 
   is_proper : (t : TypeId) → Meant t → IsProper first ts t → proper first ts t ≡ Some t
   is_proper t meant own = by (t.0 == nil.0) (target_at first ts t) refl refl
@@ -162,7 +162,7 @@ module _ (types : List TypeRow) (ts : List Target) (nine : 9 ≤ length types) (
       let x = get_or ts k Own in
       let is = slice_get-get_or ts k Own (omega (arith, l, m)) in
       let there = ap (slice_get table) (sym number) ∙ first_row_at types ts k x is in
-      defined (first_row (first + k) x) (omega (arith, l, nine)) there (told_row (first + k) x (sound k x is))
+      defined (first_row (first + k) x) (omega (arith, l, ten)) there (told_row (first + k) x (sound k x is))
 
   pub stands : (t : TypeId) → Meant t → IsProper first ts (follow first ts (length ts) t) → (u : TypeId) × (stands_for first ts t ≡ Some u) × IsTold table u
   stands t meant own =

@@ -16,7 +16,7 @@ use Rattle.aos_symbols.specs.Scope.{Named, Scope, has, with_name}
 use Rattle.aos_symbols.specs.Home.{Home, add_record, fields_of as fields_known}
 use Rattle.aos_symbols.proofs.Each.{Each, implied}
 use Rattle.aos_symbols.proofs.Records.{fields_here, fields_other}
-use Rattle.aos_symbols.proofs.Told.{IsTold, basic, defined, GoOn, told_behind, get_end, AreToldParts, PartsAreTold}
+use Rattle.aos_symbols.proofs.Told.{IsTold, basic, defined, GoOn, told_behind, get_end, IsLength, AreToldParts, PartsAreTold}
 use Rattle.aos_check_decl.specs.Types.{fields_of, with_field}
 use Rattle.aos_check_decl.proofs.TypingLists.{set_here, set_other, set_gives, push_gives, get_below, get_at}
 
@@ -69,20 +69,25 @@ all_told : (types : List TypeRow) (ts : List TypeId) → ((p : TypeId) → IsOne
 all_told types [] each = tt
 all_told types (t ∷ ts) each = (each t (inl refl), all_told types ts (λ p one. each p (inr one)))
 
-told_parts : (types : List TypeRow) (r : TypeRow) → AreToldIn types r → AreToldParts types r
-told_parts types (row.Basic b) each = tt
-told_parts types (row.Array n t) each = each t (inl refl)
-told_parts types (row.Open t) each = tt
-told_parts types (row.Record None ts) each = all_told types ts each
-told_parts types (row.Record (Some b) ts) each = tt
-told_parts types (row.Pointer t) each = tt
-told_parts types (row.Object b ts) each = tt
-told_parts types (row.Procedure ts r) each = tt
-told_parts types row.Any each = tt
+-- where it is an array, it has one of the lengths that arrays have
+abbrev pub HasLength : TypeRow → Type 0
+HasLength (row.Array n t) = IsLength n
+HasLength r = Unit {0}
+
+told_parts : (types : List TypeRow) (r : TypeRow) → HasLength r → AreToldIn types r → AreToldParts types r
+told_parts types (row.Basic b) long each = tt
+told_parts types (row.Array n t) long each = (long, each t (inl refl))
+told_parts types (row.Open t) long each = tt
+told_parts types (row.Record None ts) long each = all_told types ts each
+told_parts types (row.Record (Some b) ts) long each = tt
+told_parts types (row.Pointer t) long each = tt
+told_parts types (row.Object b ts) long each = tt
+told_parts types (row.Procedure ts r) long each = tt
+told_parts types row.Any long each = tt
 
 pub parts_on : (ts us : List TypeRow) → GoOn ts us → (r : TypeRow) → AreToldParts ts r → AreToldParts us r
 parts_on ts us on (row.Basic b) told = tt
-parts_on ts us on (row.Array n t) told = on t told
+parts_on ts us on (row.Array n t) told = (told.0, on t told.1)
 parts_on ts us on (row.Open t) told = tt
 parts_on ts us on (row.Record None fs) told = implied (IsTold ts) (IsTold us) on fs told
 parts_on ts us on (row.Record (Some b) fs) told = tt
@@ -167,16 +172,16 @@ pub record Agree (types : List TypeRow) (rs : List (ℕ × Scope)) : Type 0 wher
   pub parts : PartsAreTold types
   pub fields : RecordsAgree types rs
 
-pub agree_set : (us : List TypeRow) (rs : List (ℕ × Scope)) (t : TypeId) (r : TypeRow) → is_open (Some r) ≡ false → IsNoRecord r → AreToldIn us r →
+pub agree_set : (us : List TypeRow) (rs : List (ℕ × Scope)) (t : TypeId) (r : TypeRow) → is_open (Some r) ≡ false → IsNoRecord r → HasLength r → AreToldIn us r →
     Agree us rs → Agree (slice_set us t.0 r) rs
-agree_set us rs t r closed other told agree = record {
-  parts = parts_set us t r closed (told_parts us r told) agree.parts;
+agree_set us rs t r closed other long told agree = record {
+  parts = parts_set us t r closed (told_parts us r long told) agree.parts;
   fields = records_set us rs t.0 r other agree.fields;
 }
 
-pub agree_push : (us : List TypeRow) (rs : List (ℕ × Scope)) (r : TypeRow) → IsNoRecord r → AreToldIn us r → Agree us rs → Agree (us ++ r ∷ []) rs
-agree_push us rs r other told agree = record {
-  parts = parts_push us r (told_parts us r told) agree.parts;
+pub agree_push : (us : List TypeRow) (rs : List (ℕ × Scope)) (r : TypeRow) → IsNoRecord r → HasLength r → AreToldIn us r → Agree us rs → Agree (us ++ r ∷ []) rs
+agree_push us rs r other long told agree = record {
+  parts = parts_push us r (told_parts us r long told) agree.parts;
   fields = records_push us rs r other agree.fields;
 }
 
@@ -193,7 +198,7 @@ agree_record_set us h t fs s below told same agree =
     let r = row.Record None fs in
     let x = get_at us t.0 below in
     record {
-      parts = parts_set us t r refl (told_parts us r told) agree.parts;
+      parts = parts_set us t r refl (told_parts us r tt told) agree.parts;
       fields = added us (slice_set us t.0 r) h t fs s (omega (arith, length-set us t.0 r)) (omega (arith, below, length-set us t.0 r)) (set_here us t.0 x.0 r x.1)
           (λ j l other. set_other us t.0 j r other) same agree.fields;
     }
@@ -203,7 +208,7 @@ pub agree_record_push : (us : List TypeRow) (h : Home) (fs : List TypeId) (s : S
 agree_record_push us h fs s told same agree =
     let r = row.Record None fs in
     record {
-      parts = parts_push us r (told_parts us r told) agree.parts;
+      parts = parts_push us r (told_parts us r tt told) agree.parts;
       fields = added us (us ++ r ∷ []) h (record { 0 = length us }) fs s (omega (arith, length-append us (r ∷ []))) (omega (arith, length-append us (r ∷ []))) (get_end us r)
           (λ j l other. get_below us (r ∷ []) j l) same agree.fields;
     }

@@ -168,7 +168,7 @@ basic_scalar (suc (suc (suc (suc (suc zero))))) l = refl
 basic_scalar (suc (suc (suc (suc (suc (suc zero)))))) l = refl
 basic_scalar (suc (suc (suc (suc (suc (suc (suc k))))))) l = absurd (omega (arith, l))
 
-module _ (flags : List Bool) (rows : List TypeRow) (begins : (k : ℕ) → k < 9 → slice_get rows k ≡ slice_get env.basic_rows k) where
+module _ (flags : List Bool) (rows : List TypeRow) (begins : (k : ℕ) → k < 10 → slice_get rows k ≡ slice_get env.basic_rows k) where
   scalar_row : (r : TypeRow) → is_open (Some r) ≡ false → judge.has_parts flags rows (Some r) ≡ false → is_scalar (Some r) ≡ true
   scalar_row (row.Basic b) closed no_parts = refl
   scalar_row (row.Array n t) closed no_parts = absurd (cc)

@@ -21,7 +21,7 @@ use Rattle.aos_symbols.specs.Home.{Home}
 use Rattle.aos_symbols.specs.Env as env
 use Rattle.aos_symbols.proofs.Each.{Each}
 use Rattle.aos_symbols.proofs.Holds.{Holds, broken}
-use Rattle.aos_symbols.proofs.Lookups.{IsPredeclared, a_type, a_truth, a_function, a_procedure, a_proper, another, IsOfAll, lookup_is, member_is}
+use Rattle.aos_symbols.proofs.Lookups.{IsPredeclared, a_type, a_truth, a_function, a_routine, another, IsOfAll, lookup_is, member_is}
 use Rattle.aos_check_decl.specs.Types as judge
 use Rattle.aos_check_decl.specs.Headings.{slot_meant, slot_in}
 use Rattle.aos_check_decl.proofs.TypingScopes.{names_at, scope_at}
@@ -44,14 +44,10 @@ predeclared_basic P basic m (a_function f) of e not_any = absurd (no_function of
   where
     no_function : (of : Option TypeId) → means.Function f ≡ means.Type of → ⊥
     no_function of e = cc
-predeclared_basic P basic m a_procedure of e not_any = absurd (no_new of e)
+predeclared_basic P basic m (a_routine r) of e not_any = absurd (no_routine of e)
   where
-    no_new : (of : Option TypeId) → means.New ≡ means.Type of → ⊥
-    no_new of e = cc
-predeclared_basic P basic m a_proper of e not_any = absurd (no_proper of e)
-  where
-    no_proper : (of : Option TypeId) → means.Proper ≡ means.Type of → ⊥
-    no_proper of e = cc
+    no_routine : (of : Option TypeId) → means.Routine r ≡ means.Type of → ⊥
+    no_routine of e = cc
 predeclared_basic P basic m another of e not_any = absurd (no_other of e)
   where
     no_other : (of : Option TypeId) → means.Other ≡ means.Type of → ⊥
@@ -97,7 +93,7 @@ module _ (e : Env) (Searched : Open → Type 0) (P : Option TypeId → Type 0) (
   type_meant_sound means.Out is at = broken P _ [] _
   type_meant_sound (means.Truth b) is at = broken P _ [] _
   type_meant_sound (means.Function f) is at = broken P _ [] _
-  type_meant_sound means.New is at = broken P _ [] _
+  type_meant_sound (means.Routine r) is at = broken P _ [] _
   type_meant_sound means.Proper is at = broken P _ [] _
   type_meant_sound means.Other is at = broken P _ [] _
 
@@ -115,7 +111,7 @@ module _ (e : Env) (Searched : Open → Type 0) (P : Option TypeId → Type 0) (
   in_module_sound (means.Procedure k) at n = broken P _ [] _
   in_module_sound (means.Truth b) at n = broken P _ [] _
   in_module_sound (means.Function f) at n = broken P _ [] _
-  in_module_sound means.New at n = broken P _ [] _
+  in_module_sound (means.Routine r) at n = broken P _ [] _
   in_module_sound means.Proper at n = broken P _ [] _
   in_module_sound means.Other at n = broken P _ [] _
 
@@ -138,8 +134,7 @@ predeclared_slot : (P : TypeId → Type 0) → ((t : TypeId) → t.0 ≤ 8 → P
 predeclared_slot P basic m (a_type u le other) t e = subst P (let same : u ≡ t = cc in same) (basic u le)
 predeclared_slot P basic m (a_truth b) t e = absurd (cc)
 predeclared_slot P basic m (a_function f) t e = absurd (cc)
-predeclared_slot P basic m a_procedure t e = absurd (cc)
-predeclared_slot P basic m a_proper t e = absurd (cc)
+predeclared_slot P basic m (a_routine r) t e = absurd (cc)
 predeclared_slot P basic m another t e = absurd (cc)
 
 meant_slot : (P : TypeId → Type 0) (m : Meaning) → ((of : Option TypeId) → m ≡ means.Type of → (t : TypeId) → of ≡ Some t → P t) → (t : TypeId) → slot_meant m ≡ Some t → P t
@@ -151,7 +146,7 @@ meant_slot P (means.Module k) h t e = absurd (cc)
 meant_slot P means.Out h t e = absurd (cc)
 meant_slot P (means.Truth b) h t e = absurd (cc)
 meant_slot P (means.Function f) h t e = absurd (cc)
-meant_slot P means.New h t e = absurd (cc)
+meant_slot P (means.Routine r) h t e = absurd (cc)
 meant_slot P means.Proper h t e = absurd (cc)
 meant_slot P means.Other h t e = absurd (cc)
 

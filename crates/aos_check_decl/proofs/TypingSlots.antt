@@ -52,7 +52,7 @@ no_slot (means.Module k) other t e = none-some t e
 no_slot means.Out other t e = none-some t e
 no_slot (means.Truth b) other t e = none-some t e
 no_slot (means.Function f) other t e = none-some t e
-no_slot means.New other t e = none-some t e
+no_slot (means.Routine r) other t e = none-some t e
 no_slot means.Proper other t e = none-some t e
 no_slot means.Other other t e = none-some t e
 

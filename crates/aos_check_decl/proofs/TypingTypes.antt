@@ -1,7 +1,9 @@
 -- A walk over declarations in a module's environment, and what is told of types on it: the types that are written break no rule,
 -- and so their numbers are known.
-use Rattle.std.proofs.Common.{◌≡◌, ℕ, ◌+◌, ◌<◌, ◌==◌, List, [], ◌∷◌, ◌++◌, length, replicate, pos, int_le, Bool, true, false, ◌&&◌, Option, Some, None, option_and_then, slice_get, slice_set, if◌then◌else◌, refl, sym, ap, ◌∙◌, subst, arith, length-append, length-set}
+use Rattle.std.proofs.Common.{◌≡◌, ℕ, ◌+◌, ◌<◌, ◌==◌, List, [], ◌∷◌, ◌++◌, length, replicate, ℤ, pos, negsuc, int_le, Bool, true, false, ◌&&◌, Option, Some, None, option_and_then, slice_get, slice_set, if◌then◌else◌, refl, sym, ap, ◌∙◌, subst, arith, length-append, length-set}
 use Rattle.std.specs.Prelude.{unsigned_abs}
+use Rattle.std.proofs.lemmas.Bool.{and_parts}
+use Rattle.std.proofs.lemmas.Int.{ints}
 use Rattle.std.proofs.lemmas.Option.{none-some}
 use mathlib.Core.Logic.{inl, inr}
 use Rattle.aos_base.specs.declared.text.Pos.{Pos}
@@ -30,6 +32,7 @@ use Rattle.aos_symbols.specs.Scope.{Scope, empty}
 use Rattle.aos_symbols.specs.Home.{Home, add_record}
 use Rattle.aos_symbols.specs.Env as env
 use Rattle.aos_symbols.proofs.Each.{Each, joined, implied, repeated}
+use Rattle.aos_symbols.proofs.Told.{IsLength}
 use Rattle.aos_symbols.proofs.Holds.{Holds, holds_bind, holds_walk, broken}
 use Rattle.aos_check_expr.specs.Expressions.{constant}
 use Rattle.aos_check_expr.proofs.Typing.{HasGood, GoodConstants}
@@ -39,7 +42,7 @@ use Rattle.aos_check_decl.specs.Types.{Met, met, FieldsMet, fields_met}
 use Rattle.aos_check_decl.specs.Aliases.{nil}
 use Rattle.aos_check_decl.proofs.TypingNames.{IsSearchedIn, AreOwnNamed, AreOthersNamed, all_named_in, named_sound}
 use Rattle.aos_check_decl.proofs.TypingScopes.{AreGood, AllGood, names_at}
-use Rattle.aos_check_decl.proofs.TypingFields.{IsNoRecord, field_variables}
+use Rattle.aos_check_decl.proofs.TypingFields.{IsNoRecord, HasLength, field_variables}
 
 -- A walk: the module's number, the modules before it, its name and text, its scopes as its names make them, how many of them are those of
 -- types, and the first table of types; and what is told of types. `Known` is told of the types of variables, elements and fields,
@@ -74,9 +77,9 @@ pub record Telling : Type 1 where
   pub none_all : AreAll [] []
   pub more_all : (ts : List TypeRow) (vs : List (Option TypeId)) (us : List TypeId) (n : ℕ) (of : Option TypeId) → Known ts of → AreAll vs us →
       AreAll (vs ++ replicate n of) (us ++ judge.fields_of n of)
-  pub agree_set : (ts : List TypeRow) (rs : List (ℕ × Scope)) (t : TypeId) (r : TypeRow) → is_open (Some r) ≡ false → IsNoRecord r →
+  pub agree_set : (ts : List TypeRow) (rs : List (ℕ × Scope)) (t : TypeId) (r : TypeRow) → is_open (Some r) ≡ false → IsNoRecord r → HasLength r →
       ((p : TypeId) → IsOneOf p (named_in r) → Known ts (Some p)) → Agrees ts rs → Agrees (slice_set ts t.0 r) rs
-  pub agree_push : (ts : List TypeRow) (rs : List (ℕ × Scope)) (r : TypeRow) → IsNoRecord r →
+  pub agree_push : (ts : List TypeRow) (rs : List (ℕ × Scope)) (r : TypeRow) → IsNoRecord r → HasLength r →
       ((p : TypeId) → IsOneOf p (named_in r) → Known ts (Some p)) → Agrees ts rs → Agrees (ts ++ r ∷ []) rs
   pub agree_open : (ts : List TypeRow) (rs : List (ℕ × Scope)) (t : TypeId) → Agrees ts rs → Agrees (ts ++ row.Open t ∷ []) rs
   pub agree_unsettled : (ts : List TypeRow) (rs : List (ℕ × Scope)) (t : TypeId) → Known ts None → Agrees ts rs → Agrees (slice_set ts t.0 (row.Open nil)) rs
@@ -101,6 +104,23 @@ each_of : (P : TypeId → Type 0) (ts : List TypeId) → Each P ts → (p : Type
 each_of P [] all p h = absurd h
 each_of P (t ∷ ts) all p (inl e) = subst P e all.0
 each_of P (t ∷ ts) all p (inr h) = each_of P ts all.1 p h
+
+-- the length of an array, and one or more of them
+record HasNumber (n : Option ℕ) : Type 0 where
+  number : ℕ
+  is : n ≡ Some number
+  long : IsLength number
+
+record HasLengths (ns : Option (List ℕ)) : Type 0 where
+  first : ℕ
+  more : List ℕ
+  is : ns ≡ Some (first ∷ more)
+  long : IsLength first
+  all_long : Each IsLength more
+
+length_fits : (n : ℤ) → (int_le (pos 1) n && int_le n (pos MOST_SCALARS)) ≡ true → IsLength (unsigned_abs n)
+length_fits (pos n) e = let p = and_parts (int_le (pos 1) (pos n)) (int_le (pos n) (pos MOST_SCALARS)) e in (omega (arith, ints, p.0), omega (arith, ints, p.1))
+length_fits (negsuc n) e = absurd (cc)
 
 module _ (c : Telling) where
   open c use {Known, There, GoesTo}
@@ -203,21 +223,17 @@ module _ (c : Telling) where
         by true there = fit.good o.scope s there
         by false there = by_before (slice_get e.before o.home) refl there
 
-    abbrev HasNumber : Option ℕ → Type 0
-    HasNumber n = (k : ℕ) × (n ≡ Some k)
-
-    abbrev HasLengths : Option (List ℕ) → Type 0
-    HasLengths ns = (k : ℕ) × (ks : List ℕ) × (ns ≡ Some (k ∷ ks))
-
     length_given_sound : (l : Literal) (at : Pos) → Holds HasNumber (judge.length_given (Some l) at)
-    length_given_sound (literal.Int n) at = by (int_le (pos 1) n && int_le n (pos MOST_SCALARS))
+    length_given_sound (literal.Int n) at = by (int_le (pos 1) n && int_le n (pos MOST_SCALARS)) refl
       where
-        by : (b : Bool) → Holds HasNumber (if b then kept (Some (unsigned_abs n)) else judge.length_given (Some (literal.Bool true)) at)
-        by true = λ h. (unsigned_abs n, refl)
-        by false = broken HasNumber _ [] _
+        by : (b : Bool) → (int_le (pos 1) n && int_le n (pos MOST_SCALARS)) ≡ b →
+            Holds HasNumber (if b then kept (Some (unsigned_abs n)) else judge.length_given (Some (literal.Bool true)) at)
+        by true fits = λ h. record { number = unsigned_abs n; is = refl; long = length_fits n fits }
+        by false fits = broken HasNumber _ [] _
     length_given_sound (literal.Bool b) at = broken HasNumber _ [] _
     length_given_sound (literal.Char x) at = broken HasNumber _ [] _
     length_given_sound (literal.Set s) at = broken HasNumber _ [] _
+    length_given_sound (literal.Text t) at = broken HasNumber _ [] _
 
     length_sound : (e : Env) → IsFit path e → (x : Expr) → Holds HasNumber (judge.length_of e x)
     length_sound e fit x =
@@ -227,12 +243,18 @@ module _ (c : Telling) where
     more_lengths : (e : Env) → IsFit path e → (ns : Option (List ℕ)) (x : Expr) → HasLengths ns → Holds HasLengths (judge.with_length e ns x)
     more_lengths e fit ns x are =
         holds_bind HasNumber HasLengths (judge.length_of e x) (λ n. kept (judge.one_more ns n)) (length_sound e fit x)
-        (λ n is h. (are.0, are.1 ++ is.0 ∷ [], (λ i. judge.one_more (are.2 i) (is.1 i))))
+        (λ n is h. record {
+          first = are.first;
+          more = are.more ++ is.number ∷ [];
+          is = λ i. judge.one_more (are.is i) (is.is i);
+          long = are.long;
+          all_long = joined IsLength are.more (is.number ∷ []) are.all_long (is.long, tt);
+        })
 
     first_length : (e : Env) → IsFit path e → (x : Expr) → Holds HasLengths (judge.with_length e (Some []) x)
     first_length e fit x =
         holds_bind HasNumber HasLengths (judge.length_of e x) (λ n. kept (judge.one_more (Some []) n)) (length_sound e fit x)
-        (λ n is h. (is.0, [], ap (judge.one_more (Some [])) is.1))
+        (λ n is h. record { first = is.number; more = []; is = ap (judge.one_more (Some [])) is.is; long = is.long; all_long = tt })
 
     lengths_sound : (e : Env) → IsFit path e → (x : Expr) (xs : List Expr) → Holds HasLengths (judge.lengths_of e (x ∷ xs))
     lengths_sound e fit x xs =
@@ -262,8 +284,8 @@ module _ (c : Telling) where
     AreKnown ts r = (p : TypeId) → IsOneOf p (named_in r) → c.Known ts (Some p)
 
     placed_sound : (e : Env) → IsFit path e → (slot : Option TypeId) → IsSlotted slot → (at : Pos) (r : TypeRow) → is_open (Some r) ≡ false →
-        IsNoRecord r → AreKnown e.types r → IsMet e slot (judge.placed slot at r e)
-    placed_sound e fit (Some t) ok at r closed other known = record {
+        IsNoRecord r → HasLength r → AreKnown e.types r → IsMet e slot (judge.placed slot at r e)
+    placed_sound e fit (Some t) ok at r closed other long known = record {
       beyond = record {
         number = refl;
         before = refl;
@@ -272,13 +294,13 @@ module _ (c : Telling) where
         scopes = refl;
         signatures = refl;
         path = refl;
-        agree = c.agree_set e.types e.here.records t r closed other known;
+        agree = c.agree_set e.types e.here.records t r closed other long known;
         goes = c.set e.types t r fit.table ok closed (λ p one. c.known_there e.types (Some p) (known p one));
         long = ap (λ n. n + length e.places) (length-set e.types t.0 r);
       };
       of = tt;
     }
-    placed_sound e fit None ok at r closed other known = record {
+    placed_sound e fit None ok at r closed other long known = record {
       beyond = record {
         number = refl;
         before = refl;
@@ -287,7 +309,7 @@ module _ (c : Telling) where
         scopes = refl;
         signatures = refl;
         path = refl;
-        agree = c.agree_push e.types e.here.records r other known;
+        agree = c.agree_push e.types e.here.records r other long known;
         goes = c.push e.types r (λ p one. c.known_there e.types (Some p) (known p one));
         long = omega (arith, length-append e.types (r ∷ []), length-append e.places (at ∷ []));
       };
@@ -295,29 +317,29 @@ module _ (c : Telling) where
     }
 
     -- an array of what is met
-    array_sound : (e : Env) → IsFit path e → (slot : Option TypeId) → IsSlotted slot → (at : Pos) (n : ℕ) (f : Env) (of : Option TypeId) →
+    array_sound : (e : Env) → IsFit path e → (slot : Option TypeId) → IsSlotted slot → (at : Pos) (n : ℕ) → IsLength n → (f : Env) (of : Option TypeId) →
         IsMet e None (met f of) → IsMet e slot (judge.array_of slot at n (met f of))
-    array_sound e fit slot ok at n f None is = record { beyond = is.beyond; of = of_slot slot f.types None is.of }
-    array_sound e fit slot ok at n f (Some t) is =
+    array_sound e fit slot ok at n long f None is = record { beyond = is.beyond; of = of_slot slot f.types None is.of }
+    array_sound e fit slot ok at n long f (Some t) is =
         met_on e f slot (judge.placed slot at (row.Array n t) f) is.beyond
-        (placed_sound f (fit_beyond path e f fit is.beyond) slot ok at (row.Array n t) refl (λ ts e. cc) (λ p one. element p one))
+        (placed_sound f (fit_beyond path e f fit is.beyond) slot ok at (row.Array n t) refl (λ ts e. cc) long (λ p one. element p one))
       where
         element : (p : TypeId) → IsOneOf p (t ∷ []) → c.Known f.types (Some p)
         element p (inl e) = subst (λ (q : TypeId). c.Known f.types (Some q)) e is.of
         element p (inr h) = absurd h
 
-    inner_sound : (e : Env) → IsFit path e → (at : Pos) (ns : List ℕ) (m : Met) → IsMet e None m → IsMet e None (judge.inner_arrays at ns m)
-    inner_sound e fit at [] m is = is
-    inner_sound e fit at (n ∷ ns) m is =
+    inner_sound : (e : Env) → IsFit path e → (at : Pos) (ns : List ℕ) → Each IsLength ns → (m : Met) → IsMet e None m → IsMet e None (judge.inner_arrays at ns m)
+    inner_sound e fit at [] long m is = is
+    inner_sound e fit at (n ∷ ns) long m is =
         let i = judge.inner_arrays at ns m in
-        array_sound e fit None tt at n i.env i.of (inner_sound e fit at ns m is)
+        array_sound e fit None tt at n long.0 i.env i.of (inner_sound e fit at ns long.1 m is)
 
     arrays_sound : (e : Env) → IsFit path e → (slot : Option TypeId) → IsSlotted slot → (at : Pos) (ns : Option (List ℕ)) → HasLengths ns → (m : Met) →
         IsMet e None m → IsMet e slot (judge.arrays slot at ns m)
     arrays_sound e fit slot ok at ns are m is =
-        let i = judge.inner_arrays at are.1 m in
-        subst (λ (ns : Option (List ℕ)). IsMet e slot (judge.arrays slot at ns m)) (sym are.2)
-        (array_sound e fit slot ok at are.0 i.env i.of (inner_sound e fit at are.1 m is))
+        let i = judge.inner_arrays at are.more m in
+        subst (λ (ns : Option (List ℕ)). IsMet e slot (judge.arrays slot at ns m)) (sym are.is)
+        (array_sound e fit slot ok at are.first are.long i.env i.of (inner_sound e fit at are.more are.all_long m is))
 
     array_in_sound : (e : Env) → IsFit path e → (slot : Option TypeId) → IsSlotted slot → (at : Pos) (xs : List Expr) (element : Judged Met) →
         Holds (IsMet e None) element → Holds (IsMet e slot) (judge.array_in slot e at xs element)
@@ -398,7 +420,7 @@ module _ (c : Telling) where
     object_sound e fit (Some t) ok at base decls body =
         let object = judge.placed (Some t) at (row.Object None []) e in
         chosen (IsMet e (Some t)) (env.innermost e.path == 0) (judged (judge.object_breaches e at base decls body) object) (judge.refused_type 26 at e)
-        (λ h. placed_sound e fit (Some t) ok at (row.Object None []) refl (λ ts e. cc) (λ p none. absurd none)) (broken (IsMet e (Some t)) _ [] _)
+        (λ h. placed_sound e fit (Some t) ok at (row.Object None []) refl (λ ts e. cc) tt (λ p none. absurd none)) (broken (IsMet e (Some t)) _ [] _)
 
     -- Types.
 

@@ -37,14 +37,14 @@ first_long : (k : ℕ) (ts : List Target) → length (first_rows k ts) ≡ lengt
 first_long k [] = refl
 first_long k (t ∷ ts) = ap suc (first_long (suc k) ts)
 
-pub told_below : (types : List TypeRow) → 9 ≤ length types → (t : TypeId) → IsTold types t → t.0 < length types
-told_below types nine t (basic low) = omega (arith, nine, low)
-told_below types nine t (defined r high there closed) = slice_get_within types t.0 r there
+pub told_below : (types : List TypeRow) → 10 ≤ length types → (t : TypeId) → IsTold types t → t.0 < length types
+told_below types ten t (basic low) = omega (arith, ten, low)
+told_below types ten t (defined r high there closed) = slice_get_within types t.0 r there
 
 module _ (number : ℕ) (before : List Home) (types : List TypeRow) (text : List ℕ) (m : Module) (ts : List Target)
     (others : AreOthersNamed before (IsKnown types))
     (constants : (j : ℕ) (h : Home) (k : ℕ) (s : Scope) → slice_get before j ≡ Some h → slice_get h.scopes k ≡ Some s → AreGood s.constants)
-    (nine : 9 ≤ length types) (led : AreLed types (length (all_type_defs m.decls)) (all_type_defs m.decls) ts) where
+    (ten : 10 ≤ length types) (led : AreLed types (length (all_type_defs m.decls)) (all_type_defs m.decls) ts) where
   abbrev pub first : List TypeRow
   first = types ++ first_rows (length types) ts
 
@@ -79,7 +79,7 @@ module _ (number : ℕ) (before : List Home) (types : List TypeRow) (text : List
   number_is k below = number_of (λ k. stands_for (length types) ts (record { 0 = length types + k })) (length ts) k (omega (arith, below, count))
 
   pub meant_below : (t : TypeId) → Means t → t.0 < length first
-  meant_below t (inl told) = let l = told_below types nine t told in omega (arith, l, table_long)
+  meant_below t (inl told) = let l = told_below types ten t told in omega (arith, l, table_long)
   meant_below t (inr own) = let l = own.1 in omega (arith, l, table_long)
 
   -- what a definition stands for is there
@@ -91,7 +91,7 @@ module _ (number : ℕ) (before : List Home) (types : List TypeRow) (text : List
   number_below k below t e =
       let from : TypeId = record { 0 = length types + k } in
       let to = follow (length types) ts (length ts) from in
-      let means = follow_meant types ts nine sound (length ts) from (place_meant k (omega (arith, below, count))) in
+      let means = follow_meant types ts ten sound (length ts) from (place_meant k (omega (arith, below, count))) in
       let same = (proper_says (length types) ts to t (sym (number_is k below) ∙ e)).0 in
       meant_below t (subst Means same means)
 
@@ -151,13 +151,13 @@ module _ (number : ℕ) (before : List Home) (types : List TypeRow) (text : List
       let b = goes.long in
       omega (arith, a, b)
 
-  first_nine : 9 ≤ length first
-  first_nine = omega (arith, nine, table_long)
+  first_ten : 10 ≤ length first
+  first_ten = omega (arith, ten, table_long)
 
   pub low_below : (us : List TypeRow) → GoesTo first us → (t : TypeId) → t.0 ≤ 8 → IsBelow us (Some t)
   low_below us goes t low u e =
       let l = goes.long in
-      subst (λ (t : TypeId). t.0 < length us) (same_Some t u e) (omega (arith, l, low, first_nine))
+      subst (λ (t : TypeId). t.0 < length us) (same_Some t u e) (omega (arith, l, low, first_ten))
 
   pub open_nil : (us : List TypeRow) → GoesTo first us → (p : TypeId) → IsOneOf p (nil ∷ []) → IsBelow us (Some p)
   open_nil us goes p (inl e) = subst (λ (p : TypeId). IsBelow us (Some p)) e (low_below us goes nil (omega arith))
@@ -191,8 +191,8 @@ module _ (number : ℕ) (before : List Home) (types : List TypeRow) (text : List
     AreAll = λ vs us. Unit {0};
     none_all = tt;
     more_all = λ ts vs us n of known all. tt;
-    agree_set = λ ts rs t r closed other known a. tt;
-    agree_push = λ ts rs r other known a. tt;
+    agree_set = λ ts rs t r closed other long known a. tt;
+    agree_push = λ ts rs r other long known a. tt;
     agree_open = λ ts rs t a. tt;
     agree_unsettled = λ ts rs t known a. tt;
     agree_record_set = λ ts h t us s goes slot known all a. tt;
@@ -200,7 +200,7 @@ module _ (number : ℕ) (before : List Home) (types : List TypeRow) (text : List
     own = scopes_typed text before standing m (IsBelow first) number_below;
     others = λ j h s w x of there own found means t e.
         let known = subst (IsKnown types) e (others j h s w x of there own found means) in
-        let l = told_below types nine t known in
+        let l = told_below types ten t known in
         omega (arith, l, table_long);
     constants = constants;
   }
@@ -247,7 +247,7 @@ module _ (number : ℕ) (before : List Home) (types : List TypeRow) (text : List
   -- a parameter's type, which may be an open array
   abbrev pub MayBeOpen : List TypeRow → Option TypeId → Type 0
   MayBeOpen us None = ⊥
-  MayBeOpen us (Some t) = (t.0 < 7) ⊎ ((9 ≤ t.0) × (t.0 < length us))
+  MayBeOpen us (Some t) = (t.0 < 7) ⊎ ((10 ≤ t.0) × (t.0 < length us))
 
   pub record GoesOn (us vs : List TypeRow) : Type 0 where
     pub long : length us ≤ length vs
@@ -267,10 +267,10 @@ module _ (number : ℕ) (before : List Home) (types : List TypeRow) (text : List
   push_on us r = record { long = omega (arith, length-append us (r ∷ [])); on = told_behind us (r ∷ []) }
 
   pub last_told : (us : List TypeRow) (r : TypeRow) → GoesOn first us → is_open (Some r) ≡ false → IsTold (us ++ r ∷ []) (record { 0 = length us })
-  last_told us r goes closed = let l = goes.long in defined r (omega (arith, l, first_nine)) (get_end us r) closed
+  last_told us r goes closed = let l = goes.long in defined r (omega (arith, l, first_ten)) (get_end us r) closed
 
   pub last_open : (us : List TypeRow) (r : TypeRow) → GoesOn first us → MayBeOpen (us ++ r ∷ []) (Some (record { 0 = length us }))
-  last_open us r goes = let l = goes.long in inr (omega (arith, l, first_nine), omega (arith, length-append us (r ∷ [])))
+  last_open us r goes = let l = goes.long in inr (omega (arith, l, first_ten), omega (arith, length-append us (r ∷ [])))
 
   -- the variables of a record are the types in its row
   abbrev pub AreSome : List (Option TypeId) → List TypeId → Type 0
@@ -285,7 +285,7 @@ module _ (number : ℕ) (before : List Home) (types : List TypeRow) (text : List
     pub number_known : (k : ℕ) → k < length (all_type_defs m.decls) → IsKnown first (number_at standing k)
     number_known k below =
         let from : TypeId = record { 0 = length types + k } in
-        let r = stands types ts nine sound from (place_meant k (omega (arith, below, count))) (ends from) in
+        let r = stands types ts ten sound from (place_meant k (omega (arith, below, count))) (ends from) in
         subst (IsKnown first) (sym (number_is k below ∙ r.1)) r.2
 
     abbrev pub told : Telling
@@ -316,8 +316,8 @@ module _ (number : ℕ) (before : List Home) (types : List TypeRow) (text : List
       AreAll = AreSome;
       none_all = refl;
       more_all = λ us vs fs n of. more_fields us vs fs n of;
-      agree_set = λ us rs t r closed other known a. agree_set us rs t r closed other known a;
-      agree_push = λ us rs r other known a. agree_push us rs r other known a;
+      agree_set = λ us rs t r closed other long known a. agree_set us rs t r closed other long known a;
+      agree_push = λ us rs r other long known a. agree_push us rs r other long known a;
       agree_open = λ us rs t a. agree_open us rs t a;
       agree_unsettled = λ us rs t known a. absurd known;
       agree_record_set = λ us h t fs s goes slot known all a. (let l = goes.long in agree_record_set us h t fs s (omega (arith, slot, l)) known all a);

@@ -23,7 +23,7 @@ use Rattle.aos_symbols.specs.Home.{Home}
 use Rattle.aos_symbols.specs.Names.{name_breaches}
 use Rattle.aos_symbols.specs.Env as env
 use Rattle.aos_symbols.proofs.Each.{Each}
-use Rattle.aos_symbols.proofs.Told.{IsKnown, GoOn, told_behind, AreToldParts, PartsAreTold}
+use Rattle.aos_symbols.proofs.Told.{IsKnown, GoOn, told_behind, IsLength, AreToldParts, PartsAreTold}
 use Rattle.aos_check_decl.specs.declared.aliases.Target.{Target}
 use Rattle.aos_check_decl.specs.declared.aliases.Target.TheVariants.{Own, Of, Nothing}
 use Rattle.aos_check_decl.specs.Aliases.{first_row, first_rows, follow}
@@ -47,7 +47,7 @@ use Rattle.aos_check_decl.proofs.TypingWalks.{GoesTo, first, standing, count, ta
 
 -- what is known of the types before
 pub record AreOld (types : List TypeRow) : Type 0 where
-  pub nine : 9 ≤ length types
+  pub ten : 10 ≤ length types
   pub closed : AllBelow (length types) types
   pub free : NoneContainsItself types
   pub sizes : (t : TypeId) → scalars types t ≤ MOST_SCALARS
@@ -58,10 +58,10 @@ module _ (number : ℕ) (before : List Home) (types : List TypeRow) (text : List
     (constants : (j : ℕ) (h : Home) (k : ℕ) (s : Scope) → slice_get before j ≡ Some h → slice_get h.scopes k ≡ Some s → AreGood s.constants)
     (old : AreOld types) (led : AreLed types (length (all_type_defs m.decls)) (all_type_defs m.decls) ts) (once : name_breaches text m ≡ []) where
   abbrev pub table : List TypeRow
-  table = first number before types text m ts others constants old.nine led
+  table = first number before types text m ts others constants old.ten led
 
   abbrev pub own : List (Option TypeId)
-  own = standing number before types text m ts others constants old.nine led
+  own = standing number before types text m ts others constants old.ten led
 
   abbrev pub begun : Env
   begun = entered number before table text m own
@@ -78,13 +78,18 @@ module _ (number : ℕ) (before : List Home) (types : List TypeRow) (text : List
   on_table = told_behind types (first_rows (length types) ts)
 
   abbrev is_sound : (k : ℕ) (x : Target) → slice_get ts k ≡ Some x → IsSound types (length ts) x
-  is_sound = sound number before types text m ts others constants old.nine led
+  is_sound = sound number before types text m ts others constants old.ten led
+
+  length_one : IsLength 1
+  length_one = (omega arith, omega arith)
 
   first_parts : (k : ℕ) (x : Target) → k < length ts → slice_get ts k ≡ Some x → AreToldParts table (first_row (length types + k) x)
-  first_parts k Own l is =
-      told_first types ts old.nine is_sound (record { 0 = length types + k })
-      (place_meant number before types text m ts others constants old.nine led k l)
-  first_parts k (Of u) l is = told_first types ts old.nine is_sound u (is_sound k (Of u) is)
+  first_parts k Own l is = (
+    length_one,
+    told_first types ts old.ten is_sound (record { 0 = length types + k })
+        (place_meant number before types text m ts others constants old.ten led k l),
+  )
+  first_parts k (Of u) l is = (length_one, told_first types ts old.ten is_sound u (is_sound k (Of u) is))
   first_parts k Nothing l is = tt
 
   table_parts : PartsAreTold table
@@ -102,10 +107,10 @@ module _ (number : ℕ) (before : List Home) (types : List TypeRow) (text : List
   -- The first walk.
 
   abbrev first_walk : Telling
-  first_walk = outline number before types text m ts others constants old.nine led
+  first_walk = outline number before types text m ts others constants old.ten led
 
   abbrev IsFurther : List TypeRow → List TypeRow → Type 0
-  IsFurther = GoesTo number before types text m ts others constants old.nine led
+  IsFurther = GoesTo number before types text m ts others constants old.ten led
 
   fit_first : IsFit first_walk path begun
   fit_first = record {
@@ -129,7 +134,7 @@ module _ (number : ℕ) (before : List Home) (types : List TypeRow) (text : List
 
     outlined : IsHeaded first_walk path first_searched m.decls begun ended
     outlined =
-        let all = all_numbers number before types text m ts others constants old.nine led in
+        let all = all_numbers number before types text m ts others constants old.ten led in
         headings_sound first_walk path first_searched refl m.decls refl
         (own_slots first_walk own before m refl (module_alike text m once) all)
         (procedures_slots first_walk own path first_searched before m refl (procedures_alike text m once) all) begun fit_first none
@@ -138,12 +143,12 @@ module _ (number : ℕ) (before : List Home) (types : List TypeRow) (text : List
     goes = outlined.goes
 
     long_table : length table ≡ length types + length ts
-    long_table = table_long number before types text m ts others constants old.nine led
+    long_table = table_long number before types text m ts others constants old.ten led
 
     pub long : length ended.types ≡ length types + (length (all_type_defs m.decls) + length ended.places)
     long =
         let l = outlined.long in
-        let c = count number before types text m ts others constants old.nine led in
+        let c = count number before types text m ts others constants old.ten led in
         omega (arith, l, c, long_table)
 
     pub stays : (k : ℕ) → k < length types → slice_get ended.types k ≡ slice_get types k
@@ -161,9 +166,9 @@ module _ (number : ℕ) (before : List Home) (types : List TypeRow) (text : List
     row_below k Own l is p (inr h) = absurd h
     row_below k (Of u) l is p (inl e) =
         subst (λ (p : TypeId). p.0 < length table) e
-        (meant_below number before types text m ts others constants old.nine led u (sound number before types text m ts others constants old.nine led k (Of u) is))
+        (meant_below number before types text m ts others constants old.ten led u (sound number before types text m ts others constants old.ten led k (Of u) is))
     row_below k (Of u) l is p (inr h) = absurd h
-    row_below k Nothing l is p one = absurd (sound number before types text m ts others constants old.nine led k Nothing is)
+    row_below k Nothing l is p one = absurd (sound number before types text m ts others constants old.ten led k Nothing is)
 
     table_closed : AllBelow (length table) table
     table_closed k r is = by (cases_lt k (length types))
@@ -214,17 +219,17 @@ module _ (number : ℕ) (before : List Home) (types : List TypeRow) (text : List
       -- The second walk.
 
       pub all_end : (t : TypeId) → IsProper (length types) ts (follow (length types) ts (length ts) t)
-      all_end = ends types ts old.nine (sound number before types text m ts others constants old.nine led) ended.types free alias_rows
+      all_end = ends types ts old.ten (sound number before types text m ts others constants old.ten led) ended.types free alias_rows
 
       abbrev pub second_walk : Telling
-      second_walk = told number before types text m ts others constants old.nine led all_end
+      second_walk = told number before types text m ts others constants old.ten led all_end
 
       abbrev pub second_searched : Each (IsSearched second_walk) path
       second_searched = (inl refl, tt)
 
       pub headed : IsHeaded second_walk path second_searched m.decls begun ended
       headed =
-          let all = told_numbers number before types text m ts others constants old.nine led all_end in
+          let all = told_numbers number before types text m ts others constants old.ten led all_end in
           headings_sound second_walk path second_searched refl m.decls refl (own_slots second_walk own before m refl (module_alike text m once) all)
           (procedures_slots second_walk own path second_searched before m refl (procedures_alike text m once) all) begun (record {
             number_is = refl;

@@ -89,7 +89,7 @@ module _ (first : ℕ) (ts : List Target) where
 -- The row of a definition's number before any definition is met: an array of itself is yet to come. A name for another type
 -- holds it, as an array of one would, so that a circle of names is a type that contains itself.
 abbrev pub first_row : ℕ → Target → TypeRow
-first_row k Own = row.Array 0 (record { 0 = k })
+first_row k Own = row.Array 1 (record { 0 = k })
 first_row k (Of t) = row.Array 1 t
 first_row k Nothing = row.Open nil
 

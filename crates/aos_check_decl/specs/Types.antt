@@ -112,6 +112,7 @@ length_given (Some (literal.Int n)) at =
 length_given (Some (literal.Bool b)) at = judged (breach 20 at) None
 length_given (Some (literal.Char c)) at = judged (breach 20 at) None
 length_given (Some (literal.Set s)) at = judged (breach 20 at) None
+length_given (Some (literal.Text t)) at = judged (breach 20 at) None
 
 abbrev pub length_of : Env → Expr → Judged (Option ℕ)
 length_of e x = bind (constant e x) (λ v. length_given v (out-Expr x).pos)

@@ -302,7 +302,7 @@ fn first_row(number: u32, target: Target) -> TypeRow
     ensures { result ≡ judge.first_row number target }
 {
     match target {
-        Target::Own => TypeRow::Array(0, TypeId(number)),
+        Target::Own => TypeRow::Array(1, TypeId(number)),
         Target::Of(of) => TypeRow::Array(1, of),
         Target::Nothing => TypeRow::Open(NIL),
     }

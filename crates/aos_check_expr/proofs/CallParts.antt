@@ -27,6 +27,7 @@ use Rattle.aos_check_expr.proofs.Good.{IsGood, MayBe, greatest_good, least_good}
 use Rattle.aos_check_expr.proofs.Sound.{IsStep, TestsOne, applied_step, applied_tests, converted_step, converted_tests}
 use Rattle.aos_check_expr.proofs.Parts.{argument_part, arguments_part, limit_part}
 use Rattle.aos_check_expr.proofs.Spots.{IsWhole, Part, Valued, refused_part, guarded_part}
+use Rattle.aos_check_expr.proofs.Worded.{len_alone_part, len_in_part}
 
 -- a conversion is into an integer type
 abbrev IsRightCallee : Callee → Type 0
@@ -106,6 +107,22 @@ module _ (p : Program) (e : Env) where
   of_two at (j ∷ k ∷ []) parts (x ∷ y ∷ z ∷ xs) = refused_part p e 34 at
   of_two at (j ∷ k ∷ l ∷ js) parts xs = refused_part p e 34 at
 
+  -- LEN of an array, and of one of its dimensions
+  length_of : (at : Pos) (js : List (Judged Answer)) → Parts js → (xs : List Expr) → IsFine (judge.len_of e at js xs)
+  length_of at [] parts xs = refused_part p e 34 at
+  length_of at (j ∷ []) parts [] = refused_part p e 34 at
+  length_of at (j ∷ []) parts (x ∷ []) =
+      holds_bind (Part p e) (Valued p e) j (λ a. judge.len_alone e (out-Expr x).pos a) parts.0 (λ a g. len_alone_part p e (out-Expr x).pos a g)
+  length_of at (j ∷ []) parts (x ∷ y ∷ xs) = refused_part p e 34 at
+  length_of at (j ∷ k ∷ []) parts [] = refused_part p e 34 at
+  length_of at (j ∷ k ∷ []) parts (x ∷ []) = refused_part p e 34 at
+  length_of at (j ∷ k ∷ []) parts (x ∷ y ∷ []) =
+      holds_bind (Part p e) (Valued p e) j (λ a. bind k (λ d. judge.len_in e (out-Expr x).pos (out-Expr y).pos a d)) parts.0
+      (λ a g. holds_bind (Part p e) (Valued p e) k (λ d. judge.len_in e (out-Expr x).pos (out-Expr y).pos a d) parts.1.0
+      (λ d h. len_in_part p e (out-Expr x).pos (out-Expr y).pos a d g h))
+  length_of at (j ∷ k ∷ []) parts (x ∷ y ∷ z ∷ xs) = refused_part p e 34 at
+  length_of at (j ∷ k ∷ l ∷ js) parts xs = refused_part p e 34 at
+
   -- what can't be called
   guard_part : (is_guard : Bool) (at first : Pos) (j : Judged Spot) → IsFine (bind j (λ a. desig.guarded e a.known.of is_guard at first))
   guard_part is_guard at first j =
@@ -124,6 +141,7 @@ module _ (p : Program) (e : Env) where
 
   called : (c : Callee) → IsRightCallee c → (h : Head) (at : Pos) (js : List (Judged Answer)) → Parts js → (xs : List Expr) → IsFine (judge.called_by e c h at js xs)
   called (Calls function.Max) right h at js parts xs = limit_of_type op.greatest_value greatest_good xs h.first
+  called (Calls function.Len) right h at js parts xs = length_of h.first js parts xs
   called (Calls function.Min) right h at js parts xs = limit_of_type op.least_value least_good xs h.first
   called (Calls function.Ash) right h at js parts xs = of_two h.first js parts xs
   called (Calls function.Abs) right h at js parts xs = of_one (op.applied function.Abs) (applied_step p function.Abs) (applied_tests function.Abs tt) h.first js parts xs

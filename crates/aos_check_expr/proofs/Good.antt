@@ -1,5 +1,5 @@
 -- Literals that are of the types of their values, and classes of parts whose values are such literals.
-use Rattle.std.proofs.Common.{◌≡◌, ℕ, ◌<◌, ◌^◌, ℤ, pos, negsuc, int_le, int_lt, Bool, true, false, ◌&&◌, nat_lt, Option, Some, None, is_some, option_map, if◌then◌else◌, refl, ltb-true, arith}
+use Rattle.std.proofs.Common.{◌≡◌, ℕ, ◌<◌, ◌^◌, ℤ, pos, negsuc, int_le, int_lt, Bool, true, false, ◌&&◌, ◌⊎◌, inl, inr, ◌==◌, nat_lt, Option, Some, None, is_some, option_map, if◌then◌else◌, refl, ltb-true, eqb-true, arith}
 use Rattle.std.proofs.lemmas.Bool.{and_parts}
 use Rattle.std.proofs.lemmas.Int.{ints}
 use Rattle.std.specs.Prelude.{◌+ℤ◌, ◌-ℤ◌, ◌*ℤ◌, neg_ℤ, unsigned_abs}
@@ -21,7 +21,7 @@ use Rattle.aos_typed.specs.declared.tree.TType.{TType}
 use Rattle.aos_typed.specs.declared.tree.TType.TheVariants as type
 use Rattle.aos_typed.specs.Value.{Integer, Boolean, Character, Elements}
 use Rattle.aos_typed.specs.WellTyped.{IsLiteral}
-use Rattle.aos_symbols.specs.Env.{shortint, integer, longint, hugeint, char, set}
+use Rattle.aos_symbols.specs.Env.{shortint, integer, longint, hugeint, char, set, text}
 use Rattle.aos_check_expr.specs.declared.known.Class.{Class}
 use Rattle.aos_check_expr.specs.declared.known.Class.TheVariants.{Unknown, Constant, Variable, ReadOnly, Computed}
 use Rattle.aos_check_expr.specs.declared.operations.Single.{Single}
@@ -32,8 +32,9 @@ use Rattle.aos_check_expr.specs.Known.{is_basic, is_integer, is, width_of_type, 
 use Rattle.aos_check_expr.specs.Operations.{number, literal_given, computed_one, computed, codes_alone, single_value, joint_value, class_of_one, class_behind, class_of, greatest_value, least_value}
 use Rattle.aos_check_expr.proofs.Types.{within_wider, most_includes}
 
--- a literal is of the type of its value
+-- a literal is of the type of its value; a string constant may have more characters than one, or none
 abbrev pub IsGood : Literal → Type 0
+IsGood (literal.Text t) = t.first < 256
 IsGood l = IsLiteral l (type_as (type_of_literal l))
 
 -- a value that is such a literal
@@ -90,18 +91,26 @@ good_number (literal.Bool true) h = record { low = omega (arith, ints); high = o
 good_number (literal.Bool false) h = record { low = omega (arith, ints); high = omega (arith, ints) }
 good_number (literal.Char c) h = record { low = omega (arith, ints); high = omega (arith, ints, h) }
 good_number (literal.Set s) h = record { low = omega (arith, ints); high = omega (arith, ints, h) }
+good_number (literal.Text t) h = record { low = omega (arith, ints); high = omega (arith, ints, h) }
 
-pub type_basic : (l : Literal) → is_basic (type_of_literal l) ≡ true
-type_basic (literal.Int z) = by (is_some (if_within W8 z)) (is_some (if_within W16 z)) (is_some (if_within W32 z))
+-- a good literal is a value of a basic type, or a string constant that is no character
+pub literal_kind : (l : Literal) → IsGood l → ((is_basic (type_of_literal l) ≡ true) × IsLiteral l (type_as (type_of_literal l))) ⊎ (type_of_literal l ≡ text)
+literal_kind (literal.Int z) h = inl (by (is_some (if_within W8 z)) (is_some (if_within W16 z)) (is_some (if_within W32 z)), h)
   where
     by : (a b c : Bool) → is_basic (if a then shortint else if b then integer else if c then longint else hugeint) ≡ true
     by true b c = refl
     by false true c = refl
     by false false true = refl
     by false false false = refl
-type_basic (literal.Bool b) = refl
-type_basic (literal.Char c) = refl
-type_basic (literal.Set s) = refl
+literal_kind (literal.Bool b) h = inl (refl, h)
+literal_kind (literal.Char c) h = inl (refl, h)
+literal_kind (literal.Set s) h = inl (refl, h)
+literal_kind (literal.Text t) h = by (t.length == 1) refl
+  where
+    by : (b : Bool) → (t.length == 1) ≡ b →
+        let of = if b then char else text in ((is_basic of ≡ true) × IsLiteral (literal.Text t) (type_as of)) ⊎ (of ≡ text)
+    by true e = inl (refl, (eqb-true t.length 1 e, h))
+    by false e = inr refl
 
 -- Sets.
 
@@ -113,12 +122,14 @@ set_type (literal.Int z) h = absurd h
 set_type (literal.Bool b) h = absurd h
 set_type (literal.Char c) h = absurd h
 set_type (literal.Set s) h = refl
+set_type (literal.Text t) h = absurd h
 
 pub set_good : (l : Literal) → IsSet l → IsGood l
 set_good (literal.Int z) h = absurd h
 set_good (literal.Bool b) h = absurd h
 set_good (literal.Char c) h = absurd h
 set_good (literal.Set s) h = h
+set_good (literal.Text t) h = absurd h
 
 -- What operators give.
 

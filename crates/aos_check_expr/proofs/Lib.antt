@@ -6,5 +6,8 @@ pub mod Good
 pub mod Sound
 pub mod Parts
 pub mod Spots
+pub mod Worded
 pub mod CallParts
 pub mod Typing
+pub mod Order
+pub mod Dimensions

@@ -13,14 +13,15 @@ use Rattle.aos_tree.specs.declared.expr.Sign.{Sign}
 use Rattle.aos_types.specs.declared.row.TypeId.{TypeId}
 use Rattle.aos_typed.specs.declared.tree.Literal.{Literal}
 use Rattle.aos_typed.specs.declared.tree.Literal.TheVariants as literal
+use Rattle.aos_typed.specs.declared.tree.TextConstant.{TextConstant}
 use Rattle.aos_typed.specs.declared.tree.TType.TheVariants as type
 use Rattle.aos_typed.specs.Program.{Expr, Binary, Element, Program}
 use Rattle.aos_typed.specs.WellTyped.{IsOf}
 use Rattle.aos_symbols.specs.declared.breach.Breach.{Breach}
 use Rattle.aos_symbols.specs.declared.env.Env.{Env}
-use Rattle.aos_symbols.specs.Breaches.{breach_unless, not_built}
-use Rattle.aos_symbols.specs.Judged.{Judged, judged}
-use Rattle.aos_symbols.specs.Env.{boolean, set}
+use Rattle.aos_symbols.specs.Breaches.{breach_unless}
+use Rattle.aos_symbols.specs.Judged.{Judged}
+use Rattle.aos_symbols.specs.Env.{set}
 use Rattle.aos_symbols.proofs.Holds.{Holds, none_left, none_right, test_is, broken}
 use Rattle.aos_check_expr.specs.declared.known.Class.{Class}
 use Rattle.aos_check_expr.specs.declared.known.Class.TheVariants.{Unknown, Constant, Variable, ReadOnly, Computed}
@@ -28,10 +29,10 @@ use Rattle.aos_check_expr.specs.declared.operations.Single.TheVariants as single
 use Rattle.aos_check_expr.specs.declared.operations.Joint.TheVariants as joint
 use Rattle.aos_check_expr.specs.declared.operations.Step.{Step}
 use Rattle.aos_check_expr.specs.declared.operations.Operation.{Operation}
-use Rattle.aos_check_expr.specs.Known.{Answer, is_number, is_lost, lost, answered, constant_answer, type_of_literal, nothing}
+use Rattle.aos_check_expr.specs.Known.{Answer, is_number, is_lost, lost, answered, constant_answer, type_of_literal}
 use Rattle.aos_check_expr.specs.Operations as op
 use Rattle.aos_check_expr.specs.Expressions as judge
-use Rattle.aos_check_expr.proofs.Good.{IsGood, IsSet, MayBe, IsKnownClass, number_good, type_basic, set_type, set_good, set_given, single_good, joint_good, class_of_one_known, class_of_known}
+use Rattle.aos_check_expr.proofs.Good.{IsGood, IsSet, MayBe, IsKnownClass, number_good, literal_kind, set_type, set_good, set_given, single_good, joint_good, class_of_one_known, class_of_known}
 use Rattle.aos_check_expr.proofs.Sound.{IsSound, IsPlain, plain_sound, sound_number, IsStep, IsOperation, TestsOne, TestsTwo, stepped_plain, joined_plain, signed_step, signed_tests, opposite_step, opposite_tests, added_operation, added_tests, multiplied_operation, multiplied_tests, related_operation, related_tests, shifted_operation, shifted_tests}
 
 -- of a part's class, that it is known, with a good value where it is constant; the part is sound where what W says is so
@@ -53,7 +54,7 @@ pub record AreElements (p : Program) (W : Type 0) (a : Answer) : Type 0 where
   pub typed : W → IsOf p a.typed type.Set
 
 -- the class of an answer
-class_answered : (P : Class → Type 0) (c : Class) (of : Option TypeId) (x : Expr) → P c → P (answered c of x).known.class
+pub class_answered : (P : Class → Type 0) (c : Class) (of : Option TypeId) (x : Expr) → P c → P (answered c of x).known.class
 class_answered P (Constant (Some v)) of x h = h
 class_answered P (Constant None) of x h = h
 class_answered P Unknown of x h = h
@@ -140,19 +141,22 @@ module _ (p : Program) (W : Type 0) where
   tested_breaks e None at = broken Part _ [] _
   tested_breaks e (Some t) at = broken Part _ [] _
 
-  pub related_part : (e : Env) (first at : Pos) (o : RelationOp) (a b : Answer) → Part a → Part b → Holds Part (judge.related_by e first at o a b)
-  related_part e first at o a b x y = by (judge.is_test o) refl (judge.compares_texts e o a.known b.known)
-    where
-      no_texts : Judged Answer
-      no_texts = judged (not_built at) (answered Unknown (Some boolean) nothing)
+  -- a relation, where that of two texts is a part
+  abbrev pub related_texts : Env → Pos → RelationOp → Answer → Answer → Judged Answer
+  related_texts e first o a b = op.told first [] (judge.texts_related e (judge.relation_in o) a b)
 
+  pub related_part : (e : Env) (first at : Pos) (o : RelationOp) (a b : Answer) →
+      (judge.compares_texts e o a.known b.known ≡ true → Holds Part (related_texts e first o a b)) → Part a → Part b → Holds Part (judge.related_by e first at o a b)
+  related_part e first at o a b texts x y = by (judge.is_test o) refl (judge.compares_texts e o a.known b.known) refl
+    where
       operated : Judged Answer
       operated = op.operands first at (op.related o a.known.of b.known.of) a b
 
-      by : (w : Bool) → judge.is_test o ≡ w → (v : Bool) → Holds Part (if w then judge.tested e a.known.of at else if v then no_texts else operated)
-      by true i v = tested_breaks e a.known.of at
-      by false i true = broken Part _ [] _
-      by false i false =
+      by : (w : Bool) → judge.is_test o ≡ w → (v : Bool) → judge.compares_texts e o a.known b.known ≡ v →
+          Holds Part (if w then judge.tested e a.known.of at else if v then related_texts e first o a b else operated)
+      by true i v k = tested_breaks e a.known.of at
+      by false i true k = texts k
+      by false i false k =
           as_part operated
           (operation_part (op.related o) (related_operation p o i) (related_tests o i) first (breach_unless (op.related o a.known.of b.known.of).is_kept 30 at) a b (test_is _ 30 at) x y)
 
@@ -182,7 +186,7 @@ module _ (p : Program) (W : Type 0) where
   -- Literals.
 
   pub constant_part : (v : Literal) → IsGood v → Valued (constant_answer v)
-  constant_part v g = record { class = g; valued = refl; plain = λ w. record { of = type_of_literal v; known = refl; basic = type_basic v; typed = g } }
+  constant_part v g = record { class = g; valued = refl; plain = λ w. record { of = type_of_literal v; known = refl; typed = literal_kind v g } }
 
   pub number_part : (o : Option ℤ) → MayBe (IsWithin W64) o → (at : Pos) → Holds Part (judge.number o at)
   number_part None h at = broken Part _ [] _
@@ -191,6 +195,10 @@ module _ (p : Program) (W : Type 0) where
   pub character_part : (o : Option ℕ) → MayBe (λ c. c < 256) o → (at : Pos) → Holds Part (judge.character o at)
   character_part None h at = broken Part _ [] _
   character_part (Some c) h at = as_part (judge.character (Some c) at) (λ e. constant_part (literal.Char c) h)
+
+  pub string_part : (o : Option TextConstant) → MayBe (λ t. t.first < 256) o → (at : Pos) → Holds Part (judge.string o at)
+  string_part None h at = broken Part _ [] _
+  string_part (Some t) h at = as_part (judge.string (Some t) at) (λ e. constant_part (literal.Text t) h)
 
   pub limit_part : (o : Option Literal) → MayBe IsGood o → (at : Pos) → Holds Valued (judge.limit_value o at)
   limit_part None h at = broken Valued _ [] _

@@ -19,21 +19,22 @@ use Rattle.aos_tree.specs.declared.expr.Sign.TheVariants as sign
 use Rattle.aos_types.specs.declared.row.TypeId.{TypeId}
 use Rattle.aos_typed.specs.declared.tree.TType.{TType}
 use Rattle.aos_typed.specs.declared.tree.TType.TheVariants as type
+use Rattle.aos_typed.specs.Numbers.{id_of}
 use Rattle.aos_typed.specs.Program.{Place, Expr, Read, Binary, Program}
 use Rattle.aos_typed.specs.WellTyped.{Includes, HasRange, is_ordered, is_basic as is_basic_type, is_compared, IsPlaceOf, IsOf}
 use Rattle.aos_symbols.specs.declared.scope.Function.{Function}
 use Rattle.aos_symbols.specs.declared.scope.Function.TheVariants as function
-use Rattle.aos_symbols.specs.Env.{shortint, integer, longint, hugeint, boolean, char, set}
+use Rattle.aos_symbols.specs.Env.{shortint, integer, longint, hugeint, boolean, char, set, text}
 use Rattle.aos_check_expr.specs.declared.known.Class.{Class}
 use Rattle.aos_check_expr.specs.declared.known.Class.TheVariants.{Unknown, Constant, Variable, ReadOnly, Computed}
 use Rattle.aos_check_expr.specs.declared.operations.Joint.TheVariants as joint
 use Rattle.aos_check_expr.specs.declared.operations.Step.{Step}
 use Rattle.aos_check_expr.specs.declared.operations.Operation.{Operation}
-use Rattle.aos_check_expr.specs.Known.{Answer, is_basic, is_integer, is, fits, is_number, is_boolean, is_char, is_set, larger, width_of_type, width_of, least_of, greatest_of, type_of_literal, type_as, answered}
+use Rattle.aos_check_expr.specs.Known.{Answer, is_basic, is_integer, is, is_number, is_boolean, is_char, is_set, larger, width_of_type, width_of, least_of, greatest_of, type_of_literal, type_as, answered}
 use Rattle.aos_check_expr.specs.Operations as op
 use Rattle.aos_check_expr.specs.Expressions.{is_test}
-use Rattle.aos_check_expr.proofs.Types.{most_includes, includes_itself, wider, same_type, integer_cases, basic_cases, integer_basic, as_integer, order_includes, fits_includes, fits_basic, fits_same}
-use Rattle.aos_check_expr.proofs.Good.{IsGood, IsKnownClass, type_basic, single_good, joint_good, class_of_one_known, class_of_known}
+use Rattle.aos_check_expr.proofs.Types.{most_includes, includes_itself, wider, same_type, integer_cases, basic_cases, integer_basic, as_integer, order_includes}
+use Rattle.aos_check_expr.proofs.Good.{IsGood, IsKnownClass, literal_kind, single_good, joint_good, class_of_one_known, class_of_known}
 
 both_true : (a b : Bool) → (a && b) ≡ true → (a ≡ true) × (b ≡ true)
 both_true a b e = and_parts a b e
@@ -49,7 +50,7 @@ range_of W16 = omega (arith, ints)
 range_of W32 = omega (arith, ints)
 range_of W64 = omega (arith, ints)
 
-not_both : true ≡ false → ⊥
+pub not_both : true ≡ false → ⊥
 not_both e = cc
 
 -- Operators take operands of basic types alone.
@@ -85,6 +86,7 @@ abbrev pub IsOfOne : Function → Type 0
 IsOfOne function.Ash = ⊥
 IsOfOne function.Max = ⊥
 IsOfOne function.Min = ⊥
+IsOfOne function.Len = ⊥
 IsOfOne f = Unit {0}
 
 pub applied_tests : (f : Function) → IsOfOne f → TestsOne (op.applied f)
@@ -98,6 +100,7 @@ applied_tests function.Short one t k = integer_basic t (both_true (is_integer t)
 applied_tests function.Ash one t k = absurd one
 applied_tests function.Max one t k = absurd one
 applied_tests function.Min one t k = absurd one
+applied_tests function.Len one t k = absurd one
 
 numbers_basic : (t u : TypeId) → op.are_numbers (Some t) (Some u) ≡ true → AreBasic t u
 numbers_basic t u k = let i = both_true (is_integer t) (is_integer u) k in (integer_basic t i.0, integer_basic u i.1)
@@ -149,33 +152,37 @@ pub shifted_tests : TestsTwo op.shifted
 shifted_tests t u k = numbers_basic t u k
 
 module _ (p : Program) where
-  -- a value of a basic type, or a whole variable that is read
+  -- a value of a basic type, or a whole variable that is read; or else a string constant that is no character
   abbrev pub IsScalar : TypeId → Expr → Type 0
   IsScalar t x = (is_basic t ≡ true) × IsOf p x (type_as t)
 
   abbrev pub IsWholeRead : TypeId → Expr → Type 0
-  IsWholeRead t x = (is_basic t ≡ false) × (place : Place) × (x ≡ Read (type_as t) place) × IsPlaceOf p place (type_as t)
+  IsWholeRead t x = (is_basic t ≡ false) × (place : Place) × (x ≡ Read (type_as t) place) × IsPlaceOf p place (type_as t) × (id_of (type_as t) ≡ t)
 
   -- an expression whose type is known, and which is of it
   pub record IsSound (a : Answer) : Type 0 where
     pub of : TypeId
     pub known : a.known.of ≡ Some of
-    pub typed : IsScalar of a.typed ⊎ IsWholeRead of a.typed
+    pub typed : IsScalar of a.typed ⊎ (IsWholeRead of a.typed ⊎ (of ≡ text))
 
-  -- one of a basic type
+  -- one that is no variable
   pub record IsPlain (a : Answer) : Type 0 where
     pub of : TypeId
     pub known : a.known.of ≡ Some of
-    pub basic : is_basic of ≡ true
-    pub typed : IsOf p a.typed (type_as of)
+    pub typed : IsScalar of a.typed ⊎ (of ≡ text)
 
   pub plain_sound : (a : Answer) → IsPlain a → IsSound a
-  plain_sound a x = record { of = x.of; known = x.known; typed = inl (x.basic, x.typed) }
+  plain_sound a x = record { of = x.of; known = x.known; typed = by x.typed }
+    where
+      by : IsScalar x.of a.typed ⊎ (x.of ≡ text) → IsScalar x.of a.typed ⊎ (IsWholeRead x.of a.typed ⊎ (x.of ≡ text))
+      by (inl s) = inl s
+      by (inr t) = inr (inr t)
 
   -- whose type is a basic one is a value of it
-  scalar_of : (t : TypeId) (x : Expr) → IsScalar t x ⊎ IsWholeRead t x → is_basic t ≡ true → IsOf p x (type_as t)
+  scalar_of : (t : TypeId) (x : Expr) → IsScalar t x ⊎ (IsWholeRead t x ⊎ (t ≡ text)) → is_basic t ≡ true → IsOf p x (type_as t)
   scalar_of t x (inl s) b = s.1
-  scalar_of t x (inr w) b = absurd (not_both (sym b ∙ w.0))
+  scalar_of t x (inr (inl w)) b = absurd (not_both (sym b ∙ w.0))
+  scalar_of t x (inr (inr e)) b = absurd (not_both (sym b ∙ ap is_basic e))
 
   -- Operands, by the types that they are tested to have.
 
@@ -261,6 +268,7 @@ module _ (p : Program) where
   applied_step function.Ash t x b h k = (t, refl, b, h)
   applied_step function.Max t x b h k = (t, refl, b, h)
   applied_step function.Min t x b h k = (t, refl, b, h)
+  applied_step function.Len t x b h k = (t, refl, b, h)
 
   -- Operations: what is done to two operands.
 
@@ -418,13 +426,13 @@ module _ (p : Program) where
 
   -- Parts.
 
-  answered_plain : (c : Class) (t : TypeId) (x : Expr) → IsKnownClass IsGood c → is_basic t ≡ true → IsOf p x (type_as t) → IsPlain (answered c (Some t) x)
-  answered_plain (Constant (Some v)) t x g b h = record { of = type_of_literal v; known = refl; basic = type_basic v; typed = g }
-  answered_plain (Constant None) t x g b h = record { of = t; known = refl; basic = b; typed = h }
+  pub answered_plain : (c : Class) (t : TypeId) (x : Expr) → IsKnownClass IsGood c → is_basic t ≡ true → IsOf p x (type_as t) → IsPlain (answered c (Some t) x)
+  answered_plain (Constant (Some v)) t x g b h = record { of = type_of_literal v; known = refl; typed = literal_kind v g }
+  answered_plain (Constant None) t x g b h = record { of = t; known = refl; typed = inl (b, h) }
   answered_plain Unknown t x g b h = absurd g
-  answered_plain Variable t x g b h = record { of = t; known = refl; basic = b; typed = h }
-  answered_plain ReadOnly t x g b h = record { of = t; known = refl; basic = b; typed = h }
-  answered_plain Computed t x g b h = record { of = t; known = refl; basic = b; typed = h }
+  answered_plain Variable t x g b h = record { of = t; known = refl; typed = inl (b, h) }
+  answered_plain ReadOnly t x g b h = record { of = t; known = refl; typed = inl (b, h) }
+  answered_plain Computed t x g b h = record { of = t; known = refl; typed = inl (b, h) }
 
   -- a value that is tested to be of a type
   pub sound_number : (a : Answer) → IsSound a → is_number a.known.of ≡ true → IsOf p a.typed (type.Integer W64)
@@ -441,24 +449,6 @@ module _ (p : Program) where
   sound_boolean a x k =
       let i : is_boolean (Some x.of) ≡ true = sym (ap is_boolean x.known) ∙ k in
       as_boolean x.of a.typed (scalar_of x.of a.typed x.typed (basic_same boolean x.of refl i)) i
-
-  -- a value of a type that another fits: of a basic type, or a whole variable that is read
-  pub fits_sound : (a : Answer) (x : IsSound a) (to : TypeId) → is_basic to ≡ true → fits (Some x.of) (Some to) ≡ true → IsOf p a.typed (type_as to)
-  fits_sound a x to b h =
-      wider p a.typed (type_as x.of) (type_as to) (scalar_of x.of a.typed x.typed (fits_basic x.of to h b)) (fits_includes x.of to h)
-
-  pub fits_scalar : (a : Answer) → IsSound a → (to : TypeId) → is_basic to ≡ true → fits a.known.of (Some to) ≡ true → IsOf p a.typed (type_as to)
-  fits_scalar a x to b h = fits_sound a x to b (sym (ap (λ of. fits of (Some to)) x.known) ∙ h)
-
-  abbrev pub IsReadOf : TypeId → Expr → Type 0
-  IsReadOf t x = (place : Place) × (x ≡ Read (type_as t) place) × IsPlaceOf p place (type_as t)
-
-  pub fits_whole : (a : Answer) → IsSound a → (to : TypeId) → is_basic to ≡ false → fits a.known.of (Some to) ≡ true → IsReadOf to a.typed
-  fits_whole a x to b h = by (fits_same x.of to (sym (ap (λ of. fits of (Some to)) x.known) ∙ h) b) x.typed
-    where
-      by : x.of ≡ to → IsScalar x.of a.typed ⊎ IsWholeRead x.of a.typed → IsReadOf to a.typed
-      by e (inl s) = absurd (not_both (sym (subst (λ t. is_basic t ≡ true) e s.0) ∙ b))
-      by e (inr w) = subst (λ t. IsReadOf t a.typed) e (w.1, w.2, w.3)
 
   kept_plain : (kept : Bool) (c : Class) (of : Option TypeId) (t : TypeId) (x : Expr) → kept ≡ true → IsKnownClass IsGood c → of ≡ Some t → is_basic t ≡ true → IsOf p x (type_as t) →
       IsPlain (answered (op.kept_class kept c) (op.kept_type kept of) x)

@@ -1,10 +1,11 @@
 -- Designators that break no rule: variables of their types, and sound values.
-use Rattle.std.proofs.Common.{◌≡◌, ℕ, ◌+◌, ◌==◌, List, [], ◌∷◌, length, Bool, true, false, ◌&&◌, ◌||◌, ◌⊎◌, inl, inr, not, Option, Some, None, is_some, slice_get, option_and_then, if◌then◌else◌, refl, sym, ap, ◌∙◌, subst, eqb-true}
+use Rattle.std.proofs.Common.{◌≡◌, ℕ, ◌+◌, ◌<◌, ◌==◌, List, [], ◌∷◌, length, Bool, true, false, ◌&&◌, ◌||◌, ◌⊎◌, inl, inr, not, Option, Some, None, is_some, slice_get, option_and_then, if◌then◌else◌, refl, sym, ap, ◌∙◌, subst, eqb-true, arith}
 use Rattle.std.proofs.lemmas.Option.{none-some, same_Some, option_and_then_some}
 use Rattle.aos_base.specs.declared.text.Pos.{Pos}
 use Rattle.aos_tree.specs.declared.name.Name.{Name}
 use Rattle.aos_tree.specs.declared.decl.Export.{Export}
 use Rattle.aos_tree.specs.declared.decl.Export.TheVariants.{ReadWrite, ReadOnly as OnlyRead}
+use Rattle.aos_types.specs.declared.row.Basic.TheVariants as basic
 use Rattle.aos_types.specs.declared.row.TypeId.{TypeId}
 use Rattle.aos_types.specs.declared.row.TypeRow.{TypeRow}
 use Rattle.aos_types.specs.declared.row.TypeRow.TheVariants as row
@@ -12,7 +13,7 @@ use Rattle.aos_types.specs.Table.{row_of}
 use Rattle.aos_typed.specs.declared.tree.Literal.{Literal}
 use Rattle.aos_typed.specs.declared.tree.Literal.TheVariants as literal
 use Rattle.aos_typed.specs.Numbers.{id_of}
-use Rattle.aos_typed.specs.Program.{Place, ModuleVar, Index, Expr, Read, Program}
+use Rattle.aos_typed.specs.Program.{Place, ModuleVar, Index, Expr, Read, Module, Program}
 use Rattle.aos_typed.specs.Program.{Field as FieldOf}
 use Rattle.aos_typed.specs.WellTyped.{field_type, IsPlaceOf}
 use Rattle.aos_symbols.specs.declared.scope.Entry.{Entry}
@@ -28,7 +29,9 @@ use Rattle.aos_symbols.specs.declared.env.Env.{Env}
 use Rattle.aos_symbols.specs.Judged.{Judged, kept}
 use Rattle.aos_symbols.specs.Spelling.{word, is_among, procedures_of_out}
 use Rattle.aos_symbols.specs.Scope.{Scope, find}
+use Rattle.aos_symbols.specs.Home.{Home, texts_of}
 use Rattle.aos_symbols.specs.Env as env
+use Rattle.aos_symbols.specs.Env.{text}
 use Rattle.aos_symbols.proofs.Each.{Each, each_at}
 use Rattle.aos_symbols.proofs.Holds.{Holds, holds_bind, broken}
 use Rattle.aos_symbols.proofs.Lookups.{IsPredeclared, another, IsOfAll, lookup_is, member_is}
@@ -41,7 +44,7 @@ use Rattle.aos_check_expr.specs.Known.{Answer, Spot, Held, Stands, Value, is_bas
 use Rattle.aos_check_expr.specs.Designators as desig
 use Rattle.aos_check_expr.proofs.Types.{includes_itself, as_basic, id_as}
 use Rattle.aos_check_expr.proofs.Good.{IsGood, HasGood, IsKnownClass}
-use Rattle.aos_check_expr.proofs.Sound.{IsScalar, IsWholeRead, IsSound, IsPlain, plain_sound, sound_number}
+use Rattle.aos_check_expr.proofs.Sound.{not_both, IsScalar, IsWholeRead, IsSound, IsPlain, plain_sound, sound_number}
 use Rattle.aos_check_expr.proofs.Parts.{IsPart, IsValue, constant_part}
 
 -- a variable has the type that is known of it
@@ -53,8 +56,8 @@ pub record IsTyped (p : Program) (e : Env) (place : Place) (of : Option TypeId) 
 abbrev pub GoodConstants : Env → Type 0
 GoodConstants e = (o : Open) (s : Scope) → env.scope e o ≡ Some s → Each (λ (c : Declared). HasGood c.value) s.constants
 
--- The environment is that of bodies: each variable in the scope of a module has its type, the table is the program's, and the
--- types behind the first nine are its object types.
+-- The environment is that of bodies: each variable in the scope of a module has its type, the table is the program's and begins
+-- with what is predeclared, the types behind the first ten are its object types, and each module's string constants are those of its text.
 pub record IsWhole (p : Program) (e : Env) : Type 0 where
   pub variables : (o : Open) (s : Scope) (w : List ℕ) (x : Entry) (k : ℕ) → o.scope ≡ 0 → env.scope e o ≡ Some s → find s w ≡ Some x →
       x.means ≡ means.Variable k → IsTyped p e (ModuleVar o.home k) (env.variable_type e o k)
@@ -63,7 +66,21 @@ pub record IsWhole (p : Program) (e : Env) : Type 0 where
   pub fields : (t : TypeId) (n : Name) (f : Field) (ts : List TypeId) → env.field e t n ≡ Some f → env.row_of e (Some t) ≡ Some (row.Record None ts) →
       (u : TypeId) × (f.of ≡ Some u) × (slice_get ts f.number ≡ Some u)
   pub rows : p.types ≡ e.types
-  pub objects : length e.types ≡ 9 + length p.objects
+  pub objects : length e.types ≡ 10 + length p.objects
+  pub basic : (k : ℕ) → k < 10 → slice_get e.types k ≡ slice_get env.basic_rows k
+  pub strings : (m : ℕ) (h : Home) → env.home e m ≡ Some h →
+      (x : Module) × (slice_get p.modules m ≡ Some x) × (length x.variables ≡ env.variable_count e m) × (x.texts ≡ texts_of h)
+
+-- the type of string constants has no parts
+pub text_row : (p : Program) (e : Env) → IsWhole p e → (t : TypeId) (r : TypeRow) → t ≡ text → env.row_of e (Some t) ≡ Some r → row.Basic (basic.Text 0) ≡ r
+text_row p e whole t r is there =
+    same_Some (row.Basic (basic.Text 0)) r (sym (whole.basic 9 (omega arith)) ∙ ap (λ (u : TypeId). slice_get e.types u.0) (sym is) ∙ there)
+
+no_record : (ts : List TypeId) → row.Basic (basic.Text 0) ≡ row.Record None ts → ⊥
+no_record ts is = cc
+
+pub no_array : (m : ℕ) (u : TypeId) → row.Basic (basic.Text 0) ≡ row.Array m u → ⊥
+no_array m u is = cc
 
 -- a designator is a variable of its type, or a sound value
 abbrev IsSoundHeld : Program → Env → Known → Held → Type 0
@@ -145,9 +162,6 @@ part_stored may c part (Stands place) s = by may c s
     by may Unknown s = absurd s
     by may Computed s = absurd s
 part_stored may c part (Value x) s = tt
-
-not_both : true ≡ false → ⊥
-not_both e = cc
 
 module _ (p : Program) (e : Env) where
   abbrev pub Part : Answer → Type 0
@@ -250,7 +264,7 @@ module _ (p : Program) (e : Env) where
   meant_spot good x sound means.Out is h = spotted h.at (desig.refused 16 h.at) (refused_part 16 h.at)
   meant_spot good x sound (means.Truth b) is h = spotted h.at (kept (constant_answer (literal.Bool b))) (λ none. constant_part p (IsWhole p e) (literal.Bool b) tt)
   meant_spot good x sound (means.Function f) is h = spotted h.at (desig.refused_value 36 h.first) (refused_value_part 36 h.first)
-  meant_spot good x sound means.New is h = spotted h.at (desig.refused_value 36 h.first) (refused_value_part 36 h.first)
+  meant_spot good x sound (means.Routine r) is h = spotted h.at (desig.refused_value 36 h.first) (refused_value_part 36 h.first)
   meant_spot good x sound means.Proper is h = spotted h.at (desig.refused_value 36 h.first) (refused_value_part 36 h.first)
   meant_spot good x sound (means.Procedure k) is h = spotted h.at (desig.refused_value 99 h.first) (refused_value_part 99 h.first)
   meant_spot good x sound means.Other is h = spotted h.at (desig.refused_value 99 h.first) (refused_value_part 99 h.first)
@@ -290,19 +304,29 @@ module _ (p : Program) (e : Env) where
   class_typed may Unknown of place s h = absurd s
   class_typed may Computed of place s h = absurd s
 
-  held_part : (k : Known) (h : Held) (may : Bool) (of : Option TypeId) (part : Place → Place) (t : TypeId) → k.of ≡ Some t → is_basic t ≡ false → IsPartOf k.of of part →
-      IsStoredHeld h k.class → IsSoundHeld p e k h → IsSoundHeld p e (known_as (desig.part_class may k.class) of) (desig.part_held part h)
-  held_part k (Stands place) may of part t is other typed stored s = class_typed may k.class of (part place) stored (typed place s)
-  held_part k (Value x) may of part t is other typed stored s =
-      absurd (not_both (sym (subst (λ u. is_basic u ≡ true) (sym (same_Some t s.of (sym is ∙ s.known))) s.basic) ∙ other))
+  -- a type that has parts is none of a value's
+  abbrev HasParts : TypeId → Type 0
+  HasParts t = (is_basic t ≡ false) × (IsWhole p e → t ≡ text → ⊥)
 
-  part_fine : (may : Bool) (of : Option TypeId) (part : Place → Place) (at : Pos) (a : Spot) → Spotted a → (t : TypeId) → a.known.of ≡ Some t → is_basic t ≡ false →
+  held_part : IsWhole p e → (k : Known) (h : Held) (may : Bool) (of : Option TypeId) (part : Place → Place) (t : TypeId) → k.of ≡ Some t → HasParts t →
+      IsPartOf k.of of part → IsStoredHeld h k.class → IsSoundHeld p e k h → IsSoundHeld p e (known_as (desig.part_class may k.class) of) (desig.part_held part h)
+  held_part whole k (Stands place) may of part t is other typed stored s = class_typed may k.class of (part place) stored (typed place s)
+  held_part whole k (Value x) may of part t is other typed stored s = absurd (by s.typed)
+    where
+      same : t ≡ s.of
+      same = same_Some t s.of (sym is ∙ s.known)
+
+      by : IsScalar p s.of x ⊎ (s.of ≡ text) → ⊥
+      by (inl scalar) = not_both (sym scalar.0 ∙ ap is_basic (sym same) ∙ other.0)
+      by (inr is_text) = other.1 whole (same ∙ is_text)
+
+  part_fine : (may : Bool) (of : Option TypeId) (part : Place → Place) (at : Pos) (a : Spot) → Spotted a → (t : TypeId) → a.known.of ≡ Some t → HasParts t →
       (IsWhole p e → IsPartOf a.known.of of part) → Spotted (desig.part_spot may of part at a)
   part_fine may of part at a x t is other typed = record {
     class = class_as (IsKnownClass IsGood) (desig.part_class may a.known.class) of (part_known may a.known.class x.class);
     valued = class_as (λ c. not (is_lost c) ≡ true) (desig.part_class may a.known.class) of (part_valued may a.known.class x.valued);
     stored = class_as (IsStoredHeld (desig.part_held part a.held)) (desig.part_class may a.known.class) of (part_stored may a.known.class part a.held x.stored);
-    sound = λ whole. held_part a.known a.held may of part t is other (typed whole) x.stored (x.sound whole);
+    sound = λ whole. held_part whole a.known a.held may of part t is other (typed whole) x.stored (x.sound whole);
   }
 
   lacking_fine : (t : TypeId) (at : Pos) → Holds Spotted (desig.lacking e t at)
@@ -337,7 +361,7 @@ module _ (p : Program) (e : Env) where
       there other ts r None is = lacking_fine t q
       there other ts r (Some f) is =
           seen f (f.is_own || is_some f.mark)
-          (part_fine (desig.may_write f) f.of (λ place. FieldOf place (type_as t) f.number) n.pos a x t refl other (λ whole. field_typed whole t n f ts is r))
+          (part_fine (desig.may_write f) f.of (λ place. FieldOf place (type_as t) f.number) n.pos a x t refl (other, λ whole is_text. no_record ts (text_row p e whole t (row.Record None ts) is_text r)) (λ whole. field_typed whole t n f ts is r))
 
       in_row : is_basic t ≡ false → (r : Option TypeRow) → env.row_of e (Some t) ≡ r → Holds Spotted (desig.field_in_row e a q n t r)
       in_row other (Some (row.Record None ts)) r = there other ts r (env.field e t n) refl
@@ -359,7 +383,7 @@ module _ (p : Program) (e : Env) where
   element_typed : IsWhole p e → (t u : TypeId) (m : ℕ) (i : Answer) → env.row_of e (Some t) ≡ Some (row.Array m u) → IsSound p i → is_number i.known.of ≡ true →
       IsPartOf (Some t) (Some u) (λ place. Index place m (type_as u) i.typed)
   element_typed whole t u m i r s k place h =
-      let told : IsTold e.types u = whole.parts t.0 (row.Array m u) r in
+      let told : IsTold e.types u = (whole.parts t.0 (row.Array m u) r).1 in
       let there : row_of p.types (id_of (type_as t)) ≡ Some (row.Array m (id_of (type_as u))) =
       ap (λ i. row_of p.types i) (id_as e.types t h.known) ∙ ap (λ rows. row_of rows t) whole.rows
       ∙ r ∙ ap (λ v. Some (row.Array m v)) (sym (id_as e.types u told)) in
@@ -375,7 +399,7 @@ module _ (p : Program) (e : Env) where
       tested : is_basic t ≡ false → (m : ℕ) (u : TypeId) → env.row_of e (Some t) ≡ Some (row.Array m u) → (b : Bool) → is_number i.known.of ≡ b →
           Holds Spotted (if b then kept (desig.element_spot m u i a) else desig.spotted q (desig.refused 42 q))
       tested other m u r true k =
-          λ none. part_fine true (Some u) (λ place. Index place m (type_as u) i.typed) at a x t refl other (λ whole. element_typed whole t u m i r (y.sound whole) k)
+          λ none. part_fine true (Some u) (λ place. Index place m (type_as u) i.typed) at a x t refl (other, λ whole is_text. no_array m u (text_row p e whole t (row.Array m u) is_text r)) (λ whole. element_typed whole t u m i r (y.sound whole) k)
       tested other m u r false k = spotted q (desig.refused 42 q) (refused_part 42 q)
 
       in_row : is_basic t ≡ false → (r : Option TypeRow) → env.row_of e (Some t) ≡ r → Holds Spotted (desig.element_in_row e q a i t r)
@@ -405,18 +429,18 @@ module _ (p : Program) (e : Env) where
   -- What is read.
 
   abbrev IsScalarOrWhole : TypeId → Expr → Type 0
-  IsScalarOrWhole t x = IsScalar p t x ⊎ IsWholeRead p t x
+  IsScalarOrWhole t x = IsScalar p t x ⊎ (IsWholeRead p t x ⊎ (t ≡ text))
 
-  place_read : (place : Place) (t : TypeId) → IsPlaceOf p place (type_as t) → IsScalarOrWhole t (Read (type_as t) place)
+  place_read : (place : Place) (t : TypeId) → IsTyped p e place (Some t) → IsScalarOrWhole t (Read (type_as t) place)
   place_read place t h = by (is_basic t) refl
     where
       by : (b : Bool) → is_basic t ≡ b → IsScalarOrWhole t (Read (type_as t) place)
-      by true low = inl (low, (h, as_basic t low, includes_itself (type_as t)))
-      by false other = inr (other, place, refl, h)
+      by true low = inl (low, (h.typed, as_basic t low, includes_itself (type_as t)))
+      by false other = inr (inl (other, place, refl, h.typed, id_as e.types t h.known))
 
   stands_sound : (place : Place) (of : Option TypeId) → IsTyped p e place of → (t : TypeId) × (of ≡ Some t) × IsScalarOrWhole t (Read (type_of of) place)
   stands_sound place None h = absurd h.known
-  stands_sound place (Some t) h = (t, refl, place_read place t h.typed)
+  stands_sound place (Some t) h = (t, refl, place_read place t h)
 
   read_sound : (k : Known) (x : Held) → IsSoundHeld p e k x → IsSound p (record { known = k; typed = read_from k.of x })
   read_sound k (Stands place) h = let r = stands_sound place k.of h in record { of = r.0; known = r.1; typed = r.2 }

@@ -15,7 +15,7 @@ use Rattle.aos_typed.specs.declared.tree.Literal.TheVariants as literal
 use Rattle.aos_typed.specs.declared.tree.TType.{TType}
 use Rattle.aos_typed.specs.declared.tree.TType.TheVariants as type
 use Rattle.aos_typed.specs.Numbers.{id_of}
-use Rattle.aos_typed.specs.Program.{Expr, Lit, Read, Unary, Binary, And, Or, Element, Ord, Chr, Program}
+use Rattle.aos_typed.specs.Program.{Expr, Lit, Read, Unary, Binary, And, Or, Element, Ord, Chr, CompareTexts, Len, Program}
 use Rattle.aos_typed.specs.WellTyped.{bits, Includes, IsLiteral, HasRange, Gives, GivesOfTwo, is_basic as is_basic_type, IsOf}
 use Rattle.aos_symbols.specs.Env.{shortint, integer, longint, hugeint, boolean, char, set}
 use Rattle.aos_symbols.proofs.Told.{IsTold, basic, defined}
@@ -134,6 +134,11 @@ literal_wider (literal.Set s) type.Boolean u i h = absurd h
 literal_wider (literal.Set s) type.Char u i h = absurd h
 literal_wider (literal.Set s) type.Set u i h = subst (λ u. IsLiteral (literal.Set s) u) (sym (includes_set u i)) h
 literal_wider (literal.Set s) (type.Named o) u i h = absurd h
+literal_wider (literal.Text c) (type.Integer w) u i h = absurd h
+literal_wider (literal.Text c) type.Boolean u i h = absurd h
+literal_wider (literal.Text c) type.Char u i h = subst (λ u. IsLiteral (literal.Text c) u) (sym (includes_char u i)) h
+literal_wider (literal.Text c) type.Set u i h = absurd h
+literal_wider (literal.Text c) (type.Named o) u i h = absurd h
 
 range_wider : (low high : ℤ) (t u : TType) → Includes u t → HasRange t low high → HasRange u low high
 range_wider low high (type.Integer w) u i h = integer_in (λ u. HasRange u low high) w (λ v vw. (within_wider v w low vw h.0, within_wider v w high vw h.1)) u i
@@ -185,6 +190,8 @@ wider p (Or a b) t u h i = (h.0, h.1, boolean_wider t u i h.2)
 wider p (Element a) t u h i = (h.0, set_wider t u i h.1)
 wider p (Ord a) t u h i = (h.0, includes_on u t (type.Integer W16) i h.1)
 wider p (Chr a) t u h i = (h.0, char_wider t u i h.1)
+wider p (CompareTexts r a n b m) t u h i = (h.0, h.1, boolean_wider t u i h.2)
+wider p (Len place n) t u h i = (h.0, h.1, h.2, h.3, h.4, includes_on u t (type.Integer W32) i h.5)
 
 -- The types of the table.
 
@@ -247,28 +254,6 @@ fits_includes t u h = by (is_integer t) (is_integer u) refl refl h
     by true false p q e = same e
     by false b p q e = same e
 
--- one that fits a basic type is a basic one, and one that fits another type is that type
-pub fits_basic : (t u : TypeId) → fits_type t u ≡ true → is_basic u ≡ true → is_basic t ≡ true
-fits_basic t u h b = by (is_integer t) (is_integer u) refl h
-  where
-    same : is t u ≡ true → is_basic t ≡ true
-    same e = subst (λ v. is_basic v ≡ true) (sym (same_type t u e)) b
-
-    by : (a c : Bool) → is_integer t ≡ a → (if a && c then nat_le t.0 u.0 else is t u) ≡ true → is_basic t ≡ true
-    by true c q e = integer_basic t q
-    by false c q e = same e
-
-pub fits_same : (t u : TypeId) → fits_type t u ≡ true → is_basic u ≡ false → t ≡ u
-fits_same t u h b = by (is_integer t) (is_integer u) refl h
-  where
-    not_both : true ≡ false → ⊥
-    not_both e = cc
-
-    by : (a c : Bool) → is_integer u ≡ c → (if a && c then nat_le t.0 u.0 else is t u) ≡ true → t ≡ u
-    by true true q e = absurd (not_both (sym (integer_basic u q) ∙ b))
-    by true false q e = same_type t u e
-    by false c q e = same_type t u e
-
 -- Types that are told: their numbers in the table are theirs in the typed program.
 
 as_named : (t : TypeId) → 7 ≤ t.0 → type_as t ≡ type.Named (object_number t)
@@ -284,5 +269,5 @@ id_as types t (basic below) = basic_cases (λ t. id_of (type_as t) ≡ t) (integ
 id_as types t (defined r from there closed) =
     ap id_of (as_named t (omega arith)) ∙ ap (λ (n : ℕ). record { 0 = n }) (back t.0 from)
   where
-    back : (n : ℕ) → 9 ≤ n → (n - 9) + 9 ≡ n
+    back : (n : ℕ) → 10 ≤ n → (n - 10) + 10 ≡ n
     back n from = omega arith

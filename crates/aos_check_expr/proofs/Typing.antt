@@ -1,9 +1,8 @@
 -- Expressions that break no rule are well typed, where the types of all variables are known and all constants have values.
-use Rattle.std.proofs.Common.{◌≡◌, ℕ, ◌+◌, ◌<◌, ◌==◌, pos, List, [], Bool, true, false, not, Option, Some, None, slice_get, option_and_then, if◌then◌else◌, refl}
+use Rattle.std.proofs.Common.{◌≡◌, ℕ, List, [], Bool, true, false, not, Some, None, if◌then◌else◌, refl}
 use Rattle.aos_base.specs.declared.text.Pos.{Pos}
 use Rattle.aos_base.specs.declared.number.Width.TheVariants.{W64}
 use Rattle.aos_tree.specs.declared.name.Name.{Name}
-use Rattle.aos_tree.specs.declared.name.Text.{Text}
 use Rattle.aos_tree.specs.declared.expr.Expr.{Expr, Expr', Held-Expr-right, Expr-right-None', Expr-right-Some', out-Expr}
 use Rattle.aos_tree.specs.declared.expr.Relation.{Relation, Relation'}
 use Rattle.aos_tree.specs.declared.expr.Simple.{Simple, Simple', Row_of-Addition, end_of-Addition, more_of-Addition}
@@ -17,10 +16,11 @@ use Rattle.aos_tree.specs.declared.expr.Selector.{Selector, items-the_row-Expr}
 use Rattle.aos_tree.specs.declared.expr.Selector.TheVariants as s
 use Rattle.aos_typed.specs.declared.tree.TType.TheVariants as type
 use Rattle.aos_typed.specs.Program.{Program}
-use Rattle.aos_typed.specs.WellTyped.{IsOf}
+use Rattle.aos_typed.specs.WellTyped.{IsOf, IsText}
 use Rattle.aos_symbols.specs.declared.env.Env.{Env}
 use Rattle.aos_symbols.specs.Breaches.{breach_unless}
 use Rattle.aos_symbols.specs.Judged.{Judged, judged, kept, bind, walk}
+use Rattle.aos_symbols.specs.Env.{text_constant}
 use Rattle.aos_symbols.proofs.Holds.{Holds, holds_bind, holds_walk, broken, test_is}
 use Rattle.aos_base.specs.Number.{if_within}
 use Rattle.aos_base.specs.Operators.{natural}
@@ -30,14 +30,16 @@ use Rattle.aos_check_expr.specs.Known.{Answer, Spot, is_number, is_boolean, is_c
 use Rattle.aos_check_expr.specs.Operations as op
 use Rattle.aos_check_expr.specs.Designators as desig
 use Rattle.aos_check_expr.specs.Expressions as judge
-use Rattle.aos_check_expr.proofs.Good.{MayBe, IsKnownClass, within_if, natural_below}
-use Rattle.aos_check_expr.proofs.Parts.{Elements, added_part, multiplied_part, related_part, signed_part, opposite_part, number_part, character_part, no_elements, with_element_part, with_span_part, whole_part}
+use Rattle.aos_check_expr.proofs.Good.{IsKnownClass, within_if, natural_below}
+use Rattle.aos_check_expr.proofs.Parts.{Elements, added_part, multiplied_part, related_part, signed_part, opposite_part, number_part, character_part, string_part, no_elements, with_element_part, with_span_part, whole_part}
 use Rattle.aos_check_expr.proofs.Spots.{MayFind, Part, Spotted, guarded_part, plain_head, behind_head, spotted, named_spot, field_part, element_part, followed_part, read_part}
 use Rattle.aos_check_expr.proofs.CallParts.{Parts, called_part}
+use Rattle.aos_check_expr.proofs.Worded.{first_below, texts_part}
 pub use Rattle.aos_check_expr.proofs.Types.{wider}
 pub use Rattle.aos_check_expr.proofs.Good.{IsGood, HasGood}
-pub use Rattle.aos_check_expr.proofs.Sound.{IsSound, sound_number, sound_char, sound_boolean, fits_sound, fits_scalar, fits_whole}
+pub use Rattle.aos_check_expr.proofs.Sound.{IsSound, sound_number, sound_char, sound_boolean}
 pub use Rattle.aos_check_expr.proofs.Spots.{IsTyped, GoodConstants, IsWhole, IsSoundSpot}
+pub use Rattle.aos_check_expr.proofs.Worded.{characters_are, text_place_is}
 
 -- The walk over an expression.
 
@@ -95,14 +97,6 @@ module _ (p : Program) (e : Env) (good : GoodConstants e) where
   refused_answer : (rule : ℕ) (at : Pos) → IsFine (desig.refused rule at)
   refused_answer rule at = broken (Part p e) _ [] _
 
-  text_fine : (t : Text) → IsFine (judge.character (judge.character_in e.here.text t) t.pos)
-  text_fine t = character_part p (IsWhole p e) (judge.character_in e.here.text t) (by (t.start + 3 == t.end) (slice_get e.here.text (t.start + 1))) t.pos
-    where
-      by : (b : Bool) (o : Option ℕ) → MayBe (λ c. c < 256) (if b then option_and_then (λ c. natural 256 (pos c)) o else None)
-      by true None = tt
-      by true (Some c) = natural_below 256 (pos c)
-      by false o = tt
-
   mutual
     expr_fine : (x : Expr) → IsFine (judge.expr e x)
     expr_fine (Expr' at left right) = after (judge.simple e left) (λ a. judge.relation_of e at a right) (simple_fine left) (λ a h. relation_of_fine at a h right)
@@ -112,7 +106,7 @@ module _ (p : Program) (e : Env) (good : GoodConstants e) where
     relation_of_fine first a h (Expr-right-Some' r) = relation_fine first a h r
 
     relation_fine : (first : Pos) (a : Answer) → Part p e a → (r : Relation) → IsFine (judge.relation e first a r)
-    relation_fine first a h (Relation' at o right) = after (judge.simple e right) (λ b. judge.related_by e first at o a b) (simple_fine right) (λ b k. related_part p (IsWhole p e) e first at o a b h k)
+    relation_fine first a h (Relation' at o right) = after (judge.simple e right) (λ b. judge.related_by e first at o a b) (simple_fine right) (λ b k. related_part p (IsWhole p e) e first at o a b (texts_part p e first o a b h k) h k)
 
     simple_fine : (x : Simple) → IsFine (judge.simple e x)
     simple_fine (Simple' at sign first shape rest) =
@@ -146,7 +140,7 @@ module _ (p : Program) (e : Env) (good : GoodConstants e) where
         (holds_bind Parted (Spotted p e) j (judge.spot_of_part e) (selectors_fine n.pos begun (plain_head p e n) row) spot_fine) (read_part p e)
     factor_fine (f.Number q n) = number_part p (IsWhole p e) (if_within W64 n) (within_if W64 n) q
     factor_fine (f.Char q n) = character_part p (IsWhole p e) (natural 256 n) (natural_below 256 n) q
-    factor_fine (f.Text t) = text_fine t
+    factor_fine (f.Text t) = string_part p (IsWhole p e) (text_constant e t.start) (first_below e t.start) t.pos
     factor_fine (f.Nil q) = refused_answer 99 q
     factor_fine (f.Set' q shape row) =
         holds_bind (Elements p (IsWhole p e)) (Part p e) (judge.elements e q op.no_elements row) (λ a. judge.whole_set q a)
@@ -237,6 +231,16 @@ argument_sound p e whole x = (number, character)
     character =
         holds_bind (IsSound p) (λ t. IsOf p t type.Char) (judge.expr e x) (λ a. judged (op.argument (is_char a.known.of) (out-Expr x).pos) a.typed)
         (expr_sound p e whole x) (λ a h none. sound_char p a h (test_is (is_char a.known.of) 35 (out-Expr x).pos none))
+
+-- an argument that must be a text
+abbrev pub IsTextAt : Program → Env → Answer → Type 0
+IsTextAt p e v = let at = judge.text_place e v in IsText p at.0 at.1
+
+pub text_argument : (p : Program) (e : Env) → IsWhole p e → (x : Expr) →
+    Holds (IsTextAt p e) (bind (judge.expr e x) (λ v. judged (breach_unless (judge.may_be_text e v.known) 35 (out-Expr x).pos) v))
+text_argument p e whole x =
+    holds_bind (IsSound p) (IsTextAt p e) (judge.expr e x) (λ v. judged (breach_unless (judge.may_be_text e v.known) 35 (out-Expr x).pos) v)
+    (expr_sound p e whole x) (λ v h none. text_place_is p e whole v h (test_is (judge.may_be_text e v.known) 35 (out-Expr x).pos none))
 
 -- a constant expression reads no variable, so that the program may be any
 no_program : Program

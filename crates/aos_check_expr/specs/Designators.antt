@@ -27,7 +27,7 @@ use Rattle.aos_symbols.specs.Env as env
 use Rattle.aos_check_expr.specs.declared.known.Class.{Class}
 use Rattle.aos_check_expr.specs.declared.known.Class.TheVariants.{Unknown, Constant, Variable, ReadOnly, Computed}
 use Rattle.aos_check_expr.specs.declared.designators.Head.{Head}
-use Rattle.aos_check_expr.specs.Known.{Answer, Spot, Held, Stands, Value, passes, is_basic, is_number, type_as, unknown, some_value, constant_answer, answered, nothing, spot_of, read_from, known_as, lost}
+use Rattle.aos_check_expr.specs.Known.{Answer, Spot, Held, Stands, Value, passes, is_basic, is_long_text, is_number, type_as, unknown, some_value, constant_answer, answered, nothing, spot_of, read_from, known_as, lost}
 
 -- A head is what is found of a name, where the name stands, and where the designator begins.
 
@@ -43,7 +43,7 @@ is_module_meaning (means.Variable k) = false
 is_module_meaning (means.Procedure k) = false
 is_module_meaning (means.Truth b) = false
 is_module_meaning (means.Function f) = false
-is_module_meaning means.New = false
+is_module_meaning (means.Routine r) = false
 is_module_meaning means.Proper = false
 is_module_meaning means.Other = false
 
@@ -116,7 +116,7 @@ meant e x (means.Module m) h = spotted h.at (refused 16 h.at)
 meant e x means.Out h = spotted h.at (refused 16 h.at)
 meant e x (means.Truth b) h = spotted h.at (kept (constant_answer (literal.Bool b)))
 meant e x (means.Function f) h = spotted h.at (refused_value 36 h.first)
-meant e x means.New h = spotted h.at (refused_value 36 h.first)
+meant e x (means.Routine r) h = spotted h.at (refused_value 36 h.first)
 meant e x means.Proper h = spotted h.at (refused_value 36 h.first)
 meant e x (means.Procedure k) h = spotted h.at (refused_value 99 h.first)
 meant e x means.Other h = spotted h.at (refused_value 99 h.first)
@@ -129,13 +129,13 @@ found e (Found x) h = meant e x x.means h
 abbrev pub named : Env → Head → Judged Spot
 named e h = found e h.found h
 
--- Types of variables: a basic type, or that of records or arrays, which have parts. What is of the others isn't built.
+-- Types: a basic type, that of string constants, or one of records or arrays, which have parts. What is of the others isn't built.
 
 abbrev pub has_parts : Env → TypeId → Bool
 has_parts e t = not (is_basic t) && is_whole (env.row_of e (Some t))
 
 abbrev pub is_built : Env → TypeId → Bool
-is_built e t = is_basic t || has_parts e t
+is_built e t = (is_basic t || is_long_text t) || has_parts e t
 
 -- Parts of variables.
 

@@ -1,10 +1,13 @@
 -- Expressions: which rules they break, what is known of them and what they are in the typed program (Oberon-2 report, section
--- 8). A type test, NIL and texts but those of one character aren't built.
-use Rattle.std.specs.Prelude.{ℕ, ◌+◌, ℤ, pos, List, [], ◌∷◌, ◌++◌, Bool, true, false, not, ◌&&◌, ◌||◌, ◌==◌, Option, Some, None, slice_get, option_and_then, if◌then◌else◌}
-use Rattle.std.specs.Option.{is_none}
+-- 8). A type test and NIL aren't built.
+use Rattle.std.specs.Prelude.{ℕ, suc, ◌+◌, ◌^◌, ℤ, pos, List, [], ◌∷◌, ◌++◌, length, Bool, true, false, not, ◌&&◌, ◌||◌, ◌==◌, Option, Some, None, is_some, option_and_then, if◌then◌else◌}
+use Rattle.std.specs.Option.{is_none, unwrap_or}
 use Rattle.aos_base.specs.declared.text.Pos.{Pos}
 use Rattle.aos_base.specs.declared.number.Width.TheVariants.{W64}
-use Rattle.aos_base.specs.Number.{if_within}
+use Rattle.aos_base.specs.declared.number.Relation.{Relation}
+use Rattle.aos_base.specs.declared.number.Relation.TheVariants as rel
+use Rattle.aos_base.specs.Number.{if_within, holds}
+use Rattle.aos_base.specs.Text.{order}
 use Rattle.aos_base.specs.Operators.{natural}
 use Rattle.aos_tree.specs.declared.name.Name.{Name}
 use Rattle.aos_tree.specs.declared.name.Text.{Text}
@@ -14,7 +17,7 @@ use Rattle.aos_tree.specs.declared.expr.Sign.{Sign}
 use Rattle.aos_tree.specs.declared.expr.AddOp.{AddOp}
 use Rattle.aos_tree.specs.declared.expr.MulOp.{MulOp}
 use Rattle.aos_tree.specs.declared.expr.Expr.{Expr, Expr', Held-Expr-right, Expr-right-None', Expr-right-Some', out-Expr}
-use Rattle.aos_tree.specs.declared.expr.Relation.{Relation, Relation'}
+use Rattle.aos_tree.specs.declared.expr.Relation.{Relation as TreeRelation, Relation'}
 use Rattle.aos_tree.specs.declared.expr.Simple.{Simple, Simple', Row_of-Addition, end_of-Addition, more_of-Addition, out-Simple}
 use Rattle.aos_tree.specs.declared.expr.Addition.{Addition, Addition'}
 use Rattle.aos_tree.specs.declared.expr.Product.{Product}
@@ -30,7 +33,9 @@ use Rattle.aos_types.specs.declared.row.TypeRow.{TypeRow}
 use Rattle.aos_types.specs.declared.row.TypeRow.TheVariants as row
 use Rattle.aos_typed.specs.declared.tree.Literal.{Literal}
 use Rattle.aos_typed.specs.declared.tree.Literal.TheVariants as literal
-use Rattle.aos_typed.specs.Program.{Expr as Typed}
+use Rattle.aos_typed.specs.declared.tree.TextConstant.{TextConstant}
+use Rattle.aos_typed.specs.Program.{Place, ModuleVar, Expr as Typed, CompareTexts, Len}
+use Rattle.aos_typed.specs.WellTyped.{dimension}
 use Rattle.aos_symbols.specs.declared.scope.Meaning.{Meaning}
 use Rattle.aos_symbols.specs.declared.scope.Meaning.TheVariants as means
 use Rattle.aos_symbols.specs.declared.scope.Function.{Function}
@@ -45,10 +50,11 @@ use Rattle.aos_check_expr.specs.declared.known.Class.{Class}
 use Rattle.aos_check_expr.specs.declared.known.Class.TheVariants.{Unknown, Constant, Variable, ReadOnly, Computed}
 use Rattle.aos_check_expr.specs.declared.known.Known.{Known}
 use Rattle.aos_check_expr.specs.declared.designators.Head.{Head}
+use Rattle.aos_check_expr.specs.declared.operations.Joint.TheVariants as joint
 use Rattle.aos_check_expr.specs.declared.operations.Step.{Step}
 use Rattle.aos_check_expr.specs.declared.calls.Limit.{Limit}
 use Rattle.aos_check_expr.specs.declared.calls.Limit.TheVariants as which
-use Rattle.aos_check_expr.specs.Known.{Answer, Spot, is_basic, is_number, is_boolean, is_integer, constant_answer, answered, nothing}
+use Rattle.aos_check_expr.specs.Known.{Answer, Spot, is_basic, is_number, is_boolean, is_char, is_integer, constant_answer, answered, nothing}
 use Rattle.aos_check_expr.specs.Operations as op
 use Rattle.aos_check_expr.specs.Designators as desig
 
@@ -67,9 +73,10 @@ abbrev pub character : Option ℕ → Pos → Judged Answer
 character None at = not_yet at
 character (Some c) at = kept (constant_answer (literal.Char c))
 
--- a string constant of one character between its quotes is that character
-abbrev pub character_in : List ℕ → Text → Option ℕ
-character_in text t = if t.start + 3 == t.end then option_and_then (λ c. natural 256 (pos c)) (slice_get text (t.start + 1)) else None
+-- a string constant, which the parser has found to be one of its text's
+abbrev pub string : Option TextConstant → Pos → Judged Answer
+string None at = not_yet at
+string (Some t) at = kept (constant_answer (literal.Text t))
 
 -- A name alone, or a name behind that of a module: its head. Such is the argument of MAX and MIN.
 
@@ -215,9 +222,65 @@ abbrev pub two_of : Pos → List (Judged Answer) → List Expr → Judged Answer
 two_of at (j ∷ k ∷ []) (x ∷ y ∷ []) = bind j (λ a. bind k (λ b. two_arguments at (out-Expr x).pos (out-Expr y).pos a b))
 two_of at js xs = desig.refused 34 at
 
+-- LEN of an array, and of one of its dimensions, which a constant integer tells. Its value is no constant.
+
+-- a type that is an array's, or may be
+abbrev pub is_array : Env → Option TypeId → Bool
+is_array e of = of_row of (env.row_of e of)
+  where
+    of_row : Option TypeId → Option TypeRow → Bool
+    of_row None r = true
+    of_row (Some t) (Some (row.Array n u)) = not (is_basic t)
+    of_row (Some t) r = false
+
+abbrev pub length_of : Env → Option TypeId → ℕ → Option ℕ
+length_of e of d = dimension e.types d (env.row_of e of)
+
+-- what is made of an array is no constant
+abbrev pub len_class : Class → Class
+len_class Unknown = Unknown
+len_class c = Computed
+
+abbrev pub len_answer : Env → Answer → (dimension : ℕ) → Answer
+len_answer e a d =
+    let takes = is_array e a.known.of in
+    answered (op.kept_class takes (len_class a.known.class)) (op.kept_type takes (Some env.longint))
+    (Len (desig.place_in a.typed) (unwrap_or (length_of e a.known.of d) 0))
+
+-- the number of a dimension
+abbrev pub number_in : Class → Option ℕ
+number_in (Constant (Some (literal.Int n))) = natural (2 ^ 32) n
+number_in c = None
+
+-- it is one of the array's, where that is known
+abbrev pub is_dimension : Env → Option TypeId → Class → Bool
+is_dimension e of Unknown = true
+is_dimension e of c = by of (number_in c)
+  where
+    by : Option TypeId → Option ℕ → Bool
+    by of None = false
+    by None (Some d) = true
+    by (Some t) (Some d) = is_some (length_of e (Some t) d)
+
+abbrev pub len_alone : Env → Pos → Answer → Judged Answer
+len_alone e at a = judged (op.argument (is_array e a.known.of) at) (len_answer e a 0)
+
+abbrev pub len_in : Env → (first second : Pos) → Answer → Answer → Judged Answer
+len_in e first second a d =
+    judged
+    (op.argument (is_array e a.known.of) first ++ breach_unless (is_dimension e a.known.of d.known.class) 20 second)
+    (len_answer e a (unwrap_or (number_in d.known.class) 0))
+
+abbrev pub len_of : Env → Pos → List (Judged Answer) → List Expr → Judged Answer
+len_of e at (j ∷ []) (x ∷ []) = bind j (λ a. len_alone e (out-Expr x).pos a)
+len_of e at (j ∷ k ∷ []) (x ∷ y ∷ []) =
+    bind j (λ a. bind k (λ d. len_in e (out-Expr x).pos (out-Expr y).pos a d))
+len_of e at js xs = desig.refused 34 at
+
 abbrev pub called_by : Env → Callee → Head → Pos → List (Judged Answer) → List Expr → Judged Answer
 called_by e (Calls function.Max) h at js xs = limit e op.greatest_value xs h.first
 called_by e (Calls function.Min) h at js xs = limit e op.least_value xs h.first
+called_by e (Calls function.Len) h at js xs = len_of e h.first js xs
 called_by e (Calls function.Ash) h at js xs = two_of h.first js xs
 called_by e (Calls f) h at js xs = one_of (λ of. op.applied f of) h.first js xs
 called_by e (Converts t) h at js xs = one_of (λ of. op.converted t of) h.first js xs
@@ -280,7 +343,8 @@ abbrev pub is_test : RelationOp → Bool
 is_test relation_op.Is = true
 is_test o = false
 
--- an array of characters is a text, and so is a constant that is a character
+-- Texts: an array of characters is one, and so is a string constant.
+
 abbrev pub is_characters : Env → Known → Bool
 is_characters e k = by k.of
   where
@@ -292,26 +356,69 @@ is_characters e k = by k.of
     by None = false
     by (Some t) = not (is_basic t) && of_row (env.row_of e (Some t))
 
-abbrev pub is_character : Class → Bool
-is_character (Constant (Some (literal.Char c))) = true
-is_character c = false
+abbrev pub string_in : Env → Class → Option TextConstant
+string_in e (Constant (Some (literal.Text t))) = if env.has_string e t then Some t else None
+string_in e c = None
 
 abbrev pub is_text : Env → Known → Bool
-is_text e k = is_characters e k || is_character k.class
+is_text e k = is_characters e k || is_some (string_in e k.class)
 
--- texts aren't compared yet
+-- a text that is no character
+abbrev pub is_only_text : Env → Known → Bool
+is_only_text e k = is_text e k && not (is_char k.of)
+
+abbrev pub may_be_text : Env → Known → Bool
+may_be_text e k = is_none k.of || is_text e k
+
+-- two texts are compared as such where one of them is no character
 abbrev pub are_texts : Env → Known → Known → Bool
-are_texts e a b = (is_characters e a && is_text e b) || (is_text e a && is_characters e b)
+are_texts e a b = (may_be_text e a && may_be_text e b) && (is_only_text e a || is_only_text e b)
 
 abbrev pub compares_texts : Env → RelationOp → Known → Known → Bool
 compares_texts e relation_op.In a b = false
 compares_texts e relation_op.Is a b = false
 compares_texts e o a b = are_texts e a b
 
+-- the place of a text and how many elements are there: a string constant's has its 0X behind its characters
+abbrev pub text_place : Env → Answer → Place × ℕ
+text_place e a = by (string_in e a.known.class)
+  where
+    by : Option TextConstant → Place × ℕ
+    by (Some t) = (ModuleVar t.home (env.string_place e t), suc (length (env.characters e t)))
+    by None = (desig.place_in a.typed, unwrap_or (length_of e a.known.of 0) 0)
+
+-- the relation of an operator; a type test has none, and no texts are tested
+abbrev pub relation_in : RelationOp → Relation
+relation_in relation_op.Equal = rel.Equal
+relation_in relation_op.NotEqual = rel.NotEqual
+relation_in relation_op.Less = rel.Less
+relation_in relation_op.LessEqual = rel.LessEqual
+relation_in relation_op.Greater = rel.Greater
+relation_in relation_op.GreaterEqual = rel.GreaterEqual
+relation_in relation_op.In = rel.Equal
+relation_in relation_op.Is = rel.Equal
+
+-- two string constants are compared when the text is checked
+abbrev pub constants_related : Env → Relation → TextConstant → TextConstant → Bool
+constants_related e r a b = holds r (order (env.characters e a) (env.characters e b)) (pos 0)
+
+abbrev pub texts_class : Env → Relation → Class → Class → Class
+texts_class e r a b = by (string_in e a) (string_in e b)
+  where
+    by : Option TextConstant → Option TextConstant → Class
+    by (Some s) (Some t) = Constant (Some (literal.Bool (constants_related e r s t)))
+    by s t = op.class_of joint.And a b
+
+abbrev pub texts_related : Env → Relation → Answer → Answer → Answer
+texts_related e r a b =
+    let left = text_place e a in
+    let right = text_place e b in
+    answered (texts_class e r a.known.class b.known.class) (Some env.boolean) (CompareTexts r left.0 left.1 right.0 right.1)
+
 abbrev pub related_by : Env → Pos → Pos → RelationOp → Answer → Answer → Judged Answer
 related_by e first at o a b =
     if is_test o then tested e a.known.of at
-    else if compares_texts e o a.known b.known then judged (not_built at) (answered Unknown (Some env.boolean) nothing)
+    else if compares_texts e o a.known b.known then op.told first [] (texts_related e (relation_in o) a b)
     else op.operands first at (op.related o a.known.of b.known.of) a b
 
 abbrev pub signed : Option Sign → Pos → Answer → Judged Answer
@@ -356,7 +463,7 @@ module _ (e : Env) where
     relation_of first a Expr-right-None' = kept a
     relation_of first a (Expr-right-Some' r) = relation first a r
 
-    pub relation : Pos → Answer → Relation → Judged Answer
+    pub relation : Pos → Answer → TreeRelation → Judged Answer
     relation first a (Relation' at o right) = bind (simple right) (λ b. related_by e first at o a b)
 
     pub simple : Simple → Judged Answer
@@ -381,7 +488,7 @@ module _ (e : Env) where
     factor (f.Desig' n shape row) = bind (bind (selectors n.pos (Begun (desig.plain e n)) row) (spot_of_part e)) (desig.read e)
     factor (f.Number p n) = number (if_within W64 n) p
     factor (f.Char p n) = character (natural 256 n) p
-    factor (f.Text t) = character (character_in e.here.text t) t.pos
+    factor (f.Text t) = string (env.text_constant e t.start) t.pos
     factor (f.Nil p) = not_yet p
     factor (f.Set' p shape row) = bind (elements p op.no_elements row) (λ a. whole_set p a)
     factor (f.Paren' p shape row) = held row
@@ -428,7 +535,7 @@ module _ (e : Env) where
   abbrev pub product : Pos → Answer → Product → Judged Answer
   product first a p = bind (factor p.right) (λ b. multiplied first p.pos p.op a b)
 
-  abbrev pub relation_if : Pos → Answer → Option Relation → Judged Answer
+  abbrev pub relation_if : Pos → Answer → Option TreeRelation → Judged Answer
   relation_if first a None = kept a
   relation_if first a (Some r) = relation first a r
 

@@ -13,7 +13,7 @@ use Rattle.aos_typed.specs.declared.tree.TType.TheVariants as type
 use Rattle.aos_typed.specs.Program.{Place, Expr, Lit, Read}
 use Rattle.aos_symbols.specs.declared.breach.Breach.{Breach}
 use Rattle.aos_symbols.specs.Breaches.{breach_unless}
-use Rattle.aos_symbols.specs.Env.{shortint, integer, longint, hugeint, boolean, char, set, basic_rows}
+use Rattle.aos_symbols.specs.Env.{shortint, integer, longint, hugeint, boolean, char, set, text, basic_rows}
 use Rattle.aos_check_expr.specs.declared.known.Class.{Class}
 use Rattle.aos_check_expr.specs.declared.known.Class.TheVariants.{Unknown, Constant, Variable, ReadOnly, Computed}
 use Rattle.aos_check_expr.specs.declared.known.Known.{Known}
@@ -62,6 +62,10 @@ is_char = passes (is char)
 
 abbrev pub is_set : Option TypeId → Bool
 is_set = passes (is set)
+
+-- the type of a string constant that is no character
+abbrev pub is_long_text : TypeId → Bool
+is_long_text = is text
 
 -- a value of one basic type may be assigned to a variable of another: of an integer type that includes it, or of the same type
 abbrev pub fits_type : TypeId → TypeId → Bool
@@ -112,6 +116,7 @@ type_of_literal (literal.Int n) = smallest n
 type_of_literal (literal.Bool b) = boolean
 type_of_literal (literal.Char c) = char
 type_of_literal (literal.Set s) = set
+type_of_literal (literal.Text t) = if t.length == 1 then char else text
 
 -- the number of an object type among those of the program
 abbrev pub object_number : TypeId → ℕ

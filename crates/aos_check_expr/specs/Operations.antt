@@ -265,7 +265,7 @@ is_not t (Some u) = not (is t u)
 abbrev pub into : Option TypeId → Single
 into of = single.On (one.Range (least_of (width_of of)) (greatest_of (width_of of)))
 
--- those of one value; ASH has two, and MAX and MIN have a type
+-- those of one value; ASH has two, MAX and MIN have a type, and LEN an array
 abbrev pub applied : Function → Option TypeId → Step
 applied function.Abs a = step (is_number a) a (single.On (one.Abs (width_of a)))
 applied function.Odd a = step (is_number a) (Some boolean) (single.On one.Odd)
@@ -277,6 +277,7 @@ applied function.Short a = step (is_number a && is_not shortint a) (previous a) 
 applied function.Ash a = step true a single.Same
 applied function.Max a = step true a single.Same
 applied function.Min a = step true a single.Same
+applied function.Len a = step true a single.Same
 
 abbrev pub converted : TypeId → Option TypeId → Step
 converted t a = step (is_number a) (Some t) (into (Some t))

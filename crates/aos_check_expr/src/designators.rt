@@ -8,8 +8,8 @@ ghost use Rattle.aos_check_expr.specs.Designators as judge;
 ghost use Rattle.aos_check_expr.specs.Seen.{seen_answer, seen_held, seen_spot};
 
 use crate::known::{
-    Answer, Class, Held, Known, Spot, answered, constant_answer, is_basic, nothing, read_from,
-    some_value, spot_of, unknown,
+    Answer, Class, Held, Known, Spot, answered, constant_answer, is_basic, is_long_text, nothing,
+    read_from, some_value, spot_of, unknown,
 };
 use aos_base::Pos;
 use aos_symbols::{
@@ -216,7 +216,7 @@ fn meant(
         Meaning::Module(_) => refused_at(found, OTHER_KIND, at),
         Meaning::Out => refused_at(found, OTHER_KIND, at),
         Meaning::Function(_) => refused_value_at(found, WRONG_CALL, head.first, at),
-        Meaning::New => refused_value_at(found, WRONG_CALL, head.first, at),
+        Meaning::Routine(_) => refused_value_at(found, WRONG_CALL, head.first, at),
         Meaning::Proper => refused_value_at(found, WRONG_CALL, head.first, at),
         Meaning::Procedure(_) => refused_value_at(found, NOT_BUILT, head.first, at),
         Meaning::Other => refused_value_at(found, NOT_BUILT, head.first, at),
@@ -248,11 +248,11 @@ pub fn has_parts(env: &Env<'_>, of: TypeId) -> bool
     )
 }
 
-/// Whether variables of a type are built: of a basic type, or of one that has parts.
+/// Whether a type is built: a basic type, that of string constants, or one that has parts.
 pub fn is_built(env: &Env<'_>, of: TypeId) -> bool
     ensures { result ≡ judge.is_built env.now of }
 {
-    is_basic(of) || has_parts(env, of)
+    is_basic(of) || is_long_text(of) || has_parts(env, of)
 }
 
 /// A call of what is of this type, or a guard, where the argument is the name of a type.
@@ -306,19 +306,26 @@ pub fn read(found: &mut Option<Breach>, env: &Env<'_>, spot: Spot) -> Answer
     }
 }
 
-/// A designator that is assigned, which begins here: it must be a variable that may be written, of a type that is built.
-#[tactic(auto, using(aos_symbols::proofs::Keeping::after_more))]
-pub fn refuse_assigned(found: &mut Option<Breach>, env: &Env<'_>, first: Pos, spot: &Spot)
-    ensures { found.new ≡
-        first_after found.old (judge.assigned env.now first (seen_spot spot.now)).breaches }
+/// What is written, which begins here: it must be a variable that may be.
+pub fn refuse_written(found: &mut Option<Breach>, class: Class, first: Pos)
+    ensures { found.new ≡ first_after found.old (judge.written class first) }
 {
-    match spot.known.class {
+    match class {
         Class::Unknown => {}
         Class::Variable => {}
         Class::ReadOnly => note(found, READ_ONLY, first),
         Class::Constant(_) => note(found, NO_VARIABLE, first),
         Class::Computed => note(found, NO_VARIABLE, first),
     }
+}
+
+/// A designator that is assigned, which begins here: it must be a variable that may be written, of a type that is built.
+#[tactic(auto, using(aos_symbols::proofs::Keeping::after_more))]
+pub fn refuse_assigned(found: &mut Option<Breach>, env: &Env<'_>, first: Pos, spot: &Spot)
+    ensures { found.new ≡
+        first_after found.old (judge.assigned env.now first (seen_spot spot.now)).breaches }
+{
+    refuse_written(found, spot.known.class, first);
     refuse_others(found, env, spot.known.of, spot.at);
 }
 

@@ -12,10 +12,11 @@ ghost use Rattle.aos_check_expr.specs.Seen.{seen_answer, seen_part, seen_spot};
 use crate::calls::{Limit, is_guard, limit_called, not_called, value_of_one, value_of_two};
 use crate::designators::{Head, guarded, is_module, named, plain, read, refused};
 use crate::forms::{
-    added, byte_of, character, character_in, multiplied, not_yet, number, opposite, related,
-    signed, whole_set, with_element, with_span,
+    added, byte_of, character, multiplied, not_yet, number, opposite, related, signed, string,
+    whole_set, with_element, with_span,
 };
 use crate::known::{Answer, Class, Spot, is_boolean, is_char, is_integer, is_number, spot_of};
+use crate::lengths::{len_alone, len_in};
 use crate::operations;
 use crate::selectors::{self, Part, followed_part, pointed, spot_of_part};
 use aos_base::Pos;
@@ -200,10 +201,7 @@ fn factor(
         }
         Factor::Number(_, n) => Ok(number(*n)),
         Factor::Char(at, n) => Ok(character(found, byte_of(*n), *at)),
-        Factor::Text(text) => {
-            let code = character_in(env.here.text(), *text);
-            Ok(character(found, code, text.pos))
-        }
+        Factor::Text(text) => Ok(string(found, env.text_constant(text.start), text.pos)),
         Factor::Nil(at) => Ok(not_yet(found, *at)),
         Factor::Set(at, all) => {
             let set = elements(alloc, found, env, *at, all.as_slice())?;
@@ -500,6 +498,7 @@ fn called_as(
         Meaning::Function(Function::Min) => {
             Ok(limit_called(found, env, Limit::Least, arguments, head.first))
         }
+        Meaning::Function(Function::Len) => measured(alloc, found, env, head.first, arguments),
         Meaning::Function(Function::Ash) => shifted(alloc, found, env, head.first, arguments),
         Meaning::Function(function) => {
             applied(alloc, found, env, function, head.first, arguments)
@@ -591,6 +590,37 @@ fn shifted(
             let shifted = expr(alloc, found, env, value)?;
             let by = expr(alloc, found, env, places)?;
             value_of_two(alloc, found, first, value.pos, places.pos, shifted, by)
+        }
+        _ => Ok(refused(found, ARGUMENT_COUNT, first)),
+    }
+}
+
+/// LEN, in a call that begins here.
+#[cycle(exprs)]
+#[tactic(auto, using(aos_symbols::proofs::Keeping::after_more))]
+fn measured(
+    alloc: Global,
+    found: &mut Option<Breach>,
+    env: &Env<'_>,
+    first: Pos,
+    arguments: &[Expr],
+) -> Result<Answer, AllocError>
+    ensures noted { OnOk result (found.new ≡ first_after found.old
+        (judge.len_of env.now first
+        (map (judge.expr env.now) arguments.now) arguments.now).breaches) }
+    ensures answer { IfOk result (λ r. seen_answer r ≡
+        (judge.len_of env.now first
+        (map (judge.expr env.now) arguments.now) arguments.now).answer) }
+{
+    match arguments {
+        [argument] => {
+            let array = expr(alloc, found, env, argument)?;
+            Ok(len_alone(found, env, argument.pos, array))
+        }
+        [argument, number] => {
+            let array = expr(alloc, found, env, argument)?;
+            let dimension = expr(alloc, found, env, number)?;
+            Ok(len_in(found, env, argument.pos, number.pos, array, dimension))
         }
         _ => Ok(refused(found, ARGUMENT_COUNT, first)),
     }

@@ -11,13 +11,14 @@ ghost use Rattle.aos_check_expr.specs.Expressions as judge;
 ghost use Rattle.aos_check_expr.specs.Seen.{seen_answer};
 
 use crate::designators::{is_built, refused};
-use crate::known::{Answer, Class, Known, answered, constant_answer, is_basic, nothing};
+use crate::known::{Answer, Class, answered, constant_answer, nothing};
 use crate::operations;
+use crate::texts::{compares_texts, relation_in, texts_related};
 use aos_base::Pos;
-use aos_symbols::{BOOLEAN, Breach, CHAR, Env, NOT_BUILT, WRONG_TEST, note};
-use aos_tree::{AddOp, MulOp, RelationOp, Sign, Text};
-use aos_typed::Literal;
-use aos_types::{TypeId, TypeRow};
+use aos_symbols::{BOOLEAN, Breach, Env, NOT_BUILT, WRONG_TEST, note};
+use aos_tree::{AddOp, MulOp, RelationOp, Sign};
+use aos_typed::{Literal, TextConstant};
+use aos_types::TypeId;
 use std::alloc::{AllocError, Global};
 
 /// A form that isn't built.
@@ -54,14 +55,14 @@ pub fn character(found: &mut Option<Breach>, code: Option<u8>, at: Pos) -> Answe
     }
 }
 
-/// The one character between the quotes of a string.
-pub fn character_in(text: &[u8], string: Text) -> Option<u8>
-    ensures { result ≡ judge.character_in text.now string }
+/// A string constant, which the parser has found to be one of its text's.
+pub fn string(found: &mut Option<Breach>, text: Option<TextConstant>, at: Pos) -> Answer
+    ensures noted { found.new ≡ first_after found.old (judge.string text at).breaches }
+    ensures answer { seen_answer result ≡ (judge.string text at).answer }
 {
-    if string.start as usize + 3 == string.end as usize {
-        text.get(string.start as usize + 1).copied()
-    } else {
-        None
+    match text {
+        Some(text) => constant_answer(Literal::Text(text)),
+        None => not_yet(found, at),
     }
 }
 
@@ -121,52 +122,6 @@ pub fn tested(found: &mut Option<Breach>, env: &Env<'_>, of: Option<TypeId>, at:
     answered(Class::Unknown, Some(BOOLEAN), nothing())
 }
 
-/// Whether what is known of a part is that it is an array of characters, which is a text.
-pub fn is_characters(env: &Env<'_>, known: Known) -> bool
-    ensures { result ≡ judge.is_characters env.now known }
-{
-    let Some(of) = known.of else {
-        return false;
-    };
-    if is_basic(of) {
-        return false;
-    }
-    match env.row(Some(of)) {
-        Some(TypeRow::Array(_, of)) => of.0 == CHAR.0,
-        _ => false,
-    }
-}
-
-/// Whether a part is a constant that is a character.
-pub fn is_character(class: Class) -> bool
-    ensures { result ≡ judge.is_character class }
-{
-    matches!(class, Class::Constant(Some(Literal::Char(_))))
-}
-
-fn is_text(env: &Env<'_>, known: Known) -> bool
-    ensures { result ≡ judge.is_text env.now known }
-{
-    is_characters(env, known) || is_character(known.class)
-}
-
-fn are_texts(env: &Env<'_>, a: Known, b: Known) -> bool
-    ensures { result ≡ judge.are_texts env.now a b }
-{
-    (is_characters(env, a) && is_text(env, b)) || (is_text(env, a) && is_characters(env, b))
-}
-
-/// Whether an operator compares two texts.
-fn compares_texts(env: &Env<'_>, op: RelationOp, a: Known, b: Known) -> bool
-    ensures { result ≡ judge.compares_texts env.now op a b }
-{
-    match op {
-        RelationOp::In => false,
-        RelationOp::Is => false,
-        _ => are_texts(env, a, b),
-    }
-}
-
 /// A relation of two operands, whose operator stands here.
 pub fn related(
     alloc: Global,
@@ -187,8 +142,9 @@ pub fn related(
         return Ok(tested(found, env, a.known.of, at));
     }
     if compares_texts(env, op, a.known, b.known) {
-        note(found, NOT_BUILT, at);
-        return Ok(answered(Class::Unknown, Some(BOOLEAN), nothing()));
+        let whole = texts_related(env, relation_in(op), a, b)?;
+        operations::told(found, first, &whole);
+        return Ok(whole);
     }
     let relation = operations::related(op, a.known.of, b.known.of);
     operations::operands(alloc, found, first, at, relation, a, b)

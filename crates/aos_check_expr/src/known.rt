@@ -10,7 +10,7 @@ ghost use Rattle.aos_check_expr.specs.Seen.{seen_answer, seen_held, seen_spot};
 use aos_base::{Pos, Width};
 use aos_symbols::{
     BASIC_TYPES, BOOLEAN, Breach, CHAR, HUGEINT, INTEGER, LONGINT, NOT_CONSTANT, SET, SHORTINT,
-    note,
+    TEXT, note,
 };
 use aos_typed::{Literal, TExpr, TPlace, TType};
 use aos_types::TypeId;
@@ -113,6 +113,13 @@ pub fn is_basic(of: TypeId) -> bool
     ensures { result ≡ known.is_basic of }
 {
     of.0 < 7
+}
+
+/// Whether a type is that of the string constants that are no characters.
+pub fn is_long_text(of: TypeId) -> bool
+    ensures { result ≡ known.is_long_text of }
+{
+    TEXT.0 == of.0
 }
 
 /// Whether a value of one basic type may be assigned to a variable of another, each of which may not be known.
@@ -255,6 +262,7 @@ pub fn type_of_literal(value: Literal) -> TypeId
         Literal::Bool(_) => BOOLEAN,
         Literal::Char(_) => CHAR,
         Literal::Set(_) => SET,
+        Literal::Text(text) => { if text.length == 1 { CHAR } else { TEXT } }
     }
 }
 

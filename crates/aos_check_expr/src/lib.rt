@@ -6,15 +6,20 @@ pub mod designators;
 pub mod expressions;
 mod forms;
 pub mod known;
+mod lengths;
 pub mod operations;
 pub mod selectors;
+mod texts;
 
 pub use calls::desig_alone;
-pub use designators::{Head, has_parts, is_built, place_in, place_of, refuse_assigned};
+pub use designators::{
+    Head, has_parts, is_built, place_in, place_of, refuse_assigned, refuse_written,
+};
 pub use expressions::{char_argument, condition, constant, designator, expr, number_argument};
-pub use forms::{is_character, is_characters};
 pub use known::{
     Answer, Class, Held, Known, Spot, fits, is_basic, is_unknown, object_number, type_of,
 };
+pub use lengths::length_of;
 pub use operations::{Joint, Operation, Single, Step};
 pub use selectors::Part;
+pub use texts::{is_characters, may_be_text, string_in, text_place};

@@ -91,6 +91,7 @@ fn number(literal: Literal) -> i64
         Literal::Bool(b) => truth(b),
         Literal::Char(code) => i64::from(code),
         Literal::Set(elements) => i64::from(elements),
+        Literal::Text(text) => i64::from(text.first),
     }
 }
 
@@ -321,7 +322,7 @@ fn class_behind(of_constant: Class, class: Class) -> Class
 }
 
 /// What is made of two constants is constant, of what is known computed.
-fn class_of(joint: Joint, left: Class, right: Class) -> Class
+pub fn class_of(joint: Joint, left: Class, right: Class) -> Class
     ensures { result ≡ judge.class_of joint left right }
 {
     match left {
@@ -334,13 +335,15 @@ fn class_of(joint: Joint, left: Class, right: Class) -> Class
     }
 }
 
-fn kept_class(is_kept: bool, class: Class) -> Class
+/// The class of what an operator or function gives, where it takes its operands.
+pub fn kept_class(is_kept: bool, class: Class) -> Class
     ensures { result ≡ judge.kept_class is_kept class }
 {
     if is_kept { class } else { Class::Unknown }
 }
 
-fn kept_type(is_kept: bool, of: Option<TypeId>) -> Option<TypeId>
+/// The type of what an operator or function gives, where it takes its operands.
+pub fn kept_type(is_kept: bool, of: Option<TypeId>) -> Option<TypeId>
     ensures { result ≡ judge.kept_type is_kept of }
 {
     if is_kept { of } else { None }
@@ -627,7 +630,7 @@ fn lengthened(a: Option<TypeId>) -> Step
     Step::new(is_number(a) && is_not(HUGEINT, a), next(a), Single::Same)
 }
 
-/// The predeclared functions of one value; ASH has two, and MAX and MIN have a type.
+/// The predeclared functions of one value; ASH has two, MAX and MIN have a type, and LEN an array.
 pub fn applied(function: Function, a: Option<TypeId>) -> Step
     ensures { result ≡ judge.applied function a }
 {
@@ -642,6 +645,7 @@ pub fn applied(function: Function, a: Option<TypeId>) -> Step
         Function::Ash => Step::new(true, a, Single::Same),
         Function::Max => Step::new(true, a, Single::Same),
         Function::Min => Step::new(true, a, Single::Same),
+        Function::Len => Step::new(true, a, Single::Same),
     }
 }
 

@@ -1,5 +1,5 @@
 -- Statements that break no rule are well typed, where the types of all variables are known.
-use Rattle.std.proofs.Common.{◌≡◌, List, [], ◌∷◌, ◌++◌, Bool, true, false, ◌&&◌, ◌||◌, codes, Option, Some, None, refl, sym, ◌∙◌, if◌then◌else◌}
+use Rattle.std.proofs.Common.{◌≡◌, List, [], ◌∷◌, ◌++◌, Bool, true, false, ◌||◌, codes, Option, Some, None, is_some, refl, sym, ap, ◌∙◌, if◌then◌else◌}
 use Rattle.aos_base.specs.declared.text.Pos.{Pos}
 use Rattle.aos_base.specs.declared.number.Width.TheVariants.{W64}
 use Rattle.aos_tree.specs.declared.name.Name.{Name}
@@ -11,28 +11,31 @@ use Rattle.aos_tree.specs.declared.stat.Block.{Block}
 use Rattle.aos_tree.specs.declared.stat.Stat.{Stat as TreeStat, Row_of-Stat, end_of-Stat, more_of-Stat}
 use Rattle.aos_tree.specs.declared.stat.Stat.TheVariants as stat
 use Rattle.aos_typed.specs.declared.tree.TType.TheVariants as type
-use Rattle.aos_typed.specs.Program.{Program, Expr, Call, Open, Char, Int, Ln, Stat, Assign, Copy, While, Out}
+use Rattle.aos_typed.specs.declared.tree.TextConstant.{TextConstant}
+use Rattle.aos_typed.specs.Program.{Program, Expr, Call, Open, Char, Int, String, Ln, Stat, Assign, Copy, While, Out}
 use Rattle.aos_typed.specs.WellTyped.{IsOf, IsCall, IsStatement, AreStatements}
 use Rattle.aos_symbols.specs.declared.scope.Meaning.{Meaning}
 use Rattle.aos_symbols.specs.declared.scope.Meaning.TheVariants as means
+use Rattle.aos_symbols.specs.declared.scope.Routine.{Routine}
+use Rattle.aos_symbols.specs.declared.scope.Routine.TheVariants as routine
 use Rattle.aos_symbols.specs.declared.env.Lookup.{Lookup}
 use Rattle.aos_symbols.specs.declared.env.Lookup.TheVariants.{Unknown as NoName, NotExported, Found}
 use Rattle.aos_symbols.specs.declared.env.Env.{Env}
-use Rattle.aos_symbols.specs.Breaches.{breach, breach_unless}
+use Rattle.aos_symbols.specs.Breaches.{breach}
 use Rattle.aos_symbols.specs.Judged.{Judged, judged, kept, bind, walk}
 use Rattle.aos_symbols.specs.Spelling.{is_word}
 use Rattle.aos_symbols.specs.Env as env
 use Rattle.aos_symbols.proofs.Holds.{Holds, holds_bind, holds_walk, test_is}
 use Rattle.aos_check_expr.specs.declared.known.Class.{Class}
 use Rattle.aos_check_expr.specs.declared.known.Class.TheVariants.{Unknown, Constant, Variable, ReadOnly, Computed}
-use Rattle.aos_check_expr.specs.Known.{Answer, Spot, fits, type_as, is_basic as is_basic_type, is_number, is_char}
+use Rattle.aos_check_expr.specs.Known.{Answer, Spot, fits, type_as, is_basic as is_basic_type, is_long_text, is_number, is_char}
 use Rattle.aos_check_expr.specs.Designators.{has_parts, assigned, place_of, place_in}
-use Rattle.aos_check_expr.specs.Expressions.{is_characters, is_character, expr, condition, argument, designator, desig_alone}
+use Rattle.aos_check_expr.specs.Expressions.{text_place, expr, condition, argument, designator, desig_alone}
 use Rattle.aos_check_expr.proofs.Types.{as_basic}
-use Rattle.aos_check_expr.proofs.Typing.{IsWhole, IsSound, expr_sound, condition_sound, argument_sound}
+use Rattle.aos_check_expr.proofs.Typing.{IsWhole, IsSound, IsTextAt, expr_sound, condition_sound, argument_sound, text_argument}
 use Rattle.aos_check_stat.specs.Bodies as judge
 use Rattle.aos_check_stat.specs.Bodies.{listed, put, made, new_breaches, outs, ended, arguments, behind_arguments, modifier_breaches}
-use Rattle.aos_check_stat.proofs.Places.{some_breach, IsRead, read_sound, IsAssigned, assigned_sound, fitting, copying, made_sound}
+use Rattle.aos_check_stat.proofs.Places.{not_long, IsRead, read_sound, IsAssigned, assigned_sound, fitting, copying, putting, copied_text, made_sound}
 
 module _ (p : Program) (e : Env) (whole : IsWhole p e) where
   abbrev MayBe : Option Stat → Type 0
@@ -52,35 +55,48 @@ module _ (p : Program) (e : Env) (whole : IsWhole p e) where
 
   -- Assignments.
 
-  -- an assigned value fits, and is no text
-  unbroken : (at first : Pos) (a : Spot) (v : Answer) → judge.assign_breaches e at first a v ≡ [] → fits v.known.of a.known.of ≡ true
-  unbroken at first a v = by (is_characters e a.known && is_character v.known.class)
-    where
-      by : (text : Bool) → (if text then breach 99 first else breach_unless (fits v.known.of a.known.of) 31 at) ≡ [] → fits v.known.of a.known.of ≡ true
-      by true none = absurd (some_breach none)
-      by false none = test_is (fits v.known.of a.known.of) 31 at none
+  either_stat : (b : Bool) (x y : Stat) → (b ≡ true → IsStatement p x) → (b ≡ false → IsStatement p y) → IsStatement p (if b then x else y)
+  either_stat true x y f g = f refl
+  either_stat false x y f g = g refl
 
-  stat_sound_of : (first : Pos) (a : Spot) (v : Answer) → IsAssigned p e whole a → IsSound p v → fits v.known.of a.known.of ≡ true → IsStatement p (judge.assigned_stat e first a v)
-  stat_sound_of first a v is sound h = rw is.known (by (has_parts e is.of) refl)
+  some_of : {X : Type 0} (o : Option X) → is_some o ≡ true → (x : X) × (o ≡ Some x)
+  some_of None h = absurd (cc)
+  some_of (Some x) h = (x, refl)
+
+  none_of : {X : Type 0} (o : Option X) → is_some o ≡ false → o ≡ None
+  none_of None h = refl
+  none_of (Some x) h = absurd (cc)
+
+  -- an assigned value fits
+  stat_sound_of : (first : Pos) (a : Spot) (v : Answer) → IsAssigned p e whole a → IsSound p v → judge.value_fits e a v (judge.text_for e a v) ≡ true →
+      IsStatement p (judge.assigned_stat e first a v)
+  stat_sound_of first a v is sound h =
+      either_stat (is_some (judge.text_for e a v)) (judge.put_text e first true v a) _
+      (λ some. let t = some_of (judge.text_for e a v) some in putting p e whole first a v t.0 is sound t.1 (fit (Some t.0) t.1))
+      (λ none. rw is.known (by (fit None (none_of (judge.text_for e a v) none)) (has_parts e is.of) refl))
     where
+      fit : (o : Option TextConstant) → judge.text_for e a v ≡ o → judge.value_fits e a v o ≡ true
+      fit o found = ap (judge.value_fits e a v) (sym found) ∙ h
+
       without_parts : (b c : Bool) → (b || c) ≡ true → c ≡ false → b ≡ true
       without_parts true c e n = refl
       without_parts false c e n = sym n ∙ e
 
-      by : (parts : Bool) → has_parts e is.of ≡ parts →
+      by : fits v.known.of a.known.of ≡ true → (parts : Bool) → has_parts e is.of ≡ parts →
           IsStatement p (if parts then Copy first (type_as is.of) (place_of a.held) (place_in v.typed) else Assign first (type_as is.of) (place_of a.held) v.typed)
-      by true parts = let c = copying p e whole a v is parts sound h in (is.typed, c.from, c.row)
-      by false parts =
-          let low : is_basic_type is.of ≡ true = without_parts (is_basic_type is.of) (has_parts e is.of) is.built parts in
+      by h true parts = let c = copying p e whole a v is parts sound h in (is.typed, c.from, c.row)
+      by h false parts =
+          let short = without_parts (is_basic_type is.of || is_long_text is.of) (has_parts e is.of) is.built parts in
+          let low : is_basic_type is.of ≡ true = without_parts (is_basic_type is.of) (is_long_text is.of) short (not_long e.types is.of is.told) in
           (is.typed, as_basic is.of low, fitting p e whole a v is low sound h)
 
   assign_sound : (d : Desig) (at : Pos) (x : TreeExpr) → Holds MayBe (judge.assign e d at x)
   assign_sound d at x =
-      let last = λ (a : Spot) (v : Answer). judged (judge.assign_breaches e at (out-Expr x).pos a v) (Some (judge.assigned_stat e d.name.pos a v)) in
+      let last = λ (a : Spot) (v : Answer). judged (judge.assign_breaches e at a v) (Some (judge.assigned_stat e d.name.pos a v)) in
       holds_bind (IsAssigned p e whole) MayBe (bind (designator e d) (λ a. assigned e d.name.pos a)) (λ a. bind (expr e x) (λ v. last a v))
       (holds_bind (IsRead p e whole) (IsAssigned p e whole) (designator e d) (λ a. assigned e d.name.pos a) (read_sound p e whole d) (λ a is. assigned_sound p e whole a d.name.pos is))
       (λ a is. holds_bind (IsSound p) MayBe (expr e x) (λ v. last a v) (expr_sound p e whole x)
-      (λ v sound h. stat_sound_of d.name.pos a v is sound (unbroken at (out-Expr x).pos a v h)))
+      (λ v sound h. stat_sound_of d.name.pos a v is sound (test_is (judge.value_fits e a v (judge.text_for e a v)) 31 at h)))
 
   -- The procedures of Out.
 
@@ -104,6 +120,14 @@ module _ (p : Program) (e : Env) (whole : IsWhole p e) where
       (holds_bind (λ (x : Expr). IsOf p x type.Char) (IsCall p) (argument e is_char a) (λ x. kept (Char x)) (argument_sound p e whole a).1 (λ x is h. is))
   char_call_sound at (a ∷ b ∷ xs) = λ h. tt
 
+  string_sound : (at : Pos) (xs : List TreeExpr) → Holds MayBe (judge.string_call e at xs)
+  string_sound at [] = λ h. tt
+  string_sound at (a ∷ []) =
+      let last = λ (v : Answer). let text = text_place e v in kept (String text.0 text.1) in
+      outs_sound at (bind (judge.text_argument e a) last)
+      (holds_bind (IsTextAt p e) (IsCall p) (judge.text_argument e a) last (text_argument p e whole a) (λ v is h. is))
+  string_sound at (a ∷ b ∷ xs) = λ h. tt
+
   plain_sound : (c : Call) → IsCall p c → (at : Pos) (xs : List TreeExpr) → Holds MayBe (judge.plain_call c at xs)
   plain_sound c is at [] = λ h. is
   plain_sound c is at (x ∷ xs) = λ h. tt
@@ -116,8 +140,9 @@ module _ (p : Program) (e : Env) (whole : IsWhole p e) where
   out_sound at n xs =
       choice_sound (is_word e.here.text (codes "Int") n) (judge.int_call e at xs) _ (int_sound at xs)
       (choice_sound (is_word e.here.text (codes "Char") n) (judge.char_call e at xs) _ (char_call_sound at xs)
+      (choice_sound (is_word e.here.text (codes "String") n) (judge.string_call e at xs) _ (string_sound at xs)
       (choice_sound (is_word e.here.text (codes "Ln") n) (judge.plain_call Ln at xs) _ (plain_sound Ln tt at xs)
-      (choice_sound (is_word e.here.text (codes "Open") n) (judge.plain_call Open at xs) _ (plain_sound Open tt at xs) (λ h. tt))))
+      (choice_sound (is_word e.here.text (codes "Open") n) (judge.plain_call Open at xs) _ (plain_sound Open tt at xs) (λ h. tt)))))
 
   ended_sound : (first : Pos) (xs : List Selector) (j : Judged (Option Stat)) → Holds MayBe j → Holds MayBe (ended first xs j)
   ended_sound first [] j sound = sound
@@ -146,7 +171,35 @@ module _ (p : Program) (e : Env) (whole : IsWhole p e) where
   new_sound at (a ∷ []) = new_of_sound at (out-Expr a).pos (desig_alone a)
   new_sound at (a ∷ b ∷ xs) = λ h. tt
 
+  -- COPY.
+
+  copied_to_sound : (at : Pos) (v : Answer) → IsTextAt p e v → (y : TreeExpr) (o : Option Desig) → Holds MayBe (judge.copied_to e at v y o)
+  copied_to_sound at v text y None =
+      holds_bind (IsSound p) MayBe (expr e y) (λ _. judge.refused 32 (out-Expr y).pos) (expr_sound p e whole y) (λ _ sound h. tt)
+  copied_to_sound at v text y (Some d) =
+      let second = (out-Expr y).pos in
+      holds_bind (IsRead p e whole) MayBe (designator e d) (λ a. judge.copied e at v second a) (read_sound p e whole d)
+      (λ a is h. copied_text p e whole at v second a text is h)
+
+  copy_sound : (at : Pos) (xs : List TreeExpr) → Holds MayBe (judge.copy_call e at xs)
+  copy_sound at [] = λ h. tt
+  copy_sound at (x ∷ []) = λ h. tt
+  copy_sound at (x ∷ y ∷ []) =
+      holds_bind (IsTextAt p e) MayBe (judge.text_argument e x) (λ v. judge.copied_to e at v y (desig_alone y)) (text_argument p e whole x)
+      (λ v is. copied_to_sound at v is y (desig_alone y))
+  copy_sound at (x ∷ y ∷ z ∷ xs) = λ h. tt
+
   -- Calls.
+
+  routine_sound : (r : Routine) (at : Pos) (xs : List TreeExpr) → Holds MayBe (judge.routine_call e r at xs)
+  routine_sound routine.Copy at xs = copy_sound at xs
+  routine_sound routine.New at xs = new_sound at xs
+  routine_sound routine.Assert at xs = λ h. tt
+  routine_sound routine.Dec at xs = λ h. tt
+  routine_sound routine.Excl at xs = λ h. tt
+  routine_sound routine.Halt at xs = λ h. tt
+  routine_sound routine.Inc at xs = λ h. tt
+  routine_sound routine.Incl at xs = λ h. tt
 
   no_call_sound : (at : Pos) (c : Class) → Holds MayBe (judge.no_call at c)
   no_call_sound at Unknown = λ h. tt
@@ -162,7 +215,8 @@ module _ (p : Program) (e : Env) (whole : IsWhole p e) where
 
   called_meaning_sound : (m : Meaning) (d : Desig) → Holds MayBe (judge.called_meaning e m d)
   called_meaning_sound means.Out d = out_selectors_sound d.name.pos d.selectors
-  called_meaning_sound means.New d = ended_sound d.name.pos (behind_arguments d.selectors) (judge.new_call e d.name.pos (arguments d.selectors)) (new_sound d.name.pos (arguments d.selectors))
+  called_meaning_sound (means.Routine r) d =
+      let xs = arguments d.selectors in ended_sound d.name.pos (behind_arguments d.selectors) (judge.routine_call e r d.name.pos xs) (routine_sound r d.name.pos xs)
   called_meaning_sound means.Proper d = λ h. tt
   called_meaning_sound (means.Procedure k) d = λ h. tt
   called_meaning_sound (means.Constant k) d = value_sound d

@@ -1,5 +1,6 @@
 -- A designator that is a value is no variable.
-use Rattle.std.proofs.Common.{◌≡◌, List, [], ◌∷◌, Bool, true, false, ◌||◌, ◌==◌, Option, Some, None, is_some, if◌then◌else◌, refl}
+use Rattle.std.proofs.Common.{◌≡◌, ℕ, List, [], ◌∷◌, Bool, true, false, ◌||◌, ◌==◌, Option, Some, None, is_some, if◌then◌else◌, refl}
+use Rattle.std.specs.Option.{unwrap_or}
 use Rattle.aos_base.specs.declared.text.Pos.{Pos}
 use Rattle.aos_tree.specs.declared.name.Name.{Name}
 use Rattle.aos_tree.specs.declared.decl.Export.{Export}
@@ -133,7 +134,7 @@ limit_of value (means.Module m) at first = tt
 limit_of value means.Out at first = tt
 limit_of value (means.Truth b) at first = tt
 limit_of value (means.Function f) at first = tt
-limit_of value means.New at first = tt
+limit_of value (means.Routine r) at first = tt
 limit_of value means.Proper at first = tt
 limit_of value means.Other at first = tt
 
@@ -162,7 +163,32 @@ two_of at (j ∷ k ∷ []) (x ∷ y ∷ []) = joined_value (op.shifted j.answer.
 two_of at (j ∷ k ∷ []) (x ∷ y ∷ z ∷ xs) = tt
 two_of at (j ∷ k ∷ l ∷ js) xs = tt
 
+-- LEN is no constant.
+
+len_value : (c : Class) → IsValue (judge.len_class c)
+len_value Unknown = tt
+len_value (Constant v) = tt
+len_value Variable = tt
+len_value ReadOnly = tt
+len_value Computed = tt
+
 module _ (e : Env) where
+  len_answer : (a : Answer) (d : ℕ) → IsValue (judge.len_answer e a d).known.class
+  len_answer a d =
+      let takes = judge.is_array e a.known.of in
+      known_value (op.kept_class takes (judge.len_class a.known.class)) (op.kept_type takes (Some env.longint)) (kept_value takes _ (len_value a.known.class))
+
+  len_of : (at : Pos) (js : List (Judged Answer)) (xs : List TreeExpr) → OfValue (judge.len_of e at js xs)
+  len_of at [] xs = tt
+  len_of at (j ∷ []) [] = tt
+  len_of at (j ∷ []) (x ∷ []) = len_answer j.answer 0
+  len_of at (j ∷ []) (x ∷ y ∷ xs) = tt
+  len_of at (j ∷ k ∷ []) [] = tt
+  len_of at (j ∷ k ∷ []) (x ∷ []) = tt
+  len_of at (j ∷ k ∷ []) (x ∷ y ∷ []) = len_answer j.answer (unwrap_or (judge.number_in k.answer.known.class) 0)
+  len_of at (j ∷ k ∷ []) (x ∷ y ∷ z ∷ xs) = tt
+  len_of at (j ∷ k ∷ l ∷ js) xs = tt
+
   guarded : (of : Option TypeId) (is_guard : Bool) (at first : Pos) → OfValue (desig.guarded e of is_guard at first)
   guarded None b at first = tt
   guarded (Some t) true at first = tt
@@ -186,7 +212,7 @@ module _ (e : Env) where
   meaning_not_called o k means.Out there first at xs = guarded (desig.named e (named_at o k means.Out there first)).answer.known.of (judge.is_guard e xs) at first
   meaning_not_called o k (means.Truth n) there first at xs = guarded (desig.named e (named_at o k (means.Truth n) there first)).answer.known.of (judge.is_guard e xs) at first
   meaning_not_called o k (means.Function n) there first at xs = guarded (desig.named e (named_at o k (means.Function n) there first)).answer.known.of (judge.is_guard e xs) at first
-  meaning_not_called o k means.New there first at xs = guarded (desig.named e (named_at o k means.New there first)).answer.known.of (judge.is_guard e xs) at first
+  meaning_not_called o k (means.Routine r) there first at xs = guarded (desig.named e (named_at o k (means.Routine r) there first)).answer.known.of (judge.is_guard e xs) at first
   meaning_not_called o k means.Proper there first at xs = guarded (desig.named e (named_at o k means.Proper there first)).answer.known.of (judge.is_guard e xs) at first
   meaning_not_called o k means.Other there first at xs = guarded (desig.named e (named_at o k means.Other there first)).answer.known.of (judge.is_guard e xs) at first
 
@@ -198,6 +224,7 @@ module _ (e : Env) where
   called_by : (c : judge.Callee) (h : Head) (at : Pos) (js : List (Judged Answer)) (xs : List TreeExpr) → OfValue (judge.called_by e c h at js xs)
   called_by (judge.Calls function.Max) h at js xs = limit op.greatest_value xs h.first
   called_by (judge.Calls function.Min) h at js xs = limit op.least_value xs h.first
+  called_by (judge.Calls function.Len) h at js xs = len_of h.first js xs
   called_by (judge.Calls function.Ash) h at js xs = two_of h.first js xs
   called_by (judge.Calls function.Abs) h at js xs = one_of (λ of. op.applied function.Abs of) h.first js xs
   called_by (judge.Calls function.Cap) h at js xs = one_of (λ of. op.applied function.Cap of) h.first js xs
@@ -228,7 +255,7 @@ module _ (e : Env) where
   meant x means.Out h = tt
   meant x (means.Truth b) h = tt
   meant x (means.Function f) h = tt
-  meant x means.New h = tt
+  meant x (means.Routine r) h = tt
   meant x means.Proper h = tt
   meant x (means.Procedure k) h = tt
   meant x means.Other h = tt

@@ -1,9 +1,9 @@
--- The third pass: bodies. Built are assignments to variables of basic types and of whole records and arrays, WHILE, NEW of an
--- object variable that is no part of another, the calls of Out
--- but Out.String, and of the modifiers ACTIVE on an object's body. A statement that isn't built is refused at its first token,
+-- The third pass: bodies. Built are assignments to variables of basic types and of whole records and arrays, those of string
+-- constants to arrays of characters, COPY, WHILE, NEW of an object variable that is no part of another, the calls of Out, and of
+-- the modifiers ACTIVE on an object's body. A statement that isn't built is refused at its first token,
 -- a modifier at itself.
-use Rattle.std.specs.Prelude.{ℕ, List, [], ◌∷◌, ◌++◌, codes, Bool, true, false, not, ◌&&◌, Option, Some, None, if◌then◌else◌}
-use Rattle.std.specs.Option.{is_none}
+use Rattle.std.specs.Prelude.{ℕ, List, [], ◌∷◌, ◌++◌, length, nat_lt, codes, Bool, true, false, not, ◌&&◌, Option, Some, None, is_some, if◌then◌else◌}
+use Rattle.std.specs.Option.{is_none, unwrap_or}
 use Rattle.aos_base.specs.declared.text.Pos.{Pos}
 use Rattle.aos_tree.specs.declared.name.Name.{Name}
 use Rattle.aos_tree.specs.declared.expr.Expr.{Expr as TreeExpr, out-Expr}
@@ -14,25 +14,28 @@ use Rattle.aos_tree.specs.declared.stat.Block.{Block}
 use Rattle.aos_tree.specs.declared.stat.Modifier.{Modifier}
 use Rattle.aos_tree.specs.declared.stat.Stat.{Stat as TreeStat, Row_of-Stat, end_of-Stat, more_of-Stat}
 use Rattle.aos_tree.specs.declared.stat.Stat.TheVariants as stat
-use Rattle.aos_typed.specs.Program.{Call, Open, Char, Int, Ln, Stat, Assign, Copy, While, New, Out, Stats, Nothing, Then}
+use Rattle.aos_typed.specs.Program.{Call, Open, Char, Int, String, Ln, Stat, Assign, Copy, PutText, While, New, Out, Stats, Nothing, Then}
+use Rattle.aos_typed.specs.declared.tree.TextConstant.{TextConstant}
 use Rattle.aos_typed.specs.WellTyped.{is_variable}
 use Rattle.aos_symbols.specs.declared.breach.Breach.{Breach}
 use Rattle.aos_symbols.specs.declared.scope.Meaning.{Meaning}
 use Rattle.aos_symbols.specs.declared.scope.Meaning.TheVariants as means
+use Rattle.aos_symbols.specs.declared.scope.Routine.{Routine}
+use Rattle.aos_symbols.specs.declared.scope.Routine.TheVariants as routine
 use Rattle.aos_symbols.specs.declared.env.Lookup.{Lookup}
 use Rattle.aos_symbols.specs.declared.env.Lookup.TheVariants.{Unknown as NoName, NotExported, Found}
 use Rattle.aos_symbols.specs.declared.env.Env.{Env}
 use Rattle.aos_symbols.specs.Breaches.{breach, breach_unless}
 use Rattle.aos_symbols.specs.Judged.{Judged, judged, kept, bind, walk}
-use Rattle.aos_symbols.specs.Spelling.{word, is_word, is_among, is_active, procedures_of_out}
+use Rattle.aos_symbols.specs.Spelling.{is_word, is_active}
 use Rattle.aos_symbols.specs.Env as env
 use Rattle.aos_types.specs.declared.row.TypeId.{TypeId}
 use Rattle.aos_types.specs.Table.{is_object as is_object_row}
 use Rattle.aos_check_expr.specs.declared.known.Class.{Class}
 use Rattle.aos_check_expr.specs.declared.known.Class.TheVariants.{Unknown, Constant, Variable, ReadOnly, Computed}
-use Rattle.aos_check_expr.specs.Known.{Answer, Spot, is_number, is_char, is_basic, fits, type_of, object_number}
-use Rattle.aos_check_expr.specs.Designators.{has_parts, assigned, place_of, place_in}
-use Rattle.aos_check_expr.specs.Expressions.{is_characters, is_character, expr, condition, argument, designator, desig_alone}
+use Rattle.aos_check_expr.specs.Known.{Answer, Spot, passes, is_number, is_char, is_basic, fits, type_of, object_number}
+use Rattle.aos_check_expr.specs.Designators.{has_parts, assigned, written, place_of, place_in}
+use Rattle.aos_check_expr.specs.Expressions.{is_characters, string_in, may_be_text, text_place, length_of, expr, condition, argument, designator, desig_alone}
 
 -- statements as a sequence of the typed program
 abbrev pub listed : List Stat → Stats
@@ -115,17 +118,33 @@ modifier_breaches text may_be_active (m ∷ ms) =
     ++ modifier_breaches text (may_be_active && not (is_active text m)) ms
 
 module _ (e : Env) where
-  -- the value must fit the variable, or else `:=` is refused; a text for an array of characters isn't built
-  abbrev pub assign_breaches : Pos → Pos → Spot → Answer → List Breach
-  assign_breaches at first a v =
-      if is_characters e a.known && is_character v.known.class
-      then breach 99 first
-      else breach_unless (fits v.known.of a.known.of) 31 at
+  -- how many elements an array has
+  abbrev pub room : Option TypeId → ℕ
+  room of = unwrap_or (length_of e of 0) 0
 
-  -- a whole record or array is copied
+  -- the string constant that is stored in an array of characters
+  abbrev pub text_for : Spot → Answer → Option TextConstant
+  text_for a v = if is_characters e a.known then string_in e v.known.class else None
+
+  -- a string constant fits where there is room for its 0X
+  abbrev pub value_fits : Spot → Answer → Option TextConstant → Bool
+  value_fits a v (Some t) = nat_lt (length (env.characters e t)) (room a.known.of)
+  value_fits a v None = fits v.known.of a.known.of
+
+  -- the value must fit the variable, or else `:=` is refused
+  abbrev pub assign_breaches : Pos → Spot → Answer → List Breach
+  assign_breaches at a v = breach_unless (value_fits a v (text_for a v)) 31 at
+
+  -- the text of a part is put in an array of characters
+  abbrev pub put_text : Pos → Bool → Answer → Spot → Stat
+  put_text at strict v a =
+      let from = text_place e v in PutText at strict from.0 from.1 (place_of a.held) (room a.known.of)
+
+  -- a string constant is put in an array of characters, and a whole record or array is copied
   abbrev pub assigned_stat : Pos → Spot → Answer → Stat
   assigned_stat first a v =
-      if passes_parts a.known.of
+      if is_some (text_for a v) then put_text first true v a
+      else if passes_parts a.known.of
       then Copy first (type_of a.known.of) (place_of a.held) (place_in v.typed)
       else Assign first (type_of a.known.of) (place_of a.held) v.typed
     where
@@ -136,7 +155,7 @@ module _ (e : Env) where
   abbrev pub assign : Desig → Pos → TreeExpr → Judged (Option Stat)
   assign d at x =
       bind (bind (designator e d) (λ a. assigned e d.name.pos a)) (λ a. bind (expr e x) (λ v.
-      judged (assign_breaches at (out-Expr x).pos a v) (Some (assigned_stat d.name.pos a v))))
+      judged (assign_breaches at a v) (Some (assigned_stat d.name.pos a v))))
 
   -- the procedures of Out, with their arguments
   abbrev pub int_call : Pos → List TreeExpr → Judged (Option Stat)
@@ -148,14 +167,23 @@ module _ (e : Env) where
   char_call at (a ∷ []) = outs at (bind (argument e is_char a) (λ x. kept (Char x)))
   char_call at xs = refused 34 at
 
-  -- one that isn't built is refused at its name
+  -- an argument that must be a text
+  abbrev pub text_argument : TreeExpr → Judged Answer
+  text_argument x = bind (expr e x) (λ v. judged (breach_unless (may_be_text e v.known) 35 (out-Expr x).pos) v)
+
+  abbrev pub string_call : Pos → List TreeExpr → Judged (Option Stat)
+  string_call at (a ∷ []) =
+      outs at (bind (text_argument a) (λ v. let text = text_place e v in kept (String text.0 text.1)))
+  string_call at xs = refused 34 at
+
   abbrev pub out_call : Pos → Name → List TreeExpr → Judged (Option Stat)
   out_call at n xs =
       if is_word e.here.text (codes "Int") n then int_call at xs
       else if is_word e.here.text (codes "Char") n then char_call at xs
+      else if is_word e.here.text (codes "String") n then string_call at xs
       else if is_word e.here.text (codes "Ln") n then plain_call Ln at xs
       else if is_word e.here.text (codes "Open") n then plain_call Open at xs
-      else refused (if is_among procedures_of_out (word e.here.text n) then 99 else 14) n.pos
+      else refused 14 n.pos
 
   -- the name of a module is no statement
   abbrev pub out_selectors : Pos → List Selector → Judged (Option Stat)
@@ -170,10 +198,31 @@ module _ (e : Env) where
   new_call at (a ∷ []) = new_of at (out-Expr a).pos (desig_alone a)
   new_call at xs = refused 34 at
 
-  -- a call, by what its first name stands for; procedures but those of Out and NEW aren't built
+  -- COPY, whose second argument is an array of characters that is a variable
+  abbrev pub copied : Pos → Answer → Pos → Spot → Judged (Option Stat)
+  copied at v second a =
+      judged (written a.known.class second ++ breach_unless (passes (λ t. is_characters e a.known) a.known.of) 35 second)
+      (Some (put_text at false v a))
+
+  abbrev pub copied_to : Pos → Answer → TreeExpr → Option Desig → Judged (Option Stat)
+  copied_to at v y None = bind (expr e y) (λ _. refused 32 (out-Expr y).pos)
+  copied_to at v y (Some d) = bind (designator e d) (λ a. copied at v (out-Expr y).pos a)
+
+  abbrev pub copy_call : Pos → List TreeExpr → Judged (Option Stat)
+  copy_call at (x ∷ y ∷ []) = bind (text_argument x) (λ v. copied_to at v y (desig_alone y))
+  copy_call at xs = refused 34 at
+
+  -- a predeclared procedure; those but COPY and NEW aren't built
+  abbrev pub routine_call : Routine → Pos → List TreeExpr → Judged (Option Stat)
+  routine_call routine.Copy at xs = copy_call at xs
+  routine_call routine.New at xs = new_call at xs
+  routine_call r at xs = not_yet at
+
+  -- a call, by what its first name stands for; procedures but those of Out and the predeclared ones aren't built
   abbrev pub called_meaning : Meaning → Desig → Judged (Option Stat)
   called_meaning means.Out d = out_selectors d.name.pos d.selectors
-  called_meaning means.New d = ended d.name.pos (behind_arguments d.selectors) (new_call d.name.pos (arguments d.selectors))
+  called_meaning (means.Routine r) d =
+      ended d.name.pos (behind_arguments d.selectors) (routine_call r d.name.pos (arguments d.selectors))
   called_meaning means.Proper d = not_yet d.name.pos
   called_meaning (means.Procedure k) d = not_yet d.name.pos
   called_meaning m d = bind (designator e d) (λ a. no_call d.name.pos a.known.class)

@@ -1,4 +1,4 @@
-// Calls, by what their first name stands for: NEW, and what can't be called.
+// Calls, by what their first name stands for: the predeclared procedures, NEW among them, and what can't be called.
 
 ghost use Rattle.std.specs.Prelude.{◌≡◌, OnOk, IfOk, option_map};
 ghost use Rattle.std.specs.Option.{option_copied};
@@ -14,13 +14,14 @@ ghost use Rattle.aos_check_stat.specs.Bodies as judge;
 
 use crate::out::out_selectors;
 use crate::refusals::{arguments, behind_arguments, not_yet, refuse_behind, refused};
+use crate::texts::copy_call;
 use aos_base::Pos;
 use aos_check_expr::{
     Class, Held, Spot, desig_alone, designator, is_basic, object_number, place_of,
 };
 use aos_symbols::{
-    ARGUMENT_COUNT, Breach, Env, Lookup, Meaning, NOT_BUILT, NOT_EXPORTED, READ_ONLY, UNKNOWN,
-    WRONG_CALL, WRONG_NEW, note,
+    ARGUMENT_COUNT, Breach, Env, Lookup, Meaning, NOT_BUILT, NOT_EXPORTED, READ_ONLY, Routine,
+    UNKNOWN, WRONG_CALL, WRONG_NEW, note,
 };
 use aos_tree::{Desig, Expr, Selector};
 use aos_typed::{TPlace, TStat};
@@ -133,23 +134,45 @@ fn new_call(
     }
 }
 
-/// What stands behind `NEW`, in a call that begins at a place.
-#[tactic(auto, using(crate::proofs::Rows::ended_noted, crate::proofs::Rows::ended_answer))]
-fn new_selectors(
+/// A predeclared procedure with these arguments, in a call that begins at a place; those but COPY and NEW aren't built.
+fn routine_call(
     alloc: Global,
     found: &mut Option<Breach>,
     env: &Env<'_>,
+    routine: Routine,
+    at: Pos,
+    arguments: &[Expr],
+) -> Result<Option<TStat>, AllocError>
+    ensures noted { OnOk result (found.new ≡
+        first_after found.old (judge.routine_call env.now routine at arguments.now).breaches) }
+    ensures answer { IfOk result (λ s.
+        option_map seen_stat s ≡ (judge.routine_call env.now routine at arguments.now).answer) }
+{
+    match routine {
+        Routine::Copy => copy_call(alloc, found, env, at, arguments),
+        Routine::New => new_call(alloc, found, env, at, arguments),
+        _ => Ok(not_yet(found, at)),
+    }
+}
+
+/// What stands behind the name of a predeclared procedure, in a call that begins at a place.
+#[tactic(auto, using(crate::proofs::Rows::ended_noted, crate::proofs::Rows::ended_answer))]
+fn routine_selectors(
+    alloc: Global,
+    found: &mut Option<Breach>,
+    env: &Env<'_>,
+    routine: Routine,
     at: Pos,
     selectors: &[Selector],
 ) -> Result<Option<TStat>, AllocError>
     ensures noted { OnOk result (found.new ≡ first_after found.old
         (judge.ended at (judge.behind_arguments selectors.now)
-        (judge.new_call env.now at (judge.arguments selectors.now))).breaches) }
+        (judge.routine_call env.now routine at (judge.arguments selectors.now))).breaches) }
     ensures answer { IfOk result (λ s. option_map seen_stat s ≡
         (judge.ended at (judge.behind_arguments selectors.now)
-        (judge.new_call env.now at (judge.arguments selectors.now))).answer) }
+        (judge.routine_call env.now routine at (judge.arguments selectors.now))).answer) }
 {
-    let call = new_call(alloc, found, env, at, arguments(selectors))?;
+    let call = routine_call(alloc, found, env, routine, at, arguments(selectors))?;
     refuse_behind(found, at, behind_arguments(selectors));
     Ok(call)
 }
@@ -201,9 +224,12 @@ fn called_meaning(
         (λ s. option_map seen_stat s ≡ (judge.called_meaning env.now means desig.now).answer) }
 {
     let at = desig.name.pos;
+    let selectors = desig.selectors.as_slice();
     match means {
-        Meaning::Out => out_selectors(alloc, found, env, at, desig.selectors.as_slice()),
-        Meaning::New => new_selectors(alloc, found, env, at, desig.selectors.as_slice()),
+        Meaning::Out => out_selectors(alloc, found, env, at, selectors),
+        Meaning::Routine(routine) => {
+            routine_selectors(alloc, found, env, routine, at, selectors)
+        },
         Meaning::Proper => Ok(not_yet(found, at)),
         Meaning::Procedure(_) => Ok(not_yet(found, at)),
         _ => called_value(alloc, found, env, desig),

@@ -6,5 +6,6 @@ mod calls;
 mod out;
 mod refusals;
 mod statements;
+mod texts;
 
 pub use bodies::body_of;

@@ -6,11 +6,10 @@ ghost use Rattle.aos_symbols.specs.Breaches.{first_after};
 ghost use Rattle.aos_check_stat.specs.Bodies as judge;
 
 use crate::refusals::{arguments, behind_arguments, refuse_behind, refused};
+use crate::texts::text_argument;
 use aos_base::Pos;
-use aos_check_expr::{char_argument, number_argument};
-use aos_symbols::{
-    ARGUMENT_COUNT, Breach, Env, NOT_BUILT, OTHER_KIND, UNKNOWN, is_procedure_of_out, is_word, word,
-};
+use aos_check_expr::{char_argument, number_argument, text_place};
+use aos_symbols::{ARGUMENT_COUNT, Breach, Env, OTHER_KIND, UNKNOWN, is_word};
 use aos_tree::{Expr, Name, Selector};
 use aos_typed::{OutCall, TStat};
 use std::alloc::{AllocError, Global};
@@ -62,6 +61,30 @@ fn char_call(
     }
 }
 
+/// Out.String of these arguments, in a call that begins at a place.
+#[tactic(auto, using(aos_symbols::proofs::Keeping::after_more))]
+fn string_call(
+    alloc: Global,
+    found: &mut Option<Breach>,
+    env: &Env<'_>,
+    at: Pos,
+    arguments: &[Expr],
+) -> Result<Option<TStat>, AllocError>
+    ensures noted { OnOk result (found.new ≡
+        first_after found.old (judge.string_call env.now at arguments.now).breaches) }
+    ensures answer { IfOk result
+        (λ s. option_map seen_stat s ≡ (judge.string_call env.now at arguments.now).answer) }
+{
+    match arguments {
+        [text] => {
+            let text = text_argument(alloc, found, env, text)?;
+            let (place, elements) = text_place(env, text)?;
+            Ok(Some(TStat::Out(at, OutCall::String(place, elements))))
+        },
+        _ => Ok(refused(found, ARGUMENT_COUNT, at)),
+    }
+}
+
 /// A procedure of Out that has no arguments, in a call that begins at a place.
 fn plain_call(
     found: &mut Option<Breach>,
@@ -101,14 +124,16 @@ fn out_call(
     if is_word(text, "Char", name) {
         return char_call(alloc, found, env, at, arguments);
     }
+    if is_word(text, "String", name) {
+        return string_call(alloc, found, env, at, arguments);
+    }
     if is_word(text, "Ln", name) {
         return Ok(plain_call(found, OutCall::Ln, at, arguments));
     }
     if is_word(text, "Open", name) {
         return Ok(plain_call(found, OutCall::Open, at, arguments));
     }
-    let is_known = is_procedure_of_out(word(text, name));
-    Ok(refused(found, if is_known { NOT_BUILT } else { UNKNOWN }, name.pos))
+    Ok(refused(found, UNKNOWN, name.pos))
 }
 
 /// What stands behind `Out`, in a call that begins at a place.

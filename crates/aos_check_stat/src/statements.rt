@@ -9,47 +9,43 @@ ghost use Rattle.aos_check_stat.specs.Bodies as judge;
 
 use crate::calls::called;
 use crate::refusals::not_yet;
+use crate::texts::{put_text, text_for, value_fits};
 use aos_base::Pos;
 use aos_check_expr::{
-    Answer, Spot, condition, designator, expr, fits, has_parts, is_character, is_characters,
-    place_in, place_of, refuse_assigned, type_of,
+    Answer, Spot, condition, designator, expr, has_parts, place_in, place_of, refuse_assigned,
+    type_of,
 };
-use aos_symbols::{Breach, Env, NOT_BUILT, UNFIT, note};
+use aos_symbols::{Breach, Env, UNFIT, note};
 use aos_tree::{Desig, Expr, Stat};
 use aos_typed::TStat;
 use std::alloc::{AllocError, Global};
 
-/// A value that begins at `first` must fit the variable, or else `:=` is refused; a text for an array of characters isn't built.
-fn refuse_unfit(
-    found: &mut Option<Breach>,
-    env: &Env<'_>,
-    at: Pos,
-    first: Pos,
-    spot: &Spot,
-    value: &Answer,
-)
+/// A value must fit the variable, or else `:=` is refused.
+fn refuse_unfit(found: &mut Option<Breach>, env: &Env<'_>, at: Pos, spot: &Spot, value: &Answer)
     ensures { found.new ≡ first_after found.old
-        (judge.assign_breaches env.now at first (seen_spot spot.now) (seen_answer value.now)) }
+        (judge.assign_breaches env.now at (seen_spot spot.now) (seen_answer value.now)) }
 {
-    if is_characters(env, spot.known) && is_character(value.known.class) {
-        note(found, NOT_BUILT, first);
-    } else if !fits(value.known.of, spot.known.of) {
+    if !value_fits(env, spot, value) {
         note(found, UNFIT, at);
     }
 }
 
-/// The assignment of a value, which begins at a place: a whole record or array is copied.
-fn assigned_stat(env: &Env<'_>, first: Pos, spot: Spot, value: Answer) -> TStat
-    ensures { seen_stat result ≡
-        judge.assigned_stat env.now first (seen_spot spot) (seen_answer value) }
+/// The assignment of a value, which begins at a place: a string constant is put in an array of characters, and a whole record or
+/// array is copied.
+fn assigned_stat(env: &Env<'_>, first: Pos, spot: Spot, value: Answer) -> Result<TStat, AllocError>
+    ensures { IfOk result (λ s. seen_stat s ≡
+        judge.assigned_stat env.now first (seen_spot spot) (seen_answer value)) }
 {
+    if text_for(env, &spot, &value).is_some() {
+        return put_text(env, first, true, value, spot);
+    }
     let of = type_of(spot.known.of);
     if let Some(known) = spot.known.of {
         if has_parts(env, known) {
-            return TStat::Copy(first, of, place_of(spot.held), place_in(value.typed));
+            return Ok(TStat::Copy(first, of, place_of(spot.held), place_in(value.typed)));
         }
     }
-    TStat::Assign(first, of, place_of(spot.held), value.typed)
+    Ok(TStat::Assign(first, of, place_of(spot.held), value.typed))
 }
 
 /// An assignment, with `:=` at a place.
@@ -70,10 +66,9 @@ fn assign(
     let first = desig.name.pos;
     let spot = designator(alloc, found, env, desig)?;
     refuse_assigned(found, env, first, &spot);
-    let begin = value.pos;
     let value = expr(alloc, found, env, value)?;
-    refuse_unfit(found, env, at, begin, &spot, &value);
-    Ok(Some(assigned_stat(env, first, spot, value)))
+    refuse_unfit(found, env, at, &spot, &value);
+    Ok(Some(assigned_stat(env, first, spot, value)?))
 }
 
 /// Puts a statement behind those before it, if it is one.

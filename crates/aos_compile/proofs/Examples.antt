@@ -47,11 +47,11 @@ plain at = record { name = letter at; of = None }
 
 abbrev module_of : List Import → List Decl → Option Block → ℕ → Tree
 module_of imports decls body end =
-    record { pos = place 0; name = letter 7; imports = imports; decls = decls; body = body; end = letter end }
+    record { pos = place 0; name = letter 7; imports = imports; decls = decls; body = body; strings = []; end = letter end }
 
 -- no program but that of modules without anything
 abbrev bare : List ℕ → Module
-bare n = record { name = utf8_lossy n; variables = []; procedures = []; body = Nothing }
+bare n = record { name = utf8_lossy n; variables = []; texts = []; procedures = []; body = Nothing }
 
 abbrev only_modules : List Module → Program
 only_modules ms = record { modules = ms; types = basic_rows; objects = [] }
@@ -85,7 +85,7 @@ importer_first : elaborate (codes "MODULE A; IMPORT B; END A." ∷ codes "MODULE
 importer_first = refl
 
 named_out : elaborate (codes "MODULE A; IMPORT Z; END A." ∷ codes "MODULE Out; END Out." ∷ [])
-    (tree importing ∷ tree (record { pos = place 0; name = name 7 10; imports = []; decls = []; body = None; end = name 16 19 }) ∷ []) ≡ refused (refusal 11 1 (place 7))
+    (tree importing ∷ tree (record { pos = place 0; name = name 7 10; imports = []; decls = []; body = None; strings = []; end = name 16 19 }) ∷ []) ≡ refused (refusal 11 1 (place 7))
 named_out = refl
 
 -- the module that comes first in load order is refused first
@@ -141,8 +141,8 @@ unfolding out-Expr out-Simple out-Term out shown-the_row-Product-6 shown-the_row
 marked_read_only = refl
 
 marked : assigned (codes "MODULE B; VAR n*: LONGINT; END B.") (with_variable (Some ReadWrite) 18)
-    ≡ went (only_modules (record { name = utf8_lossy (codes "B"); variables = record { name = utf8_lossy (codes "n"); of = longint } ∷ []; procedures = []; body = Nothing }
-    ∷ record { name = utf8_lossy (codes "A"); variables = []; procedures = []; body = Then (Assign (place 26) longint (ModuleVar 0 0) (Lit (literal.Int (pos 1)))) Nothing } ∷ []))
+    ≡ went (only_modules (record { name = utf8_lossy (codes "B"); variables = record { name = utf8_lossy (codes "n"); of = longint } ∷ []; texts = []; procedures = []; body = Nothing }
+    ∷ record { name = utf8_lossy (codes "A"); variables = []; texts = []; procedures = []; body = Then (Assign (place 26) longint (ModuleVar 0 0) (Lit (literal.Int (pos 1)))) Nothing } ∷ []))
 unfolding out-Expr out-Simple out-Term out shown-the_row-Product-6 shown-the_row-Addition-5 shown
 marked = refl
 
@@ -151,8 +151,8 @@ renamed : elaborate (codes "MODULE A; IMPORT X := B; BEGIN X.n := 1 END A." ∷ 
     (tree (module_of (record { name = letter 17; of = Some (letter 22) } ∷ []) []
     (body (stat.Assign (record { name = letter 31; selectors = s.Field (place 32) (letter 33) ∷ [] }) (place 35) (number 38))) 44)
     ∷ tree (with_variable (Some ReadWrite) 18) ∷ [])
-    ≡ went (only_modules (record { name = utf8_lossy (codes "B"); variables = record { name = utf8_lossy (codes "n"); of = longint } ∷ []; procedures = []; body = Nothing }
-    ∷ record { name = utf8_lossy (codes "A"); variables = []; procedures = []; body = Then (Assign (place 31) longint (ModuleVar 0 0) (Lit (literal.Int (pos 1)))) Nothing } ∷ []))
+    ≡ went (only_modules (record { name = utf8_lossy (codes "B"); variables = record { name = utf8_lossy (codes "n"); of = longint } ∷ []; texts = []; procedures = []; body = Nothing }
+    ∷ record { name = utf8_lossy (codes "A"); variables = []; texts = []; procedures = []; body = Then (Assign (place 31) longint (ModuleVar 0 0) (Lit (literal.Int (pos 1)))) Nothing } ∷ []))
 unfolding out-Expr out-Simple out-Term out shown-the_row-Product-6 shown-the_row-Addition-5 shown
 renamed = refl
 
@@ -185,8 +185,8 @@ making =
 an_object_of_another_module : elaborate (codes "MODULE A; IMPORT B; BEGIN NEW(B.p) END A." ∷ codes "MODULE B; TYPE T*= OBJECT BEGIN {ACTIVE} END T; VAR p*: T; END B." ∷ [])
     (tree making ∷ tree with_object ∷ [])
     ≡ went (record {
-      modules = record { name = utf8_lossy (codes "B"); variables = record { name = utf8_lossy (codes "p"); of = ttype.Named 0 } ∷ []; procedures = []; body = Nothing }
-          ∷ record { name = utf8_lossy (codes "A"); variables = []; procedures = []; body = Then (New (place 26) (ModuleVar 0 0) 0) Nothing } ∷ [];
+      modules = record { name = utf8_lossy (codes "B"); variables = record { name = utf8_lossy (codes "p"); of = ttype.Named 0 } ∷ []; texts = []; procedures = []; body = Nothing }
+          ∷ record { name = utf8_lossy (codes "A"); variables = []; texts = []; procedures = []; body = Then (New (place 26) (ModuleVar 0 0) 0) Nothing } ∷ [];
       types = basic_rows ++ row.Object None [] ∷ [];
       objects = record { name = utf8_lossy (codes "T"); home = 0; body = Nothing } ∷ [];
     })
@@ -202,6 +202,7 @@ declared_anew : elaborate (codes "MODULE B; VAR n: LONGINT; NEW: LONGINT; BEGIN 
     ≡ went (only_modules (record {
       name = utf8_lossy (codes "B");
       variables = record { name = utf8_lossy (codes "n"); of = longint } ∷ record { name = utf8_lossy (codes "NEW"); of = longint } ∷ [];
+      texts = [];
       procedures = [];
       body = Then (Assign (place 46) longint (ModuleVar 0 1) (Lit (literal.Int (pos 1)))) Nothing;
     } ∷ []))
@@ -222,6 +223,7 @@ a_constant : elaborate (codes "MODULE B; CONST c = 1; VAR n: LONGINT; BEGIN n :=
     ≡ went (only_modules (record {
       name = utf8_lossy (codes "B");
       variables = record { name = utf8_lossy (codes "n"); of = longint } ∷ [];
+      texts = [];
       procedures = [];
       body = Then (Assign (place 45) longint (ModuleVar 0 0) (Lit (literal.Int (pos 1)))) Nothing;
     } ∷ []))

@@ -13,13 +13,16 @@ use Rattle.aos_symbols.specs.declared.env.Env.{Env}
 use Rattle.aos_symbols.specs.Env.{within}
 use Rattle.aos_symbols.specs.Judged.{Judged, kept, bind, walk, judged}
 use Rattle.aos_symbols.specs.Breaches.{first, first_after}
-use Rattle.aos_symbols.specs.Outcome.{Outcome, went, then, passed, decided}
+use Rattle.aos_symbols.specs.Outcome.{Outcome, went, refused, then, passed, decided}
 use Rattle.aos_symbols.specs.Declarations.{types_in, type_defs}
 use Rattle.aos_symbols.specs.Names.{name_breaches}
 use Rattle.aos_symbols.proofs.Paths.{past}
 use Rattle.aos_symbols.proofs.Keeping.{after_more}
 use Rattle.aos_check_decl.specs.Pass.{declare}
 use Rattle.aos_check_stat.specs.Bodies.{listed}
+use Rattle.aos_compile.specs.declared.compile_err.CompileErr.{CompileErr}
+use Rattle.aos_compile.specs.declared.compile_err.CompileErr.TheVariants.{Refused, NoMemory}
+use Rattle.aos_compile.specs.Elaborates.{OnRefused}
 use Rattle.aos_compile.specs.Modules.{World, Bodies, bodies, object_in, extended, elaborated}
 use Rattle.aos_compile.proofs.Kept.{before_kept}
 
@@ -119,3 +122,9 @@ module _ (w : World) (file : ℕ) (text : List ℕ) (m : Tree) where
   all_went v b x p q r is =
       headings_told v p q ∙ ap (λ o. then o (λ c. went (extended w v m c))) r
       ∙ sym (ap (λ z. went z) (is ∙ ap (λ hs. extended (record { before = hs; types = []; modules = w.modules; objects = w.objects }) v m b) (same_before v q)))
+
+  -- a rule that bodies break refuses
+  pub bodies_refused : (v : Env) (e : CompileErr) → first (name_breaches text m) ≡ None → passed file declares ≡ went v →
+      OnRefused e (λ r. passed file (bodies v m) ≡ refused r) → OnRefused e (λ r. elaborated w file text m ≡ refused r)
+  bodies_refused v (Refused r) p q h = headings_told v p q ∙ ap (λ o. then o (λ c. went (extended w v m c))) h
+  bodies_refused v NoMemory p q h = tt

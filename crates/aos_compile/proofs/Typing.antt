@@ -15,6 +15,7 @@ use Rattle.aos_compile.specs.Elaborates.{ComesTo}
 use Rattle.aos_compile.proofs.Names.{named_well}
 use Rattle.aos_compile.proofs.TypingTypes.{known_variables}
 use Rattle.aos_compile.proofs.TypingScalars.{sum_typed}
+use Rattle.aos_compile.proofs.Strings.{texts_below}
 use Rattle.aos_compile.proofs.TypingModules.{AreHomes, IsWorld, no_world, module_sound}
 
 module _ (ss : List Source) where
@@ -42,6 +43,7 @@ pub record TypedWell (p : Program) : Type 0 where
   pub objects : All (λ o. AreStatements p o.body) p.objects
   pub homes : All (λ o. o.home < length p.modules) p.objects
   pub types : AreTypes p.types
+  pub texts : All (λ m. All (λ t. All (λ c. c < 256) t) m.texts) p.modules
   pub predeclared : (k : ℕ) → k < predeclared_types → slice_get p.types k ≡ slice_get predeclared_rows k
   pub beside : length p.types ≡ length p.objects + predeclared_types
   pub variables : All (λ m. All (λ v. IsVariableType p v.of) m.variables) p.modules
@@ -74,12 +76,24 @@ module _ (w : World) (sound : IsWorld w) where
     few_of_homes hs ms are.1,
   )
 
+  -- the codes of string constants are those of characters
+  abbrev HasCodes : Module → Type 0
+  HasCodes m = All (λ t. All (λ c. c < 256) t) m.texts
+
+  codes_of_homes : (hs : List Home) (ms : List Module) → AreHomes w.types hs ms → Each HasCodes ms
+  codes_of_homes [] [] are = tt
+  codes_of_homes [] (m ∷ ms) are = absurd are
+  codes_of_homes (h ∷ hs) [] are = absurd are
+  codes_of_homes (h ∷ hs) (m ∷ ms) are =
+      (subst (All (λ t. All (λ c. c < 256) t)) (sym are.0.texts) (texts_below h), codes_of_homes hs ms are.1)
+
   world_typed : TypedWell (program_of w)
   world_typed = record {
     bodies = all_of (λ m. AreStatements (program_of w) m.body) w.modules sound.bodies;
     objects = all_of (λ o. AreStatements (program_of w) o.body) w.objects sound.objects;
     homes = all_of (λ o. o.home < length w.modules) w.objects sound.places;
     types = sound.table.sound;
+    texts = all_of HasCodes w.modules (codes_of_homes w.before w.modules sound.homes);
     predeclared = sound.table.basic;
     beside = omega (arith, sound.count);
     variables = all_of AreVariables w.modules (variables_of_homes w.before w.modules sound.homes);
@@ -108,6 +122,7 @@ well_typed texts p h some few =
       objects = typed.objects;
       homes = typed.homes;
       types = typed.types;
+      texts = typed.texts;
       predeclared = typed.predeclared;
       beside = typed.beside;
       variables = typed.variables;

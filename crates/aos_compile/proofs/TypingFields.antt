@@ -36,7 +36,7 @@ field_numbered own s w f h = by (find s w) refl
     meant x found means.Out is = absurd (none-some f (rw is at (rw found at h)))
     meant x found (means.Truth b) is = absurd (none-some f (rw is at (rw found at h)))
     meant x found (means.Function g) is = absurd (none-some f (rw is at (rw found at h)))
-    meant x found means.New is = absurd (none-some f (rw is at (rw found at h)))
+    meant x found (means.Routine r) is = absurd (none-some f (rw is at (rw found at h)))
     meant x found means.Proper is = absurd (none-some f (rw is at (rw found at h)))
     meant x found means.Other is = absurd (none-some f (rw is at (rw found at h)))
 

@@ -11,6 +11,7 @@ use Rattle.aos_tree.specs.declared.decl.TypeDef.{TypeDef}
 use Rattle.aos_tree.specs.declared.module.Module.{Module as Tree}
 use Rattle.aos_types.specs.declared.row.TypeId.{TypeId}
 use Rattle.aos_types.specs.declared.TheConstants.{MOST_SCALARS}
+use Rattle.aos_types.specs.declared.row.Basic.TheVariants.{Text}
 use Rattle.aos_types.specs.declared.row.TypeRow.{TypeRow}
 use Rattle.aos_types.specs.declared.row.TypeRow.TheVariants as row
 use Rattle.aos_typed.specs.Program.{ModuleVar, Stat, Stats, ObjectType, Module, Program}
@@ -24,7 +25,7 @@ use Rattle.aos_symbols.specs.Outcome.{went, passed}
 use Rattle.aos_symbols.specs.Outcome as outcome
 use Rattle.aos_symbols.specs.Declarations.{Procedure, procedures, type_defs, all_type_defs, single_variables}
 use Rattle.aos_symbols.specs.Scope.{Scope, find}
-use Rattle.aos_symbols.specs.Home.{Home}
+use Rattle.aos_symbols.specs.Home.{Home, texts_of}
 use Rattle.aos_symbols.specs.Names.{name_breaches}
 use Rattle.aos_symbols.specs.Env as env
 use Rattle.aos_symbols.proofs.Each.{Each, all_of, joined, implied, each_at}
@@ -45,7 +46,7 @@ use Rattle.aos_compile.proofs.TypingFields.{fields_told, fields_on}
 use Rattle.aos_compile.proofs.TypingProcedures.{HaveHeadings, procedures_typed, procedure_grows}
 
 -- A module that breaks no rule, and what it declares: each type that its scope names is told, each variable of its scope has a
--- type, and the program's module has these; each constant has a good value.
+-- type, and the program's module has these, and the string constants of its text; each constant has a good value.
 pub record IsHome (types : List TypeRow) (h : Home) (m : Module) : Type 0 where
   pub scope : Scope
   pub is : slice_get h.scopes 0 ≡ Some scope
@@ -53,6 +54,7 @@ pub record IsHome (types : List TypeRow) (h : Home) (m : Module) : Type 0 where
   pub numbers : (w : List ℕ) (x : Entry) (k : ℕ) → find scope w ≡ Some x → x.means ≡ means.Variable k → k < length scope.variables
   pub known : Each (IsKnown types) scope.variables
   pub typed : map (λ v. v.of) m.variables ≡ map type_of scope.variables
+  pub texts : m.texts ≡ texts_of h
   pub few : sum_by (variable_cells types) scope.variables ≤ MOST_SCALARS
   pub fields : FieldsAgree types h
   pub good : (k : ℕ) (s : Scope) → slice_get h.scopes k ≡ Some s → AreGood s.constants
@@ -65,7 +67,7 @@ AreHomes types (h ∷ hs) (m ∷ ms) = IsHome types h m × AreHomes types hs ms
 
 pub record IsWorld (w : World) : Type 0 where
   pub homes : AreHomes w.types w.before w.modules
-  pub count : length w.types ≡ 9 + length w.objects
+  pub count : length w.types ≡ 10 + length w.objects
   pub bodies : Each (λ m. AreStatements (program_of w) m.body) w.modules
   pub objects : Each (λ o. AreStatements (program_of w) o.body) w.objects
   pub places : Each (λ o. o.home < length w.modules) w.objects
@@ -107,8 +109,8 @@ module _ (ts : List TypeRow) where
   one_more (g ∷ hs) (x ∷ ms) h m are is = (are.0, one_more hs ms h m are.1 is)
 
 module _ (ts us : List TypeRow) (old : AreReady ts) (new : AreReady us) (on : GoOn ts us) (stay : RowsStay ts us) where
-  nine : 9 ≤ length ts
-  nine = slice_get_within ts 8 row.Any (old.basic 8 (omega arith))
+  ten : 10 ≤ length ts
+  ten = slice_get_within ts 9 (row.Basic (Text 0)) (old.basic 9 (omega arith))
 
   home_on : (h : Home) (m : Module) → IsHome ts h m → IsHome us h m
   home_on h m is = record {
@@ -118,9 +120,10 @@ module _ (ts us : List TypeRow) (old : AreReady ts) (new : AreReady us) (on : Go
     numbers = is.numbers;
     known = implied (IsKnown ts) (IsKnown us) (known_on ts us on) is.scope.variables is.known;
     typed = is.typed;
+    texts = is.texts;
     few =
         subst (λ n. n ≤ MOST_SCALARS)
-        (sym (sum_stays ts us nine old.closed stay old.sound.none_contains_itself new.sound.none_contains_itself is.scope.variables is.known)) is.few;
+        (sym (sum_stays ts us ten old.closed stay old.sound.none_contains_itself new.sound.none_contains_itself is.scope.variables is.known)) is.few;
     fields = fields_on ts us stay h is.fields;
     good = is.good;
   }
@@ -138,16 +141,23 @@ no_scope e = cc
 
 whole : (p : Program) (e : Env) (hs : List Home) → AreHomes e.types hs p.modules → ((m : ℕ) (h : Home) → env.home e m ≡ Some h → slice_get hs m ≡ Some h) →
     PartsAreTold e.types → FieldsAgree e.types e.here → ((m : ℕ) (h : Home) → slice_get e.before m ≡ Some h → FieldsAgree e.types h) →
-    p.types ≡ e.types → length e.types ≡ 9 + length p.objects → IsWhole p e
-whole p e hs are at parts here before rows count = record {
+    p.types ≡ e.types → length e.types ≡ 10 + length p.objects → ((k : ℕ) → k < 10 → slice_get e.types k ≡ slice_get env.basic_rows k) → IsWhole p e
+whole p e hs are at parts here before rows count basic = record {
   variables = λ o s w x k first there found means. by_home o s w x k first found means there (env.home e o.home) refl there;
   constants = λ o s there. by_scope o s (env.home e o.home) refl there;
   parts = parts;
   fields = fields_told e here before;
   rows = rows;
   objects = count;
+  basic = basic;
+  strings = λ m h there. let one = home_at e.types hs p.modules are m h (at m h there) in (one.0, one.1, counted m h one.0 there one.2, one.2.texts);
 }
   where
+    counted : (m : ℕ) (h : Home) (x : Module) → env.home e m ≡ Some h → IsHome e.types h x → length x.variables ≡ env.variable_count e m
+    counted m h x there is =
+        let scoped : env.scope e (env.own m) ≡ Some is.scope = ap (option_and_then (λ (h : Home). slice_get h.scopes 0)) there ∙ is.is in
+        rw scoped (sym (length-map x.variables (λ v. v.of)) ∙ ap length is.typed ∙ length-map is.scope.variables type_of)
+
     by_scope : (o : Open) (s : Scope) (h : Option Home) → env.home e o.home ≡ h → option_and_then (λ h. slice_get h.scopes o.scope) h ≡ Some s → AreGood s.constants
     by_scope o s None home there = absurd (no_scope there)
     by_scope o s (Some h) home there = (home_at e.types hs p.modules are o.home h (at o.home h home)).2.good o.scope s there
@@ -185,6 +195,8 @@ module _ (p : Program) (e : Env) (is_whole : IsWhole p e) where
     fields = λ t n f ts found is. is_whole.fields t n f ts found is;
     rows = is_whole.rows;
     objects = is_whole.objects;
+    basic = is_whole.basic;
+    strings = λ m h there. is_whole.strings m h there;
   }
 
   abbrev IsBody : List Stat → Type 0
@@ -311,6 +323,7 @@ module _ (w : World) (sound : IsWorld w) (text : List ℕ) (m : Tree) where
       typed =
           ap (λ (o : Option Scope). map (λ v. v.of) (map (variable_of e.here.text) (zip (single_variables m.decls) (variables_of o)))) is.own_is
           ∙ types_beside e.here.text (single_variables m.decls) is.own.variables is.count;
+      texts = refl;
       few = is.few;
       fields = is.fields;
       good = is.constants;
@@ -336,11 +349,11 @@ module _ (w : World) (sound : IsWorld w) (text : List ℕ) (m : Tree) where
           by true at there = ap (slice_get world.before) (eqb-true k e.number at ∙ is.number_is) ∙ get_end w.before e.here ∙ there
           by false at there = get_front w.before (e.here ∷ []) k h (ap (λ hs. slice_get hs k) (sym is.before_is) ∙ there)
 
-      count_objects : length e.types ≡ 9 + length world.objects
+      count_objects : length e.types ≡ 10 + length world.objects
       count_objects = omega (arith, is.long, sound.count, count, length-append w.objects b.objects)
 
       bodies_whole : IsWhole (program_of world) e
-      bodies_whole = whole (program_of world) e world.before homes_more at_home is.table.parts is.fields fields_before refl count_objects
+      bodies_whole = whole (program_of world) e world.before homes_more at_home is.table.parts is.fields fields_before refl count_objects is.table.basic
 
       grows : Grows (program_of w) (program_of world)
       grows = grown w.modules (module_of e m b ∷ []) w.types e.types w.objects b.objects is.stays

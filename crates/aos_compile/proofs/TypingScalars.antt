@@ -20,7 +20,7 @@ use Rattle.aos_compile.proofs.TypingTypes.{RowsStay, number_is, told_number}
 
 -- A table that goes on from another, whose rows stay.
 
-module _ (rows rows' : List TypeRow) (nine : 9 ≤ length rows) (below : (k : ℕ) (r : TypeRow) → slice_get rows k ≡ Some r → AreBelow (length rows) r) (stays : RowsStay rows rows')
+module _ (rows rows' : List TypeRow) (ten : 10 ≤ length rows) (below : (k : ℕ) (r : TypeRow) → slice_get rows k ≡ Some r → AreBelow (length rows) r) (stays : RowsStay rows rows')
     (free : NoneContainsItself rows) (free' : NoneContainsItself rows') where
   variable_stays : (t : TypeId) → t.0 < length rows → variable_scalars rows' t ≡ variable_scalars rows t
   variable_stays t within = ap (λ r. size (if is_object r then One t else contents rows' t)) (stays t.0 within) ∙ by (is_object (row_of rows t))

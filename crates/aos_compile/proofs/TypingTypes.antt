@@ -22,15 +22,15 @@ use Rattle.aos_check_decl.proofs.Typing.{AreReady, IsThere}
 use Rattle.aos_check_stat.proofs.Places.{as_object}
 
 -- the number of a type in the typed program is that in the table
-pub number_is : (t : TypeId) → (t.0 < 7) ⊎ (9 ≤ t.0) → id_of (type_as t) ≡ t
+pub number_is : (t : TypeId) → (t.0 < 7) ⊎ (10 ≤ t.0) → id_of (type_as t) ≡ t
 number_is t (inl below) =
     basic_cases (λ t. id_of (type_as t) ≡ t) (integer_cases (λ t. id_of (type_as t) ≡ t) refl refl refl refl) refl refl refl t (lt-ltb t.0 7 below)
 number_is t (inr from) = ap id_of (as_object t (omega arith)) ∙ ap (λ (n : ℕ). record { 0 = n }) (above t.0 from)
   where
-    above : (n : ℕ) → 9 ≤ n → (n - 9) + 9 ≡ n
+    above : (n : ℕ) → 10 ≤ n → (n - 10) + 10 ≡ n
     above n h = omega arith
 
-pub told_number : (rows : List TypeRow) (t : TypeId) → IsTold rows t → (t.0 < 7) ⊎ (9 ≤ t.0)
+pub told_number : (rows : List TypeRow) (t : TypeId) → IsTold rows t → (t.0 < 7) ⊎ (10 ≤ t.0)
 told_number rows t (basic below) = inl below
 told_number rows t (defined r from is closed) = inr from
 
@@ -78,7 +78,8 @@ basic_flat (suc (suc (suc (suc (suc zero))))) = tt
 basic_flat (suc (suc (suc (suc (suc (suc zero)))))) = tt
 basic_flat (suc (suc (suc (suc (suc (suc (suc zero))))))) = tt
 basic_flat (suc (suc (suc (suc (suc (suc (suc (suc zero)))))))) = tt
-basic_flat (suc (suc (suc (suc (suc (suc (suc (suc (suc k))))))))) = tt
+basic_flat (suc (suc (suc (suc (suc (suc (suc (suc (suc zero))))))))) = tt
+basic_flat (suc (suc (suc (suc (suc (suc (suc (suc (suc (suc k)))))))))) = tt
 
 flat_closed : (o : Option TypeRow) → IsFlat o → is_open o ≡ false
 flat_closed None h = refl
@@ -148,7 +149,7 @@ basic_ready = record {
     by t (p ∷ ps) e = flat_parts basic_rows (row_of basic_rows t) (basic_flat t.0) p e.0
 
     few : (t : TypeId) → scalars basic_rows t ≤ MOST_SCALARS
-    few t = let one = flat_size (unfolded 9 basic_rows) basic_rows t (row_of basic_rows t) (basic_flat t.0) in omega (arith, one)
+    few t = let one = flat_size (unfolded 10 basic_rows) basic_rows t (row_of basic_rows t) (basic_flat t.0) in omega (arith, one)
 
 -- Variables.
 
@@ -157,7 +158,7 @@ module _ (p : Program) (begins : RowsStay basic_rows p.types) where
   there None h = absurd h
   there (Some t) h = subst (λ (u : TypeId). u.0 < length p.types) (sym (number_is t h.1)) h.0
 
-  numbered : (t : TypeId) → (t.0 < 7) ⊎ (9 ≤ t.0) → t.0 < length p.types → is_open (row_of p.types t) ≡ false → IsVariableType p (type_as t)
+  numbered : (t : TypeId) → (t.0 < 7) ⊎ (10 ≤ t.0) → t.0 < length p.types → is_open (row_of p.types t) ≡ false → IsVariableType p (type_as t)
   numbered t number within closed = record {
     there = subst (λ (u : TypeId). u.0 < length p.types) (sym (number_is t number)) within;
     closed = subst (λ (u : TypeId). is_open (row_of p.types u) ≡ false) (sym (number_is t number)) closed;

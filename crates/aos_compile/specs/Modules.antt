@@ -25,7 +25,7 @@ use Rattle.aos_symbols.specs.Outcome.{Outcome, went, then, passed}
 use Rattle.aos_symbols.specs.Spelling.{word}
 use Rattle.aos_symbols.specs.Declarations.{Procedure, procedures, type_defs, single_variables, formal_names}
 use Rattle.aos_symbols.specs.Scope.{Scope}
-use Rattle.aos_symbols.specs.Home.{Home}
+use Rattle.aos_symbols.specs.Home.{Home, texts_of}
 use Rattle.aos_symbols.specs.Names.{name_breaches}
 use Rattle.aos_symbols.specs.Env as env
 use Rattle.aos_check_expr.specs.Known.{type_of}
@@ -133,6 +133,7 @@ module_of e m b =
     record {
       name = spelling text m.name;
       variables = map (variable_of text) (zip (single_variables m.decls) (variables_of (slice_get e.here.scopes 0)));
+      texts = texts_of e.here;
       procedures = procedures_of text e.here.scopes (first_scope m) (procedures m.decls) e.here.signatures b.procedures;
       body = listed b.own;
     }

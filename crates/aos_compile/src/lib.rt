@@ -9,6 +9,7 @@ pub mod modules;
 mod objects;
 mod procedures;
 pub mod program;
+mod texts;
 mod variables;
 
 pub use compile_err::CompileErr;

@@ -16,6 +16,7 @@ ghost use Rattle.aos_compile.specs.Seen.{seen_world, seen_bodies};
 use crate::compile_err::CompileErr;
 use crate::objects::{Bodies, bodies_of, spelling_of};
 use crate::procedures::procedures_of;
+use crate::texts::texts_of;
 use crate::variables::variables_of;
 use aos_base::{NoMemory, Refusal};
 use aos_check_decl::declare;
@@ -25,7 +26,7 @@ use aos_typed::{Program, TModule, TObject, TStat};
 use aos_types::{Basic, TypeRow, Types};
 use std::alloc::{AllocError, Global};
 
-/// The basic types, in the order of their numbers; ANY stands behind them.
+/// The basic types, in the order of their numbers; ANY and the type of string constants stand behind them.
 const BASIC_TYPES: [Basic; 8] = [
     Basic::ShortInt,
     Basic::Integer,
@@ -63,6 +64,7 @@ pub fn no_modules<'a>(alloc: Global) -> Result<World<'a>, NoMemory>
     let mut types = Types::new(alloc)?;
     add_basic(&mut types, &BASIC_TYPES)?;
     types.add(TypeRow::Any)?;
+    types.add(TypeRow::Basic(Basic::Text(0)))?;
     Ok(World {
         before: Items::new(alloc),
         types,
@@ -156,10 +158,12 @@ fn module_of(
 {
     let name = spelling_of(alloc, env.here.text(), tree.name)?;
     let variables = variables_of(alloc, env, tree.decls.as_slice())?;
+    let texts = texts_of(alloc, &env.here)?;
     let procedures = procedures_of(alloc, env, tree.decls.as_slice(), bodies)?;
     Ok(TModule {
         name,
         variables,
+        texts,
         procedures,
         body,
     })

@@ -7,6 +7,7 @@ use Rattle.aos_tree.specs.declared.name.Name.{Name}
 use Rattle.aos_symbols.specs.declared.scope.Entry.{Entry}
 use Rattle.aos_types.specs.declared.row.TypeId.{TypeId}
 use Rattle.aos_symbols.specs.declared.scope.Function.{Function}
+use Rattle.aos_symbols.specs.declared.scope.Routine.{Routine}
 use Rattle.aos_symbols.specs.declared.scope.Meaning.{Meaning}
 use Rattle.aos_symbols.specs.declared.scope.Meaning.TheVariants as means
 use Rattle.aos_symbols.specs.declared.env.Open.{Open}
@@ -23,8 +24,7 @@ pub data IsPredeclared : Meaning → Type 0 where
   a_type : (t : TypeId) → t.0 ≤ 8 → (t.0 ≡ 7 → ⊥) → IsPredeclared (means.Type (Some t))
   a_truth : (b : Bool) → IsPredeclared (means.Truth b)
   a_function : (f : Function) → IsPredeclared (means.Function f)
-  a_procedure : IsPredeclared means.New
-  a_proper : IsPredeclared means.Proper
+  a_routine : (r : Routine) → IsPredeclared (means.Routine r)
   another : IsPredeclared means.Other
 
 -- what holds of all that names stand for, where these scopes are searched
@@ -63,10 +63,10 @@ all_rows =
     before numbered 6 (omega arith) (omega arith) before numbered 8 (omega arith) (omega arith)
     before a_truth false before a_truth true
     before a_function _ before a_function _ before a_function _ before a_function _ before a_function _
-    before a_function _ before a_function _ before a_function _ before a_function _ before a_function _
-    before a_procedure
-    before a_proper before a_proper before a_proper before a_proper before a_proper before a_proper before a_proper
-    before another before another before tt
+    before a_function _ before a_function _ before a_function _ before a_function _ before a_function _ before a_function _
+    before a_routine _ before a_routine _ before a_routine _ before a_routine _
+    before a_routine _ before a_routine _ before a_routine _ before a_routine _
+    before another before tt
 
 found_in : (w : List ℕ) (es : List (List ℕ × Meaning)) → ArePredeclared es → MayBePredeclared (lookup_in (λ k. bytes_eq k w) es)
 found_in w [] each = tt

@@ -5,6 +5,7 @@ use Rattle.std.proofs.lemmas.Option.{none-some}
 use Rattle.aos_types.specs.declared.row.TypeId.{TypeId}
 use Rattle.aos_types.specs.declared.row.TypeRow.{TypeRow}
 use Rattle.aos_types.specs.declared.row.TypeRow.TheVariants as row
+use Rattle.aos_types.specs.declared.TheConstants.{MOST_SCALARS}
 use Rattle.aos_types.specs.Table.{is_open}
 use Rattle.aos_symbols.specs.Scope.{Scope}
 use Rattle.aos_symbols.specs.Home.{Home, fields_of}
@@ -12,7 +13,7 @@ use Rattle.aos_symbols.proofs.Each.{Each}
 
 pub data IsTold (types : List TypeRow) (t : TypeId) : Type 0 where
   basic : t.0 < 7 → IsTold types t
-  defined : (r : TypeRow) → 9 ≤ t.0 → slice_get types t.0 ≡ Some r → is_open (Some r) ≡ false → IsTold types t
+  defined : (r : TypeRow) → 10 ≤ t.0 → slice_get types t.0 ≡ Some r → is_open (Some r) ≡ false → IsTold types t
 
 -- a type that is known, and told
 abbrev pub IsKnown : List TypeRow → Option TypeId → Type 0
@@ -40,9 +41,13 @@ pub told_behind : (ts us : List TypeRow) → GoOn ts (ts ++ us)
 told_behind ts us t (basic first) = basic first
 told_behind ts us t (defined r from e closed) = defined r from (get_front ts us t.0 r e) closed
 
--- the elements of an array and the fields of a record are told
+-- the lengths that arrays have
+abbrev pub IsLength : ℕ → Type 0
+IsLength n = (1 ≤ n) × (n ≤ MOST_SCALARS)
+
+-- the elements of an array, which has one of these lengths, and the fields of a record are told
 abbrev pub AreToldParts : List TypeRow → TypeRow → Type 0
-AreToldParts types (row.Array n t) = IsTold types t
+AreToldParts types (row.Array n t) = IsLength n × IsTold types t
 AreToldParts types (row.Record None ts) = Each (IsTold types) ts
 AreToldParts types r = Unit {0}
 

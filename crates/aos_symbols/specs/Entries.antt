@@ -22,7 +22,7 @@ use Rattle.aos_symbols.specs.declared.entries.Sort.TheVariants as sort
 use Rattle.aos_symbols.specs.Spelling.{word}
 use Rattle.aos_symbols.specs.Declarations.{constant_defs, type_defs, single_variables, procedure_defs, Procedure, procedures, formal_names}
 use Rattle.aos_symbols.specs.Scope.{Named, Scope, empty, with_names}
-use Rattle.aos_symbols.specs.Home.{Home}
+use Rattle.aos_symbols.specs.Home.{Home, strings_of}
 
 abbrev pub export_of : Def → Option Export
 export_of d = marked d.mark
@@ -115,4 +115,11 @@ module _ (text : List ℕ) where
 
   abbrev pub home_of : List Home → List (Option TypeId) → Module → Home
   home_of homes numbers m =
-      record { name = word text m.name; text = text; scopes = scopes homes numbers m; signatures = []; records = [] }
+      record {
+        name = word text m.name;
+        text = text;
+        strings = strings_of m.strings;
+        scopes = scopes homes numbers m;
+        signatures = [];
+        records = [];
+      }

@@ -1,7 +1,7 @@
 -- What a name stands for at a place of a module (Active Oberon Language Report, Reali 2002, section on declarations and scope
 -- rules): the scopes of the place's path are searched, the innermost first, then what is predeclared. A name of another module
 -- is seen where it has an export mark.
-use Rattle.std.specs.Prelude.{ℕ, List, [], ◌∷◌, Bool, true, false, ◌==◌, ◌||◌, ◌&&◌, nat_lt, codes, Option, Some, None, is_some, option_map, option_and_then, if◌then◌else◌, slice_get}
+use Rattle.std.specs.Prelude.{ℕ, ◌+◌, List, [], ◌∷◌, length, Bool, true, false, ◌==◌, ◌||◌, ◌&&◌, nat_lt, codes, Option, Some, None, is_some, option_map, option_and_then, if◌then◌else◌, slice_get}
 use Rattle.std.specs.Option.{option_or}
 use Rattle.std.specs.Str.{bytes_eq}
 use Rattle.std.specs.Map.{lookup as lookup_in}
@@ -10,12 +10,14 @@ use Rattle.aos_tree.specs.declared.name.Name.{Name}
 use Rattle.aos_types.specs.declared.row.TypeId.{TypeId}
 use Rattle.aos_types.specs.declared.row.TypeRow.{TypeRow}
 use Rattle.aos_typed.specs.declared.tree.Literal.{Literal}
+use Rattle.aos_typed.specs.declared.tree.TextConstant.{TextConstant}
 use Rattle.aos_typed.specs.Numbers.{predeclared_rows}
 use Rattle.aos_symbols.specs.declared.scope.Meaning.{Meaning}
 use Rattle.aos_symbols.specs.declared.scope.Meaning.TheVariants as means
 use Rattle.aos_symbols.specs.declared.scope.Entry.{Entry}
 use Rattle.aos_symbols.specs.declared.scope.Constant.{Constant}
 use Rattle.aos_symbols.specs.declared.scope.Function.TheVariants as function
+use Rattle.aos_symbols.specs.declared.scope.Routine.TheVariants as routine
 use Rattle.aos_symbols.specs.declared.env.Open.{Open}
 use Rattle.aos_symbols.specs.declared.env.Symbol.{Symbol}
 use Rattle.aos_symbols.specs.declared.env.Field.{Field}
@@ -24,7 +26,7 @@ use Rattle.aos_symbols.specs.declared.env.Lookup.TheVariants.{Unknown, NotExport
 use Rattle.aos_symbols.specs.declared.env.Env.{Env}
 use Rattle.aos_symbols.specs.Spelling.{word}
 use Rattle.aos_symbols.specs.Scope.{Scope, find}
-use Rattle.aos_symbols.specs.Home.{Home, fields_of}
+use Rattle.aos_symbols.specs.Home.{Home, fields_of, string_number, string_in, character}
 
 -- the types that stand first in each table; those that modules declare come behind them
 abbrev pub basic_rows : List TypeRow
@@ -53,6 +55,10 @@ set = record { 0 = 6 }
 
 abbrev pub any : TypeId
 any = record { 0 = 8 }
+
+-- the type of the string constants but those of one character, whose lengths stand beside them
+abbrev pub text : TypeId
+text = record { 0 = 9 }
 
 -- what the module with a number has declared
 abbrev pub home : Env → ℕ → Option Home
@@ -85,7 +91,7 @@ is_import (means.Variable k) = false
 is_import (means.Procedure k) = false
 is_import (means.Truth b) = false
 is_import (means.Function f) = false
-is_import means.New = false
+is_import (means.Routine r) = false
 is_import means.Proper = false
 is_import means.Other = false
 
@@ -93,7 +99,7 @@ is_import means.Other = false
 abbrev pub if_seen : Env → Symbol → Lookup
 if_seen e s = if s.at.home == e.number || is_some s.mark then Found s else NotExported
 
--- the predeclared names: LEN and SELF aren't built yet
+-- the predeclared names: SELF isn't built yet
 abbrev pub predeclared : List (List ℕ × Meaning)
 predeclared =
     (codes "SHORTINT", means.Type (Some shortint)) ∷ (codes "INTEGER", means.Type (Some integer))
@@ -106,11 +112,12 @@ predeclared =
     ∷ (codes "LONG", means.Function function.Long) ∷ (codes "MAX", means.Function function.Max)
     ∷ (codes "MIN", means.Function function.Min) ∷ (codes "ODD", means.Function function.Odd)
     ∷ (codes "ORD", means.Function function.Ord) ∷ (codes "SHORT", means.Function function.Short)
-    ∷ (codes "NEW", means.New)
-    ∷ (codes "ASSERT", means.Proper) ∷ (codes "COPY", means.Proper) ∷ (codes "DEC", means.Proper)
-    ∷ (codes "EXCL", means.Proper) ∷ (codes "HALT", means.Proper) ∷ (codes "INC", means.Proper)
-    ∷ (codes "INCL", means.Proper)
-    ∷ (codes "LEN", means.Other) ∷ (codes "SELF", means.Other) ∷ []
+    ∷ (codes "LEN", means.Function function.Len)
+    ∷ (codes "ASSERT", means.Routine routine.Assert) ∷ (codes "COPY", means.Routine routine.Copy)
+    ∷ (codes "DEC", means.Routine routine.Dec) ∷ (codes "EXCL", means.Routine routine.Excl)
+    ∷ (codes "HALT", means.Routine routine.Halt) ∷ (codes "INC", means.Routine routine.Inc)
+    ∷ (codes "INCL", means.Routine routine.Incl) ∷ (codes "NEW", means.Routine routine.New)
+    ∷ (codes "SELF", means.Other) ∷ []
 
 abbrev pub predeclared_meaning : List ℕ → Option Meaning
 predeclared_meaning w = lookup_in (λ k. bytes_eq k w) predeclared
@@ -181,6 +188,44 @@ constant e o k at = declared (option_and_then (λ s. slice_get s.constants k) (s
     declared : Option Constant → Option (Option Literal)
     declared None = None
     declared (Some c) = if (o.home == e.number) && precedes at c.at then None else Some c.value
+
+-- String constants: a module's stand behind its variables, of which it has so many.
+
+abbrev pub variable_count : Env → ℕ → ℕ
+variable_count e m = by (scope e (own m))
+  where
+    by : Option Scope → ℕ
+    by None = 0
+    by (Some s) = length s.variables
+
+-- the number of a string constant among the variables
+abbrev pub string_place : Env → TextConstant → ℕ
+string_place e t = variable_count e t.home + t.number
+
+-- its module's text has a string constant
+abbrev pub has_string : Env → TextConstant → Bool
+has_string e t = is_some (option_and_then (λ h. slice_get h.strings t.number) (home e t.home))
+
+-- the bytes of a string constant
+abbrev pub characters : Env → TextConstant → List ℕ
+characters e t = by (home e t.home)
+  where
+    by : Option Home → List ℕ
+    by None = []
+    by (Some h) = string_in h t.number
+
+-- the string constant that begins here with its quote, where the module has one there
+abbrev pub text_constant : Env → (start : ℕ) → Option TextConstant
+text_constant e start = option_map of_number (string_number e.here start)
+  where
+    first : List ℕ → ℕ
+    first [] = 0
+    first (b ∷ bs) = character b
+
+    of_number : ℕ → TextConstant
+    of_number k =
+        let bytes = string_in e.here k in
+        record { home = e.number; number = k; length = length bytes; first = first bytes }
 
 -- the row of a type that is known
 abbrev pub row_of : Env → Option TypeId → Option TypeRow

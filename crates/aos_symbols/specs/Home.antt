@@ -1,7 +1,11 @@
--- What a module has declared: its name, its text, its scopes, the signatures of its procedures, and the fields of the record types
--- that it writes. The first scope is the module's own; behind it come those of the types that it defines, in which the names within
+-- What a module has declared: its name, its text, the strings there, its scopes, the signatures of its procedures, and the fields of
+-- the record types that it writes. The first scope is the module's own; behind it come those of the types that it defines, in which the names within
 -- an object type stand, and then those of its procedures, each in the order of the text.
-use Rattle.std.specs.Prelude.{ℕ, nat_eq, List, [], ◌∷◌, ◌++◌, Option, Some, None, slice_get, slice_set}
+use Rattle.std.specs.Prelude.{ℕ, pos, nat_eq, ◌+◌, ◌-◌, List, [], ◌∷◌, ◌++◌, map, fold, Option, Some, None, slice_get, slice_set, position}
+use Rattle.std.specs.Option.{unwrap_or}
+use Rattle.std.specs.List.{slice_range}
+use Rattle.aos_base.specs.Operators.{natural}
+use Rattle.aos_tree.specs.declared.name.Text.{Text}
 use Rattle.std.specs.Map.{lookup}
 use Rattle.indexmap.specs.IndexMap.{insert_entry}
 use Rattle.aos_types.specs.declared.row.TypeId.{TypeId}
@@ -12,6 +16,7 @@ use Rattle.aos_symbols.specs.Scope.{Scope, with_constant, with_variable}
 pub record Home : Type 0 where
   pub name : List ℕ
   pub text : List ℕ
+  pub strings : List (ℕ × ℕ)  -- where each begins with its quote, and where it ends
   pub scopes : List Scope
   pub signatures : List Signature
   pub records : List (ℕ × Scope)  -- by the types' numbers
@@ -41,3 +46,33 @@ fields_of h t = lookup (λ k. nat_eq t.0 k) h.records
 -- with the signature of the next procedure
 abbrev pub add_signature : Home → Signature → Home
 add_signature h x = record h { signatures = h.signatures ++ x ∷ [] }
+
+-- Strings.
+
+-- the strings of a text, by the places where they begin
+abbrev pub strings_of : List Text → List (ℕ × ℕ)
+strings_of ts = fold (λ ss t. insert_entry nat_eq ss t.start t.end) [] ts
+
+-- the number of the string that begins here
+abbrev pub string_number : Home → (start : ℕ) → Option ℕ
+string_number h start = position (λ k. nat_eq start k) (map (λ s. s.0) h.strings)
+
+-- a byte as the code of a character
+abbrev pub character : ℕ → ℕ
+character b = unwrap_or (natural 256 (pos b)) 0
+
+-- what stands between the quotes of a string
+abbrev pub between_quotes : List ℕ → ℕ × ℕ → List ℕ
+between_quotes text s = slice_range text (s.0 + 1) (s.1 - 1)
+
+-- the string constants of a module, by the codes of their characters
+abbrev pub texts_of : Home → List (List ℕ)
+texts_of h = map (λ s. map character (between_quotes h.text s)) h.strings
+
+-- the bytes of the string with a number
+abbrev pub string_in : Home → ℕ → List ℕ
+string_in h k = by (slice_get h.strings k)
+  where
+    by : Option (ℕ × ℕ) → List ℕ
+    by None = []
+    by (Some s) = between_quotes h.text s

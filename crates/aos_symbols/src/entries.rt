@@ -16,8 +16,8 @@ use aos_tree::{
 use aos_types::TypeId;
 use std::alloc::{AllocError, Global};
 
-/// How many declarations of one sort can be told apart by their numbers.
-const MOST_NUMBERS: usize = 4_294_967_296;
+/// How many declarations of one sort, or strings, can be told apart by their numbers.
+pub(crate) const MOST_NUMBERS: usize = 4_294_967_296;
 
 /// A sort of declarations that are numbered in their scope.
 #[derive(Clone, Copy, PartialEq, Eq, Debug)]
@@ -487,5 +487,6 @@ pub fn home_of<'a>(
         add_inner_scopes_in(alloc, &mut scopes, text, decl)?;
     }
     add_procedure_scopes(alloc, &mut scopes, place, text, numbers, decls)?;
-    Ok(Home::new(alloc, word(text, tree.name), text, scopes))
+    let strings = tree.strings.as_slice();
+    Ok(Home::new(alloc, word(text, tree.name), text, strings, scopes)?)
 }

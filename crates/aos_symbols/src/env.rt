@@ -7,11 +7,11 @@ ghost use Rattle.std.specs.Str.{bytes_eq};
 ghost use Rattle.aos_symbols.specs.Env as env;
 
 use crate::home::Home;
-use crate::scope::{Entry, Function, Meaning, Scope};
+use crate::scope::{Entry, Function, Meaning, Routine, Scope};
 use crate::spelling::word;
 use aos_base::Pos;
 use aos_tree::{Export, Items, Name};
-use aos_typed::Literal;
+use aos_typed::{Literal, TextConstant};
 use aos_types::{TypeId, TypeRow, Types};
 use std::alloc::{AllocError, Global};
 use std::mem;
@@ -32,8 +32,10 @@ pub const CHAR: TypeId = TypeId(5);
 pub const SET: TypeId = TypeId(6);
 /// The type ANY.
 pub const ANY: TypeId = TypeId(8);
+/// The type of the string constants but those of one character, whose lengths stand beside them.
+pub const TEXT: TypeId = TypeId(9);
 /// How many types stand first in each table; those that modules declare come behind them.
-pub const BASIC_TYPES: u32 = 9;
+pub const BASIC_TYPES: u32 = 10;
 
 /// A scope: the number of its module in load order, and its own number in that module.
 #[derive(Clone, Copy, PartialEq, Eq, Debug)]
@@ -87,7 +89,7 @@ pub struct Env<'a> {
     pub places: Items<Pos>,
 }
 
-/// The predeclared names (Reali 2002, predeclared identifiers); LEN and SELF aren't built yet.
+/// The predeclared names (Reali 2002, predeclared identifiers); SELF isn't built yet.
 const PREDECLARED: [(&str, Meaning); 30] = [
     ("SHORTINT", Meaning::Type(Some(SHORTINT))),
     ("INTEGER", Meaning::Type(Some(INTEGER))),
@@ -109,15 +111,15 @@ const PREDECLARED: [(&str, Meaning); 30] = [
     ("ODD", Meaning::Function(Function::Odd)),
     ("ORD", Meaning::Function(Function::Ord)),
     ("SHORT", Meaning::Function(Function::Short)),
-    ("NEW", Meaning::New),
-    ("ASSERT", Meaning::Proper),
-    ("COPY", Meaning::Proper),
-    ("DEC", Meaning::Proper),
-    ("EXCL", Meaning::Proper),
-    ("HALT", Meaning::Proper),
-    ("INC", Meaning::Proper),
-    ("INCL", Meaning::Proper),
-    ("LEN", Meaning::Other),
+    ("LEN", Meaning::Function(Function::Len)),
+    ("ASSERT", Meaning::Routine(Routine::Assert)),
+    ("COPY", Meaning::Routine(Routine::Copy)),
+    ("DEC", Meaning::Routine(Routine::Dec)),
+    ("EXCL", Meaning::Routine(Routine::Excl)),
+    ("HALT", Meaning::Routine(Routine::Halt)),
+    ("INC", Meaning::Routine(Routine::Inc)),
+    ("INCL", Meaning::Routine(Routine::Incl)),
+    ("NEW", Meaning::Routine(Routine::New)),
     ("SELF", Meaning::Other),
 ];
 
@@ -345,6 +347,62 @@ impl<'a> Env<'a> {
             return None;
         }
         Some(self.types.row(of))
+    }
+
+    /// The number of a string constant among the variables of its module, behind which it stands. One of 2^32 and more is want of
+    /// memory.
+    pub fn string_place(&self, text: TextConstant) -> Result<u32, AllocError>
+        ensures { IfOk result (λ n. n ≡ env.string_place self.now text) }
+    {
+        let variables = match self.scope(own(text.home)) {
+            Some(scope) => scope.variable_count(),
+            None => 0,
+        };
+        let Ok(variables) = u32::try_from(variables) else {
+            return Err(AllocError);
+        };
+        match variables.checked_add(text.number) {
+            Some(number) => Ok(number),
+            None => Err(AllocError),
+        }
+    }
+
+    /// Whether its module's text has a string constant.
+    pub fn has_string(&self, text: TextConstant) -> bool
+        ensures { result ≡ env.has_string self.now text }
+    {
+        match self.home(text.home) {
+            Some(home) => home.has_string(text.number),
+            None => false,
+        }
+    }
+
+    /// The bytes of a string constant, between its quotes.
+    pub fn characters(&self, text: TextConstant) -> &'a [u8]
+        ensures { result.now ≡ env.characters self.now text }
+    {
+        match self.home(text.home) {
+            Some(home) => home.string(text.number),
+            None => &[],
+        }
+    }
+
+    /// The string constant that begins at a place of this module's text with its quote, where the module has one there.
+    pub fn text_constant(&self, start: u32) -> Option<TextConstant>
+        ensures { result ≡ env.text_constant self.now start }
+    {
+        let number = self.here.string_number(start)?;
+        let bytes = self.here.string(number);
+        let first = match bytes.first() {
+            Some(first) => *first,
+            None => 0,
+        };
+        Some(TextConstant {
+            home: self.number,
+            number,
+            length: bytes.len() as u32,
+            first,
+        })
     }
 
     /// The innermost scope at this place, by its number in the module.

@@ -1,11 +1,13 @@
 // What a module has declared.
 
-ghost use Rattle.std.specs.Prelude.{◌≡◌, [], slice_get, OnErr, OnOk};
+ghost use Rattle.std.specs.Prelude.{◌≡◌, ◌≤◌, ◌<◌, ◌^◌, [], length, slice_get, is_some, OnErr, OnOk, IfOk};
 ghost use Rattle.std.specs.Option.{option_copied};
 ghost use Rattle.aos_symbols.specs.Home as home;
 
+use crate::entries::MOST_NUMBERS;
 use crate::scope::{Constant, Scope};
-use aos_tree::Items;
+use crate::spelling::bytes_between;
+use aos_tree::{Items, Text};
 use aos_types::TypeId;
 use indexmap::IndexMap;
 use std::alloc::{AllocError, Global};
@@ -32,19 +34,44 @@ pub struct Signature {
     pub gives: Gives,
 }
 
-/// A module's name, its text, its scopes, the signatures of its procedures, and the fields of the record types that it writes,
+/// A module's name, its text, the strings there, its scopes, the signatures of its procedures, and the fields of the record types that it writes,
 /// by the types' numbers: they are the variables of a scope. The first scope is the module's own; behind it come those of the
 /// types that it defines and then those of its procedures, each in the order of the text.
 #[derive(Drop)]
 pub struct Home<'a> {
     name: &'a [u8],
     text: &'a [u8],
+    strings: IndexMap<u32, u32>,
     scopes: Vec<Scope<'a>>,
     signatures: Vec<Signature>,
     records: IndexMap<u32, Scope<'a>>,
 }
 
+/// The strings of a text, by the places where they begin. More than 2^32 of them are want of memory.
+fn strings_of(alloc: Global, strings: &[Text]) -> Result<IndexMap<u32, u32>, AllocError>
+    ensures all { IfOk result (λ m. m.entries ≡ home.strings_of strings.now) }
+    ensures few { IfOk result (λ m. length m.entries ≤ 2 ^ 32) }
+{
+    let mut all = IndexMap::new(alloc);
+    if strings.len() > MOST_NUMBERS {
+        return Err(AllocError);
+    }
+    for string in strings {
+        all.insert(string.start, string.end)?;
+    }
+    Ok(all)
+}
+
+/// What stands between the quotes of a string.
+fn between_quotes(text: &[u8], start: u32, end: u32) -> &[u8]
+    ensures between { result.now ≡ home.between_quotes text.now (start, end) }
+    ensures short { length result.now < 2 ^ 32 }
+{
+    bytes_between(text, start as usize + 1, (end as usize).saturating_sub(1))
+}
+
 impl<'a> Model for Home<'a> {
+    ghost use Rattle.std.specs.Prelude.{◌≤◌, ◌^◌, length};
     ghost use Rattle.aos_symbols.specs.Home as home;
 
     ghost Value = { home.Home };
@@ -52,29 +79,75 @@ impl<'a> Model for Home<'a> {
     ghost view = { λ h. record {
       name = h.name.now;
       text = h.text.now;
+      strings = h.strings.entries;
       scopes = h.scopes.items;
       signatures = h.signatures.items;
       records = h.records.entries;
     } };
+
+    ghost invariant = { λ h. length h.strings.entries ≤ 2 ^ 32 };
 }
 
 impl<'a> Home<'a> {
-    /// A module of this name, with these scopes; no procedure has its signature yet, and no record type its fields.
-    pub fn new(alloc: Global, name: &'a [u8], text: &'a [u8], scopes: Vec<Scope<'a>>) -> Home<'a>
-        ensures { result ≡ record {
+    /// A module of this name, with this text and these strings and scopes; no procedure has its signature yet, and no record type
+    /// its fields.
+    pub fn new(
+        alloc: Global,
+        name: &'a [u8],
+        text: &'a [u8],
+        strings: &[Text],
+        scopes: Vec<Scope<'a>>,
+    ) -> Result<Home<'a>, AllocError>
+        ensures { IfOk result (λ h. h ≡ record {
           name = name.now;
           text = text.now;
+          strings = home.strings_of strings.now;
           scopes = scopes.entry.items;
           signatures = [];
           records = [];
-        } }
+        }) }
     {
-        Home {
+        Ok(Home {
             name,
             text,
+            strings: strings_of(alloc, strings)?,
             scopes,
             signatures: Vec::new(alloc),
             records: IndexMap::new(alloc),
+        })
+    }
+
+    /// The number of the string that begins at a place of the text with its quote.
+    pub fn string_number(&self, start: u32) -> Option<u32>
+        ensures { result ≡ home.string_number self.now start }
+    {
+        let number = self.strings.get_index_of(&start)?;
+        Some(number as u32)
+    }
+
+    /// How many strings there are: at most 2^32.
+    pub fn string_count(&self) -> usize
+        ensures count { result ≡ length self.now.strings }
+        ensures few { result ≤ 2 ^ 32 }
+    {
+        self.strings.len()
+    }
+
+    /// Whether there is a string with a number.
+    pub fn has_string(&self, number: u32) -> bool
+        ensures { result ≡ is_some (slice_get self.now.strings number) }
+    {
+        (number as usize) < self.string_count()
+    }
+
+    /// The bytes of the string with a number, between its quotes.
+    pub fn string(&self, number: u32) -> &'a [u8]
+        ensures bytes { result.now ≡ home.string_in self.now number }
+        ensures short { length result.now < 2 ^ 32 }
+    {
+        match self.strings.get_index(number as usize) {
+            Some((start, end)) => between_quotes(self.text, *start, *end),
+            None => &[],
         }
     }
 

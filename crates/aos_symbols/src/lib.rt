@@ -20,10 +20,10 @@ pub use breach::{
 pub use entries::{declare, home_of};
 pub use env::{
     ANY, BASIC_TYPES, BOOLEAN, CHAR, Env, Field, HUGEINT, INTEGER, LONGINT, Lookup, Open, SET,
-    SHORTINT, Symbol,
+    SHORTINT, Symbol, TEXT,
 };
 pub use home::{Gives, Home, Parameter, Signature};
 pub use laws::law_of_first;
 pub use names::check_names;
-pub use scope::{Constant, Entry, Function, Meaning, Scope};
+pub use scope::{Constant, Entry, Function, Meaning, Routine, Scope};
 pub use spelling::{are_same, is_active, is_procedure_of_out, is_word, word};

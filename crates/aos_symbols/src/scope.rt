@@ -29,27 +29,41 @@ pub enum Meaning {
     Truth(bool),
     /// A predeclared function.
     Function(Function),
-    /// The predeclared procedure NEW.
-    New,
-    /// Another predeclared procedure; none of them is built yet.
+    /// A predeclared procedure that gives no value.
+    Routine(Routine),
+    /// A procedure of module Out.
     Proper,
     /// Something else that isn't built yet.
     Other,
 }
 
-/// The predeclared functions but LEN (Oberon-2 report, 10.3).
+/// The predeclared functions (Oberon-2 report, 10.3).
 #[derive(Clone, Copy, PartialEq, Eq, Debug)]
 pub enum Function {
     Abs,
     Ash,
     Cap,
     Chr,
+    Len,
     Long,
     Max,
     Min,
     Odd,
     Ord,
     Short,
+}
+
+/// The predeclared procedures that give no value (Oberon-2 report, 10.3). Built are COPY and NEW.
+#[derive(Clone, Copy, PartialEq, Eq, Debug)]
+pub enum Routine {
+    Assert,
+    Copy,
+    Dec,
+    Excl,
+    Halt,
+    Inc,
+    Incl,
+    New,
 }
 
 /// A constant that is declared: where its name stands, and its value, which it has where its declaration breaks no rule.

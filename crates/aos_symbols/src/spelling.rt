@@ -1,7 +1,7 @@
 // The bytes of names, and the names of module Out.
 
 ghost use Rattle.std.specs.Prelude.{◌≡◌};
-ghost use Rattle.std.specs.List.{list_any};
+ghost use Rattle.std.specs.List.{list_any, slice_range};
 ghost use Rattle.std.specs.Str.{bytes_eq};
 ghost use Rattle.aos_symbols.specs.Spelling as spelling;
 
@@ -10,13 +10,20 @@ use aos_tree::{Modifier, Name};
 /// The procedures of module Out.
 const PROCEDURES_OF_OUT: [&str; 5] = ["Open", "Char", "String", "Int", "Ln"];
 
+/// The bytes of a text from one place to before another, so far as they are there.
+pub(crate) fn bytes_between(text: &[u8], start: usize, end: usize) -> &[u8]
+    ensures { result.now ≡ slice_range text.now start end }
+{
+    let end = text.len().min(end);
+    let start = end.min(start);
+    &text[start..end]
+}
+
 /// The bytes of a name in its text.
 pub fn word<'a>(text: &'a [u8], name: Name) -> &'a [u8]
     ensures { result.now ≡ spelling.word text.now name }
 {
-    let end = text.len().min(name.end as usize);
-    let start = end.min(name.start as usize);
-    &text[start..end]
+    bytes_between(text, name.start as usize, name.end as usize)
 }
 
 /// Whether a name is spelled so.

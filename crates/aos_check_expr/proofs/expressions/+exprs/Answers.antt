@@ -99,13 +99,9 @@ element-returns-in_ok-last-in-Some-clause-noted t c =
     let low = c.in_ok-first in
     let high = c.in_ok-last-in-Some in
     let is = element_is env at set c.args.part.now ∙ ap (λ l. element_as env at set x l) c.in-Some.is in
-    let span = judge.with_span at set in
-    let behind = λ (a : Answer). bind (judge.expr env y) (span a) in
     subst (λ z. OnOk c.with_span.result (c.with_span.new.found ≡ z))
-    (told.noted (behind (seen_answer low.first)) (judge.expr env y) (span (seen_answer low.first)) (seen_answer high.last) refl high.ensures.answer
-    c.expr.new.found c.expr-in-Some.new.found high.ensures.noted
-    ∙ told.noted (judge.element env at set c.args.part.now) (judge.expr env x) behind (seen_answer low.first) is low.ensures.answer
-    c.args.found.now c.expr.new.found low.ensures.noted)
+    (told.noted_two (judge.element env at set c.args.part.now) (judge.expr env x) (judge.expr env y) (judge.with_span at set) (seen_answer low.first) (seen_answer high.last) is
+    low.ensures.answer high.ensures.answer c.args.found.now c.expr.new.found c.expr-in-Some.new.found low.ensures.noted high.ensures.noted)
     c.with_span.ensures.noted
 
 pub shifted-returns-in_ok-by-in-len2-clause-noted : goal.shifted-returns-in_ok-by-in-len2-clause-noted
@@ -114,16 +110,13 @@ shifted-returns-in_ok-by-in-len2-clause-noted t c =
     let x = c.value-item.result in
     let y = c.places-item.result in
     let all = two_items c.args.arguments.now x y _ _ c.in-len2.len_at_least c.in-len2.len_below c.value-item.is c.places-item.is in
-    let of = judge.two_arguments c.args.first (out-Expr x).pos (out-Expr y).pos in
-    let behind = λ (a : Answer). bind (judge.expr env y) (of a) in
     let whole = judge.two_of c.args.first (map (judge.expr env) c.args.arguments.now) c.args.arguments.now in
     let is = ap (λ xs. judge.two_of c.args.first (map (judge.expr env) xs) xs) all in
     let one = c.in_ok-shifted-in-len2 in
     let two = c.in_ok-by-in-len2 in
     subst (λ z. OnOk c.value_of_two.result (c.value_of_two.new.found ≡ z))
-    (told.noted (behind (seen_answer one.shifted)) (judge.expr env y) (of (seen_answer one.shifted)) (seen_answer two.by) refl two.ensures.answer
-    c.expr.new.found c.expr-in-len2.new.found two.ensures.noted
-    ∙ told.noted whole (judge.expr env x) behind (seen_answer one.shifted) is one.ensures.answer c.args.found.now c.expr.new.found one.ensures.noted)
+    (told.noted_two whole (judge.expr env x) (judge.expr env y) (judge.two_arguments c.args.first (out-Expr x).pos (out-Expr y).pos) (seen_answer one.shifted) (seen_answer two.by) is
+    one.ensures.answer two.ensures.answer c.args.found.now c.expr.new.found c.expr-in-len2.new.found one.ensures.noted two.ensures.noted)
     c.value_of_two.ensures.noted
 
 pub shifted-returns-in_ok-by-in-len2-clause-answer : goal.shifted-returns-in_ok-by-in-len2-clause-answer
@@ -132,13 +125,37 @@ shifted-returns-in_ok-by-in-len2-clause-answer t c =
     let x = c.value-item.result in
     let y = c.places-item.result in
     let all = two_items c.args.arguments.now x y _ _ c.in-len2.len_at_least c.in-len2.len_below c.value-item.is c.places-item.is in
-    let of = judge.two_arguments c.args.first (out-Expr x).pos (out-Expr y).pos in
-    let behind = λ (a : Answer). bind (judge.expr env y) (of a) in
     let whole = judge.two_of c.args.first (map (judge.expr env) c.args.arguments.now) c.args.arguments.now in
     let is = ap (λ xs. judge.two_of c.args.first (map (judge.expr env) xs) xs) all in
     let one = c.in_ok-shifted-in-len2 in
     let two = c.in_ok-by-in-len2 in
     subst (λ z. IfOk c.value_of_two.result (λ r. seen_answer r ≡ z))
-    (told.answer (behind (seen_answer one.shifted)) (judge.expr env y) (of (seen_answer one.shifted)) (seen_answer two.by) refl two.ensures.answer
-    ∙ told.answer whole (judge.expr env x) behind (seen_answer one.shifted) is one.ensures.answer)
+    (told.answer_two whole (judge.expr env x) (judge.expr env y) (judge.two_arguments c.args.first (out-Expr x).pos (out-Expr y).pos) (seen_answer one.shifted) (seen_answer two.by) is one.ensures.answer two.ensures.answer)
     c.value_of_two.ensures.answer
+
+pub measured-returns-in_ok-dimension-in-len2-clause-noted : goal.measured-returns-in_ok-dimension-in-len2-clause-noted
+measured-returns-in_ok-dimension-in-len2-clause-noted t c =
+    let env = c.args.env.now in
+    let x = c.argument-item-then-arguments-lt3.result in
+    let y = c.number-item.result in
+    let all = two_items c.args.arguments.now x y _ _ c.in-len2.len_at_least c.in-len2.len_below c.argument-item-then-arguments-lt3.is c.number-item.is in
+    let whole = judge.len_of env c.args.first (map (judge.expr env) c.args.arguments.now) c.args.arguments.now in
+    let is = ap (λ xs. judge.len_of env c.args.first (map (judge.expr env) xs) xs) all in
+    let one = c.in_ok-array-in-len2 in
+    let two = c.in_ok-dimension-in-len2 in
+    c.len_in.ensures.noted
+    ∙ told.noted_two whole (judge.expr env x) (judge.expr env y) (judge.len_in env (out-Expr x).pos (out-Expr y).pos) (seen_answer one.array) (seen_answer two.dimension) is
+    one.ensures.answer two.ensures.answer c.args.found.now c.expr-in-len2.new.found c.expr-in-len2-2.new.found one.ensures.noted two.ensures.noted
+
+pub measured-returns-in_ok-dimension-in-len2-clause-answer : goal.measured-returns-in_ok-dimension-in-len2-clause-answer
+measured-returns-in_ok-dimension-in-len2-clause-answer t c =
+    let env = c.args.env.now in
+    let x = c.argument-item-then-arguments-lt3.result in
+    let y = c.number-item.result in
+    let all = two_items c.args.arguments.now x y _ _ c.in-len2.len_at_least c.in-len2.len_below c.argument-item-then-arguments-lt3.is c.number-item.is in
+    let whole = judge.len_of env c.args.first (map (judge.expr env) c.args.arguments.now) c.args.arguments.now in
+    let is = ap (λ xs. judge.len_of env c.args.first (map (judge.expr env) xs) xs) all in
+    let one = c.in_ok-array-in-len2 in
+    let two = c.in_ok-dimension-in-len2 in
+    c.len_in.ensures.answer
+    ∙ told.answer_two whole (judge.expr env x) (judge.expr env y) (judge.len_in env (out-Expr x).pos (out-Expr y).pos) (seen_answer one.array) (seen_answer two.dimension) is one.ensures.answer two.ensures.answer

@@ -1,9 +1,10 @@
 -- A module of the typed program, from its parts.
-use Rattle.std.proofs.Common.{slice_get, suc, length, Vec, Global, map, ap, ◌∙◌}
+use Rattle.std.proofs.Common.{ℕ, slice_get, suc, length, Vec, Global, map, ap, ◌∙◌}
 use Rattle.std.specs.List.{zip}
 use Rattle.aos_typed.specs.declared.tree.TStat.{TStat}
 use Rattle.aos_typed.specs.Seen.{seen_variable, seen_procedure, seen_stats}
 use Rattle.aos_symbols.specs.Declarations.{procedures, type_defs, single_variables}
+use Rattle.aos_symbols.specs.Home.{texts_of}
 use Rattle.aos_compile.specs.Modules as judge
 use Rattle.aos_compile.proofs.Passes.{stats_listed}
 use Rattle.aos_compile.proofs.modules.module_of.Goals as goal
@@ -23,7 +24,10 @@ returns c =
     ∙ ap (λ ds. judge.procedures_of e.here.text e.here.scopes (suc (length (type_defs ds))) (procedures ds) e.here.signatures bodies) c.as_slice-2.ensures in
     let body = seen_stats c.args.body.items in
     let told = map seen_procedure c.in_ok-procedures.procedures.items in
-    ap (λ n. record { name = n; variables = map seen_variable c.in_ok-variables.variables.items; procedures = told; body = body }) name
-    ∙ ap (λ vs. record { name = spelled; variables = vs; procedures = told; body = body }) declared
-    ∙ ap (λ ps. record { name = spelled; variables = variables; procedures = ps; body = body }) procedures
-    ∙ ap (λ b. record { name = spelled; variables = variables; procedures = procs; body = b }) (stats_listed c.args.body.items)
+    let given = map (λ (t : Vec ℕ Global). t.items) c.in_ok-texts.texts.items in
+    let texts = texts_of e.here in
+    ap (λ n. record { name = n; variables = map seen_variable c.in_ok-variables.variables.items; texts = given; procedures = told; body = body }) name
+    ∙ ap (λ vs. record { name = spelled; variables = vs; texts = given; procedures = told; body = body }) declared
+    ∙ ap (λ ts. record { name = spelled; variables = variables; texts = ts; procedures = told; body = body }) c.in_ok-texts.ensures
+    ∙ ap (λ ps. record { name = spelled; variables = variables; texts = texts; procedures = ps; body = body }) procedures
+    ∙ ap (λ b. record { name = spelled; variables = variables; texts = texts; procedures = procs; body = b }) (stats_listed c.args.body.items)
