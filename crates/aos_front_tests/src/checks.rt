@@ -12,7 +12,7 @@ use std::process::Abort;
 use std::test::Fail;
 
 /// Texts, and what their names, their headings and their body come to.
-const MODULES: [(&str, &str); 8] = [
+const MODULES: [(&str, &str); 9] = [
     ("MODULE M; END M.", "kept, kept, kept: []"),
     ("MODULE M; END N.", "12 at 15, kept, kept: []"),
     (
@@ -47,6 +47,12 @@ const MODULES: [(&str, &str); 8] = [
         "kept, kept, kept: [New(Pos { line: 1, col: 191 }, ModuleVar(0, 2), 2)]",
     ),
     (
+        "MODULE M; VAR a: ARRAY 4 OF CHAR; BEGIN a := \"abc\"; COPY(a, a) END M.",
+        "kept, kept, kept: [PutText(Pos { line: 1, col: 41 }, true, ModuleVar(0, 1), 4, \
+         ModuleVar(0, 0), 4), PutText(Pos { line: 1, col: 53 }, false, ModuleVar(0, 0), 4, \
+         ModuleVar(0, 0), 4)]",
+    ),
+    (
         "MODULE M; TYPE A = ARRAY 2, 0 OF CHAR; B = RECORD b: B END; END M.",
         "kept, 20 at 29, kept: []",
     ),
@@ -65,8 +71,9 @@ fn basic_types(alloc: Global) -> Result<Types, NoMemory> {
         TypeRow::Basic(Basic::Set),
         TypeRow::Basic(Basic::Nil),
         TypeRow::Any,
+        TypeRow::Basic(Basic::Text(0)),
     ] {
-        if types.len() < 9 {
+        if types.len() < 10 {
             types.add(row)?;
         }
     }

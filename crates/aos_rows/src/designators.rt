@@ -110,11 +110,6 @@ i := ABS(r) => 10: rule 35: argument type
 WHILE r DO END => 7: rule 37: condition not BOOLEAN
 Out.Int(r, 0) => 9: rule 35: argument type
 Out.Char(a) => 10: rule 35: argument type
-p := t = \"x\" => 8: rule 99: not built yet
-p := t = t => 8: rule 99: not built yet
-p := \"x\" < t => 10: rule 99: not built yet
-t := \"abc\" => 6: rule 99: not built yet
-t := \"x\" => 6: rule 99: not built yet
 v := r => 3: rule 31: value doesn't fit
 w := a => 3: rule 31: value doesn't fit
 a := w => 3: rule 31: value doesn't fit

@@ -308,12 +308,11 @@ NEW(l) => 1: rule 47: wrong NEW
 NEW(5) => 1: rule 47: wrong NEW
 NEW => 1: rule 34: number of arguments
 NEW(l, l) => 1: rule 34: number of arguments
-l := LEN(l) => 6: rule 99: not built yet
+l := LEN(l) => 10: rule 35: argument type
 l := NIL => 6: rule 99: not built yet
-Out.String(\"ab\") => 5: rule 99: not built yet
 INC(l) => 1: rule 99: not built yet
-x := \"ab\" => 6: rule 99: not built yet
-x := \"\" => 6: rule 99: not built yet
+x := \"ab\" => 3: rule 31: value doesn't fit
+x := \"\" => 3: rule 31: value doesn't fit
 l := SELF => 6: rule 99: not built yet";
 
 // A declaration, likewise.
@@ -324,7 +323,7 @@ VAR v: LONGINT; CONST c = v; => 27: rule 20: constant expression refused
 VAR v: LONGINT; CONST c = v + 1; => 27: rule 20: constant expression refused
 CONST c = 1 + c; => 11: rule 20: constant expression refused
 CONST c = LONGINT; => 11: rule 16: name of another kind
-CONST c = \"ab\"; => 11: rule 99: not built yet
+CONST c = \"ab\" + 1; => 16: rule 30: operand types
 CONST c = 1; c = 2; => 14: rule 13: name declared twice
 VAR a: ANY; => 8: rule 99: not built yet
 CONST c = ORD; => 11: rule 20: constant expression refused

@@ -17,3 +17,5 @@ mod replays;
 mod rows;
 #[cfg(test)]
 mod runs;
+#[cfg(test)]
+mod texts;

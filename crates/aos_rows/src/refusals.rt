@@ -58,7 +58,7 @@ fn refuses_texts(rt: HostRuntime) -> Result<(), Fail> {
         ),
         (
             "MODULE M; VAR a: LONGINT; BEGIN a := LEN(a) END M.",
-            "M.Mod:1:38: rule 99: not built yet\n",
+            "M.Mod:1:42: rule 35: argument type\n",
         ),
         (
             "MODULE M; VAR a: LONGINT; BEGIN a[1] := 2 END M.",
