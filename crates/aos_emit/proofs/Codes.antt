@@ -19,7 +19,7 @@ use Rattle.aos_code.specs.declared.image.ProcShape.{ProcShape}
 use Rattle.aos_code.specs.declared.image.ModuleDesc.{ModuleDesc}
 use Rattle.aos_code.specs.declared.image.TypeDesc.{TypeDesc}
 use Rattle.aos_sim.specs.Code.{body_code}
-use Rattle.aos_sim.specs.Need.{body_need}
+use Rattle.aos_sim.specs.Need.{body_need, keeps_of}
 use Rattle.aos_sim.specs.Shows.{numbers_from, text_cells, first_cells}
 use Rattle.aos_emit.specs.Made.{AreMade}
 
@@ -59,8 +59,8 @@ first_cells_are rows m = ap (λ l. map first_cell (leaves (row (variable_cells r
     seen (t ∷ ts) = ap (λ l. text_cells t.items ++ l) (seen ts)
 
 module _ (p : Program) where
-  pub more_module : (ms : List Module) (bs : List Body) (ss : List ProcShape) (ds : List ModuleDesc) (m : Module) (b : Body) (s : ProcShape) (d : ModuleDesc) → AreMade p ms [] bs ss ds [] → b.code.items ≡ body_code p m.body → b.depth ≡ body_need m.body → s.module ≡ length ms → s.result ≡ None → d.body ≡ length ms + 1 → d.cells.items ≡ first_cells p.types m → string_bytes d.name ≡ m.name → AreMade p (ms ++ m ∷ []) [] (bs ++ b ∷ []) (ss ++ s ∷ []) (ds ++ d ∷ []) []
-  more_module ms bs ss ds m b s d h code depth home nothing start cells name =
+  pub more_module : (ms : List Module) (bs : List Body) (ss : List ProcShape) (ds : List ModuleDesc) (m : Module) (b : Body) (s : ProcShape) (d : ModuleDesc) → AreMade p ms [] bs ss ds [] → b.code.items ≡ body_code p m.body → b.depth ≡ body_need m.body → s.module ≡ length ms → s.result ≡ None → s.keeps ≡ keeps_of m.body → d.body ≡ length ms + 1 → d.cells.items ≡ first_cells p.types m → string_bytes d.name ≡ m.name → AreMade p (ms ++ m ∷ []) [] (bs ++ b ∷ []) (ss ++ s ∷ []) (ds ++ d ∷ []) []
+  more_module ms bs ss ds m b s d h code depth home nothing keeps start cells name =
       let n0 : s.module ≡ 0 + length ms = omega arith in
       let n1 : d.body ≡ 1 + length ms = omega arith in
       record {
@@ -68,20 +68,22 @@ module _ (p : Program) where
         depths = more_before (λ (x : Body). x.depth) (λ (x : Module). body_need x.body) bs ms b m h.depths depth;
         homes = more (λ (x : ProcShape). x.module) ss _ s (0 + length ms) (h.homes ∙ append-nil _) n0 ∙ sym (numbers-append 0 ms m) ∙ sym (append-nil _);
         results = nothing_more ss s h.results nothing;
+        keeps = more_before (λ (x : ProcShape). x.keeps) (λ (x : Module). keeps_of x.body) ss ms s m h.keeps keeps;
         starts = more (λ (x : ModuleDesc). x.body) ds _ d (1 + length ms) h.starts n1 ∙ sym (numbers-append 1 ms m);
         types = refl;
         cells = more_of (λ (x : ModuleDesc). x.cells.items) (first_cells p.types) ds ms d m h.cells cells;
         names = more_of (λ (x : ModuleDesc). string_bytes x.name) (λ (x : Module). x.name) ds ms d m h.names name;
       }
 
-  pub more_object : (ms : List Module) (os : List ObjectType) (bs : List Body) (ss : List ProcShape) (ds : List ModuleDesc) (ts : List TypeDesc) (o : ObjectType) (b : Body) (s : ProcShape) (t : TypeDesc) → AreMade p ms os bs ss ds ts → b.code.items ≡ body_code p o.body → b.depth ≡ body_need o.body → s.module ≡ o.home → s.result ≡ None → t.body ≡ length ms + length os + 1 → AreMade p ms (os ++ o ∷ []) (bs ++ b ∷ []) (ss ++ s ∷ []) ds (ts ++ t ∷ [])
-  more_object ms os bs ss ds ts o b s t h code depth home nothing start =
+  pub more_object : (ms : List Module) (os : List ObjectType) (bs : List Body) (ss : List ProcShape) (ds : List ModuleDesc) (ts : List TypeDesc) (o : ObjectType) (b : Body) (s : ProcShape) (t : TypeDesc) → AreMade p ms os bs ss ds ts → b.code.items ≡ body_code p o.body → b.depth ≡ body_need o.body → s.module ≡ o.home → s.result ≡ None → s.keeps ≡ keeps_of o.body → t.body ≡ length ms + length os + 1 → AreMade p ms (os ++ o ∷ []) (bs ++ b ∷ []) (ss ++ s ∷ []) ds (ts ++ t ∷ [])
+  more_object ms os bs ss ds ts o b s t h code depth home nothing keeps start =
       let n : t.body ≡ suc (length ms) + length os = omega arith in
       record {
         bodies = more_behind (λ (x : Body). x.code.items) (λ (x : ObjectType). body_code p x.body) bs _ os b o h.bodies code;
         depths = more_behind (λ (x : Body). x.depth) (λ (x : ObjectType). body_need x.body) bs _ os b o h.depths depth;
         homes = more_behind (λ (x : ProcShape). x.module) (λ (x : ObjectType). x.home) ss _ os s o h.homes home;
         results = nothing_more ss s h.results nothing;
+        keeps = more_behind (λ (x : ProcShape). x.keeps) (λ (x : ObjectType). keeps_of x.body) ss _ os s o h.keeps keeps;
         starts = h.starts;
         types = more (λ (x : TypeDesc). x.body) ts _ t (suc (length ms) + length os) h.types n ∙ sym (numbers-append (suc (length ms)) os o);
         cells = h.cells;
@@ -101,16 +103,16 @@ module _ (p : Program) where
   count_of f xs k lt = let le : k ≤ length xs = omega arith in length-map (take k xs) f ∙ length-take-le k xs le
 
   -- the same for the modules up to one, in a list
-  pub more_module_of : (ms : List TModule) (k : ℕ) (m : TModule) (bs bs' : List Body) (ss ss' : List ProcShape) (ds ds' : List ModuleDesc) (ts : List TypeDesc) (b : Body) (s : ProcShape) (d : ModuleDesc) → k < length ms → m ≡ get_or ms k m → AreMade p (map seen_module (take k ms)) [] bs ss ds ts → ts ≡ [] → bs' ≡ bs ++ b ∷ [] → ss' ≡ ss ++ s ∷ [] → ds' ≡ ds ++ d ∷ [] → b.code.items ≡ body_code p (seen_stats m.body.items) → b.depth ≡ body_need (seen_stats m.body.items) → s.module ≡ k → s.result ≡ None → d.body ≡ k + 1 → d.cells.items ≡ first_cells p.types (seen_module m) → string_bytes d.name ≡ string_bytes m.name → AreMade p (map seen_module (take (k + 1) ms)) [] bs' ss' ds' ts
-  more_module_of ms k m bs bs' ss ss' ds ds' ts b s d lt at h et eb es ed code depth home nothing start cells name =
+  pub more_module_of : (ms : List TModule) (k : ℕ) (m : TModule) (bs bs' : List Body) (ss ss' : List ProcShape) (ds ds' : List ModuleDesc) (ts : List TypeDesc) (b : Body) (s : ProcShape) (d : ModuleDesc) → k < length ms → m ≡ get_or ms k m → AreMade p (map seen_module (take k ms)) [] bs ss ds ts → ts ≡ [] → bs' ≡ bs ++ b ∷ [] → ss' ≡ ss ++ s ∷ [] → ds' ≡ ds ++ d ∷ [] → b.code.items ≡ body_code p (seen_stats m.body.items) → b.depth ≡ body_need (seen_stats m.body.items) → s.module ≡ k → s.result ≡ None → s.keeps ≡ keeps_of (seen_stats m.body.items) → d.body ≡ k + 1 → d.cells.items ≡ first_cells p.types (seen_module m) → string_bytes d.name ≡ string_bytes m.name → AreMade p (map seen_module (take (k + 1) ms)) [] bs' ss' ds' ts
+  more_module_of ms k m bs bs' ss ss' ds ds' ts b s d lt at h et eb es ed code depth home nothing keeps start cells name =
       let len = count_of seen_module ms k lt in
       let now = subst (λ l. AreMade p (map seen_module (take k ms)) [] bs ss ds l) et h in
-      let all = more_module (map seen_module (take k ms)) bs ss ds (seen_module m) b s d now code depth (home ∙ sym len) nothing (start ∙ ap (λ n. n + 1) (sym len)) cells name in
+      let all = more_module (map seen_module (take k ms)) bs ss ds (seen_module m) b s d now code depth (home ∙ sym len) nothing keeps (start ∙ ap (λ n. n + 1) (sym len)) cells name in
       along _ _ _ _ _ _ _ _ _ _ _ _ (next_of seen_module ms k m lt at) refl eb es ed et all
 
   -- and for the object types
-  pub more_object_of : (ms : List Module) (count : ℕ) (os : List TObject) (k : ℕ) (o : TObject) (bs bs' : List Body) (ss ss' : List ProcShape) (ds : List ModuleDesc) (ts ts' : List TypeDesc) (b : Body) (s : ProcShape) (t : TypeDesc) → length ms ≡ count → k < length os → o ≡ get_or os k o → AreMade p ms (map seen_object (take k os)) bs ss ds ts → bs' ≡ bs ++ b ∷ [] → ss' ≡ ss ++ s ∷ [] → ts' ≡ ts ++ t ∷ [] → b.code.items ≡ body_code p (seen_stats o.body.items) → b.depth ≡ body_need (seen_stats o.body.items) → s.module ≡ o.home → s.result ≡ None → t.body ≡ count + k + 1 → AreMade p ms (map seen_object (take (k + 1) os)) bs' ss' ds ts'
-  more_object_of ms count os k o bs bs' ss ss' ds ts ts' b s t many lt at h eb es et code depth home nothing start =
+  pub more_object_of : (ms : List Module) (count : ℕ) (os : List TObject) (k : ℕ) (o : TObject) (bs bs' : List Body) (ss ss' : List ProcShape) (ds : List ModuleDesc) (ts ts' : List TypeDesc) (b : Body) (s : ProcShape) (t : TypeDesc) → length ms ≡ count → k < length os → o ≡ get_or os k o → AreMade p ms (map seen_object (take k os)) bs ss ds ts → bs' ≡ bs ++ b ∷ [] → ss' ≡ ss ++ s ∷ [] → ts' ≡ ts ++ t ∷ [] → b.code.items ≡ body_code p (seen_stats o.body.items) → b.depth ≡ body_need (seen_stats o.body.items) → s.module ≡ o.home → s.result ≡ None → s.keeps ≡ keeps_of (seen_stats o.body.items) → t.body ≡ count + k + 1 → AreMade p ms (map seen_object (take (k + 1) os)) bs' ss' ds ts'
+  more_object_of ms count os k o bs bs' ss ss' ds ts ts' b s t many lt at h eb es et code depth home nothing keeps start =
       let len = count_of seen_object os k lt in
-      let all = more_object ms (map seen_object (take k os)) bs ss ds ts (seen_object o) b s t h code depth home nothing (start ∙ ap (λ n. n + k + 1) (sym many) ∙ ap (λ n. length ms + n + 1) (sym len)) in
+      let all = more_object ms (map seen_object (take k os)) bs ss ds ts (seen_object o) b s t h code depth home nothing keeps (start ∙ ap (λ n. n + k + 1) (sym many) ∙ ap (λ n. length ms + n + 1) (sym len)) in
       along _ _ _ _ _ _ _ _ _ _ _ _ refl (next_of seen_object os k o lt at) eb es refl et all

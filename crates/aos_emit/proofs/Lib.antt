@@ -1,7 +1,7 @@
 pub mod Patch
+pub mod Pending
 pub mod Codes
 pub mod Forth
-pub mod Parts
 pub mod Heights
 pub mod Found
 pub mod Fields

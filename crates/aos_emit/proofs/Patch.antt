@@ -1,45 +1,91 @@
--- A loop's code, of which the jump behind the test is written after the instructions that it passes.
-use Rattle.std.proofs.Common.{◌≡◌, ℕ, ◌+◌, List, [], ◌∷◌, ◌++◌, length, ap, ◌∙◌, arith, append_assoc, length-append}
+-- Code of which jumps forward are written after the instructions that they pass.
+use Rattle.std.proofs.Common.{◌≡◌, ℕ, suc, ℤ, ◌+◌, ◌*◌, List, [], ◌∷◌, ◌++◌, length, take, drop, map, sym, ap, ◌∙◌, arith, append_assoc, length-append}
 use Rattle.std.specs.Prelude.{slice_set}
-use Rattle.std.specs.declared.vec.Vec.{Vec}
-use Rattle.std.specs.declared.alloc.Global.{Global}
 use Rattle.std.proofs.Math.Seq.{set-append_seam}
-use Rattle.aos_base.specs.declared.text.Pos.{Pos}
-use Rattle.aos_typed.specs.declared.tree.TExpr.{TExpr}
+use Rattle.std.proofs.lemmas.List.{take_at, drop_at}
 use Rattle.aos_typed.specs.declared.tree.TStat.{TStat}
-use Rattle.aos_typed.specs.declared.tree.TStat.TheViews as code
-use Rattle.aos_typed.specs.Seen.{seen_expr, seen_stat, seen_stats}
-use Rattle.aos_typed.proofs.Seen.{while_seen}
-use Rattle.aos_typed.specs.Program.{Program}
+use Rattle.aos_base.specs.declared.text.Pos.{Pos}
+use Rattle.aos_base.specs.declared.number.Width.{Width}
+use Rattle.aos_base.specs.declared.operator.Binary.TheVariants.{Cmp}
+use Rattle.aos_typed.specs.declared.tree.TType.TheVariants.{Integer}
+use Rattle.aos_typed.specs.declared.tree.LabelRange.{LabelRange}
+use Rattle.aos_typed.specs.Meaning.{until}
+use Rattle.aos_typed.specs.Program.{Place, Read, Stat, Stats, Cases, OfLabels, Program}
+use Rattle.aos_typed.specs.Seen.{seen_stat}
 use Rattle.aos_code.specs.declared.instr.Instr.{Instr}
-use Rattle.aos_code.specs.declared.instr.Instr.TheVariants.{JumpFalse, Jump}
-use Rattle.aos_sim.specs.Code.{begin, value_code, while_code, stat_code, stats_code}
+use Rattle.aos_code.specs.declared.instr.Instr.TheVariants.{Kept, Binary, Jump, JumpFalse}
+use Rattle.aos_code.specs.declared.instr.Kind.TheVariants.{N}
+use Rattle.aos_sim.specs.Code.{begin, value_code, step_code, body_place, rounds_with, labels_code, case_code, stat_code, stats_code, cases_code}
+use Rattle.aos_sim.proofs.Sizes.{labels_length}
+use Rattle.aos_emit.specs.Redirect.{pending_exit, pending_end, redirect, redirect_behind}
 
-pub while_is : (p : Program) (here : Pos) (e : TExpr) (b : Vec TStat Global) (at : ℕ) → let c1 = value_code p (seen_expr e) (at + 1) in stat_code p (seen_stat (code.While here e b)) at ≡ while_code here c1 (stats_code p (seen_stats b.items) (at + 1 + length c1 + 1)) at
-while_is p here e b at = ap (λ s. stat_code p s at) (while_seen here e b)
+-- code behind other code
+pub followed : (base c1 c2 front : List Instr) (back : ℕ → List Instr) → c1 ≡ base ++ front → c2 ≡ c1 ++ back (length c1) → c2 ≡ base ++ (front ++ back (length base + length front))
+followed base c1 c2 front back e f =
+    let n = ap length e ∙ length-append base front in
+    f ∙ ap (λ m. c1 ++ back m) n ∙ ap (λ l. l ++ back (length base + length front)) e ∙ append_assoc base front (back (length base + length front))
 
-pub patch_while : (base : List Instr) (here : Pos) (ce cb : ℕ → List Instr) (c1 c2 c3 c4 c5 : List Instr) (x : Instr) (n0 n1 n2 : ℕ) → n0 ≡ length base → c1 ≡ base ++ begin here ∷ [] → c2 ≡ c1 ++ ce (length c1) → n1 ≡ length c2 → c3 ≡ c2 ++ x ∷ [] → c4 ≡ c3 ++ cb (length c3) → c5 ≡ c4 ++ Jump n0 ∷ [] → n2 ≡ length c5 → let e = ce (length base + 1) in slice_set c5 n1 (JumpFalse n2) ≡ base ++ while_code here e (cb (length base + 1 + length e + 1)) (length base)
-patch_while base here ce cb c1 c2 c3 c4 c5 x n0 n1 n2 m0 e1 e2' m1 e3 e4' e5 m2 =
-    let l1 = ap length e1 ∙ length-append base (begin here ∷ []) in
-    let p1 : length c1 ≡ length base + 1 = omega arith in
-    let e = ce (length base + 1) in
-    let e2 = e2' ∙ ap (λ n. c1 ++ ce n) p1 in
-    let l2 = ap length e2 ∙ length-append c1 e in
-    let l3 = ap length e3 ∙ length-append c2 (x ∷ []) in
-    let pb = length base + 1 + length e + 1 in
-    let p3 : length c3 ≡ pb = omega arith in
-    let b = cb pb in
-    let e4 = e4' ∙ ap (λ n. c3 ++ cb n) p3 in
-    let l4 = ap length e4 ∙ length-append c3 b in
-    let l5 = ap length e5 ∙ length-append c4 (Jump n0 ∷ []) in
-    let d : n2 ≡ pb + length b + 1 = omega arith in
-    let i = JumpFalse n2 in
-    let all : c5 ≡ ((c2 ++ x ∷ []) ++ b) ++ Jump n0 ∷ [] = cc in
-    let flat : ((c2 ++ x ∷ []) ++ b) ++ Jump n0 ∷ [] ≡ c2 ++ x ∷ (b ++ Jump n0 ∷ []) = simp append_assoc in
-    let front : c2 ++ i ∷ (b ++ Jump n0 ∷ []) ≡ base ++ (begin here ∷ (e ++ i ∷ (b ++ Jump n0 ∷ []))) = ap (λ l. l ++ i ∷ (b ++ Jump n0 ∷ [])) (e2 ∙ ap (λ l. l ++ e) e1) ∙ simp append_assoc in
-    ap (λ l. slice_set l n1 i) (all ∙ flat)
-    ∙ ap (λ n. slice_set (c2 ++ x ∷ (b ++ Jump n0 ∷ [])) n i) m1
-    ∙ set-append_seam c2 x (b ++ Jump n0 ∷ []) i
-    ∙ front
-    ∙ ap (λ n. base ++ (begin here ∷ (e ++ JumpFalse n ∷ (b ++ Jump n0 ∷ [])))) d
-    ∙ ap (λ n. base ++ (begin here ∷ (e ++ JumpFalse (pb + length b + 1) ∷ (b ++ Jump n ∷ [])))) m0
+-- an instruction between front and back that is written when the code behind it is there, and the last one, behind that code
+pub patched : (base front : List Instr) (inside : ℕ → List Instr) (c1 c2 c3 c4 : List Instr) (x last : Instr) (over : ℕ → Instr) (n1 n2 : ℕ) → c1 ≡ base ++ front → n1 ≡ length c1 → c2 ≡ c1 ++ x ∷ [] → c3 ≡ c2 ++ inside (length c2) → c4 ≡ c3 ++ last ∷ [] → n2 ≡ length c4 → let first = length base + length front + 1 in slice_set c4 n1 (over n2) ≡ base ++ (front ++ (over (first + length (inside first) + 1) ∷ (inside first ++ (last ∷ []))))
+patched base front inside c1 c2 c3 c4 x last over n1 n2 e1 m1 e2 e3 e4 m2 =
+    let first = length base + length front + 1 in
+    let b = inside first in
+    let l1 = ap length e1 ∙ length-append base front in
+    let l2 = ap length e2 ∙ length-append c1 (x ∷ []) in
+    let p2 : length c2 ≡ first = omega (arith, l1, l2) in
+    let f3 = e3 ∙ ap (λ n. c2 ++ inside n) p2 in
+    let l3 = ap length f3 ∙ length-append c2 b in
+    let l4 = ap length e4 ∙ length-append c3 (last ∷ []) in
+    let d : n2 ≡ first + length b + 1 = omega (arith, m2, p2, l3, l4) in
+    let all : c4 ≡ c1 ++ x ∷ (b ++ last ∷ []) = e4 ∙ ap (λ l. l ++ last ∷ []) (f3 ∙ ap (λ l. l ++ b) e2 ∙ append_assoc c1 (x ∷ []) b) ∙ append_assoc c1 (x ∷ b) (last ∷ []) in
+    ap (λ l. slice_set l n1 (over n2)) all
+    ∙ ap (λ n. slice_set (c1 ++ x ∷ (b ++ last ∷ [])) n (over n2)) m1
+    ∙ set-append_seam c1 x (b ++ last ∷ []) (over n2)
+    ∙ ap (λ l. l ++ over n2 ∷ (b ++ last ∷ [])) e1
+    ∙ append_assoc base front (over n2 ∷ (b ++ last ∷ []))
+    ∙ ap (λ n. base ++ (front ++ (over n ∷ (b ++ last ∷ [])))) d
+
+-- one more arm of CASE
+pub choice_more : (p : Program) (base code : List Instr) (rs : List LabelRange) (ss : Stats) (rest : Cases) (d : ℕ) → let hit = length base + 9 * length rs + 1 in let b = stats_code p ss hit pending_exit d in code ≡ base ++ case_code (labels_code rs d (length base) hit) b (hit + length b + 1) pending_end [] → code ++ cases_code p rest (length code) pending_end pending_exit d ≡ base ++ cases_code p (OfLabels rs ss rest) (length base) pending_end pending_exit d
+choice_more p base code rs ss rest d e =
+    let hit = length base + 9 * length rs + 1 in
+    let b = stats_code p ss hit pending_exit d in
+    let next = hit + length b + 1 in
+    let ls = labels_code rs d (length base) hit in
+    let arm = ls ++ (Jump next ∷ (b ++ (Jump pending_end ∷ []))) in
+    let more : ℕ → List Instr = λ n. cases_code p rest n pending_end pending_exit d in
+    let long = ap length e ∙ length-append base arm in
+    let n : length code ≡ next = omega (arith, long, labels_length rs d (length base) hit, length-append ls (Jump next ∷ (b ++ (Jump pending_end ∷ []))), length-append b (Jump pending_end ∷ [])) in
+    ap (λ m. code ++ more m) n
+    ∙ ap (λ l. l ++ more next) e
+    ∙ append_assoc base arm (more next)
+    ∙ ap (λ l. base ++ l) (append_assoc ls (Jump next ∷ (b ++ (Jump pending_end ∷ []))) (more next))
+    ∙ ap (λ l. base ++ (ls ++ (Jump next ∷ l))) (append_assoc b (Jump pending_end ∷ []) (more next))
+
+-- code whose pending number is redirected
+pub ended : (base code : List Instr) (of : ℕ → List Instr) (p from to : ℕ) → code ≡ base ++ of p → from ≡ length base → map (redirect p to) (of p) ≡ of to → redirect_behind from p to code ≡ base ++ of to
+ended base code of p from to e n known =
+    ap (redirect_behind from p to) e
+    ∙ (λ i. take_at base (of p) from (sym n) i ++ map (redirect p to) (drop_at base (of p) from (sym n) i))
+    ∙ ap (λ l. base ++ l) known
+
+-- a round of a FOR, with its test, its statements and its step
+pub round_is : (p : Program) (here : Pos) (w : Width) (q : Place) (step : ℤ) (b : ℕ → List Instr) (base : List Instr) (d start : ℕ) → start ≡ length base → let test = value_code p (Read (Integer w) q) (length base + 1) ++ (Kept d N ∷ (Binary (Cmp (until step)) ∷ [])) in let first = length base + suc (length test) + 1 in let inside = b first ++ step_code p here w q step (first + length (b first)) in base ++ ((begin here ∷ test) ++ (JumpFalse (first + length inside + 1) ∷ (inside ++ (Jump start ∷ [])))) ≡ base ++ rounds_with p here w q step (b (body_place p w q (length base))) (length base) d
+round_is p here w q step b base d start e =
+    let at = length base in
+    let v = value_code p (Read (Integer w) q) (at + 1) in
+    let tail = Kept d N ∷ (Binary (Cmp (until step)) ∷ []) in
+    let test = v ++ tail in
+    let first = at + suc (length test) + 1 in
+    let next : ℕ → List Instr = λ m. step_code p here w q step (m + length (b m)) in
+    let same : first ≡ body_place p w q at = omega (arith, length-append v tail) in
+    let end : first + length (b first ++ next first) + 1 ≡ at + 1 + length test + 1 + length (b first) + length (next first) + 1 = omega (arith, length-append (b first) (next first)) in
+    let round : ℕ → List Instr = λ m. base ++ (begin here ∷ (test ++ (JumpFalse (at + 1 + length test + 1 + length (b m) + length (next m) + 1) ∷ (b m ++ (next m ++ Jump at ∷ []))))) in
+    ap (λ n. base ++ (begin here ∷ (test ++ (JumpFalse n ∷ ((b first ++ next first) ++ Jump start ∷ []))))) end
+    ∙ ap (λ n. base ++ (begin here ∷ (test ++ (JumpFalse (at + 1 + length test + 1 + length (b first) + length (next first) + 1) ∷ ((b first ++ next first) ++ Jump n ∷ []))))) e
+    ∙ ap (λ l. base ++ (begin here ∷ (test ++ (JumpFalse (at + 1 + length test + 1 + length (b first) + length (next first) + 1) ∷ l)))) (append_assoc (b first) (next first) (Jump at ∷ []))
+    ∙ ap round same
+
+-- the code of what a statement is seen as
+pub emitted : (p : Program) (base all : List Instr) (level : ℕ) (s : TStat) (x y : Stat) → x ≡ y → seen_stat s ≡ y → all ≡ base ++ stat_code p x (length base) pending_exit level → all ≡ base ++ stat_code p (seen_stat s) (length base) pending_exit level
+emitted p base all level s x y e seen is = is ∙ ap (λ z. base ++ stat_code p z (length base) pending_exit level) (e ∙ sym seen)

@@ -1,4 +1,5 @@
 pub mod Back
 pub mod Forwards
+pub mod Redirect
 pub mod Laid
 pub mod Made

@@ -8,7 +8,7 @@ use Rattle.aos_code.specs.declared.image.ModuleDesc.{ModuleDesc}
 use Rattle.aos_code.specs.declared.image.TypeDesc.{TypeDesc}
 use Rattle.aos_code.specs.declared.image.Image.{Image}
 use Rattle.aos_sim.specs.Code.{body_code}
-use Rattle.aos_sim.specs.Need.{body_need}
+use Rattle.aos_sim.specs.Need.{body_need, keeps_of}
 use Rattle.aos_sim.specs.Shows.{numbers_from, first_cells}
 
 -- these bodies, shapes and descriptions are those of these modules and object types, and each body has as many operands at most
@@ -18,6 +18,7 @@ pub record AreMade (p : Program) (modules : List Module) (objects : List ObjectT
   pub depths : map (λ b. b.depth) bs ≡ map (λ m. body_need m.body) modules ++ map (λ o. body_need o.body) objects
   pub homes : map (λ s. s.module) ss ≡ numbers_from 0 modules ++ map (λ o. o.home) objects
   pub results : All (λ s. s.result ≡ None) ss
+  pub keeps : map (λ s. s.keeps) ss ≡ map (λ m. keeps_of m.body) modules ++ map (λ o. keeps_of o.body) objects
   pub starts : map (λ d. d.body) ds ≡ numbers_from 1 modules
   pub types : map (λ t. t.body) ts ≡ numbers_from (suc (length modules)) objects
   pub cells : map (λ d. d.cells.items) ds ≡ map (first_cells p.types) modules

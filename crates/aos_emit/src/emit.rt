@@ -1,48 +1,51 @@
-// From typed statements to instructions: what is emitted is the code that the definitions give.
+// From typed designators and expressions to instructions: what is emitted is the code that the definitions give.
 
-ghost use Rattle.std.specs.Prelude.{◌≡◌, ◌+◌, ◌<◌, ◌^◌, [], ◌∷◌, ◌++◌, length, pos, IfOk, OnOk};
+ghost use Rattle.std.specs.Prelude.{◌≡◌, ◌+◌, ◌<◌, [], ◌∷◌, ◌++◌, length, pos, IfOk, OnOk};
 ghost use Rattle.aos_base.specs.declared.operator.Binary.TheVariants as binary;
-ghost use Rattle.aos_typed.specs.WellTyped.{IsStatement, AreStatements};
-ghost use Rattle.aos_typed.specs.Seen.{seen_program, seen_place, seen_expr, seen_call, seen_stat, seen_stats};
+ghost use Rattle.aos_typed.specs.Seen.{seen_program, seen_place, seen_expr};
 ghost use Rattle.aos_emit.specs.Back.{back_place, back_code, placed};
 ghost use Rattle.aos_emit.specs.Forwards.{forwards};
-ghost use Rattle.aos_sim.specs.Need.{body_need};
-ghost use Rattle.aos_sim.specs.Code.{begin, literal_code, kind_of, with_length, place_code, value_code, out_code, new_code, while_code, stat_code, stats_code, body_code};
+ghost use Rattle.aos_emit.specs.Redirect.{pending_end};
+ghost use Rattle.aos_sim.specs.Code.{literal_code, kind_of, with_length, place_code, value_code};
 
 use crate::laid::Laid;
-use crate::need::stats_need;
-use aos_base::{Binary, Pos, Relation, Unary, truth};
-use aos_code::{Body, Instr, Kind};
-use aos_typed::{Literal, OutCall, TExpr, TPlace, TStat, TType};
+use aos_base::{Binary, Relation, Unary, truth};
+use aos_code::{Instr, Kind};
+use aos_typed::{Literal, TExpr, TPlace, TType};
 use std::alloc::{AllocError, Global};
 
-// One more instruction.
-fn put(code: &mut Vec<Instr>, instr: Instr) -> Result<(), AllocError>
+/// The number that a jump to the end of a statement has until that is known: no instruction has it.
+pub const PENDING_END: u32 = 4294967294;
+
+/// One more instruction.
+pub fn put(code: &mut Vec<Instr>, instr: Instr) -> Result<(), AllocError>
     ensures { OnOk result (code.new.items ≡ code.old.items ++ instr ∷ []) }
 {
     code.push(instr)?;
     Ok(())
 }
 
-// The number of an instruction. Code of 2^32 instructions and more is want of memory.
-fn number_of(place: usize) -> Result<u32, AllocError>
-    ensures { IfOk result (λ n. n ≡ place) }
+/// The number of an instruction. Code of 2^32 - 2 instructions and more is want of memory.
+pub fn number_of(place: usize) -> Result<u32, AllocError>
+    ensures is { IfOk result (λ n. n ≡ place) }
+    ensures few { IfOk result (λ n. place < pending_end) }
 {
-    match u32::try_from(place) {
-        Ok(number) => Ok(number),
-        Err(_) => Err(AllocError),
+    if place >= PENDING_END as usize {
+        return Err(AllocError);
     }
+    Ok(place as u32)
 }
 
-// The number of the next instruction.
-fn next_place(code: &[Instr]) -> Result<u32, AllocError>
-    ensures { IfOk result (λ n. n ≡ length code.now) }
+/// The number of the next instruction.
+pub fn next_place(code: &[Instr]) -> Result<u32, AllocError>
+    ensures is { IfOk result (λ n. n ≡ length code.now) }
+    ensures few { IfOk result (λ n. length code.now < pending_end) }
 {
     number_of(code.len())
 }
 
-// The kind of what a variable of this type holds.
-fn cell_kind(of: TType) -> Kind
+/// The kind of what a variable of this type holds.
+pub fn cell_kind(of: TType) -> Kind
     ensures { result ≡ kind_of of }
 {
     match of {
@@ -64,12 +67,6 @@ fn literal_instr(literal: Literal) -> Instr
         Literal::Set(s) => Instr::Num(i64::from(s)),
         Literal::Text(text) => Instr::Num(i64::from(text.first)),
     }
-}
-
-fn emit_begin(code: &mut Vec<Instr>, at: Pos) -> Result<(), AllocError>
-    ensures { OnOk result (code.new.items ≡ code.old.items ++ begin at ∷ []) }
-{
-    put(code, Instr::Begin(at.line, at.col))
 }
 
 // The code of a designator, from its last instruction to its first. A long designator has as many parts, one in another: the
@@ -268,7 +265,8 @@ fn put_forwards(code: &mut Vec<Instr>, mut back: Vec<Instr>) -> Result<(), Alloc
     Ok(())
 }
 
-fn emit_place(
+/// The code of a designator.
+pub fn emit_place(
     alloc: Global,
     program: &Laid<'_>,
     code: &mut Vec<Instr>,
@@ -282,8 +280,8 @@ fn emit_place(
     put_forwards(code, back)
 }
 
-// A text: its place, and how many elements are there.
-fn emit_text(
+/// A text: its place, and how many elements are there.
+pub fn emit_text(
     alloc: Global,
     program: &Laid<'_>,
     code: &mut Vec<Instr>,
@@ -297,7 +295,8 @@ fn emit_text(
     put(code, Instr::Num(i64::from(elements)))
 }
 
-fn emit_value(
+/// The code of an expression.
+pub fn emit_value(
     alloc: Global,
     program: &Laid<'_>,
     code: &mut Vec<Instr>,
@@ -309,163 +308,4 @@ fn emit_value(
     let mut back = Vec::new(alloc);
     emit_back(program, &mut back, value)?;
     put_forwards(code, back)
-}
-
-fn emit_out(
-    alloc: Global,
-    program: &Laid<'_>,
-    code: &mut Vec<Instr>,
-    call: &OutCall,
-) -> Result<(), AllocError>
-    ensures { OnOk result (code.new.items ≡ code.old.items ++
-        out_code (seen_program program.now) (seen_call call.now) (length code.old.items)) }
-{
-    match call {
-        OutCall::Open => put(code, Instr::OutOpen),
-        OutCall::Char(value) => {
-            emit_value(alloc, program, code, value)?;
-            put(code, Instr::OutChar)
-        }
-        OutCall::Int(value, places) => {
-            emit_value(alloc, program, code, value)?;
-            emit_value(alloc, program, code, places)?;
-            put(code, Instr::OutInt)
-        }
-        OutCall::String(place, elements) => {
-            emit_text(alloc, program, code, place, *elements)?;
-            put(code, Instr::OutString)
-        }
-        OutCall::Ln => put(code, Instr::OutLn),
-    }
-}
-
-// The object is stored before its activity is started.
-fn emit_new(
-    alloc: Global,
-    program: &Laid<'_>,
-    code: &mut Vec<Instr>,
-    place: &TPlace,
-    object: u32,
-) -> Result<(), AllocError>
-    requires { object + 1 < 2 ^ 32 }
-    ensures { OnOk result (code.new.items ≡ code.old.items ++
-        new_code (seen_program program.now) (seen_place place.now) object (length code.old.items)) }
-{
-    put(code, Instr::NewObject(object + 1))?;
-    put(code, Instr::Dup)?;
-    emit_place(alloc, program, code, place)?;
-    put(code, Instr::Swap)?;
-    put(code, Instr::Store(Kind::R))?;
-    put(code, Instr::Start)
-}
-
-// A loop. The jump behind its test is told its target when the loop's end is known.
-#[cycle(emit_stat)]
-fn emit_while(
-    alloc: Global,
-    program: &Laid<'_>,
-    code: &mut Vec<Instr>,
-    at: Pos,
-    condition: &TExpr,
-    body: &[TStat],
-) -> Result<(), AllocError>
-    requires few { length program.now.objects.items < 2 ^ 32 }
-    requires typed { AreStatements (seen_program program.now) (seen_stats body.now) }
-    ensures { OnOk result (let test = value_code (seen_program program.now) (seen_expr condition.now) (length code.old.items + 1) in
-        code.new.items ≡ code.old.items ++ while_code at test
-        (stats_code (seen_program program.now) (seen_stats body.now) (length code.old.items + 1 + length test + 1))
-        (length code.old.items)) }
-{
-    let start = next_place(code)?;
-    emit_begin(code, at)?;
-    emit_value(alloc, program, code, condition)?;
-    let test_end = code.len();
-    put(code, Instr::JumpFalse(0))?;
-    emit_stats(alloc, program, code, body)?;
-    put(code, Instr::Jump(start))?;
-    let end = next_place(code)?;
-    code[test_end] = Instr::JumpFalse(end);
-    Ok(())
-}
-
-#[cycle(emit_stat)]
-fn emit_stat(
-    alloc: Global,
-    program: &Laid<'_>,
-    code: &mut Vec<Instr>,
-    statement: &TStat,
-) -> Result<(), AllocError>
-    requires few { length program.now.objects.items < 2 ^ 32 }
-    requires typed { IsStatement (seen_program program.now) (seen_stat statement.now) }
-    ensures { OnOk result (code.new.items ≡ code.old.items ++
-        stat_code (seen_program program.now) (seen_stat statement.now) (length code.old.items)) }
-{
-    match statement {
-        TStat::Assign(at, of, place, value) => {
-            emit_begin(code, *at)?;
-            emit_place(alloc, program, code, place)?;
-            emit_value(alloc, program, code, value)?;
-            put(code, Instr::Store(cell_kind(*of)))
-        }
-        TStat::Copy(at, of, to, from) => {
-            emit_begin(code, *at)?;
-            emit_place(alloc, program, code, to)?;
-            emit_place(alloc, program, code, from)?;
-            put(code, Instr::Copy(program.cells_of(*of)))
-        }
-        TStat::PutText(at, strict, from, elements, to, room) => {
-            emit_begin(code, *at)?;
-            emit_text(alloc, program, code, from, *elements)?;
-            emit_text(alloc, program, code, to, *room)?;
-            put(code, Instr::PutText(*strict))
-        }
-        TStat::While(at, condition, body) => {
-            emit_while(alloc, program, code, *at, condition, body)
-        }
-        TStat::New(at, place, object) => {
-            emit_begin(code, *at)?;
-            emit_new(alloc, program, code, place, *object)
-        }
-        TStat::Out(at, call) => {
-            emit_begin(code, *at)?;
-            emit_out(alloc, program, code, call)
-        }
-    }
-}
-
-#[cycle(emit_stat)]
-fn emit_stats(
-    alloc: Global,
-    program: &Laid<'_>,
-    code: &mut Vec<Instr>,
-    statements: &[TStat],
-) -> Result<(), AllocError>
-    requires few { length program.now.objects.items < 2 ^ 32 }
-    requires typed { AreStatements (seen_program program.now) (seen_stats statements.now) }
-    ensures { OnOk result (code.new.items ≡ code.old.items ++
-        stats_code (seen_program program.now) (seen_stats statements.now) (length code.old.items)) }
-{
-    for statement in statements {
-        emit_stat(alloc, program, code, statement)?;
-    }
-    Ok(())
-}
-
-/// The body with these statements, which are well typed in a program of fewer than 2^32 object types.
-pub fn emit_body(
-    alloc: Global,
-    program: &Laid<'_>,
-    statements: &[TStat],
-) -> Result<Body, AllocError>
-    requires few { length program.now.objects.items < 2 ^ 32 }
-    requires typed { AreStatements (seen_program program.now) (seen_stats statements.now) }
-    ensures code { IfOk result
-        (λ body. body.code.items ≡ body_code (seen_program program.now) (seen_stats statements.now)) }
-    ensures depth { IfOk result (λ body. body.depth ≡ body_need (seen_stats statements.now)) }
-{
-    let mut code = Vec::new(alloc);
-    emit_stats(alloc, program, &mut code, statements)?;
-    put(&mut code, Instr::Return)?;
-    let depth = stats_need(statements)?;
-    Ok(Body { code, depth })
 }

@@ -3,19 +3,20 @@
 ghost use Rattle.std.specs.Prelude.{◌≡◌, ◌≤◌, ◌^◌, ◌++◌, length, map, None, IfOk, OnOk};
 ghost use Rattle.std.specs.List.{flat_map};
 ghost use Rattle.std.specs.String.{string_bytes};
-ghost use Rattle.aos_typed.specs.Seen.{seen_program};
+ghost use Rattle.aos_typed.specs.Seen.{seen_program, seen_stats};
 ghost use Rattle.aos_typed.specs.WellTyped.{IsWellTyped};
 ghost use Rattle.aos_code.specs.Machine as machine;
 ghost use Rattle.aos_emit.specs.Made.{AreMadeOf};
-ghost use Rattle.aos_sim.specs.Need.{HasDepthsOf};
+ghost use Rattle.aos_sim.specs.Need.{keeps_of, HasDepthsOf};
 ghost use Rattle.aos_sim.specs.Shows.{text_cells, IsCodeOf, Shows};
 
-use crate::emit::emit_body;
 use crate::laid::Laid;
+use crate::level::stats_level;
+use crate::stats::emit_body;
 use aos_base::NoMemory;
 use aos_code::{Cell, Image, Kind, ModuleDesc, ProcShape, TypeDesc};
 use aos_sim::image_shows_program;
-use aos_typed::{Program, TModule};
+use aos_typed::{Program, TModule, TStat};
 use std::alloc::{AllocError, Global};
 
 // What a cell of this kind holds at first: 0, or NIL.
@@ -61,20 +62,21 @@ fn first_cells(alloc: Global, kinds: &[Kind], texts: &[Vec<u8>]) -> Result<Vec<C
 }
 
 // The shape of a body in a module: its frame has no cells, and it gives nothing.
-fn body_shape(alloc: Global, home: u32) -> ProcShape
-    ensures home { result.module ≡ home }
-    ensures nothing { result.result ≡ None }
+fn body_shape(alloc: Global, home: u32, body: &[TStat]) -> Result<ProcShape, AllocError>
+    ensures home { IfOk result (λ s. s.module ≡ home) }
+    ensures nothing { IfOk result (λ s. s.result ≡ None) }
+    ensures keeps { IfOk result (λ s. s.keeps ≡ keeps_of (seen_stats body.now)) }
 {
-    ProcShape {
+    Ok(ProcShape {
         module: home,
         params: Vec::new(alloc),
         cells: 0,
         counted: 0,
-        keeps: 0,
+        keeps: stats_level(body, 0)?,
         result: None,
         method: false,
         kinds: Vec::new(alloc),
-    }
+    })
 }
 
 // A module whose variables' cells are of these kinds, and whose body is the procedure of this number.
@@ -100,7 +102,6 @@ fn describe(
 fn code_of(alloc: Global, laid: &Laid<'_>, program: &Program) -> Result<Image, AllocError>
     requires few { length program.now.modules.items ≤ 64 }
     requires few_types { length program.now.objects.items ≤ 2 ^ 26 }
-    requires typed { IsWellTyped (seen_program program.now) }
     requires laid { laid.now ≡ program.now }
     ensures { IfOk result (λ image. AreMadeOf (seen_program program.now) image) }
 {
@@ -111,13 +112,13 @@ fn code_of(alloc: Global, laid: &Laid<'_>, program: &Program) -> Result<Image, A
     let mut number = 0;
     for module in &program.modules {
         bodies.push(emit_body(alloc, laid, &module.body)?)?;
-        shapes.push(body_shape(alloc, number))?;
+        shapes.push(body_shape(alloc, number, &module.body)?)?;
         modules.push(describe(alloc, module, laid.kinds(number), number + 1)?)?;
         number += 1;
     }
     for object in &program.objects {
         bodies.push(emit_body(alloc, laid, &object.body)?)?;
-        shapes.push(body_shape(alloc, object.home))?;
+        shapes.push(body_shape(alloc, object.home, &object.body)?)?;
         types.push(TypeDesc { body: number + 1 })?;
         number += 1;
     }

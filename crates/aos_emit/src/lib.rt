@@ -4,6 +4,8 @@
 mod emit;
 mod image;
 mod laid;
+mod level;
 mod need;
+mod stats;
 
 pub use image::image_of;

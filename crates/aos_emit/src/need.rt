@@ -1,10 +1,10 @@
 // How many operands code has at most.
 
-ghost use Rattle.std.specs.Prelude.{◌≡◌, ◌+◌, IfOk};
-ghost use Rattle.aos_typed.specs.Seen.{seen_place, seen_expr, seen_call, seen_stat, seen_stats};
+ghost use Rattle.std.specs.Prelude.{◌≡◌, ◌+◌, max, IfOk};
+ghost use Rattle.aos_typed.specs.Seen.{seen_place, seen_expr, seen_call, seen_stat, seen_stats, seen_else, arms_of, cases_of};
 ghost use Rattle.aos_sim.specs.Need as need_of;
 
-use aos_typed::{OutCall, TExpr, TPlace, TStat};
+use aos_typed::{Change, OutCall, TArm, TCase, TElse, TExpr, TPlace, TStat};
 use std::alloc::AllocError;
 
 // So many operands above so many others. As many as 2^32 are want of memory.
@@ -107,24 +107,116 @@ fn out_need(call: &OutCall) -> Result<u32, AllocError>
     }
 }
 
+fn assign_need(place: &TPlace, value: &TExpr) -> Result<u32, AllocError>
+    ensures { IfOk result (λ n. n ≡ need_of.assign_need
+        (need_of.place_need (seen_place place.now)) (need_of.value_need (seen_expr value.now))) }
+{
+    let assigned = above(1, value_need(value)?)?;
+    Ok(assigned.max(place_need(place)?))
+}
+
+fn copy_need(to: &TPlace, from: &TPlace) -> Result<u32, AllocError>
+    ensures { IfOk result (λ n. n ≡
+        max (need_of.place_need (seen_place to.now)) (1 + need_of.place_need (seen_place from.now))) }
+{
+    let copied = above(1, place_need(from)?)?;
+    Ok(copied.max(place_need(to)?))
+}
+
+// An element that is put in a set or taken out of it is there twice.
+fn changed_need(change: Change, place: &TPlace, value: &TExpr) -> Result<u32, AllocError>
+    ensures { IfOk result (λ n. n ≡ need_of.changed_need change
+        (need_of.place_need (seen_place place.now)) (need_of.value_need (seen_expr value.now))) }
+{
+    let changed = above(2, value_need(value)?)?;
+    let need = changed.max(place_need(place)?);
+    match change {
+        Change::Add(_) => Ok(need),
+        Change::Subtract(_) => Ok(need),
+        Change::Include => Ok(need.max(4)),
+        Change::Exclude => Ok(need.max(4)),
+    }
+}
+
+// FOR without its statements: its last value, its first one, the test and the step.
+fn for_need(place: &TPlace, from: &TExpr, to: &TExpr) -> Result<u32, AllocError>
+    ensures { IfOk result (λ n. let variable = need_of.place_need (seen_place place.now) in
+        n ≡ max
+        (max (need_of.value_need (seen_expr to.now)) (need_of.assign_need variable (need_of.value_need (seen_expr from.now))))
+        (need_of.assign_need variable (max variable 2))) }
+{
+    let first = value_need(to)?.max(assign_need(place, from)?);
+    let step = above(1, place_need(place)?.max(2))?;
+    Ok(first.max(step))
+}
+
+#[cycle(stat_need)]
+#[tactic(auto, using(crate::proofs::Heights::arm_less, crate::proofs::Heights::otherwise_less))]
+fn arms_need(arms: &[TArm], otherwise: &[TStat]) -> Result<u32, AllocError>
+    ensures { IfOk result (λ n. n ≡ need_of.arms_need (arms_of arms.now (seen_stats otherwise.now))) }
+{
+    let mut need = 0;
+    for arm in arms {
+        need = need.max(value_need(&arm.test)?);
+        need = need.max(stats_need(&arm.body)?);
+    }
+    Ok(need.max(stats_need(otherwise)?))
+}
+
+#[cycle(stat_need)]
+#[tactic(auto, using(aos_typed::proofs::Seen::else_seen))]
+fn else_need(otherwise: &TElse) -> Result<u32, AllocError>
+    ensures { IfOk result (λ n. n ≡ need_of.cases_need (seen_else otherwise.now)) }
+{
+    match otherwise {
+        TElse::Missing => Ok(0),
+        TElse::Else(body) => stats_need(body),
+    }
+}
+
+#[cycle(stat_need)]
+#[tactic(auto, using(crate::proofs::Heights::case_less, crate::proofs::Heights::else_less))]
+fn cases_need(cases: &[TCase], otherwise: &TElse) -> Result<u32, AllocError>
+    ensures { IfOk result (λ n. n ≡ need_of.cases_need (cases_of cases.now (seen_else otherwise.now))) }
+{
+    let mut need = 0;
+    for case in cases {
+        need = need.max(stats_need(&case.body)?.max(2));
+    }
+    Ok(need.max(else_need(otherwise)?))
+}
+
 #[cycle(stat_need)]
 fn stat_need(statement: &TStat) -> Result<u32, AllocError>
     ensures { IfOk result (λ n. n ≡ need_of.stat_need (seen_stat statement.now)) }
 {
     match statement {
-        TStat::Assign(_, _, place, value) => {
-            let assigned = above(1, value_need(value)?)?;
-            Ok(assigned.max(place_need(place)?))
-        }
-        TStat::Copy(_, _, to, from) => {
-            let copied = above(1, place_need(from)?)?;
-            Ok(copied.max(place_need(to)?))
-        }
+        TStat::Assign(_, _, place, value) => assign_need(place, value),
+        TStat::Copy(_, _, to, from) => copy_need(to, from),
         TStat::PutText(_, _, from, _, to, _) => texts_need(from, to),
+        TStat::If(_, arms, otherwise) => arms_need(arms, otherwise),
+        TStat::Case(_, selector, cases, otherwise) => {
+            let first = value_need(selector)?;
+            Ok(first.max(cases_need(cases, otherwise)?))
+        }
         TStat::While(_, condition, body) => {
             let test = value_need(condition)?;
             Ok(test.max(stats_need(body)?))
         }
+        TStat::Repeat(_, body, condition) => {
+            let test = value_need(condition)?;
+            Ok(test.max(stats_need(body)?))
+        }
+        TStat::Loop(_, body) => stats_need(body),
+        TStat::Exit(_) => Ok(0),
+        TStat::For(_, _, place, from, to, _, body) => {
+            let around = for_need(place, from, to)?;
+            Ok(around.max(stats_need(body)?))
+        }
+        TStat::Block(_, body) => stats_need(body),
+        TStat::Assert(_, condition, _) => value_need(condition),
+        TStat::Halt(_, _) => Ok(0),
+        TStat::Change(_, change, place, value) => changed_need(*change, place, value),
         TStat::New(_, place, _) => above(2, place_need(place)?),
         TStat::Out(_, call) => out_need(call),
     }
@@ -132,6 +224,7 @@ fn stat_need(statement: &TStat) -> Result<u32, AllocError>
 
 /// How many operands these statements have at most.
 #[cycle(stat_need)]
+#[tactic(auto, using(crate::proofs::Heights::one_less))]
 pub fn stats_need(statements: &[TStat]) -> Result<u32, AllocError>
     ensures { IfOk result (λ n. n ≡ need_of.stats_need (seen_stats statements.now)) }
 {

@@ -15,24 +15,27 @@ use Rattle.aos_sound.specs.Sound.{alone, returned, IsSound}
 use Rattle.aos_typed.specs.Program.{Stats, ObjectType, Module, Program}
 use Rattle.aos_typed.specs.WellTyped.{AreStatements, IsWellTyped}
 use Rattle.aos_sim.proofs.First.{all_get, length-numbers}
-use Rattle.aos_sim.specs.Code.{body_code}
+use Rattle.aos_code.specs.Silent.{keeps_in}
+use Rattle.aos_sim.specs.Code.{stats_code, body_code}
+use Rattle.aos_sim.proofs.Sizes.{stats_length}
 use Rattle.aos_sim.specs.Shows.{numbers_from, IsCodeOf}
-use Rattle.aos_pieces.specs.Piece.{Round}
-use Rattle.aos_sim.specs.Need.{body_need, HasDepthsOf}
+use Rattle.aos_sim.specs.Need.{body_need, keeps_of, HasDepthsOf}
 use Rattle.aos_pieces.specs.Bodies.{bodies_of, AreBodiesSound, AreSound}
 use Rattle.aos_pieces.proofs.Closed.{ends, closes, closed_sound}
 use Rattle.aos_pieces.proofs.Numbers.{HasNumbers, has_numbers, mapped_at}
 use Rattle.aos_pieces.proofs.Statements.{stats_piece}
 
--- a body is sound with room for as many operands as it needs, as a procedure that gives nothing
-pub body_sound : (p : Program) (image : Image) (own depth : ℕ) → HasNumbers p image → returned (numbered image.shapes.items own) [] ≡ Some [] → (ss : Stats) → AreStatements p ss → body_need ss ≤ depth → IsSound image own Procedure (body_code p ss) depth
-body_sound p image own depth has gives ss h room =
-    let Asks : Round = λ whole kinds. Unit {0} in
+-- a body is sound with room for as many operands as it needs, as a procedure that gives nothing and keeps what the body keeps
+pub body_sound : (p : Program) (image : Image) (own depth : ℕ) → HasNumbers p image → returned (numbered image.shapes.items own) [] ≡ Some [] → (ss : Stats) → keeps_in (numbered image.shapes.items own) ≡ keeps_of ss → AreStatements p ss → body_need ss ≤ depth → IsSound image own Procedure (body_code p ss) depth
+body_sound p image own depth has gives ss keeps h room =
+    let exit = length (stats_code p ss 0 0 0) in
+    let same = stats_length p ss 0 exit 0 0 in
+    let ended : 0 + length (stats_code p ss 0 exit 0) ≡ exit = omega (arith, same) in
     closed_sound image own Procedure depth (body_code p ss)
     (closes image own Procedure depth
-    (stats_piece p image own depth has {Asks = Asks} ss h 0 [] (omega (arith, room)))
+    (stats_piece p image own depth has ss h 0 exit 0 [] (omega (arith, same)) (omega (arith, keeps)) (omega (arith, room)))
     (ends image own Procedure depth Return _ [] [] gives refl (omega arith) (λ whole q. refl))
-    (λ whole kinds e. tt))
+    (λ whole kinds e. ap kinds (sym ended) ∙ e))
 
 module _ (p : Program) (image : Image) (well : IsWellTyped p) (ok : IsCodeOf p image) where
   -- a list of something of each module and behind it of each object type, where it is a thing of their bodies
@@ -67,6 +70,13 @@ module _ (p : Program) (image : Image) (well : IsWellTyped p) (ok : IsCodeOf p i
         | inr h ↦ let le = h.0 in absurd (omega (arith, lt, le, counted, numbered, shapes_counted))
       ]
 
+  -- the procedure of each body keeps what the body keeps
+  keeps_enough : (k : ℕ) (ss : Stats) → slice_get (bodies_of p) k ≡ Some ss → keeps_in (slice_get image.shapes.items k) ≡ keeps_of ss
+  keeps_enough k ss e =
+      let found : slice_get (map (λ (s : ProcShape). s.keeps) image.shapes.items) k ≡ Some (keeps_of ss) = ap (λ l. slice_get l k) (ok.keeps ∙ sym (of_bodies keeps_of)) ∙ slice_get-map keeps_of (bodies_of p) k ∙ ap (option_map keeps_of) e in
+      let s = mapped_at (λ (s : ProcShape). s.keeps) image.shapes.items k (keeps_of ss) found in
+      ap keeps_in s.1 ∙ s.2
+
   -- so all bodies are sound
   pub bodies_sound : AreBodiesSound p image
   bodies_sound k b e =
@@ -76,7 +86,7 @@ module _ (p : Program) (image : Image) (well : IsWellTyped p) (ok : IsCodeOf p i
       record {
         statements = s.0;
         are = s.1;
-        sound = λ need le. subst (λ c. IsSound image (k + 1) Procedure c need) s.2 (body_sound p image (k + 1) need (has_numbers p image ok) (ap (λ j. returned (numbered image.shapes.items j) []) (sym n) ∙ gives_nothing k s.0 s.1) s.0 (all_get (AreStatements p) (bodies_of p) k s.0 all_typed s.1) le);
+        sound = λ need le. subst (λ c. IsSound image (k + 1) Procedure c need) s.2 (body_sound p image (k + 1) need (has_numbers p image ok) (ap (λ j. returned (numbered image.shapes.items j) []) (sym n) ∙ gives_nothing k s.0 s.1) s.0 (ap (λ j. keeps_in (numbered image.shapes.items j)) (sym n) ∙ keeps_enough k s.0 s.1) (all_get (AreStatements p) (bodies_of p) k s.0 all_typed s.1) le);
       }
 
   -- and each with as many operands as it says, where that is what its statements need

@@ -6,7 +6,7 @@ use Rattle.aos_code.specs.declared.instr.Kind.TheVariants.{N}
 use Rattle.aos_code.specs.declared.instr.Instr.{Instr}
 use Rattle.aos_code.specs.declared.instr.Instr.TheVariants.{Jump, JumpFalse, Begin}
 use Rattle.aos_code.specs.declared.image.Image.{Image}
-use Rattle.aos_sound.specs.declared.effect.Next.TheVariants.{On}
+use Rattle.aos_sound.specs.declared.effect.Next.TheVariants.{Ends, On}
 use Rattle.aos_sound.specs.declared.stand.Role.{Role}
 use Rattle.aos_sound.specs.Sound.{Kinds, Leads, next_of, after, may_stand, may_jump, is_procedure, is_begin}
 use Rattle.aos_pieces.specs.Piece.{Typing, Stands, Lies, Within, Round, AreOk, Piece}
@@ -79,6 +79,10 @@ At to s = λ whole kinds. kinds to ≡ Some s
 -- and a statement begins there
 abbrev pub AtBegin : ℕ → Kinds → Round
 AtBegin to s = λ whole kinds. (kinds to ≡ Some s) × (is_begin (slice_get whole to) ≡ true)
+
+-- what begins with a Begin is where a statement begins
+begun : (line col : ℕ) (code : List Instr) (at : ℕ) (s : Kinds) (whole : List Instr) (kinds : Typing) → Stands whole at (Begin line col ∷ code) → kinds at ≡ Some s → AtBegin at s whole kinds
+begun line col code at s whole kinds st f = (f, ap is_begin (stands_here whole at (Begin line col) code st))
 
 module _ (image : Image) (own : ℕ) (role : Role) (depth : ℕ) where
   -- where the instructions of two pieces are as they should be, so are those of both
@@ -186,6 +190,58 @@ module _ {image : Image} {own : ℕ} {role : Role} {depth : ℕ} where
       let same : first ++ b ≡ c ++ (JumpFalse other ∷ (a ++ (Jump end ∷ b))) = append_assoc c (JumpFalse other ∷ (a ++ Jump end ∷ [])) b ∙ ap (λ x. c ++ (JumpFalse other ∷ x)) (append_assoc a (Jump end ∷ []) b) in
       recoded same (asks_less Asks (both inner lower) (λ whole kinds st f g q. (q, ap kinds (sym ends) ∙ g)))
 
+  -- a jump back where the topmost operand is 0, to where a statement begins
+  branch_back : (to : ℕ) {at : ℕ} {s : Kinds} → is_procedure role ≡ true → suc (length s) ≤ depth → Piece image own role depth (AtBegin to s) (JumpFalse to ∷ []) at (N ∷ s) s
+  branch_back to {at = at} {s = s} r few =
+      single (JumpFalse to) {at = at} s refl few (λ whole kinds f o p leads. elim leads [ inl z ↦ ap kinds z ∙ o.0 | inr z ↦ ap kinds z ∙ f ]) (λ whole kinds w o. back role whole to at (w to s o.0) r o.1)
+
+  -- an instruction behind which the code doesn't go on; what stands there may have any operands
+  pub stops : {Asks : Round} (i : Instr) {at : ℕ} {s : Kinds} (left : Kinds) {t : Kinds} → after image own i s ≡ Some left → next_of i ≡ Ends → length s ≤ depth → ((whole : List Instr) (p : ℕ) → IsTrue (may_stand image own role whole p i)) → Piece image own role depth Asks (i ∷ []) at s t
+  stops i {at = at} left e n few may =
+      single i left e few (λ whole kinds f o to leads. absurd (subst (λ x. Leads x at to) n leads)) (λ whole kinds w o. may whole at)
+
+  -- labels that may lead to one piece, and else the code goes on at another
+  pub picks : {Asks : Round} {ls b more : List Instr} {at : ℕ} (hit next end : ℕ) {s t : Kinds} → hit ≡ at + length ls + 1 → next ≡ hit + length b + 1 → end ≡ next + length more → length s ≤ depth → length t ≤ depth → Piece image own role depth (At hit s) ls at s s → Piece image own role depth Asks b hit s t → Piece image own role depth Asks more next s t → Piece image own role depth Asks (ls ++ (Jump next ∷ (b ++ (Jump end ∷ more)))) at s t
+  picks {Asks} {ls} {b} {more} {at} hit next end {s} {t} h n e few few' pl pb pm =
+      let Outer : Round = λ whole kinds. Asks whole kinds × (kinds end ≡ Some t) in
+      let Inner : Round = λ whole kinds. Asks whole kinds × (kinds next ≡ Some s) × (kinds end ≡ Some t) in
+      let labels = ls ++ Jump next ∷ [] in
+      let body = b ++ Jump end ∷ [] in
+      let l1 = length-append ls (Jump next ∷ []) in
+      let l2 = length-append b (Jump end ∷ []) in
+      let l3 = length-append labels body in
+      let l4 = length-append (labels ++ body) more in
+      let place1 : at + length labels ≡ hit = omega (arith, l1, h) in
+      let place2 : at + length (labels ++ body) ≡ next = omega (arith, l1, l2, l3, h, n) in
+      let place3 : at + length ((labels ++ body) ++ more) ≡ end = omega (arith, l4, place2, e) in
+      let over = asks_less (At next s) (jump_forth next {at = at + length ls} {s = s} {u = s} (omega (arith, h, n)) few) (λ whole kinds st f g q. q) in
+      let Tests : Round = λ whole kinds. (kinds hit ≡ Some s) × (kinds next ≡ Some s) in
+      let tests = asks_less Inner (both (asks_less Tests pl (λ whole kinds st f g q. q.0)) (asks_less Tests over (λ whole kinds st f g q. q.1))) (λ whole kinds st f g q. (ap kinds (sym place1) ∙ g, q.1)) in
+      let past = asks_less Inner (jump_forth end {at = hit + length b} {s = t} {u = s} (omega (arith, n, e)) few') (λ whole kinds st f g q. q.2) in
+      let inner = moved (sym place1) (both (asks_less Inner pb (λ whole kinds st f g q. q.0)) past) in
+      let upper = asks_less Outer (both tests inner) (λ whole kinds st f g q. (q.0, ap kinds (sym place2) ∙ g, q.1)) in
+      let lower = moved (sym place2) (asks_less Outer pm (λ whole kinds st f g q. q.0)) in
+      let same : (labels ++ body) ++ more ≡ ls ++ (Jump next ∷ (b ++ (Jump end ∷ more))) = append_assoc labels body more ∙ append_assoc ls (Jump next ∷ []) (body ++ more) ∙ ap (λ x. ls ++ (Jump next ∷ x)) (append_assoc b (Jump end ∷ []) more) in
+      recoded same (asks_less Asks (both upper lower) (λ whole kinds st f g q. (q, ap kinds (sym place3) ∙ g)))
+
+  -- statements, and then a test: where it gives 0, once more
+  pub repeats_until : {Asks : Round} (line col : ℕ) {b c : List Instr} {at : ℕ} {s : Kinds} → is_procedure role ≡ true → suc (length s) ≤ depth → Piece image own role depth Asks b (at + 1) s s → Piece image own role depth Asks c (at + 1 + length b) s (N ∷ s) → Piece image own role depth Asks (Begin line col ∷ (b ++ (c ++ JumpFalse at ∷ []))) at s s
+  repeats_until {Asks} line col {b} {c} {at} {s} r few pb pc =
+      let Again : Round = λ whole kinds. Asks whole kinds × AtBegin at s whole kinds in
+      let test = both (asks_less Again pc (λ whole kinds st f g q. q.0)) (asks_less Again (branch_back at {at = at + 1 + length b + length c} {s = s} r few) (λ whole kinds st f g q. q.1)) in
+      let all = one_then (Begin line col) refl refl (omega (arith, few)) (λ whole p. r) (both (asks_less Again pb (λ whole kinds st f g q. q.0)) test) in
+      asks_less Asks all (λ whole kinds st f g q. (q, begun line col _ at s whole kinds st f))
+
+  -- statements that leave for what is behind them, and then once more
+  pub loops : {Asks : Round} (line col : ℕ) {b : List Instr} {at : ℕ} (out : ℕ) {s : Kinds} → out ≡ at + 1 + length b + 1 → is_procedure role ≡ true → length s ≤ depth → Piece image own role depth (At out s) b (at + 1) s s → Piece image own role depth Asks (Begin line col ∷ (b ++ Jump at ∷ [])) at s s
+  loops {Asks} line col {b} {at} out {s} e r few pb =
+      let Both : Round = λ whole kinds. (kinds out ≡ Some s) × AtBegin at s whole kinds in
+      let l = length-append b (Jump at ∷ []) in
+      let place : at + length (Begin line col ∷ (b ++ Jump at ∷ [])) ≡ out = omega (arith, l, e) in
+      let again = asks_less Both (jump_back at {at = at + 1 + length b} {s = s} {u = s} r few) (λ whole kinds st f g q. q.1) in
+      let all = one_then (Begin line col) refl refl few (λ whole p. r) (both (asks_less Both pb (λ whole kinds st f g q. q.0)) again) in
+      asks_less Asks all (λ whole kinds st f g q. (ap kinds (sym place) ∙ g, begun line col _ at s whole kinds st f))
+
   -- a loop: where its test gives 0 the code goes on behind it, else its body and then the loop again
   pub repeats : {Asks : Round} (line col : ℕ) {c b : List Instr} {at : ℕ} (end : ℕ) {s : Kinds} → end ≡ at + 1 + length c + 1 + length b + 1 → is_procedure role ≡ true → suc (length s) ≤ depth → Piece image own role depth Asks c (at + 1) s (N ∷ s) → Piece image own role depth Asks b (at + 1 + length c + 1) s s → Piece image own role depth Asks (Begin line col ∷ (c ++ (JumpFalse end ∷ (b ++ Jump at ∷ [])))) at s s
   repeats {Asks} line col {c} {b} {at} end {s} e r few pc pb =
@@ -197,4 +253,4 @@ module _ {image : Image} {own : ℕ} {role : Role} {depth : ℕ} where
       let again = asks_less All (jump_back at {at = at + 1 + length c + 1 + length b} {s = s} {u = s} r (omega (arith, few))) (λ whole kinds st f g q. q.2) in
       let round = both test (both (asks_less All pb (λ whole kinds st f g q. q.0)) again) in
       let all = one_then (Begin line col) refl refl (omega (arith, few)) (λ whole p. r) (both (asks_less All pc (λ whole kinds st f g q. q.0)) round) in
-      asks_less Asks all (λ whole kinds st f g q. (q, ap kinds (sym place) ∙ g, (f, ap is_begin (stands_here whole at (Begin line col) (c ++ (JumpFalse end ∷ (b ++ Jump at ∷ []))) st))))
+      asks_less Asks all (λ whole kinds st f g q. (q, ap kinds (sym place) ∙ g, begun line col _ at s whole kinds st f))

@@ -49,7 +49,7 @@ mutual
 
 module _ (p : Program) (image : Image) (own : ℕ) (role : Role) (depth : ℕ) (has : HasNumbers p image) where
   -- a piece whose operand is of this kind, which is that one
-  as_kind : {Asks : Round} {code : List Instr} {at : ℕ} {s : Kinds} {k j : Kind} → k ≡ j → Piece image own role depth Asks code at s (k ∷ s) → Piece image own role depth Asks code at s (j ∷ s)
+  pub as_kind : {Asks : Round} {code : List Instr} {at : ℕ} {s : Kinds} {k j : Kind} → k ≡ j → Piece image own role depth Asks code at s (k ∷ s) → Piece image own role depth Asks code at s (j ∷ s)
   as_kind {Asks} {code} {at} {s} e c = subst (λ x. Piece image own role depth Asks code at s (x ∷ s)) e c
 
   -- a literal

@@ -1,19 +1,48 @@
 -- What is left of a body, and where its code has come to.
-use Rattle.std.proofs.Common.{◌≡◌, ℕ, ◌+◌, Option, Some, None, List, [], ◌∷◌, ◌++◌, length, drop}
-use Rattle.aos_base.specs.Question.{feed}
+use Rattle.std.proofs.Common.{◌≡◌, ℕ, suc, ◌+◌, ◌<◌, ◌≤◌, Option, Some, None, Bool, true, false, List, [], ◌∷◌, ◌++◌, length, drop, refl, sym, ◌∙◌, subst, arith, append_assoc, length-append}
+use Rattle.std.specs.Prelude.{ℤ, nat_eq, if◌then◌else◌}
+use Rattle.std.proofs.lemmas.Bool.{eq-eqb, eqb-true}
+use Rattle.std.proofs.Math.Nat.{le-max_left, le-max_right}
+use Rattle.aos_base.specs.declared.text.Pos.{Pos}
+use Rattle.aos_base.specs.declared.number.Width.{Width}
+use Rattle.aos_base.specs.Number.{IsWithin}
+use Rattle.aos_base.specs.Question.{Val, feed}
 use Rattle.aos_types.specs.World.{World}
-use Rattle.aos_typed.specs.Program.{Stat, Program}
+use Rattle.aos_typed.specs.declared.tree.TType.TheVariants.{Integer}
+use Rattle.aos_typed.specs.Program.{Place, Stat, Repeat, Stats, Nothing, Then, Program}
 use Rattle.aos_typed.specs.Sort.{Sort}
 use Rattle.aos_typed.specs.Value.{Value}
-use Rattle.aos_typed.specs.Meaning.{Item, Do, After, Into, item_of}
-use Rattle.aos_typed.specs.WellTyped.{IsStatement}
+use Rattle.aos_typed.specs.Meaning.{Item, Do, Rounds, Round, Until, After, Into, Exits, leave, items_of, item_of, stat_of, pos_of}
+use Rattle.aos_typed.specs.WellTyped.{IsPlaceOf, IsStatement, AreStatements}
+use Rattle.aos_code.specs.declared.instr.Cell.{Cell}
+use Rattle.aos_code.specs.declared.instr.Cell.TheVariants.{Num}
 use Rattle.aos_code.specs.declared.instr.Instr.{Instr}
 use Rattle.aos_code.specs.declared.instr.Instr.TheVariants as i
 use Rattle.aos_code.specs.declared.image.ProcShape.{ProcShape}
-use Rattle.aos_code.specs.Silent.{Stack, Keeps}
-use Rattle.aos_sim.specs.Code.{stat_code}
-use Rattle.aos_sim.proofs.Runs.{Run, run}
+use Rattle.aos_code.specs.Numbered.{numbered}
+use Rattle.aos_code.specs.Silent.{Stack, Keeps, kept, keeps_in}
+use Rattle.aos_sim.specs.Code.{stat_code, stats_code, rounds_code}
+use Rattle.aos_sim.specs.Need.{stat_level, stats_level}
+use Rattle.aos_sim.proofs.Runs.{Run, AtBegin, run, drop_past}
 use Rattle.aos_sim.proofs.Does.{Does, HasTypes, Knows}
+
+-- keeps that are the same below a level
+abbrev pub Below : ℕ → Keeps → Keeps → Type 0
+Below d k k' = (c : ℕ) → c < d → k c ≡ k' c
+
+pub kept_here : (c : ℕ) (v : Cell) (k : Keeps) → kept c v k c ≡ v
+kept_here c v k = by (nat_eq c c) (eq-eqb c c refl)
+  where
+    by : (b : Bool) → b ≡ true → (if b then v else k c) ≡ v
+    by true e = refl
+    by false e = absurd (cc)
+
+pub kept_below : (d c : ℕ) (v : Cell) (k : Keeps) → d ≤ c → Below d k (kept c v k)
+kept_below d c v k le x lt = by (nat_eq x c) refl
+  where
+    by : (b : Bool) → nat_eq x c ≡ b → k x ≡ (if b then v else k x)
+    by true e = let h : x ≡ c = eqb-true x c e in absurd (omega (arith, h, le, lt))
+    by false e = refl
 
 -- these instructions stand at this place
 pub record Stands (code : List Instr) (at : ℕ) (xs : List Instr) : Type 0 where
@@ -25,25 +54,142 @@ module _ (program : Program) (shapes : List ProcShape) (own here : ℕ) (code : 
   abbrev pub Same : ℕ → ℕ → Type 0
   Same p q = (k : Keeps) (s : Stack) → run shapes own here code p k s ≡ run shapes own here code q k s
 
-  -- the code at a place carries out these items, and then the end of the frame
-  abbrev pub Carries : List Item → ℕ → Type 0
-  Carries [] p = (at : ℕ) × Same p at × Stands code at (i.Return ∷ [])
-  Carries (Do st ∷ is) p = (at : ℕ) × Same p at × Stands code at (stat_code program st at) × IsStatement program st × Carries is (at + length (stat_code program st at))
+  -- the procedure keeps something under so many numbers at most
+  abbrev pub Holds : ℕ → Type 0
+  Holds n = n ≤ keeps_in (numbered shapes own)
+
+  -- the code of a well-typed statement stands at this place, and of well-typed statements
+  pub record HasStatement (s : Stat) (at exit level : ℕ) : Type 0 where
+    pub stands : Stands code at (stat_code program s at exit level)
+    pub typed : IsStatement program s
+    pub holds : Holds (stat_level s level)
+
+  pub record HasStatements (ss : Stats) (at exit level : ℕ) : Type 0 where
+    pub stands : Stands code at (stats_code program ss at exit level)
+    pub typed : AreStatements program ss
+    pub holds : Holds (stats_level ss level)
+
+  -- and of the rounds of a FOR
+  pub record HasRounds (there : Pos) (w : Width) (p : Place) (step : ℤ) (b : Stats) (at exit level : ℕ) : Type 0 where
+    pub stands : Stands code at (rounds_code program there w p step b at exit level)
+    pub place : IsPlaceOf program p (Integer w)
+    pub within : IsWithin w step
+    pub body : AreStatements program b
+    pub holds : Holds (stats_level b (suc level))
+
+  -- The code at a place carries out these items, and then the end of the frame. EXIT leads where what is behind the innermost LOOP is
+  -- carried out, and else to the end of the frame. The items need what is kept below the level alone: that is the last value of each
+  -- FOR that they are in, whose rounds have a lower level themselves.
+  abbrev pub Carries : List Item → (at exit level : ℕ) → Keeps → Type 0
+  Carries [] at x d k = (p : ℕ) × (at ≤ x) × Same at p × Stands code p (i.Return ∷ []) × Stands code x (i.Return ∷ [])
+  Carries (Do s ∷ is) at x d k =
+      (p : ℕ) × (at ≤ x) × Same at p × HasStatement s p x d × Carries is (p + length (stat_code program s p x d)) x d k
+  Carries (Rounds there w q last step b ∷ is) at x d k =
+      (p : ℕ) × (at ≤ x) × Same at p
+      × ((e : ℕ) × (e < d) × HasRounds there w q step b p x e × (k e ≡ Num last) × Carries is (p + length (rounds_code program there w q step b p x e)) x e k)
+  Carries (Round s ∷ is) at x d k =
+      (p : ℕ) × (at ≤ x) × Same at p
+      × ((outer : ℕ) × HasStatement s p outer d × (x ≡ p + length (stat_code program s p outer d)) × Carries is x outer d k)
+  Carries (Until there b e ∷ is) at x d k =
+      (p : ℕ) × (at ≤ x) × Same at (p + 1 + length (stats_code program b (p + 1) x d)) × HasStatement (Repeat there b e) p x d
+      × Carries is (p + length (stat_code program (Repeat there b e) p x d)) x d k
+
+  pub bound : (is : List Item) (at x d : ℕ) (k : Keeps) → Carries is at x d k → at ≤ x
+  bound [] at x d k c = c.1
+  bound (Do s ∷ is) at x d k c = c.1
+  bound (Rounds there w q last step b ∷ is) at x d k c = c.1
+  bound (Round s ∷ is) at x d k c = c.1
+  bound (Until there b e ∷ is) at x d k c = c.1
+
+  -- from a place that leads on to where they are carried out
+  pub moved : (is : List Item) (p q x d : ℕ) (k : Keeps) → p ≤ x → Same p q → Carries is q x d k → Carries is p x d k
+  moved [] p q x d k le e c = (c.0, le, (λ k' s. e k' s ∙ c.2 k' s), c.3, c.4)
+  moved (Do s ∷ is) p q x d k le e c = (c.0, le, (λ k' s. e k' s ∙ c.2 k' s), c.3, c.4)
+  moved (Rounds there w a last step b ∷ is) p q x d k le e c = (c.0, le, (λ k' s. e k' s ∙ c.2 k' s), c.3)
+  moved (Round s ∷ is) p q x d k le e c = (c.0, le, (λ k' s. e k' s ∙ c.2 k' s), c.3)
+  moved (Until there b a ∷ is) p q x d k le e c = (c.0, le, (λ k' s. e k' s ∙ c.2 k' s), c.3, c.4)
+
+  -- a change of what is kept from the level on
+  pub survives : (is : List Item) (at x d : ℕ) (k k' : Keeps) → Below d k k' → Carries is at x d k → Carries is at x d k'
+  survives [] at x d k k' e c = c
+  survives (Do s ∷ is) at x d k k' e c =
+      (c.0, c.1, c.2, c.3, survives is (c.0 + length (stat_code program s c.0 x d)) x d k k' e c.4)
+  survives (Rounds there w q last step b ∷ is) at x d k k' e c =
+      let n = c.3.0 in
+      (c.0, c.1, c.2, (n, c.3.1, c.3.2, sym (e n c.3.1) ∙ c.3.3, survives is (c.0 + length (rounds_code program there w q step b c.0 x n)) x n k k' (λ i lt. e i (under i n d lt c.3.1)) c.3.4))
+    where
+      under : (i n d : ℕ) → i < n → n < d → i < d
+      under i n d a b = omega (arith, a, b)
+  survives (Round s ∷ is) at x d k k' e c = (c.0, c.1, c.2, (c.3.0, c.3.1, c.3.2, survives is x c.3.0 d k k' e c.3.3))
+  survives (Until there b a ∷ is) at x d k k' e c =
+      (c.0, c.1, c.2, c.3, survives is (c.0 + length (stat_code program (Repeat there b a) c.0 x d)) x d k k' e c.4)
+
+  -- where a run goes on with the code that carries out these items
+  pub record GoesOn (is : List Item) (m : Run) : Type 0 where
+    pub at : ℕ
+    pub exit : ℕ
+    pub level : ℕ
+    pub keeps : Keeps
+    pub runs : m ≡ run shapes own here code at keeps []
+    pub carries : Carries is at exit level keeps
 
   -- what follows a statement is what the code goes on with, and with the items after it
   abbrev pub Behind : List Item → World Sort → After → Run → Type 0
-  Behind after w (Into is) m = (at : ℕ) × (keeps : Keeps) × (m ≡ run shapes own here code at keeps []) × Carries (is ++ after) at
+  Behind after w (Into is) m = GoesOn (is ++ after) m
+  Behind after w Exits m = GoesOn (leave after) m
+
+  -- behind the innermost LOOP, from where EXIT leads
+  pub outside : (is : List Item) (at x d : ℕ) (k : Keeps) → Carries is at x d k → GoesOn (leave is) (run shapes own here code x k [])
+  outside [] at x d k c = record { at = x; exit = x; level = d; keeps = k; runs = refl; carries = (x, omega arith, (λ k s. refl), c.4, c.4) }
+  outside (Do s ∷ is) at x d k c = outside is (c.0 + length (stat_code program s c.0 x d)) x d k c.4
+  outside (Rounds there w q last step b ∷ is) at x d k c =
+      outside is (c.0 + length (rounds_code program there w q step b c.0 x c.3.0)) x c.3.0 k c.3.4
+  outside (Round s ∷ is) at x d k c = record { at = x; exit = c.3.0; level = d; keeps = k; runs = refl; carries = c.3.3 }
+  outside (Until there b e ∷ is) at x d k c = outside is (c.0 + length (stat_code program (Repeat there b e) c.0 x d)) x d k c.4
+
+  -- statements in a row, before what is carried out behind them
+  pub carries_all : (ss : Stats) (at x d : ℕ) (k : Keeps) (after : List Item) → HasStatements ss at x d → Carries after (at + length (stats_code program ss at x d)) x d k → Carries (items_of ss ++ after) at x d k
+  carries_all Nothing at x d k after has c = let e : at + 0 ≡ at = omega arith in subst (λ n. Carries after n x d k) e c
+  carries_all (Then s ss) at x d k after has c =
+      let cs = stat_code program s at x d in
+      let cr = stats_code program ss (at + length cs) x d in
+      let rest = has.stands.rest in
+      let split : drop at code ≡ cs ++ (cr ++ rest) = has.stands.here ∙ append_assoc cs cr rest in
+      let first : HasStatement s at x d = record { stands = record { rest = cr ++ rest; here = split }; typed = has.typed.0; holds = omega (arith, has.holds, le-max_left (stat_level s d) (stats_level ss d)) } in
+      let others : HasStatements ss (at + length cs) x d = record { stands = record { rest = rest; here = drop_past cs at code (cr ++ rest) split }; typed = has.typed.1; holds = omega (arith, has.holds, le-max_right (stat_level s d) (stats_level ss d)) } in
+      let len : at + length (cs ++ cr) ≡ at + length cs + length cr = omega (arith, length-append cs cr) in
+      let le : at ≤ x = omega (arith, bound after (at + length (cs ++ cr)) x d k c) in
+      (at, le, (λ k s. refl), first, carries_all ss (at + length cs) x d k after others (subst (λ n. Carries after n x d k) len c))
 
   -- what remains of a frame's items is what its code goes on with
   abbrev pub Remains : World Sort → Option (List Value) → List Item → ℕ → Keeps → Stack → Type 0
-  Remains w None is next k s = (s ≡ []) × Carries is next
+  Remains w None is next k s = (s ≡ []) × GoesOn is (run shapes own here code next k [])
   Remains w (Some t) [] next k s = ⊥
   Remains w (Some t) (i ∷ is) next k s = Does program (Behind is) w (run shapes own here code next k s) (feed t (item_of i))
 
--- the code of a statement does what the statement does
-abbrev pub StatementsDo : Program → Type 0
-StatementsDo program =
-    (shapes : List ProcShape) (own here : ℕ) (code : List Instr) (w : World Sort) (s : Stat) (at : ℕ) (k : Keeps) (after : List Item) →
-    HasTypes program → Knows program w → IsStatement program s →
-    Stands code at (stat_code program s at) → Carries program shapes own here code after (at + length (stat_code program s at)) →
-    Does program (Behind program shapes own here code after) w (run shapes own here code (at + 1) k []) (item_of (Do s))
+  -- the code of a statement does what the statement does
+  abbrev pub StatementDoes : (exit level : ℕ) → Keeps → List Item → Stat → Type 0
+  StatementDoes x d k after s =
+      (w : World Sort) (at : ℕ) → Knows program w → HasStatement s at x d → Carries after (at + length (stat_code program s at x d)) x d k →
+      Does program (Behind after) w (run shapes own here code (at + 1) k []) (stat_of s)
+
+  -- a run comes to a Begin, and the code behind it does what this item does
+  pub record BeginsAt (there : Pos) (i : Item) (after : List Item) (w : World Sort) (m : Run) : Type 0 where
+    pub at : ℕ
+    pub keeps : Keeps
+    pub runs : m ≡ Val (AtBegin at there keeps [])
+    pub does : Does program (Behind after) w (run shapes own here code (at + 1) keeps []) (item_of i)
+
+  -- what a run comes to where these items are next: the beginning of the first, or what it does where it has none
+  abbrev pub AtNext : List Item → World Sort → Run → Type 0
+  AtNext [] w m = Unit {0}
+  AtNext (Do s ∷ is) w m = BeginsAt (pos_of s) (Do s) is w m
+  AtNext (Rounds there a q last step b ∷ is) w m = BeginsAt there (Rounds there a q last step b) is w m
+  AtNext (Round s ∷ is) w m = BeginsAt (pos_of s) (Do s) is w m
+  AtNext (Until there b e ∷ is) w m = Does program (Behind is) w m (item_of (Until there b e))
+
+-- each item's code does what the item does
+abbrev pub ItemsDo : Program → Type 0
+ItemsDo program =
+    (shapes : List ProcShape) (own here : ℕ) (code : List Instr) (w : World Sort) (is : List Item) (m : Run) → HasTypes program → Knows program w →
+    GoesOn program shapes own here code is m → AtNext program shapes own here code is w m

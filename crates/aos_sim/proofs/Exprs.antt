@@ -61,7 +61,7 @@ module _ (program : Program) (shapes : List ProcShape) (own here : ℕ) (code : 
   given_does t z (Trap n) a rest at k s w m e = (e, a)
   given_does t z Undefined a rest at k s w m e = absurd a
 
-  on_numbers_does : (op : BinaryOperator) (t : TType) (a b : Value) → Suit op a b → GivesOfTwo op t → (rest : List Instr) (at : ℕ) (k : Keeps) (s : Stack) (w : World Sort) (m : Run) → m ≡ onward (i.Binary op ∷ rest) 0 at k (Num (number_of b) ∷ (Num (number_of a) ∷ s)) → Does program (With t rest (at + 1) k s) w m (binary op a b)
+  pub on_numbers_does : (op : BinaryOperator) (t : TType) (a b : Value) → Suit op a b → GivesOfTwo op t → (rest : List Instr) (at : ℕ) (k : Keeps) (s : Stack) (w : World Sort) (m : Run) → m ≡ onward (i.Binary op ∷ rest) 0 at k (Num (number_of b) ∷ (Num (number_of a) ∷ s)) → Does program (With t rest (at + 1) k s) w m (binary op a b)
   on_numbers_does op t a b h g rest at k s w m e =
       given_does t (binary_sort op) (binary_of op (number_of a) (number_of b)) (binary_agrees op t a b h g) rest at k s w m e
 

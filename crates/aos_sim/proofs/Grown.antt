@@ -1,5 +1,5 @@
 -- A turn of the source makes objects, and those that there are stay as they were made.
-use Rattle.std.proofs.Common.{◌≡◌, ℕ, zero, suc, List, [], ◌∷◌, ◌++◌, Bool, true, false, Option, Some, None, refl, sym, append-nil}
+use Rattle.std.proofs.Common.{◌≡◌, ℕ, zero, suc, List, [], ◌∷◌, ◌++◌, Bool, true, false, Option, Some, None, if◌then◌else◌, refl, sym, append-nil}
 use Rattle.std.specs.Prelude.{unsigned_abs}
 use Rattle.aos_base.specs.declared.place.Root.{Root}
 use Rattle.aos_base.specs.declared.place.Root.TheVariants.{Frame as FrameRoot, Module as ModuleRoot, Object as ObjectRoot}
@@ -8,15 +8,15 @@ use Rattle.aos_base.specs.Question.{Val, Asks, Traps, feed, Reads, Stores, Copie
 use Rattle.aos_types.specs.Shape.{Shape}
 use Rattle.aos_types.specs.Content.{Content, Scalar, placed, overlay}
 use Rattle.aos_types.specs.World.{read}
-use Rattle.aos_typed.specs.Program.{Program}
+use Rattle.aos_typed.specs.Program.{Repeat, Program}
 use Rattle.aos_typed.specs.Numbers.{id_of}
 use Rattle.aos_typed.specs.Sort.{Sort, variable_shape}
 use Rattle.aos_typed.specs.Spot.{Spot}
 use Rattle.aos_typed.specs.Text.{text_in, with_text, fitted}
-use Rattle.aos_typed.specs.Value.{Value, Int, Flag, Char, Set, Object, Callable, Place, number_of}
+use Rattle.aos_typed.specs.Value.{Value, Int, Flag, Char, Set, Object, Callable, Place, number_of, is_true}
 use Rattle.aos_typed.specs.Store.{Store, store_with, has_room}
-use Rattle.aos_typed.specs.Meaning.{Question, Doing, Item, Do, After, Into, item_of}
-use Rattle.aos_typed.specs.Source.{Frame, answered, done, all_rooted, ends, settles, written, prints, makes, starts, copies, stores_text, answer, goes, item_turn, turn_at}
+use Rattle.aos_typed.specs.Meaning.{Question, Doing, Item, Do, Rounds, Round, Until, After, Into, Exits, leave, item_of, value_of}
+use Rattle.aos_typed.specs.Source.{Frame, Turned, answered, done, all_rooted, begins, ends, tests, settles, written, prints, makes, starts, copies, stores_text, answer, goes, item_turn, turn_at}
 
 -- more objects than before
 abbrev pub Grown : List Made → List Made → Type 0
@@ -29,10 +29,6 @@ module _ (following : List ℕ) where
   ends_grown : (result : Option Value) (fs : List Frame) (s : Store) → Grown s.made (ends following result fs s).store.made
   ends_grown None fs s = none s.made
   ends_grown (Some v) fs s = none s.made
-
-  settles_grown : (is : List Item) (f : Frame) (fs : List Frame) (s : Store) → Grown s.made (settles following is f fs s).store.made
-  settles_grown [] f fs s = none s.made
-  settles_grown (Do st ∷ is) f fs s = none s.made
 
   writes_grown : (r : Root) (g : Content Value → Content Value) (s : Store) → Grown s.made (store_with r g s).made
   writes_grown (FrameRoot d) g s = none s.made
@@ -91,13 +87,31 @@ module _ (program : Program) (following : List ℕ) where
   answer_grown (Places a) f fs s = none s.made
   answer_grown (Lengths a) f fs s = none s.made
 
+  tests_grown : (d : Doing Value) (if_true if_false : Turned) (is : List Item) (f : Frame) (fs : List Frame) (s : Store) → Grown s.made if_true.store.made → Grown s.made if_false.store.made → Grown s.made (tests program following d if_true if_false is f fs s).store.made
+  tests_grown (Val v) if_true if_false is f fs s h k = by (is_true v)
+    where
+      by : (b : Bool) → Grown s.made (if b then if_true else if_false).store.made
+      by true = h
+      by false = k
+  tests_grown (Asks q g) if_true if_false is f fs s h k = answer_grown q (record f { items = is; answers = Some [] }) fs s
+  tests_grown (Traps n c) if_true if_false is f fs s h k = none s.made
+
+  settles_grown : (is : List Item) (f : Frame) (fs : List Frame) (s : Store) → Grown s.made (settles program following is f fs s).store.made
+  settles_grown [] f fs s = none s.made
+  settles_grown (Do st ∷ is) f fs s = none s.made
+  settles_grown (Rounds at w p last step b ∷ is) f fs s = none s.made
+  settles_grown (Round st ∷ is) f fs s = none s.made
+  settles_grown (Until at b e ∷ is) f fs s =
+      tests_grown (value_of e) (settles program following is f fs s) (begins following at (Do (Repeat at b e) ∷ is) f fs s) (Until at b e ∷ is) f fs s (settles_grown is f fs s) (none s.made)
+
   goes_grown : (d : Doing After) (rest : List Item) (f : Frame) (fs : List Frame) (s : Store) → Grown s.made (goes program following d rest f fs s).store.made
-  goes_grown (Val (Into is)) rest f fs s = settles_grown following (is ++ rest) f fs s
+  goes_grown (Val (Into is)) rest f fs s = settles_grown (is ++ rest) f fs s
+  goes_grown (Val Exits) rest f fs s = settles_grown (leave rest) f fs s
   goes_grown (Asks q k) rest f fs s = answer_grown q f fs s
   goes_grown (Traps n c) rest f fs s = none s.made
 
   item_grown : (answers : Option (List Value)) (is : List Item) (f : Frame) (fs : List Frame) (s : Store) → Grown s.made (item_turn program following answers is f fs s).store.made
-  item_grown None is f fs s = settles_grown following is f fs s
+  item_grown None is f fs s = settles_grown is f fs s
   item_grown (Some vs) [] f fs s = none s.made
   item_grown (Some vs) (i ∷ is) f fs s = goes_grown (feed vs (item_of i)) is f fs s
 

@@ -1,6 +1,6 @@
 -- No turn of a program enters a region or awaits a condition, so no execution of it comes to be Dead.
 use Rattle.std.proofs.Common.{◌≢◌, ℕ, zero, suc, List, [], ◌∷◌, ◌++◌, Bool, true, false}
-use Rattle.std.specs.Prelude.{Option, Some, None, unsigned_abs}
+use Rattle.std.specs.Prelude.{Option, Some, None, unsigned_abs, if◌then◌else◌}
 use Rattle.aos_base.specs.declared.kernel.Outcome.TheVariants.{Dead}
 use Rattle.aos_base.specs.Machine.{Choice, execution}
 use Rattle.aos_base.specs.Observation.{observation}
@@ -8,15 +8,15 @@ use Rattle.aos_base.specs.Question.{Val, Asks, Traps, feed, Reads, Stores, Copie
 use Rattle.aos_types.specs.Shape.{Shape}
 use Rattle.aos_types.specs.Content.{Content}
 use Rattle.aos_types.specs.World.{read}
-use Rattle.aos_typed.specs.Program.{Program}
+use Rattle.aos_typed.specs.Program.{Repeat, Program}
 use Rattle.aos_typed.specs.Numbers.{id_of}
 use Rattle.aos_typed.specs.Sort.{Sort, variable_shape}
 use Rattle.aos_typed.specs.Spot.{Spot}
 use Rattle.aos_typed.specs.Text.{text_in, fitted}
-use Rattle.aos_typed.specs.Value.{Value, Int, Flag, Char, Set, Object, Callable, Place, number_of}
+use Rattle.aos_typed.specs.Value.{Value, Int, Flag, Char, Set, Object, Callable, Place, number_of, is_true}
 use Rattle.aos_typed.specs.Store.{Store, has_room}
-use Rattle.aos_typed.specs.Meaning.{Question, Doing, Item, Do, After, Into, item_of}
-use Rattle.aos_typed.specs.Source.{Frame, Turned, answered, done, all_rooted, ends, settles, written, prints, makes, starts, copies, stores_text, answer, goes, item_turn, turn_at, opened, source, first_state, first_store, first_frames}
+use Rattle.aos_typed.specs.Meaning.{Question, Doing, Item, Do, Rounds, Round, Until, After, Into, Exits, leave, item_of, value_of}
+use Rattle.aos_typed.specs.Source.{Frame, Turned, answered, done, all_rooted, begins, ends, tests, settles, written, prints, makes, starts, copies, stores_text, answer, goes, item_turn, turn_at, opened, source, first_state, first_store, first_frames}
 use Rattle.aos_concurrency.specs.Spot.{NoOne}
 use Rattle.aos_concurrency.specs.Waits.{MayWait}
 use Rattle.aos_concurrency.proofs.Itself.{Any, anything}
@@ -29,10 +29,6 @@ module _ (following : List ℕ) where
   ends_lively : (result : Option Value) (fs : List Frame) (s : Store) → Lively (ends following result fs s)
   ends_lively None fs s h = h
   ends_lively (Some v) fs s h = h
-
-  settles_lively : (is : List Item) (f : Frame) (fs : List Frame) (s : Store) → Lively (settles following is f fs s)
-  settles_lively [] f fs s h = h
-  settles_lively (Do st ∷ is) f fs s h = h
 
   prints_lively : (bytes : Option (List ℕ)) (f : Frame) (fs : List Frame) (s : Store) → Lively (prints following bytes f fs s)
   prints_lively None f fs s h = h
@@ -86,13 +82,31 @@ module _ (program : Program) (following : List ℕ) where
   answer_lively (Places a) f fs s = λ h. h
   answer_lively (Lengths a) f fs s = λ h. h
 
+  tests_lively : (d : Doing Value) (if_true if_false : Turned) (is : List Item) (f : Frame) (fs : List Frame) (s : Store) → Lively if_true → Lively if_false → Lively (tests program following d if_true if_false is f fs s)
+  tests_lively (Val v) if_true if_false is f fs s h k = by (is_true v)
+    where
+      by : (b : Bool) → Lively (if b then if_true else if_false)
+      by true = h
+      by false = k
+  tests_lively (Asks q g) if_true if_false is f fs s h k = answer_lively q (record f { items = is; answers = Some [] }) fs s
+  tests_lively (Traps n c) if_true if_false is f fs s h k = λ x. x
+
+  settles_lively : (is : List Item) (f : Frame) (fs : List Frame) (s : Store) → Lively (settles program following is f fs s)
+  settles_lively [] f fs s = λ h. h
+  settles_lively (Do st ∷ is) f fs s = λ h. h
+  settles_lively (Rounds at w p last step b ∷ is) f fs s = λ h. h
+  settles_lively (Round st ∷ is) f fs s = λ h. h
+  settles_lively (Until at b e ∷ is) f fs s =
+      tests_lively (value_of e) (settles program following is f fs s) (begins following at (Do (Repeat at b e) ∷ is) f fs s) (Until at b e ∷ is) f fs s (settles_lively is f fs s) (λ h. h)
+
   goes_lively : (d : Doing After) (rest : List Item) (f : Frame) (fs : List Frame) (s : Store) → Lively (goes program following d rest f fs s)
-  goes_lively (Val (Into is)) rest f fs s = settles_lively following (is ++ rest) f fs s
+  goes_lively (Val (Into is)) rest f fs s = settles_lively (is ++ rest) f fs s
+  goes_lively (Val Exits) rest f fs s = settles_lively (leave rest) f fs s
   goes_lively (Asks q k) rest f fs s = answer_lively q f fs s
   goes_lively (Traps n c) rest f fs s = λ h. h
 
   item_lively : (answers : Option (List Value)) (is : List Item) (f : Frame) (fs : List Frame) (s : Store) → Lively (item_turn program following answers is f fs s)
-  item_lively None is f fs s = settles_lively following is f fs s
+  item_lively None is f fs s = settles_lively is f fs s
   item_lively (Some vs) [] f fs s = λ h. h
   item_lively (Some vs) (i ∷ is) f fs s = goes_lively (feed vs (item_of i)) is f fs s
 

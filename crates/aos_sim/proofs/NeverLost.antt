@@ -2,6 +2,7 @@
 use Rattle.std.proofs.Common.{◌≡◌, ℕ, zero, suc, ◌<◌, List, [], ◌∷◌, ◌++◌, Bool, true, false, refl, sym, subst, arith}
 use Rattle.std.specs.Prelude.{All, ℤ, pos, ◌+ℤ◌, ◌-ℤ◌, ◌*ℤ◌, neg_ℤ, unsigned_abs, int_lt, ◌&&◌, int_le, if◌then◌else◌, Option, Some, None}
 use Rattle.std.specs.Option.{option_zip}
+use Rattle.std.specs.List.{list_any}
 use Rattle.std.specs.Int.{int_div_euclid, int_rem_euclid}
 use Rattle.aos_base.specs.Number.{is_within, if_within, shifted}
 use Rattle.aos_base.specs.declared.operator.Unary.{Unary as UnaryOperator}
@@ -18,15 +19,18 @@ use Rattle.aos_types.specs.Shape.{Shape}
 use Rattle.aos_types.specs.Content.{Content}
 use Rattle.aos_types.specs.World.{read}
 use Rattle.aos_code.specs.declared.image.Image.{Image}
-use Rattle.aos_typed.specs.Program.{Place, ModuleVar, Field, Index, Expr, Lit, Read, Unary, Binary, And, Or, Element, Ord, Chr, CompareTexts, Len, Call, Open as OutOpen, Char as OutChar, Int as OutInt, String as OutString, Ln as OutLn, Stat, Assign, Copy, PutText, While, New, Out, Program}
+use Rattle.aos_typed.specs.Program.{Place, ModuleVar, Field, Index, Expr, Lit, Read, Unary, Binary, And, Or, Element, Ord, Chr, CompareTexts, Len, Call, Open as OutOpen, Char as OutChar, Int as OutInt, String as OutString, Ln as OutLn, Stat, Assign, Copy, PutText, If, Case, While, Repeat, Loop, Exit, For, Block, Assert, Halt, Change, New, Out, Arms, Otherwise, Arm, Cases, NoElse, Else, OfLabels, Program}
+use Rattle.aos_typed.specs.declared.tree.Change.{Change as Changing}
+use Rattle.aos_typed.specs.declared.tree.Change.TheVariants as change
+use Rattle.aos_typed.specs.declared.tree.TType.TheVariants as type
 use Rattle.aos_typed.specs.Numbers.{id_of}
 use Rattle.aos_typed.specs.Sort.{Sort as ScalarSort, variable_shape}
 use Rattle.aos_typed.specs.Spot.{Spot}
 use Rattle.aos_typed.specs.Text.{text_in, fitted}
-use Rattle.aos_typed.specs.Value.{Value, Int, Flag, Char, Set, Object, Callable, Place as Spotted, number_of, Sort, Character, Elements, given, unary_sort, binary_sort, is_true}
+use Rattle.aos_typed.specs.Value.{Value, Int, Flag, Char, Set, Object, Callable, Place as Spotted, number_of, Sort, Integer, Character, Elements, element, given, unary_sort, binary_sort, is_true}
 use Rattle.aos_typed.specs.Store.{Store, has_room}
-use Rattle.aos_typed.specs.Meaning.{Question, Doing, Item, Do, After, Into, element_of, place_of, value_of, out_of, stat_of, item_of}
-use Rattle.aos_typed.specs.Source.{Frame, Turned, answered, done, all_rooted, ends, settles, written, prints, makes, starts, copies, stores_text, answer, goes, item_turn, turn_at, opened, source, first_state, first_store, first_frames}
+use Rattle.aos_typed.specs.Meaning.{Question, Doing, Item, Do, Rounds, Round, Until, After, Into, Exits, leave, is_in, element_of, place_of, value_of, changed, arms_of, case_of, out_of, stat_of, item_of}
+use Rattle.aos_typed.specs.Source.{Frame, Turned, answered, done, all_rooted, begins, ends, tests, settles, written, prints, makes, starts, copies, stores_text, answer, goes, item_turn, turn_at, opened, source, first_state, first_store, first_frames}
 use Rattle.aos_sim.specs.Shows.{Shows, NeverLost}
 use Rattle.aos_sim.proofs.Traps.{Leaves, traps_with}
 
@@ -153,16 +157,47 @@ out_comes (OutInt e n) = comes_then (value_of e) _ (value_comes e) (λ x. comes_
 out_comes (OutString p n) = comes_then (place_of p) _ (place_comes p) (λ s v. tt)
 out_comes OutLn = λ v. tt
 
+arms_come : (arms : Arms) → Comes (arms_of arms)
+arms_come (Otherwise ss) = tt
+arms_come (Arm e ss arms) = comes_then (value_of e) _ (value_comes e) (λ x. either_comes (is_true x) _ (arms_of arms) tt (arms_come arms))
+
+cases_come : (z : ℤ) (cases : Cases) → Comes (case_of z cases)
+cases_come z NoElse = omega arith
+cases_come z (Else ss) = tt
+cases_come z (OfLabels rs ss cases) = either_comes (list_any (is_in z) rs) _ (case_of z cases) tt (cases_come z cases)
+
+changed_comes : (c : Changing) (v n : Value) → Comes (changed c v n)
+changed_comes (change.Add w) v n = given_comes Integer _ (binary_gives (Add w) (number_of v) (number_of n))
+changed_comes (change.Subtract w) v n = given_comes Integer _ (binary_gives (Sub w) (number_of v) (number_of n))
+changed_comes change.Include v n =
+    comes_then (element n) _ (given_comes Elements _ (binary_gives SetSpan (number_of n) (number_of n))) (λ x. given_comes Elements _ (binary_gives Union (number_of v) (number_of x)))
+changed_comes change.Exclude v n =
+    comes_then (element n) _ (given_comes Elements _ (binary_gives SetSpan (number_of n) (number_of n))) (λ x. given_comes Elements _ (binary_gives Minus (number_of v) (number_of x)))
+
 stat_comes : (s : Stat) → Comes (stat_of s)
 stat_comes (Assign at t p e) = comes_then (place_of p) _ (place_comes p) (λ s. comes_then (value_of e) _ (value_comes e) (λ x v. tt))
 stat_comes (Copy at t p q) = comes_then (place_of p) _ (place_comes p) (λ to. comes_then (place_of q) _ (place_comes q) (λ from v. tt))
 stat_comes (PutText at strict p n q m) = comes_then (place_of p) _ (place_comes p) (λ from. comes_then (place_of q) _ (place_comes q) (λ to v. tt))
+stat_comes (If at arms) = arms_come arms
+stat_comes (Case at e cases) = comes_then (value_of e) _ (value_comes e) (λ x. cases_come (number_of x) cases)
 stat_comes (While at e body) = comes_then (value_of e) _ (value_comes e) (λ x. tt)
+stat_comes (Repeat at body e) = tt
+stat_comes (Loop at body) = tt
+stat_comes (Exit at) = tt
+stat_comes (For at w p from to step body) = comes_then (value_of to) _ (value_comes to) (λ x. tt)
+stat_comes (Block at body) = tt
+stat_comes (Assert at e code) = comes_then (value_of e) _ (value_comes e) (λ x. either_comes (is_true x) _ _ tt (omega arith))
+stat_comes (Halt at code) = omega arith
+stat_comes (Change at c p e) =
+    comes_then (place_of p) _ (place_comes p) (λ s. comes_then (value_of e) _ (value_comes e) (λ n v. comes_then (changed c v n) _ (changed_comes c v n) (λ x w. tt)))
 stat_comes (New at p t) = comes_then (place_of p) _ (place_comes p) (λ s o v w. tt)
 stat_comes (Out at call) = out_comes call
 
 item_comes : (i : Item) → Comes (item_of i)
 item_comes (Do s) = stat_comes s
+item_comes (Rounds at w p last step b) = comes_then _ _ (value_comes (Read (type.Integer w) p)) (λ v. tt)
+item_comes (Round s) = stat_comes s
+item_comes (Until at b e) = comes_then (value_of e) _ (value_comes e) (λ x. tt)
 
 -- Turns
 
@@ -173,10 +208,6 @@ module _ (following : List ℕ) where
   ends_known : (result : Option Value) (fs : List Frame) (s : Store) → Known (ends following result fs s)
   ends_known None fs s = tt
   ends_known (Some v) fs s = tt
-
-  settles_known : (is : List Item) (f : Frame) (fs : List Frame) (s : Store) → Known (settles following is f fs s)
-  settles_known [] f fs s = tt
-  settles_known (Do st ∷ is) f fs s = tt
 
   prints_known : (bytes : Option (List ℕ)) (f : Frame) (fs : List Frame) (s : Store) → Known (prints following bytes f fs s)
   prints_known None f fs s = omega arith
@@ -230,13 +261,31 @@ module _ (program : Program) (following : List ℕ) where
   answer_known (Places a) f fs s = tt
   answer_known (Lengths a) f fs s = tt
 
+  tests_known : (d : Doing Value) (if_true if_false : Turned) (is : List Item) (f : Frame) (fs : List Frame) (s : Store) → Comes d → Known if_true → Known if_false → Known (tests program following d if_true if_false is f fs s)
+  tests_known (Val v) if_true if_false is f fs s c h k = by (is_true v)
+    where
+      by : (b : Bool) → Known (if b then if_true else if_false)
+      by true = h
+      by false = k
+  tests_known (Asks q g) if_true if_false is f fs s c h k = answer_known q (record f { items = is; answers = Some [] }) fs s
+  tests_known (Traps n code) if_true if_false is f fs s c h k = c
+
+  settles_known : (is : List Item) (f : Frame) (fs : List Frame) (s : Store) → Known (settles program following is f fs s)
+  settles_known [] f fs s = tt
+  settles_known (Do st ∷ is) f fs s = tt
+  settles_known (Rounds at w p last step b ∷ is) f fs s = tt
+  settles_known (Round st ∷ is) f fs s = tt
+  settles_known (Until at b e ∷ is) f fs s =
+      tests_known (value_of e) (settles program following is f fs s) (begins following at (Do (Repeat at b e) ∷ is) f fs s) (Until at b e ∷ is) f fs s (value_comes e) (settles_known is f fs s) tt
+
   goes_known : (d : Doing After) (rest : List Item) (f : Frame) (fs : List Frame) (s : Store) → Comes d → Known (goes program following d rest f fs s)
-  goes_known (Val (Into is)) rest f fs s h = settles_known following (is ++ rest) f fs s
+  goes_known (Val (Into is)) rest f fs s h = settles_known (is ++ rest) f fs s
+  goes_known (Val Exits) rest f fs s h = settles_known (leave rest) f fs s
   goes_known (Asks q k) rest f fs s h = answer_known q f fs s
   goes_known (Traps n c) rest f fs s h = h
 
   item_known : (answers : Option (List Value)) (is : List Item) (f : Frame) (fs : List Frame) (s : Store) → Known (item_turn program following answers is f fs s)
-  item_known None is f fs s = settles_known following is f fs s
+  item_known None is f fs s = settles_known is f fs s
   item_known (Some vs) [] f fs s = tt
   item_known (Some vs) (i ∷ is) f fs s = goes_known (feed vs (item_of i)) is f fs s (comes_fed vs (item_of i) (item_comes i))
 

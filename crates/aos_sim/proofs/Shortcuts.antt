@@ -70,7 +70,7 @@ module _ (program : Program) (shapes : List ProcShape) (own here : ℕ) (code : 
       (ends_at program shapes own here code type.Boolean rest (pb + length cb) q k s w (onward (cb ++ rest) 0 pb k s) rb (omega arith) (h w known rest k s))
 
   -- what follows a truth value, by which of both it is
-  by_flag : {C : Type 0} (Q : World Sort → C → Run → Type 0) (f : Value → Doing C) (rest : List Instr) (at : ℕ) (k : Keeps) (s : Stack) (w : World Sort) → ((b : Bool) (m : Run) → m ≡ onward rest 0 at k (Num (flag b) ∷ s) → Does program Q w m (f (Flag b))) → (v : Value) (m : Run) → IsValueOf type.Boolean v → m ≡ onward rest 0 at k (Num (number_of v) ∷ s) → Does program Q w m (f v)
+  pub by_flag : {C : Type 0} (Q : World Sort → C → Run → Type 0) (f : Value → Doing C) (rest : List Instr) (at : ℕ) (k : Keeps) (s : Stack) (w : World Sort) → ((b : Bool) (m : Run) → m ≡ onward rest 0 at k (Num (flag b) ∷ s) → Does program Q w m (f (Flag b))) → (v : Value) (m : Run) → IsValueOf type.Boolean v → m ≡ onward rest 0 at k (Num (number_of v) ∷ s) → Does program Q w m (f v)
   by_flag Q f rest at k s w go v m is e = subst (λ x. m ≡ onward rest 0 at k (Num (number_of x) ∷ s) → Does program Q w m (f x)) (sym is.1) (go is.0 m) e
 
   pub and_does : (ca cb : List Instr) (ra rb : Doing Value) (at : ℕ) → Evaluates program shapes own here code type.Boolean ca ra at → Evaluates program shapes own here code type.Boolean cb rb (at + length ca + 1) → Evaluates program shapes own here code type.Boolean (and_code ca cb at) (bind ra (λ a. if is_true a then rb else Val (Flag false))) at

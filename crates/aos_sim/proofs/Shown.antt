@@ -1,5 +1,5 @@
 -- An image that has a well-typed program's code shows the program.
-use Rattle.std.proofs.Common.{◌≡◌, ℕ, zero, suc, ◌+◌, List, [], ◌∷◌, ◌++◌, map, length, Option, Some, None, refl, sym, ap, ◌∙◌, subst, arith, append-nil}
+use Rattle.std.proofs.Common.{◌≡◌, ℕ, zero, suc, ◌+◌, List, [], ◌∷◌, ◌++◌, map, length, Option, Some, None, pos, refl, sym, ap, ◌∙◌, subst, arith}
 use Rattle.std.specs.Prelude.{slice_get, flat_map, option_map, option_and_then, All}
 use Rattle.std.specs.List.{range_with_len}
 use Rattle.std.proofs.lemmas.List.{length-map}
@@ -12,8 +12,8 @@ use Rattle.aos_typed.specs.Typing.{Is}
 use Rattle.aos_typed.specs.Store.{Store}
 use Rattle.aos_typed.specs.Source as S
 use Rattle.aos_typed.specs.WellTyped.{AreStatements, IsWellTyped}
+use Rattle.aos_code.specs.declared.instr.Cell.TheVariants.{Num}
 use Rattle.aos_code.specs.declared.instr.Instr.{Instr}
-use Rattle.aos_code.specs.declared.instr.Instr.TheVariants as i
 use Rattle.aos_code.specs.declared.image.Image.{Image}
 use Rattle.aos_code.specs.declared.image.Body.{Body}
 use Rattle.aos_code.specs.declared.image.ProcShape.{ProcShape}
@@ -21,17 +21,19 @@ use Rattle.aos_code.specs.declared.image.ModuleDesc.{ModuleDesc}
 use Rattle.aos_code.specs.declared.image.TypeDesc.{TypeDesc}
 use Rattle.aos_code.specs.Numbered.{numbered}
 use Rattle.aos_code.specs.Memory.{Memory}
+use Rattle.aos_code.specs.Silent.{keeps_in}
 use Rattle.aos_code.specs.Machine as I
-use Rattle.aos_code.specs.Machine.{machine, bodies, code_in_body, home_in, code_of, home_of}
+use Rattle.aos_code.specs.Machine.{machine, bodies, code_in_body, home_in, code_of}
 use Rattle.aos_concurrency.specs.Simulates.{Simulates, Matches}
 use Rattle.aos_concurrency.specs.Spot.{Anyone}
 use Rattle.aos_concurrency.proofs.Matching.{execution_matches, start_matches, observation_matches, events_match}
-use Rattle.aos_sim.specs.Code.{stats_code, body_code}
+use Rattle.aos_sim.specs.Code.{body_code}
+use Rattle.aos_sim.specs.Need.{keeps_of}
 use Rattle.aos_sim.specs.Shows.{numbers_from, IsCodeOf, Shows}
 use Rattle.aos_places.specs.Shows.{AllShown}
 use Rattle.aos_sim.specs.Cells.{cell_of}
-use Rattle.aos_sim.proofs.Carries.{Stands}
-use Rattle.aos_sim.proofs.Stats.{carries_body, statements_do}
+use Rattle.aos_sim.proofs.Stats.{body_goes}
+use Rattle.aos_sim.proofs.Items.{items_do}
 use Rattle.aos_sim.proofs.First.{all_get, get_left, get_right, number_at, length-numbers, modules_shown}
 use Rattle.aos_sim.proofs.Typed.{has_types}
 use Rattle.aos_sim.proofs.States.{world_of, SameStore, IsBody, Follows, Waiting, SameFrames, Same, body_same, body_shown, opened_same, same_grows}
@@ -63,6 +65,10 @@ home_found : (o : Option ProcShape) (k : ℕ) → option_map (λ (s : ProcShape)
 home_found None k e = absurd (cc e)
 home_found (Some b) k e = cc e
 
+keeps_found : (o : Option ProcShape) (n : ℕ) → option_map (λ (s : ProcShape). s.keeps) o ≡ Some n → keeps_in o ≡ n
+keeps_found None n e = absurd (cc e)
+keeps_found (Some b) n e = cc e
+
 -- where there is a shape, it is that of a procedure without a result
 nothing_given : (ss : List ProcShape) (k home : ℕ) → All (λ (s : ProcShape). s.result ≡ None) ss → option_map (λ (s : ProcShape). s.module) (slice_get ss k) ≡ Some home → (x : ProcShape) × (slice_get ss k ≡ Some x) × (x.result ≡ None)
 nothing_given ss k home h e = by (slice_get ss k) refl e
@@ -86,15 +92,25 @@ module _ (p : Program) (image : Image) (well : IsWellTyped p) (ok : IsCodeOf p i
         of_objects = tt;
       }
 
-  is_body : (k home : ℕ) (ss : Stats) → slice_get (numbers_from 0 ms ++ map (λ o. o.home) os) k ≡ Some home → slice_get (map (λ m. body_code p m.body) ms ++ map (λ o. body_code p o.body) os) k ≡ Some (body_code p ss) → AreStatements p ss → IsBody p image (suc k) home ss
-  is_body k home ss eh ec typed =
+  -- what stands beside the k-th module or object type, where something stands beside all of them
+  module _ {A : Type 0} (f : Module → A) (g : ObjectType → A) where
+    of_module : (k : ℕ) (m : Module) → slice_get ms k ≡ Some m → slice_get (map f ms ++ map g os) k ≡ Some (f m)
+    of_module k m e = get_left (map f ms) (map g os) k (f m) (slice_get-map f ms k ∙ ap (option_map f) e)
+
+    of_object : (t : ℕ) (o : ObjectType) → slice_get os t ≡ Some o → slice_get (map f ms ++ map g os) (length ms + t) ≡ Some (g o)
+    of_object t o e =
+        let n : length ms + t ≡ length (map f ms) + t = ap (λ j. j + t) (sym (length-map ms f)) in
+        get_right (map f ms) (map g os) (length ms + t) t n ∙ slice_get-map g os t ∙ ap (option_map g) e
+
+  is_body : (k home : ℕ) (ss : Stats) → slice_get (numbers_from 0 ms ++ map (λ o. o.home) os) k ≡ Some home → slice_get (map (λ m. body_code p m.body) ms ++ map (λ o. body_code p o.body) os) k ≡ Some (body_code p ss) → slice_get (map (λ m. keeps_of m.body) ms ++ map (λ o. keeps_of o.body) os) k ≡ Some (keeps_of ss) → AreStatements p ss → IsBody p image (suc k) home ss
+  is_body k home ss eh ec ek typed =
       let shape : option_map (λ (s : ProcShape). s.module) (slice_get image.shapes.items k) ≡ Some home = sym (slice_get-map (λ (s : ProcShape). s.module) image.shapes.items k) ∙ ap (λ l. slice_get l k) ok.homes ∙ eh in
       let code = code_found (slice_get image.bodies.items k) (body_code p ss) (sym (slice_get-map (λ (b : Body). b.code.items) image.bodies.items k) ∙ ap (λ l. slice_get l k) ok.bodies ∙ ec) in
-      let stands : Stands (code_of image (suc k)) 0 (stats_code p ss 0 ++ i.Return ∷ []) = record { rest = []; here = code ∙ sym (append-nil (body_code p ss)) } in
+      let keeps = keeps_found (slice_get image.shapes.items k) (keeps_of ss) (sym (slice_get-map (λ (s : ProcShape). s.keeps) image.shapes.items k) ∙ ap (λ l. slice_get l k) ok.keeps ∙ ek) in
       record {
         home_is = home_found (slice_get image.shapes.items k) home shape;
         gives = nothing_given image.shapes.items k home ok.results shape;
-        carries = λ here. carries_body p image.shapes.items (suc k) here (code_of image (suc k)) ss 0 typed stands;
+        goes = λ here. body_goes p image.shapes.items (suc k) here (code_of image (suc k)) ss (λ c. Num (pos 0)) typed (omega (arith, keeps)) code;
       }
 
   module_is_body : (k : ℕ) (m : Module) → slice_get ms k ≡ Some m → IsBody p image (suc k) k m.body
@@ -102,16 +118,15 @@ module _ (p : Program) (image : Image) (well : IsWellTyped p) (ok : IsCodeOf p i
       let z : 0 + k ≡ k = omega arith in
       is_body k k m.body
       (get_left (numbers_from 0 ms) (map (λ o. o.home) os) k k (number_at 0 k ms ∙ ap (option_map (λ x. 0 + k)) e ∙ ap (λ j. Some j) z))
-      (get_left (map (λ m. body_code p m.body) ms) (map (λ o. body_code p o.body) os) k (body_code p m.body) (slice_get-map (λ (x : Module). body_code p x.body) ms k ∙ ap (option_map (λ (x : Module). body_code p x.body)) e))
+      (of_module (λ x. body_code p x.body) (λ x. body_code p x.body) k m e) (of_module (λ x. keeps_of x.body) (λ x. keeps_of x.body) k m e)
       (all_get (λ x. AreStatements p x.body) ms k m well.bodies e)
 
   object_is_body : (t : ℕ) (o : ObjectType) → slice_get os t ≡ Some o → IsBody p image (suc (length ms + t)) o.home o.body
   object_is_body t o e =
       let n : length ms + t ≡ length (numbers_from 0 ms) + t = ap (λ j. j + t) (sym (length-numbers 0 ms)) in
-      let c : length ms + t ≡ length (map (λ (m : Module). body_code p m.body) ms) + t = ap (λ j. j + t) (sym (length-map ms (λ (m : Module). body_code p m.body))) in
       is_body (length ms + t) o.home o.body
       (get_right (numbers_from 0 ms) (map (λ o. o.home) os) (length ms + t) t n ∙ slice_get-map (λ (x : ObjectType). x.home) os t ∙ ap (option_map (λ (x : ObjectType). x.home)) e)
-      (get_right (map (λ m. body_code p m.body) ms) (map (λ o. body_code p o.body) os) (length ms + t) t c ∙ slice_get-map (λ (x : ObjectType). body_code p x.body) os t ∙ ap (option_map (λ (x : ObjectType). body_code p x.body)) e)
+      (of_object (λ x. body_code p x.body) (λ x. body_code p x.body) t o e) (of_object (λ x. keeps_of x.body) (λ x. keeps_of x.body) t o e)
       (all_get (λ x. AreStatements p x.body) os t o well.objects e)
 
   -- the bodies of modules follow one another
@@ -161,7 +176,7 @@ module _ (p : Program) (image : Image) (well : IsWellTyped p) (ok : IsCodeOf p i
   -- one turn of the image is one turn of the source
   simulates : Simulates (SameStore p) (Together p image) Anyone (S.source p) (machine image)
   simulates = record {
-    turn = λ s mem fs gs stores h. turn_alike p image (has_types p well) (statements_do p) s mem fs gs stores h.now;
+    turn = λ s mem fs gs stores h. turn_alike p image (has_types p well) (items_do p) s mem fs gs stores h.now;
     kept = λ s mem fs gs stores h w fs' gs' h'.
         let g = turn_grown p (S.opened p fs).following (S.opened p fs).frames s in
         record {

@@ -1,5 +1,5 @@
 -- The store and the memory that shows it, and an activity's frames on both sides.
-use Rattle.std.proofs.Common.{◌≡◌, ℕ, List, [], ◌∷◌, ◌++◌, length, map, Option, Some, None, refl, sym, subst}
+use Rattle.std.proofs.Common.{◌≡◌, ℕ, pos, List, [], ◌∷◌, ◌++◌, length, map, Option, Some, None, refl, sym, subst}
 use Rattle.std.specs.Prelude.{slice_get}
 use Rattle.aos_base.specs.declared.text.Pos.{Pos}
 use Rattle.aos_base.specs.Rooted.{Made}
@@ -12,10 +12,11 @@ use Rattle.aos_typed.specs.Sort.{Sort}
 use Rattle.aos_typed.specs.Value.{Value}
 use Rattle.aos_typed.specs.Typing.{Is, IsPlain}
 use Rattle.aos_typed.specs.Store.{Store}
-use Rattle.aos_typed.specs.Meaning.{Item, After, Into, items_of, item_of}
+use Rattle.aos_typed.specs.Meaning.{Item, After, Into, Exits, items_of, item_of}
 use Rattle.aos_typed.specs.Source as S
 use Rattle.aos_typed.specs.Source.{first_value}
 use Rattle.aos_code.specs.declared.instr.Cell.{Cell}
+use Rattle.aos_code.specs.declared.instr.Cell.TheVariants.{Num}
 use Rattle.aos_code.specs.declared.image.ProcShape.{ProcShape}
 use Rattle.aos_code.specs.declared.image.Image.{Image}
 use Rattle.aos_code.specs.Numbered.{numbered}
@@ -30,7 +31,7 @@ use Rattle.aos_sim.specs.Cells.{cell_of}
 use Rattle.aos_sim.proofs.Kept.{values_kept}
 use Rattle.aos_sim.proofs.Runs.{Run, run}
 use Rattle.aos_sim.proofs.Does.{scheme, does_grows}
-use Rattle.aos_sim.proofs.Carries.{Carries, Remains, Behind}
+use Rattle.aos_sim.proofs.Carries.{GoesOn, Remains, Behind}
 use Rattle.aos_sim.proofs.First.{zero_cell, first_is, first_same}
 
 -- the world of the topmost of these frames
@@ -87,7 +88,7 @@ module _ (program : Program) (image : Image) where
   pub record IsBody (p home : ℕ) (ss : Stats) : Type 0 where
     pub home_is : home_of image p ≡ home
     pub gives : GivesNothing p
-    pub carries : (here : ℕ) → Carries program image.shapes.items p here (code_of image p) (items_of ss) 0
+    pub goes : (here : ℕ) → GoesOn program image.shapes.items p here (code_of image p) (items_of ss) (run image.shapes.items p here (code_of image p) 0 (λ c. Num (pos 0)) [])
 
   -- the bodies of modules that are to follow, and the procedures that they are
   abbrev pub Follows : List ℕ → List ℕ → Type 0
@@ -124,7 +125,7 @@ module _ (program : Program) (image : Image) where
   body_same made o p home ss b = (
     record {
       place = record { home_is = b.home_is; object_is = refl; at_is = refl; gives = b.gives };
-      remains = (refl, b.carries 0);
+      remains = (refl, b.goes 0);
     },
     tt,
   )
@@ -151,6 +152,7 @@ module _ (program : Program) (image : Image) where
 
   behind_grows : (w w' : World Sort) (own here : ℕ) (is : List Item) (a : After) (m : Run) → Behind program image.shapes.items own here (code_of image own) is w a m → Behind program image.shapes.items own here (code_of image own) is w' a m
   behind_grows w w' own here is (Into new) m h = h
+  behind_grows w w' own here is Exits m h = h
 
   remains_grows : (w w' : World Sort) → Grows w w' → (own here : ℕ) (answers : Option (List Value)) (is : List Item) (next : ℕ) (k : Keeps) (st : Stack) → Remains program image.shapes.items own here (code_of image own) w answers is next k st → Remains program image.shapes.items own here (code_of image own) w' answers is next k st
   remains_grows w w' g own here None is next k st h = h

@@ -8,25 +8,25 @@ use Rattle.aos_base.specs.Text.{order}
 use Rattle.aos_base.specs.declared.text.Pos.{Pos}
 use Rattle.aos_base.specs.declared.kernel.Did.{Did}
 use Rattle.aos_base.specs.declared.kernel.Did.TheVariants.{Went, Ended as NoFrame, Trapped}
-use Rattle.aos_base.specs.Question.{Val, Asks, Traps, feed, Reads, Stores, Copies, PutsText, ComparesTexts, Calls, Ends, Makes, Starts, PutsInt, PutsChar, PutsString, PutsNothing, PutsLn, Places, Lengths}
+use Rattle.aos_base.specs.Question.{Val, Asks, Traps, bind, feed, Reads, Stores, Copies, PutsText, ComparesTexts, Calls, Ends, Makes, Starts, PutsInt, PutsChar, PutsString, PutsNothing, PutsLn, Places, Lengths}
 use Rattle.aos_base.specs.Rooted.{Made, Rooted, spliced}
 use Rattle.aos_types.specs.Shape.{Shape, One}
 use Rattle.aos_types.specs.Content.{Content, Scalar, placed as placed_at, overlay}
 use Rattle.aos_types.specs.World.{World, Grows, shape_at, read}
 use Rattle.aos_typed.specs.declared.tree.TType.{TType}
-use Rattle.aos_typed.specs.Program.{Stat, Program}
+use Rattle.aos_typed.specs.Program.{Expr, Repeat, Stats, Program}
 use Rattle.aos_typed.specs.Numbers.{id_of}
 use Rattle.aos_typed.specs.Sort.{Sort, Plain, variable_shape}
 use Rattle.aos_typed.specs.Spot.{Spot}
 use Rattle.aos_typed.specs.Text.{with_text, fitted}
-use Rattle.aos_typed.specs.Value.{Value, Int, Flag, Char, Object, number_of}
+use Rattle.aos_typed.specs.Value.{Value, Int, Flag, Char, Object, number_of, is_true}
 use Rattle.aos_typed.specs.Typing.{Is, IsPlain, IsInteger}
 use Rattle.aos_typed.specs.Store.{Store, scalar_in, has_room, new_number, with_object as with_one_more}
 use Rattle.aos_typed.specs.Meaning as source
-use Rattle.aos_typed.specs.Meaning.{Doing, Item, Do, After, Into, item_of, pos_of}
+use Rattle.aos_typed.specs.Meaning.{Doing, Item, Do, Rounds, Round, Until, After, Into, Exits, leave, value_of, item_of, pos_of}
 use Rattle.aos_typed.specs.Source as S
 use Rattle.aos_typed.specs.Source.{first_value}
-use Rattle.aos_typed.specs.WellTyped.{is_basic, IsStatement}
+use Rattle.aos_typed.specs.WellTyped.{is_basic}
 use Rattle.aos_code.specs.declared.instr.Cell.{Cell}
 use Rattle.aos_code.specs.declared.instr.Cell.TheVariants.{Ref}
 use Rattle.aos_code.specs.declared.instr.Kind.TheVariants.{N}
@@ -36,7 +36,7 @@ use Rattle.aos_code.specs.declared.image.Image.{Image}
 use Rattle.aos_code.specs.Memory.{Memory, with_object as with_one}
 use Rattle.aos_code.specs.Silent.{Stack, Keeps, Question, Begins, Fails, Stop, Work, Ended, is_of, silent}
 use Rattle.aos_code.specs.Machine as I
-use Rattle.aos_code.specs.Machine.{code_of, home_of}
+use Rattle.aos_code.specs.Machine.{code_of}
 use Rattle.aos_concurrency.specs.Spot.{Anyone, GoesPast}
 use Rattle.aos_concurrency.specs.Simulates.{SameTurn}
 use Rattle.aos_places.specs.Shows.{Shows}
@@ -44,15 +44,15 @@ use Rattle.aos_places.proofs.Grow.{grows_same, objects_grow}
 use Rattle.aos_places.proofs.Places.{ReadAlike, read_alike, stored_alike}
 use Rattle.aos_places.proofs.Makes.{made_alike}
 use Rattle.aos_sim.specs.Cells.{cell_of}
-use Rattle.aos_sim.specs.Code.{kind_of, stat_code}
+use Rattle.aos_sim.specs.Code.{kind_of}
 use Rattle.aos_sim.proofs.Kept.{values_kept}
 use Rattle.aos_sim.proofs.Runs.{Run, AtBegin, Onward, past, calm, runs, run, resume, run_by_silent, feed-append}
 use Rattle.aos_sim.proofs.Types.{number_cell, integer_is, character_is}
 use Rattle.aos_sim.proofs.Results.{natural_is}
 use Rattle.aos_sim.proofs.Variables.{value_from}
 use Rattle.aos_sim.proofs.Does.{scheme, addr_of, placed, HasCharacters, HasText, HasPredeclared, HasTypes, Knows, Valid, Conforms, Does, along, calm_placed}
-use Rattle.aos_sim.proofs.Carries.{Stands, Carries, Behind, Remains, StatementsDo}
-use Rattle.aos_sim.proofs.Stats.{basic_kind, carries_ends, carries_begins}
+use Rattle.aos_sim.proofs.Carries.{GoesOn, Behind, Remains, BeginsAt, ItemsDo}
+use Rattle.aos_sim.proofs.Stats.{basic_kind, ends}
 use Rattle.aos_sim.proofs.First.{zero_cell, first_is, first_same, get_right}
 use Rattle.aos_sim.proofs.States.{world_of, shapes_of, SameStore, SameVariables, SamePlace, Waiting, SameFrames, Follows, Same, SameState, ends_same, ends_shown, opened_same, waiting_grow}
 use Rattle.aos_sim.proofs.Written.{written}
@@ -125,7 +125,7 @@ module _ (program : Program) (image : Image) where
       record { stores = h.stores; frames = record { now = h.same; behind = λ k. absurd (never k) }; left = refl; output = refl; begun = refl }
 
   -- the topmost frame
-  module _ (typed : HasTypes program) (statements : StatementsDo program) (ms ps : List ℕ) (f : S.Frame) (g : I.Frame) (fs : List S.Frame) (gs : List I.Frame) (s : Store) (mem : Memory) (place : SamePlace program image f.home f.object f.at g.procedure g.object g.at) (follows : Follows program image ms ps) (below : Waiting program image s.made fs gs) (stores : SameStore program s mem) (shown : SameVariables program s.made (f ∷ fs) (g ∷ gs)) where
+  module _ (typed : HasTypes program) (items_do : ItemsDo program) (ms ps : List ℕ) (f : S.Frame) (g : I.Frame) (fs : List S.Frame) (gs : List I.Frame) (s : Store) (mem : Memory) (place : SamePlace program image f.home f.object f.at g.procedure g.object g.at) (follows : Follows program image ms ps) (below : Waiting program image s.made fs gs) (stores : SameStore program s mem) (shown : SameVariables program s.made (f ∷ fs) (g ∷ gs)) where
     abbrev shapes : List ProcShape
     shapes = image.shapes.items
 
@@ -186,12 +186,11 @@ module _ (program : Program) (image : Image) where
         (went s mem [] false Went (S.all_frames ms (S.with_result ms S.done fs)) (I.all_frames ps gs) (λ k. k)
         (record { stores = stores; same = record { follows = follows; frames = ends_same program image s.made ms fs gs below; shown = ends_shown program image s.made ms fs gs shown.1 } }))
 
-    -- the next statement begins
-    begins_alike : (x : Stat) (is items : List Item) (answers : Option (List Value)) (next : ℕ) (k0 : Keeps) (st0 : Stack) (stop : Stop) (start : ℕ) (k : Keeps) → Stands code start (stat_code program x start) → IsStatement program x → Carries program shapes g.procedure here code is (start + length (stat_code program x start)) → resumed stop ≡ Val (AtBegin start (pos_of x) k []) →
-        Alike (S.settles ms (Do x ∷ is) (upper items answers) fs s) (I.goes ps shapes stop (lower next k0 st0) gs mem)
-    begins_alike x is items answers next k0 st0 stop start k stands stated after e =
-        let left : Left now (Some []) (Do x ∷ is) (start + 1) k [] = statements shapes g.procedure here code now x start k is typed knows stated stands after in
-        subst (λ z. Alike (S.settles ms (Do x ∷ is) (upper items answers) fs s) (I.goes ps shapes z (lower next k0 st0) gs mem)) (sym (stop_begins shapes g.procedure here code stop start (pos_of x) k [] e))
+    -- an item begins
+    begins_alike : (there : Pos) (i : Item) (is items : List Item) (answers : Option (List Value)) (next : ℕ) (k0 : Keeps) (st0 : Stack) (stop : Stop) (m : Run) → BeginsAt program shapes g.procedure here code there i is now m → resumed stop ≡ calm g.cells m → Alike (S.begins ms there (i ∷ is) (upper items answers) fs s) (I.goes ps shapes stop (lower next k0 st0) gs mem)
+    begins_alike there i is items answers next k0 st0 stop m b e =
+        let left : Left now (Some []) (i ∷ is) (b.at + 1) b.keeps [] = b.does in
+        subst (λ z. Alike (S.begins ms there (i ∷ is) (upper items answers) fs s) (I.goes ps shapes z (lower next k0 st0) gs mem)) (sym (stop_begins shapes g.procedure here code stop b.at there b.keeps [] (e ∙ ap (calm g.cells) b.runs)))
         (went s mem [] true Went _ _ (λ k. k)
         (record {
           stores = stores;
@@ -202,14 +201,10 @@ module _ (program : Program) (image : Image) where
           };
         }))
 
-    -- what is next of these items
-    settles_alike : (is items : List Item) (answers : Option (List Value)) (next : ℕ) (k0 : Keeps) (st0 : Stack) (stop : Stop) (p : ℕ) (k : Keeps) → Carries program shapes g.procedure here code is p → resumed stop ≡ calm g.cells (run_from p k []) → Alike (S.settles ms is (upper items answers) fs s) (I.goes ps shapes stop (lower next k0 st0) gs mem)
-    settles_alike [] items answers next k0 st0 stop p k c e =
-        let x = carries_ends program shapes g.procedure here code p k place.gives.0 place.gives.1 place.gives.2 c in
-        ends_alike (lower next k0 st0) stop x.0 (e ∙ ap (calm g.cells) x.1)
-    settles_alike (Do x ∷ is) items answers next k0 st0 stop p k c e =
-        let b = carries_begins program shapes g.procedure here code x is p k c in
-        begins_alike x is items answers next k0 st0 stop b.at k b.stands b.typed b.carries (e ∙ ap (calm g.cells) b.run)
+    traps_alike : (items : List Item) (answers : Option (List Value)) (next : ℕ) (k : Keeps) (st : Stack) (n c : ℕ) (stop : Stop) (k' : Keeps) → Left now answers items next k st → stop ≡ Ended (Fails n c) k' → Alike (S.leaves ms (Trapped n c) (upper items answers ∷ fs) s) (I.goes ps shapes stop (lower next k st) gs mem)
+    traps_alike items answers next k st n c stop k' left e =
+        subst (λ z. Alike (S.leaves ms (Trapped n c) (upper items answers ∷ fs) s) (I.goes ps shapes z (lower next k st) gs mem)) (sym e)
+        (went s mem [] false (Trapped n c) _ _ (λ z. z) (state items answers next k st left))
 
     -- an item that has begun
     module _ (i : Item) (is : List Item) (t : List Value) (next : ℕ) (k : Keeps) (st : Stack) (left : Left now (Some t) (i ∷ is) next k st) where
@@ -444,38 +439,77 @@ module _ (program : Program) (image : Image) where
       work_alike (Places a) x = absurd x.valid
       work_alike (Lengths a) x = absurd x.valid
 
-      -- a question of the item is its code's, and so is a trap
+      -- a question of the item is its code's
       asks_alike : (q : source.Question) (f' : Value → Doing After) (d : Does program (Leads is) now (run_from next k st) (Asks q f')) (stop : Stop) → feed t (item_of i) ≡ Asks q f' → stop_from next k st ≡ stop → AtWork shapes g.procedure here code (placed program now q) d.0 stop → Alike (S.answer program ms q top fs s) (I.goes ps shapes stop low gs mem)
       asks_alike q f' d stop asks e v =
           subst (λ z. Alike (S.answer program ms q top fs s) (I.goes ps shapes z low gs mem)) (sym v.is)
           (work_alike q (record { onto = f'; code_on = d.0; at = v.at; keeps = v.keeps; stack = v.stack; asks = asks; valid = d.2; on = v.on; after = d.3; stop = e ∙ v.is }))
 
-      traps_alike : (n c : ℕ) (stop : Stop) (k' : Keeps) → stop ≡ Ended (Fails n c) k' → Alike (S.leaves ms (Trapped n c) (top ∷ fs) s) (I.goes ps shapes stop low gs mem)
-      traps_alike n c stop k' e =
-          subst (λ z. Alike (S.leaves ms (Trapped n c) (top ∷ fs) s) (I.goes ps shapes z low gs mem)) (sym e)
-          (went s mem [] false (Trapped n c) _ _ (λ z. z) (state (i ∷ is) (Some t) next k st left))
+    -- where silent work stops at a question of an item that goes on without a beginning, or of one that has begun
+    stops_at : (q : source.Question) (stop : Stop) (m : Run) (d : Cell → Run) → Valid program now q → resumed stop ≡ calm g.cells m → m ≡ Asks (placed program now q) d → AtWork shapes g.procedure here code (placed program now q) d stop
+    stops_at q stop m d valid seen e = stop_works shapes g.procedure here code stop (placed program now q) d (seen ∙ ap (calm g.cells) e ∙ calm_placed program g.cells now q d valid)
 
-      -- what the item comes to
-      goes_alike : (r : Doing After) (stop : Stop) → feed t (item_of i) ≡ r → Does program (Leads is) now (run_from next k st) r → stop_from next k st ≡ stop → calm g.cells (run_from next k st) ≡ resumed stop → Alike (S.goes program ms r is top fs s) (I.goes ps shapes stop low gs mem)
-      goes_alike (Val (Into new)) stop asks d e seen =
-          settles_alike (new ++ is) (i ∷ is) (Some t) next k st stop d.0 d.1 d.3 (sym seen ∙ ap (calm g.cells) d.2)
-      goes_alike (Asks q f') stop asks d e seen =
-          asks_alike q f' d stop asks e
-          (stop_works shapes g.procedure here code stop (placed program now q) d.0 (sym seen ∙ ap (calm g.cells) d.1 ∙ calm_placed program g.cells now q d.0 d.2))
-      goes_alike (Traps n c) stop asks d e seen =
-          let v = stop_fails shapes g.procedure here code stop n c (sym seen ∙ ap (calm g.cells) d.0) in
-          traps_alike n c stop v.0 v.1
+    module _ (items : List Item) (answers : Option (List Value)) (next : ℕ) (k : Keeps) (st : Stack) (left : Left now answers items next k st) (stop : Stop) (is_stop : stop_from next k st ≡ stop) (seen : resumed stop ≡ calm g.cells (run_from next k st)) where
+      abbrev BothGo : S.Turned → Type 0
+      BothGo t = Alike t (I.goes ps shapes stop (lower next k st) gs mem)
+
+      abbrev Onto : List Item → Type 0
+      Onto is = GoesOn program shapes g.procedure here code is (run_from next k st)
+
+      -- the condition behind a REPEAT's statements
+      tests_alike : (there : Pos) (b : Stats) (e : Expr) (is : List Item) (r : Doing Value) → let l = Do (Repeat there b e) in value_of e ≡ r → Does program (Leads is) now (run_from next k st) (bind r (λ v. Val (Into (if is_true v then [] else l ∷ [])))) → (Onto is → BothGo (S.settles program ms is (upper items answers) fs s)) → (Onto (l ∷ is) → BothGo (S.begins ms there (l ∷ is) (upper items answers) fs s)) →
+          BothGo (S.tests program ms r (S.settles program ms is (upper items answers) fs s) (S.begins ms there (l ∷ is) (upper items answers) fs s) (Until there b e ∷ is) (upper items answers) fs s)
+      tests_alike there b e is (Val v) is_r d ends again = by (is_true v) d
+        where
+          by : (c : Bool) → Onto ((if c then [] else Do (Repeat there b e) ∷ []) ++ is) → BothGo (if c then S.settles program ms is (upper items answers) fs s else S.begins ms there (Do (Repeat there b e) ∷ is) (upper items answers) fs s)
+          by true o = ends o
+          by false o = again o
+      tests_alike there b e is (Asks q f) is_r d ends again =
+          let on : Value → Doing After = λ v. Val (Into (if is_true v then [] else Do (Repeat there b e) ∷ [])) in
+          let asks : item_of (Until there b e) ≡ Asks q (λ v. bind (f v) on) = ap (λ r. bind r on) is_r in
+          let old : Left now (Some []) (Until there b e ∷ is) next k st = subst (λ r. Does program (Leads is) now (run_from next k st) r) (sym asks) d in
+          asks_alike (Until there b e) is [] next k st old q (λ v. bind (f v) on) d stop asks is_stop (stops_at q stop (run_from next k st) d.0 d.2 seen d.1)
+      tests_alike there b e is (Traps n c) is_r d ends again =
+          let v = stop_fails shapes g.procedure here code stop n c (seen ∙ ap (calm g.cells) d.0) in
+          traps_alike items answers next k st n c stop v.0 left v.1
+
+      -- what is next of these items
+      settles_alike : (is : List Item) → Onto is → BothGo (S.settles program ms is (upper items answers) fs s)
+      settles_alike [] o =
+          let x = ends program shapes g.procedure here code place.gives.0 (run_from next k st) place.gives.1 place.gives.2 o in
+          ends_alike (lower next k st) stop x.0 (seen ∙ ap (calm g.cells) x.1)
+      settles_alike (Do x ∷ is) o =
+          begins_alike (pos_of x) (Do x) is items answers next k st stop (run_from next k st) (items_do shapes g.procedure here code now (Do x ∷ is) (run_from next k st) typed knows o) seen
+      settles_alike (Rounds there a q last step b ∷ is) o =
+          begins_alike there (Rounds there a q last step b) is items answers next k st stop (run_from next k st) (items_do shapes g.procedure here code now (Rounds there a q last step b ∷ is) (run_from next k st) typed knows o) seen
+      settles_alike (Round x ∷ is) o =
+          begins_alike (pos_of x) (Do x) is items answers next k st stop (run_from next k st) (items_do shapes g.procedure here code now (Round x ∷ is) (run_from next k st) typed knows o) seen
+      settles_alike (Until there b e ∷ is) o =
+          tests_alike there b e is (value_of e) refl (items_do shapes g.procedure here code now (Until there b e ∷ is) (run_from next k st) typed knows o) (λ o'. settles_alike is o')
+          (λ o'. begins_alike there (Do (Repeat there b e)) is items answers next k st stop (run_from next k st) (items_do shapes g.procedure here code now (Do (Repeat there b e) ∷ is) (run_from next k st) typed knows o') seen)
+
+    -- what an item that has begun comes to
+    goes_alike : (i : Item) (is : List Item) (t : List Value) (next : ℕ) (k : Keeps) (st : Stack) (left : Left now (Some t) (i ∷ is) next k st) (r : Doing After) → feed t (item_of i) ≡ r → Does program (Leads is) now (run_from next k st) r → Alike (S.goes program ms r is (upper (i ∷ is) (Some t)) fs s) (I.goes ps shapes (stop_from next k st) (lower next k st) gs mem)
+    goes_alike i is t next k st left (Val (Into new)) asks d =
+        settles_alike (i ∷ is) (Some t) next k st left (stop_from next k st) refl (sym (run_by_silent shapes g.procedure here g.cells code next k st)) (new ++ is) d
+    goes_alike i is t next k st left (Val Exits) asks d =
+        settles_alike (i ∷ is) (Some t) next k st left (stop_from next k st) refl (sym (run_by_silent shapes g.procedure here g.cells code next k st)) (leave is) d
+    goes_alike i is t next k st left (Asks q f') asks d =
+        asks_alike i is t next k st left q f' d (stop_from next k st) asks refl
+        (stops_at q (stop_from next k st) (run_from next k st) d.0 d.2 (sym (run_by_silent shapes g.procedure here g.cells code next k st)) d.1)
+    goes_alike i is t next k st left (Traps n c) asks d =
+        let v = stop_fails shapes g.procedure here code (stop_from next k st) n c (sym (run_by_silent shapes g.procedure here g.cells code next k st) ∙ ap (calm g.cells) d.0) in
+        traps_alike (i ∷ is) (Some t) next k st n c (stop_from next k st) v.0 left v.1
 
     -- what is left of the frame goes on
     top_alike : (answers : Option (List Value)) (items : List Item) (next : ℕ) (k : Keeps) (st : Stack) → Left now answers items next k st → Alike (S.item_turn program ms answers items (upper items answers) fs s) (I.goes ps shapes (stop_from next k st) (lower next k st) gs mem)
     top_alike None is next k st r =
-        subst (λ y. Alike (S.settles ms is (upper is None) fs s) (I.goes ps shapes (stop_from next k y) (lower next k y) gs mem)) (sym r.0)
-        (settles_alike is is None next k [] (stop_from next k []) next k r.1 (sym (run_by_silent shapes g.procedure here g.cells code next k [])))
+        subst (λ y. Alike (S.settles program ms is (upper is None) fs s) (I.goes ps shapes (stop_from next k y) (lower next k y) gs mem)) (sym r.0)
+        (settles_alike is None next k [] (refl, r.1) (stop_from next k []) refl (sym (run_by_silent shapes g.procedure here g.cells code next k [])) is r.1)
     top_alike (Some t) [] next k st r = absurd r
-    top_alike (Some t) (i ∷ is) next k st r =
-        goes_alike i is t next k st r (feed t (item_of i)) (stop_from next k st) refl r refl (run_by_silent shapes g.procedure here g.cells code next k st)
+    top_alike (Some t) (i ∷ is) next k st r = goes_alike i is t next k st r (feed t (item_of i)) refl r
 
-  frames_alike : HasTypes program → StatementsDo program → (ms ps : List ℕ) (fs : List S.Frame) (gs : List I.Frame) (s : Store) (mem : Memory) → SameStore program s mem → Follows program image ms ps → SameFrames program image s.made fs gs → SameVariables program s.made fs gs → Alike (S.turn_at program ms fs s) (I.turn_at image ps gs mem)
+  frames_alike : HasTypes program → ItemsDo program → (ms ps : List ℕ) (fs : List S.Frame) (gs : List I.Frame) (s : Store) (mem : Memory) → SameStore program s mem → Follows program image ms ps → SameFrames program image s.made fs gs → SameVariables program s.made fs gs → Alike (S.turn_at program ms fs s) (I.turn_at image ps gs mem)
   frames_alike p d ms ps [] [] s mem stores follows h shown =
       went s mem [] false NoFrame _ _ (λ z. z) (record { stores = stores; same = record { follows = follows; frames = tt; shown = tt } })
   frames_alike p d ms ps [] (g ∷ gs) s mem stores follows h shown = absurd h
@@ -483,7 +517,7 @@ module _ (program : Program) (image : Image) where
   frames_alike p d ms ps (f ∷ fs) (g ∷ gs) s mem stores follows h shown =
       top_alike p d ms ps f g fs gs s mem h.0.place follows h.1 stores shown f.answers f.items g.next g.keeps g.stack h.0.remains
 
-  pub turn_alike : HasTypes program → StatementsDo program → (s : Store) (mem : Memory) (x : S.Frames) (y : I.Frames) → SameStore program s mem → Same program image s.made x y → Alike (S.turn program s x) (I.turn image mem y)
+  pub turn_alike : HasTypes program → ItemsDo program → (s : Store) (mem : Memory) (x : S.Frames) (y : I.Frames) → SameStore program s mem → Same program image s.made x y → Alike (S.turn program s x) (I.turn image mem y)
   turn_alike p d s mem x y stores h =
       let o = opened_same program image s.made x y h in
       frames_alike p d (S.opened program x).following (I.opened y).following (S.opened program x).frames (I.opened y).frames s mem stores o.follows o.frames o.shown

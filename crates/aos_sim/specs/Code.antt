@@ -1,22 +1,30 @@
--- The code of a program. A jump names its target, so each piece of code is told where it stands.
-use Rattle.std.specs.Prelude.{ℕ, pos, ◌+◌, List, [], ◌∷◌, ◌++◌, length, map, slice_get}
+-- The code of a program. A jump names its target, so each piece of code is told where it stands. Code of statements is told too where
+-- EXIT leads, and how many FORs and CASEs are around it: what one of them keeps has this number, so that what is in it keeps nothing there.
+use Rattle.std.specs.Prelude.{ℕ, suc, ℤ, pos, ◌+◌, ◌*◌, List, [], ◌∷◌, ◌++◌, length, map, slice_get}
 use Rattle.aos_base.specs.declared.text.Pos.{Pos}
 use Rattle.aos_base.specs.declared.operator.Unary.TheVariants.{Range}
-use Rattle.aos_base.specs.declared.operator.Binary.TheVariants.{SetSpan}
+use Rattle.aos_base.specs.declared.number.Width.{Width}
+use Rattle.aos_base.specs.declared.number.Relation.TheVariants.{LessEqual, GreaterEqual}
+use Rattle.aos_base.specs.declared.operator.Binary.TheVariants.{SetSpan, Cmp, Add, Sub, Union, Minus}
 use Rattle.aos_base.specs.Operators.{flag}
 use Rattle.aos_types.specs.Shape.{number_of, offset}
 use Rattle.aos_types.specs.Contents.{contents, variable_scalars}
 use Rattle.aos_typed.specs.declared.tree.Literal.{Literal}
 use Rattle.aos_typed.specs.declared.tree.Literal.TheVariants as literal
+use Rattle.aos_typed.specs.declared.tree.Change.{Change as Changing}
+use Rattle.aos_typed.specs.declared.tree.Change.TheVariants as change
+use Rattle.aos_typed.specs.declared.tree.LabelRange.{LabelRange}
+use Rattle.aos_typed.specs.Meaning.{until}
 use Rattle.aos_typed.specs.Numbers.{id_of}
-use Rattle.aos_typed.specs.Program.{Place, ModuleVar, Field, Index, Expr, Lit, Read, Unary, Binary, And, Or, Element, Ord, Chr, CompareTexts, Len, Call, Open, Char, Int, String, Ln, Stat, Assign, Copy, PutText, While, New, Out, Stats, Nothing, Then, Program}
+use Rattle.aos_typed.specs.Program.{Place, ModuleVar, Field, Index, Expr, Lit, Read, Unary, Binary, And, Or, Element, Ord, Chr, CompareTexts, Len, Call, Open, Char, Int, String, Ln, Stat, Assign, Copy, PutText, If, Case, While, Repeat, Loop, Exit, For, Block, Assert, Halt, Change, New, Out, Stats, Nothing, Then, Arms, Otherwise, Arm, Cases, NoElse, Else, OfLabels, Program}
 use Rattle.aos_typed.specs.Source.{module_shape}
 use Rattle.aos_typed.specs.declared.tree.TType.{TType}
 use Rattle.aos_typed.specs.declared.tree.TType.TheVariants as type
+use Rattle.aos_typed.specs.declared.tree.TType.TheVariants.{Integer}
 use Rattle.aos_code.specs.declared.instr.Kind.{Kind}
 use Rattle.aos_code.specs.declared.instr.Kind.TheVariants.{N, R}
 use Rattle.aos_code.specs.declared.instr.Instr.{Instr}
-use Rattle.aos_code.specs.declared.instr.Instr.TheVariants.{Num, Dup, Drop, Swap, Module, Offset, Index as IndexOf, Unary as OnOne, Binary as OnTwo, Jump, JumpFalse, Begin, Load, Store, Copy as CopyOf, PutText as PutTextOf, CmpText, NewObject, Start, Return, OutChar, OutInt, OutString, OutLn, OutOpen}
+use Rattle.aos_code.specs.declared.instr.Instr.TheVariants.{Num, Dup, Drop, Swap, Keep, Kept, Fail, Assert as AssertOf, Halt as HaltOf, Module, Offset, Index as IndexOf, Unary as OnOne, Binary as OnTwo, Jump, JumpFalse, Begin, Load, Store, Copy as CopyOf, PutText as PutTextOf, CmpText, NewObject, Start, Return, OutChar, OutInt, OutString, OutLn, OutOpen}
 
 abbrev pub begin : Pos → Instr
 begin at = Begin at.line at.col
@@ -56,6 +64,48 @@ or_code a b at =
 abbrev pub while_code : Pos → List Instr → List Instr → ℕ → List Instr
 while_code here c b at =
     begin here ∷ (c ++ (JumpFalse (at + 1 + length c + 1 + length b + 1) ∷ (b ++ Jump at ∷ [])))
+
+-- the statements of a REPEAT, and then its condition: where that is false the code goes on at its beginning
+abbrev pub repeat_code : Pos → List Instr → List Instr → ℕ → List Instr
+repeat_code here b c at = begin here ∷ (b ++ (c ++ JumpFalse at ∷ []))
+
+abbrev pub loop_code : Pos → List Instr → ℕ → List Instr
+loop_code here b at = begin here ∷ (b ++ Jump at ∷ [])
+
+-- an arm with a test, and the arms behind it
+abbrev pub arm_code : (test body : List Instr) → (at end : ℕ) → List Instr → List Instr
+arm_code c b at end more = c ++ (JumpFalse (at + length c + 1 + length b + 1) ∷ (b ++ (Jump end ∷ more)))
+
+-- a round of a FOR: its test, which takes what is kept under a number, and where that holds its statements and the step
+abbrev pub round_code : Pos → (value : List Instr) → ℤ → (level : ℕ) → (body next : List Instr) → (at : ℕ) → List Instr
+round_code here v step level b n at =
+    let test = v ++ (Kept level N ∷ (OnTwo (Cmp (until step)) ∷ [])) in
+    begin here ∷ (test ++ (JumpFalse (at + 1 + length test + 1 + length b + length n + 1) ∷ (b ++ (n ++ Jump at ∷ []))))
+
+-- how many instructions stand before the statements of a round
+abbrev pub round_head : (value : List Instr) → ℕ
+round_head v = 1 + length v + 2 + 1
+
+-- a range of labels: where the selector's value, which is kept, is in it the code goes on there
+abbrev pub label_code : LabelRange → (level at hit : ℕ) → List Instr
+label_code r level at hit =
+    Kept level N ∷ Num r.low ∷ OnTwo (Cmp GreaterEqual) ∷ JumpFalse (at + 9)
+    ∷ Kept level N ∷ Num r.high ∷ OnTwo (Cmp LessEqual) ∷ JumpFalse (at + 9) ∷ Jump hit ∷ []
+
+abbrev pub labels_code : List LabelRange → (level at hit : ℕ) → List Instr
+labels_code [] level at hit = []
+labels_code (r ∷ rs) level at hit = label_code r level at hit ++ labels_code rs level (at + 9) hit
+
+-- an arm with labels, and the arms behind it
+abbrev pub case_code : (labels body : List Instr) → (next end : ℕ) → List Instr → List Instr
+case_code ls b next end more = ls ++ (Jump next ∷ (b ++ (Jump end ∷ more)))
+
+-- how INC, DEC, INCL and EXCL change a value that lies below what it's changed by
+abbrev pub change_code : Changing → List Instr
+change_code (change.Add w) = OnTwo (Add w) ∷ []
+change_code (change.Subtract w) = OnTwo (Sub w) ∷ []
+change_code change.Include = Dup ∷ OnTwo SetSpan ∷ OnTwo Union ∷ []
+change_code change.Exclude = Dup ∷ OnTwo SetSpan ∷ OnTwo Minus ∷ []
 
 -- a place, and behind it how many elements are there
 abbrev pub with_length : List Instr → ℕ → List Instr
@@ -110,28 +160,99 @@ module _ (program : Program) where
   abbrev pub new_code : Place → ℕ → ℕ → List Instr
   new_code p t at = NewObject (t + 1) ∷ (Dup ∷ (place_code p (at + 2) ++ (Swap ∷ (Store R ∷ (Start ∷ [])))))
 
+  -- a value for a variable of a type
+  abbrev pub assign_code : Pos → TType → Place → Expr → ℕ → List Instr
+  assign_code here t p e at =
+      begin here
+      ∷ operands_code (place_code p (at + 1)) (value_code e (at + 1 + length (place_code p (at + 1)))) (Store (kind_of t))
+
+  -- a variable that is changed by a value, which is evaluated before it is read
+  abbrev pub changed_code : Pos → Changing → Place → Expr → ℕ → List Instr
+  changed_code here c p e at =
+      let place = place_code p (at + 1) in
+      begin here
+      ∷ (place ++ (Dup ∷ (value_code e (at + 1 + length place + 1) ++ (Swap ∷ (Load N ∷ (Swap ∷ (change_code c ++ Store N ∷ [])))))))
+
+  -- FOR before its rounds: its last value is kept, and its variable is assigned
+  abbrev pub for_head : Pos → Width → Place → (from to : Expr) → (at level : ℕ) → List Instr
+  for_head here w p from to at level =
+      let last = value_code to (at + 1) in
+      begin here ∷ (last ++ (Keep level N ∷ assign_code here (Integer w) p from (at + 1 + length last + 1)))
+
+  abbrev pub step_code : Pos → Width → Place → ℤ → ℕ → List Instr
+  step_code here w p step at =
+      assign_code here (Integer w) p (Binary (Add w) (Read (Integer w) p) (Lit (literal.Int step))) at
+
+  -- where the statements of a round stand, and the rounds of a FOR with these statements
+  abbrev pub body_place : Width → Place → ℕ → ℕ
+  body_place w p at = at + round_head (value_code (Read (Integer w) p) (at + 1))
+
+  abbrev pub rounds_with : Pos → Width → Place → ℤ → (body : List Instr) → (at level : ℕ) → List Instr
+  rounds_with here w p step b at level =
+      round_code here (value_code (Read (Integer w) p) (at + 1)) step level b (step_code here w p step (body_place w p at + length b)) at
+
   abbrev mutual
-    pub stat_code : Stat → ℕ → List Instr
-    stat_code (Assign here t p e) at =
-        begin here
-        ∷ operands_code (place_code p (at + 1)) (value_code e (at + 1 + length (place_code p (at + 1)))) (Store (kind_of t))
-    stat_code (Copy here t p q) at =
+    pub stat_code : Stat → (at exit level : ℕ) → List Instr
+    stat_code (Assign here t p e) at exit level = assign_code here t p e at
+    stat_code (Copy here t p q) at exit level =
         begin here
         ∷ operands_code (place_code p (at + 1)) (place_code q (at + 1 + length (place_code p (at + 1)))) (CopyOf (cells_of t))
-    stat_code (PutText here strict p n q m) at =
+    stat_code (PutText here strict p n q m) at exit level =
         begin here
         ∷ operands_code (with_length (place_code p (at + 1)) n)
         (with_length (place_code q (at + 1 + length (with_length (place_code p (at + 1)) n))) m)
         (PutTextOf strict)
-    stat_code (While here e body) at =
-        let c = value_code e (at + 1) in while_code here c (stats_code body (at + 1 + length c + 1)) at
-    stat_code (New here p t) at = begin here ∷ new_code p t (at + 1)
-    stat_code (Out here call) at = begin here ∷ out_code call (at + 1)
+    stat_code (If here arms) at exit level =
+        begin here ∷ arms_code arms (at + 1) (at + 1 + length (arms_code arms (at + 1) 0 exit level)) exit level
+    stat_code (Case here e cases) at exit level =
+        let c = value_code e (at + 1) in
+        let first = at + 1 + length c + 1 in
+        begin here ∷ (c ++ (Keep level N ∷ cases_code cases first (first + length (cases_code cases first 0 exit level)) exit level))
+    stat_code (While here e body) at exit level =
+        let c = value_code e (at + 1) in while_code here c (stats_code body (at + 1 + length c + 1) exit level) at
+    stat_code (Repeat here body e) at exit level =
+        let b = stats_code body (at + 1) exit level in repeat_code here b (value_code e (at + 1 + length b)) at
+    stat_code (Loop here body) at exit level =
+        let out = at + 1 + length (stats_code body (at + 1) 0 level) + 1 in
+        loop_code here (stats_code body (at + 1) out level) at
+    stat_code (Exit here) at exit level = begin here ∷ (Jump exit ∷ [])
+    stat_code (For here w p from to step body) at exit level =
+        let head = for_head here w p from to at level in
+        let first = at + length head in
+        head ++ rounds_with here w p step (stats_code body (body_place w p first) exit (suc level)) first level
+    stat_code (Block here body) at exit level = begin here ∷ stats_code body (at + 1) exit level
+    stat_code (Assert here e code) at exit level = begin here ∷ (value_code e (at + 1) ++ AssertOf code ∷ [])
+    stat_code (Halt here code) at exit level = begin here ∷ (HaltOf code ∷ [])
+    stat_code (Change here c p e) at exit level = changed_code here c p e at
+    stat_code (New here p t) at exit level = begin here ∷ new_code p t (at + 1)
+    stat_code (Out here call) at exit level = begin here ∷ out_code call (at + 1)
 
-    pub stats_code : Stats → ℕ → List Instr
-    stats_code Nothing at = []
-    stats_code (Then s ss) at = stat_code s at ++ stats_code ss (at + length (stat_code s at))
+    pub stats_code : Stats → (at exit level : ℕ) → List Instr
+    stats_code Nothing at exit level = []
+    stats_code (Then s ss) at exit level =
+        stat_code s at exit level ++ stats_code ss (at + length (stat_code s at exit level)) exit level
 
-  -- a body: its statements, and the end of its frame
+    pub arms_code : Arms → (at end exit level : ℕ) → List Instr
+    arms_code (Otherwise ss) at end exit level = stats_code ss at exit level
+    arms_code (Arm e ss arms) at end exit level =
+        let c = value_code e at in
+        let b = stats_code ss (at + length c + 1) exit level in
+        arm_code c b at end (arms_code arms (at + length c + 1 + length b + 1) end exit level)
+
+    pub cases_code : Cases → (at end exit level : ℕ) → List Instr
+    cases_code NoElse at end exit level = Fail 4 ∷ []
+    cases_code (Else ss) at end exit level = stats_code ss at exit level
+    cases_code (OfLabels rs ss cases) at end exit level =
+        let hit = at + 9 * length rs + 1 in
+        let b = stats_code ss hit exit level in
+        let next = hit + length b + 1 in
+        case_code (labels_code rs level at hit) b next end (cases_code cases next end exit level)
+
+  -- the rounds of a FOR, in which more is kept
+  abbrev pub rounds_code : Pos → Width → Place → ℤ → Stats → (at exit level : ℕ) → List Instr
+  rounds_code here w p step body at exit level =
+      rounds_with here w p step (stats_code body (body_place w p at) exit (suc level)) at level
+
+  -- a body: its statements, and the end of its frame, to which an EXIT leads that stands in no LOOP
   abbrev pub body_code : Stats → List Instr
-  body_code ss = stats_code ss 0 ++ Return ∷ []
+  body_code ss = stats_code ss 0 (length (stats_code ss 0 0 0)) 0 ++ Return ∷ []

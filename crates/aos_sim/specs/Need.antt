@@ -1,6 +1,8 @@
 -- How many operands code has at most, beyond those that are there where it begins.
-use Rattle.std.specs.Prelude.{◌≡◌, ℕ, ◌+◌, ◌++◌, map, max}
-use Rattle.aos_typed.specs.Program.{Place, ModuleVar, Field, Index, Expr, Lit, Read, Unary, Binary, And, Or, Element, Ord, Chr, CompareTexts, Len, Call, Open, Char, Int, String, Ln, Stat, Assign, Copy, PutText, While, New, Out, Stats, Nothing, Then, Program}
+use Rattle.std.specs.Prelude.{◌≡◌, ℕ, suc, ◌+◌, ◌++◌, map, max}
+use Rattle.aos_typed.specs.Program.{Place, ModuleVar, Field, Index, Expr, Lit, Read, Unary, Binary, And, Or, Element, Ord, Chr, CompareTexts, Len, Call, Open, Char, Int, String, Ln, Stat, Assign, Copy, PutText, If, Case, While, Repeat, Loop, Exit, For, Block, Assert, Halt, Change, New, Out, Stats, Nothing, Then, Arms, Otherwise, Arm, Cases, NoElse, Else, OfLabels, Program}
+use Rattle.aos_typed.specs.declared.tree.Change.{Change as Changing}
+use Rattle.aos_typed.specs.declared.tree.Change.TheVariants as change
 use Rattle.aos_code.specs.declared.image.Image.{Image}
 
 -- a text whose place has so many, and behind it its length
@@ -40,13 +42,36 @@ out_need (Int e n) = max (value_need e) (1 + value_need n)
 out_need (String p n) = text_need (place_need p)
 out_need Ln = 0
 
+-- a value above the place that it's stored at
+abbrev pub assign_need : (place value : ℕ) → ℕ
+assign_need place value = max place (1 + value)
+
+-- what a variable is changed by lies above two places, and an element is there twice
+abbrev pub changed_need : Changing → (place value : ℕ) → ℕ
+changed_need (change.Add w) place value = max place (2 + value)
+changed_need (change.Subtract w) place value = max place (2 + value)
+changed_need change.Include place value = max place (max (2 + value) 4)
+changed_need change.Exclude place value = max place (max (2 + value) 4)
+
 -- a statement, and a sequence of them; a new object lies twice below the place that it is stored at
 abbrev mutual
   pub stat_need : Stat → ℕ
-  stat_need (Assign here t p e) = max (place_need p) (1 + value_need e)
+  stat_need (Assign here t p e) = assign_need (place_need p) (value_need e)
   stat_need (Copy here t p q) = max (place_need p) (1 + place_need q)
   stat_need (PutText here strict p n q m) = texts_need (place_need p) (place_need q)
+  stat_need (If here arms) = arms_need arms
+  stat_need (Case here e cases) = max (value_need e) (cases_need cases)
   stat_need (While here e body) = max (value_need e) (stats_need body)
+  stat_need (Repeat here body e) = max (stats_need body) (value_need e)
+  stat_need (Loop here body) = stats_need body
+  stat_need (Exit here) = 0
+  stat_need (For here w p from to step body) =
+      max (max (value_need to) (assign_need (place_need p) (value_need from)))
+      (max (assign_need (place_need p) (max (place_need p) 2)) (stats_need body))
+  stat_need (Block here body) = stats_need body
+  stat_need (Assert here e code) = value_need e
+  stat_need (Halt here code) = 0
+  stat_need (Change here c p e) = changed_need c (place_need p) (value_need e)
   stat_need (New here p t) = 2 + place_need p
   stat_need (Out here call) = out_need call
 
@@ -54,9 +79,56 @@ abbrev mutual
   stats_need Nothing = 0
   stats_need (Then s ss) = max (stat_need s) (stats_need ss)
 
+  pub arms_need : Arms → ℕ
+  arms_need (Otherwise ss) = stats_need ss
+  arms_need (Arm e ss arms) = max (max (value_need e) (stats_need ss)) (arms_need arms)
+
+  -- a label lies above the selector's value
+  pub cases_need : Cases → ℕ
+  cases_need NoElse = 0
+  cases_need (Else ss) = stats_need ss
+  cases_need (OfLabels rs ss cases) = max (max 2 (stats_need ss)) (cases_need cases)
+
+-- How many numbers statements keep something under that have so many around them.
+abbrev mutual
+  pub stat_level : Stat → ℕ → ℕ
+  stat_level (Assign here t p e) d = d
+  stat_level (Copy here t p q) d = d
+  stat_level (PutText here strict p n q m) d = d
+  stat_level (If here arms) d = arms_level arms d
+  stat_level (Case here e cases) d = max (suc d) (cases_level cases d)
+  stat_level (While here e body) d = stats_level body d
+  stat_level (Repeat here body e) d = stats_level body d
+  stat_level (Loop here body) d = stats_level body d
+  stat_level (Exit here) d = d
+  stat_level (For here w p from to step body) d = stats_level body (suc d)
+  stat_level (Block here body) d = stats_level body d
+  stat_level (Assert here e code) d = d
+  stat_level (Halt here code) d = d
+  stat_level (Change here c p e) d = d
+  stat_level (New here p t) d = d
+  stat_level (Out here call) d = d
+
+  pub stats_level : Stats → ℕ → ℕ
+  stats_level Nothing d = d
+  stats_level (Then s ss) d = max (stat_level s d) (stats_level ss d)
+
+  pub arms_level : Arms → ℕ → ℕ
+  arms_level (Otherwise ss) d = stats_level ss d
+  arms_level (Arm e ss arms) d = max (stats_level ss d) (arms_level arms d)
+
+  pub cases_level : Cases → ℕ → ℕ
+  cases_level NoElse d = d
+  cases_level (Else ss) d = stats_level ss d
+  cases_level (OfLabels rs ss cases) d = max (stats_level ss d) (cases_level cases d)
+
 -- a body, whose end takes nothing
 abbrev pub body_need : Stats → ℕ
 body_need ss = stats_need ss
+
+-- how many numbers a body keeps something under
+abbrev pub keeps_of : Stats → ℕ
+keeps_of ss = stats_level ss 0
 
 -- each body of an image of the program has as many operands at most as its statements need
 abbrev pub HasDepthsOf : Program → Image → Type 0

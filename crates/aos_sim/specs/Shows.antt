@@ -18,6 +18,7 @@ use Rattle.aos_code.specs.declared.image.Image.{Image}
 use Rattle.aos_code.specs.Machine.{machine, first_cell, first_state as first_of}
 use Rattle.aos_layout.specs.Layout.{variable_cells}
 use Rattle.aos_sim.specs.Code.{body_code}
+use Rattle.aos_sim.specs.Need.{keeps_of}
 
 -- as many numbers as the list has elements, from this one on
 abbrev pub numbers_from : {A : Type 0} → ℕ → List A → List ℕ
@@ -38,6 +39,7 @@ pub record IsCode (p : Program) (bs : List Body) (ss : List ProcShape) (ds : Lis
   pub bodies : map (λ b. b.code.items) bs ≡ map (λ m. body_code p m.body) p.modules ++ map (λ o. body_code p o.body) p.objects
   pub homes : map (λ s. s.module) ss ≡ numbers_from 0 p.modules ++ map (λ o. o.home) p.objects
   pub results : All (λ s. s.result ≡ None) ss
+  pub keeps : map (λ s. s.keeps) ss ≡ map (λ m. keeps_of m.body) p.modules ++ map (λ o. keeps_of o.body) p.objects
   pub starts : map (λ d. d.body) ds ≡ numbers_from 1 p.modules
   pub types : map (λ t. t.body) ts ≡ numbers_from (suc (length p.modules)) p.objects
   pub cells : map (λ d. d.cells.items) ds ≡ map (first_cells p.types) p.modules

@@ -1,9 +1,20 @@
 -- What expressions and statements do, as trees of questions.
-use Rattle.std.specs.Prelude.{ℕ, suc, pos, List, [], ◌∷◌, ◌++◌, true, false, Option, Some, None, if◌then◌else◌}
+use Rattle.std.specs.Prelude.{ℕ, suc, ℤ, pos, negsuc, int_le, List, [], ◌∷◌, ◌++◌, Bool, true, false, ◌&&◌, Option, Some, None, if◌then◌else◌}
 use Rattle.aos_base.specs.declared.text.Pos.{Pos}
+use Rattle.std.specs.List.{list_any}
+use Rattle.aos_base.specs.declared.number.Width.{Width}
+use Rattle.aos_base.specs.declared.number.Relation.{Relation}
+use Rattle.aos_base.specs.declared.number.Relation.TheVariants.{LessEqual, GreaterEqual}
+use Rattle.aos_base.specs.declared.operator.Binary.TheVariants.{Add, Sub, Union, Minus}
+use Rattle.aos_base.specs.Number.{holds}
 use Rattle.aos_base.specs.Operators.{natural}
+use Rattle.aos_typed.specs.declared.tree.Literal.TheVariants as literal
+use Rattle.aos_typed.specs.declared.tree.Change.{Change as Changing}
+use Rattle.aos_typed.specs.declared.tree.Change.TheVariants as change
+use Rattle.aos_typed.specs.declared.tree.LabelRange.{LabelRange}
+use Rattle.aos_typed.specs.declared.tree.TType.TheVariants.{Integer, Set}
 use Rattle.aos_base.specs.Question.{Tree, Val, Traps, bind, ask, Ask, Reads, Stores, Copies, PutsText, ComparesTexts, Makes, Starts, PutsInt, PutsChar, PutsString, PutsLn, PutsNothing}
-use Rattle.aos_typed.specs.Program.{Place, ModuleVar, Field, Index, Expr, Lit, Read, Unary, Binary, And, Or, Element, Ord, Chr, CompareTexts, Len, Call, Open as OutOpen, Char as OutChar, Int as OutInt, String as OutString, Ln as OutLn, Stat, Assign, Copy, PutText, While, New, Out, Stats, Nothing, Then}
+use Rattle.aos_typed.specs.Program.{Place, ModuleVar, Field, Index, Expr, Lit, Read, Unary, Binary, And, Or, Element, Ord, Chr, CompareTexts, Len, Call, Open as OutOpen, Char as OutChar, Int as OutInt, String as OutString, Ln as OutLn, Stat, Assign, Copy, PutText, If, Case, While, Repeat, Loop, Exit, For, Block, Assert, Halt, Change, New, Out, Stats, Nothing, Then, Arms, Otherwise, Arm, Cases, NoElse, Else, OfLabels}
 use Rattle.aos_typed.specs.Value.{Value, Int, Flag, number_of, literal_value, unary, binary, element, ord, chr, is_true}
 use Rattle.aos_base.specs.declared.place.Root.TheVariants.{Module as ModuleRoot}
 use Rattle.aos_typed.specs.declared.tree.TType.{TType}
@@ -51,9 +62,13 @@ abbrev mutual
       bind (place_of p) (λ a. bind (place_of q) (λ b. ask (ComparesTexts r a (Int (pos n)) b (Int (pos m)))))
   value_of (Len p n) = bind (place_of p) (λ s. Val (Int (pos n)))
 
--- what remains of a frame's statements
+-- What remains of a frame's statements: one that is to begin; the rounds of a FOR, with its last value and its step, each of which
+-- begins; a LOOP, which begins again; or what follows the statements of a REPEAT, which doesn't begin.
 pub data Item : Type 0 where
   Do : Stat → Item
+  Rounds : Pos → Width → Place → (last step : ℤ) → Stats → Item
+  Round : Stat → Item
+  Until : Pos → Stats → Expr → Item
 
 abbrev pub items_of : Stats → List Item
 items_of Nothing = []
@@ -62,6 +77,15 @@ items_of (Then s ss) = Do s ∷ items_of ss
 -- what follows a statement
 pub data After : Type 0 where
   Into : List Item → After  -- these items take its place
+  Exits : After  -- what follows the innermost LOOP
+
+-- what remains behind the innermost LOOP
+abbrev pub leave : List Item → List Item
+leave [] = []
+leave (Do s ∷ is) = leave is
+leave (Rounds at w p last step b ∷ is) = leave is
+leave (Round s ∷ is) = is
+leave (Until at b e ∷ is) = leave is
 
 abbrev pub out_of : Call → Doing After
 out_of OutOpen = bind (ask PutsNothing) (λ _. Val (Into []))
@@ -71,16 +95,69 @@ out_of (OutInt e n) =
 out_of (OutString p n) = bind (place_of p) (λ s. bind (ask (PutsString s (Int (pos n)))) (λ _. Val (Into [])))
 out_of OutLn = bind (ask PutsLn) (λ _. Val (Into []))
 
+-- what is carried out where no test before holds
+abbrev pub arms_of : Arms → Doing After
+arms_of (Otherwise ss) = Val (Into (items_of ss))
+arms_of (Arm e ss arms) = bind (value_of e) (λ v. if is_true v then Val (Into (items_of ss)) else arms_of arms)
+
+-- the arm of a selector's value; trap 4 where none has it and there is no ELSE
+abbrev pub is_in : ℤ → LabelRange → Bool
+is_in z r = int_le r.low z && int_le z r.high
+
+abbrev pub case_of : ℤ → Cases → Doing After
+case_of z NoElse = Traps 4 0
+case_of z (Else ss) = Val (Into (items_of ss))
+case_of z (OfLabels rs ss cases) = if list_any (is_in z) rs then Val (Into (items_of ss)) else case_of z cases
+
+-- how INC, DEC, INCL and EXCL change a value
+abbrev pub changed_type : Changing → TType
+changed_type (change.Add w) = Integer w
+changed_type (change.Subtract w) = Integer w
+changed_type change.Include = Set
+changed_type change.Exclude = Set
+
+abbrev pub changed : Changing → Value → Value → Doing Value
+changed (change.Add w) v n = binary (Add w) v n
+changed (change.Subtract w) v n = binary (Sub w) v n
+changed change.Include v n = bind (element n) (λ x. binary Union v x)
+changed change.Exclude v n = bind (element n) (λ x. binary Minus v x)
+
+-- FOR: the variable is assigned, and then come its rounds, each with the test, the statements and the step
+abbrev pub next_value : Pos → Width → Place → ℤ → Stat
+next_value at w p step = Assign at (Integer w) p (Binary (Add w) (Read (Integer w) p) (Lit (literal.Int step)))
+
+abbrev pub until : ℤ → Relation
+until (pos n) = LessEqual
+until (negsuc n) = GreaterEqual
+
+abbrev pub rounds_of : Pos → Width → Place → ℤ → ℤ → Stats → Doing After
+rounds_of at w p last step b =
+    bind (value_of (Read (Integer w) p)) (λ v.
+    Val (Into (if holds (until step) (number_of v) last then items_of b ++ Do (next_value at w p step) ∷ Rounds at w p last step b ∷ [] else [])))
+
 -- what a statement that has begun does, and the items that take its place. A designator that is assigned is found before what
--- it gets
+-- it gets; what a variable is changed by is evaluated before it is read
 abbrev pub stat_of : Stat → Doing After
 stat_of (Assign at t p e) = bind (place_of p) (λ s. bind (value_of e) (λ v. bind (ask (Stores s v)) (λ _. Val (Into []))))
 stat_of (Copy at t p q) = bind (place_of p) (λ to. bind (place_of q) (λ from. bind (ask (Copies t from to)) (λ _. Val (Into []))))
 stat_of (PutText at strict p n q m) =
     bind (place_of p) (λ from. bind (place_of q) (λ to.
     bind (ask (PutsText strict from (Int (pos n)) to (Int (pos m)))) (λ _. Val (Into []))))
+stat_of (If at arms) = arms_of arms
+stat_of (Case at e cases) = bind (value_of e) (λ v. case_of (number_of v) cases)
 stat_of (While at e body) =
     bind (value_of e) (λ v. Val (Into (if is_true v then items_of body ++ Do (While at e body) ∷ [] else [])))
+stat_of (Repeat at body e) = Val (Into (items_of body ++ Until at body e ∷ []))
+stat_of (Loop at body) = Val (Into (items_of body ++ Round (Loop at body) ∷ []))
+stat_of (Exit at) = Val Exits
+stat_of (For at w p from to step body) =
+    bind (value_of to) (λ v. Val (Into (Do (Assign at (Integer w) p from) ∷ Rounds at w p (number_of v) step body ∷ [])))
+stat_of (Block at body) = Val (Into (items_of body))
+stat_of (Assert at e code) = bind (value_of e) (λ v. if is_true v then Val (Into []) else Traps 7 code)
+stat_of (Halt at code) = Traps 8 code
+stat_of (Change at c p e) =
+    bind (place_of p) (λ s. bind (value_of e) (λ n. bind (ask (Reads (changed_type c) s)) (λ v.
+    bind (changed c v n) (λ x. bind (ask (Stores s x)) (λ _. Val (Into []))))))
 -- the object is made, then stored, and then its activity is started
 stat_of (New at p t) =
     bind (place_of p) (λ s. bind (ask (Makes (suc t))) (λ o. bind (ask (Stores s o)) (λ _. bind (ask (Starts o)) (λ _. Val (Into [])))))
@@ -90,9 +167,22 @@ abbrev pub pos_of : Stat → Pos
 pos_of (Assign at t p e) = at
 pos_of (Copy at t p q) = at
 pos_of (PutText at strict p n q m) = at
+pos_of (If at arms) = at
+pos_of (Case at e cases) = at
 pos_of (While at e body) = at
+pos_of (Repeat at body e) = at
+pos_of (Loop at body) = at
+pos_of (Exit at) = at
+pos_of (For at w p from to step body) = at
+pos_of (Block at body) = at
+pos_of (Assert at e code) = at
+pos_of (Halt at code) = at
+pos_of (Change at c p e) = at
 pos_of (New at p t) = at
 pos_of (Out at call) = at
 
 abbrev pub item_of : Item → Doing After
 item_of (Do s) = stat_of s
+item_of (Rounds at w p last step b) = rounds_of at w p last step b
+item_of (Round s) = stat_of s
+item_of (Until at b e) = bind (value_of e) (λ v. Val (Into (if is_true v then [] else Do (Repeat at b e) ∷ [])))

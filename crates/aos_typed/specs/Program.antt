@@ -1,12 +1,15 @@
 -- The typed program as clauses see it: trees and lists, whatever memory the code keeps it in.
 -- Literals, operators and types have no parts in memory, so they are the code's own.
-use Rattle.std.specs.Prelude.{ℕ, List, Bool, Option}
+use Rattle.std.specs.Prelude.{ℕ, ℤ, List, Bool, Option}
 use Rattle.aos_base.specs.declared.text.Pos.{Pos}
 use Rattle.aos_base.specs.declared.number.Relation.{Relation}
 use Rattle.aos_base.specs.declared.operator.Unary.{Unary as UnaryOperator}
 use Rattle.aos_base.specs.declared.operator.Binary.{Binary as BinaryOperator}
 use Rattle.aos_types.specs.declared.row.TypeRow.{TypeRow}
+use Rattle.aos_base.specs.declared.number.Width.{Width}
 use Rattle.aos_typed.specs.declared.tree.Literal.{Literal}
+use Rattle.aos_typed.specs.declared.tree.Change.{Change as Changing}
+use Rattle.aos_typed.specs.declared.tree.LabelRange.{LabelRange}
 use Rattle.aos_typed.specs.declared.tree.TType.{TType}
 
 mutual
@@ -48,13 +51,34 @@ mutual
     Assign : Pos → TType → Place → Expr → Stat
     Copy : Pos → TType → (to from : Place) → Stat
     PutText : Pos → (strict : Bool) → (from : Place) → (elements : ℕ) → (to : Place) → (room : ℕ) → Stat
+    If : Pos → Arms → Stat
+    Case : Pos → Expr → Cases → Stat
     While : Pos → Expr → Stats → Stat
+    Repeat : Pos → Stats → Expr → Stat
+    Loop : Pos → Stats → Stat
+    Exit : Pos → Stat
+    For : Pos → Width → Place → (from to : Expr) → (step : ℤ) → Stats → Stat
+    Block : Pos → Stats → Stat
+    Assert : Pos → Expr → (code : ℕ) → Stat
+    Halt : Pos → (code : ℕ) → Stat
+    Change : Pos → Changing → Place → Expr → Stat
     New : Pos → Place → ℕ → Stat
     Out : Pos → Call → Stat
 
   pub data Stats : Type 0 where
     Nothing : Stats
     Then : Stat → Stats → Stats
+
+  -- the arms of IF: those with a test, and the statements that are carried out where no test holds
+  pub data Arms : Type 0 where
+    Otherwise : Stats → Arms
+    Arm : Expr → Stats → Arms → Arms
+
+  -- the arms of CASE: those with labels, and ELSE, if there is one
+  pub data Cases : Type 0 where
+    NoElse : Cases
+    Else : Stats → Cases
+    OfLabels : List LabelRange → Stats → Cases → Cases
 
 -- names are lists of bytes
 pub record Variable : Type 0 where

@@ -7,15 +7,19 @@ use Rattle.aos_typed.specs.declared.tree.TExpr.{TExpr}
 use Rattle.aos_typed.specs.declared.tree.TExpr.TheVariants as expr
 use Rattle.aos_typed.specs.declared.tree.OutCall.{OutCall}
 use Rattle.aos_typed.specs.declared.tree.OutCall.TheVariants as call
-use Rattle.aos_typed.specs.declared.tree.TStat.{TStat, Row_of-TStat, end_of-TStat, more_of-TStat}
+use Rattle.aos_typed.specs.declared.tree.TStat.{TStat, Row_of-TStat, end_of-TStat, more_of-TStat, Row_of-TArm, end_of-TArm, more_of-TArm, Row_of-TCase, end_of-TCase, more_of-TCase}
 use Rattle.aos_typed.specs.declared.tree.TStat.TheVariants as stat
+use Rattle.aos_typed.specs.declared.tree.TArm.{TArm, out-TArm}
+use Rattle.aos_typed.specs.declared.tree.TCase.{TCase, out-TCase}
+use Rattle.aos_typed.specs.declared.tree.TElse.{TElse}
+use Rattle.aos_typed.specs.declared.tree.TElse.TheVariants as otherwise
 use Rattle.aos_typed.specs.declared.tree.TVariable.{TVariable}
 use Rattle.aos_typed.specs.declared.tree.TParameter.{TParameter}
 use Rattle.aos_typed.specs.declared.tree.TProcedure.{TProcedure}
 use Rattle.aos_typed.specs.declared.tree.TObject.{TObject}
 use Rattle.aos_typed.specs.declared.tree.TModule.{TModule}
 use Rattle.aos_typed.specs.declared.tree.Program.{Program as TProgram}
-use Rattle.aos_typed.specs.Program.{Place, ModuleVar, Field, Index, Expr, Lit, Read, Unary, Binary, And, Or, Element, Ord, Chr, CompareTexts, Len, Call, Open, Char, Int, String, Ln, Stat, Assign, Copy, PutText, While, New, Out, Stats, Nothing, Then, Variable, Parameter, Procedure, ObjectType, Module, Program}
+use Rattle.aos_typed.specs.Program.{Place, ModuleVar, Field, Index, Expr, Lit, Read, Unary, Binary, And, Or, Element, Ord, Chr, CompareTexts, Len, Call, Open, Char, Int, String, Ln, Stat, Assign, Copy, PutText, If, Case, While, Repeat, Loop, Exit, For, Block, Assert, Halt, Change, New, Out, Stats, Nothing, Then, Arms, Otherwise, Arm, Cases, NoElse, Else, OfLabels, Variable, Parameter, Procedure, ObjectType, Module, Program}
 
 abbrev mutual
   pub seen_place : TPlace → Place
@@ -48,7 +52,17 @@ abbrev mutual
   seen_stat (stat.Assign at t p e) = Assign at t (seen_place p) (seen_expr e)
   seen_stat (stat.Copy at t p q) = Copy at t (seen_place p) (seen_place q)
   seen_stat (stat.PutText at strict p n q m) = PutText at strict (seen_place p) n (seen_place q) m
+  seen_stat (stat.If' at shapes arms shape body) = If at (seen_arms arms (seen_row body))
+  seen_stat (stat.Case' at e shapes cases otherwise) = Case at (seen_expr e) (seen_cases cases (seen_else otherwise))
   seen_stat (stat.While' at e shape body) = While at (seen_expr e) (seen_row body)
+  seen_stat (stat.Repeat' at shape body e) = Repeat at (seen_row body) (seen_expr e)
+  seen_stat (stat.Loop' at shape body) = Loop at (seen_row body)
+  seen_stat (stat.Exit at) = Exit at
+  seen_stat (stat.For' at w p from to step shape body) = For at w (seen_place p) (seen_expr from) (seen_expr to) step (seen_row body)
+  seen_stat (stat.Block' at shape body) = Block at (seen_row body)
+  seen_stat (stat.Assert at e code) = Assert at (seen_expr e) code
+  seen_stat (stat.Halt at code) = Halt at code
+  seen_stat (stat.Change at c p e) = Change at c (seen_place p) (seen_expr e)
   seen_stat (stat.New at p t) = New at (seen_place p) t
   seen_stat (stat.Out at c) = Out at (seen_call c)
 
@@ -56,10 +70,32 @@ abbrev mutual
   seen_row end_of-TStat = Nothing
   seen_row (more_of-TStat s ss) = Then (seen_stat s) (seen_row ss)
 
+  -- the arms of IF before these statements, and those of CASE before its ELSE
+  pub seen_arms : {m : _} → Row_of-TArm m → Stats → Arms
+  seen_arms end_of-TArm otherwise = Otherwise otherwise
+  seen_arms (more_of-TArm test shape body more) otherwise = Arm (seen_expr test) (seen_row body) (seen_arms more otherwise)
+
+  pub seen_cases : {m : _} → Row_of-TCase m → Cases → Cases
+  seen_cases end_of-TCase otherwise = otherwise
+  seen_cases (more_of-TCase labels shape body more) otherwise = OfLabels labels.items (seen_row body) (seen_cases more otherwise)
+
+  pub seen_else : TElse → Cases
+  seen_else otherwise.Missing = NoElse
+  seen_else (otherwise.Else' shape body) = Else (seen_row body)
+
 -- a row of statements is seen as their list is
 abbrev pub seen_stats : List TStat → Stats
 seen_stats [] = Nothing
 seen_stats (s ∷ ss) = Then (seen_stat s) (seen_stats ss)
+
+-- a row of arms as a list, before the statements behind ELSE
+abbrev pub arms_of : List TArm → Stats → Arms
+arms_of [] otherwise = Otherwise otherwise
+arms_of (a ∷ more) otherwise = let x = out-TArm a in Arm (seen_expr x.test) (seen_stats x.body.items) (arms_of more otherwise)
+
+abbrev pub cases_of : List TCase → Cases → Cases
+cases_of [] otherwise = otherwise
+cases_of (a ∷ more) otherwise = let x = out-TCase a in OfLabels x.labels.items (seen_stats x.body.items) (cases_of more otherwise)
 
 abbrev pub seen_variable : TVariable → Variable
 seen_variable v = record { name = string_bytes v.name; of = v.of }

@@ -1,5 +1,5 @@
 -- A program as a machine: its store, its frames, and the turns of an activity.
-use Rattle.std.specs.Prelude.{ℕ, suc, ◌++◌, List, [], ◌∷◌, length, Bool, true, false, Option, Some, None, map, pos, unsigned_abs, slice_get, option_and_then}
+use Rattle.std.specs.Prelude.{ℕ, suc, ◌++◌, List, [], ◌∷◌, length, Bool, true, false, Option, Some, None, if◌then◌else◌, map, pos, unsigned_abs, slice_get, option_and_then}
 use Rattle.std.specs.List.{range_with_len}
 use Rattle.aos_base.specs.declared.text.Pos.{Pos}
 use Rattle.aos_base.specs.declared.place.Root.{Root}
@@ -22,14 +22,14 @@ use Rattle.aos_types.specs.Shape.{Shape, Nothing}
 use Rattle.aos_types.specs.Shape as shape
 use Rattle.aos_types.specs.Content.{Content, Scalar, Empty, Row, placed, overlay, first_content}
 use Rattle.aos_types.specs.World.{read}
-use Rattle.aos_typed.specs.Program.{Stats, Variable as TypedVariable, ObjectType, Module, Program}
+use Rattle.aos_typed.specs.Program.{Stats, Repeat, Variable as TypedVariable, ObjectType, Module, Program}
 use Rattle.aos_typed.specs.Numbers.{id_of}
 use Rattle.aos_typed.specs.Sort.{Sort, Plain, Variable, Alias, Elements, Length, variable_shape}
 use Rattle.aos_typed.specs.Spot.{Spot}
 use Rattle.aos_typed.specs.Text.{text_in, with_text, fitted, text_content, text_shape}
-use Rattle.aos_typed.specs.Value.{Value, Int, Flag, Char, Set, Object, Callable, number_of}
+use Rattle.aos_typed.specs.Value.{Value, Int, Flag, Char, Set, Object, Callable, number_of, is_true}
 use Rattle.aos_typed.specs.Store.{Store, rooted, value_at, store_with, type_of_object, with_object, new_number, has_room}
-use Rattle.aos_typed.specs.Meaning.{Question, Doing, Item, Do, After, Into, items_of, item_of, pos_of}
+use Rattle.aos_typed.specs.Meaning.{Question, Doing, Item, Do, Rounds, Round, Until, After, Into, Exits, leave, items_of, item_of, pos_of, value_of}
 
 -- a frame: the module of its text, the object whose method or body it is, 0 for none, the shape of its variables and what they
 -- hold, how many of them count, the statement last begun, the items that remain, and the answers that the first of them has had, if
@@ -101,13 +101,12 @@ module _ (following : List ℕ) where
   ends None fs s = goes_on (with_result done fs) s
   ends (Some v) fs s = goes_on (with_result v fs) s
 
-  -- the next item begins, or the frame ends where there is none
-  abbrev pub settles : List Item → Frame → List Frame → Store → Turned
-  settles [] f fs s = ends None fs s
-  settles (Do st ∷ is) f fs s =
+  -- the first of these items begins at a place
+  abbrev pub begins : Pos → List Item → Frame → List Frame → Store → Turned
+  begins at is f fs s =
       record {
         store = s;
-        frames = all_frames (record f { at = Some (pos_of st); items = Do st ∷ is; answers = Some [] } ∷ fs);
+        frames = all_frames (record f { at = Some at; items = is; answers = Some [] } ∷ fs);
         output = [];
         begun = true;
         left = Went;
@@ -172,14 +171,30 @@ module _ (p : Program) (following : List ℕ) where
   answer (Places a) f fs s = goes_on following (answered done f ∷ fs) s
   answer (Lengths a) f fs s = goes_on following (answered done f ∷ fs) s
 
+  -- the first of these items goes on without a beginning: what follows where its value is TRUE, and where it's FALSE
+  abbrev pub tests : Doing Value → (if_true if_false : Turned) → List Item → Frame → List Frame → Store → Turned
+  tests (Val v) if_true if_false is f fs s = if is_true v then if_true else if_false
+  tests (Asks q k) if_true if_false is f fs s = answer q (record f { items = is; answers = Some [] }) fs s
+  tests (Traps n c) if_true if_false is f fs s = leaves following (Trapped n c) (f ∷ fs) s
+
+  -- the next item begins, or the frame ends where there is none; the condition behind a REPEAT's statements is no beginning
+  abbrev pub settles : List Item → Frame → List Frame → Store → Turned
+  settles [] f fs s = ends following None fs s
+  settles (Do st ∷ is) f fs s = begins following (pos_of st) (Do st ∷ is) f fs s
+  settles (Rounds at w p last step b ∷ is) f fs s = begins following at (Rounds at w p last step b ∷ is) f fs s
+  settles (Round st ∷ is) f fs s = begins following (pos_of st) (Do st ∷ is) f fs s
+  settles (Until at b e ∷ is) f fs s =
+      tests (value_of e) (settles is f fs s) (begins following at (Do (Repeat at b e) ∷ is) f fs s) (Until at b e ∷ is) f fs s
+
   abbrev pub goes : Doing After → List Item → Frame → List Frame → Store → Turned
-  goes (Val (Into is)) rest f fs s = settles following (is ++ rest) f fs s
+  goes (Val (Into is)) rest f fs s = settles (is ++ rest) f fs s
+  goes (Val Exits) rest f fs s = settles (leave rest) f fs s
   goes (Asks q k) rest f fs s = answer q f fs s
   goes (Traps n c) rest f fs s = leaves following (Trapped n c) (f ∷ fs) s
 
   -- the first item goes on from the answers that it has had
   abbrev pub item_turn : Option (List Value) → List Item → Frame → List Frame → Store → Turned
-  item_turn None is f fs s = settles following is f fs s
+  item_turn None is f fs s = settles is f fs s
   item_turn (Some vs) [] f fs s = ends following None fs s
   item_turn (Some vs) (i ∷ is) f fs s = goes (feed vs (item_of i)) is f fs s
 

@@ -27,7 +27,11 @@ use Rattle.aos_typed.specs.declared.tree.Literal.{Literal}
 use Rattle.aos_typed.specs.declared.tree.Literal.TheVariants as literal
 use Rattle.aos_typed.specs.declared.tree.TType.{TType}
 use Rattle.aos_typed.specs.declared.tree.TType.TheVariants.{Integer, Boolean, Char, Set, Named}
-use Rattle.aos_typed.specs.Program.{Place, ModuleVar, Field, Index, Expr, Lit, Read, Unary, Binary, And, Or, Element, Ord, Chr, CompareTexts, Len, Call, Open as OutOpen, Char as OutChar, Int as OutInt, String as OutString, Ln as OutLn, Stat, Assign, Copy, PutText, While, New, Out, Stats, Nothing, Then, Procedure, Module, Program}
+use Rattle.aos_typed.specs.Program.{Place, ModuleVar, Field, Index, Expr, Lit, Read, Unary, Binary, And, Or, Element, Ord, Chr, CompareTexts, Len, Call, Open as OutOpen, Char as OutChar, Int as OutInt, String as OutString, Ln as OutLn, Stat, Assign, Copy, PutText, If, Case, While, Repeat, Loop, Exit, For, Block, Assert, Halt, Change, New, Out, Stats, Nothing, Then, Arms, Otherwise, Arm, Cases, NoElse, Else, OfLabels, Procedure, Module, Program}
+use Rattle.aos_typed.specs.declared.tree.Change.{Change as Changing}
+use Rattle.aos_typed.specs.declared.tree.Change.TheVariants as change
+use Rattle.aos_typed.specs.declared.tree.LabelRange.{LabelRange}
+use Rattle.aos_typed.specs.Meaning.{changed_type}
 use Rattle.aos_typed.specs.Numbers.{id_of, predeclared_types, predeclared_rows}
 
 -- Types.
@@ -167,6 +171,17 @@ pub record IsString (m : Module) (number elements : ℕ) : Type 0 where
   pub there : slice_get m.texts behind ≡ Some characters
   pub long : elements ≡ suc (length characters)
 
+-- labels of 64 bits
+abbrev pub AreLabels : LabelRange → Type 0
+AreLabels r = IsWithin W64 r.low × IsWithin W64 r.high
+
+-- what a variable is changed by
+abbrev pub amount_type : Changing → TType
+amount_type (change.Add w) = Integer w
+amount_type (change.Subtract w) = Integer w
+amount_type change.Include = Integer W64
+amount_type change.Exclude = Integer W64
+
 -- Programs.
 
 module _ (p : Program) where
@@ -225,13 +240,34 @@ module _ (p : Program) where
     IsStatement (Assign at t place e) = IsPlaceOf place t × (is_basic t ≡ true) × IsOf e t
     IsStatement (Copy at t to from) = IsPlaceOf to t × IsPlaceOf from t × (is_whole (row_of p.types (id_of t)) ≡ true)
     IsStatement (PutText at strict from n to m) = IsText from n × AreCharacters (IsPlaceOf to) m × (1 ≤ m)
+    IsStatement (If at arms) = AreArms arms
+    IsStatement (Case at e cases) = (IsOf e (Integer W64) ⊎ IsOf e Char) × AreCases cases
     IsStatement (While at e body) = IsOf e Boolean × AreStatements body
+    IsStatement (Repeat at body e) = AreStatements body × IsOf e Boolean
+    IsStatement (Loop at body) = AreStatements body
+    IsStatement (Exit at) = Unit {0}
+    IsStatement (For at w place from to step body) =
+        (is_variable place ≡ true) × IsPlaceOf place (Integer w) × IsOf from (Integer w) × IsOf to (Integer w)
+        × IsWithin w step × AreStatements body
+    IsStatement (Block at body) = AreStatements body
+    IsStatement (Assert at e code) = IsOf e Boolean × (code < 256)
+    IsStatement (Halt at code) = code < 256
+    IsStatement (Change at c place e) = IsPlaceOf place (changed_type c) × IsOf e (amount_type c)
     IsStatement (New at place t) = (is_variable place ≡ true) × IsPlaceOf place (Named t) × (is_object (row_of p.types (id_of (Named t))) ≡ true) × (t < length p.objects)
     IsStatement (Out at call) = IsCall call
 
     pub AreStatements : Stats → Type 0
     AreStatements Nothing = Unit {0}
     AreStatements (Then s ss) = IsStatement s × AreStatements ss
+
+    pub AreArms : Arms → Type 0
+    AreArms (Otherwise ss) = AreStatements ss
+    AreArms (Arm e ss arms) = IsOf e Boolean × AreStatements ss × AreArms arms
+
+    pub AreCases : Cases → Type 0
+    AreCases NoElse = Unit {0}
+    AreCases (Else ss) = AreStatements ss
+    AreCases (OfLabels rs ss cases) = All AreLabels rs × AreStatements ss × AreCases cases
 
 -- a module's name: a letter, and then letters, digits and `_`
 abbrev pub is_in_name : ℕ → Bool

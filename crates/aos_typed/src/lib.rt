@@ -5,6 +5,6 @@
 pub mod tree;
 
 pub use tree::{
-    Literal, OutCall, Program, TExpr, TModule, TObject, TParameter, TPlace, TProcedure, TStat,
-    TType, TVariable, TextConstant,
+    Change, LabelRange, Literal, OutCall, Program, TArm, TCase, TElse, TExpr, TModule, TObject,
+    TParameter, TPlace, TProcedure, TStat, TType, TVariable, TextConstant,
 };

@@ -123,7 +123,51 @@ pub enum OutCall {
     Ln,
 }
 
+/// How INC, DEC, INCL and EXCL change a variable: an integer one of a width, or a set.
+#[derive(Clone, Copy, PartialEq, Eq, Debug)]
+pub enum Change {
+    Add(Width),
+    Subtract(Width),
+    /// An element is put in; trap 14 where it isn't 0 to 31.
+    Include,
+    /// An element is taken out; trap 14 where it isn't 0 to 31.
+    Exclude,
+}
+
+/// Labels of CASE: all numbers, or codes of characters, from the first to the last.
+#[derive(Clone, Copy, PartialEq, Eq, Debug)]
+pub struct LabelRange {
+    pub low: i64,
+    pub high: i64,
+}
+
+/// An arm of IF: its statements are carried out where its test is TRUE and none before was.
+#[cycle(statements)]
+#[derive(Drop, Debug)]
+pub struct TArm {
+    pub test: TExpr,
+    pub body: Vec<TStat>,
+}
+
+/// An arm of CASE: its statements are carried out where the selector's value is in one of the ranges.
+#[cycle(statements)]
+#[derive(Drop, Debug)]
+pub struct TCase {
+    pub labels: Vec<LabelRange>,
+    pub body: Vec<TStat>,
+}
+
+/// ELSE of CASE.
+#[cycle(statements)]
+#[derive(Drop, Debug)]
+pub enum TElse {
+    /// There is none: trap 4 where no arm has the selector's value.
+    Missing,
+    Else(Vec<TStat>),
+}
+
 /// A statement, each with its place in the text.
+#[cycle(statements)]
 #[derive(Drop, Debug)]
 pub enum TStat {
     /// A value for a variable of this type.
@@ -133,7 +177,23 @@ pub enum TStat {
     /// The text of a place with so many elements, and a 0X behind it, for an array of characters with so many. Where there is no room
     /// for it, that is trap 15 if the statement is strict, as an assignment is; else the text is cut, as COPY does.
     PutText(Pos, bool, TPlace, u32, TPlace, u32),
+    /// IF, with the statements behind ELSE.
+    If(Pos, Vec<TArm>, Vec<TStat>),
+    Case(Pos, TExpr, Vec<TCase>, TElse),
     While(Pos, TExpr, Vec<TStat>),
+    Repeat(Pos, Vec<TStat>, TExpr),
+    Loop(Pos, Vec<TStat>),
+    /// Leaves the innermost LOOP.
+    Exit(Pos),
+    /// FOR with an integer variable of this width: the value that it begins with, the last one, the step, and its statements.
+    For(Pos, Width, TPlace, TExpr, TExpr, i64, Vec<TStat>),
+    Block(Pos, Vec<TStat>),
+    /// Trap 7 with a code where the condition is FALSE.
+    Assert(Pos, TExpr, u8),
+    /// Trap 8 with a code.
+    Halt(Pos, u8),
+    /// A variable is changed by a value.
+    Change(Pos, Change, TPlace, TExpr),
     /// NEW of a variable: an object of this type, by the type's number in the program, whose activity is started.
     New(Pos, TPlace, u32),
     Out(Pos, OutCall),

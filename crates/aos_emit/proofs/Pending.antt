@@ -1,0 +1,252 @@
+-- Code whose jumps forward have a pending number, which no instruction has, and that is redirected once they are known, is the code
+-- with the right ones.
+use Rattle.std.proofs.Common.{◌≡◌, ℕ, suc, ◌+◌, ◌*◌, ◌<◌, ℤ, pos, Bool, true, false, List, [], ◌∷◌, ◌++◌, length, map, refl, sym, ap, ◌∙◌, arith, length-append}
+use Rattle.std.specs.Prelude.{nat_eq, if◌then◌else◌}
+use Rattle.std.proofs.lemmas.Bool.{eq-eqb, eqb-true}
+use Rattle.std.proofs.lemmas.List.{map-append}
+use Rattle.aos_base.specs.declared.text.Pos.{Pos}
+use Rattle.aos_base.specs.declared.number.Width.{Width}
+use Rattle.aos_base.specs.declared.number.Relation.TheVariants.{LessEqual, GreaterEqual}
+use Rattle.aos_base.specs.declared.operator.Binary.TheVariants.{Cmp, Add}
+use Rattle.aos_typed.specs.declared.tree.Literal.{Literal}
+use Rattle.aos_typed.specs.declared.tree.Literal.TheVariants as literal
+use Rattle.aos_typed.specs.declared.tree.Change.{Change as Changing}
+use Rattle.aos_typed.specs.declared.tree.Change.TheVariants as change
+use Rattle.aos_typed.specs.declared.tree.LabelRange.{LabelRange}
+use Rattle.aos_typed.specs.declared.tree.TType.{TType}
+use Rattle.aos_typed.specs.declared.tree.TType.TheVariants.{Integer}
+use Rattle.aos_typed.specs.Meaning.{until}
+use Rattle.aos_typed.specs.Program.{Place, ModuleVar, Field, Index, Expr, Lit, Read, Unary, Binary, And, Or, Element, Ord, Chr, CompareTexts, Len, Call, Open, Char, Int, String, Ln, Stat, Assign, Copy, PutText, If, Case, While, Repeat, Loop, Exit, For, Block, Assert, Halt, Change, New, Out, Stats, Nothing, Then, Arms, Otherwise, Arm, Cases, NoElse, Else, OfLabels, Program}
+use Rattle.aos_code.specs.declared.instr.Instr.{Instr}
+use Rattle.aos_code.specs.declared.instr.Instr.TheVariants as i
+use Rattle.aos_code.specs.declared.instr.Kind.TheVariants.{N}
+use Rattle.aos_sim.specs.Code.{begin, literal_code, with_length, place_code, value_code, out_code, new_code, change_code, changed_code, assign_code, for_head, step_code, body_place, rounds_with, label_code, labels_code, stat_code, stats_code, arms_code, cases_code}
+use Rattle.aos_sim.proofs.Sizes.{labels_length, round_length, stat_length, stats_length, arms_length, cases_length}
+use Rattle.aos_emit.specs.Redirect.{redirected, redirect}
+
+-- what leads to the pending number is redirected
+pub comes : (p x : ℕ) → redirected p x p ≡ x
+comes p x = go (nat_eq p p) (eq-eqb p p refl)
+  where
+    go : (b : Bool) → b ≡ true → (if b then x else p) ≡ x
+    go true e = refl
+    go false e = absurd (cc)
+
+module _ (p x : ℕ) where
+  -- what leads to an instruction is not
+  known : (t : ℕ) → t < p → redirected p x t ≡ t
+  known t lt = go (nat_eq t p) refl
+    where
+      go : (b : Bool) → nat_eq t p ≡ b → (if b then x else t) ≡ t
+      go true e = let h : t ≡ p = eqb-true t p e in absurd (omega arith)
+      go false e = refl
+
+  -- code at a place, which ends below the pending number, is redirected to other code
+  record Turns (at : ℕ) (code other : List Instr) : Type 0 where
+    pub is : at + length code < p → map (redirect p x) code ≡ other
+
+  nothing : {at : ℕ} → Turns at [] []
+  nothing = record { is = λ lt. refl }
+
+  turn : {at : ℕ} {a b : Instr} {c d : List Instr} → redirect p x a ≡ b → Turns (at + 1) c d → Turns at (a ∷ c) (b ∷ d)
+  turn {at} {c = c} e h = record { is = λ lt. (λ j. e j ∷ h.is (omega (arith, lt)) j) }
+
+  both : {at : ℕ} {c d c' d' : List Instr} → Turns at c c' → Turns (at + length c) d d' → Turns at (c ++ d) (c' ++ d')
+  both {at} {c} {d} h k =
+      record { is = λ lt. (let l = length-append c d in map-append (redirect p x) c d ∙ (λ j. h.is (omega (arith, lt, l)) j ++ k.is (omega (arith, lt, l)) j)) }
+
+  -- where it is known that it ends below
+  ends : {at : ℕ} {c d : List Instr} → (at + length c < p → Turns at c d) → Turns at c d
+  ends f = record { is = λ lt. (f lt).is lt }
+
+  -- the other code said otherwise, and the place
+  said : {at : ℕ} {c d e : List Instr} → d ≡ e → Turns at c d → Turns at c e
+  said e h = record { is = λ lt. h.is lt ∙ e }
+
+  moved : {at to : ℕ} {c d : List Instr} → at ≡ to → Turns at c d → Turns to c d
+  moved e h = record { is = λ lt. h.is (omega (arith, lt, e)) }
+
+  -- instructions behind code that are no jumps
+  behind : {at : ℕ} {c d c' : List Instr} → Turns at c c' → map (redirect p x) d ≡ d → Turns at (c ++ d) (c' ++ d)
+  behind {at} {c} h e = both h (record { is = λ lt. e })
+
+  jump : {at : ℕ} (t : ℕ) → t < p → Turns at (i.Jump t ∷ []) (i.Jump t ∷ [])
+  jump t lt = turn (ap (λ n. i.Jump n) (known t lt)) nothing
+
+  literal_same : (l : Literal) → redirect p x (literal_code l) ≡ literal_code l
+  literal_same (literal.Int n) = refl
+  literal_same (literal.Bool b) = refl
+  literal_same (literal.Char c) = refl
+  literal_same (literal.Set s) = refl
+  literal_same (literal.Text t) = refl
+
+  module _ (program : Program) where
+    mutual
+      place_turns : (q : Place) (at : ℕ) → Turns at (place_code program q at) (place_code program q at)
+      place_turns (ModuleVar m k) at = turn refl nothing
+      place_turns (Field q t k) at = behind (place_turns q at) refl
+      place_turns (Index q n t e) at = both (place_turns q at) (behind (value_turns e (at + length (place_code program q at))) refl)
+
+      value_turns : (e : Expr) (at : ℕ) → Turns at (value_code program e at) (value_code program e at)
+      value_turns (Lit l) at = turn (literal_same l) nothing
+      value_turns (Read t q) at = behind (place_turns q at) refl
+      value_turns (Unary op a) at = behind (value_turns a at) refl
+      value_turns (Binary op a b) at = both (value_turns a at) (behind (value_turns b (at + length (value_code program a at))) refl)
+      value_turns (And a b) at =
+          let ca = value_code program a at in
+          let cb = value_code program b (at + length ca + 1) in
+          let past = at + length ca + 1 + length cb + 2 in
+          let last = i.Jump past ∷ (i.Num (pos 0) ∷ []) in
+          let test = i.JumpFalse (at + length ca + 1 + length cb + 1) in
+          ends (λ lt. both (value_turns a at) (turn refl (both (value_turns b (at + length ca + 1))
+          (turn (ap (λ n. i.Jump n) (known past (omega (arith, lt, length-append ca (test ∷ (cb ++ last)), length-append cb last)))) (turn refl nothing)))))
+      value_turns (Or a b) at =
+          let ca = value_code program a at in
+          let cb = value_code program b (at + length ca + 3) in
+          let past = at + length ca + 3 + length cb in
+          let rest = i.JumpFalse (at + length ca + 3) ∷ (i.Num (pos 1) ∷ (i.Jump past ∷ cb)) in
+          ends (λ lt. both (value_turns a at) (turn refl (turn refl
+          (turn (ap (λ n. i.Jump n) (known past (omega (arith, lt, length-append ca rest)))) (moved (omega arith) (value_turns b (at + length ca + 3)))))))
+      value_turns (Element a) at = behind (value_turns a at) refl
+      value_turns (Ord a) at = value_turns a at
+      value_turns (Chr a) at = behind (value_turns a at) refl
+      value_turns (CompareTexts r q n y m) at =
+          both (behind (place_turns q at) refl) (behind (behind (place_turns y (at + length (with_length (place_code program q at) n))) refl) refl)
+      value_turns (Len q n) at = behind (place_turns q at) refl
+
+    out_turns : (call : Call) (at : ℕ) → Turns at (out_code program call at) (out_code program call at)
+    out_turns Open at = turn refl nothing
+    out_turns (Char e) at = behind (value_turns e at) refl
+    out_turns (Int e n) at = both (value_turns e at) (behind (value_turns n (at + length (value_code program e at))) refl)
+    out_turns (String q n) at = behind (behind (place_turns q at) refl) refl
+    out_turns Ln at = turn refl nothing
+
+    new_turns : (q : Place) (t at : ℕ) → Turns at (new_code program q t at) (new_code program q t at)
+    new_turns q t at = turn refl (turn refl (behind (moved (omega arith) (place_turns q (at + 2))) refl))
+
+    assign_turns : (here : Pos) (t : TType) (q : Place) (e : Expr) (at : ℕ) → Turns at (assign_code program here t q e at) (assign_code program here t q e at)
+    assign_turns here t q e at = turn refl (both (place_turns q (at + 1)) (behind (value_turns e (at + 1 + length (place_code program q (at + 1)))) refl))
+
+    change_same : (c : Changing) → map (redirect p x) (i.Swap ∷ (i.Load N ∷ (i.Swap ∷ (change_code c ++ i.Store N ∷ [])))) ≡ i.Swap ∷ (i.Load N ∷ (i.Swap ∷ (change_code c ++ i.Store N ∷ [])))
+    change_same (change.Add w) = refl
+    change_same (change.Subtract w) = refl
+    change_same change.Include = refl
+    change_same change.Exclude = refl
+
+    changed_turns : (here : Pos) (c : Changing) (q : Place) (e : Expr) (at : ℕ) → Turns at (changed_code program here c q e at) (changed_code program here c q e at)
+    changed_turns here c q e at =
+        turn refl (both (place_turns q (at + 1)) (turn refl (behind (value_turns e (at + 1 + length (place_code program q (at + 1)) + 1)) (change_same c))))
+
+    head_turns : (here : Pos) (w : Width) (q : Place) (from to : Expr) (at d : ℕ) → Turns at (for_head program here w q from to at d) (for_head program here w q from to at d)
+    head_turns here w q from to at d =
+        turn refl (both (value_turns to (at + 1)) (turn refl (assign_turns here (Integer w) q from (at + 1 + length (value_code program to (at + 1)) + 1))))
+
+    rounds_turn : (here : Pos) (w : Width) (q : Place) (step : ℤ) (b other : List Instr) (t d : ℕ) → length b ≡ length other → Turns (body_place program w q t) b other → Turns t (rounds_with program here w q step b t d) (rounds_with program here w q step other t d)
+    rounds_turn here w q step b other t d same inside =
+        let v = value_code program (Read (Integer w) q) (t + 1) in
+        let kept = i.Kept d N ∷ (i.Binary (Cmp (until step)) ∷ []) in
+        let test = v ++ kept in
+        let counted = length-append v kept in
+        let next : ℕ → List Instr = λ m. step_code program here w q step (body_place program w q t + m) in
+        let end : ℕ → ℕ = λ m. t + 1 + length test + 1 + m + length (next m) + 1 in
+        let round : ℕ → List Instr = λ m. begin here ∷ (test ++ (i.JumpFalse (end m) ∷ (other ++ (next m ++ i.Jump t ∷ [])))) in
+        ends (λ lt. said (ap round same)
+        (turn refl (both (behind (value_turns (Read (Integer w) q) (t + 1)) refl) (turn refl
+        (both (moved (omega (arith, counted)) inside)
+        (both (moved (omega (arith, counted)) (assign_turns here (Integer w) q (Binary (Add w) (Read (Integer w) q) (Lit (literal.Int step))) (body_place program w q t + length b)))
+        (jump t (omega (arith, lt)))))))))
+
+    labels_turn : (rs : List LabelRange) (d at hit : ℕ) → hit < p → Turns at (labels_code rs d at hit) (labels_code rs d at hit)
+    labels_turn [] d at hit lt = nothing
+    labels_turn (r ∷ rs) d at hit lt =
+        both {c = label_code r d at hit} {c' = label_code r d at hit} (record { is = λ below. (λ j. i.Kept d N ∷ i.Num r.low ∷ i.Binary (Cmp GreaterEqual) ∷ i.JumpFalse (at + 9) ∷ i.Kept d N ∷ i.Num r.high ∷ i.Binary (Cmp LessEqual) ∷ i.JumpFalse (at + 9) ∷ i.Jump (known hit lt j) ∷ []) }) (labels_turn rs d (at + 9) hit lt)
+
+    mutual
+      stat_turns : (s : Stat) (at y d : ℕ) → Turns at (stat_code program s at y d) (stat_code program s at (redirected p x y) d)
+      stat_turns (Assign here t q e) at y d = assign_turns here t q e at
+      stat_turns (Copy here t q r) at y d = turn refl (both (place_turns q (at + 1)) (behind (place_turns r (at + 1 + length (place_code program q (at + 1)))) refl))
+      stat_turns (PutText here strict q n r m) at y d =
+          turn refl (both (behind (place_turns q (at + 1)) refl) (behind (behind (place_turns r (at + 1 + length (with_length (place_code program q (at + 1)) n))) refl) refl))
+      stat_turns (If here arms) at y d =
+          let z = redirected p x y in
+          let end = at + 1 + length (arms_code program arms (at + 1) 0 y d) in
+          ends (λ lt. (let here = known end (omega (arith, lt, arms_length program arms (at + 1) end 0 y y d)) in
+          turn refl (said (ap (λ n. arms_code program arms (at + 1) n z d) (here ∙ ap (λ n. at + 1 + n) (arms_length program arms (at + 1) 0 0 y z d))) (arms_turn arms (at + 1) end y d))))
+      stat_turns (Case here e cases) at y d =
+          let z = redirected p x y in
+          let c = value_code program e (at + 1) in
+          let first = at + 1 + length c + 1 in
+          let end = first + length (cases_code program cases first 0 y d) in
+          let inside = i.Keep d N ∷ cases_code program cases first end y d in
+          ends (λ lt. (let here = known end (omega (arith, lt, length-append c inside, cases_length program cases first end 0 y y d)) in
+          turn refl (both (value_turns e (at + 1)) (turn refl (said (ap (λ n. cases_code program cases first n z d) (here ∙ ap (λ n. first + n) (cases_length program cases first 0 0 y z d))) (cases_turn cases first end y d))))))
+      stat_turns (While here e body) at y d =
+          let z = redirected p x y in
+          let first = at + 1 + length (value_code program e (at + 1)) + 1 in
+          ends (λ lt. turn refl (both (value_turns e (at + 1)) (turn (ap (λ n. i.JumpFalse (first + n + 1)) (stats_length program body first y z d)) (both (stats_turn body first y d) (jump at (omega (arith, lt)))))))
+      stat_turns (Repeat here body e) at y d =
+          let z = redirected p x y in
+          turn refl (both (stats_turn body (at + 1) y d)
+          (said (ap (λ n. value_code program e (at + 1 + n) ++ i.JumpFalse at ∷ []) (stats_length program body (at + 1) y z d)) (behind (value_turns e (at + 1 + length (stats_code program body (at + 1) y d))) refl)))
+      stat_turns (Loop here body) at y d =
+          let out = at + 1 + length (stats_code program body (at + 1) 0 d) + 1 in
+          let b = stats_code program body (at + 1) out d in
+          ends (λ lt. (let here = known out (omega (arith, lt, length-append b (i.Jump at ∷ []), stats_length program body (at + 1) out 0 d)) in
+          turn refl (both (said (ap (λ n. stats_code program body (at + 1) n d) here) (stats_turn body (at + 1) out d)) (jump at (omega (arith, lt))))))
+      stat_turns (Exit here) at y d = turn refl (turn refl nothing)
+      stat_turns (For here w q from to step body) at y d =
+          let first = at + length (for_head program here w q from to at d) in
+          both (head_turns here w q from to at d)
+          (rounds_turn here w q step _ _ first d (stats_length program body (body_place program w q first) y (redirected p x y) (suc d)) (stats_turn body (body_place program w q first) y (suc d)))
+      stat_turns (Block here body) at y d = turn refl (stats_turn body (at + 1) y d)
+      stat_turns (Assert here e code) at y d = turn refl (behind (value_turns e (at + 1)) refl)
+      stat_turns (Halt here code) at y d = turn refl (turn refl nothing)
+      stat_turns (Change here c q e) at y d = changed_turns here c q e at
+      stat_turns (New here q t) at y d = turn refl (new_turns q t (at + 1))
+      stat_turns (Out here call) at y d = turn refl (out_turns call (at + 1))
+
+      stats_turn : (ss : Stats) (at y d : ℕ) → Turns at (stats_code program ss at y d) (stats_code program ss at (redirected p x y) d)
+      stats_turn Nothing at y d = nothing
+      stats_turn (Then s ss) at y d =
+          let z = redirected p x y in
+          both (stat_turns s at y d) (said (ap (λ n. stats_code program ss (at + n) z d) (stat_length program s at y z d)) (stats_turn ss (at + length (stat_code program s at y d)) y d))
+
+      arms_turn : (arms : Arms) (at end y d : ℕ) → Turns at (arms_code program arms at end y d) (arms_code program arms at (redirected p x end) (redirected p x y) d)
+      arms_turn (Otherwise ss) at end y d = stats_turn ss at y d
+      arms_turn (Arm e ss arms) at end y d =
+          let z = redirected p x y in
+          let to = redirected p x end in
+          let first = at + length (value_code program e at) + 1 in
+          let b = stats_code program ss first y d in
+          let same = stats_length program ss first y z d in
+          both (value_turns e at) (turn (ap (λ n. i.JumpFalse (first + n + 1)) same) (both (stats_turn ss first y d) (turn refl (said (ap (λ n. arms_code program arms (first + n + 1) to z d) same) (arms_turn arms (first + length b + 1) end y d)))))
+
+      cases_turn : (cases : Cases) (at end y d : ℕ) → Turns at (cases_code program cases at end y d) (cases_code program cases at (redirected p x end) (redirected p x y) d)
+      cases_turn NoElse at end y d = turn refl nothing
+      cases_turn (Else ss) at end y d = stats_turn ss at y d
+      cases_turn (OfLabels rs ss cases) at end y d =
+          let z = redirected p x y in
+          let to = redirected p x end in
+          let hit = at + 9 * length rs + 1 in
+          let ls = labels_code rs d at hit in
+          let b = stats_code program ss hit y d in
+          let next = hit + length b + 1 in
+          let more = cases_code program cases next end y d in
+          let same = stats_length program ss hit y z d in
+          let counted = labels_length rs d at hit in
+          ends (λ lt. (let here = known next (omega (arith, lt, counted, length-append ls (i.Jump next ∷ (b ++ (i.Jump end ∷ more))), length-append b (i.Jump end ∷ more))) in
+          both (labels_turn rs d at hit (omega (arith, lt, counted, length-append ls (i.Jump next ∷ (b ++ (i.Jump end ∷ more))))))
+          (turn (ap (λ n. i.Jump n) here ∙ ap (λ n. i.Jump (hit + n + 1)) same) (both (moved (omega (arith, counted)) (stats_turn ss hit y d)) (turn refl
+          (said (ap (λ n. cases_code program cases (hit + n + 1) to z d) same) (moved (omega (arith, counted)) (cases_turn cases next end y d))))))))
+
+module _ (program : Program) (p x : ℕ) where
+  -- statements whose exit was pending
+  pub exit_known : (ss : Stats) (at d : ℕ) → at + length (stats_code program ss at p d) < p → map (redirect p x) (stats_code program ss at p d) ≡ stats_code program ss at x d
+  exit_known ss at d lt = (stats_turn p x program ss at p d).is lt ∙ ap (λ n. stats_code program ss at n d) (comes p x)
+
+  -- arms whose end was pending, while an exit has another number
+  pub arms_known : (arms : Arms) (at y d : ℕ) → redirected p x y ≡ y → at + length (arms_code program arms at p y d) < p → map (redirect p x) (arms_code program arms at p y d) ≡ arms_code program arms at x y d
+  arms_known arms at y d other lt = (arms_turn p x program arms at p y d).is lt ∙ (λ j. arms_code program arms at (comes p x j) (other j) d)
+
+  pub cases_known : (cases : Cases) (at y d : ℕ) → redirected p x y ≡ y → at + length (cases_code program cases at p y d) < p → map (redirect p x) (cases_code program cases at p y d) ≡ cases_code program cases at x y d
+  cases_known cases at y d other lt = (cases_turn p x program cases at p y d).is lt ∙ (λ j. cases_code program cases at (comes p x j) (other j) d)

@@ -1,0 +1,758 @@
+// From typed statements to instructions: what is emitted is the code that the definitions give. A jump forward to what isn't
+// emitted yet has a pending number, and is told where it goes when that is known.
+
+ghost use Rattle.std.specs.Prelude.{◌≡◌, ◌+◌, ◌*◌, ◌≤◌, [], ◌∷◌, ◌++◌, length, OnOk, IfOk};
+ghost use Rattle.aos_typed.specs.Meaning as meaning;
+ghost use Rattle.aos_typed.specs.Program.{Read, Copy, PutText, If, Case, While, Repeat, Loop, Block, Assert};
+ghost use Rattle.aos_typed.specs.Seen.{seen_program, seen_place, seen_expr, seen_call, seen_stat, seen_stats, seen_else, arms_of, cases_of};
+ghost use Rattle.aos_emit.specs.Redirect.{pending_exit, pending_end, redirect_behind, redirect as redirection};
+ghost use Rattle.aos_sim.specs.Need.{body_need};
+ghost use Rattle.aos_sim.specs.Code.{begin, value_code, out_code, new_code, assign_code, change_code, changed_code, for_head, step_code, rounds_code, label_code, labels_code, arm_code, case_code, stat_code, stats_code, arms_code, cases_code, body_code};
+
+use crate::emit::{
+    PENDING_END, cell_kind, emit_place, emit_text, emit_value, next_place, number_of, put,
+};
+use crate::laid::Laid;
+use crate::level::deeper;
+use crate::need::stats_need;
+use aos_base::{Binary, Pos, Relation, Width};
+use aos_code::{Body, Instr, Kind};
+use aos_typed::{Change, LabelRange, OutCall, TArm, TCase, TElse, TExpr, TPlace, TStat, TType};
+use std::alloc::{AllocError, Global};
+
+// The number that the jump of an EXIT has until it is known where its LOOP ends: no instruction has it.
+const PENDING_EXIT: u32 = 4294967295;
+
+// What leads to a pending number leads to another.
+fn redirect_one(instr: Instr, pending: u32, to: u32) -> Instr
+    ensures { result ≡ redirection pending to instr }
+{
+    match instr {
+        Instr::Jump(target) => Instr::Jump(if target == pending { to } else { target }),
+        _ => instr,
+    }
+}
+
+// The jumps from an instruction on are told where they go that have a pending number.
+fn redirect(code: &mut Vec<Instr>, from: usize, pending: u32, to: u32)
+    requires { from ≤ length code.old.items }
+    ensures { code.new.items ≡ redirect_behind from pending to code.old.items }
+{
+    let mut at = from;
+    while at < code.len() {
+        code[at] = redirect_one(code[at], pending, to);
+        at += 1;
+    }
+}
+
+fn emit_begin(code: &mut Vec<Instr>, at: Pos) -> Result<(), AllocError>
+    ensures { OnOk result (code.new.items ≡ code.old.items ++ begin at ∷ []) }
+{
+    put(code, Instr::Begin(at.line, at.col))
+}
+
+// A call of a procedure of module Out.
+fn put_out(
+    alloc: Global,
+    program: &Laid<'_>,
+    code: &mut Vec<Instr>,
+    call: &OutCall,
+) -> Result<(), AllocError>
+    ensures { OnOk result (code.new.items ≡ code.old.items ++
+        out_code (seen_program program.now) (seen_call call.now) (length code.old.items)) }
+{
+    match call {
+        OutCall::Open => put(code, Instr::OutOpen),
+        OutCall::Char(value) => {
+            emit_value(alloc, program, code, value)?;
+            put(code, Instr::OutChar)
+        }
+        OutCall::Int(value, places) => {
+            emit_value(alloc, program, code, value)?;
+            emit_value(alloc, program, code, places)?;
+            put(code, Instr::OutInt)
+        }
+        OutCall::String(place, elements) => {
+            emit_text(alloc, program, code, place, *elements)?;
+            put(code, Instr::OutString)
+        }
+        OutCall::Ln => put(code, Instr::OutLn),
+    }
+}
+
+fn emit_out(
+    alloc: Global,
+    program: &Laid<'_>,
+    code: &mut Vec<Instr>,
+    at: Pos,
+    call: &OutCall,
+) -> Result<(), AllocError>
+    ensures { OnOk result (code.new.items ≡ code.old.items ++
+        begin at ∷ out_code (seen_program program.now) (seen_call call.now) (length code.old.items + 1)) }
+{
+    emit_begin(code, at)?;
+    put_out(alloc, program, code, call)
+}
+
+// The object is stored before its activity is started. One whose number doesn't fit is in no program: there is no memory for it.
+fn emit_new(
+    alloc: Global,
+    program: &Laid<'_>,
+    code: &mut Vec<Instr>,
+    at: Pos,
+    place: &TPlace,
+    object: u32,
+) -> Result<(), AllocError>
+    ensures { OnOk result (code.new.items ≡ code.old.items ++
+        begin at ∷ new_code (seen_program program.now) (seen_place place.now) object (length code.old.items + 1)) }
+{
+    let Some(number) = object.checked_add(1) else {
+        return Err(AllocError);
+    };
+    emit_begin(code, at)?;
+    put(code, Instr::NewObject(number))?;
+    put(code, Instr::Dup)?;
+    emit_place(alloc, program, code, place)?;
+    put(code, Instr::Swap)?;
+    put(code, Instr::Store(Kind::R))?;
+    put(code, Instr::Start)
+}
+
+fn emit_assign(
+    alloc: Global,
+    program: &Laid<'_>,
+    code: &mut Vec<Instr>,
+    at: Pos,
+    of: TType,
+    place: &TPlace,
+    value: &TExpr,
+) -> Result<(), AllocError>
+    ensures { OnOk result (code.new.items ≡ code.old.items ++
+        assign_code (seen_program program.now) at of (seen_place place.now) (seen_expr value.now) (length code.old.items)) }
+{
+    emit_begin(code, at)?;
+    emit_place(alloc, program, code, place)?;
+    emit_value(alloc, program, code, value)?;
+    put(code, Instr::Store(cell_kind(of)))
+}
+
+fn emit_copy(
+    alloc: Global,
+    program: &Laid<'_>,
+    code: &mut Vec<Instr>,
+    at: Pos,
+    of: TType,
+    to: &TPlace,
+    from: &TPlace,
+) -> Result<(), AllocError>
+    ensures { OnOk result (code.new.items ≡ code.old.items ++
+        stat_code (seen_program program.now) (Copy at of (seen_place to.now) (seen_place from.now)) (length code.old.items) 0 0) }
+{
+    emit_begin(code, at)?;
+    emit_place(alloc, program, code, to)?;
+    emit_place(alloc, program, code, from)?;
+    put(code, Instr::Copy(program.cells_of(of)))
+}
+
+fn emit_put(
+    alloc: Global,
+    program: &Laid<'_>,
+    code: &mut Vec<Instr>,
+    at: Pos,
+    strict: bool,
+    from: &TPlace,
+    elements: u32,
+    to: &TPlace,
+    room: u32,
+) -> Result<(), AllocError>
+    ensures { OnOk result (code.new.items ≡ code.old.items ++
+        stat_code (seen_program program.now) (PutText at strict (seen_place from.now) elements (seen_place to.now) room)
+        (length code.old.items) 0 0) }
+{
+    emit_begin(code, at)?;
+    emit_text(alloc, program, code, from, elements)?;
+    emit_text(alloc, program, code, to, room)?;
+    put(code, Instr::PutText(strict))
+}
+
+fn emit_exit(code: &mut Vec<Instr>, at: Pos) -> Result<(), AllocError>
+    ensures { OnOk result (code.new.items ≡ code.old.items ++ begin at ∷ (Instr.Jump pending_exit ∷ [])) }
+{
+    emit_begin(code, at)?;
+    put(code, Instr::Jump(PENDING_EXIT))
+}
+
+fn emit_assert(
+    alloc: Global,
+    program: &Laid<'_>,
+    code: &mut Vec<Instr>,
+    at: Pos,
+    condition: &TExpr,
+    number: u8,
+) -> Result<(), AllocError>
+    ensures { OnOk result (code.new.items ≡ code.old.items ++
+        stat_code (seen_program program.now) (Assert at (seen_expr condition.now) number) (length code.old.items) 0 0) }
+{
+    emit_begin(code, at)?;
+    emit_value(alloc, program, code, condition)?;
+    put(code, Instr::Assert(number))
+}
+
+fn emit_halt(code: &mut Vec<Instr>, at: Pos, number: u8) -> Result<(), AllocError>
+    ensures { OnOk result (code.new.items ≡ code.old.items ++ begin at ∷ (Instr.Halt number ∷ [])) }
+{
+    emit_begin(code, at)?;
+    put(code, Instr::Halt(number))
+}
+
+// How a value is changed by what lies above it.
+fn put_operator(code: &mut Vec<Instr>, change: Change) -> Result<(), AllocError>
+    ensures { OnOk result (code.new.items ≡ code.old.items ++ change_code change) }
+{
+    match change {
+        Change::Add(width) => put(code, Instr::Binary(Binary::Add(width))),
+        Change::Subtract(width) => put(code, Instr::Binary(Binary::Sub(width))),
+        Change::Include => {
+            put(code, Instr::Dup)?;
+            put(code, Instr::Binary(Binary::SetSpan))?;
+            put(code, Instr::Binary(Binary::Union))
+        }
+        Change::Exclude => {
+            put(code, Instr::Dup)?;
+            put(code, Instr::Binary(Binary::SetSpan))?;
+            put(code, Instr::Binary(Binary::Minus))
+        }
+    }
+}
+
+// A variable whose place lies twice below a value is changed by that.
+fn put_change(code: &mut Vec<Instr>, change: Change) -> Result<(), AllocError>
+    ensures { OnOk result (code.new.items ≡ code.old.items ++
+        (Instr.Swap ∷ (Instr.Load Kind.N ∷ (Instr.Swap ∷ (change_code change ++ Instr.Store Kind.N ∷ []))))) }
+{
+    put(code, Instr::Swap)?;
+    put(code, Instr::Load(Kind::N))?;
+    put(code, Instr::Swap)?;
+    put_operator(code, change)?;
+    put(code, Instr::Store(Kind::N))
+}
+
+// What a variable is changed by is evaluated before the variable is read.
+fn emit_change(
+    alloc: Global,
+    program: &Laid<'_>,
+    code: &mut Vec<Instr>,
+    at: Pos,
+    change: Change,
+    place: &TPlace,
+    by: &TExpr,
+) -> Result<(), AllocError>
+    ensures { OnOk result (code.new.items ≡ code.old.items ++
+        changed_code (seen_program program.now) at change (seen_place place.now) (seen_expr by.now) (length code.old.items)) }
+{
+    emit_begin(code, at)?;
+    emit_place(alloc, program, code, place)?;
+    put(code, Instr::Dup)?;
+    emit_value(alloc, program, code, by)?;
+    put_change(code, change)
+}
+
+// FOR before its rounds: its last value is kept, and its variable gets the first one.
+fn emit_head(
+    alloc: Global,
+    program: &Laid<'_>,
+    code: &mut Vec<Instr>,
+    at: Pos,
+    width: Width,
+    variable: &TPlace,
+    from: &TExpr,
+    to: &TExpr,
+    level: u32,
+) -> Result<(), AllocError>
+    ensures { OnOk result (code.new.items ≡ code.old.items ++
+        for_head (seen_program program.now) at width (seen_place variable.now) (seen_expr from.now) (seen_expr to.now)
+        (length code.old.items) level) }
+{
+    emit_begin(code, at)?;
+    emit_value(alloc, program, code, to)?;
+    put(code, Instr::Keep(level, Kind::N))?;
+    emit_assign(
+        alloc,
+        program,
+        code,
+        at,
+        TType::Integer(width),
+        variable,
+        from,
+    )
+}
+
+// How a FOR's variable and its last value are in a round.
+fn until(step: &i64) -> Relation
+    ensures { result ≡ meaning.until step.now }
+{
+    if *step < 0 {
+        Relation::GreaterEqual
+    } else {
+        Relation::LessEqual
+    }
+}
+
+// Whether there is a round: the variable against the last value, which is kept.
+fn emit_test(
+    alloc: Global,
+    program: &Laid<'_>,
+    code: &mut Vec<Instr>,
+    width: Width,
+    variable: &TPlace,
+    step: &i64,
+    level: u32,
+) -> Result<(), AllocError>
+    ensures { OnOk result (code.new.items ≡ code.old.items ++
+        (value_code (seen_program program.now) (Read (TType.Integer width) (seen_place variable.now)) (length code.old.items) ++
+        (Instr.Kept level Kind.N ∷ (Instr.Binary (Binary.Cmp (meaning.until step.now)) ∷ [])))) }
+{
+    emit_place(alloc, program, code, variable)?;
+    put(code, Instr::Load(cell_kind(TType::Integer(width))))?;
+    put(code, Instr::Kept(level, Kind::N))?;
+    put(code, Instr::Binary(Binary::Cmp(until(step))))
+}
+
+// The step that ends a round.
+fn emit_step(
+    alloc: Global,
+    program: &Laid<'_>,
+    code: &mut Vec<Instr>,
+    at: Pos,
+    width: Width,
+    variable: &TPlace,
+    step: &i64,
+) -> Result<(), AllocError>
+    ensures { OnOk result (code.new.items ≡ code.old.items ++
+        step_code (seen_program program.now) at width (seen_place variable.now) step.now (length code.old.items)) }
+{
+    emit_begin(code, at)?;
+    emit_place(alloc, program, code, variable)?;
+    emit_place(alloc, program, code, variable)?;
+    put(code, Instr::Load(Kind::N))?;
+    put(code, Instr::Num(*step))?;
+    put(code, Instr::Binary(Binary::Add(width)))?;
+    put(code, Instr::Store(Kind::N))
+}
+
+// One end of a range of labels: where the selector's value, which is kept, isn't so related to it the code goes on at `past`.
+fn put_bound(
+    code: &mut Vec<Instr>,
+    relation: Relation,
+    bound: &i64,
+    level: u32,
+    past: u32,
+) -> Result<(), AllocError>
+    ensures { OnOk result (code.new.items ≡ code.old.items ++
+        Instr.Kept level Kind.N ∷ Instr.Num bound.now ∷ Instr.Binary (Binary.Cmp relation) ∷ Instr.JumpFalse past ∷ []) }
+{
+    put(code, Instr::Kept(level, Kind::N))?;
+    put(code, Instr::Num(*bound))?;
+    put(code, Instr::Binary(Binary::Cmp(relation)))?;
+    put(code, Instr::JumpFalse(past))
+}
+
+// A range of labels: where the selector's value is in it the code goes on at `hit`.
+fn put_label(
+    code: &mut Vec<Instr>,
+    range: &LabelRange,
+    level: u32,
+    hit: u32,
+) -> Result<(), AllocError>
+    ensures { OnOk result (code.new.items ≡ code.old.items ++ label_code range.now level (length code.old.items) hit) }
+{
+    let past = number_of(code.len() + 9)?;
+    put_bound(code, Relation::GreaterEqual, &range.low, level, past)?;
+    put_bound(code, Relation::LessEqual, &range.high, level, past)?;
+    put(code, Instr::Jump(hit))
+}
+
+fn put_labels(
+    code: &mut Vec<Instr>,
+    labels: &[LabelRange],
+    level: u32,
+    hit: u32,
+) -> Result<(), AllocError>
+    ensures { OnOk result (code.new.items ≡ code.old.items ++ labels_code labels.now level (length code.old.items) hit) }
+{
+    for range in labels {
+        put_label(code, range, level, hit)?;
+    }
+    Ok(())
+}
+
+// A test and statements, behind which the code goes on at `then`; where the test doesn't hold it goes on behind them.
+#[cycle(emit_stat)]
+fn emit_arm(
+    alloc: Global,
+    program: &Laid<'_>,
+    code: &mut Vec<Instr>,
+    test: &TExpr,
+    body: &[TStat],
+    then: u32,
+    level: u32,
+) -> Result<(), AllocError>
+    ensures { OnOk result (let c = value_code (seen_program program.now) (seen_expr test.now) (length code.old.items) in
+        code.new.items ≡ code.old.items ++ arm_code c
+        (stats_code (seen_program program.now) (seen_stats body.now) (length code.old.items + length c + 1) pending_exit level)
+        (length code.old.items) then []) }
+{
+    emit_value(alloc, program, code, test)?;
+    let test_end = code.len();
+    put(code, Instr::JumpFalse(0))?;
+    emit_stats(alloc, program, code, body, level)?;
+    put(code, Instr::Jump(then))?;
+    let end = next_place(code)?;
+    code[test_end] = Instr::JumpFalse(end);
+    Ok(())
+}
+
+#[cycle(emit_stat)]
+fn emit_while(
+    alloc: Global,
+    program: &Laid<'_>,
+    code: &mut Vec<Instr>,
+    at: Pos,
+    condition: &TExpr,
+    body: &[TStat],
+    level: u32,
+) -> Result<(), AllocError>
+    ensures { OnOk result (code.new.items ≡ code.old.items ++
+        stat_code (seen_program program.now) (While at (seen_expr condition.now) (seen_stats body.now))
+        (length code.old.items) pending_exit level) }
+{
+    let start = next_place(code)?;
+    emit_begin(code, at)?;
+    emit_arm(alloc, program, code, condition, body, start, level)
+}
+
+#[cycle(emit_stat)]
+fn emit_block(
+    alloc: Global,
+    program: &Laid<'_>,
+    code: &mut Vec<Instr>,
+    at: Pos,
+    body: &[TStat],
+    level: u32,
+) -> Result<(), AllocError>
+    ensures { OnOk result (code.new.items ≡ code.old.items ++
+        stat_code (seen_program program.now) (Block at (seen_stats body.now)) (length code.old.items) pending_exit level) }
+{
+    emit_begin(code, at)?;
+    emit_stats(alloc, program, code, body, level)
+}
+
+#[cycle(emit_stat)]
+fn emit_repeat(
+    alloc: Global,
+    program: &Laid<'_>,
+    code: &mut Vec<Instr>,
+    at: Pos,
+    body: &[TStat],
+    condition: &TExpr,
+    level: u32,
+) -> Result<(), AllocError>
+    ensures { OnOk result (code.new.items ≡ code.old.items ++
+        stat_code (seen_program program.now) (Repeat at (seen_stats body.now) (seen_expr condition.now))
+        (length code.old.items) pending_exit level) }
+{
+    let start = next_place(code)?;
+    emit_begin(code, at)?;
+    emit_stats(alloc, program, code, body, level)?;
+    emit_value(alloc, program, code, condition)?;
+    put(code, Instr::JumpFalse(start))
+}
+
+// Statements in which an EXIT leads behind so many instructions that come after them.
+#[cycle(emit_stat)]
+fn emit_left(
+    alloc: Global,
+    program: &Laid<'_>,
+    code: &mut Vec<Instr>,
+    body: &[TStat],
+    behind: u8,
+    level: u32,
+) -> Result<(), AllocError>
+    ensures { OnOk result (let first = length code.old.items in
+        let size = length (stats_code (seen_program program.now) (seen_stats body.now) first 0 level) in
+        code.new.items ≡ code.old.items ++
+        stats_code (seen_program program.now) (seen_stats body.now) first (first + size + behind) level) }
+{
+    let first = code.len();
+    emit_stats(alloc, program, code, body, level)?;
+    let exit = number_of(code.len() + usize::from(behind))?;
+    redirect(code, first, PENDING_EXIT, exit);
+    Ok(())
+}
+
+#[cycle(emit_stat)]
+fn emit_loop(
+    alloc: Global,
+    program: &Laid<'_>,
+    code: &mut Vec<Instr>,
+    at: Pos,
+    body: &[TStat],
+    level: u32,
+) -> Result<(), AllocError>
+    ensures { OnOk result (code.new.items ≡ code.old.items ++
+        stat_code (seen_program program.now) (Loop at (seen_stats body.now)) (length code.old.items) pending_exit level) }
+{
+    let start = next_place(code)?;
+    emit_begin(code, at)?;
+    emit_left(alloc, program, code, body, 1, level)?;
+    put(code, Instr::Jump(start))
+}
+
+// The rounds of a FOR. The jump behind their test is told its target when their end is known.
+#[cycle(emit_stat)]
+fn emit_rounds(
+    alloc: Global,
+    program: &Laid<'_>,
+    code: &mut Vec<Instr>,
+    at: Pos,
+    width: Width,
+    variable: &TPlace,
+    step: &i64,
+    body: &[TStat],
+    level: u32,
+) -> Result<(), AllocError>
+    ensures { OnOk result (code.new.items ≡ code.old.items ++
+        rounds_code (seen_program program.now) at width (seen_place variable.now) step.now (seen_stats body.now)
+        (length code.old.items) pending_exit level) }
+{
+    let start = next_place(code)?;
+    let inside = deeper(level)?;
+    emit_begin(code, at)?;
+    emit_test(alloc, program, code, width, variable, step, level)?;
+    let test_end = code.len();
+    put(code, Instr::JumpFalse(0))?;
+    emit_stats(alloc, program, code, body, inside)?;
+    emit_step(alloc, program, code, at, width, variable, step)?;
+    put(code, Instr::Jump(start))?;
+    let end = next_place(code)?;
+    code[test_end] = Instr::JumpFalse(end);
+    Ok(())
+}
+
+#[cycle(emit_stat)]
+#[tactic(auto, using(crate::proofs::Heights::arm_less, crate::proofs::Heights::otherwise_less))]
+fn emit_arms(
+    alloc: Global,
+    program: &Laid<'_>,
+    code: &mut Vec<Instr>,
+    arms: &[TArm],
+    otherwise: &[TStat],
+    level: u32,
+) -> Result<(), AllocError>
+    ensures { OnOk result (code.new.items ≡ code.old.items ++
+        arms_code (seen_program program.now) (arms_of arms.now (seen_stats otherwise.now))
+        (length code.old.items) pending_end pending_exit level) }
+{
+    for arm in arms {
+        emit_arm(
+            alloc,
+            program,
+            code,
+            &arm.test,
+            &arm.body,
+            PENDING_END,
+            level,
+        )?;
+    }
+    emit_stats(alloc, program, code, otherwise, level)
+}
+
+#[cycle(emit_stat)]
+fn emit_if(
+    alloc: Global,
+    program: &Laid<'_>,
+    code: &mut Vec<Instr>,
+    at: Pos,
+    arms: &[TArm],
+    otherwise: &[TStat],
+    level: u32,
+) -> Result<(), AllocError>
+    ensures { OnOk result (code.new.items ≡ code.old.items ++
+        stat_code (seen_program program.now) (If at (arms_of arms.now (seen_stats otherwise.now)))
+        (length code.old.items) pending_exit level) }
+{
+    emit_begin(code, at)?;
+    let first = code.len();
+    emit_arms(alloc, program, code, arms, otherwise, level)?;
+    let end = next_place(code)?;
+    redirect(code, first, PENDING_END, end);
+    Ok(())
+}
+
+// An arm of CASE. The jump past its statements is told its target when their end is known.
+#[cycle(emit_stat)]
+fn emit_choice(
+    alloc: Global,
+    program: &Laid<'_>,
+    code: &mut Vec<Instr>,
+    labels: &[LabelRange],
+    body: &[TStat],
+    level: u32,
+) -> Result<(), AllocError>
+    ensures { OnOk result (let hit = length code.old.items + 9 * length labels.now + 1 in
+        let b = stats_code (seen_program program.now) (seen_stats body.now) hit pending_exit level in
+        code.new.items ≡ code.old.items ++
+        case_code (labels_code labels.now level (length code.old.items) hit) b (hit + length b + 1) pending_end []) }
+{
+    let hit = number_of(code.len() + 9 * labels.len() + 1)?;
+    put_labels(code, labels, level, hit)?;
+    let labels_end = code.len();
+    put(code, Instr::Jump(0))?;
+    emit_stats(alloc, program, code, body, level)?;
+    put(code, Instr::Jump(PENDING_END))?;
+    let next = next_place(code)?;
+    code[labels_end] = Instr::Jump(next);
+    Ok(())
+}
+
+#[cycle(emit_stat)]
+#[tactic(auto, using(aos_typed::proofs::Seen::else_seen))]
+fn emit_else(
+    alloc: Global,
+    program: &Laid<'_>,
+    code: &mut Vec<Instr>,
+    otherwise: &TElse,
+    level: u32,
+) -> Result<(), AllocError>
+    ensures { OnOk result (code.new.items ≡ code.old.items ++
+        cases_code (seen_program program.now) (seen_else otherwise.now) (length code.old.items) pending_end pending_exit level) }
+{
+    match otherwise {
+        TElse::Missing => put(code, Instr::Fail(4)),
+        TElse::Else(body) => emit_stats(alloc, program, code, body, level),
+    }
+}
+
+#[cycle(emit_stat)]
+#[tactic(auto, using(crate::proofs::Heights::case_less, crate::proofs::Heights::else_less))]
+fn emit_choices(
+    alloc: Global,
+    program: &Laid<'_>,
+    code: &mut Vec<Instr>,
+    cases: &[TCase],
+    otherwise: &TElse,
+    level: u32,
+) -> Result<(), AllocError>
+    ensures { OnOk result (code.new.items ≡ code.old.items ++
+        cases_code (seen_program program.now) (cases_of cases.now (seen_else otherwise.now))
+        (length code.old.items) pending_end pending_exit level) }
+{
+    for case in cases {
+        emit_choice(alloc, program, code, &case.labels, &case.body, level)?;
+    }
+    emit_else(alloc, program, code, otherwise, level)
+}
+
+#[cycle(emit_stat)]
+fn emit_case(
+    alloc: Global,
+    program: &Laid<'_>,
+    code: &mut Vec<Instr>,
+    at: Pos,
+    selector: &TExpr,
+    cases: &[TCase],
+    otherwise: &TElse,
+    level: u32,
+) -> Result<(), AllocError>
+    ensures { OnOk result (code.new.items ≡ code.old.items ++
+        stat_code (seen_program program.now) (Case at (seen_expr selector.now) (cases_of cases.now (seen_else otherwise.now)))
+        (length code.old.items) pending_exit level) }
+{
+    emit_begin(code, at)?;
+    emit_value(alloc, program, code, selector)?;
+    put(code, Instr::Keep(level, Kind::N))?;
+    let first = code.len();
+    emit_choices(alloc, program, code, cases, otherwise, level)?;
+    let end = next_place(code)?;
+    redirect(code, first, PENDING_END, end);
+    Ok(())
+}
+
+#[cycle(emit_stat)]
+fn emit_stat(
+    alloc: Global,
+    program: &Laid<'_>,
+    code: &mut Vec<Instr>,
+    statement: &TStat,
+    level: u32,
+) -> Result<(), AllocError>
+    ensures { OnOk result (code.new.items ≡ code.old.items ++
+        stat_code (seen_program program.now) (seen_stat statement.now) (length code.old.items) pending_exit level) }
+{
+    match statement {
+        TStat::Assign(at, of, place, value) => {
+            emit_assign(alloc, program, code, *at, *of, place, value)
+        }
+        TStat::Copy(at, of, to, from) => emit_copy(alloc, program, code, *at, *of, to, from),
+        TStat::PutText(at, strict, from, elements, to, room) => {
+            emit_put(
+                alloc, program, code, *at, *strict, from, *elements, to, *room,
+            )
+        }
+        TStat::If(at, arms, body) => emit_if(alloc, program, code, *at, arms, body, level),
+        TStat::Case(at, value, cases, otherwise) => {
+            emit_case(alloc, program, code, *at, value, cases, otherwise, level)
+        }
+        TStat::While(at, test, body) => emit_while(alloc, program, code, *at, test, body, level),
+        TStat::Repeat(at, body, test) => emit_repeat(alloc, program, code, *at, body, test, level),
+        TStat::Loop(at, body) => emit_loop(alloc, program, code, *at, body, level),
+        TStat::Exit(at) => emit_exit(code, *at),
+        TStat::For(at, of, variable, from, to, step, body) => {
+            emit_head(alloc, program, code, *at, *of, variable, from, to, level)?;
+            emit_rounds(alloc, program, code, *at, *of, variable, step, body, level)
+        }
+        TStat::Block(at, body) => emit_block(alloc, program, code, *at, body, level),
+        TStat::Assert(at, test, number) => emit_assert(alloc, program, code, *at, test, *number),
+        TStat::Halt(at, number) => emit_halt(code, *at, *number),
+        TStat::Change(at, change, place, value) => {
+            emit_change(alloc, program, code, *at, *change, place, value)
+        }
+        TStat::New(at, place, object) => emit_new(alloc, program, code, *at, place, *object),
+        TStat::Out(at, call) => emit_out(alloc, program, code, *at, call),
+    }
+}
+
+#[cycle(emit_stat)]
+#[tactic(auto, using(crate::proofs::Heights::one_less))]
+fn emit_stats(
+    alloc: Global,
+    program: &Laid<'_>,
+    code: &mut Vec<Instr>,
+    statements: &[TStat],
+    level: u32,
+) -> Result<(), AllocError>
+    ensures { OnOk result (code.new.items ≡ code.old.items ++
+        stats_code (seen_program program.now) (seen_stats statements.now) (length code.old.items) pending_exit level) }
+{
+    for statement in statements {
+        emit_stat(alloc, program, code, statement, level)?;
+    }
+    Ok(())
+}
+
+/// The body with these statements.
+pub fn emit_body(
+    alloc: Global,
+    program: &Laid<'_>,
+    statements: &[TStat],
+) -> Result<Body, AllocError>
+    ensures code { IfOk result
+        (λ body. body.code.items ≡ body_code (seen_program program.now) (seen_stats statements.now)) }
+    ensures depth { IfOk result (λ body. body.depth ≡ body_need (seen_stats statements.now)) }
+{
+    let mut code = Vec::new(alloc);
+    emit_left(alloc, program, &mut code, statements, 0, 0)?;
+    put(&mut code, Instr::Return)?;
+    let depth = stats_need(statements)?;
+    Ok(Body { code, depth })
+}
