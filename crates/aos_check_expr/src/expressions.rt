@@ -627,7 +627,7 @@ fn measured(
 }
 
 /// The value of a constant expression, by its class.
-fn constant_class(found: &mut Option<Breach>, class: Class, at: Pos) -> Option<Literal>
+pub fn constant_class(found: &mut Option<Breach>, class: Class, at: Pos) -> Option<Literal>
     ensures noted { found.new ≡ first_after found.old (judge.constant_class class at).breaches }
     ensures answer { result ≡ (judge.constant_class class at).answer }
 {

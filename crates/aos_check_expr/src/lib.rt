@@ -15,11 +15,14 @@ pub use calls::desig_alone;
 pub use designators::{
     Head, has_parts, is_built, place_in, place_of, refuse_assigned, refuse_written,
 };
-pub use expressions::{char_argument, condition, constant, designator, expr, number_argument};
+pub use expressions::{
+    char_argument, condition, constant, constant_class, designator, expr, number_argument,
+};
 pub use known::{
-    Answer, Class, Held, Known, Spot, fits, is_basic, is_unknown, object_number, type_of,
+    Answer, Class, Held, Known, Spot, fits, is_basic, is_char, is_number, is_set, is_unknown,
+    object_number, type_of, type_of_literal, width_of,
 };
 pub use lengths::length_of;
-pub use operations::{Joint, Operation, Single, Step};
+pub use operations::{Joint, Operation, Single, Step, number};
 pub use selectors::Part;
 pub use texts::{is_characters, may_be_text, string_in, text_place};

@@ -83,7 +83,7 @@ impl Operation {
 }
 
 /// The number that a literal's value is given as.
-fn number(literal: Literal) -> i64
+pub fn number(literal: Literal) -> i64
     ensures { result ≡ judge.number literal }
 {
     match literal {

@@ -1,4 +1,7 @@
 pub mod Rows
 pub mod Values
 pub mod Places
+pub mod Apart
+pub mod Changed
+pub mod Controlled
 pub mod Typing

@@ -13,7 +13,7 @@ use Rattle.aos_types.specs.Table.{row_of, is_object as is_object_row}
 use Rattle.aos_typed.specs.declared.tree.TextConstant.{TextConstant}
 use Rattle.aos_typed.specs.declared.tree.TType.TheVariants as type
 use Rattle.aos_typed.specs.Numbers.{id_of}
-use Rattle.aos_typed.specs.Program.{Program}
+use Rattle.aos_typed.specs.Program.{Program, Stat}
 use Rattle.aos_typed.specs.WellTyped.{dimension, is_whole, is_variable, IsPlaceOf, IsOf, IsStatement}
 use Rattle.aos_symbols.specs.declared.env.Env.{Env}
 use Rattle.aos_symbols.specs.Env.{boolean, char, set, text}
@@ -104,6 +104,11 @@ no_value Unknown first known is e = known
 no_value Variable first known is e = is
 no_value ReadOnly first known is e = is
 
+-- what breaks a rule is no statement
+abbrev pub MayBe : Program → Option Stat → Type 0
+MayBe p None = Unit {0}
+MayBe p (Some x) = IsStatement p x
+
 module _ (p : Program) (e : Env) (whole : IsWhole p e) where
   -- what a designator that breaks no rule is
   pub record IsRead (a : Spot) : Type 0 where
@@ -145,17 +150,21 @@ module _ (p : Program) (e : Env) (whole : IsWhole p e) where
 
   -- Values that fit.
 
+  -- a basic type
+  pub fits_basic : (t : TypeId) (v : Answer) → is_basic t ≡ true → IsSound p v → fits v.known.of (Some t) ≡ true → IsOf p v.typed (type_as t)
+  fits_basic t v low sound h = by sound.typed
+    where
+      fit : fits_type sound.of t ≡ true
+      fit = ap (λ o. fits o (Some t)) (sym sound.known) ∙ h
+
+      by : IsScalar p sound.of v.typed ⊎ (IsWholeRead p sound.of v.typed ⊎ (sound.of ≡ text)) → IsOf p v.typed (type_as t)
+      by (inl x) = wider p v.typed (type_as sound.of) (type_as t) x.1 (fits_includes sound.of t fit)
+      by (inr (inl x)) = absurd (no_fit sound.of t x.0 low fit)
+      by (inr (inr x)) = absurd (no_fit sound.of t (ap is_basic x) low fit)
+
   -- of a variable of a basic type
   pub fitting : (a : Spot) (v : Answer) (is : IsAssigned a) → is_basic is.of ≡ true → IsSound p v → fits v.known.of a.known.of ≡ true → IsOf p v.typed (type_as is.of)
-  fitting a v is low sound h = by sound.typed
-    where
-      fit : fits_type sound.of is.of ≡ true
-      fit = ap (λ o. fits o (Some is.of)) (sym sound.known) ∙ ap (fits v.known.of) (sym is.known) ∙ h
-
-      by : IsScalar p sound.of v.typed ⊎ (IsWholeRead p sound.of v.typed ⊎ (sound.of ≡ text)) → IsOf p v.typed (type_as is.of)
-      by (inl x) = wider p v.typed (type_as sound.of) (type_as is.of) x.1 (fits_includes sound.of is.of fit)
-      by (inr (inl x)) = absurd (no_fit sound.of is.of x.0 low fit)
-      by (inr (inr x)) = absurd (no_fit sound.of is.of (ap is_basic x) low fit)
+  fitting a v is low sound h = fits_basic is.of v low sound (ap (fits v.known.of) (sym is.known) ∙ h)
 
   -- of one that has parts
   pub record IsCopied (a : Spot) (v : Answer) (t : TypeId) : Type 0 where

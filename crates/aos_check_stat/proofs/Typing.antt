@@ -1,19 +1,24 @@
 -- Statements that break no rule are well typed, where the types of all variables are known.
-use Rattle.std.proofs.Common.{◌≡◌, List, [], ◌∷◌, ◌++◌, Bool, true, false, ◌||◌, codes, Option, Some, None, is_some, refl, sym, ap, ◌∙◌, if◌then◌else◌}
+use Rattle.std.proofs.Common.{◌≡◌, ℤ, ◌⊎◌, List, [], ◌∷◌, ◌++◌, drop, length, Bool, true, false, ◌||◌, codes, Option, Some, None, is_some, refl, sym, ap, ◌∙◌, if◌then◌else◌}
 use Rattle.aos_base.specs.declared.text.Pos.{Pos}
+use Rattle.std.specs.Prelude.{All}
+use Rattle.std.proofs.lemmas.List.Elements.{All-nil, All-drop}
 use Rattle.aos_base.specs.declared.number.Width.TheVariants.{W64}
+use Rattle.aos_base.specs.Number.{IsWithin}
 use Rattle.aos_tree.specs.declared.name.Name.{Name}
 use Rattle.aos_tree.specs.declared.expr.Expr.{Expr as TreeExpr, out-Expr}
 use Rattle.aos_tree.specs.declared.expr.Desig.{Desig}
 use Rattle.aos_tree.specs.declared.expr.Selector.{Selector}
 use Rattle.aos_tree.specs.declared.expr.Selector.TheVariants as s
 use Rattle.aos_tree.specs.declared.stat.Block.{Block}
-use Rattle.aos_tree.specs.declared.stat.Stat.{Stat as TreeStat, Row_of-Stat, end_of-Stat, more_of-Stat}
+use Rattle.aos_tree.specs.declared.stat.Case.TheVariants as case
+use Rattle.aos_tree.specs.declared.stat.Stat.{Stat as TreeStat, Row_of-Stat, end_of-Stat, more_of-Stat, Row_of-Elsif, end_of-Elsif, more_of-Elsif, Row_of-Case, end_of-Case, more_of-Case, Held-Stat-If-4, None', Some'}
 use Rattle.aos_tree.specs.declared.stat.Stat.TheVariants as stat
 use Rattle.aos_typed.specs.declared.tree.TType.TheVariants as type
 use Rattle.aos_typed.specs.declared.tree.TextConstant.{TextConstant}
-use Rattle.aos_typed.specs.Program.{Program, Expr, Call, Open, Char, Int, String, Ln, Stat, Assign, Copy, While, Out}
-use Rattle.aos_typed.specs.WellTyped.{IsOf, IsCall, IsStatement, AreStatements}
+use Rattle.aos_typed.specs.Program.{Program, Expr, Call, Open, Char, Int, String, Ln, Stat, Assign, Copy, If, Case as CaseOf, While, Repeat, Loop, For, Block as BlockOf, Out, Arms, Otherwise, Arm, Cases, Else, OfLabels}
+use Rattle.aos_typed.specs.WellTyped.{AreLabels, IsOf, IsCall, IsStatement, AreStatements, AreArms, AreCases}
+use Rattle.aos_types.specs.declared.row.TypeId.{TypeId}
 use Rattle.aos_symbols.specs.declared.scope.Meaning.{Meaning}
 use Rattle.aos_symbols.specs.declared.scope.Meaning.TheVariants as means
 use Rattle.aos_symbols.specs.declared.scope.Routine.{Routine}
@@ -28,19 +33,20 @@ use Rattle.aos_symbols.specs.Env as env
 use Rattle.aos_symbols.proofs.Holds.{Holds, holds_bind, holds_walk, test_is}
 use Rattle.aos_check_expr.specs.declared.known.Class.{Class}
 use Rattle.aos_check_expr.specs.declared.known.Class.TheVariants.{Unknown, Constant, Variable, ReadOnly, Computed}
-use Rattle.aos_check_expr.specs.Known.{Answer, Spot, fits, type_as, is_basic as is_basic_type, is_long_text, is_number, is_char}
+use Rattle.aos_check_expr.specs.Known.{Answer, Spot, fits, type_as, is_basic as is_basic_type, is_long_text, is_number, is_char, width_of}
 use Rattle.aos_check_expr.specs.Designators.{has_parts, assigned, place_of, place_in}
 use Rattle.aos_check_expr.specs.Expressions.{text_place, expr, condition, argument, designator, desig_alone}
 use Rattle.aos_check_expr.proofs.Types.{as_basic}
 use Rattle.aos_check_expr.proofs.Typing.{IsWhole, IsSound, IsTextAt, expr_sound, condition_sound, argument_sound, text_argument}
 use Rattle.aos_check_stat.specs.Bodies as judge
 use Rattle.aos_check_stat.specs.Bodies.{listed, put, made, new_breaches, outs, ended, arguments, behind_arguments, modifier_breaches}
-use Rattle.aos_check_stat.proofs.Places.{not_long, IsRead, read_sound, IsAssigned, assigned_sound, fitting, copying, putting, copied_text, made_sound}
+use Rattle.aos_check_stat.proofs.Places.{MayBe as MayBeOf, not_long, IsRead, read_sound, IsAssigned, assigned_sound, fitting, copying, putting, copied_text, made_sound}
+use Rattle.aos_check_stat.proofs.Changed.{place_changed, change_call_sound, assert_sound, halt_sound}
+use Rattle.aos_check_stat.proofs.Controlled.{IsControl, control_sound, fitting_sound, step_sound, selector_sound, labels_sound}
 
 module _ (p : Program) (e : Env) (whole : IsWhole p e) where
   abbrev MayBe : Option Stat → Type 0
-  MayBe None = Unit {0}
-  MayBe (Some x) = IsStatement p x
+  MayBe o = MayBeOf p o
 
   abbrev pub Are : List Stat → Type 0
   Are ts = AreStatements p (listed ts)
@@ -194,12 +200,12 @@ module _ (p : Program) (e : Env) (whole : IsWhole p e) where
   routine_sound : (r : Routine) (at : Pos) (xs : List TreeExpr) → Holds MayBe (judge.routine_call e r at xs)
   routine_sound routine.Copy at xs = copy_sound at xs
   routine_sound routine.New at xs = new_sound at xs
-  routine_sound routine.Assert at xs = λ h. tt
-  routine_sound routine.Dec at xs = λ h. tt
-  routine_sound routine.Excl at xs = λ h. tt
-  routine_sound routine.Halt at xs = λ h. tt
-  routine_sound routine.Inc at xs = λ h. tt
-  routine_sound routine.Incl at xs = λ h. tt
+  routine_sound routine.Assert at xs = assert_sound p e whole at xs
+  routine_sound routine.Dec at xs = change_call_sound p e whole routine.Dec at xs
+  routine_sound routine.Excl at xs = change_call_sound p e whole routine.Excl at xs
+  routine_sound routine.Halt at xs = halt_sound p e whole at xs
+  routine_sound routine.Inc at xs = change_call_sound p e whole routine.Inc at xs
+  routine_sound routine.Incl at xs = change_call_sound p e whole routine.Incl at xs
 
   no_call_sound : (at : Pos) (c : Class) → Holds MayBe (judge.no_call at c)
   no_call_sound at Unknown = λ h. tt
@@ -232,38 +238,110 @@ module _ (p : Program) (e : Env) (whole : IsWhole p e) where
   called_sound NotExported d = λ h. tt
   called_sound (Found x) d = called_meaning_sound x.means d
 
+  exit_sound : (in_loop : Bool) (at : Pos) → Holds MayBe (judge.exit_of in_loop at)
+  exit_sound true at = λ h. tt
+  exit_sound false at = λ h. tt
+
+  abbrev IsTest : Expr → Type 0
+  IsTest x = IsOf p x type.Boolean
+
   mutual
-    stat_sound : (x : TreeStat) → Holds MayBe (judge.stat_of e x)
-    stat_sound stat.Empty = λ h. tt
-    stat_sound (stat.Assign d at x) = assign_sound d at x
-    stat_sound (stat.Call d) = called_sound (env.lookup e d.name) d
-    stat_sound (stat.While' q c shape row) =
-        holds_bind (λ (x : Expr). IsOf p x type.Boolean) MayBe (condition e c) (λ test. bind (judge.stats_in e [] row) (λ body. kept (Some (While q test (listed body)))))
+    stat_sound : (in_loop : Bool) (x : TreeStat) → Holds MayBe (judge.stat_of e in_loop x)
+    stat_sound in_loop stat.Empty = λ h. tt
+    stat_sound in_loop (stat.Assign d at x) = assign_sound d at x
+    stat_sound in_loop (stat.Call d) = called_sound (env.lookup e d.name) d
+    stat_sound in_loop (stat.While' q c shape row) =
+        holds_bind IsTest MayBe (condition e c) (λ test. bind (judge.stats_in e in_loop [] row) (λ body. kept (Some (While q test (listed body)))))
         (condition_sound p e whole c)
-        (λ test is. holds_bind Are MayBe (judge.stats_in e [] row) (λ body. kept (Some (While q test (listed body)))) (stats_sound [] tt row) (λ body are h. (is, are)))
-    stat_sound (stat.Block' q ms shape row) = λ h. tt
-    stat_sound (stat.Exit q) = λ h. tt
-    stat_sound (stat.Return q x) = λ h. tt
-    stat_sound (stat.Await q x) = λ h. tt
-    stat_sound (stat.If' q c shape row shapes rows otherwise) = λ h. tt
-    stat_sound (stat.Case' q c shape row otherwise) = λ h. tt
-    stat_sound (stat.Repeat' q shape row c) = λ h. tt
-    stat_sound (stat.Loop' q shape row) = λ h. tt
-    stat_sound (stat.For' q n r from to by shape row) = λ h. tt
-    stat_sound (stat.With' q a r b shape row) = λ h. tt
+        (λ test is. holds_bind Are MayBe (judge.stats_in e in_loop [] row) (λ body. kept (Some (While q test (listed body)))) (stats_sound in_loop [] tt row) (λ body are h. (is, are)))
+    stat_sound in_loop (stat.Block' q ms shape row) =
+        holds_bind Are MayBe (judged (modifier_breaches e.here.text false ms) []) (λ none. bind (judge.stats_in e in_loop none row) (λ body. kept (Some (BlockOf q (listed body)))))
+        (λ h. tt)
+        (λ none are. holds_bind Are MayBe (judge.stats_in e in_loop none row) (λ body. kept (Some (BlockOf q (listed body)))) (stats_sound in_loop none are row) (λ body all h. all))
+    stat_sound in_loop (stat.Exit q) = exit_sound in_loop q
+    stat_sound in_loop (stat.Return q x) = λ h. tt
+    stat_sound in_loop (stat.Await q x) = λ h. tt
+    stat_sound in_loop (stat.If' q c shape row shapes rows otherwise) =
+        let last = bind (judge.else_in e in_loop otherwise) (λ ss. kept (Otherwise (listed ss))) in
+        let whole_if = λ (test : Expr) (body : List Stat) (arms : Arms). kept (Some (If q (Arm test (listed body) arms))) in
+        holds_bind IsTest MayBe (condition e c) (λ test. bind (judge.stats_in e in_loop [] row) (λ body. bind (judge.elsifs_in e in_loop rows last) (λ arms. whole_if test body arms)))
+        (condition_sound p e whole c)
+        (λ test is. holds_bind Are MayBe (judge.stats_in e in_loop [] row) (λ body. bind (judge.elsifs_in e in_loop rows last) (λ arms. whole_if test body arms)) (stats_sound in_loop [] tt row)
+        (λ body are. holds_bind (AreArms p) MayBe (judge.elsifs_in e in_loop rows last) (λ arms. whole_if test body arms)
+        (elsifs_sound in_loop rows last (holds_bind Are (AreArms p) (judge.else_in e in_loop otherwise) (λ ss. kept (Otherwise (listed ss))) (else_sound in_loop otherwise) (λ ss all h. all)))
+        (λ arms all h. (is, are, all))))
+    stat_sound in_loop (stat.Case' q c shape row otherwise) =
+        let last = judge.case_else_in e in_loop otherwise in
+        let IsSelector = λ (v : Answer). IsOf p v.typed (type.Integer W64) ⊎ IsOf p v.typed type.Char in
+        holds_bind IsSelector MayBe (judge.selector e c) (λ v. bind (judge.cases_in e in_loop v.known.of [] row last) (λ cases. kept (Some (CaseOf q v.typed cases))))
+        (selector_sound p e whole c)
+        (λ v is. holds_bind (AreCases p) MayBe (judge.cases_in e in_loop v.known.of [] row last) (λ cases. kept (Some (CaseOf q v.typed cases)))
+        (cases_sound in_loop v.known.of [] (All-nil AreLabels) row last (case_else_sound in_loop otherwise)) (λ cases all h. (is, all)))
+    stat_sound in_loop (stat.Repeat' q shape row c) =
+        holds_bind Are MayBe (judge.stats_in e in_loop [] row) (λ body. bind (condition e c) (λ test. kept (Some (Repeat q (listed body) test))))
+        (stats_sound in_loop [] tt row)
+        (λ body are. holds_bind IsTest MayBe (condition e c) (λ test. kept (Some (Repeat q (listed body) test))) (condition_sound p e whole c) (λ test is h. (are, is)))
+    stat_sound in_loop (stat.Loop' q shape row) =
+        holds_bind Are MayBe (judge.stats_in e true [] row) (λ body. kept (Some (Loop q (listed body)))) (stats_sound true [] tt row) (λ body are h. are)
+    stat_sound in_loop (stat.For' q n r from to by shape row) =
+        let whole_for = λ (c : judge.Control) (a b : Expr) (step : ℤ) (body : List Stat). kept (Some (For q (width_of c.1) c.0 a b step (listed body))) in
+        holds_bind (IsControl p e whole) MayBe (judge.control e n)
+        (λ c. bind (judge.fitting e c.1 31 r from) (λ a. bind (judge.fitting e c.1 48 n.pos to) (λ b. bind (judge.step_of e n.pos c.1 by) (λ step. bind (judge.stats_in e in_loop [] row) (whole_for c a b step)))))
+        (control_sound p e whole n)
+        (λ c is. let IsValue = λ (x : Expr). IsOf p x (type.Integer (width_of c.1)) in
+        holds_bind IsValue MayBe (judge.fitting e c.1 31 r from) (λ a. bind (judge.fitting e c.1 48 n.pos to) (λ b. bind (judge.step_of e n.pos c.1 by) (λ step. bind (judge.stats_in e in_loop [] row) (whole_for c a b step))))
+        (fitting_sound p e whole c.1 is.typed.known is.number 31 r from)
+        (λ a x. holds_bind IsValue MayBe (judge.fitting e c.1 48 n.pos to) (λ b. bind (judge.step_of e n.pos c.1 by) (λ step. bind (judge.stats_in e in_loop [] row) (whole_for c a b step)))
+        (fitting_sound p e whole c.1 is.typed.known is.number 48 n.pos to)
+        (λ b y. holds_bind (λ z. IsWithin (width_of c.1) z) MayBe (judge.step_of e n.pos c.1 by) (λ step. bind (judge.stats_in e in_loop [] row) (whole_for c a b step))
+        (step_sound p e whole c.1 is.typed.known is.number n.pos by)
+        (λ step z. holds_bind Are MayBe (judge.stats_in e in_loop [] row) (whole_for c a b step) (stats_sound in_loop [] tt row)
+        (λ body are h. (is.variable, place_changed p e whole routine.Inc c.0 c.1 is.typed is.number, x, y, z, are))))))
+    stat_sound in_loop (stat.With' q a r b shape row) = λ h. tt
 
-    stats_sound : {m : _} (ts : List Stat) → Are ts → (r : Row_of-Stat m) → Holds Are (judge.stats_in e ts r)
-    stats_sound ts are end_of-Stat = λ h. are
-    stats_sound ts are (more_of-Stat x xs) =
-        holds_bind Are Are (bind (judge.stat_of e x) (λ o. kept (put ts o))) (λ us. judge.stats_in e us xs)
-        (holds_bind MayBe Are (judge.stat_of e x) (λ o. kept (put ts o)) (stat_sound x) (λ o is h. put_sound ts o are is))
-        (λ us now. stats_sound us now xs)
+    stats_sound : {m : _} (in_loop : Bool) (ts : List Stat) → Are ts → (r : Row_of-Stat m) → Holds Are (judge.stats_in e in_loop ts r)
+    stats_sound in_loop ts are end_of-Stat = λ h. are
+    stats_sound in_loop ts are (more_of-Stat x xs) =
+        holds_bind Are Are (bind (judge.stat_of e in_loop x) (λ o. kept (put ts o))) (λ us. judge.stats_in e in_loop us xs)
+        (holds_bind MayBe Are (judge.stat_of e in_loop x) (λ o. kept (put ts o)) (stat_sound in_loop x) (λ o is h. put_sound ts o are is))
+        (λ us now. stats_sound in_loop us now xs)
 
-  stat_in_sound : (ts : List Stat) (x : TreeStat) → Are ts → Holds Are (judge.stat_in e ts x)
-  stat_in_sound ts x are = holds_bind MayBe Are (judge.stat_of e x) (λ o. kept (put ts o)) (stat_sound x) (λ o is h. put_sound ts o are is)
+    else_sound : (in_loop : Bool) (o : Held-Stat-If-4) → Holds Are (judge.else_in e in_loop o)
+    else_sound in_loop None' = λ h. tt
+    else_sound in_loop (Some' shape row) = stats_sound in_loop [] tt row
+
+    case_else_sound : (in_loop : Bool) (o : Held-Stat-If-4) → Holds (AreCases p) (judge.case_else_in e in_loop o)
+    case_else_sound in_loop None' = λ h. tt
+    case_else_sound in_loop (Some' shape row) =
+        holds_bind Are (AreCases p) (judge.stats_in e in_loop [] row) (λ body. kept (Else (listed body))) (stats_sound in_loop [] tt row) (λ body are h. are)
+
+    elsifs_sound : {m : _} (in_loop : Bool) (r : Row_of-Elsif m) (last : Judged Arms) → Holds (AreArms p) last → Holds (AreArms p) (judge.elsifs_in e in_loop r last)
+    elsifs_sound in_loop end_of-Elsif last fine = fine
+    elsifs_sound in_loop (more_of-Elsif q c shape row more) last fine =
+        holds_bind IsTest (AreArms p) (condition e c) (λ test. bind (judge.stats_in e in_loop [] row) (λ body. bind (judge.elsifs_in e in_loop more last) (λ arms. kept (Arm test (listed body) arms))))
+        (condition_sound p e whole c)
+        (λ test is. holds_bind Are (AreArms p) (judge.stats_in e in_loop [] row) (λ body. bind (judge.elsifs_in e in_loop more last) (λ arms. kept (Arm test (listed body) arms)))
+        (stats_sound in_loop [] tt row)
+        (λ body are. holds_bind (AreArms p) (AreArms p) (judge.elsifs_in e in_loop more last) (λ arms. kept (Arm test (listed body) arms)) (elsifs_sound in_loop more last fine)
+        (λ arms all h. (is, are, all))))
+
+    cases_sound : {m : _} (in_loop : Bool) (of : Option TypeId) (ls : judge.Labels) → All AreLabels ls → (r : Row_of-Case m) (last : Judged Cases) → Holds (AreCases p) last →
+        Holds (AreCases p) (judge.cases_in e in_loop of ls r last)
+    cases_sound in_loop of ls known end_of-Case last fine = fine
+    cases_sound in_loop of ls known (more_of-Case case.Empty more) last fine = cases_sound in_loop of ls known more last fine
+    cases_sound in_loop of ls known (more_of-Case (case.Arm' labels shape row) more) last fine =
+        let arm = λ (all : judge.Labels) (body : List Stat) (cases : Cases). kept (OfLabels (drop (length ls) all) (listed body) cases) in
+        holds_bind (All AreLabels) (AreCases p) (walk (judge.label_in e of) ls labels) (λ all. bind (judge.stats_in e in_loop [] row) (λ body. bind (judge.cases_in e in_loop of all more last) (arm all body)))
+        (labels_sound p e whole of ls known labels)
+        (λ all within. holds_bind Are (AreCases p) (judge.stats_in e in_loop [] row) (λ body. bind (judge.cases_in e in_loop of all more last) (arm all body)) (stats_sound in_loop [] tt row)
+        (λ body are. holds_bind (AreCases p) (AreCases p) (judge.cases_in e in_loop of all more last) (arm all body) (cases_sound in_loop of all within more last fine)
+        (λ cases others h. (All-drop AreLabels (length ls) all within, are, others))))
+
+  stat_in_sound : (ts : List Stat) (x : TreeStat) → Are ts → Holds Are (judge.stat_in e false ts x)
+  stat_in_sound ts x are = holds_bind MayBe Are (judge.stat_of e false x) (λ o. kept (put ts o)) (stat_sound false x) (λ o is h. put_sound ts o are is)
 
   pub body_sound : (may_be_active : Bool) (b : Option Block) → Holds Are (judge.body_of e may_be_active b)
   body_sound may_be_active None = λ h. tt
   body_sound may_be_active (Some b) =
-      holds_bind Are Are (judged (modifier_breaches e.here.text may_be_active b.modifiers) []) (λ none. walk (judge.stat_in e) none b.body.stats)
-      (λ h. tt) (λ none are. holds_walk Are (judge.stat_in e) stat_in_sound b.body.stats none are)
+      holds_bind Are Are (judged (modifier_breaches e.here.text may_be_active b.modifiers) []) (λ none. walk (judge.stat_in e false) none b.body.stats)
+      (λ h. tt) (λ none are. holds_walk Are (judge.stat_in e false) stat_in_sound b.body.stats none are)

@@ -1,27 +1,38 @@
 -- The third pass: bodies. Built are assignments to variables of basic types and of whole records and arrays, those of string
--- constants to arrays of characters, COPY, WHILE, NEW of an object variable that is no part of another, the calls of Out, and of
--- the modifiers ACTIVE on an object's body. A statement that isn't built is refused at its first token,
--- a modifier at itself.
-use Rattle.std.specs.Prelude.{ℕ, List, [], ◌∷◌, ◌++◌, length, nat_lt, codes, Bool, true, false, not, ◌&&◌, Option, Some, None, is_some, if◌then◌else◌}
-use Rattle.std.specs.Option.{is_none, unwrap_or}
+-- constants to arrays of characters, all statements without calls but RETURN, AWAIT and WITH, the predeclared procedures, of which
+-- NEW takes an object variable that is no part of another, the calls of Out, and of the modifiers ACTIVE on an object's body.
+-- A statement that isn't built is refused at its first token, a modifier at itself.
+use Rattle.std.specs.Prelude.{ℕ, ℤ, pos, int_le, ◌==◌, ◌||◌, drop, List, [], ◌∷◌, ◌++◌, length, nat_lt, codes, Bool, true, false, not, ◌&&◌, Option, Some, None, is_some, if◌then◌else◌}
+use Rattle.std.specs.Option.{is_none, unwrap_or, option_map}
+use Rattle.std.specs.List.{list_any}
+use Rattle.std.specs.Ordering.{int_eq}
+use Rattle.aos_base.specs.Operators.{natural}
 use Rattle.aos_base.specs.declared.text.Pos.{Pos}
 use Rattle.aos_tree.specs.declared.name.Name.{Name}
 use Rattle.aos_tree.specs.declared.expr.Expr.{Expr as TreeExpr, out-Expr}
 use Rattle.aos_tree.specs.declared.expr.Desig.{Desig}
 use Rattle.aos_tree.specs.declared.expr.Selector.{Selector, items-the_row-Expr}
 use Rattle.aos_tree.specs.declared.expr.Selector.TheVariants as s
-use Rattle.aos_tree.specs.declared.stat.Block.{Block}
+use Rattle.aos_tree.specs.declared.stat.Block.{Block as TreeBlock}
 use Rattle.aos_tree.specs.declared.stat.Modifier.{Modifier}
-use Rattle.aos_tree.specs.declared.stat.Stat.{Stat as TreeStat, Row_of-Stat, end_of-Stat, more_of-Stat}
+use Rattle.aos_tree.specs.declared.stat.Label.{Label}
+use Rattle.aos_tree.specs.declared.stat.Case.TheVariants as case
+use Rattle.aos_tree.specs.declared.stat.Stat.{Stat as TreeStat, Row_of-Stat, end_of-Stat, more_of-Stat, Row_of-Elsif, end_of-Elsif, more_of-Elsif, Row_of-Case, end_of-Case, more_of-Case, Held-Stat-If-4, None', Some'}
 use Rattle.aos_tree.specs.declared.stat.Stat.TheVariants as stat
-use Rattle.aos_typed.specs.Program.{Call, Open, Char, Int, String, Ln, Stat, Assign, Copy, PutText, While, New, Out, Stats, Nothing, Then}
+use Rattle.aos_typed.specs.Program.{Call, Open, Char, Int, String, Ln, Place, ModuleVar, Expr as Typed, Lit, Stat, Assign, Copy, PutText, If, Case, While, Repeat, Loop, Exit, For, Block, Assert, Halt, Change, New, Out, Stats, Nothing, Then, Arms, Otherwise, Arm, Cases, NoElse, Else, OfLabels}
 use Rattle.aos_typed.specs.declared.tree.TextConstant.{TextConstant}
+use Rattle.aos_typed.specs.declared.tree.Literal.{Literal}
+use Rattle.aos_typed.specs.declared.tree.Literal.TheVariants as literal
+use Rattle.aos_typed.specs.declared.tree.Change.{Change as Changing}
+use Rattle.aos_typed.specs.declared.tree.Change.TheVariants as change
+use Rattle.aos_typed.specs.declared.tree.LabelRange.{LabelRange}
 use Rattle.aos_typed.specs.WellTyped.{is_variable}
 use Rattle.aos_symbols.specs.declared.breach.Breach.{Breach}
 use Rattle.aos_symbols.specs.declared.scope.Meaning.{Meaning}
 use Rattle.aos_symbols.specs.declared.scope.Meaning.TheVariants as means
 use Rattle.aos_symbols.specs.declared.scope.Routine.{Routine}
 use Rattle.aos_symbols.specs.declared.scope.Routine.TheVariants as routine
+use Rattle.aos_symbols.specs.declared.env.Symbol.{Symbol}
 use Rattle.aos_symbols.specs.declared.env.Lookup.{Lookup}
 use Rattle.aos_symbols.specs.declared.env.Lookup.TheVariants.{Unknown as NoName, NotExported, Found}
 use Rattle.aos_symbols.specs.declared.env.Env.{Env}
@@ -33,9 +44,10 @@ use Rattle.aos_types.specs.declared.row.TypeId.{TypeId}
 use Rattle.aos_types.specs.Table.{is_object as is_object_row}
 use Rattle.aos_check_expr.specs.declared.known.Class.{Class}
 use Rattle.aos_check_expr.specs.declared.known.Class.TheVariants.{Unknown, Constant, Variable, ReadOnly, Computed}
-use Rattle.aos_check_expr.specs.Known.{Answer, Spot, passes, is_number, is_char, is_basic, fits, type_of, object_number}
+use Rattle.aos_check_expr.specs.Known.{Answer, Spot, passes, is_number, is_char, is_set, is_basic, fits, width_of, type_of, type_of_literal, object_number}
+use Rattle.aos_check_expr.specs.Operations.{number}
 use Rattle.aos_check_expr.specs.Designators.{has_parts, assigned, written, place_of, place_in}
-use Rattle.aos_check_expr.specs.Expressions.{is_characters, string_in, may_be_text, text_place, length_of, expr, condition, argument, designator, desig_alone}
+use Rattle.aos_check_expr.specs.Expressions.{constant_class, is_characters, string_in, may_be_text, text_place, length_of, expr, condition, argument, designator, desig_alone}
 
 -- statements as a sequence of the typed program
 abbrev pub listed : List Stat → Stats
@@ -52,6 +64,10 @@ refused rule at = judged (breach rule at) None
 
 abbrev pub not_yet : Pos → Judged (Option Stat)
 not_yet at = refused 99 at
+
+-- EXIT leaves a LOOP
+abbrev pub exit_of : Bool → Pos → Judged (Option Stat)
+exit_of in_loop at = if in_loop then kept (Some (Exit at)) else refused 39 at
 
 abbrev pub outs : Pos → Judged Call → Judged (Option Stat)
 outs at j = bind j (λ c. kept (Some (Out at c)))
@@ -116,6 +132,93 @@ modifier_breaches text may_be_active [] = []
 modifier_breaches text may_be_active (m ∷ ms) =
     breach_unless (may_be_active && (is_active text m && is_none m.value)) 99 m.name.pos
     ++ modifier_breaches text (may_be_active && not (is_active text m)) ms
+
+-- two ranges of labels have a value together
+abbrev pub meets : LabelRange → LabelRange → Bool
+meets a b = (int_le a.low b.high && int_le b.low a.high) && (int_le a.low a.high && int_le b.low b.high)
+
+-- INC, DEC, INCL and EXCL of a variable, by a value or by 1: the variable is of an integer type, or a set
+abbrev pub changing : Routine → Option TypeId → Changing
+changing routine.Dec of = change.Subtract (width_of of)
+changing routine.Incl of = change.Include
+changing routine.Excl of = change.Exclude
+changing r of = change.Add (width_of of)
+
+abbrev pub is_changed_set : Routine → Bool
+is_changed_set routine.Incl = true
+is_changed_set routine.Excl = true
+is_changed_set r = false
+
+-- what a variable is changed by: an element of any integer type, or a number that fits the variable
+abbrev pub is_amount : Routine → Option TypeId → Option TypeId → Bool
+is_amount r of by = is_number by && (is_changed_set r || fits by of)
+
+-- what it changes is of an integer type, or a set
+abbrev pub is_changed : Routine → Option TypeId → Bool
+is_changed r of = if is_changed_set r then is_set of else is_number of
+
+abbrev pub changed_breaches : Routine → Pos → Spot → List Breach
+changed_breaches r first a = written a.known.class first ++ breach_unless (is_changed r a.known.of) 35 first
+
+abbrev pub changed_by : Routine → Pos → Spot → Typed → Stat
+changed_by r at a by = Change at (changing r a.known.of) (place_of a.held) by
+
+-- the code of a trap: a constant 0 to 255
+abbrev pub code_of : Option Literal → Option ℕ
+code_of (Some (literal.Int n)) = natural 256 n
+code_of v = None
+
+abbrev pub is_code : Class → Bool
+is_code Unknown = true
+is_code (Constant v) = is_none v || is_some (code_of v)
+is_code c = false
+
+abbrev pub code_in : Class → ℕ
+code_in (Constant v) = unwrap_or (code_of v) 0
+code_in c = 0
+
+-- CASE: its selector is an integer or a character.
+abbrev pub is_selector : Option TypeId → Bool
+is_selector of = is_number of || is_char of
+
+-- a label is of the selector's kind
+abbrev pub is_label : Option TypeId → Option TypeId → Bool
+is_label of label = (is_number of && is_number label) || (is_char of && is_char label)
+
+-- the range from the first value of a label to its last one; a label that breaks a rule has none
+abbrev pub range_of : Option ℤ → Option ℤ → Option LabelRange
+range_of (Some a) (Some b) = Some (record { low = a; high = b })
+range_of _ _ = None
+
+-- the labels of a CASE so far, each with its range
+abbrev pub Labels : Type 0
+Labels = List LabelRange
+
+-- one more label, which stands here, unless one of its values is a label already
+abbrev pub with_label : Labels → Pos → Option LabelRange → Judged Labels
+with_label ls at None = kept ls
+with_label ls at (Some r) = if list_any (meets r) ls then judged (breach 38 at) ls else kept (ls ++ r ∷ [])
+
+-- FOR: its variable is an integer variable of the module by its plain name; what breaks a rule is no variable.
+abbrev pub Control : Type 0
+Control = Place × Option TypeId
+
+abbrev pub lost : ℕ → Pos → Judged Control
+lost rule at = judged (breach rule at) (ModuleVar 0 0, None)
+
+abbrev pub control_variable : Pos → Place → Option TypeId → Judged Control
+control_variable at p of = judged (breach_unless (is_number of) 48 at) (p, of)
+
+-- a step is a constant other than 0 that fits the variable
+abbrev pub is_step : Option TypeId → Class → Bool
+is_step of Unknown = true
+is_step of (Constant None) = true
+is_step of (Constant (Some (literal.Int n))) = not (int_eq n (pos 0)) && fits (Some (type_of_literal (literal.Int n))) of
+is_step of c = false
+
+abbrev pub step_in : Class → ℤ
+step_in (Constant (Some (literal.Int n))) = n
+step_in c = pos 1
 
 module _ (e : Env) where
   -- how many elements an array has
@@ -212,11 +315,46 @@ module _ (e : Env) where
   copy_call at (x ∷ y ∷ []) = bind (text_argument x) (λ v. copied_to at v y (desig_alone y))
   copy_call at xs = refused 34 at
 
-  -- a predeclared procedure; those but COPY and NEW aren't built
+  abbrev pub amount : Routine → Option TypeId → Option TreeExpr → Judged Typed
+  amount r of None = kept (Lit (literal.Int (pos 1)))
+  amount r of (Some x) = bind (expr e x) (λ v. judged (breach_unless (is_amount r of v.known.of) 35 (out-Expr x).pos) v.typed)
+
+  abbrev pub change_of : Routine → Pos → Pos → Spot → Option TreeExpr → Judged (Option Stat)
+  change_of r at first a x =
+      bind (judged (changed_breaches r first a) a) (λ b. bind (amount r b.known.of x) (λ n. kept (Some (changed_by r at b n))))
+
+  abbrev pub change_at : Routine → Pos → TreeExpr → Option Desig → Option TreeExpr → Judged (Option Stat)
+  change_at r at y None x = bind (expr e y) (λ _. refused 32 (out-Expr y).pos)
+  change_at r at y (Some d) x = bind (designator e d) (λ a. change_of r at (out-Expr y).pos a x)
+
+  -- an amount is always written of INCL and EXCL
+  abbrev pub change_call : Routine → Pos → List TreeExpr → Judged (Option Stat)
+  change_call r at (y ∷ []) = if is_changed_set r then refused 34 at else change_at r at y (desig_alone y) None
+  change_call r at (y ∷ x ∷ []) = change_at r at y (desig_alone y) (Some x)
+  change_call r at xs = refused 34 at
+
+  abbrev pub trap_code : TreeExpr → Judged ℕ
+  trap_code x = bind (expr e x) (λ v. judged (breach_unless (is_code v.known.class) 20 (out-Expr x).pos) (code_in v.known.class))
+
+  abbrev pub assert_call : Pos → List TreeExpr → Judged (Option Stat)
+  assert_call at (x ∷ []) = bind (condition e x) (λ b. kept (Some (Assert at b 0)))
+  assert_call at (x ∷ y ∷ []) = bind (condition e x) (λ b. bind (trap_code y) (λ n. kept (Some (Assert at b n))))
+  assert_call at xs = refused 34 at
+
+  abbrev pub halt_call : Pos → List TreeExpr → Judged (Option Stat)
+  halt_call at (x ∷ []) = bind (trap_code x) (λ n. kept (Some (Halt at n)))
+  halt_call at xs = refused 34 at
+
+  -- a predeclared procedure
   abbrev pub routine_call : Routine → Pos → List TreeExpr → Judged (Option Stat)
+  routine_call routine.Assert at xs = assert_call at xs
   routine_call routine.Copy at xs = copy_call at xs
+  routine_call routine.Dec at xs = change_call routine.Dec at xs
+  routine_call routine.Excl at xs = change_call routine.Excl at xs
+  routine_call routine.Halt at xs = halt_call at xs
+  routine_call routine.Inc at xs = change_call routine.Inc at xs
+  routine_call routine.Incl at xs = change_call routine.Incl at xs
   routine_call routine.New at xs = new_call at xs
-  routine_call r at xs = not_yet at
 
   -- a call, by what its first name stands for; procedures but those of Out and the predeclared ones aren't built
   abbrev pub called_meaning : Meaning → Desig → Judged (Option Stat)
@@ -232,35 +370,114 @@ module _ (e : Env) where
   called NotExported d = refused 15 d.name.pos
   called (Found x) d = called_meaning x.means d
 
+  abbrev pub selector : TreeExpr → Judged Answer
+  selector x = bind (expr e x) (λ v. judged (breach_unless (is_selector v.known.of) 38 (out-Expr x).pos) v)
+
+  -- a label's value, where it breaks no rule
+  abbrev pub label_value : Pos → Option TypeId → TreeExpr → Judged (Option ℤ)
+  label_value at of x =
+      bind (expr e x) (λ v. bind (constant_class v.known.class (out-Expr x).pos) (λ l.
+      judged (breach_unless (is_label of v.known.of) 38 at) (option_map number l)))
+
+  abbrev pub label_range : Option TypeId → Label → Judged (Option LabelRange)
+  label_range of l = bind (label_value at of l.first) (λ a. last a l.last)
+    where
+      at : Pos
+      at = (out-Expr l.first).pos
+
+      last : Option ℤ → Option TreeExpr → Judged (Option LabelRange)
+      last a None = kept (range_of a a)
+      last a (Some y) = bind (label_value at of y) (λ b. kept (range_of a b))
+
+  abbrev pub label_in : Option TypeId → Labels → Label → Judged Labels
+  label_in of ls l = bind (label_range of l) (λ r. with_label ls (out-Expr l.first).pos r)
+
+  abbrev pub control_meant : Pos → Symbol → Meaning → Judged Control
+  control_meant at x (means.Variable k) =
+      if x.at.scope == 0 then control_variable at (ModuleVar x.at.home k) (env.variable_type e x.at k) else lost 99 at
+  control_meant at x m = lost 48 at
+
+  abbrev pub control_found : Pos → Lookup → Judged Control
+  control_found at NoName = lost 14 at
+  control_found at NotExported = lost 15 at
+  control_found at (Found x) = control_meant at x x.means
+
+  abbrev pub control : Name → Judged Control
+  control n = control_found n.pos (env.lookup e n)
+
+  -- a value that must fit the variable, or else it breaks a rule
+  abbrev pub fitting : Option TypeId → ℕ → Pos → TreeExpr → Judged Typed
+  fitting of rule at x = bind (expr e x) (λ v. judged (breach_unless (fits v.known.of of) rule at) v.typed)
+
+  abbrev pub step_of : Pos → Option TypeId → Option TreeExpr → Judged ℤ
+  step_of at of None = kept (pos 1)
+  step_of at of (Some x) = bind (expr e x) (λ v. judged (breach_unless (is_step of v.known.class) 48 at) (step_in v.known.class))
+
   abbrev mutual
-    -- a statement
-    pub stat_of : TreeStat → Judged (Option Stat)
-    stat_of stat.Empty = kept None
-    stat_of (stat.Assign d p x) = assign d p x
-    stat_of (stat.Call d) = called (env.lookup e d.name) d
-    stat_of (stat.While' p c shape row) =
-        bind (condition e c) (λ test. bind (stats_in [] row) (λ body. kept (Some (While p test (listed body)))))
-    stat_of (stat.Block' p ms shape row) = not_yet p
-    stat_of (stat.Exit p) = not_yet p
-    stat_of (stat.Return p x) = not_yet p
-    stat_of (stat.Await p x) = not_yet p
-    stat_of (stat.If' p c shape row shapes rows otherwise) = not_yet p
-    stat_of (stat.Case' p c shape row otherwise) = not_yet p
-    stat_of (stat.Repeat' p shape row c) = not_yet p
-    stat_of (stat.Loop' p shape row) = not_yet p
-    stat_of (stat.For' p n q from to by shape row) = not_yet p
-    stat_of (stat.With' p a q b shape row) = not_yet p
+    -- a statement, in a LOOP or in none
+    pub stat_of : (in_loop : Bool) → TreeStat → Judged (Option Stat)
+    stat_of in_loop stat.Empty = kept None
+    stat_of in_loop (stat.Assign d p x) = assign d p x
+    stat_of in_loop (stat.Call d) = called (env.lookup e d.name) d
+    stat_of in_loop (stat.While' p c shape row) =
+        bind (condition e c) (λ test. bind (stats_in in_loop [] row) (λ body. kept (Some (While p test (listed body)))))
+    stat_of in_loop (stat.Block' p ms shape row) =
+        bind (judged (modifier_breaches e.here.text false ms) []) (λ none. bind (stats_in in_loop none row) (λ body.
+        kept (Some (Block p (listed body)))))
+    stat_of in_loop (stat.Exit p) = exit_of in_loop p
+    stat_of in_loop (stat.Return p x) = not_yet p
+    stat_of in_loop (stat.Await p x) = not_yet p
+    stat_of in_loop (stat.If' p c shape row shapes rows otherwise) =
+        bind (condition e c) (λ test. bind (stats_in in_loop [] row) (λ body.
+        bind (elsifs_in in_loop rows (bind (else_in in_loop otherwise) (λ last. kept (Otherwise (listed last))))) (λ arms.
+        kept (Some (If p (Arm test (listed body) arms))))))
+    stat_of in_loop (stat.Case' p c shape row otherwise) =
+        bind (selector c) (λ v. bind (cases_in in_loop v.known.of [] row (case_else_in in_loop otherwise)) (λ cases.
+        kept (Some (Case p v.typed cases))))
+    stat_of in_loop (stat.Repeat' p shape row c) =
+        bind (stats_in in_loop [] row) (λ body. bind (condition e c) (λ test. kept (Some (Repeat p (listed body) test))))
+    stat_of in_loop (stat.Loop' p shape row) = bind (stats_in true [] row) (λ body. kept (Some (Loop p (listed body))))
+    stat_of in_loop (stat.For' p n q from to by shape row) =
+        bind (control n) (λ c. bind (fitting c.1 31 q from) (λ a. bind (fitting c.1 48 n.pos to) (λ b.
+        bind (step_of n.pos c.1 by) (λ step. bind (stats_in in_loop [] row) (λ body.
+        kept (Some (For p (width_of c.1) c.0 a b step (listed body))))))))
+    stat_of in_loop (stat.With' p a q b shape row) = not_yet p
 
     -- statements behind those before them
-    pub stats_in : {m : _} → List Stat → Row_of-Stat m → Judged (List Stat)
-    stats_in ts end_of-Stat = kept ts
-    stats_in ts (more_of-Stat x xs) = bind (bind (stat_of x) (λ o. kept (put ts o))) (λ us. stats_in us xs)
+    pub stats_in : {m : _} → (in_loop : Bool) → List Stat → Row_of-Stat m → Judged (List Stat)
+    stats_in in_loop ts end_of-Stat = kept ts
+    stats_in in_loop ts (more_of-Stat x xs) =
+        bind (bind (stat_of in_loop x) (λ o. kept (put ts o))) (λ us. stats_in in_loop us xs)
 
-  abbrev pub stat_in : List Stat → TreeStat → Judged (List Stat)
-  stat_in ts x = bind (stat_of x) (λ o. kept (put ts o))
+    -- the statements behind ELSE; there are none without it
+    pub else_in : Bool → Held-Stat-If-4 → Judged (List Stat)
+    else_in in_loop None' = kept []
+    else_in in_loop (Some' shape row) = stats_in in_loop [] row
+
+    pub case_else_in : Bool → Held-Stat-If-4 → Judged Cases
+    case_else_in in_loop None' = kept NoElse
+    case_else_in in_loop (Some' shape row) = bind (stats_in in_loop [] row) (λ body. kept (Else (listed body)))
+
+    -- arms of IF before the last one
+    pub elsifs_in : {m : _} → Bool → Row_of-Elsif m → Judged Arms → Judged Arms
+    elsifs_in in_loop end_of-Elsif last = last
+    elsifs_in in_loop (more_of-Elsif p c shape row more) last =
+        bind (condition e c) (λ test. bind (stats_in in_loop [] row) (λ body. bind (elsifs_in in_loop more last) (λ arms.
+        kept (Arm test (listed body) arms))))
+
+    -- the arms of CASE behind others, which have these labels, before the last one
+    pub cases_in : {m : _} → Bool → Option TypeId → Labels → Row_of-Case m → Judged Cases → Judged Cases
+    cases_in in_loop of ls end_of-Case last = last
+    cases_in in_loop of ls (more_of-Case case.Empty more) last = cases_in in_loop of ls more last
+    cases_in in_loop of ls (more_of-Case (case.Arm' labels shape row) more) last =
+        bind (walk (label_in of) ls labels) (λ all. bind (stats_in in_loop [] row) (λ body.
+        bind (cases_in in_loop of all more last) (λ cases. kept (OfLabels (drop (length ls) all) (listed body) cases))))
+
+  abbrev pub stat_in : Bool → List Stat → TreeStat → Judged (List Stat)
+  stat_in in_loop ts x = bind (stat_of in_loop x) (λ o. kept (put ts o))
 
   -- a body that is END alone has no statements
-  abbrev pub body_of : Bool → Option Block → Judged (List Stat)
+  abbrev pub body_of : Bool → Option TreeBlock → Judged (List Stat)
   body_of may_be_active None = kept []
   body_of may_be_active (Some b) =
-      bind (judged (modifier_breaches e.here.text may_be_active b.modifiers) []) (λ none. walk stat_in none b.body.stats)
+      bind (judged (modifier_breaches e.here.text may_be_active b.modifiers) []) (λ none. walk (stat_in false) none b.body.stats)

@@ -5,30 +5,12 @@ ghost use Rattle.aos_typed.specs.Seen.{seen_stat, seen_stats};
 ghost use Rattle.aos_symbols.specs.Breaches.{first_after};
 ghost use Rattle.aos_check_stat.specs.Bodies as judge;
 
+use crate::refusals::refuse_modifiers;
 use crate::statements::stats_in;
-use aos_symbols::{Breach, Env, NOT_BUILT, is_active, note};
-use aos_tree::{Block, Modifier};
+use aos_symbols::{Breach, Env};
+use aos_tree::Block;
 use aos_typed::TStat;
 use std::alloc::{AllocError, Global};
-
-/// Modifiers of which none is built but one ACTIVE, without a value, on a body that may be active.
-fn refuse_modifiers(
-    found: &mut Option<Breach>,
-    text: &[u8],
-    may_be_active: bool,
-    modifiers: &[Modifier],
-)
-    ensures { found.new ≡
-        first_after found.old (judge.modifier_breaches text.now may_be_active modifiers.now) }
-{
-    let mut may_be_active = may_be_active;
-    for modifier in modifiers {
-        if !may_be_active || !is_active(text, modifier) || modifier.value.is_some() {
-            note(found, NOT_BUILT, modifier.name.pos);
-        }
-        may_be_active = may_be_active && !is_active(text, modifier);
-    }
-}
 
 /// The statements of a body, which may be active or not. A body that is END alone has none.
 #[tactic(auto, using(aos_symbols::proofs::Keeping::after_more, crate::proofs::Rows::stats_seen))]
@@ -51,7 +33,7 @@ pub fn body_of(
         Some(block) => {
             let text = env.here.text();
             refuse_modifiers(found, text, may_be_active, block.modifiers.as_slice());
-            stats_in(alloc, found, env, block.body.stats.as_slice())
+            stats_in(alloc, found, env, false, block.body.stats.as_slice())
         },
     }
 }

@@ -14,6 +14,7 @@ ghost use Rattle.aos_check_stat.specs.Bodies as judge;
 
 use crate::out::out_selectors;
 use crate::refusals::{arguments, behind_arguments, not_yet, refuse_behind, refused};
+use crate::routines::{assert_call, change_call, halt_call};
 use crate::texts::copy_call;
 use aos_base::Pos;
 use aos_check_expr::{
@@ -134,7 +135,7 @@ fn new_call(
     }
 }
 
-/// A predeclared procedure with these arguments, in a call that begins at a place; those but COPY and NEW aren't built.
+/// A predeclared procedure with these arguments, in a call that begins at a place.
 fn routine_call(
     alloc: Global,
     found: &mut Option<Breach>,
@@ -149,9 +150,14 @@ fn routine_call(
         option_map seen_stat s ≡ (judge.routine_call env.now routine at arguments.now).answer) }
 {
     match routine {
+        Routine::Assert => assert_call(alloc, found, env, at, arguments),
         Routine::Copy => copy_call(alloc, found, env, at, arguments),
+        Routine::Halt => halt_call(alloc, found, env, at, arguments),
         Routine::New => new_call(alloc, found, env, at, arguments),
-        _ => Ok(not_yet(found, at)),
+        Routine::Dec => change_call(alloc, found, env, Routine::Dec, at, arguments),
+        Routine::Excl => change_call(alloc, found, env, Routine::Excl, at, arguments),
+        Routine::Inc => change_call(alloc, found, env, Routine::Inc, at, arguments),
+        Routine::Incl => change_call(alloc, found, env, Routine::Incl, at, arguments),
     }
 }
 

@@ -3,8 +3,11 @@
 
 pub mod bodies;
 mod calls;
+mod labels;
+mod loops;
 mod out;
 mod refusals;
+mod routines;
 mod statements;
 mod texts;
 

@@ -1,4 +1,4 @@
-// Statements that break a rule, and the parts of a call.
+// Statements and modifiers that break a rule, and the parts of a call.
 
 ghost use Rattle.std.specs.Prelude.{◌≡◌, None, option_map};
 ghost use Rattle.aos_typed.specs.Seen.{seen_stat};
@@ -7,8 +7,8 @@ ghost use Rattle.aos_symbols.specs.Judged.{kept};
 ghost use Rattle.aos_check_stat.specs.Bodies as judge;
 
 use aos_base::Pos;
-use aos_symbols::{Breach, NOT_BUILT, WRONG_CALL, WRONG_SELECTOR, note};
-use aos_tree::{Expr, Selector};
+use aos_symbols::{Breach, NOT_BUILT, WRONG_CALL, WRONG_SELECTOR, is_active, note};
+use aos_tree::{Expr, Modifier, Selector};
 use aos_typed::TStat;
 
 /// A statement that breaks a rule at a place, which is none.
@@ -60,5 +60,24 @@ pub fn refuse_behind(found: &mut Option<Breach>, first: Pos, behind: &[Selector]
         Selector::Index(at, _) => note(found, WRONG_SELECTOR, *at),
         Selector::Follow(at) => note(found, WRONG_SELECTOR, *at),
         Selector::Paren(_, _) => note(found, WRONG_CALL, first),
+    }
+}
+
+/// Modifiers of which none is built but one ACTIVE, without a value, on a body that may be active.
+pub fn refuse_modifiers(
+    found: &mut Option<Breach>,
+    text: &[u8],
+    may_be_active: bool,
+    modifiers: &[Modifier],
+)
+    ensures { found.new ≡
+        first_after found.old (judge.modifier_breaches text.now may_be_active modifiers.now) }
+{
+    let mut may_be_active = may_be_active;
+    for modifier in modifiers {
+        if !may_be_active || !is_active(text, modifier) || modifier.value.is_some() {
+            note(found, NOT_BUILT, modifier.name.pos);
+        }
+        may_be_active = may_be_active && !is_active(text, modifier);
     }
 }

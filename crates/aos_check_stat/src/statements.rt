@@ -1,23 +1,31 @@
 // Statements.
 
-ghost use Rattle.std.specs.Prelude.{◌≡◌, [], OnOk, IfOk, map, option_map};
-ghost use Rattle.aos_typed.specs.Seen.{seen_stat};
+ghost use Rattle.std.specs.Prelude.{◌≡◌, OnOk, IfOk, [], map, option_map};
+ghost use Rattle.aos_typed.specs.declared.tree.TArm.{out-TArm};
+ghost use Rattle.aos_typed.specs.Program.{Arms, Cases};
+ghost use Rattle.aos_typed.specs.Seen.{seen_expr, seen_stat, seen_else, cases_of};
 ghost use Rattle.aos_symbols.specs.Breaches.{first_after};
-ghost use Rattle.aos_symbols.specs.Judged.{walk};
+ghost use Rattle.aos_symbols.specs.Judged.{Judged};
 ghost use Rattle.aos_check_expr.specs.Seen.{seen_answer, seen_spot};
+ghost use Rattle.aos_check_expr.specs.Expressions as expressions;
 ghost use Rattle.aos_check_stat.specs.Bodies as judge;
+ghost use Rattle.aos_check_stat.specs.Listed as listed;
+ghost use Rattle.aos_check_stat.specs.Listed.{onto};
 
 use crate::calls::called;
-use crate::refusals::not_yet;
+use crate::labels::{Labels, labels_in, selector};
+use crate::loops::{control, fitting, step_of};
+use crate::refusals::{not_yet, refuse_modifiers, refused};
 use crate::texts::{put_text, text_for, value_fits};
 use aos_base::Pos;
 use aos_check_expr::{
     Answer, Spot, condition, designator, expr, has_parts, place_in, place_of, refuse_assigned,
-    type_of,
+    type_of, width_of,
 };
-use aos_symbols::{Breach, Env, UNFIT, note};
-use aos_tree::{Desig, Expr, Stat};
-use aos_typed::TStat;
+use aos_symbols::{Breach, EXIT_OUTSIDE, Env, UNFIT, WRONG_FOR, note};
+use aos_tree::{Block, Case, Desig, Elsif, Expr, Name, Stat, StatSeq};
+use aos_typed::{TArm, TCase, TElse, TStat};
+use aos_types::TypeId;
 use std::alloc::{AllocError, Global};
 
 /// A value must fit the variable, or else `:=` is refused.
@@ -82,39 +90,294 @@ fn put(stats: &mut Vec<TStat>, one: Option<TStat>) -> Result<(), AllocError>
     Ok(())
 }
 
-/// The statement of the typed program that a statement is; the empty one is none.
+/// EXIT at a place, which leaves a LOOP.
+fn exit_of(found: &mut Option<Breach>, in_loop: bool, at: Pos) -> Option<TStat>
+    ensures noted { found.new ≡ first_after found.old (judge.exit_of in_loop at).breaches }
+    ensures answer { option_map seen_stat result ≡ (judge.exit_of in_loop at).answer }
+{
+    if in_loop {
+        Some(TStat::Exit(at))
+    } else {
+        refused(found, EXIT_OUTSIDE, at)
+    }
+}
+
+/// The statement of the typed program that a statement is, in a LOOP or in none; the empty one is none.
 #[cycle(statements)]
+#[tactic(auto, using(crate::proofs::Rows::stat_while, crate::proofs::Rows::stat_repeat, crate::proofs::Rows::stat_loop, crate::proofs::Rows::stat_block, crate::proofs::Rows::stat_for))]
 fn stat_of(
     alloc: Global,
     found: &mut Option<Breach>,
     env: &Env<'_>,
+    in_loop: bool,
     stat: &Stat,
 ) -> Result<Option<TStat>, AllocError>
     ensures noted { OnOk result (found.new ≡
-        first_after found.old (judge.stat_of env.now stat.now).breaches) }
+        first_after found.old (judge.stat_of env.now in_loop stat.now).breaches) }
     ensures answer { IfOk result
-        (λ s. option_map seen_stat s ≡ (judge.stat_of env.now stat.now).answer) }
+        (λ s. option_map seen_stat s ≡ (judge.stat_of env.now in_loop stat.now).answer) }
 {
     match stat {
         Stat::Empty => Ok(None),
         Stat::Assign(desig, at, value) => assign(alloc, found, env, desig, *at, value),
         Stat::Call(desig) => called(alloc, found, env, desig),
-        Stat::While(at, test, body) => {
-            let test = condition(alloc, found, env, test)?;
-            let all = stats_in(alloc, found, env, body.stats.as_slice())?;
-            Ok(Some(TStat::While(*at, test, all)))
-        },
-        Stat::Block(block) => Ok(not_yet(found, block.pos)),
-        Stat::Exit(at) => Ok(not_yet(found, *at)),
+        Stat::Block(block) => block_of(alloc, found, env, in_loop, block),
+        Stat::Exit(at) => Ok(exit_of(found, in_loop, *at)),
         Stat::Return(at, _) => Ok(not_yet(found, *at)),
         Stat::Await(at, _) => Ok(not_yet(found, *at)),
-        Stat::If(at, _, _, _, _) => Ok(not_yet(found, *at)),
-        Stat::Case(at, _, _, _) => Ok(not_yet(found, *at)),
-        Stat::Repeat(at, _, _) => Ok(not_yet(found, *at)),
-        Stat::Loop(at, _) => Ok(not_yet(found, *at)),
-        Stat::For(at, _, _, _, _, _, _) => Ok(not_yet(found, *at)),
+        Stat::If(at, test, body, arms, last) => {
+            let first = arm_of(alloc, found, env, in_loop, body, test)?;
+            let mut all = Vec::new(alloc);
+            all.push(first)?;
+            put_arms(alloc, found, env, in_loop, arms.as_slice(), &mut all)?;
+            let last = else_of(alloc, found, env, in_loop, last)?;
+            Ok(Some(TStat::If(*at, all, last)))
+        }
+        Stat::Case(at, value, arms, last) => {
+            let value = selector(alloc, found, env, value)?;
+            let of = value.known.of;
+            let all = cases_in(alloc, found, env, in_loop, arms.as_slice(), of)?;
+            let last = case_else(alloc, found, env, in_loop, last)?;
+            Ok(Some(TStat::Case(*at, value.typed, all, last)))
+        }
+        Stat::While(at, test, body) => while_of(alloc, found, env, in_loop, *at, body, test),
+        Stat::Repeat(at, body, test) => repeat_of(alloc, found, env, in_loop, *at, body, test),
+        Stat::Loop(at, body) => loop_of(alloc, found, env, *at, body),
+        Stat::For(at, name, assigned, from, to, by, body) => {
+            for_of(
+                alloc, found, env, in_loop, *at, *name, *assigned, body, from, to, by,
+            )
+        }
         Stat::With(at, _, _, _, _) => Ok(not_yet(found, *at)),
     }
+}
+
+/// An arm of IF: its statements, and the test before them.
+#[cycle(statements)]
+#[tactic(auto, using(aos_symbols::proofs::Keeping::after_more))]
+fn arm_of(
+    alloc: Global,
+    found: &mut Option<Breach>,
+    env: &Env<'_>,
+    in_loop: bool,
+    body: &StatSeq,
+    test: &Expr,
+) -> Result<TArm, AllocError>
+    ensures noted { OnOk result (found.new ≡ first_after found.old
+        (listed.tested env.now in_loop test.now body.now.stats).breaches) }
+    ensures test { IfOk result (λ a. seen_expr (out-TArm a).test ≡ (expressions.condition env.now test.now).answer) }
+    ensures body { IfOk result (λ a. map seen_stat (out-TArm a).body.items ≡
+        (listed.listed_in env.now in_loop body.now.stats).answer) }
+{
+    let test = condition(alloc, found, env, test)?;
+    let body = stats_in(alloc, found, env, in_loop, body.stats.as_slice())?;
+    Ok(TArm { test, body })
+}
+
+/// Puts the arms of ELSIFs behind others, whatever stands behind them.
+#[cycle(statements)]
+fn put_arms(
+    alloc: Global,
+    found: &mut Option<Breach>,
+    env: &Env<'_>,
+    in_loop: bool,
+    elsifs: &[Elsif],
+    arms: &mut Vec<TArm>,
+) -> Result<(), AllocError>
+    ensures noted { OnOk result ((last : Judged Arms) → first_after found.new last.breaches ≡
+        first_after found.old (listed.arms_in env.now in_loop elsifs.now last).breaches) }
+    ensures answer { OnOk result ((last : Judged Arms) → onto arms.new.items last.answer ≡
+        onto arms.old.items (listed.arms_in env.now in_loop elsifs.now last).answer) }
+{
+    for elsif in elsifs {
+        let arm = arm_of(alloc, found, env, in_loop, &elsif.body, &elsif.condition)?;
+        arms.push(arm)?;
+    }
+    Ok(())
+}
+
+/// The statements behind ELSE; there are none without it.
+#[cycle(statements)]
+fn else_of(
+    alloc: Global,
+    found: &mut Option<Breach>,
+    env: &Env<'_>,
+    in_loop: bool,
+    otherwise: &Option<StatSeq>,
+) -> Result<Vec<TStat>, AllocError>
+    ensures noted { OnOk result (found.new ≡
+        first_after found.old (listed.behind_else env.now in_loop otherwise.now).breaches) }
+    ensures answer { IfOk result (λ ss.
+        map seen_stat ss.items ≡ (listed.behind_else env.now in_loop otherwise.now).answer) }
+{
+    match otherwise {
+        None => Ok(Vec::new(alloc)),
+        Some(body) => stats_in(alloc, found, env, in_loop, body.stats.as_slice()),
+    }
+}
+
+/// The arms of CASE, whatever stands behind them.
+#[cycle(statements)]
+fn cases_in(
+    alloc: Global,
+    found: &mut Option<Breach>,
+    env: &Env<'_>,
+    in_loop: bool,
+    arms: &[Case],
+    of: Option<TypeId>,
+) -> Result<Vec<TCase>, AllocError>
+    ensures noted { OnOk result ((last : Judged Cases) → first_after found.new last.breaches ≡
+        first_after found.old (listed.cases_of env.now in_loop of [] arms.now last).breaches) }
+    ensures answer { IfOk result (λ all. (last : Judged Cases) → cases_of all.items last.answer ≡
+        (listed.cases_of env.now in_loop of [] arms.now last).answer) }
+{
+    let mut labels = Labels::new(alloc);
+    let mut all = Vec::new(alloc);
+    for arm in arms {
+        let Case::Arm(own, body) = arm else {
+            continue;
+        };
+        let own = labels_in(alloc, found, env, of, &mut labels, own.as_slice())?;
+        let body = stats_in(alloc, found, env, in_loop, body.stats.as_slice())?;
+        all.push(TCase { labels: own, body })?;
+    }
+    Ok(all)
+}
+
+/// ELSE of CASE, if there is one.
+#[cycle(statements)]
+#[tactic(auto, using(aos_symbols::proofs::Keeping::after_more, crate::proofs::Rows::stats_seen, aos_typed::proofs::Seen::else_seen))]
+fn case_else(
+    alloc: Global,
+    found: &mut Option<Breach>,
+    env: &Env<'_>,
+    in_loop: bool,
+    otherwise: &Option<StatSeq>,
+) -> Result<TElse, AllocError>
+    ensures noted { OnOk result (found.new ≡
+        first_after found.old (listed.else_of_case env.now in_loop otherwise.now).breaches) }
+    ensures answer { IfOk result (λ o.
+        seen_else o ≡ (listed.else_of_case env.now in_loop otherwise.now).answer) }
+{
+    match otherwise {
+        None => Ok(TElse::Missing),
+        Some(body) => {
+            let body = stats_in(alloc, found, env, in_loop, body.stats.as_slice())?;
+            Ok(TElse::Else(body))
+        },
+    }
+}
+
+/// WHILE.
+#[cycle(statements)]
+#[tactic(auto, using(aos_symbols::proofs::Keeping::after_more, crate::proofs::Rows::stats_seen, aos_typed::proofs::Seen::while_seen))]
+fn while_of(
+    alloc: Global,
+    found: &mut Option<Breach>,
+    env: &Env<'_>,
+    in_loop: bool,
+    at: Pos,
+    body: &StatSeq,
+    test: &Expr,
+) -> Result<Option<TStat>, AllocError>
+    ensures noted { OnOk result (found.new ≡ first_after found.old
+        (listed.while_of env.now in_loop at test.now body.now.stats).breaches) }
+    ensures answer { IfOk result (λ s. option_map seen_stat s ≡
+        (listed.while_of env.now in_loop at test.now body.now.stats).answer) }
+{
+    let test = condition(alloc, found, env, test)?;
+    let body = stats_in(alloc, found, env, in_loop, body.stats.as_slice())?;
+    Ok(Some(TStat::While(at, test, body)))
+}
+
+/// REPEAT.
+#[cycle(statements)]
+#[tactic(auto, using(aos_symbols::proofs::Keeping::after_more, crate::proofs::Rows::stats_seen, aos_typed::proofs::Seen::repeat_seen))]
+fn repeat_of(
+    alloc: Global,
+    found: &mut Option<Breach>,
+    env: &Env<'_>,
+    in_loop: bool,
+    at: Pos,
+    body: &StatSeq,
+    test: &Expr,
+) -> Result<Option<TStat>, AllocError>
+    ensures noted { OnOk result (found.new ≡ first_after found.old
+        (listed.repeat_of env.now in_loop at body.now.stats test.now).breaches) }
+    ensures answer { IfOk result (λ s. option_map seen_stat s ≡
+        (listed.repeat_of env.now in_loop at body.now.stats test.now).answer) }
+{
+    let body = stats_in(alloc, found, env, in_loop, body.stats.as_slice())?;
+    let test = condition(alloc, found, env, test)?;
+    Ok(Some(TStat::Repeat(at, body, test)))
+}
+
+/// LOOP.
+#[cycle(statements)]
+#[tactic(auto, using(aos_symbols::proofs::Keeping::after_more, crate::proofs::Rows::stats_seen, aos_typed::proofs::Seen::loop_seen))]
+fn loop_of(
+    alloc: Global,
+    found: &mut Option<Breach>,
+    env: &Env<'_>,
+    at: Pos,
+    body: &StatSeq,
+) -> Result<Option<TStat>, AllocError>
+    ensures noted { OnOk result (found.new ≡ first_after found.old
+        (listed.loop_of env.now at body.now.stats).breaches) }
+    ensures answer { IfOk result (λ s. option_map seen_stat s ≡
+        (listed.loop_of env.now at body.now.stats).answer) }
+{
+    let body = stats_in(alloc, found, env, true, body.stats.as_slice())?;
+    Ok(Some(TStat::Loop(at, body)))
+}
+
+/// FOR, with its variable, its first and last values, its step, if one is written, and its statements.
+#[cycle(statements)]
+#[tactic(auto, using(aos_symbols::proofs::Keeping::after_more, crate::proofs::Rows::stats_seen, aos_typed::proofs::Seen::for_seen))]
+fn for_of(
+    alloc: Global,
+    found: &mut Option<Breach>,
+    env: &Env<'_>,
+    in_loop: bool,
+    at: Pos,
+    name: Name,
+    assigned: Pos,
+    body: &StatSeq,
+    from: &Expr,
+    to: &Expr,
+    by: &Option<Expr>,
+) -> Result<Option<TStat>, AllocError>
+    ensures noted { OnOk result (found.new ≡ first_after found.old
+        (listed.for_of env.now in_loop at name assigned from.now to.now by.now body.now.stats).breaches) }
+    ensures answer { IfOk result (λ s. option_map seen_stat s ≡
+        (listed.for_of env.now in_loop at name assigned from.now to.now by.now body.now.stats).answer) }
+{
+    let (place, of) = control(found, env, name);
+    let from = fitting(alloc, found, env, of, UNFIT, assigned, from)?;
+    let to = fitting(alloc, found, env, of, WRONG_FOR, name.pos, to)?;
+    let step = step_of(alloc, found, env, name.pos, of, by)?;
+    let body = stats_in(alloc, found, env, in_loop, body.stats.as_slice())?;
+    Ok(Some(TStat::For(at, width_of(of), place, from, to, step, body)))
+}
+
+/// A block of statements.
+#[cycle(statements)]
+#[tactic(auto, using(aos_symbols::proofs::Keeping::after_more, crate::proofs::Rows::stats_seen, aos_typed::proofs::Seen::block_seen))]
+fn block_of(
+    alloc: Global,
+    found: &mut Option<Breach>,
+    env: &Env<'_>,
+    in_loop: bool,
+    block: &Block,
+) -> Result<Option<TStat>, AllocError>
+    ensures noted { OnOk result (found.new ≡ first_after found.old
+        (listed.block_of env.now in_loop block.now).breaches) }
+    ensures answer { IfOk result (λ s. option_map seen_stat s ≡
+        (listed.block_of env.now in_loop block.now).answer) }
+{
+    refuse_modifiers(found, env.here.text(), false, block.modifiers.as_slice());
+    let body = stats_in(alloc, found, env, in_loop, block.body.stats.as_slice())?;
+    Ok(Some(TStat::Block(block.pos, body)))
 }
 
 /// The statements of a sequence.
@@ -124,16 +387,17 @@ pub fn stats_in(
     alloc: Global,
     found: &mut Option<Breach>,
     env: &Env<'_>,
+    in_loop: bool,
     stats: &[Stat],
 ) -> Result<Vec<TStat>, AllocError>
     ensures noted { OnOk result (found.new ≡
-        first_after found.old (walk (judge.stat_in env.now) [] stats.now).breaches) }
+        first_after found.old (listed.listed_in env.now in_loop stats.now).breaches) }
     ensures answer { IfOk result (λ ss.
-        map seen_stat ss.items ≡ (walk (judge.stat_in env.now) [] stats.now).answer) }
+        map seen_stat ss.items ≡ (listed.listed_in env.now in_loop stats.now).answer) }
 {
     let mut all = Vec::new(alloc);
     for stat in stats {
-        let one = stat_of(alloc, found, env, stat)?;
+        let one = stat_of(alloc, found, env, in_loop, stat)?;
         put(&mut all, one)?;
     }
     Ok(all)

@@ -1,5 +1,5 @@
 -- A program with more modules and more objects: what is well typed stays so.
-use Rattle.std.proofs.Common.{◌≡◌, ℕ, zero, suc, ◌<◌, ◌≤◌, inl, inr, List, ◌++◌, length, Option, Some, None, option_map, option_and_then, slice_get, refl, ap, ◌∙◌, length-append, arith}
+use Rattle.std.proofs.Common.{◌≡◌, ℕ, zero, suc, ◌<◌, ◌≤◌, ◌⊎◌, inl, inr, List, ◌++◌, length, Option, Some, None, option_map, option_and_then, slice_get, refl, ap, ◌∙◌, length-append, arith}
 use Rattle.std.proofs.lemmas.Option.{slice_get_within}
 use Rattle.aos_base.specs.declared.operator.Binary.{Binary as BinaryOperator}
 use Rattle.aos_base.specs.declared.operator.Binary.TheVariants.{Add, Sub, Mul, Div, Mod, Ash, Cmp, Union, Minus, Meet, Xor, SetSpan, In}
@@ -11,8 +11,9 @@ use Rattle.aos_types.specs.Table.{is_object}
 use Rattle.aos_typed.specs.declared.tree.TType.{TType}
 use Rattle.aos_typed.specs.declared.tree.TType.TheVariants.{Integer, Named, Char as TChar}
 use Rattle.aos_typed.specs.Numbers.{id_of}
-use Rattle.aos_typed.specs.Program.{Place, ModuleVar, Field, Index, Expr, Lit, Read, Unary, Binary, And, Or, Element, Ord, Chr, CompareTexts, Len, Call, Open, Char, Int, String, Ln, Stat, Assign, Copy, PutText, While, New, Out, Stats, Nothing, Then, Module, ObjectType, Program}
-use Rattle.aos_typed.specs.WellTyped.{variable_type, field_type, dimension, is_whole, Takes, AreCharacters, IsConstantText, IsTextOf, IsPlaceOf, IsOf, IsCall, IsStatement, AreStatements}
+use Rattle.aos_typed.specs.Program.{Place, ModuleVar, Field, Index, Expr, Lit, Read, Unary, Binary, And, Or, Element, Ord, Chr, CompareTexts, Len, Call, Open, Char, Int, String, Ln, Stat, Assign, Copy, PutText, If, Case, While, Repeat, Loop, Exit, For, Block, Assert, Halt, Change, New, Out, Stats, Nothing, Then, Arms, Otherwise, Arm, Cases, NoElse, Else, OfLabels, Module, ObjectType, Program}
+use Rattle.aos_typed.specs.WellTyped.{variable_type, field_type, dimension, is_whole, Takes, AreCharacters, IsConstantText, IsTextOf, IsPlaceOf, IsOf, IsCall, IsStatement, AreStatements, AreArms, AreCases, amount_type}
+use Rattle.aos_typed.specs.Meaning.{changed_type}
 use Rattle.aos_symbols.proofs.Told.{get_front}
 use Rattle.aos_compile.proofs.TypingTypes.{RowsStay, fact_stays}
 
@@ -129,13 +130,27 @@ module _ (p q : Program) (grows : Grows p q) where
   call_grows (String x n) h = text_grows (IsPlaceOf p x) (IsPlaceOf q x) (place_grows x) x n h
   call_grows Ln h = tt
 
+  selector_grows : (e : Expr) → IsOf p e (Integer W64) ⊎ IsOf p e TChar → IsOf q e (Integer W64) ⊎ IsOf q e TChar
+  selector_grows e (inl h) = inl (value_grows e _ h)
+  selector_grows e (inr h) = inr (value_grows e _ h)
+
   mutual
     statement_grows : (s : Stat) → IsStatement p s → IsStatement q s
     statement_grows (Assign at t x e) h = (place_grows x t h.0, h.1, value_grows e t h.2)
     statement_grows (Copy at t x y) h = (place_grows x t h.0, place_grows y t h.1, fact_stays p.types q.types grows.rows is_whole refl (id_of t).0 h.2)
     statement_grows (PutText at strict x n y m) h =
         (text_grows (IsPlaceOf p x) (IsPlaceOf q x) (place_grows x) x n h.0, characters_grow (IsPlaceOf p y) (IsPlaceOf q y) (place_grows y) m h.1, h.2)
+    statement_grows (If at arms) h = arms_grow arms h
+    statement_grows (Case at e cases) h = (selector_grows e h.0, cases_grow cases h.1)
     statement_grows (While at e body) h = (value_grows e _ h.0, statements_grow body h.1)
+    statement_grows (Repeat at body e) h = (statements_grow body h.0, value_grows e _ h.1)
+    statement_grows (Loop at body) h = statements_grow body h
+    statement_grows (Exit at) h = tt
+    statement_grows (For at w x from to step body) h = (h.0, place_grows x (Integer w) h.1, value_grows from _ h.2, value_grows to _ h.3, h.4, statements_grow body h.5)
+    statement_grows (Block at body) h = statements_grow body h
+    statement_grows (Assert at e code) h = (value_grows e _ h.0, h.1)
+    statement_grows (Halt at code) h = h
+    statement_grows (Change at c x e) h = (place_grows x (changed_type c) h.0, value_grows e (amount_type c) h.1)
     statement_grows (New at x t) h =
         (h.0, place_grows x (Named t) h.1, fact_stays p.types q.types grows.rows is_object refl (id_of (Named t)).0 h.2, fewer t (length p.objects) (length q.objects) h.3 grows.objects)
       where
@@ -146,6 +161,15 @@ module _ (p q : Program) (grows : Grows p q) where
     pub statements_grow : (ss : Stats) → AreStatements p ss → AreStatements q ss
     statements_grow Nothing h = tt
     statements_grow (Then s ss) h = (statement_grows s h.0, statements_grow ss h.1)
+
+    arms_grow : (arms : Arms) → AreArms p arms → AreArms q arms
+    arms_grow (Otherwise ss) h = statements_grow ss h
+    arms_grow (Arm e ss arms) h = (value_grows e _ h.0, statements_grow ss h.1, arms_grow arms h.2)
+
+    cases_grow : (cases : Cases) → AreCases p cases → AreCases q cases
+    cases_grow NoElse h = tt
+    cases_grow (Else ss) h = statements_grow ss h
+    cases_grow (OfLabels rs ss cases) h = (h.0, statements_grow ss h.1, cases_grow cases h.2)
 
 -- more modules, more rows and more objects behind those of a program
 pub grown : (ms ns : List Module) (ts us : List TypeRow) (os qs : List ObjectType) → RowsStay ts us →

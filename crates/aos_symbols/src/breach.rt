@@ -54,12 +54,18 @@ pub const ARGUMENT_TYPE: u16 = 35;
 pub const WRONG_CALL: u16 = 36;
 /// A condition that isn't BOOLEAN.
 pub const NO_CONDITION: u16 = 37;
+/// A label of CASE that isn't a constant of the selector's kind or is one already, or a selector of another type.
+pub const WRONG_LABEL: u16 = 38;
+/// EXIT outside a LOOP.
+pub const EXIT_OUTSIDE: u16 = 39;
 /// A type test or guard of what has no dynamic type.
 pub const WRONG_TEST: u16 = 41;
 /// A selector that the type hasn't.
 pub const WRONG_SELECTOR: u16 = 42;
 /// NEW of what is no object variable.
 pub const WRONG_NEW: u16 = 47;
+/// A variable, a last value or a step that FOR doesn't take.
+pub const WRONG_FOR: u16 = 48;
 /// A construct that isn't built yet.
 pub const NOT_BUILT: u16 = 99;
 

@@ -53,7 +53,7 @@ pub enum Function {
     Short,
 }
 
-/// The predeclared procedures that give no value (Oberon-2 report, 10.3). Built are COPY and NEW.
+/// The predeclared procedures that give no value (Oberon-2 report, 10.3).
 #[derive(Clone, Copy, PartialEq, Eq, Debug)]
 pub enum Routine {
     Assert,

@@ -1,39 +1,144 @@
--- WHILE: its condition, and then its statements, which stand in a row.
-use Rattle.std.proofs.Common.{◌∙◌, ◌++◌, List, [], Some, sym, ap}
-use Rattle.aos_typed.specs.Program.{Expr, Stats, Stat, While}
-use Rattle.aos_typed.specs.Seen.{seen_expr}
-use Rattle.aos_typed.proofs.Seen.{while_seen}
-use Rattle.aos_symbols.specs.Breaches.{first_after}
+use Rattle.std.proofs.Common.{◌≡◌, ◌+◌, [], ◌∷◌, ◌++◌, drop, length, true, Some, sym, ap, ◌∙◌, subst, rules, OnOk, IfOk, option_map}
 use Rattle.aos_symbols.specs.Judged.{walk}
+use Rattle.std.proofs.lemmas.Int.{to_z-of_z}
+use Rattle.std.specs.Int.{w64, cast_unsigned as of_z, cast_signed as to_z}
+use Rattle.std.specs.Int.RustNames.{FitsSigned}
+use Rattle.aos_typed.specs.Program.{While, Repeat, Loop, For, Block}
+use Rattle.aos_typed.specs.Seen.{seen_stat, cases_of}
+use Rattle.aos_typed.proofs.Seen.{while_seen, repeat_seen, loop_seen, for_seen, block_seen}
+use Rattle.aos_symbols.specs.Breaches.{first_after}
+use Rattle.aos_check_expr.specs.Known.{width_of}
 use Rattle.aos_check_expr.specs.Expressions.{condition}
-use Rattle.aos_symbols.proofs.Keeping.{after_more}
-use Rattle.aos_check_stat.specs.Bodies.{listed, stat_in}
-use Rattle.aos_check_stat.proofs.Rows.{stat_while, stats_seen}
+use Rattle.aos_check_stat.specs.Bodies as judge
+use Rattle.aos_check_stat.specs.Bodies.{listed}
+use Rattle.aos_check_stat.specs.Listed as parts
+use Rattle.aos_check_stat.specs.Listed.{onto}
+use Rattle.aos_check_stat.proofs.Rows.{stats_seen, stat_loop, stat_for, arms_noted, arms_put, if_noted, if_answer, cases_noted, cases_put, case_noted, case_answer}
 use Rattle.aos_check_stat.proofs.statements.+statements.Goals as goal
 
-pub stat_of-returns-in_ok-all-in-While-clause-noted : goal.stat_of-returns-in_ok-all-in-While-clause-noted
-stat_of-returns-in_ok-all-in-While-clause-noted t c =
-    let env = c.args.env.now in
-    let met = c.args.found.now in
-    let w = c.in-While in
-    let test = condition env w.test in
-    let all = walk (stat_in env) [] w.body.stats in
-    c.in_ok-all-in-While.ensures.noted
-    ∙ ap (λ ss. first_after c.condition.new.found (walk (stat_in env) [] ss).breaches) c.as_slice.ensures
-    ∙ ap (λ m. first_after m all.breaches) c.in_ok-test-in-While.ensures.noted
-    ∙ sym (after_more (first_after met test.breaches) all.breaches [])
-    ∙ sym (after_more met test.breaches (all.breaches ++ []))
-    ∙ ap (λ j. first_after met j.breaches) (sym (stat_while env c.args.stat.now w.at w.test w.body w.is))
+pub block_of-returns-clause-answer : goal.block_of-returns-clause-answer
+block_of-returns-clause-answer t c =
+    let b = c.in_ok-body.body in
+    let body = c.in_ok-body.ensures.answer ∙ ap (λ l. (parts.listed_in c.args.env.now c.args.in_loop l).answer) c.as_slice-2.ensures in
+    ap (λ s. Some s) (block_seen c.args.block.now.pos b ∙ ap (λ l. Block c.args.block.now.pos l) (stats_seen b.items ∙ ap listed body))
 
-pub stat_of-returns-in_ok-all-in-While-clause-answer : goal.stat_of-returns-in_ok-all-in-While-clause-answer
-stat_of-returns-in_ok-all-in-While-clause-answer t c =
-    let env = c.args.env.now in
-    let w = c.in-While in
-    let all = c.in_ok-all-in-While.all in
-    let tested = c.in_ok-test-in-While.test in
-    ap (λ (x : Stat). Some x) (while_seen w.at tested all)
-    ∙ ap (λ (us : Stats). Some (While w.at (seen_expr tested) us)) (stats_seen all.items)
-    ∙ ap (λ (us : List Stat). Some (While w.at (seen_expr tested) (listed us)))
-    (c.in_ok-all-in-While.ensures.answer ∙ ap (λ ss. (walk (stat_in env) [] ss).answer) c.as_slice.ensures)
-    ∙ ap (λ (x : Expr). Some (While w.at x (listed (walk (stat_in env) [] w.body.stats).answer))) c.in_ok-test-in-While.ensures.answer
-    ∙ ap (λ j. j.answer) (sym (stat_while env c.args.stat.now w.at w.test w.body w.is))
+pub cases_in-loop-arm-preserved : goal.cases_in-loop-arm-preserved
+cases_in-loop-arm-preserved t c =
+    let e = c.args.env.now in
+    let l = c.loop-arm in
+    let ls = l.labels.all.items in
+    let a = c.in-Arm in
+    let all = c.in_ok-own.ensures.all ∙ ap (λ z. (walk (judge.label_in e c.args.of) ls z).answer) c.as_slice.ensures in
+    let own = c.in_ok-own.ensures.behind ∙ ap (λ z. drop (length ls) (walk (judge.label_in e c.args.of) ls z).answer) c.as_slice.ensures in
+    let one = c.in_ok-own.ensures.noted ∙ ap (λ z. first_after l.found (walk (judge.label_in e c.args.of) ls z).breaches) c.as_slice.ensures in
+    let two = c.in_ok-body.ensures.noted ∙ ap (λ z. first_after c.labels_in.new.found (parts.listed_in e c.args.in_loop z).breaches) c.as_slice-in-loop-arm.ensures in
+    let body = c.in_ok-body.ensures.answer ∙ ap (λ z. (parts.listed_in e c.args.in_loop z).answer) c.as_slice-in-loop-arm.ensures in
+    let is = sym c.arm-item.is ∙ a.is in
+    record {
+      taken = c.in_ok-own.ensures.taken;
+      noted = λ last. cases_noted e c.args.in_loop c.args.of ls c.args.arms.now l.arm-index c.arm-item.result c.loop-arm-test.true a.own a.body is last c.labels_in.new.labels.all.items all l.found c.labels_in.new.found c.stats_in.new.found one two ∙ l.invariant.noted last;
+      answer = λ last. ap (λ z. cases_of z (parts.cases_of e c.args.in_loop c.args.of c.labels_in.new.labels.all.items (drop (l.arm-index + 1) c.args.arms.now) last).answer) c.in_ok-push.ensures.items ∙ cases_put e c.args.in_loop c.args.of ls c.args.arms.now l.arm-index c.arm-item.result c.loop-arm-test.true a.own a.body is last c.labels_in.new.labels.all.items all l.all.items _ own body ∙ l.invariant.answer last;
+    }
+
+pub for_of-returns-clause-answer : goal.for_of-returns-clause-answer
+for_of-returns-clause-answer t c =
+    let e = c.args.env.now in
+    let n = c.args.name in
+    let b = c.in_ok-body.body in
+    let body = c.in_ok-body.ensures.answer ∙ ap (λ l. (parts.listed_in e c.args.in_loop l).answer) c.as_slice.ensures in
+    let k = c.control-place.ensures.answer in
+    let of = ap (λ z. z.1) k in
+    let from = c.in_ok-from.ensures.answer ∙ ap (λ z. (judge.fitting e z 31 c.args.assigned c.args.from.now).answer) of in
+    let to = c.in_ok-to.ensures.answer ∙ ap (λ z. (judge.fitting e z 48 n.pos c.args.to.now).answer) of in
+    let step = c.in_ok-step.ensures.answer ∙ ap (λ z. (judge.step_of e n.pos z c.args.by.now).answer) of in
+    let width = c.width_of.ensures ∙ ap width_of of in
+    let fits : FitsSigned w64 c.in_ok-step.step = search rules in
+    ap (λ s. Some s) (for_seen c.args.at c.width_of.result c.control-place.result.0 c.in_ok-from.from c.in_ok-to.to (to_z w64 (of_z w64 c.in_ok-step.step)) b
+    ∙ (λ i. For c.args.at (width i) (k i).0 (from i) (to i) ((to_z-of_z w64 c.in_ok-step.step fits ∙ step) i) ((stats_seen b.items ∙ ap listed body) i)))
+
+pub loop_of-returns-clause-answer : goal.loop_of-returns-clause-answer
+loop_of-returns-clause-answer t c =
+    let b = c.in_ok-body.body in
+    let body = c.in_ok-body.ensures.answer ∙ ap (λ l. (parts.listed_in c.args.env.now true l).answer) c.as_slice.ensures in
+    ap (λ s. Some s) (loop_seen c.args.at b ∙ ap (λ l. Loop c.args.at l) (stats_seen b.items ∙ ap listed body))
+
+pub put_arms-loop-elsif-preserved : goal.put_arms-loop-elsif-preserved
+put_arms-loop-elsif-preserved t c =
+    let e = c.args.env.now in
+    let l = c.loop-elsif in
+    let x = c.elsif-item.result in
+    let xs = c.args.elsifs.now in
+    let there = c.elsif-item.is in
+    let one = c.in_ok-arm.ensures.noted ∙ ap (λ z. first_after l.found (parts.tested e c.args.in_loop z.condition z.body.stats).breaches) there in
+    let test = c.in_ok-arm.ensures.test ∙ ap (λ z. (condition e z.condition).answer) there in
+    let body = c.in_ok-arm.ensures.body ∙ ap (λ z. (parts.listed_in e c.args.in_loop z.body.stats).answer) there in
+    record {
+      noted = λ last. arms_noted e c.args.in_loop xs l.elsif-index x c.loop-elsif-test.true last l.found c.arm_of.new.found one ∙ l.invariant.noted last;
+      answer = λ last. ap (λ z. onto z (parts.arms_in e c.args.in_loop (drop (l.elsif-index + 1) xs) last).answer) c.in_ok-push.ensures.items ∙ arms_put e c.args.in_loop xs l.elsif-index x c.loop-elsif-test.true last l.arms.items _ test body ∙ l.invariant.answer last;
+    }
+
+pub repeat_of-returns-clause-answer : goal.repeat_of-returns-clause-answer
+repeat_of-returns-clause-answer t c =
+    let b = c.in_ok-body.body in
+    let body = c.in_ok-body.ensures.answer ∙ ap (λ l. (parts.listed_in c.args.env.now c.args.in_loop l).answer) c.as_slice.ensures in
+    ap (λ s. Some s) (repeat_seen c.args.at b c.in_ok-test.test ∙ (λ i. Repeat c.args.at ((stats_seen b.items ∙ ap listed body) i) (c.in_ok-test.ensures.answer i)))
+
+pub stat_of-returns-in_ok-last-in-If-clause-noted : goal.stat_of-returns-in_ok-last-in-If-clause-noted
+stat_of-returns-in_ok-last-in-If-clause-noted t c =
+    let e = c.args.env.now in
+    let x = c.in-If in
+    if_noted e c.args.in_loop c.args.stat.now x.at x.test x.body x.arms x.last x.is c.args.found.now c.arm_of.new.found c.put_arms.new.found c.else_of.new.found c.in_ok-first-in-If.ensures.noted
+    (λ last. c.in_ok-put_arms-in-If.ensures.noted last ∙ ap (λ z. first_after c.arm_of.new.found (parts.arms_in e c.args.in_loop z last).breaches) c.as_slice.ensures)
+    c.in_ok-last-in-If.ensures.noted
+
+pub stat_of-returns-in_ok-last-in-If-clause-answer : goal.stat_of-returns-in_ok-last-in-If-clause-answer
+stat_of-returns-in_ok-last-in-If-clause-answer t c =
+    let e = c.args.env.now in
+    let x = c.in-If in
+    let alone = c.in_ok-push-in-If.ensures.items ∙ ap (λ z. z ++ c.in_ok-first-in-If.first ∷ []) c.new-all.ensures.items in
+    if_answer e c.args.in_loop c.args.stat.now x.at x.test x.body x.arms x.last x.is c.in_ok-first-in-If.first c.put_arms.new.arms c.in_ok-last-in-If.last c.in_ok-first-in-If.ensures.test c.in_ok-first-in-If.ensures.body
+    (λ last. c.in_ok-put_arms-in-If.ensures.answer last ∙ ap (λ z. onto z (parts.arms_in e c.args.in_loop c.as_slice.result.now last).answer) alone ∙ ap (λ z. onto (c.in_ok-first-in-If.first ∷ []) (parts.arms_in e c.args.in_loop z last).answer) c.as_slice.ensures)
+    c.in_ok-last-in-If.ensures.answer
+
+pub stat_of-returns-in_ok-last-in-Case-clause-noted : goal.stat_of-returns-in_ok-last-in-Case-clause-noted
+stat_of-returns-in_ok-last-in-Case-clause-noted t c =
+    let e = c.args.env.now in
+    let x = c.in-Case in
+    let v = c.in_ok-value-in-Case in
+    let of = ap (λ z. z.known.of) v.ensures.answer in
+    case_noted e c.args.in_loop c.args.stat.now x.at x.value x.arms x.last x.is v.value.known.of of c.args.found.now c.selector.new.found c.cases_in.new.found c.case_else.new.found v.ensures.noted
+    (λ last. c.in_ok-all-in-Case.ensures.noted last ∙ ap (λ z. first_after c.selector.new.found (parts.cases_of e c.args.in_loop v.value.known.of [] z last).breaches) c.as_slice-in-Case.ensures)
+    c.in_ok-last-in-Case.ensures.noted
+
+pub stat_of-returns-in_ok-last-in-Case-clause-answer : goal.stat_of-returns-in_ok-last-in-Case-clause-answer
+stat_of-returns-in_ok-last-in-Case-clause-answer t c =
+    let e = c.args.env.now in
+    let x = c.in-Case in
+    let v = c.in_ok-value-in-Case in
+    let of = ap (λ z. z.known.of) v.ensures.answer in
+    let typed = ap (λ z. z.typed) v.ensures.answer in
+    case_answer e c.args.in_loop c.args.stat.now x.at x.value x.arms x.last x.is v.value.known.of of v.value.typed c.in_ok-all-in-Case.all c.in_ok-last-in-Case.last typed
+    (λ last. c.in_ok-all-in-Case.ensures.answer last ∙ ap (λ z. (parts.cases_of e c.args.in_loop v.value.known.of [] z last).answer) c.as_slice-in-Case.ensures)
+    c.in_ok-last-in-Case.ensures.answer
+
+pub stat_of-returns-in-Loop-clause-noted : goal.stat_of-returns-in-Loop-clause-noted
+stat_of-returns-in-Loop-clause-noted t c =
+    subst (λ j. OnOk c.loop_of.result (c.loop_of.new.found ≡ first_after c.args.found.now j.breaches)) (sym (stat_loop c.args.env.now c.args.in_loop c.args.stat.now c.in-Loop.at c.in-Loop.body c.in-Loop.is)) c.loop_of.ensures.noted
+
+pub stat_of-returns-in-Loop-clause-answer : goal.stat_of-returns-in-Loop-clause-answer
+stat_of-returns-in-Loop-clause-answer t c =
+    subst (λ j. IfOk c.loop_of.result (λ s. option_map seen_stat s ≡ j.answer)) (sym (stat_loop c.args.env.now c.args.in_loop c.args.stat.now c.in-Loop.at c.in-Loop.body c.in-Loop.is)) c.loop_of.ensures.answer
+
+pub stat_of-returns-in-For-clause-noted : goal.stat_of-returns-in-For-clause-noted
+stat_of-returns-in-For-clause-noted t c =
+    subst (λ j. OnOk c.for_of.result (c.for_of.new.found ≡ first_after c.args.found.now j.breaches)) (sym (stat_for c.args.env.now c.args.in_loop c.args.stat.now c.in-For.at c.in-For.name c.in-For.assigned c.in-For.from c.in-For.to c.in-For.by c.in-For.body c.in-For.is)) c.for_of.ensures.noted
+
+pub stat_of-returns-in-For-clause-answer : goal.stat_of-returns-in-For-clause-answer
+stat_of-returns-in-For-clause-answer t c =
+    subst (λ j. IfOk c.for_of.result (λ s. option_map seen_stat s ≡ j.answer)) (sym (stat_for c.args.env.now c.args.in_loop c.args.stat.now c.in-For.at c.in-For.name c.in-For.assigned c.in-For.from c.in-For.to c.in-For.by c.in-For.body c.in-For.is)) c.for_of.ensures.answer
+
+pub while_of-returns-clause-answer : goal.while_of-returns-clause-answer
+while_of-returns-clause-answer t c =
+    let b = c.in_ok-body.body in
+    let body = c.in_ok-body.ensures.answer ∙ ap (λ l. (parts.listed_in c.args.env.now c.args.in_loop l).answer) c.as_slice.ensures in
+    ap (λ s. Some s) (while_seen c.args.at c.in_ok-test.test b ∙ (λ i. While c.args.at (c.in_ok-test.ensures.answer i) ((stats_seen b.items ∙ ap listed body) i)))

@@ -1,7 +1,7 @@
 use Rattle.std.proofs.Common.{◌≡◌, drop}
 use Rattle.aos_symbols.specs.Breaches.{first_after}
 use Rattle.aos_check_stat.specs.Bodies as judge
-use Rattle.aos_check_stat.proofs.bodies.refuse_modifiers.Given as goal
+use Rattle.aos_check_stat.proofs.refusals.refuse_modifiers.Given as goal
 
 abbrev pub invariant-loop-modifier : goal.invariant-loop-modifier
 invariant-loop-modifier l =

@@ -1,0 +1,150 @@
+// FOR: its variable, its values and its step.
+
+ghost use Rattle.std.specs.Prelude.{◌≡◌, OnOk, IfOk};
+ghost use Rattle.aos_typed.specs.Seen.{seen_expr, seen_place};
+ghost use Rattle.aos_symbols.specs.Breaches.{first_after};
+ghost use Rattle.aos_check_stat.specs.Bodies as judge;
+
+use aos_base::Pos;
+use aos_check_expr::{Class, expr, fits, is_number, type_of_literal};
+use aos_symbols::{
+    Breach, Env, Lookup, Meaning, NOT_BUILT, NOT_EXPORTED, Symbol, UNKNOWN, WRONG_FOR, note,
+};
+use aos_tree::{Expr, Name};
+use aos_typed::{Literal, TExpr, TPlace};
+use aos_types::TypeId;
+use std::alloc::{AllocError, Global};
+
+/// What breaks a rule is no variable.
+fn lost(found: &mut Option<Breach>, rule: u16, at: Pos) -> (TPlace, Option<TypeId>)
+    ensures noted { found.new ≡ first_after found.old (judge.lost rule at).breaches }
+    ensures answer { (seen_place result.0, result.1) ≡ (judge.lost rule at).answer }
+{
+    note(found, rule, at);
+    (TPlace::ModuleVar(0, 0), None)
+}
+
+/// A variable, which must be of an integer type.
+fn control_variable(
+    found: &mut Option<Breach>,
+    at: Pos,
+    place: TPlace,
+    of: Option<TypeId>,
+) -> (TPlace, Option<TypeId>)
+    ensures noted { found.new ≡
+        first_after found.old (judge.control_variable at (seen_place place) of).breaches }
+    ensures answer { (seen_place result.0, result.1) ≡
+        (judge.control_variable at (seen_place place) of).answer }
+{
+    if !is_number(of) {
+        note(found, WRONG_FOR, at);
+    }
+    (place, of)
+}
+
+fn control_meant(
+    found: &mut Option<Breach>,
+    env: &Env<'_>,
+    at: Pos,
+    symbol: Symbol,
+) -> (TPlace, Option<TypeId>)
+    ensures noted { found.new ≡ first_after found.old
+        (judge.control_meant env.now at symbol symbol.means).breaches }
+    ensures answer { (seen_place result.0, result.1) ≡
+        (judge.control_meant env.now at symbol symbol.means).answer }
+{
+    match symbol.means {
+        Meaning::Variable(number) => {
+            if symbol.at.scope != 0 {
+                return lost(found, NOT_BUILT, at);
+            }
+            let of = env.variable_type(symbol.at, number);
+            control_variable(found, at, TPlace::ModuleVar(symbol.at.home, number), of)
+        },
+        _ => lost(found, WRONG_FOR, at),
+    }
+}
+
+/// The variable of FOR, by its name, with its type: an integer variable of a module.
+pub fn control(found: &mut Option<Breach>, env: &Env<'_>, name: Name) -> (TPlace, Option<TypeId>)
+    ensures noted { found.new ≡ first_after found.old (judge.control env.now name).breaches }
+    ensures answer { (seen_place result.0, result.1) ≡ (judge.control env.now name).answer }
+{
+    match env.lookup(name) {
+        Lookup::Unknown => lost(found, UNKNOWN, name.pos),
+        Lookup::NotExported => lost(found, NOT_EXPORTED, name.pos),
+        Lookup::Found(symbol) => control_meant(found, env, name.pos, symbol),
+    }
+}
+
+/// A value that must fit a variable of a type, or else it breaks a rule at a place.
+#[tactic(auto, using(aos_symbols::proofs::Keeping::after_more))]
+pub fn fitting(
+    alloc: Global,
+    found: &mut Option<Breach>,
+    env: &Env<'_>,
+    of: Option<TypeId>,
+    rule: u16,
+    at: Pos,
+    part: &Expr,
+) -> Result<TExpr, AllocError>
+    ensures noted { OnOk result (found.new ≡
+        first_after found.old (judge.fitting env.now of rule at part.now).breaches) }
+    ensures answer { IfOk result (λ r.
+        seen_expr r ≡ (judge.fitting env.now of rule at part.now).answer) }
+{
+    let value = expr(alloc, found, env, part)?;
+    if !fits(value.known.of, of) {
+        note(found, rule, at);
+    }
+    Ok(value.typed)
+}
+
+/// Whether a part is a step of a variable of a type: a constant other than 0 that fits it.
+fn is_step(of: Option<TypeId>, class: Class) -> bool
+    ensures { result ≡ judge.is_step of class }
+{
+    match class {
+        Class::Unknown => true,
+        Class::Constant(None) => true,
+        Class::Constant(Some(Literal::Int(n))) => {
+            n != 0 && fits(Some(type_of_literal(Literal::Int(n))), of)
+        },
+        _ => false,
+    }
+}
+
+fn step_in(class: Class) -> i64
+    ensures { result ≡ judge.step_in class }
+{
+    match class {
+        Class::Constant(Some(Literal::Int(n))) => n,
+        _ => 1,
+    }
+}
+
+/// The step of a variable of a type, refused at a place; 1 where none is written.
+#[tactic(auto, using(aos_symbols::proofs::Keeping::after_more))]
+pub fn step_of(
+    alloc: Global,
+    found: &mut Option<Breach>,
+    env: &Env<'_>,
+    at: Pos,
+    of: Option<TypeId>,
+    by: &Option<Expr>,
+) -> Result<i64, AllocError>
+    ensures noted { OnOk result (found.new ≡
+        first_after found.old (judge.step_of env.now at of by.now).breaches) }
+    ensures answer { IfOk result (λ n. n ≡ (judge.step_of env.now at of by.now).answer) }
+{
+    match by {
+        None => Ok(1),
+        Some(part) => {
+            let class = expr(alloc, found, env, part)?.known.class;
+            if !is_step(of, class) {
+                note(found, WRONG_FOR, at);
+            }
+            Ok(step_in(class))
+        },
+    }
+}
