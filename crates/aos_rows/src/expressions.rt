@@ -310,7 +310,6 @@ NEW => 1: rule 34: number of arguments
 NEW(l, l) => 1: rule 34: number of arguments
 l := LEN(l) => 10: rule 35: argument type
 l := NIL => 6: rule 99: not built yet
-INC(l) => 1: rule 99: not built yet
 x := \"ab\" => 3: rule 31: value doesn't fit
 x := \"\" => 3: rule 31: value doesn't fit
 l := SELF => 6: rule 99: not built yet";

@@ -18,4 +18,6 @@ mod rows;
 #[cfg(test)]
 mod runs;
 #[cfg(test)]
+mod statements;
+#[cfg(test)]
 mod texts;
