@@ -49,7 +49,7 @@ text_size cs = ones (suc (length cs))
     ones zero = refl
     ones (suc n) = ap (λ k. 1 + k) (ones n)
 
-same_sizes : (rows : List TypeRow) (m : Module) → map size (map (λ v. variable_shape rows (id_of v.of)) m.variables ++ map text_shape m.texts) ≡ map size (block_parts rows m)
+pub same_sizes : (rows : List TypeRow) (m : Module) → map size (map (λ v. variable_shape rows (id_of v.of)) m.variables ++ map text_shape m.texts) ≡ map size (block_parts rows m)
 same_sizes rows m = parts m.variables
   where
     texts : (ts : List (List ℕ)) → map size (map text_shape ts) ≡ map size (map text_cells ts)
@@ -60,15 +60,17 @@ same_sizes rows m = parts m.variables
     parts [] = texts m.texts
     parts (v ∷ vs) = λ i. variable_size rows v i ∷ parts vs i
 
-pub first_cell : (rows : List TypeRow) (m : Module) (i : ℕ) → let b = block_shape rows m in unwrap_or (slice_get b.places i) b.cells ≡ offset (i ∷ []) (row (map (λ v. variable_shape rows (id_of v.of)) m.variables ++ map text_shape m.texts))
-first_cell rows m i =
-    let ss = map (λ (v : Variable). variable_shape rows (id_of v.of)) m.variables ++ map text_shape m.texts in
-    let ts = block_parts rows m in
+-- a part begins at its own cell, and one that isn't there behind the others
+pub first_of_part : {S : Type 0} (ss : List (Shape S)) (ts : List (Shape Kind)) (i : ℕ) → map size ss ≡ map size ts → unwrap_or (slice_get (places_from 0 ts) i) (size (row ts)) ≡ offset (i ∷ []) (row ss)
+first_of_part ss ts i same =
     let rest = no_more (part i (row ss)) in
-    let is = place 0 i ss ts (same_sizes rows m) in
     let all : 0 + before i (row ss) ≡ offset (i ∷ []) (row ss) = omega (arith, rest) in
     let total : size (row ts) ≡ 0 + size (row ts) = omega arith in
-    ap (unwrap_or (slice_get (places_from 0 ts) i)) total ∙ is ∙ all
+    ap (unwrap_or (slice_get (places_from 0 ts) i)) total ∙ place 0 i ss ts same ∙ all
+
+pub first_cell : (rows : List TypeRow) (m : Module) (i : ℕ) → let b = block_shape rows m in unwrap_or (slice_get b.places i) b.cells ≡ offset (i ∷ []) (row (map (λ v. variable_shape rows (id_of v.of)) m.variables ++ map text_shape m.texts))
+first_cell rows m i =
+    first_of_part (map (λ (v : Variable). variable_shape rows (id_of v.of)) m.variables ++ map text_shape m.texts) (block_parts rows m) i (same_sizes rows m)
 
 -- behind a module's variables the first string constant begins, or its cells end; before it stand the kinds of the variables' cells
 behind : (at : ℕ) (ss ts : List (Shape Kind)) → unwrap_or (slice_get (places_from at (ss ++ ts)) (length ss)) (at + size (row (ss ++ ts))) ≡ at + size (row ss)

@@ -1,11 +1,9 @@
 -- The cells of a procedure's frame: those of its parameters, and behind them those of its locals, in order of declaration. A
 -- parameter by reference has one cell for the variable's place. An open array has one for its place and one for the length of
 -- each open dimension; the elements of one that is passed by value stand behind the locals, and aren't counted here.
-use Rattle.std.specs.Prelude.{ℕ, zero, suc, ◌+◌, ◌<◌, All, List, [], ◌∷◌, ◌++◌, length, map, replicate, Bool, false, not, if◌then◌else◌, Option, Some, None, option_map}
-use Rattle.aos_types.specs.declared.row.TypeId.{TypeId}
+use Rattle.std.specs.Prelude.{ℕ, ◌+◌, ◌<◌, All, List, [], ◌∷◌, ◌++◌, length, map, replicate, Bool, false, not, if◌then◌else◌, Option, Some, None, option_map}
 use Rattle.aos_types.specs.declared.row.TypeRow.{TypeRow}
 use Rattle.aos_types.specs.Table.{row_of, is_open, is_scalar}
-use Rattle.aos_types.specs.Sameness.{element_of}
 use Rattle.aos_types.specs.Shape.{Shape, One, Pair, size, row as row_of_shapes}
 use Rattle.aos_code.specs.declared.instr.Kind.{Kind}
 use Rattle.aos_code.specs.declared.instr.Kind.TheVariants.{N, A}
@@ -14,32 +12,8 @@ use Rattle.aos_code.specs.declared.image.ParamKind.TheVariants.{Scalar, Whole, P
 use Rattle.aos_typed.specs.declared.tree.TType.{TType}
 use Rattle.aos_typed.specs.Program.{Parameter, Procedure}
 use Rattle.aos_typed.specs.Numbers.{id_of}
+pub use Rattle.aos_typed.specs.Open.{open_by, open_dimensions, behind, open_element}
 use Rattle.aos_layout.specs.Layout.{leaves, kind_of, cells, variable_cells}
-
--- how many dimensions of a type are open, at most so many
-abbrev pub open_by : ℕ → List TypeRow → TypeId → ℕ
-open_by n rows t = counted n (element_of (row_of rows t))
-  where
-    counted : ℕ → Option TypeId → ℕ
-    counted zero of = 0
-    counted (suc n) None = 0
-    counted (suc n) (Some of) = suc (counted n (element_of (row_of rows of)))
-
--- an open array that doesn't contain itself has fewer dimensions than there are types
-abbrev pub open_dimensions : List TypeRow → TypeId → ℕ
-open_dimensions rows t = open_by (length rows) rows t
-
--- what is left of a type behind so many open dimensions
-abbrev pub behind : ℕ → List TypeRow → TypeId → TypeId
-behind zero rows t = t
-behind (suc n) rows t = next (λ of. behind n rows of) (element_of (row_of rows t))
-  where
-    next : (TypeId → TypeId) → Option TypeId → TypeId
-    next rest None = t
-    next rest (Some of) = rest of
-
-abbrev pub open_element : List TypeRow → TypeId → TypeId
-open_element rows t = behind (length rows) rows t
 
 abbrev pub open_cells : ℕ → Shape Kind
 open_cells dimensions = Pair (One A) (row_of_shapes (replicate dimensions (One N)))
@@ -96,15 +70,15 @@ pub record Known : Type 0 where
   pub method : Bool
   pub kinds : List Kind
 
--- of one of the module with this number, whose body keeps nothing
-abbrev pub known : List TypeRow → ℕ → Procedure → Known
-known rows home p =
+-- of one of the module with this number, whose body keeps so many values
+abbrev pub known : List TypeRow → (home keeps : ℕ) → Procedure → Known
+known rows home keeps p =
     record {
       module_ = home;
       params = map (parameter_kind rows) p.parameters;
       cells = size (frame rows p);
       counted = size (frame rows p);
-      keeps = 0;
+      keeps = keeps;
       result = option_map (λ t. kind_of rows (id_of t)) p.result;
       method = false;
       kinds = leaves (frame rows p);
@@ -116,6 +90,6 @@ pub record FrameShape : Type 0 where
   pub shape : Known
   pub places : List ℕ
 
-abbrev pub frame_shape : List TypeRow → (own home : ℕ) → Procedure → FrameShape
-frame_shape rows own home p =
-    record { own = own; shape = known rows home p; places = places_from 0 (frame_parts rows p) }
+abbrev pub frame_shape : List TypeRow → (own home keeps : ℕ) → Procedure → FrameShape
+frame_shape rows own home keeps p =
+    record { own = own; shape = known rows home keeps p; places = places_from 0 (frame_parts rows p) }

@@ -122,13 +122,14 @@ fn cells_of(alloc: Global, types: &Types, procedure: &TProcedure) -> Result<Cell
     Ok(cells)
 }
 
-/// The frame of a procedure with this number, in the module with that number. Without memory for the kinds of all its cells
-/// it is want of memory.
+/// The frame of a procedure with this number, in the module with that number, whose body keeps so many values. Without memory for
+/// the kinds of all its cells it is want of memory.
 pub fn frame_shape(
     alloc: Global,
     types: &Types,
     own: u32,
     home: u32,
+    keeps: u32,
     procedure: &TProcedure,
 ) -> Result<FrameShape, NoMemory>
     requires none_contains_itself { NoneContainsItself types.now }
@@ -136,7 +137,7 @@ pub fn frame_shape(
     requires few { length types.now ≤ 4294967296 }
     requires typed { frame.AreThere types.now (seen_procedure procedure.now) }
     ensures { IfOk result (λ f. seen_frame f ≡
-        frame.frame_shape types.now own home (seen_procedure procedure.now)) }
+        frame.frame_shape types.now own home keeps (seen_procedure procedure.now)) }
 {
     let params = parameter_kinds(alloc, types, procedure.parameters.as_slice())?;
     let result_of = result_kind(types, procedure.result);
@@ -151,7 +152,7 @@ pub fn frame_shape(
             params,
             cells: count,
             counted: count,
-            keeps: 0,
+            keeps,
             result: result_of,
             method: false,
             kinds,

@@ -3,3 +3,4 @@ pub mod Grow
 pub mod Roots
 pub mod Places
 pub mod Makes
+pub mod Wholes

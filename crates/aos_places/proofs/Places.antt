@@ -15,7 +15,7 @@ use Rattle.aos_places.proofs.Zoom.{zoomed, as_many}
 use Rattle.aos_places.proofs.Grow.{fits_grows, fits_plain, cells_grow}
 use Rattle.aos_places.proofs.Roots.{stands}
 
-get_behind : {A : Type 0} (front : List A) (x : A) (back : List A) → slice_get (front ++ (x ∷ back)) (length front) ≡ Some x
+pub get_behind : {A : Type 0} (front : List A) (x : A) (back : List A) → slice_get (front ++ (x ∷ back)) (length front) ≡ Some x
 get_behind [] x back = refl
 get_behind (z ∷ front) x back = get_behind front x back
 

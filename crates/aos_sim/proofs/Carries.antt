@@ -1,30 +1,36 @@
 -- What is left of a body, and where its code has come to.
 use Rattle.std.proofs.Common.{◌≡◌, ℕ, suc, ◌+◌, ◌<◌, ◌≤◌, Option, Some, None, Bool, true, false, List, [], ◌∷◌, ◌++◌, length, drop, refl, sym, ◌∙◌, subst, arith, append_assoc, length-append}
-use Rattle.std.specs.Prelude.{ℤ, nat_eq, if◌then◌else◌}
+use Rattle.std.specs.Prelude.{ℤ, nat_eq, if◌then◌else◌, option_map}
 use Rattle.std.proofs.lemmas.Bool.{eq-eqb, eqb-true}
 use Rattle.std.proofs.Math.Nat.{le-max_left, le-max_right}
 use Rattle.aos_base.specs.declared.text.Pos.{Pos}
 use Rattle.aos_base.specs.declared.number.Width.{Width}
 use Rattle.aos_base.specs.Number.{IsWithin}
-use Rattle.aos_base.specs.Question.{Val, feed}
+use Rattle.aos_base.specs.Question.{Val, Asks, Traps, Ends, feed}
+use Rattle.aos_types.specs.Content.{Content}
 use Rattle.aos_types.specs.World.{World}
+use Rattle.aos_typed.specs.declared.tree.TType.{TType}
 use Rattle.aos_typed.specs.declared.tree.TType.TheVariants.{Integer}
-use Rattle.aos_typed.specs.Program.{Place, Stat, Repeat, Stats, Nothing, Then, Program}
+use Rattle.aos_typed.specs.Numbers.{id_of}
+use Rattle.aos_typed.specs.Program.{Place, Stat, Repeat, Stats, Nothing, Then, Procedure, Program}
+use Rattle.aos_typed.specs.Routines.{result_of}
 use Rattle.aos_typed.specs.Sort.{Sort}
 use Rattle.aos_typed.specs.Value.{Value}
-use Rattle.aos_typed.specs.Meaning.{Item, Do, Rounds, Round, Until, After, Into, Exits, leave, items_of, item_of, stat_of, pos_of}
+use Rattle.aos_typed.specs.Meaning.{Item, Do, Rounds, Round, Until, After, Into, Returns, Exits, leave, items_of, item_of, stat_of, pos_of}
+use Rattle.aos_typed.specs.Source as S
 use Rattle.aos_typed.specs.WellTyped.{IsPlaceOf, IsStatement, AreStatements}
+use Rattle.aos_layout.specs.Layout.{kind_of}
 use Rattle.aos_code.specs.declared.instr.Cell.{Cell}
 use Rattle.aos_code.specs.declared.instr.Cell.TheVariants.{Num}
 use Rattle.aos_code.specs.declared.instr.Instr.{Instr}
-use Rattle.aos_code.specs.declared.instr.Instr.TheVariants as i
 use Rattle.aos_code.specs.declared.image.ProcShape.{ProcShape}
 use Rattle.aos_code.specs.Numbered.{numbered}
 use Rattle.aos_code.specs.Silent.{Stack, Keeps, kept, keeps_in}
-use Rattle.aos_sim.specs.Code.{stat_code, stats_code, rounds_code}
+use Rattle.aos_sim.specs.Cells.{cell_of}
+use Rattle.aos_sim.specs.Code.{stat_code, stats_code, rounds_code, end_code}
 use Rattle.aos_sim.specs.Need.{stat_level, stats_level}
-use Rattle.aos_sim.proofs.Runs.{Run, AtBegin, run, drop_past}
-use Rattle.aos_sim.proofs.Does.{Does, HasTypes, Knows}
+use Rattle.aos_sim.proofs.Runs.{Run, AtBegin, run, calm, drop_past}
+use Rattle.aos_sim.proofs.Does.{HasTypes, HasShapes, Knows, IsResult, Does, Calmly}
 
 -- keeps that are the same below a level
 abbrev pub Below : ℕ → Keeps → Keeps → Type 0
@@ -49,50 +55,60 @@ pub record Stands (code : List Instr) (at : ℕ) (xs : List Instr) : Type 0 wher
   pub rest : List Instr
   pub here : drop at code ≡ xs ++ rest
 
-module _ (program : Program) (shapes : List ProcShape) (own here : ℕ) (code : List Instr) where
+-- code knows what the procedure with this number gives
+abbrev pub IsOwn : Program → Option Procedure → List ProcShape → ℕ → Type 0
+IsOwn program own shapes number =
+    (f : ProcShape) × (numbered shapes number ≡ Some f) × (f.result ≡ option_map (λ t. kind_of program.types (id_of t)) (result_of own))
+
+-- where no item is left: the end of the frame, or a function's trap
+abbrev pub AtEnd : Option TType → Run → Type 0
+AtEnd None m = (g : Cell → Run) × (m ≡ Asks (Ends None) g)
+AtEnd (Some t) m = m ≡ Traps 10 0
+
+module _ (program : Program) (own : Option Procedure) (shapes : List ProcShape) (number here : ℕ) (code : List Instr) where
   -- from both places the code does the same
   abbrev pub Same : ℕ → ℕ → Type 0
-  Same p q = (k : Keeps) (s : Stack) → run shapes own here code p k s ≡ run shapes own here code q k s
+  Same p q = (k : Keeps) (s : Stack) → run shapes number here code p k s ≡ run shapes number here code q k s
 
   -- the procedure keeps something under so many numbers at most
   abbrev pub Holds : ℕ → Type 0
-  Holds n = n ≤ keeps_in (numbered shapes own)
+  Holds n = n ≤ keeps_in (numbered shapes number)
 
   -- the code of a well-typed statement stands at this place, and of well-typed statements
   pub record HasStatement (s : Stat) (at exit level : ℕ) : Type 0 where
-    pub stands : Stands code at (stat_code program s at exit level)
-    pub typed : IsStatement program s
+    pub stands : Stands code at (stat_code program own s at exit level)
+    pub typed : IsStatement program own s
     pub holds : Holds (stat_level s level)
 
   pub record HasStatements (ss : Stats) (at exit level : ℕ) : Type 0 where
-    pub stands : Stands code at (stats_code program ss at exit level)
-    pub typed : AreStatements program ss
+    pub stands : Stands code at (stats_code program own ss at exit level)
+    pub typed : AreStatements program own ss
     pub holds : Holds (stats_level ss level)
 
   -- and of the rounds of a FOR
   pub record HasRounds (there : Pos) (w : Width) (p : Place) (step : ℤ) (b : Stats) (at exit level : ℕ) : Type 0 where
-    pub stands : Stands code at (rounds_code program there w p step b at exit level)
-    pub place : IsPlaceOf program p (Integer w)
+    pub stands : Stands code at (rounds_code program own there w p step b at exit level)
+    pub place : IsPlaceOf program own p (Integer w)
     pub within : IsWithin w step
-    pub body : AreStatements program b
+    pub body : AreStatements program own b
     pub holds : Holds (stats_level b (suc level))
 
   -- The code at a place carries out these items, and then the end of the frame. EXIT leads where what is behind the innermost LOOP is
   -- carried out, and else to the end of the frame. The items need what is kept below the level alone: that is the last value of each
   -- FOR that they are in, whose rounds have a lower level themselves.
   abbrev pub Carries : List Item → (at exit level : ℕ) → Keeps → Type 0
-  Carries [] at x d k = (p : ℕ) × (at ≤ x) × Same at p × Stands code p (i.Return ∷ []) × Stands code x (i.Return ∷ [])
+  Carries [] at x d k = (p : ℕ) × (at ≤ x) × Same at p × Stands code p (end_code program own) × Stands code x (end_code program own)
   Carries (Do s ∷ is) at x d k =
-      (p : ℕ) × (at ≤ x) × Same at p × HasStatement s p x d × Carries is (p + length (stat_code program s p x d)) x d k
+      (p : ℕ) × (at ≤ x) × Same at p × HasStatement s p x d × Carries is (p + length (stat_code program own s p x d)) x d k
   Carries (Rounds there w q last step b ∷ is) at x d k =
       (p : ℕ) × (at ≤ x) × Same at p
-      × ((e : ℕ) × (e < d) × HasRounds there w q step b p x e × (k e ≡ Num last) × Carries is (p + length (rounds_code program there w q step b p x e)) x e k)
+      × ((e : ℕ) × (e < d) × HasRounds there w q step b p x e × (k e ≡ Num last) × Carries is (p + length (rounds_code program own there w q step b p x e)) x e k)
   Carries (Round s ∷ is) at x d k =
       (p : ℕ) × (at ≤ x) × Same at p
-      × ((outer : ℕ) × HasStatement s p outer d × (x ≡ p + length (stat_code program s p outer d)) × Carries is x outer d k)
+      × ((outer : ℕ) × HasStatement s p outer d × (x ≡ p + length (stat_code program own s p outer d)) × Carries is x outer d k)
   Carries (Until there b e ∷ is) at x d k =
-      (p : ℕ) × (at ≤ x) × Same at (p + 1 + length (stats_code program b (p + 1) x d)) × HasStatement (Repeat there b e) p x d
-      × Carries is (p + length (stat_code program (Repeat there b e) p x d)) x d k
+      (p : ℕ) × (at ≤ x) × Same at (p + 1 + length (stats_code program own b (p + 1) x d)) × HasStatement (Repeat there b e) p x d
+      × Carries is (p + length (stat_code program own (Repeat there b e) p x d)) x d k
 
   pub bound : (is : List Item) (at x d : ℕ) (k : Keeps) → Carries is at x d k → at ≤ x
   bound [] at x d k c = c.1
@@ -113,16 +129,16 @@ module _ (program : Program) (shapes : List ProcShape) (own here : ℕ) (code : 
   pub survives : (is : List Item) (at x d : ℕ) (k k' : Keeps) → Below d k k' → Carries is at x d k → Carries is at x d k'
   survives [] at x d k k' e c = c
   survives (Do s ∷ is) at x d k k' e c =
-      (c.0, c.1, c.2, c.3, survives is (c.0 + length (stat_code program s c.0 x d)) x d k k' e c.4)
+      (c.0, c.1, c.2, c.3, survives is (c.0 + length (stat_code program own s c.0 x d)) x d k k' e c.4)
   survives (Rounds there w q last step b ∷ is) at x d k k' e c =
       let n = c.3.0 in
-      (c.0, c.1, c.2, (n, c.3.1, c.3.2, sym (e n c.3.1) ∙ c.3.3, survives is (c.0 + length (rounds_code program there w q step b c.0 x n)) x n k k' (λ i lt. e i (under i n d lt c.3.1)) c.3.4))
+      (c.0, c.1, c.2, (n, c.3.1, c.3.2, sym (e n c.3.1) ∙ c.3.3, survives is (c.0 + length (rounds_code program own there w q step b c.0 x n)) x n k k' (λ i lt. e i (under i n d lt c.3.1)) c.3.4))
     where
       under : (i n d : ℕ) → i < n → n < d → i < d
       under i n d a b = omega (arith, a, b)
   survives (Round s ∷ is) at x d k k' e c = (c.0, c.1, c.2, (c.3.0, c.3.1, c.3.2, survives is x c.3.0 d k k' e c.3.3))
   survives (Until there b a ∷ is) at x d k k' e c =
-      (c.0, c.1, c.2, c.3, survives is (c.0 + length (stat_code program (Repeat there b a) c.0 x d)) x d k k' e c.4)
+      (c.0, c.1, c.2, c.3, survives is (c.0 + length (stat_code program own (Repeat there b a) c.0 x d)) x d k k' e c.4)
 
   -- where a run goes on with the code that carries out these items
   pub record GoesOn (is : List Item) (m : Run) : Type 0 where
@@ -130,29 +146,31 @@ module _ (program : Program) (shapes : List ProcShape) (own here : ℕ) (code : 
     pub exit : ℕ
     pub level : ℕ
     pub keeps : Keeps
-    pub runs : m ≡ run shapes own here code at keeps []
+    pub runs : m ≡ run shapes number here code at keeps []
     pub carries : Carries is at exit level keeps
 
-  -- what follows a statement is what the code goes on with, and with the items after it
+  -- what follows a statement is what the code goes on with, and with the items after it; or the code asks for the end of the frame,
+  -- with a result of the procedure's type
   abbrev pub Behind : List Item → World Sort → After → Run → Type 0
   Behind after w (Into is) m = GoesOn (is ++ after) m
+  Behind after w (Returns r) m = (g : Cell → Run) × (m ≡ Asks (Ends (option_map (cell_of w) r)) g) × IsResult program w (result_of own) r
   Behind after w Exits m = GoesOn (leave after) m
 
   -- behind the innermost LOOP, from where EXIT leads
-  pub outside : (is : List Item) (at x d : ℕ) (k : Keeps) → Carries is at x d k → GoesOn (leave is) (run shapes own here code x k [])
+  pub outside : (is : List Item) (at x d : ℕ) (k : Keeps) → Carries is at x d k → GoesOn (leave is) (run shapes number here code x k [])
   outside [] at x d k c = record { at = x; exit = x; level = d; keeps = k; runs = refl; carries = (x, omega arith, (λ k s. refl), c.4, c.4) }
-  outside (Do s ∷ is) at x d k c = outside is (c.0 + length (stat_code program s c.0 x d)) x d k c.4
+  outside (Do s ∷ is) at x d k c = outside is (c.0 + length (stat_code program own s c.0 x d)) x d k c.4
   outside (Rounds there w q last step b ∷ is) at x d k c =
-      outside is (c.0 + length (rounds_code program there w q step b c.0 x c.3.0)) x c.3.0 k c.3.4
+      outside is (c.0 + length (rounds_code program own there w q step b c.0 x c.3.0)) x c.3.0 k c.3.4
   outside (Round s ∷ is) at x d k c = record { at = x; exit = c.3.0; level = d; keeps = k; runs = refl; carries = c.3.3 }
-  outside (Until there b e ∷ is) at x d k c = outside is (c.0 + length (stat_code program (Repeat there b e) c.0 x d)) x d k c.4
+  outside (Until there b e ∷ is) at x d k c = outside is (c.0 + length (stat_code program own (Repeat there b e) c.0 x d)) x d k c.4
 
   -- statements in a row, before what is carried out behind them
-  pub carries_all : (ss : Stats) (at x d : ℕ) (k : Keeps) (after : List Item) → HasStatements ss at x d → Carries after (at + length (stats_code program ss at x d)) x d k → Carries (items_of ss ++ after) at x d k
+  pub carries_all : (ss : Stats) (at x d : ℕ) (k : Keeps) (after : List Item) → HasStatements ss at x d → Carries after (at + length (stats_code program own ss at x d)) x d k → Carries (items_of ss ++ after) at x d k
   carries_all Nothing at x d k after has c = let e : at + 0 ≡ at = omega arith in subst (λ n. Carries after n x d k) e c
   carries_all (Then s ss) at x d k after has c =
-      let cs = stat_code program s at x d in
-      let cr = stats_code program ss (at + length cs) x d in
+      let cs = stat_code program own s at x d in
+      let cr = stats_code program own ss (at + length cs) x d in
       let rest = has.stands.rest in
       let split : drop at code ≡ cs ++ (cr ++ rest) = has.stands.here ∙ append_assoc cs cr rest in
       let first : HasStatement s at x d = record { stands = record { rest = cr ++ rest; here = split }; typed = has.typed.0; holds = omega (arith, has.holds, le-max_left (stat_level s d) (stats_level ss d)) } in
@@ -161,35 +179,36 @@ module _ (program : Program) (shapes : List ProcShape) (own here : ℕ) (code : 
       let le : at ≤ x = omega (arith, bound after (at + length (cs ++ cr)) x d k c) in
       (at, le, (λ k s. refl), first, carries_all ss (at + length cs) x d k after others (subst (λ n. Carries after n x d k) len c))
 
-  -- what remains of a frame's items is what its code goes on with
-  abbrev pub Remains : World Sort → Option (List Value) → List Item → ℕ → Keeps → Stack → Type 0
-  Remains w None is next k s = (s ≡ []) × GoesOn is (run shapes own here code next k [])
-  Remains w (Some t) [] next k s = ⊥
-  Remains w (Some t) (i ∷ is) next k s = Does program (Behind is) w (run shapes own here code next k s) (feed t (item_of i))
+  -- what remains of the items of a frame, whose variables these are and their cells, is what its code goes on with
+  abbrev pub Remains : Content Value → List Cell → World Sort → Option (List Value) → List Item → ℕ → Keeps → Stack → Type 0
+  Remains c cells w None is next k s = (s ≡ []) × GoesOn is (run shapes number here code next k [])
+  Remains c cells w (Some t) [] next k s = ⊥
+  Remains c cells w (Some t) (i ∷ is) next k s =
+      Calmly program here (Behind is) cells w (calm cells (run shapes number here code next k s)) (S.calm c (feed t (item_of program here i)))
 
   -- the code of a statement does what the statement does
   abbrev pub StatementDoes : (exit level : ℕ) → Keeps → List Item → Stat → Type 0
   StatementDoes x d k after s =
-      (w : World Sort) (at : ℕ) → Knows program w → HasStatement s at x d → Carries after (at + length (stat_code program s at x d)) x d k →
-      Does program (Behind after) w (run shapes own here code (at + 1) k []) (stat_of s)
+      (w : World Sort) (at : ℕ) → Knows program own here w → HasStatement s at x d → Carries after (at + length (stat_code program own s at x d)) x d k →
+      Does program here (Behind after) w (run shapes number here code (at + 1) k []) (stat_of program here s)
 
   -- a run comes to a Begin, and the code behind it does what this item does
   pub record BeginsAt (there : Pos) (i : Item) (after : List Item) (w : World Sort) (m : Run) : Type 0 where
     pub at : ℕ
     pub keeps : Keeps
     pub runs : m ≡ Val (AtBegin at there keeps [])
-    pub does : Does program (Behind after) w (run shapes own here code (at + 1) keeps []) (item_of i)
+    pub does : Does program here (Behind after) w (run shapes number here code (at + 1) keeps []) (item_of program here i)
 
   -- what a run comes to where these items are next: the beginning of the first, or what it does where it has none
   abbrev pub AtNext : List Item → World Sort → Run → Type 0
-  AtNext [] w m = Unit {0}
+  AtNext [] w m = AtEnd (result_of own) m
   AtNext (Do s ∷ is) w m = BeginsAt (pos_of s) (Do s) is w m
   AtNext (Rounds there a q last step b ∷ is) w m = BeginsAt there (Rounds there a q last step b) is w m
   AtNext (Round s ∷ is) w m = BeginsAt (pos_of s) (Do s) is w m
-  AtNext (Until there b e ∷ is) w m = Does program (Behind is) w m (item_of (Until there b e))
+  AtNext (Until there b e ∷ is) w m = Does program here (Behind is) w m (item_of program here (Until there b e))
 
 -- each item's code does what the item does
 abbrev pub ItemsDo : Program → Type 0
 ItemsDo program =
-    (shapes : List ProcShape) (own here : ℕ) (code : List Instr) (w : World Sort) (is : List Item) (m : Run) → HasTypes program → Knows program w →
-    GoesOn program shapes own here code is m → AtNext program shapes own here code is w m
+    (own : Option Procedure) (shapes : List ProcShape) (number here : ℕ) (code : List Instr) (w : World Sort) (is : List Item) (m : Run) → HasTypes program → HasShapes program shapes → IsOwn program own shapes number → Knows program own here w →
+    GoesOn program own shapes number here code is m → AtNext program own shapes number here code is w m

@@ -6,10 +6,10 @@ use Rattle.std.proofs.lemmas.List.{length-take-le}
 use Rattle.aos_base.specs.Rooted.{Made, Rooted, load_all, store_all}
 use Rattle.aos_types.specs.Shape.{Shape, Nothing, size, join}
 use Rattle.aos_types.specs.Content.{Content, flatten, overlay, EachSort}
-use Rattle.aos_types.specs.Contents.{contents, of_variable}
+use Rattle.aos_types.specs.Contents.{contents, of_variable, variable_scalars}
 use Rattle.aos_types.specs.Chain.{IsRanked}
 use Rattle.aos_types.specs.Table.{row_of}
-use Rattle.aos_types.specs.World.{World, shape_at, read, write}
+use Rattle.aos_types.specs.World.{World, shape_at, world, read, write}
 use Rattle.aos_typed.specs.declared.tree.TType.{TType}
 use Rattle.aos_typed.specs.Program.{Program}
 use Rattle.aos_typed.specs.Numbers.{id_of}
@@ -23,13 +23,11 @@ use Rattle.aos_code.specs.Machine.{if_all, cells_at}
 use Rattle.aos_places.specs.Shows.{Shows}
 use Rattle.aos_places.proofs.Places.{loads_alike, copy_alike}
 use Rattle.aos_sim.specs.Cells.{cell_of}
-use Rattle.aos_sim.specs.Code.{cells_of}
 use Rattle.aos_sim.proofs.Kept.{values_kept}
 use Rattle.aos_sim.proofs.Parts.{variable_size, plain_parts, whole_ends}
 use Rattle.aos_sim.proofs.Does.{scheme, addr_of, HasPlace}
-use Rattle.aos_sim.proofs.States.{world_of}
 
-some_same : {A : Type 0} (x y : A) → Some x ≡ Some y → x ≡ y
+pub some_same : {A : Type 0} (x y : A) → Some x ≡ Some y → x ≡ y
 some_same x y e = cc
 
 pub all_there : (n : ℕ) (cells : List Cell) → length cells ≡ n → if_all n cells ≡ Some cells
@@ -37,7 +35,7 @@ all_there n cells e = rw (eq-eqb (length cells) n e) refl
 
 module _ (program : Program) (ranked : IsRanked program.types) (made : List Made) (frames : List (Shape Sort)) (x : Rooted (Content Value)) (y : Rooted (List Cell)) (shows : Shows (Is program.types) cell_of (scheme program) made frames x y) (t : TType) (whole : is_whole (row_of program.types (id_of t)) ≡ true) where
   abbrev now : World Sort
-  now = world_of program made frames
+  now = world (scheme program) made frames
 
   abbrev shape : Shape Sort
   shape = variable_shape program.types (id_of t)
@@ -49,12 +47,12 @@ module _ (program : Program) (ranked : IsRanked program.types) (made : List Made
   -- all cells of a place
   record AllCells (p : Spot) : Type 0 where
     cells : List Cell
-    loaded : load_all (cells_of program t) p.root (addr_of now p).cell y ≡ Some cells
-    there : cells_at (cells_of program t) (addr_of now p) y ≡ Some cells
+    loaded : load_all (variable_scalars program.types (id_of t)) p.root (addr_of now p).cell y ≡ Some cells
+    there : cells_at (variable_scalars program.types (id_of t)) (addr_of now p) y ≡ Some cells
 
   all_cells : (p : Spot) → HasPlace program now p t → AllCells p
   all_cells p h =
-      let n = cells_of program t in
+      let n = variable_scalars program.types (id_of t) in
       let size_is : size shape ≡ n = variable_size program.types (id_of t) in
       let a = loads_alike (Is program.types) cell_of IsPlain (values_kept program.types) (scheme program) made frames x y n shape p.root p.path shows h (omega (arith, size_is)) in
       let cells = take n (map (cell_of now) (flatten a.inner)) in
@@ -68,8 +66,8 @@ module _ (program : Program) (ranked : IsRanked program.types) (made : List Made
     pub read_from : read from.root from.path x ≡ Some new
     pub read_to : read to.root to.path x ≡ Some old
     pub cells : List Cell
-    pub image : cells_at (cells_of program t) (addr_of now from) y ≡ Some cells
-    pub there : is_some (cells_at (cells_of program t) (addr_of now to) y) ≡ true
+    pub image : cells_at (variable_scalars program.types (id_of t)) (addr_of now from) y ≡ Some cells
+    pub there : is_some (cells_at (variable_scalars program.types (id_of t)) (addr_of now to) y) ≡ true
     pub alike : Shows (Is program.types) cell_of (scheme program) made frames (write to.root to.path (overlay shape new old) x) (store_all to.root (addr_of now to).cell cells y)
 
   pub copied_alike : (from to : Spot) → HasPlace program now from t → HasPlace program now to t → CopiedAlike from to

@@ -1,7 +1,11 @@
--- The code of a well-typed designator or expression does what this does, for all answers of the right types.
-use Rattle.std.proofs.Common.{◌≡◌, ℕ, pos, true, Some, ◌+◌, List, [], ◌∷◌, ◌++◌, length, refl, sym, ap, ◌∙◌, subst, arith, length-append}
-use Rattle.std.proofs.Common.{inl, inr}
+-- The code of a well-typed designator, array, row of arguments or expression does what this does, for all answers of the right types.
+use Rattle.std.proofs.Common.{◌≡◌, ℕ, zero, suc, ℤ, pos, true, false, Bool, Option, Some, None, ◌+◌, ◌<◌, List, [], ◌∷◌, ◌++◌, length, map, if◌then◌else◌, refl, sym, ap, ◌∙◌, subst, arith, append_assoc, append-nil, length-append}
+use Rattle.std.proofs.Common.{◌⊎◌, inl, inr}
+use Rattle.std.specs.Prelude.{All, is_some, slice_get, option_map}
+use Rattle.std.specs.Option.{unwrap_or}
 use Rattle.std.proofs.lemmas.Int.{ints}
+use Rattle.std.proofs.lemmas.List.{length-map, map-append}
+use Rattle.std.proofs.lemmas.Option.{slice_get-map}
 use Rattle.aos_base.specs.declared.number.Width.TheVariants.{W16, W32, W64}
 use Rattle.aos_base.specs.declared.number.Relation.{Relation}
 use Rattle.aos_base.specs.Number.{IsWithin}
@@ -9,63 +13,85 @@ use Rattle.aos_base.specs.declared.operator.Unary.{Unary as UnaryOperator}
 use Rattle.aos_base.specs.declared.operator.Unary.TheVariants.{Range}
 use Rattle.aos_base.specs.declared.operator.Binary.{Binary as BinaryOperator}
 use Rattle.aos_base.specs.declared.operator.Binary.TheVariants.{SetSpan}
-use Rattle.aos_base.specs.declared.operator.Given.{Given}
+use Rattle.aos_base.specs.declared.operator.Given.{Given as Gives}
 use Rattle.aos_base.specs.declared.operator.Given.TheVariants.{Number, Trap, Undefined}
 use Rattle.aos_base.specs.Operators.{unary as unary_of, binary as binary_of}
-use Rattle.aos_base.specs.Question.{Val, bind, ask, Reads, ComparesTexts}
+use Rattle.aos_base.specs.Question.{Val, Asks, bind, ask, Reads, ComparesTexts, Calls}
+use Rattle.aos_types.specs.declared.row.TypeId.{TypeId}
+use Rattle.aos_types.specs.declared.row.TypeRow.{TypeRow}
+use Rattle.aos_types.specs.declared.row.TypeRow.TheVariants as row
+use Rattle.aos_types.specs.Table.{row_of, is_open, is_scalar}
 use Rattle.aos_types.specs.World.{World}
 use Rattle.aos_typed.specs.declared.tree.Literal.{Literal}
 use Rattle.aos_typed.specs.declared.tree.Literal.TheVariants as literal
 use Rattle.aos_typed.specs.declared.tree.TType.{TType}
 use Rattle.aos_typed.specs.declared.tree.TType.TheVariants as type
-use Rattle.aos_typed.specs.Program.{Place as Designator, ModuleVar, Field, Index, Expr, Lit, Read, Unary, Binary, And, Or, Element, Ord, Chr, CompareTexts, Len, Program}
-use Rattle.aos_typed.specs.Sort.{Sort}
-use Rattle.aos_typed.specs.Value.{Value, Int, Sort as Kind, Character, literal_value, number_of, given as given_value, unary_sort, binary_sort, binary, element, ord}
-use Rattle.aos_typed.specs.Meaning.{Doing, place_of, value_of}
+use Rattle.aos_typed.specs.Program.{Place as Designator, ModuleVar, Local, Passed, Field, Index, Of, Rows, Known, Opened, Row, Arguments, NoMore, Scalar, Whole, Opening, Expr, Lit, Read, Unary, Binary, And, Or, Element, Ord, Chr, CompareTexts, Len, LenBehind, Function, Parameter, Procedure, Program}
+use Rattle.aos_typed.specs.Numbers.{id_of, procedure_number}
+use Rattle.aos_typed.specs.Sort.{Sort, variable_shape}
+use Rattle.aos_typed.specs.Typing.{nested}
+use Rattle.aos_typed.specs.Value.{Value, Int, Place, Sort as Kind, Character, literal_value, number_of, given as given_value, unary_sort, binary_sort, binary, element, ord}
+use Rattle.aos_typed.specs.Meaning.{Doing, Found, length_at, text_length, place_of, rows_of, arguments_of, value_of}
 use Rattle.aos_typed.specs.Spot.{Spot}
-use Rattle.aos_typed.specs.WellTyped.{is_basic, Includes, taken, GivesOfTwo, IsPlaceOf, IsOf, IsText}
+use Rattle.aos_typed.specs.WellTyped.{is_basic, is_whole, Includes, taken, GivesOfTwo, procedure_in, IsConstantText, IsOpening, IsByReference, IsByValue, IsLength, HaveLengths, IsPlaceOf, AreRows, AreArguments, IsOf}
 use Rattle.aos_code.specs.declared.image.ProcShape.{ProcShape}
+use Rattle.aos_code.specs.declared.instr.Cell.{Cell}
 use Rattle.aos_code.specs.declared.instr.Cell.TheVariants.{Num}
 use Rattle.aos_code.specs.declared.instr.Instr.{Instr}
 use Rattle.aos_code.specs.declared.instr.Instr.TheVariants as i
-use Rattle.aos_code.specs.Silent.{Stack, Keeps, given}
-use Rattle.aos_sim.specs.Cells.{place_in}
-use Rattle.aos_sim.specs.Code.{literal_code, kind_of, place_code, with_length, operands_code, value_code}
-use Rattle.aos_sim.proofs.Runs.{Run, Onward, on_run, runs}
+use Rattle.aos_code.specs.Silent.{Stack, Keeps, Act, on_place, counted_on, gives_picked, gives, given}
+use Rattle.aos_sim.specs.Cells.{place_in, cell_of}
+use Rattle.aos_sim.specs.Code.{literal_code, kind_of, cells_of, dimensions, drops, place_code, rows_code, arguments_code, operands_code, value_code}
+use Rattle.aos_sim.proofs.Runs.{Run, Onward, past, on_run, runs}
 use Rattle.aos_sim.proofs.Types.{IsValueOf, number_cell, flag_is, included, literal_is}
 use Rattle.aos_sim.proofs.Operators.{unary_agrees, Suit, operands_suit, binary_agrees}
-use Rattle.aos_sim.proofs.Does.{HasPredeclared, HasTypes, Does, does_bind}
-use Rattle.aos_sim.proofs.Variables.{basic_is_one, value_from}
-use Rattle.aos_sim.proofs.Evaluates.{OfType, number_in, Pushed, Evaluates, piece_does, pieces_do, values_stay, operand_does, ends_at}
-use Rattle.aos_sim.proofs.Designators.{IsFound, Finds, FindsText, variable_does, field_does, index_does, array_found, constant_found, texts_do}
+use Rattle.aos_sim.proofs.First.{all_get}
+use Rattle.aos_sim.proofs.Does.{HasPredeclared, HasTypes, HasShapes, Handles, HandlesFor, Given, IsAnswer, addr_of, lengths_are, Does, knows_grows, along, does_bind}
+use Rattle.aos_sim.proofs.Variables.{basic_row, basic_is_one, value_from, value_to}
+use Rattle.aos_sim.proofs.Evaluates.{OfType, number_in, pushed, pushed-append, Pushed, OnTop, Brings, Remain, Evaluates, front_does, piece_does, pieces_do, two_do, values_stay, operand_does, ends_at}
+use Rattle.aos_sim.proofs.Designators.{IsFound, AreFound, rows_cells, IsText, text_cells, counted_taken, Finds, FindsRows, Hands, FindsText, FindsRoom, places_stay, rows_remain, texts_remain, variable_does, local_does, passed_does, field_does, index_does, array_rows, constant_rows, opened_does, row_does, of_does, rows_text, rows_room}
+use Rattle.aos_sim.proofs.Routines.{called, routine_there}
+use Rattle.aos_sim.proofs.Called.{call_asks, call_valid, call_gives}
 use Rattle.aos_sim.proofs.Results.{Agrees, chr_agrees}
 use Rattle.aos_sim.proofs.Shortcuts.{and_does, or_does}
+
+-- what is copied as a whole is no scalar
+no_scalar : (o : Option TypeRow) → is_whole o ≡ true → is_scalar o ≡ false
+no_scalar None e = refl
+no_scalar (Some (row.Basic b)) e = absurd (cc)
+no_scalar (Some (row.Array n of)) e = refl
+no_scalar (Some (row.Open of)) e = refl
+no_scalar (Some (row.Record base fields)) e = refl
+no_scalar (Some (row.Pointer to)) e = absurd (cc)
+no_scalar (Some (row.Object base fields)) e = absurd (cc)
+no_scalar (Some (row.Procedure formals r)) e = absurd (cc)
+no_scalar (Some row.Any) e = absurd (cc)
 
 -- the code of a character is an integer
 ord_is : (v : Value) → IsValueOf type.Char v → IsValueOf (type.Integer W16) (ord v)
 ord_is v h = subst (λ x. IsValueOf (type.Integer W16) (ord x)) (sym h.1) (pos h.0, refl, record { low = omega (arith, ints, h.2); high = omega (arith, ints, h.2) })
 
-module _ (program : Program) (shapes : List ProcShape) (own here : ℕ) (code : List Instr) where
+module _ (program : Program) (own : Option Procedure) (shapes : List ProcShape) (number here : ℕ) (code : List Instr) where
   abbrev onward : List Instr → Onward
-  onward = runs shapes own here code
+  onward = runs shapes number here code
 
   abbrev With : TType → List Instr → ℕ → Keeps → Stack → World Sort → Value → Run → Type 0
-  With = Pushed shapes own here code
+  With = Pushed shapes number here code
 
   abbrev Comes : TType → List Instr → Doing Value → ℕ → Type 0
-  Comes = Evaluates program shapes own here code
+  Comes = Evaluates program own shapes number here code
 
   -- what an operator gives
-  given_does : (t : TType) (z : Kind) (g : Given) → Agrees t z g → (rest : List Instr) (at : ℕ) (k : Keeps) (s : Stack) (w : World Sort) (m : Run) → m ≡ on_run (given g s) (onward rest) at k → Does program (With t rest (at + 1) k s) w m (given_value z g)
+  given_does : (t : TType) (z : Kind) (g : Gives) → Agrees t z g → (rest : List Instr) (at : ℕ) (k : Keeps) (s : Stack) (w : World Sort) (m : Run) → m ≡ on_run shapes (given g s) (onward rest) at k → Does program here (With t rest (at + 1) k s) w m (given_value z g)
   given_does t z (Number n) a rest at k s w m e = record { is = a.0; run = e ∙ ap (λ c. onward rest 0 (at + 1) k (Num c ∷ s)) (sym a.1) }
   given_does t z (Trap n) a rest at k s w m e = (e, a)
   given_does t z Undefined a rest at k s w m e = absurd a
 
-  pub on_numbers_does : (op : BinaryOperator) (t : TType) (a b : Value) → Suit op a b → GivesOfTwo op t → (rest : List Instr) (at : ℕ) (k : Keeps) (s : Stack) (w : World Sort) (m : Run) → m ≡ onward (i.Binary op ∷ rest) 0 at k (Num (number_of b) ∷ (Num (number_of a) ∷ s)) → Does program (With t rest (at + 1) k s) w m (binary op a b)
+  pub on_numbers_does : (op : BinaryOperator) (t : TType) (a b : Value) → Suit op a b → GivesOfTwo op t → (rest : List Instr) (at : ℕ) (k : Keeps) (s : Stack) (w : World Sort) (m : Run) → m ≡ onward (i.Binary op ∷ rest) 0 at k (Num (number_of b) ∷ (Num (number_of a) ∷ s)) → Does program here (With t rest (at + 1) k s) w m (binary op a b)
   on_numbers_does op t a b h g rest at k s w m e =
       given_does t (binary_sort op) (binary_of op (number_of a) (number_of b)) (binary_agrees op t a b h g) rest at k s w m e
 
-  literal_does : (t : TType) (l : Literal) (at : ℕ) → IsOf program (Lit l) t → Comes t (value_code program (Lit l) at) (value_of (Lit l)) at
+  literal_does : (t : TType) (l : Literal) (at : ℕ) → IsOf program own (Lit l) t → Comes t (value_code program own (Lit l) at) (value_of program here (Lit l)) at
   literal_does t l at ok w known rest k s = record { is = literal_is l t ok; run = loaded l }
     where
       loaded : (l : Literal) → onward (literal_code l ∷ rest) 0 at k s ≡ onward rest 0 (at + 1) k (Num (number_of (literal_value l)) ∷ s)
@@ -79,125 +105,357 @@ module _ (program : Program) (shapes : List ProcShape) (own here : ℕ) (code : 
   unary_does t u op z xs r at of h w known rest k s =
       let f : Value → Doing Value = λ v. given_value z (unary_of op (number_of v)) in
       let n : at + length xs + 1 ≡ at + length (xs ++ i.Unary op ∷ []) = omega (arith, length-append xs (i.Unary op ∷ [])) in
-      operand_does program shapes own here code (With t rest (at + length (xs ++ i.Unary op ∷ [])) k s) u f xs (i.Unary op ∷ []) r at rest k s h w known
-      (λ w' up v m is e. ends_at program shapes own here code t rest (at + length xs + 1) (at + length (xs ++ i.Unary op ∷ [])) k s w' m (f v) n
+      operand_does program own shapes number here code (With t rest (at + length (xs ++ i.Unary op ∷ [])) k s) u f xs (i.Unary op ∷ []) r at rest k s h w known
+      (λ w' up v m is e. ends_at program own shapes number here code t rest (at + length xs + 1) (at + length (xs ++ i.Unary op ∷ [])) k s w' m (f v) n
       (given_does t z (unary_of op (number_of v)) (of v is) rest (at + length xs) k s w' m e))
 
   binary_does : (t u v : TType) (op : BinaryOperator) (ca cb : List Instr) (ra rb : Doing Value) (at : ℕ) → ((a b : Value) → IsValueOf u a → IsValueOf v b → Suit op a b) → GivesOfTwo op t → Comes u ca ra at → Comes v cb rb (at + length ca) → Comes t (operands_code ca cb (i.Binary op)) (bind ra (λ a. bind rb (λ b. binary op a b))) at
   binary_does t u v op ca cb ra rb at suit g ha hb w known rest k s =
       let x = i.Binary op in
       let n : at + length ca + length cb + 1 ≡ at + length (operands_code ca cb x) = omega (arith, length-append ca (cb ++ x ∷ []), length-append cb (x ∷ [])) in
-      pieces_do program shapes own here code (OfType u) number_in (OfType v) number_in (With t rest (at + length (operands_code ca cb x)) k s) x (λ a b. binary op a b) ca cb ra rb at rest k s
-      (values_stay program shapes own here code u) ha hb w known
-      (λ w' a b m p q e. ends_at program shapes own here code t rest (at + length ca + length cb + 1) (at + length (operands_code ca cb x)) k s w' m (binary op a b) n
+      pieces_do program own shapes number here code (OfType u) number_in (OfType v) number_in (With t rest (at + length (operands_code ca cb x)) k s) x (λ a b. binary op a b) ca cb ra rb at rest k s
+      (values_stay program own shapes number here code u) ha hb w known
+      (λ w' a b m p q e. ends_at program own shapes number here code t rest (at + length ca + length cb + 1) (at + length (operands_code ca cb x)) k s w' m (binary op a b) n
       (on_numbers_does op t a b (suit a b p q) g rest (at + length ca + length cb) k s w' m e))
 
   element_does : (xs : List Instr) (r : Doing Value) (at : ℕ) → Comes (type.Integer W64) xs r at → Comes type.Set (xs ++ (i.Dup ∷ (i.Binary SetSpan ∷ []))) (bind r (λ v. element v)) at
   element_does xs r at h w known rest k s =
       let tail = i.Dup ∷ (i.Binary SetSpan ∷ []) in
       let n : at + length xs + 1 + 1 ≡ at + length (xs ++ tail) = omega (arith, length-append xs tail) in
-      operand_does program shapes own here code (With type.Set rest (at + length (xs ++ tail)) k s) (type.Integer W64) (λ v. element v) xs tail r at rest k s h w known
-      (λ w' up v m is e. ends_at program shapes own here code type.Set rest (at + length xs + 1 + 1) (at + length (xs ++ tail)) k s w' m (element v) n
+      operand_does program own shapes number here code (With type.Set rest (at + length (xs ++ tail)) k s) (type.Integer W64) (λ v. element v) xs tail r at rest k s h w known
+      (λ w' up v m is e. ends_at program own shapes number here code type.Set rest (at + length xs + 1 + 1) (at + length (xs ++ tail)) k s w' m (element v) n
       (on_numbers_does SetSpan type.Set v v (is, is) refl rest (at + length xs + 1) k s w' m e))
 
   ord_does : (t : TType) (xs : List Instr) (r : Doing Value) (at : ℕ) → ((v : Value) → IsValueOf (type.Integer W16) v → IsValueOf t v) → Comes type.Char xs r at → Comes t xs (bind r (λ v. Val (ord v))) at
   ord_does t xs r at more h w known rest k s =
-      does_bind program (With type.Char rest (at + length xs) k s) (With t rest (at + length xs) k s) w (onward (xs ++ rest) 0 at k s) r (λ v. Val (ord v)) (h w known rest k s)
+      does_bind program here (With type.Char rest (at + length xs) k s) (With t rest (at + length xs) k s) w (onward (xs ++ rest) 0 at k s) r (λ v. Val (ord v)) (h w known rest k s)
       (λ w' up v m p. record { is = more (ord v) (ord_is v p.is); run = p.run })
 
   -- a place of a basic type is read
-  read_does : HasPredeclared program → (t u : TType) (xs : List Instr) (r : Doing Spot) (at : ℕ) → is_basic u ≡ true → Includes t u → Finds program shapes own here code u xs r at → Comes t (xs ++ i.Load (kind_of u) ∷ []) (bind r (λ p. ask (Reads u p))) at
+  read_does : HasPredeclared program → (t u : TType) (xs : List Instr) (r : Doing Spot) (at : ℕ) → is_basic u ≡ true → Includes t u → Finds program own shapes number here code u xs r at → Comes t (xs ++ i.Load (kind_of u) ∷ []) (bind r (λ p. ask (Reads u p))) at
   read_does predeclared t u xs r at basic more h w known rest k s =
       let q = at + length (xs ++ i.Load (kind_of u) ∷ []) in
       let n : at + length xs + 1 ≡ q = omega (arith, length-append xs (i.Load (kind_of u) ∷ [])) in
-      piece_does program shapes own here code (IsFound program u) place_in (With t rest q k s) (λ p. ask (Reads u p)) xs (i.Load (kind_of u) ∷ []) r at rest k s h w known
+      piece_does program own shapes number here code (IsFound program u) place_in (With t rest q k s) (λ p. ask (Reads u p)) xs (i.Load (kind_of u) ∷ []) r at rest k s h w known
       (λ w1 up p m found e. (
         (λ x. onward rest 0 (at + length xs + 1) k (x ∷ s)),
         e,
         (basic, found.there ∙ ap (λ z. Some z) (basic_is_one program predeclared u basic)),
         λ w2 up' v c.
             let is = value_from program predeclared u w2 v basic c in
-            ends_at program shapes own here code t rest (at + length xs + 1) q k s w2 _ (Val v) n
+            ends_at program own shapes number here code t rest (at + length xs + 1) q k s w2 _ (Val v) n
             (record { is = included t u v more is; run = ap (λ c. onward rest 0 (at + length xs + 1) k (c ∷ s)) (number_cell w2 u v is) }),
       ))
 
   -- two texts are compared
-  compare_does : (r : Relation) (n m : ℕ) (ca cb : List Instr) (ra rb : Doing Spot) (at : ℕ) → FindsText program shapes own here code n ca ra at → FindsText program shapes own here code m cb rb (at + length (with_length ca n)) → Comes type.Boolean (operands_code (with_length ca n) (with_length cb m) (i.CmpText r)) (bind ra (λ a. bind rb (λ b. ask (ComparesTexts r a (Int (pos n)) b (Int (pos m)))))) at
-  compare_does r n m ca cb ra rb at ha hb w known rest k s =
+  compare_does : (r : Relation) (ca cb : List Instr) (ra rb : Doing Found) (at : ℕ) → FindsText program own shapes number here code ca ra at → FindsText program own shapes number here code cb rb (at + length ca) → Comes type.Boolean (operands_code ca cb (i.CmpText r)) (bind ra (λ a. bind rb (λ b. ask (ComparesTexts r a.place (text_length a) b.place (text_length b))))) at
+  compare_does r ca cb ra rb at ha hb w known rest k s =
       let x = i.CmpText r in
-      let p = at + length (with_length ca n) + length (with_length cb m) in
-      let q = at + length (operands_code (with_length ca n) (with_length cb m) x) in
-      let behind : p + 1 ≡ q = omega (arith, length-append (with_length ca n) (with_length cb m ++ x ∷ []), length-append (with_length cb m) (x ∷ [])) in
-      texts_do program shapes own here code (With type.Boolean rest q k s) x (λ a b. ask (ComparesTexts r a (Int (pos n)) b (Int (pos m)))) ca cb n m ra rb at rest k s ha hb w known
-      (λ w1 a b run first second e. (
-        (λ c. onward rest 0 (p + 1) k (c ∷ s)),
-        e,
-        ((n, refl, first), (m, refl, second)),
+      let p = at + length ca + length cb in
+      let q = at + length (operands_code ca cb x) in
+      let behind : p + 1 ≡ q = omega (arith, length-append ca (cb ++ x ∷ []), length-append cb (x ∷ [])) in
+      let go : Cell → Run = λ c. onward rest 0 (p + 1) k (c ∷ s) in
+      two_do program own shapes number here code IsText text_cells IsText text_cells (With type.Boolean rest q k s) x (λ a b. ask (ComparesTexts r a.place (text_length a) b.place (text_length b))) ca cb ra rb at rest k s (texts_remain program own shapes number here code) ha hb w known
+      (λ w1 a b m first second e.
+      let found : Cell → Cell → Run = λ c d. onward (x ∷ rest) 0 p k (d ∷ (place_in w1 b.place ∷ (c ∷ (place_in w1 a.place ∷ s)))) in
+      let asked : Cell → Cell → Run = λ c d. Asks (ComparesTexts r (addr_of w1 a.place) c (addr_of w1 b.place) d) go in
+      let left : cell_of w1 (text_length a) ≡ Num (pos first.0) = ap (cell_of w1) first.1 in
+      let right : cell_of w1 (text_length b) ≡ Num (pos second.0) = ap (cell_of w1) second.1 in (
+        go,
+        e ∙ (λ j. found (left j) (right j)) ∙ sym (λ j. asked (left j) (right j)),
+        (first, second),
         λ w2 up v flag.
             let is = flag_is v flag in
-            ends_at program shapes own here code type.Boolean rest (p + 1) q k s w2 _ (Val v) behind
-            (record { is = is; run = ap (λ c. onward rest 0 (p + 1) k (c ∷ s)) (number_cell w2 type.Boolean v is) }),
+            ends_at program own shapes number here code type.Boolean rest (p + 1) q k s w2 _ (Val v) behind
+            (record { is = is; run = ap go (number_cell w2 type.Boolean v is) }),
       ))
 
-  -- the length of an array whose place is found
-  length_does : (t u : TType) (n : ℕ) (xs : List Instr) (r : Doing Spot) (at : ℕ) → IsWithin W32 (pos n) → Includes t (type.Integer W32) → Finds program shapes own here code u xs r at → Comes t (xs ++ (i.Drop ∷ (i.Num (pos n) ∷ []))) (bind r (λ p. Val (Int (pos n)))) at
-  length_does t u n xs r at within more h w known rest k s =
-      let tail = i.Drop ∷ (i.Num (pos n) ∷ []) in
+  -- the length of a dimension of an array whose place is found
+  length_there : (ls : List ℕ) (d : ℕ) → d < length ls → (n : ℕ) × (slice_get ls d ≡ Some n)
+  length_there [] d l = absurd (omega (arith, l))
+  length_there (n ∷ ls) zero l = (n, refl)
+  length_there (n ∷ ls) (suc d) l = length_there ls d (omega (arith, l))
+
+  length_does : (t u : TType) (bounded : Type 0) (n j d : ℕ) (xs : List Instr) (r : Doing Found) (at : ℕ) → bounded → d < n → j ≡ n → Includes t (type.Integer W32) → FindsRows program own shapes number here code bounded n u xs r at → Comes t (xs ++ i.PickLen d j ∷ []) (bind r (λ x. Val (length_at d x))) at
+  length_does t u bounded n j d xs r at b less many more h w known rest k s =
+      let tail = i.PickLen d j ∷ [] in
       let q = at + length (xs ++ tail) in
-      let behind : at + length xs + 1 + 1 ≡ q = omega (arith, length-append xs tail) in
-      piece_does program shapes own here code (IsFound program u) place_in (With t rest q k s) (λ p. Val (Int (pos n))) xs tail r at rest k s h w known
-      (λ w' up p m found e. record {
-        is = included t (type.Integer W32) (Int (pos n)) more (pos n, refl, within);
-        run = e ∙ ap (λ j. onward rest 0 j k (Num (pos n) ∷ s)) behind;
+      let behind : at + length xs + 1 ≡ q = omega (arith, length-append xs tail) in
+      front_does program own shapes number here code (AreFound program bounded n u) rows_cells (With t rest q k s) (λ x. Val (length_at d x)) xs tail r at rest k s h w known
+      (λ w' up x m found e.
+      let ls = found.lengths in
+      let get = length_there ls d (let c = found.many in omega (arith, c, less)) in
+      let is : length_at d x ≡ Int (pos get.0) = ap (λ vs. unwrap_or (slice_get vs d) (Int (pos 0))) found.are
+      ∙ ap (λ o. unwrap_or o (Int (pos 0))) (slice_get-map (λ (n : ℕ). Int (pos n)) ls d ∙ ap (option_map (λ (n : ℕ). Int (pos n))) get.1) in
+      let place = place_in w' x.place in
+      let f : List ℤ → Stack → Act = λ zs s1. on_place (λ a y s2. gives_picked (slice_get zs d) s2) s1 in
+      let all : j ≡ length ls = many ∙ sym found.many in
+      let numbers = map (λ (n : ℕ). Num (pos n)) ls in
+      let cells : map (cell_of w') x.lengths ≡ numbers = ap (map (cell_of w')) found.are ∙ lengths_are w' ls in
+      let zs : slice_get (map (λ n. pos n) ls ++ []) d ≡ Some (pos get.0) = ap (λ l. slice_get l d) (append-nil (map (λ n. pos n) ls)) ∙ slice_get-map (λ n. pos n) ls d ∙ ap (option_map (λ n. pos n)) get.1 in
+      let acts : counted_on j [] f (pushed (map (cell_of w') x.lengths) (place ∷ s)) ≡ gives (Num (pos get.0)) s = (λ z. counted_on (all z) [] f (pushed (cells z) (place ∷ s))) ∙ counted_taken ls [] f (place ∷ s) ∙ ap (λ o. gives_picked o s) zs in
+      record {
+        is = subst (IsValueOf t) (sym is) (included t (type.Integer W32) (Int (pos get.0)) more (pos get.0, refl, (all_get IsLength ls d get.0 (found.bound b) get.1).1));
+        run = e ∙ ap (λ a. on_run shapes a (onward rest) (at + length xs) k) acts ∙ ap (λ z. onward rest 0 z k (Num (pos get.0) ∷ s)) behind
+            ∙ ap (λ v. onward rest 0 q k (Num (number_of v) ∷ s)) (sym is);
       })
 
-  module _ (typed : HasTypes program) where
-    -- a text is at a place of so many characters
-    pub text_found : (p : Designator) (n at : ℕ) → ((t : TType) → IsPlaceOf program p t → Finds program shapes own here code t (place_code program p at) (place_of p) at) → IsText program p n → FindsText program shapes own here code n (place_code program p at) (place_of p) at
-    text_found p n at found (inl h) = array_found program shapes own here code typed h.0 n (place_code program p at) (place_of p) at h.2 (found h.0 h.1)
-    text_found (ModuleVar m k) n at found (inr h) = constant_found program shapes own here code m k n at h
-    text_found (Field p u k) n at found (inr h) = absurd h
-    text_found (Index p l u e) n at found (inr h) = absurd h
+  -- operands are dropped
+  drops_last : (n : ℕ) (rest : List Instr) → drops n ++ (i.Drop ∷ rest) ≡ i.Drop ∷ (drops n ++ rest)
+  drops_last zero rest = refl
+  drops_last (suc n) rest = ap (λ l. i.Drop ∷ l) (drops_last n rest)
+
+  dropped : (cs : List Cell) (rest : List Instr) (at : ℕ) (k : Keeps) (s : Stack) → onward (drops (length cs) ++ rest) 0 at k (pushed cs s) ≡ onward rest 0 (at + length cs) k s
+  dropped [] rest at k s = let e : at ≡ at + 0 = omega arith in ap (λ z. onward rest 0 z k s) e
+  dropped (c ∷ cs) rest at k s =
+      let e : at + length cs + 1 ≡ at + suc (length cs) = omega arith in
+      ap (λ l. onward l 0 at k (pushed cs (c ∷ s))) (sym (drops_last (length cs) rest)) ∙ dropped cs (i.Drop ∷ rest) at k (c ∷ s) ∙ ap (λ z. onward rest 0 z k s) e
+
+  length-drops : (n : ℕ) → length (drops n) ≡ n
+  length-drops zero = refl
+  length-drops (suc n) = ap (λ m. suc m) (length-drops n)
+
+  behind_does : (t u : TType) (bounded : Type 0) (n j l : ℕ) (xs : List Instr) (r : Doing Found) (at : ℕ) → j ≡ n → IsWithin W32 (pos l) → Includes t (type.Integer W32) → FindsRows program own shapes number here code bounded n u xs r at → Comes t (xs ++ (drops (suc j) ++ i.Num (pos l) ∷ [])) (bind r (λ x. Val (Int (pos l)))) at
+  behind_does t u bounded n j l xs r at many within more h w known rest k s =
+      let last = i.Num (pos l) ∷ [] in
+      let tail = drops (suc j) ++ last in
+      let q = at + length (xs ++ tail) in
+      let behind : at + length xs + suc j + 1 ≡ q = let a = length-append xs tail in let b = length-append (drops (suc j)) last in let c = length-drops (suc j) in omega (arith, a, b, c) in
+      front_does program own shapes number here code (AreFound program bounded n u) rows_cells (With t rest q k s) (λ x. Val (Int (pos l))) xs tail r at rest k s h w known
+      (λ w' up x m found e.
+      let cells = rows_cells w' x in
+      let many' : suc j ≡ length cells = let a = found.many in let b = ap length found.are in let c = length-map found.lengths (λ (n : ℕ). Int (pos n)) in let d = length-map x.lengths (cell_of w') in omega (arith, many, a, b, c, d) in
+      let p = at + length xs in
+      record {
+        is = included t (type.Integer W32) (Int (pos l)) more (pos l, refl, within);
+        run = e ∙ ap (λ z. onward z 0 p k (pushed cells s)) (append_assoc (drops (suc j)) last rest)
+            ∙ ap (λ z. onward (drops z ++ (last ++ rest)) 0 p k (pushed cells s)) many' ∙ dropped cells (last ++ rest) p k s
+            ∙ ap (λ z. onward (last ++ rest) 0 (p + z) k s) (sym many') ∙ ap (λ z. onward rest 0 z k (Num (pos l) ∷ s)) behind;
+      })
+
+  -- What is handed over
+
+  -- the first of it, and the rest
+  handed_does : {A : Type 0} (P : World Sort → A → Type 0) (cells : World Sort → A → List Cell) (both : A → List Value → List Value) (as' rest' : List Parameter) (ca cb : List Instr) (ra : Doing A) (rb : Doing (List Value)) (at : ℕ) → Remain program own shapes number here code P cells → ((w : World Sort) (a : A) (vs : List Value) → P w a → Given program w rest' vs → Given program w as' (both a vs)) → ((w : World Sort) (a : A) (vs : List Value) → P w a → map (cell_of w) (both a vs) ≡ cells w a ++ map (cell_of w) vs) → Brings program own shapes number here code P cells ca ra at → Hands program own shapes number here code rest' cb rb (at + length ca) → Hands program own shapes number here code as' (ca ++ cb) (bind ra (λ a. bind rb (λ vs. Val (both a vs)))) at
+  handed_does P cells both as' rest' ca cb ra rb at stays given same ha hb w known rest k s =
+      let q = at + length (ca ++ cb) in
+      let n : at + length ca + length cb ≡ q = omega (arith, length-append ca cb) in
+      front_does program own shapes number here code P cells (Handing as' rest q k s) (λ a. bind rb (λ vs. Val (both a vs))) ca cb ra at rest k s ha w known
+      (λ w1 up a m p e. along program here (Handing as' rest q k s) w1 m _ (bind rb (λ vs. Val (both a vs))) e
+      (does_bind program here (Handing rest' rest (at + length ca + length cb) k (pushed (cells w1 a) s)) (Handing as' rest q k s) w1 _ rb (λ vs. Val (both a vs))
+      (hb w1 (knows_grows program own here w w1 up known) rest k (pushed (cells w1 a) s))
+      (λ w2 up' vs m' h.
+      let st = stays w1 w2 up' a p in
+      record {
+        is = given w2 a vs st.0 h.is;
+        run = h.run ∙ ap (λ z. onward rest 0 z k (pushed (map (cell_of w2) vs) (pushed (cells w1 a) s))) n
+            ∙ ap (λ z. onward rest 0 q k (pushed (map (cell_of w2) vs) (pushed z s))) st.1
+            ∙ ap (λ z. onward rest 0 q k z) (sym (pushed-append (cells w2 a) (map (cell_of w2) vs) s))
+            ∙ ap (λ z. onward rest 0 q k (pushed z s)) (sym (same w2 a vs st.0));
+      })))
+    where
+      Handing : List Parameter → List Instr → ℕ → Keeps → Stack → World Sort → List Value → Run → Type 0
+      Handing as' = OnTop shapes number here code (λ w vs. Given program w as' vs) (λ w vs. map (cell_of w) vs)
+
+  -- what each parameter takes
+  abbrev Handled : (opens by_reference scalar : Bool) → World Sort → TypeId → List Value → Type 0
+  Handled = Handles program
+
+  is_handled : (o b c : Bool) (o' b' c' : Bool) (w : World Sort) (t : TypeId) (us : List Value) → o ≡ o' → b ≡ b' → c ≡ c' → Handled o' b' c' w t us → Handled o b c w t us
+  is_handled o b c o' b' c' w t us e f g h = subst (λ x. Handled x b c w t us) (sym e) (subst (λ x. Handled o' x c w t us) (sym f) (subst (λ x. Handled o' b' x w t us) (sym g) h))
+
+  handled_one : (a : Parameter) (rest as' : List Parameter) → as' ≡ a ∷ rest → (w : World Sort) (us vs : List Value) → HandlesFor program w a us → Given program w rest vs → Given program w as' (us ++ vs)
+  handled_one a rest as' e w us vs h more = subst (λ x. Given program w x (us ++ vs)) (sym e) (us, vs, refl, h, more)
+
+  -- a value
+  scalar_does : HasPredeclared program → (a : Parameter) (rest as' : List Parameter) (ca cb : List Instr) (ra : Doing Value) (rb : Doing (List Value)) (at : ℕ) → as' ≡ a ∷ rest → IsByValue program a a.of → is_basic a.of ≡ true → Comes a.of ca ra at → Hands program own shapes number here code rest cb rb (at + length ca) → Hands program own shapes number here code as' (ca ++ cb) (bind ra (λ v. bind rb (λ vs. Val (v ∷ vs)))) at
+  scalar_does predeclared a rest as' ca cb ra rb at e by_value basic ha hb =
+      let t = id_of a.of in
+      let one : is_scalar (row_of program.types t) ≡ true = ap is_scalar (basic_row program predeclared a.of basic) in
+      handed_does (OfType a.of) (λ w v. number_in w v ∷ []) (λ v vs. v ∷ vs) as' rest ca cb ra rb at
+      (λ w w' g v h. (h, refl))
+      (λ w v vs is more. handled_one a rest as' e w (v ∷ []) vs
+      (is_handled (is_open (row_of program.types t)) a.by_reference (is_scalar (row_of program.types t)) false false true w t (v ∷ []) by_value.0 by_value.1 one
+      (v, refl, value_to program predeclared a.of w v basic is)) more)
+      (λ w v vs is. ap (λ c. c ∷ map (cell_of w) vs) (number_cell w a.of v is)) ha hb
+
+  -- a variable, by its place
+  whole_does : (a : Parameter) (rest as' : List Parameter) (ca cb : List Instr) (ra : Doing Spot) (rb : Doing (List Value)) (at : ℕ) → as' ≡ a ∷ rest → (IsByReference program a a.of ⊎ (IsByValue program a a.of × (is_whole (row_of program.types (id_of a.of)) ≡ true))) → Finds program own shapes number here code a.of ca ra at → Hands program own shapes number here code rest cb rb (at + length ca) → Hands program own shapes number here code as' (ca ++ cb) (bind ra (λ p. bind rb (λ vs. Val (Place p ∷ vs)))) at
+  whole_does a rest as' ca cb ra rb at e by ha hb =
+      let stays = places_stay program own shapes number here code a.of in
+      handed_does (IsFound program a.of) (λ w p. place_in w p ∷ []) (λ p vs. Place p ∷ vs) as' rest ca cb ra rb at
+      (λ w w' g p h. let x = stays w w' g p h in (x.0, ap (λ c. c ∷ []) x.1))
+      (λ w p vs is more. handled_one a rest as' e w (Place p ∷ []) vs (handles w p is by) more)
+      (λ w p vs is. refl) ha hb
+    where
+      handles : (w : World Sort) (p : Spot) → IsFound program a.of w p → (IsByReference program a a.of ⊎ (IsByValue program a a.of × (is_whole (row_of program.types (id_of a.of)) ≡ true))) → HandlesFor program w a (Place p ∷ [])
+      handles w p is (inl h) =
+          let t = id_of a.of in
+          let one = is_scalar (row_of program.types t) in
+          is_handled (is_open (row_of program.types t)) a.by_reference one false true one w t (Place p ∷ []) h.0 h.1 refl (p, refl, (is.there, is.declared))
+      handles w p is (inr h) =
+          let t = id_of a.of in
+          is_handled (is_open (row_of program.types t)) a.by_reference (is_scalar (row_of program.types t)) false false false w t (Place p ∷ []) h.0.0 h.0.1 (no_scalar (row_of program.types t) h.1) (p, refl, is.there, is.declared)
+
+  -- an array for an open one
+  opening_does : (a : Parameter) (rest as' : List Parameter) (bounded : Type 0) (n : ℕ) (t : TType) (ca cb : List Instr) (ra : Doing Found) (rb : Doing (List Value)) (at : ℕ) → as' ≡ a ∷ rest → IsOpening program a n t → bounded → FindsRows program own shapes number here code bounded n t ca ra at → Hands program own shapes number here code rest cb rb (at + length ca) → Hands program own shapes number here code as' (ca ++ cb) (bind ra (λ x. bind rb (λ vs. Val (Place x.place ∷ (x.lengths ++ vs))))) at
+  opening_does a rest as' bounded n t ca cb ra rb at e opening b ha hb =
+      handed_does (AreFound program bounded n t) rows_cells (λ x vs. Place x.place ∷ (x.lengths ++ vs)) as' rest ca cb ra rb at (rows_remain program own shapes number here code bounded n t)
+      (λ w x vs is more. handled_one a rest as' e w (Place x.place ∷ x.lengths) vs (handles w x is) more)
+      (λ w x vs is. ap (λ l. place_in w x.place ∷ l) (map-append (cell_of w) x.lengths vs)) ha hb
+    where
+      handles : (w : World Sort) (x : Found) → AreFound program bounded n t w x → HandlesFor program w a (Place x.place ∷ x.lengths)
+      handles w x is =
+          let u = id_of a.of in
+          let by = a.by_reference in
+          let one = is_scalar (row_of program.types u) in
+          is_handled (is_open (row_of program.types u)) by one true by one w u (Place x.place ∷ x.lengths) opening.0 refl refl (
+            x.place,
+            is.lengths,
+            ap (λ l. Place x.place ∷ l) is.are,
+            is.many ∙ opening.1,
+            (is.at.there ∙ ap (λ v. Some (nested is.lengths (variable_shape program.types v))) (sym opening.2), is.at.declared),
+            is.bound b,
+          )
+
+  -- a function is called
+  function_does : HasPredeclared program → HasShapes program shapes → (m k : ℕ) (q : Procedure) (t u : TType) (ca : List Instr) (ra : Doing (List Value)) (at : ℕ) → procedure_in program m k ≡ Some q → q.result ≡ Some u → is_basic u ≡ true → Includes t u → Hands program own shapes number here code q.parameters ca ra at → Comes t (ca ++ i.Call (procedure_number program m k) ∷ []) (bind ra (λ vs. ask (Calls (procedure_number program m k) vs))) at
+  function_does predeclared shaped m k q t u ca ra at there result basic more h w known rest ks s =
+      let n = procedure_number program m k in
+      let x = i.Call n in
+      let p = at + length ca in
+      let z = at + length (ca ++ x ∷ []) in
+      let behind : p + 1 ≡ z = omega (arith, length-append ca (x ∷ [])) in
+      front_does program own shapes number here code (λ w vs. Given program w q.parameters vs) (λ w vs. map (cell_of w) vs) (With t rest z ks s) (λ vs. ask (Calls n vs)) ca (x ∷ []) ra at rest ks s h w known
+      (λ w1 up vs m' given e. (
+        (λ c. past shapes (Calls n (map (cell_of w1) vs)) c p ks s (onward rest)),
+        e ∙ call_asks program shapes shaped here w1 m k q there vs given number code rest p ks s,
+        call_valid program shapes shaped here w1 m k q there vs given,
+        λ w2 up' v answer.
+            let is = value_from program predeclared u w2 v basic (subst (λ r. IsAnswer program w2 r v) result (answer (called m q) (routine_there program m k q there))) in
+            let gives = call_gives program shapes shaped here w1 m k q there vs given ∙ ap is_some result in
+            ends_at program own shapes number here code t rest (p + 1) z ks s w2 _ (Val v) behind
+            (record {
+              is = included t u v more is;
+              run = ap (λ b. onward rest 0 (p + 1) ks (if b then cell_of w2 v ∷ s else s)) gives ∙ ap (λ c. onward rest 0 (p + 1) ks (c ∷ s)) (number_cell w2 u v is);
+            }),
+      ))
+
+  -- how many dimensions of an array have their lengths behind its place
+  dimensions_are : (r : Rows) (n : ℕ) (t : TType) → AreRows program own r n t → dimensions r ≡ n
+  dimensions_are (Known p ns) n t ok = sym ok.0
+  dimensions_are (Opened k j) n t ok = sym ok.0
+  dimensions_are (Row r u e) n t ok = let h = dimensions_are r (suc n) t ok.0 in omega (arith, h)
+
+  module _ (typed : HasTypes program) (shaped : HasShapes program shapes) where
+    abbrev RowsFound : Rows → ℕ → TType → ℕ → Type 0
+    RowsFound r n t at = FindsRows program own shapes number here code (HaveLengths r) n t (rows_code program own r at) (rows_of program here r) at
+
+    constant_known : (p : Designator) (m at : ℕ) → IsConstantText program p m → RowsFound (Known p (m ∷ [])) 1 type.Char at
+    constant_known (ModuleVar h k) m at of = constant_rows program own shapes number here code typed (All IsLength (m ∷ [])) h k m at (λ b. b) of
+    constant_known (Local k) m at of = absurd of
+    constant_known (Passed k) m at of = absurd of
+    constant_known (Field p u k) m at of = absurd of
+    constant_known (Index p l u e) m at of = absurd of
+    constant_known (Of r) m at of = absurd of
+
+    known_rows : (p : Designator) (ns : List ℕ) (n : ℕ) (t : TType) (at : ℕ) → ((u : TType) → IsPlaceOf program own p u → Finds program own shapes number here code u (place_code program own p at) (place_of program here p) at) → AreRows program own (Known p ns) n t → RowsFound (Known p ns) n t at
+    known_rows p ns n t at found (e, inl h) =
+        subst (λ m. RowsFound (Known p ns) m t at) (sym e)
+        (array_rows program own shapes number here code typed (All IsLength ns) h.0 t ns (place_code program own p at) (place_of program here p) at (λ b. b) h.2 (found h.0 h.1))
+    known_rows p ns n t at found (e, inr h) =
+        let c = constant_known p h.0 at h.2 in
+        let one : n ≡ 1 = e ∙ ap length h.1 in
+        subst (λ m. RowsFound (Known p ns) m t at) (sym one)
+        (subst (λ u. RowsFound (Known p ns) 1 u at) (sym h.3) (subst (λ ms. RowsFound (Known p ms) 1 type.Char at) (sym h.1) c))
 
     mutual
-      pub place_does : (p : Designator) (t : TType) → IsPlaceOf program p t → (at : ℕ) → Finds program shapes own here code t (place_code program p at) (place_of p) at
-      place_does (ModuleVar m k) t ok at = variable_does program shapes own here code typed m k t at ok
-      place_does (Field p u k) t ok at = field_does program shapes own here code typed u t k (place_code program p at) (place_of p) at ok.1 (place_does p u ok.0 at)
+      -- a designator's place, with a variable of its type
+      pub place_does : (p : Designator) (t : TType) → IsPlaceOf program own p t → (at : ℕ) → Finds program own shapes number here code t (place_code program own p at) (place_of program here p) at
+      place_does (ModuleVar m k) t ok at = variable_does program own shapes number here code typed m k t at ok
+      place_does (Local k) t ok at = local_does program own shapes number here code k t at ok
+      place_does (Passed k) t ok at = passed_does program own shapes number here code k t at ok.0 ok.1 ok.2
+      place_does (Field p u k) t ok at = field_does program own shapes number here code typed u t k (place_code program own p at) (place_of program here p) at ok.1 (place_does p u ok.0 at)
       place_does (Index p n u e) t ok at =
-          let ca = place_code program p at in
+          let ca = place_code program own p at in
           let pb = at + length ca in
-          subst (λ x. Finds program shapes own here code x (place_code program (Index p n u e) at) (place_of (Index p n u e)) at) (sym ok.4)
-          (index_does program shapes own here code typed ok.0 u n ca (value_code program e pb) (place_of p) (value_of e) at ok.2 (place_does p ok.0 ok.1 at) (value_does e (type.Integer W64) ok.3 pb))
+          subst (λ x. Finds program own shapes number here code x (place_code program own (Index p n u e) at) (place_of program here (Index p n u e)) at) (sym ok.4)
+          (index_does program own shapes number here code typed ok.0 u n ca (value_code program own e pb) (place_of program here p) (value_of program here e) at ok.2 (place_does p ok.0 ok.1 at) (value_does e (type.Integer W64) ok.3 pb))
+      place_does (Of r) t ok at = of_does program own shapes number here code (HaveLengths r) t (rows_code program own r at) (rows_of program here r) at (rows_does r 0 t ok at)
 
-      pub value_does : (e : Expr) (t : TType) → IsOf program e t → (at : ℕ) → Evaluates program shapes own here code t (value_code program e at) (value_of e) at
+      -- an array's place, and the lengths of its dimensions
+      pub rows_does : (r : Rows) (n : ℕ) (t : TType) → AreRows program own r n t → (at : ℕ) → FindsRows program own shapes number here code (HaveLengths r) n t (rows_code program own r at) (rows_of program here r) at
+      rows_does (Known p ns) n t ok at = known_rows p ns n t at (λ u h. place_does p u h at) ok
+      rows_does (Opened k j) n t ok at = subst (λ m. RowsFound (Opened k j) m t at) (sym ok.0) (opened_does program own shapes number here code k j t at ok.1.0 ok.1.1 ok.1.2)
+      rows_does (Row r u e) n t ok at =
+          let ca = rows_code program own r at in
+          let pb = at + length ca in
+          subst (λ v. FindsRows program own shapes number here code (HaveLengths r) n t (operands_code ca (value_code program own e pb) (i.IndexOpen (dimensions r) (cells_of program own v))) (rows_of program here (Row r u e)) at) ok.2
+          (row_does program own shapes number here code (HaveLengths r) n (dimensions r) t ca (value_code program own e pb) (rows_of program here r) (value_of program here e) at (dimensions_are r (suc n) t ok.0) (rows_does r (suc n) t ok.0 at) (value_does e (type.Integer W64) ok.1 pb))
+
+      -- what is handed over for parameters
+      pub arguments_do : (us : Arguments) (as' : List Parameter) → AreArguments program own us as' → (at : ℕ) → Hands program own shapes number here code as' (arguments_code program own us at) (arguments_of program here us) at
+      arguments_do NoMore as' ok at =
+          λ w known rest k s.
+          record {
+            is = subst (λ x. Given program w x []) (sym ok) refl;
+            run = let e : at ≡ at + 0 = omega arith in ap (λ z. onward rest 0 z k s) e;
+          }
+      arguments_do (Scalar e more) as' ok at =
+          let ca = value_code program own e at in
+          let pb = at + length ca in
+          scalar_does typed.predeclared ok.0 ok.1 as' ca (arguments_code program own more pb) (value_of program here e) (arguments_of program here more) at ok.2 ok.3 ok.4 (value_does e ok.0.of ok.5 at) (arguments_do more ok.1 ok.6 pb)
+      arguments_do (Whole p more) as' ok at =
+          let ca = place_code program own p at in
+          let pb = at + length ca in
+          whole_does ok.0 ok.1 as' ca (arguments_code program own more pb) (place_of program here p) (arguments_of program here more) at ok.2 ok.3 (place_does p ok.0.of ok.4 at) (arguments_do more ok.1 ok.5 pb)
+      arguments_do (Opening r more) as' ok at =
+          let ca = rows_code program own r at in
+          let pb = at + length ca in
+          opening_does ok.0 ok.1 as' (HaveLengths r) ok.2 ok.3 ca (arguments_code program own more pb) (rows_of program here r) (arguments_of program here more) at ok.4 ok.5 ok.7 (rows_does r ok.2 ok.3 ok.6 at) (arguments_do more ok.1 ok.8 pb)
+
+      pub value_does : (e : Expr) (t : TType) → IsOf program own e t → (at : ℕ) → Evaluates program own shapes number here code t (value_code program own e at) (value_of program here e) at
       value_does (Lit l) t ok at = literal_does t l at ok
-      value_does (Read u p) t ok at = read_does typed.predeclared t u (place_code program p at) (place_of p) at ok.1 ok.2 (place_does p u ok.0 at)
+      value_does (Read u p) t ok at = read_does typed.predeclared t u (place_code program own p at) (place_of program here p) at ok.1 ok.2 (place_does p u ok.0 at)
       value_does (Unary op a) t ok at =
-          unary_does t (taken op) op (unary_sort op) (value_code program a at) (value_of a) at (λ v h. unary_agrees op t v h ok.1) (value_does a (taken op) ok.0 at)
+          unary_does t (taken op) op (unary_sort op) (value_code program own a at) (value_of program here a) at (λ v h. unary_agrees op t v h ok.1) (value_does a (taken op) ok.0 at)
       value_does (Binary op a b) t ok at =
-          let o = operands_suit op (IsOf program a) (IsOf program b) ok.0 in
-          let pb = at + length (value_code program a at) in
-          binary_does t o.0 o.1 op (value_code program a at) (value_code program b pb) (value_of a) (value_of b) at o.4 ok.1 (value_does a o.0 o.2 at) (value_does b o.1 o.3 pb)
+          let o = operands_suit op (IsOf program own a) (IsOf program own b) ok.0 in
+          let pb = at + length (value_code program own a at) in
+          binary_does t o.0 o.1 op (value_code program own a at) (value_code program own b pb) (value_of program here a) (value_of program here b) at o.4 ok.1 (value_does a o.0 o.2 at) (value_does b o.1 o.3 pb)
       value_does (And a b) t ok at =
-          let ca = value_code program a at in
+          let ca = value_code program own a at in
           let pb = at + length ca + 1 in
-          subst (λ x. Comes x (value_code program (And a b) at) (value_of (And a b)) at) (sym ok.2)
-          (and_does program shapes own here code ca (value_code program b pb) (value_of a) (value_of b) at (value_does a type.Boolean ok.0 at) (value_does b type.Boolean ok.1 pb))
+          subst (λ x. Comes x (value_code program own (And a b) at) (value_of program here (And a b)) at) (sym ok.2)
+          (and_does program own shapes number here code ca (value_code program own b pb) (value_of program here a) (value_of program here b) at (value_does a type.Boolean ok.0 at) (value_does b type.Boolean ok.1 pb))
       value_does (Or a b) t ok at =
-          let ca = value_code program a at in
+          let ca = value_code program own a at in
           let pb = at + length ca + 3 in
-          subst (λ x. Comes x (value_code program (Or a b) at) (value_of (Or a b)) at) (sym ok.2)
-          (or_does program shapes own here code ca (value_code program b pb) (value_of a) (value_of b) at (value_does a type.Boolean ok.0 at) (value_does b type.Boolean ok.1 pb))
+          subst (λ x. Comes x (value_code program own (Or a b) at) (value_of program here (Or a b)) at) (sym ok.2)
+          (or_does program own shapes number here code ca (value_code program own b pb) (value_of program here a) (value_of program here b) at (value_does a type.Boolean ok.0 at) (value_does b type.Boolean ok.1 pb))
       value_does (Element a) t ok at =
-          subst (λ x. Comes x (value_code program (Element a) at) (value_of (Element a)) at) (sym ok.1) (element_does (value_code program a at) (value_of a) at (value_does a (type.Integer W64) ok.0 at))
-      value_does (Ord a) t ok at = ord_does t (value_code program a at) (value_of a) at (λ v. included t (type.Integer W16) v ok.1) (value_does a type.Char ok.0 at)
+          subst (λ x. Comes x (value_code program own (Element a) at) (value_of program here (Element a)) at) (sym ok.1) (element_does (value_code program own a at) (value_of program here a) at (value_does a (type.Integer W64) ok.0 at))
+      value_does (Ord a) t ok at = ord_does t (value_code program own a at) (value_of program here a) at (λ v. included t (type.Integer W16) v ok.1) (value_does a type.Char ok.0 at)
       value_does (Chr a) t ok at =
-          subst (λ x. Comes x (value_code program (Chr a) at) (value_of (Chr a)) at) (sym ok.1)
-          (unary_does type.Char (type.Integer W64) (Range (pos 0) (pos 255)) Character (value_code program a at) (value_of a) at (λ v h. chr_agrees (number_of v)) (value_does a (type.Integer W64) ok.0 at))
-      value_does (CompareTexts r p n q m) t ok at =
-          let ca = place_code program p at in
-          let pb = at + length (with_length ca n) in
-          subst (λ x. Comes x (value_code program (CompareTexts r p n q m) at) (value_of (CompareTexts r p n q m)) at) (sym ok.2)
-          (compare_does r n m ca (place_code program q pb) (place_of p) (place_of q) at
-          (text_found p n at (λ u h. place_does p u h at) ok.0) (text_found q m pb (λ u h. place_does q u h pb) ok.1))
-      value_does (Len p n) t ok at = length_does t ok.0 n (place_code program p at) (place_of p) at ok.4 ok.5 (place_does p ok.0 ok.2 at)
+          subst (λ x. Comes x (value_code program own (Chr a) at) (value_of program here (Chr a)) at) (sym ok.1)
+          (unary_does type.Char (type.Integer W64) (Range (pos 0) (pos 255)) Character (value_code program own a at) (value_of program here a) at (λ v h. chr_agrees (number_of v)) (value_does a (type.Integer W64) ok.0 at))
+      value_does (CompareTexts r a b) t ok at =
+          let ca = rows_code program own a at in
+          let pb = at + length ca in
+          let text = rows_text program own shapes number here code typed.predeclared in
+          subst (λ x. Comes x (value_code program own (CompareTexts r a b) at) (value_of program here (CompareTexts r a b)) at) (sym ok.2)
+          (compare_does r ca (rows_code program own b pb) (rows_of program here a) (rows_of program here b) at
+          (text (HaveLengths a) ca (rows_of program here a) at (rows_does a 1 type.Char ok.0 at)) (text (HaveLengths b) (rows_code program own b pb) (rows_of program here b) pb (rows_does b 1 type.Char ok.1 pb)))
+      value_does (Len r d) t ok at =
+          length_does t ok.1 (HaveLengths r) ok.0 (dimensions r) d (rows_code program own r at) (rows_of program here r) at ok.3 ok.4 (dimensions_are r ok.0 ok.1 ok.2) ok.5 (rows_does r ok.0 ok.1 ok.2 at)
+      value_does (LenBehind r l) t ok at =
+          behind_does t ok.1 (HaveLengths r) ok.0 (dimensions r) l (rows_code program own r at) (rows_of program here r) at (dimensions_are r ok.0 ok.1 ok.2) ok.3 ok.4 (rows_does r ok.0 ok.1 ok.2 at)
+      value_does (Function m k more) t ok at =
+          function_does typed.predeclared shaped m k ok.0 t ok.1 (arguments_code program own more at) (arguments_of program here more) at ok.2 ok.3 ok.4 ok.5 (arguments_do more ok.0.parameters ok.6 at)
+
+    -- a text, and an array of characters that has room for one
+    pub text_found : (r : Rows) → AreRows program own r 1 type.Char → (at : ℕ) → FindsText program own shapes number here code (rows_code program own r at) (rows_of program here r) at
+    text_found r ok at = rows_text program own shapes number here code typed.predeclared (HaveLengths r) (rows_code program own r at) (rows_of program here r) at (rows_does r 1 type.Char ok at)
+
+    pub room_found : (r : Rows) → AreRows program own r 1 type.Char → HaveLengths r → (at : ℕ) → FindsRoom program own shapes number here code (rows_code program own r at) (rows_of program here r) at
+    room_found r ok long at = rows_room program own shapes number here code typed.predeclared (HaveLengths r) (rows_code program own r at) (rows_of program here r) at long (rows_does r 1 type.Char ok at)

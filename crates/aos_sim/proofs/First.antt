@@ -13,7 +13,7 @@ use Rattle.aos_types.specs.declared.row.TypeRow.TheVariants as row
 use Rattle.aos_types.specs.Table.{row_of as type_row}
 use Rattle.aos_types.specs.Shape.{Shape, One, Nothing, Pair, leaves, shaped, row as row_of_shapes}
 use Rattle.aos_types.specs.Contents.{contents, of_variable}
-use Rattle.aos_types.specs.Content.{flatten, Fits}
+use Rattle.aos_types.specs.Content.{flatten, first_content, Fits}
 use Rattle.aos_types.specs.World.{World}
 use Rattle.aos_typed.specs.declared.tree.TType.TheVariants as type
 use Rattle.aos_typed.specs.Program.{Variable, Module, Program}
@@ -29,7 +29,7 @@ use Rattle.aos_code.specs.declared.instr.Kind.{Kind}
 use Rattle.aos_code.specs.declared.instr.Kind.TheVariants.{N}
 use Rattle.aos_code.specs.Machine.{first_cell}
 use Rattle.aos_layout.specs.Layout.{kind_in, kind_of, cells, variable_cells}
-use Rattle.aos_places.specs.Shows.{AllShown}
+use Rattle.aos_places.specs.Shows.{Shown, AllShown}
 use Rattle.aos_places.proofs.Makes.{first_fits, first_cells}
 use Rattle.aos_sim.specs.Cells.{cell_of}
 use Rattle.aos_sim.specs.Shows.{numbers_from, text_cells, first_cells as module_cells}
@@ -151,6 +151,13 @@ module _ (p : Program) where
         part_cells (of_variable (contents p.types) p.types (id_of v.of))
         ∙ sym (first_cells (Is p.types) cell_of IsPlain (values_kept p.types) (first_value p) zero_cell first_is first_same w (variable_shape p.types (id_of v.of)))
 
+    pub local_shown : (v : Variable) → let s = variable_shape p.types (id_of v.of) in Shown (Is p.types) cell_of w s (first_content (first_value p) s) (map first_cell (leaves (cells p.types (id_of v.of))))
+    local_shown v =
+        record {
+          fits = first_fits (Is p.types) cell_of IsPlain (values_kept p.types) (first_value p) zero_cell first_is first_same w (variable_shape p.types (id_of v.of)) (plain_parts (of_variable (contents p.types) p.types (id_of v.of)));
+          same = variable_same v;
+        }
+
     text_same : (cs : List ℕ) → text_cells cs ≡ map (cell_of w) (flatten (text_content cs))
     text_same [] = refl
     text_same (c ∷ cs) = ap (λ l. Num (pos c) ∷ l) (text_same cs)
@@ -186,7 +193,7 @@ module _ (p : Program) where
       all_fit [] [] h = tt
       all_fit [] (t ∷ ts) h = (text_fits t (h 0 t (omega arith)), all_fit [] ts (All-tail (λ t. All (λ c. c < 256) t) t ts h))
       all_fit (v ∷ vs) ts h = (
-        first_fits (Is p.types) cell_of IsPlain (values_kept p.types) (first_value p) zero_cell first_is first_same w (variable_shape p.types (id_of v.of)) (plain_parts (of_variable (contents p.types) p.types (id_of v.of))),
+        (local_shown v).fits,
         all_fit vs ts h,
       )
 

@@ -1,22 +1,23 @@
 -- A turn of the source makes objects, and those that there are stay as they were made.
-use Rattle.std.proofs.Common.{◌≡◌, ℕ, zero, suc, List, [], ◌∷◌, ◌++◌, Bool, true, false, Option, Some, None, if◌then◌else◌, refl, sym, append-nil}
+use Rattle.std.proofs.Common.{◌≡◌, ℕ, zero, suc, List, [], ◌∷◌, ◌++◌, length, Bool, true, false, Option, Some, None, if◌then◌else◌, refl, sym, append-nil}
 use Rattle.std.specs.Prelude.{unsigned_abs}
 use Rattle.aos_base.specs.declared.place.Root.{Root}
 use Rattle.aos_base.specs.declared.place.Root.TheVariants.{Frame as FrameRoot, Module as ModuleRoot, Object as ObjectRoot}
-use Rattle.aos_base.specs.Rooted.{Made}
+use Rattle.aos_base.specs.Rooted.{Made, by_number}
 use Rattle.aos_base.specs.Question.{Val, Asks, Traps, feed, Reads, Stores, Copies, PutsText, ComparesTexts, Calls, Ends, Makes, Starts, PutsInt, PutsChar, PutsString, PutsLn, PutsNothing, Places, Lengths}
 use Rattle.aos_types.specs.Shape.{Shape}
 use Rattle.aos_types.specs.Content.{Content, Scalar, placed, overlay}
 use Rattle.aos_types.specs.World.{read}
 use Rattle.aos_typed.specs.Program.{Repeat, Program}
 use Rattle.aos_typed.specs.Numbers.{id_of}
+use Rattle.aos_typed.specs.Routines.{Routine, routines}
 use Rattle.aos_typed.specs.Sort.{Sort, variable_shape}
 use Rattle.aos_typed.specs.Spot.{Spot}
 use Rattle.aos_typed.specs.Text.{text_in, with_text, fitted}
 use Rattle.aos_typed.specs.Value.{Value, Int, Flag, Char, Set, Object, Callable, Place, number_of, is_true}
 use Rattle.aos_typed.specs.Store.{Store, store_with, has_room}
-use Rattle.aos_typed.specs.Meaning.{Question, Doing, Item, Do, Rounds, Round, Until, After, Into, Exits, leave, item_of, value_of}
-use Rattle.aos_typed.specs.Source.{Frame, Turned, answered, done, all_rooted, begins, ends, tests, settles, written, prints, makes, starts, copies, stores_text, answer, goes, item_turn, turn_at}
+use Rattle.aos_typed.specs.Meaning.{Question, Doing, Item, Do, Rounds, Round, Until, After, Into, Returns, Exits, leave, item_of, value_of}
+use Rattle.aos_typed.specs.Source.{Frame, Turned, answered, done, all_rooted, begins, ends, tests, finishes, settles, written, prints, makes, starts, copies, stores_text, calm, noted, is_deep, enters, called_frame, calls, answer, goes, item_turn, turn_at}
 
 -- more objects than before
 abbrev pub Grown : List Made → List Made → Type 0
@@ -63,7 +64,16 @@ module _ (following : List ℕ) where
   stores_text_grown (Some cs) None p f fs s = none s.made
   stores_text_grown (Some cs) (Some old) p f fs s = writes_grown p.root (placed p.path (with_text cs old)) s
 
+  enters_grown : (deep : Bool) (g : Frame) (fs : List Frame) (s : Store) → Grown s.made (enters following deep g fs s).store.made
+  enters_grown true g fs s = none s.made
+  enters_grown false g fs s = none s.made
+
 module _ (program : Program) (following : List ℕ) where
+  calls_grown : (r : Option Routine) (vs : List Value) (f : Frame) (fs : List Frame) (s : Store) → Grown s.made (calls program following r vs f fs s).store.made
+  calls_grown None vs f fs s = none s.made
+  calls_grown (Some r) vs f fs s =
+      let g = called_frame program following r vs (f ∷ fs) s in enters_grown following (is_deep following g (f ∷ fs)) g (f ∷ fs) s
+
   answer_grown : (q : Question) (f : Frame) (fs : List Frame) (s : Store) → Grown s.made (answer program following q f fs s).store.made
   answer_grown (Stores p v) f fs s = writes_grown following p.root (placed p.path (Scalar v)) s
   answer_grown (Ends result) f fs s = ends_grown following result fs s
@@ -82,38 +92,47 @@ module _ (program : Program) (following : List ℕ) where
       let text = fitted strict (unsigned_abs (number_of room)) (text_in (read from.root from.path x)) in
       stores_text_grown following text (read to.root to.path x) to f fs s
   answer_grown (ComparesTexts r a n b m) f fs s = none s.made
-  answer_grown (Calls p vs) f fs s = none s.made
+  answer_grown (Calls q vs) f fs s = calls_grown (by_number q (routines program)) vs f fs s
   answer_grown (PutsString a n) f fs s = none s.made
   answer_grown (Places a) f fs s = none s.made
   answer_grown (Lengths a) f fs s = none s.made
 
-  tests_grown : (d : Doing Value) (if_true if_false : Turned) (is : List Item) (f : Frame) (fs : List Frame) (s : Store) → Grown s.made if_true.store.made → Grown s.made if_false.store.made → Grown s.made (tests program following d if_true if_false is f fs s).store.made
-  tests_grown (Val v) if_true if_false is f fs s h k = by (is_true v)
+  tests_grown : (d : Doing Value) (if_true if_false : Turned) (f : Frame) (fs : List Frame) (s : Store) → Grown s.made if_true.store.made → Grown s.made if_false.store.made → Grown s.made (tests program following d if_true if_false f fs s).store.made
+  tests_grown (Val v) if_true if_false f fs s h k = by (is_true v)
     where
       by : (b : Bool) → Grown s.made (if b then if_true else if_false).store.made
       by true = h
       by false = k
-  tests_grown (Asks q g) if_true if_false is f fs s h k = answer_grown q (record f { items = is; answers = Some [] }) fs s
-  tests_grown (Traps n c) if_true if_false is f fs s h k = none s.made
+  tests_grown (Asks q g) if_true if_false f fs s h k = answer_grown q f fs s
+  tests_grown (Traps n c) if_true if_false f fs s h k = none s.made
+
+  finishes_grown : (gives : Bool) (f : Frame) (fs : List Frame) (s : Store) → Grown s.made (finishes program following gives f fs s).store.made
+  finishes_grown true f fs s = none s.made
+  finishes_grown false f fs s = none s.made
 
   settles_grown : (is : List Item) (f : Frame) (fs : List Frame) (s : Store) → Grown s.made (settles program following is f fs s).store.made
-  settles_grown [] f fs s = none s.made
+  settles_grown [] f fs s = finishes_grown f.gives f fs s
   settles_grown (Do st ∷ is) f fs s = none s.made
   settles_grown (Rounds at w p last step b ∷ is) f fs s = none s.made
   settles_grown (Round st ∷ is) f fs s = none s.made
   settles_grown (Until at b e ∷ is) f fs s =
-      tests_grown (value_of e) (settles program following is f fs s) (begins following at (Do (Repeat at b e) ∷ is) f fs s) (Until at b e ∷ is) f fs s (settles_grown is f fs s) (none s.made)
+      let test = value_of program (length fs) e in
+      tests_grown (calm f.variables test) (settles program following is f fs s) (begins following at (Do (Repeat at b e) ∷ is) f fs s)
+      (record f { items = Until at b e ∷ is; answers = Some (noted f.variables test) }) fs s (settles_grown is f fs s) (none s.made)
 
   goes_grown : (d : Doing After) (rest : List Item) (f : Frame) (fs : List Frame) (s : Store) → Grown s.made (goes program following d rest f fs s).store.made
   goes_grown (Val (Into is)) rest f fs s = settles_grown (is ++ rest) f fs s
   goes_grown (Val Exits) rest f fs s = settles_grown (leave rest) f fs s
+  goes_grown (Val (Returns r)) rest f fs s = ends_grown following r fs s
   goes_grown (Asks q k) rest f fs s = answer_grown q f fs s
   goes_grown (Traps n c) rest f fs s = none s.made
 
   item_grown : (answers : Option (List Value)) (is : List Item) (f : Frame) (fs : List Frame) (s : Store) → Grown s.made (item_turn program following answers is f fs s).store.made
   item_grown None is f fs s = settles_grown is f fs s
   item_grown (Some vs) [] f fs s = none s.made
-  item_grown (Some vs) (i ∷ is) f fs s = goes_grown (feed vs (item_of i)) is f fs s
+  item_grown (Some vs) (i ∷ is) f fs s =
+      let left = feed vs (item_of program (length fs) i) in
+      goes_grown (calm f.variables left) is (record f { answers = Some (vs ++ noted f.variables left) }) fs s
 
   pub turn_grown : (fs : List Frame) (s : Store) → Grown s.made (turn_at program following fs s).store.made
   turn_grown [] s = none s.made

@@ -1,9 +1,10 @@
 -- No turn of a program enters a region or awaits a condition, so no execution of it comes to be Dead.
 use Rattle.std.proofs.Common.{◌≢◌, ℕ, zero, suc, List, [], ◌∷◌, ◌++◌, Bool, true, false}
-use Rattle.std.specs.Prelude.{Option, Some, None, unsigned_abs, if◌then◌else◌}
+use Rattle.std.specs.Prelude.{length, Option, Some, None, unsigned_abs, if◌then◌else◌}
 use Rattle.aos_base.specs.declared.kernel.Outcome.TheVariants.{Dead}
 use Rattle.aos_base.specs.Machine.{Choice, execution}
 use Rattle.aos_base.specs.Observation.{observation}
+use Rattle.aos_base.specs.Rooted.{by_number}
 use Rattle.aos_base.specs.Question.{Val, Asks, Traps, feed, Reads, Stores, Copies, PutsText, ComparesTexts, Calls, Ends, Makes, Starts, PutsInt, PutsChar, PutsString, PutsLn, PutsNothing, Places, Lengths}
 use Rattle.aos_types.specs.Shape.{Shape}
 use Rattle.aos_types.specs.Content.{Content}
@@ -15,8 +16,9 @@ use Rattle.aos_typed.specs.Spot.{Spot}
 use Rattle.aos_typed.specs.Text.{text_in, fitted}
 use Rattle.aos_typed.specs.Value.{Value, Int, Flag, Char, Set, Object, Callable, Place, number_of, is_true}
 use Rattle.aos_typed.specs.Store.{Store, has_room}
-use Rattle.aos_typed.specs.Meaning.{Question, Doing, Item, Do, Rounds, Round, Until, After, Into, Exits, leave, item_of, value_of}
-use Rattle.aos_typed.specs.Source.{Frame, Turned, answered, done, all_rooted, begins, ends, tests, settles, written, prints, makes, starts, copies, stores_text, answer, goes, item_turn, turn_at, opened, source, first_state, first_store, first_frames}
+use Rattle.aos_typed.specs.Routines.{Routine, routines}
+use Rattle.aos_typed.specs.Meaning.{Question, Doing, Item, Do, Rounds, Round, Until, After, Into, Exits, Returns, leave, item_of, value_of}
+use Rattle.aos_typed.specs.Source.{Frame, Turned, answered, done, all_rooted, begins, ends, finishes, tests, settles, written, prints, makes, starts, copies, stores_text, is_deep, enters, called_frame, calls, calm, noted, answer, goes, item_turn, turn_at, opened, source, first_state, first_store, first_frames}
 use Rattle.aos_concurrency.specs.Spot.{NoOne}
 use Rattle.aos_concurrency.specs.Waits.{MayWait}
 use Rattle.aos_concurrency.proofs.Itself.{Any, anything}
@@ -58,7 +60,17 @@ module _ (following : List ℕ) where
   stores_text_lively (Some cs) None p f fs s h = h
   stores_text_lively (Some cs) (Some old) p f fs s h = h
 
+  enters_lively : (deep : Bool) (g : Frame) (fs : List Frame) (s : Store) → Lively (enters following deep g fs s)
+  enters_lively true g fs s h = h
+  enters_lively false g fs s h = h
+
 module _ (program : Program) (following : List ℕ) where
+  calls_lively : (r : Option Routine) (vs : List Value) (f : Frame) (fs : List Frame) (s : Store) → Lively (calls program following r vs f fs s)
+  calls_lively None vs f fs s = λ h. h
+  calls_lively (Some r) vs f fs s =
+      let g = called_frame program following r vs (f ∷ fs) s in
+      enters_lively following (is_deep following g (f ∷ fs)) g (f ∷ fs) s
+
   answer_lively : (q : Question) (f : Frame) (fs : List Frame) (s : Store) → Lively (answer program following q f fs s)
   answer_lively (Ends result) f fs s = ends_lively following result fs s
   answer_lively (Makes t) f fs s = makes_lively following (has_room s) t f fs s
@@ -77,38 +89,47 @@ module _ (program : Program) (following : List ℕ) where
       let text = fitted strict (unsigned_abs (number_of room)) (text_in (read from.root from.path x)) in
       stores_text_lively following text (read to.root to.path x) to f fs s
   answer_lively (ComparesTexts r a n b m) f fs s = λ h. h
-  answer_lively (Calls p vs) f fs s = λ h. h
+  answer_lively (Calls p vs) f fs s = calls_lively (by_number p (routines program)) vs f fs s
   answer_lively (PutsString a n) f fs s = λ h. h
   answer_lively (Places a) f fs s = λ h. h
   answer_lively (Lengths a) f fs s = λ h. h
 
-  tests_lively : (d : Doing Value) (if_true if_false : Turned) (is : List Item) (f : Frame) (fs : List Frame) (s : Store) → Lively if_true → Lively if_false → Lively (tests program following d if_true if_false is f fs s)
-  tests_lively (Val v) if_true if_false is f fs s h k = by (is_true v)
+  tests_lively : (d : Doing Value) (if_true if_false : Turned) (f : Frame) (fs : List Frame) (s : Store) → Lively if_true → Lively if_false → Lively (tests program following d if_true if_false f fs s)
+  tests_lively (Val v) if_true if_false f fs s h k = by (is_true v)
     where
       by : (b : Bool) → Lively (if b then if_true else if_false)
       by true = h
       by false = k
-  tests_lively (Asks q g) if_true if_false is f fs s h k = answer_lively q (record f { items = is; answers = Some [] }) fs s
-  tests_lively (Traps n c) if_true if_false is f fs s h k = λ x. x
+  tests_lively (Asks q g) if_true if_false f fs s h k = answer_lively q f fs s
+  tests_lively (Traps n c) if_true if_false f fs s h k = λ x. x
+
+  finishes_lively : (function : Bool) (f : Frame) (fs : List Frame) (s : Store) → Lively (finishes program following function f fs s)
+  finishes_lively true f fs s h = h
+  finishes_lively false f fs s h = h
 
   settles_lively : (is : List Item) (f : Frame) (fs : List Frame) (s : Store) → Lively (settles program following is f fs s)
-  settles_lively [] f fs s = λ h. h
+  settles_lively [] f fs s = finishes_lively f.gives f fs s
   settles_lively (Do st ∷ is) f fs s = λ h. h
   settles_lively (Rounds at w p last step b ∷ is) f fs s = λ h. h
   settles_lively (Round st ∷ is) f fs s = λ h. h
   settles_lively (Until at b e ∷ is) f fs s =
-      tests_lively (value_of e) (settles program following is f fs s) (begins following at (Do (Repeat at b e) ∷ is) f fs s) (Until at b e ∷ is) f fs s (settles_lively is f fs s) (λ h. h)
+      let test = value_of program (length fs) e in
+      tests_lively (calm f.variables test) (settles program following is f fs s) (begins following at (Do (Repeat at b e) ∷ is) f fs s)
+      (record f { items = Until at b e ∷ is; answers = Some (noted f.variables test) }) fs s (settles_lively is f fs s) (λ h. h)
 
   goes_lively : (d : Doing After) (rest : List Item) (f : Frame) (fs : List Frame) (s : Store) → Lively (goes program following d rest f fs s)
   goes_lively (Val (Into is)) rest f fs s = settles_lively (is ++ rest) f fs s
   goes_lively (Val Exits) rest f fs s = settles_lively (leave rest) f fs s
+  goes_lively (Val (Returns r)) rest f fs s = ends_lively following r fs s
   goes_lively (Asks q k) rest f fs s = answer_lively q f fs s
   goes_lively (Traps n c) rest f fs s = λ h. h
 
   item_lively : (answers : Option (List Value)) (is : List Item) (f : Frame) (fs : List Frame) (s : Store) → Lively (item_turn program following answers is f fs s)
   item_lively None is f fs s = settles_lively is f fs s
   item_lively (Some vs) [] f fs s = λ h. h
-  item_lively (Some vs) (i ∷ is) f fs s = goes_lively (feed vs (item_of i)) is f fs s
+  item_lively (Some vs) (i ∷ is) f fs s =
+      let left = feed vs (item_of program (length fs) i) in
+      goes_lively (calm f.variables left) is (record f { answers = Some (vs ++ noted f.variables left) }) fs s
 
   turn_at_lively : (fs : List Frame) (s : Store) → Lively (turn_at program following fs s)
   turn_at_lively [] s = λ h. h

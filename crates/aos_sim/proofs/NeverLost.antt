@@ -1,6 +1,6 @@
 -- No meaning of a program has trap 16, so no execution of an image that shows the program has one.
 use Rattle.std.proofs.Common.{◌≡◌, ℕ, zero, suc, ◌<◌, List, [], ◌∷◌, ◌++◌, Bool, true, false, refl, sym, subst, arith}
-use Rattle.std.specs.Prelude.{All, ℤ, pos, ◌+ℤ◌, ◌-ℤ◌, ◌*ℤ◌, neg_ℤ, unsigned_abs, int_lt, ◌&&◌, int_le, if◌then◌else◌, Option, Some, None}
+use Rattle.std.specs.Prelude.{length, All, ℤ, pos, ◌+ℤ◌, ◌-ℤ◌, ◌*ℤ◌, neg_ℤ, unsigned_abs, int_lt, ◌&&◌, int_le, if◌then◌else◌, Option, Some, None}
 use Rattle.std.specs.Option.{option_zip}
 use Rattle.std.specs.List.{list_any}
 use Rattle.std.specs.Int.{int_div_euclid, int_rem_euclid}
@@ -14,12 +14,13 @@ use Rattle.aos_base.specs.declared.operator.Given.TheVariants.{Number, Trap, Und
 use Rattle.aos_base.specs.Operators.{or_trap, or_undefined, set_of, on_sets, natural, unary as unary_of, binary as binary_of}
 use Rattle.aos_base.specs.Machine.{Choice, execution}
 use Rattle.aos_base.specs.Observation.{Observation, observation}
+use Rattle.aos_base.specs.Rooted.{by_number}
 use Rattle.aos_base.specs.Question.{Val, Asks, Traps, bind, feed, Reads, Stores, Copies, PutsText, ComparesTexts, Calls, Ends, Makes, Starts, PutsInt, PutsChar, PutsString, PutsLn, PutsNothing, Places, Lengths}
 use Rattle.aos_types.specs.Shape.{Shape}
 use Rattle.aos_types.specs.Content.{Content}
 use Rattle.aos_types.specs.World.{read}
 use Rattle.aos_code.specs.declared.image.Image.{Image}
-use Rattle.aos_typed.specs.Program.{Place, ModuleVar, Field, Index, Expr, Lit, Read, Unary, Binary, And, Or, Element, Ord, Chr, CompareTexts, Len, Call, Open as OutOpen, Char as OutChar, Int as OutInt, String as OutString, Ln as OutLn, Stat, Assign, Copy, PutText, If, Case, While, Repeat, Loop, Exit, For, Block, Assert, Halt, Change, New, Out, Arms, Otherwise, Arm, Cases, NoElse, Else, OfLabels, Program}
+use Rattle.aos_typed.specs.Program.{Place, ModuleVar, Local, Passed, Field, Index, Of, Rows, Known as KnownRows, Opened, Row, Arguments, NoMore, Scalar, Whole, Opening, Expr, Lit, Read, Unary, Binary, And, Or, Element, Ord, Chr, CompareTexts, Len, LenBehind, Function, Call, Open as OutOpen, Char as OutChar, Int as OutInt, String as OutString, Ln as OutLn, Stat, Assign, Copy, PutText, If, Case, While, Repeat, Loop, Exit, For, Block, Assert, Halt, Change, Perform, Return, New, Out, Arms, Otherwise, Arm, Cases, NoElse, Else, OfLabels, Program}
 use Rattle.aos_typed.specs.declared.tree.Change.{Change as Changing}
 use Rattle.aos_typed.specs.declared.tree.Change.TheVariants as change
 use Rattle.aos_typed.specs.declared.tree.TType.TheVariants as type
@@ -29,8 +30,9 @@ use Rattle.aos_typed.specs.Spot.{Spot}
 use Rattle.aos_typed.specs.Text.{text_in, fitted}
 use Rattle.aos_typed.specs.Value.{Value, Int, Flag, Char, Set, Object, Callable, Place as Spotted, number_of, Sort, Integer, Character, Elements, element, given, unary_sort, binary_sort, is_true}
 use Rattle.aos_typed.specs.Store.{Store, has_room}
-use Rattle.aos_typed.specs.Meaning.{Question, Doing, Item, Do, Rounds, Round, Until, After, Into, Exits, leave, is_in, element_of, place_of, value_of, changed, arms_of, case_of, out_of, stat_of, item_of}
-use Rattle.aos_typed.specs.Source.{Frame, Turned, answered, done, all_rooted, begins, ends, tests, settles, written, prints, makes, starts, copies, stores_text, answer, goes, item_turn, turn_at, opened, source, first_state, first_store, first_frames}
+use Rattle.aos_typed.specs.Routines.{Routine, routines}
+use Rattle.aos_typed.specs.Meaning.{Question, Doing, Item, Do, Rounds, Round, Until, After, Into, Exits, Returns, leave, is_in, element_of, Found, row_at, lengths_from, place_of, rows_of, arguments_of, value_of, changed, arms_of, case_of, out_of, stat_of, item_of}
+use Rattle.aos_typed.specs.Source.{Frame, Turned, answered, done, all_rooted, begins, ends, finishes, tests, settles, written, prints, makes, starts, copies, stores_text, is_deep, enters, called_frame, calls, known, calm, noted, answer, goes, item_turn, turn_at, opened, source, first_state, first_store, first_frames}
 use Rattle.aos_sim.specs.Shows.{Shows, NeverLost}
 use Rattle.aos_sim.proofs.Traps.{Leaves, traps_with}
 
@@ -128,38 +130,12 @@ element_comes n v s = by (natural n (number_of v)) refl
     by None e = rw e (omega arith)
     by (Some i) e = rw e tt
 
-mutual
-  place_comes : (p : Place) → Comes (place_of p)
-  place_comes (ModuleVar m i) = tt
-  place_comes (Field p t k) = comes_then (place_of p) _ (place_comes p) (λ s. tt)
-  place_comes (Index p n t e) = comes_then (place_of p) _ (place_comes p) (λ s. comes_then (value_of e) _ (value_comes e) (λ v. element_comes n v s))
-
-  value_comes : (e : Expr) → Comes (value_of e)
-  value_comes (Lit l) = tt
-  value_comes (Read t p) = comes_then (place_of p) _ (place_comes p) (λ s v. tt)
-  value_comes (Unary op a) = comes_then (value_of a) _ (value_comes a) (λ x. given_comes (unary_sort op) _ (unary_gives op (number_of x)))
-  value_comes (Binary op a b) =
-      comes_then (value_of a) _ (value_comes a) (λ x. comes_then (value_of b) _ (value_comes b) (λ y. given_comes (binary_sort op) _ (binary_gives op (number_of x) (number_of y))))
-  value_comes (And a b) =
-      comes_then (value_of a) _ (value_comes a) (λ x. either_comes (is_true x) (value_of b) (Val (Flag false)) (value_comes b) tt)
-  value_comes (Or a b) =
-      comes_then (value_of a) _ (value_comes a) (λ x. either_comes (is_true x) (Val (Flag true)) (value_of b) tt (value_comes b))
-  value_comes (Element a) = comes_then (value_of a) _ (value_comes a) (λ x. given_comes Elements _ (binary_gives SetSpan (number_of x) (number_of x)))
-  value_comes (Ord a) = comes_then (value_of a) _ (value_comes a) (λ x. tt)
-  value_comes (Chr a) = comes_then (value_of a) _ (value_comes a) (λ x. given_comes Character _ (unary_gives (Range (pos 0) (pos 255)) (number_of x)))
-  value_comes (CompareTexts r p n q m) = comes_then (place_of p) _ (place_comes p) (λ a. comes_then (place_of q) _ (place_comes q) (λ b v. tt))
-  value_comes (Len p n) = comes_then (place_of p) _ (place_comes p) (λ s. tt)
-
-out_comes : (call : Call) → Comes (out_of call)
-out_comes OutOpen = λ v. tt
-out_comes (OutChar e) = comes_then (value_of e) _ (value_comes e) (λ x v. tt)
-out_comes (OutInt e n) = comes_then (value_of e) _ (value_comes e) (λ x. comes_then (value_of n) _ (value_comes n) (λ y v. tt))
-out_comes (OutString p n) = comes_then (place_of p) _ (place_comes p) (λ s v. tt)
-out_comes OutLn = λ v. tt
-
-arms_come : (arms : Arms) → Comes (arms_of arms)
-arms_come (Otherwise ss) = tt
-arms_come (Arm e ss arms) = comes_then (value_of e) _ (value_comes e) (λ x. either_comes (is_true x) _ (arms_of arms) tt (arms_come arms))
+row_comes : (x : Found) (v : Value) → Comes (row_at x v)
+row_comes x v = by x.lengths refl
+  where
+    by : (ns : List Value) → x.lengths ≡ ns → Comes (row_at x v)
+    by [] e = rw e tt
+    by (n ∷ ns) e = rw e (comes_then (element_of (unsigned_abs (number_of n)) v x.place) _ (element_comes (unsigned_abs (number_of n)) v x.place) (λ s. tt))
 
 cases_come : (z : ℤ) (cases : Cases) → Comes (case_of z cases)
 cases_come z NoElse = omega arith
@@ -174,30 +150,124 @@ changed_comes change.Include v n =
 changed_comes change.Exclude v n =
     comes_then (element n) _ (given_comes Elements _ (binary_gives SetSpan (number_of n) (number_of n))) (λ x. given_comes Elements _ (binary_gives Minus (number_of v) (number_of x)))
 
-stat_comes : (s : Stat) → Comes (stat_of s)
-stat_comes (Assign at t p e) = comes_then (place_of p) _ (place_comes p) (λ s. comes_then (value_of e) _ (value_comes e) (λ x v. tt))
-stat_comes (Copy at t p q) = comes_then (place_of p) _ (place_comes p) (λ to. comes_then (place_of q) _ (place_comes q) (λ from v. tt))
-stat_comes (PutText at strict p n q m) = comes_then (place_of p) _ (place_comes p) (λ from. comes_then (place_of q) _ (place_comes q) (λ to v. tt))
-stat_comes (If at arms) = arms_come arms
-stat_comes (Case at e cases) = comes_then (value_of e) _ (value_comes e) (λ x. cases_come (number_of x) cases)
-stat_comes (While at e body) = comes_then (value_of e) _ (value_comes e) (λ x. tt)
-stat_comes (Repeat at body e) = tt
-stat_comes (Loop at body) = tt
-stat_comes (Exit at) = tt
-stat_comes (For at w p from to step body) = comes_then (value_of to) _ (value_comes to) (λ x. tt)
-stat_comes (Block at body) = tt
-stat_comes (Assert at e code) = comes_then (value_of e) _ (value_comes e) (λ x. either_comes (is_true x) _ _ tt (omega arith))
-stat_comes (Halt at code) = omega arith
-stat_comes (Change at c p e) =
-    comes_then (place_of p) _ (place_comes p) (λ s. comes_then (value_of e) _ (value_comes e) (λ n v. comes_then (changed c v n) _ (changed_comes c v n) (λ x w. tt)))
-stat_comes (New at p t) = comes_then (place_of p) _ (place_comes p) (λ s o v w. tt)
-stat_comes (Out at call) = out_comes call
+module _ (program : Program) (here : ℕ) where
+  lengths_come : (k d n : ℕ) → Comes (lengths_from program here k d n)
+  lengths_come k d zero = tt
+  lengths_come k d (suc n) = λ v. comes_then (lengths_from program here k (suc d) n) _ (lengths_come k (suc d) n) (λ vs. tt)
 
-item_comes : (i : Item) → Comes (item_of i)
-item_comes (Do s) = stat_comes s
-item_comes (Rounds at w p last step b) = comes_then _ _ (value_comes (Read (type.Integer w) p)) (λ v. tt)
-item_comes (Round s) = stat_comes s
-item_comes (Until at b e) = comes_then (value_of e) _ (value_comes e) (λ x. tt)
+  mutual
+    place_comes : (p : Place) → Comes (place_of program here p)
+    place_comes (ModuleVar m i) = tt
+    place_comes (Local k) = tt
+    place_comes (Passed k) = λ v. tt
+    place_comes (Field p t k) = comes_then (place_of program here p) _ (place_comes p) (λ s. tt)
+    place_comes (Index p n t e) =
+        comes_then (place_of program here p) _ (place_comes p) (λ s. comes_then (value_of program here e) _ (value_comes e) (λ v. element_comes n v s))
+    place_comes (Of r) = comes_then (rows_of program here r) _ (rows_come r) (λ x. tt)
+
+    rows_come : (r : Rows) → Comes (rows_of program here r)
+    rows_come (KnownRows p ns) = comes_then (place_of program here p) _ (place_comes p) (λ s. tt)
+    rows_come (Opened k j) = λ v. comes_then (lengths_from program here k 0 j) _ (lengths_come k 0 j) (λ ns. tt)
+    rows_come (Row r t e) =
+        comes_then (rows_of program here r) _ (rows_come r) (λ x. comes_then (value_of program here e) _ (value_comes e) (λ v. row_comes x v))
+
+    arguments_come : (as' : Arguments) → Comes (arguments_of program here as')
+    arguments_come NoMore = tt
+    arguments_come (Scalar e as') =
+        comes_then (value_of program here e) _ (value_comes e) (λ v. comes_then (arguments_of program here as') _ (arguments_come as') (λ vs. tt))
+    arguments_come (Whole p as') =
+        comes_then (place_of program here p) _ (place_comes p) (λ s. comes_then (arguments_of program here as') _ (arguments_come as') (λ vs. tt))
+    arguments_come (Opening r as') =
+        comes_then (rows_of program here r) _ (rows_come r) (λ x. comes_then (arguments_of program here as') _ (arguments_come as') (λ vs. tt))
+
+    value_comes : (e : Expr) → Comes (value_of program here e)
+    value_comes (Lit l) = tt
+    value_comes (Read t p) = comes_then (place_of program here p) _ (place_comes p) (λ s v. tt)
+    value_comes (Unary op a) =
+        comes_then (value_of program here a) _ (value_comes a) (λ x. given_comes (unary_sort op) _ (unary_gives op (number_of x)))
+    value_comes (Binary op a b) =
+        comes_then (value_of program here a) _ (value_comes a)
+        (λ x. comes_then (value_of program here b) _ (value_comes b) (λ y. given_comes (binary_sort op) _ (binary_gives op (number_of x) (number_of y))))
+    value_comes (And a b) =
+        comes_then (value_of program here a) _ (value_comes a) (λ x. either_comes (is_true x) (value_of program here b) (Val (Flag false)) (value_comes b) tt)
+    value_comes (Or a b) =
+        comes_then (value_of program here a) _ (value_comes a) (λ x. either_comes (is_true x) (Val (Flag true)) (value_of program here b) tt (value_comes b))
+    value_comes (Element a) =
+        comes_then (value_of program here a) _ (value_comes a) (λ x. given_comes Elements _ (binary_gives SetSpan (number_of x) (number_of x)))
+    value_comes (Ord a) = comes_then (value_of program here a) _ (value_comes a) (λ x. tt)
+    value_comes (Chr a) =
+        comes_then (value_of program here a) _ (value_comes a) (λ x. given_comes Character _ (unary_gives (Range (pos 0) (pos 255)) (number_of x)))
+    value_comes (CompareTexts r a b) =
+        comes_then (rows_of program here a) _ (rows_come a) (λ x. comes_then (rows_of program here b) _ (rows_come b) (λ y v. tt))
+    value_comes (Len r d) = comes_then (rows_of program here r) _ (rows_come r) (λ x. tt)
+    value_comes (LenBehind r n) = comes_then (rows_of program here r) _ (rows_come r) (λ x. tt)
+    value_comes (Function m k as') = comes_then (arguments_of program here as') _ (arguments_come as') (λ vs v. tt)
+
+  out_comes : (call : Call) → Comes (out_of program here call)
+  out_comes OutOpen = λ v. tt
+  out_comes (OutChar e) = comes_then (value_of program here e) _ (value_comes e) (λ x v. tt)
+  out_comes (OutInt e n) =
+      comes_then (value_of program here e) _ (value_comes e) (λ x. comes_then (value_of program here n) _ (value_comes n) (λ y v. tt))
+  out_comes (OutString r) = comes_then (rows_of program here r) _ (rows_come r) (λ s v. tt)
+  out_comes OutLn = λ v. tt
+
+  arms_come : (arms : Arms) → Comes (arms_of program here arms)
+  arms_come (Otherwise ss) = tt
+  arms_come (Arm e ss arms) =
+      comes_then (value_of program here e) _ (value_comes e) (λ x. either_comes (is_true x) _ (arms_of program here arms) tt (arms_come arms))
+
+  stat_comes : (s : Stat) → Comes (stat_of program here s)
+  stat_comes (Assign at t p e) =
+      comes_then (place_of program here p) _ (place_comes p) (λ s. comes_then (value_of program here e) _ (value_comes e) (λ x v. tt))
+  stat_comes (Copy at t p q) =
+      comes_then (place_of program here p) _ (place_comes p) (λ to. comes_then (place_of program here q) _ (place_comes q) (λ from v. tt))
+  stat_comes (PutText at strict a b) =
+      comes_then (rows_of program here a) _ (rows_come a) (λ x. comes_then (rows_of program here b) _ (rows_come b) (λ y v. tt))
+  stat_comes (If at arms) = arms_come arms
+  stat_comes (Case at e cases) = comes_then (value_of program here e) _ (value_comes e) (λ x. cases_come (number_of x) cases)
+  stat_comes (While at e body) = comes_then (value_of program here e) _ (value_comes e) (λ x. tt)
+  stat_comes (Repeat at body e) = tt
+  stat_comes (Loop at body) = tt
+  stat_comes (Exit at) = tt
+  stat_comes (For at w p from to step body) = comes_then (value_of program here to) _ (value_comes to) (λ x. tt)
+  stat_comes (Block at body) = tt
+  stat_comes (Assert at e code) = comes_then (value_of program here e) _ (value_comes e) (λ x. either_comes (is_true x) _ _ tt (omega arith))
+  stat_comes (Halt at code) = omega arith
+  stat_comes (Change at c p e) =
+      comes_then (place_of program here p) _ (place_comes p)
+      (λ s. comes_then (value_of program here e) _ (value_comes e) (λ n v. comes_then (changed c v n) _ (changed_comes c v n) (λ x w. tt)))
+  stat_comes (Perform at m k as') = comes_then (arguments_of program here as') _ (arguments_come as') (λ vs v. tt)
+  stat_comes (Return at None) = tt
+  stat_comes (Return at (Some e)) = comes_then (value_of program here e) _ (value_comes e) (λ v. tt)
+  stat_comes (New at p t) = λ o. comes_then (place_of program here p) _ (place_comes p) (λ s v w. tt)
+  stat_comes (Out at call) = out_comes call
+
+  item_comes : (i : Item) → Comes (item_of program here i)
+  item_comes (Do s) = stat_comes s
+  item_comes (Rounds at w p last step b) = comes_then _ _ (value_comes (Read (type.Integer w) p)) (λ v. tt)
+  item_comes (Round s) = stat_comes s
+  item_comes (Until at b e) = comes_then (value_of program here e) _ (value_comes e) (λ x. tt)
+
+-- what is left behind silent questions
+calm_comes : {A : Type 0} (c : Content Value) (t : Doing A) → Comes t → Comes (calm c t)
+calm_comes c (Val a) h = tt
+calm_comes c (Traps n code) h = h
+calm_comes c (Asks (Places s) k) h = calm_comes c (k (known c s)) (h (known c s))
+calm_comes c (Asks (Lengths s) k) h = calm_comes c (k (known c s)) (h (known c s))
+calm_comes c (Asks (Reads t p) k) h = h
+calm_comes c (Asks (Stores p v) k) h = h
+calm_comes c (Asks (Copies t from to) k) h = h
+calm_comes c (Asks (PutsText strict from n to room) k) h = h
+calm_comes c (Asks (ComparesTexts r a n b m) k) h = h
+calm_comes c (Asks (Calls p vs) k) h = h
+calm_comes c (Asks (Ends r) k) h = h
+calm_comes c (Asks (Makes t) k) h = h
+calm_comes c (Asks (Starts v) k) h = h
+calm_comes c (Asks (PutsInt v n) k) h = h
+calm_comes c (Asks (PutsChar v) k) h = h
+calm_comes c (Asks (PutsString a n) k) h = h
+calm_comes c (Asks PutsNothing k) h = h
+calm_comes c (Asks PutsLn k) h = h
 
 -- Turns
 
@@ -237,7 +307,17 @@ module _ (following : List ℕ) where
   stores_text_known (Some cs) None p f fs s = tt
   stores_text_known (Some cs) (Some old) p f fs s = tt
 
+  enters_known : (deep : Bool) (g : Frame) (fs : List Frame) (s : Store) → Known (enters following deep g fs s)
+  enters_known true g fs s = omega arith
+  enters_known false g fs s = tt
+
 module _ (program : Program) (following : List ℕ) where
+  calls_known : (r : Option Routine) (vs : List Value) (f : Frame) (fs : List Frame) (s : Store) → Known (calls program following r vs f fs s)
+  calls_known None vs f fs s = tt
+  calls_known (Some r) vs f fs s =
+      let g = called_frame program following r vs (f ∷ fs) s in
+      enters_known following (is_deep following g (f ∷ fs)) g (f ∷ fs) s
+
   answer_known : (q : Question) (f : Frame) (fs : List Frame) (s : Store) → Known (answer program following q f fs s)
   answer_known (Ends result) f fs s = ends_known following result fs s
   answer_known (Makes t) f fs s = makes_known following (has_room s) t f fs s
@@ -256,38 +336,50 @@ module _ (program : Program) (following : List ℕ) where
       let text = fitted strict (unsigned_abs (number_of room)) (text_in (read from.root from.path x)) in
       stores_text_known following text (read to.root to.path x) to f fs s
   answer_known (ComparesTexts r a n b m) f fs s = tt
-  answer_known (Calls p vs) f fs s = tt
+  answer_known (Calls p vs) f fs s = calls_known (by_number p (routines program)) vs f fs s
   answer_known (PutsString a n) f fs s = tt
   answer_known (Places a) f fs s = tt
   answer_known (Lengths a) f fs s = tt
 
-  tests_known : (d : Doing Value) (if_true if_false : Turned) (is : List Item) (f : Frame) (fs : List Frame) (s : Store) → Comes d → Known if_true → Known if_false → Known (tests program following d if_true if_false is f fs s)
-  tests_known (Val v) if_true if_false is f fs s c h k = by (is_true v)
+  tests_known : (d : Doing Value) (if_true if_false : Turned) (f : Frame) (fs : List Frame) (s : Store) → Comes d → Known if_true → Known if_false → Known (tests program following d if_true if_false f fs s)
+  tests_known (Val v) if_true if_false f fs s c h k = by (is_true v)
     where
       by : (b : Bool) → Known (if b then if_true else if_false)
       by true = h
       by false = k
-  tests_known (Asks q g) if_true if_false is f fs s c h k = answer_known q (record f { items = is; answers = Some [] }) fs s
-  tests_known (Traps n code) if_true if_false is f fs s c h k = c
+  tests_known (Asks q g) if_true if_false f fs s c h k = answer_known q f fs s
+  tests_known (Traps n code) if_true if_false f fs s c h k = c
+
+  finishes_known : (function : Bool) (f : Frame) (fs : List Frame) (s : Store) → Known (finishes program following function f fs s)
+  finishes_known true f fs s = omega arith
+  finishes_known false f fs s = tt
 
   settles_known : (is : List Item) (f : Frame) (fs : List Frame) (s : Store) → Known (settles program following is f fs s)
-  settles_known [] f fs s = tt
+  settles_known [] f fs s = finishes_known f.gives f fs s
   settles_known (Do st ∷ is) f fs s = tt
   settles_known (Rounds at w p last step b ∷ is) f fs s = tt
   settles_known (Round st ∷ is) f fs s = tt
   settles_known (Until at b e ∷ is) f fs s =
-      tests_known (value_of e) (settles program following is f fs s) (begins following at (Do (Repeat at b e) ∷ is) f fs s) (Until at b e ∷ is) f fs s (value_comes e) (settles_known is f fs s) tt
+      let test = value_of program (length fs) e in
+      tests_known (calm f.variables test) (settles program following is f fs s) (begins following at (Do (Repeat at b e) ∷ is) f fs s)
+      (record f { items = Until at b e ∷ is; answers = Some (noted f.variables test) }) fs s
+      (calm_comes f.variables test (value_comes program (length fs) e)) (settles_known is f fs s) tt
 
   goes_known : (d : Doing After) (rest : List Item) (f : Frame) (fs : List Frame) (s : Store) → Comes d → Known (goes program following d rest f fs s)
   goes_known (Val (Into is)) rest f fs s h = settles_known (is ++ rest) f fs s
   goes_known (Val Exits) rest f fs s h = settles_known (leave rest) f fs s
+  goes_known (Val (Returns r)) rest f fs s h = ends_known following r fs s
   goes_known (Asks q k) rest f fs s h = answer_known q f fs s
   goes_known (Traps n c) rest f fs s h = h
 
   item_known : (answers : Option (List Value)) (is : List Item) (f : Frame) (fs : List Frame) (s : Store) → Known (item_turn program following answers is f fs s)
   item_known None is f fs s = settles_known is f fs s
   item_known (Some vs) [] f fs s = tt
-  item_known (Some vs) (i ∷ is) f fs s = goes_known (feed vs (item_of i)) is f fs s (comes_fed vs (item_of i) (item_comes i))
+  item_known (Some vs) (i ∷ is) f fs s =
+      let doing = item_of program (length fs) i in
+      let left = feed vs doing in
+      goes_known (calm f.variables left) is (record f { answers = Some (vs ++ noted f.variables left) }) fs s
+      (calm_comes f.variables left (comes_fed vs doing (item_comes program (length fs) i)))
 
   turn_at_known : (fs : List Frame) (s : Store) → Known (turn_at program following fs s)
   turn_at_known [] s = tt

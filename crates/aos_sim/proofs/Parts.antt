@@ -1,5 +1,5 @@
 -- The parts of what a place holds: what they are, and where their cells stand.
-use Rattle.std.proofs.Common.{◌≡◌, ℕ, zero, suc, ◌+◌, ◌*◌, ◌<◌, true, false, List, [], ◌∷◌, ◌++◌, map, Option, Some, None, if◌then◌else◌, refl, sym, ap, ◌∙◌, arith}
+use Rattle.std.proofs.Common.{◌≡◌, ℕ, zero, suc, ◌+◌, ◌*◌, ◌<◌, ◌≤◌, true, false, List, [], ◌∷◌, ◌++◌, map, Option, Some, None, if◌then◌else◌, refl, sym, ap, ◌∙◌, arith}
 use Rattle.std.specs.Prelude.{slice_get, option_map, option_and_then}
 use Rattle.std.proofs.lemmas.Option.{slice_get-map}
 use Rattle.aos_base.specs.declared.place.Root.{Root}
@@ -13,10 +13,14 @@ use Rattle.aos_types.specs.Contents.{of_variable, of_base, with_parts, contents,
 use Rattle.aos_types.specs.Content.{EachSort}
 use Rattle.aos_types.specs.Chain.{IsRanked}
 use Rattle.aos_types.specs.World.{World, shape_at, cell_at}
+use Rattle.aos_types.proofs.Offsets.{inside_within}
+use Rattle.std.proofs.Math.Nat.{suc-mul}
 use Rattle.aos_types.proofs.Tables.{by_parts}
 use Rattle.aos_typed.specs.Sort.{Plain, variable_shape}
-use Rattle.aos_typed.specs.Typing.{IsPlain}
+use Rattle.aos_typed.specs.Typing.{IsPlain, nested}
 use Rattle.aos_typed.specs.WellTyped.{field_type, is_whole}
+use Rattle.aos_code.specs.Silent as silent
+use Rattle.aos_layout.specs.Layout.{cells, kind_of}
 use Rattle.aos_layout.proofs.Frames.{size_shaped}
 use Rattle.aos_layout.proofs.Joins.{part_repeated, before_repeated, join_assoc, row_ends, repeated_ends}
 
@@ -41,7 +45,7 @@ module _ {S : Type 0} where
       at_part on (Some n) f = let h = on n f in omega (arith, h)
 
   -- before one part
-  before_step : (i : ℕ) (s : Shape S) → offset (i ∷ []) s ≡ before i s
+  pub before_step : (i : ℕ) (s : Shape S) → offset (i ∷ []) s ≡ before i s
   before_step i s = let h = no_more (part i s) in omega (arith, h)
     where
       no_more : (o : Option (Shape S)) → number_of (offset []) o ≡ 0
@@ -63,6 +67,31 @@ module _ {S : Type 0} where
         by_root : (o : Option (Shape S)) → option_and_then (inside p) o ≡ Some s → number_of (offset (p ++ q)) o ≡ number_of (offset p) o + offset q s
         by_root None f = absurd (cc)
         by_root (Some whole) f = offset_on p q whole s f
+
+-- what a way leads to lies among the cells of its root
+pub within_root : {S : Type 0} (w : World S) (r : Root) (whole : Shape S) → w.shape r ≡ Some whole → (p : List ℕ) (m : Shape S) → shape_at w r p ≡ Some m → cell_at w r p + size m ≤ size whole
+within_root w r whole there p m e =
+    let within = inside_within p whole m (ap (option_and_then (inside p)) (sym there) ∙ e) in
+    let at = ap (number_of (offset p)) there in
+    omega (arith, within, at)
+
+-- Rows within one another
+
+size_repeated : {S : Type 0} (n : ℕ) (s : Shape S) → size (repeated n s) ≡ n * size s
+size_repeated zero s = omega arith
+size_repeated (suc n) s = let h = size_repeated n s in let m = suc-mul n (size s) in omega (arith, h, m)
+
+-- how many cells rows have
+pub nested_size : {S : Type 0} (ns : List ℕ) (s : Shape S) → size (nested ns s) ≡ silent.cells_of ns (size s)
+nested_size [] s = refl
+nested_size (n ∷ ns) s = size_repeated n (nested ns s) ∙ ap (λ m. n * m) (nested_size ns s)
+
+-- an element of rows, and its first cell
+pub row_part : {S : Type 0} (n : ℕ) (s : Shape S) (i : ℕ) → i < n → inside (i ∷ []) (repeated n s) ≡ Some s
+row_part n s i l = ap (option_and_then (λ m. Some m)) (part_repeated n i s l)
+
+pub row_offset : {S : Type 0} (n : ℕ) (s : Shape S) (i : ℕ) → i < n → offset (i ∷ []) (repeated n s) ≡ i * size s
+row_offset n s i l = before_step i (repeated n s) ∙ before_repeated n i s l
 
 -- Shapes with other scalars
 
@@ -130,6 +159,10 @@ module _ (rows : List TypeRow) where
 
   pub variable_size : (t : TypeId) → size (variable_shape rows t) ≡ variable_scalars rows t
   variable_size t = size_shaped Plain (of_variable (contents rows) rows t)
+
+  -- code has a cell for each
+  pub cells_size : (t : TypeId) → size (variable_shape rows t) ≡ size (cells rows t)
+  cells_size t = variable_size t ∙ sym (size_shaped (kind_of rows) (of_variable (contents rows) rows t))
 
   pub field_offset : (t u : TypeId) (k : ℕ) → field_type (row_of rows t) k ≡ Some u → offset (k ∷ []) (variable_shape rows t) ≡ offset (k ∷ []) (contents rows t)
   field_offset t u k e =

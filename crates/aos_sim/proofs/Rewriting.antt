@@ -1,6 +1,6 @@
 -- To answer a designator's or an expression's reads is to replace them by literals.
-use Rattle.std.proofs.Common.{◌≡◌, ℕ, Option, Some, None, List, [], ◌∷◌, map, Bool, true, false, refl, sym, ap, ◌∙◌}
-use Rattle.std.specs.Prelude.{pos, if◌then◌else◌}
+use Rattle.std.proofs.Common.{◌≡◌, ℕ, zero, suc, Option, Some, None, List, [], ◌∷◌, ◌++◌, map, Bool, true, false, refl, sym, ap, ◌∙◌}
+use Rattle.std.specs.Prelude.{pos, unsigned_abs, if◌then◌else◌}
 use Rattle.aos_base.specs.declared.number.Relation.{Relation}
 use Rattle.aos_base.specs.declared.operator.Unary.{Unary as UnaryOperator}
 use Rattle.aos_base.specs.declared.operator.Unary.TheVariants.{Range}
@@ -9,14 +9,16 @@ use Rattle.aos_base.specs.declared.operator.Binary.TheVariants.{SetSpan}
 use Rattle.aos_base.specs.declared.operator.Given.{Given}
 use Rattle.aos_base.specs.declared.operator.Given.TheVariants.{Number, Trap, Undefined}
 use Rattle.aos_base.specs.Operators.{natural, unary as unary_of, binary as binary_of}
-use Rattle.aos_base.specs.Question.{Tree, Val, Asks, Traps, bind, feed, ask, Reads, Stores, ComparesTexts}
+use Rattle.aos_base.specs.Question.{Tree, Val, Asks, Traps, bind, feed, ask, Reads, Stores, Copies, PutsText, ComparesTexts, Calls, Ends, Makes, Starts, PutsInt, PutsChar, PutsString, PutsNothing, PutsLn, Places, Lengths}
+use Rattle.aos_types.specs.Content.{Content}
 use Rattle.aos_typed.specs.declared.tree.Literal.{Literal}
-use Rattle.aos_typed.specs.declared.tree.TType.{TType}
-use Rattle.aos_typed.specs.Program.{Place, ModuleVar, Field, Index, Expr, Lit, Read, Unary, Binary, And, Or, Element, Ord, Chr, CompareTexts, Len}
+use Rattle.aos_typed.specs.Numbers.{procedure_number}
+use Rattle.aos_typed.specs.Program.{Place, ModuleVar, Local, Passed, Field, Index, Of, Rows, Known, Opened, Row, Arguments, NoMore, Scalar, Whole, Opening, Expr, Lit, Read, Unary, Binary, And, Or, Element, Ord, Chr, CompareTexts, Len, LenBehind, Function, Program}
 use Rattle.aos_typed.specs.Spot.{Spot}
-use Rattle.aos_typed.specs.Value.{Value, Int, Flag, literal_value, number_of, Sort, Character, given, unary_sort, binary_sort, unary, binary, element, ord, chr, is_true}
-use Rattle.aos_typed.specs.Meaning.{Question, Doing, After, Into, part_of, element_of, place_of, value_of}
-use Rattle.aos_sim.specs.Rewriting.{is_asking, are_asked, with_first_index, with_first, rewritten_place, rewritten, DesignatorRewrites, ExpressionRewrites, AssignedRewrites, AssignmentRewrites, StatementRewrites}
+use Rattle.aos_typed.specs.Value.{Value, Int, Flag, Place as PlaceValue, literal_value, number_of, Sort, Character, given, unary_sort, binary_sort, unary, binary, element, ord, chr, is_true}
+use Rattle.aos_typed.specs.Meaning.{Question, Doing, Found, found, After, Into, place_in, own_place, part_of, element_of, row_at, length_at, text_length, lengths_from, place_of, rows_of, arguments_of, value_of}
+use Rattle.aos_typed.specs.Source.{known}
+use Rattle.aos_sim.specs.Rewriting.{is_asking, are_asked, settled, with_first_index, with_first_row, with_first_argument, with_first, rewritten_place, rewritten, DesignatorRewrites, ExpressionRewrites, AssignedRewrites, AssignmentRewrites, StatementRewrites}
 
 module _ {Q V A : Type 0} where
   -- the first of several answers
@@ -53,17 +55,17 @@ module _ {Q V A B : Type 0} where
   fed_before v (Asks q f) k asks = refl
   fed_before v (Traps n c) k asks = absurd (cc asks)
 
-  -- and behind a value to what goes on
-  fed_behind : (v : V) (t : Tree Q V A) (k k' : A → Tree Q V B) → is_asking t ≡ false → is_asking (bind t k) ≡ true → ((a : A) → is_asking (k a) ≡ true → feed (v ∷ []) (k a) ≡ k' a) → feed (v ∷ []) (bind t k) ≡ bind t k'
-  fed_behind v (Val a) k k' none asks fed = fed a asks
-  fed_behind v (Asks q f) k k' none asks fed = absurd (cc none)
-  fed_behind v (Traps n c) k k' none asks fed = absurd (cc asks)
-
   -- what asks behind what doesn't is behind a value
   asks_behind : (t : Tree Q V A) (k : A → Tree Q V B) → is_asking t ≡ false → is_asking (bind t k) ≡ true → (a : A) × (t ≡ Val a) × (is_asking (k a) ≡ true)
   asks_behind (Val a) k none asks = (a, refl, asks)
   asks_behind (Asks q f) k none asks = absurd (cc none)
   asks_behind (Traps n c) k none asks = absurd (cc asks)
+
+  -- nothing is asked by pieces of which none asks
+  none_asks : (t : Tree Q V A) (k : A → Tree Q V B) → is_asking t ≡ false → ((a : A) → is_asking (k a) ≡ false) → is_asking (bind t k) ≡ false
+  none_asks (Val a) k none silent = silent a
+  none_asks (Asks q f) k none silent = absurd (cc none)
+  none_asks (Traps n c) k none silent = refl
 
 -- Operators ask nothing
 
@@ -94,125 +96,262 @@ element_silent n x s = by (natural n (number_of x)) refl
     by None e = rw e refl
     by (Some i) e = rw e refl
 
--- One answer
+row_silent : (x : Found) (v : Value) → is_asking (row_at x v) ≡ false
+row_silent x v = by x.lengths
+  where
+    by : (ns : List Value) → is_asking (row_at (record { place = x.place; lengths = ns }) v) ≡ false
+    by [] = refl
+    by (n ∷ ns) =
+        let i = unsigned_abs (number_of n) in
+        none_asks (element_of i v x.place) (λ s. found s ns) (element_silent i v x.place) (λ s. refl)
 
--- what is meant, of which this answer makes another
-abbrev Makes : {A : Type 0} → Value → Doing A → Doing A → Type 0
-Makes v t t' = is_asking t ≡ true → feed (v ∷ []) t ≡ t'
+-- What is left where all that a frame's own variables tell is known.
 
--- an operand, and what goes on with its value without a question
-on_one : {A B : Type 0} (v : Value) (t t' : Doing A) (k : A → Doing B) → ((x : A) → is_asking (k x) ≡ false) → Makes v t t' → Makes v (bind t k) (bind t' k)
-on_one v t t' k silent one asks =
-    let first = asks_first t k silent asks in
-    fed_before v t k first ∙ ap (λ r. bind r k) (one first)
+module _ (c : Content Value) where
+  abbrev S : {A : Type 0} → Doing A → Doing A
+  S = settled c
 
--- two operands: `k` is what is done behind the value of the first, and `k'` where the second has the answer
-module _ {A B X : Type 0} (of : X → Doing B) (v : Value) (t t' : Doing A) (k k' : A → Doing B) (x y : X) where
-  on_two : (of x ≡ bind t' k) → (of y ≡ bind t k') → Makes v t t' → ((a : A) → Makes v (k a) (k' a)) → (c : Bool) → is_asking t ≡ c → Makes v (bind t k) (of (if c then x else y))
-  on_two is_x is_y one other true first asks = fed_before v t k first ∙ ap (λ r. bind r k) (one first) ∙ sym is_x
-  on_two is_x is_y one other false none asks = fed_behind v t k k' none asks other ∙ sym is_y
+  settled_bind : {A B : Type 0} (t : Doing A) (k : A → Doing B) → settled c (bind t k) ≡ bind (settled c t) (λ a. settled c (k a))
+  settled_bind (Val a) k = refl
+  settled_bind (Traps n code) k = refl
+  settled_bind (Asks (Places s) f) k = settled_bind (f (known c s)) k
+  settled_bind (Asks (Lengths s) f) k = settled_bind (f (known c s)) k
+  settled_bind (Asks (Reads t s) f) k = ap (Asks (Reads t s)) (λ i v. settled_bind (f v) k i)
+  settled_bind (Asks (Stores s x) f) k = ap (Asks (Stores s x)) (λ i v. settled_bind (f v) k i)
+  settled_bind (Asks (Copies t a b) f) k = ap (Asks (Copies t a b)) (λ i v. settled_bind (f v) k i)
+  settled_bind (Asks (PutsText strict a n b m) f) k = ap (Asks (PutsText strict a n b m)) (λ i v. settled_bind (f v) k i)
+  settled_bind (Asks (ComparesTexts r a n b m) f) k = ap (Asks (ComparesTexts r a n b m)) (λ i v. settled_bind (f v) k i)
+  settled_bind (Asks (Calls q vs) f) k = ap (Asks (Calls q vs)) (λ i v. settled_bind (f v) k i)
+  settled_bind (Asks (Ends r) f) k = ap (Asks (Ends r)) (λ i v. settled_bind (f v) k i)
+  settled_bind (Asks (Makes t) f) k = ap (Asks (Makes t)) (λ i v. settled_bind (f v) k i)
+  settled_bind (Asks (Starts o) f) k = ap (Asks (Starts o)) (λ i v. settled_bind (f v) k i)
+  settled_bind (Asks (PutsInt x n) f) k = ap (Asks (PutsInt x n)) (λ i v. settled_bind (f v) k i)
+  settled_bind (Asks (PutsChar x) f) k = ap (Asks (PutsChar x)) (λ i v. settled_bind (f v) k i)
+  settled_bind (Asks (PutsString s n) f) k = ap (Asks (PutsString s n)) (λ i v. settled_bind (f v) k i)
+  settled_bind (Asks PutsNothing f) k = ap (Asks PutsNothing) (λ i v. settled_bind (f v) k i)
+  settled_bind (Asks PutsLn f) k = ap (Asks PutsLn) (λ i v. settled_bind (f v) k i)
 
--- where the first operand of & is TRUE the second one tells, and where that of OR is FALSE
-if_true : (v : Value) (t t' : Doing Value) (c : Bool) → Makes v t t' → Makes v (if c then t else Val (Flag false)) (if c then t' else Val (Flag false))
-if_true v t t' true one asks = one asks
-if_true v t t' false one asks = absurd (cc asks)
+  settled_silent : {A : Type 0} (t : Doing A) → is_asking t ≡ false → is_asking (settled c t) ≡ false
+  settled_silent (Val a) none = refl
+  settled_silent (Asks q f) none = absurd (cc none)
+  settled_silent (Traps n code) none = refl
 
-if_false : (v : Value) (t t' : Doing Value) (c : Bool) → Makes v t t' → Makes v (if c then Val (Flag true) else t) (if c then Val (Flag true) else t')
-if_false v t t' true one asks = absurd (cc asks)
-if_false v t t' false one asks = one asks
+  -- One answer
 
--- a read, of which the place is asked for first
-read_makes : (l : Literal) (t : TType) (p : Place) → Makes (literal_value l) (place_of p) (place_of (with_first_index l p)) → (c : Bool) → is_asking (place_of p) ≡ c → Makes (literal_value l) (value_of (Read t p)) (value_of (if c then Read t (with_first_index l p) else Lit l))
-read_makes l t p one true first asks = fed_before (literal_value l) (place_of p) (λ s. ask (Reads t s)) first ∙ ap (λ r. bind r (λ s. ask (Reads t s))) (one first)
-read_makes l t p one false none asks = ap (λ r. feed (literal_value l ∷ []) (bind r (λ s. ask (Reads t s)))) (asks_behind (place_of p) (λ s. ask (Reads t s)) none asks).1
+  -- what is meant, of which this answer makes another
+  abbrev Turns : {A : Type 0} → Value → Doing A → Doing A → Type 0
+  Turns v t t' = is_asking (settled c t) ≡ true → feed (v ∷ []) (settled c t) ≡ settled c t'
 
--- two texts compared, of which the places are asked for first
-module _ (l : Literal) (r : Relation) (p q : Place) (n m : ℕ) where
-  abbrev compared : Spot → Spot → Doing Value
-  compared a b = ask (ComparesTexts r a (Int (pos n)) b (Int (pos m)))
+  -- where the first of two pieces asks, it has the answer
+  on_first : {A B : Type 0} (v : Value) (t t' : Doing A) (k : A → Doing B) → Turns v t t' → is_asking (settled c t) ≡ true → feed (v ∷ []) (settled c (bind t k)) ≡ settled c (bind t' k)
+  on_first v t t' k one first =
+      ap (feed (v ∷ [])) (settled_bind t k) ∙ fed_before v (S t) (λ a. S (k a)) first ∙ ap (λ r. bind r (λ a. S (k a))) (one first) ∙ sym (settled_bind t' k)
 
-  -- the second one behind the first
-  abbrev second : Place → Spot → Doing Value
-  second x a = bind (place_of x) (compared a)
+  -- an operand, and what goes on with its value without a question
+  on_one : {A B : Type 0} (v : Value) (t t' : Doing A) (k : A → Doing B) → ((x : A) → is_asking (k x) ≡ false) → Turns v t t' → Turns v (bind t k) (bind t' k)
+  on_one v t t' k silent one asks =
+      on_first v t t' k one
+      (asks_first (S t) (λ a. S (k a)) (λ x. settled_silent (k x) (silent x)) (ap is_asking (sym (settled_bind t k)) ∙ asks))
 
-  compare_makes : Makes (literal_value l) (place_of p) (place_of (with_first_index l p)) → Makes (literal_value l) (place_of q) (place_of (with_first_index l q)) → (c d : Bool) → is_asking (place_of p) ≡ c → is_asking (place_of q) ≡ d →
-      Makes (literal_value l) (value_of (CompareTexts r p n q m)) (value_of (if c then CompareTexts r (with_first_index l p) n q m else if d then CompareTexts r p n (with_first_index l q) m else Lit l))
-  compare_makes one other true d first e asks = fed_before (literal_value l) (place_of p) (second q) first ∙ ap (λ t. bind t (second q)) (one first)
-  compare_makes one other false true none first asks =
-      fed_behind (literal_value l) (place_of p) (second q) (second (with_first_index l q)) none asks
-      (λ a h. fed_before (literal_value l) (place_of q) (compared a) first ∙ ap (λ t. bind t (compared a)) (other first))
-  compare_makes one other false false none last asks =
-      let a = asks_behind (place_of p) (second q) none asks in
-      let b = asks_behind (place_of q) (compared a.0) last a.2 in
-      ap (λ t. feed (literal_value l ∷ []) (bind t (second q))) a.1 ∙ ap (λ t. feed (literal_value l ∷ []) (bind t (compared a.0))) b.1
+  -- two operands, where the second one's answer makes this of what is done behind the value of the first
+  module _ {A B X : Type 0} (of : X → Doing B) (v : Value) (t t' : Doing A) (k : A → Doing B) (x y : X) where
+    on_two : of x ≡ bind t' k → Turns v t t' → ((a : A) → settled c t ≡ Val a → is_asking (settled c (k a)) ≡ true → feed (v ∷ []) (settled c (k a)) ≡ settled c (of y)) → (b : Bool) → is_asking (settled c t) ≡ b → Turns v (bind t k) (of (if b then x else y))
+    on_two is_x one other true first asks = on_first v t t' k one first ∙ ap S (sym is_x)
+    on_two is_x one other false none asks =
+        let e = settled_bind t k in
+        let a = asks_behind (S t) (λ a. S (k a)) none (ap is_asking (sym e) ∙ asks) in
+        ap (feed (v ∷ [])) e ∙ ap (λ r. feed (v ∷ []) (bind r (λ a. S (k a)))) a.1 ∙ other a.0 a.1 a.2
 
-module _ (l : Literal) where
-  abbrev v : Value
-  v = literal_value l
+  -- what goes on behind a value
+  behind_value : {A B : Type 0} (t : Doing A) (k : A → Doing B) (a : A) → settled c t ≡ Val a → settled c (k a) ≡ settled c (bind t k)
+  behind_value t k a e = sym (settled_bind t k ∙ ap (λ r. bind r (λ a. S (k a))) e)
 
-  mutual
-    one_index : (p : Place) → Makes v (place_of p) (place_of (with_first_index l p))
-    one_index (ModuleVar m k) asks = absurd (cc asks)
-    one_index (Field p t k) asks = on_one v (place_of p) (place_of (with_first_index l p)) (λ s. Val (part_of k s)) (λ s. refl) (one_index p) asks
-    one_index (Index p n t e) asks =
-        let at : Expr → Spot → Doing Spot = λ d s. bind (value_of d) (λ x. element_of n x s) in
-        on_two place_of v (place_of p) (place_of (with_first_index l p)) (at e) (at (with_first l e)) (Index (with_first_index l p) n t e) (Index p n t (with_first l e)) refl refl (one_index p)
-        (λ s. on_one v (value_of e) (value_of (with_first l e)) (λ x. element_of n x s) (λ x. element_silent n x s) (one_read e)) (is_asking (place_of p)) refl asks
+  -- two operands of an operator
+  module _ {A B X : Type 0} (of : X → Doing B) (v : Value) (t t' : Doing A) (k k' : A → Doing B) (x y : X) where
+    on_both : of x ≡ bind t' k → of y ≡ bind t k' → Turns v t t' → ((a : A) → Turns v (k a) (k' a)) → Turns v (bind t k) (of (if is_asking (settled c t) then x else y))
+    on_both is_x is_y one other =
+        on_two of v t t' k x y is_x one (λ a e asks. other a asks ∙ behind_value t k' a e ∙ ap S (sym is_y)) (is_asking (S t)) refl
 
-    one_read : (e : Expr) → Makes v (value_of e) (value_of (with_first l e))
-    one_read (Lit m) asks = absurd (cc asks)
-    one_read (Read t p) asks = read_makes l t p (one_index p) (is_asking (place_of p)) refl asks
-    one_read (Unary op a) asks = on_one v (value_of a) (value_of (with_first l a)) (on_operand op) (unary_silent op) (one_read a) asks
-    one_read (Binary op a b) asks =
-        let second : Expr → Value → Doing Value = λ d x. bind (value_of d) (on_operands op x) in
-        on_two value_of v (value_of a) (value_of (with_first l a)) (second b) (second (with_first l b)) (Binary op (with_first l a) b) (Binary op a (with_first l b)) refl refl (one_read a)
-        (λ x. on_one v (value_of b) (value_of (with_first l b)) (on_operands op x) (binary_silent op x) (one_read b)) (is_asking (value_of a)) refl asks
-    one_read (And a b) asks =
-        let second : Expr → Value → Doing Value = λ d x. if is_true x then value_of d else Val (Flag false) in
-        on_two value_of v (value_of a) (value_of (with_first l a)) (second b) (second (with_first l b)) (And (with_first l a) b) (And a (with_first l b)) refl refl (one_read a)
-        (λ x. if_true v (value_of b) (value_of (with_first l b)) (is_true x) (one_read b)) (is_asking (value_of a)) refl asks
-    one_read (Or a b) asks =
-        let second : Expr → Value → Doing Value = λ d x. if is_true x then Val (Flag true) else value_of d in
-        on_two value_of v (value_of a) (value_of (with_first l a)) (second b) (second (with_first l b)) (Or (with_first l a) b) (Or a (with_first l b)) refl refl (one_read a)
-        (λ x. if_false v (value_of b) (value_of (with_first l b)) (is_true x) (one_read b)) (is_asking (value_of a)) refl asks
-    one_read (Element a) asks = on_one v (value_of a) (value_of (with_first l a)) (λ x. element x) (λ x. binary_silent SetSpan x x) (one_read a) asks
-    one_read (Ord a) asks = on_one v (value_of a) (value_of (with_first l a)) (λ x. Val (ord x)) (λ x. refl) (one_read a) asks
-    one_read (Chr a) asks = on_one v (value_of a) (value_of (with_first l a)) (λ x. chr x) chr_silent (one_read a) asks
-    one_read (CompareTexts r p n q m) asks = compare_makes l r p q n m (one_index p) (one_index q) (is_asking (place_of p)) (is_asking (place_of q)) refl refl asks
-    one_read (Len p n) asks = on_one v (place_of p) (place_of (with_first_index l p)) (λ s. Val (Int (pos n))) (λ s. refl) (one_index p) asks
+  -- a question that stands last is answered by a literal
+  module _ {A X : Type 0} (of : X → Doing Value) (v : Value) (t t' : Doing A) (q : A → Question) (x y : X) where
+    on_last : ((a : A) → settled c (ask (q a)) ≡ ask (q a)) → of x ≡ bind t' (λ a. ask (q a)) → of y ≡ Val v → Turns v t t' → Turns v (bind t (λ a. ask (q a))) (of (if is_asking (settled c t) then x else y))
+    on_last visible is_x is_y one =
+        on_two of v t t' (λ a. ask (q a)) x y is_x one (λ a e asks. ap (feed (v ∷ [])) (visible a) ∙ ap S (sym is_y)) (is_asking (S t)) refl
 
--- One answer after another
+  -- where the first operand of & is TRUE the second one tells, and where that of OR is FALSE
+  if_true : (v : Value) (t t' : Doing Value) (b : Bool) → Turns v t t' → Turns v (if b then t else Val (Flag false)) (if b then t' else Val (Flag false))
+  if_true v t t' true one asks = one asks
+  if_true v t t' false one asks = absurd (cc asks)
 
--- what is meant by x, and what `first` makes of x with one answer and `all` with some; `onto` goes on with what is meant
-module _ {A B X : Type 0} (of : X → Doing A) (first : Literal → X → X) (all : List Literal → X → X) (none : (x : X) → all [] x ≡ x) (more : (l : Literal) (ls : List Literal) (x : X) → all (l ∷ ls) x ≡ all ls (first l x)) (one : (l : Literal) (x : X) → Makes (literal_value l) (of x) (of (first l x))) (onto : Doing A → Doing B) (asks_on : (t : Doing A) → is_asking t ≡ true → is_asking (onto t) ≡ true) (fed_on : (v : Value) (t : Doing A) → is_asking t ≡ true → feed (v ∷ []) (onto t) ≡ onto (feed (v ∷ []) t)) where
-  all_fed : (x : X) (ls : List Literal) → are_asked (map literal_value ls) (of x) ≡ true → feed (map literal_value ls) (onto (of x)) ≡ onto (of (all ls x))
-  all_fed x [] asked = ap (λ y. onto (of y)) (sym (none x))
-  all_fed x (l ∷ ls) asked =
-      let vs = map literal_value ls in
-      let asks = asks_now (literal_value l) vs (of x) asked in
-      let rest : are_asked vs (of (first l x)) ≡ true = ap (are_asked vs) (sym (one l x asks)) ∙ asks_then (literal_value l) vs (of x) asked in
-      first_fed (literal_value l) vs (onto (of x)) (asks_on (of x) asks) ∙ ap (feed vs) (fed_on (literal_value l) (of x) asks ∙ ap onto (one l x asks))
-      ∙ all_fed (first l x) ls rest ∙ ap (λ y. onto (of y)) (sym (more l ls x))
+  if_false : (v : Value) (t t' : Doing Value) (b : Bool) → Turns v t t' → Turns v (if b then Val (Flag true) else t) (if b then Val (Flag true) else t')
+  if_false v t t' true one asks = absurd (cc asks)
+  if_false v t t' false one asks = one asks
+
+  module _ (p : Program) (here : ℕ) where
+    -- an open array parameter has no visible work
+    lengths_silent : (k d n : ℕ) → is_asking (settled c (lengths_from p here k d n)) ≡ false
+    lengths_silent k d zero = refl
+    lengths_silent k d (suc n) =
+        let v = known c (part_of (suc d) (own_place p here k)) in
+        let more = lengths_from p here k (suc d) n in
+        ap is_asking (settled_bind more (λ vs. Val (v ∷ vs))) ∙ none_asks (S more) (λ vs. Val (v ∷ vs)) (lengths_silent k (suc d) n) (λ vs. refl)
+
+    opened_silent : (k j : ℕ) → is_asking (settled c (rows_of p here (Opened k j))) ≡ false
+    opened_silent k j =
+        let s = place_in (known c (part_of 0 (own_place p here k))) in
+        let lengths = lengths_from p here k 0 j in
+        ap is_asking (settled_bind lengths (λ ns. found s ns)) ∙ none_asks (S lengths) (λ ns. found s ns) (lengths_silent k 0 j) (λ ns. refl)
+
+    module _ (l : Literal) where
+      abbrev v : Value
+      v = literal_value l
+
+      abbrev place : Place → Doing Spot
+      place = place_of p here
+
+      abbrev rows : Rows → Doing Found
+      rows = rows_of p here
+
+      abbrev arguments : Arguments → Doing (List Value)
+      arguments = arguments_of p here
+
+      abbrev value : Expr → Doing Value
+      value = value_of p here
+
+      abbrev first_place : Place → Place
+      first_place = with_first_index p here c l
+
+      abbrev first_row : Rows → Rows
+      first_row = with_first_row p here c l
+
+      abbrev first_argument : Arguments → Arguments
+      first_argument = with_first_argument p here c l
+
+      abbrev first_value : Expr → Expr
+      first_value = with_first p here c l
+
+      -- two texts compared, of which the places are asked for first
+      module _ (r : Relation) (a b : Rows) where
+        abbrev compared : Found → Found → Question
+        compared x y = ComparesTexts r x.place (text_length x) y.place (text_length y)
+
+        abbrev second : Rows → Found → Doing Value
+        second z x = bind (rows z) (λ y. ask (compared x y))
+
+        compare_turns : Turns v (rows a) (rows (first_row a)) → Turns v (rows b) (rows (first_row b)) → Turns v (value (CompareTexts r a b)) (value (first_value (CompareTexts r a b)))
+        compare_turns one other =
+            on_two value v (rows a) (rows (first_row a)) (second b) (CompareTexts r (first_row a) b) (if is_asking (S (rows b)) then CompareTexts r a (first_row b) else Lit l) refl one
+            (λ x e asks. by x e asks (is_asking (S (rows b))) refl) (is_asking (S (rows a))) refl
+          where
+            by : (x : Found) → settled c (rows a) ≡ Val x → is_asking (settled c (second b x)) ≡ true → (d : Bool) → is_asking (settled c (rows b)) ≡ d → feed (v ∷ []) (settled c (second b x)) ≡ settled c (value (if d then CompareTexts r a (first_row b) else Lit l))
+            by x e asks true first =
+                on_first v (rows b) (rows (first_row b)) (λ y. ask (compared x y)) other first ∙ behind_value (rows a) (second (first_row b)) x e
+            by x e asks false none =
+                let at = settled_bind (rows b) (λ y. ask (compared x y)) in
+                let y = asks_behind (S (rows b)) (λ y. S (ask (compared x y))) none (ap is_asking (sym at) ∙ asks) in
+                ap (feed (v ∷ [])) at ∙ ap (λ r. feed (v ∷ []) (bind r (λ y. S (ask (compared x y))))) y.1
+
+      mutual
+        one_index : (q : Place) → Turns v (place q) (place (first_place q))
+        one_index (ModuleVar m k) asks = absurd (cc asks)
+        one_index (Local k) asks = absurd (cc asks)
+        one_index (Passed k) asks = absurd (cc asks)
+        one_index (Field q t k) asks = on_one v (place q) (place (first_place q)) (λ s. Val (part_of k s)) (λ s. refl) (one_index q) asks
+        one_index (Index q n t e) asks =
+            let at : Expr → Spot → Doing Spot = λ d s. bind (value d) (λ x. element_of n x s) in
+            on_both place v (place q) (place (first_place q)) (at e) (at (first_value e)) (Index (first_place q) n t e) (Index q n t (first_value e)) refl refl (one_index q)
+            (λ s. on_one v (value e) (value (first_value e)) (λ x. element_of n x s) (λ x. element_silent n x s) (one_read e)) asks
+        one_index (Of r) asks = on_one v (rows r) (rows (first_row r)) (λ x. Val x.place) (λ x. refl) (one_row r) asks
+
+        one_row : (r : Rows) → Turns v (rows r) (rows (first_row r))
+        one_row (Known q ns) asks = on_one v (place q) (place (first_place q)) (λ s. found s (map (λ n. Int (pos n)) ns)) (λ s. refl) (one_index q) asks
+        one_row (Opened k j) asks = absurd (let h = opened_silent k j in cc (h, asks))
+        one_row (Row r t e) asks =
+            let at : Expr → Found → Doing Found = λ d x. bind (value d) (λ i. row_at x i) in
+            on_both rows v (rows r) (rows (first_row r)) (at e) (at (first_value e)) (Row (first_row r) t e) (Row r t (first_value e)) refl refl (one_row r)
+            (λ x. on_one v (value e) (value (first_value e)) (λ i. row_at x i) (λ i. row_silent x i) (one_read e)) asks
+
+        one_argument : (us : Arguments) → Turns v (arguments us) (arguments (first_argument us))
+        one_argument NoMore asks = absurd (cc asks)
+        one_argument (Scalar e more) asks =
+            let after : Arguments → Value → Doing (List Value) = λ us x. bind (arguments us) (λ vs. Val (x ∷ vs)) in
+            on_both arguments v (value e) (value (first_value e)) (after more) (after (first_argument more)) (Scalar (first_value e) more) (Scalar e (first_argument more)) refl refl (one_read e)
+            (λ x. on_one v (arguments more) (arguments (first_argument more)) (λ vs. Val (x ∷ vs)) (λ vs. refl) (one_argument more)) asks
+        one_argument (Whole q more) asks =
+            let after : Arguments → Spot → Doing (List Value) = λ us s. bind (arguments us) (λ vs. Val (PlaceValue s ∷ vs)) in
+            on_both arguments v (place q) (place (first_place q)) (after more) (after (first_argument more)) (Whole (first_place q) more) (Whole q (first_argument more)) refl refl (one_index q)
+            (λ s. on_one v (arguments more) (arguments (first_argument more)) (λ vs. Val (PlaceValue s ∷ vs)) (λ vs. refl) (one_argument more)) asks
+        one_argument (Opening r more) asks =
+            let after : Arguments → Found → Doing (List Value) = λ us x. bind (arguments us) (λ vs. Val (PlaceValue x.place ∷ (x.lengths ++ vs))) in
+            on_both arguments v (rows r) (rows (first_row r)) (after more) (after (first_argument more)) (Opening (first_row r) more) (Opening r (first_argument more)) refl refl (one_row r)
+            (λ x. on_one v (arguments more) (arguments (first_argument more)) (λ vs. Val (PlaceValue x.place ∷ (x.lengths ++ vs))) (λ vs. refl) (one_argument more)) asks
+
+        one_read : (e : Expr) → Turns v (value e) (value (first_value e))
+        one_read (Lit m) asks = absurd (cc asks)
+        one_read (Read t q) asks = on_last value v (place q) (place (first_place q)) (λ s. Reads t s) (Read t (first_place q)) (Lit l) (λ s. refl) refl refl (one_index q) asks
+        one_read (Unary op a) asks = on_one v (value a) (value (first_value a)) (on_operand op) (unary_silent op) (one_read a) asks
+        one_read (Binary op a b) asks =
+            let after : Expr → Value → Doing Value = λ d x. bind (value d) (on_operands op x) in
+            on_both value v (value a) (value (first_value a)) (after b) (after (first_value b)) (Binary op (first_value a) b) (Binary op a (first_value b)) refl refl (one_read a)
+            (λ x. on_one v (value b) (value (first_value b)) (on_operands op x) (binary_silent op x) (one_read b)) asks
+        one_read (And a b) asks =
+            let after : Expr → Value → Doing Value = λ d x. if is_true x then value d else Val (Flag false) in
+            on_both value v (value a) (value (first_value a)) (after b) (after (first_value b)) (And (first_value a) b) (And a (first_value b)) refl refl (one_read a)
+            (λ x. if_true v (value b) (value (first_value b)) (is_true x) (one_read b)) asks
+        one_read (Or a b) asks =
+            let after : Expr → Value → Doing Value = λ d x. if is_true x then Val (Flag true) else value d in
+            on_both value v (value a) (value (first_value a)) (after b) (after (first_value b)) (Or (first_value a) b) (Or a (first_value b)) refl refl (one_read a)
+            (λ x. if_false v (value b) (value (first_value b)) (is_true x) (one_read b)) asks
+        one_read (Element a) asks = on_one v (value a) (value (first_value a)) (λ x. element x) (λ x. binary_silent SetSpan x x) (one_read a) asks
+        one_read (Ord a) asks = on_one v (value a) (value (first_value a)) (λ x. Val (ord x)) (λ x. refl) (one_read a) asks
+        one_read (Chr a) asks = on_one v (value a) (value (first_value a)) (λ x. chr x) chr_silent (one_read a) asks
+        one_read (CompareTexts r a b) asks = compare_turns r a b (one_row a) (one_row b) asks
+        one_read (Len r d) asks = on_one v (rows r) (rows (first_row r)) (λ x. Val (length_at d x)) (λ x. refl) (one_row r) asks
+        one_read (LenBehind r n) asks = on_one v (rows r) (rows (first_row r)) (λ x. Val (Int (pos n))) (λ x. refl) (one_row r) asks
+        one_read (Function m k more) asks =
+            on_last value v (arguments more) (arguments (first_argument more)) (λ vs. Calls (procedure_number p m k) vs) (Function m k (first_argument more)) (Lit l) (λ vs. refl) refl refl (one_argument more) asks
+
+  -- One answer after another
+
+  -- what is meant by x, and what `first` makes of x with one answer and `all` with some; `onto` goes on with what is meant
+  module _ {A B X : Type 0} (of : X → Doing A) (first : Literal → X → X) (all : List Literal → X → X) (none : (x : X) → all [] x ≡ x) (more : (l : Literal) (ls : List Literal) (x : X) → all (l ∷ ls) x ≡ all ls (first l x)) (one : (l : Literal) (x : X) → Turns (literal_value l) (of x) (of (first l x))) (onto : Doing A → Doing B) (asks_on : (t : Doing A) → is_asking t ≡ true → is_asking (onto t) ≡ true) (fed_on : (v : Value) (t : Doing A) → is_asking t ≡ true → feed (v ∷ []) (onto t) ≡ onto (feed (v ∷ []) t)) where
+    all_fed : (x : X) (ls : List Literal) → are_asked (map literal_value ls) (settled c (of x)) ≡ true → feed (map literal_value ls) (onto (settled c (of x))) ≡ onto (settled c (of (all ls x)))
+    all_fed x [] asked = ap (λ y. onto (S (of y))) (sym (none x))
+    all_fed x (l ∷ ls) asked =
+        let vs = map literal_value ls in
+        let t = S (of x) in
+        let asks = asks_now (literal_value l) vs t asked in
+        let rest : are_asked vs (S (of (first l x))) ≡ true = ap (are_asked vs) (sym (one l x asks)) ∙ asks_then (literal_value l) vs t asked in
+        first_fed (literal_value l) vs (onto t) (asks_on t asks) ∙ ap (feed vs) (fed_on (literal_value l) t asks ∙ ap onto (one l x asks))
+        ∙ all_fed (first l x) ls rest ∙ ap (λ y. onto (S (of y))) (sym (more l ls x))
 
 pub designator_rewrites : DesignatorRewrites
-designator_rewrites p ls asked = all_fed place_of with_first_index rewritten_place (λ x. refl) (λ l ls x. refl) one_index (λ t. t) (λ t a. a) (λ v t a. refl) p ls asked
+designator_rewrites p here c q ls asked =
+    all_fed c (place_of p here) (with_first_index p here c) (rewritten_place p here c) (λ x. refl) (λ l ls x. refl) (one_index c p here) (λ t. t) (λ t a. a) (λ v t a. refl) q ls asked
 
 pub expression_rewrites : ExpressionRewrites
-expression_rewrites e ls asked = all_fed value_of with_first rewritten (λ x. refl) (λ l ls x. refl) one_read (λ t. t) (λ t a. a) (λ v t a. refl) e ls asked
+expression_rewrites p here c e ls asked =
+    all_fed c (value_of p here) (with_first p here c) (rewritten p here c) (λ x. refl) (λ l ls x. refl) (one_read c p here) (λ t. t) (λ t a. a) (λ v t a. refl) e ls asked
 
 pub statement_rewrites : StatementRewrites
-statement_rewrites e onward ls asked =
-    all_fed value_of with_first rewritten (λ x. refl) (λ l ls x. refl) one_read (λ t. bind t onward) (λ t a. asks_before t onward a) (λ v t a. fed_before v t onward a) e ls asked
+statement_rewrites p here c e onward ls asked =
+    all_fed c (value_of p here) (with_first p here c) (rewritten p here c) (λ x. refl) (λ l ls x. refl) (one_read c p here) (λ t. bind t onward) (λ t a. asks_before t onward a) (λ v t a. fed_before v t onward a) e ls asked
 
-abbrev stored : Expr → Spot → Doing After
-stored e s = bind (value_of e) (λ v. bind (ask (Stores s v)) (λ _. Val (Into [])))
+-- what an assignment goes on with behind its designator
+abbrev stored : Program → ℕ → Expr → Spot → Doing After
+stored p here e s = bind (value_of p here e) (λ v. bind (ask (Stores s v)) (λ _. Val (Into [])))
 
 pub assigned_rewrites : AssignedRewrites
-assigned_rewrites at t p e ls asked =
-    all_fed place_of with_first_index rewritten_place (λ x. refl) (λ l ls x. refl) one_index (λ r. bind r (stored e)) (λ r a. asks_before r (stored e) a) (λ v r a. fed_before v r (stored e) a) p ls asked
+assigned_rewrites p here c at t q e ls asked =
+    let next : Spot → Doing After = λ s. settled c (stored p here e s) in
+    ap (feed (map literal_value ls)) (settled_bind c (place_of p here q) (stored p here e))
+    ∙ all_fed c (place_of p here) (with_first_index p here c) (rewritten_place p here c) (λ x. refl) (λ l ls x. refl) (one_index c p here) (λ r. bind r next) (λ r a. asks_before r next a) (λ v r a. fed_before v r next a) q ls asked
+    ∙ sym (settled_bind c (place_of p here (rewritten_place p here c ls q)) (stored p here e))
 
 pub assignment_rewrites : AssignmentRewrites
-assignment_rewrites at t p s e ls is asked =
-    ap (λ r. feed (map literal_value ls) (bind r (stored e))) is
-    ∙ statement_rewrites e (λ v. bind (ask (Stores s v)) (λ _. Val (Into []))) ls asked
-    ∙ ap (λ r. bind r (stored (rewritten ls e))) (sym is)
+assignment_rewrites p here c at t q s e ls is asked =
+    let onward : Value → Doing After = λ v. bind (ask (Stores s v)) (λ _. Val (Into [])) in
+    ap (feed (map literal_value ls)) (sym (behind_value c (place_of p here q) (stored p here e) s is) ∙ settled_bind c (value_of p here e) onward)
+    ∙ statement_rewrites p here c e (λ v. settled c (onward v)) ls asked
+    ∙ sym (settled_bind c (value_of p here (rewritten p here c ls e)) onward)
+    ∙ behind_value c (place_of p here q) (stored p here (rewritten p here c ls e)) s is

@@ -1,13 +1,13 @@
 -- How long the code of statements is depends neither on where EXIT leads nor on where an arm goes on, so each jump forward knows where
 -- it goes; and what is around statements is not counted again.
-use Rattle.std.proofs.Common.{◌≡◌, ℕ, suc, ◌+◌, ◌*◌, ◌≤◌, ℤ, List, [], ◌∷◌, ◌++◌, length, refl, ap, ◌∙◌, arith, length-append}
+use Rattle.std.proofs.Common.{◌≡◌, ℕ, suc, ◌+◌, ◌*◌, ◌≤◌, ℤ, Option, Some, None, List, [], ◌∷◌, ◌++◌, length, refl, ap, ◌∙◌, arith, length-append}
 use Rattle.std.proofs.Math.Nat.{le-max_left}
 use Rattle.aos_base.specs.declared.text.Pos.{Pos}
 use Rattle.aos_base.specs.declared.operator.Binary.TheVariants.{Cmp}
 use Rattle.aos_typed.specs.declared.tree.LabelRange.{LabelRange}
 use Rattle.aos_typed.specs.declared.tree.TType.TheVariants.{Integer}
 use Rattle.aos_typed.specs.Meaning.{until}
-use Rattle.aos_typed.specs.Program.{Read, Stat, Assign, Copy, PutText, If, Case, While, Repeat, Loop, Exit, For, Block, Assert, Halt, Change, New, Out, Stats, Nothing, Then, Arms, Otherwise, Arm, Cases, NoElse, Else, OfLabels, Program}
+use Rattle.aos_typed.specs.Program.{Read, Stat, Assign, Copy, PutText, If, Case, While, Repeat, Loop, Exit, For, Block, Assert, Halt, Change, Perform, Return, New, Out, Stats, Nothing, Then, Arms, Otherwise, Arm, Cases, NoElse, Else, OfLabels, Procedure, Program}
 use Rattle.aos_code.specs.declared.instr.Instr.{Instr}
 use Rattle.aos_code.specs.declared.instr.Instr.TheVariants as i
 use Rattle.aos_code.specs.declared.instr.Kind.TheVariants.{N}
@@ -32,88 +32,91 @@ round_length there v step d b n at =
     let tail = b ++ (n ++ i.Jump at ∷ []) in
     omega (arith, length-append v test, length-append c (i.JumpFalse (at + 1 + length c + 1 + length b + length n + 1) ∷ tail), length-append b (n ++ i.Jump at ∷ []), length-append n (i.Jump at ∷ []))
 
-module _ (program : Program) where
+module _ (program : Program) (own : Option Procedure) where
   mutual
-    pub stat_length : (s : Stat) (at x y d : ℕ) → length (stat_code program s at x d) ≡ length (stat_code program s at y d)
+    pub stat_length : (s : Stat) (at x y d : ℕ) → length (stat_code program own s at x d) ≡ length (stat_code program own s at y d)
     stat_length (Assign here t p e) at x y d = refl
     stat_length (Copy here t p q) at x y d = refl
-    stat_length (PutText here strict p n q m) at x y d = refl
+    stat_length (PutText here strict a b) at x y d = refl
     stat_length (If here arms) at x y d =
-        ap (λ n. suc n) (arms_length arms (at + 1) (at + 1 + length (arms_code program arms (at + 1) 0 x d)) (at + 1 + length (arms_code program arms (at + 1) 0 y d)) x y d)
+        ap (λ n. suc n) (arms_length arms (at + 1) (at + 1 + length (arms_code program own arms (at + 1) 0 x d)) (at + 1 + length (arms_code program own arms (at + 1) 0 y d)) x y d)
     stat_length (Case here e cases) at x y d =
-        let c = value_code program e (at + 1) in
+        let c = value_code program own e (at + 1) in
         let first = at + 1 + length c + 1 in
-        let end : ℕ → ℕ = λ z. first + length (cases_code program cases first 0 z d) in
-        omega (arith, cases_length cases first (end x) (end y) x y d, length-append c (i.Keep d N ∷ cases_code program cases first (end x) x d), length-append c (i.Keep d N ∷ cases_code program cases first (end y) y d))
+        let end : ℕ → ℕ = λ z. first + length (cases_code program own cases first 0 z d) in
+        omega (arith, cases_length cases first (end x) (end y) x y d, length-append c (i.Keep d N ∷ cases_code program own cases first (end x) x d), length-append c (i.Keep d N ∷ cases_code program own cases first (end y) y d))
     stat_length (While here e body) at x y d =
-        let c = value_code program e (at + 1) in
+        let c = value_code program own e (at + 1) in
         let first = at + 1 + length c + 1 in
-        let b : ℕ → List Instr = λ z. stats_code program body first z d in
+        let b : ℕ → List Instr = λ z. stats_code program own body first z d in
         let to : ℕ → ℕ = λ z. first + length (b z) + 1 in
         omega (arith, stats_length body first x y d, length-append c (i.JumpFalse (to x) ∷ (b x ++ i.Jump at ∷ [])), length-append c (i.JumpFalse (to y) ∷ (b y ++ i.Jump at ∷ [])), length-append (b x) (i.Jump at ∷ []), length-append (b y) (i.Jump at ∷ []))
     stat_length (Repeat here body e) at x y d =
-        let b : ℕ → List Instr = λ z. stats_code program body (at + 1) z d in
-        let c : ℕ → List Instr = λ z. value_code program e (at + 1 + length (b z)) in
+        let b : ℕ → List Instr = λ z. stats_code program own body (at + 1) z d in
+        let c : ℕ → List Instr = λ z. value_code program own e (at + 1 + length (b z)) in
         let h = stats_length body (at + 1) x y d in
-        omega (arith, h, ap (λ n. length (value_code program e (at + 1 + n))) h, length-append (b x) (c x ++ i.JumpFalse at ∷ []), length-append (b y) (c y ++ i.JumpFalse at ∷ []), length-append (c x) (i.JumpFalse at ∷ []), length-append (c y) (i.JumpFalse at ∷ []))
+        omega (arith, h, ap (λ n. length (value_code program own e (at + 1 + n))) h, length-append (b x) (c x ++ i.JumpFalse at ∷ []), length-append (b y) (c y ++ i.JumpFalse at ∷ []), length-append (c x) (i.JumpFalse at ∷ []), length-append (c y) (i.JumpFalse at ∷ []))
     stat_length (Loop here body) at x y d = refl
     stat_length (Exit here) at x y d = refl
     stat_length (For here w p from to step body) at x y d =
-        let head = for_head program here w p from to at d in
+        let head = for_head program own here w p from to at d in
         let t = at + length head in
-        let first = body_place program w p t in
-        let v = value_code program (Read (Integer w) p) (t + 1) in
-        let b : ℕ → List Instr = λ z. stats_code program body first z (suc d) in
-        let n : ℕ → List Instr = λ z. step_code program here w p step (first + length (b z)) in
+        let first = body_place program own w p t in
+        let v = value_code program own (Read (Integer w) p) (t + 1) in
+        let b : ℕ → List Instr = λ z. stats_code program own body first z (suc d) in
+        let n : ℕ → List Instr = λ z. step_code program own here w p step (first + length (b z)) in
         let h = stats_length body first x y (suc d) in
-        let same = ap (λ m. length (step_code program here w p step (first + m))) h in
-        let whole : ℕ → _ = λ z. length-append head (rounds_with program here w p step (b z) t d) in
+        let same = ap (λ m. length (step_code program own here w p step (first + m))) h in
+        let whole : ℕ → _ = λ z. length-append head (rounds_with program own here w p step (b z) t d) in
         omega (arith, h, same, whole x, whole y, round_length here v step d (b x) (n x) t, round_length here v step d (b y) (n y) t)
     stat_length (Block here body) at x y d = ap (λ n. suc n) (stats_length body (at + 1) x y d)
     stat_length (Assert here e code) at x y d = refl
     stat_length (Halt here code) at x y d = refl
     stat_length (Change here c p e) at x y d = refl
+    stat_length (Perform here m k more) at x y d = refl
+    stat_length (Return here None) at x y d = refl
+    stat_length (Return here (Some e)) at x y d = refl
     stat_length (New here p t) at x y d = refl
     stat_length (Out here call) at x y d = refl
 
-    pub stats_length : (ss : Stats) (at x y d : ℕ) → length (stats_code program ss at x d) ≡ length (stats_code program ss at y d)
+    pub stats_length : (ss : Stats) (at x y d : ℕ) → length (stats_code program own ss at x d) ≡ length (stats_code program own ss at y d)
     stats_length Nothing at x y d = refl
     stats_length (Then s ss) at x y d =
-        let a = stat_code program s at x d in
-        let b = stat_code program s at y d in
+        let a = stat_code program own s at x d in
+        let b = stat_code program own s at y d in
         let h = stat_length s at x y d in
-        let more = stats_length ss (at + length a) x y d ∙ ap (λ n. length (stats_code program ss (at + n) y d)) h in
-        omega (arith, h, more, length-append a (stats_code program ss (at + length a) x d), length-append b (stats_code program ss (at + length b) y d))
+        let more = stats_length ss (at + length a) x y d ∙ ap (λ n. length (stats_code program own ss (at + n) y d)) h in
+        omega (arith, h, more, length-append a (stats_code program own ss (at + length a) x d), length-append b (stats_code program own ss (at + length b) y d))
 
-    pub arms_length : (arms : Arms) (at end other x y d : ℕ) → length (arms_code program arms at end x d) ≡ length (arms_code program arms at other y d)
+    pub arms_length : (arms : Arms) (at end other x y d : ℕ) → length (arms_code program own arms at end x d) ≡ length (arms_code program own arms at other y d)
     arms_length (Otherwise ss) at end other x y d = stats_length ss at x y d
     arms_length (Arm e ss arms) at end other x y d =
-        let c = value_code program e at in
+        let c = value_code program own e at in
         let first = at + length c + 1 in
-        let b : ℕ → List Instr = λ z. stats_code program ss first z d in
+        let b : ℕ → List Instr = λ z. stats_code program own ss first z d in
         let next : ℕ → ℕ = λ z. first + length (b z) + 1 in
         let h = stats_length ss first x y d in
-        let more = arms_length arms (next x) end other x y d ∙ ap (λ n. length (arms_code program arms (first + n + 1) other y d)) h in
-        omega (arith, h, more, arm_length c (b x) (arms_code program arms (next x) end x d) (next x) end, arm_length c (b y) (arms_code program arms (next y) other y d) (next y) other)
+        let more = arms_length arms (next x) end other x y d ∙ ap (λ n. length (arms_code program own arms (first + n + 1) other y d)) h in
+        omega (arith, h, more, arm_length c (b x) (arms_code program own arms (next x) end x d) (next x) end, arm_length c (b y) (arms_code program own arms (next y) other y d) (next y) other)
 
-    pub cases_length : (cases : Cases) (at end other x y d : ℕ) → length (cases_code program cases at end x d) ≡ length (cases_code program cases at other y d)
+    pub cases_length : (cases : Cases) (at end other x y d : ℕ) → length (cases_code program own cases at end x d) ≡ length (cases_code program own cases at other y d)
     cases_length NoElse at end other x y d = refl
     cases_length (Else ss) at end other x y d = stats_length ss at x y d
     cases_length (OfLabels rs ss cases) at end other x y d =
         let hit = at + 9 * length rs + 1 in
         let c = labels_code rs d at hit in
-        let b : ℕ → List Instr = λ z. stats_code program ss hit z d in
+        let b : ℕ → List Instr = λ z. stats_code program own ss hit z d in
         let next : ℕ → ℕ = λ z. hit + length (b z) + 1 in
         let h = stats_length ss hit x y d in
-        let more = cases_length cases (next x) end other x y d ∙ ap (λ n. length (cases_code program cases (hit + n + 1) other y d)) h in
-        omega (arith, h, more, case_length c (b x) (cases_code program cases (next x) end x d) (next x) end, case_length c (b y) (cases_code program cases (next y) other y d) (next y) other)
+        let more = cases_length cases (next x) end other x y d ∙ ap (λ n. length (cases_code program own cases (hit + n + 1) other y d)) h in
+        omega (arith, h, more, case_length c (b x) (cases_code program own cases (next x) end x d) (next x) end, case_length c (b y) (cases_code program own cases (next y) other y d) (next y) other)
 
 -- statements keep nothing under a number that something around them has
 mutual
   pub stat_above : (s : Stat) (d : ℕ) → d ≤ stat_level s d
   stat_above (Assign here t p e) d = omega arith
   stat_above (Copy here t p q) d = omega arith
-  stat_above (PutText here strict p n q m) d = omega arith
+  stat_above (PutText here strict a b) d = omega arith
   stat_above (If here arms) d = arms_above arms d
   stat_above (Case here e cases) d = omega (arith, le-max_left (suc d) (cases_level cases d))
   stat_above (While here e body) d = stats_above body d
@@ -125,6 +128,8 @@ mutual
   stat_above (Assert here e code) d = omega arith
   stat_above (Halt here code) d = omega arith
   stat_above (Change here c p e) d = omega arith
+  stat_above (Perform here m k more) d = omega arith
+  stat_above (Return here e) d = omega arith
   stat_above (New here p t) d = omega arith
   stat_above (Out here call) d = omega arith
 

@@ -241,5 +241,5 @@ module _ (shapes : List ProcShape) (own here : ℕ) (cells : List Cell) (code : 
   pub run_at_start : run shapes own here code p k' (v ∷ s') ≡ Asks (Starts v) (λ x. run shapes own here code (p + 1) k' s')
   run_at_start =
       ap (λ l. runs shapes own here code l 0 p k' (v ∷ s')) asking.there
-      ∙ ap (λ a. on_run a (runs shapes own here code asking.rest) p k') starts_so
+      ∙ ap (λ a. on_run shapes a (runs shapes own here code asking.rest) p k') starts_so
       ∙ ap (λ l. Asks (Starts v) (λ x. runs shapes own here code l 0 (p + 1) k' s')) (sym (drop_next p code asking.instruction asking.rest asking.there))

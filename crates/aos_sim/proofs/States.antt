@@ -1,36 +1,40 @@
 -- The store and the memory that shows it, and an activity's frames on both sides.
-use Rattle.std.proofs.Common.{◌≡◌, ℕ, pos, List, [], ◌∷◌, ◌++◌, length, map, Option, Some, None, refl, sym, subst}
-use Rattle.std.specs.Prelude.{slice_get}
+use Rattle.std.proofs.Common.{◌≡◌, Bool, true, false, ℕ, suc, pos, ◌<◌, ◌^◌, List, [], ◌∷◌, ◌++◌, length, map, Option, Some, None, if◌then◌else◌, refl, sym, ap, ◌∙◌, subst, arith}
+use Rattle.std.specs.Prelude.{slice_get, option_map, nat_eq}
+use Rattle.std.proofs.lemmas.Bool.{eq-eqb}
+use Rattle.std.proofs.lemmas.List.{length-map}
 use Rattle.aos_base.specs.declared.text.Pos.{Pos}
-use Rattle.aos_base.specs.Rooted.{Made}
-use Rattle.aos_base.specs.Question.{feed}
-use Rattle.aos_types.specs.Shape.{Shape}
+use Rattle.aos_base.specs.declared.place.Root.TheVariants.{Frame as FrameRoot, Module as ModuleRoot, Object as ObjectRoot}
+use Rattle.aos_base.specs.Rooted.{Made, from_last, by_number}
+use Rattle.aos_base.specs.Question.{Asks, Ends, feed}
+use Rattle.aos_types.specs.Shape.{Shape, Nothing, size}
 use Rattle.aos_types.specs.Content.{Content}
 use Rattle.aos_types.specs.World.{World, Grows, world}
-use Rattle.aos_typed.specs.Program.{Stats, Module, Program}
-use Rattle.aos_typed.specs.Sort.{Sort}
+use Rattle.aos_typed.specs.declared.tree.TType.{TType}
+use Rattle.aos_typed.specs.Program.{Stats, Procedure, Module, Program}
+use Rattle.aos_typed.specs.Numbers.{id_of}
+use Rattle.aos_typed.specs.Routines.{Routine, result_of, gives, routines}
+use Rattle.aos_typed.specs.Sort.{Sort, Plain}
 use Rattle.aos_typed.specs.Value.{Value}
 use Rattle.aos_typed.specs.Typing.{Is, IsPlain}
 use Rattle.aos_typed.specs.Store.{Store}
-use Rattle.aos_typed.specs.Meaning.{Item, After, Into, Exits, items_of, item_of}
+use Rattle.aos_typed.specs.Meaning.{Item, After, Into, Returns, Exits, items_of, item_of}
 use Rattle.aos_typed.specs.Source as S
 use Rattle.aos_typed.specs.Source.{first_value}
 use Rattle.aos_code.specs.declared.instr.Cell.{Cell}
 use Rattle.aos_code.specs.declared.instr.Cell.TheVariants.{Num}
-use Rattle.aos_code.specs.declared.image.ProcShape.{ProcShape}
 use Rattle.aos_code.specs.declared.image.Image.{Image}
-use Rattle.aos_code.specs.Numbered.{numbered}
 use Rattle.aos_code.specs.Memory.{Memory}
 use Rattle.aos_code.specs.Silent.{Keeps, Stack}
 use Rattle.aos_code.specs.Machine as I
-use Rattle.aos_code.specs.Machine.{code_of, home_of}
+use Rattle.aos_code.specs.Machine.{code_of}
 use Rattle.aos_places.specs.Shows.{AllShown, FramesShown}
-use Rattle.aos_places.proofs.Grow.{objects_grow}
+use Rattle.aos_places.proofs.Grow.{grows_same, grows_twice, frame_grows, objects_grow}
 use Rattle.aos_places.proofs.Makes.{frames_shown_grow}
 use Rattle.aos_sim.specs.Cells.{cell_of}
 use Rattle.aos_sim.proofs.Kept.{values_kept}
-use Rattle.aos_sim.proofs.Runs.{Run, run}
-use Rattle.aos_sim.proofs.Does.{scheme, does_grows}
+use Rattle.aos_sim.proofs.Runs.{Run, run, calm}
+use Rattle.aos_sim.proofs.Does.{scheme, HasTypes, IsFrameOf, IsAnswer, IsResult, AreReached, Does, calmly_grows, calm_does}
 use Rattle.aos_sim.proofs.Carries.{GoesOn, Remains, Behind}
 use Rattle.aos_sim.proofs.First.{zero_cell, first_is, first_same}
 
@@ -52,50 +56,97 @@ abbrev pub SameVariables : Program → List Made → List S.Frame → List I.Fra
 SameVariables program made fs gs =
     FramesShown (Is program.types) cell_of (scheme program) made (shapes_of fs) (map (λ f. f.variables) fs) (map (λ g. g.cells) gs)
 
-module _ (program : Program) (image : Image) where
-  -- a procedure gives no result
-  abbrev pub GivesNothing : ℕ → Type 0
-  GivesNothing p = (x : ProcShape) × (numbered image.shapes.items p ≡ Some x) × (x.result ≡ None)
+-- a frame above so many others knows its shape
+pub top_shape : (program : Program) (made : List Made) (f : S.Frame) (fs : List S.Frame) → (world_of program made (shapes_of (f ∷ fs))).shape (FrameRoot (length fs)) ≡ Some f.shape
+top_shape program made f fs =
+    ap (λ b. if b then Some f.shape else from_last (length fs) (shapes_of fs)) (eq-eqb (length fs) (length (shapes_of fs)) (sym (length-map fs (λ (x : S.Frame). x.shape))))
 
-  -- a frame is of the module and the object of the other side's, and has begun the same statement
-  pub record SamePlace (home object : ℕ) (at : Option Pos) (procedure of : ℕ) (begun : Option Pos) : Type 0 where
-    pub home_is : home_of image procedure ≡ home
+-- the frame of a body has no variables
+pub body_frame : (program : Program) (s : Shape Sort) → size s < 2 ^ 32 → IsFrameOf program None s
+body_frame program s few =
+    record { parameters = λ k a e. absurd (cc); locals = λ k t e. let no = e.2 in absurd (cc); few = few }
+
+-- with the answer of a call the code of a function's caller goes on with it on the stack
+abbrev pub with_answer : World Sort → Option TType → Value → Stack → Stack
+with_answer w None v s = s
+with_answer w (Some t) v s = cell_of w v ∷ s
+
+module _ (program : Program) (image : Image) where
+  -- a frame is one of the routine with its procedure's number, of the object of the other side's, has begun the same statement, and
+  -- counts alike
+  pub record SamePlace (procedure home object : ℕ) (at : Option Pos) (function : Bool) (shape : Shape Sort) (counted of : ℕ) (begun : Option Pos) (many : ℕ) : Type 0 where
+    pub routine : Routine
+    pub there : by_number procedure (routines program) ≡ Some routine
+    pub home_is : routine.home ≡ home
     pub object_is : of ≡ object
     pub at_is : begun ≡ at
-    pub gives : GivesNothing procedure
+    pub gives_is : function ≡ gives routine.own
+    pub counted_is : many ≡ counted
+    pub frame : IsFrameOf program routine.own shape
+
+  abbrev pub Placed : S.Frame → I.Frame → Type 0
+  Placed f g = SamePlace g.procedure f.home f.object f.at f.gives f.shape f.counted g.object g.at g.counted
+
+  -- behind an answer the code does what is left of the first item
+  abbrev pub Went : Option Procedure → (number here : ℕ) → World Sort → Option (List Value) → List Item → ℕ → Keeps → Stack → Type 0
+  Went own number here w None is next k s = ⊥
+  Went own number here w (Some t) [] next k s = ⊥
+  Went own number here w (Some t) (i ∷ is) next k s =
+      let code = code_of image number in
+      Does program here (Behind program own image.shapes.items number here code is) w (run image.shapes.items number here code next k s) (feed t (item_of program here i))
 
   -- a frame above so many others, in a world; what remains of its items is what its code goes on with
   pub record SameFrame (w : World Sort) (here : ℕ) (f : S.Frame) (g : I.Frame) : Type 0 where
-    pub place : SamePlace f.home f.object f.at g.procedure g.object g.at
-    pub remains : Remains program image.shapes.items g.procedure here (code_of image g.procedure) w f.answers f.items g.next g.keeps g.stack
+    pub place : Placed f g
+    pub remains : Remains program place.routine.own image.shapes.items g.procedure here (code_of image g.procedure) f.variables g.cells w f.answers f.items g.next g.keeps g.stack
 
-  -- frames whose topmost waits for the end of the one above, which gives no result
-  abbrev pub Waiting : List Made → List S.Frame → List I.Frame → Type 0
-  Waiting made [] [] = Unit {0}
-  Waiting made [] (g ∷ gs) = ⊥
-  Waiting made (f ∷ fs) [] = ⊥
-  Waiting made (f ∷ fs) (g ∷ gs) =
-      SameFrame (world_of program made (shapes_of (f ∷ fs))) (length gs) (S.answered S.done f) g × Waiting made fs gs
+  -- one that has had an answer
+  pub record WentFrame (w : World Sort) (here : ℕ) (f : S.Frame) (g : I.Frame) : Type 0 where
+    pub place : Placed f g
+    pub went : Went place.routine.own g.procedure here w f.answers f.items g.next g.keeps g.stack
+
+  -- one that waits for the end of the frame above, which gives such a result: it goes on with each
+  pub record WaitingFrame (w : World Sort) (result : Option TType) (here : ℕ) (f : S.Frame) (g : I.Frame) : Type 0 where
+    pub place : Placed f g
+    pub goes : (w' : World Sort) → Grows w w' → (v : Value) → IsAnswer program w' result v → Went place.routine.own g.procedure here w' (S.told v f.answers) f.items g.next g.keeps (with_answer w' result v g.stack)
+
+  -- frames whose topmost waits for the end of the one above, and each other one for the end of the next
+  abbrev pub Waiting : List Made → Option TType → List S.Frame → List I.Frame → Type 0
+  Waiting made result [] [] = Unit {0}
+  Waiting made result [] (g ∷ gs) = ⊥
+  Waiting made result (f ∷ fs) [] = ⊥
+  Waiting made result (f ∷ fs) (g ∷ gs) =
+      (h : WaitingFrame (world_of program made (shapes_of (f ∷ fs))) result (length fs) f g) × Waiting made (result_of h.place.routine.own) fs gs
 
   -- the frames of an activity
   abbrev pub SameFrames : List Made → List S.Frame → List I.Frame → Type 0
   SameFrames made [] [] = Unit {0}
   SameFrames made [] (g ∷ gs) = ⊥
   SameFrames made (f ∷ fs) [] = ⊥
-  SameFrames made (f ∷ fs) (g ∷ gs) = SameFrame (world_of program made (shapes_of (f ∷ fs))) (length gs) f g × Waiting made fs gs
+  SameFrames made (f ∷ fs) (g ∷ gs) =
+      (h : SameFrame (world_of program made (shapes_of (f ∷ fs))) (length fs) f g) × Waiting made (result_of h.place.routine.own) fs gs
 
-  -- a procedure is the body of these statements, in this module
-  pub record IsBody (p home : ℕ) (ss : Stats) : Type 0 where
-    pub home_is : home_of image p ≡ home
-    pub gives : GivesNothing p
-    pub goes : (here : ℕ) → GoesOn program image.shapes.items p here (code_of image p) (items_of ss) (run image.shapes.items p here (code_of image p) 0 (λ c. Num (pos 0)) [])
+  -- those whose topmost has had an answer
+  abbrev pub WentFrames : List Made → List S.Frame → List I.Frame → Type 0
+  WentFrames made [] [] = Unit {0}
+  WentFrames made [] (g ∷ gs) = ⊥
+  WentFrames made (f ∷ fs) [] = ⊥
+  WentFrames made (f ∷ fs) (g ∷ gs) =
+      (h : WentFrame (world_of program made (shapes_of (f ∷ fs))) (length fs) f g) × Waiting made (result_of h.place.routine.own) fs gs
+
+  -- the code of each routine carries out its statements
+  abbrev pub RoutinesRun : Type 0
+  RoutinesRun =
+      (p : ℕ) (r : Routine) → by_number p (routines program) ≡ Some r → (here : ℕ) → GoesOn program r.own image.shapes.items p here (code_of image p) (items_of r.body) (run image.shapes.items p here (code_of image p) 0 (λ c. Num (pos 0)) [])
 
   -- the bodies of modules that are to follow, and the procedures that they are
   abbrev pub Follows : List ℕ → List ℕ → Type 0
   Follows [] [] = Unit {0}
   Follows [] (p ∷ ps) = ⊥
   Follows (m ∷ ms) [] = ⊥
-  Follows (m ∷ ms) (p ∷ ps) = ((x : Module) × (slice_get program.modules m ≡ Some x) × IsBody p m x.body) × Follows ms ps
+  Follows (m ∷ ms) (p ∷ ps) =
+      ((x : Module) × (slice_get program.modules m ≡ Some x) × (by_number p (routines program) ≡ Some (record { home = m; own = None; body = x.body })))
+      × Follows ms ps
 
   -- all of an activity, where these objects were made
   pub record Same (made : List Made) (x : S.Frames) (y : I.Frames) : Type 0 where
@@ -108,82 +159,171 @@ module _ (program : Program) (image : Image) where
     pub stores : SameStore program s mem
     pub same : Same s.made x y
 
-  -- the end of a frame
-  pub ends_same : (made : List Made) (ms : List ℕ) (fs : List S.Frame) (gs : List I.Frame) → Waiting made fs gs → SameFrames made (S.with_result ms S.done fs) gs
-  ends_same made ms [] [] h = tt
-  ends_same made ms [] (g ∷ gs) h = absurd h
-  ends_same made ms (f ∷ fs) [] h = absurd h
-  ends_same made ms (f ∷ fs) (g ∷ gs) h = h
+  -- as many frames wait on both sides
+  pub waiting_length : (made : List Made) (result : Option TType) (fs : List S.Frame) (gs : List I.Frame) → Waiting made result fs gs → length fs ≡ length gs
+  waiting_length made result [] [] h = refl
+  waiting_length made result [] (g ∷ gs) h = absurd h
+  waiting_length made result (f ∷ fs) [] h = absurd h
+  waiting_length made result (f ∷ fs) (g ∷ gs) h =
+      ap (λ n. suc n) (waiting_length made (result_of h.0.place.routine.own) fs gs h.1)
 
-  pub ends_shown : (made : List Made) (ms : List ℕ) (fs : List S.Frame) (gs : List I.Frame) → SameVariables program made fs gs → SameVariables program made (S.with_result ms S.done fs) gs
-  ends_shown made ms [] gs h = h
-  ends_shown made ms (f ∷ fs) gs h = h
+  -- The end of a frame, which may give a result.
+
+  -- a result is the same in the world below
+  result_below : (made : List Made) (s : Shape Sort) (shapes : List (Shape Sort)) (t : TType) (v : Value) → Is program.types (world_of program made (s ∷ shapes)) (Plain (id_of t)) v → Is program.types (world_of program made shapes) (Plain (id_of t)) v × (cell_of (world_of program made (s ∷ shapes)) v ≡ cell_of (world_of program made shapes) v)
+  result_below made s shapes t v h =
+      let above = world_of program made (s ∷ shapes) in
+      let below = world_of program made shapes in
+      let is = (values_kept program.types).plain above below (λ o m e. e) (Plain (id_of t)) v tt h in
+      (is, sym ((values_kept program.types).cells below above (frame_grows (scheme program) made s shapes) (Plain (id_of t)) v is))
+
+  abbrev pub answer_of : Option Value → Value
+  answer_of None = S.done
+  answer_of (Some v) = v
+
+  pub ends_went : (made : List Made) (ms ps : List ℕ) (result : Option TType) (r : Option Value) (s : Shape Sort) (fs : List S.Frame) (gs : List I.Frame) → Waiting made result fs gs → IsResult program (world_of program made (s ∷ shapes_of fs)) result r → WentFrames made (S.with_result ms (answer_of r) fs) (I.with_result ps (option_map (cell_of (world_of program made (s ∷ shapes_of fs))) r) gs)
+  ends_went made ms ps None None s [] [] h is = tt
+  ends_went made ms ps (Some t) (Some v) s [] [] h is = tt
+  ends_went made ms ps None (Some v) s fs gs h is = absurd is
+  ends_went made ms ps (Some t) None s fs gs h is = absurd is
+  ends_went made ms ps result r s [] (g ∷ gs) h is = absurd h
+  ends_went made ms ps result r s (f ∷ fs) [] h is = absurd h
+  ends_went made ms ps None None s (f ∷ fs) (g ∷ gs) h is =
+      let w = world_of program made (shapes_of (f ∷ fs)) in
+      (record { place = h.0.place; went = h.0.goes w (grows_same w) S.done tt }, h.1)
+  ends_went made ms ps (Some t) (Some v) s (f ∷ fs) (g ∷ gs) h is =
+      let w = world_of program made (shapes_of (f ∷ fs)) in
+      let below = result_below made s (shapes_of (f ∷ fs)) t v is in
+      subst (λ c. WentFrames made (S.answered v f ∷ fs) (record g { stack = c ∷ g.stack } ∷ gs)) (sym below.1)
+      (record { place = h.0.place; went = h.0.goes w (grows_same w) v below.0 }, h.1)
+
+  pub ends_shown : (made : List Made) (ms ps : List ℕ) (v : Value) (c : Option Cell) (fs : List S.Frame) (gs : List I.Frame) → SameVariables program made fs gs → SameVariables program made (S.with_result ms v fs) (I.with_result ps c gs)
+  ends_shown made ms ps v None [] gs h = h
+  ends_shown made ms ps v None (f ∷ fs) gs h = h
+  ends_shown made ms ps v (Some c) [] [] h = h
+  ends_shown made ms ps v (Some c) [] (g ∷ gs) h = h
+  ends_shown made ms ps v (Some c) (f ∷ fs) [] h = h
+  ends_shown made ms ps v (Some c) (f ∷ fs) (g ∷ gs) h = h
+
+  -- Behind an answer.
+
+  -- what stands below a root of frames that have so few scalars has cells with numbers of 32 bits
+  module _ (typed : HasTypes program) where
+    frame_few : (z : Shape Sort) (b : Bool) (d : ℕ) (s : Shape Sort) → size z < 2 ^ 32 → (shapes : List (Shape Sort)) → (from_last d shapes ≡ Some s → size s < 2 ^ 32) → (if b then Some z else from_last d shapes) ≡ Some s → size s < 2 ^ 32
+    frame_few z true d s few shapes below e = let q : z ≡ s = cc in subst (λ x. size x < 2 ^ 32) q few
+    frame_few z false d s few shapes below e = below e
+
+    waiting_few : (made : List Made) (result : Option TType) (fs : List S.Frame) (gs : List I.Frame) → Waiting made result fs gs → (d : ℕ) (s : Shape Sort) → from_last d (shapes_of fs) ≡ Some s → size s < 2 ^ 32
+    waiting_few made result [] gs h d s e = absurd (cc)
+    waiting_few made result (f ∷ fs) [] h d s e = absurd h
+    waiting_few made result (f ∷ fs) (g ∷ gs) h d s e =
+        frame_few f.shape (nat_eq d (length (shapes_of fs))) d s h.0.place.frame.few (shapes_of fs) (λ e'. waiting_few made (result_of h.0.place.routine.own) fs gs h.1 d s e') e
+
+    pub all_reached : (made : List Made) (z : Shape Sort) (result : Option TType) (fs : List S.Frame) (gs : List I.Frame) → size z < 2 ^ 32 → Waiting made result fs gs → AreReached (world_of program made (z ∷ shapes_of fs))
+    all_reached made z result fs gs few h (FrameRoot d) s e =
+        frame_few z (nat_eq d (length (shapes_of fs))) d s few (shapes_of fs) (waiting_few made result fs gs h d s) e
+    all_reached made z result fs gs few h (ModuleRoot m) s e = typed.few m s e
+    all_reached made z result fs gs few h (ObjectRoot o) s e = by (by_number o made) e
+      where
+        by : (m : Option Made) → option_map (scheme program).made m ≡ Some s → size s < 2 ^ 32
+        by None e' = absurd (cc)
+        by (Some m) e' = let q : Nothing ≡ s = cc in subst (λ x. size x < 2 ^ 32) q (omega arith)
+
+    -- with an answer the topmost frame's silent questions are answered
+    pub went_same : (made : List Made) (fs : List S.Frame) (gs : List I.Frame) → WentFrames made fs gs → SameVariables program made fs gs → SameFrames made fs gs
+    went_same made [] [] h shown = tt
+    went_same made [] (g ∷ gs) h shown = absurd h
+    went_same made (f ∷ fs) [] h shown = absurd h
+    went_same made (f ∷ fs) (g ∷ gs) h shown =
+        let place = h.0.place in
+        let reached = all_reached made f.shape (result_of place.routine.own) fs gs place.frame.few h.1 in
+        (record { place = place; remains = calmed place.routine.own f.answers f.items h.0.went reached }, h.1)
+      where
+        calmed : (own : Option Procedure) (answers : Option (List Value)) (items : List Item) → Went own g.procedure (length fs) (world_of program made (shapes_of (f ∷ fs))) answers items g.next g.keeps g.stack → AreReached (world_of program made (shapes_of (f ∷ fs))) → Remains program own image.shapes.items g.procedure (length fs) (code_of image g.procedure) f.variables g.cells (world_of program made (shapes_of (f ∷ fs))) answers items g.next g.keeps g.stack
+        calmed own None items h' reached = absurd h'
+        calmed own (Some t) [] h' reached = absurd h'
+        calmed own (Some t) (i ∷ is) h' reached =
+            let code = code_of image g.procedure in
+            calm_does program (length fs) (world_of program made (shapes_of (f ∷ fs))) f.shape f.variables g.cells (top_shape program made f fs) shown.0 reached (Behind program own image.shapes.items g.procedure (length fs) code is) (run image.shapes.items g.procedure (length fs) code g.next g.keeps g.stack) (feed t (item_of program (length fs) i)) h'
 
   -- The next body.
 
-  pub body_same : (made : List Made) (o p home : ℕ) (ss : Stats) → IsBody p home ss → SameFrames made (S.body_frame home o ss ∷ []) (I.body_frame o p ∷ [])
-  body_same made o p home ss b = (
-    record {
-      place = record { home_is = b.home_is; object_is = refl; at_is = refl; gives = b.gives };
-      remains = (refl, b.goes 0);
-    },
-    tt,
-  )
+  pub body_same : RoutinesRun → (made : List Made) (o p home : ℕ) (ss : Stats) → by_number p (routines program) ≡ Some (record { home = home; own = None; body = ss }) → SameFrames made (S.body_frame home o ss ∷ []) (I.body_frame o p ∷ [])
+  body_same runs made o p home ss there =
+      let r : Routine = record { home = home; own = None; body = ss } in (
+        record {
+          place = record { routine = r; there = there; home_is = refl; object_is = refl; at_is = refl; gives_is = refl; counted_is = refl; frame = body_frame program Nothing (omega arith) };
+          remains = (refl, runs p r there 0);
+        },
+        tt,
+      )
 
   pub body_shown : (made : List Made) (o p home : ℕ) (ss : Stats) → SameVariables program made (S.body_frame home o ss ∷ []) (I.body_frame o p ∷ [])
   body_shown made o p home ss = (record { fits = tt; same = refl }, tt)
 
-  opened_by_same : (made : List Made) (fs : List S.Frame) (gs : List I.Frame) (ms ps : List ℕ) → Follows ms ps → SameFrames made fs gs → SameVariables program made fs gs → Same made (S.opened_by program fs ms) (I.opened_by gs ps)
-  opened_by_same made [] [] [] [] follows h shown = record { follows = tt; frames = tt; shown = tt }
-  opened_by_same made [] [] [] (p ∷ ps) follows h shown = absurd follows
-  opened_by_same made [] [] (m ∷ ms) [] follows h shown = absurd follows
-  opened_by_same made [] [] (m ∷ ms) (p ∷ ps) follows h shown =
+  opened_by_same : RoutinesRun → (made : List Made) (fs : List S.Frame) (gs : List I.Frame) (ms ps : List ℕ) → Follows ms ps → SameFrames made fs gs → SameVariables program made fs gs → Same made (S.opened_by program fs ms) (I.opened_by gs ps)
+  opened_by_same runs made [] [] [] [] follows h shown = record { follows = tt; frames = tt; shown = tt }
+  opened_by_same runs made [] [] [] (p ∷ ps) follows h shown = absurd follows
+  opened_by_same runs made [] [] (m ∷ ms) [] follows h shown = absurd follows
+  opened_by_same runs made [] [] (m ∷ ms) (p ∷ ps) follows h shown =
       let x = follows.0.0 in
       subst (λ o. Same made (S.next_body program m ms o) (I.opened_by [] (p ∷ ps))) (sym follows.0.1)
-      (record { follows = follows.1; frames = body_same made 0 p m x.body follows.0.2; shown = body_shown made 0 p m x.body })
-  opened_by_same made [] (g ∷ gs) ms ps follows h shown = absurd h
-  opened_by_same made (f ∷ fs) [] ms ps follows h shown = absurd h
-  opened_by_same made (f ∷ fs) (g ∷ gs) ms ps follows h shown = record { follows = follows; frames = h; shown = shown }
+      (record { follows = follows.1; frames = body_same runs made 0 p m x.body follows.0.2; shown = body_shown made 0 p m x.body })
+  opened_by_same runs made [] (g ∷ gs) ms ps follows h shown = absurd h
+  opened_by_same runs made (f ∷ fs) [] ms ps follows h shown = absurd h
+  opened_by_same runs made (f ∷ fs) (g ∷ gs) ms ps follows h shown = record { follows = follows; frames = h; shown = shown }
 
-  pub opened_same : (made : List Made) (x : S.Frames) (y : I.Frames) → Same made x y → Same made (S.opened program x) (I.opened y)
-  opened_same made x y h = opened_by_same made x.frames y.frames x.following y.following h.follows h.frames h.shown
+  pub opened_same : RoutinesRun → (made : List Made) (x : S.Frames) (y : I.Frames) → Same made x y → Same made (S.opened program x) (I.opened y)
+  opened_same runs made x y h = opened_by_same runs made x.frames y.frames x.following y.following h.follows h.frames h.shown
 
   -- As objects are made.
 
-  behind_grows : (w w' : World Sort) (own here : ℕ) (is : List Item) (a : After) (m : Run) → Behind program image.shapes.items own here (code_of image own) is w a m → Behind program image.shapes.items own here (code_of image own) is w' a m
-  behind_grows w w' own here is (Into new) m h = h
-  behind_grows w w' own here is Exits m h = h
+  result_grows : (w w' : World Sort) → Grows w w' → (t : Option TType) (r : Option Value) → IsResult program w t r → IsResult program w' t r × (option_map (cell_of w) r ≡ option_map (cell_of w') r)
+  result_grows w w' g None None h = (h, refl)
+  result_grows w w' g None (Some v) h = absurd h
+  result_grows w w' g (Some t) None h = absurd h
+  result_grows w w' g (Some t) (Some v) h =
+      ((values_kept program.types).is w w' g (Plain (id_of t)) v h, ap (λ c. Some c) ((values_kept program.types).cells w w' g (Plain (id_of t)) v h))
 
-  remains_grows : (w w' : World Sort) → Grows w w' → (own here : ℕ) (answers : Option (List Value)) (is : List Item) (next : ℕ) (k : Keeps) (st : Stack) → Remains program image.shapes.items own here (code_of image own) w answers is next k st → Remains program image.shapes.items own here (code_of image own) w' answers is next k st
-  remains_grows w w' g own here None is next k st h = h
-  remains_grows w w' g own here (Some t) [] next k st h = absurd h
-  remains_grows w w' g own here (Some t) (i ∷ is) next k st h =
-      does_grows program w w' g (Behind program image.shapes.items own here (code_of image own) is) (behind_grows w w' own here is) (run image.shapes.items own here (code_of image own) next k st) (feed t (item_of i)) h
+  behind_grows : (w w' : World Sort) → Grows w w' → (own : Option Procedure) (number here : ℕ) (is : List Item) (a : After) (m : Run) → Behind program own image.shapes.items number here (code_of image number) is w a m → Behind program own image.shapes.items number here (code_of image number) is w' a m
+  behind_grows w w' g own number here is (Into new) m h = h
+  behind_grows w w' g own number here is Exits m h = h
+  behind_grows w w' g own number here is (Returns r) m h =
+      let k = result_grows w w' g (result_of own) r h.2 in
+      (h.0, h.1 ∙ ap (λ o. Asks (Ends o) h.0) k.1, k.0)
 
-  frame_grows : (w w' : World Sort) → Grows w w' → (here : ℕ) (f : S.Frame) (g : I.Frame) → SameFrame w here f g → SameFrame w' here f g
-  frame_grows w w' up here f g h =
-      record {
-        place = h.place;
-        remains = remains_grows w w' up g.procedure here f.answers f.items g.next g.keeps g.stack h.remains;
-      }
+  remains_grows : (w w' : World Sort) → Grows w w' → (own : Option Procedure) (number here : ℕ) (c : Content Value) (cells : List Cell) (answers : Option (List Value)) (is : List Item) (next : ℕ) (k : Keeps) (st : Stack) → Remains program own image.shapes.items number here (code_of image number) c cells w answers is next k st → Remains program own image.shapes.items number here (code_of image number) c cells w' answers is next k st
+  remains_grows w w' g own number here c cells None is next k st h = h
+  remains_grows w w' g own number here c cells (Some t) [] next k st h = absurd h
+  remains_grows w w' g own number here c cells (Some t) (i ∷ is) next k st h =
+      let code = code_of image number in
+      calmly_grows program here w w' g (Behind program own image.shapes.items number here code is) (behind_grows w w' g own number here is) cells (calm cells (run image.shapes.items number here code next k st)) (S.calm c (feed t (item_of program here i))) h
 
   module _ (made more : List Made) where
     abbrev up : (shapes : List (Shape Sort)) → Grows (world_of program made shapes) (world_of program (made ++ more) shapes)
     up shapes = objects_grow (scheme program) made more shapes
 
-    pub waiting_grow : (fs : List S.Frame) (gs : List I.Frame) → Waiting made fs gs → Waiting (made ++ more) fs gs
-    waiting_grow [] [] h = tt
-    waiting_grow [] (g ∷ gs) h = absurd h
-    waiting_grow (f ∷ fs) [] h = absurd h
-    waiting_grow (f ∷ fs) (g ∷ gs) h =
-        (frame_grows (world_of program made (shapes_of (f ∷ fs))) (world_of program (made ++ more) (shapes_of (f ∷ fs))) (up (shapes_of (f ∷ fs))) (length gs) (S.answered S.done f) g h.0, waiting_grow fs gs h.1)
+    pub waiting_grow : (result : Option TType) (fs : List S.Frame) (gs : List I.Frame) → Waiting made result fs gs → Waiting (made ++ more) result fs gs
+    waiting_grow result [] [] h = tt
+    waiting_grow result [] (g ∷ gs) h = absurd h
+    waiting_grow result (f ∷ fs) [] h = absurd h
+    waiting_grow result (f ∷ fs) (g ∷ gs) h =
+        let w = world_of program made (shapes_of (f ∷ fs)) in
+        let w' = world_of program (made ++ more) (shapes_of (f ∷ fs)) in
+        (record { place = h.0.place; goes = λ w2 g2. h.0.goes w2 (grows_twice w w' w2 (up (shapes_of (f ∷ fs))) g2) }, waiting_grow (result_of h.0.place.routine.own) fs gs h.1)
 
     frames_grow : (fs : List S.Frame) (gs : List I.Frame) → SameFrames made fs gs → SameFrames (made ++ more) fs gs
     frames_grow [] [] h = tt
     frames_grow [] (g ∷ gs) h = absurd h
     frames_grow (f ∷ fs) [] h = absurd h
     frames_grow (f ∷ fs) (g ∷ gs) h =
-        (frame_grows (world_of program made (shapes_of (f ∷ fs))) (world_of program (made ++ more) (shapes_of (f ∷ fs))) (up (shapes_of (f ∷ fs))) (length gs) f g h.0, waiting_grow fs gs h.1)
+        let place = h.0.place in (
+          record {
+            place = place;
+            remains = remains_grows (world_of program made (shapes_of (f ∷ fs))) (world_of program (made ++ more) (shapes_of (f ∷ fs))) (up (shapes_of (f ∷ fs))) place.routine.own g.procedure (length fs) f.variables g.cells f.answers f.items g.next g.keeps g.stack h.0.remains;
+          },
+          waiting_grow (result_of place.routine.own) fs gs h.1,
+        )
 
     pub shown_grow : (shapes : List (Shape Sort)) (cs : List (Content Value)) (ys : List (List Cell)) → FramesShown (Is program.types) cell_of (scheme program) made shapes cs ys → FramesShown (Is program.types) cell_of (scheme program) (made ++ more) shapes cs ys
     shown_grow shapes cs ys h = frames_shown_grow (Is program.types) cell_of IsPlain (values_kept program.types) (first_value program) (zero_cell program) (first_is program) (first_same program) (scheme program) made more shapes cs ys h

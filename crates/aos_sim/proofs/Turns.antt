@@ -1,6 +1,7 @@
 -- One turn of each side from related frames gives related frames, with the same work left to the kernel.
 use Rattle.std.proofs.Common.{◌≡◌, ℕ, suc, pos, ◌+◌, ◌<◌, List, [], ◌∷◌, ◌++◌, length, drop, Option, Some, None, refl, sym, ap, ◌∙◌, subst, arith}
-use Rattle.std.specs.Prelude.{Bool, true, false, is_some, unsigned_abs, nat_lt, option_map, if◌then◌else◌}
+use Rattle.std.specs.Prelude.{Bool, true, false, is_some, unsigned_abs, nat_lt, option_map, sum_by, map, if◌then◌else◌}
+use Rattle.std.proofs.lemmas.List.Sums.{sum_by-cons}
 use Rattle.aos_base.specs.declared.number.Relation.{Relation}
 use Rattle.aos_base.specs.declared.number.Width.TheVariants.{W64}
 use Rattle.aos_base.specs.Number.{holds}
@@ -9,12 +10,13 @@ use Rattle.aos_base.specs.declared.text.Pos.{Pos}
 use Rattle.aos_base.specs.declared.kernel.Did.{Did}
 use Rattle.aos_base.specs.declared.kernel.Did.TheVariants.{Went, Ended as NoFrame, Trapped}
 use Rattle.aos_base.specs.Question.{Val, Asks, Traps, bind, feed, Reads, Stores, Copies, PutsText, ComparesTexts, Calls, Ends, Makes, Starts, PutsInt, PutsChar, PutsString, PutsNothing, PutsLn, Places, Lengths}
-use Rattle.aos_base.specs.Rooted.{Made, Rooted, spliced}
+use Rattle.aos_base.specs.Rooted.{Made, Rooted, by_number, spliced}
 use Rattle.aos_types.specs.Shape.{Shape, One}
 use Rattle.aos_types.specs.Content.{Content, Scalar, placed as placed_at, overlay}
 use Rattle.aos_types.specs.World.{World, Grows, shape_at, read}
 use Rattle.aos_typed.specs.declared.tree.TType.{TType}
-use Rattle.aos_typed.specs.Program.{Expr, Repeat, Stats, Program}
+use Rattle.aos_typed.specs.Program.{Expr, Repeat, Stats, Procedure, Program}
+use Rattle.aos_typed.specs.Routines.{Routine, result_of, routines}
 use Rattle.aos_typed.specs.Numbers.{id_of}
 use Rattle.aos_typed.specs.Sort.{Sort, Plain, variable_shape}
 use Rattle.aos_typed.specs.Spot.{Spot}
@@ -23,7 +25,7 @@ use Rattle.aos_typed.specs.Value.{Value, Int, Flag, Char, Object, number_of, is_
 use Rattle.aos_typed.specs.Typing.{Is, IsPlain, IsInteger}
 use Rattle.aos_typed.specs.Store.{Store, scalar_in, has_room, new_number, with_object as with_one_more}
 use Rattle.aos_typed.specs.Meaning as source
-use Rattle.aos_typed.specs.Meaning.{Doing, Item, Do, Rounds, Round, Until, After, Into, Exits, leave, value_of, item_of, pos_of}
+use Rattle.aos_typed.specs.Meaning.{Doing, Item, Do, Rounds, Round, Until, After, Into, Returns, Exits, leave, value_of, item_of, pos_of}
 use Rattle.aos_typed.specs.Source as S
 use Rattle.aos_typed.specs.Source.{first_value}
 use Rattle.aos_typed.specs.WellTyped.{is_basic}
@@ -33,6 +35,7 @@ use Rattle.aos_code.specs.declared.instr.Kind.TheVariants.{N}
 use Rattle.aos_code.specs.declared.instr.Instr.{Instr}
 use Rattle.aos_code.specs.declared.image.ProcShape.{ProcShape}
 use Rattle.aos_code.specs.declared.image.Image.{Image}
+use Rattle.aos_code.specs.Numbered.{numbered}
 use Rattle.aos_code.specs.Memory.{Memory, with_object as with_one}
 use Rattle.aos_code.specs.Silent.{Stack, Keeps, Question, Begins, Fails, Stop, Work, Ended, is_of, silent}
 use Rattle.aos_code.specs.Machine as I
@@ -45,18 +48,23 @@ use Rattle.aos_places.proofs.Places.{ReadAlike, read_alike, stored_alike}
 use Rattle.aos_places.proofs.Makes.{made_alike}
 use Rattle.aos_sim.specs.Cells.{cell_of}
 use Rattle.aos_sim.specs.Code.{kind_of}
+use Rattle.aos_sim.specs.Shows.{shape_of}
+use Rattle.aos_layout.specs.Layout.{kind_of as layout_kind}
+use Rattle.aos_layout.specs.Seen.{seen_shape}
 use Rattle.aos_sim.proofs.Kept.{values_kept}
-use Rattle.aos_sim.proofs.Runs.{Run, AtBegin, Onward, past, calm, runs, run, resume, run_by_silent, feed-append}
+use Rattle.aos_sim.proofs.Runs.{Run, AtBegin, Onward, gives_result, past, calm, runs, run, resume, run_by_silent, feed-append}
 use Rattle.aos_sim.proofs.Types.{number_cell, integer_is, character_is}
 use Rattle.aos_sim.proofs.Results.{natural_is}
 use Rattle.aos_sim.proofs.Variables.{value_from}
-use Rattle.aos_sim.proofs.Does.{scheme, addr_of, placed, HasCharacters, HasText, HasPredeclared, HasTypes, Knows, Valid, Conforms, Does, along, calm_placed}
-use Rattle.aos_sim.proofs.Carries.{GoesOn, Behind, Remains, BeginsAt, ItemsDo}
-use Rattle.aos_sim.proofs.Stats.{basic_kind, ends}
+use Rattle.aos_sim.proofs.Does.{scheme, addr_of, placed, HasCharacters, HasText, HasPredeclared, HasTypes, HasShapes, Knows, AreReached, IsAnswer, IsResult, IsVisible, IsCalm, Valid, Conforms, Does, Calmly, along, calm_does, calm_again, feed_noted, calm_seen, calm_visible_same, calm_bind, feed_noted_bind}
+use Rattle.aos_sim.proofs.Carries.{IsOwn, AtEnd, GoesOn, Behind, Remains, BeginsAt, ItemsDo}
+use Rattle.aos_sim.proofs.Stats.{basic_kind}
+use Rattle.aos_sim.proofs.Bodies.{own_known}
 use Rattle.aos_sim.proofs.First.{zero_cell, first_is, first_same, get_right}
-use Rattle.aos_sim.proofs.States.{world_of, shapes_of, SameStore, SameVariables, SamePlace, Waiting, SameFrames, Follows, Same, SameState, ends_same, ends_shown, opened_same, waiting_grow}
+use Rattle.aos_sim.proofs.States.{world_of, shapes_of, with_answer, SameStore, SameVariables, Placed, Waiting, SameFrames, WentFrames, RoutinesRun, Follows, Same, SameState, waiting_length, answer_of, ends_went, ends_shown, all_reached, top_shape, went_same, opened_same, waiting_grow}
+use Rattle.aos_sim.proofs.Entered.{both, handed_there, called_shown, called_counted, called_frame_of, answer_stacked, few_scalars, waiting_counted}
 use Rattle.aos_sim.proofs.Written.{written}
-use Rattle.aos_sim.proofs.Copied.{copied_alike}
+use Rattle.aos_sim.proofs.Copied.{some_same, copied_alike}
 use Rattle.aos_sim.proofs.Texts.{AreCodes, fitted_same, fitted_within, TextAlike, text_alike, stored_alike as text_stored_alike}
 use Rattle.aos_sim.proofs.Starting.{silent_at_start, run_at_start}
 
@@ -87,15 +95,15 @@ module _ (shapes : List ProcShape) (own here : ℕ) (code : List Instr) where
     keeps : Keeps
     stack : Stack
     is : stop ≡ Work q at keeps stack
-    on : (x : Cell) → d x ≡ past q x at keeps stack (λ over at' k' s'. runs shapes own here code (drop at' code) over at' k' s')
+    on : (x : Cell) → d x ≡ past shapes q x at keeps stack (λ over at' k' s'. runs shapes own here code (drop at' code) over at' k' s')
 
   stop_works : (stop : Stop) (q : Question) (d : Cell → Run) → resume shapes own here code stop ≡ Asks q d → AtWork q d stop
   stop_works (Ended (Begins p at st) k) q d e = absurd (cc e)
   stop_works (Ended (Fails n c) k) q d e = absurd (cc e)
   stop_works (Work q' p k st) q d e =
       let a : q' ≡ q = cc e in
-      let b : (λ x. past q' x p k st (λ over at' k' s'. runs shapes own here code (drop at' code) over at' k' s')) ≡ d = cc e in
-      record { at = p; keeps = k; stack = st; is = λ j. Work (a j) p k st; on = λ x. sym (ap (λ h. h x) b) ∙ ap (λ z. past z x p k st (λ over at' k' s'. runs shapes own here code (drop at' code) over at' k' s')) a }
+      let b : (λ x. past shapes q' x p k st (λ over at' k' s'. runs shapes own here code (drop at' code) over at' k' s')) ≡ d = cc e in
+      record { at = p; keeps = k; stack = st; is = λ j. Work (a j) p k st; on = λ x. sym (ap (λ h. h x) b) ∙ ap (λ z. past shapes z x p k st (λ over at' k' s'. runs shapes own here code (drop at' code) over at' k' s')) a }
 
 -- What is written and read.
 
@@ -124,8 +132,16 @@ module _ (program : Program) (image : Image) where
   went s mem bytes begun w x y never h =
       record { stores = h.stores; frames = record { now = h.same; behind = λ k. absurd (never k) }; left = refl; output = refl; begun = refl }
 
+  -- an end is that of the frame below with its answer
+  ends_is : (ms : List ℕ) (r : Option Value) (fs : List S.Frame) (s : Store) → S.ends ms r fs s ≡ S.goes_on ms (S.with_result ms (answer_of program image r) fs) s
+  ends_is ms None fs s = refl
+  ends_is ms (Some v) fs s = refl
+
   -- the topmost frame
-  module _ (typed : HasTypes program) (items_do : ItemsDo program) (ms ps : List ℕ) (f : S.Frame) (g : I.Frame) (fs : List S.Frame) (gs : List I.Frame) (s : Store) (mem : Memory) (place : SamePlace program image f.home f.object f.at g.procedure g.object g.at) (follows : Follows program image ms ps) (below : Waiting program image s.made fs gs) (stores : SameStore program s mem) (shown : SameVariables program s.made (f ∷ fs) (g ∷ gs)) where
+  module _ (typed : HasTypes program) (shaped : HasShapes program image.shapes.items) (routines_run : RoutinesRun program image) (items_do : ItemsDo program) (ms ps : List ℕ) (f : S.Frame) (g : I.Frame) (fs : List S.Frame) (gs : List I.Frame) (s : Store) (mem : Memory) (place : Placed program image f g) (follows : Follows program image ms ps) (below : Waiting program image s.made (result_of place.routine.own) fs gs) (stores : SameStore program s mem) (shown : SameVariables program s.made (f ∷ fs) (g ∷ gs)) where
+    abbrev own : Option Procedure
+    own = place.routine.own
+
     abbrev shapes : List ProcShape
     shapes = image.shapes.items
 
@@ -133,7 +149,7 @@ module _ (program : Program) (image : Image) where
     code = code_of image g.procedure
 
     abbrev here : ℕ
-    here = length gs
+    here = length fs
 
     abbrev now : World Sort
     now = world_of program s.made (shapes_of (f ∷ fs))
@@ -150,11 +166,18 @@ module _ (program : Program) (image : Image) where
     abbrev resumed : Stop → Run
     resumed = resume shapes g.procedure here code
 
+    abbrev item : Item → Doing After
+    item = item_of program here
+
     abbrev Leads : List Item → World Sort → After → Run → Type 0
-    Leads = Behind program shapes g.procedure here code
+    Leads = Behind program own shapes g.procedure here code
 
     abbrev Left : World Sort → Option (List Value) → List Item → ℕ → Keeps → Stack → Type 0
-    Left = Remains program shapes g.procedure here code
+    Left = Remains program own shapes g.procedure here code f.variables g.cells
+
+    -- what the code does behind the silent questions that stand first
+    abbrev Calm : List Item → Run → Doing After → Type 0
+    Calm is m r = Calmly program here (Leads is) g.cells now (calm g.cells m) r
 
     abbrev upper : List Item → Option (List Value) → S.Frame
     upper items answers = record f { items = items; answers = answers }
@@ -168,35 +191,61 @@ module _ (program : Program) (image : Image) where
     abbrev lowers : ℕ → Keeps → Stack → I.Frames
     lowers next k st = I.all_frames ps (lower next k st ∷ gs)
 
-    knows : Knows program now
-    knows m x e = e
+    reached : AreReached now
+    reached = all_reached program image typed s.made f.shape (result_of own) fs gs place.frame.few below
 
-    frames_now : (items : List Item) (answers : Option (List Value)) (next : ℕ) (k : Keeps) (st : Stack) → Left now answers items next k st → Same program image s.made (uppers items answers) (lowers next k st)
-    frames_now items answers next k st h =
-        record { follows = follows; frames = (record { place = place; remains = h }, below); shown = shown }
+    knows : Knows program own here now
+    knows = record { modules = λ m x e. e; frame = (f.shape, top_shape program s.made f fs, place.frame) }
+
+    is_own : IsOwn program own shapes g.procedure
+    is_own = own_known program shapes shaped g.procedure place.routine place.there
+
+    calmed : (is : List Item) (m : Run) (r : Doing After) → Does program here (Leads is) now m r → Calm is m (S.calm f.variables r)
+    calmed is m r d = calm_does program here now f.shape f.variables g.cells (top_shape program s.made f fs) shown.0 reached (Leads is) m r d
 
     state : (items : List Item) (answers : Option (List Value)) (next : ℕ) (k : Keeps) (st : Stack) → Left now answers items next k st → SameState program image s mem (uppers items answers) (lowers next k st)
-    state items answers next k st h = record { stores = stores; same = frames_now items answers next k st h }
+    state items answers next k st h =
+        record { stores = stores; same = record { follows = follows; frames = (record { place = place; remains = h }, below); shown = shown } }
+
+    -- behind an answer
+    went_frames : (i : Item) (is : List Item) (t : List Value) (next : ℕ) (k : Keeps) (st : Stack) → Does program here (Leads is) now (run_from next k st) (feed t (item i)) → WentFrames program image s.made (upper (i ∷ is) (Some t) ∷ fs) (lower next k st ∷ gs)
+    went_frames i is t next k st d = (record { place = place; went = d }, below)
+
+    went_state : (i : Item) (is : List Item) (t : List Value) (next : ℕ) (k : Keeps) (st : Stack) → Does program here (Leads is) now (run_from next k st) (feed t (item i)) → SameState program image s mem (uppers (i ∷ is) (Some t)) (lowers next k st)
+    went_state i is t next k st d = state (i ∷ is) (Some t) next k st (calmed is (run_from next k st) (feed t (item i)) d)
 
     -- the frame's end
-    ends_alike : (g' : I.Frame) (stop : Stop) (d : Cell → Run) → resumed stop ≡ Asks (Ends None) d → Alike (S.ends ms None fs s) (I.goes ps shapes stop g' gs mem)
-    ends_alike g' stop d e =
-        let v = stop_works shapes g.procedure here code stop (Ends None) d e in
-        subst (λ z. Alike (S.ends ms None fs s) (I.goes ps shapes z g' gs mem)) (sym v.is)
-        (went s mem [] false Went (S.all_frames ms (S.with_result ms S.done fs)) (I.all_frames ps gs) (λ k. k)
-        (record { stores = stores; same = record { follows = follows; frames = ends_same program image s.made ms fs gs below; shown = ends_shown program image s.made ms fs gs shown.1 } }))
+    ends_alike : (r : Option Value) (g' : I.Frame) (stop : Stop) (d : Cell → Run) → IsResult program now (result_of own) r → resumed stop ≡ Asks (Ends (option_map (cell_of now) r)) d → Alike (S.ends ms r fs s) (I.goes ps shapes stop g' gs mem)
+    ends_alike r g' stop d is e =
+        let c = option_map (cell_of now) r in
+        let v = stop_works shapes g.procedure here code stop (Ends c) d e in
+        let uppers' = S.with_result ms (answer_of program image r) fs in
+        let lowers' = I.with_result ps c gs in
+        let shown' = ends_shown program image s.made ms ps (answer_of program image r) c fs gs shown.1 in
+        subst (λ z. Alike z (I.goes ps shapes stop g' gs mem)) (sym (ends_is ms r fs s))
+        (subst (λ z. Alike (S.goes_on ms uppers' s) (I.goes ps shapes z g' gs mem)) (sym v.is)
+        (went s mem [] false Went (S.all_frames ms uppers') (I.all_frames ps lowers') (λ k. k)
+        (record {
+          stores = stores;
+          same = record { follows = follows; frames = went_same program image typed s.made uppers' lowers' (ends_went program image s.made ms ps (result_of own) r f.shape fs gs below is) shown'; shown = shown' };
+        })))
 
     -- an item begins
-    begins_alike : (there : Pos) (i : Item) (is items : List Item) (answers : Option (List Value)) (next : ℕ) (k0 : Keeps) (st0 : Stack) (stop : Stop) (m : Run) → BeginsAt program shapes g.procedure here code there i is now m → resumed stop ≡ calm g.cells m → Alike (S.begins ms there (i ∷ is) (upper items answers) fs s) (I.goes ps shapes stop (lower next k0 st0) gs mem)
+    begins_alike : (there : Pos) (i : Item) (is items : List Item) (answers : Option (List Value)) (next : ℕ) (k0 : Keeps) (st0 : Stack) (stop : Stop) (m : Run) → BeginsAt program own shapes g.procedure here code there i is now m → resumed stop ≡ calm g.cells m → Alike (S.begins ms there (i ∷ is) (upper items answers) fs s) (I.goes ps shapes stop (lower next k0 st0) gs mem)
     begins_alike there i is items answers next k0 st0 stop m b e =
-        let left : Left now (Some []) (i ∷ is) (b.at + 1) b.keeps [] = b.does in
         subst (λ z. Alike (S.begins ms there (i ∷ is) (upper items answers) fs s) (I.goes ps shapes z (lower next k0 st0) gs mem)) (sym (stop_begins shapes g.procedure here code stop b.at there b.keeps [] (e ∙ ap (calm g.cells) b.runs)))
         (went s mem [] true Went _ _ (λ k. k)
         (record {
           stores = stores;
           same = record {
             follows = follows;
-            frames = (record { place = record { home_is = place.home_is; object_is = place.object_is; at_is = refl; gives = place.gives }; remains = left }, below);
+            frames = (
+              record {
+                place = record { routine = place.routine; there = place.there; home_is = place.home_is; object_is = place.object_is; at_is = refl; gives_is = place.gives_is; counted_is = place.counted_is; frame = place.frame };
+                remains = calmed is (run_from (b.at + 1) b.keeps []) (item i) b.does;
+              },
+              below,
+            );
             shown = shown;
           };
         }))
@@ -221,24 +270,28 @@ module _ (program : Program) (image : Image) where
         at : ℕ
         keeps : Keeps
         stack : Stack
-        asks : feed t (item_of i) ≡ Asks q onto
-        valid : Valid program now q
-        on : (x : Cell) → code_on x ≡ past (placed program now q) x at keeps stack onward
-        after : (w : World Sort) → Grows now w → (v : Value) → Conforms program w q v → Does program (Leads is) w (code_on (cell_of w v)) (onto v)
+        visible : IsVisible q
+        asks : feed t (item i) ≡ Asks q onto
+        valid : Valid program here now q
+        on : (x : Cell) → code_on x ≡ past shapes (placed program now q) x at keeps stack onward
+        after : (w : World Sort) → Grows now w → (v : Value) → Conforms program w q v → Does program here (Leads is) w (code_on (cell_of w v)) (onto v)
         stop : stop_from next k st ≡ Work (placed program now q) at keeps stack
 
       module _ (q : source.Question) (x : Asking q) where
         -- with one more answer the code has come behind its instruction
-        answered_so : (w : World Sort) → Grows now w → (v : Value) → Conforms program w q v → (st2 : Stack) → past (placed program now q) (cell_of w v) x.at x.keeps x.stack onward ≡ run_from (x.at + 1) x.keeps st2 → Left w (Some (t ++ v ∷ [])) (i ∷ is) (x.at + 1) x.keeps st2
+        answered_so : (w : World Sort) → Grows now w → (v : Value) → Conforms program w q v → (st2 : Stack) → past shapes (placed program now q) (cell_of w v) x.at x.keeps x.stack onward ≡ run_from (x.at + 1) x.keeps st2 → Does program here (Leads is) w (run_from (x.at + 1) x.keeps st2) (feed (t ++ v ∷ []) (item i))
         answered_so w up v c st2 e =
-            subst (λ r. Does program (Leads is) w (run_from (x.at + 1) x.keeps st2) r) (sym (feed-append t (v ∷ []) (item_of i) ∙ ap (feed (v ∷ [])) x.asks))
-            (along program (Leads is) w (run_from (x.at + 1) x.keeps st2) (x.code_on (cell_of w v)) (x.onto v) (sym (x.on (cell_of w v) ∙ e)) (x.after w up v c))
+            subst (λ r. Does program here (Leads is) w (run_from (x.at + 1) x.keeps st2) r) (sym (feed-append t (v ∷ []) (item i) ∙ ap (feed (v ∷ [])) x.asks))
+            (along program here (Leads is) w (run_from (x.at + 1) x.keeps st2) (x.code_on (cell_of w v)) (x.onto v) (sym (x.on (cell_of w v) ∙ e)) (x.after w up v c))
 
-        answered_now : (v : Value) → Conforms program now q v → (st2 : Stack) → past (placed program now q) (cell_of now v) x.at x.keeps x.stack onward ≡ run_from (x.at + 1) x.keeps st2 → SameState program image s mem (uppers (i ∷ is) (Some (t ++ v ∷ []))) (lowers (x.at + 1) x.keeps st2)
-        answered_now v c st2 e = state (i ∷ is) (Some (t ++ v ∷ [])) (x.at + 1) x.keeps st2 (answered_so now (grows_same now) v c st2 e)
+        answered_frames : (v : Value) → Conforms program now q v → (st2 : Stack) → past shapes (placed program now q) (cell_of now v) x.at x.keeps x.stack onward ≡ run_from (x.at + 1) x.keeps st2 → WentFrames program image s.made (S.answered v top ∷ fs) (I.behind ps x.at x.keeps st2 low ∷ gs)
+        answered_frames v c st2 e = went_frames i is (t ++ v ∷ []) (x.at + 1) x.keeps st2 (answered_so now (grows_same now) v c st2 e)
+
+        answered_now : (v : Value) → Conforms program now q v → (st2 : Stack) → past shapes (placed program now q) (cell_of now v) x.at x.keeps x.stack onward ≡ run_from (x.at + 1) x.keeps st2 → SameState program image s mem (uppers (i ∷ is) (Some (t ++ v ∷ []))) (lowers (x.at + 1) x.keeps st2)
+        answered_now v c st2 e = went_state i is (t ++ v ∷ []) (x.at + 1) x.keeps st2 (answered_so now (grows_same now) v c st2 e)
 
         -- where the answer doesn't matter
-        done_so : Conforms program now q S.done → past (placed program now q) (cell_of now S.done) x.at x.keeps x.stack onward ≡ run_from (x.at + 1) x.keeps x.stack → SameState program image s mem (uppers (i ∷ is) (Some (t ++ S.done ∷ []))) (lowers (x.at + 1) x.keeps x.stack)
+        done_so : Conforms program now q S.done → past shapes (placed program now q) (cell_of now S.done) x.at x.keeps x.stack onward ≡ run_from (x.at + 1) x.keeps x.stack → SameState program image s mem (uppers (i ∷ is) (Some (t ++ S.done ∷ []))) (lowers (x.at + 1) x.keeps x.stack)
         done_so c e = answered_now S.done c x.stack e
 
       puts_alike : (bytes : List ℕ) (p : ℕ) (k' : Keeps) (st' : Stack) → SameState program image s mem (uppers (i ∷ is) (Some (t ++ S.done ∷ []))) (lowers (p + 1) k' st') → Alike (S.puts ms bytes (S.answered S.done top ∷ fs) s) (I.puts ps bytes (I.behind ps p k' st' low ∷ gs) mem)
@@ -283,10 +336,10 @@ module _ (program : Program) (image : Image) where
           let cell = cell_of now v in
           let source = S.answer program ms (Stores a v) top fs s in
           let new = stored_alike (Is program.types) cell_of IsPlain (values_kept program.types) (scheme program) s.made shapes_now variables cells a.root a.path (One sort) (Scalar v) shows x.valid.2 x.valid.1 x.valid.3 in
-          let h = answered_now (Stores a v) x S.done tt x.stack refl in
+          let h = answered_frames (Stores a v) x S.done tt x.stack refl in
           subst (λ o. Alike source (I.writes ps (is_some o) (addr_of now a) (cell ∷ []) x.at x.keeps x.stack low gs mem)) (sym r.image)
           (went _ _ [] false Went _ _ (λ z. z)
-          (written program image a.root (placed_at a.path (Scalar v)) (spliced (addr_of now a).cell (cell ∷ [])) s mem ms ps (S.answered S.done top ∷ fs) (I.behind ps x.at x.keeps x.stack low ∷ gs) stores.made follows h.same.frames new))
+          (written program image typed a.root (placed_at a.path (Scalar v)) (spliced (addr_of now a).cell (cell ∷ [])) s mem ms ps (S.answered S.done top ∷ fs) (I.behind ps x.at x.keeps x.stack low ∷ gs) stores.made follows h new))
 
       -- a whole record or array is copied
       copies_alike : (u : TType) (from to : Spot) (x : Asking (Copies u from to)) → Alike (S.answer program ms (Copies u from to) top fs s) (I.answer ps shapes (placed program now (Copies u from to)) x.at x.keeps x.stack low gs mem)
@@ -295,11 +348,11 @@ module _ (program : Program) (image : Image) where
           let shape = variable_shape program.types (id_of u) in
           let source : Option (Content Value) → Option (Content Value) → S.Turned = λ new old. S.copies ms shape new old to (S.answered S.done top ∷ fs) s in
           let image_so : Option (List Cell) → Bool → I.Turned = λ all there. I.copies ps all there (addr_of now to) x.at x.keeps x.stack low gs mem in
-          let h = answered_now (Copies u from to) x S.done tt x.stack refl in
+          let h = answered_frames (Copies u from to) x S.done tt x.stack refl in
           subst (λ z. Alike z (I.answer ps shapes (placed program now (Copies u from to)) x.at x.keeps x.stack low gs mem)) (sym (λ j. source (c.read_from j) (c.read_to j)))
           (subst (Alike (source (Some c.new) (Some c.old))) (sym (λ j. image_so (c.image j) (c.there j)))
           (went _ _ [] false Went _ _ (λ z. z)
-          (written program image to.root (placed_at to.path (overlay shape c.new c.old)) (spliced (addr_of now to).cell c.cells) s mem ms ps (S.answered S.done top ∷ fs) (I.behind ps x.at x.keeps x.stack low ∷ gs) stores.made follows h.same.frames c.alike)))
+          (written program image typed to.root (placed_at to.path (overlay shape c.new c.old)) (spliced (addr_of now to).cell c.cells) s mem ms ps (S.answered S.done top ∷ fs) (I.behind ps x.at x.keeps x.stack low ∷ gs) stores.made follows h c.alike)))
 
       -- the text at a place, which both find
       text_both : (p : Spot) (n : ℕ) → HasCharacters now p n → TextAlike program typed.predeclared s.made shapes_now variables cells shows ps p n
@@ -316,11 +369,11 @@ module _ (program : Program) (image : Image) where
           let c = text_stored_alike program typed.predeclared s.made shapes_now variables cells shows ps to m cs has (fitted_within strict m text cs some codes e) in
           let source : Option (Content Value) → S.Turned = λ old. S.stores_text ms (Some cs) old to top fs s in
           let image_so : Bool → I.Turned = λ there. I.writes ps there (addr_of now to) (I.character_cells ps cs) x.at x.keeps x.stack low gs mem in
-          let h = done_so (PutsText strict from n to room) x tt refl in
+          let h = answered_frames (PutsText strict from n to room) x S.done tt x.stack refl in
           subst (λ z. Alike (source z) (image_so (is_some (I.cells_at (length cs) (addr_of now to) cells)))) (sym c.source)
           (subst (λ b. Alike (source (Some c.old)) (image_so b)) (sym c.there)
           (went _ _ [] false Went _ _ (λ z. z)
-          (written program image to.root (placed_at to.path (with_text cs c.old)) (spliced (addr_of now to).cell (I.character_cells ps cs)) s mem ms ps (S.answered S.done top ∷ fs) (I.behind ps x.at x.keeps x.stack low ∷ gs) stores.made follows h.same.frames c.alike)))
+          (written program image typed to.root (placed_at to.path (with_text cs c.old)) (spliced (addr_of now to).cell (I.character_cells ps cs)) s mem ms ps (S.answered S.done top ∷ fs) (I.behind ps x.at x.keeps x.stack low ∷ gs) stores.made follows h c.alike)))
 
       texts_put_alike : (strict : Bool) (from : Spot) (n : Value) (to : Spot) (room : Value) (x : Asking (PutsText strict from n to room)) → Alike (S.answer program ms (PutsText strict from n to room) top fs s) (I.answer ps shapes (placed program now (PutsText strict from n to room)) x.at x.keeps x.stack low gs mem)
       texts_put_alike strict from n to room x =
@@ -371,14 +424,14 @@ module _ (program : Program) (image : Image) where
           let new = made_alike (Is program.types) cell_of IsPlain (values_kept program.types) (first_value program) (zero_cell program) (first_is program) (first_same program) (scheme program) s.made shapes_now (one u) variables cells tt shows in
           let last : length s.made ≡ length s.made + 0 = omega arith in
           let found : w.made (new_number s) ≡ Some (one u) = get_right s.made (one u ∷ []) (length s.made) 0 last in
-          let here = answered_so (Makes u) x w (more u) v (length s.made, refl, found) (Ref (new_number s) ∷ x.stack) refl in
+          let goes = answered_so (Makes u) x w (more u) v (length s.made, refl, found) (Ref (new_number s) ∷ x.stack) refl in
           subst (λ n. Alike (S.makes ms true u top fs s) (I.goes_on ps (I.behind ps x.at x.keeps (Ref (suc n) ∷ x.stack) low ∷ gs) (with_one u mem))) (sym (ap length stores.made))
           (went (with_one_more u s) (with_one u mem) [] false Went _ _ (λ z. z)
           (record {
             stores = record { made = ap (λ l. l ++ one u ∷ []) stores.made; of_modules = new.of_modules; of_objects = new.of_objects };
             same = record {
               follows = follows;
-              frames = (record { place = place; remains = here }, waiting_grow program image s.made (one u ∷ []) fs gs below);
+              frames = went_same program image typed (s.made ++ one u ∷ []) (S.answered v top ∷ fs) (lower (x.at + 1) x.keeps (Ref (new_number s) ∷ x.stack) ∷ gs) (record { place = place; went = goes }, waiting_grow program image s.made (one u ∷ []) (result_of own) fs gs below) new.of_frames;
               shown = new.of_frames;
             };
           }))
@@ -390,20 +443,121 @@ module _ (program : Program) (image : Image) where
           let at_start = I.before ps x.at x.keeps (Ref (suc o) ∷ x.stack) low in
           let stop = silent_at_start shapes g.procedure here g.cells code next k st (Ref (suc o)) x.at x.keeps x.stack x.stop in
           let ran = run_at_start shapes g.procedure here g.cells code next k st (Ref (suc o)) x.at x.keeps x.stack x.stop in
-          let on : (w : World Sort) → Grows now w → (v : Value) → Conforms program w q v → Does program (Leads is) w (run_from (x.at + 1) x.keeps x.stack) (x.onto v) = λ w up v c. along program (Leads is) w (run_from (x.at + 1) x.keeps x.stack) (x.code_on (cell_of w v)) (x.onto v) (sym (x.on (cell_of w v))) (x.after w up v c) in
-          let still : Left now (Some t) (i ∷ is) x.at x.keeps (Ref (suc o) ∷ x.stack) = subst (λ r. Does program (Leads is) now (run_from x.at x.keeps (Ref (suc o) ∷ x.stack)) r) (sym x.asks) ((λ z. run_from (x.at + 1) x.keeps x.stack), ran, x.valid, on) in
+          let stop_is = ap (λ n. silent shapes g.procedure n g.cells code x.at x.keeps (Ref (suc o) ∷ x.stack)) (sym (waiting_length program image s.made (result_of own) fs gs below)) ∙ stop in
+          let on : (w : World Sort) → Grows now w → (v : Value) → Conforms program w q v → Does program here (Leads is) w (run_from (x.at + 1) x.keeps x.stack) (x.onto v) = λ w up v c. along program here (Leads is) w (run_from (x.at + 1) x.keeps x.stack) (x.code_on (cell_of w v)) (x.onto v) (sym (x.on (cell_of w v))) (x.after w up v c) in
+          let still = subst (λ r. Does program here (Leads is) now (run_from x.at x.keeps (Ref (suc o) ∷ x.stack)) r) (sym x.asks) ((λ z. run_from (x.at + 1) x.keeps x.stack), ran, x.valid, on) in
           record {
             stores = stores;
             frames = record {
-              now = frames_now (i ∷ is) (Some t) x.at x.keeps (Ref (suc o) ∷ x.stack) still;
+              now = (went_state i is t x.at x.keeps (Ref (suc o) ∷ x.stack) still).same;
               behind = λ z.
-                  subst (λ y. Same program image s.made (S.all_frames ms (S.answered S.done top ∷ fs)) (I.all_frames ps (I.past_stop y at_start ∷ gs))) (sym stop)
+                  subst (λ y. Same program image s.made (S.all_frames ms (S.answered S.done top ∷ fs)) (I.all_frames ps (I.past_stop y at_start ∷ gs))) (sym stop_is)
                   (done_so q x tt refl).same;
             };
             left = refl;
             output = refl;
             begun = refl;
           }
+
+      -- a procedure is called: a frame is made on both sides, and this one waits for its end
+      module _ (n : ℕ) (vs : List Value) (x : Asking (Calls n vs)) where
+        abbrev routine : Routine
+        routine = x.valid.0
+
+        abbrev there : by_number n (routines program) ≡ Some routine
+        there = x.valid.1
+
+        abbrev shape : ProcShape
+        shape = (shaped n routine there).0
+
+        abbrev shape_is : seen_shape shape ≡ shape_of program.types routine
+        shape_is = (shaped n routine there).2
+
+        abbrev behind : I.Frame
+        behind = I.behind ps x.at x.keeps x.stack low
+
+        abbrev new : S.Frame
+        new = S.called_frame program ms routine vs (top ∷ fs) s
+
+        abbrev handed : I.Handed ps
+        handed = both program ps ms s.made (top ∷ fs) s cells shows routine vs x.valid.2 n shape shape_is
+
+        abbrev entered : I.Frame
+        entered = I.called_frame ps n shape handed
+
+        -- with a result the code goes on with it on the stack
+        stacked : (w : World Sort) (v : Value) → past shapes (placed program now (Calls n vs)) (cell_of w v) x.at x.keeps x.stack onward ≡ run_from (x.at + 1) x.keeps (with_answer w (result_of routine.own) v x.stack)
+        stacked w v =
+            let known = own_known program shapes shaped n routine there in
+            ap (λ o. run_from (x.at + 1) x.keeps (if gives_result o then cell_of w v ∷ x.stack else x.stack)) known.1
+            ∙ ap (run_from (x.at + 1) x.keeps) (answer_stacked w (result_of routine.own) known.0.result (λ u. layout_kind program.types (id_of u)) v x.stack known.2)
+
+        conforms : (w : World Sort) (v : Value) → IsAnswer program w (result_of routine.own) v → Conforms program w (Calls n vs) v
+        conforms w v is r e =
+            let same : routine ≡ r = some_same routine r (sym there ∙ e) in
+            subst (λ z. IsAnswer program w (result_of z.own) v) same is
+
+        long : length fs ≡ length gs
+        long = waiting_length program image s.made (result_of own) fs gs below
+
+        deep_same : I.is_deep ps entered (low ∷ gs) ≡ S.is_deep ms new (top ∷ fs)
+        deep_same =
+            let counted = called_counted program ps ms s.made (top ∷ fs) s cells shows routine vs x.valid.2 n shape shape_is in
+            let sums = sum_by-cons (λ (z : I.Frame). z.counted) low gs
+            ∙ (λ j. place.counted_is j + waiting_counted program image s.made (result_of own) fs gs below j)
+            ∙ sym (sum_by-cons (λ (z : S.Frame). z.counted) top fs) in
+            λ j. if nat_lt (suc (sym long j)) 512 then nat_lt 65536 (counted j + sums j) else true
+
+        handed_same : I.handed ps (suc (length gs)) cells shape.params.items (map (cell_of now) vs) (length shape.kinds.items) ≡ Some handed
+        handed_same =
+            ap (λ m. I.handed ps (suc m) cells shape.params.items (map (cell_of now) vs) (length shape.kinds.items)) (sym long)
+            ∙ handed_there program ps ms s.made (top ∷ fs) s cells shows routine vs x.valid.2 n shape shape_is
+
+        enters_alike : (b : Bool) → S.is_deep ms new (top ∷ fs) ≡ b → Alike (S.enters ms b new (top ∷ fs) s) (I.enters ps b entered x.at x.keeps x.stack low gs mem)
+        enters_alike true e = went s mem [] false (Trapped 11 0) _ _ (λ z. z) (state (i ∷ is) (Some t) next k st left)
+        enters_alike false e =
+            let few = few_scalars (length (top ∷ fs)) (sum_by (λ (z : S.Frame). z.counted) (top ∷ fs)) new e in
+            went s mem [] false Went (S.all_frames ms (new ∷ (top ∷ fs))) (I.all_frames ps (entered ∷ (behind ∷ gs))) (λ z. z)
+            (record {
+              stores = stores;
+              same = record {
+                follows = follows;
+                frames = (
+                  record {
+                    place = record {
+                      routine = routine;
+                      there = there;
+                      home_is = refl;
+                      object_is = refl;
+                      at_is = refl;
+                      gives_is = refl;
+                      counted_is = called_counted program ps ms s.made (top ∷ fs) s cells shows routine vs x.valid.2 n shape shape_is;
+                      frame = called_frame_of program ps ms s.made (top ∷ fs) s cells shows routine vs x.valid.2 n shape shape_is few;
+                    };
+                    remains = (refl, routines_run n routine there (length (top ∷ fs)));
+                  },
+                  (
+                    record {
+                      place = place;
+                      goes = λ w up v is'. answered_so (Calls n vs) x w up v (conforms w v is') (with_answer w (result_of routine.own) v x.stack) (stacked w v);
+                    },
+                    below,
+                  ),
+                );
+                shown = (called_shown program ps ms s.made (top ∷ fs) s cells shows routine vs x.valid.2 n shape shape_is, shown);
+              };
+            })
+
+        calls_alike : Alike (S.answer program ms (Calls n vs) top fs s) (I.answer ps shapes (placed program now (Calls n vs)) x.at x.keeps x.stack low gs mem)
+        calls_alike =
+            let cs = map (cell_of now) vs in
+            let image_so : Option ProcShape → I.Turned = λ o. I.calls ps o n cs x.at x.keeps x.stack low gs mem in
+            let handed_so : Option (I.Handed ps) → I.Turned = λ o. I.calls_with ps n shape o x.at x.keeps x.stack low gs mem in
+            subst (λ o. Alike (S.calls program ms o vs top fs s) (image_so (numbered shapes n))) (sym there)
+            (subst (λ o. Alike (S.calls program ms (Some routine) vs top fs s) (image_so o)) (sym (shaped n routine there).1)
+            (subst (λ o. Alike (S.calls program ms (Some routine) vs top fs s) (handed_so o)) (sym handed_same)
+            (subst (λ b. Alike (S.calls program ms (Some routine) vs top fs s) (I.enters ps b entered x.at x.keeps x.stack low gs mem)) (sym deep_same)
+            (enters_alike (S.is_deep ms new (top ∷ fs)) refl))))
 
       -- a character is written
       chars_alike : (c : ℕ) (x : Asking (PutsChar (Char c))) → Alike (S.answer program ms (PutsChar (Char c)) top fs s) (I.answer ps shapes (placed program now (PutsChar (Char c))) x.at x.keeps x.stack low gs mem)
@@ -433,91 +587,135 @@ module _ (program : Program) (image : Image) where
       work_alike (Copies u from to) x = copies_alike u from to x
       work_alike (PutsText strict from n to room) x = texts_put_alike strict from n to room x
       work_alike (ComparesTexts r a n b m) x = compares_alike r a n b m x
-      work_alike (Calls p vs) x = absurd x.valid
+      work_alike (Calls n vs) x = calls_alike n vs x
       work_alike (Ends r) x = absurd x.valid
       work_alike (PutsString a n) x = strings_alike a n x
-      work_alike (Places a) x = absurd x.valid
-      work_alike (Lengths a) x = absurd x.valid
+      work_alike (Places a) x = absurd x.visible
+      work_alike (Lengths a) x = absurd x.visible
 
       -- a question of the item is its code's
-      asks_alike : (q : source.Question) (f' : Value → Doing After) (d : Does program (Leads is) now (run_from next k st) (Asks q f')) (stop : Stop) → feed t (item_of i) ≡ Asks q f' → stop_from next k st ≡ stop → AtWork shapes g.procedure here code (placed program now q) d.0 stop → Alike (S.answer program ms q top fs s) (I.goes ps shapes stop low gs mem)
-      asks_alike q f' d stop asks e v =
+      asks_alike : (q : source.Question) (f' : Value → Doing After) (stop : Stop) → IsVisible q → feed t (item i) ≡ Asks q f' → stop_from next k st ≡ stop → (m : Run) → resumed stop ≡ calm g.cells m → Does program here (Leads is) now (calm g.cells m) (Asks q f') → Alike (S.answer program ms q top fs s) (I.goes ps shapes stop low gs mem)
+      asks_alike q f' stop visible asks e m seen d =
+          let v = stop_works shapes g.procedure here code stop (placed program now q) d.0 (seen ∙ d.1) in
           subst (λ z. Alike (S.answer program ms q top fs s) (I.goes ps shapes z low gs mem)) (sym v.is)
-          (work_alike q (record { onto = f'; code_on = d.0; at = v.at; keeps = v.keeps; stack = v.stack; asks = asks; valid = d.2; on = v.on; after = d.3; stop = e ∙ v.is }))
+          (work_alike q (record { onto = f'; code_on = d.0; at = v.at; keeps = v.keeps; stack = v.stack; visible = visible; asks = asks; valid = d.2; on = v.on; after = d.3; stop = e ∙ v.is }))
 
-    -- where silent work stops at a question of an item that goes on without a beginning, or of one that has begun
-    stops_at : (q : source.Question) (stop : Stop) (m : Run) (d : Cell → Run) → Valid program now q → resumed stop ≡ calm g.cells m → m ≡ Asks (placed program now q) d → AtWork shapes g.procedure here code (placed program now q) d stop
-    stops_at q stop m d valid seen e = stop_works shapes g.procedure here code stop (placed program now q) d (seen ∙ ap (calm g.cells) e ∙ calm_placed program g.cells now q d valid)
-
-    module _ (items : List Item) (answers : Option (List Value)) (next : ℕ) (k : Keeps) (st : Stack) (left : Left now answers items next k st) (stop : Stop) (is_stop : stop_from next k st ≡ stop) (seen : resumed stop ≡ calm g.cells (run_from next k st)) where
+    module _ (items : List Item) (answers : Option (List Value)) (next : ℕ) (k : Keeps) (st : Stack) (left : Left now answers items next k st) (stop : Stop) (is_stop : stop_from next k st ≡ stop) where
       abbrev BothGo : S.Turned → Type 0
       BothGo t = Alike t (I.goes ps shapes stop (lower next k st) gs mem)
 
-      abbrev Onto : List Item → Type 0
-      Onto is = GoesOn program shapes g.procedure here code is (run_from next k st)
+      abbrev Onto : List Item → Run → Type 0
+      Onto is m = GoesOn program own shapes g.procedure here code is m
 
-      -- the condition behind a REPEAT's statements
-      tests_alike : (there : Pos) (b : Stats) (e : Expr) (is : List Item) (r : Doing Value) → let l = Do (Repeat there b e) in value_of e ≡ r → Does program (Leads is) now (run_from next k st) (bind r (λ v. Val (Into (if is_true v then [] else l ∷ [])))) → (Onto is → BothGo (S.settles program ms is (upper items answers) fs s)) → (Onto (l ∷ is) → BothGo (S.begins ms there (l ∷ is) (upper items answers) fs s)) →
-          BothGo (S.tests program ms r (S.settles program ms is (upper items answers) fs s) (S.begins ms there (l ∷ is) (upper items answers) fs s) (Until there b e ∷ is) (upper items answers) fs s)
-      tests_alike there b e is (Val v) is_r d ends again = by (is_true v) d
-        where
-          by : (c : Bool) → Onto ((if c then [] else Do (Repeat there b e) ∷ []) ++ is) → BothGo (if c then S.settles program ms is (upper items answers) fs s else S.begins ms there (Do (Repeat there b e) ∷ is) (upper items answers) fs s)
-          by true o = ends o
-          by false o = again o
-      tests_alike there b e is (Asks q f) is_r d ends again =
-          let on : Value → Doing After = λ v. Val (Into (if is_true v then [] else Do (Repeat there b e) ∷ [])) in
-          let asks : item_of (Until there b e) ≡ Asks q (λ v. bind (f v) on) = ap (λ r. bind r on) is_r in
-          let old : Left now (Some []) (Until there b e ∷ is) next k st = subst (λ r. Does program (Leads is) now (run_from next k st) r) (sym asks) d in
-          asks_alike (Until there b e) is [] next k st old q (λ v. bind (f v) on) d stop asks is_stop (stops_at q stop (run_from next k st) d.0 d.2 seen d.1)
-      tests_alike there b e is (Traps n c) is_r d ends again =
-          let v = stop_fails shapes g.procedure here code stop n c (seen ∙ ap (calm g.cells) d.0) in
-          traps_alike items answers next k st n c stop v.0 left v.1
+      -- silent work of the frame's code stops as this run does
+      abbrev Seen : Run → Type 0
+      Seen m = resumed stop ≡ calm g.cells m
+
+      seen_from : (m : Run) → Seen m → calm g.cells (run_from next k st) ≡ calm g.cells m
+      seen_from m e = run_by_silent shapes g.procedure here g.cells code next k st ∙ ap resumed is_stop ∙ e
+
+      -- the condition behind a REPEAT's statements, which has been asked what the frame itself tells
+      module _ (there : Pos) (b : Stats) (e : Expr) (is : List Item) where
+        abbrev again : Item
+        again = Do (Repeat there b e)
+
+        abbrev test : Doing Value
+        test = value_of program here e
+
+        abbrev told : Option (List Value)
+        told = Some (S.noted f.variables test)
+
+        abbrev on : Value → Doing After
+        on v = Val (Into (if is_true v then [] else again ∷ []))
+
+        tests_alike : (m : Run) → Seen m → (r : Doing Value) → S.calm f.variables test ≡ r → IsCalm r → Calm is m (S.calm f.variables (bind r on)) → Left now told (Until there b e ∷ is) next k st → ((m' : Run) → Seen m' → Onto is m' → BothGo (S.settles program ms is (upper items answers) fs s)) → ((m' : Run) → Seen m' → Onto (again ∷ is) m' → BothGo (S.begins ms there (again ∷ is) (upper items answers) fs s)) →
+            BothGo (S.tests program ms r (S.settles program ms is (upper items answers) fs s) (S.begins ms there (again ∷ is) (upper items answers) fs s) (upper (Until there b e ∷ is) told) fs s)
+        tests_alike m seen (Val v) is_r visible d old ends begins = by (is_true v) d
+          where
+            by : (c : Bool) → Calm is m (Val (Into (if c then [] else again ∷ []))) → BothGo (if c then S.settles program ms is (upper items answers) fs s else S.begins ms there (again ∷ is) (upper items answers) fs s)
+            by true o = ends o.0 (seen ∙ o.1) o.2
+            by false o = begins o.0 (seen ∙ o.1) o.2
+        tests_alike m seen (Asks q h) is_r visible d old ends begins =
+            let asks : feed (S.noted f.variables test) (item (Until there b e)) ≡ Asks q (λ v. bind (h v) on) = feed_noted_bind f.variables on test ∙ ap (λ r. bind r on) is_r in
+            asks_alike (Until there b e) is (S.noted f.variables test) next k st old q (λ v. bind (h v) on) stop visible asks is_stop m seen
+            (subst (λ r. Calm is m r) (calm_visible_same f.variables q (λ v. bind (h v) on) visible) d)
+        tests_alike m seen (Traps n c) is_r visible d old ends begins =
+            let v = stop_fails shapes g.procedure here code stop n c (seen ∙ d.0) in
+            traps_alike (Until there b e ∷ is) told next k st n c stop v.0 old v.1
+
+        -- what is left of it, where the code comes to this
+        test_left : (m : Run) → Seen m → Calm is m (S.calm f.variables (bind (S.calm f.variables test) on)) → Left now told (Until there b e ∷ is) next k st
+        test_left m seen d =
+            subst (λ z. Calmly program here (Leads is) g.cells now z (S.calm f.variables (feed (S.noted f.variables test) (item (Until there b e))))) (sym (seen_from m seen))
+            (subst (λ r. Calm is m (S.calm f.variables r)) (sym (feed_noted_bind f.variables on test)) d)
+
+      -- a body's end
+      finishes_alike : (m : Run) → Seen m → (r : Option TType) → result_of own ≡ r → AtEnd r m → BothGo (S.finishes program ms (is_some r) (upper items answers) fs s)
+      finishes_alike m seen None e o =
+          ends_alike None (lower next k st) stop o.0 (subst (λ r. IsResult program now r None) (sym e) tt) (seen ∙ ap (calm g.cells) o.1)
+      finishes_alike m seen (Some t) e o =
+          let v = stop_fails shapes g.procedure here code stop 10 0 (seen ∙ ap (calm g.cells) o) in
+          traps_alike items answers next k st 10 0 stop v.0 left v.1
 
       -- what is next of these items
-      settles_alike : (is : List Item) → Onto is → BothGo (S.settles program ms is (upper items answers) fs s)
-      settles_alike [] o =
-          let x = ends program shapes g.procedure here code place.gives.0 (run_from next k st) place.gives.1 place.gives.2 o in
-          ends_alike (lower next k st) stop x.0 (seen ∙ ap (calm g.cells) x.1)
-      settles_alike (Do x ∷ is) o =
-          begins_alike (pos_of x) (Do x) is items answers next k st stop (run_from next k st) (items_do shapes g.procedure here code now (Do x ∷ is) (run_from next k st) typed knows o) seen
-      settles_alike (Rounds there a q last step b ∷ is) o =
-          begins_alike there (Rounds there a q last step b) is items answers next k st stop (run_from next k st) (items_do shapes g.procedure here code now (Rounds there a q last step b ∷ is) (run_from next k st) typed knows o) seen
-      settles_alike (Round x ∷ is) o =
-          begins_alike (pos_of x) (Do x) is items answers next k st stop (run_from next k st) (items_do shapes g.procedure here code now (Round x ∷ is) (run_from next k st) typed knows o) seen
-      settles_alike (Until there b e ∷ is) o =
-          tests_alike there b e is (value_of e) refl (items_do shapes g.procedure here code now (Until there b e ∷ is) (run_from next k st) typed knows o) (λ o'. settles_alike is o')
-          (λ o'. begins_alike there (Do (Repeat there b e)) is items answers next k st stop (run_from next k st) (items_do shapes g.procedure here code now (Do (Repeat there b e) ∷ is) (run_from next k st) typed knows o') seen)
+      settles_alike : (is : List Item) (m : Run) → Seen m → Onto is m → BothGo (S.settles program ms is (upper items answers) fs s)
+      settles_alike [] m seen o =
+          subst (λ b. BothGo (S.finishes program ms b (upper items answers) fs s)) (sym place.gives_is)
+          (finishes_alike m seen (result_of own) refl (items_do own shapes g.procedure here code now [] m typed shaped is_own knows o))
+      settles_alike (Do x ∷ is) m seen o =
+          begins_alike (pos_of x) (Do x) is items answers next k st stop m (items_do own shapes g.procedure here code now (Do x ∷ is) m typed shaped is_own knows o) seen
+      settles_alike (Rounds there a q last step b ∷ is) m seen o =
+          begins_alike there (Rounds there a q last step b) is items answers next k st stop m (items_do own shapes g.procedure here code now (Rounds there a q last step b ∷ is) m typed shaped is_own knows o) seen
+      settles_alike (Round x ∷ is) m seen o =
+          begins_alike (pos_of x) (Do x) is items answers next k st stop m (items_do own shapes g.procedure here code now (Round x ∷ is) m typed shaped is_own knows o) seen
+      settles_alike (Until there b e ∷ is) m seen o =
+          let c = f.variables in
+          let r = value_of program here e in
+          let does = items_do own shapes g.procedure here code now (Until there b e ∷ is) m typed shaped is_own knows o in
+          let d = subst (Calm is m) (calm_bind c (on there b e is) r) (calmed is m (item (Until there b e)) does) in
+          tests_alike there b e is m seen (S.calm c r) refl (calm_seen c r) d (test_left there b e is m seen d) (λ m' seen' o'. settles_alike is m' seen' o')
+          (λ m' seen' o'. begins_alike there (Do (Repeat there b e)) is items answers next k st stop m' (items_do own shapes g.procedure here code now (Do (Repeat there b e) ∷ is) m' typed shaped is_own knows o') seen')
 
     -- what an item that has begun comes to
-    goes_alike : (i : Item) (is : List Item) (t : List Value) (next : ℕ) (k : Keeps) (st : Stack) (left : Left now (Some t) (i ∷ is) next k st) (r : Doing After) → feed t (item_of i) ≡ r → Does program (Leads is) now (run_from next k st) r → Alike (S.goes program ms r is (upper (i ∷ is) (Some t)) fs s) (I.goes ps shapes (stop_from next k st) (lower next k st) gs mem)
-    goes_alike i is t next k st left (Val (Into new)) asks d =
-        settles_alike (i ∷ is) (Some t) next k st left (stop_from next k st) refl (sym (run_by_silent shapes g.procedure here g.cells code next k st)) (new ++ is) d
-    goes_alike i is t next k st left (Val Exits) asks d =
-        settles_alike (i ∷ is) (Some t) next k st left (stop_from next k st) refl (sym (run_by_silent shapes g.procedure here g.cells code next k st)) (leave is) d
-    goes_alike i is t next k st left (Asks q f') asks d =
-        asks_alike i is t next k st left q f' d (stop_from next k st) asks refl
-        (stops_at q (stop_from next k st) (run_from next k st) d.0 d.2 (sym (run_by_silent shapes g.procedure here g.cells code next k st)) d.1)
-    goes_alike i is t next k st left (Traps n c) asks d =
-        let v = stop_fails shapes g.procedure here code (stop_from next k st) n c (sym (run_by_silent shapes g.procedure here g.cells code next k st) ∙ ap (calm g.cells) d.0) in
+    goes_alike : (i : Item) (is : List Item) (t : List Value) (next : ℕ) (k : Keeps) (st : Stack) (left : Left now (Some t) (i ∷ is) next k st) (r : Doing After) → feed t (item i) ≡ r → IsCalm r → Calm is (run_from next k st) r → Alike (S.goes program ms r is (upper (i ∷ is) (Some t)) fs s) (I.goes ps shapes (stop_from next k st) (lower next k st) gs mem)
+    goes_alike i is t next k st left (Val (Into new)) asks visible d =
+        settles_alike (i ∷ is) (Some t) next k st left (stop_from next k st) refl (new ++ is) d.0 (sym (run_by_silent shapes g.procedure here g.cells code next k st) ∙ d.1) d.2
+    goes_alike i is t next k st left (Val Exits) asks visible d =
+        settles_alike (i ∷ is) (Some t) next k st left (stop_from next k st) refl (leave is) d.0 (sym (run_by_silent shapes g.procedure here g.cells code next k st) ∙ d.1) d.2
+    goes_alike i is t next k st left (Val (Returns r)) asks visible d =
+        ends_alike r (lower next k st) (stop_from next k st) d.2.0 d.2.2 (sym (run_by_silent shapes g.procedure here g.cells code next k st) ∙ d.1 ∙ ap (calm g.cells) d.2.1)
+    goes_alike i is t next k st left (Asks q f') asks visible d =
+        asks_alike i is t next k st left q f' (stop_from next k st) visible asks refl (run_from next k st) (sym (run_by_silent shapes g.procedure here g.cells code next k st)) d
+    goes_alike i is t next k st left (Traps n c) asks visible d =
+        let v = stop_fails shapes g.procedure here code (stop_from next k st) n c (sym (run_by_silent shapes g.procedure here g.cells code next k st) ∙ d.0) in
         traps_alike (i ∷ is) (Some t) next k st n c (stop_from next k st) v.0 left v.1
 
     -- what is left of the frame goes on
     top_alike : (answers : Option (List Value)) (items : List Item) (next : ℕ) (k : Keeps) (st : Stack) → Left now answers items next k st → Alike (S.item_turn program ms answers items (upper items answers) fs s) (I.goes ps shapes (stop_from next k st) (lower next k st) gs mem)
     top_alike None is next k st r =
         subst (λ y. Alike (S.settles program ms is (upper is None) fs s) (I.goes ps shapes (stop_from next k y) (lower next k y) gs mem)) (sym r.0)
-        (settles_alike is None next k [] (refl, r.1) (stop_from next k []) refl (sym (run_by_silent shapes g.procedure here g.cells code next k [])) is r.1)
+        (settles_alike is None next k [] (refl, r.1) (stop_from next k []) refl is (run_from next k []) (sym (run_by_silent shapes g.procedure here g.cells code next k [])) r.1)
     top_alike (Some t) [] next k st r = absurd r
-    top_alike (Some t) (i ∷ is) next k st r = goes_alike i is t next k st r (feed t (item_of i)) refl r
+    top_alike (Some t) (i ∷ is) next k st r =
+        let c = f.variables in
+        let before = feed t (item i) in
+        let all = t ++ S.noted c before in
+        let asks : feed all (item i) ≡ S.calm c before = feed-append t (S.noted c before) (item i) ∙ feed_noted c before in
+        let left : Left now (Some all) (i ∷ is) next k st = subst (Calm is (run_from next k st)) (sym (ap (S.calm c) asks ∙ calm_again c before)) r in
+        goes_alike i is all next k st left (S.calm c before) asks (calm_seen c before) r
 
-  frames_alike : HasTypes program → ItemsDo program → (ms ps : List ℕ) (fs : List S.Frame) (gs : List I.Frame) (s : Store) (mem : Memory) → SameStore program s mem → Follows program image ms ps → SameFrames program image s.made fs gs → SameVariables program s.made fs gs → Alike (S.turn_at program ms fs s) (I.turn_at image ps gs mem)
-  frames_alike p d ms ps [] [] s mem stores follows h shown =
-      went s mem [] false NoFrame _ _ (λ z. z) (record { stores = stores; same = record { follows = follows; frames = tt; shown = tt } })
-  frames_alike p d ms ps [] (g ∷ gs) s mem stores follows h shown = absurd h
-  frames_alike p d ms ps (f ∷ fs) [] s mem stores follows h shown = absurd h
-  frames_alike p d ms ps (f ∷ fs) (g ∷ gs) s mem stores follows h shown =
-      top_alike p d ms ps f g fs gs s mem h.0.place follows h.1 stores shown f.answers f.items g.next g.keeps g.stack h.0.remains
+  module _ (typed : HasTypes program) (shaped : HasShapes program image.shapes.items) (routines_run : RoutinesRun program image) (items_do : ItemsDo program) where
+    frames_alike : (ms ps : List ℕ) (fs : List S.Frame) (gs : List I.Frame) (s : Store) (mem : Memory) → SameStore program s mem → Follows program image ms ps → SameFrames program image s.made fs gs → SameVariables program s.made fs gs → Alike (S.turn_at program ms fs s) (I.turn_at image ps gs mem)
+    frames_alike ms ps [] [] s mem stores follows h shown =
+        went s mem [] false NoFrame _ _ (λ z. z) (record { stores = stores; same = record { follows = follows; frames = tt; shown = tt } })
+    frames_alike ms ps [] (g ∷ gs) s mem stores follows h shown = absurd h
+    frames_alike ms ps (f ∷ fs) [] s mem stores follows h shown = absurd h
+    frames_alike ms ps (f ∷ fs) (g ∷ gs) s mem stores follows h shown =
+        let place = h.0.place in
+        subst (λ n. Alike (S.turn_at program ms (f ∷ fs) s) (I.goes ps image.shapes.items (silent image.shapes.items g.procedure n g.cells (code_of image g.procedure) g.next g.keeps g.stack) g gs mem)) (waiting_length program image s.made (result_of place.routine.own) fs gs h.1)
+        (top_alike typed shaped routines_run items_do ms ps f g fs gs s mem place follows h.1 stores shown f.answers f.items g.next g.keeps g.stack h.0.remains)
 
-  pub turn_alike : HasTypes program → ItemsDo program → (s : Store) (mem : Memory) (x : S.Frames) (y : I.Frames) → SameStore program s mem → Same program image s.made x y → Alike (S.turn program s x) (I.turn image mem y)
-  turn_alike p d s mem x y stores h =
-      let o = opened_same program image s.made x y h in
-      frames_alike p d (S.opened program x).following (I.opened y).following (S.opened program x).frames (I.opened y).frames s mem stores o.follows o.frames o.shown
+    pub turn_alike : (s : Store) (mem : Memory) (x : S.Frames) (y : I.Frames) → SameStore program s mem → Same program image s.made x y → Alike (S.turn program s x) (I.turn image mem y)
+    turn_alike s mem x y stores h =
+        let o = opened_same program image routines_run s.made x y h in
+        frames_alike (S.opened program x).following (I.opened y).following (S.opened program x).frames (I.opened y).frames s mem stores o.follows o.frames o.shown

@@ -1,34 +1,36 @@
--- The variables and string constants of modules: each stands at the cell that its code names, and a variable of a basic type or of an
--- object type is one scalar.
-use Rattle.std.proofs.Common.{◌≡◌, ℕ, zero, suc, ◌+◌, List, [], ◌∷◌, ◌++◌, length, map, Option, Some, None, true, if◌then◌else◌, refl, sym, ap, ◌∙◌, subst, arith}
-use Rattle.std.specs.Prelude.{slice_get, option_map, option_and_then}
+-- The variables and string constants of modules, and the parameters and locals of a frame: each stands at the cell that its code
+-- names, and a variable of a basic type or of an object type is one scalar.
+use Rattle.std.proofs.Common.{◌≡◌, ℕ, zero, suc, ◌+◌, ◌<◌, ◌^◌, List, [], ◌∷◌, ◌++◌, length, map, Option, Some, None, Bool, true, false, if◌then◌else◌, refl, sym, ap, ◌∙◌, subst, arith}
+use Rattle.std.proofs.Common.{◌⊎◌, inl, inr}
+use Rattle.std.specs.Prelude.{All, slice_get, option_map, option_and_then}
 use Rattle.std.proofs.lemmas.Bool.{eq-eqb}
 use Rattle.std.proofs.lemmas.List.{length-map}
 use Rattle.std.proofs.lemmas.Option.{slice_get-map}
 use Rattle.aos_base.specs.declared.number.Width.TheVariants.{W8, W16, W32, W64}
-use Rattle.aos_base.specs.declared.place.Root.TheVariants.{Module as ModuleRoot}
+use Rattle.aos_base.specs.declared.place.Root.TheVariants.{Frame as FrameRoot, Module as ModuleRoot}
 use Rattle.aos_types.specs.declared.row.TypeId.{TypeId}
 use Rattle.aos_types.specs.declared.row.TypeRow.{TypeRow}
 use Rattle.aos_types.specs.declared.row.TypeRow.TheVariants as row
-use Rattle.aos_types.specs.Table.{row_of, is_object}
-use Rattle.aos_types.specs.Shape.{Shape, One, part, offset, number_of, shaped}
+use Rattle.aos_types.specs.Table.{row_of, is_object, is_open}
+use Rattle.aos_types.specs.Shape.{Shape, One, Pair, size, part, inside, offset, number_of, shaped, row as row_of_shapes}
 use Rattle.aos_types.specs.Contents.{contents, with_parts, unfolded}
 use Rattle.aos_types.specs.World.{World, shape_at, cell_at}
 use Rattle.aos_types.specs.Extension.{comes_by}
 use Rattle.aos_typed.specs.declared.tree.TType.{TType}
 use Rattle.aos_typed.specs.declared.tree.TType.TheVariants as type
-use Rattle.aos_typed.specs.Program.{ModuleVar, Variable, Module, Program}
+use Rattle.aos_typed.specs.Program.{ModuleVar, Variable, Parameter, Procedure, Module, Program}
+use Rattle.aos_typed.specs.Open.{open_dimensions, open_element}
 use Rattle.aos_typed.specs.Numbers.{id_of}
-use Rattle.aos_typed.specs.Sort.{Sort, Plain, variable_shape}
+use Rattle.aos_typed.specs.Sort.{Sort, Plain, Alias, Elements, Length, variable_shape}
 use Rattle.aos_typed.specs.Text.{text_shape}
 use Rattle.aos_typed.specs.Value.{Value, Object}
 use Rattle.aos_typed.specs.Typing.{Is, IsPlainly, IsReference}
 use Rattle.aos_typed.specs.Source.{module_shape}
-use Rattle.aos_typed.specs.WellTyped.{is_basic, variable_type, IsConstantText}
-use Rattle.aos_sim.specs.Code.{variable_cell}
+use Rattle.aos_typed.specs.WellTyped.{is_basic, variable_type, IsConstantText, IsLength, IsParameter, IsLocal, IsByReference, IsByValue}
+use Rattle.aos_sim.specs.Code.{variable_cell, own_cell}
 use Rattle.aos_sim.proofs.Types.{IsValueOf, basic_of, from_basic, to_basic}
-use Rattle.aos_sim.proofs.Parts.{part_of_row}
-use Rattle.aos_sim.proofs.Does.{HasPredeclared, Knows, characters}
+use Rattle.aos_sim.proofs.Parts.{part_of_row, within_root}
+use Rattle.aos_sim.proofs.Does.{HasPredeclared, HasTypes, IsPart, IsStood, KnowsModules, KnowsFrame, characters}
 use Rattle.aos_sim.proofs.First.{get_left, get_right}
 
 -- each type comes to itself
@@ -149,25 +151,100 @@ module _ (program : Program) where
       (get_right vs (map text_shape x.texts) k is.behind behind ∙ slice_get-map text_shape x.texts is.behind
       ∙ ap (option_map text_shape) is.there ∙ ap (λ j. Some (characters j)) (sym is.long))
 
-  module _ (w : World Sort) (known : Knows program w) (m k : ℕ) where
+  module _ (w : World Sort) (known : KnowsModules program w) (m k : ℕ) where
     part_there : (s : Shape Sort) → Stood m k s → shape_at w (ModuleRoot m) (k ∷ []) ≡ Some s
     part_there s h =
         ap (option_and_then (λ x. option_and_then (λ y. Some y) (part k x))) (known m h.whole h.there) ∙ ap (option_and_then (λ y. Some y)) h.part
 
-    part_cell : (s : Shape Sort) → Stood m k s → cell_at w (ModuleRoot m) (k ∷ []) ≡ variable_cell program m k
-    part_cell s h = ap (number_of (offset (k ∷ []))) (known m h.whole h.there ∙ sym h.there)
+    part_cell : (own : Option Procedure) (s : Shape Sort) → Stood m k s → cell_at w (ModuleRoot m) (k ∷ []) ≡ variable_cell program own m k
+    part_cell own s h = ap (number_of (offset (k ∷ []))) (known m h.whole h.there ∙ sym h.there)
+
+    part_few : HasTypes program → (s : Shape Sort) → Stood m k s → cell_at w (ModuleRoot m) (k ∷ []) + size s < 2 ^ 32
+    part_few typed s h =
+        let all = typed.few m h.whole h.there in
+        let within = within_root w (ModuleRoot m) h.whole (known m h.whole h.there) (k ∷ []) s (part_there s h) in
+        omega (arith, all, within)
 
     module _ (t : TType) (of : variable_type program m k ≡ Some t) where
       pub variable_there : shape_at w (ModuleRoot m) (k ∷ []) ≡ Some (variable_shape program.types (id_of t))
       variable_there = part_there (variable_shape program.types (id_of t)) (stood m k t of)
 
-      pub cell_there : cell_at w (ModuleRoot m) (k ∷ []) ≡ variable_cell program m k
-      cell_there = part_cell (variable_shape program.types (id_of t)) (stood m k t of)
+      pub variable_few : HasTypes program → cell_at w (ModuleRoot m) (k ∷ []) + size (variable_shape program.types (id_of t)) < 2 ^ 32
+      variable_few typed = part_few typed (variable_shape program.types (id_of t)) (stood m k t of)
+
+      pub cell_there : (own : Option Procedure) → cell_at w (ModuleRoot m) (k ∷ []) ≡ variable_cell program own m k
+      cell_there own = part_cell own (variable_shape program.types (id_of t)) (stood m k t of)
 
     -- a string constant
     module _ (n : ℕ) (of : IsConstantText program (ModuleVar m k) n) where
       pub constant_there : shape_at w (ModuleRoot m) (k ∷ []) ≡ Some (characters n)
       constant_there = part_there (characters n) (constant_stood m k n of)
 
-      pub constant_cell : cell_at w (ModuleRoot m) (k ∷ []) ≡ variable_cell program m k
-      constant_cell = part_cell (characters n) (constant_stood m k n of)
+      pub constant_few : HasTypes program → cell_at w (ModuleRoot m) (k ∷ []) + size (characters n) < 2 ^ 32
+      constant_few typed = part_few typed (characters n) (constant_stood m k n of)
+
+      pub constant_cell : (own : Option Procedure) → cell_at w (ModuleRoot m) (k ∷ []) ≡ variable_cell program own m k
+      constant_cell own = part_cell own (characters n) (constant_stood m k n of)
+
+-- The parameters and locals of a frame.
+
+part_by_value : (p : Program) (o b : Bool) (t : TypeId) (m : Shape Sort) → o ≡ false → b ≡ false → IsPart p o b t m → m ≡ variable_shape p.types t
+part_by_value p true b t m e f h = absurd (cc)
+part_by_value p false true t m e f h = absurd (cc)
+part_by_value p false false t m e f h = h
+
+part_by_reference : (p : Program) (o b : Bool) (t : TypeId) (m : Shape Sort) → o ≡ false → b ≡ true → IsPart p o b t m → m ≡ One (Alias t)
+part_by_reference p true b t m e f h = absurd (cc)
+part_by_reference p false true t m e f h = h
+part_by_reference p false false t m e f h = absurd (cc)
+
+-- the lengths of an open array parameter, and its part of the frame
+pub record IsOpened (p : Program) (t : TypeId) (m : Shape Sort) : Type 0 where
+  pub lengths : List ℕ
+  pub many : length lengths ≡ open_dimensions p.types t
+  pub bound : All IsLength lengths
+  pub is : m ≡ Pair (One (Elements (open_element p.types t) lengths)) (row_of_shapes (map (λ n. One (Length n)) lengths))
+
+part_opened : (p : Program) (o b : Bool) (t : TypeId) (m : Shape Sort) → o ≡ true → IsPart p o b t m → IsOpened p t m
+part_opened p true b t m e h = record { lengths = h.0; many = h.1; bound = h.2; is = h.3 }
+part_opened p false b t m e h = absurd (cc)
+
+module _ (program : Program) (own : Option Procedure) (here : ℕ) (w : World Sort) (known : KnowsFrame program own here w) where
+  -- a part of the frame is there, at the cell that its code takes for it
+  pub record OwnThere (k : ℕ) (m : Shape Sort) : Type 0 where
+    pub there : shape_at w (FrameRoot here) (k ∷ []) ≡ Some m
+    pub cell : cell_at w (FrameRoot here) (k ∷ []) ≡ own_cell program own k
+    pub few : cell_at w (FrameRoot here) (k ∷ []) + size m < 2 ^ 32
+
+  own_there : (k : ℕ) (m : Shape Sort) → IsStood program own known.0 k m → OwnThere k m
+  own_there k m h =
+      let there : shape_at w (FrameRoot here) (k ∷ []) ≡ Some m = ap (option_and_then (inside (k ∷ []))) known.1 ∙ ap (option_and_then (λ y. Some y)) h.there in
+      let within = within_root w (FrameRoot here) known.0 known.1 (k ∷ []) m there in
+      let few = known.2.few in
+      record { there = there; cell = ap (number_of (offset (k ∷ []))) known.1 ∙ h.cell; few = omega (arith, within, few) }
+
+  -- a local, or a parameter by value
+  pub local_there : (k : ℕ) (t : TType) → IsLocal program own k t ⊎ ((a : Parameter) × IsParameter program own k a × IsByValue program a t) → OwnThere k (variable_shape program.types (id_of t))
+  local_there k t (inl h) = own_there k (variable_shape program.types (id_of t)) (known.2.locals k t h)
+  local_there k t (inr h) =
+      let a = h.0 in
+      let q = known.2.parameters k a h.1 in
+      let e : q.0 ≡ variable_shape program.types (id_of t) = part_by_value program (is_open (row_of program.types (id_of a.of))) a.by_reference (id_of a.of) q.0 h.2.0 h.2.1 q.2 ∙ ap (λ u. variable_shape program.types (id_of u)) h.2.2 in
+      subst (OwnThere k) e (own_there k q.0 q.1)
+
+  -- what a VAR parameter stands for has the parameter's type
+  pub alias_there : (k : ℕ) (t : TType) (a : Parameter) → IsParameter program own k a → IsByReference program a t → OwnThere k (One (Alias (id_of t)))
+  alias_there k t a is h =
+      let q = known.2.parameters k a is in
+      let e : q.0 ≡ One (Alias (id_of t)) = part_by_reference program (is_open (row_of program.types (id_of a.of))) a.by_reference (id_of a.of) q.0 h.0 h.1 q.2 ∙ ap (λ u. One (Alias (id_of u))) h.2 in
+      subst (OwnThere k) e (own_there k q.0 q.1)
+
+  pub record OpenThere (k : ℕ) (t : TypeId) : Type 0 where
+    pub part : Shape Sort
+    pub there : OwnThere k part
+    pub opened : IsOpened program t part
+
+  pub open_there : (k : ℕ) (a : Parameter) → IsParameter program own k a → is_open (row_of program.types (id_of a.of)) ≡ true → OpenThere k (id_of a.of)
+  open_there k a is e =
+      let q = known.2.parameters k a is in
+      record { part = q.0; there = own_there k q.0 q.1; opened = part_opened program (is_open (row_of program.types (id_of a.of))) a.by_reference (id_of a.of) q.0 e q.2 }

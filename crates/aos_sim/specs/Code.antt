@@ -1,6 +1,6 @@
 -- The code of a program. A jump names its target, so each piece of code is told where it stands. Code of statements is told too where
 -- EXIT leads, and how many FORs and CASEs are around it: what one of them keeps has this number, so that what is in it keeps nothing there.
-use Rattle.std.specs.Prelude.{ℕ, suc, ℤ, pos, ◌+◌, ◌*◌, List, [], ◌∷◌, ◌++◌, length, map, slice_get}
+use Rattle.std.specs.Prelude.{ℕ, zero, suc, ℤ, pos, ◌+◌, ◌-◌, ◌*◌, Option, Some, None, option_map, List, [], ◌∷◌, ◌++◌, length, map, slice_get}
 use Rattle.aos_base.specs.declared.text.Pos.{Pos}
 use Rattle.aos_base.specs.declared.operator.Unary.TheVariants.{Range}
 use Rattle.aos_base.specs.declared.number.Width.{Width}
@@ -15,8 +15,10 @@ use Rattle.aos_typed.specs.declared.tree.Change.{Change as Changing}
 use Rattle.aos_typed.specs.declared.tree.Change.TheVariants as change
 use Rattle.aos_typed.specs.declared.tree.LabelRange.{LabelRange}
 use Rattle.aos_typed.specs.Meaning.{until}
-use Rattle.aos_typed.specs.Numbers.{id_of}
-use Rattle.aos_typed.specs.Program.{Place, ModuleVar, Field, Index, Expr, Lit, Read, Unary, Binary, And, Or, Element, Ord, Chr, CompareTexts, Len, Call, Open, Char, Int, String, Ln, Stat, Assign, Copy, PutText, If, Case, While, Repeat, Loop, Exit, For, Block, Assert, Halt, Change, New, Out, Stats, Nothing, Then, Arms, Otherwise, Arm, Cases, NoElse, Else, OfLabels, Program}
+use Rattle.aos_typed.specs.Numbers.{id_of, procedure_number}
+use Rattle.aos_typed.specs.Routines.{result_of}
+use Rattle.aos_layout.specs.Frame.{frame}
+use Rattle.aos_typed.specs.Program.{Place, ModuleVar, Local, Passed, Field, Index, Of, Rows, Known, Opened, Row, Arguments, NoMore, Scalar, Whole, Opening, Expr, Lit, Read, Unary, Binary, And, Or, Element, Ord, Chr, CompareTexts, Len, LenBehind, Function, Call, Open, Char, Int, String, Ln, Stat, Assign, Copy, PutText, If, Case, While, Repeat, Loop, Exit, For, Block, Assert, Halt, Change, Perform, Return, New, Out, Stats, Nothing, Then, Arms, Otherwise, Arm, Cases, NoElse, Else, OfLabels, Procedure, Program}
 use Rattle.aos_typed.specs.Source.{module_shape}
 use Rattle.aos_typed.specs.declared.tree.TType.{TType}
 use Rattle.aos_typed.specs.declared.tree.TType.TheVariants as type
@@ -24,7 +26,7 @@ use Rattle.aos_typed.specs.declared.tree.TType.TheVariants.{Integer}
 use Rattle.aos_code.specs.declared.instr.Kind.{Kind}
 use Rattle.aos_code.specs.declared.instr.Kind.TheVariants.{N, R}
 use Rattle.aos_code.specs.declared.instr.Instr.{Instr}
-use Rattle.aos_code.specs.declared.instr.Instr.TheVariants.{Num, Dup, Drop, Swap, Keep, Kept, Fail, Assert as AssertOf, Halt as HaltOf, Module, Offset, Index as IndexOf, Unary as OnOne, Binary as OnTwo, Jump, JumpFalse, Begin, Load, Store, Copy as CopyOf, PutText as PutTextOf, CmpText, NewObject, Start, Return, OutChar, OutInt, OutString, OutLn, OutOpen}
+use Rattle.aos_code.specs.declared.instr.Instr.TheVariants.{Num, Dup, Drop, Swap, Frame as FrameOf, Param, Length, IndexOpen, PickLen, Call as CallOf, Keep, Kept, Fail, Assert as AssertOf, Halt as HaltOf, Module, Offset, Index as IndexOf, Unary as OnOne, Binary as OnTwo, Jump, JumpFalse, Begin, Load, Store, Copy as CopyOf, PutText as PutTextOf, CmpText, NewObject, Start, Return as ReturnOf, OutChar, OutInt, OutString, OutLn, OutOpen}
 
 abbrev pub begin : Pos → Instr
 begin at = Begin at.line at.col
@@ -107,15 +109,30 @@ change_code (change.Subtract w) = OnTwo (Sub w) ∷ []
 change_code change.Include = Dup ∷ OnTwo SetSpan ∷ OnTwo Union ∷ []
 change_code change.Exclude = Dup ∷ OnTwo SetSpan ∷ OnTwo Minus ∷ []
 
--- a place, and behind it how many elements are there
-abbrev pub with_length : List Instr → ℕ → List Instr
-with_length place n = place ++ Num (pos n) ∷ []
+-- how many dimensions of an array have their lengths behind its place
+abbrev pub dimensions : Rows → ℕ
+dimensions (Known p ns) = length ns
+dimensions (Opened k j) = j
+dimensions (Row r t e) = dimensions r - 1
 
--- in a program, whose variables have their cells
-module _ (program : Program) where
+-- so many lengths of an open array parameter, in cells of the frame from this one on
+abbrev pub lengths_code : (cell many : ℕ) → List Instr
+lengths_code c zero = []
+lengths_code c (suc n) = Length c ∷ lengths_code (suc c) n
+
+abbrev pub drops : ℕ → List Instr
+drops zero = []
+drops (suc n) = Drop ∷ drops n
+
+-- in a program, whose variables have their cells, in the body of this procedure or of none
+module _ (program : Program) (own : Option Procedure) where
   -- the first cell of a module's variable, or of a string constant, by the numbers of both
   abbrev pub variable_cell : (home number : ℕ) → ℕ
   variable_cell m i = number_of (offset (i ∷ [])) (slice_get (map (module_shape program) program.modules) m)
+
+  -- the first cell of a parameter or a local of the procedure
+  abbrev pub own_cell : ℕ → ℕ
+  own_cell k = number_of (offset (k ∷ [])) (option_map (frame program.types) own)
 
   -- how many cells stand before a field in its record, and how many a variable of a type has
   abbrev pub field_cell : TType → ℕ → ℕ
@@ -127,9 +144,25 @@ module _ (program : Program) where
   abbrev mutual
     pub place_code : Place → ℕ → List Instr
     place_code (ModuleVar m i) at = Module m (variable_cell m i) ∷ []
+    place_code (Local k) at = FrameOf (own_cell k) ∷ []
+    place_code (Passed k) at = Param (own_cell k) ∷ []
+    place_code (Of r) at = rows_code r at
     place_code (Field p t k) at = place_code p at ++ Offset (field_cell t k) 0 ∷ []
     place_code (Index p n t e) at =
         operands_code (place_code p at) (value_code e (at + length (place_code p at))) (IndexOf n (cells_of t))
+
+    -- the place of an array, and behind it the lengths of its dimensions
+    pub rows_code : Rows → ℕ → List Instr
+    rows_code (Known p ns) at = place_code p at ++ map (λ n. Num (pos n)) ns
+    rows_code (Opened k j) at = Param (own_cell k) ∷ lengths_code (suc (own_cell k)) j
+    rows_code (Row r t e) at =
+        operands_code (rows_code r at) (value_code e (at + length (rows_code r at))) (IndexOpen (dimensions r) (cells_of t))
+
+    pub arguments_code : Arguments → ℕ → List Instr
+    arguments_code NoMore at = []
+    arguments_code (Scalar e more) at = value_code e at ++ arguments_code more (at + length (value_code e at))
+    arguments_code (Whole p more) at = place_code p at ++ arguments_code more (at + length (place_code p at))
+    arguments_code (Opening r more) at = rows_code r at ++ arguments_code more (at + length (rows_code r at))
 
     pub value_code : Expr → ℕ → List Instr
     value_code (Lit l) at = literal_code l ∷ []
@@ -142,17 +175,17 @@ module _ (program : Program) where
     value_code (Element a) at = value_code a at ++ (Dup ∷ (OnTwo SetSpan ∷ []))
     value_code (Ord a) at = value_code a at
     value_code (Chr a) at = value_code a at ++ OnOne (Range (pos 0) (pos 255)) ∷ []
-    value_code (CompareTexts r p n q m) at =
-        operands_code (with_length (place_code p at) n)
-        (with_length (place_code q (at + length (with_length (place_code p at) n))) m)
-        (CmpText r)
-    value_code (Len p n) at = place_code p at ++ (Drop ∷ (Num (pos n) ∷ []))
+    value_code (CompareTexts r a b) at =
+        operands_code (rows_code a at) (rows_code b (at + length (rows_code a at))) (CmpText r)
+    value_code (Len r d) at = rows_code r at ++ PickLen d (dimensions r) ∷ []
+    value_code (LenBehind r n) at = rows_code r at ++ (drops (suc (dimensions r)) ++ Num (pos n) ∷ [])
+    value_code (Function m k more) at = arguments_code more at ++ CallOf (procedure_number program m k) ∷ []
 
   abbrev pub out_code : Call → ℕ → List Instr
   out_code Open at = OutOpen ∷ []
   out_code (Char e) at = value_code e at ++ OutChar ∷ []
   out_code (Int e n) at = operands_code (value_code e at) (value_code n (at + length (value_code e at))) OutInt
-  out_code (String p n) at = with_length (place_code p at) n ++ OutString ∷ []
+  out_code (String r) at = rows_code r at ++ OutString ∷ []
   out_code Ln at = OutLn ∷ []
 
   -- a new object stays below the place that it's stored at, to be started. The place is a variable, no part of another, whose code
@@ -197,11 +230,9 @@ module _ (program : Program) where
     stat_code (Copy here t p q) at exit level =
         begin here
         ∷ operands_code (place_code p (at + 1)) (place_code q (at + 1 + length (place_code p (at + 1)))) (CopyOf (cells_of t))
-    stat_code (PutText here strict p n q m) at exit level =
+    stat_code (PutText here strict a b) at exit level =
         begin here
-        ∷ operands_code (with_length (place_code p (at + 1)) n)
-        (with_length (place_code q (at + 1 + length (with_length (place_code p (at + 1)) n))) m)
-        (PutTextOf strict)
+        ∷ operands_code (rows_code a (at + 1)) (rows_code b (at + 1 + length (rows_code a (at + 1)))) (PutTextOf strict)
     stat_code (If here arms) at exit level =
         begin here ∷ arms_code arms (at + 1) (at + 1 + length (arms_code arms (at + 1) 0 exit level)) exit level
     stat_code (Case here e cases) at exit level =
@@ -224,6 +255,10 @@ module _ (program : Program) where
     stat_code (Assert here e code) at exit level = begin here ∷ (value_code e (at + 1) ++ AssertOf code ∷ [])
     stat_code (Halt here code) at exit level = begin here ∷ (HaltOf code ∷ [])
     stat_code (Change here c p e) at exit level = changed_code here c p e at
+    stat_code (Perform here m k more) at exit level =
+        begin here ∷ (arguments_code more (at + 1) ++ CallOf (procedure_number program m k) ∷ [])
+    stat_code (Return here None) at exit level = begin here ∷ (ReturnOf ∷ [])
+    stat_code (Return here (Some e)) at exit level = begin here ∷ (value_code e (at + 1) ++ ReturnOf ∷ [])
     stat_code (New here p t) at exit level = begin here ∷ new_code p t (at + 1)
     stat_code (Out here call) at exit level = begin here ∷ out_code call (at + 1)
 
@@ -253,6 +288,14 @@ module _ (program : Program) where
   rounds_code here w p step body at exit level =
       rounds_with here w p step (stats_code body (body_place w p at) exit (suc level)) at level
 
-  -- a body: its statements, and the end of its frame, to which an EXIT leads that stands in no LOOP
+  -- what a body ends with: the end of its frame, or of a function's trap 10
+  abbrev pub end_code : List Instr
+  end_code = by (result_of own)
+    where
+      by : Option TType → List Instr
+      by None = ReturnOf ∷ []
+      by (Some t) = Fail 10 ∷ []
+
+  -- a body: its statements, and its end, to which an EXIT leads that stands in no LOOP
   abbrev pub body_code : Stats → List Instr
-  body_code ss = stats_code ss 0 (length (stats_code ss 0 0 0)) 0 ++ Return ∷ []
+  body_code ss = stats_code ss 0 (length (stats_code ss 0 0 0)) 0 ++ end_code

@@ -1,24 +1,38 @@
 -- How many operands code has at most, beyond those that are there where it begins.
-use Rattle.std.specs.Prelude.{◌≡◌, ℕ, suc, ◌+◌, ◌++◌, map, max}
-use Rattle.aos_typed.specs.Program.{Place, ModuleVar, Field, Index, Expr, Lit, Read, Unary, Binary, And, Or, Element, Ord, Chr, CompareTexts, Len, Call, Open, Char, Int, String, Ln, Stat, Assign, Copy, PutText, If, Case, While, Repeat, Loop, Exit, For, Block, Assert, Halt, Change, New, Out, Stats, Nothing, Then, Arms, Otherwise, Arm, Cases, NoElse, Else, OfLabels, Program}
+use Rattle.std.specs.Prelude.{◌≡◌, ℕ, suc, ◌+◌, map, max, length, Some, None}
+use Rattle.aos_sim.specs.Code.{dimensions}
+use Rattle.aos_typed.specs.Program.{Place, ModuleVar, Local, Passed, Field, Index, Of, Rows, Known, Opened, Row, Arguments, NoMore, Scalar, Whole, Opening, Expr, Lit, Read, Unary, Binary, And, Or, Element, Ord, Chr, CompareTexts, Len, LenBehind, Function, Call, Open, Char, Int, String, Ln, Stat, Assign, Copy, PutText, If, Case, While, Repeat, Loop, Exit, For, Block, Assert, Halt, Change, Perform, Return, New, Out, Stats, Nothing, Then, Arms, Otherwise, Arm, Cases, NoElse, Else, OfLabels, Program}
 use Rattle.aos_typed.specs.declared.tree.Change.{Change as Changing}
 use Rattle.aos_typed.specs.declared.tree.Change.TheVariants as change
+use Rattle.aos_typed.specs.Routines.{routines}
 use Rattle.aos_code.specs.declared.image.Image.{Image}
 
--- a text whose place has so many, and behind it its length
-abbrev pub text_need : ℕ → ℕ
-text_need place = max place 2
-
--- two texts: the first lies below the second
+-- two texts: the first lies below the second, with its length
 abbrev pub texts_need : (left right : ℕ) → ℕ
-texts_need left right = max (text_need left) (2 + text_need right)
+texts_need left right = max left (2 + right)
 
 abbrev mutual
   -- a designator; the place of an array lies below its index
   pub place_need : Place → ℕ
   place_need (ModuleVar m i) = 1
+  place_need (Local k) = 1
+  place_need (Passed k) = 1
+  place_need (Of r) = rows_need r
   place_need (Field p t k) = place_need p
   place_need (Index p n t e) = max (place_need p) (1 + value_need e)
+
+  -- an array, with the lengths of its dimensions above its place
+  pub rows_need : Rows → ℕ
+  rows_need (Known p ns) = max (place_need p) (1 + length ns)
+  rows_need (Opened k j) = 1 + j
+  rows_need (Row r t e) = max (rows_need r) (1 + dimensions r + value_need e)
+
+  -- what is handed over: all that was before lies below
+  pub arguments_need : Arguments → ℕ
+  arguments_need NoMore = 0
+  arguments_need (Scalar e more) = max (value_need e) (1 + arguments_need more)
+  arguments_need (Whole p more) = max (place_need p) (1 + arguments_need more)
+  arguments_need (Opening r more) = max (rows_need r) (1 + dimensions r + arguments_need more)
 
   -- an expression; what its left operand gives lies below its right one
   pub value_need : Expr → ℕ
@@ -31,15 +45,17 @@ abbrev mutual
   value_need (Element a) = max (value_need a) 2
   value_need (Ord a) = value_need a
   value_need (Chr a) = value_need a
-  value_need (CompareTexts r p n q m) = texts_need (place_need p) (place_need q)
-  value_need (Len p n) = place_need p
+  value_need (CompareTexts r a b) = texts_need (rows_need a) (rows_need b)
+  value_need (Len r d) = rows_need r
+  value_need (LenBehind r n) = rows_need r
+  value_need (Function m k more) = max 1 (arguments_need more)
 
 -- a call of a procedure of module Out
 abbrev pub out_need : Call → ℕ
 out_need Open = 0
 out_need (Char e) = value_need e
 out_need (Int e n) = max (value_need e) (1 + value_need n)
-out_need (String p n) = text_need (place_need p)
+out_need (String r) = rows_need r
 out_need Ln = 0
 
 -- a value above the place that it's stored at
@@ -58,7 +74,7 @@ abbrev mutual
   pub stat_need : Stat → ℕ
   stat_need (Assign here t p e) = assign_need (place_need p) (value_need e)
   stat_need (Copy here t p q) = max (place_need p) (1 + place_need q)
-  stat_need (PutText here strict p n q m) = texts_need (place_need p) (place_need q)
+  stat_need (PutText here strict a b) = texts_need (rows_need a) (rows_need b)
   stat_need (If here arms) = arms_need arms
   stat_need (Case here e cases) = max (value_need e) (cases_need cases)
   stat_need (While here e body) = max (value_need e) (stats_need body)
@@ -72,6 +88,9 @@ abbrev mutual
   stat_need (Assert here e code) = value_need e
   stat_need (Halt here code) = 0
   stat_need (Change here c p e) = changed_need c (place_need p) (value_need e)
+  stat_need (Perform here m k more) = arguments_need more
+  stat_need (Return here None) = 0
+  stat_need (Return here (Some e)) = value_need e
   stat_need (New here p t) = 2 + place_need p
   stat_need (Out here call) = out_need call
 
@@ -94,7 +113,7 @@ abbrev mutual
   pub stat_level : Stat → ℕ → ℕ
   stat_level (Assign here t p e) d = d
   stat_level (Copy here t p q) d = d
-  stat_level (PutText here strict p n q m) d = d
+  stat_level (PutText here strict a b) d = d
   stat_level (If here arms) d = arms_level arms d
   stat_level (Case here e cases) d = max (suc d) (cases_level cases d)
   stat_level (While here e body) d = stats_level body d
@@ -106,6 +125,8 @@ abbrev mutual
   stat_level (Assert here e code) d = d
   stat_level (Halt here code) d = d
   stat_level (Change here c p e) d = d
+  stat_level (Perform here m k more) d = d
+  stat_level (Return here e) d = d
   stat_level (New here p t) d = d
   stat_level (Out here call) d = d
 
@@ -133,4 +154,4 @@ keeps_of ss = stats_level ss 0
 -- each body of an image of the program has as many operands at most as its statements need
 abbrev pub HasDepthsOf : Program → Image → Type 0
 HasDepthsOf p image =
-    map (λ b. b.depth) image.bodies.items ≡ map (λ m. body_need m.body) p.modules ++ map (λ o. body_need o.body) p.objects
+    map (λ b. b.depth) image.bodies.items ≡ map (λ r. body_need r.body) (routines p)

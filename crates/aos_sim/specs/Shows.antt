@@ -1,12 +1,13 @@
 -- When an image has a program's code, and when it shows the program.
-use Rattle.std.specs.Prelude.{◌≡◌, ◌<◌, ℕ, suc, pos, None, All, List, [], ◌∷◌, ◌++◌, map, length}
+use Rattle.std.specs.Prelude.{◌≡◌, ◌<◌, ◌^◌, ℕ, suc, pos, false, Option, Some, None, All, List, [], ◌∷◌, ◌++◌, map, length}
 use Rattle.std.specs.List.{flat_map}
 use Rattle.std.specs.String.{string_bytes}
 use Rattle.aos_base.specs.Machine.{Choice, execution}
 use Rattle.aos_base.specs.Observation.{observation}
 use Rattle.aos_types.specs.declared.row.TypeRow.{TypeRow}
-use Rattle.aos_types.specs.Shape.{leaves, row}
-use Rattle.aos_typed.specs.Program.{Module, Program}
+use Rattle.aos_types.specs.Shape.{leaves, row, size}
+use Rattle.aos_typed.specs.Program.{Procedure, Module, Program}
+use Rattle.aos_typed.specs.Routines.{Routine, routines}
 use Rattle.aos_typed.specs.Source.{source, first_state}
 use Rattle.aos_code.specs.declared.instr.Cell.{Cell}
 use Rattle.aos_code.specs.declared.instr.Cell.TheVariants.{Num}
@@ -16,7 +17,9 @@ use Rattle.aos_code.specs.declared.image.ModuleDesc.{ModuleDesc}
 use Rattle.aos_code.specs.declared.image.TypeDesc.{TypeDesc}
 use Rattle.aos_code.specs.declared.image.Image.{Image}
 use Rattle.aos_code.specs.Machine.{machine, first_cell, first_state as first_of}
-use Rattle.aos_layout.specs.Layout.{variable_cells}
+use Rattle.aos_layout.specs.Layout.{variable_cells, block}
+use Rattle.aos_layout.specs.Frame.{Known, known}
+use Rattle.aos_layout.specs.Seen.{seen_shape}
 use Rattle.aos_sim.specs.Code.{body_code}
 use Rattle.aos_sim.specs.Need.{keeps_of}
 
@@ -33,17 +36,34 @@ text_cells cs = map (λ c. Num (pos c)) cs ++ Num (pos 0) ∷ []
 abbrev pub first_cells : List TypeRow → Module → List Cell
 first_cells rows m = map first_cell (leaves (row (variable_cells rows m.variables))) ++ flat_map text_cells m.texts
 
--- These bodies, shapes and descriptions are the code of a program: procedure k, counted from 1, is the body of the k-th module, and
--- behind those of the modules come those of the object types. No body gives a result.
+-- what code knows of a routine; the frame of a body has no cells, and it gives nothing
+abbrev pub shape_of : List TypeRow → Routine → Known
+shape_of rows r = by r.own
+  where
+    by : Option Procedure → Known
+    by None =
+        record {
+          module_ = r.home;
+          params = [];
+          cells = 0;
+          counted = 0;
+          keeps = keeps_of r.body;
+          result = None;
+          method = false;
+          kinds = [];
+        }
+    by (Some q) = known rows r.home (keeps_of r.body) q
+
+-- These bodies, shapes and descriptions are the code of a program: each routine has a body and a shape, those of modules first. The
+-- cells of a module have numbers of 32 bits.
 pub record IsCode (p : Program) (bs : List Body) (ss : List ProcShape) (ds : List ModuleDesc) (ts : List TypeDesc) : Type 0 where
-  pub bodies : map (λ b. b.code.items) bs ≡ map (λ m. body_code p m.body) p.modules ++ map (λ o. body_code p o.body) p.objects
-  pub homes : map (λ s. s.module) ss ≡ numbers_from 0 p.modules ++ map (λ o. o.home) p.objects
-  pub results : All (λ s. s.result ≡ None) ss
-  pub keeps : map (λ s. s.keeps) ss ≡ map (λ m. keeps_of m.body) p.modules ++ map (λ o. keeps_of o.body) p.objects
+  pub bodies : map (λ b. b.code.items) bs ≡ map (λ r. body_code p r.own r.body) (routines p)
+  pub shapes : map seen_shape ss ≡ map (shape_of p.types) (routines p)
   pub starts : map (λ d. d.body) ds ≡ numbers_from 1 p.modules
   pub types : map (λ t. t.body) ts ≡ numbers_from (suc (length p.modules)) p.objects
   pub cells : map (λ d. d.cells.items) ds ≡ map (first_cells p.types) p.modules
   pub names : map (λ d. string_bytes d.name) ds ≡ map (λ m. m.name) p.modules
+  pub few : All (λ m. size (block p.types m) < 2 ^ 32) p.modules
 
 -- the image has the program's code
 abbrev pub IsCodeOf : Program → Image → Type 0

@@ -162,6 +162,11 @@ abbrev pub has_place : Option ModuleDesc → (c : ℕ) → Bool
 has_place None c = false
 has_place (Some m) c = nat_le c (length m.cells.items)
 
+-- and so has a frame of a procedure of this shape
+abbrev pub has_own_place : Option ProcShape → (c : ℕ) → Bool
+has_own_place None c = false
+has_own_place (Some f) c = nat_le c f.cells
+
 -- how many cells a frame has that a procedure of this shape names, none where there is no such shape
 abbrev pub frame_cells : Option ProcShape → ℕ
 frame_cells None = 0
@@ -182,7 +187,7 @@ module _ (image : Image) (own : ℕ) where
   -- what may stand at a place, on a path or not: numbers name what the image and the procedure have, and a condition has no visible
   -- work but Load and CmpText, and keeps nothing
   abbrev pub may_stand : Role → List Instr → (at : ℕ) → Instr → Bool
-  may_stand role code at (Frame c) = nat_lt c (frame_cells (numbered image.shapes.items own))
+  may_stand role code at (Frame c) = has_own_place (numbered image.shapes.items own) c
   may_stand role code at (Module m c) = has_place (slice_get image.modules.items m) c
   may_stand role code at (Param c) = nat_lt c (frame_cells (numbered image.shapes.items own))
   may_stand role code at (Length c) = nat_lt c (frame_cells (numbered image.shapes.items own))

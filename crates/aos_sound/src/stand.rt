@@ -76,6 +76,13 @@ fn has_procedure(shapes: &[ProcShape], p: u32) -> bool
     p > 0 && (p as usize) <= shapes.len()
 }
 
+/// Whether a frame of the procedure of this number has this place, which may be that behind its last cell.
+fn has_own_place(shapes: &[ProcShape], own: u32, c: u32) -> bool
+    ensures { result ≡ sound.has_own_place (numbered shapes.now own) c }
+{
+    has_procedure(shapes, own) && c <= shapes[own as usize - 1].cells
+}
+
 /// Whether a frame of the procedure of this number has this cell.
 fn has_cell(shapes: &[ProcShape], own: u32, c: u32) -> bool
     ensures { result ≡ nat_lt c (frame_cells (numbered shapes.now own)) }
@@ -95,7 +102,7 @@ fn may_stand(image: &Image, own: u32, role: Role, code: &[Instr], at: usize, i: 
     ensures { result ≡ sound.may_stand image.now own role code.now at i.now }
 {
     match *i {
-        Instr::Frame(c) => has_cell(&image.shapes, own, c),
+        Instr::Frame(c) => has_own_place(&image.shapes, own, c),
         Instr::Module(m, c) => has_place(&image.modules, m, c),
         Instr::Param(c) => has_cell(&image.shapes, own, c),
         Instr::Length(c) => has_cell(&image.shapes, own, c),

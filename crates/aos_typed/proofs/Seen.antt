@@ -1,19 +1,22 @@
--- A row of statements is seen as their list is, and so is one of arms.
-use Rattle.std.proofs.Common.{◌≡◌, refl, sym, ap, ◌∙◌, ℤ}
+-- A row of statements is seen as their list is, and so are those of arms and of arguments.
+use Rattle.std.proofs.Common.{◌≡◌, refl, sym, ap, ◌∙◌, ℕ, ℤ}
 use Rattle.std.specs.declared.vec.Vec.{Vec}
 use Rattle.std.specs.declared.alloc.Global.{Global}
 use Rattle.aos_base.specs.declared.text.Pos.{Pos}
 use Rattle.aos_base.specs.declared.number.Width.{Width}
 use Rattle.aos_typed.specs.declared.tree.TPlace.{TPlace}
-use Rattle.aos_typed.specs.declared.tree.TExpr.{TExpr}
+use Rattle.aos_typed.specs.declared.tree.TArgument.{TArgument}
+use Rattle.aos_typed.specs.declared.tree.TExpr.{TExpr, Row_of-TArgument, end_of-TArgument, more_of-TArgument}
+use Rattle.aos_typed.specs.declared.tree.TArgument.TheViews as expr
+use Rattle.aos_typed.specs.declared.tree.TArgument.TheBlock.{items_hidden-the_row-TArgument-0, hidden-the_row-TArgument-0, items-the_row-TArgument}
 use Rattle.aos_typed.specs.declared.tree.TArm.{TArm}
 use Rattle.aos_typed.specs.declared.tree.TCase.{TCase}
 use Rattle.aos_typed.specs.declared.tree.TElse.{TElse}
 use Rattle.aos_typed.specs.declared.tree.TElse.TheViews as view
 use Rattle.aos_typed.specs.declared.tree.TElse.TheBlock.{items_hidden-the_row-TStat-0, hidden-the_row-TStat-0, items-the_row-TStat, items_shown-the_row-TStat-0, items_hidden-the_row-TArm-1, hidden-the_row-TArm-1, items-the_row-TArm, items_hidden-the_row-TCase-2, hidden-the_row-TCase-2, items-the_row-TCase}
 use Rattle.aos_typed.specs.declared.tree.TStat.{TStat, Row_of-TStat, end_of-TStat, more_of-TStat, Row_of-TArm, end_of-TArm, more_of-TArm, Row_of-TCase, end_of-TCase, more_of-TCase}
-use Rattle.aos_typed.specs.Program.{Stats, If, Case, While, Repeat, Loop, For, Block, Then, Otherwise, Arm, Cases, Else, OfLabels}
-use Rattle.aos_typed.specs.Seen.{seen_place, seen_expr, seen_stat, seen_row, seen_arms, seen_cases, seen_else, seen_stats, arms_of, cases_of}
+use Rattle.aos_typed.specs.Program.{Function, Stats, If, Case, While, Repeat, Loop, For, Block, Then, Arm, Cases, Else, OfLabels}
+use Rattle.aos_typed.specs.Seen.{seen_place, seen_argument, seen_arguments, seen_list, seen_expr, seen_stat, seen_row, seen_arms, seen_cases, seen_else, seen_stats, arms_of, cases_of}
 
 row_seen : {m : _} (row : Row_of-TStat m) → seen_row row ≡ seen_stats (items-the_row-TStat m row)
 row_seen end_of-TStat = refl
@@ -58,3 +61,11 @@ for_seen at w p from to step body = ap (λ l. For at w (seen_place p) (seen_expr
 
 pub block_seen : (at : Pos) (body : Vec TStat Global) → seen_stat (view.Block at body) ≡ Block at (seen_stats body.items)
 block_seen at body = ap (λ l. Block at l) (body_seen body)
+
+arguments_seen : {m : _} (row : Row_of-TArgument m) → seen_arguments row ≡ seen_list (items-the_row-TArgument m row)
+arguments_seen end_of-TArgument = refl
+arguments_seen (more_of-TArgument a as') = ap (λ l. seen_argument a l) (arguments_seen as')
+
+pub function_seen : (m k : ℕ) (as' : Vec TArgument Global) → seen_expr (expr.Function m k as') ≡ Function m k (seen_list as'.items)
+function_seen m k as' =
+    ap (λ l. Function m k l) (arguments_seen (hidden-the_row-TArgument-0 as') ∙ ap seen_list (items_hidden-the_row-TArgument-0 as'))

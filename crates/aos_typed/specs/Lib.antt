@@ -5,8 +5,11 @@ pub mod Store
 pub mod Meaning
 pub mod Source
 pub mod Numbers
+pub mod Routines
 pub mod WellTyped
 pub mod Sort
 pub mod Text
+pub mod Open
+pub mod Handed
 pub mod Spot
 pub mod Typing

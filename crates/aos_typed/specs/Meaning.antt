@@ -1,7 +1,8 @@
 -- What expressions and statements do, as trees of questions.
-use Rattle.std.specs.Prelude.{ℕ, suc, ℤ, pos, negsuc, int_le, List, [], ◌∷◌, ◌++◌, Bool, true, false, ◌&&◌, Option, Some, None, if◌then◌else◌}
+use Rattle.std.specs.Prelude.{ℕ, zero, suc, ℤ, pos, negsuc, int_le, List, [], ◌∷◌, ◌++◌, Bool, true, false, ◌&&◌, Option, Some, None, if◌then◌else◌, map, slice_get, unsigned_abs}
 use Rattle.aos_base.specs.declared.text.Pos.{Pos}
 use Rattle.std.specs.List.{list_any}
+use Rattle.std.specs.Option.{unwrap_or}
 use Rattle.aos_base.specs.declared.number.Width.{Width}
 use Rattle.aos_base.specs.declared.number.Relation.{Relation}
 use Rattle.aos_base.specs.declared.number.Relation.TheVariants.{LessEqual, GreaterEqual}
@@ -13,12 +14,13 @@ use Rattle.aos_typed.specs.declared.tree.Change.{Change as Changing}
 use Rattle.aos_typed.specs.declared.tree.Change.TheVariants as change
 use Rattle.aos_typed.specs.declared.tree.LabelRange.{LabelRange}
 use Rattle.aos_typed.specs.declared.tree.TType.TheVariants.{Integer, Set}
-use Rattle.aos_base.specs.Question.{Tree, Val, Traps, bind, ask, Ask, Reads, Stores, Copies, PutsText, ComparesTexts, Makes, Starts, PutsInt, PutsChar, PutsString, PutsLn, PutsNothing}
-use Rattle.aos_typed.specs.Program.{Place, ModuleVar, Field, Index, Expr, Lit, Read, Unary, Binary, And, Or, Element, Ord, Chr, CompareTexts, Len, Call, Open as OutOpen, Char as OutChar, Int as OutInt, String as OutString, Ln as OutLn, Stat, Assign, Copy, PutText, If, Case, While, Repeat, Loop, Exit, For, Block, Assert, Halt, Change, New, Out, Stats, Nothing, Then, Arms, Otherwise, Arm, Cases, NoElse, Else, OfLabels}
-use Rattle.aos_typed.specs.Value.{Value, Int, Flag, number_of, literal_value, unary, binary, element, ord, chr, is_true}
-use Rattle.aos_base.specs.declared.place.Root.TheVariants.{Module as ModuleRoot}
+use Rattle.aos_base.specs.Question.{Tree, Val, Traps, bind, ask, Ask, Reads, Stores, Copies, PutsText, ComparesTexts, Calls, Places, Lengths, Makes, Starts, PutsInt, PutsChar, PutsString, PutsLn, PutsNothing}
+use Rattle.aos_typed.specs.Program.{Place, ModuleVar, Local, Passed, Field, Index, Of, Rows, Known, Opened, Row, Arguments, NoMore, Scalar, Whole, Opening, Expr, Lit, Read, Unary, Binary, And, Or, Element, Ord, Chr, CompareTexts, Len, LenBehind, Function, Call, Open as OutOpen, Char as OutChar, Int as OutInt, String as OutString, Ln as OutLn, Stat, Assign, Copy, PutText, If, Case, While, Repeat, Loop, Exit, For, Block, Assert, Halt, Change, Perform, Return, New, Out, Stats, Nothing, Then, Arms, Otherwise, Arm, Cases, NoElse, Else, OfLabels, Program}
+use Rattle.aos_typed.specs.Value.{Value, Int, Flag, Place as PlaceValue, number_of, literal_value, unary, binary, element, ord, chr, is_true}
+use Rattle.aos_base.specs.declared.place.Root.TheVariants.{Frame as FrameRoot, Module as ModuleRoot}
 use Rattle.aos_typed.specs.declared.tree.TType.{TType}
-use Rattle.aos_typed.specs.Spot.{Spot, OfModule}
+use Rattle.aos_typed.specs.Spot.{Spot, InFrame, OfModule}
+use Rattle.aos_typed.specs.Numbers.{procedure_number}
 
 -- a scalar is known by its type, and so is what is copied
 abbrev pub Question : Type 0
@@ -26,6 +28,13 @@ Question = Ask Spot Value TType TType
 
 abbrev pub Doing : Type 0 → Type 0
 Doing A = Tree Question Value A
+
+-- Places.
+
+-- the place that is a value; no well-typed program takes another value for one
+abbrev pub place_in : Value → Spot
+place_in (PlaceValue s) = s
+place_in v = record { root = FrameRoot 0; path = []; type = 0; of = InFrame }
 
 -- a part of a place, by its number: it is a part of the same declared variable
 abbrev pub part_of : ℕ → Spot → Spot
@@ -39,28 +48,90 @@ element_of n v s = by (natural n (number_of v))
     by None = Traps 2 0
     by (Some i) = Val (part_of i s)
 
--- operands are evaluated from left to right, and reading a scalar is visible; & and OR evaluate their second operand where
--- the first doesn't tell
-abbrev mutual
-  -- the place that a designator names: an index is evaluated once what it is of is found
-  pub place_of : Place → Doing Spot
-  place_of (ModuleVar m i) = Val (record { root = ModuleRoot m; path = i ∷ []; type = 0; of = OfModule m i })
-  place_of (Field p t k) = bind (place_of p) (λ s. Val (part_of k s))
-  place_of (Index p n t e) = bind (place_of p) (λ s. bind (value_of e) (λ v. element_of n v s))
+-- an array, and the lengths of its dimensions
+pub record Found : Type 0 where
+  pub place : Spot
+  pub lengths : List Value
 
-  pub value_of : Expr → Doing Value
-  value_of (Lit l) = Val (literal_value l)
-  value_of (Read t p) = bind (place_of p) (λ s. ask (Reads t s))
-  value_of (Unary op a) = bind (value_of a) (λ x. unary op x)
-  value_of (Binary op a b) = bind (value_of a) (λ x. bind (value_of b) (λ y. binary op x y))
-  value_of (And a b) = bind (value_of a) (λ x. if is_true x then value_of b else Val (Flag false))
-  value_of (Or a b) = bind (value_of a) (λ x. if is_true x then Val (Flag true) else value_of b)
-  value_of (Element a) = bind (value_of a) (λ x. element x)
-  value_of (Ord a) = bind (value_of a) (λ x. Val (ord x))
-  value_of (Chr a) = bind (value_of a) (λ x. chr x)
-  value_of (CompareTexts r p n q m) =
-      bind (place_of p) (λ a. bind (place_of q) (λ b. ask (ComparesTexts r a (Int (pos n)) b (Int (pos m)))))
-  value_of (Len p n) = bind (place_of p) (λ s. Val (Int (pos n)))
+abbrev pub found : Spot → List Value → Doing Found
+found s ns = Val (record { place = s; lengths = ns })
+
+-- its element with this index, which is one dimension less
+abbrev pub row_at : Found → Value → Doing Found
+row_at x v = by x.lengths
+  where
+    by : List Value → Doing Found
+    by [] = found x.place []
+    by (n ∷ ns) = bind (element_of (unsigned_abs (number_of n)) v x.place) (λ s. found s ns)
+
+-- the length of a dimension; each has one
+abbrev pub length_at : ℕ → Found → Value
+length_at d x = unwrap_or (slice_get x.lengths d) (Int (pos 0))
+
+-- a place and its length
+abbrev pub text_length : Found → Value
+text_length x = length_at 0 x
+
+-- In a procedure's frame, below which there are so many frames of its activity, in a program.
+module _ (p : Program) (here : ℕ) where
+  -- a parameter or a local of the frame
+  abbrev pub own_place : ℕ → Spot
+  own_place k = record { root = FrameRoot here; path = k ∷ []; type = 0; of = InFrame }
+
+  -- what a parameter stands for is found in the frame, and no visible work
+  abbrev pub passed : ℕ → Doing Spot
+  passed k = bind (ask (Places (own_place k))) (λ v. Val (place_in v))
+
+  -- an open array parameter has a place, and behind it the lengths of its dimensions
+  abbrev pub lengths_from : ℕ → (dimension many : ℕ) → Doing (List Value)
+  lengths_from k d zero = Val []
+  lengths_from k d (suc n) =
+      bind (ask (Lengths (part_of (suc d) (own_place k)))) (λ v. bind (lengths_from k (suc d) n) (λ vs. Val (v ∷ vs)))
+
+  abbrev pub opened : (number dimensions : ℕ) → Doing Found
+  opened k j =
+      bind (ask (Places (part_of 0 (own_place k)))) (λ v. bind (lengths_from k 0 j) (λ ns. found (place_in v) ns))
+
+  -- operands are evaluated from left to right, and reading a scalar is visible; & and OR evaluate their second operand where
+  -- the first doesn't tell
+  abbrev mutual
+    -- the place that a designator names: an index is evaluated once what it is of is found
+    pub place_of : Place → Doing Spot
+    place_of (ModuleVar m i) = Val (record { root = ModuleRoot m; path = i ∷ []; type = 0; of = OfModule m i })
+    place_of (Local k) = Val (own_place k)
+    place_of (Passed k) = passed k
+    place_of (Field q t k) = bind (place_of q) (λ s. Val (part_of k s))
+    place_of (Index q n t e) = bind (place_of q) (λ s. bind (value_of e) (λ v. element_of n v s))
+    place_of (Of r) = bind (rows_of r) (λ x. Val x.place)
+
+    pub rows_of : Rows → Doing Found
+    rows_of (Known q ns) = bind (place_of q) (λ s. found s (map (λ n. Int (pos n)) ns))
+    rows_of (Opened k j) = opened k j
+    rows_of (Row r t e) = bind (rows_of r) (λ x. bind (value_of e) (λ v. row_at x v))
+
+    -- what is handed over, in order: a value, a place, or a place and its lengths
+    pub arguments_of : Arguments → Doing (List Value)
+    arguments_of NoMore = Val []
+    arguments_of (Scalar e as') = bind (value_of e) (λ v. bind (arguments_of as') (λ vs. Val (v ∷ vs)))
+    arguments_of (Whole q as') = bind (place_of q) (λ s. bind (arguments_of as') (λ vs. Val (PlaceValue s ∷ vs)))
+    arguments_of (Opening r as') =
+        bind (rows_of r) (λ x. bind (arguments_of as') (λ vs. Val (PlaceValue x.place ∷ (x.lengths ++ vs))))
+
+    pub value_of : Expr → Doing Value
+    value_of (Lit l) = Val (literal_value l)
+    value_of (Read t q) = bind (place_of q) (λ s. ask (Reads t s))
+    value_of (Unary op a) = bind (value_of a) (λ x. unary op x)
+    value_of (Binary op a b) = bind (value_of a) (λ x. bind (value_of b) (λ y. binary op x y))
+    value_of (And a b) = bind (value_of a) (λ x. if is_true x then value_of b else Val (Flag false))
+    value_of (Or a b) = bind (value_of a) (λ x. if is_true x then Val (Flag true) else value_of b)
+    value_of (Element a) = bind (value_of a) (λ x. element x)
+    value_of (Ord a) = bind (value_of a) (λ x. Val (ord x))
+    value_of (Chr a) = bind (value_of a) (λ x. chr x)
+    value_of (CompareTexts r a b) =
+        bind (rows_of a) (λ x. bind (rows_of b) (λ y. ask (ComparesTexts r x.place (text_length x) y.place (text_length y))))
+    value_of (Len r d) = bind (rows_of r) (λ x. Val (length_at d x))
+    value_of (LenBehind r n) = bind (rows_of r) (λ x. Val (Int (pos n)))
+    value_of (Function m k as') = bind (arguments_of as') (λ vs. ask (Calls (procedure_number p m k) vs))
 
 -- What remains of a frame's statements: one that is to begin; the rounds of a FOR, with its last value and its step, each of which
 -- begins; a LOOP, which begins again; or what follows the statements of a REPEAT, which doesn't begin.
@@ -77,6 +148,7 @@ items_of (Then s ss) = Do s ∷ items_of ss
 -- what follows a statement
 pub data After : Type 0 where
   Into : List Item → After  -- these items take its place
+  Returns : Option Value → After  -- the end of the frame, with this result
   Exits : After  -- what follows the innermost LOOP
 
 -- what remains behind the innermost LOOP
@@ -86,19 +158,6 @@ leave (Do s ∷ is) = leave is
 leave (Rounds at w p last step b ∷ is) = leave is
 leave (Round s ∷ is) = is
 leave (Until at b e ∷ is) = leave is
-
-abbrev pub out_of : Call → Doing After
-out_of OutOpen = bind (ask PutsNothing) (λ _. Val (Into []))
-out_of (OutChar e) = bind (value_of e) (λ x. bind (ask (PutsChar x)) (λ _. Val (Into [])))
-out_of (OutInt e n) =
-    bind (value_of e) (λ x. bind (value_of n) (λ y. bind (ask (PutsInt x y)) (λ _. Val (Into []))))
-out_of (OutString p n) = bind (place_of p) (λ s. bind (ask (PutsString s (Int (pos n)))) (λ _. Val (Into [])))
-out_of OutLn = bind (ask PutsLn) (λ _. Val (Into []))
-
--- what is carried out where no test before holds
-abbrev pub arms_of : Arms → Doing After
-arms_of (Otherwise ss) = Val (Into (items_of ss))
-arms_of (Arm e ss arms) = bind (value_of e) (λ v. if is_true v then Val (Into (items_of ss)) else arms_of arms)
 
 -- the arm of a selector's value; trap 4 where none has it and there is no ELSE
 abbrev pub is_in : ℤ → LabelRange → Bool
@@ -130,43 +189,10 @@ abbrev pub until : ℤ → Relation
 until (pos n) = LessEqual
 until (negsuc n) = GreaterEqual
 
-abbrev pub rounds_of : Pos → Width → Place → ℤ → ℤ → Stats → Doing After
-rounds_of at w p last step b =
-    bind (value_of (Read (Integer w) p)) (λ v.
-    Val (Into (if holds (until step) (number_of v) last then items_of b ++ Do (next_value at w p step) ∷ Rounds at w p last step b ∷ [] else [])))
-
--- what a statement that has begun does, and the items that take its place. A designator that is assigned is found before what
--- it gets; what a variable is changed by is evaluated before it is read
-abbrev pub stat_of : Stat → Doing After
-stat_of (Assign at t p e) = bind (place_of p) (λ s. bind (value_of e) (λ v. bind (ask (Stores s v)) (λ _. Val (Into []))))
-stat_of (Copy at t p q) = bind (place_of p) (λ to. bind (place_of q) (λ from. bind (ask (Copies t from to)) (λ _. Val (Into []))))
-stat_of (PutText at strict p n q m) =
-    bind (place_of p) (λ from. bind (place_of q) (λ to.
-    bind (ask (PutsText strict from (Int (pos n)) to (Int (pos m)))) (λ _. Val (Into []))))
-stat_of (If at arms) = arms_of arms
-stat_of (Case at e cases) = bind (value_of e) (λ v. case_of (number_of v) cases)
-stat_of (While at e body) =
-    bind (value_of e) (λ v. Val (Into (if is_true v then items_of body ++ Do (While at e body) ∷ [] else [])))
-stat_of (Repeat at body e) = Val (Into (items_of body ++ Until at body e ∷ []))
-stat_of (Loop at body) = Val (Into (items_of body ++ Round (Loop at body) ∷ []))
-stat_of (Exit at) = Val Exits
-stat_of (For at w p from to step body) =
-    bind (value_of to) (λ v. Val (Into (Do (Assign at (Integer w) p from) ∷ Rounds at w p (number_of v) step body ∷ [])))
-stat_of (Block at body) = Val (Into (items_of body))
-stat_of (Assert at e code) = bind (value_of e) (λ v. if is_true v then Val (Into []) else Traps 7 code)
-stat_of (Halt at code) = Traps 8 code
-stat_of (Change at c p e) =
-    bind (place_of p) (λ s. bind (value_of e) (λ n. bind (ask (Reads (changed_type c) s)) (λ v.
-    bind (changed c v n) (λ x. bind (ask (Stores s x)) (λ _. Val (Into []))))))
--- the object is made, then stored, and then its activity is started
-stat_of (New at p t) =
-    bind (place_of p) (λ s. bind (ask (Makes (suc t))) (λ o. bind (ask (Stores s o)) (λ _. bind (ask (Starts o)) (λ _. Val (Into [])))))
-stat_of (Out at call) = out_of call
-
 abbrev pub pos_of : Stat → Pos
 pos_of (Assign at t p e) = at
 pos_of (Copy at t p q) = at
-pos_of (PutText at strict p n q m) = at
+pos_of (PutText at strict a b) = at
 pos_of (If at arms) = at
 pos_of (Case at e cases) = at
 pos_of (While at e body) = at
@@ -178,11 +204,74 @@ pos_of (Block at body) = at
 pos_of (Assert at e code) = at
 pos_of (Halt at code) = at
 pos_of (Change at c p e) = at
+pos_of (Perform at m k as') = at
+pos_of (Return at e) = at
 pos_of (New at p t) = at
 pos_of (Out at call) = at
 
-abbrev pub item_of : Item → Doing After
-item_of (Do s) = stat_of s
-item_of (Rounds at w p last step b) = rounds_of at w p last step b
-item_of (Round s) = stat_of s
-item_of (Until at b e) = bind (value_of e) (λ v. Val (Into (if is_true v then [] else Do (Repeat at b e) ∷ [])))
+-- In a procedure's frame, below which there are so many frames of its activity, in a program.
+module _ (p : Program) (here : ℕ) where
+  abbrev place : Place → Doing Spot
+  place = place_of p here
+
+  abbrev rows : Rows → Doing Found
+  rows = rows_of p here
+
+  abbrev value : Expr → Doing Value
+  value = value_of p here
+
+  abbrev pub out_of : Call → Doing After
+  out_of OutOpen = bind (ask PutsNothing) (λ _. Val (Into []))
+  out_of (OutChar e) = bind (value e) (λ x. bind (ask (PutsChar x)) (λ _. Val (Into [])))
+  out_of (OutInt e n) =
+      bind (value e) (λ x. bind (value n) (λ y. bind (ask (PutsInt x y)) (λ _. Val (Into []))))
+  out_of (OutString r) = bind (rows r) (λ x. bind (ask (PutsString x.place (text_length x))) (λ _. Val (Into [])))
+  out_of OutLn = bind (ask PutsLn) (λ _. Val (Into []))
+
+  -- what is carried out where no test before holds
+  abbrev pub arms_of : Arms → Doing After
+  arms_of (Otherwise ss) = Val (Into (items_of ss))
+  arms_of (Arm e ss arms) = bind (value e) (λ v. if is_true v then Val (Into (items_of ss)) else arms_of arms)
+
+  abbrev pub rounds_of : Pos → Width → Place → ℤ → ℤ → Stats → Doing After
+  rounds_of at w q last step b =
+      bind (value (Read (Integer w) q)) (λ v.
+      Val (Into (if holds (until step) (number_of v) last then items_of b ++ Do (next_value at w q step) ∷ Rounds at w q last step b ∷ [] else [])))
+
+  -- what a statement that has begun does, and the items that take its place. A designator that is assigned is found before what
+  -- it gets; what a variable is changed by is evaluated before it is read
+  abbrev pub stat_of : Stat → Doing After
+  stat_of (Assign at t q e) = bind (place q) (λ s. bind (value e) (λ v. bind (ask (Stores s v)) (λ _. Val (Into []))))
+  stat_of (Copy at t q r) = bind (place q) (λ to. bind (place r) (λ from. bind (ask (Copies t from to)) (λ _. Val (Into []))))
+  stat_of (PutText at strict a b) =
+      bind (rows a) (λ x. bind (rows b) (λ y.
+      bind (ask (PutsText strict x.place (text_length x) y.place (text_length y))) (λ _. Val (Into []))))
+  stat_of (If at arms) = arms_of arms
+  stat_of (Case at e cases) = bind (value e) (λ v. case_of (number_of v) cases)
+  stat_of (While at e body) =
+      bind (value e) (λ v. Val (Into (if is_true v then items_of body ++ Do (While at e body) ∷ [] else [])))
+  stat_of (Repeat at body e) = Val (Into (items_of body ++ Until at body e ∷ []))
+  stat_of (Loop at body) = Val (Into (items_of body ++ Round (Loop at body) ∷ []))
+  stat_of (Exit at) = Val Exits
+  stat_of (For at w q from to step body) =
+      bind (value to) (λ v. Val (Into (Do (Assign at (Integer w) q from) ∷ Rounds at w q (number_of v) step body ∷ [])))
+  stat_of (Block at body) = Val (Into (items_of body))
+  stat_of (Assert at e code) = bind (value e) (λ v. if is_true v then Val (Into []) else Traps 7 code)
+  stat_of (Halt at code) = Traps 8 code
+  stat_of (Change at c q e) =
+      bind (place q) (λ s. bind (value e) (λ n. bind (ask (Reads (changed_type c) s)) (λ v.
+      bind (changed c v n) (λ x. bind (ask (Stores s x)) (λ _. Val (Into []))))))
+  stat_of (Perform at m k as') =
+      bind (arguments_of p here as') (λ vs. bind (ask (Calls (procedure_number p m k) vs)) (λ _. Val (Into [])))
+  stat_of (Return at None) = Val (Returns None)
+  stat_of (Return at (Some e)) = bind (value e) (λ v. Val (Returns (Some v)))
+  -- the object is made, then stored in a variable that is no part of another, and then its activity is started
+  stat_of (New at q t) =
+      bind (ask (Makes (suc t))) (λ o. bind (place q) (λ s. bind (ask (Stores s o)) (λ _. bind (ask (Starts o)) (λ _. Val (Into [])))))
+  stat_of (Out at call) = out_of call
+
+  abbrev pub item_of : Item → Doing After
+  item_of (Do s) = stat_of s
+  item_of (Rounds at w q last step b) = rounds_of at w q last step b
+  item_of (Round s) = stat_of s
+  item_of (Until at b e) = bind (value e) (λ v. Val (Into (if is_true v then [] else Do (Repeat at b e) ∷ [])))

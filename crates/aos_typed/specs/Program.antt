@@ -18,10 +18,30 @@ mutual
   -- so many of this type, by its index
   pub data Place : Type 0 where
     ModuleVar : (home number : ℕ) → Place
+    Local : (number : ℕ) → Place  -- a local of the procedure, or a parameter by value that is no open array
+    Passed : (number : ℕ) → Place  -- what a VAR parameter stands for that is no open array
     Field : (whole : Place) → (of : TType) → (number : ℕ) → Place
     Index : (whole : Place) → (elements : ℕ) → (of : TType) → Expr → Place
+    Of : Rows → Place  -- an element of an open array, behind all its dimensions
 
-  -- a text is compared by its place and the number of elements there; a length is that of an array whose place is found before
+  -- an array with the lengths of some of its dimensions, the first ones: one whose lengths are known, an open array parameter, which
+  -- has so many open dimensions, or an element of an array with open dimensions, by its index. The elements behind all dimensions
+  -- that are open or given are of a type
+  pub data Rows : Type 0 where
+    Known : Place → List ℕ → Rows
+    Opened : (number dimensions : ℕ) → Rows
+    Row : Rows → (of : TType) → Expr → Rows
+
+  -- what a call hands over: a value; the place of a record or an array by value, which is copied, or of a variable for a VAR parameter;
+  -- or an array for an open one
+  pub data Arguments : Type 0 where
+    NoMore : Arguments
+    Scalar : Expr → Arguments → Arguments
+    Whole : Place → Arguments → Arguments
+    Opening : Rows → Arguments → Arguments
+
+  -- a text is an array of characters with its length; a length is that of an array whose place is found before, of one of its
+  -- dimensions that are open, or of one behind these; a function is named by the numbers of its module and its own there
   pub data Expr : Type 0 where
     Lit : Literal → Expr
     Read : TType → Place → Expr
@@ -32,8 +52,10 @@ mutual
     Element : Expr → Expr
     Ord : Expr → Expr
     Chr : Expr → Expr
-    CompareTexts : Relation → (left : Place) → (elements : ℕ) → (right : Place) → (others : ℕ) → Expr
-    Len : Place → (length : ℕ) → Expr
+    CompareTexts : Relation → (left right : Rows) → Expr
+    Len : Rows → (dimension : ℕ) → Expr
+    LenBehind : Rows → (length : ℕ) → Expr
+    Function : (home number : ℕ) → Arguments → Expr
 
 -- a call of a procedure of module Out: the number, and in how many places it stands; a text, by its place and the number of elements
 -- there
@@ -41,7 +63,7 @@ pub data Call : Type 0 where
   Open : Call
   Char : Expr → Call
   Int : Expr → Expr → Call
-  String : Place → (elements : ℕ) → Call
+  String : Rows → Call
   Ln : Call
 
 -- a statement with its place in the text, and a sequence of them. A text is put in an array of characters with room for so many; a
@@ -50,7 +72,7 @@ mutual
   pub data Stat : Type 0 where
     Assign : Pos → TType → Place → Expr → Stat
     Copy : Pos → TType → (to from : Place) → Stat
-    PutText : Pos → (strict : Bool) → (from : Place) → (elements : ℕ) → (to : Place) → (room : ℕ) → Stat
+    PutText : Pos → (strict : Bool) → (from to : Rows) → Stat
     If : Pos → Arms → Stat
     Case : Pos → Expr → Cases → Stat
     While : Pos → Expr → Stats → Stat
@@ -62,6 +84,8 @@ mutual
     Assert : Pos → Expr → (code : ℕ) → Stat
     Halt : Pos → (code : ℕ) → Stat
     Change : Pos → Changing → Place → Expr → Stat
+    Perform : Pos → (home number : ℕ) → Arguments → Stat
+    Return : Pos → Option Expr → Stat
     New : Pos → Place → ℕ → Stat
     Out : Pos → Call → Stat
 

@@ -1,9 +1,13 @@
 -- What the code's program is seen as: boxes and vectors are left out, and names are their bytes.
-use Rattle.std.specs.Prelude.{List, [], ◌∷◌, map}
+use Rattle.std.specs.Prelude.{List, [], ◌∷◌, map, option_map}
 use Rattle.std.specs.String.{string_bytes}
 use Rattle.aos_typed.specs.declared.tree.TPlace.{TPlace}
 use Rattle.aos_typed.specs.declared.tree.TPlace.TheVariants as place
-use Rattle.aos_typed.specs.declared.tree.TExpr.{TExpr}
+use Rattle.aos_typed.specs.declared.tree.TExpr.{TExpr, Row_of-TArgument, end_of-TArgument, more_of-TArgument}
+use Rattle.aos_typed.specs.declared.tree.TRows.{TRows}
+use Rattle.aos_typed.specs.declared.tree.TRows.TheVariants as rows
+use Rattle.aos_typed.specs.declared.tree.TArgument.{TArgument}
+use Rattle.aos_typed.specs.declared.tree.TArgument.TheVariants as argument
 use Rattle.aos_typed.specs.declared.tree.TExpr.TheVariants as expr
 use Rattle.aos_typed.specs.declared.tree.OutCall.{OutCall}
 use Rattle.aos_typed.specs.declared.tree.OutCall.TheVariants as call
@@ -19,13 +23,30 @@ use Rattle.aos_typed.specs.declared.tree.TProcedure.{TProcedure}
 use Rattle.aos_typed.specs.declared.tree.TObject.{TObject}
 use Rattle.aos_typed.specs.declared.tree.TModule.{TModule}
 use Rattle.aos_typed.specs.declared.tree.Program.{Program as TProgram}
-use Rattle.aos_typed.specs.Program.{Place, ModuleVar, Field, Index, Expr, Lit, Read, Unary, Binary, And, Or, Element, Ord, Chr, CompareTexts, Len, Call, Open, Char, Int, String, Ln, Stat, Assign, Copy, PutText, If, Case, While, Repeat, Loop, Exit, For, Block, Assert, Halt, Change, New, Out, Stats, Nothing, Then, Arms, Otherwise, Arm, Cases, NoElse, Else, OfLabels, Variable, Parameter, Procedure, ObjectType, Module, Program}
+use Rattle.aos_typed.specs.Program.{Place, ModuleVar, Local, Passed, Field, Index, Of, Rows, Known, Opened, Row, Arguments, NoMore, Scalar, Whole, Opening, Expr, Lit, Read, Unary, Binary, And, Or, Element, Ord, Chr, CompareTexts, Len, LenBehind, Function, Call, Open, Char, Int, String, Ln, Stat, Assign, Copy, PutText, If, Case, While, Repeat, Loop, Exit, For, Block, Assert, Halt, Change, Perform, Return, New, Out, Stats, Nothing, Then, Arms, Otherwise, Arm, Cases, NoElse, Else, OfLabels, Variable, Parameter, Procedure, ObjectType, Module, Program}
 
 abbrev mutual
   pub seen_place : TPlace → Place
   seen_place (place.ModuleVar m k) = ModuleVar m k
+  seen_place (place.Local k) = Local k
+  seen_place (place.Passed k) = Passed k
+  seen_place (place.Of' p r) = Of (seen_rows r)
   seen_place (place.Field' p whole t k) = Field (seen_place whole) t k
   seen_place (place.Index' p whole n t q e) = Index (seen_place whole) n t (seen_expr e)
+
+  pub seen_rows : TRows → Rows
+  seen_rows (rows.Known' p q ns) = Known (seen_place q) ns.items
+  seen_rows (rows.Opened k j) = Opened k j
+  seen_rows (rows.Row' p r t q e) = Row (seen_rows r) t (seen_expr e)
+
+  pub seen_arguments : {m : _} → Row_of-TArgument m → Arguments
+  seen_arguments end_of-TArgument = NoMore
+  seen_arguments (more_of-TArgument a as') = seen_argument a (seen_arguments as')
+
+  pub seen_argument : TArgument → Arguments → Arguments
+  seen_argument (argument.Scalar e) more = Scalar (seen_expr e) more
+  seen_argument (argument.Whole p) more = Whole (seen_place p) more
+  seen_argument (argument.Opening r) more = Opening (seen_rows r) more
 
   pub seen_expr : TExpr → Expr
   seen_expr (expr.Lit l) = Lit l
@@ -37,21 +58,27 @@ abbrev mutual
   seen_expr (expr.Element' p a) = Element (seen_expr a)
   seen_expr (expr.Ord' p a) = Ord (seen_expr a)
   seen_expr (expr.Chr' p a) = Chr (seen_expr a)
-  seen_expr (expr.CompareTexts r p n q m) = CompareTexts r (seen_place p) n (seen_place q) m
-  seen_expr (expr.Len p n) = Len (seen_place p) n
+  seen_expr (expr.CompareTexts r a b) = CompareTexts r (seen_rows a) (seen_rows b)
+  seen_expr (expr.Len r d) = Len (seen_rows r) d
+  seen_expr (expr.LenBehind r n) = LenBehind (seen_rows r) n
+  seen_expr (expr.Function' m k shape row) = Function m k (seen_arguments row)
+
+abbrev pub seen_list : List TArgument → Arguments
+seen_list [] = NoMore
+seen_list (a ∷ as') = seen_argument a (seen_list as')
 
 abbrev pub seen_call : OutCall → Call
 seen_call call.Open = Open
 seen_call (call.Char e) = Char (seen_expr e)
 seen_call (call.Int e n) = Int (seen_expr e) (seen_expr n)
-seen_call (call.String p n) = String (seen_place p) n
+seen_call (call.String r) = String (seen_rows r)
 seen_call call.Ln = Ln
 
 abbrev mutual
   pub seen_stat : TStat → Stat
   seen_stat (stat.Assign at t p e) = Assign at t (seen_place p) (seen_expr e)
   seen_stat (stat.Copy at t p q) = Copy at t (seen_place p) (seen_place q)
-  seen_stat (stat.PutText at strict p n q m) = PutText at strict (seen_place p) n (seen_place q) m
+  seen_stat (stat.PutText at strict a b) = PutText at strict (seen_rows a) (seen_rows b)
   seen_stat (stat.If' at shapes arms shape body) = If at (seen_arms arms (seen_row body))
   seen_stat (stat.Case' at e shapes cases otherwise) = Case at (seen_expr e) (seen_cases cases (seen_else otherwise))
   seen_stat (stat.While' at e shape body) = While at (seen_expr e) (seen_row body)
@@ -63,6 +90,8 @@ abbrev mutual
   seen_stat (stat.Assert at e code) = Assert at (seen_expr e) code
   seen_stat (stat.Halt at code) = Halt at code
   seen_stat (stat.Change at c p e) = Change at c (seen_place p) (seen_expr e)
+  seen_stat (stat.Perform at m k as') = Perform at m k (seen_list as'.items)
+  seen_stat (stat.Return at e) = Return at (option_map seen_expr e)
   seen_stat (stat.New at p t) = New at (seen_place p) t
   seen_stat (stat.Out at c) = Out at (seen_call c)
 

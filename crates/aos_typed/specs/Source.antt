@@ -1,5 +1,5 @@
 -- A program as a machine: its store, its frames, and the turns of an activity.
-use Rattle.std.specs.Prelude.{ℕ, suc, ◌++◌, List, [], ◌∷◌, length, Bool, true, false, Option, Some, None, if◌then◌else◌, map, pos, unsigned_abs, slice_get, option_and_then}
+use Rattle.std.specs.Prelude.{ℕ, suc, ◌+◌, nat_lt, sum_by, ◌++◌, List, [], ◌∷◌, length, Bool, true, false, Option, Some, None, if◌then◌else◌, map, pos, unsigned_abs, slice_get, option_and_then}
 use Rattle.std.specs.List.{range_with_len}
 use Rattle.aos_base.specs.declared.text.Pos.{Pos}
 use Rattle.aos_base.specs.declared.place.Root.{Root}
@@ -18,26 +18,30 @@ use Rattle.aos_types.specs.declared.row.Basic.TheVariants as basic
 use Rattle.aos_types.specs.declared.row.TypeRow.{TypeRow}
 use Rattle.aos_types.specs.declared.row.TypeRow.TheVariants as row
 use Rattle.aos_types.specs.Table.{row_of as type_row}
-use Rattle.aos_types.specs.Shape.{Shape, Nothing}
+use Rattle.aos_types.specs.Shape.{Shape, Nothing, size}
 use Rattle.aos_types.specs.Shape as shape
-use Rattle.aos_types.specs.Content.{Content, Scalar, Empty, Row, placed, overlay, first_content}
+use Rattle.aos_types.specs.Content.{Content, Scalar, Empty, Row, found, placed, overlay, first_content}
 use Rattle.aos_types.specs.World.{read}
 use Rattle.aos_typed.specs.Program.{Stats, Repeat, Variable as TypedVariable, ObjectType, Module, Program}
+use Rattle.aos_typed.specs.Handed.{Part, handed}
 use Rattle.aos_typed.specs.Numbers.{id_of}
+use Rattle.aos_typed.specs.Routines.{Routine, parameters_of, locals_of, gives, routines}
 use Rattle.aos_typed.specs.Sort.{Sort, Plain, Variable, Alias, Elements, Length, variable_shape}
 use Rattle.aos_typed.specs.Spot.{Spot}
 use Rattle.aos_typed.specs.Text.{text_in, with_text, fitted, text_content, text_shape}
 use Rattle.aos_typed.specs.Value.{Value, Int, Flag, Char, Set, Object, Callable, number_of, is_true}
-use Rattle.aos_typed.specs.Store.{Store, rooted, value_at, store_with, type_of_object, with_object, new_number, has_room}
-use Rattle.aos_typed.specs.Meaning.{Question, Doing, Item, Do, Rounds, Round, Until, After, Into, Exits, leave, items_of, item_of, pos_of, value_of}
+use Rattle.aos_typed.specs.Store.{Store, scalar_in, rooted, value_at, store_with, type_of_object, with_object, new_number, has_room}
+use Rattle.aos_typed.specs.Meaning.{Question, Doing, Item, Do, Rounds, Round, Until, After, Into, Exits, Returns, leave, items_of, item_of, pos_of, value_of}
 
--- a frame: the module of its text, the object whose method or body it is, 0 for none, the shape of its variables and what they
--- hold, how many of them count, the statement last begun, the items that remain, and the answers that the first of them has had, if
--- it has begun
+-- a frame: the module of its text, the object whose method or body it is, 0 for none, whether it is a function's, the shape of its
+-- variables and what they hold, how many scalars count, the statement last begun, the items that remain, and the answers that the
+-- first of them has had, if it has begun
 pub record Frame : Type 0 where
   pub home : ℕ
   pub object : ℕ
+  pub gives : Bool
   pub shape : Shape Sort
+  pub counted : ℕ
   pub variables : Content Value
   pub at : Option Pos
   pub items : List Item
@@ -76,6 +80,42 @@ frames_with (ObjectRoot o) g fs = fs
 -- the text that Out.Int writes, where the number of places is 0 to 255
 abbrev pub written : Value → Value → Option (List ℕ)
 written v n = justified (number_of v) (places_of (number_of n))
+
+-- what a variable of a type begins with: 0, FALSE, 0X, {} or NIL
+abbrev pub first_basic : Basic → Value
+first_basic basic.ShortInt = Int (pos 0)
+first_basic basic.Integer = Int (pos 0)
+first_basic basic.LongInt = Int (pos 0)
+first_basic basic.HugeInt = Int (pos 0)
+first_basic basic.Boolean = Flag false
+first_basic basic.Char = Char 0
+first_basic basic.Set = Set 0
+first_basic basic.Nil = Object 0
+first_basic (basic.Text n) = Int (pos 0)
+
+abbrev pub first_in : Option TypeRow → Value
+first_in None = Int (pos 0)
+first_in (Some (row.Basic b)) = first_basic b
+first_in (Some (row.Array n t)) = Int (pos 0)
+first_in (Some (row.Open t)) = Int (pos 0)
+first_in (Some (row.Record base fields)) = Int (pos 0)
+first_in (Some (row.Pointer to)) = Object 0
+first_in (Some (row.Object base fields)) = Object 0
+first_in (Some (row.Procedure formals r)) = Callable 0 0
+first_in (Some row.Any) = Object 0
+
+-- a row of these contents
+abbrev pub row_of : List (Content Value) → Content Value
+row_of [] = Empty
+row_of (c ∷ cs) = Row c (row_of cs)
+
+module _ (p : Program) where
+  abbrev pub first_value : Sort → Value
+  first_value (Plain t) = first_in (type_row p.types t)
+  first_value (Variable t) = Int (pos 0)
+  first_value (Alias t) = Int (pos 0)
+  first_value (Elements t ns) = Int (pos 0)
+  first_value (Length n) = Int (pos 0)
 
 -- an activity's frames, of which the topmost runs
 module _ (following : List ℕ) where
@@ -141,9 +181,67 @@ module _ (following : List ℕ) where
   stores_text (Some cs) None to f fs s = goes_on (answered done f ∷ fs) s
   stores_text (Some cs) (Some old) to f fs s = writes to.root (placed to.path (with_text cs old)) (answered done f ∷ fs) s
 
--- and the program, which knows what is copied
+  -- an activity has 512 frames and 65,536 scalars in them at most
+  abbrev pub is_deep : Frame → List Frame → Bool
+  is_deep g fs = if nat_lt (length fs) 512 then nat_lt 65536 (g.counted + sum_by (λ f. f.counted) fs) else true
+
+  abbrev pub enters : Bool → Frame → List Frame → Store → Turned
+  enters true g fs s = leaves (Trapped 11 0) fs s
+  enters false g fs s = goes_on (g ∷ fs) s
+
+-- What a parameter stands for is known at once: it stands in the frame's own variables and is no visible work.
+
+-- what is left of a tree behind such questions, and what they were answered
+abbrev pub known : Content Value → Spot → Value
+known c s = scalar_in (found s.path c)
+
+abbrev pub calm : {A : Type 0} → Content Value → Doing A → Doing A
+calm c (Val a) = Val a
+calm c (Traps n code) = Traps n code
+calm c (Asks (Places s) k) = calm c (k (known c s))
+calm c (Asks (Lengths s) k) = calm c (k (known c s))
+calm c (Asks q k) = Asks q k
+
+abbrev pub noted : {A : Type 0} → Content Value → Doing A → List Value
+noted c (Val a) = []
+noted c (Traps n code) = []
+noted c (Asks (Places s) k) = known c s ∷ noted c (k (known c s))
+noted c (Asks (Lengths s) k) = known c s ∷ noted c (k (known c s))
+noted c (Asks q k) = []
+
+-- and the program, which knows what is copied and called
 module _ (p : Program) (following : List ℕ) where
-  -- a question is answered; so far no program asks the others
+  abbrev pub local_part : TypedVariable → Part
+  local_part v =
+      let s = variable_shape p.types (id_of v.of) in record { content = first_content (first_value p) s; shape = s }
+
+  -- the frame of a call, above these
+  abbrev pub called_frame : Routine → List Value → List Frame → Store → Frame
+  called_frame r vs fs s =
+      let locals = map local_part (locals_of r.own) in
+      let copy = length (parameters_of r.own) + length locals in
+      let h = handed p.types (length fs) (all_rooted fs s) (parameters_of r.own) vs copy in
+      let parts = h.parameters ++ (locals ++ h.copies) in
+      let all = shape.row (map (λ x. x.shape) parts) in
+      record {
+        home = r.home;
+        object = 0;
+        gives = gives r.own;
+        shape = all;
+        counted = size all;
+        variables = row_of (map (λ x. x.content) parts);
+        at = None;
+        items = items_of r.body;
+        answers = None;
+      }
+
+  -- a procedure that isn't there isn't called, and no well-typed program comes to it
+  abbrev pub calls : Option Routine → List Value → Frame → List Frame → Store → Turned
+  calls None vs f fs s = goes_on following (answered done f ∷ fs) s
+  calls (Some r) vs f fs s =
+      let g = called_frame r vs (f ∷ fs) s in enters following (is_deep following g (f ∷ fs)) g (f ∷ fs) s
+
+  -- a question is answered
   abbrev pub answer : Question → Frame → List Frame → Store → Turned
   answer (Reads t q) f fs s = goes_on following (answered (value_at q (all_rooted (f ∷ fs) s)) f ∷ fs) s
   answer (Stores q v) f fs s = writes following q.root (placed q.path (Scalar v)) (answered done f ∷ fs) s
@@ -166,29 +264,38 @@ module _ (p : Program) (following : List ℕ) where
       let left = text_in (read a.root a.path x) in
       let right = text_in (read b.root b.path x) in
       goes_on following (answered (Flag (holds r (order left right) (pos 0))) f ∷ fs) s
-  answer (Calls q vs) f fs s = goes_on following (answered done f ∷ fs) s
+  answer (Calls q vs) f fs s = calls (by_number q (routines p)) vs f fs s
   answer (PutsString a n) f fs s = puts following (text_in (read a.root a.path (all_rooted (f ∷ fs) s))) (answered done f ∷ fs) s
+  -- known at once, before a turn comes here
   answer (Places a) f fs s = goes_on following (answered done f ∷ fs) s
   answer (Lengths a) f fs s = goes_on following (answered done f ∷ fs) s
 
   -- the first of these items goes on without a beginning: what follows where its value is TRUE, and where it's FALSE
-  abbrev pub tests : Doing Value → (if_true if_false : Turned) → List Item → Frame → List Frame → Store → Turned
-  tests (Val v) if_true if_false is f fs s = if is_true v then if_true else if_false
-  tests (Asks q k) if_true if_false is f fs s = answer q (record f { items = is; answers = Some [] }) fs s
-  tests (Traps n c) if_true if_false is f fs s = leaves following (Trapped n c) (f ∷ fs) s
+  abbrev pub tests : Doing Value → (if_true if_false : Turned) → Frame → List Frame → Store → Turned
+  tests (Val v) if_true if_false f fs s = if is_true v then if_true else if_false
+  tests (Asks q k) if_true if_false f fs s = answer q f fs s
+  tests (Traps n c) if_true if_false f fs s = leaves following (Trapped n c) (f ∷ fs) s
+
+  -- the end of a body, which a function doesn't come to
+  abbrev pub finishes : Bool → Frame → List Frame → Store → Turned
+  finishes true f fs s = leaves following (Trapped 10 0) (f ∷ fs) s
+  finishes false f fs s = ends following None fs s
 
   -- the next item begins, or the frame ends where there is none; the condition behind a REPEAT's statements is no beginning
   abbrev pub settles : List Item → Frame → List Frame → Store → Turned
-  settles [] f fs s = ends following None fs s
+  settles [] f fs s = finishes f.gives f fs s
   settles (Do st ∷ is) f fs s = begins following (pos_of st) (Do st ∷ is) f fs s
   settles (Rounds at w p last step b ∷ is) f fs s = begins following at (Rounds at w p last step b ∷ is) f fs s
   settles (Round st ∷ is) f fs s = begins following (pos_of st) (Do st ∷ is) f fs s
   settles (Until at b e ∷ is) f fs s =
-      tests (value_of e) (settles is f fs s) (begins following at (Do (Repeat at b e) ∷ is) f fs s) (Until at b e ∷ is) f fs s
+      let test = value_of p (length fs) e in
+      tests (calm f.variables test) (settles is f fs s) (begins following at (Do (Repeat at b e) ∷ is) f fs s)
+      (record f { items = Until at b e ∷ is; answers = Some (noted f.variables test) }) fs s
 
   abbrev pub goes : Doing After → List Item → Frame → List Frame → Store → Turned
   goes (Val (Into is)) rest f fs s = settles (is ++ rest) f fs s
   goes (Val Exits) rest f fs s = settles (leave rest) f fs s
+  goes (Val (Returns r)) rest f fs s = ends following r fs s
   goes (Asks q k) rest f fs s = answer q f fs s
   goes (Traps n c) rest f fs s = leaves following (Trapped n c) (f ∷ fs) s
 
@@ -196,7 +303,9 @@ module _ (p : Program) (following : List ℕ) where
   abbrev pub item_turn : Option (List Value) → List Item → Frame → List Frame → Store → Turned
   item_turn None is f fs s = settles is f fs s
   item_turn (Some vs) [] f fs s = ends following None fs s
-  item_turn (Some vs) (i ∷ is) f fs s = goes (feed vs (item_of i)) is f fs s
+  item_turn (Some vs) (i ∷ is) f fs s =
+      let left = feed vs (item_of p (length fs) i) in
+      goes (calm f.variables left) is (record f { answers = Some (vs ++ noted f.variables left) }) fs s
 
   abbrev pub turn_at : List Frame → Store → Turned
   turn_at [] s = leaves following Ended [] s
@@ -205,7 +314,17 @@ module _ (p : Program) (following : List ℕ) where
 -- the frame of a body, which has no variables: of this module, on this object, and with these statements
 abbrev pub body_frame : (home object : ℕ) → Stats → Frame
 body_frame home o ss =
-    record { home = home; object = o; shape = Nothing; variables = Empty; at = None; items = items_of ss; answers = None }
+    record {
+      home = home;
+      object = o;
+      gives = false;
+      shape = Nothing;
+      counted = 0;
+      variables = Empty;
+      at = None;
+      items = items_of ss;
+      answers = None;
+    }
 
 abbrev pub or_below : Option Pos → ℕ → Where → Where
 or_below None home below = below
@@ -229,48 +348,13 @@ abbrev pub object_frames : ℕ → Option ObjectType → Frames
 object_frames o None = record { following = []; frames = [] }
 object_frames o (Some t) = record { following = []; frames = body_frame t.home o t.body ∷ [] }
 
--- what a variable of a type begins with: 0, FALSE, 0X, {} or NIL
-abbrev pub first_basic : Basic → Value
-first_basic basic.ShortInt = Int (pos 0)
-first_basic basic.Integer = Int (pos 0)
-first_basic basic.LongInt = Int (pos 0)
-first_basic basic.HugeInt = Int (pos 0)
-first_basic basic.Boolean = Flag false
-first_basic basic.Char = Char 0
-first_basic basic.Set = Set 0
-first_basic basic.Nil = Object 0
-first_basic (basic.Text n) = Int (pos 0)
-
-abbrev pub first_in : Option TypeRow → Value
-first_in None = Int (pos 0)
-first_in (Some (row.Basic b)) = first_basic b
-first_in (Some (row.Array n t)) = Int (pos 0)
-first_in (Some (row.Open t)) = Int (pos 0)
-first_in (Some (row.Record base fields)) = Int (pos 0)
-first_in (Some (row.Pointer to)) = Object 0
-first_in (Some (row.Object base fields)) = Object 0
-first_in (Some (row.Procedure formals r)) = Callable 0 0
-first_in (Some row.Any) = Object 0
-
--- a row of these contents
-abbrev pub row_of : List (Content Value) → Content Value
-row_of [] = Empty
-row_of (c ∷ cs) = Row c (row_of cs)
-
 module _ (p : Program) where
-  abbrev pub first_value : Sort → Value
-  first_value (Plain t) = first_in (type_row p.types t)
-  first_value (Variable t) = Int (pos 0)
-  first_value (Alias t) = Int (pos 0)
-  first_value (Elements t ns) = Int (pos 0)
-  first_value (Length n) = Int (pos 0)
-
   -- what a module's variables hold: a row of them, behind which its string constants stand
   abbrev pub module_shape : Module → Shape Sort
   module_shape m = shape.row (map (λ v. variable_shape p.types (id_of v.of)) m.variables ++ map text_shape m.texts)
 
   abbrev pub first_variable : TypedVariable → Content Value
-  first_variable v = first_content first_value (variable_shape p.types (id_of v.of))
+  first_variable v = first_content (first_value p) (variable_shape p.types (id_of v.of))
 
   abbrev pub first_module : Module → Content Value
   first_module m = row_of (map first_variable m.variables ++ map text_content m.texts)

@@ -1,5 +1,5 @@
 -- Which values are of which sorts, in a world that knows the shape of what stands below each root and what objects were made as.
-use Rattle.std.specs.Prelude.{◌≡◌, ℕ, zero, suc, pos, ◌+◌, ◌<◌, ◌^◌, List, [], ◌∷◌, true, Option, Some}
+use Rattle.std.specs.Prelude.{◌≡◌, ℕ, zero, suc, pos, ◌+◌, ◌<◌, ◌^◌, List, [], true, Option, Some}
 use Rattle.aos_base.specs.declared.number.Width.{Width}
 use Rattle.aos_base.specs.declared.number.Width.TheVariants.{W8, W16, W32, W64}
 use Rattle.aos_base.specs.Number.{IsWithin}
@@ -11,23 +11,18 @@ use Rattle.aos_types.specs.declared.row.TypeRow.{TypeRow}
 use Rattle.aos_types.specs.declared.row.TypeRow.TheVariants as row
 use Rattle.aos_types.specs.Table.{row_of}
 use Rattle.aos_types.specs.Extension.{comes_to}
-use Rattle.aos_types.specs.Shape.{Shape, repeated}
 use Rattle.aos_types.specs.World.{World, shape_at}
 use Rattle.aos_typed.specs.Numbers.{predeclared_types}
 use Rattle.aos_typed.specs.Spot.{Spot}
 use Rattle.aos_typed.specs.Value.{Value, Int, Flag, Char, Set, Object, Place}
 use Rattle.aos_typed.specs.Source.{first_in}
+pub use Rattle.aos_typed.specs.Handed.{nested}
 use Rattle.aos_typed.specs.Sort.{Sort, Plain, Variable, Alias, Elements, Length, variable_shape, object_shape}
 
 -- an object's type by its number from 1 among those of modules, and its number in the table
 abbrev pub id_of_made : ℕ → TypeId
 id_of_made zero = record { 0 = 0 }
 id_of_made (suc k) = record { 0 = k + predeclared_types }
-
--- rows within one another, of these lengths
-abbrev pub nested : {S : Type 0} → List ℕ → Shape S → Shape S
-nested [] s = s
-nested (n ∷ ns) s = repeated n (nested ns s)
 
 abbrev pub IsInteger : Width → Value → Type 0
 IsInteger w (Int z) = IsWithin w z

@@ -27,11 +27,13 @@ use Rattle.aos_typed.specs.declared.tree.Literal.{Literal}
 use Rattle.aos_typed.specs.declared.tree.Literal.TheVariants as literal
 use Rattle.aos_typed.specs.declared.tree.TType.{TType}
 use Rattle.aos_typed.specs.declared.tree.TType.TheVariants.{Integer, Boolean, Char, Set, Named}
-use Rattle.aos_typed.specs.Program.{Place, ModuleVar, Field, Index, Expr, Lit, Read, Unary, Binary, And, Or, Element, Ord, Chr, CompareTexts, Len, Call, Open as OutOpen, Char as OutChar, Int as OutInt, String as OutString, Ln as OutLn, Stat, Assign, Copy, PutText, If, Case, While, Repeat, Loop, Exit, For, Block, Assert, Halt, Change, New, Out, Stats, Nothing, Then, Arms, Otherwise, Arm, Cases, NoElse, Else, OfLabels, Procedure, Module, Program}
+use Rattle.aos_typed.specs.Program.{Place, ModuleVar, Local, Passed, Field, Index, Of, Rows, Known, Opened, Row, Arguments, NoMore, Scalar, Whole, Opening, Expr, Lit, Read, Unary, Binary, And, Or, Element, Ord, Chr, CompareTexts, Len, LenBehind, Function, Call, Open as OutOpen, Char as OutChar, Int as OutInt, String as OutString, Ln as OutLn, Stat, Assign, Copy, PutText, If, Case, While, Repeat, Loop, Exit, For, Block, Assert, Halt, Change, Perform, Return, New, Out, Stats, Nothing, Then, Arms, Otherwise, Arm, Cases, NoElse, Else, OfLabels, Parameter, Procedure, Module, Program}
 use Rattle.aos_typed.specs.declared.tree.Change.{Change as Changing}
 use Rattle.aos_typed.specs.declared.tree.Change.TheVariants as change
 use Rattle.aos_typed.specs.declared.tree.LabelRange.{LabelRange}
 use Rattle.aos_typed.specs.Meaning.{changed_type}
+use Rattle.aos_typed.specs.Open.{open_dimensions, open_element}
+use Rattle.aos_typed.specs.Routines.{result_of}
 use Rattle.aos_typed.specs.Numbers.{id_of, predeclared_types, predeclared_rows}
 
 -- Types.
@@ -160,6 +162,9 @@ is_whole _ = false
 -- a variable that is no part of another
 abbrev pub is_variable : Place → Bool
 is_variable (ModuleVar m k) = true
+is_variable (Local k) = true
+is_variable (Passed k) = true
+is_variable (Of r) = false
 is_variable (Field place t k) = false
 is_variable (Index place n t e) = false
 
@@ -182,92 +187,163 @@ amount_type (change.Subtract w) = Integer w
 amount_type change.Include = Integer W64
 amount_type change.Exclude = Integer W64
 
+-- the length of an open array's dimension: a LONGINT from 1 on
+abbrev pub IsLength : ℕ → Type 0
+IsLength n = (1 ≤ n) × IsWithin W32 (pos n)
+
+-- the lengths of an array that is handed over, or asked for them, or that a text is put in with its 0X; those of an open one are
+-- lengths
+abbrev pub HaveLengths : Rows → Type 0
+HaveLengths (Known place ns) = All IsLength ns
+HaveLengths (Opened k j) = Unit {0}
+HaveLengths (Row r t e) = HaveLengths r
+
 -- Programs.
+
+-- an array with these lengths, one dimension behind the other, and elements of this type behind them
+abbrev pub IsArrayOf : List TypeRow → List ℕ → TypeId → TypeId → Type 0
+IsArrayOf rows [] t of = t ≡ of
+IsArrayOf rows (n ∷ ns) t of = (u : TypeId) × IsArray n u (row_of rows t) × IsArrayOf rows ns u of
 
 module _ (p : Program) where
   -- the type of a module's variable, by the numbers of both
   abbrev pub variable_type : (home number : ℕ) → Option TType
   variable_type m k = option_and_then (λ x. option_map (λ v. v.of) (slice_get x.variables k)) (slice_get p.modules m)
 
-  -- Texts. What is of each type of which P says so is an array of so many characters.
-  abbrev pub AreCharacters : (P : TType → Type 0) → ℕ → Type 0
-  AreCharacters P n = (u : TType) × P u × IsArray n (id_of Char) (row_of p.types (id_of u))
+  abbrev pub procedure_in : (home number : ℕ) → Option Procedure
+  procedure_in m k = option_and_then (λ x. slice_get x.procedures k) (slice_get p.modules m)
 
   -- a string constant of a module, with so many elements
   abbrev pub IsConstantText : Place → ℕ → Type 0
   IsConstantText (ModuleVar m k) n = (x : Module) × (slice_get p.modules m ≡ Some x) × IsString x k n
-  IsConstantText (Field place t k) n = ⊥
-  IsConstantText (Index place l t e) n = ⊥
+  IsConstantText _ n = ⊥
 
-  -- what has a text: an array of characters, or a string constant
-  abbrev pub IsTextOf : (P : TType → Type 0) → Place → ℕ → Type 0
-  IsTextOf P place n = AreCharacters P n ⊎ IsConstantText place n
+  -- Parameters: of an open array, by reference, or by value.
 
-  abbrev mutual
-    -- a designator is of a type
-    pub IsPlaceOf : Place → TType → Type 0
-    IsPlaceOf (ModuleVar m k) t = variable_type m k ≡ Some t
-    IsPlaceOf (Field place of k) t = IsPlaceOf place of × (field_type (row_of p.types (id_of of)) k ≡ Some (id_of t))
-    IsPlaceOf (Index place n of e) t = (u : TType) × IsPlaceOf place u × IsArray n (id_of of) (row_of p.types (id_of u)) × IsOf e (Integer W64) × (t ≡ of)
+  abbrev pub is_open_parameter : Parameter → Bool
+  is_open_parameter a = is_open (row_of p.types (id_of a.of))
 
-    -- each value of an expression is of a type
-    pub IsOf : Expr → TType → Type 0
-    IsOf (Lit l) t = IsLiteral l t
-    IsOf (Read u place) t = IsPlaceOf place u × (is_basic u ≡ true) × Includes t u
-    IsOf (Unary op a) t = IsOf a (taken op) × Gives op t
-    IsOf (Binary op a b) t = Takes op (IsOf a) (IsOf b) × GivesOfTwo op t
-    IsOf (And a b) t = IsOf a Boolean × IsOf b Boolean × (t ≡ Boolean)
-    IsOf (Or a b) t = IsOf a Boolean × IsOf b Boolean × (t ≡ Boolean)
-    IsOf (Element a) t = IsOf a (Integer W64) × (t ≡ Set)
-    IsOf (Ord a) t = IsOf a Char × Includes t (Integer W16)
-    IsOf (Chr a) t = IsOf a (Integer W64) × (t ≡ Char)
-    IsOf (CompareTexts r a n b m) t = IsTextOf (IsPlaceOf a) a n × IsTextOf (IsPlaceOf b) b m × (t ≡ Boolean)
-    IsOf (Len place n) t = (u : TType) × (d : ℕ) × IsPlaceOf place u × (dimension p.types d (row_of p.types (id_of u)) ≡ Some n) × IsWithin W32 (pos n) × Includes t (Integer W32)
+  abbrev pub IsOpening : Parameter → ℕ → TType → Type 0
+  IsOpening a n t =
+      (is_open_parameter a ≡ true) × (n ≡ open_dimensions p.types (id_of a.of)) × (open_element p.types (id_of a.of) ≡ id_of t)
 
-  abbrev pub IsText : Place → ℕ → Type 0
-  IsText place n = IsTextOf (IsPlaceOf place) place n
+  abbrev pub IsByReference : Parameter → TType → Type 0
+  IsByReference a t = (is_open_parameter a ≡ false) × (a.by_reference ≡ true) × (a.of ≡ t)
 
-  abbrev pub IsCall : Call → Type 0
-  IsCall OutOpen = Unit {0}
-  IsCall (OutChar e) = IsOf e Char
-  IsCall (OutInt a b) = IsOf a (Integer W64) × IsOf b (Integer W64)
-  IsCall (OutString place n) = IsText place n
-  IsCall OutLn = Unit {0}
+  abbrev pub IsByValue : Parameter → TType → Type 0
+  IsByValue a t = (is_open_parameter a ≡ false) × (a.by_reference ≡ false) × (a.of ≡ t)
 
-  -- a statement is well typed, and so is each of a sequence
-  abbrev mutual
-    pub IsStatement : Stat → Type 0
-    IsStatement (Assign at t place e) = IsPlaceOf place t × (is_basic t ≡ true) × IsOf e t
-    IsStatement (Copy at t to from) = IsPlaceOf to t × IsPlaceOf from t × (is_whole (row_of p.types (id_of t)) ≡ true)
-    IsStatement (PutText at strict from n to m) = IsText from n × AreCharacters (IsPlaceOf to) m × (1 ≤ m)
-    IsStatement (If at arms) = AreArms arms
-    IsStatement (Case at e cases) = (IsOf e (Integer W64) ⊎ IsOf e Char) × AreCases cases
-    IsStatement (While at e body) = IsOf e Boolean × AreStatements body
-    IsStatement (Repeat at body e) = AreStatements body × IsOf e Boolean
-    IsStatement (Loop at body) = AreStatements body
-    IsStatement (Exit at) = Unit {0}
-    IsStatement (For at w place from to step body) =
-        (is_variable place ≡ true) × IsPlaceOf place (Integer w) × IsOf from (Integer w) × IsOf to (Integer w)
-        × IsWithin w step × AreStatements body
-    IsStatement (Block at body) = AreStatements body
-    IsStatement (Assert at e code) = IsOf e Boolean × (code < 256)
-    IsStatement (Halt at code) = code < 256
-    IsStatement (Change at c place e) = IsPlaceOf place (changed_type c) × IsOf e (amount_type c)
-    IsStatement (New at place t) = (is_variable place ≡ true) × IsPlaceOf place (Named t) × (is_object (row_of p.types (id_of (Named t))) ≡ true) × (t < length p.objects)
-    IsStatement (Out at call) = IsCall call
+  -- in the body of this procedure, or of none
+  module _ (own : Option Procedure) where
+    -- a parameter of the procedure, and a local, which are numbered on from the parameters
+    abbrev pub IsParameter : ℕ → Parameter → Type 0
+    IsParameter k a = option_and_then (λ q. slice_get q.parameters k) own ≡ Some a
 
-    pub AreStatements : Stats → Type 0
-    AreStatements Nothing = Unit {0}
-    AreStatements (Then s ss) = IsStatement s × AreStatements ss
+    abbrev pub IsLocal : ℕ → TType → Type 0
+    IsLocal k t = (q : Procedure) × (i : ℕ) × (own ≡ Some q) × (k ≡ length q.parameters + i) × (option_map (λ v. v.of) (slice_get q.locals i) ≡ Some t)
 
-    pub AreArms : Arms → Type 0
-    AreArms (Otherwise ss) = AreStatements ss
-    AreArms (Arm e ss arms) = IsOf e Boolean × AreStatements ss × AreArms arms
+    abbrev mutual
+      -- a designator is of a type
+      pub IsPlaceOf : Place → TType → Type 0
+      IsPlaceOf (ModuleVar m k) t = variable_type m k ≡ Some t
+      IsPlaceOf (Local k) t = IsLocal k t ⊎ ((a : Parameter) × IsParameter k a × IsByValue a t)
+      IsPlaceOf (Passed k) t = (a : Parameter) × IsParameter k a × IsByReference a t
+      IsPlaceOf (Field place of k) t = IsPlaceOf place of × (field_type (row_of p.types (id_of of)) k ≡ Some (id_of t))
+      IsPlaceOf (Index place n of e) t = (u : TType) × IsPlaceOf place u × IsArray n (id_of of) (row_of p.types (id_of u)) × IsOf e (Integer W64) × (t ≡ of)
+      IsPlaceOf (Of r) t = AreRows r 0 t
 
-    pub AreCases : Cases → Type 0
-    AreCases NoElse = Unit {0}
-    AreCases (Else ss) = AreStatements ss
-    AreCases (OfLabels rs ss cases) = All AreLabels rs × AreStatements ss × AreCases cases
+      -- an array with so many dimensions whose lengths are given, and elements of a type behind them
+      pub AreRows : Rows → ℕ → TType → Type 0
+      AreRows (Known place ns) n t =
+          (n ≡ length ns)
+          × (((u : TType) × IsPlaceOf place u × IsArrayOf p.types ns (id_of u) (id_of t))
+          ⊎ ((m : ℕ) × (ns ≡ m ∷ []) × IsConstantText place m × (t ≡ Char)))
+      AreRows (Opened k j) n t = (n ≡ j) × ((a : Parameter) × IsParameter k a × IsOpening a j t)
+      AreRows (Row r of e) n t = AreRows r (suc n) t × IsOf e (Integer W64) × (t ≡ of)
+
+      -- what is handed over for these parameters
+      pub AreArguments : Arguments → List Parameter → Type 0
+      AreArguments NoMore as' = as' ≡ []
+      AreArguments (Scalar e more) as' =
+          (a : Parameter) × (rest : List Parameter) × (as' ≡ a ∷ rest) × IsByValue a a.of × (is_basic a.of ≡ true) × IsOf e a.of
+          × AreArguments more rest
+      AreArguments (Whole place more) as' =
+          (a : Parameter) × (rest : List Parameter) × (as' ≡ a ∷ rest)
+          × (IsByReference a a.of ⊎ (IsByValue a a.of × (is_whole (row_of p.types (id_of a.of)) ≡ true)))
+          × IsPlaceOf place a.of × AreArguments more rest
+      AreArguments (Opening r more) as' =
+          (a : Parameter) × (rest : List Parameter) × (n : ℕ) × (t : TType) × (as' ≡ a ∷ rest) × IsOpening a n t × AreRows r n t
+          × HaveLengths r × AreArguments more rest
+
+      -- each value of an expression is of a type
+      pub IsOf : Expr → TType → Type 0
+      IsOf (Lit l) t = IsLiteral l t
+      IsOf (Read u place) t = IsPlaceOf place u × (is_basic u ≡ true) × Includes t u
+      IsOf (Unary op a) t = IsOf a (taken op) × Gives op t
+      IsOf (Binary op a b) t = Takes op (IsOf a) (IsOf b) × GivesOfTwo op t
+      IsOf (And a b) t = IsOf a Boolean × IsOf b Boolean × (t ≡ Boolean)
+      IsOf (Or a b) t = IsOf a Boolean × IsOf b Boolean × (t ≡ Boolean)
+      IsOf (Element a) t = IsOf a (Integer W64) × (t ≡ Set)
+      IsOf (Ord a) t = IsOf a Char × Includes t (Integer W16)
+      IsOf (Chr a) t = IsOf a (Integer W64) × (t ≡ Char)
+      IsOf (CompareTexts r a b) t = AreRows a 1 Char × AreRows b 1 Char × (t ≡ Boolean)
+      IsOf (Len r d) t = (n : ℕ) × (u : TType) × AreRows r n u × HaveLengths r × (d < n) × Includes t (Integer W32)
+      IsOf (LenBehind r n) t = (m : ℕ) × (u : TType) × AreRows r m u × IsWithin W32 (pos n) × Includes t (Integer W32)
+      IsOf (Function m k more) t =
+          (q : Procedure) × (u : TType) × (procedure_in m k ≡ Some q) × (q.result ≡ Some u) × (is_basic u ≡ true) × Includes t u
+          × AreArguments more q.parameters
+
+    abbrev pub IsCall : Call → Type 0
+    IsCall OutOpen = Unit {0}
+    IsCall (OutChar e) = IsOf e Char
+    IsCall (OutInt a b) = IsOf a (Integer W64) × IsOf b (Integer W64)
+    IsCall (OutString r) = AreRows r 1 Char
+    IsCall OutLn = Unit {0}
+
+    -- what a RETURN gives: nothing where the procedure is a proper one, or in a body that is no procedure's
+    abbrev pub IsReturn : Option Expr → Option TType → Type 0
+    IsReturn None None = Unit {0}
+    IsReturn None (Some t) = ⊥
+    IsReturn (Some e) None = ⊥
+    IsReturn (Some e) (Some t) = IsOf e t
+
+    -- a statement is well typed, and so is each of a sequence
+    abbrev mutual
+      pub IsStatement : Stat → Type 0
+      IsStatement (Assign at t place e) = IsPlaceOf place t × (is_basic t ≡ true) × IsOf e t
+      IsStatement (Copy at t to from) = IsPlaceOf to t × IsPlaceOf from t × (is_whole (row_of p.types (id_of t)) ≡ true)
+      IsStatement (PutText at strict from to) = AreRows from 1 Char × AreRows to 1 Char × HaveLengths to
+      IsStatement (If at arms) = AreArms arms
+      IsStatement (Case at e cases) = (IsOf e (Integer W64) ⊎ IsOf e Char) × AreCases cases
+      IsStatement (While at e body) = IsOf e Boolean × AreStatements body
+      IsStatement (Repeat at body e) = AreStatements body × IsOf e Boolean
+      IsStatement (Loop at body) = AreStatements body
+      IsStatement (Exit at) = Unit {0}
+      IsStatement (For at w place from to step body) =
+          (is_variable place ≡ true) × IsPlaceOf place (Integer w) × IsOf from (Integer w) × IsOf to (Integer w)
+          × IsWithin w step × AreStatements body
+      IsStatement (Block at body) = AreStatements body
+      IsStatement (Assert at e code) = IsOf e Boolean × (code < 256)
+      IsStatement (Halt at code) = code < 256
+      IsStatement (Change at c place e) = IsPlaceOf place (changed_type c) × IsOf e (amount_type c)
+      IsStatement (Perform at m k more) =
+          (q : Procedure) × (procedure_in m k ≡ Some q) × (q.result ≡ None) × AreArguments more q.parameters
+      IsStatement (Return at e) = IsReturn e (result_of own)
+      IsStatement (New at place t) = (is_variable place ≡ true) × IsPlaceOf place (Named t) × (is_object (row_of p.types (id_of (Named t))) ≡ true) × (t < length p.objects)
+      IsStatement (Out at call) = IsCall call
+
+      pub AreStatements : Stats → Type 0
+      AreStatements Nothing = Unit {0}
+      AreStatements (Then s ss) = IsStatement s × AreStatements ss
+
+      pub AreArms : Arms → Type 0
+      AreArms (Otherwise ss) = AreStatements ss
+      AreArms (Arm e ss arms) = IsOf e Boolean × AreStatements ss × AreArms arms
+
+      pub AreCases : Cases → Type 0
+      AreCases NoElse = Unit {0}
+      AreCases (Else ss) = AreStatements ss
+      AreCases (OfLabels rs ss cases) = All AreLabels rs × AreStatements ss × AreCases cases
 
 -- a module's name: a letter, and then letters, digits and `_`
 abbrev pub is_in_name : ℕ → Bool
@@ -300,7 +376,7 @@ pub record IsProcedure (p : Program) (x : Procedure) : Type 0 where
   pub parameters : All (λ a. IsType p a.of) x.parameters
   pub locals : All (λ v. IsVariableType p v.of) x.locals
   pub result : IsResult p x.result
-  pub body : AreStatements p x.body
+  pub body : AreStatements p (Some x) x.body
 
 -- how many scalars the variables of a module have
 abbrev pub module_scalars : Program → Module → ℕ
@@ -313,8 +389,8 @@ pub record IsWellTyped (p : Program) : Type 0 where
   pub few : length p.modules ≤ 64
   pub names : All (λ m. is_ident m.name ≡ true) p.modules
   pub differ : AllPairs (λ m n. m.name ≢ n.name) p.modules
-  pub bodies : All (λ m. AreStatements p m.body) p.modules
-  pub objects : All (λ o. AreStatements p o.body) p.objects
+  pub bodies : All (λ m. AreStatements p None m.body) p.modules
+  pub objects : All (λ o. AreStatements p None o.body) p.objects
   pub homes : All (λ o. o.home < length p.modules) p.objects
   pub types : AreTypes p.types
   pub texts : All (λ m. All (λ t. All (λ c. c < 256) t) m.texts) p.modules

@@ -2,9 +2,11 @@
 //! under the kernel of aos_base.
 #![tactic(auto)]
 
+pub mod open;
 pub mod tree;
 
+pub use open::{OpenArray, open_array};
 pub use tree::{
-    Change, LabelRange, Literal, OutCall, Program, TArm, TCase, TElse, TExpr, TModule, TObject,
-    TParameter, TPlace, TProcedure, TStat, TType, TVariable, TextConstant,
+    Change, LabelRange, Literal, OutCall, Program, TArgument, TArm, TCase, TElse, TExpr, TModule,
+    TObject, TParameter, TPlace, TProcedure, TRows, TStat, TType, TVariable, TextConstant,
 };

@@ -32,10 +32,41 @@ pub enum Literal {
 pub enum TPlace {
     /// A variable of a module, by the module's number in load order and the variable's number, each from 0.
     ModuleVar(u32, u32),
+    /// A local of the procedure, or a parameter by value that is no open array, by its number among these.
+    Local(u32),
+    /// What a VAR parameter stands for that is no open array, by its number.
+    Passed(u32),
     /// A field of a record, by the record type that declares it and its number from 0, that type's base's first.
     Field(Box<TPlace>, TType, u32),
     /// An element of an array of so many elements, each of this type, by its index; trap 2 where that isn't one of them.
     Index(Box<TPlace>, u32, TType, Box<TExpr>),
+    /// An element of an open array, behind all its dimensions.
+    Of(Box<TRows>),
+}
+
+/// An array with the lengths of some of its dimensions, the first ones.
+#[cycle(parts)]
+#[derive(Drop, Debug)]
+pub enum TRows {
+    /// One whose lengths are known.
+    Known(Box<TPlace>, Vec<u32>),
+    /// An open array parameter, by its number, with so many open dimensions.
+    Opened(u32, u32),
+    /// An element of an array with open dimensions, which has one less, by its index; trap 2 where there is none. The elements behind
+    /// all dimensions are of this type.
+    Row(Box<TRows>, TType, Box<TExpr>),
+}
+
+/// What a call hands over for a parameter.
+#[cycle(parts)]
+#[derive(Drop, Debug)]
+pub enum TArgument {
+    /// A value of a basic type.
+    Scalar(TExpr),
+    /// A record or an array by value, which is copied, or a variable for a VAR parameter.
+    Whole(TPlace),
+    /// An array for an open array parameter.
+    Opening(TRows),
 }
 
 // A long designator has as many parts, one in another: it is dropped by a loop, which takes no stack.
@@ -45,6 +76,9 @@ impl Drop for TPlace {
         loop {
             match self {
                 TPlace::ModuleVar(_, _) => return,
+                TPlace::Local(_) => return,
+                TPlace::Passed(_) => return,
+                TPlace::Of(_) => return,
                 TPlace::Field(whole, _, _) => self = Box::into_inner(whole),
                 TPlace::Index(whole, _, _, index) => {
                     drop(index);
@@ -74,10 +108,14 @@ pub enum TExpr {
     Ord(Box<TExpr>),
     /// The character of a code; trap 14 where that isn't 0 to 255.
     Chr(Box<TExpr>),
-    /// Two texts compared, each by its place and how many elements are there.
-    CompareTexts(Relation, TPlace, u32, TPlace, u32),
-    /// The length of an array, or of one of its dimensions. Its place is found first.
-    Len(TPlace, u32),
+    /// Two texts compared, each an array of characters with its length.
+    CompareTexts(Relation, TRows, TRows),
+    /// The length of a dimension of an array, which is found first.
+    Len(TRows, u32),
+    /// The length of a dimension behind the open ones, which is known. The array is found first.
+    LenBehind(TRows, u32),
+    /// The result of a function, by the numbers of its module and its own among the procedures there, each from 0.
+    Function(u32, u32, Vec<TArgument>),
 }
 
 // A long sum has as many left operands, one in another: it is dropped by a loop, which takes no stack.
@@ -88,8 +126,10 @@ impl Drop for TExpr {
             match self {
                 TExpr::Lit(_) => return,
                 TExpr::Read(_, _) => return,
-                TExpr::CompareTexts(_, _, _, _, _) => return,
+                TExpr::CompareTexts(_, _, _) => return,
                 TExpr::Len(_, _) => return,
+                TExpr::LenBehind(_, _) => return,
+                TExpr::Function(_, _, _) => return,
                 TExpr::Unary(_, operand) => self = Box::into_inner(operand),
                 TExpr::Element(operand) => self = Box::into_inner(operand),
                 TExpr::Ord(operand) => self = Box::into_inner(operand),
@@ -118,8 +158,8 @@ pub enum OutCall {
     Char(TExpr),
     /// The number, and in how many places it stands.
     Int(TExpr, TExpr),
-    /// A text, by its place and how many elements are there.
-    String(TPlace, u32),
+    /// A text, an array of characters with its length.
+    String(TRows),
     Ln,
 }
 
@@ -176,7 +216,7 @@ pub enum TStat {
     Copy(Pos, TType, TPlace, TPlace),
     /// The text of a place with so many elements, and a 0X behind it, for an array of characters with so many. Where there is no room
     /// for it, that is trap 15 if the statement is strict, as an assignment is; else the text is cut, as COPY does.
-    PutText(Pos, bool, TPlace, u32, TPlace, u32),
+    PutText(Pos, bool, TRows, TRows),
     /// IF, with the statements behind ELSE.
     If(Pos, Vec<TArm>, Vec<TStat>),
     Case(Pos, TExpr, Vec<TCase>, TElse),
@@ -194,6 +234,10 @@ pub enum TStat {
     Halt(Pos, u8),
     /// A variable is changed by a value.
     Change(Pos, Change, TPlace, TExpr),
+    /// A call of a procedure, by the numbers of its module and its own among the procedures there.
+    Perform(Pos, u32, u32, Vec<TArgument>),
+    /// The end of the procedure, with the result of a function.
+    Return(Pos, Option<TExpr>),
     /// NEW of a variable: an object of this type, by the type's number in the program, whose activity is started.
     New(Pos, TPlace, u32),
     Out(Pos, OutCall),

@@ -1,0 +1,48 @@
+-- All that stands at a place, which a call copies; and rows, whose first part and rest are shown.
+use Rattle.std.proofs.Common.{◌≡◌, ℕ, List, ◌++◌, length, map, Some, sym, ap, ◌∙◌, arith}
+use Rattle.std.proofs.lemmas.List.{map-append, length-map, take_all}
+use Rattle.aos_base.specs.declared.place.Root.{Root}
+use Rattle.aos_base.specs.Rooted.{Made, Rooted, load_all}
+use Rattle.aos_types.specs.Shape.{Shape, Pair, size}
+use Rattle.aos_types.specs.Content.{Content, Row, flatten}
+use Rattle.aos_types.specs.World.{World, Grows, shape_at, cell_at, Scheme, world, read}
+use Rattle.aos_places.specs.Shows.{Shown, Shows, AreKept}
+use Rattle.aos_places.proofs.Zoom.{as_many}
+use Rattle.aos_places.proofs.Grow.{fits_grows, cells_grow}
+use Rattle.aos_places.proofs.Places.{loads_alike}
+
+module _ {S V C : Type 0} (Is : World S → S → V → Type 0) (cell : World S → V → C) where
+  pub shown_pair : (w : World S) (s m : Shape S) (c d : Content V) (y z : List C) → Shown Is cell w s c y → Shown Is cell w m d z → Shown Is cell w (Pair s m) (Row c d) (y ++ z)
+  shown_pair w s m c d y z h k =
+      record { fits = (h.fits, k.fits); same = (λ j. h.same j ++ k.same j) ∙ sym (map-append (cell w) (flatten c) (flatten d)) }
+
+  -- what is shown has as many cells as its shape
+  pub shown_long : (w : World S) (s : Shape S) (c : Content V) (y : List C) → Shown Is cell w s c y → length y ≡ size s
+  shown_long w s c y h = ap length h.same ∙ length-map (flatten c) (cell w) ∙ as_many (Is w) s c h.fits
+
+module _ {S V C : Type 0} (Is : World S → S → V → Type 0) (cell : World S → V → C) (IsPlain : S → Type 0) (kept : AreKept Is cell IsPlain) (scheme : Scheme S) (made : List Made) (frames : List (Shape S)) (x : Rooted (Content V)) (y : Rooted (List C)) where
+  abbrev here : World S
+  here = world scheme made frames
+
+  -- what stands at a place is found by both, and the one shows the other, also where the world has grown
+  pub record WholeAlike (w : World S) (r : Root) (p : List ℕ) (s : Shape S) : Type 0 where
+    pub inner : Content V
+    pub cells : List C
+    pub source : read r p x ≡ Some inner
+    pub image : load_all (size s) r (cell_at here r p) y ≡ Some cells
+    pub shown : Shown Is cell w s inner cells
+
+  pub whole_alike : (w : World S) → Grows here w → (r : Root) (p : List ℕ) (s : Shape S) → Shows Is cell scheme made frames x y → shape_at here r p ≡ Some s → WholeAlike w r p s
+  whole_alike w up r p s h e =
+      let a = loads_alike Is cell IsPlain kept scheme made frames x y (size s) s r p h e (omega arith) in
+      let cells = map (cell here) (flatten a.inner) in
+      record {
+        inner = a.inner;
+        cells = cells;
+        source = a.source;
+        image = a.image ∙ ap (λ l. Some l) (take_all (size s) cells (omega (arith, a.long)));
+        shown = record {
+          fits = fits_grows Is cell IsPlain kept here w up s a.inner a.fits;
+          same = cells_grow Is cell IsPlain kept here w up s a.inner a.fits;
+        };
+      }

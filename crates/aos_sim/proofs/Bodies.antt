@@ -1,0 +1,98 @@
+-- What an image has of each routine of a program: its code, which carries out the routine's statements, and its shape.
+use Rattle.std.proofs.Common.{◌≡◌, ℕ, zero, suc, pos, List, [], ◌∷◌, ◌++◌, map, Option, Some, None, refl, sym, ap, ◌∙◌, arith}
+use Rattle.std.specs.Prelude.{All, slice_get, option_map}
+use Rattle.std.proofs.lemmas.List.Elements.{All-nil, All-cons, All-append, All-map, All-tail}
+use Rattle.std.proofs.lemmas.Option.{slice_get-map}
+use Rattle.aos_base.specs.Rooted.{by_number}
+use Rattle.aos_typed.specs.Numbers.{id_of}
+use Rattle.aos_typed.specs.Program.{Procedure, ObjectType, Module, Program}
+use Rattle.aos_typed.specs.Routines.{Routine, result_of, bodies_from, procedures_from, routines}
+use Rattle.aos_typed.specs.WellTyped.{AreStatements, IsProcedure, IsWellTyped}
+use Rattle.aos_layout.specs.Layout.{kind_of}
+use Rattle.aos_layout.specs.Seen.{seen_shape}
+use Rattle.aos_code.specs.declared.image.Body.{Body}
+use Rattle.aos_code.specs.declared.image.Image.{Image}
+use Rattle.aos_code.specs.declared.image.ProcShape.{ProcShape}
+use Rattle.aos_code.specs.declared.instr.Cell.TheVariants.{Num}
+use Rattle.aos_code.specs.Numbered.{numbered}
+use Rattle.aos_code.specs.Silent.{keeps_in}
+use Rattle.aos_code.specs.Machine.{home_in, code_in_body, code_of}
+use Rattle.aos_sim.specs.Code.{body_code}
+use Rattle.aos_sim.specs.Need.{keeps_of}
+use Rattle.aos_sim.specs.Shows.{shape_of, IsCodeOf}
+use Rattle.aos_sim.proofs.First.{all_get}
+use Rattle.aos_sim.proofs.Does.{HasShapes}
+use Rattle.aos_sim.proofs.Carries.{IsOwn}
+use Rattle.aos_sim.proofs.Stats.{body_goes}
+use Rattle.aos_sim.proofs.States.{RoutinesRun}
+
+-- what stands at a place of one list, where another has alike at it
+alike_at : {A B X : Type 0} (f : A → X) (g : B → X) (xs : List A) (ys : List B) → map f xs ≡ map g ys → (k : ℕ) (y : B) → slice_get ys k ≡ Some y → (x : A) × (slice_get xs k ≡ Some x) × (f x ≡ g y)
+alike_at {A = A} f g xs ys same k y e =
+    by (slice_get xs k) refl (sym (slice_get-map f xs k) ∙ ap (λ l. slice_get l k) same ∙ slice_get-map g ys k ∙ ap (option_map g) e)
+  where
+    by : (o : Option A) → slice_get xs k ≡ o → option_map f o ≡ Some (g y) → (x : A) × (slice_get xs k ≡ Some x) × (f x ≡ g y)
+    by None there h = absurd (cc)
+    by (Some x) there h = (x, there, cc)
+
+-- what a shape says of a routine
+
+module _ (p : Program) (shapes : List ProcShape) (shaped : HasShapes p shapes) (number : ℕ) (r : Routine) (there : by_number number (routines p) ≡ Some r) where
+  pub own_known : IsOwn p r.own shapes number
+  own_known = let x = shaped number r there in (x.0, x.1, ap (λ z. z.result) x.2 ∙ by r.own)
+    where
+      by : (own : Option Procedure) → (shape_of p.types (record { home = r.home; own = own; body = r.body })).result ≡ option_map (λ t. kind_of p.types (id_of t)) (result_of own)
+      by None = refl
+      by (Some q) = refl
+
+  pub home_known : home_in (numbered shapes number) ≡ r.home
+  home_known = let x = shaped number r there in ap home_in x.1 ∙ ap (λ z. z.module_) x.2 ∙ by r.own
+    where
+      by : (own : Option Procedure) → (shape_of p.types (record { home = r.home; own = own; body = r.body })).module_ ≡ r.home
+      by None = refl
+      by (Some q) = refl
+
+  pub keeps_known : keeps_in (numbered shapes number) ≡ keeps_of r.body
+  keeps_known = let x = shaped number r there in ap keeps_in x.1 ∙ ap (λ z. z.keeps) x.2 ∙ by r.own
+    where
+      by : (own : Option Procedure) → (shape_of p.types (record { home = r.home; own = own; body = r.body })).keeps ≡ keeps_of r.body
+      by None = refl
+      by (Some q) = refl
+
+module _ (p : Program) where
+  -- the statements of each routine are well typed
+  abbrev IsTyped : Routine → Type 0
+  IsTyped r = AreStatements p r.own r.body
+
+  bodies_typed : (m : ℕ) (xs : List Module) → All (λ x. AreStatements p None x.body) xs → All IsTyped (bodies_from m xs)
+  bodies_typed m [] h = All-nil IsTyped
+  bodies_typed m (x ∷ xs) h =
+      let P : Module → Type 0 = λ x. AreStatements p None x.body in
+      All-cons IsTyped (record { home = m; own = None; body = x.body }) (bodies_from (suc m) xs) (all_get P (x ∷ xs) 0 x h refl) (bodies_typed (suc m) xs (All-tail P x xs h))
+
+  procedures_typed : (m : ℕ) (xs : List Module) → All (λ x. All (IsProcedure p) x.procedures) xs → All IsTyped (procedures_from m xs)
+  procedures_typed m [] h = All-nil IsTyped
+  procedures_typed m (x ∷ xs) h =
+      let P : Module → Type 0 = λ x. All (IsProcedure p) x.procedures in
+      let of : Procedure → Routine = λ q. record { home = m; own = Some q; body = q.body } in
+      let first = all_get P (x ∷ xs) 0 x h refl in
+      All-append IsTyped (map of x.procedures) (procedures_from (suc m) xs)
+      (All-map IsTyped of x.procedures (λ i q lt. (first i q lt).body)) (procedures_typed (suc m) xs (All-tail P x xs h))
+
+  pub routines_typed : IsWellTyped p → All IsTyped (routines p)
+  routines_typed well =
+      let of : ObjectType → Routine = λ o. record { home = o.home; own = None; body = o.body } in
+      All-append IsTyped (bodies_from 0 p.modules) (map of p.objects ++ procedures_from 0 p.modules) (bodies_typed 0 p.modules well.bodies)
+      (All-append IsTyped (map of p.objects) (procedures_from 0 p.modules) (All-map IsTyped of p.objects well.objects) (procedures_typed 0 p.modules well.procedures))
+
+  module _ (image : Image) (ok : IsCodeOf p image) where
+    pub has_shapes : HasShapes p image.shapes.items
+    has_shapes zero r e = absurd (cc)
+    has_shapes (suc k) r e = alike_at seen_shape (shape_of p.types) image.shapes.items (routines p) ok.shapes k r e
+
+    pub routines_run : IsWellTyped p → RoutinesRun p image
+    routines_run well zero r e here = absurd (cc)
+    routines_run well (suc k) r e here =
+        let b = alike_at (λ (b : Body). b.code.items) (λ r. body_code p r.own r.body) image.bodies.items (routines p) ok.bodies k r e in
+        let keeps = keeps_known p image.shapes.items has_shapes (suc k) r e in
+        body_goes p r.own image.shapes.items (suc k) here (code_of image (suc k)) r.body (λ c. Num (pos 0)) (all_get IsTyped (routines p) k r (routines_typed well) e) (omega (arith, keeps)) (ap code_in_body b.1 ∙ b.2)
