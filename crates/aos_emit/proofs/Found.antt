@@ -1,28 +1,42 @@
--- The cells of a program's variables and string constants are found by the numbers of modules and variables.
-use Rattle.std.proofs.Common.{◌≡◌, ℕ, ◌<◌, List, [], ◌∷◌, length, get_or, map, take, Option, Some, None, refl, sym, ap, ◌∙◌}
+-- The cells of a program's variables and string constants are found by the numbers of modules and variables, those of a procedure's
+-- parameters and locals by their numbers, and the numbers of procedures by those of their modules.
+use Rattle.std.proofs.Common.{◌≡◌, ◌^◌, ◌++◌, drop, append_assoc, All, subst, ℕ, zero, suc, ◌+◌, ◌<◌, true, arith, List, [], ◌∷◌, length, get_or, map, take, Option, Some, None, refl, sym, ap, ◌∙◌}
 use Rattle.std.specs.Prelude.{slice_get, option_map}
 use Rattle.std.specs.Option.{unwrap_or}
-use Rattle.std.proofs.lemmas.List.{length-map}
-use Rattle.std.proofs.lemmas.Option.{slice_get-map, slice_get_read}
-use Rattle.aos_types.specs.Shape.{leaves, row, offset, number_of}
+use Rattle.std.proofs.lemmas.List.{length-map, drop_more}
+use Rattle.std.proofs.lemmas.List.Sums.{sum_by-cons}
+use Rattle.std.proofs.lemmas.List.Elements.{All-append, All-replicate}
+use Rattle.std.specs.Prelude.{sum_by}
+use Rattle.std.proofs.lemmas.Option.{slice_get-map, slice_get_read, slice_get_within}
+use Rattle.aos_types.specs.Shape.{leaves, row, size, offset, number_of}
 use Rattle.aos_typed.specs.declared.tree.TModule.{TModule}
-use Rattle.aos_typed.specs.Program.{Module, Program}
-use Rattle.aos_typed.specs.Seen.{seen_module, seen_variable}
+use Rattle.aos_types.specs.declared.row.TypeId.{TypeId}
+use Rattle.aos_types.specs.declared.row.TypeRow.{TypeRow}
+use Rattle.aos_types.specs.Table.{row_of, is_scalar}
+use Rattle.aos_typed.specs.declared.tree.TType.{TType}
+use Rattle.aos_typed.specs.Numbers.{id_of, procedure_number}
+use Rattle.aos_typed.specs.WellTyped.{IsResult, IsProcedure}
+use Rattle.aos_typed.specs.Program.{Procedure, Module, Program}
+use Rattle.aos_typed.specs.declared.tree.TObject.{TObject}
+use Rattle.aos_typed.specs.Seen.{seen_module, seen_object, seen_procedure, seen_variable}
 use Rattle.aos_typed.specs.Source.{module_shape}
 use Rattle.aos_code.specs.declared.instr.Kind.{Kind}
 use Rattle.aos_layout.specs.declared.block.BlockShape.{BlockShape as CodeBlockShape}
-use Rattle.aos_layout.specs.Layout.{variable_cells}
+use Rattle.aos_layout.specs.Layout.{variable_cells, block}
 use Rattle.aos_layout.specs.Block.{BlockShape, block_shape}
 use Rattle.aos_layout.specs.Seen.{seen_block}
-use Rattle.aos_layout.proofs.Blocks.{first_cell, variable_kinds}
-use Rattle.aos_sim.specs.Code.{variable_cell}
-use Rattle.aos_emit.specs.Laid.{AreBlocks, cell_in, variables_in, module_kinds}
+use Rattle.aos_layout.specs.Frame.{AreThere, MayBeThere, frame_parts}
+use Rattle.aos_layout.proofs.Blocks.{first_of_part, first_cell, variable_kinds}
+use Rattle.aos_sim.specs.Code.{variable_cell, own_cell}
+use Rattle.aos_emit.specs.Laid.{AreBlocks, AreFirsts, firsts_from, cell_in, variables_in, module_kinds}
+use Rattle.aos_emit.proofs.Codes.{next_of}
+use Rattle.aos_emit.specs.Scope.{AreOwn, first_own, all_own}
 
 module _ (p : Program) (bs : List CodeBlockShape) (are : AreBlocks p bs) where
   found : (m : ℕ) → slice_get (map seen_block bs) m ≡ option_map (block_shape p.types) (slice_get p.modules m)
   found m = ap (λ l. slice_get l m) are ∙ slice_get-map (block_shape p.types) p.modules m
 
-  pub cell_is : (m i : ℕ) → cell_in (slice_get (map seen_block bs) m) i ≡ variable_cell p m i
+  pub cell_is : (m i : ℕ) → cell_in (slice_get (map seen_block bs) m) i ≡ variable_cell p None m i
   cell_is m i = ap (λ o. cell_in o i) (found m) ∙ at_module (slice_get p.modules m) ∙ ap (number_of (offset (i ∷ []))) (sym (slice_get-map (module_shape p) p.modules m))
     where
       at_module : (o : Option Module) → cell_in (option_map (block_shape p.types) o) i ≡ number_of (offset (i ∷ [])) (option_map (module_shape p) o)
@@ -48,3 +62,61 @@ module _ (p : Program) (bs : List CodeBlockShape) (are : AreBlocks p bs) where
 pub kinds_at : (p : Program) (see : TModule → Module) (ms : List TModule) (k : ℕ) (m : TModule) → p.modules ≡ map see ms → k < length ms → m ≡ get_or ms k m → module_kinds p k ≡ leaves (row (variable_cells p.types (see m).variables))
 kinds_at p see ms k m are lt at =
     ap (λ (o : Option Module). unwrap_or (option_map (λ x. leaves (row (variable_cells p.types x.variables))) o) []) (ap (λ l. slice_get l k) are ∙ slice_get-map see ms k ∙ ap (option_map see) (slice_get_read ms (length ms) k m refl lt at))
+
+-- the first cell of a parameter or a local of the procedure
+pub own_is : (p : Program) (own : Option Procedure) (places : List ℕ) (cells k : ℕ) → AreOwn p.types own places cells → unwrap_or (slice_get places k) cells ≡ own_cell p own k
+own_is p own places cells k are = (λ i. unwrap_or (slice_get (are.first i) k) (are.all i)) ∙ at_own own
+  where
+    at_own : (o : Option Procedure) → unwrap_or (slice_get (first_own p.types o) k) (all_own p.types o) ≡ own_cell p o k
+    at_own None = refl
+    at_own (Some q) = first_of_part (frame_parts p.types q) (frame_parts p.types q) k refl
+
+-- a procedure's number
+pub number_is : (p : Program) (ns : List ℕ) (m k n : ℕ) → AreFirsts p ns → option_map (λ f. f + k) (slice_get ns m) ≡ Some n → n ≡ procedure_number p m k
+number_is p ns m k n are e =
+    let first = suc (length p.modules + length p.objects) in
+    let h = from first p.modules m (ap (λ l. option_map (λ f. f + k) (slice_get l m)) (sym are) ∙ e) in
+    omega (arith, h)
+  where
+    from : (a : ℕ) (xs : List Module) (m : ℕ) → option_map (λ f. f + k) (slice_get (firsts_from a xs) m) ≡ Some n → n ≡ a + sum_by (λ x. length x.procedures) (take m xs) + k
+    from a [] m e = absurd (cc)
+    from a (x ∷ xs) zero e = let h : a + k ≡ n = cc in omega (arith, h)
+    from a (x ∷ xs) (suc m) e = omega (arith, from (a + length x.procedures) xs m e, sum_by-cons (λ x. length x.procedures) x (take m xs))
+
+-- the types of a procedure are there
+scalar_there : (rows : List TypeRow) (t : TypeId) → is_scalar (row_of rows t) ≡ true → t.0 < length rows
+scalar_there rows t e = at_row (slice_get rows t.0) refl e
+  where
+    at_row : (o : Option TypeRow) → slice_get rows t.0 ≡ o → is_scalar o ≡ true → t.0 < length rows
+    at_row None is e = absurd (cc)
+    at_row (Some r) is e = slice_get_within rows t.0 r is
+
+pub procedure_there : (p : Program) (q : Procedure) → IsProcedure p q → AreThere p.types q
+procedure_there p q h = record { parameters = h.parameters; locals = λ i d lt. (h.locals i d lt).there; result = at_result q.result h.result }
+  where
+    at_result : (o : Option TType) → IsResult p o → MayBeThere p.types o
+    at_result None h = h
+    at_result (Some t) h = scalar_there p.types (id_of t) h
+
+-- one more module whose cells have numbers of 32 bits
+pub narrow_more : (rows : List TypeRow) (ms : List TModule) (k : ℕ) (m : TModule) (b : CodeBlockShape) → k < length ms → m ≡ get_or ms k m → seen_block b ≡ block_shape rows (seen_module m) → b.cells < 2 ^ 32 → All (λ x. size (block rows x) < 2 ^ 32) (map seen_module (take k ms)) → All (λ x. size (block rows x) < 2 ^ 32) (map seen_module (take (k + 1) ms))
+narrow_more rows ms k m b lt at is few all =
+    let P : Module → Type 0 = λ x. size (block rows x) < 2 ^ 32 in
+    let here : P (seen_module m) = subst (λ n. n < 2 ^ 32) (ap (λ (x : BlockShape). x.cells) is) few in
+    subst (λ l. All P l) (sym (next_of seen_module ms k m lt at)) (All-append P (map seen_module (take k ms)) (seen_module m ∷ []) all (All-replicate P 1 (seen_module m) here))
+
+-- the numbers of the first procedures of modules, one more of them,
+pub firsts_more : (ms : List TModule) (k : ℕ) (m : TModule) (next behind : ℕ) (firsts : List ℕ) → k < length ms → m ≡ get_or ms k m → behind ≡ next + length m.procedures.items → (firsts ++ next ∷ []) ++ firsts_from behind (map seen_module (drop (k + 1) ms)) ≡ firsts ++ firsts_from next (map seen_module (drop k ms))
+firsts_more ms k m next behind firsts lt at is =
+    let rest = map seen_module (drop (k + 1) ms) in
+    let same : behind ≡ next + length (seen_module m).procedures = omega (arith, is, length-map m.procedures.items seen_procedure) in
+    append_assoc firsts (next ∷ []) (firsts_from behind rest)
+    ∙ ap (λ n. firsts ++ next ∷ firsts_from n rest) same
+    ∙ ap (λ x. firsts ++ firsts_from next (seen_module x ∷ rest)) at
+    ∙ ap (λ l. firsts ++ firsts_from next (map seen_module l)) (sym (drop_more ms k m lt))
+
+-- and those of all modules of a program
+pub firsts_are : (ms xs : List TModule) (os : List TObject) (first : ℕ) (ns : List ℕ) → xs ≡ ms → first ≡ suc (length ms + length os) → ns ≡ firsts_from first (map seen_module xs) → ns ≡ firsts_from (suc (length (map seen_module ms) + length (map seen_object os))) (map seen_module ms)
+firsts_are ms xs os first ns same is e =
+    let n : first ≡ suc (length (map seen_module ms) + length (map seen_object os)) = omega (arith, is, length-map ms seen_module, length-map os seen_object) in
+    e ∙ (λ i. firsts_from (n i) (map seen_module (same i)))

@@ -4,14 +4,14 @@ use Rattle.aos_base.specs.declared.text.Pos.{Pos}
 use Rattle.aos_typed.specs.declared.tree.TArm.{TArm, out-TArm}
 use Rattle.aos_typed.specs.declared.tree.TCase.{TCase, out-TCase}
 use Rattle.aos_typed.specs.declared.tree.TStat.{TStat}
-use Rattle.aos_typed.specs.Program.{Expr, Stat, Assign, Copy, PutText, If, Case, While, Repeat, Loop, Exit, For, Block, Assert, Halt, Change, New, Out, Stats, Nothing, Then, Arms, Otherwise, Arm, Cases, NoElse, Else, OfLabels}
+use Rattle.aos_typed.specs.Program.{Expr, Stat, Assign, Copy, PutText, If, Case, While, Repeat, Loop, Exit, For, Block, Assert, Halt, Change, Perform, Return, New, Out, Stats, Nothing, Then, Arms, Otherwise, Arm, Cases, NoElse, Else, OfLabels}
 use Rattle.aos_typed.specs.Seen.{seen_stat, seen_stats, arms_of, cases_of}
 
 abbrev mutual
   pub height : Stat → ℕ
   height (Assign at t p e) = 0
   height (Copy at t p q) = 0
-  height (PutText at strict p n q m) = 0
+  height (PutText at strict a b) = 0
   height (If at arms) = suc (arms_height arms)
   height (Case at e cases) = suc (cases_height cases)
   height (While at e body) = suc (heights body)
@@ -23,6 +23,8 @@ abbrev mutual
   height (Assert at e code) = 0
   height (Halt at code) = 0
   height (Change at c p e) = 0
+  height (Perform at m k more) = 0
+  height (Return at e) = 0
   height (New at p t) = 0
   height (Out at call) = 0
 

@@ -1,7 +1,10 @@
 pub mod Patch
 pub mod Pending
 pub mod Codes
+pub mod Turned
 pub mod Forth
 pub mod Heights
+pub mod Parts
+pub mod Ends
 pub mod Found
 pub mod Fields

@@ -1,5 +1,5 @@
 -- Code of which jumps forward are written after the instructions that they pass.
-use Rattle.std.proofs.Common.{◌≡◌, ℕ, suc, ℤ, ◌+◌, ◌*◌, List, [], ◌∷◌, ◌++◌, length, take, drop, map, sym, ap, ◌∙◌, arith, append_assoc, length-append}
+use Rattle.std.proofs.Common.{◌≡◌, Option, ℕ, suc, ℤ, ◌+◌, ◌*◌, List, [], ◌∷◌, ◌++◌, length, map, sym, ap, ◌∙◌, arith, append_assoc, length-append}
 use Rattle.std.specs.Prelude.{slice_set}
 use Rattle.std.proofs.Math.Seq.{set-append_seam}
 use Rattle.std.proofs.lemmas.List.{take_at, drop_at}
@@ -10,7 +10,7 @@ use Rattle.aos_base.specs.declared.operator.Binary.TheVariants.{Cmp}
 use Rattle.aos_typed.specs.declared.tree.TType.TheVariants.{Integer}
 use Rattle.aos_typed.specs.declared.tree.LabelRange.{LabelRange}
 use Rattle.aos_typed.specs.Meaning.{until}
-use Rattle.aos_typed.specs.Program.{Place, Read, Stat, Stats, Cases, OfLabels, Program}
+use Rattle.aos_typed.specs.Program.{Place, Read, Stat, Stats, Cases, OfLabels, Procedure, Program}
 use Rattle.aos_typed.specs.Seen.{seen_stat}
 use Rattle.aos_code.specs.declared.instr.Instr.{Instr}
 use Rattle.aos_code.specs.declared.instr.Instr.TheVariants.{Kept, Binary, Jump, JumpFalse}
@@ -46,14 +46,14 @@ patched base front inside c1 c2 c3 c4 x last over n1 n2 e1 m1 e2 e3 e4 m2 =
     ∙ ap (λ n. base ++ (front ++ (over n ∷ (b ++ last ∷ [])))) d
 
 -- one more arm of CASE
-pub choice_more : (p : Program) (base code : List Instr) (rs : List LabelRange) (ss : Stats) (rest : Cases) (d : ℕ) → let hit = length base + 9 * length rs + 1 in let b = stats_code p ss hit pending_exit d in code ≡ base ++ case_code (labels_code rs d (length base) hit) b (hit + length b + 1) pending_end [] → code ++ cases_code p rest (length code) pending_end pending_exit d ≡ base ++ cases_code p (OfLabels rs ss rest) (length base) pending_end pending_exit d
-choice_more p base code rs ss rest d e =
+pub choice_more : (p : Program) (own : Option Procedure) (base code : List Instr) (rs : List LabelRange) (ss : Stats) (rest : Cases) (d : ℕ) → let hit = length base + 9 * length rs + 1 in let b = stats_code p own ss hit pending_exit d in code ≡ base ++ case_code (labels_code rs d (length base) hit) b (hit + length b + 1) pending_end [] → code ++ cases_code p own rest (length code) pending_end pending_exit d ≡ base ++ cases_code p own (OfLabels rs ss rest) (length base) pending_end pending_exit d
+choice_more p own base code rs ss rest d e =
     let hit = length base + 9 * length rs + 1 in
-    let b = stats_code p ss hit pending_exit d in
+    let b = stats_code p own ss hit pending_exit d in
     let next = hit + length b + 1 in
     let ls = labels_code rs d (length base) hit in
     let arm = ls ++ (Jump next ∷ (b ++ (Jump pending_end ∷ []))) in
-    let more : ℕ → List Instr = λ n. cases_code p rest n pending_end pending_exit d in
+    let more : ℕ → List Instr = λ n. cases_code p own rest n pending_end pending_exit d in
     let long = ap length e ∙ length-append base arm in
     let n : length code ≡ next = omega (arith, long, labels_length rs d (length base) hit, length-append ls (Jump next ∷ (b ++ (Jump pending_end ∷ []))), length-append b (Jump pending_end ∷ [])) in
     ap (λ m. code ++ more m) n
@@ -70,15 +70,15 @@ ended base code of p from to e n known =
     ∙ ap (λ l. base ++ l) known
 
 -- a round of a FOR, with its test, its statements and its step
-pub round_is : (p : Program) (here : Pos) (w : Width) (q : Place) (step : ℤ) (b : ℕ → List Instr) (base : List Instr) (d start : ℕ) → start ≡ length base → let test = value_code p (Read (Integer w) q) (length base + 1) ++ (Kept d N ∷ (Binary (Cmp (until step)) ∷ [])) in let first = length base + suc (length test) + 1 in let inside = b first ++ step_code p here w q step (first + length (b first)) in base ++ ((begin here ∷ test) ++ (JumpFalse (first + length inside + 1) ∷ (inside ++ (Jump start ∷ [])))) ≡ base ++ rounds_with p here w q step (b (body_place p w q (length base))) (length base) d
-round_is p here w q step b base d start e =
+pub round_is : (p : Program) (own : Option Procedure) (here : Pos) (w : Width) (q : Place) (step : ℤ) (b : ℕ → List Instr) (base : List Instr) (d start : ℕ) → start ≡ length base → let test = value_code p own (Read (Integer w) q) (length base + 1) ++ (Kept d N ∷ (Binary (Cmp (until step)) ∷ [])) in let first = length base + suc (length test) + 1 in let inside = b first ++ step_code p own here w q step (first + length (b first)) in base ++ ((begin here ∷ test) ++ (JumpFalse (first + length inside + 1) ∷ (inside ++ (Jump start ∷ [])))) ≡ base ++ rounds_with p own here w q step (b (body_place p own w q (length base))) (length base) d
+round_is p own here w q step b base d start e =
     let at = length base in
-    let v = value_code p (Read (Integer w) q) (at + 1) in
+    let v = value_code p own (Read (Integer w) q) (at + 1) in
     let tail = Kept d N ∷ (Binary (Cmp (until step)) ∷ []) in
     let test = v ++ tail in
     let first = at + suc (length test) + 1 in
-    let next : ℕ → List Instr = λ m. step_code p here w q step (m + length (b m)) in
-    let same : first ≡ body_place p w q at = omega (arith, length-append v tail) in
+    let next : ℕ → List Instr = λ m. step_code p own here w q step (m + length (b m)) in
+    let same : first ≡ body_place p own w q at = omega (arith, length-append v tail) in
     let end : first + length (b first ++ next first) + 1 ≡ at + 1 + length test + 1 + length (b first) + length (next first) + 1 = omega (arith, length-append (b first) (next first)) in
     let round : ℕ → List Instr = λ m. base ++ (begin here ∷ (test ++ (JumpFalse (at + 1 + length test + 1 + length (b m) + length (next m) + 1) ∷ (b m ++ (next m ++ Jump at ∷ []))))) in
     ap (λ n. base ++ (begin here ∷ (test ++ (JumpFalse n ∷ ((b first ++ next first) ++ Jump start ∷ []))))) end
@@ -87,5 +87,5 @@ round_is p here w q step b base d start e =
     ∙ ap round same
 
 -- the code of what a statement is seen as
-pub emitted : (p : Program) (base all : List Instr) (level : ℕ) (s : TStat) (x y : Stat) → x ≡ y → seen_stat s ≡ y → all ≡ base ++ stat_code p x (length base) pending_exit level → all ≡ base ++ stat_code p (seen_stat s) (length base) pending_exit level
-emitted p base all level s x y e seen is = is ∙ ap (λ z. base ++ stat_code p z (length base) pending_exit level) (e ∙ sym seen)
+pub emitted : (p : Program) (own : Option Procedure) (base all : List Instr) (level : ℕ) (s : TStat) (x y : Stat) → x ≡ y → seen_stat s ≡ y → all ≡ base ++ stat_code p own x (length base) pending_exit level → all ≡ base ++ stat_code p own (seen_stat s) (length base) pending_exit level
+emitted p own base all level s x y e seen is = is ∙ ap (λ z. base ++ stat_code p own z (length base) pending_exit level) (e ∙ sym seen)

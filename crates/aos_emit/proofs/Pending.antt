@@ -1,6 +1,6 @@
 -- Code whose jumps forward have a pending number, which no instruction has, and that is redirected once they are known, is the code
 -- with the right ones.
-use Rattle.std.proofs.Common.{◌≡◌, ℕ, suc, ◌+◌, ◌*◌, ◌<◌, ℤ, pos, Bool, true, false, List, [], ◌∷◌, ◌++◌, length, map, refl, sym, ap, ◌∙◌, arith, length-append}
+use Rattle.std.proofs.Common.{◌≡◌, ℕ, zero, suc, Option, Some, None, ◌+◌, ◌*◌, ◌<◌, ℤ, pos, Bool, true, false, List, [], ◌∷◌, ◌++◌, length, map, refl, ap, ◌∙◌, arith, length-append}
 use Rattle.std.specs.Prelude.{nat_eq, if◌then◌else◌}
 use Rattle.std.proofs.lemmas.Bool.{eq-eqb, eqb-true}
 use Rattle.std.proofs.lemmas.List.{map-append}
@@ -16,12 +16,12 @@ use Rattle.aos_typed.specs.declared.tree.LabelRange.{LabelRange}
 use Rattle.aos_typed.specs.declared.tree.TType.{TType}
 use Rattle.aos_typed.specs.declared.tree.TType.TheVariants.{Integer}
 use Rattle.aos_typed.specs.Meaning.{until}
-use Rattle.aos_typed.specs.Program.{Place, ModuleVar, Field, Index, Expr, Lit, Read, Unary, Binary, And, Or, Element, Ord, Chr, CompareTexts, Len, Call, Open, Char, Int, String, Ln, Stat, Assign, Copy, PutText, If, Case, While, Repeat, Loop, Exit, For, Block, Assert, Halt, Change, New, Out, Stats, Nothing, Then, Arms, Otherwise, Arm, Cases, NoElse, Else, OfLabels, Program}
+use Rattle.aos_typed.specs.Program.{Place, ModuleVar, Local, Passed, Field, Index, Of, Rows, Known, Opened, Row, Arguments, NoMore, Scalar, Whole, Opening, Expr, Lit, Read, Unary, Binary, And, Or, Element, Ord, Chr, CompareTexts, Len, LenBehind, Function, Call, Open, Char, Int, String, Ln, Stat, Assign, Copy, PutText, If, Case, While, Repeat, Loop, Exit, For, Block, Assert, Halt, Change, Perform, Return, New, Out, Stats, Nothing, Then, Arms, Otherwise, Arm, Cases, NoElse, Else, OfLabels, Procedure, Program}
 use Rattle.aos_code.specs.declared.instr.Instr.{Instr}
 use Rattle.aos_code.specs.declared.instr.Instr.TheVariants as i
 use Rattle.aos_code.specs.declared.instr.Kind.TheVariants.{N}
-use Rattle.aos_sim.specs.Code.{begin, literal_code, with_length, place_code, value_code, out_code, new_code, change_code, changed_code, assign_code, for_head, step_code, body_place, rounds_with, label_code, labels_code, stat_code, stats_code, arms_code, cases_code}
-use Rattle.aos_sim.proofs.Sizes.{labels_length, round_length, stat_length, stats_length, arms_length, cases_length}
+use Rattle.aos_sim.specs.Code.{begin, literal_code, lengths_code, drops, dimensions, own_cell, place_code, rows_code, arguments_code, value_code, out_code, new_code, change_code, changed_code, assign_code, for_head, step_code, body_place, rounds_with, label_code, labels_code, stat_code, stats_code, arms_code, cases_code}
+use Rattle.aos_sim.proofs.Sizes.{labels_length, stat_length, stats_length, arms_length, cases_length}
 use Rattle.aos_emit.specs.Redirect.{redirected, redirect}
 
 -- what leads to the pending number is redirected
@@ -80,29 +80,55 @@ module _ (p x : ℕ) where
   literal_same (literal.Set s) = refl
   literal_same (literal.Text t) = refl
 
-  module _ (program : Program) where
-    mutual
-      place_turns : (q : Place) (at : ℕ) → Turns at (place_code program q at) (place_code program q at)
-      place_turns (ModuleVar m k) at = turn refl nothing
-      place_turns (Field q t k) at = behind (place_turns q at) refl
-      place_turns (Index q n t e) at = both (place_turns q at) (behind (value_turns e (at + length (place_code program q at))) refl)
+  numbers_same : (ns : List ℕ) → map (redirect p x) (map (λ n. i.Num (pos n)) ns) ≡ map (λ n. i.Num (pos n)) ns
+  numbers_same [] = refl
+  numbers_same (n ∷ ns) = ap (λ l. i.Num (pos n) ∷ l) (numbers_same ns)
 
-      value_turns : (e : Expr) (at : ℕ) → Turns at (value_code program e at) (value_code program e at)
+  lengths_turn : {at : ℕ} (c n : ℕ) → Turns at (lengths_code c n) (lengths_code c n)
+  lengths_turn {at = at} c zero = nothing
+  lengths_turn {at = at} c (suc n) = turn refl (lengths_turn {at = at + 1} (suc c) n)
+
+  drops_same : (k n : ℕ) → map (redirect p x) (drops k ++ i.Num (pos n) ∷ []) ≡ drops k ++ i.Num (pos n) ∷ []
+  drops_same zero n = refl
+  drops_same (suc k) n = ap (λ l. i.Drop ∷ l) (drops_same k n)
+
+  module _ (program : Program) (own : Option Procedure) where
+    mutual
+      place_turns : (q : Place) (at : ℕ) → Turns at (place_code program own q at) (place_code program own q at)
+      place_turns (ModuleVar m k) at = turn refl nothing
+      place_turns (Local k) at = turn refl nothing
+      place_turns (Passed k) at = turn refl nothing
+      place_turns (Of r) at = rows_turn r at
+      place_turns (Field q t k) at = behind (place_turns q at) refl
+      place_turns (Index q n t e) at = both (place_turns q at) (behind (value_turns e (at + length (place_code program own q at))) refl)
+
+      rows_turn : (r : Rows) (at : ℕ) → Turns at (rows_code program own r at) (rows_code program own r at)
+      rows_turn (Known q ns) at = behind (place_turns q at) (numbers_same ns)
+      rows_turn (Opened k j) at = turn refl (lengths_turn (suc (own_cell program own k)) j)
+      rows_turn (Row r t e) at = both (rows_turn r at) (behind (value_turns e (at + length (rows_code program own r at))) refl)
+
+      arguments_turn : (as' : Arguments) (at : ℕ) → Turns at (arguments_code program own as' at) (arguments_code program own as' at)
+      arguments_turn NoMore at = nothing
+      arguments_turn (Scalar e more) at = both (value_turns e at) (arguments_turn more (at + length (value_code program own e at)))
+      arguments_turn (Whole q more) at = both (place_turns q at) (arguments_turn more (at + length (place_code program own q at)))
+      arguments_turn (Opening r more) at = both (rows_turn r at) (arguments_turn more (at + length (rows_code program own r at)))
+
+      value_turns : (e : Expr) (at : ℕ) → Turns at (value_code program own e at) (value_code program own e at)
       value_turns (Lit l) at = turn (literal_same l) nothing
       value_turns (Read t q) at = behind (place_turns q at) refl
       value_turns (Unary op a) at = behind (value_turns a at) refl
-      value_turns (Binary op a b) at = both (value_turns a at) (behind (value_turns b (at + length (value_code program a at))) refl)
+      value_turns (Binary op a b) at = both (value_turns a at) (behind (value_turns b (at + length (value_code program own a at))) refl)
       value_turns (And a b) at =
-          let ca = value_code program a at in
-          let cb = value_code program b (at + length ca + 1) in
+          let ca = value_code program own a at in
+          let cb = value_code program own b (at + length ca + 1) in
           let past = at + length ca + 1 + length cb + 2 in
           let last = i.Jump past ∷ (i.Num (pos 0) ∷ []) in
           let test = i.JumpFalse (at + length ca + 1 + length cb + 1) in
           ends (λ lt. both (value_turns a at) (turn refl (both (value_turns b (at + length ca + 1))
           (turn (ap (λ n. i.Jump n) (known past (omega (arith, lt, length-append ca (test ∷ (cb ++ last)), length-append cb last)))) (turn refl nothing)))))
       value_turns (Or a b) at =
-          let ca = value_code program a at in
-          let cb = value_code program b (at + length ca + 3) in
+          let ca = value_code program own a at in
+          let cb = value_code program own b (at + length ca + 3) in
           let past = at + length ca + 3 + length cb in
           let rest = i.JumpFalse (at + length ca + 3) ∷ (i.Num (pos 1) ∷ (i.Jump past ∷ cb)) in
           ends (λ lt. both (value_turns a at) (turn refl (turn refl
@@ -110,22 +136,23 @@ module _ (p x : ℕ) where
       value_turns (Element a) at = behind (value_turns a at) refl
       value_turns (Ord a) at = value_turns a at
       value_turns (Chr a) at = behind (value_turns a at) refl
-      value_turns (CompareTexts r q n y m) at =
-          both (behind (place_turns q at) refl) (behind (behind (place_turns y (at + length (with_length (place_code program q at) n))) refl) refl)
-      value_turns (Len q n) at = behind (place_turns q at) refl
+      value_turns (CompareTexts r a b) at = both (rows_turn a at) (behind (rows_turn b (at + length (rows_code program own a at))) refl)
+      value_turns (Len r d) at = behind (rows_turn r at) refl
+      value_turns (LenBehind r n) at = behind (rows_turn r at) (drops_same (suc (dimensions r)) n)
+      value_turns (Function m k more) at = behind (arguments_turn more at) refl
 
-    out_turns : (call : Call) (at : ℕ) → Turns at (out_code program call at) (out_code program call at)
+    out_turns : (call : Call) (at : ℕ) → Turns at (out_code program own call at) (out_code program own call at)
     out_turns Open at = turn refl nothing
     out_turns (Char e) at = behind (value_turns e at) refl
-    out_turns (Int e n) at = both (value_turns e at) (behind (value_turns n (at + length (value_code program e at))) refl)
-    out_turns (String q n) at = behind (behind (place_turns q at) refl) refl
+    out_turns (Int e n) at = both (value_turns e at) (behind (value_turns n (at + length (value_code program own e at))) refl)
+    out_turns (String r) at = behind (rows_turn r at) refl
     out_turns Ln at = turn refl nothing
 
-    new_turns : (q : Place) (t at : ℕ) → Turns at (new_code program q t at) (new_code program q t at)
+    new_turns : (q : Place) (t at : ℕ) → Turns at (new_code program own q t at) (new_code program own q t at)
     new_turns q t at = turn refl (turn refl (behind (moved (omega arith) (place_turns q (at + 2))) refl))
 
-    assign_turns : (here : Pos) (t : TType) (q : Place) (e : Expr) (at : ℕ) → Turns at (assign_code program here t q e at) (assign_code program here t q e at)
-    assign_turns here t q e at = turn refl (both (place_turns q (at + 1)) (behind (value_turns e (at + 1 + length (place_code program q (at + 1)))) refl))
+    assign_turns : (here : Pos) (t : TType) (q : Place) (e : Expr) (at : ℕ) → Turns at (assign_code program own here t q e at) (assign_code program own here t q e at)
+    assign_turns here t q e at = turn refl (both (place_turns q (at + 1)) (behind (value_turns e (at + 1 + length (place_code program own q (at + 1)))) refl))
 
     change_same : (c : Changing) → map (redirect p x) (i.Swap ∷ (i.Load N ∷ (i.Swap ∷ (change_code c ++ i.Store N ∷ [])))) ≡ i.Swap ∷ (i.Load N ∷ (i.Swap ∷ (change_code c ++ i.Store N ∷ [])))
     change_same (change.Add w) = refl
@@ -133,27 +160,27 @@ module _ (p x : ℕ) where
     change_same change.Include = refl
     change_same change.Exclude = refl
 
-    changed_turns : (here : Pos) (c : Changing) (q : Place) (e : Expr) (at : ℕ) → Turns at (changed_code program here c q e at) (changed_code program here c q e at)
+    changed_turns : (here : Pos) (c : Changing) (q : Place) (e : Expr) (at : ℕ) → Turns at (changed_code program own here c q e at) (changed_code program own here c q e at)
     changed_turns here c q e at =
-        turn refl (both (place_turns q (at + 1)) (turn refl (behind (value_turns e (at + 1 + length (place_code program q (at + 1)) + 1)) (change_same c))))
+        turn refl (both (place_turns q (at + 1)) (turn refl (behind (value_turns e (at + 1 + length (place_code program own q (at + 1)) + 1)) (change_same c))))
 
-    head_turns : (here : Pos) (w : Width) (q : Place) (from to : Expr) (at d : ℕ) → Turns at (for_head program here w q from to at d) (for_head program here w q from to at d)
+    head_turns : (here : Pos) (w : Width) (q : Place) (from to : Expr) (at d : ℕ) → Turns at (for_head program own here w q from to at d) (for_head program own here w q from to at d)
     head_turns here w q from to at d =
-        turn refl (both (value_turns to (at + 1)) (turn refl (assign_turns here (Integer w) q from (at + 1 + length (value_code program to (at + 1)) + 1))))
+        turn refl (both (value_turns to (at + 1)) (turn refl (assign_turns here (Integer w) q from (at + 1 + length (value_code program own to (at + 1)) + 1))))
 
-    rounds_turn : (here : Pos) (w : Width) (q : Place) (step : ℤ) (b other : List Instr) (t d : ℕ) → length b ≡ length other → Turns (body_place program w q t) b other → Turns t (rounds_with program here w q step b t d) (rounds_with program here w q step other t d)
+    rounds_turn : (here : Pos) (w : Width) (q : Place) (step : ℤ) (b other : List Instr) (t d : ℕ) → length b ≡ length other → Turns (body_place program own w q t) b other → Turns t (rounds_with program own here w q step b t d) (rounds_with program own here w q step other t d)
     rounds_turn here w q step b other t d same inside =
-        let v = value_code program (Read (Integer w) q) (t + 1) in
+        let v = value_code program own (Read (Integer w) q) (t + 1) in
         let kept = i.Kept d N ∷ (i.Binary (Cmp (until step)) ∷ []) in
         let test = v ++ kept in
         let counted = length-append v kept in
-        let next : ℕ → List Instr = λ m. step_code program here w q step (body_place program w q t + m) in
+        let next : ℕ → List Instr = λ m. step_code program own here w q step (body_place program own w q t + m) in
         let end : ℕ → ℕ = λ m. t + 1 + length test + 1 + m + length (next m) + 1 in
         let round : ℕ → List Instr = λ m. begin here ∷ (test ++ (i.JumpFalse (end m) ∷ (other ++ (next m ++ i.Jump t ∷ [])))) in
         ends (λ lt. said (ap round same)
         (turn refl (both (behind (value_turns (Read (Integer w) q) (t + 1)) refl) (turn refl
         (both (moved (omega (arith, counted)) inside)
-        (both (moved (omega (arith, counted)) (assign_turns here (Integer w) q (Binary (Add w) (Read (Integer w) q) (Lit (literal.Int step))) (body_place program w q t + length b)))
+        (both (moved (omega (arith, counted)) (assign_turns here (Integer w) q (Binary (Add w) (Read (Integer w) q) (Lit (literal.Int step))) (body_place program own w q t + length b)))
         (jump t (omega (arith, lt)))))))))
 
     labels_turn : (rs : List LabelRange) (d at hit : ℕ) → hit < p → Turns at (labels_code rs d at hit) (labels_code rs d at hit)
@@ -162,66 +189,69 @@ module _ (p x : ℕ) where
         both {c = label_code r d at hit} {c' = label_code r d at hit} (record { is = λ below. (λ j. i.Kept d N ∷ i.Num r.low ∷ i.Binary (Cmp GreaterEqual) ∷ i.JumpFalse (at + 9) ∷ i.Kept d N ∷ i.Num r.high ∷ i.Binary (Cmp LessEqual) ∷ i.JumpFalse (at + 9) ∷ i.Jump (known hit lt j) ∷ []) }) (labels_turn rs d (at + 9) hit lt)
 
     mutual
-      stat_turns : (s : Stat) (at y d : ℕ) → Turns at (stat_code program s at y d) (stat_code program s at (redirected p x y) d)
+      stat_turns : (s : Stat) (at y d : ℕ) → Turns at (stat_code program own s at y d) (stat_code program own s at (redirected p x y) d)
       stat_turns (Assign here t q e) at y d = assign_turns here t q e at
-      stat_turns (Copy here t q r) at y d = turn refl (both (place_turns q (at + 1)) (behind (place_turns r (at + 1 + length (place_code program q (at + 1)))) refl))
-      stat_turns (PutText here strict q n r m) at y d =
-          turn refl (both (behind (place_turns q (at + 1)) refl) (behind (behind (place_turns r (at + 1 + length (with_length (place_code program q (at + 1)) n))) refl) refl))
+      stat_turns (Copy here t q r) at y d = turn refl (both (place_turns q (at + 1)) (behind (place_turns r (at + 1 + length (place_code program own q (at + 1)))) refl))
+      stat_turns (PutText here strict a b) at y d =
+          turn refl (both (rows_turn a (at + 1)) (behind (rows_turn b (at + 1 + length (rows_code program own a (at + 1)))) refl))
       stat_turns (If here arms) at y d =
           let z = redirected p x y in
-          let end = at + 1 + length (arms_code program arms (at + 1) 0 y d) in
-          ends (λ lt. (let here = known end (omega (arith, lt, arms_length program arms (at + 1) end 0 y y d)) in
-          turn refl (said (ap (λ n. arms_code program arms (at + 1) n z d) (here ∙ ap (λ n. at + 1 + n) (arms_length program arms (at + 1) 0 0 y z d))) (arms_turn arms (at + 1) end y d))))
+          let end = at + 1 + length (arms_code program own arms (at + 1) 0 y d) in
+          ends (λ lt. (let here = known end (omega (arith, lt, arms_length program own arms (at + 1) end 0 y y d)) in
+          turn refl (said (ap (λ n. arms_code program own arms (at + 1) n z d) (here ∙ ap (λ n. at + 1 + n) (arms_length program own arms (at + 1) 0 0 y z d))) (arms_turn arms (at + 1) end y d))))
       stat_turns (Case here e cases) at y d =
           let z = redirected p x y in
-          let c = value_code program e (at + 1) in
+          let c = value_code program own e (at + 1) in
           let first = at + 1 + length c + 1 in
-          let end = first + length (cases_code program cases first 0 y d) in
-          let inside = i.Keep d N ∷ cases_code program cases first end y d in
-          ends (λ lt. (let here = known end (omega (arith, lt, length-append c inside, cases_length program cases first end 0 y y d)) in
-          turn refl (both (value_turns e (at + 1)) (turn refl (said (ap (λ n. cases_code program cases first n z d) (here ∙ ap (λ n. first + n) (cases_length program cases first 0 0 y z d))) (cases_turn cases first end y d))))))
+          let end = first + length (cases_code program own cases first 0 y d) in
+          let inside = i.Keep d N ∷ cases_code program own cases first end y d in
+          ends (λ lt. (let here = known end (omega (arith, lt, length-append c inside, cases_length program own cases first end 0 y y d)) in
+          turn refl (both (value_turns e (at + 1)) (turn refl (said (ap (λ n. cases_code program own cases first n z d) (here ∙ ap (λ n. first + n) (cases_length program own cases first 0 0 y z d))) (cases_turn cases first end y d))))))
       stat_turns (While here e body) at y d =
           let z = redirected p x y in
-          let first = at + 1 + length (value_code program e (at + 1)) + 1 in
-          ends (λ lt. turn refl (both (value_turns e (at + 1)) (turn (ap (λ n. i.JumpFalse (first + n + 1)) (stats_length program body first y z d)) (both (stats_turn body first y d) (jump at (omega (arith, lt)))))))
+          let first = at + 1 + length (value_code program own e (at + 1)) + 1 in
+          ends (λ lt. turn refl (both (value_turns e (at + 1)) (turn (ap (λ n. i.JumpFalse (first + n + 1)) (stats_length program own body first y z d)) (both (stats_turn body first y d) (jump at (omega (arith, lt)))))))
       stat_turns (Repeat here body e) at y d =
           let z = redirected p x y in
           turn refl (both (stats_turn body (at + 1) y d)
-          (said (ap (λ n. value_code program e (at + 1 + n) ++ i.JumpFalse at ∷ []) (stats_length program body (at + 1) y z d)) (behind (value_turns e (at + 1 + length (stats_code program body (at + 1) y d))) refl)))
+          (said (ap (λ n. value_code program own e (at + 1 + n) ++ i.JumpFalse at ∷ []) (stats_length program own body (at + 1) y z d)) (behind (value_turns e (at + 1 + length (stats_code program own body (at + 1) y d))) refl)))
       stat_turns (Loop here body) at y d =
-          let out = at + 1 + length (stats_code program body (at + 1) 0 d) + 1 in
-          let b = stats_code program body (at + 1) out d in
-          ends (λ lt. (let here = known out (omega (arith, lt, length-append b (i.Jump at ∷ []), stats_length program body (at + 1) out 0 d)) in
-          turn refl (both (said (ap (λ n. stats_code program body (at + 1) n d) here) (stats_turn body (at + 1) out d)) (jump at (omega (arith, lt))))))
+          let out = at + 1 + length (stats_code program own body (at + 1) 0 d) + 1 in
+          let b = stats_code program own body (at + 1) out d in
+          ends (λ lt. (let here = known out (omega (arith, lt, length-append b (i.Jump at ∷ []), stats_length program own body (at + 1) out 0 d)) in
+          turn refl (both (said (ap (λ n. stats_code program own body (at + 1) n d) here) (stats_turn body (at + 1) out d)) (jump at (omega (arith, lt))))))
       stat_turns (Exit here) at y d = turn refl (turn refl nothing)
       stat_turns (For here w q from to step body) at y d =
-          let first = at + length (for_head program here w q from to at d) in
+          let first = at + length (for_head program own here w q from to at d) in
           both (head_turns here w q from to at d)
-          (rounds_turn here w q step _ _ first d (stats_length program body (body_place program w q first) y (redirected p x y) (suc d)) (stats_turn body (body_place program w q first) y (suc d)))
+          (rounds_turn here w q step _ _ first d (stats_length program own body (body_place program own w q first) y (redirected p x y) (suc d)) (stats_turn body (body_place program own w q first) y (suc d)))
       stat_turns (Block here body) at y d = turn refl (stats_turn body (at + 1) y d)
       stat_turns (Assert here e code) at y d = turn refl (behind (value_turns e (at + 1)) refl)
       stat_turns (Halt here code) at y d = turn refl (turn refl nothing)
       stat_turns (Change here c q e) at y d = changed_turns here c q e at
+      stat_turns (Perform here m k more) at y d = turn refl (behind (arguments_turn more (at + 1)) refl)
+      stat_turns (Return here None) at y d = turn refl (turn refl nothing)
+      stat_turns (Return here (Some e)) at y d = turn refl (behind (value_turns e (at + 1)) refl)
       stat_turns (New here q t) at y d = turn refl (new_turns q t (at + 1))
       stat_turns (Out here call) at y d = turn refl (out_turns call (at + 1))
 
-      stats_turn : (ss : Stats) (at y d : ℕ) → Turns at (stats_code program ss at y d) (stats_code program ss at (redirected p x y) d)
+      stats_turn : (ss : Stats) (at y d : ℕ) → Turns at (stats_code program own ss at y d) (stats_code program own ss at (redirected p x y) d)
       stats_turn Nothing at y d = nothing
       stats_turn (Then s ss) at y d =
           let z = redirected p x y in
-          both (stat_turns s at y d) (said (ap (λ n. stats_code program ss (at + n) z d) (stat_length program s at y z d)) (stats_turn ss (at + length (stat_code program s at y d)) y d))
+          both (stat_turns s at y d) (said (ap (λ n. stats_code program own ss (at + n) z d) (stat_length program own s at y z d)) (stats_turn ss (at + length (stat_code program own s at y d)) y d))
 
-      arms_turn : (arms : Arms) (at end y d : ℕ) → Turns at (arms_code program arms at end y d) (arms_code program arms at (redirected p x end) (redirected p x y) d)
+      arms_turn : (arms : Arms) (at end y d : ℕ) → Turns at (arms_code program own arms at end y d) (arms_code program own arms at (redirected p x end) (redirected p x y) d)
       arms_turn (Otherwise ss) at end y d = stats_turn ss at y d
       arms_turn (Arm e ss arms) at end y d =
           let z = redirected p x y in
           let to = redirected p x end in
-          let first = at + length (value_code program e at) + 1 in
-          let b = stats_code program ss first y d in
-          let same = stats_length program ss first y z d in
-          both (value_turns e at) (turn (ap (λ n. i.JumpFalse (first + n + 1)) same) (both (stats_turn ss first y d) (turn refl (said (ap (λ n. arms_code program arms (first + n + 1) to z d) same) (arms_turn arms (first + length b + 1) end y d)))))
+          let first = at + length (value_code program own e at) + 1 in
+          let b = stats_code program own ss first y d in
+          let same = stats_length program own ss first y z d in
+          both (value_turns e at) (turn (ap (λ n. i.JumpFalse (first + n + 1)) same) (both (stats_turn ss first y d) (turn refl (said (ap (λ n. arms_code program own arms (first + n + 1) to z d) same) (arms_turn arms (first + length b + 1) end y d)))))
 
-      cases_turn : (cases : Cases) (at end y d : ℕ) → Turns at (cases_code program cases at end y d) (cases_code program cases at (redirected p x end) (redirected p x y) d)
+      cases_turn : (cases : Cases) (at end y d : ℕ) → Turns at (cases_code program own cases at end y d) (cases_code program own cases at (redirected p x end) (redirected p x y) d)
       cases_turn NoElse at end y d = turn refl nothing
       cases_turn (Else ss) at end y d = stats_turn ss at y d
       cases_turn (OfLabels rs ss cases) at end y d =
@@ -229,24 +259,24 @@ module _ (p x : ℕ) where
           let to = redirected p x end in
           let hit = at + 9 * length rs + 1 in
           let ls = labels_code rs d at hit in
-          let b = stats_code program ss hit y d in
+          let b = stats_code program own ss hit y d in
           let next = hit + length b + 1 in
-          let more = cases_code program cases next end y d in
-          let same = stats_length program ss hit y z d in
+          let more = cases_code program own cases next end y d in
+          let same = stats_length program own ss hit y z d in
           let counted = labels_length rs d at hit in
           ends (λ lt. (let here = known next (omega (arith, lt, counted, length-append ls (i.Jump next ∷ (b ++ (i.Jump end ∷ more))), length-append b (i.Jump end ∷ more))) in
           both (labels_turn rs d at hit (omega (arith, lt, counted, length-append ls (i.Jump next ∷ (b ++ (i.Jump end ∷ more))))))
           (turn (ap (λ n. i.Jump n) here ∙ ap (λ n. i.Jump (hit + n + 1)) same) (both (moved (omega (arith, counted)) (stats_turn ss hit y d)) (turn refl
-          (said (ap (λ n. cases_code program cases (hit + n + 1) to z d) same) (moved (omega (arith, counted)) (cases_turn cases next end y d))))))))
+          (said (ap (λ n. cases_code program own cases (hit + n + 1) to z d) same) (moved (omega (arith, counted)) (cases_turn cases next end y d))))))))
 
-module _ (program : Program) (p x : ℕ) where
+module _ (program : Program) (own : Option Procedure) (p x : ℕ) where
   -- statements whose exit was pending
-  pub exit_known : (ss : Stats) (at d : ℕ) → at + length (stats_code program ss at p d) < p → map (redirect p x) (stats_code program ss at p d) ≡ stats_code program ss at x d
-  exit_known ss at d lt = (stats_turn p x program ss at p d).is lt ∙ ap (λ n. stats_code program ss at n d) (comes p x)
+  pub exit_known : (ss : Stats) (at d : ℕ) → at + length (stats_code program own ss at p d) < p → map (redirect p x) (stats_code program own ss at p d) ≡ stats_code program own ss at x d
+  exit_known ss at d lt = (stats_turn p x program own ss at p d).is lt ∙ ap (λ n. stats_code program own ss at n d) (comes p x)
 
   -- arms whose end was pending, while an exit has another number
-  pub arms_known : (arms : Arms) (at y d : ℕ) → redirected p x y ≡ y → at + length (arms_code program arms at p y d) < p → map (redirect p x) (arms_code program arms at p y d) ≡ arms_code program arms at x y d
-  arms_known arms at y d other lt = (arms_turn p x program arms at p y d).is lt ∙ (λ j. arms_code program arms at (comes p x j) (other j) d)
+  pub arms_known : (arms : Arms) (at y d : ℕ) → redirected p x y ≡ y → at + length (arms_code program own arms at p y d) < p → map (redirect p x) (arms_code program own arms at p y d) ≡ arms_code program own arms at x y d
+  arms_known arms at y d other lt = (arms_turn p x program own arms at p y d).is lt ∙ (λ j. arms_code program own arms at (comes p x j) (other j) d)
 
-  pub cases_known : (cases : Cases) (at y d : ℕ) → redirected p x y ≡ y → at + length (cases_code program cases at p y d) < p → map (redirect p x) (cases_code program cases at p y d) ≡ cases_code program cases at x y d
-  cases_known cases at y d other lt = (cases_turn p x program cases at p y d).is lt ∙ (λ j. cases_code program cases at (comes p x j) (other j) d)
+  pub cases_known : (cases : Cases) (at y d : ℕ) → redirected p x y ≡ y → at + length (cases_code program own cases at p y d) < p → map (redirect p x) (cases_code program own cases at p y d) ≡ cases_code program own cases at x y d
+  cases_known cases at y d other lt = (cases_turn p x program own cases at p y d).is lt ∙ (λ j. cases_code program own cases at (comes p x j) (other j) d)

@@ -1,21 +1,38 @@
 -- The code of a designator and of an expression, from its last instruction to its first.
-use Rattle.std.specs.Prelude.{ℕ, pos, ◌+◌, ◌-◌, List, [], ◌∷◌, ◌++◌, length}
+use Rattle.std.specs.Prelude.{ℕ, suc, pos, ◌+◌, ◌-◌, Option, List, [], ◌∷◌, ◌++◌, length, map, reverse}
 use Rattle.aos_base.specs.declared.operator.Unary.TheVariants.{Range}
 use Rattle.aos_base.specs.declared.operator.Binary.TheVariants.{SetSpan}
-use Rattle.aos_typed.specs.Program.{Place, ModuleVar, Field, Index, Expr, Lit, Read, Unary, Binary, And, Or, Element, Ord, Chr, CompareTexts, Len, Program}
+use Rattle.aos_typed.specs.Numbers.{procedure_number}
+use Rattle.aos_typed.specs.Program.{Place, ModuleVar, Local, Passed, Field, Index, Of, Rows, Known, Opened, Row, Arguments, NoMore, Scalar, Whole, Opening, Expr, Lit, Read, Unary, Binary, And, Or, Element, Ord, Chr, CompareTexts, Len, LenBehind, Function, Procedure, Program}
 use Rattle.aos_code.specs.declared.instr.Instr.{Instr}
-use Rattle.aos_code.specs.declared.instr.Instr.TheVariants.{Num, Dup, Drop, Module, Offset, Index as IndexOf, Unary as OnOne, Binary as OnTwo, Jump, JumpFalse, Load, CmpText}
-use Rattle.aos_sim.specs.Code.{literal_code, kind_of, variable_cell, field_cell, cells_of}
+use Rattle.aos_code.specs.declared.instr.Instr.TheVariants.{Num, Dup, Frame as FrameOf, Param, Module, Offset, Index as IndexOf, IndexOpen, PickLen, Call as CallOf, Unary as OnOne, Binary as OnTwo, Jump, JumpFalse, Load, CmpText}
+use Rattle.aos_sim.specs.Code.{literal_code, kind_of, variable_cell, own_cell, field_cell, cells_of, dimensions, lengths_code, drops}
 
--- in a program, whose variables have their cells
-module _ (program : Program) where
+-- in a program, whose variables have their cells, in the body of this procedure or of none
+module _ (program : Program) (own : Option Procedure) where
   -- These instructions and those of a designator or an expression before them, from the last one to the first. A jump has the
   -- number of instructions from its target to the end.
   abbrev mutual
     pub back_place : Place → List Instr → List Instr
-    back_place (ModuleVar m i) behind = behind ++ Module m (variable_cell program m i) ∷ []
-    back_place (Field p t k) behind = back_place p (behind ++ Offset (field_cell program t k) 0 ∷ [])
-    back_place (Index p n t e) behind = back_place p (back_code e (behind ++ IndexOf n (cells_of program t) ∷ []))
+    back_place (ModuleVar m i) behind = behind ++ Module m (variable_cell program own m i) ∷ []
+    back_place (Local k) behind = behind ++ FrameOf (own_cell program own k) ∷ []
+    back_place (Passed k) behind = behind ++ Param (own_cell program own k) ∷ []
+    back_place (Of r) behind = back_rows r behind
+    back_place (Field p t k) behind = back_place p (behind ++ Offset (field_cell program own t k) 0 ∷ [])
+    back_place (Index p n t e) behind = back_place p (back_code e (behind ++ IndexOf n (cells_of program own t) ∷ []))
+
+    pub back_rows : Rows → List Instr → List Instr
+    back_rows (Known p ns) behind = back_place p (behind ++ reverse (map (λ n. Num (pos n)) ns))
+    back_rows (Opened k j) behind =
+        behind ++ reverse (Param (own_cell program own k) ∷ lengths_code (suc (own_cell program own k)) j)
+    back_rows (Row r t e) behind = back_rows r (back_code e (behind ++ IndexOpen (dimensions r) (cells_of program own t) ∷ []))
+
+    -- the last argument comes first
+    pub back_arguments : Arguments → List Instr → List Instr
+    back_arguments NoMore behind = behind
+    back_arguments (Scalar e more) behind = back_code e (back_arguments more behind)
+    back_arguments (Whole p more) behind = back_place p (back_arguments more behind)
+    back_arguments (Opening r more) behind = back_rows r (back_arguments more behind)
 
     pub back_code : Expr → List Instr → List Instr
     back_code (Lit l) behind = behind ++ literal_code l ∷ []
@@ -31,9 +48,10 @@ module _ (program : Program) where
     back_code (Element a) behind = back_code a (behind ++ OnTwo SetSpan ∷ Dup ∷ [])
     back_code (Ord a) behind = back_code a behind
     back_code (Chr a) behind = back_code a (behind ++ OnOne (Range (pos 0) (pos 255)) ∷ [])
-    back_code (CompareTexts r p n q m) behind =
-        back_place p (back_place q (behind ++ CmpText r ∷ Num (pos m) ∷ []) ++ Num (pos n) ∷ [])
-    back_code (Len p n) behind = back_place p (behind ++ Num (pos n) ∷ Drop ∷ [])
+    back_code (CompareTexts r a b) behind = back_rows a (back_rows b (behind ++ CmpText r ∷ []))
+    back_code (Len r d) behind = back_rows r (behind ++ PickLen d (dimensions r) ∷ [])
+    back_code (LenBehind r n) behind = back_rows r (behind ++ Num (pos n) ∷ drops (suc (dimensions r)))
+    back_code (Function m k more) behind = back_arguments more (behind ++ CallOf (procedure_number program m k) ∷ [])
 
 -- the same instruction, where the code ends at this place: a jump has its target's place
 abbrev pub placed : ℕ → Instr → Instr

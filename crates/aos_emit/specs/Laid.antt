@@ -1,17 +1,18 @@
--- The cells of a program's variables, of their parts and of its string constants, as they are looked up.
-use Rattle.std.specs.Prelude.{◌≡◌, ◌≤◌, ◌^◌, ℕ, List, [], length, map, Option, Some, None, slice_get, option_map, nat_lt, if◌then◌else◌}
+-- The cells of a program's variables, of their parts and of its string constants, and the numbers of its procedures, as they are
+-- looked up.
+use Rattle.std.specs.Prelude.{◌≡◌, ◌≤◌, ◌<◌, ◌^◌, All, ℕ, suc, ◌+◌, ◌∷◌, List, [], length, map, Option, Some, None, slice_get, option_map, nat_lt, if◌then◌else◌}
 use Rattle.std.specs.Option.{unwrap_or}
 use Rattle.aos_code.specs.declared.instr.Kind.{Kind}
-use Rattle.aos_types.specs.Shape.{row}
+use Rattle.aos_types.specs.Shape.{row, size}
 use Rattle.aos_types.specs.declared.row.TypeId.{TypeId}
 use Rattle.aos_types.specs.declared.row.TypeRow.{TypeRow}
 use Rattle.aos_typed.specs.declared.tree.TModule.{TModule}
 use Rattle.aos_typed.specs.declared.tree.TType.{TType}
 use Rattle.aos_typed.specs.Numbers.{id_of}
-use Rattle.aos_typed.specs.Program.{Program}
+use Rattle.aos_typed.specs.Program.{Module, Program}
 use Rattle.aos_typed.specs.WellTyped.{AreTypes}
 use Rattle.aos_layout.specs.declared.block.BlockShape.{BlockShape as CodeBlockShape}
-use Rattle.aos_layout.specs.Layout.{leaves, variable_cells}
+use Rattle.aos_layout.specs.Layout.{leaves, variable_cells, block}
 use Rattle.aos_layout.specs.Block.{BlockShape, block_shape}
 use Rattle.aos_layout.specs.Seen.{seen_block}
 
@@ -19,11 +20,25 @@ use Rattle.aos_layout.specs.Seen.{seen_block}
 abbrev pub AreBlocks : Program → List CodeBlockShape → Type 0
 AreBlocks p bs = map seen_block bs ≡ map (block_shape p.types) p.modules
 
--- the program's types are as they are to be, and these are the cells of each module
-pub record IsLaid (p : Program) (bs : List CodeBlockShape) : Type 0 where
+-- the cells of each module have numbers of 32 bits
+abbrev pub AreNarrow : Program → Type 0
+AreNarrow p = All (λ m. size (block p.types m) < 2 ^ 32) p.modules
+
+-- the number of the first procedure of each of these modules, where that of the first one is this
+abbrev pub firsts_from : ℕ → List Module → List ℕ
+firsts_from n [] = []
+firsts_from n (x ∷ xs) = n ∷ firsts_from (n + length x.procedures) xs
+
+-- first come the bodies of the modules, and then those of the object types
+abbrev pub AreFirsts : Program → List ℕ → Type 0
+AreFirsts p ns = ns ≡ firsts_from (suc (length p.modules + length p.objects)) p.modules
+
+-- the program's types are as they are to be, and these are the cells of each module, and the numbers of their first procedures
+pub record IsLaid (p : Program) (bs : List CodeBlockShape) (ns : List ℕ) : Type 0 where
   pub few : length p.types ≤ 2 ^ 32
   pub types : AreTypes p.types
   pub blocks : AreBlocks p bs
+  pub firsts : AreFirsts p ns
 
 -- a type, where it is in the table
 abbrev pub there_in : List TypeRow → TType → Option TypeId

@@ -1,30 +1,44 @@
--- The code of some of a program's modules and object types.
-use Rattle.std.specs.Prelude.{◌≡◌, suc, All, None, List, ◌++◌, map, length}
+-- The code of some of a program's routines, and what describes some of its modules and object types.
+use Rattle.std.specs.Prelude.{◌≡◌, ℕ, suc, Some, None, List, ◌++◌, map}
 use Rattle.std.specs.String.{string_bytes}
-use Rattle.aos_typed.specs.Program.{Module, ObjectType, Program}
+use Rattle.aos_typed.specs.Program.{Stats, Procedure, Module, ObjectType, Program}
+use Rattle.aos_typed.specs.Routines.{Routine}
 use Rattle.aos_code.specs.declared.image.Body.{Body}
 use Rattle.aos_code.specs.declared.image.ProcShape.{ProcShape}
 use Rattle.aos_code.specs.declared.image.ModuleDesc.{ModuleDesc}
 use Rattle.aos_code.specs.declared.image.TypeDesc.{TypeDesc}
-use Rattle.aos_code.specs.declared.image.Image.{Image}
+use Rattle.aos_layout.specs.Seen.{seen_shape}
 use Rattle.aos_sim.specs.Code.{body_code}
-use Rattle.aos_sim.specs.Need.{body_need, keeps_of}
-use Rattle.aos_sim.specs.Shows.{numbers_from, first_cells}
+use Rattle.aos_sim.specs.Need.{body_need}
+use Rattle.aos_sim.specs.Shows.{numbers_from, first_cells, shape_of}
 
--- these bodies, shapes and descriptions are those of these modules and object types, and each body has as many operands at most
--- as its statements need
-pub record AreMade (p : Program) (modules : List Module) (objects : List ObjectType) (bs : List Body) (ss : List ProcShape) (ds : List ModuleDesc) (ts : List TypeDesc) : Type 0 where
-  pub bodies : map (λ b. b.code.items) bs ≡ map (λ m. body_code p m.body) modules ++ map (λ o. body_code p o.body) objects
-  pub depths : map (λ b. b.depth) bs ≡ map (λ m. body_need m.body) modules ++ map (λ o. body_need o.body) objects
-  pub homes : map (λ s. s.module) ss ≡ numbers_from 0 modules ++ map (λ o. o.home) objects
-  pub results : All (λ s. s.result ≡ None) ss
-  pub keeps : map (λ s. s.keeps) ss ≡ map (λ m. keeps_of m.body) modules ++ map (λ o. keeps_of o.body) objects
-  pub starts : map (λ d. d.body) ds ≡ numbers_from 1 modules
-  pub types : map (λ t. t.body) ts ≡ numbers_from (suc (length modules)) objects
-  pub cells : map (λ d. d.cells.items) ds ≡ map (first_cells p.types) modules
-  pub names : map (λ d. string_bytes d.name) ds ≡ map (λ m. m.name) modules
+-- a body that is no procedure's
+abbrev pub body_of : (home : ℕ) → Stats → Routine
+body_of m ss = record { home = m; own = None; body = ss }
 
--- all that an image has are those of a program
-abbrev pub AreMadeOf : Program → Image → Type 0
-AreMadeOf p image =
-    AreMade p p.modules p.objects image.bodies.items image.shapes.items image.modules.items image.types.items
+abbrev pub bodies_of_objects : List ObjectType → List Routine
+bodies_of_objects os = map (λ o. body_of o.home o.body) os
+
+-- procedures of a module
+abbrev pub procedures_of : (home : ℕ) → List Procedure → List Routine
+procedures_of m qs = map (λ q. record { home = m; own = Some q; body = q.body }) qs
+
+-- these bodies and shapes are those of these routines, and each body has as many operands at most as its statements need
+pub record AreMade (p : Program) (rs : List Routine) (bs : List Body) (ss : List ProcShape) : Type 0 where
+  pub bodies : map (λ b. b.code.items) bs ≡ map (λ r. body_code p r.own r.body) rs
+  pub depths : map (λ b. b.depth) bs ≡ map (λ r. body_need r.body) rs
+  pub shapes : map seen_shape ss ≡ map (shape_of p.types) rs
+
+-- the second bodies and shapes have those of these routines behind what the first ones have
+abbrev pub Adds : Program → List Routine → List Body → List ProcShape → List Body → List ProcShape → Type 0
+Adds p more bs ss bs' ss' = (rs : List Routine) → AreMade p rs bs ss → AreMade p (rs ++ more) bs' ss'
+
+-- these describe these modules, whose bodies are numbered from 1
+pub record AreModules (p : Program) (ms : List Module) (ds : List ModuleDesc) : Type 0 where
+  pub starts : map (λ d. d.body) ds ≡ numbers_from 1 ms
+  pub cells : map (λ d. d.cells.items) ds ≡ map (first_cells p.types) ms
+  pub names : map (λ d. string_bytes d.name) ds ≡ map (λ m. m.name) ms
+
+-- and these these object types, behind so many modules
+abbrev pub AreTypesOf : ℕ → List ObjectType → List TypeDesc → Type 0
+AreTypesOf modules os ts = map (λ t. t.body) ts ≡ numbers_from (suc modules) os

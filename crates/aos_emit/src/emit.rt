@@ -1,17 +1,21 @@
 // From typed designators and expressions to instructions: what is emitted is the code that the definitions give.
 
-ghost use Rattle.std.specs.Prelude.{◌≡◌, ◌+◌, ◌<◌, [], ◌∷◌, ◌++◌, length, pos, IfOk, OnOk};
+ghost use Rattle.std.specs.Prelude.{◌≡◌, ◌+◌, ◌<◌, suc, [], ◌∷◌, ◌++◌, length, map, reverse, pos, IfOk, OnOk};
 ghost use Rattle.aos_base.specs.declared.operator.Binary.TheVariants as binary;
-ghost use Rattle.aos_typed.specs.Seen.{seen_program, seen_place, seen_expr};
-ghost use Rattle.aos_emit.specs.Back.{back_place, back_code, placed};
+ghost use Rattle.aos_typed.specs.Numbers.{procedure_number};
+ghost use Rattle.aos_typed.specs.Seen.{seen_place, seen_rows, seen_argument, seen_list, seen_expr};
+ghost use Rattle.aos_typed.specs.Program.{NoMore};
+ghost use Rattle.aos_emit.specs.Back.{back_place, back_rows, back_arguments, back_code, placed};
+ghost use Rattle.aos_emit.specs.Scope.{program_of, own_of};
 ghost use Rattle.aos_emit.specs.Forwards.{forwards};
 ghost use Rattle.aos_emit.specs.Redirect.{pending_end};
-ghost use Rattle.aos_sim.specs.Code.{literal_code, kind_of, with_length, place_code, value_code};
+ghost use Rattle.aos_sim.specs.Code as codes;
+ghost use Rattle.aos_sim.specs.Code.{literal_code, kind_of, own_cell, lengths_code, drops, place_code, rows_code, arguments_code, value_code};
 
-use crate::laid::Laid;
+use crate::scope::Scope;
 use aos_base::{Binary, Relation, Unary, truth};
 use aos_code::{Instr, Kind};
-use aos_typed::{Literal, TExpr, TPlace, TType};
+use aos_typed::{Literal, TArgument, TExpr, TPlace, TRows, TType};
 use std::alloc::{AllocError, Global};
 
 /// The number that a jump to the end of a statement has until that is known: no instruction has it.
@@ -73,28 +77,31 @@ fn literal_instr(literal: Literal) -> Instr
 // loop over them takes no stack.
 #[cycle(emit_back)]
 fn emit_place_back(
-    program: &Laid<'_>,
+    scope: &Scope<'_>,
     code: &mut Vec<Instr>,
     place: &TPlace,
 ) -> Result<(), AllocError>
-    ensures { OnOk result (code.new.items ≡ back_place (seen_program program.now) (seen_place place.now) code.old.items) }
+    ensures { OnOk result (code.new.items ≡ back_place (program_of scope.now) (own_of scope.now) (seen_place place.now) code.old.items) }
 {
     let mut rest = place;
     loop {
         match rest {
             TPlace::ModuleVar(module, variable) => {
-                let cell = program.cell(*module, *variable);
+                let cell = scope.cell(*module, *variable);
                 return put(code, Instr::Module(*module, cell));
             }
+            TPlace::Local(number) => return put(code, Instr::Frame(scope.own_cell(*number))),
+            TPlace::Passed(number) => return put(code, Instr::Param(scope.own_cell(*number))),
+            TPlace::Of(rows) => return emit_rows_back(scope, code, rows),
             TPlace::Field(whole, of, number) => {
-                let before = program.field(*of, *number)?;
+                let before = scope.field(*of, *number)?;
                 put(code, Instr::Offset(before, 0))?;
                 rest = whole;
             }
             TPlace::Index(whole, elements, of, index) => {
-                let cells = program.cells_of(*of);
+                let cells = scope.cells_of(*of);
                 put(code, Instr::Index(*elements, cells))?;
-                emit_back(program, code, index)?;
+                emit_back(scope, code, index)?;
                 rest = whole;
             }
         }
@@ -103,66 +110,204 @@ fn emit_place_back(
 
 #[cycle(emit_back)]
 fn emit_read_back(
-    program: &Laid<'_>,
+    scope: &Scope<'_>,
     code: &mut Vec<Instr>,
     of: TType,
     place: &TPlace,
 ) -> Result<(), AllocError>
-    ensures { OnOk result (code.new.items ≡ back_place (seen_program program.now) (seen_place place.now)
+    ensures { OnOk result (code.new.items ≡ back_place (program_of scope.now) (own_of scope.now) (seen_place place.now)
         (code.old.items ++ Instr.Load (kind_of of) ∷ [])) }
 {
     put(code, Instr::Load(cell_kind(of)))?;
-    emit_place_back(program, code, place)
+    emit_place_back(scope, code, place)
 }
 
-// Two texts and their relation, from the last instruction to the first. Behind a text's place stands how many elements are there.
+/// How many dimensions of an array have their lengths behind its place.
+pub fn dimensions(rows: &TRows) -> Result<u32, AllocError>
+    ensures { IfOk result (λ n. n ≡ codes.dimensions (seen_rows rows.now)) }
+{
+    match rows {
+        TRows::Known(_, lengths) => number_of(lengths.len()),
+        TRows::Opened(_, count) => Ok(*count),
+        TRows::Row(whole, _, _) => Ok(dimensions(whole)?.saturating_sub(1)),
+    }
+}
+
+// Lengths, the last one first.
+#[tactic(auto, using(crate::proofs::Turned::number_more))]
+fn put_lengths(code: &mut Vec<Instr>, lengths: &[u32]) -> Result<(), AllocError>
+    ensures { OnOk result (code.new.items ≡ code.old.items ++ reverse (map (λ n. Instr.Num (pos n)) lengths.now)) }
+{
+    let mut left = lengths.len();
+    while left > 0 {
+        left -= 1;
+        put(code, Instr::Num(i64::from(lengths[left])))?;
+    }
+    Ok(())
+}
+
+// An open array parameter with so many lengths, from its last cell to its first.
+#[tactic(auto, using(crate::proofs::Turned::opened_more, crate::proofs::Turned::opened_ends))]
+fn put_opened(code: &mut Vec<Instr>, cell: u32, count: u32) -> Result<(), AllocError>
+    ensures { OnOk result (code.new.items ≡ code.old.items ++ reverse (Instr.Param cell ∷ lengths_code (suc cell) count)) }
+{
+    let Some(last) = cell.checked_add(count) else {
+        return Err(AllocError);
+    };
+    let mut next = last;
+    while next > cell {
+        put(code, Instr::Length(next))?;
+        next -= 1;
+    }
+    put(code, Instr::Param(cell))
+}
+
+// An array with the lengths of its dimensions, from the last instruction to the first.
+#[cycle(emit_back)]
+fn emit_rows_back(scope: &Scope<'_>, code: &mut Vec<Instr>, rows: &TRows) -> Result<(), AllocError>
+    ensures { OnOk result (code.new.items ≡ back_rows (program_of scope.now) (own_of scope.now) (seen_rows rows.now) code.old.items) }
+{
+    let mut rest = rows;
+    loop {
+        match rest {
+            TRows::Known(place, lengths) => {
+                put_lengths(code, lengths)?;
+                return emit_place_back(scope, code, place);
+            }
+            TRows::Opened(number, count) => {
+                return put_opened(code, scope.own_cell(*number), *count);
+            }
+            TRows::Row(whole, of, index) => {
+                let instr = Instr::IndexOpen(dimensions(whole)?, scope.cells_of(*of));
+                put(code, instr)?;
+                emit_back(scope, code, index)?;
+                rest = whole;
+            }
+        }
+    }
+}
+
+// Two texts and their relation, from the last instruction to the first.
 #[cycle(emit_back)]
 fn emit_texts_back(
-    program: &Laid<'_>,
+    scope: &Scope<'_>,
     code: &mut Vec<Instr>,
     relation: Relation,
-    left: &TPlace,
-    left_elements: u32,
-    right: &TPlace,
-    right_elements: u32,
+    left: &TRows,
+    right: &TRows,
 ) -> Result<(), AllocError>
-    ensures { OnOk result (let second = back_place (seen_program program.now) (seen_place right.now)
-        (code.old.items ++ Instr.CmpText relation ∷ Instr.Num (pos right_elements) ∷ []) in
-        code.new.items ≡ back_place (seen_program program.now) (seen_place left.now)
-        (second ++ Instr.Num (pos left_elements) ∷ [])) }
+    ensures { OnOk result (code.new.items ≡
+        back_rows (program_of scope.now) (own_of scope.now) (seen_rows left.now)
+        (back_rows (program_of scope.now) (own_of scope.now) (seen_rows right.now)
+        (code.old.items ++ Instr.CmpText relation ∷ []))) }
 {
     put(code, Instr::CmpText(relation))?;
-    put(code, Instr::Num(i64::from(right_elements)))?;
-    emit_place_back(program, code, right)?;
-    put(code, Instr::Num(i64::from(left_elements)))?;
-    emit_place_back(program, code, left)
+    emit_rows_back(scope, code, right)?;
+    emit_rows_back(scope, code, left)
 }
 
-// The length of what stands at a place, which is found first, from the last instruction to the first.
+// The length of a dimension of an array, from the last instruction to the first.
 #[cycle(emit_back)]
 fn emit_length_back(
-    program: &Laid<'_>,
+    scope: &Scope<'_>,
     code: &mut Vec<Instr>,
-    place: &TPlace,
+    rows: &TRows,
+    dimension: u32,
+) -> Result<(), AllocError>
+    ensures { OnOk result (code.new.items ≡ back_rows (program_of scope.now) (own_of scope.now) (seen_rows rows.now)
+        (code.old.items ++ Instr.PickLen dimension (codes.dimensions (seen_rows rows.now)) ∷ [])) }
+{
+    let count = dimensions(rows)?;
+    put(code, Instr::PickLen(dimension, count))?;
+    emit_rows_back(scope, code, rows)
+}
+
+// So many operands are taken.
+#[tactic(auto, using(crate::proofs::Turned::drops_more))]
+fn put_drops(code: &mut Vec<Instr>, count: u32) -> Result<(), AllocError>
+    ensures { OnOk result (code.new.items ≡ code.old.items ++ drops count) }
+{
+    for _operand in 0..count {
+        put(code, Instr::Drop)?;
+    }
+    Ok(())
+}
+
+// A length that is known of an array, which is found first, from the last instruction to the first.
+#[cycle(emit_back)]
+fn emit_behind_back(
+    scope: &Scope<'_>,
+    code: &mut Vec<Instr>,
+    rows: &TRows,
     length: u32,
 ) -> Result<(), AllocError>
-    ensures { OnOk result (code.new.items ≡ back_place (seen_program program.now) (seen_place place.now)
-        (code.old.items ++ Instr.Num (pos length) ∷ Instr.Drop ∷ [])) }
+    ensures { OnOk result (code.new.items ≡ back_rows (program_of scope.now) (own_of scope.now) (seen_rows rows.now)
+        (code.old.items ++ Instr.Num (pos length) ∷ drops (suc (codes.dimensions (seen_rows rows.now))))) }
 {
+    let count = dimensions(rows)?;
     put(code, Instr::Num(i64::from(length)))?;
     put(code, Instr::Drop)?;
-    emit_place_back(program, code, place)
+    put_drops(code, count)?;
+    emit_rows_back(scope, code, rows)
+}
+
+// What is handed over for a parameter, from the last instruction to the first.
+#[cycle(emit_back)]
+fn emit_argument_back(
+    scope: &Scope<'_>,
+    code: &mut Vec<Instr>,
+    argument: &TArgument,
+) -> Result<(), AllocError>
+    ensures { OnOk result (code.new.items ≡ back_arguments (program_of scope.now) (own_of scope.now)
+        (seen_argument argument.now NoMore) code.old.items) }
+{
+    match argument {
+        TArgument::Scalar(value) => emit_back(scope, code, value),
+        TArgument::Whole(place) => emit_place_back(scope, code, place),
+        TArgument::Opening(rows) => emit_rows_back(scope, code, rows),
+    }
+}
+
+// What is handed over, from the last argument to the first.
+#[cycle(emit_back)]
+#[tactic(auto, using(crate::proofs::Parts::argument_less, crate::proofs::Turned::argument_more))]
+fn emit_arguments_back(
+    scope: &Scope<'_>,
+    code: &mut Vec<Instr>,
+    arguments: &[TArgument],
+) -> Result<(), AllocError>
+    ensures { OnOk result (code.new.items ≡ back_arguments (program_of scope.now) (own_of scope.now)
+        (seen_list arguments.now) code.old.items) }
+{
+    let mut left = arguments.len();
+    while left > 0 {
+        left -= 1;
+        emit_argument_back(scope, code, &arguments[left])?;
+    }
+    Ok(())
+}
+
+// A call of a function, from the last instruction to the first.
+#[cycle(emit_back)]
+fn emit_function_back(
+    scope: &Scope<'_>,
+    code: &mut Vec<Instr>,
+    home: u32,
+    number: u32,
+    arguments: &[TArgument],
+) -> Result<(), AllocError>
+    ensures { OnOk result (code.new.items ≡ back_arguments (program_of scope.now) (own_of scope.now)
+        (seen_list arguments.now) (code.old.items ++ Instr.Call (procedure_number (program_of scope.now) home number) ∷ [])) }
+{
+    put(code, Instr::Call(scope.called(home, number)?))?;
+    emit_arguments_back(scope, code, arguments)
 }
 
 // The second operand of `&` with what stands around it, from the last instruction to the first.
 #[cycle(emit_back)]
-fn emit_and_back(
-    program: &Laid<'_>,
-    code: &mut Vec<Instr>,
-    second: &TExpr,
-) -> Result<(), AllocError>
+fn emit_and_back(scope: &Scope<'_>, code: &mut Vec<Instr>, second: &TExpr) -> Result<(), AllocError>
     ensures { OnOk result
-        (code.new.items ≡ back_code (seen_program program.now) (seen_expr second.now)
+        (code.new.items ≡ back_code (program_of scope.now) (own_of scope.now) (seen_expr second.now)
         (code.old.items ++ Instr.Num (pos 0) ∷ Instr.Jump (length code.old.items) ∷ []) ++ Instr.JumpFalse
         (length code.old.items + 1) ∷ []) }
 {
@@ -170,18 +315,18 @@ fn emit_and_back(
     put(code, Instr::Num(0))?;
     let from_false = next_place(code)?;
     put(code, Instr::Jump(past))?;
-    emit_back(program, code, second)?;
+    emit_back(scope, code, second)?;
     put(code, Instr::JumpFalse(from_false))
 }
 
 // The second operand of OR with what stands before it, from the last instruction to the first.
 #[cycle(emit_back)]
-fn emit_or_back(program: &Laid<'_>, code: &mut Vec<Instr>, second: &TExpr) -> Result<(), AllocError>
-    ensures { OnOk result (let all = back_code (seen_program program.now) (seen_expr second.now) code.old.items in
+fn emit_or_back(scope: &Scope<'_>, code: &mut Vec<Instr>, second: &TExpr) -> Result<(), AllocError>
+    ensures { OnOk result (let all = back_code (program_of scope.now) (own_of scope.now) (seen_expr second.now) code.old.items in
         code.new.items ≡ all ++ Instr.Jump (length code.old.items) ∷ Instr.Num (pos 1) ∷ Instr.JumpFalse (length all) ∷ []) }
 {
     let behind = next_place(code)?;
-    emit_back(program, code, second)?;
+    emit_back(scope, code, second)?;
     let from_second = next_place(code)?;
     put(code, Instr::Jump(behind))?;
     put(code, Instr::Num(1))?;
@@ -199,17 +344,21 @@ fn put_element(code: &mut Vec<Instr>) -> Result<(), AllocError>
 // The code of an expression, from its last instruction to its first. A long sum has as many left operands, one in
 // another: the loop over them takes no stack. A jump is given the number of instructions from its target to the end.
 #[cycle(emit_back)]
-fn emit_back(program: &Laid<'_>, code: &mut Vec<Instr>, value: &TExpr) -> Result<(), AllocError>
-    ensures { OnOk result (code.new.items ≡ back_code (seen_program program.now) (seen_expr value.now) code.old.items) }
+fn emit_back(scope: &Scope<'_>, code: &mut Vec<Instr>, value: &TExpr) -> Result<(), AllocError>
+    ensures { OnOk result (code.new.items ≡ back_code (program_of scope.now) (own_of scope.now) (seen_expr value.now) code.old.items) }
 {
     let mut rest = value;
     loop {
         match rest {
             TExpr::Lit(literal) => return put(code, literal_instr(*literal)),
-            TExpr::Read(of, place) => return emit_read_back(program, code, *of, place),
-            TExpr::Len(place, length) => return emit_length_back(program, code, place, *length),
-            TExpr::CompareTexts(relation, left, n, right, m) => {
-                return emit_texts_back(program, code, *relation, left, *n, right, *m);
+            TExpr::Read(of, place) => return emit_read_back(scope, code, *of, place),
+            TExpr::Len(rows, number) => return emit_length_back(scope, code, rows, *number),
+            TExpr::LenBehind(rows, length) => return emit_behind_back(scope, code, rows, *length),
+            TExpr::CompareTexts(relation, left, right) => {
+                return emit_texts_back(scope, code, *relation, left, right);
+            }
+            TExpr::Function(home, number, arguments) => {
+                return emit_function_back(scope, code, *home, *number, arguments);
             }
             TExpr::Unary(operator, operand) => {
                 put(code, Instr::Unary(*operator))?;
@@ -217,15 +366,15 @@ fn emit_back(program: &Laid<'_>, code: &mut Vec<Instr>, value: &TExpr) -> Result
             }
             TExpr::Binary(operator, left, right) => {
                 put(code, Instr::Binary(*operator))?;
-                emit_back(program, code, right)?;
+                emit_back(scope, code, right)?;
                 rest = left;
             }
             TExpr::And(left, right) => {
-                emit_and_back(program, code, right)?;
+                emit_and_back(scope, code, right)?;
                 rest = left;
             }
             TExpr::Or(left, right) => {
-                emit_or_back(program, code, right)?;
+                emit_or_back(scope, code, right)?;
                 rest = left;
             }
             TExpr::Element(operand) => {
@@ -268,44 +417,59 @@ fn put_forwards(code: &mut Vec<Instr>, mut back: Vec<Instr>) -> Result<(), Alloc
 /// The code of a designator.
 pub fn emit_place(
     alloc: Global,
-    program: &Laid<'_>,
+    scope: &Scope<'_>,
     code: &mut Vec<Instr>,
     place: &TPlace,
 ) -> Result<(), AllocError>
     ensures { OnOk result (code.new.items ≡ code.old.items ++
-        place_code (seen_program program.now) (seen_place place.now) (length code.old.items)) }
+        place_code (program_of scope.now) (own_of scope.now) (seen_place place.now) (length code.old.items)) }
 {
     let mut back = Vec::new(alloc);
-    emit_place_back(program, &mut back, place)?;
+    emit_place_back(scope, &mut back, place)?;
     put_forwards(code, back)
 }
 
-/// A text: its place, and how many elements are there.
-pub fn emit_text(
+/// The code of an array with the lengths of its dimensions.
+pub fn emit_rows(
     alloc: Global,
-    program: &Laid<'_>,
+    scope: &Scope<'_>,
     code: &mut Vec<Instr>,
-    place: &TPlace,
-    elements: u32,
+    rows: &TRows,
 ) -> Result<(), AllocError>
     ensures { OnOk result (code.new.items ≡ code.old.items ++
-        with_length (place_code (seen_program program.now) (seen_place place.now) (length code.old.items)) elements) }
+        rows_code (program_of scope.now) (own_of scope.now) (seen_rows rows.now) (length code.old.items)) }
 {
-    emit_place(alloc, program, code, place)?;
-    put(code, Instr::Num(i64::from(elements)))
+    let mut back = Vec::new(alloc);
+    emit_rows_back(scope, &mut back, rows)?;
+    put_forwards(code, back)
+}
+
+/// The code of what a call hands over.
+pub fn emit_arguments(
+    alloc: Global,
+    scope: &Scope<'_>,
+    code: &mut Vec<Instr>,
+    arguments: &[TArgument],
+) -> Result<(), AllocError>
+    ensures { OnOk result (code.new.items ≡ code.old.items ++
+        arguments_code (program_of scope.now) (own_of scope.now) (seen_list arguments.now) (length code.old.items)) }
+{
+    let mut back = Vec::new(alloc);
+    emit_arguments_back(scope, &mut back, arguments)?;
+    put_forwards(code, back)
 }
 
 /// The code of an expression.
 pub fn emit_value(
     alloc: Global,
-    program: &Laid<'_>,
+    scope: &Scope<'_>,
     code: &mut Vec<Instr>,
     value: &TExpr,
 ) -> Result<(), AllocError>
     ensures { OnOk result (code.new.items ≡ code.old.items ++
-        value_code (seen_program program.now) (seen_expr value.now) (length code.old.items)) }
+        value_code (program_of scope.now) (own_of scope.now) (seen_expr value.now) (length code.old.items)) }
 {
     let mut back = Vec::new(alloc);
-    emit_back(program, &mut back, value)?;
+    emit_back(scope, &mut back, value)?;
     put_forwards(code, back)
 }

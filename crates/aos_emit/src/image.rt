@@ -1,22 +1,28 @@
 // The image of a program.
 
-ghost use Rattle.std.specs.Prelude.{◌≡◌, ◌≤◌, ◌^◌, ◌++◌, length, map, None, IfOk, OnOk};
+ghost use Rattle.std.specs.Prelude.{◌≡◌, ◌≤◌, ◌^◌, All, List, [], ◌∷◌, ◌++◌, length, map, None, Some, IfOk, OnOk};
 ghost use Rattle.std.specs.List.{flat_map};
 ghost use Rattle.std.specs.String.{string_bytes};
-ghost use Rattle.aos_typed.specs.Seen.{seen_program, seen_stats};
-ghost use Rattle.aos_typed.specs.WellTyped.{IsWellTyped};
+ghost use Rattle.aos_typed.specs.Routines.{bodies_from, procedures_from, routines};
+ghost use Rattle.aos_typed.specs.Seen.{seen_program, seen_module, seen_object, seen_procedure, seen_stats};
+ghost use Rattle.aos_typed.specs.WellTyped.{IsProcedure, IsWellTyped};
+ghost use Rattle.aos_types.specs.declared.row.TypeRow.{TypeRow};
 ghost use Rattle.aos_code.specs.Machine as machine;
-ghost use Rattle.aos_emit.specs.Made.{AreMadeOf};
-ghost use Rattle.aos_sim.specs.Need.{keeps_of, HasDepthsOf};
-ghost use Rattle.aos_sim.specs.Shows.{text_cells, IsCodeOf, Shows};
+ghost use Rattle.aos_layout.specs.Seen.{seen_shape};
+ghost use Rattle.aos_emit.specs.Made.{AreModules, AreTypesOf, AreMade, Adds, body_of, bodies_of_objects, procedures_of};
+ghost use Rattle.aos_sim.specs.Need.{HasDepthsOf};
+ghost use Rattle.aos_sim.specs.Shows.{text_cells, numbers_from, shape_of, IsCodeOf, Shows};
 
+use crate::emit::number_of;
 use crate::laid::Laid;
 use crate::level::stats_level;
+use crate::scope::Scope;
 use crate::stats::emit_body;
 use aos_base::NoMemory;
-use aos_code::{Cell, Image, Kind, ModuleDesc, ProcShape, TypeDesc};
+use aos_code::{Body, Cell, Image, Kind, ModuleDesc, ProcShape, TypeDesc};
+use aos_layout::FrameShape;
 use aos_sim::image_shows_program;
-use aos_typed::{Program, TModule, TStat};
+use aos_typed::{Program, TModule, TObject, TProcedure, TStat};
 use std::alloc::{AllocError, Global};
 
 // What a cell of this kind holds at first: 0, or NIL.
@@ -61,24 +67,6 @@ fn first_cells(alloc: Global, kinds: &[Kind], texts: &[Vec<u8>]) -> Result<Vec<C
     Ok(cells)
 }
 
-// The shape of a body in a module: its frame has no cells, and it gives nothing.
-fn body_shape(alloc: Global, home: u32, body: &[TStat]) -> Result<ProcShape, AllocError>
-    ensures home { IfOk result (λ s. s.module ≡ home) }
-    ensures nothing { IfOk result (λ s. s.result ≡ None) }
-    ensures keeps { IfOk result (λ s. s.keeps ≡ keeps_of (seen_stats body.now)) }
-{
-    Ok(ProcShape {
-        module: home,
-        params: Vec::new(alloc),
-        cells: 0,
-        counted: 0,
-        keeps: stats_level(body, 0)?,
-        result: None,
-        method: false,
-        kinds: Vec::new(alloc),
-    })
-}
-
 // A module whose variables' cells are of these kinds, and whose body is the procedure of this number.
 fn describe(
     alloc: Global,
@@ -98,36 +86,204 @@ fn describe(
     })
 }
 
-// The code of a well-typed program whose variables and string constants have their cells.
-fn code_of(alloc: Global, laid: &Laid<'_>, program: &Program) -> Result<Image, AllocError>
+// The modules of a program: the body of each has its number from 1.
+fn modules_of(
+    alloc: Global,
+    laid: &Laid<'_>,
+    program: &Program,
+) -> Result<Vec<ModuleDesc>, AllocError>
     requires few { length program.now.modules.items ≤ 64 }
-    requires few_types { length program.now.objects.items ≤ 2 ^ 26 }
     requires laid { laid.now ≡ program.now }
-    ensures { IfOk result (λ image. AreMadeOf (seen_program program.now) image) }
+    ensures { IfOk result (λ modules.
+        AreModules (seen_program program.now) (map seen_module program.now.modules.items) modules.items) }
 {
     let mut modules = Vec::new(alloc);
-    let mut types = Vec::new(alloc);
-    let mut shapes = Vec::new(alloc);
-    let mut bodies = Vec::new(alloc);
     let mut number = 0;
     for module in &program.modules {
-        bodies.push(emit_body(alloc, laid, &module.body)?)?;
-        shapes.push(body_shape(alloc, number, &module.body)?)?;
         modules.push(describe(alloc, module, laid.kinds(number), number + 1)?)?;
         number += 1;
     }
-    for object in &program.objects {
-        bodies.push(emit_body(alloc, laid, &object.body)?)?;
-        shapes.push(body_shape(alloc, object.home, &object.body)?)?;
-        types.push(TypeDesc { body: number + 1 })?;
+    Ok(modules)
+}
+
+// The object types of a program: their bodies are numbered on from those of so many modules.
+#[tactic(auto, using(crate::proofs::Codes::type_more))]
+fn types_of(alloc: Global, objects: &[TObject], modules: usize) -> Result<Vec<TypeDesc>, AllocError>
+    requires few { modules ≤ 64 }
+    requires few_types { length objects.now ≤ 2 ^ 26 }
+    ensures { IfOk result (λ types. AreTypesOf modules (map seen_object objects.now) types.items) }
+{
+    let mut types = Vec::new(alloc);
+    let mut number = modules as u32;
+    for _object in objects {
+        number += 1;
+        types.push(TypeDesc { body: number })?;
+    }
+    Ok(types)
+}
+
+/// What is known of routines, and their code, in the order of their numbers.
+#[derive(Drop)]
+pub struct Made {
+    pub shapes: Vec<ProcShape>,
+    pub bodies: Vec<Body>,
+}
+
+impl Made {
+    // One more routine.
+    fn put(&mut self, shape: ProcShape, body: Body) -> Result<(), AllocError>
+        ensures shapes { OnOk result (self.new.shapes.items ≡ self.old.shapes.items ++ shape ∷ []) }
+        ensures bodies { OnOk result (self.new.bodies.items ≡ self.old.bodies.items ++ body ∷ []) }
+    {
+        self.shapes.push(shape)?;
+        self.bodies.push(body)?;
+        Ok(())
+    }
+}
+
+// The shape of a body in a module: its frame has no cells, and it gives nothing.
+fn body_shape(alloc: Global, home: u32, body: &[TStat]) -> Result<ProcShape, AllocError>
+    ensures { IfOk result (λ s. (rows : List TypeRow) → seen_shape s ≡ shape_of rows (body_of home (seen_stats body.now))) }
+{
+    Ok(ProcShape {
+        module: home,
+        params: Vec::new(alloc),
+        cells: 0,
+        counted: 0,
+        keeps: stats_level(body, 0)?,
+        result: None,
+        method: false,
+        kinds: Vec::new(alloc),
+    })
+}
+
+// One more body, which is no procedure's.
+fn add_body(
+    alloc: Global,
+    laid: &Laid<'_>,
+    made: &mut Made,
+    home: u32,
+    body: &[TStat],
+) -> Result<(), AllocError>
+    ensures { OnOk result (Adds (seen_program laid.now) (body_of home (seen_stats body.now) ∷ [])
+        made.old.bodies.items made.old.shapes.items made.new.bodies.items made.new.shapes.items) }
+{
+    let shape = body_shape(alloc, home, body)?;
+    let code = emit_body(alloc, &Scope::body(laid), body)?;
+    made.put(shape, code)?;
+    Ok(())
+}
+
+// The bodies of modules.
+fn add_bodies(
+    alloc: Global,
+    laid: &Laid<'_>,
+    made: &mut Made,
+    modules: &[TModule],
+) -> Result<(), AllocError>
+    requires few { length modules.now ≤ 64 }
+    ensures { OnOk result (Adds (seen_program laid.now) (bodies_from 0 (map seen_module modules.now))
+        made.old.bodies.items made.old.shapes.items made.new.bodies.items made.new.shapes.items) }
+{
+    let mut number = 0;
+    for module in modules {
+        add_body(alloc, laid, made, number, &module.body)?;
         number += 1;
     }
-    Ok(Image {
-        modules,
-        types,
-        shapes,
-        bodies,
-    })
+    Ok(())
+}
+
+// The bodies of object types.
+fn add_objects(
+    alloc: Global,
+    laid: &Laid<'_>,
+    made: &mut Made,
+    objects: &[TObject],
+) -> Result<(), AllocError>
+    ensures { OnOk result (Adds (seen_program laid.now) (bodies_of_objects (map seen_object objects.now))
+        made.old.bodies.items made.old.shapes.items made.new.bodies.items made.new.shapes.items) }
+{
+    for object in objects {
+        add_body(alloc, laid, made, object.home, &object.body)?;
+    }
+    Ok(())
+}
+
+// One more procedure, of the module with this number.
+fn add_procedure(
+    alloc: Global,
+    laid: &Laid<'_>,
+    made: &mut Made,
+    home: u32,
+    procedure: &TProcedure,
+) -> Result<(), NoMemory>
+    requires typed { IsProcedure (seen_program laid.now) (seen_procedure procedure.now) }
+    ensures { OnOk result (Adds (seen_program laid.now) (procedures_of home (seen_procedure procedure.now ∷ []))
+        made.old.bodies.items made.old.shapes.items made.new.bodies.items made.new.shapes.items) }
+{
+    let own = number_of(made.bodies.len())?;
+    let keeps = stats_level(&procedure.body, 0)?;
+    let FrameShape { shape, places, .. } = laid.frame(alloc, own, home, keeps, procedure)?;
+    let scope = Scope::procedure(laid, procedure, &places, shape.cells);
+    let code = emit_body(alloc, &scope, &procedure.body)?;
+    made.put(shape, code)?;
+    Ok(())
+}
+
+// The procedures of the module with this number.
+fn add_procedures(
+    alloc: Global,
+    laid: &Laid<'_>,
+    made: &mut Made,
+    home: u32,
+    procedures: &[TProcedure],
+) -> Result<(), NoMemory>
+    requires typed { All (IsProcedure (seen_program laid.now)) (map seen_procedure procedures.now) }
+    ensures { OnOk result (Adds (seen_program laid.now) (procedures_of home (map seen_procedure procedures.now))
+        made.old.bodies.items made.old.shapes.items made.new.bodies.items made.new.shapes.items) }
+{
+    for procedure in procedures {
+        add_procedure(alloc, laid, made, home, procedure)?;
+    }
+    Ok(())
+}
+
+// The procedures of all modules.
+fn add_all(
+    alloc: Global,
+    laid: &Laid<'_>,
+    made: &mut Made,
+    modules: &[TModule],
+) -> Result<(), NoMemory>
+    requires few { length modules.now ≤ 64 }
+    requires typed { All (λ m. All (IsProcedure (seen_program laid.now)) m.procedures) (map seen_module modules.now) }
+    ensures { OnOk result (Adds (seen_program laid.now) (procedures_from 0 (map seen_module modules.now))
+        made.old.bodies.items made.old.shapes.items made.new.bodies.items made.new.shapes.items) }
+{
+    let mut number = 0;
+    for module in modules {
+        add_procedures(alloc, laid, made, number, &module.procedures)?;
+        number += 1;
+    }
+    Ok(())
+}
+
+// All that runs in a well-typed program.
+fn routines_of(alloc: Global, laid: &Laid<'_>, program: &Program) -> Result<Made, NoMemory>
+    requires few { length program.now.modules.items ≤ 64 }
+    requires laid { laid.now ≡ program.now }
+    requires typed { IsWellTyped (seen_program program.now) }
+    ensures { IfOk result (λ made.
+        AreMade (seen_program program.now) (routines (seen_program program.now)) made.bodies.items made.shapes.items) }
+{
+    let mut made = Made {
+        shapes: Vec::new(alloc),
+        bodies: Vec::new(alloc),
+    };
+    add_bodies(alloc, laid, &mut made, &program.modules)?;
+    add_objects(alloc, laid, &mut made, &program.objects)?;
+    add_all(alloc, laid, &mut made, &program.modules)?;
+    Ok(made)
 }
 
 /// The image of a well-typed program of at most 64 modules and 2^26 object types: it has the program's code, and each body has as
@@ -146,5 +302,13 @@ pub fn image_of(alloc: Global, program: &Program) -> Result<Image, NoMemory>
 {
     image_shows_program();
     let laid = Laid::new(alloc, program)?;
-    Ok(code_of(alloc, &laid, program)?)
+    let modules = modules_of(alloc, &laid, program)?;
+    let types = types_of(alloc, &program.objects, program.modules.len())?;
+    let Made { shapes, bodies } = routines_of(alloc, &laid, program)?;
+    Ok(Image {
+        modules,
+        types,
+        shapes,
+        bodies,
+    })
 }

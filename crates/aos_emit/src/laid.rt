@@ -1,27 +1,29 @@
 // A program whose variables and string constants have their cells.
 
-ghost use Rattle.std.specs.Prelude.{◌≡◌, ◌≤◌, ◌^◌, [], ◌∷◌, ◌++◌, length, map, take, slice_get, option_map, IfOk, OnOk};
+ghost use Rattle.std.specs.Prelude.{◌≡◌, ◌≤◌, ◌<◌, ◌^◌, ◌+◌, suc, [], ◌∷◌, ◌++◌, length, map, take, slice_get, Some, None, option_map, IfOk, OnOk};
 ghost use Rattle.std.specs.Option.{unwrap_or};
-ghost use Rattle.aos_typed.specs.Seen.{seen_program};
-ghost use Rattle.aos_typed.specs.WellTyped.{AreTypes, IsWellTyped};
-ghost use Rattle.aos_layout.specs.Seen.{seen_block};
+ghost use Rattle.aos_typed.specs.Seen.{seen_program, seen_module, seen_procedure};
+ghost use Rattle.aos_typed.specs.WellTyped.{AreTypes, IsProcedure, IsWellTyped};
+ghost use Rattle.aos_layout.specs.Frame as frame;
+ghost use Rattle.aos_layout.specs.Seen.{seen_block, seen_frame};
 ghost use Rattle.aos_types.specs.Shape as shape;
 ghost use Rattle.aos_types.specs.Contents.{contents, variable_scalars};
-ghost use Rattle.aos_typed.specs.Numbers.{id_of};
+ghost use Rattle.aos_typed.specs.Numbers.{id_of, procedure_number};
 ghost use Rattle.aos_sim.specs.Code.{variable_cell, field_cell, cells_of};
-ghost use Rattle.aos_emit.specs.Laid.{AreBlocks, there_in, cell_in, variables_in, module_kinds};
+ghost use Rattle.aos_emit.specs.Laid.{AreBlocks, AreNarrow, firsts_from, there_in, cell_in, variables_in, module_kinds};
 
 use aos_base::{NoMemory, Width};
 use aos_code::Kind;
-use aos_layout::{BlockShape, block_shape, offset};
-use aos_typed::{Program, TModule, TType};
+use aos_layout::{BlockShape, FrameShape, block_shape, frame_shape, offset};
+use aos_typed::{Program, TModule, TProcedure, TType};
 use aos_types::{TypeId, TypeRow, Types};
 use std::alloc::{AllocError, Global};
 use std::marker::Model;
 
 // The cells of one more module.
 fn put(blocks: &mut Vec<BlockShape>, block: BlockShape) -> Result<(), AllocError>
-    ensures { OnOk result (blocks.new.items ≡ blocks.old.items ++ block ∷ []) }
+    ensures put { OnOk result (blocks.new.items ≡ blocks.old.items ++ block ∷ []) }
+    ensures narrow { OnOk result (block.cells < 2 ^ 32) }
 {
     blocks.push(block)?;
     Ok(())
@@ -31,11 +33,13 @@ fn put(blocks: &mut Vec<BlockShape>, block: BlockShape) -> Result<(), AllocError
 fn blocks_of(alloc: Global, program: &Program) -> Result<Vec<BlockShape>, NoMemory>
     requires few { length program.now.objects.items ≤ 2 ^ 26 }
     requires typed { IsWellTyped (seen_program program.now) }
-    ensures { IfOk result (λ blocks. AreBlocks (seen_program program.now) blocks.items) }
+    ensures blocks { IfOk result (λ blocks. AreBlocks (seen_program program.now) blocks.items) }
+    ensures narrow { OnOk result (AreNarrow (seen_program program.now)) }
 {
     let mut blocks = Vec::new(alloc);
     for module in &program.modules {
-        put(&mut blocks, block_shape(alloc, &program.types, module)?)?;
+        let block = block_shape(alloc, &program.types, module)?;
+        put(&mut blocks, block)?;
     }
     Ok(blocks)
 }
@@ -147,11 +151,64 @@ fn cells_before(types: &Types, of: TType, number: u32) -> Result<u32, AllocError
     Ok(offset(types, t, &[number]))
 }
 
-/// A program, and the cells of its modules.
+// The number of the first procedure, behind the bodies of so many modules and object types.
+fn first_number(modules: usize, objects: usize) -> u32
+    requires few { modules ≤ 64 }
+    requires few_types { objects ≤ 2 ^ 26 }
+    ensures { result ≡ suc (modules + objects) }
+{
+    (modules + objects + 1) as u32
+}
+
+// The number of the first procedure of each of these modules, where that of the first one is this. Procedures that have no number
+// are want of memory.
+#[tactic(auto, using(crate::proofs::Found::firsts_more))]
+fn firsts_of(alloc: Global, modules: &[TModule], first: u32) -> Result<Vec<u32>, AllocError>
+    ensures { IfOk result (λ firsts. firsts.items ≡ firsts_from first (map seen_module modules.now)) }
+{
+    let mut firsts = Vec::new(alloc);
+    let mut next = first;
+    for module in modules {
+        firsts.push(next)?;
+        let behind = after(next, module.procedures.len())?;
+        next = behind;
+    }
+    Ok(firsts)
+}
+
+// A number so many behind another one.
+fn after(number: u32, count: usize) -> Result<u32, AllocError>
+    ensures { IfOk result (λ n. n ≡ number + count) }
+{
+    let Ok(more) = u32::try_from(count) else {
+        return Err(AllocError);
+    };
+    match number.checked_add(more) {
+        Some(next) => Ok(next),
+        None => Err(AllocError),
+    }
+}
+
+// The number of a procedure of one of these modules. One of a module that isn't there is in no well-typed program: there is no
+// memory for it.
+fn number_at(firsts: &[u32], home: u32, number: u32) -> Result<u32, AllocError>
+    ensures { IfOk result (λ n. option_map (λ first. first + number) (slice_get firsts.now home) ≡ Some n) }
+{
+    match firsts.get(home as usize) {
+        Some(first) => {
+            let all = after(*first, number as usize)?;
+            Ok(all)
+        }
+        None => Err(AllocError),
+    }
+}
+
+/// A program, with the cells of its modules and the numbers of their procedures.
 #[derive(Drop)]
 pub struct Laid<'a> {
     program: &'a Program,
     blocks: Vec<BlockShape>,
+    firsts: Vec<u32>,
 }
 
 impl<'a> Model for Laid<'a> {
@@ -167,39 +224,72 @@ impl<'a> Model for Laid<'a> {
 
     ghost view = { λ l. l.program.now };
 
-    ghost invariant = { λ l. IsLaid (seen_program l.program.now) l.blocks.items };
+    ghost invariant = { λ l. IsLaid (seen_program l.program.now) l.blocks.items l.firsts.items };
 }
 
 impl<'a> Laid<'a> {
     /// A well-typed program, whose variables and string constants have their cells.
+    #[tactic(auto, using(crate::proofs::Found::firsts_are))]
     pub fn new(alloc: Global, program: &'a Program) -> Result<Laid<'a>, NoMemory>
-        requires few { length program.now.objects.items ≤ 2 ^ 26 }
+        requires few { length program.now.modules.items ≤ 64 }
+        requires few_types { length program.now.objects.items ≤ 2 ^ 26 }
         requires typed { IsWellTyped (seen_program program.now) }
-        ensures { IfOk result (λ laid. laid ≡ program.now) }
+        ensures laid { IfOk result (λ laid. laid ≡ program.now) }
+        ensures narrow { OnOk result (AreNarrow (seen_program program.now)) }
     {
         let blocks = blocks_of(alloc, program)?;
-        Ok(Laid { program, blocks })
+        let first = first_number(program.modules.len(), program.objects.len());
+        let firsts = firsts_of(alloc, &program.modules, first)?;
+        Ok(Laid {
+            program,
+            blocks,
+            firsts,
+        })
     }
 
     /// The first cell of a module's variable or string constant, by the numbers of both.
     pub fn cell(&self, home: u32, number: u32) -> u32
-        ensures { result ≡ variable_cell (seen_program self.now) home number }
+        ensures { result ≡ variable_cell (seen_program self.now) None home number }
     {
         cell_of(&self.blocks, home, number as usize)
     }
 
     /// How many cells stand before a field in its record, by the record type and the field's number.
     pub fn field(&self, of: TType, number: u32) -> Result<u32, AllocError>
-        ensures { IfOk result (λ cells. cells ≡ field_cell (seen_program self.now) of number) }
+        ensures { IfOk result (λ cells. cells ≡ field_cell (seen_program self.now) None of number) }
     {
         cells_before(&self.program.types, of, number)
     }
 
     /// How many cells a variable of a type has.
     pub fn cells_of(&self, of: TType) -> u32
-        ensures { result ≡ cells_of (seen_program self.now) of }
+        ensures { result ≡ cells_of (seen_program self.now) None of }
     {
         variable_cells(&self.program.types, of)
+    }
+
+    /// The number of a procedure, by the numbers of its module and its own there.
+    pub fn called(&self, home: u32, number: u32) -> Result<u32, AllocError>
+        ensures { IfOk result (λ n. n ≡ procedure_number (seen_program self.now) home number) }
+    {
+        let all = number_at(&self.firsts, home, number)?;
+        Ok(all)
+    }
+
+    /// The frame of a procedure with this number, in the module with that number, whose body keeps so many values.
+    pub fn frame(
+        &self,
+        alloc: Global,
+        own: u32,
+        home: u32,
+        keeps: u32,
+        procedure: &TProcedure,
+    ) -> Result<FrameShape, NoMemory>
+        requires typed { IsProcedure (seen_program self.now) (seen_procedure procedure.now) }
+        ensures { IfOk result (λ f. seen_frame f ≡
+            frame.frame_shape (seen_program self.now).types own home keeps (seen_procedure procedure.now)) }
+    {
+        frame_shape(alloc, &self.program.types, own, home, keeps, procedure)
     }
 
     /// The kinds of the cells of a module's variables, by the module's number. Behind them stand its string constants.

@@ -59,7 +59,7 @@ fn stat_level(statement: &TStat, around: u32) -> Result<u32, AllocError>
     match statement {
         TStat::Assign(_, _, _, _) => Ok(around),
         TStat::Copy(_, _, _, _) => Ok(around),
-        TStat::PutText(_, _, _, _, _, _) => Ok(around),
+        TStat::PutText(_, _, _, _) => Ok(around),
         TStat::If(_, arms, otherwise) => arms_level(arms, otherwise, around),
         TStat::Case(_, _, cases, otherwise) => {
             let kept = deeper(around)?;
@@ -77,6 +77,8 @@ fn stat_level(statement: &TStat, around: u32) -> Result<u32, AllocError>
         TStat::Assert(_, _, _) => Ok(around),
         TStat::Halt(_, _) => Ok(around),
         TStat::Change(_, _, _, _) => Ok(around),
+        TStat::Perform(_, _, _, _) => Ok(around),
+        TStat::Return(_, _) => Ok(around),
         TStat::New(_, _, _) => Ok(around),
         TStat::Out(_, _) => Ok(around),
     }

@@ -6,6 +6,7 @@ mod image;
 mod laid;
 mod level;
 mod need;
+mod scope;
 mod stats;
 
 pub use image::image_of;

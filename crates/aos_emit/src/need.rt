@@ -1,10 +1,12 @@
 // How many operands code has at most.
 
 ghost use Rattle.std.specs.Prelude.{◌≡◌, ◌+◌, max, IfOk};
-ghost use Rattle.aos_typed.specs.Seen.{seen_place, seen_expr, seen_call, seen_stat, seen_stats, seen_else, arms_of, cases_of};
+ghost use Rattle.aos_typed.specs.Seen.{seen_place, seen_rows, seen_argument, seen_list, seen_expr, seen_call, seen_stat, seen_stats, seen_else, arms_of, cases_of};
+ghost use Rattle.aos_typed.specs.Program.{Arguments};
 ghost use Rattle.aos_sim.specs.Need as need_of;
 
-use aos_typed::{Change, OutCall, TArm, TCase, TElse, TExpr, TPlace, TStat};
+use crate::emit::{dimensions, number_of};
+use aos_typed::{Change, OutCall, TArgument, TArm, TCase, TElse, TExpr, TPlace, TRows, TStat};
 use std::alloc::AllocError;
 
 // So many operands above so many others. As many as 2^32 are want of memory.
@@ -27,6 +29,9 @@ fn place_need(place: &TPlace) -> Result<u32, AllocError>
     loop {
         match rest {
             TPlace::ModuleVar(_, _) => return Ok(need.max(1)),
+            TPlace::Local(_) => return Ok(need.max(1)),
+            TPlace::Passed(_) => return Ok(need.max(1)),
+            TPlace::Of(rows) => return Ok(need.max(rows_need(rows)?)),
             TPlace::Field(whole, _, _) => rest = whole,
             TPlace::Index(whole, _, _, index) => {
                 need = need.max(above(1, value_need(index)?)?);
@@ -36,22 +41,68 @@ fn place_need(place: &TPlace) -> Result<u32, AllocError>
     }
 }
 
-// A text: its length lies above its place.
+// An array: the lengths of its dimensions lie above its place.
 #[cycle(value_need)]
-fn text_need(place: &TPlace) -> Result<u32, AllocError>
-    ensures { IfOk result (λ n. n ≡ need_of.text_need (need_of.place_need (seen_place place.now))) }
+fn rows_need(rows: &TRows) -> Result<u32, AllocError>
+    ensures { IfOk result (λ n. n ≡ need_of.rows_need (seen_rows rows.now)) }
 {
-    Ok(place_need(place)?.max(2))
+    let mut rest = rows;
+    let mut need = 0;
+    loop {
+        match rest {
+            TRows::Known(place, lengths) => {
+                need = need.max(above(1, number_of(lengths.len())?)?);
+                return Ok(need.max(place_need(place)?));
+            }
+            TRows::Opened(_, count) => return Ok(need.max(above(1, *count)?)),
+            TRows::Row(whole, _, index) => {
+                let below = above(1, dimensions(whole)?)?;
+                need = need.max(above(below, value_need(index)?)?);
+                rest = whole;
+            }
+        }
+    }
 }
 
 // Two texts: the first lies below the second.
 #[cycle(value_need)]
-fn texts_need(left: &TPlace, right: &TPlace) -> Result<u32, AllocError>
+fn texts_need(left: &TRows, right: &TRows) -> Result<u32, AllocError>
     ensures { IfOk result (λ n. n ≡ need_of.texts_need
-        (need_of.place_need (seen_place left.now)) (need_of.place_need (seen_place right.now))) }
+        (need_of.rows_need (seen_rows left.now)) (need_of.rows_need (seen_rows right.now))) }
 {
-    let first = text_need(left)?;
-    Ok(first.max(above(2, text_need(right)?)?))
+    let first = rows_need(left)?;
+    Ok(first.max(above(2, rows_need(right)?)?))
+}
+
+// What is handed over for a parameter, where what is handed over behind it needs so many.
+#[cycle(value_need)]
+fn argument_need(argument: &TArgument, behind: u32) -> Result<u32, AllocError>
+    ensures { IfOk result (λ n. (more : Arguments) → need_of.arguments_need more ≡ behind →
+        n ≡ need_of.arguments_need (seen_argument argument.now more)) }
+{
+    match argument {
+        TArgument::Scalar(value) => Ok(value_need(value)?.max(above(1, behind)?)),
+        TArgument::Whole(place) => Ok(place_need(place)?.max(above(1, behind)?)),
+        TArgument::Opening(rows) => {
+            let below = above(1, dimensions(rows)?)?;
+            Ok(rows_need(rows)?.max(above(below, behind)?))
+        }
+    }
+}
+
+// What is handed over: all that was before lies below.
+#[cycle(value_need)]
+#[tactic(auto, using(crate::proofs::Parts::argument_less, crate::proofs::Turned::need_more))]
+fn arguments_need(arguments: &[TArgument]) -> Result<u32, AllocError>
+    ensures { IfOk result (λ n. n ≡ need_of.arguments_need (seen_list arguments.now)) }
+{
+    let mut need = 0;
+    let mut left = arguments.len();
+    while left > 0 {
+        left -= 1;
+        need = argument_need(&arguments[left], need)?;
+    }
+    Ok(need)
 }
 
 // A long sum has as many left operands, one in another: the loop over them takes no stack.
@@ -65,9 +116,11 @@ fn value_need(value: &TExpr) -> Result<u32, AllocError>
         match rest {
             TExpr::Lit(_) => return Ok(need.max(1)),
             TExpr::Read(_, place) => return Ok(need.max(place_need(place)?)),
-            TExpr::Len(place, _) => return Ok(need.max(place_need(place)?)),
-            TExpr::CompareTexts(_, left, _, right, _) => {
-                return Ok(need.max(texts_need(left, right)?));
+            TExpr::Len(rows, _) => return Ok(need.max(rows_need(rows)?)),
+            TExpr::LenBehind(rows, _) => return Ok(need.max(rows_need(rows)?)),
+            TExpr::CompareTexts(_, left, right) => return Ok(need.max(texts_need(left, right)?)),
+            TExpr::Function(_, _, arguments) => {
+                return Ok(need.max(1).max(arguments_need(arguments)?));
             }
             TExpr::Unary(_, operand) => rest = operand,
             TExpr::Binary(_, left, right) => {
@@ -102,7 +155,7 @@ fn out_need(call: &OutCall) -> Result<u32, AllocError>
             let first = value_need(value)?;
             Ok(first.max(above(1, value_need(places)?)?))
         }
-        OutCall::String(place, _) => text_need(place),
+        OutCall::String(text) => rows_need(text),
         OutCall::Ln => Ok(0),
     }
 }
@@ -193,7 +246,7 @@ fn stat_need(statement: &TStat) -> Result<u32, AllocError>
     match statement {
         TStat::Assign(_, _, place, value) => assign_need(place, value),
         TStat::Copy(_, _, to, from) => copy_need(to, from),
-        TStat::PutText(_, _, from, _, to, _) => texts_need(from, to),
+        TStat::PutText(_, _, from, to) => texts_need(from, to),
         TStat::If(_, arms, otherwise) => arms_need(arms, otherwise),
         TStat::Case(_, selector, cases, otherwise) => {
             let first = value_need(selector)?;
@@ -217,6 +270,9 @@ fn stat_need(statement: &TStat) -> Result<u32, AllocError>
         TStat::Assert(_, condition, _) => value_need(condition),
         TStat::Halt(_, _) => Ok(0),
         TStat::Change(_, change, place, value) => changed_need(*change, place, value),
+        TStat::Perform(_, _, _, arguments) => arguments_need(arguments),
+        TStat::Return(_, None) => Ok(0),
+        TStat::Return(_, Some(value)) => value_need(value),
         TStat::New(_, place, _) => above(2, place_need(place)?),
         TStat::Out(_, call) => out_need(call),
     }

@@ -1,23 +1,27 @@
 // From typed statements to instructions: what is emitted is the code that the definitions give. A jump forward to what isn't
 // emitted yet has a pending number, and is told where it goes when that is known.
 
-ghost use Rattle.std.specs.Prelude.{◌≡◌, ◌+◌, ◌*◌, ◌≤◌, [], ◌∷◌, ◌++◌, length, OnOk, IfOk};
+ghost use Rattle.std.specs.Prelude.{◌≡◌, ◌+◌, ◌*◌, ◌≤◌, [], ◌∷◌, ◌++◌, length, option_map, OnOk, IfOk};
 ghost use Rattle.aos_typed.specs.Meaning as meaning;
-ghost use Rattle.aos_typed.specs.Program.{Read, Copy, PutText, If, Case, While, Repeat, Loop, Block, Assert};
-ghost use Rattle.aos_typed.specs.Seen.{seen_program, seen_place, seen_expr, seen_call, seen_stat, seen_stats, seen_else, arms_of, cases_of};
+ghost use Rattle.aos_typed.specs.Program.{Read, Copy, PutText, Perform, Return, If, Case, While, Repeat, Loop, Block, Assert};
+ghost use Rattle.aos_typed.specs.Seen.{seen_place, seen_rows, seen_list, seen_expr, seen_call, seen_stat, seen_stats, seen_else, arms_of, cases_of};
 ghost use Rattle.aos_emit.specs.Redirect.{pending_exit, pending_end, redirect_behind, redirect as redirection};
+ghost use Rattle.aos_emit.specs.Scope.{program_of, own_of};
 ghost use Rattle.aos_sim.specs.Need.{body_need};
-ghost use Rattle.aos_sim.specs.Code.{begin, value_code, out_code, new_code, assign_code, change_code, changed_code, for_head, step_code, rounds_code, label_code, labels_code, arm_code, case_code, stat_code, stats_code, arms_code, cases_code, body_code};
+ghost use Rattle.aos_sim.specs.Code.{begin, value_code, out_code, new_code, assign_code, change_code, changed_code, for_head, step_code, rounds_code, label_code, labels_code, arm_code, case_code, stat_code, stats_code, arms_code, cases_code, end_code, body_code};
 
 use crate::emit::{
-    PENDING_END, cell_kind, emit_place, emit_text, emit_value, next_place, number_of, put,
+    PENDING_END, cell_kind, emit_arguments, emit_place, emit_rows, emit_value, next_place,
+    number_of, put,
 };
-use crate::laid::Laid;
 use crate::level::deeper;
 use crate::need::stats_need;
+use crate::scope::Scope;
 use aos_base::{Binary, Pos, Relation, Width};
 use aos_code::{Body, Instr, Kind};
-use aos_typed::{Change, LabelRange, OutCall, TArm, TCase, TElse, TExpr, TPlace, TStat, TType};
+use aos_typed::{
+    Change, LabelRange, OutCall, TArgument, TArm, TCase, TElse, TExpr, TPlace, TRows, TStat, TType,
+};
 use std::alloc::{AllocError, Global};
 
 // The number that the jump of an EXIT has until it is known where its LOOP ends: no instruction has it.
@@ -54,26 +58,26 @@ fn emit_begin(code: &mut Vec<Instr>, at: Pos) -> Result<(), AllocError>
 // A call of a procedure of module Out.
 fn put_out(
     alloc: Global,
-    program: &Laid<'_>,
+    scope: &Scope<'_>,
     code: &mut Vec<Instr>,
     call: &OutCall,
 ) -> Result<(), AllocError>
     ensures { OnOk result (code.new.items ≡ code.old.items ++
-        out_code (seen_program program.now) (seen_call call.now) (length code.old.items)) }
+        out_code (program_of scope.now) (own_of scope.now) (seen_call call.now) (length code.old.items)) }
 {
     match call {
         OutCall::Open => put(code, Instr::OutOpen),
         OutCall::Char(value) => {
-            emit_value(alloc, program, code, value)?;
+            emit_value(alloc, scope, code, value)?;
             put(code, Instr::OutChar)
         }
         OutCall::Int(value, places) => {
-            emit_value(alloc, program, code, value)?;
-            emit_value(alloc, program, code, places)?;
+            emit_value(alloc, scope, code, value)?;
+            emit_value(alloc, scope, code, places)?;
             put(code, Instr::OutInt)
         }
-        OutCall::String(place, elements) => {
-            emit_text(alloc, program, code, place, *elements)?;
+        OutCall::String(text) => {
+            emit_rows(alloc, scope, code, text)?;
             put(code, Instr::OutString)
         }
         OutCall::Ln => put(code, Instr::OutLn),
@@ -82,29 +86,29 @@ fn put_out(
 
 fn emit_out(
     alloc: Global,
-    program: &Laid<'_>,
+    scope: &Scope<'_>,
     code: &mut Vec<Instr>,
     at: Pos,
     call: &OutCall,
 ) -> Result<(), AllocError>
     ensures { OnOk result (code.new.items ≡ code.old.items ++
-        begin at ∷ out_code (seen_program program.now) (seen_call call.now) (length code.old.items + 1)) }
+        begin at ∷ out_code (program_of scope.now) (own_of scope.now) (seen_call call.now) (length code.old.items + 1)) }
 {
     emit_begin(code, at)?;
-    put_out(alloc, program, code, call)
+    put_out(alloc, scope, code, call)
 }
 
 // The object is stored before its activity is started. One whose number doesn't fit is in no program: there is no memory for it.
 fn emit_new(
     alloc: Global,
-    program: &Laid<'_>,
+    scope: &Scope<'_>,
     code: &mut Vec<Instr>,
     at: Pos,
     place: &TPlace,
     object: u32,
 ) -> Result<(), AllocError>
     ensures { OnOk result (code.new.items ≡ code.old.items ++
-        begin at ∷ new_code (seen_program program.now) (seen_place place.now) object (length code.old.items + 1)) }
+        begin at ∷ new_code (program_of scope.now) (own_of scope.now) (seen_place place.now) object (length code.old.items + 1)) }
 {
     let Some(number) = object.checked_add(1) else {
         return Err(AllocError);
@@ -112,7 +116,7 @@ fn emit_new(
     emit_begin(code, at)?;
     put(code, Instr::NewObject(number))?;
     put(code, Instr::Dup)?;
-    emit_place(alloc, program, code, place)?;
+    emit_place(alloc, scope, code, place)?;
     put(code, Instr::Swap)?;
     put(code, Instr::Store(Kind::R))?;
     put(code, Instr::Start)
@@ -120,7 +124,7 @@ fn emit_new(
 
 fn emit_assign(
     alloc: Global,
-    program: &Laid<'_>,
+    scope: &Scope<'_>,
     code: &mut Vec<Instr>,
     at: Pos,
     of: TType,
@@ -128,17 +132,17 @@ fn emit_assign(
     value: &TExpr,
 ) -> Result<(), AllocError>
     ensures { OnOk result (code.new.items ≡ code.old.items ++
-        assign_code (seen_program program.now) at of (seen_place place.now) (seen_expr value.now) (length code.old.items)) }
+        assign_code (program_of scope.now) (own_of scope.now) at of (seen_place place.now) (seen_expr value.now) (length code.old.items)) }
 {
     emit_begin(code, at)?;
-    emit_place(alloc, program, code, place)?;
-    emit_value(alloc, program, code, value)?;
+    emit_place(alloc, scope, code, place)?;
+    emit_value(alloc, scope, code, value)?;
     put(code, Instr::Store(cell_kind(of)))
 }
 
 fn emit_copy(
     alloc: Global,
-    program: &Laid<'_>,
+    scope: &Scope<'_>,
     code: &mut Vec<Instr>,
     at: Pos,
     of: TType,
@@ -146,33 +150,70 @@ fn emit_copy(
     from: &TPlace,
 ) -> Result<(), AllocError>
     ensures { OnOk result (code.new.items ≡ code.old.items ++
-        stat_code (seen_program program.now) (Copy at of (seen_place to.now) (seen_place from.now)) (length code.old.items) 0 0) }
+        stat_code (program_of scope.now) (own_of scope.now) (Copy at of (seen_place to.now) (seen_place from.now)) (length code.old.items) 0 0) }
 {
     emit_begin(code, at)?;
-    emit_place(alloc, program, code, to)?;
-    emit_place(alloc, program, code, from)?;
-    put(code, Instr::Copy(program.cells_of(of)))
+    emit_place(alloc, scope, code, to)?;
+    emit_place(alloc, scope, code, from)?;
+    put(code, Instr::Copy(scope.cells_of(of)))
 }
 
 fn emit_put(
     alloc: Global,
-    program: &Laid<'_>,
+    scope: &Scope<'_>,
     code: &mut Vec<Instr>,
     at: Pos,
     strict: bool,
-    from: &TPlace,
-    elements: u32,
-    to: &TPlace,
-    room: u32,
+    from: &TRows,
+    to: &TRows,
 ) -> Result<(), AllocError>
     ensures { OnOk result (code.new.items ≡ code.old.items ++
-        stat_code (seen_program program.now) (PutText at strict (seen_place from.now) elements (seen_place to.now) room)
+        stat_code (program_of scope.now) (own_of scope.now) (PutText at strict (seen_rows from.now) (seen_rows to.now))
         (length code.old.items) 0 0) }
 {
     emit_begin(code, at)?;
-    emit_text(alloc, program, code, from, elements)?;
-    emit_text(alloc, program, code, to, room)?;
+    emit_rows(alloc, scope, code, from)?;
+    emit_rows(alloc, scope, code, to)?;
     put(code, Instr::PutText(strict))
+}
+
+fn emit_perform(
+    alloc: Global,
+    scope: &Scope<'_>,
+    code: &mut Vec<Instr>,
+    at: Pos,
+    home: u32,
+    number: u32,
+    arguments: &[TArgument],
+) -> Result<(), AllocError>
+    ensures { OnOk result (code.new.items ≡ code.old.items ++
+        stat_code (program_of scope.now) (own_of scope.now) (Perform at home number (seen_list arguments.now))
+        (length code.old.items) 0 0) }
+{
+    emit_begin(code, at)?;
+    emit_arguments(alloc, scope, code, arguments)?;
+    put(code, Instr::Call(scope.called(home, number)?))
+}
+
+fn emit_return(
+    alloc: Global,
+    scope: &Scope<'_>,
+    code: &mut Vec<Instr>,
+    at: Pos,
+    value: &Option<TExpr>,
+) -> Result<(), AllocError>
+    ensures { OnOk result (code.new.items ≡ code.old.items ++
+        stat_code (program_of scope.now) (own_of scope.now) (Return at (option_map seen_expr value.now))
+        (length code.old.items) 0 0) }
+{
+    emit_begin(code, at)?;
+    match value {
+        Some(result) => {
+            emit_value(alloc, scope, code, result)?;
+            put(code, Instr::Return)
+        }
+        None => put(code, Instr::Return),
+    }
 }
 
 fn emit_exit(code: &mut Vec<Instr>, at: Pos) -> Result<(), AllocError>
@@ -184,17 +225,17 @@ fn emit_exit(code: &mut Vec<Instr>, at: Pos) -> Result<(), AllocError>
 
 fn emit_assert(
     alloc: Global,
-    program: &Laid<'_>,
+    scope: &Scope<'_>,
     code: &mut Vec<Instr>,
     at: Pos,
     condition: &TExpr,
     number: u8,
 ) -> Result<(), AllocError>
     ensures { OnOk result (code.new.items ≡ code.old.items ++
-        stat_code (seen_program program.now) (Assert at (seen_expr condition.now) number) (length code.old.items) 0 0) }
+        stat_code (program_of scope.now) (own_of scope.now) (Assert at (seen_expr condition.now) number) (length code.old.items) 0 0) }
 {
     emit_begin(code, at)?;
-    emit_value(alloc, program, code, condition)?;
+    emit_value(alloc, scope, code, condition)?;
     put(code, Instr::Assert(number))
 }
 
@@ -240,7 +281,7 @@ fn put_change(code: &mut Vec<Instr>, change: Change) -> Result<(), AllocError>
 // What a variable is changed by is evaluated before the variable is read.
 fn emit_change(
     alloc: Global,
-    program: &Laid<'_>,
+    scope: &Scope<'_>,
     code: &mut Vec<Instr>,
     at: Pos,
     change: Change,
@@ -248,19 +289,19 @@ fn emit_change(
     by: &TExpr,
 ) -> Result<(), AllocError>
     ensures { OnOk result (code.new.items ≡ code.old.items ++
-        changed_code (seen_program program.now) at change (seen_place place.now) (seen_expr by.now) (length code.old.items)) }
+        changed_code (program_of scope.now) (own_of scope.now) at change (seen_place place.now) (seen_expr by.now) (length code.old.items)) }
 {
     emit_begin(code, at)?;
-    emit_place(alloc, program, code, place)?;
+    emit_place(alloc, scope, code, place)?;
     put(code, Instr::Dup)?;
-    emit_value(alloc, program, code, by)?;
+    emit_value(alloc, scope, code, by)?;
     put_change(code, change)
 }
 
 // FOR before its rounds: its last value is kept, and its variable gets the first one.
 fn emit_head(
     alloc: Global,
-    program: &Laid<'_>,
+    scope: &Scope<'_>,
     code: &mut Vec<Instr>,
     at: Pos,
     width: Width,
@@ -270,15 +311,15 @@ fn emit_head(
     level: u32,
 ) -> Result<(), AllocError>
     ensures { OnOk result (code.new.items ≡ code.old.items ++
-        for_head (seen_program program.now) at width (seen_place variable.now) (seen_expr from.now) (seen_expr to.now)
+        for_head (program_of scope.now) (own_of scope.now) at width (seen_place variable.now) (seen_expr from.now) (seen_expr to.now)
         (length code.old.items) level) }
 {
     emit_begin(code, at)?;
-    emit_value(alloc, program, code, to)?;
+    emit_value(alloc, scope, code, to)?;
     put(code, Instr::Keep(level, Kind::N))?;
     emit_assign(
         alloc,
-        program,
+        scope,
         code,
         at,
         TType::Integer(width),
@@ -301,7 +342,7 @@ fn until(step: &i64) -> Relation
 // Whether there is a round: the variable against the last value, which is kept.
 fn emit_test(
     alloc: Global,
-    program: &Laid<'_>,
+    scope: &Scope<'_>,
     code: &mut Vec<Instr>,
     width: Width,
     variable: &TPlace,
@@ -309,10 +350,10 @@ fn emit_test(
     level: u32,
 ) -> Result<(), AllocError>
     ensures { OnOk result (code.new.items ≡ code.old.items ++
-        (value_code (seen_program program.now) (Read (TType.Integer width) (seen_place variable.now)) (length code.old.items) ++
+        (value_code (program_of scope.now) (own_of scope.now) (Read (TType.Integer width) (seen_place variable.now)) (length code.old.items) ++
         (Instr.Kept level Kind.N ∷ (Instr.Binary (Binary.Cmp (meaning.until step.now)) ∷ [])))) }
 {
-    emit_place(alloc, program, code, variable)?;
+    emit_place(alloc, scope, code, variable)?;
     put(code, Instr::Load(cell_kind(TType::Integer(width))))?;
     put(code, Instr::Kept(level, Kind::N))?;
     put(code, Instr::Binary(Binary::Cmp(until(step))))
@@ -321,7 +362,7 @@ fn emit_test(
 // The step that ends a round.
 fn emit_step(
     alloc: Global,
-    program: &Laid<'_>,
+    scope: &Scope<'_>,
     code: &mut Vec<Instr>,
     at: Pos,
     width: Width,
@@ -329,11 +370,11 @@ fn emit_step(
     step: &i64,
 ) -> Result<(), AllocError>
     ensures { OnOk result (code.new.items ≡ code.old.items ++
-        step_code (seen_program program.now) at width (seen_place variable.now) step.now (length code.old.items)) }
+        step_code (program_of scope.now) (own_of scope.now) at width (seen_place variable.now) step.now (length code.old.items)) }
 {
     emit_begin(code, at)?;
-    emit_place(alloc, program, code, variable)?;
-    emit_place(alloc, program, code, variable)?;
+    emit_place(alloc, scope, code, variable)?;
+    emit_place(alloc, scope, code, variable)?;
     put(code, Instr::Load(Kind::N))?;
     put(code, Instr::Num(*step))?;
     put(code, Instr::Binary(Binary::Add(width)))?;
@@ -390,22 +431,22 @@ fn put_labels(
 #[cycle(emit_stat)]
 fn emit_arm(
     alloc: Global,
-    program: &Laid<'_>,
+    scope: &Scope<'_>,
     code: &mut Vec<Instr>,
     test: &TExpr,
     body: &[TStat],
     then: u32,
     level: u32,
 ) -> Result<(), AllocError>
-    ensures { OnOk result (let c = value_code (seen_program program.now) (seen_expr test.now) (length code.old.items) in
+    ensures { OnOk result (let c = value_code (program_of scope.now) (own_of scope.now) (seen_expr test.now) (length code.old.items) in
         code.new.items ≡ code.old.items ++ arm_code c
-        (stats_code (seen_program program.now) (seen_stats body.now) (length code.old.items + length c + 1) pending_exit level)
+        (stats_code (program_of scope.now) (own_of scope.now) (seen_stats body.now) (length code.old.items + length c + 1) pending_exit level)
         (length code.old.items) then []) }
 {
-    emit_value(alloc, program, code, test)?;
+    emit_value(alloc, scope, code, test)?;
     let test_end = code.len();
     put(code, Instr::JumpFalse(0))?;
-    emit_stats(alloc, program, code, body, level)?;
+    emit_stats(alloc, scope, code, body, level)?;
     put(code, Instr::Jump(then))?;
     let end = next_place(code)?;
     code[test_end] = Instr::JumpFalse(end);
@@ -415,7 +456,7 @@ fn emit_arm(
 #[cycle(emit_stat)]
 fn emit_while(
     alloc: Global,
-    program: &Laid<'_>,
+    scope: &Scope<'_>,
     code: &mut Vec<Instr>,
     at: Pos,
     condition: &TExpr,
@@ -423,34 +464,34 @@ fn emit_while(
     level: u32,
 ) -> Result<(), AllocError>
     ensures { OnOk result (code.new.items ≡ code.old.items ++
-        stat_code (seen_program program.now) (While at (seen_expr condition.now) (seen_stats body.now))
+        stat_code (program_of scope.now) (own_of scope.now) (While at (seen_expr condition.now) (seen_stats body.now))
         (length code.old.items) pending_exit level) }
 {
     let start = next_place(code)?;
     emit_begin(code, at)?;
-    emit_arm(alloc, program, code, condition, body, start, level)
+    emit_arm(alloc, scope, code, condition, body, start, level)
 }
 
 #[cycle(emit_stat)]
 fn emit_block(
     alloc: Global,
-    program: &Laid<'_>,
+    scope: &Scope<'_>,
     code: &mut Vec<Instr>,
     at: Pos,
     body: &[TStat],
     level: u32,
 ) -> Result<(), AllocError>
     ensures { OnOk result (code.new.items ≡ code.old.items ++
-        stat_code (seen_program program.now) (Block at (seen_stats body.now)) (length code.old.items) pending_exit level) }
+        stat_code (program_of scope.now) (own_of scope.now) (Block at (seen_stats body.now)) (length code.old.items) pending_exit level) }
 {
     emit_begin(code, at)?;
-    emit_stats(alloc, program, code, body, level)
+    emit_stats(alloc, scope, code, body, level)
 }
 
 #[cycle(emit_stat)]
 fn emit_repeat(
     alloc: Global,
-    program: &Laid<'_>,
+    scope: &Scope<'_>,
     code: &mut Vec<Instr>,
     at: Pos,
     body: &[TStat],
@@ -458,13 +499,13 @@ fn emit_repeat(
     level: u32,
 ) -> Result<(), AllocError>
     ensures { OnOk result (code.new.items ≡ code.old.items ++
-        stat_code (seen_program program.now) (Repeat at (seen_stats body.now) (seen_expr condition.now))
+        stat_code (program_of scope.now) (own_of scope.now) (Repeat at (seen_stats body.now) (seen_expr condition.now))
         (length code.old.items) pending_exit level) }
 {
     let start = next_place(code)?;
     emit_begin(code, at)?;
-    emit_stats(alloc, program, code, body, level)?;
-    emit_value(alloc, program, code, condition)?;
+    emit_stats(alloc, scope, code, body, level)?;
+    emit_value(alloc, scope, code, condition)?;
     put(code, Instr::JumpFalse(start))
 }
 
@@ -472,19 +513,19 @@ fn emit_repeat(
 #[cycle(emit_stat)]
 fn emit_left(
     alloc: Global,
-    program: &Laid<'_>,
+    scope: &Scope<'_>,
     code: &mut Vec<Instr>,
     body: &[TStat],
     behind: u8,
     level: u32,
 ) -> Result<(), AllocError>
     ensures { OnOk result (let first = length code.old.items in
-        let size = length (stats_code (seen_program program.now) (seen_stats body.now) first 0 level) in
+        let size = length (stats_code (program_of scope.now) (own_of scope.now) (seen_stats body.now) first 0 level) in
         code.new.items ≡ code.old.items ++
-        stats_code (seen_program program.now) (seen_stats body.now) first (first + size + behind) level) }
+        stats_code (program_of scope.now) (own_of scope.now) (seen_stats body.now) first (first + size + behind) level) }
 {
     let first = code.len();
-    emit_stats(alloc, program, code, body, level)?;
+    emit_stats(alloc, scope, code, body, level)?;
     let exit = number_of(code.len() + usize::from(behind))?;
     redirect(code, first, PENDING_EXIT, exit);
     Ok(())
@@ -493,18 +534,18 @@ fn emit_left(
 #[cycle(emit_stat)]
 fn emit_loop(
     alloc: Global,
-    program: &Laid<'_>,
+    scope: &Scope<'_>,
     code: &mut Vec<Instr>,
     at: Pos,
     body: &[TStat],
     level: u32,
 ) -> Result<(), AllocError>
     ensures { OnOk result (code.new.items ≡ code.old.items ++
-        stat_code (seen_program program.now) (Loop at (seen_stats body.now)) (length code.old.items) pending_exit level) }
+        stat_code (program_of scope.now) (own_of scope.now) (Loop at (seen_stats body.now)) (length code.old.items) pending_exit level) }
 {
     let start = next_place(code)?;
     emit_begin(code, at)?;
-    emit_left(alloc, program, code, body, 1, level)?;
+    emit_left(alloc, scope, code, body, 1, level)?;
     put(code, Instr::Jump(start))
 }
 
@@ -512,7 +553,7 @@ fn emit_loop(
 #[cycle(emit_stat)]
 fn emit_rounds(
     alloc: Global,
-    program: &Laid<'_>,
+    scope: &Scope<'_>,
     code: &mut Vec<Instr>,
     at: Pos,
     width: Width,
@@ -522,17 +563,17 @@ fn emit_rounds(
     level: u32,
 ) -> Result<(), AllocError>
     ensures { OnOk result (code.new.items ≡ code.old.items ++
-        rounds_code (seen_program program.now) at width (seen_place variable.now) step.now (seen_stats body.now)
+        rounds_code (program_of scope.now) (own_of scope.now) at width (seen_place variable.now) step.now (seen_stats body.now)
         (length code.old.items) pending_exit level) }
 {
     let start = next_place(code)?;
     let inside = deeper(level)?;
     emit_begin(code, at)?;
-    emit_test(alloc, program, code, width, variable, step, level)?;
+    emit_test(alloc, scope, code, width, variable, step, level)?;
     let test_end = code.len();
     put(code, Instr::JumpFalse(0))?;
-    emit_stats(alloc, program, code, body, inside)?;
-    emit_step(alloc, program, code, at, width, variable, step)?;
+    emit_stats(alloc, scope, code, body, inside)?;
+    emit_step(alloc, scope, code, at, width, variable, step)?;
     put(code, Instr::Jump(start))?;
     let end = next_place(code)?;
     code[test_end] = Instr::JumpFalse(end);
@@ -543,34 +584,26 @@ fn emit_rounds(
 #[tactic(auto, using(crate::proofs::Heights::arm_less, crate::proofs::Heights::otherwise_less))]
 fn emit_arms(
     alloc: Global,
-    program: &Laid<'_>,
+    scope: &Scope<'_>,
     code: &mut Vec<Instr>,
     arms: &[TArm],
     otherwise: &[TStat],
     level: u32,
 ) -> Result<(), AllocError>
     ensures { OnOk result (code.new.items ≡ code.old.items ++
-        arms_code (seen_program program.now) (arms_of arms.now (seen_stats otherwise.now))
+        arms_code (program_of scope.now) (own_of scope.now) (arms_of arms.now (seen_stats otherwise.now))
         (length code.old.items) pending_end pending_exit level) }
 {
     for arm in arms {
-        emit_arm(
-            alloc,
-            program,
-            code,
-            &arm.test,
-            &arm.body,
-            PENDING_END,
-            level,
-        )?;
+        emit_arm(alloc, scope, code, &arm.test, &arm.body, PENDING_END, level)?;
     }
-    emit_stats(alloc, program, code, otherwise, level)
+    emit_stats(alloc, scope, code, otherwise, level)
 }
 
 #[cycle(emit_stat)]
 fn emit_if(
     alloc: Global,
-    program: &Laid<'_>,
+    scope: &Scope<'_>,
     code: &mut Vec<Instr>,
     at: Pos,
     arms: &[TArm],
@@ -578,12 +611,12 @@ fn emit_if(
     level: u32,
 ) -> Result<(), AllocError>
     ensures { OnOk result (code.new.items ≡ code.old.items ++
-        stat_code (seen_program program.now) (If at (arms_of arms.now (seen_stats otherwise.now)))
+        stat_code (program_of scope.now) (own_of scope.now) (If at (arms_of arms.now (seen_stats otherwise.now)))
         (length code.old.items) pending_exit level) }
 {
     emit_begin(code, at)?;
     let first = code.len();
-    emit_arms(alloc, program, code, arms, otherwise, level)?;
+    emit_arms(alloc, scope, code, arms, otherwise, level)?;
     let end = next_place(code)?;
     redirect(code, first, PENDING_END, end);
     Ok(())
@@ -593,14 +626,14 @@ fn emit_if(
 #[cycle(emit_stat)]
 fn emit_choice(
     alloc: Global,
-    program: &Laid<'_>,
+    scope: &Scope<'_>,
     code: &mut Vec<Instr>,
     labels: &[LabelRange],
     body: &[TStat],
     level: u32,
 ) -> Result<(), AllocError>
     ensures { OnOk result (let hit = length code.old.items + 9 * length labels.now + 1 in
-        let b = stats_code (seen_program program.now) (seen_stats body.now) hit pending_exit level in
+        let b = stats_code (program_of scope.now) (own_of scope.now) (seen_stats body.now) hit pending_exit level in
         code.new.items ≡ code.old.items ++
         case_code (labels_code labels.now level (length code.old.items) hit) b (hit + length b + 1) pending_end []) }
 {
@@ -608,7 +641,7 @@ fn emit_choice(
     put_labels(code, labels, level, hit)?;
     let labels_end = code.len();
     put(code, Instr::Jump(0))?;
-    emit_stats(alloc, program, code, body, level)?;
+    emit_stats(alloc, scope, code, body, level)?;
     put(code, Instr::Jump(PENDING_END))?;
     let next = next_place(code)?;
     code[labels_end] = Instr::Jump(next);
@@ -619,17 +652,17 @@ fn emit_choice(
 #[tactic(auto, using(aos_typed::proofs::Seen::else_seen))]
 fn emit_else(
     alloc: Global,
-    program: &Laid<'_>,
+    scope: &Scope<'_>,
     code: &mut Vec<Instr>,
     otherwise: &TElse,
     level: u32,
 ) -> Result<(), AllocError>
     ensures { OnOk result (code.new.items ≡ code.old.items ++
-        cases_code (seen_program program.now) (seen_else otherwise.now) (length code.old.items) pending_end pending_exit level) }
+        cases_code (program_of scope.now) (own_of scope.now) (seen_else otherwise.now) (length code.old.items) pending_end pending_exit level) }
 {
     match otherwise {
         TElse::Missing => put(code, Instr::Fail(4)),
-        TElse::Else(body) => emit_stats(alloc, program, code, body, level),
+        TElse::Else(body) => emit_stats(alloc, scope, code, body, level),
     }
 }
 
@@ -637,26 +670,26 @@ fn emit_else(
 #[tactic(auto, using(crate::proofs::Heights::case_less, crate::proofs::Heights::else_less))]
 fn emit_choices(
     alloc: Global,
-    program: &Laid<'_>,
+    scope: &Scope<'_>,
     code: &mut Vec<Instr>,
     cases: &[TCase],
     otherwise: &TElse,
     level: u32,
 ) -> Result<(), AllocError>
     ensures { OnOk result (code.new.items ≡ code.old.items ++
-        cases_code (seen_program program.now) (cases_of cases.now (seen_else otherwise.now))
+        cases_code (program_of scope.now) (own_of scope.now) (cases_of cases.now (seen_else otherwise.now))
         (length code.old.items) pending_end pending_exit level) }
 {
     for case in cases {
-        emit_choice(alloc, program, code, &case.labels, &case.body, level)?;
+        emit_choice(alloc, scope, code, &case.labels, &case.body, level)?;
     }
-    emit_else(alloc, program, code, otherwise, level)
+    emit_else(alloc, scope, code, otherwise, level)
 }
 
 #[cycle(emit_stat)]
 fn emit_case(
     alloc: Global,
-    program: &Laid<'_>,
+    scope: &Scope<'_>,
     code: &mut Vec<Instr>,
     at: Pos,
     selector: &TExpr,
@@ -665,14 +698,14 @@ fn emit_case(
     level: u32,
 ) -> Result<(), AllocError>
     ensures { OnOk result (code.new.items ≡ code.old.items ++
-        stat_code (seen_program program.now) (Case at (seen_expr selector.now) (cases_of cases.now (seen_else otherwise.now)))
+        stat_code (program_of scope.now) (own_of scope.now) (Case at (seen_expr selector.now) (cases_of cases.now (seen_else otherwise.now)))
         (length code.old.items) pending_exit level) }
 {
     emit_begin(code, at)?;
-    emit_value(alloc, program, code, selector)?;
+    emit_value(alloc, scope, code, selector)?;
     put(code, Instr::Keep(level, Kind::N))?;
     let first = code.len();
-    emit_choices(alloc, program, code, cases, otherwise, level)?;
+    emit_choices(alloc, scope, code, cases, otherwise, level)?;
     let end = next_place(code)?;
     redirect(code, first, PENDING_END, end);
     Ok(())
@@ -681,44 +714,46 @@ fn emit_case(
 #[cycle(emit_stat)]
 fn emit_stat(
     alloc: Global,
-    program: &Laid<'_>,
+    scope: &Scope<'_>,
     code: &mut Vec<Instr>,
     statement: &TStat,
     level: u32,
 ) -> Result<(), AllocError>
     ensures { OnOk result (code.new.items ≡ code.old.items ++
-        stat_code (seen_program program.now) (seen_stat statement.now) (length code.old.items) pending_exit level) }
+        stat_code (program_of scope.now) (own_of scope.now) (seen_stat statement.now) (length code.old.items) pending_exit level) }
 {
     match statement {
         TStat::Assign(at, of, place, value) => {
-            emit_assign(alloc, program, code, *at, *of, place, value)
+            emit_assign(alloc, scope, code, *at, *of, place, value)
         }
-        TStat::Copy(at, of, to, from) => emit_copy(alloc, program, code, *at, *of, to, from),
-        TStat::PutText(at, strict, from, elements, to, room) => {
-            emit_put(
-                alloc, program, code, *at, *strict, from, *elements, to, *room,
-            )
-        }
-        TStat::If(at, arms, body) => emit_if(alloc, program, code, *at, arms, body, level),
+        TStat::Copy(at, of, to, from) => emit_copy(alloc, scope, code, *at, *of, to, from),
+        TStat::PutText(at, strict, from, to) => emit_put(
+            alloc, scope, code, *at, *strict, from, to,
+        ),
+        TStat::If(at, arms, body) => emit_if(alloc, scope, code, *at, arms, body, level),
         TStat::Case(at, value, cases, otherwise) => {
-            emit_case(alloc, program, code, *at, value, cases, otherwise, level)
+            emit_case(alloc, scope, code, *at, value, cases, otherwise, level)
         }
-        TStat::While(at, test, body) => emit_while(alloc, program, code, *at, test, body, level),
-        TStat::Repeat(at, body, test) => emit_repeat(alloc, program, code, *at, body, test, level),
-        TStat::Loop(at, body) => emit_loop(alloc, program, code, *at, body, level),
+        TStat::While(at, test, body) => emit_while(alloc, scope, code, *at, test, body, level),
+        TStat::Repeat(at, body, test) => emit_repeat(alloc, scope, code, *at, body, test, level),
+        TStat::Loop(at, body) => emit_loop(alloc, scope, code, *at, body, level),
         TStat::Exit(at) => emit_exit(code, *at),
         TStat::For(at, of, variable, from, to, step, body) => {
-            emit_head(alloc, program, code, *at, *of, variable, from, to, level)?;
-            emit_rounds(alloc, program, code, *at, *of, variable, step, body, level)
+            emit_head(alloc, scope, code, *at, *of, variable, from, to, level)?;
+            emit_rounds(alloc, scope, code, *at, *of, variable, step, body, level)
         }
-        TStat::Block(at, body) => emit_block(alloc, program, code, *at, body, level),
-        TStat::Assert(at, test, number) => emit_assert(alloc, program, code, *at, test, *number),
+        TStat::Block(at, body) => emit_block(alloc, scope, code, *at, body, level),
+        TStat::Assert(at, test, number) => emit_assert(alloc, scope, code, *at, test, *number),
         TStat::Halt(at, number) => emit_halt(code, *at, *number),
         TStat::Change(at, change, place, value) => {
-            emit_change(alloc, program, code, *at, *change, place, value)
+            emit_change(alloc, scope, code, *at, *change, place, value)
         }
-        TStat::New(at, place, object) => emit_new(alloc, program, code, *at, place, *object),
-        TStat::Out(at, call) => emit_out(alloc, program, code, *at, call),
+        TStat::Perform(at, home, number, arguments) => {
+            emit_perform(alloc, scope, code, *at, *home, *number, arguments)
+        }
+        TStat::Return(at, value) => emit_return(alloc, scope, code, *at, value),
+        TStat::New(at, place, object) => emit_new(alloc, scope, code, *at, place, *object),
+        TStat::Out(at, call) => emit_out(alloc, scope, code, *at, call),
     }
 }
 
@@ -726,33 +761,41 @@ fn emit_stat(
 #[tactic(auto, using(crate::proofs::Heights::one_less))]
 fn emit_stats(
     alloc: Global,
-    program: &Laid<'_>,
+    scope: &Scope<'_>,
     code: &mut Vec<Instr>,
     statements: &[TStat],
     level: u32,
 ) -> Result<(), AllocError>
     ensures { OnOk result (code.new.items ≡ code.old.items ++
-        stats_code (seen_program program.now) (seen_stats statements.now) (length code.old.items) pending_exit level) }
+        stats_code (program_of scope.now) (own_of scope.now) (seen_stats statements.now) (length code.old.items) pending_exit level) }
 {
     for statement in statements {
-        emit_stat(alloc, program, code, statement, level)?;
+        emit_stat(alloc, scope, code, statement, level)?;
     }
     Ok(())
 }
 
+// The end of a routine: that of its frame, or a function's trap 10.
+#[tactic(auto, using(crate::proofs::Ends::gives_end, crate::proofs::Ends::nothing_end))]
+fn end_instr(scope: &Scope<'_>) -> Instr
+    ensures { end_code (program_of scope.now) (own_of scope.now) ≡ result ∷ [] }
+{
+    if scope.gives() {
+        Instr::Fail(10)
+    } else {
+        Instr::Return
+    }
+}
+
 /// The body with these statements.
-pub fn emit_body(
-    alloc: Global,
-    program: &Laid<'_>,
-    statements: &[TStat],
-) -> Result<Body, AllocError>
-    ensures code { IfOk result
-        (λ body. body.code.items ≡ body_code (seen_program program.now) (seen_stats statements.now)) }
+pub fn emit_body(alloc: Global, scope: &Scope<'_>, statements: &[TStat]) -> Result<Body, AllocError>
+    ensures code { IfOk result (λ body.
+        body.code.items ≡ body_code (program_of scope.now) (own_of scope.now) (seen_stats statements.now)) }
     ensures depth { IfOk result (λ body. body.depth ≡ body_need (seen_stats statements.now)) }
 {
     let mut code = Vec::new(alloc);
-    emit_left(alloc, program, &mut code, statements, 0, 0)?;
-    put(&mut code, Instr::Return)?;
+    emit_left(alloc, scope, &mut code, statements, 0, 0)?;
+    put(&mut code, end_instr(scope))?;
     let depth = stats_need(statements)?;
     Ok(Body { code, depth })
 }

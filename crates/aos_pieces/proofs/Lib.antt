@@ -3,6 +3,7 @@ pub mod Pieces
 pub mod Closed
 pub mod Operands
 pub mod Numbers
+pub mod Handed
 pub mod Values
 pub mod Statements
 pub mod Bodies

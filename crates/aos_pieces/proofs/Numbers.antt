@@ -1,6 +1,6 @@
--- The image has what the program's numbers name: the cells of each variable and each string constant, and a type for each object
--- type.
-use Rattle.std.proofs.Common.{◌≡◌, ◌<◌, ℕ, zero, suc, ◌+◌, inl, inr, true, List, [], ◌∷◌, ◌++◌, map, length, Option, Some, None, refl, sym, ap, ◌∙◌, arith, length-append}
+-- The image has what the program's numbers name: the cells of each variable and each string constant, a type for each object type, a
+-- shape for each procedure, and in a frame of the routine itself the cells of its parameters and locals.
+use Rattle.std.proofs.Common.{◌≡◌, ◌<◌, ◌≤◌, subst, ℕ, zero, suc, ◌+◌, inl, inr, true, List, [], ◌∷◌, ◌++◌, map, length, Option, Some, None, refl, sym, ap, ◌∙◌, arith, length-append}
 use Rattle.std.specs.Prelude.{slice_get, option_map, option_and_then, pos}
 use Rattle.std.specs.List.{flat_map}
 use Rattle.std.proofs.lemmas.Bool.{le-leb}
@@ -17,28 +17,48 @@ use Rattle.aos_code.specs.declared.image.TypeDesc.{TypeDesc}
 use Rattle.aos_code.specs.declared.instr.Cell.TheVariants.{Num}
 use Rattle.aos_code.specs.Machine.{first_cell}
 use Rattle.aos_code.specs.Numbered.{numbered}
-use Rattle.aos_layout.specs.Layout.{kind_of, variable_cells}
+use Rattle.aos_layout.specs.Layout.{kind_of, cells as cells_for, variable_cells}
 use Rattle.aos_layout.proofs.Frames.{size_shaped, cells_counted}
-use Rattle.aos_sound.specs.Sound.{has_place, is_some}
-use Rattle.aos_typed.specs.Program.{ModuleVar, Variable, Module, Program}
+use Rattle.aos_sound.specs.Sound.{has_place, has_own_place, frame_cells, is_some}
+use Rattle.aos_typed.specs.Program.{ModuleVar, Parameter, Variable, Procedure, Module, Program}
 use Rattle.aos_typed.specs.Numbers.{id_of}
 use Rattle.aos_typed.specs.Sort.{Sort, Plain, variable_shape}
 use Rattle.aos_typed.specs.Text.{text_shape}
 use Rattle.aos_typed.specs.Source.{module_shape}
 use Rattle.aos_typed.specs.declared.tree.TType.{TType}
 use Rattle.aos_typed.specs.declared.tree.TType.TheVariants.{Char}
-use Rattle.aos_typed.specs.WellTyped.{variable_type, IsConstantText}
+use Rattle.aos_typed.specs.WellTyped.{variable_type, IsConstantText, IsParameter, IsLocal, IsWellTyped}
+use Rattle.aos_typed.specs.Routines.{Routine, routines}
+use Rattle.aos_base.specs.Rooted.{by_number}
+use Rattle.aos_code.specs.declared.instr.Kind.{Kind}
+use Rattle.aos_code.specs.declared.image.ProcShape.{ProcShape}
+use Rattle.aos_layout.specs.Frame.{parameter_cells, frame_parts, frame}
+use Rattle.aos_layout.specs.Seen.{seen_shape}
+use Rattle.aos_sim.proofs.Does.{HasPredeclared, HasShapes}
+use Rattle.aos_sim.proofs.Carries.{IsOwn}
+use Rattle.aos_sim.proofs.Bodies.{own_known, has_shapes}
 use Rattle.aos_sim.proofs.First.{get_left, get_right, length-numbers}
 use Rattle.aos_sim.proofs.Parts.{part_of_row}
 use Rattle.aos_sim.proofs.Variables.{declared}
-use Rattle.aos_sim.specs.Code.{variable_cell}
-use Rattle.aos_sim.specs.Shows.{text_cells, first_cells, IsCodeOf}
+use Rattle.aos_sim.specs.Code.{variable_cell, own_cell}
+use Rattle.aos_sim.specs.Shows.{text_cells, first_cells, shape_of, IsCodeOf}
 
--- so it has for each number with which the program names one; a variable without scalars may stand at the end of a module's cells
-pub record HasNumbers (p : Program) (image : Image) : Type 0 where
-  pub cells : (m c : ℕ) (t : TType) → variable_type p m c ≡ Some t → has_place (slice_get image.modules.items m) (variable_cell p m c) ≡ true
-  pub constants : (m c n : ℕ) → IsConstantText p (ModuleVar m c) n → has_place (slice_get image.modules.items m) (variable_cell p m c) ≡ true
+-- a frame of this shape has so many cells from this place on
+pub record IsInFrame (f : Option ProcShape) (c n : ℕ) : Type 0 where
+  pub place : has_own_place f c ≡ true
+  pub cells : c + n ≤ frame_cells f
+
+-- so it has for each number with which the program, or the routine with this number, names one; a variable without scalars may stand
+-- at the end of a module's cells
+pub record HasNumbers (p : Program) (o : Option Procedure) (image : Image) (own : ℕ) : Type 0 where
+  pub cells : (m c : ℕ) (t : TType) → variable_type p m c ≡ Some t → has_place (slice_get image.modules.items m) (variable_cell p o m c) ≡ true
+  pub constants : (m c n : ℕ) → IsConstantText p (ModuleVar m c) n → has_place (slice_get image.modules.items m) (variable_cell p o m c) ≡ true
   pub types : (t : ℕ) → t < length p.objects → is_some (numbered image.types.items (t + 1)) ≡ true
+  pub predeclared : HasPredeclared p
+  pub shapes : HasShapes p image.shapes.items
+  pub mine : IsOwn p o image.shapes.items own
+  pub locals : (k : ℕ) (t : TType) → IsLocal p o k t → has_own_place (numbered image.shapes.items own) (own_cell p o k) ≡ true
+  pub parameters : (k : ℕ) (a : Parameter) → IsParameter p o k a → IsInFrame (numbered image.shapes.items own) (own_cell p o k) (size (parameter_cells p.types a))
 
 -- an element that a list of another's results has is that of the other one
 pub mapped_at : {X Y : Type 0} (f : X → Y) (xs : List X) (k : ℕ) (y : Y) → slice_get (map f xs) k ≡ Some y → (x : X) × (slice_get xs k ≡ Some x) × (f x ≡ y)
@@ -98,27 +118,27 @@ module_sized p x =
 abbrev shapes : Program → Module → List (Shape Sort)
 shapes p x = map (λ v. variable_shape p.types (id_of v.of)) x.variables
 
-module _ (p : Program) (image : Image) (ok : IsCodeOf p image) where
+module _ (p : Program) (o : Option Procedure) (image : Image) (ok : IsCodeOf p image) where
   -- a part of a module's variables and string constants begins among its cells, or where they end
-  has_part : (m c : ℕ) (x : Module) (s : Shape Sort) → slice_get p.modules m ≡ Some x → slice_get (shapes p x ++ map text_shape x.texts) c ≡ Some s → has_place (slice_get image.modules.items m) (variable_cell p m c) ≡ true
+  has_part : (m c : ℕ) (x : Module) (s : Shape Sort) → slice_get p.modules m ≡ Some x → slice_get (shapes p x ++ map text_shape x.texts) c ≡ Some s → has_place (slice_get image.modules.items m) (variable_cell p o m c) ≡ true
   has_part m c x s here e =
       let at : slice_get (map (λ (d : ModuleDesc). d.cells.items) image.modules.items) m ≡ Some (first_cells p.types x) = ap (λ l. slice_get l m) ok.cells ∙ slice_get-map (first_cells p.types) p.modules m ∙ ap (option_map (first_cells p.types)) here in
       let d = mapped_at (λ (d : ModuleDesc). d.cells.items) image.modules.items m (first_cells p.types x) at in
       let there : part c (module_shape p x) ≡ Some s = part_of_row c (shapes p x ++ map text_shape x.texts) ∙ e in
       let lies = inside_within (c ∷ []) (module_shape p x) s (ap (option_and_then (inside [])) there) in
-      let first : variable_cell p m c ≡ offset (c ∷ []) (module_shape p x) = ap (number_of (offset (c ∷ []))) (slice_get-map (module_shape p) p.modules m ∙ ap (option_map (module_shape p)) here) in
+      let first : variable_cell p o m c ≡ offset (c ∷ []) (module_shape p x) = ap (number_of (offset (c ∷ []))) (slice_get-map (module_shape p) p.modules m ∙ ap (option_map (module_shape p)) here) in
       let n : length d.0.cells.items ≡ size (module_shape p x) = ap length d.2 ∙ sym (module_sized p x) in
-      ap (λ o. has_place o (variable_cell p m c)) d.1 ∙ le-leb (variable_cell p m c) (length d.0.cells.items) (omega (arith, lies, first, n))
+      ap (λ x. has_place x (variable_cell p o m c)) d.1 ∙ le-leb (variable_cell p o m c) (length d.0.cells.items) (omega (arith, lies, first, n))
 
   -- so a module has the cells of its variables
-  has_cell : (m c : ℕ) (t : TType) → variable_type p m c ≡ Some t → has_place (slice_get image.modules.items m) (variable_cell p m c) ≡ true
+  has_cell : (m c : ℕ) (t : TType) → variable_type p m c ≡ Some t → has_place (slice_get image.modules.items m) (variable_cell p o m c) ≡ true
   has_cell m c t e =
       let d = declared p m c t e in
       let s = variable_shape p.types (id_of t) in
       has_part m c d.of s d.there (get_left (shapes p d.of) (map text_shape d.of.texts) c s d.shape)
 
   -- and those of its string constants
-  has_constant : (m c n : ℕ) → IsConstantText p (ModuleVar m c) n → has_place (slice_get image.modules.items m) (variable_cell p m c) ≡ true
+  has_constant : (m c n : ℕ) → IsConstantText p (ModuleVar m c) n → has_place (slice_get image.modules.items m) (variable_cell p o m c) ≡ true
   has_constant m c n h =
       let x = h.0 in
       let l = length-map x.variables (λ (v : Variable). variable_shape p.types (id_of v.of)) in
@@ -135,6 +155,55 @@ module _ (p : Program) (image : Image) (ok : IsCodeOf p image) where
       let n : suc t ≡ t + 1 = omega arith in
       ap (λ k. is_some (numbered image.types.items k)) (sym n) ∙ some_within image.types.items t within
 
-  -- so it is where the image has the code of the program
-  pub has_numbers : HasNumbers p image
-  has_numbers = record { cells = has_cell; constants = has_constant; types = has_type }
+-- the parts of the frame of a procedure, or of a body
+abbrev parts_of : List TypeRow → Option Procedure → List (Shape Kind)
+parts_of rows None = []
+parts_of rows (Some q) = frame_parts rows q
+
+-- a parameter is one, and so is a local
+parameter_part : (p : Program) (o : Option Procedure) (k : ℕ) (a : Parameter) → IsParameter p o k a → slice_get (parts_of p.types o) k ≡ Some (parameter_cells p.types a)
+parameter_part p None k a h = absurd (cc)
+parameter_part p (Some q) k a h =
+    get_left (map (parameter_cells p.types) q.parameters) (variable_cells p.types q.locals) k (parameter_cells p.types a)
+    (slice_get-map (parameter_cells p.types) q.parameters k ∙ ap (option_map (parameter_cells p.types)) h)
+
+local_part : (p : Program) (o : Option Procedure) (k : ℕ) (t : TType) → IsLocal p o k t → slice_get (parts_of p.types o) k ≡ Some (cells_for p.types (id_of t))
+local_part p o k t h =
+    let q = h.0 in
+    let l = length-map q.parameters (parameter_cells p.types) in
+    let at = h.3 in
+    ap (λ x. slice_get (parts_of p.types x) k) h.2
+    ∙ get_right (map (parameter_cells p.types) q.parameters) (variable_cells p.types q.locals) k h.1 (omega (arith, l, at))
+    ∙ slice_get-map (λ (v : Variable). cells_for p.types (id_of v.of)) q.locals h.1
+    ∙ by (slice_get q.locals h.1) h.4
+  where
+    by : (v : Option Variable) → option_map (λ v. v.of) v ≡ Some t → option_map (λ v. cells_for p.types (id_of v.of)) v ≡ Some (cells_for p.types (id_of t))
+    by None e = absurd (cc)
+    by (Some v) e = let same : v.of ≡ t = cc in ap (λ x. Some (cells_for p.types (id_of x))) same
+
+-- a part is in the frame
+part_in : (p : Program) (image : Image) (own : ℕ) (r : Routine) (x : ProcShape) → numbered image.shapes.items own ≡ Some x → seen_shape x ≡ shape_of p.types r → (k : ℕ) (s : Shape Kind) → slice_get (parts_of p.types r.own) k ≡ Some s → IsInFrame (numbered image.shapes.items own) (own_cell p r.own k) (size s)
+part_in p image own r x is known k s e =
+    subst (λ f. IsInFrame f (own_cell p r.own k) (size s)) (sym is) (by r.own (ap (λ z. z.cells) known) e)
+  where
+    by : (o : Option Procedure) → x.cells ≡ (shape_of p.types (record { home = r.home; own = o; body = r.body })).cells → slice_get (parts_of p.types o) k ≡ Some s → IsInFrame (Some x) (own_cell p o k) (size s)
+    by None many e = absurd (cc)
+    by (Some q) many e =
+        let lies = inside_within (k ∷ []) (frame p.types q) s (ap (option_and_then (inside [])) (part_of_row k (frame_parts p.types q) ∙ e)) in
+        record { place = le-leb (own_cell p (Some q) k) x.cells (omega (arith, lies, many)); cells = omega (arith, lies, many) }
+
+-- so it is where the image has the code of the program
+pub has_numbers : (p : Program) (image : Image) → IsWellTyped p → IsCodeOf p image → (own : ℕ) (r : Routine) → by_number own (routines p) ≡ Some r → HasNumbers p r.own image own
+has_numbers p image well ok own r there =
+    let shaped = has_shapes p image ok in
+    let x = shaped own r there in
+    record {
+      cells = has_cell p r.own image ok;
+      constants = has_constant p r.own image ok;
+      types = has_type p r.own image ok;
+      predeclared = well.predeclared;
+      shapes = shaped;
+      mine = own_known p image.shapes.items shaped own r there;
+      locals = λ k t h. (part_in p image own r x.0 x.1 x.2 k (cells_for p.types (id_of t)) (local_part p r.own k t h)).place;
+      parameters = λ k a h. part_in p image own r x.0 x.1 x.2 k (parameter_cells p.types a) (parameter_part p r.own k a h);
+    }

@@ -166,6 +166,10 @@ module _ {image : Image} {own : ℕ} {role : Role} {depth : ℕ} where
   pub moved : {Asks : Round} {code : List Instr} {at at' : ℕ} {s t : Kinds} → at ≡ at' → Piece image own role depth Asks code at s t → Piece image own role depth Asks code at' s t
   moved {Asks} {code} {s = s} {t = t} e p = subst (λ n. Piece image own role depth Asks code n s t) e p
 
+  -- what is left, said otherwise
+  pub left_with : {Asks : Round} {code : List Instr} {at : ℕ} {s t t' : Kinds} → t ≡ t' → Piece image own role depth Asks code at s t → Piece image own role depth Asks code at s t'
+  left_with {Asks} {code} {at} {s} e p = subst (λ x. Piece image own role depth Asks code at s x) e p
+
   -- the same code, said otherwise
   pub recoded : {Asks : Round} {code code' : List Instr} {at : ℕ} {s t : Kinds} → code ≡ code' → Piece image own role depth Asks code at s t → Piece image own role depth Asks code' at s t
   recoded {Asks} {at = at} {s = s} {t = t} e p = subst (λ c. Piece image own role depth Asks c at s t) e p

@@ -1,6 +1,6 @@
 -- The code of each statement and each sequence is a piece that leaves the operands as they were.
-use Rattle.std.proofs.Common.{◌≡◌, ◌≤◌, ◌<◌, inl, inr, ℕ, suc, ◌+◌, ◌*◌, List, [], ◌∷◌, ◌++◌, Some, length, refl, ap, arith, append_assoc, length-append}
-use Rattle.std.specs.Prelude.{IsTrue, ◌⊎◌}
+use Rattle.std.proofs.Common.{◌≡◌, ◌≤◌, ◌<◌, inl, inr, ℕ, suc, ◌+◌, ◌*◌, List, [], ◌∷◌, ◌++◌, Some, length, Option, None, refl, ap, ◌∙◌, arith, append_assoc, length-append}
+use Rattle.std.specs.Prelude.{IsTrue, ◌⊎◌, option_map}
 use Rattle.std.proofs.lemmas.Bool.{lt-ltb}
 use Rattle.std.proofs.Math.Nat.{le-max_left, le-max_right}
 use Rattle.aos_base.specs.declared.text.Pos.{Pos}
@@ -16,7 +16,7 @@ use Rattle.aos_code.specs.declared.image.Image.{Image}
 use Rattle.aos_code.specs.Numbered.{numbered}
 use Rattle.aos_code.specs.Silent.{keeps_in}
 use Rattle.aos_sound.specs.declared.stand.Role.TheVariants.{Procedure}
-use Rattle.aos_sound.specs.Sound.{Kinds, without, may_stand}
+use Rattle.aos_sound.specs.Sound.{Kinds, without, given, alone, returned, may_stand}
 use Rattle.aos_typed.specs.declared.tree.Change.{Change as Changing}
 use Rattle.aos_typed.specs.declared.tree.Change.TheVariants as change
 use Rattle.aos_typed.specs.declared.tree.LabelRange.{LabelRange}
@@ -24,15 +24,20 @@ use Rattle.aos_typed.specs.declared.tree.Literal.TheVariants as literal
 use Rattle.aos_typed.specs.declared.tree.TType.{TType}
 use Rattle.aos_typed.specs.declared.tree.TType.TheVariants as type
 use Rattle.aos_typed.specs.Meaning.{until, changed_type}
-use Rattle.aos_typed.specs.Program.{Program, Place, Expr, Lit, Read, Binary, Call, Open, Char, Int, String, Ln, Stat, Assign, Copy, PutText, If, Case, While, Repeat, Loop, Exit, For, Block, Assert, Halt, Change, New, Out, Stats, Nothing, Then, Arms, Otherwise, Arm, Cases, NoElse, Else, OfLabels}
-use Rattle.aos_typed.specs.WellTyped.{Includes, amount_type, IsPlaceOf, IsOf, IsCall, IsStatement, AreStatements, AreArms, AreCases}
-use Rattle.aos_sim.specs.Code.{begin, kind_of, cells_of, with_length, place_code, value_code, out_code, new_code, assign_code, change_code, changed_code, for_head, step_code, body_place, labels_code, stat_code, stats_code, arms_code, cases_code}
+use Rattle.aos_typed.specs.Numbers.{id_of}
+use Rattle.aos_typed.specs.Routines.{result_of}
+use Rattle.aos_layout.specs.Layout.{kind_of as cell_kind}
+use Rattle.aos_typed.specs.Program.{Program, Procedure as Declared, Place, Expr, Lit, Read, Binary, Call, Open, Char, Int, String, Ln, Stat, Assign, Copy, PutText, If, Case, While, Repeat, Loop, Exit, For, Block, Assert, Halt, Change, Perform, Return, New, Out, Stats, Nothing, Then, Arms, Otherwise, Arm, Cases, NoElse, Else, OfLabels}
+use Rattle.aos_typed.specs.WellTyped.{Includes, amount_type, IsPlaceOf, IsOf, IsCall, IsReturn, IsStatement, AreStatements, AreArms, AreCases}
+use Rattle.aos_sim.specs.Code.{begin, kind_of, cells_of, place_code, value_code, out_code, new_code, assign_code, change_code, changed_code, for_head, step_code, body_place, labels_code, stat_code, stats_code, arms_code, cases_code}
 use Rattle.aos_sim.specs.Need.{place_need, value_need, out_need, assign_need, changed_need, stat_need, stats_need, arms_need, cases_need, stat_level, stats_level, arms_level, cases_level}
+use Rattle.aos_sim.proofs.Stats.{basic_kind, basic_cell}
 use Rattle.aos_sim.proofs.Sizes.{labels_length, stats_length, arms_length, cases_length, stats_above}
 use Rattle.aos_pieces.specs.Piece.{Round, Piece}
 use Rattle.aos_pieces.proofs.Pieces.{At, nothing, one, both, one_then, then_one, moved, recoded, asks_less, jump_forth, branch, choose, picks, repeats, repeats_until, loops, stops}
 use Rattle.aos_pieces.proofs.Numbers.{HasNumbers}
-use Rattle.aos_pieces.proofs.Values.{some_place, some_need, as_kind, place_piece, value_piece, text_piece, texts_piece}
+use Rattle.aos_pieces.proofs.Handed.{dimensions_are}
+use Rattle.aos_pieces.proofs.Values.{some_place, some_rows, some_need, as_kind, place_piece, value_piece, text_piece, texts_piece, call_takes, call_piece, value_basic}
 
 -- an operand of any kind is stored in a place
 stored : (k : Kind) (s : Kinds) → without (k ∷ A ∷ []) (k ∷ A ∷ s) ≡ Some s
@@ -69,7 +74,7 @@ changed_few (change.Subtract w) place value k = (omega arith, omega arith, omega
 changed_few change.Include place value k = (omega arith, omega arith, omega arith)
 changed_few change.Exclude place value k = (omega arith, omega arith, omega arith)
 
-module _ (p : Program) (image : Image) (own : ℕ) (depth : ℕ) (has : HasNumbers p image) where
+module _ (p : Program) (o : Option Declared) (image : Image) (own : ℕ) (depth : ℕ) (has : HasNumbers p o image own) where
   -- how many numbers it may keep something under
   abbrev keeps : ℕ
   keeps = keeps_in (numbered image.shapes.items own)
@@ -78,10 +83,10 @@ module _ (p : Program) (image : Image) (own : ℕ) (depth : ℕ) (has : HasNumbe
   may_keep d lt whole q = lt-ltb d keeps lt
 
   -- the value that CASE selects by
-  selector_piece : {Asks : Round} (e : Expr) → IsOf p e (type.Integer W64) ⊎ IsOf p e type.Char → (at : ℕ) (s : Kinds) → length s + value_need e ≤ depth → Piece image own Procedure depth Asks (value_code p e at) at s (N ∷ s)
+  selector_piece : {Asks : Round} (e : Expr) → IsOf p o e (type.Integer W64) ⊎ IsOf p o e type.Char → (at : ℕ) (s : Kinds) → length s + value_need e ≤ depth → Piece image own Procedure depth Asks (value_code p o e at) at s (N ∷ s)
   selector_piece e h at s room = elim h [
-    | inl a ↦ value_piece p image own Procedure depth has e (type.Integer W64) a at s room
-    | inr a ↦ value_piece p image own Procedure depth has e type.Char a at s room
+    | inl a ↦ value_piece p o image own Procedure depth has refl e (type.Integer W64) a at s room
+    | inr a ↦ value_piece p o image own Procedure depth has refl e type.Char a at s room
   ]
 
   -- a piece with the beginning of its statement
@@ -89,38 +94,39 @@ module _ (p : Program) (image : Image) (own : ℕ) (depth : ℕ) (has : HasNumbe
   begins here few c = one_then (begin here) refl refl few (λ whole q. refl) c
 
   -- a call of a procedure of module Out
-  out_piece : {Asks : Round} (call : Call) → IsCall p call → (at : ℕ) (s : Kinds) → length s + out_need call ≤ depth → Piece image own Procedure depth Asks (out_code p call at) at s s
+  out_piece : {Asks : Round} (call : Call) → IsCall p o call → (at : ℕ) (s : Kinds) → length s + out_need call ≤ depth → Piece image own Procedure depth Asks (out_code p o call at) at s s
   out_piece Open h at s room = one i.OutOpen refl refl (omega (arith, room)) (λ whole q. refl)
   out_piece (Char e) h at s room =
       let k = some_need e in
-      then_one (value_piece p image own Procedure depth has e type.Char h at s room) i.OutChar refl refl (omega (arith, room, k)) (λ whole q. refl)
+      then_one (value_piece p o image own Procedure depth has refl e type.Char h at s room) i.OutChar refl refl (omega (arith, room, k)) (λ whole q. refl)
   out_piece (Int e n) h at s room =
       let k = some_need n in
       both
-      (value_piece p image own Procedure depth has e (type.Integer W64) h.0 at s (omega (arith, room)))
-      (then_one (value_piece p image own Procedure depth has n (type.Integer W64) h.1 (at + length (value_code p e at)) (N ∷ s) (omega (arith, room))) i.OutInt refl refl (omega (arith, room, k)) (λ whole q. refl))
-  out_piece (String x n) h at s room =
-      then_one (text_piece p image own Procedure depth has x n h at s room (λ u k. place_piece p image own Procedure depth has x u k at s (omega (arith, room)))) i.OutString refl refl (omega (arith, room)) (λ whole q. refl)
+      (value_piece p o image own Procedure depth has refl e (type.Integer W64) h.0 at s (omega (arith, room)))
+      (then_one (value_piece p o image own Procedure depth has refl n (type.Integer W64) h.1 (at + length (value_code p o e at)) (N ∷ s) (omega (arith, room))) i.OutInt refl refl (omega (arith, room, k)) (λ whole q. refl))
+  out_piece (String r) h at s room =
+      let k = some_rows r in
+      then_one (text_piece p o image own Procedure depth has refl r h at s room) i.OutString refl refl (omega (arith, room, k, dimensions_are p o r 1 type.Char h)) (λ whole q. refl)
   out_piece Ln h at s room = one i.OutLn refl refl (omega (arith, room)) (λ whole q. refl)
 
   -- the making of an object
-  new_piece : {Asks : Round} (x : Place) (t : ℕ) → IsPlaceOf p x (type.Named t) → t < length p.objects → (at : ℕ) (s : Kinds) → length s + (2 + place_need x) ≤ depth → Piece image own Procedure depth Asks (new_code p x t at) at s s
+  new_piece : {Asks : Round} (x : Place) (t : ℕ) → IsPlaceOf p o x (type.Named t) → t < length p.objects → (at : ℕ) (s : Kinds) → length s + (2 + place_need x) ≤ depth → Piece image own Procedure depth Asks (new_code p o x t at) at s s
   new_piece x t h lt at s room =
       let k = some_place x in
       one_then (i.NewObject (t + 1)) refl refl (omega (arith, room)) (λ whole q. has.types t lt)
       (one_then i.Dup refl refl (omega (arith, room)) (λ whole q. refl)
-      (both (moved (omega arith) (place_piece p image own Procedure depth has x (type.Named t) h (at + 2) (R ∷ R ∷ s) (omega (arith, room))))
+      (both (moved (omega arith) (place_piece p o image own Procedure depth has refl x (type.Named t) h (at + 2) (R ∷ R ∷ s) (omega (arith, room))))
       (one_then i.Swap refl refl (omega (arith, room, k)) (λ whole q. refl)
       (one_then (i.Store R) refl refl (omega (arith, room, k)) (λ whole q. refl)
       (one i.Start refl refl (omega (arith, room)) (λ whole q. refl))))))
 
   -- a value for a variable
-  assign_piece : {Asks : Round} (here : Pos) (t : TType) (x : Place) (e : Expr) → IsPlaceOf p x t → IsOf p e t → (at : ℕ) (s : Kinds) → length s + assign_need (place_need x) (value_need e) ≤ depth → Piece image own Procedure depth Asks (assign_code p here t x e at) at s s
+  assign_piece : {Asks : Round} (here : Pos) (t : TType) (x : Place) (e : Expr) → IsPlaceOf p o x t → IsOf p o e t → (at : ℕ) (s : Kinds) → length s + assign_need (place_need x) (value_need e) ≤ depth → Piece image own Procedure depth Asks (assign_code p o here t x e at) at s s
   assign_piece here t x e h g at s room =
       begins here (omega (arith, room)) (both
-      (place_piece p image own Procedure depth has x t h (at + 1) s (omega (arith, room)))
+      (place_piece p o image own Procedure depth has refl x t h (at + 1) s (omega (arith, room)))
       (then_one
-      (value_piece p image own Procedure depth has e t g (at + 1 + length (place_code p x (at + 1))) (A ∷ s) (omega (arith, room)))
+      (value_piece p o image own Procedure depth has refl e t g (at + 1 + length (place_code p o x (at + 1))) (A ∷ s) (omega (arith, room)))
       (i.Store (kind_of t)) (stored (kind_of t) s) refl (let k = some_need e in omega (arith, room, k)) (λ whole q. refl)))
 
   -- a variable that is changed
@@ -134,14 +140,14 @@ module _ (p : Program) (image : Image) (own : ℕ) (depth : ℕ) (has : HasNumbe
       one_then i.Dup refl refl (omega (arith, room)) (λ whole q. refl) (one_then (i.Binary binary.SetSpan) refl refl (omega (arith, room)) (λ whole q. refl)
       (one_then (i.Binary binary.Minus) refl refl (omega (arith, room)) (λ whole q. refl) (one (i.Store N) refl refl (omega (arith, room)) (λ whole q. refl))))
 
-  changed_piece : {Asks : Round} (here : Pos) (c : Changing) (x : Place) (e : Expr) → IsPlaceOf p x (changed_type c) → IsOf p e (amount_type c) → (at : ℕ) (s : Kinds) → length s + changed_need c (place_need x) (value_need e) ≤ depth → Piece image own Procedure depth Asks (changed_code p here c x e at) at s s
+  changed_piece : {Asks : Round} (here : Pos) (c : Changing) (x : Place) (e : Expr) → IsPlaceOf p o x (changed_type c) → IsOf p o e (amount_type c) → (at : ℕ) (s : Kinds) → length s + changed_need c (place_need x) (value_need e) ≤ depth → Piece image own Procedure depth Asks (changed_code p o here c x e at) at s s
   changed_piece {Asks} here c x e h g at s room =
       let k = some_need e in
       let few = changed_few c (place_need x) (value_need e) k in
-      let there = at + 1 + length (place_code p x (at + 1)) + 1 in
-      let amount : Piece image own Procedure depth Asks (value_code p e there) there (A ∷ A ∷ s) (N ∷ A ∷ A ∷ s) = as_kind p image own Procedure depth has (amount_kind c) (value_piece p image own Procedure depth has e (amount_type c) g there (A ∷ A ∷ s) (omega (arith, room, few.1))) in
+      let there = at + 1 + length (place_code p o x (at + 1)) + 1 in
+      let amount : Piece image own Procedure depth Asks (value_code p o e there) there (A ∷ A ∷ s) (N ∷ A ∷ A ∷ s) = as_kind p o image own Procedure depth has refl (amount_kind c) (value_piece p o image own Procedure depth has refl e (amount_type c) g there (A ∷ A ∷ s) (omega (arith, room, few.1))) in
       begins here (omega (arith, room)) (both
-      (place_piece p image own Procedure depth has x (changed_type c) h (at + 1) s (omega (arith, room, few.0)))
+      (place_piece p o image own Procedure depth has refl x (changed_type c) h (at + 1) s (omega (arith, room, few.0)))
       (one_then i.Dup refl refl (omega (arith, room, k, few.1)) (λ whole q. refl)
       (both amount
       (one_then i.Swap refl refl (omega (arith, room, k, few.1)) (λ whole q. refl)
@@ -167,69 +173,83 @@ module _ (p : Program) (image : Image) (own : ℕ) (depth : ℕ) (has : HasNumbe
       (asks_less Both (jump_forth hit {at = at + 1 + 1 + 1 + 1 + 1 + 1 + 1 + 1} {s = s} {u = s} (omega (arith, le)) (omega (arith, room))) (λ whole kinds st f g q. q.0))))))))) in
       both (asks_less (At hit s) label (λ whole kinds st f g q. (q, g))) (labels_piece rs d (at + 9) hit s lt far room)
 
+  -- a procedure that gives nothing ends without operands,
+  nothing_returned : (r : Option TType) → result_of o ≡ r → IsReturn p o None r → returned (numbered image.shapes.items own) [] ≡ Some []
+  nothing_returned None e h = ap (λ f. returned f []) has.mine.1 ∙ ap (λ k. alone k []) (has.mine.2 ∙ ap (option_map (λ t. cell_kind p.types (id_of t))) e)
+  nothing_returned (Some t) e h = absurd h
+
+  -- and a function with its result
+  return_piece : {Asks : Round} (e : Expr) (r : Option TType) → result_of o ≡ r → IsReturn p o (Some e) r → (at : ℕ) → value_need e ≤ depth → Piece image own Procedure depth Asks (value_code p o e at ++ i.Return ∷ []) at [] []
+  return_piece e None is h at room = absurd h
+  return_piece e (Some t) is h at room =
+      let k = some_need e in
+      let basic = value_basic p o e t h in
+      let ends : returned (numbered image.shapes.items own) (N ∷ []) ≡ Some [] =
+      ap (λ f. returned f (N ∷ [])) has.mine.1
+      ∙ ap (λ k. alone k (N ∷ [])) (has.mine.2 ∙ ap (option_map (λ t. cell_kind p.types (id_of t))) is ∙ ap (λ k. Some k) (basic_cell p has.predeclared t basic)) in
+      both
+      (as_kind p o image own Procedure depth has refl (basic_kind t basic) (value_piece p o image own Procedure depth has refl e t h at [] (omega (arith, room))))
+      (stops i.Return [] ends refl (omega (arith, room, k)) (λ whole q. refl))
+
   mutual
     -- a statement; an EXIT in it leads behind it, to what has the same operands
-    pub stat_piece : (t : Stat) → IsStatement p t → (at x d : ℕ) (s : Kinds) → at + length (stat_code p t at x d) ≤ x → stat_level t d ≤ keeps → length s + stat_need t ≤ depth → Piece image own Procedure depth (At x s) (stat_code p t at x d) at s s
-    stat_piece (Assign here t y e) h at x d s le kept room = assign_piece here t y e h.0 h.2 at s room
-    stat_piece (Copy here t y z) h at x d s le kept room =
+    pub stat_piece : (t : Stat) → IsStatement p o t → (at x d : ℕ) → at + length (stat_code p o t at x d) ≤ x → stat_level t d ≤ keeps → stat_need t ≤ depth → Piece image own Procedure depth (At x []) (stat_code p o t at x d) at [] []
+    stat_piece (Assign here t y e) h at x d le kept room = assign_piece here t y e h.0 h.2 at [] (omega (arith, room))
+    stat_piece (Copy here t y z) h at x d le kept room =
         begins here (omega (arith, room)) (both
-        (place_piece p image own Procedure depth has y t h.0 (at + 1) s (omega (arith, room)))
+        (place_piece p o image own Procedure depth has refl y t h.0 (at + 1) [] (omega (arith, room)))
         (then_one
-        (place_piece p image own Procedure depth has z t h.1 (at + 1 + length (place_code p y (at + 1))) (A ∷ s) (omega (arith, room)))
-        (i.Copy (cells_of p t)) refl refl (let k = some_place z in omega (arith, room, k)) (λ whole q. refl)))
-    stat_piece (PutText here strict y n z m) h at x d s le kept room =
-        let there = at + 1 + length (with_length (place_code p y (at + 1)) n) in
-        begins here (omega (arith, room)) (texts_piece p image own Procedure depth has y n h.0 z m (inl h.1) (i.PutText strict) (at + 1) s room
-        (λ u k. place_piece p image own Procedure depth has y u k (at + 1) s (omega (arith, room)))
-        (λ u k. place_piece p image own Procedure depth has z u k there (N ∷ A ∷ s) (omega (arith, room)))
-        refl refl (λ whole q. refl))
-    stat_piece (If here arms) h at x d s le kept room =
-        let end = at + 1 + length (arms_code p arms (at + 1) 0 x d) in
-        let same = arms_length p arms (at + 1) end 0 x x d in
-        begins here (omega (arith, room)) (arms_piece arms h (at + 1) end x d s (omega (arith, same)) (omega (arith, le)) kept room)
-    stat_piece (Case here e cases) h at x d s le kept room =
-        let c = value_code p e (at + 1) in
+        (place_piece p o image own Procedure depth has refl z t h.1 (at + 1 + length (place_code p o y (at + 1))) (A ∷ []) (omega (arith, room)))
+        (i.Copy (cells_of p o t)) refl refl (let k = some_place z in omega (arith, room, k)) (λ whole q. refl)))
+    stat_piece (PutText here strict a b) h at x d le kept room =
+        begins here (omega (arith, room)) (texts_piece p o image own Procedure depth has refl a b h.0 h.1 (i.PutText strict) (at + 1) [] (omega (arith, room)) refl refl (λ whole q. refl))
+    stat_piece (If here arms) h at x d le kept room =
+        let end = at + 1 + length (arms_code p o arms (at + 1) 0 x d) in
+        let same = arms_length p o arms (at + 1) end 0 x x d in
+        begins here (omega (arith, room)) (arms_piece arms h (at + 1) end x d (omega (arith, same)) (omega (arith, le)) kept room)
+    stat_piece (Case here e cases) h at x d le kept room =
+        let c = value_code p o e (at + 1) in
         let first = at + 1 + length c + 1 in
-        let end = first + length (cases_code p cases first 0 x d) in
-        let same = cases_length p cases first end 0 x x d in
-        let counted = length-append c (i.Keep d N ∷ cases_code p cases first end x d) in
+        let end = first + length (cases_code p o cases first 0 x d) in
+        let same = cases_length p o cases first end 0 x x d in
+        let counted = length-append c (i.Keep d N ∷ cases_code p o cases first end x d) in
         let k = some_need e in
-        begins here (omega (arith, room)) (both (selector_piece e h.0 (at + 1) s (omega (arith, room)))
+        begins here (omega (arith, room)) (both (selector_piece e h.0 (at + 1) [] (omega (arith, room)))
         (one_then (i.Keep d N) refl refl (omega (arith, room, k)) (may_keep d (omega (arith, kept, le-max_left (suc d) (cases_level cases d))))
-        (cases_piece cases h.1 first end x d s (omega (arith, same)) (omega (arith, le, counted)) (omega (arith, kept, le-max_left (suc d) (cases_level cases d))) (omega (arith, kept, le-max_right (suc d) (cases_level cases d))) (omega (arith, room)))))
-    stat_piece (While here e body) h at x d s le kept room =
-        let c = value_code p e (at + 1) in
+        (cases_piece cases h.1 first end x d (omega (arith, same)) (omega (arith, le, counted)) (omega (arith, kept, le-max_left (suc d) (cases_level cases d))) (omega (arith, kept, le-max_right (suc d) (cases_level cases d))) (omega (arith, room)))))
+    stat_piece (While here e body) h at x d le kept room =
+        let c = value_code p o e (at + 1) in
         let first = at + 1 + length c + 1 in
-        let b = stats_code p body first x d in
+        let b = stats_code p o body first x d in
         let k = some_need e in
         let counted = length-append c (i.JumpFalse (first + length b + 1) ∷ (b ++ i.Jump at ∷ [])) in
         repeats here.line here.col (first + length b + 1) refl refl (omega (arith, room, k))
-        (value_piece p image own Procedure depth has e type.Boolean h.0 (at + 1) s (omega (arith, room)))
-        (stats_piece body h.1 first x d s (omega (arith, le, counted, length-append b (i.Jump at ∷ []))) kept (omega (arith, room)))
-    stat_piece (Repeat here body e) h at x d s le kept room =
-        let b = stats_code p body (at + 1) x d in
-        let c = value_code p e (at + 1 + length b) in
+        (value_piece p o image own Procedure depth has refl e type.Boolean h.0 (at + 1) [] (omega (arith, room)))
+        (stats_piece body h.1 first x d (omega (arith, le, counted, length-append b (i.Jump at ∷ []))) kept (omega (arith, room)))
+    stat_piece (Repeat here body e) h at x d le kept room =
+        let b = stats_code p o body (at + 1) x d in
+        let c = value_code p o e (at + 1 + length b) in
         let k = some_need e in
         repeats_until here.line here.col refl (omega (arith, room, k))
-        (stats_piece body h.0 (at + 1) x d s (omega (arith, le, length-append b (c ++ i.JumpFalse at ∷ []))) kept (omega (arith, room)))
-        (value_piece p image own Procedure depth has e type.Boolean h.1 (at + 1 + length b) s (omega (arith, room)))
-    stat_piece (Loop here body) h at x d s le kept room =
-        let out = at + 1 + length (stats_code p body (at + 1) 0 d) + 1 in
-        let same = stats_length p body (at + 1) out 0 d in
+        (stats_piece body h.0 (at + 1) x d (omega (arith, le, length-append b (c ++ i.JumpFalse at ∷ []))) kept (omega (arith, room)))
+        (value_piece p o image own Procedure depth has refl e type.Boolean h.1 (at + 1 + length b) [] (omega (arith, room)))
+    stat_piece (Loop here body) h at x d le kept room =
+        let out = at + 1 + length (stats_code p o body (at + 1) 0 d) + 1 in
+        let same = stats_length p o body (at + 1) out 0 d in
         loops here.line here.col out (omega (arith, same)) refl (omega (arith, room))
-        (stats_piece body h (at + 1) out d s (omega (arith, same)) kept (omega (arith, room)))
-    stat_piece (Exit here) h at x d s le kept room = begins here (omega (arith, room)) (jump_forth x (omega (arith, le)) (omega (arith, room)))
-    stat_piece (For here w y from to step body) h at x d s le kept room =
-        let last = value_code p to (at + 1) in
+        (stats_piece body h (at + 1) out d (omega (arith, same)) kept (omega (arith, room)))
+    stat_piece (Exit here) h at x d le kept room = begins here (omega (arith, room)) (jump_forth x (omega (arith, le)) (omega (arith, room)))
+    stat_piece (For here w y from to step body) h at x d le kept room =
+        let last = value_code p o to (at + 1) in
         let k = some_need to in
-        let head = for_head p here w y from to at d in
+        let head = for_head p o here w y from to at d in
         let t = at + length head in
-        let v = value_code p (Read (type.Integer w) y) (t + 1) in
+        let v = value_code p o (Read (type.Integer w) y) (t + 1) in
         let tail = i.Kept d N ∷ (i.Binary (binary.Cmp (until step)) ∷ []) in
         let test = v ++ tail in
-        let first = body_place p w y t in
-        let b = stats_code p body first x (suc d) in
-        let n = step_code p here w y step (first + length b) in
+        let first = body_place p o w y t in
+        let b = stats_code p o body first x (suc d) in
+        let n = step_code p o here w y step (first + length b) in
         let end = t + 1 + length test + 1 + length b + length n + 1 in
         let above = stats_above body (suc d) in
         let may = may_keep d (omega (arith, kept, above)) in
@@ -240,65 +260,72 @@ module _ (p : Program) (image : Image) (own : ℕ) (depth : ℕ) (has : HasNumbe
         let l5 = length-append head (begin here ∷ (test ++ (i.JumpFalse end ∷ (b ++ (n ++ i.Jump t ∷ []))))) in
         both
         (begins here (omega (arith, room)) (both
-        (value_piece p image own Procedure depth has to (type.Integer w) h.3 (at + 1) s (omega (arith, room)))
+        (value_piece p o image own Procedure depth has refl to (type.Integer w) h.3 (at + 1) [] (omega (arith, room)))
         (one_then (i.Keep d N) refl refl (omega (arith, room, k)) may
-        (assign_piece here (type.Integer w) y from h.1 h.2 (at + 1 + length last + 1) s (omega (arith, room))))))
+        (assign_piece here (type.Integer w) y from h.1 h.2 (at + 1 + length last + 1) [] (omega (arith, room))))))
         (recoded (ap (λ l. begin here ∷ (test ++ (i.JumpFalse end ∷ l))) (append_assoc b n (i.Jump t ∷ [])))
         (repeats here.line here.col {c = test} {b = b ++ n} end (omega (arith, l2)) refl (omega (arith, room))
-        (both (value_piece p image own Procedure depth has (Read (type.Integer w) y) (type.Integer w) (h.1, refl, included_self w) (t + 1) s (omega (arith, room)))
+        (both (value_piece p o image own Procedure depth has refl (Read (type.Integer w) y) (type.Integer w) (h.1, refl, included_self w) (t + 1) [] (omega (arith, room)))
         (one_then (i.Kept d N) refl refl (omega (arith, room)) may
         (one (i.Binary (binary.Cmp (until step))) refl refl (omega (arith, room)) (λ whole q. refl))))
         (both
-        (moved (omega (arith, l1)) (stats_piece body h.5 first x (suc d) s (omega (arith, le, l1, l2, l3, l4, l5)) kept (omega (arith, room))))
-        (moved (omega (arith, l1)) (assign_piece here (type.Integer w) y (Binary (binary.Add w) (Read (type.Integer w) y) (Lit (literal.Int step))) h.1 (((h.1, refl, included_self w), h.4), included_self w) (first + length b) s (omega (arith, room)))))))
-    stat_piece (Block here body) h at x d s le kept room = begins here (omega (arith, room)) (stats_piece body h (at + 1) x d s (omega (arith, le)) kept room)
-    stat_piece (Assert here e code) h at x d s le kept room =
+        (moved (omega (arith, l1)) (stats_piece body h.5 first x (suc d) (omega (arith, le, l1, l2, l3, l4, l5)) kept (omega (arith, room))))
+        (moved (omega (arith, l1)) (assign_piece here (type.Integer w) y (Binary (binary.Add w) (Read (type.Integer w) y) (Lit (literal.Int step))) h.1 (((h.1, refl, included_self w), h.4), included_self w) (first + length b) [] (omega (arith, room)))))))
+    stat_piece (Block here body) h at x d le kept room = begins here (omega (arith, room)) (stats_piece body h (at + 1) x d (omega (arith, le)) kept room)
+    stat_piece (Assert here e code) h at x d le kept room =
         let k = some_need e in
-        begins here (omega (arith, room)) (then_one (value_piece p image own Procedure depth has e type.Boolean h.0 (at + 1) s room) (i.Assert code) refl refl (omega (arith, room, k)) (λ whole q. refl))
-    stat_piece (Halt here code) h at x d s le kept room = begins here (omega (arith, room)) (stops (i.Halt code) s refl refl (omega (arith, room)) (λ whole q. refl))
-    stat_piece (Change here c y e) h at x d s le kept room = changed_piece here c y e h.0 h.1 at s room
-    stat_piece (New here y t) h at x d s le kept room = begins here (omega (arith, room)) (new_piece y t h.1 h.3 (at + 1) s room)
-    stat_piece (Out here call) h at x d s le kept room = begins here (omega (arith, room)) (out_piece call h (at + 1) s room)
+        begins here (omega (arith, room)) (then_one (value_piece p o image own Procedure depth has refl e type.Boolean h.0 (at + 1) [] (omega (arith, room))) (i.Assert code) refl refl (omega (arith, room, k)) (λ whole q. refl))
+    stat_piece (Halt here code) h at x d le kept room = begins here (omega (arith, room)) (stops (i.Halt code) [] refl refl (omega (arith, room)) (λ whole q. refl))
+    stat_piece (Change here c y e) h at x d le kept room = changed_piece here c y e h.0 h.1 at [] (omega (arith, room))
+    stat_piece (Perform here m k more) h at x d le kept room =
+        let q = h.0 in
+        let gives = call_takes p o image own Procedure depth has refl m k q h.1 [] ∙ ap (λ r. given (option_map (λ t. cell_kind p.types (id_of t)) r) (Some [])) h.2 in
+        begins here (omega (arith, room)) (call_piece p o image own Procedure depth has refl m k q h.1 more h.3 (at + 1) [] gives (omega (arith, room)))
+    stat_piece (Return here None) h at x d le kept room =
+        begins here (omega (arith, room)) (stops i.Return [] (nothing_returned (result_of o) refl h) refl (omega (arith, room)) (λ whole q. refl))
+    stat_piece (Return here (Some e)) h at x d le kept room = begins here (omega (arith, room)) (return_piece e (result_of o) refl h (at + 1) room)
+    stat_piece (New here y t) h at x d le kept room = begins here (omega (arith, room)) (new_piece y t h.1 h.3 (at + 1) [] (omega (arith, room)))
+    stat_piece (Out here call) h at x d le kept room = begins here (omega (arith, room)) (out_piece call h (at + 1) [] (omega (arith, room)))
 
     -- a sequence of statements
-    pub stats_piece : (ss : Stats) → AreStatements p ss → (at x d : ℕ) (s : Kinds) → at + length (stats_code p ss at x d) ≤ x → stats_level ss d ≤ keeps → length s + stats_need ss ≤ depth → Piece image own Procedure depth (At x s) (stats_code p ss at x d) at s s
-    stats_piece Nothing h at x d s le kept room = nothing
-    stats_piece (Then t ss) h at x d s le kept room =
-        let c = stat_code p t at x d in
-        let l = length-append c (stats_code p ss (at + length c) x d) in
+    pub stats_piece : (ss : Stats) → AreStatements p o ss → (at x d : ℕ) → at + length (stats_code p o ss at x d) ≤ x → stats_level ss d ≤ keeps → stats_need ss ≤ depth → Piece image own Procedure depth (At x []) (stats_code p o ss at x d) at [] []
+    stats_piece Nothing h at x d le kept room = nothing
+    stats_piece (Then t ss) h at x d le kept room =
+        let c = stat_code p o t at x d in
+        let l = length-append c (stats_code p o ss (at + length c) x d) in
         both
-        (stat_piece t h.0 at x d s (omega (arith, le, l)) (omega (arith, kept, le-max_left (stat_level t d) (stats_level ss d))) (omega (arith, room)))
-        (stats_piece ss h.1 (at + length c) x d s (omega (arith, le, l)) (omega (arith, kept, le-max_right (stat_level t d) (stats_level ss d))) (omega (arith, room)))
+        (stat_piece t h.0 at x d (omega (arith, le, l)) (omega (arith, kept, le-max_left (stat_level t d) (stats_level ss d))) (omega (arith, room)))
+        (stats_piece ss h.1 (at + length c) x d (omega (arith, le, l)) (omega (arith, kept, le-max_right (stat_level t d) (stats_level ss d))) (omega (arith, room)))
 
-    arms_piece : (arms : Arms) → AreArms p arms → (at end x d : ℕ) (s : Kinds) → end ≡ at + length (arms_code p arms at end x d) → end ≤ x → arms_level arms d ≤ keeps → length s + arms_need arms ≤ depth → Piece image own Procedure depth (At x s) (arms_code p arms at end x d) at s s
-    arms_piece (Otherwise ss) h at end x d s ends le kept room = stats_piece ss h at x d s (omega (arith, ends, le)) kept room
-    arms_piece (Arm e ss arms) h at end x d s ends le kept room =
-        let c = value_code p e at in
+    arms_piece : (arms : Arms) → AreArms p o arms → (at end x d : ℕ) → end ≡ at + length (arms_code p o arms at end x d) → end ≤ x → arms_level arms d ≤ keeps → arms_need arms ≤ depth → Piece image own Procedure depth (At x []) (arms_code p o arms at end x d) at [] []
+    arms_piece (Otherwise ss) h at end x d ends le kept room = stats_piece ss h at x d (omega (arith, ends, le)) kept room
+    arms_piece (Arm e ss arms) h at end x d ends le kept room =
+        let c = value_code p o e at in
         let first = at + length c + 1 in
-        let b = stats_code p ss first x d in
+        let b = stats_code p o ss first x d in
         let next = first + length b + 1 in
-        let more = arms_code p arms next end x d in
+        let more = arms_code p o arms next end x d in
         let k = some_need e in
         let l1 = length-append c (i.JumpFalse next ∷ (b ++ (i.Jump end ∷ more))) in
         let l2 = length-append b (i.Jump end ∷ more) in
         choose next end refl (omega (arith, ends, l1, l2)) (omega (arith, room, k)) (omega (arith, room))
-        (value_piece p image own Procedure depth has e type.Boolean h.0 at s (omega (arith, room)))
-        (stats_piece ss h.1 first x d s (omega (arith, ends, le, l1, l2)) (omega (arith, kept, le-max_left (stats_level ss d) (arms_level arms d))) (omega (arith, room)))
-        (arms_piece arms h.2 next end x d s (omega (arith, ends, l1, l2)) le (omega (arith, kept, le-max_right (stats_level ss d) (arms_level arms d))) (omega (arith, room)))
+        (value_piece p o image own Procedure depth has refl e type.Boolean h.0 at [] (omega (arith, room)))
+        (stats_piece ss h.1 first x d (omega (arith, ends, le, l1, l2)) (omega (arith, kept, le-max_left (stats_level ss d) (arms_level arms d))) (omega (arith, room)))
+        (arms_piece arms h.2 next end x d (omega (arith, ends, l1, l2)) le (omega (arith, kept, le-max_right (stats_level ss d) (arms_level arms d))) (omega (arith, room)))
 
-    cases_piece : (cases : Cases) → AreCases p cases → (at end x d : ℕ) (s : Kinds) → end ≡ at + length (cases_code p cases at end x d) → end ≤ x → d < keeps → cases_level cases d ≤ keeps → length s + cases_need cases ≤ depth → Piece image own Procedure depth (At x s) (cases_code p cases at end x d) at s s
-    cases_piece NoElse h at end x d s ends le lt kept room = stops (i.Fail 4) s refl refl (omega (arith, room)) (λ whole q. refl)
-    cases_piece (Else ss) h at end x d s ends le lt kept room = stats_piece ss h at x d s (omega (arith, ends, le)) kept room
-    cases_piece (OfLabels rs ss cases) h at end x d s ends le lt kept room =
+    cases_piece : (cases : Cases) → AreCases p o cases → (at end x d : ℕ) → end ≡ at + length (cases_code p o cases at end x d) → end ≤ x → d < keeps → cases_level cases d ≤ keeps → cases_need cases ≤ depth → Piece image own Procedure depth (At x []) (cases_code p o cases at end x d) at [] []
+    cases_piece NoElse h at end x d ends le lt kept room = stops (i.Fail 4) [] refl refl (omega (arith, room)) (λ whole q. refl)
+    cases_piece (Else ss) h at end x d ends le lt kept room = stats_piece ss h at x d (omega (arith, ends, le)) kept room
+    cases_piece (OfLabels rs ss cases) h at end x d ends le lt kept room =
         let hit = at + 9 * length rs + 1 in
         let ls = labels_code rs d at hit in
-        let b = stats_code p ss hit x d in
+        let b = stats_code p o ss hit x d in
         let next = hit + length b + 1 in
-        let more = cases_code p cases next end x d in
+        let more = cases_code p o cases next end x d in
         let counted = labels_length rs d at hit in
         let l1 = length-append ls (i.Jump next ∷ (b ++ (i.Jump end ∷ more))) in
         let l2 = length-append b (i.Jump end ∷ more) in
         picks hit next end (omega (arith, counted)) refl (omega (arith, ends, counted, l1, l2)) (omega (arith, room)) (omega (arith, room))
-        (labels_piece rs d at hit s lt (omega arith) (omega (arith, room)))
-        (stats_piece ss h.1 hit x d s (omega (arith, ends, le, counted, l1, l2)) (omega (arith, kept, le-max_left (stats_level ss d) (cases_level cases d))) (omega (arith, room)))
-        (cases_piece cases h.2 next end x d s (omega (arith, ends, counted, l1, l2)) le lt (omega (arith, kept, le-max_right (stats_level ss d) (cases_level cases d))) (omega (arith, room)))
+        (labels_piece rs d at hit [] lt (omega arith) (omega (arith, room)))
+        (stats_piece ss h.1 hit x d (omega (arith, ends, le, counted, l1, l2)) (omega (arith, kept, le-max_left (stats_level ss d) (cases_level cases d))) (omega (arith, room)))
+        (cases_piece cases h.2 next end x d (omega (arith, ends, counted, l1, l2)) le lt (omega (arith, kept, le-max_right (stats_level ss d) (cases_level cases d))) (omega (arith, room)))

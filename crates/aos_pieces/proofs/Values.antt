@@ -1,37 +1,60 @@
--- The code of each place and each expression is a piece that gives one operand more.
-use Rattle.std.proofs.Common.{◌≡◌, ◌≤◌, inl, inr, ℕ, ◌+◌, pos, List, [], ◌∷◌, Some, length, refl, sym, ap, subst, arith}
-use Rattle.std.specs.Prelude.{IsTrue}
+-- The code of each place and each expression is a piece that gives one operand more, and that of what a call hands over one that gives
+-- what the call takes.
+use Rattle.std.proofs.Common.{◌≡◌, ◌≤◌, ◌<◌, inl, inr, zero, suc, true, ℕ, ◌+◌, pos, List, [], ◌∷◌, ◌++◌, Option, Some, length, map, refl, sym, ap, ◌∙◌, arith, append_assoc, length-append}
+use Rattle.std.specs.Prelude.{IsTrue, replicate, reverse, option_map, nat_lt, ◌&&◌}
+use Rattle.std.proofs.lemmas.Bool.{lt-ltb}
+use Rattle.std.proofs.lemmas.List.{length-replicate, length-reverse}
 use Rattle.aos_base.specs.Operators.{flag}
 use Rattle.aos_base.specs.declared.operator.Unary.TheVariants.{Range}
 use Rattle.aos_base.specs.declared.operator.Binary.TheVariants.{SetSpan}
-use Rattle.aos_base.specs.declared.number.Width.TheVariants.{W32, W64}
+use Rattle.aos_base.specs.declared.number.Width.TheVariants.{W16, W32, W64}
 use Rattle.aos_code.specs.declared.instr.Kind.{Kind}
 use Rattle.aos_code.specs.declared.instr.Kind.TheVariants.{N, A}
 use Rattle.aos_code.specs.declared.instr.Instr.{Instr}
 use Rattle.aos_code.specs.declared.instr.Instr.TheVariants as i
 use Rattle.aos_code.specs.declared.image.Image.{Image}
+use Rattle.aos_code.specs.Numbered.{numbered}
+use Rattle.aos_code.specs.Silent.{kinds_of}
+use Rattle.aos_layout.specs.Frame.{parameter_kind, parameter_cells}
+use Rattle.aos_layout.specs.Layout.{kind_of as cell_kind}
+use Rattle.aos_types.specs.Shape.{size}
+use Rattle.aos_typed.specs.Open.{open_dimensions}
 use Rattle.aos_sound.specs.declared.effect.Next.TheVariants.{On}
 use Rattle.aos_sound.specs.declared.stand.Role.{Role}
-use Rattle.aos_sound.specs.Sound.{Kinds, next_of, after, may_stand}
-use Rattle.aos_typed.specs.Program.{Program, Place, ModuleVar, Field, Index, Expr, Lit, Read, Unary, Binary, And, Or, Element, Ord, Chr, CompareTexts, Len}
+use Rattle.aos_sound.specs.Sound.{Kinds, row, without, topped, given, called, is_some, frame_cells, is_procedure, next_of, after, may_stand}
+use Rattle.aos_typed.specs.Numbers.{id_of, procedure_number}
+use Rattle.aos_typed.specs.Program.{Program, Procedure, Parameter, Place, ModuleVar, Local, Passed, Field, Index, Of, Rows, Known, Opened, Row, Arguments, NoMore, Scalar, Whole, Opening, Expr, Lit, Read, Unary, Binary, And, Or, Element, Ord, Chr, CompareTexts, Len, LenBehind, Function}
 use Rattle.aos_typed.specs.declared.tree.Literal.{Literal}
 use Rattle.aos_typed.specs.declared.tree.Literal.TheVariants as literal
 use Rattle.aos_typed.specs.declared.tree.TType.{TType}
-use Rattle.aos_typed.specs.declared.tree.TType.TheVariants.{Integer, Boolean, Char}
-use Rattle.aos_typed.specs.WellTyped.{taken, IsConstantText, IsPlaceOf, IsOf, IsText}
-use Rattle.aos_sim.specs.Code.{kind_of, literal_code, variable_cell, field_cell, cells_of, operands_code, with_length, place_code, value_code}
+use Rattle.aos_typed.specs.declared.tree.TType.TheVariants.{Integer, Boolean, Char, Named}
+use Rattle.aos_typed.specs.WellTyped.{taken, is_basic, procedure_in, IsConstantText, IsParameter, IsPlaceOf, AreRows, AreArguments, IsOf}
+use Rattle.aos_sim.specs.Code.{kind_of, literal_code, variable_cell, own_cell, field_cell, cells_of, dimensions, lengths_code, drops, operands_code, place_code, rows_code, arguments_code, value_code}
+use Rattle.aos_sim.specs.Need.{texts_need, place_need, rows_need, arguments_need, value_need}
+use Rattle.aos_sim.proofs.Routines.{routine_there}
+use Rattle.aos_sim.proofs.Routines as routine
+use Rattle.aos_sim.proofs.Stats.{basic_kind, basic_cell}
 use Rattle.aos_pieces.specs.Piece.{Round, Piece}
-use Rattle.aos_sim.specs.Need.{text_need, texts_need, place_need, value_need}
-use Rattle.aos_pieces.proofs.Pieces.{one, both, one_then, then_one, choose}
+use Rattle.aos_pieces.proofs.Pieces.{nothing, one, both, one_then, then_one, choose, left_with}
 use Rattle.aos_pieces.proofs.Operands.{included_kind, literal_kind, taken_kind, given_kind, given_of_two_kind, taken_kinds}
+use Rattle.aos_pieces.proofs.Handed.{dimensions_are, pushed, rows_taken, opened_row, reversed_row, kinds_taken, handed_first, scalar_kinds, place_kinds, open_kinds, handed_room, passed_size, opened_size}
 use Rattle.aos_pieces.proofs.Numbers.{HasNumbers}
 
 mutual
-  -- a place needs room for one operand at least
+  -- a place needs room for one operand at least,
   pub some_place : (x : Place) → 1 ≤ place_need x
   some_place (ModuleVar m c) = omega arith
+  some_place (Local k) = omega arith
+  some_place (Passed k) = omega arith
   some_place (Field x t k) = some_place x
   some_place (Index x n t e) = omega arith
+  some_place (Of r) = let h = some_rows r in omega (arith, h)
+
+  -- an array for the lengths of its dimensions above that,
+  pub some_rows : (r : Rows) → suc (dimensions r) ≤ rows_need r
+  some_rows (Known x ns) = omega arith
+  some_rows (Opened k j) = omega arith
+  some_rows (Row r t e) = let h = some_rows r in omega (arith, h)
 
   -- and so does an expression
   pub some_need : (e : Expr) → 1 ≤ value_need e
@@ -44,13 +67,45 @@ mutual
   some_need (Element a) = omega arith
   some_need (Ord a) = some_need a
   some_need (Chr a) = some_need a
-  some_need (CompareTexts r x n y m) = omega arith
-  some_need (Len x n) = some_place x
+  some_need (CompareTexts r a b) = omega arith
+  some_need (Len r d) = let h = some_rows r in omega (arith, h)
+  some_need (LenBehind r n) = let h = some_rows r in omega (arith, h)
+  some_need (Function m k more) = omega arith
 
-module _ (p : Program) (image : Image) (own : ℕ) (role : Role) (depth : ℕ) (has : HasNumbers p image) where
+-- a value is of a basic type
+pub value_basic : (p : Program) (o : Option Procedure) (e : Expr) (t : TType) → IsOf p o e t → is_basic t ≡ true
+value_basic p o e t h = by_kind t (kind e h)
+  where
+    by_kind : (t : TType) → kind_of t ≡ N → is_basic t ≡ true
+    by_kind (Named k) e = absurd (cc)
+    by_kind t e = refl
+
+    kind : (e : Expr) → IsOf p o e t → kind_of t ≡ N
+    kind (Lit l) h = literal_kind l t h
+    kind (Read u x) h = included_kind t u h.2 ∙ basic_kind u h.1
+    kind (Unary op a) h = given_kind op t h.1
+    kind (Binary op a b) h = given_of_two_kind op t h.1
+    kind (And a b) h = ap kind_of h.2
+    kind (Or a b) h = ap kind_of h.2
+    kind (Element a) h = ap kind_of h.1
+    kind (Ord a) h = included_kind t (Integer W16) h.1
+    kind (Chr a) h = ap kind_of h.1
+    kind (CompareTexts r a b) h = ap kind_of h.2
+    kind (Len r d) h = included_kind t (Integer W32) h.5
+    kind (LenBehind r n) h = included_kind t (Integer W32) h.4
+    kind (Function m k more) h = included_kind t h.1 h.5 ∙ basic_kind h.1 h.4
+
+-- with so many lengths above a place
+abbrev opened : ℕ → Kinds → Kinds
+opened j s = replicate j N ++ A ∷ s
+
+opened_long : (j : ℕ) (s : Kinds) → length (opened j s) ≡ j + suc (length s)
+opened_long j s = length-append (replicate j N) (A ∷ s) ∙ ap (λ n. n + suc (length s)) (length-replicate j N)
+
+module _ (p : Program) (o : Option Procedure) (image : Image) (own : ℕ) (role : Role) (depth : ℕ) (has : HasNumbers p o image own) (performs : is_procedure role ≡ true) where
   -- a piece whose operand is of this kind, which is that one
   pub as_kind : {Asks : Round} {code : List Instr} {at : ℕ} {s : Kinds} {k j : Kind} → k ≡ j → Piece image own role depth Asks code at s (k ∷ s) → Piece image own role depth Asks code at s (j ∷ s)
-  as_kind {Asks} {code} {at} {s} e c = subst (λ x. Piece image own role depth Asks code at s (x ∷ s)) e c
+  as_kind {Asks} {code} {at} {s} e c = left_with (ap (λ x. x ∷ s) e) c
 
   -- a literal
   literal_piece : {Asks : Round} (l : Literal) {at : ℕ} {s : Kinds} → length s ≤ depth → Piece image own role depth Asks (literal_code l ∷ []) at s (N ∷ s)
@@ -61,40 +116,138 @@ module _ (p : Program) (image : Image) (own : ℕ) (role : Role) (depth : ℕ) (
   literal_piece (literal.Text t) few = one (i.Num (pos t.first)) refl refl few (λ whole q. refl)
 
   -- the place of a string constant
-  constant_piece : {Asks : Round} (x : Place) (n : ℕ) → IsConstantText p x n → (at : ℕ) (s : Kinds) → length s + place_need x ≤ depth → Piece image own role depth Asks (place_code p x at) at s (A ∷ s)
-  constant_piece (ModuleVar m c) n h at s room = one (i.Module m (variable_cell p m c)) refl refl (omega (arith, room)) (λ whole q. has.constants m c n h)
+  constant_piece : {Asks : Round} (x : Place) (n : ℕ) → IsConstantText p x n → (at : ℕ) (s : Kinds) → length s + place_need x ≤ depth → Piece image own role depth Asks (place_code p o x at) at s (A ∷ s)
+  constant_piece (ModuleVar m c) n h at s room = one (i.Module m (variable_cell p o m c)) refl refl (omega (arith, room)) (λ whole q. has.constants m c n h)
+  constant_piece (Local k) n h at s room = absurd h
+  constant_piece (Passed k) n h at s room = absurd h
   constant_piece (Field x of c) n h at s room = absurd h
   constant_piece (Index x l of e) n h at s room = absurd h
+  constant_piece (Of r) n h at s room = absurd h
 
-  -- a text gives its place, and how many elements are there; where it is an array its place gives one operand
-  pub text_piece : {Asks : Round} (x : Place) (n : ℕ) → IsText p x n → (at : ℕ) (s : Kinds) → length s + text_need (place_need x) ≤ depth → ((u : TType) → IsPlaceOf p x u → Piece image own role depth Asks (place_code p x at) at s (A ∷ s)) → Piece image own role depth Asks (with_length (place_code p x at) n) at s (N ∷ A ∷ s)
-  text_piece x n h at s room array =
-      then_one
-      (elim h [ inl a ↦ array a.0 a.1 | inr c ↦ constant_piece x n c at s (omega (arith, room)) ])
-      (i.Num (pos n)) refl refl (omega (arith, room)) (λ whole q. refl)
+  -- so many numbers more
+  numbers_piece : {Asks : Round} (ns : List ℕ) (at : ℕ) (s : Kinds) → length s + length ns ≤ depth → Piece image own role depth Asks (map (λ n. i.Num (pos n)) ns) at s (replicate (length ns) N ++ s)
+  numbers_piece [] at s room = nothing
+  numbers_piece (n ∷ ns) at s room =
+      left_with (pushed N (length ns) s) (one_then (i.Num (pos n)) refl refl (omega (arith, room)) (λ whole q. refl) (numbers_piece ns (at + 1) (N ∷ s) (omega (arith, room))))
+
+  -- a parameter's cells are there
+  may_cell : (c : ℕ) → c < frame_cells (numbered image.shapes.items own) → IsTrue (nat_lt c (frame_cells (numbered image.shapes.items own)))
+  may_cell c lt = lt-ltb c (frame_cells (numbered image.shapes.items own)) lt
+
+  lengths_piece : {Asks : Round} (c j : ℕ) (at : ℕ) (s : Kinds) → c + j ≤ frame_cells (numbered image.shapes.items own) → length s + j ≤ depth → Piece image own role depth Asks (lengths_code c j) at s (replicate j N ++ s)
+  lengths_piece c zero at s le room = nothing
+  lengths_piece c (suc j) at s le room =
+      left_with (pushed N j s) (one_then (i.Length c) refl refl (omega (arith, room)) (λ whole q. may_cell c (omega (arith, le))) (lengths_piece (suc c) j (at + 1) (N ∷ s) (omega (arith, le)) (omega (arith, room))))
+
+  -- operands are taken
+  drops_piece : {Asks : Round} (j : ℕ) (ks : Kinds) (at : ℕ) (s : Kinds) → length ks ≡ j → length ks + length s ≤ depth → Piece image own role depth Asks (drops j) at (ks ++ s) s
+  drops_piece zero [] at s e room = nothing
+  drops_piece zero (k ∷ ks) at s e room = absurd (omega (arith, e))
+  drops_piece (suc j) [] at s e room = absurd (omega (arith, e))
+  drops_piece (suc j) (k ∷ ks) at s e room =
+      one_then i.Drop refl refl (omega (arith, room, length-append ks s)) (λ whole q. refl) (drops_piece j ks (at + 1) s (omega (arith, e)) (omega (arith, room)))
+
+  -- the place that a parameter's cell holds
+  param_piece : {Asks : Round} (k : ℕ) (a : Parameter) → IsParameter p o k a → 1 ≤ size (parameter_cells p.types a) → (at : ℕ) (s : Kinds) → length s ≤ depth → Piece image own role depth Asks (i.Param (own_cell p o k) ∷ []) at s (A ∷ s)
+  param_piece k a h some at s room =
+      let there = has.parameters k a h in
+      one (i.Param (own_cell p o k)) refl refl room (λ whole q. may_cell (own_cell p o k) (omega (arith, there.cells, some)))
+
+  -- an instruction that takes what is handed over, and gives the kind of what a procedure gives
+  pub call_takes : (m k : ℕ) (q : Procedure) → procedure_in p m k ≡ Some q → (s : Kinds) → called (numbered image.shapes.items (procedure_number p m k)) (reverse (kinds_of (map (parameter_kind p.types) q.parameters)) ++ s) ≡ given (option_map (λ t. cell_kind p.types (id_of t)) q.result) (Some s)
+  call_takes m k q there s =
+      let x = has.shapes (procedure_number p m k) (routine.called m q) (routine_there p m k q there) in
+      let ks = reverse (kinds_of (map (parameter_kind p.types) q.parameters)) in
+      ap (λ f. called f (ks ++ s)) x.1
+      ∙ (λ j. given ((x.2 j).result) (without (reverse (kinds_of (x.2 j).params)) (ks ++ s)))
+      ∙ ap (given (option_map (λ t. cell_kind p.types (id_of t)) q.result)) (kinds_taken ks s)
+
+  call_stands : (m k : ℕ) (q : Procedure) → procedure_in p m k ≡ Some q → (whole : List Instr) (at : ℕ) → IsTrue (may_stand image own role whole at (i.Call (procedure_number p m k)))
+  call_stands m k q there whole at =
+      let x = has.shapes (procedure_number p m k) (routine.called m q) (routine_there p m k q there) in
+      ap (λ b. b && is_some (numbered image.shapes.items (procedure_number p m k))) performs ∙ ap is_some x.1
+
+  -- what is handed over, and a call that takes it
+  called_piece : {Asks : Round} (m k : ℕ) (q : Procedure) → procedure_in p m k ≡ Some q → (more : Arguments) → AreArguments p o more q.parameters → (at : ℕ) (s : Kinds) {t : Kinds} → called (numbered image.shapes.items (procedure_number p m k)) (reverse (kinds_of (map (parameter_kind p.types) q.parameters)) ++ s) ≡ Some t → length s + arguments_need more ≤ depth → Piece image own role depth Asks (arguments_code p o more at) at s (reverse (kinds_of (map (parameter_kind p.types) q.parameters)) ++ s) → Piece image own role depth Asks (arguments_code p o more at ++ i.Call (procedure_number p m k) ∷ []) at s t
+  called_piece m k q there more h at s gives room handed =
+      let ks = kinds_of (map (parameter_kind p.types) q.parameters) in
+      let few = handed_room p o has.predeclared more q.parameters h in
+      then_one handed (i.Call (procedure_number p m k)) gives refl (omega (arith, room, few, length-append (reverse ks) s, length-reverse ks)) (call_stands m k q there)
+
+  -- a text, an array of one dimension
+  text_of : {Asks : Round} (r : Rows) (t : TType) → AreRows p o r 1 t → (at : ℕ) (s : Kinds) → Piece image own role depth Asks (rows_code p o r at) at s (opened (dimensions r) s) → Piece image own role depth Asks (rows_code p o r at) at s (N ∷ A ∷ s)
+  text_of r t h at s c = left_with (ap (λ j. opened j s) (dimensions_are p o r 1 t h)) c
 
   -- two texts, and behind them an instruction that takes both
-  pub texts_piece : {Asks : Round} (x : Place) (n : ℕ) → IsText p x n → (y : Place) (m : ℕ) → IsText p y m → (take : Instr) (at : ℕ) (s : Kinds) {t : Kinds} → length s + texts_need (place_need x) (place_need y) ≤ depth → ((u : TType) → IsPlaceOf p x u → Piece image own role depth Asks (place_code p x at) at s (A ∷ s)) → ((u : TType) → IsPlaceOf p y u → (let there = at + length (with_length (place_code p x at) n) in Piece image own role depth Asks (place_code p y there) there (N ∷ A ∷ s) (A ∷ N ∷ A ∷ s))) → after image own take (N ∷ A ∷ N ∷ A ∷ s) ≡ Some t → next_of take ≡ On → ((whole : List Instr) (q : ℕ) → IsTrue (may_stand image own role whole q take)) → Piece image own role depth Asks (operands_code (with_length (place_code p x at) n) (with_length (place_code p y (at + length (with_length (place_code p x at) n))) m) take) at s t
-  texts_piece x n h y m g take at s room first second e goes may =
-      both (text_piece x n h at s (omega (arith, room)) first)
-      (then_one (text_piece y m g (at + length (with_length (place_code p x at) n)) (N ∷ A ∷ s) (omega (arith, room)) second) take e goes (omega (arith, room)) may)
+  texts_of : {Asks : Round} (a b : Rows) → AreRows p o a 1 Char → AreRows p o b 1 Char → (take : Instr) (at : ℕ) (s : Kinds) {v : Kinds} → length s + texts_need (rows_need a) (rows_need b) ≤ depth → after image own take (N ∷ A ∷ N ∷ A ∷ s) ≡ Some v → next_of take ≡ On → ((whole : List Instr) (q : ℕ) → IsTrue (may_stand image own role whole q take)) → Piece image own role depth Asks (rows_code p o a at) at s (opened (dimensions a) s) → (let there = at + length (rows_code p o a at) in Piece image own role depth Asks (rows_code p o b there) there (N ∷ A ∷ s) (opened (dimensions b) (N ∷ A ∷ s))) → Piece image own role depth Asks (operands_code (rows_code p o a at) (rows_code p o b (at + length (rows_code p o a at))) take) at s v
+  texts_of a b h g take at s room e goes may first second =
+      let k = some_rows b in
+      let d = dimensions_are p o b 1 Char g in
+      both (text_of a Char h at s first)
+      (then_one (text_of b Char g (at + length (rows_code p o a at)) (N ∷ A ∷ s) second) take e goes (omega (arith, room, k, d)) may)
 
   mutual
     -- a place
-    pub place_piece : {Asks : Round} (x : Place) (t : TType) → IsPlaceOf p x t → (at : ℕ) (s : Kinds) → length s + place_need x ≤ depth → Piece image own role depth Asks (place_code p x at) at s (A ∷ s)
-    place_piece (ModuleVar m c) t h at s room = one (i.Module m (variable_cell p m c)) refl refl (omega (arith, room)) (λ whole q. has.cells m c t h)
+    pub place_piece : {Asks : Round} (x : Place) (t : TType) → IsPlaceOf p o x t → (at : ℕ) (s : Kinds) → length s + place_need x ≤ depth → Piece image own role depth Asks (place_code p o x at) at s (A ∷ s)
+    place_piece (ModuleVar m c) t h at s room = one (i.Module m (variable_cell p o m c)) refl refl (omega (arith, room)) (λ whole q. has.cells m c t h)
+    place_piece (Local k) t h at s room =
+        one (i.Frame (own_cell p o k)) refl refl (omega (arith, room)) (λ whole q. elim h [ inl l ↦ has.locals k t l | inr a ↦ (has.parameters k a.0 a.1).place ])
+    place_piece (Passed k) t h at s room = param_piece k h.0 h.1 (omega (arith, passed_size p.types h.0 h.2.0 h.2.1)) at s (omega (arith, room))
+    place_piece (Of r) t h at s room =
+        left_with (ap (λ j. opened j s) (dimensions_are p o r 0 t h)) (rows_piece r 0 t h at s room)
     place_piece (Field x of c) t h at s room =
         let k = some_place x in
-        then_one (place_piece x of h.0 at s room) (i.Offset (field_cell p of c) 0) refl refl (omega (arith, room, k)) (λ whole q. refl)
+        then_one (place_piece x of h.0 at s room) (i.Offset (field_cell p o of c) 0) refl refl (omega (arith, room, k)) (λ whole q. refl)
     place_piece (Index x n of e) t h at s room =
         let k = some_need e in
         both (place_piece x h.0 h.1 at s (omega (arith, room)))
         (then_one
-        (value_piece e (Integer W64) h.3 (at + length (place_code p x at)) (A ∷ s) (omega (arith, room)))
-        (i.Index n (cells_of p of)) refl refl (omega (arith, room, k)) (λ whole q. refl))
+        (value_piece e (Integer W64) h.3 (at + length (place_code p o x at)) (A ∷ s) (omega (arith, room)))
+        (i.Index n (cells_of p o of)) refl refl (omega (arith, room, k)) (λ whole q. refl))
+
+    -- an array with the lengths of its dimensions
+    pub rows_piece : {Asks : Round} (r : Rows) (n : ℕ) (t : TType) → AreRows p o r n t → (at : ℕ) (s : Kinds) → length s + rows_need r ≤ depth → Piece image own role depth Asks (rows_code p o r at) at s (opened (dimensions r) s)
+    rows_piece (Known x ns) n t h at s room =
+        both
+        (elim h.1 [ inl a ↦ place_piece x a.0 a.1 at s (omega (arith, room)) | inr c ↦ constant_piece x c.0 c.2 at s (omega (arith, room)) ])
+        (numbers_piece ns (at + length (place_code p o x at)) (A ∷ s) (omega (arith, room)))
+    rows_piece (Opened k j) n t h at s room =
+        let a = h.1.0 in
+        let there = has.parameters k a h.1.1 in
+        let many = opened_size p.types a h.1.2.0 in
+        let j_is : j ≡ open_dimensions p.types (id_of a.of) = h.1.2.1 in
+        both (param_piece k a h.1.1 (omega (arith, many)) at s (omega (arith, room)))
+        (lengths_piece (suc (own_cell p o k)) j (at + 1) (A ∷ s) (omega (arith, there.cells, many, j_is)) (omega (arith, room)))
+    rows_piece (Row r of e) n t h at s room =
+        let k = some_need e in
+        let j = dimensions r in
+        let d = dimensions_are p o r (suc n) t h.0 in
+        let long = opened_long j s in
+        both (rows_piece r (suc n) t h.0 at s (omega (arith, room)))
+        (then_one
+        (value_piece e (Integer W64) h.1 (at + length (rows_code p o r at)) (opened j s) (omega (arith, room, long)))
+        (i.IndexOpen j (cells_of p o of)) (opened_row j s) refl (omega (arith, room, long, k)) (λ whole q. lt-ltb 0 j (omega (arith, d))))
+
+    -- what is handed over for these parameters
+    pub arguments_piece : {Asks : Round} (as' : Arguments) (ps : List Parameter) → AreArguments p o as' ps → (at : ℕ) (s : Kinds) → length s + arguments_need as' ≤ depth → Piece image own role depth Asks (arguments_code p o as' at) at s (reverse (kinds_of (map (parameter_kind p.types) ps)) ++ s)
+    arguments_piece NoMore ps h at s room = left_with (ap (λ l. reverse (kinds_of (map (parameter_kind p.types) l)) ++ s) (sym h)) nothing
+    arguments_piece (Scalar e more) ps h at s room =
+        left_with (handed_first p (kind_of h.0.of ∷ []) h.0 h.1 ps s h.2 (scalar_kinds p has.predeclared h.0 h.3.0 h.3.1 h.4))
+        (both (value_piece e h.0.of h.5 at s (omega (arith, room)))
+        (arguments_piece more h.1 h.6 (at + length (value_code p o e at)) (kind_of h.0.of ∷ s) (omega (arith, room))))
+    arguments_piece (Whole x more) ps h at s room =
+        left_with (handed_first p (A ∷ []) h.0 h.1 ps s h.2 (place_kinds p h.0 h.3))
+        (both (place_piece x h.0.of h.4 at s (omega (arith, room)))
+        (arguments_piece more h.1 h.5 (at + length (place_code p o x at)) (A ∷ s) (omega (arith, room))))
+    arguments_piece (Opening r more) ps h at s room =
+        let j = dimensions r in
+        let d = dimensions_are p o r h.2 h.3 h.6 in
+        left_with (handed_first p (A ∷ replicate j N) h.0 h.1 ps s h.4 (open_kinds p h.0 h.2 h.3 h.5 j d))
+        (both (left_with (sym (reversed_row j s)) (rows_piece r h.2 h.3 h.6 at s (omega (arith, room))))
+        (arguments_piece more h.1 h.8 (at + length (rows_code p o r at)) (reverse (A ∷ replicate j N) ++ s) (omega (arith, room, opened_long j s, ap length (reversed_row j s)))))
 
     -- an expression of a type gives an operand of the type's kind
-    pub value_piece : {Asks : Round} (e : Expr) (t : TType) → IsOf p e t → (at : ℕ) (s : Kinds) → length s + value_need e ≤ depth → Piece image own role depth Asks (value_code p e at) at s (kind_of t ∷ s)
+    pub value_piece : {Asks : Round} (e : Expr) (t : TType) → IsOf p o e t → (at : ℕ) (s : Kinds) → length s + value_need e ≤ depth → Piece image own role depth Asks (value_code p o e at) at s (kind_of t ∷ s)
     value_piece (Lit l) t h at s room = as_kind (sym (literal_kind l t h)) (literal_piece l (omega (arith, room)))
     value_piece (Read u x) t h at s room =
         let k = some_place x in
@@ -106,25 +259,25 @@ module _ (p : Program) (image : Image) (own : ℕ) (role : Role) (depth : ℕ) (
         (i.Unary op) refl refl (omega (arith, room, k)) (λ whole q. refl))
     value_piece (Binary op a b) t h at s room =
         let k = some_need b in
-        let o = taken_kinds op (IsOf p a) (IsOf p b) h.0 in
+        let taken = taken_kinds op (IsOf p o a) (IsOf p o b) h.0 in
         as_kind (sym (given_of_two_kind op t h.1)) (both
-        (as_kind o.4 (value_piece a o.0 o.2 at s (omega (arith, room))))
+        (as_kind taken.4 (value_piece a taken.0 taken.2 at s (omega (arith, room))))
         (then_one
-        (as_kind o.5 (value_piece b o.1 o.3 (at + length (value_code p a at)) (N ∷ s) (omega (arith, room))))
+        (as_kind taken.5 (value_piece b taken.1 taken.3 (at + length (value_code p o a at)) (N ∷ s) (omega (arith, room))))
         (i.Binary op) refl refl (omega (arith, room, k)) (λ whole q. refl)))
     value_piece (And a b) t h at s room =
-        let here = at + length (value_code p a at) + 1 in
-        let other = here + length (value_code p b here) + 1 in
+        let here = at + length (value_code p o a at) + 1 in
+        let other = here + length (value_code p o b here) + 1 in
         let k = some_need a in
-        as_kind (ap kind_of (sym h.2)) (choose other (here + length (value_code p b here) + 2) refl (omega arith) (omega (arith, room, k)) (omega (arith, room, k))
+        as_kind (ap kind_of (sym h.2)) (choose other (here + length (value_code p o b here) + 2) refl (omega arith) (omega (arith, room, k)) (omega (arith, room, k))
         (value_piece a Boolean h.0 at s (omega (arith, room)))
         (value_piece b Boolean h.1 here s (omega (arith, room)))
         (one (i.Num (pos 0)) refl refl (omega (arith, room)) (λ whole q. refl)))
     value_piece (Or a b) t h at s room =
-        let other = at + length (value_code p a at) + 3 in
-        let n : other ≡ at + length (value_code p a at) + 1 + 1 + 1 = omega arith in
+        let other = at + length (value_code p o a at) + 3 in
+        let n : other ≡ at + length (value_code p o a at) + 1 + 1 + 1 = omega arith in
         let k = some_need a in
-        as_kind (ap kind_of (sym h.2)) (choose other (other + length (value_code p b other)) n refl (omega (arith, room, k)) (omega (arith, room, k))
+        as_kind (ap kind_of (sym h.2)) (choose other (other + length (value_code p o b other)) n refl (omega (arith, room, k)) (omega (arith, room, k))
         (value_piece a Boolean h.0 at s (omega (arith, room)))
         (one (i.Num (pos 1)) refl refl (omega (arith, room)) (λ whole q. refl))
         (value_piece b Boolean h.1 other s (omega (arith, room))))
@@ -135,12 +288,34 @@ module _ (p : Program) (image : Image) (own : ℕ) (role : Role) (depth : ℕ) (
     value_piece (Chr a) t h at s room =
         let k = some_need a in
         as_kind (ap kind_of (sym h.1)) (then_one (value_piece a (Integer W64) h.0 at s room) (i.Unary (Range (pos 0) (pos 255))) refl refl (omega (arith, room, k)) (λ whole q. refl))
-    value_piece (CompareTexts r x n y m) t h at s room =
-        as_kind (ap kind_of (sym h.2)) (texts_piece x n h.0 y m h.1 (i.CmpText r) at s room
-        (λ u k. place_piece x u k at s (omega (arith, room)))
-        (λ u k. place_piece y u k (at + length (with_length (place_code p x at) n)) (N ∷ A ∷ s) (omega (arith, room)))
-        refl refl (λ whole q. refl))
-    value_piece (Len x n) t h at s room =
-        let k = some_place x in
-        as_kind (sym (included_kind t (Integer W32) h.5)) (both (place_piece x h.0 h.2 at s room)
-        (one_then i.Drop refl refl (omega (arith, room, k)) (λ whole q. refl) (one (i.Num (pos n)) refl refl (omega (arith, room, k)) (λ whole q. refl))))
+    value_piece (CompareTexts r a b) t h at s room =
+        as_kind (ap kind_of (sym h.2)) (texts_of a b h.0 h.1 (i.CmpText r) at s room refl refl (λ whole q. refl)
+        (rows_piece a 1 Char h.0 at s (omega (arith, room)))
+        (rows_piece b 1 Char h.1 (at + length (rows_code p o a at)) (N ∷ A ∷ s) (omega (arith, room))))
+    value_piece (Len r d) t h at s room =
+        let j = dimensions r in
+        let e = dimensions_are p o r h.0 h.1 h.2 in
+        let less : d < h.0 = h.4 in
+        as_kind (sym (included_kind t (Integer W32) h.5))
+        (then_one (rows_piece r h.0 h.1 h.2 at s room) (i.PickLen d j) (ap (topped N) (rows_taken j s)) refl (omega (arith, room, some_rows r, opened_long j s)) (λ whole q. lt-ltb d j (omega (arith, less, e))))
+    value_piece (LenBehind r n) t h at s room =
+        let j = dimensions r in
+        let some = some_rows r in
+        let long : length (row j) ≡ suc j = length-append (replicate j N) (A ∷ []) ∙ ap (λ n. n + 1) (length-replicate j N) ∙ (let e : j + 1 ≡ suc j = omega arith in e) in
+        as_kind (sym (included_kind t (Integer W32) h.4))
+        (both (left_with (sym (append_assoc (replicate j N) (A ∷ []) s)) (rows_piece r h.0 h.1 h.2 at s room))
+        (then_one (drops_piece (suc j) (row j) (at + length (rows_code p o r at)) s long (omega (arith, room, some, long))) (i.Num (pos n)) refl refl (omega (arith, room, some)) (λ whole q. refl)))
+    value_piece (Function m k more) t h at s room =
+        let gives = call_takes m k h.0 h.2 s ∙ ap (λ r. given (option_map (λ t. cell_kind p.types (id_of t)) r) (Some s)) h.3 ∙ ap (λ k. given (Some k) (Some s)) (basic_cell p has.predeclared h.1 h.4) in
+        as_kind (sym (included_kind t h.1 h.5 ∙ basic_kind h.1 h.4)) (called_piece m k h.0 h.2 more h.6 at s gives (omega (arith, room)) (arguments_piece more h.0.parameters h.6 at s (omega (arith, room))))
+
+  -- a text and two texts as statements have them, and a call
+  pub text_piece : {Asks : Round} (r : Rows) → AreRows p o r 1 Char → (at : ℕ) (s : Kinds) → length s + rows_need r ≤ depth → Piece image own role depth Asks (rows_code p o r at) at s (N ∷ A ∷ s)
+  text_piece r h at s room = text_of r Char h at s (rows_piece r 1 Char h at s room)
+
+  pub texts_piece : {Asks : Round} (a b : Rows) → AreRows p o a 1 Char → AreRows p o b 1 Char → (take : Instr) (at : ℕ) (s : Kinds) {v : Kinds} → length s + texts_need (rows_need a) (rows_need b) ≤ depth → after image own take (N ∷ A ∷ N ∷ A ∷ s) ≡ Some v → next_of take ≡ On → ((whole : List Instr) (q : ℕ) → IsTrue (may_stand image own role whole q take)) → Piece image own role depth Asks (operands_code (rows_code p o a at) (rows_code p o b (at + length (rows_code p o a at))) take) at s v
+  texts_piece a b h g take at s room e goes may =
+      texts_of a b h g take at s room e goes may (rows_piece a 1 Char h at s (omega (arith, room))) (rows_piece b 1 Char g (at + length (rows_code p o a at)) (N ∷ A ∷ s) (omega (arith, room)))
+
+  pub call_piece : {Asks : Round} (m k : ℕ) (q : Procedure) → procedure_in p m k ≡ Some q → (more : Arguments) → AreArguments p o more q.parameters → (at : ℕ) (s : Kinds) {t : Kinds} → called (numbered image.shapes.items (procedure_number p m k)) (reverse (kinds_of (map (parameter_kind p.types) q.parameters)) ++ s) ≡ Some t → length s + arguments_need more ≤ depth → Piece image own role depth Asks (arguments_code p o more at ++ i.Call (procedure_number p m k) ∷ []) at s t
+  call_piece m k q there more h at s gives room = called_piece m k q there more h at s gives room (arguments_piece more q.parameters h at s room)

@@ -8,10 +8,11 @@ use Rattle.aos_code.specs.declared.instr.Kind.TheVariants.{N}
 use Rattle.aos_typed.specs.declared.tree.TType.TheVariants.{Integer}
 use Rattle.aos_typed.specs.Meaning.{until}
 use Rattle.aos_typed.specs.Program.{OfLabels, Read, If, Case, While, Repeat, Loop, For, Block}
-use Rattle.aos_typed.specs.Seen.{seen_program, seen_place, seen_expr, seen_stat, seen_stats, seen_else, arms_of, cases_of}
+use Rattle.aos_typed.specs.Seen.{seen_place, seen_expr, seen_stat, seen_stats, seen_else, arms_of, cases_of}
 use Rattle.aos_typed.proofs.Seen.{if_seen, case_seen, while_seen, repeat_seen, loop_seen, for_seen, block_seen}
 use Rattle.aos_sim.specs.Code.{begin, value_code, arm_code, step_code, for_head, rounds_code, labels_code, stats_code, arms_code, cases_code}
 use Rattle.aos_sim.proofs.Sizes.{labels_length, stats_length, arms_length, cases_length}
+use Rattle.aos_emit.specs.Scope.{program_of, own_of}
 use Rattle.aos_emit.specs.Redirect.{pending_exit, pending_end}
 use Rattle.aos_emit.proofs.Heights.{within, arms_within, cases_within}
 use Rattle.aos_emit.proofs.Patch.{followed, choice_more, patched, ended, round_is, emitted}
@@ -63,125 +64,136 @@ emit_stat-emit_block-requires t c =
 pub emit_stat-returns-in-If : goal.emit_stat-returns-in-If
 emit_stat-returns-in-If t c =
     let x = c.in-If in
-    on_ok_weaker c.emit_if.result (emitted (seen_program c.args.program.now) c.args.code.now.items _ c.args.level _ _ _ (λ i. If x.at (arms_of (c.deref.ensures.value i) (seen_stats (c.deref-in-If.ensures.value i)))) (ap seen_stat x.is ∙ if_seen x.at x.arms x.body)) c.emit_if.ensures
+    on_ok_weaker c.emit_if.result (emitted (program_of c.args.scope.now) (own_of c.args.scope.now) c.args.code.now.items _ c.args.level _ _ _ (λ i. If x.at (arms_of (c.deref.ensures.value i) (seen_stats (c.deref-in-If.ensures.value i)))) (ap seen_stat x.is ∙ if_seen x.at x.arms x.body)) c.emit_if.ensures
 
 pub emit_stat-returns-in-Case : goal.emit_stat-returns-in-Case
 emit_stat-returns-in-Case t c =
     let x = c.in-Case in
-    on_ok_weaker c.emit_case.result (emitted (seen_program c.args.program.now) c.args.code.now.items _ c.args.level _ _ _ (ap (λ l. Case x.at (seen_expr x.value) (cases_of l (seen_else x.otherwise))) c.deref-in-Case.ensures.value) (ap seen_stat x.is ∙ case_seen x.at x.value x.cases x.otherwise)) c.emit_case.ensures
+    on_ok_weaker c.emit_case.result (emitted (program_of c.args.scope.now) (own_of c.args.scope.now) c.args.code.now.items _ c.args.level _ _ _ (ap (λ l. Case x.at (seen_expr x.value) (cases_of l (seen_else x.otherwise))) c.deref-in-Case.ensures.value) (ap seen_stat x.is ∙ case_seen x.at x.value x.cases x.otherwise)) c.emit_case.ensures
 
 pub emit_stat-returns-in-While : goal.emit_stat-returns-in-While
 emit_stat-returns-in-While t c =
     let x = c.in-While in
-    on_ok_weaker c.emit_while.result (emitted (seen_program c.args.program.now) c.args.code.now.items _ c.args.level _ _ _ (ap (λ l. While x.at (seen_expr x.test) (seen_stats l)) c.deref-in-While.ensures.value) (ap seen_stat x.is ∙ while_seen x.at x.test x.body)) c.emit_while.ensures
+    on_ok_weaker c.emit_while.result (emitted (program_of c.args.scope.now) (own_of c.args.scope.now) c.args.code.now.items _ c.args.level _ _ _ (ap (λ l. While x.at (seen_expr x.test) (seen_stats l)) c.deref-in-While.ensures.value) (ap seen_stat x.is ∙ while_seen x.at x.test x.body)) c.emit_while.ensures
 
 pub emit_stat-returns-in-Repeat : goal.emit_stat-returns-in-Repeat
 emit_stat-returns-in-Repeat t c =
     let x = c.in-Repeat in
-    on_ok_weaker c.emit_repeat.result (emitted (seen_program c.args.program.now) c.args.code.now.items _ c.args.level _ _ _ (ap (λ l. Repeat x.at (seen_stats l) (seen_expr x.test)) c.deref-in-Repeat.ensures.value) (ap seen_stat x.is ∙ repeat_seen x.at x.body x.test)) c.emit_repeat.ensures
+    on_ok_weaker c.emit_repeat.result (emitted (program_of c.args.scope.now) (own_of c.args.scope.now) c.args.code.now.items _ c.args.level _ _ _ (ap (λ l. Repeat x.at (seen_stats l) (seen_expr x.test)) c.deref-in-Repeat.ensures.value) (ap seen_stat x.is ∙ repeat_seen x.at x.body x.test)) c.emit_repeat.ensures
 
 pub emit_stat-returns-in-Loop : goal.emit_stat-returns-in-Loop
 emit_stat-returns-in-Loop t c =
     let x = c.in-Loop in
-    on_ok_weaker c.emit_loop.result (emitted (seen_program c.args.program.now) c.args.code.now.items _ c.args.level _ _ _ (ap (λ l. Loop x.at (seen_stats l)) c.deref-in-Loop.ensures.value) (ap seen_stat x.is ∙ loop_seen x.at x.body)) c.emit_loop.ensures
+    on_ok_weaker c.emit_loop.result (emitted (program_of c.args.scope.now) (own_of c.args.scope.now) c.args.code.now.items _ c.args.level _ _ _ (ap (λ l. Loop x.at (seen_stats l)) c.deref-in-Loop.ensures.value) (ap seen_stat x.is ∙ loop_seen x.at x.body)) c.emit_loop.ensures
 
 pub emit_stat-returns-in-Block : goal.emit_stat-returns-in-Block
 emit_stat-returns-in-Block t c =
     let x = c.in-Block in
-    on_ok_weaker c.emit_block.result (emitted (seen_program c.args.program.now) c.args.code.now.items _ c.args.level _ _ _ (ap (λ l. Block x.at (seen_stats l)) c.deref-in-Block.ensures.value) (ap seen_stat x.is ∙ block_seen x.at x.body)) c.emit_block.ensures
+    on_ok_weaker c.emit_block.result (emitted (program_of c.args.scope.now) (own_of c.args.scope.now) c.args.code.now.items _ c.args.level _ _ _ (ap (λ l. Block x.at (seen_stats l)) c.deref-in-Block.ensures.value) (ap seen_stat x.is ∙ block_seen x.at x.body)) c.emit_block.ensures
 
 pub emit_stat-returns-in_ok-emit_head-in-For : goal.emit_stat-returns-in_ok-emit_head-in-For
 emit_stat-returns-in_ok-emit_head-in-For t c =
     let x = c.in-For in
-    let p = seen_program c.args.program.now in
+    let p = program_of c.args.scope.now in
+    let own = own_of c.args.scope.now in
     let base = c.args.code.now.items in
     let d = c.args.level in
     let q = seen_place x.variable in
     let ss = seen_stats c.deref-in-For.result.now in
-    let head = for_head p x.at x.of q (seen_expr x.from) (seen_expr x.to) (length base) d in
-    let rounds : ℕ → List Instr = λ n. rounds_code p x.at x.of q x.step ss n pending_exit d in
+    let head = for_head p own x.at x.of q (seen_expr x.from) (seen_expr x.to) (length base) d in
+    let rounds : ℕ → List Instr = λ n. rounds_code p own x.at x.of q x.step ss n pending_exit d in
     let first : c.emit_head.new.code.items ≡ base ++ head = c.in_ok-emit_head-in-For.ensures in
     let whole = ap (λ l. For x.at x.of q (seen_expr x.from) (seen_expr x.to) x.step (seen_stats l)) c.deref-in-For.ensures.value in
     let seen = ap seen_stat x.is ∙ for_seen x.at x.of x.variable x.from x.to x.step x.body in
     let joined : c.emit_rounds.new.code.items ≡ c.emit_head.new.code.items ++ rounds (length c.emit_head.new.code.items) → c.emit_rounds.new.code.items ≡ base ++ (head ++ rounds (length base + length head)) = followed base c.emit_head.new.code.items c.emit_rounds.new.code.items head rounds first in
-    on_ok_weaker c.emit_rounds.result (λ e. emitted p base c.emit_rounds.new.code.items d c.args.statement.now (For x.at x.of q (seen_expr x.from) (seen_expr x.to) x.step ss) _ whole seen (joined e)) c.emit_rounds.ensures
+    on_ok_weaker c.emit_rounds.result (λ e. emitted p own base c.emit_rounds.new.code.items d c.args.statement.now (For x.at x.of q (seen_expr x.from) (seen_expr x.to) x.step ss) _ whole seen (joined e)) c.emit_rounds.ensures
 
 pub emit_arm-returns : goal.emit_arm-returns
 emit_arm-returns t c =
-    let p = seen_program c.args.program.now in
+    let p = program_of c.args.scope.now in
+    let own = own_of c.args.scope.now in
     let base = c.args.code.now.items in
     let d = c.args.level in
-    patched base (value_code p (seen_expr c.args.test.now) (length base)) (λ n. stats_code p (seen_stats c.args.body.now) n pending_exit d) _ _ _ _ _ _ (λ n. i.JumpFalse n) _ _ c.in_ok-emit_value.ensures (c.len-test_end.ensures ∙ c.emit_value.new.code.ok.0) c.in_ok-put.ensures c.in_ok-emit_stats.ensures c.in_ok-put-2.ensures (c.in_ok-end.ensures.is ∙ ap length c.deref.ensures.value)
+    patched base (value_code p own (seen_expr c.args.test.now) (length base)) (λ n. stats_code p own (seen_stats c.args.body.now) n pending_exit d) _ _ _ _ _ _ (λ n. i.JumpFalse n) _ _ c.in_ok-emit_value.ensures (c.len-test_end.ensures ∙ c.emit_value.new.code.ok.0) c.in_ok-put.ensures c.in_ok-emit_stats.ensures c.in_ok-put-2.ensures (c.in_ok-end.ensures.is ∙ ap length c.deref.ensures.value)
 
 pub emit_while-returns : goal.emit_while-returns
 emit_while-returns t c =
-    let p = seen_program c.args.program.now in
+    let p = program_of c.args.scope.now in
+    let own = own_of c.args.scope.now in
     let base = c.args.code.now.items in
     let d = c.args.level in
     let here = begin c.args.at in
     let start = c.in_ok-start.start in
-    let arm : (n start : ℕ) → List Instr = λ n start. (let v = value_code p (seen_expr c.args.condition.now) n in arm_code v (stats_code p (seen_stats c.args.body.now) (n + length v + 1) pending_exit d) n start []) in
+    let arm : (n start : ℕ) → List Instr = λ n start. (let v = value_code p own (seen_expr c.args.condition.now) n in arm_code v (stats_code p own (seen_stats c.args.body.now) (n + length v + 1) pending_exit d) n start []) in
     let there : start ≡ length base = c.in_ok-start.ensures.is ∙ ap length c.deref.ensures.value in
     on_ok_weaker c.emit_arm.result (λ e. followed base c.emit_begin.new.code.items c.emit_arm.new.code.items (here ∷ []) (λ n. arm n start) c.in_ok-emit_begin.ensures e
     ∙ ap (λ m. base ++ (here ∷ arm (length base + 1) m)) there) c.emit_arm.ensures
 
 pub emit_block-returns : goal.emit_block-returns
 emit_block-returns t c =
-    on_ok_weaker c.emit_stats.result (followed c.args.code.now.items _ _ (begin c.args.at ∷ []) (λ n. stats_code (seen_program c.args.program.now) (seen_stats c.args.body.now) n pending_exit c.args.level) c.in_ok-emit_begin.ensures) c.emit_stats.ensures
+    on_ok_weaker c.emit_stats.result (followed c.args.code.now.items _ _ (begin c.args.at ∷ []) (λ n. stats_code (program_of c.args.scope.now) (own_of c.args.scope.now) (seen_stats c.args.body.now) n pending_exit c.args.level) c.in_ok-emit_begin.ensures) c.emit_stats.ensures
 
 pub emit_repeat-returns : goal.emit_repeat-returns
 emit_repeat-returns t c =
-    let p = seen_program c.args.program.now in
+    let p = program_of c.args.scope.now in
+    let own = own_of c.args.scope.now in
     let base = c.args.code.now.items in
     let here = begin c.args.at in
     let start = c.in_ok-start.start in
-    let b = stats_code p (seen_stats c.args.body.now) (length base + 1) pending_exit c.args.level in
-    let test : ℕ → List Instr = λ n. value_code p (seen_expr c.args.condition.now) n in
-    let e2 = followed base c.emit_begin.new.code.items c.emit_stats.new.code.items (here ∷ []) (λ n. stats_code p (seen_stats c.args.body.now) n pending_exit c.args.level) c.in_ok-emit_begin.ensures c.in_ok-emit_stats.ensures in
+    let b = stats_code p own (seen_stats c.args.body.now) (length base + 1) pending_exit c.args.level in
+    let test : ℕ → List Instr = λ n. value_code p own (seen_expr c.args.condition.now) n in
+    let e2 = followed base c.emit_begin.new.code.items c.emit_stats.new.code.items (here ∷ []) (λ n. stats_code p own (seen_stats c.args.body.now) n pending_exit c.args.level) c.in_ok-emit_begin.ensures c.in_ok-emit_stats.ensures in
     let e3 = followed base c.emit_stats.new.code.items c.emit_value.new.code.items (here ∷ b) test e2 c.in_ok-emit_value.ensures in
     let n : length base + suc (length b) ≡ length base + 1 + length b = omega arith in
     let there : start ≡ length base = c.in_ok-start.ensures.is ∙ ap length c.deref.ensures.value in
-    on_ok_weaker c.put.result (λ e. e ∙ ap (λ l. l ++ i.JumpFalse start ∷ []) e3
+    let last = length base + 1 + length b in
+    let turned : c.put.new.code.items ≡ c.emit_value.new.code.items ++ i.JumpFalse start ∷ [] → c.put.new.code.items ≡ base ++ (here ∷ (b ++ (test last ++ i.JumpFalse (length base) ∷ []))) = λ e. e ∙ ap (λ l. l ++ i.JumpFalse start ∷ []) e3
     ∙ append_assoc base (here ∷ (b ++ test (length base + suc (length b)))) (i.JumpFalse start ∷ [])
     ∙ ap (λ l. base ++ (here ∷ l)) (append_assoc b (test (length base + suc (length b))) (i.JumpFalse start ∷ []))
     ∙ ap (λ m. base ++ (here ∷ (b ++ (test m ++ i.JumpFalse start ∷ [])))) n
-    ∙ ap (λ m. base ++ (here ∷ (b ++ (test (length base + 1 + length b) ++ i.JumpFalse m ∷ [])))) there) c.put.ensures
+    ∙ ap (λ m. base ++ (here ∷ (b ++ (test last ++ i.JumpFalse m ∷ [])))) there in
+    on_ok_weaker c.put.result turned c.put.ensures
 
 pub emit_left-returns : goal.emit_left-returns
 emit_left-returns t c =
-    let p = seen_program c.args.program.now in
+    let p = program_of c.args.scope.now in
+    let own = own_of c.args.scope.now in
     let base = c.args.code.now.items in
     let ss = seen_stats c.args.body.now in
     let d = c.args.level in
     let at = length base in
     let code = c.in_ok-emit_stats.ensures in
-    let long = ap length code ∙ length-append base (stats_code p ss at pending_exit d) in
-    let same = stats_length p ss at pending_exit 0 d in
+    let long = ap length code ∙ length-append base (stats_code p own ss at pending_exit d) in
+    let same = stats_length p own ss at pending_exit 0 d in
     let len = c.len.ensures ∙ c.emit_stats.new.code.ok.0 in
     let few : c.len.result + c.from.result < 4294967294 = c.in_ok-exit.ensures.few in
-    let below : at + length (stats_code p ss at pending_exit d) < 4294967295 = omega (arith, few, len, long) in
-    let there : c.in_ok-exit.exit ≡ at + length (stats_code p ss at 0 d) + c.args.behind = omega (arith, c.in_ok-exit.ensures.is, c.from.ensures, len, long, same) in
+    let below : at + length (stats_code p own ss at pending_exit d) < 4294967295 = omega (arith, few, len, long) in
+    let there : c.in_ok-exit.exit ≡ at + length (stats_code p own ss at 0 d) + c.args.behind = omega (arith, c.in_ok-exit.ensures.is, c.from.ensures, len, long, same) in
     c.redirect.ensures
-    ∙ ended base c.emit_stats.new.code.items (λ n. stats_code p ss at n d) pending_exit c.len-first.result c.in_ok-exit.exit code (c.len-first.ensures ∙ c.args.code.now.ok.0) (exit_known p pending_exit c.in_ok-exit.exit ss at d below)
-    ∙ ap (λ n. base ++ stats_code p ss at n d) there
+    ∙ ended base c.emit_stats.new.code.items (λ n. stats_code p own ss at n d) pending_exit c.len-first.result c.in_ok-exit.exit code (c.len-first.ensures ∙ c.args.code.now.ok.0) (exit_known p own pending_exit c.in_ok-exit.exit ss at d below)
+    ∙ ap (λ n. base ++ stats_code p own ss at n d) there
 
 pub emit_loop-returns : goal.emit_loop-returns
 emit_loop-returns t c =
-    let p = seen_program c.args.program.now in
+    let p = program_of c.args.scope.now in
+    let own = own_of c.args.scope.now in
     let base = c.args.code.now.items in
     let here = begin c.args.at in
     let start = c.in_ok-start.start in
     let ss = seen_stats c.args.body.now in
     let d = c.args.level in
-    let body : ℕ → List Instr = λ n. stats_code p ss n (n + length (stats_code p ss n 0 d) + 1) d in
+    let body : ℕ → List Instr = λ n. stats_code p own ss n (n + length (stats_code p own ss n 0 d) + 1) d in
     let e2 = followed base c.emit_begin.new.code.items c.emit_left.new.code.items (here ∷ []) body c.in_ok-emit_begin.ensures c.in_ok-emit_left.ensures in
     let there : start ≡ length base = c.in_ok-start.ensures.is ∙ ap length c.deref.ensures.value in
-    on_ok_weaker c.put.result (λ e. e ∙ ap (λ l. l ++ i.Jump start ∷ []) e2 ∙ append_assoc base (here ∷ body (length base + 1)) (i.Jump start ∷ [])
-    ∙ ap (λ m. base ++ (here ∷ (body (length base + 1) ++ i.Jump m ∷ []))) there) c.put.ensures
+    let turned : c.put.new.code.items ≡ c.emit_left.new.code.items ++ i.Jump start ∷ [] → c.put.new.code.items ≡ base ++ (here ∷ (body (length base + 1) ++ i.Jump (length base) ∷ [])) = λ e. e ∙ ap (λ l. l ++ i.Jump start ∷ []) e2
+    ∙ append_assoc base (here ∷ body (length base + 1)) (i.Jump start ∷ [])
+    ∙ ap (λ m. base ++ (here ∷ (body (length base + 1) ++ i.Jump m ∷ []))) there in
+    on_ok_weaker c.put.result turned c.put.ensures
 
 pub emit_rounds-returns : goal.emit_rounds-returns
 emit_rounds-returns t c =
-    let p = seen_program c.args.program.now in
+    let p = program_of c.args.scope.now in
+    let own = own_of c.args.scope.now in
     let base = c.args.code.now.items in
     let here = c.args.at in
     let w = c.args.width in
@@ -189,44 +201,46 @@ emit_rounds-returns t c =
     let step = c.args.step.now in
     let d = c.args.level in
     let tail = i.Kept d N ∷ (i.Binary (Cmp (until step)) ∷ []) in
-    let test : ℕ → List Instr = λ n. value_code p (Read (Integer w) q) n ++ tail in
-    let body : ℕ → List Instr = λ n. stats_code p (seen_stats c.args.body.now) n pending_exit (suc d) in
-    let next : ℕ → List Instr = λ n. step_code p here w q step n in
+    let test : ℕ → List Instr = λ n. value_code p own (Read (Integer w) q) n ++ tail in
+    let body : ℕ → List Instr = λ n. stats_code p own (seen_stats c.args.body.now) n pending_exit (suc d) in
+    let next : ℕ → List Instr = λ n. step_code p own here w q step n in
     let e1 = followed base c.emit_begin.new.code.items c.emit_test.new.code.items (begin here ∷ []) test c.in_ok-emit_begin.ensures c.in_ok-emit_test.ensures in
-    let stats = c.in_ok-emit_stats.ensures ∙ ap (λ k. c.put.new.code.items ++ stats_code p (seen_stats c.args.body.now) (length c.put.new.code.items) pending_exit k) c.in_ok-inside.ensures in
+    let stats = c.in_ok-emit_stats.ensures ∙ ap (λ k. c.put.new.code.items ++ stats_code p own (seen_stats c.args.body.now) (length c.put.new.code.items) pending_exit k) c.in_ok-inside.ensures in
     let e3 = followed c.put.new.code.items c.emit_stats.new.code.items c.emit_step.new.code.items (body (length c.put.new.code.items)) next stats c.in_ok-emit_step.ensures in
     patched base (begin here ∷ test (length base + 1)) (λ n. body n ++ next (n + length (body n))) _ _ _ _ _ _ (λ n. i.JumpFalse n) _ _ e1 (c.len-test_end.ensures ∙ c.emit_test.new.code.ok.0) c.in_ok-put.ensures e3 c.in_ok-put-2.ensures (c.in_ok-end.ensures.is ∙ ap length c.deref-2.ensures.value)
-    ∙ round_is p here w q step body base d _ (c.in_ok-start.ensures.is ∙ ap length c.deref.ensures.value)
+    ∙ round_is p own here w q step body base d _ (c.in_ok-start.ensures.is ∙ ap length c.deref.ensures.value)
 
 pub emit_if-returns : goal.emit_if-returns
 emit_if-returns t c =
-    let p = seen_program c.args.program.now in
+    let p = program_of c.args.scope.now in
+    let own = own_of c.args.scope.now in
     let base = c.args.code.now.items in
     let all = arms_of c.args.arms.now (seen_stats c.args.otherwise.now) in
     let d = c.args.level in
     let c1 = c.emit_begin.new.code.items in
     let at = length c1 in
     let code = c.in_ok-emit_arms.ensures in
-    let long = ap length code ∙ length-append c1 (arms_code p all at pending_end pending_exit d) in
-    let same = arms_length p all at pending_end 0 pending_exit pending_exit d in
+    let long = ap length code ∙ length-append c1 (arms_code p own all at pending_end pending_exit d) in
+    let same = arms_length p own all at pending_end 0 pending_exit pending_exit d in
     let len = ap length c.deref.ensures.value in
     let few : length c.deref.result.now < 4294967294 = c.in_ok-end.ensures.few in
-    let below : at + length (arms_code p all at pending_end pending_exit d) < 4294967294 = omega (arith, few, len, long) in
-    let there : c.in_ok-end.end ≡ at + length (arms_code p all at 0 pending_exit d) = omega (arith, c.in_ok-end.ensures.is, len, long, same) in
-    let arms : ℕ → List Instr = λ n. arms_code p all n (n + length (arms_code p all n 0 pending_exit d)) pending_exit d in
+    let below : at + length (arms_code p own all at pending_end pending_exit d) < 4294967294 = omega (arith, few, len, long) in
+    let there : c.in_ok-end.end ≡ at + length (arms_code p own all at 0 pending_exit d) = omega (arith, c.in_ok-end.ensures.is, len, long, same) in
+    let arms : ℕ → List Instr = λ n. arms_code p own all n (n + length (arms_code p own all n 0 pending_exit d)) pending_exit d in
     followed base c1 c.redirect.new.code.items (begin c.args.at ∷ []) arms c.in_ok-emit_begin.ensures
     (c.redirect.ensures
-    ∙ ended c1 c.emit_arms.new.code.items (λ n. arms_code p all at n pending_exit d) pending_end c.len-first.result c.in_ok-end.end code (c.len-first.ensures ∙ c.emit_begin.new.code.ok.0) (arms_known p pending_end c.in_ok-end.end all at pending_exit d refl below)
-    ∙ ap (λ n. c1 ++ arms_code p all at n pending_exit d) there)
+    ∙ ended c1 c.emit_arms.new.code.items (λ n. arms_code p own all at n pending_exit d) pending_end c.len-first.result c.in_ok-end.end code (c.len-first.ensures ∙ c.emit_begin.new.code.ok.0) (arms_known p own pending_end c.in_ok-end.end all at pending_exit d refl below)
+    ∙ ap (λ n. c1 ++ arms_code p own all at n pending_exit d) there)
 
 pub emit_choice-returns : goal.emit_choice-returns
 emit_choice-returns t c =
-    let p = seen_program c.args.program.now in
+    let p = program_of c.args.scope.now in
+    let own = own_of c.args.scope.now in
     let base = c.args.code.now.items in
     let rs = c.args.labels.now in
     let d = c.args.level in
     let hit = length base + 9 * length rs + 1 in
-    let body : ℕ → List Instr = λ n. stats_code p (seen_stats c.args.body.now) n pending_exit d in
+    let body : ℕ → List Instr = λ n. stats_code p own (seen_stats c.args.body.now) n pending_exit d in
     let ls = labels_code rs d (length base) hit in
     let to_hit : c.in_ok-hit.hit ≡ hit = omega (arith, c.in_ok-hit.ensures.is, c.len.ensures ∙ c.args.code.now.ok.0) in
     let found : c.put_labels.new.code.items ≡ base ++ ls = c.in_ok-put_labels.ensures ∙ ap (λ n. base ++ labels_code rs d (length base) n) to_hit in
@@ -236,36 +250,38 @@ emit_choice-returns t c =
 
 pub emit_case-returns : goal.emit_case-returns
 emit_case-returns t c =
-    let p = seen_program c.args.program.now in
+    let p = program_of c.args.scope.now in
+    let own = own_of c.args.scope.now in
     let base = c.args.code.now.items in
     let all = cases_of c.args.cases.now (seen_else c.args.otherwise.now) in
     let d = c.args.level in
     let here = begin c.args.at in
-    let v = value_code p (seen_expr c.args.selector.now) (length base + 1) in
-    let e2 = followed base c.emit_begin.new.code.items c.emit_value.new.code.items (here ∷ []) (λ n. value_code p (seen_expr c.args.selector.now) n) c.in_ok-emit_begin.ensures c.in_ok-emit_value.ensures in
+    let v = value_code p own (seen_expr c.args.selector.now) (length base + 1) in
+    let e2 = followed base c.emit_begin.new.code.items c.emit_value.new.code.items (here ∷ []) (λ n. value_code p own (seen_expr c.args.selector.now) n) c.in_ok-emit_begin.ensures c.in_ok-emit_value.ensures in
     let e3 = followed base c.emit_value.new.code.items c.put.new.code.items (here ∷ v) (λ n. i.Keep d N ∷ []) e2 c.in_ok-put.ensures in
     let c1 = c.put.new.code.items in
     let at = length c1 in
     let code = c.in_ok-emit_choices.ensures in
-    let long = ap length code ∙ length-append c1 (cases_code p all at pending_end pending_exit d) in
-    let same = cases_length p all at pending_end 0 pending_exit pending_exit d in
+    let long = ap length code ∙ length-append c1 (cases_code p own all at pending_end pending_exit d) in
+    let same = cases_length p own all at pending_end 0 pending_exit pending_exit d in
     let len = ap length c.deref.ensures.value in
     let few : length c.deref.result.now < 4294967294 = c.in_ok-end.ensures.few in
-    let below : at + length (cases_code p all at pending_end pending_exit d) < 4294967294 = omega (arith, few, len, long) in
-    let there : c.in_ok-end.end ≡ at + length (cases_code p all at 0 pending_exit d) = omega (arith, c.in_ok-end.ensures.is, len, long, same) in
-    let cases : ℕ → List Instr = λ n. cases_code p all n (n + length (cases_code p all n 0 pending_exit d)) pending_exit d in
+    let below : at + length (cases_code p own all at pending_end pending_exit d) < 4294967294 = omega (arith, few, len, long) in
+    let there : c.in_ok-end.end ≡ at + length (cases_code p own all at 0 pending_exit d) = omega (arith, c.in_ok-end.ensures.is, len, long, same) in
+    let cases : ℕ → List Instr = λ n. cases_code p own all n (n + length (cases_code p own all n 0 pending_exit d)) pending_exit d in
     let front = here ∷ (v ++ i.Keep d N ∷ []) in
     let first : length base + length front ≡ length base + 1 + length v + 1 = omega (arith, length-append v (i.Keep d N ∷ [])) in
     followed base c1 c.redirect.new.code.items front cases e3
     (c.redirect.ensures
-    ∙ ended c1 c.emit_choices.new.code.items (λ n. cases_code p all at n pending_exit d) pending_end c.len-first.result c.in_ok-end.end code (c.len-first.ensures ∙ c.put.new.code.ok.0) (cases_known p pending_end c.in_ok-end.end all at pending_exit d refl below)
-    ∙ ap (λ n. c1 ++ cases_code p all at n pending_exit d) there)
+    ∙ ended c1 c.emit_choices.new.code.items (λ n. cases_code p own all at n pending_exit d) pending_end c.len-first.result c.in_ok-end.end code (c.len-first.ensures ∙ c.put.new.code.ok.0) (cases_known p own pending_end c.in_ok-end.end all at pending_exit d refl below)
+    ∙ ap (λ n. c1 ++ cases_code p own all at n pending_exit d) there)
     ∙ ap (λ l. base ++ (here ∷ l)) (append_assoc v (i.Keep d N ∷ []) (cases (length base + length front)))
     ∙ ap (λ n. base ++ (here ∷ (v ++ (i.Keep d N ∷ cases n)))) first
 
 pub emit_choices-loop-case-preserved : goal.emit_choices-loop-case-preserved
 emit_choices-loop-case-preserved t c =
-    let p = seen_program c.args.program.now in
+    let p = program_of c.args.scope.now in
+    let own = own_of c.args.scope.now in
     let cases = c.args.cases.now in
     let otherwise = seen_else c.args.otherwise.now in
     let d = c.args.level in
@@ -274,7 +290,7 @@ emit_choices-loop-case-preserved t c =
     let code = c.loop-case.code.items in
     let rest = cases_of (drop (k + 1) cases) otherwise in
     let there : drop k cases ≡ x ∷ drop (k + 1) cases = drop_more cases k x c.loop-case-test.true ∙ ap (λ y. y ∷ drop (k + 1) cases) (sym c.case-item.is) in
-    choice_more p code c.emit_choice.new.code.items c.deref.result.now (seen_stats c.deref-in-loop-case.result.now) rest d c.in_ok-emit_choice.ensures
-    ∙ (λ i. code ++ cases_code p (OfLabels (c.deref.ensures.value i) (seen_stats (c.deref-in-loop-case.ensures.value i)) rest) (length code) pending_end pending_exit d)
-    ∙ ap (λ l. code ++ cases_code p (cases_of l otherwise) (length code) pending_end pending_exit d) (sym there)
+    choice_more p own code c.emit_choice.new.code.items c.deref.result.now (seen_stats c.deref-in-loop-case.result.now) rest d c.in_ok-emit_choice.ensures
+    ∙ (λ i. code ++ cases_code p own (OfLabels (c.deref.ensures.value i) (seen_stats (c.deref-in-loop-case.ensures.value i)) rest) (length code) pending_end pending_exit d)
+    ∙ ap (λ l. code ++ cases_code p own (cases_of l otherwise) (length code) pending_end pending_exit d) (sym there)
     ∙ c.loop-case.invariant

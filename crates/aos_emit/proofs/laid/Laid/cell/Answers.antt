@@ -1,4 +1,4 @@
-use Rattle.std.proofs.Common.{map, ap, ◌∙◌}
+use Rattle.std.proofs.Common.{None, map, ap, ◌∙◌}
 use Rattle.std.specs.Prelude.{slice_get}
 use Rattle.aos_typed.specs.Seen.{seen_program}
 use Rattle.aos_layout.specs.Seen.{seen_block}
@@ -14,4 +14,4 @@ returns c =
     c.cell_of.ensures
     ∙ ap (λ bs. cell_in (slice_get (map seen_block bs) m) i) c.deref.ensures.value
     ∙ cell_is (seen_program c.self.inside.program.now) c.self.inside.blocks.items c.self.invariant.blocks m i
-    ∙ ap (λ p. variable_cell (seen_program p) m i) c.self.view_is
+    ∙ ap (λ p. variable_cell (seen_program p) None m i) c.self.view_is

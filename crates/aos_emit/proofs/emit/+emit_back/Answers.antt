@@ -1,0 +1,39 @@
+use Rattle.std.proofs.Common.{◌≡◌, ◌<◌, ◌≤◌, ◌+◌, ◌-◌, ◌++◌, [], ◌∷◌, length, sym, ap, ◌∙◌, arith, rules}
+use Rattle.std.proofs.lemmas.Result.{on_ok_weaker}
+use Rattle.aos_typed.specs.Numbers.{procedure_number}
+use Rattle.aos_typed.specs.Seen.{seen_list, seen_expr}
+use Rattle.aos_typed.proofs.Seen.{function_seen}
+use Rattle.aos_code.specs.declared.instr.Instr.TheVariants.{Call}
+use Rattle.aos_emit.specs.Scope.{program_of, own_of}
+use Rattle.aos_emit.specs.Back.{back_arguments, back_code}
+use Rattle.aos_emit.proofs.Parts.{arguments_within}
+use Rattle.aos_emit.proofs.Turned.{argument_more}
+use Rattle.aos_emit.proofs.emit.+emit_back.Goals as goal
+
+pub emit_back-emit_function_back-requires : goal.emit_back-emit_function_back-requires
+emit_back-emit_function_back-requires t c =
+    let x = c.in-Function in
+    let less = arguments_within _ _ _ _ _ (ap seen_expr x.is ∙ function_seen x.home x.number x.arguments) c.deref.ensures.value in
+    search (rules, less)
+
+pub emit_back-returns-in-Function : goal.emit_back-returns-in-Function
+emit_back-returns-in-Function t c =
+    let x = c.in-Function in
+    let p = program_of c.args.scope.now in
+    let own = own_of c.args.scope.now in
+    let code = c.loop-rest.code.items in
+    on_ok_weaker c.emit_function_back.result (λ e. e
+    ∙ ap (λ l. back_arguments p own (seen_list l) (code ++ Call (procedure_number p x.home x.number) ∷ [])) c.deref.ensures.value
+    ∙ sym (ap (λ v. back_code p own v code) (ap seen_expr x.is ∙ function_seen x.home x.number x.arguments))
+    ∙ c.loop-rest.invariant.0) c.emit_function_back.ensures
+
+pub emit_arguments_back-loop-left-preserved : goal.emit_arguments_back-loop-left-preserved
+emit_arguments_back-loop-left-preserved t c =
+    let xs = c.args.arguments.now in
+    let left = c.loop-left.left in
+    let some : 0 < left = c.loop-left-test.true in
+    let all : left ≤ length xs = c.loop-left.invariant.0 in
+    let lt : left - 1 < length xs = omega (arith, some, all) in
+    let next : left - 1 + 1 ≡ left = omega (arith, some) in
+    let within : left - 1 ≤ length xs = omega (arith, lt) in
+    (within, argument_more (program_of c.args.scope.now) (own_of c.args.scope.now) xs (left - 1) left c.index-arguments-left.result c.args.code.now.items c.loop-left.code.items c.emit_argument_back.new.code.items lt next c.index-arguments-left.is c.loop-left.invariant.1 c.in_ok-emit_argument_back.ensures)

@@ -1,0 +1,127 @@
+// A routine whose code is emitted: its program, and its procedure with its cells, if the routine is one.
+
+ghost use Rattle.std.specs.Prelude.{◌≡◌, None, Some, slice_get, IfOk};
+ghost use Rattle.std.specs.Option.{unwrap_or};
+ghost use Rattle.aos_typed.specs.Numbers.{procedure_number};
+ghost use Rattle.aos_typed.specs.Routines.{gives};
+ghost use Rattle.aos_typed.specs.Seen.{seen_program, seen_procedure};
+ghost use Rattle.aos_sim.specs.Code.{variable_cell, own_cell, field_cell, cells_of};
+ghost use Rattle.aos_emit.specs.Scope.{AreOwn, program_of, own_of};
+
+use crate::laid::Laid;
+use aos_typed::{TProcedure, TType};
+use std::alloc::AllocError;
+use std::marker::Model;
+
+/// A routine of a program: its procedure, if it is one, and the first cell of each parameter and then of each local.
+#[derive(Drop)]
+pub struct Scope<'a> {
+    program: &'a Laid<'a>,
+    own: Option<&'a TProcedure>,
+    places: &'a [u32],
+    cells: u32,
+}
+
+impl<'a> Model for Scope<'a> {
+    ghost use Rattle.std.specs.Prelude.{option_map};
+    ghost use Rattle.std.specs.Coded.{codes};
+    ghost use Rattle.aos_typed.specs.contracts.tree.TStat as stat;
+    ghost use Rattle.aos_typed.specs.Seen.{seen_program};
+    ghost use Rattle.aos_emit.specs.Scope as within;
+
+    ghost Value = { within.Inside };
+
+    ghost coded = { Prim.hlevel (codes, stat.the_row.coded) };
+
+    ghost view = { λ s. record { program = s.program.now; own = option_map (λ q. q.now) s.own } };
+
+    ghost invariant = { λ s. within.AreOwn (seen_program s.program.now).types
+        (within.own_of (record { program = s.program.now; own = option_map (λ q. q.now) s.own })) s.places.now s.cells };
+}
+
+impl<'a> Scope<'a> {
+    /// A body that is no procedure's.
+    pub fn body(program: &'a Laid<'a>) -> Scope<'a>
+        ensures { result ≡ record { program = program.now; own = None } }
+    {
+        Scope {
+            program,
+            own: None,
+            places: &[],
+            cells: 0,
+        }
+    }
+
+    /// A procedure, with the first cells of its parameters and locals, and how many cells these have.
+    pub fn procedure(
+        program: &'a Laid<'a>,
+        own: &'a TProcedure,
+        places: &'a [u32],
+        cells: u32,
+    ) -> Scope<'a>
+        requires { AreOwn (seen_program program.now).types (Some (seen_procedure own.now)) places.now cells }
+        ensures { result ≡ record { program = program.now; own = Some own.now } }
+    {
+        Scope {
+            program,
+            own: Some(own),
+            places,
+            cells,
+        }
+    }
+
+    /// The first cell of a module's variable or string constant, by the numbers of both.
+    pub fn cell(&self, home: u32, number: u32) -> u32
+        ensures { result ≡ variable_cell (program_of self.now) (own_of self.now) home number }
+    {
+        self.program.cell(home, number)
+    }
+
+    /// The first cell of a parameter or a local.
+    pub fn own_cell(&self, number: u32) -> u32
+        ensures { result ≡ own_cell (program_of self.now) (own_of self.now) number }
+    {
+        cell_at(self.places, self.cells, number)
+    }
+
+    /// How many cells stand before a field in its record, by the record type and the field's number.
+    pub fn field(&self, of: TType, number: u32) -> Result<u32, AllocError>
+        ensures { IfOk result (λ cells. cells ≡ field_cell (program_of self.now) (own_of self.now) of number) }
+    {
+        self.program.field(of, number)
+    }
+
+    /// How many cells a variable of a type has.
+    pub fn cells_of(&self, of: TType) -> u32
+        ensures { result ≡ cells_of (program_of self.now) (own_of self.now) of }
+    {
+        self.program.cells_of(of)
+    }
+
+    /// The number of a procedure, by the numbers of its module and its own there.
+    pub fn called(&self, home: u32, number: u32) -> Result<u32, AllocError>
+        ensures { IfOk result (λ n. n ≡ procedure_number (program_of self.now) home number) }
+    {
+        self.program.called(home, number)
+    }
+
+    /// Whether the routine is a function.
+    pub fn gives(&self) -> bool
+        ensures { result ≡ gives (own_of self.now) }
+    {
+        match self.own {
+            Some(procedure) => procedure.result.is_some(),
+            None => false,
+        }
+    }
+}
+
+// The cell of this number, or the one behind all.
+fn cell_at(places: &[u32], cells: u32, number: u32) -> u32
+    ensures { result ≡ unwrap_or (slice_get places.now number) cells }
+{
+    match places.get(number as usize) {
+        Some(cell) => *cell,
+        None => cells,
+    }
+}
