@@ -33,6 +33,7 @@ use Rattle.aos_symbols.specs.Env as env
 use Rattle.aos_symbols.proofs.Each.{Each, implied}
 use Rattle.aos_symbols.proofs.Holds.{Holds, none_left, none_right}
 use Rattle.aos_symbols.proofs.Told.{IsTold, IsKnown, GoOn, known_on, told_behind, PartsAreTold, FieldsAgree}
+use Rattle.aos_check_expr.proofs.Opens.{OpensStand}
 use Rattle.aos_check_decl.specs.declared.aliases.Target.{Target}
 use Rattle.aos_check_decl.specs.Aliases.{first_rows, targets}
 use Rattle.aos_check_decl.specs.Headings.{headings}
@@ -57,6 +58,7 @@ pub record AreReady (types : List TypeRow) : Type 0 where
   pub closed : (k : ℕ) (r : TypeRow) → slice_get types k ≡ Some r → AreBelow (length types) r
   pub sound : AreTypes types
   pub parts : PartsAreTold types
+  pub opens : OpensStand types
 
 -- what is known of the modules before, and of the types so far
 pub record IsReady (before : List Home) (types : List TypeRow) : Type 0 where
@@ -101,6 +103,7 @@ pub record IsDeclared (number : ℕ) (before : List Home) (types : List TypeRow)
   pub before_is : e.before ≡ before
   pub path_is : e.path ≡ env.own number ∷ []
   pub text_is : e.here.text ≡ text
+  pub first_is : e.here.first ≡ suc (length (type_defs m.decls))
   pub name_is : e.here.name ≡ word text m.name
   pub own : Scope
   pub own_is : slice_get e.here.scopes 0 ≡ Some own
@@ -133,6 +136,7 @@ table_old before types ready = record {
   free = ready.table.sound.none_contains_itself;
   sizes = ready.table.sound.sizes;
   parts = ready.table.parts;
+  opens = ready.table.opens;
 }
 
 module _ (number : ℕ) (before : List Home) (types : List TypeRow) (text : List ℕ) (m : Module) (ready : IsReady before types) (ts : List Target)
@@ -174,6 +178,7 @@ module _ (number : ℕ) (before : List Home) (types : List TypeRow) (text : List
           sizes = whole.sizes number before types text m ts ready.names ready.constants old led once none fine;
         };
         parts = headed.fit.agrees.parts;
+        opens = headed.fit.agrees.opens;
       }
 
       -- The module's own scope.
@@ -293,6 +298,7 @@ module _ (number : ℕ) (before : List Home) (types : List TypeRow) (text : List
         before_is = headed.fit.before_is;
         path_is = headed.fit.path_is;
         text_is = headed.fit.text_is;
+        first_is = headed.fit.first_is;
         name_is = headed.fit.name_is;
         own = own_there.0;
         own_is = own_there.1;

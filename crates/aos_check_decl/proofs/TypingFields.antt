@@ -1,9 +1,9 @@
 -- Fields of record types: they agree with the rows of the types, and the parts that rows name are told.
-use Rattle.std.proofs.Common.{◌≡◌, ℕ, zero, suc, ◌<◌, ◌≤◌, nat_eq, List, [], ◌∷◌, ◌++◌, length, map, fold, replicate, Bool, true, false, if◌then◌else◌, Option, Some, None, slice_get, slice_set, refl, sym, ap, ◌∙◌, arith, append_assoc, append-nil, length-append, length-set}
+use Rattle.std.proofs.Common.{◌≡◌, ℕ, zero, suc, ◌+◌, ◌<◌, ◌≤◌, nat_eq, List, [], ◌∷◌, ◌++◌, length, map, fold, replicate, Bool, true, false, if◌then◌else◌, Option, Some, None, slice_get, slice_set, refl, sym, ap, ◌∙◌, subst, arith, append_assoc, append-nil, length-append, length-set}
 use Rattle.std.specs.Map.{lookup}
 use Rattle.std.proofs.lemmas.Bool.{cases_order}
 use Rattle.std.proofs.lemmas.List.{map-append}
-use Rattle.std.proofs.lemmas.Option.{same_Some}
+use Rattle.std.proofs.lemmas.Option.{same_Some, slice_get_within}
 use mathlib.Core.Logic.{◌⊎◌, inl, inr}
 use Rattle.aos_tree.specs.declared.decl.Def.{Def}
 use Rattle.aos_types.specs.declared.row.TypeId.{TypeId}
@@ -17,8 +17,9 @@ use Rattle.aos_symbols.specs.Home.{Home, add_record, fields_of as fields_known}
 use Rattle.aos_symbols.proofs.Each.{Each, implied}
 use Rattle.aos_symbols.proofs.Records.{fields_here, fields_other}
 use Rattle.aos_symbols.proofs.Told.{IsTold, basic, defined, GoOn, told_behind, get_end, IsLength, AreToldParts, PartsAreTold}
+use Rattle.aos_check_expr.proofs.Opens.{IsOpenAt, OpensStand, some_there}
 use Rattle.aos_check_decl.specs.Types.{fields_of, with_field}
-use Rattle.aos_check_decl.proofs.TypingLists.{set_here, set_other, set_gives, push_gives, get_below, get_at}
+use Rattle.aos_check_decl.proofs.TypingLists.{set_here, set_other, set_gives, push_gives, get_below}
 
 -- The variables of a scope behind fields of one type.
 
@@ -104,6 +105,34 @@ parts_push : (us : List TypeRow) (r : TypeRow) → AreToldParts us r → PartsAr
 parts_push us r told all k x is =
     parts_on us (us ++ r ∷ []) (told_behind us (r ∷ [])) x (push_gives (AreToldParts us) us k x r is told (λ old. all k x old))
 
+-- Open arrays.
+
+closed_at : (k : ℕ) (r : TypeRow) → is_open (Some r) ≡ false → IsOpenAt k r
+closed_at k (row.Open u) closed = absurd (cc)
+closed_at k (row.Basic b) closed = tt
+closed_at k (row.Array n t) closed = tt
+closed_at k (row.Record b ts) closed = tt
+closed_at k (row.Pointer t) closed = tt
+closed_at k (row.Object b ts) closed = tt
+closed_at k (row.Procedure ts r) closed = tt
+closed_at k row.Any closed = tt
+
+opens_set : (us : List TypeRow) (t : TypeId) (r : TypeRow) → is_open (Some r) ≡ false → OpensStand us → OpensStand (slice_set us t.0 r)
+opens_set us t r closed all k x is = set_gives (IsOpenAt k) us t.0 k x r is (closed_at k r closed) (λ old. all k x old)
+
+opens_push : (us : List TypeRow) (r : TypeRow) → IsOpenAt (length us) r → OpensStand us → OpensStand (us ++ r ∷ [])
+opens_push us r one all k x is = by (cases_order k (length us))
+  where
+    within : k < length us + 1
+    within = let below = slice_get_within (us ++ r ∷ []) k x is in omega (arith, below, length-append us (r ∷ []))
+
+    by : (k ≡ length us) ⊎ ((k < length us) ⊎ (length us < k)) → IsOpenAt k x
+    by (inl same) =
+        let r_is : r ≡ x = same_Some r x (sym (get_end us r) ∙ ap (slice_get (us ++ r ∷ [])) (sym same) ∙ is) in
+        subst (λ j. IsOpenAt j x) (sym same) (subst (IsOpenAt (length us)) r_is one)
+    by (inr (inl below)) = all k x (sym (get_below us (r ∷ []) k below) ∙ is)
+    by (inr (inr above)) = absurd (omega (arith, above, within))
+
 -- Fields that agree with rows.
 
 -- a scope has the fields of a row
@@ -170,35 +199,46 @@ added us vs h of fs s longer below there others same agree t x found = by (cases
 -- Both of a table and what a module knows of it.
 pub record Agree (types : List TypeRow) (rs : List (ℕ × Scope)) : Type 0 where
   pub parts : PartsAreTold types
+  pub opens : OpensStand types
   pub fields : RecordsAgree types rs
 
 pub agree_set : (us : List TypeRow) (rs : List (ℕ × Scope)) (t : TypeId) (r : TypeRow) → is_open (Some r) ≡ false → IsNoRecord r → HasLength r → AreToldIn us r →
     Agree us rs → Agree (slice_set us t.0 r) rs
 agree_set us rs t r closed other long told agree = record {
   parts = parts_set us t r closed (told_parts us r long told) agree.parts;
+  opens = opens_set us t r closed agree.opens;
   fields = records_set us rs t.0 r other agree.fields;
 }
 
-pub agree_push : (us : List TypeRow) (rs : List (ℕ × Scope)) (r : TypeRow) → IsNoRecord r → HasLength r → AreToldIn us r → Agree us rs → Agree (us ++ r ∷ []) rs
-agree_push us rs r other long told agree = record {
+pub agree_push : (us : List TypeRow) (rs : List (ℕ × Scope)) (r : TypeRow) → is_open (Some r) ≡ false → IsNoRecord r → HasLength r → AreToldIn us r → Agree us rs →
+    Agree (us ++ r ∷ []) rs
+agree_push us rs r closed other long told agree = record {
   parts = parts_push us r (told_parts us r long told) agree.parts;
+  opens = opens_push us r (closed_at (length us) r closed) agree.opens;
   fields = records_push us rs r other agree.fields;
 }
 
-pub agree_open : (us : List TypeRow) (rs : List (ℕ × Scope)) (t : TypeId) → Agree us rs → Agree (us ++ row.Open t ∷ []) rs
-agree_open us rs t agree = record {
+pub agree_open : (us : List TypeRow) (rs : List (ℕ × Scope)) (t : TypeId) → 10 ≤ length us → (t.0 < 7) ⊎ ((10 ≤ t.0) × (t.0 < length us)) → Agree us rs →
+    Agree (us ++ row.Open t ∷ []) rs
+agree_open us rs t ten there agree = record {
   parts = parts_push us (row.Open t) tt agree.parts;
+  opens = opens_push us (row.Open t) (by there) agree.opens;
   fields = records_push us rs (row.Open t) (λ ts e. cc) agree.fields;
 }
+  where
+    by : (t.0 < 7) ⊎ ((10 ≤ t.0) × (t.0 < length us)) → IsOpenAt (length us) (row.Open t)
+    by (inl low) = (omega (arith, low, ten), ten, inl low)
+    by (inr r) = (r.1, ten, inr r.0)
 
 pub agree_record_set : (us : List TypeRow) (h : Home) (t : TypeId) (fs : List TypeId) (s : Scope) → t.0 < length us →
     AreToldIn us (row.Record None fs) → s.variables ≡ map (λ t. Some t) fs → Agree us h.records →
     Agree (slice_set us t.0 (row.Record None fs)) (add_record h t s).records
 agree_record_set us h t fs s below told same agree =
     let r = row.Record None fs in
-    let x = get_at us t.0 below in
+    let x = some_there us t.0 below in
     record {
       parts = parts_set us t r refl (told_parts us r tt told) agree.parts;
+      opens = opens_set us t r refl agree.opens;
       fields = added us (slice_set us t.0 r) h t fs s (omega (arith, length-set us t.0 r)) (omega (arith, below, length-set us t.0 r)) (set_here us t.0 x.0 r x.1)
           (λ j l other. set_other us t.0 j r other) same agree.fields;
     }
@@ -209,6 +249,7 @@ agree_record_push us h fs s told same agree =
     let r = row.Record None fs in
     record {
       parts = parts_push us r (told_parts us r tt told) agree.parts;
+      opens = opens_push us r tt agree.opens;
       fields = added us (us ++ r ∷ []) h (record { 0 = length us }) fs s (omega (arith, length-append us (r ∷ []))) (omega (arith, length-append us (r ∷ []))) (get_end us r)
           (λ j l other. get_below us (r ∷ []) j l) same agree.fields;
     }

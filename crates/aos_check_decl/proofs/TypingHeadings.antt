@@ -102,7 +102,7 @@ module _ (c : Telling) (path : List Open) (searched : Each (IsSearched c) path) 
     count = refl;
     known = tt;
     grown = record {
-      here = same_more (env.innermost path) e.here f.here one.name one.text one.scopes one.signatures;
+      here = same_more (env.innermost path) e.here f.here one.name one.text one.first one.scopes one.signatures;
       fit = fit_beyond c path e f fit one;
       goes = one.goes;
       long = one.long;
@@ -119,6 +119,7 @@ module _ (c : Telling) (path : List Open) (searched : Each (IsSearched c) path) 
       before_is = fit.before_is;
       name_is = here.name ∙ fit.name_is;
       text_is = here.text ∙ fit.text_is;
+      first_is = here.first ∙ fit.first_is;
       names_are = λ j. here.names j ∙ fit.names_are j;
       path_is = fit.path_is;
       good = good;
@@ -185,6 +186,7 @@ module _ (c : Telling) (path : List Open) (searched : Each (IsSearched c) path) 
         before = refl;
         name = refl;
         text = refl;
+        first = refl;
         scopes = refl;
         signatures = refl;
         path = refl;

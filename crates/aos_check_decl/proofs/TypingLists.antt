@@ -51,9 +51,3 @@ get_behind (x ∷ xs) ys k =
 pub mapped_at : {X Y : Type 0} (g : X → Y) (o : Option X) (y : Y) → option_map g o ≡ Some y → (x : X) × (o ≡ Some x) × (g x ≡ y)
 mapped_at g None y e = absurd (none-some y e)
 mapped_at g (Some x) y e = (x, refl, same_Some (g x) y e)
-
--- what stands at a place that there is
-pub get_at : {X : Type 0} (xs : List X) (k : ℕ) → k < length xs → (x : X) × (slice_get xs k ≡ Some x)
-get_at [] k l = absurd (omega (arith, l))
-get_at (x ∷ xs) zero l = (x, refl)
-get_at (x ∷ xs) (suc k) l = get_at xs k (omega (arith, l))

@@ -62,10 +62,11 @@ module _ (c : Telling) (path : List Open) (searched : Each (IsSearched c) path) 
               before = refl;
               name = refl;
               text = refl;
+              first = refl;
               scopes = refl;
               signatures = refl;
               path = refl;
-              agree = c.agree_open f.types f.here.records t;
+              agree = c.agree_open f.types f.here.records t (fit_beyond c path e f fit is.beyond).table is.there;
               goes = c.push f.types (row.Open t) (λ p one. element p one);
               long = omega (arith, length-append f.types (row.Open t ∷ []), length-append f.places (at ∷ []));
             }
@@ -224,6 +225,7 @@ module _ (c : Telling) (path : List Open) (searched : Each (IsSearched c) path) 
           before_is = grown.fit.before_is;
           name_is = grown.fit.name_is;
           text_is = grown.fit.text_is;
+          first_is = grown.fit.first_is;
           names_are = grown.fit.names_are;
           path_is = head.beyond.path ∙ fit.path_is;
           good = grown.fit.good;
@@ -247,6 +249,7 @@ module _ (c : Telling) (path : List Open) (searched : Each (IsSearched c) path) 
         before_is = out.before_is;
         name_is = out.name_is;
         text_is = out.text_is;
+        first_is = out.first_is;
         names_are = out.names_are;
         path_is = (λ i. record { home = out.number_is i; scope = k } ∷ out.path_is i);
         good = out.good;

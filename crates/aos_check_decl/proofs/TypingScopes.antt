@@ -35,6 +35,7 @@ behind more vs = vs ++ more
 pub record IsMore (k : ℕ) (more : List (Option TypeId)) (h h' : Home) : Type 0 where
   pub name : h'.name ≡ h.name
   pub text : h'.text ≡ h.text
+  pub first : h'.first ≡ h.first
   pub signatures : h'.signatures ≡ h.signatures
   pub names : (j : ℕ) → names_at h'.scopes j ≡ names_at h.scopes j
   pub others : (j : ℕ) → (j ≡ k → ⊥) → variables_at h'.scopes j ≡ variables_at h.scopes j
@@ -52,17 +53,19 @@ pub no_more : (k : ℕ) (h : Home) → IsMore k [] h h
 no_more k h = record {
   name = refl;
   text = refl;
+  first = refl;
   signatures = refl;
   names = λ j. refl;
   others = λ j other. refl;
   own = behind_none (variables_at h.scopes k);
 }
 
--- a module of the same name, text, scopes and signatures
-pub same_more : (k : ℕ) (h h' : Home) → h'.name ≡ h.name → h'.text ≡ h.text → h'.scopes ≡ h.scopes → h'.signatures ≡ h.signatures → IsMore k [] h h'
-same_more k h h' name text scopes signatures = record {
+-- a module of the same name, text, first procedure's scope, scopes and signatures
+pub same_more : (k : ℕ) (h h' : Home) → h'.name ≡ h.name → h'.text ≡ h.text → h'.first ≡ h.first → h'.scopes ≡ h.scopes → h'.signatures ≡ h.signatures → IsMore k [] h h'
+same_more k h h' name text first scopes signatures = record {
   name = name;
   text = text;
+  first = first;
   signatures = signatures;
   names = λ j. ap (λ (ss : List Scope). names_at ss j) scopes;
   others = λ j other. ap (λ (ss : List Scope). variables_at ss j) scopes;
@@ -73,6 +76,7 @@ pub more_and_more : (k : ℕ) (a b : List (Option TypeId)) (h h' h'' : Home) →
 more_and_more k a b h h' h'' one two = record {
   name = two.name ∙ one.name;
   text = two.text ∙ one.text;
+  first = two.first ∙ one.first;
   signatures = two.signatures ∙ one.signatures;
   names = λ j. two.names j ∙ one.names j;
   others = λ j other. two.others j other ∙ one.others j other;
@@ -92,6 +96,7 @@ module _ (f : Scope → Scope) (more : List (Option TypeId)) (names : (s : Scope
       by None is = record {
         name = refl;
         text = refl;
+        first = refl;
         signatures = refl;
         names = λ j. refl;
         others = λ j other. refl;
@@ -100,6 +105,7 @@ module _ (f : Scope → Scope) (more : List (Option TypeId)) (names : (s : Scope
       by (Some s) is = record {
         name = refl;
         text = refl;
+        first = refl;
         signatures = refl;
         names = set_kept names_of h.scopes k s (f s) is (names s);
         others = λ j other. ap (option_map variables_of) (set_other h.scopes k j (f s) other);

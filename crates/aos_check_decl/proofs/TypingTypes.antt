@@ -1,6 +1,6 @@
 -- A walk over declarations in a module's environment, and what is told of types on it: the types that are written break no rule,
 -- and so their numbers are known.
-use Rattle.std.proofs.Common.{◌≡◌, ℕ, ◌+◌, ◌<◌, ◌==◌, List, [], ◌∷◌, ◌++◌, length, replicate, ℤ, pos, negsuc, int_le, Bool, true, false, ◌&&◌, Option, Some, None, option_and_then, slice_get, slice_set, if◌then◌else◌, refl, sym, ap, ◌∙◌, subst, arith, length-append, length-set}
+use Rattle.std.proofs.Common.{◌≡◌, ℕ, suc, ◌+◌, ◌<◌, ◌==◌, List, [], ◌∷◌, ◌++◌, length, replicate, ℤ, pos, negsuc, int_le, Bool, true, false, ◌&&◌, Option, Some, None, option_and_then, slice_get, slice_set, if◌then◌else◌, refl, sym, ap, ◌∙◌, subst, arith, length-append, length-set}
 use Rattle.std.specs.Prelude.{unsigned_abs}
 use Rattle.std.proofs.lemmas.Bool.{and_parts}
 use Rattle.std.proofs.lemmas.Int.{ints}
@@ -79,9 +79,9 @@ pub record Telling : Type 1 where
       AreAll (vs ++ replicate n of) (us ++ judge.fields_of n of)
   pub agree_set : (ts : List TypeRow) (rs : List (ℕ × Scope)) (t : TypeId) (r : TypeRow) → is_open (Some r) ≡ false → IsNoRecord r → HasLength r →
       ((p : TypeId) → IsOneOf p (named_in r) → Known ts (Some p)) → Agrees ts rs → Agrees (slice_set ts t.0 r) rs
-  pub agree_push : (ts : List TypeRow) (rs : List (ℕ × Scope)) (r : TypeRow) → IsNoRecord r → HasLength r →
+  pub agree_push : (ts : List TypeRow) (rs : List (ℕ × Scope)) (r : TypeRow) → is_open (Some r) ≡ false → IsNoRecord r → HasLength r →
       ((p : TypeId) → IsOneOf p (named_in r) → Known ts (Some p)) → Agrees ts rs → Agrees (ts ++ r ∷ []) rs
-  pub agree_open : (ts : List TypeRow) (rs : List (ℕ × Scope)) (t : TypeId) → Agrees ts rs → Agrees (ts ++ row.Open t ∷ []) rs
+  pub agree_open : (ts : List TypeRow) (rs : List (ℕ × Scope)) (t : TypeId) → GoesTo first ts → There ts (Some t) → Agrees ts rs → Agrees (ts ++ row.Open t ∷ []) rs
   pub agree_unsettled : (ts : List TypeRow) (rs : List (ℕ × Scope)) (t : TypeId) → Known ts None → Agrees ts rs → Agrees (slice_set ts t.0 (row.Open nil)) rs
   pub agree_record_set : (ts : List TypeRow) (h : Home) (t : TypeId) (us : List TypeId) (s : Scope) → GoesTo first ts → IsSlot t →
       ((p : TypeId) → IsOneOf p us → Known ts (Some p)) → AreAll s.variables us → Agrees ts h.records →
@@ -139,6 +139,7 @@ module _ (c : Telling) where
     pub before_is : e.before ≡ c.before
     pub name_is : e.here.name ≡ c.name
     pub text_is : e.here.text ≡ c.text
+    pub first_is : e.here.first ≡ suc c.inner
     pub names_are : (j : ℕ) → names_at e.here.scopes j ≡ names_at c.scopes j
     pub path_is : e.path ≡ path
     pub good : AllGood e.here
@@ -151,6 +152,7 @@ module _ (c : Telling) where
     pub before : e'.before ≡ e.before
     pub name : e'.here.name ≡ e.here.name
     pub text : e'.here.text ≡ e.here.text
+    pub first : e'.here.first ≡ e.here.first
     pub scopes : e'.here.scopes ≡ e.here.scopes
     pub signatures : e'.here.signatures ≡ e.here.signatures
     pub path : e'.path ≡ e.path
@@ -164,6 +166,7 @@ module _ (c : Telling) where
     before = refl;
     name = refl;
     text = refl;
+    first = refl;
     scopes = refl;
     signatures = refl;
     path = refl;
@@ -181,6 +184,7 @@ module _ (c : Telling) where
         before = two.before ∙ one.before;
         name = two.name ∙ one.name;
         text = two.text ∙ one.text;
+        first = two.first ∙ one.first;
         scopes = two.scopes ∙ one.scopes;
         signatures = two.signatures ∙ one.signatures;
         path = two.path ∙ one.path;
@@ -195,6 +199,7 @@ module _ (c : Telling) where
     before_is = one.before ∙ fit.before_is;
     name_is = one.name ∙ fit.name_is;
     text_is = one.text ∙ fit.text_is;
+    first_is = one.first ∙ fit.first_is;
     names_are = λ j. ap (λ (ss : List Scope). names_at ss j) one.scopes ∙ fit.names_are j;
     path_is = one.path ∙ fit.path_is;
     good = λ k s there. fit.good k s (ap (λ (ss : List Scope). slice_get ss k) (sym one.scopes) ∙ there);
@@ -291,6 +296,7 @@ module _ (c : Telling) where
         before = refl;
         name = refl;
         text = refl;
+        first = refl;
         scopes = refl;
         signatures = refl;
         path = refl;
@@ -306,10 +312,11 @@ module _ (c : Telling) where
         before = refl;
         name = refl;
         text = refl;
+        first = refl;
         scopes = refl;
         signatures = refl;
         path = refl;
-        agree = c.agree_push e.types e.here.records r other long known;
+        agree = c.agree_push e.types e.here.records r closed other long known;
         goes = c.push e.types r (λ p one. c.known_there e.types (Some p) (known p one));
         long = omega (arith, length-append e.types (r ∷ []), length-append e.places (at ∷ []));
       };
@@ -380,6 +387,7 @@ module _ (c : Telling) where
         before = refl;
         name = refl;
         text = refl;
+        first = refl;
         scopes = refl;
         signatures = refl;
         path = refl;
@@ -395,6 +403,7 @@ module _ (c : Telling) where
         before = refl;
         name = refl;
         text = refl;
+        first = refl;
         scopes = refl;
         signatures = refl;
         path = refl;

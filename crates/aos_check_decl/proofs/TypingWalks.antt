@@ -151,7 +151,7 @@ module _ (number : ℕ) (before : List Home) (types : List TypeRow) (text : List
       let b = goes.long in
       omega (arith, a, b)
 
-  first_ten : 10 ≤ length first
+  pub first_ten : 10 ≤ length first
   first_ten = omega (arith, ten, table_long)
 
   pub low_below : (us : List TypeRow) → GoesTo first us → (t : TypeId) → t.0 ≤ 8 → IsBelow us (Some t)
@@ -192,8 +192,8 @@ module _ (number : ℕ) (before : List Home) (types : List TypeRow) (text : List
     none_all = tt;
     more_all = λ ts vs us n of known all. tt;
     agree_set = λ ts rs t r closed other long known a. tt;
-    agree_push = λ ts rs r other long known a. tt;
-    agree_open = λ ts rs t a. tt;
+    agree_push = λ ts rs r closed other long known a. tt;
+    agree_open = λ ts rs t goes there a. tt;
     agree_unsettled = λ ts rs t known a. tt;
     agree_record_set = λ ts h t us s goes slot known all a. tt;
     agree_record_push = λ ts h us s known all a. tt;
@@ -317,8 +317,8 @@ module _ (number : ℕ) (before : List Home) (types : List TypeRow) (text : List
       none_all = refl;
       more_all = λ us vs fs n of. more_fields us vs fs n of;
       agree_set = λ us rs t r closed other long known a. agree_set us rs t r closed other long known a;
-      agree_push = λ us rs r other long known a. agree_push us rs r other long known a;
-      agree_open = λ us rs t a. agree_open us rs t a;
+      agree_push = λ us rs r closed other long known a. agree_push us rs r closed other long known a;
+      agree_open = λ us rs t goes there a. (let l = goes.long in agree_open us rs t (omega (arith, l, first_ten)) there a);
       agree_unsettled = λ us rs t known a. absurd known;
       agree_record_set = λ us h t fs s goes slot known all a. (let l = goes.long in agree_record_set us h t fs s (omega (arith, slot, l)) known all a);
       agree_record_push = λ us h fs s known all a. agree_record_push us h fs s known all a;

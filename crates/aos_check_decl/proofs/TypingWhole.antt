@@ -24,6 +24,7 @@ use Rattle.aos_symbols.specs.Names.{name_breaches}
 use Rattle.aos_symbols.specs.Env as env
 use Rattle.aos_symbols.proofs.Each.{Each}
 use Rattle.aos_symbols.proofs.Told.{IsKnown, GoOn, told_behind, IsLength, AreToldParts, PartsAreTold}
+use Rattle.aos_check_expr.proofs.Opens.{IsOpenAt, OpensStand}
 use Rattle.aos_check_decl.specs.declared.aliases.Target.{Target}
 use Rattle.aos_check_decl.specs.declared.aliases.Target.TheVariants.{Own, Of, Nothing}
 use Rattle.aos_check_decl.specs.Aliases.{first_row, first_rows, follow}
@@ -52,6 +53,7 @@ pub record AreOld (types : List TypeRow) : Type 0 where
   pub free : NoneContainsItself types
   pub sizes : (t : TypeId) → scalars types t ≤ MOST_SCALARS
   pub parts : PartsAreTold types
+  pub opens : OpensStand types
 
 module _ (number : ℕ) (before : List Home) (types : List TypeRow) (text : List ℕ) (m : Module) (ts : List Target)
     (others : AreOthersNamed before (IsKnown types))
@@ -104,6 +106,23 @@ module _ (number : ℕ) (before : List Home) (types : List TypeRow) (text : List
           let x = mapped_at (first_row (length types + j)) (slice_get ts j) r at in
           subst (AreToldParts table) x.2 (first_parts j x.0 (slice_get_within ts j x.0 x.1) x.1)
 
+  first_opens : (k : ℕ) (x : Target) → slice_get ts k ≡ Some x → (j : ℕ) → IsOpenAt j (first_row (length types + k) x)
+  first_opens k Own is j = tt
+  first_opens k (Of u) is j = tt
+  first_opens k Nothing is j = absurd (is_sound k Nothing is)
+
+  table_opens : OpensStand table
+  table_opens k r is = by (cases_lt k (length types))
+    where
+      by : (k < length types) ⊎ (length types ≤ k) → IsOpenAt k r
+      by (inl below) = old.opens k r (sym (get_below types (first_rows (length types) ts) k below) ∙ is)
+      by (inr behind) =
+          let j = k - length types in
+          let place : length types + j ≡ k = omega (arith, behind) in
+          let at = sym (rows_at (length types) ts j) ∙ sym (get_behind types (first_rows (length types) ts) j) ∙ ap (slice_get table) place ∙ is in
+          let x = mapped_at (first_row (length types + j)) (slice_get ts j) r at in
+          subst (IsOpenAt k) x.2 (first_opens j x.0 x.1 k)
+
   -- The first walk.
 
   abbrev first_walk : Telling
@@ -118,6 +137,7 @@ module _ (number : ℕ) (before : List Home) (types : List TypeRow) (text : List
     before_is = refl;
     name_is = refl;
     text_is = refl;
+    first_is = refl;
     names_are = λ j. refl;
     path_is = refl;
     good = begun_good;
@@ -236,9 +256,10 @@ module _ (number : ℕ) (before : List Home) (types : List TypeRow) (text : List
             before_is = refl;
             name_is = refl;
             text_is = refl;
+            first_is = refl;
             names_are = λ j. refl;
             path_is = refl;
             good = begun_good;
             table = second_walk.stays table;
-            agrees = record { parts = table_parts; fields = λ t s found. absurd (none-some s found) };
+            agrees = record { parts = table_parts; opens = table_opens; fields = λ t s found. absurd (none-some s found) };
           }) none

@@ -1,14 +1,14 @@
 -- Calls that break no rule are sound, where their arguments are: predeclared functions, conversions, and MAX and MIN of a type.
-use Rattle.std.proofs.Common.{◌≡◌, List, [], ◌∷◌, Bool, true, false, Option, Some, None, if◌then◌else◌, refl}
+use Rattle.std.proofs.Common.{◌≡◌, List, [], ◌∷◌, length, Bool, true, false, Option, Some, None, if◌then◌else◌, refl}
 use Rattle.aos_base.specs.declared.text.Pos.{Pos}
 use Rattle.aos_tree.specs.declared.expr.Expr.{Expr, out-Expr}
 use Rattle.aos_types.specs.declared.row.TypeId.{TypeId}
 use Rattle.aos_typed.specs.declared.tree.Literal.{Literal}
-use Rattle.aos_typed.specs.Program.{Program}
 use Rattle.aos_symbols.specs.declared.scope.Meaning.{Meaning}
 use Rattle.aos_symbols.specs.declared.scope.Meaning.TheVariants as means
 use Rattle.aos_symbols.specs.declared.scope.Function.TheVariants as function
 use Rattle.aos_symbols.specs.declared.env.Open.{Open}
+use Rattle.aos_symbols.specs.declared.env.Symbol.{Symbol}
 use Rattle.aos_tree.specs.declared.decl.Export.{Export}
 use Rattle.aos_symbols.specs.declared.env.Lookup.{Lookup}
 use Rattle.aos_symbols.specs.declared.env.Lookup.TheVariants.{Unknown as NoName, NotExported, Found}
@@ -16,22 +16,25 @@ use Rattle.aos_symbols.specs.declared.env.Env.{Env}
 use Rattle.aos_symbols.specs.Judged.{Judged, bind}
 use Rattle.aos_symbols.proofs.Each.{Each}
 use Rattle.aos_symbols.proofs.Holds.{Holds, holds_bind}
+use Rattle.aos_check_expr.proofs.Inside.{Inside}
 use Rattle.aos_check_expr.specs.declared.designators.Head.{Head}
 use Rattle.aos_check_expr.specs.declared.operations.Step.{Step}
 use Rattle.aos_check_expr.specs.Known.{Answer, Spot, is_integer}
 use Rattle.aos_check_expr.specs.Operations as op
 use Rattle.aos_check_expr.specs.Designators as desig
 use Rattle.aos_check_expr.specs.Expressions as judge
-use Rattle.aos_check_expr.specs.Expressions.{Callee, Calls, Converts, Neither}
+use Rattle.aos_check_expr.specs.Expressions.{Callee, Calls, Invokes, Converts, Neither}
 use Rattle.aos_check_expr.proofs.Good.{IsGood, MayBe, greatest_good, least_good}
 use Rattle.aos_check_expr.proofs.Sound.{IsStep, TestsOne, applied_step, applied_tests, converted_step, converted_tests}
 use Rattle.aos_check_expr.proofs.Parts.{argument_part, arguments_part, limit_part}
 use Rattle.aos_check_expr.proofs.Spots.{IsWhole, Part, Valued, refused_part, guarded_part}
 use Rattle.aos_check_expr.proofs.Worded.{len_alone_part, len_in_part}
+use Rattle.aos_check_expr.proofs.Passed.{invoked_part}
 
 -- a conversion is into an integer type
 abbrev IsRightCallee : Callee → Type 0
 IsRightCallee (Calls f) = Unit {0}
+IsRightCallee (Invokes m k) = Unit {0}
 IsRightCallee (Converts t) = is_integer t ≡ true
 IsRightCallee Neither = Unit {0}
 
@@ -43,17 +46,22 @@ conversion_right (Some t) = by (is_integer t) refl
     by true i = i
     by false i = tt
 
-meant_right : (m : Meaning) → IsRightCallee (judge.callee_meant m)
-meant_right (means.Function f) = tt
-meant_right (means.Type of) = conversion_right of
-meant_right m = tt
+meant_right : (x : Symbol) (m : Meaning) → IsRightCallee (judge.callee_meant x m)
+meant_right x (means.Function f) = tt
+meant_right x (means.Type of) = conversion_right of
+meant_right x (means.Procedure k) = by (desig.is_of_module x)
+  where
+    by : (b : Bool) → IsRightCallee (if b then Invokes x.at.home k else Neither)
+    by true = tt
+    by false = tt
+meant_right x m = tt
 
 callee_right : (l : Lookup) → IsRightCallee (judge.callee l)
 callee_right NoName = tt
 callee_right NotExported = tt
-callee_right (Found x) = meant_right x.means
+callee_right (Found x) = meant_right x x.means
 
-module _ (p : Program) (e : Env) where
+module _ (p : Inside) (e : Env) where
   abbrev IsFine : Judged Answer → Type 0
   IsFine = Holds (Valued p e)
 
@@ -139,20 +147,21 @@ module _ (p : Program) (e : Env) where
   not_found NotExported named first at xs = guard_part (judge.is_guard e xs) at first (desig.named e (record { found = NotExported; at = named; first = first }))
   not_found (Found x) named first at xs = not_meant x.means x.at x.mark named first at xs
 
-  called : (c : Callee) → IsRightCallee c → (h : Head) (at : Pos) (js : List (Judged Answer)) → Parts js → (xs : List Expr) → IsFine (judge.called_by e c h at js xs)
-  called (Calls function.Max) right h at js parts xs = limit_of_type op.greatest_value greatest_good xs h.first
-  called (Calls function.Len) right h at js parts xs = length_of h.first js parts xs
-  called (Calls function.Min) right h at js parts xs = limit_of_type op.least_value least_good xs h.first
-  called (Calls function.Ash) right h at js parts xs = of_two h.first js parts xs
-  called (Calls function.Abs) right h at js parts xs = of_one (op.applied function.Abs) (applied_step p function.Abs) (applied_tests function.Abs tt) h.first js parts xs
-  called (Calls function.Odd) right h at js parts xs = of_one (op.applied function.Odd) (applied_step p function.Odd) (applied_tests function.Odd tt) h.first js parts xs
-  called (Calls function.Cap) right h at js parts xs = of_one (op.applied function.Cap) (applied_step p function.Cap) (applied_tests function.Cap tt) h.first js parts xs
-  called (Calls function.Ord) right h at js parts xs = of_one (op.applied function.Ord) (applied_step p function.Ord) (applied_tests function.Ord tt) h.first js parts xs
-  called (Calls function.Chr) right h at js parts xs = of_one (op.applied function.Chr) (applied_step p function.Chr) (applied_tests function.Chr tt) h.first js parts xs
-  called (Calls function.Long) right h at js parts xs = of_one (op.applied function.Long) (applied_step p function.Long) (applied_tests function.Long tt) h.first js parts xs
-  called (Calls function.Short) right h at js parts xs = of_one (op.applied function.Short) (applied_step p function.Short) (applied_tests function.Short tt) h.first js parts xs
-  called (Converts t) right h at js parts xs = of_one (op.converted t) (converted_step p t right) (converted_tests t) h.first js parts xs
-  called Neither right h at js parts xs = not_found h.found h.at h.first at xs
+  called : (c : Callee) → IsRightCallee c → (h : Head) (at : Pos) (js : List (Judged Answer)) → Parts js → (xs : List Expr) → length js ≡ length xs → IsFine (judge.called_by e c h at js xs)
+  called (Calls function.Max) right h at js parts xs many = limit_of_type op.greatest_value greatest_good xs h.first
+  called (Calls function.Len) right h at js parts xs many = length_of h.first js parts xs
+  called (Calls function.Min) right h at js parts xs many = limit_of_type op.least_value least_good xs h.first
+  called (Calls function.Ash) right h at js parts xs many = of_two h.first js parts xs
+  called (Calls function.Abs) right h at js parts xs many = of_one (op.applied function.Abs) (applied_step p function.Abs) (applied_tests function.Abs tt) h.first js parts xs
+  called (Calls function.Odd) right h at js parts xs many = of_one (op.applied function.Odd) (applied_step p function.Odd) (applied_tests function.Odd tt) h.first js parts xs
+  called (Calls function.Cap) right h at js parts xs many = of_one (op.applied function.Cap) (applied_step p function.Cap) (applied_tests function.Cap tt) h.first js parts xs
+  called (Calls function.Ord) right h at js parts xs many = of_one (op.applied function.Ord) (applied_step p function.Ord) (applied_tests function.Ord tt) h.first js parts xs
+  called (Calls function.Chr) right h at js parts xs many = of_one (op.applied function.Chr) (applied_step p function.Chr) (applied_tests function.Chr tt) h.first js parts xs
+  called (Calls function.Long) right h at js parts xs many = of_one (op.applied function.Long) (applied_step p function.Long) (applied_tests function.Long tt) h.first js parts xs
+  called (Calls function.Short) right h at js parts xs many = of_one (op.applied function.Short) (applied_step p function.Short) (applied_tests function.Short tt) h.first js parts xs
+  called (Invokes m k) right h at js parts xs many = invoked_part p e h.first m k js parts xs many
+  called (Converts t) right h at js parts xs many = of_one (op.converted t) (converted_step p t right) (converted_tests t) h.first js parts xs
+  called Neither right h at js parts xs many = not_found h.found h.at h.first at xs
 
-  pub called_part : (h : Head) (at : Pos) (js : List (Judged Answer)) → Parts js → (xs : List Expr) → IsFine (judge.called e h at js xs)
-  called_part h at js parts xs = called (judge.callee h.found) (callee_right h.found) h at js parts xs
+  pub called_part : (h : Head) (at : Pos) (js : List (Judged Answer)) → Parts js → (xs : List Expr) → length js ≡ length xs → IsFine (judge.called e h at js xs)
+  called_part h at js parts xs many = called (judge.callee h.found) (callee_right h.found) h at js parts xs many

@@ -1,4 +1,7 @@
 pub mod Rows
+pub mod Inside
+pub mod Opens
+pub mod Stored
 pub mod Numbers
 pub mod Told
 pub mod Types
@@ -7,7 +10,9 @@ pub mod Sound
 pub mod Parts
 pub mod Spots
 pub mod Worded
+pub mod Passed
 pub mod CallParts
 pub mod Typing
 pub mod Order
 pub mod Dimensions
+pub mod Handed

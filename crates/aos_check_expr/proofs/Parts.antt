@@ -15,41 +15,45 @@ use Rattle.aos_typed.specs.declared.tree.Literal.{Literal}
 use Rattle.aos_typed.specs.declared.tree.Literal.TheVariants as literal
 use Rattle.aos_typed.specs.declared.tree.TextConstant.{TextConstant}
 use Rattle.aos_typed.specs.declared.tree.TType.TheVariants as type
-use Rattle.aos_typed.specs.Program.{Expr, Binary, Element, Program}
-use Rattle.aos_typed.specs.WellTyped.{IsOf}
+use Rattle.aos_typed.specs.Program.{Place, Expr, Read, Binary, Element}
 use Rattle.aos_symbols.specs.declared.breach.Breach.{Breach}
 use Rattle.aos_symbols.specs.declared.env.Env.{Env}
 use Rattle.aos_symbols.specs.Breaches.{breach_unless}
 use Rattle.aos_symbols.specs.Judged.{Judged}
 use Rattle.aos_symbols.specs.Env.{set}
 use Rattle.aos_symbols.proofs.Holds.{Holds, none_left, none_right, test_is, broken}
+use Rattle.aos_check_expr.proofs.Inside.{Inside, IsOf}
 use Rattle.aos_check_expr.specs.declared.known.Class.{Class}
 use Rattle.aos_check_expr.specs.declared.known.Class.TheVariants.{Unknown, Constant, Variable, ReadOnly, Computed}
 use Rattle.aos_check_expr.specs.declared.operations.Single.TheVariants as single
 use Rattle.aos_check_expr.specs.declared.operations.Joint.TheVariants as joint
 use Rattle.aos_check_expr.specs.declared.operations.Step.{Step}
 use Rattle.aos_check_expr.specs.declared.operations.Operation.{Operation}
-use Rattle.aos_check_expr.specs.Known.{Answer, is_number, is_lost, lost, answered, constant_answer, type_of_literal}
+use Rattle.aos_check_expr.specs.Known.{Answer, is_number, is_lost, lost, answered, constant_answer, type_of_literal, type_of}
 use Rattle.aos_check_expr.specs.Operations as op
 use Rattle.aos_check_expr.specs.Expressions as judge
+use Rattle.aos_check_expr.proofs.Stored.{IsStored, IsMade, made_of_one, made_of, made_kept}
 use Rattle.aos_check_expr.proofs.Good.{IsGood, IsSet, MayBe, IsKnownClass, number_good, literal_kind, set_type, set_good, set_given, single_good, joint_good, class_of_one_known, class_of_known}
 use Rattle.aos_check_expr.proofs.Sound.{IsSound, IsPlain, plain_sound, sound_number, IsStep, IsOperation, TestsOne, TestsTwo, stepped_plain, joined_plain, signed_step, signed_tests, opposite_step, opposite_tests, added_operation, added_tests, multiplied_operation, multiplied_tests, related_operation, related_tests, shifted_operation, shifted_tests}
 
--- of a part's class, that it is known, with a good value where it is constant; the part is sound where what W says is so
-pub record IsPart (p : Program) (W : Type 0) (a : Answer) : Type 0 where
+-- of a part's class, that it is known, with a good value where it is constant; a variable is read; the part is sound where what W says is so
+pub record IsPart (p : Inside) (W : Type 0) (a : Answer) : Type 0 where
   pub class : IsKnownClass IsGood a.known.class
   pub valued : not (is_lost a.known.class) ≡ true
+  pub read : IsStored a.known.class → (place : Place) × (a.typed ≡ Read (type_of a.known.of) place)
   pub sound : W → IsSound p a
 
 -- the same of one whose value is of a basic type
-pub record IsValue (p : Program) (W : Type 0) (a : Answer) : Type 0 where
+pub record IsValue (p : Inside) (W : Type 0) (a : Answer) : Type 0 where
   pub class : IsKnownClass IsGood a.known.class
   pub valued : not (is_lost a.known.class) ≡ true
+  pub made : IsMade a.known.class
   pub plain : W → IsPlain p a
 
 -- of the elements of a set so far: they may be constants that have no value, since the whole needn't be constant
-pub record AreElements (p : Program) (W : Type 0) (a : Answer) : Type 0 where
+pub record AreElements (p : Inside) (W : Type 0) (a : Answer) : Type 0 where
   pub class : IsKnownClass IsSet a.known.class
+  pub made : IsMade a.known.class
   pub known : a.known.of ≡ Some set
   pub typed : W → IsOf p a.typed type.Set
 
@@ -81,6 +85,19 @@ joined_class P o a b each k g h =
     class_answered (IsKnownClass P) (op.kept_class o.is_kept c) (op.kept_type o.is_kept o.of) (op.joint_typed o.joint a.typed b.typed)
     (kept_class_is (IsKnownClass P) o.is_kept c k (class_of_known P o.joint each a.known.class b.known.class g h))
 
+-- and that it is no variable's
+stepped_made : (s : Step) (a : Answer) → IsMade (op.stepped s a).known.class
+stepped_made s a =
+    let c = op.class_of_one s.single a.known.class in
+    class_answered IsMade (op.kept_class s.is_kept c) (op.kept_type s.is_kept s.of) (op.single_typed s.single a.typed)
+    (made_kept s.is_kept c (made_of_one s.single a.known.class))
+
+joined_made : (o : Operation) (a b : Answer) → IsMade (op.joined o a b).known.class
+joined_made o a b =
+    let c = op.class_of o.joint a.known.class b.known.class in
+    class_answered IsMade (op.kept_class o.is_kept c) (op.kept_type o.is_kept o.of) (op.joint_typed o.joint a.typed b.typed)
+    (made_kept o.is_kept c (made_of o.joint a.known.class b.known.class))
+
 and_true : (a b : Bool) → a ≡ true → b ≡ true → (a && b) ≡ true
 and_true true b e f = f
 and_true false b e f = absurd (cc)
@@ -93,7 +110,7 @@ known_class_on P Q on Variable h = tt
 known_class_on P Q on ReadOnly h = tt
 known_class_on P Q on Computed h = tt
 
-module _ (p : Program) (W : Type 0) where
+module _ (p : Inside) (W : Type 0) where
   abbrev Part : Answer → Type 0
   Part = IsPart p W
 
@@ -101,7 +118,7 @@ module _ (p : Program) (W : Type 0) where
   Valued = IsValue p W
 
   pub as_part : (j : Judged Answer) → Holds Valued j → Holds Part j
-  as_part j h e = let x = h e in record { class = x.class; valued = x.valued; sound = λ w. plain_sound p j.answer (x.plain w) }
+  as_part j h e = let x = h e in record { class = x.class; valued = x.valued; read = λ s. absurd (x.made s); sound = λ w. plain_sound p j.answer (x.plain w) }
 
   -- Operators.
 
@@ -113,6 +130,7 @@ module _ (p : Program) (W : Type 0) where
       record {
         class = stepped_class IsGood s a (single_good s.single) k x.class;
         valued = test_is (not (is_lost (op.stepped s a).known.class)) 20 first (none_right own (lost (op.stepped s a).known.class first) e);
+        made = stepped_made s a;
         plain = λ w. stepped_plain p f right tests a (x.sound w) x.class k;
       }
 
@@ -124,6 +142,7 @@ module _ (p : Program) (W : Type 0) where
       record {
         class = joined_class IsGood o a b (joint_good o.joint) k x.class y.class;
         valued = test_is (not (is_lost (op.joined o a b).known.class)) 20 first (none_right own (lost (op.joined o a b).known.class first) e);
+        made = joined_made o a b;
         plain = λ w. joined_plain p f right tests a b (x.sound w) (y.sound w) x.class y.class k;
       }
 
@@ -186,7 +205,7 @@ module _ (p : Program) (W : Type 0) where
   -- Literals.
 
   pub constant_part : (v : Literal) → IsGood v → Valued (constant_answer v)
-  constant_part v g = record { class = g; valued = refl; plain = λ w. record { of = type_of_literal v; known = refl; typed = literal_kind v g } }
+  constant_part v g = record { class = g; valued = refl; made = λ s. s; plain = λ w. record { of = type_of_literal v; known = refl; typed = literal_kind v g } }
 
   pub number_part : (o : Option ℤ) → MayBe (IsWithin W64) o → (at : Pos) → Holds Part (judge.number o at)
   number_part None h at = broken Part _ [] _
@@ -209,23 +228,23 @@ module _ (p : Program) (W : Type 0) where
   abbrev pub Elements : Answer → Type 0
   Elements = AreElements p W
 
-  set_answered : (c : Class) (x : Expr) → IsKnownClass IsSet c → (W → IsOf p x type.Set) → Elements (answered c (Some set) x)
-  set_answered (Constant (Some v)) x g h = record { class = g; known = ap (λ t. Some t) (set_type v g); typed = λ w. g }
-  set_answered (Constant None) x g h = record { class = g; known = refl; typed = h }
-  set_answered Unknown x g h = absurd g
-  set_answered Variable x g h = record { class = g; known = refl; typed = h }
-  set_answered ReadOnly x g h = record { class = g; known = refl; typed = h }
-  set_answered Computed x g h = record { class = g; known = refl; typed = h }
+  set_answered : (c : Class) (x : Expr) → IsKnownClass IsSet c → IsMade c → (W → IsOf p x type.Set) → Elements (answered c (Some set) x)
+  set_answered (Constant (Some v)) x g m h = record { class = g; made = m; known = ap (λ t. Some t) (set_type v g); typed = λ w. g }
+  set_answered (Constant None) x g m h = record { class = g; made = m; known = refl; typed = h }
+  set_answered Unknown x g m h = absurd g
+  set_answered Variable x g m h = record { class = g; made = m; known = refl; typed = h }
+  set_answered ReadOnly x g m h = record { class = g; made = m; known = refl; typed = h }
+  set_answered Computed x g m h = record { class = g; made = m; known = refl; typed = h }
 
   pub no_elements : Elements op.no_elements
-  no_elements = record { class = omega arith; known = refl; typed = λ w. omega arith }
+  no_elements = record { class = omega arith; made = λ s. s; known = refl; typed = λ w. omega arith }
 
   -- one element, and those from one to another
   element_of : (x : Answer) → Part x → (op.one_element x.known.of).is_kept ≡ true → Elements (op.stepped (op.one_element x.known.of) x)
   element_of x h k =
       let c = class_of_one_known IsSet single.Element (λ a g. set_given (binary_of two.SetSpan (op.number a) (op.number a))) x.known.class h.class in
       subst (λ b. Elements (answered (op.kept_class b (op.class_of_one single.Element x.known.class)) (op.kept_type b (Some set)) (Element x.typed))) (sym k)
-      (set_answered (op.class_of_one single.Element x.known.class) (Element x.typed) c (λ w. (sound_number p x (h.sound w) k, refl)))
+      (set_answered (op.class_of_one single.Element x.known.class) (Element x.typed) c (made_of_one single.Element x.known.class) (λ w. (sound_number p x (h.sound w) k, refl)))
 
   span_of : (x y : Answer) → Part x → Part y → (op.span x.known.of y.known.of).is_kept ≡ true → Elements (op.joined (op.span x.known.of y.known.of) x y)
   span_of x y g h k =
@@ -233,7 +252,7 @@ module _ (p : Program) (W : Type 0) where
       let c = class_of_known IsSet j (λ a b u v. set_given (binary_of two.SetSpan (op.number a) (op.number b))) x.known.class y.known.class g.class h.class in
       let i = and_parts (is_number x.known.of) (is_number y.known.of) k in
       subst (λ b. Elements (answered (op.kept_class b (op.class_of j x.known.class y.known.class)) (op.kept_type b (Some set)) (Binary two.SetSpan x.typed y.typed))) (sym k)
-      (set_answered (op.class_of j x.known.class y.known.class) (Binary two.SetSpan x.typed y.typed) c (λ w. ((sound_number p x (g.sound w) i.0, sound_number p y (h.sound w) i.1), refl)))
+      (set_answered (op.class_of j x.known.class y.known.class) (Binary two.SetSpan x.typed y.typed) c (made_of j x.known.class y.known.class) (λ w. ((sound_number p x (g.sound w) i.0, sound_number p y (h.sound w) i.1), refl)))
 
   union_of : (a x : Answer) → Elements a → Elements x → Elements (op.joined op.union a x)
   union_of a x g h =
@@ -241,7 +260,7 @@ module _ (p : Program) (W : Type 0) where
       let c =
       class_of_known IsSet j (λ a b u v. set_given (binary_of two.Union (op.number a) (op.number b))) a.known.class x.known.class
       (known_class_on IsSet IsGood set_good a.known.class g.class) (known_class_on IsSet IsGood set_good x.known.class h.class) in
-      set_answered (op.class_of j a.known.class x.known.class) (Binary two.Union a.typed x.typed) c (λ w. ((g.typed w, h.typed w), refl))
+      set_answered (op.class_of j a.known.class x.known.class) (Binary two.Union a.typed x.typed) c (made_of j a.known.class x.known.class) (λ w. ((g.typed w, h.typed w), refl))
 
   pub with_element_part : (at : Pos) (a x : Answer) → Elements a → Part x → Holds Elements (judge.with_element at a x)
   with_element_part at a x g h e = union_of a (op.stepped (op.one_element x.known.of) x) g (element_of x h (test_is (op.one_element x.known.of).is_kept 30 at e))
@@ -253,5 +272,6 @@ module _ (p : Program) (W : Type 0) where
   whole_part at a h e = record {
     class = known_class_on IsSet IsGood set_good a.known.class h.class;
     valued = test_is (not (is_lost a.known.class)) 20 at e;
+    read = λ s. absurd (h.made s);
     sound = λ w. record { of = set; known = h.known; typed = inl (refl, h.typed w) };
   }

@@ -20,11 +20,14 @@ use Rattle.aos_types.specs.declared.row.TypeId.{TypeId}
 use Rattle.aos_typed.specs.declared.tree.TType.{TType}
 use Rattle.aos_typed.specs.declared.tree.TType.TheVariants as type
 use Rattle.aos_typed.specs.Numbers.{id_of}
-use Rattle.aos_typed.specs.Program.{Place, Expr, Read, Binary, Program}
-use Rattle.aos_typed.specs.WellTyped.{Includes, HasRange, is_ordered, is_basic as is_basic_type, is_compared, IsPlaceOf, IsOf}
+use Rattle.aos_typed.specs.Open.{open_dimensions, open_element}
+use Rattle.aos_typed.specs.Program.{Place, Of, Rows, Expr, Read, Binary}
+use Rattle.aos_typed.specs.WellTyped.{HaveLengths, Includes, HasRange, is_ordered, is_basic as is_basic_type, is_compared}
 use Rattle.aos_symbols.specs.declared.scope.Function.{Function}
 use Rattle.aos_symbols.specs.declared.scope.Function.TheVariants as function
 use Rattle.aos_symbols.specs.Env.{shortint, integer, longint, hugeint, boolean, char, set, text}
+use Rattle.aos_types.specs.Table.{row_of, is_open}
+use Rattle.aos_check_expr.proofs.Inside.{Inside, IsPlaceOf, AreRows, IsOf}
 use Rattle.aos_check_expr.specs.declared.known.Class.{Class}
 use Rattle.aos_check_expr.specs.declared.known.Class.TheVariants.{Unknown, Constant, Variable, ReadOnly, Computed}
 use Rattle.aos_check_expr.specs.declared.operations.Joint.TheVariants as joint
@@ -151,13 +154,22 @@ related_tests relation.Is n t u k = absurd (cc)
 pub shifted_tests : TestsTwo op.shifted
 shifted_tests t u k = numbers_basic t u k
 
-module _ (p : Program) where
+module _ (p : Inside) where
   -- a value of a basic type, or a whole variable that is read; or else a string constant that is no character
   abbrev pub IsScalar : TypeId → Expr → Type 0
   IsScalar t x = (is_basic t ≡ true) × IsOf p x (type_as t)
 
+  -- a whole variable, and an open array, which has its rows
+  abbrev pub IsClosedPlace : TypeId → Place → Type 0
+  IsClosedPlace t place = IsPlaceOf p place (type_as t) × (id_of (type_as t) ≡ t) × (is_open (row_of p.program.types t) ≡ false)
+
+  abbrev pub IsOpenPlace : TypeId → Place → Type 0
+  IsOpenPlace t place =
+      (r : Rows) × (place ≡ Of r) × (is_open (row_of p.program.types t) ≡ true)
+      × AreRows p r (open_dimensions p.program.types t) (type_as (open_element p.program.types t)) × HaveLengths r
+
   abbrev pub IsWholeRead : TypeId → Expr → Type 0
-  IsWholeRead t x = (is_basic t ≡ false) × (place : Place) × (x ≡ Read (type_as t) place) × IsPlaceOf p place (type_as t) × (id_of (type_as t) ≡ t)
+  IsWholeRead t x = (is_basic t ≡ false) × (place : Place) × (x ≡ Read (type_as t) place) × (IsClosedPlace t place ⊎ IsOpenPlace t place)
 
   -- an expression whose type is known, and which is of it
   pub record IsSound (a : Answer) : Type 0 where
@@ -179,7 +191,7 @@ module _ (p : Program) where
       by (inr t) = inr (inr t)
 
   -- whose type is a basic one is a value of it
-  scalar_of : (t : TypeId) (x : Expr) → IsScalar t x ⊎ (IsWholeRead t x ⊎ (t ≡ text)) → is_basic t ≡ true → IsOf p x (type_as t)
+  pub scalar_of : (t : TypeId) (x : Expr) → IsScalar t x ⊎ (IsWholeRead t x ⊎ (t ≡ text)) → is_basic t ≡ true → IsOf p x (type_as t)
   scalar_of t x (inl s) b = s.1
   scalar_of t x (inr (inl w)) b = absurd (not_both (sym b ∙ w.0))
   scalar_of t x (inr (inr e)) b = absurd (not_both (sym b ∙ ap is_basic e))

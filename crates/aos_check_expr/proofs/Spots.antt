@@ -1,6 +1,8 @@
 -- Designators that break no rule: variables of their types, and sound values.
-use Rattle.std.proofs.Common.{◌≡◌, ℕ, ◌+◌, ◌<◌, ◌==◌, List, [], ◌∷◌, length, Bool, true, false, ◌&&◌, ◌||◌, ◌⊎◌, inl, inr, not, Option, Some, None, is_some, slice_get, option_and_then, if◌then◌else◌, refl, sym, ap, ◌∙◌, subst, eqb-true, arith}
-use Rattle.std.proofs.lemmas.Option.{none-some, same_Some, option_and_then_some}
+use Rattle.std.proofs.Common.{◌≡◌, ℕ, suc, ◌+◌, ◌≤◌, ◌<◌, ◌==◌, List, [], ◌∷◌, length, Bool, true, false, ◌&&◌, ◌||◌, ◌⊎◌, inl, inr, not, Option, Some, None, is_some, slice_get, option_and_then, if◌then◌else◌, refl, sym, ap, ap₂, ◌∙◌, subst, eqb-true, eq-eqb, lt-ltb, le-ltb, arith}
+use Rattle.std.proofs.lemmas.Option.{none-some, same_Some, option_and_then_some, slice_get_within}
+use Rattle.std.proofs.lemmas.Bool.{and_parts}
+use Rattle.aos_base.specs.declared.number.Width.TheVariants.{W64}
 use Rattle.aos_base.specs.declared.text.Pos.{Pos}
 use Rattle.aos_tree.specs.declared.name.Name.{Name}
 use Rattle.aos_tree.specs.declared.decl.Export.{Export}
@@ -9,13 +11,21 @@ use Rattle.aos_types.specs.declared.row.Basic.TheVariants as basic
 use Rattle.aos_types.specs.declared.row.TypeId.{TypeId}
 use Rattle.aos_types.specs.declared.row.TypeRow.{TypeRow}
 use Rattle.aos_types.specs.declared.row.TypeRow.TheVariants as row
-use Rattle.aos_types.specs.Table.{row_of}
+use Rattle.aos_types.specs.Table.{row_of, is_open}
+use Rattle.aos_types.specs.Sameness.{element_of}
 use Rattle.aos_typed.specs.declared.tree.Literal.{Literal}
 use Rattle.aos_typed.specs.declared.tree.Literal.TheVariants as literal
 use Rattle.aos_typed.specs.Numbers.{id_of}
-use Rattle.aos_typed.specs.Program.{Place, ModuleVar, Index, Expr, Read, Module, Program}
+use Rattle.aos_typed.specs.Open.{open_dimensions, open_element}
+use Rattle.aos_typed.specs.declared.tree.TType.{TType}
+use Rattle.aos_typed.specs.declared.tree.TType.TheVariants as type
+use Rattle.aos_typed.specs.Program.{Place, ModuleVar, Of, Index, Rows, Row, Expr, Read, Parameter, Procedure, Module}
 use Rattle.aos_typed.specs.Program.{Field as FieldOf}
-use Rattle.aos_typed.specs.WellTyped.{field_type, IsPlaceOf}
+use Rattle.aos_typed.specs.WellTyped.{HaveLengths, field_type, procedure_in}
+use Rattle.aos_symbols.specs.declared.home.Parameter.{Parameter as Formal}
+use Rattle.aos_symbols.specs.declared.home.Gives.{Gives}
+use Rattle.aos_symbols.specs.declared.home.Gives.TheVariants as gives
+use Rattle.aos_symbols.specs.declared.home.Signature.{Signature}
 use Rattle.aos_symbols.specs.declared.scope.Entry.{Entry}
 use Rattle.aos_symbols.specs.declared.scope.Constant.{Constant as Declared}
 use Rattle.aos_symbols.specs.declared.scope.Meaning.{Meaning}
@@ -35,7 +45,8 @@ use Rattle.aos_symbols.specs.Env.{text}
 use Rattle.aos_symbols.proofs.Each.{Each, each_at}
 use Rattle.aos_symbols.proofs.Holds.{Holds, holds_bind, broken}
 use Rattle.aos_symbols.proofs.Lookups.{IsPredeclared, another, IsOfAll, lookup_is, member_is}
-use Rattle.aos_symbols.proofs.Told.{IsTold, IsKnown, PartsAreTold}
+use Rattle.aos_symbols.proofs.Told.{IsTold, basic as basic_told, defined, IsKnown, PartsAreTold}
+use Rattle.aos_check_expr.proofs.Inside.{Inside, IsPlaceOf, AreRows, IsOf}
 use Rattle.aos_check_expr.specs.declared.known.Class.{Class}
 use Rattle.aos_check_expr.specs.declared.known.Class.TheVariants.{Unknown, Constant, Variable, ReadOnly, Computed}
 use Rattle.aos_check_expr.specs.declared.known.Known.{Known}
@@ -43,36 +54,113 @@ use Rattle.aos_check_expr.specs.declared.designators.Head.{Head}
 use Rattle.aos_check_expr.specs.Known.{Answer, Spot, Held, Stands, Value, is_basic, is_number, is_lost, type_as, type_of, read_from, known_as, spot_of, answered, constant_answer, nothing}
 use Rattle.aos_check_expr.specs.Designators as desig
 use Rattle.aos_check_expr.proofs.Types.{includes_itself, as_basic, id_as}
+use Rattle.aos_check_expr.proofs.Opens.{OpensFall, OpensStand, some_there, closed_dimensions, closed_element, next_dimensions, next_element}
+use Rattle.aos_check_expr.proofs.Stored.{IsStored, IsMade}
 use Rattle.aos_check_expr.proofs.Good.{IsGood, HasGood, IsKnownClass}
-use Rattle.aos_check_expr.proofs.Sound.{not_both, IsScalar, IsWholeRead, IsSound, IsPlain, plain_sound, sound_number}
+use Rattle.aos_check_expr.proofs.Sound.{not_both, IsScalar, IsClosedPlace, IsOpenPlace, IsWholeRead, IsSound, IsPlain, plain_sound, sound_number}
 use Rattle.aos_check_expr.proofs.Parts.{IsPart, IsValue, constant_part}
 
--- a variable has the type that is known of it
-pub record IsTyped (p : Program) (e : Env) (place : Place) (of : Option TypeId) : Type 0 where
-  pub typed : IsPlaceOf p place (type_of of)
-  pub known : IsKnown e.types of
+-- a variable has the type that is known of it, or is an open array, with its rows
+pub data IsTyped (p : Inside) (e : Env) (place : Place) (of : Option TypeId) : Type 0 where
+  closed : IsPlaceOf p place (type_of of) → IsKnown e.types of → IsTyped p e place of
+  opened : (t : TypeId) (r : Rows) → of ≡ Some t → place ≡ Of r → desig.is_opened e t ≡ true →
+      AreRows p r (open_dimensions e.types t) (type_as (open_element e.types t)) → HaveLengths r → IsTyped p e place of
 
 -- in each scope that the environment has, each constant has a value that is good
 abbrev pub GoodConstants : Env → Type 0
 GoodConstants e = (o : Open) (s : Scope) → env.scope e o ≡ Some s → Each (λ (c : Declared). HasGood c.value) s.constants
 
--- The environment is that of bodies: each variable in the scope of a module has its type, the table is the program's and begins
--- with what is predeclared, the types behind the first ten are its object types, and each module's string constants are those of its text.
-pub record IsWhole (p : Program) (e : Env) : Type 0 where
+-- a parameter's type: one that is told, or an open array
+abbrev pub IsParameterType : Env → TypeId → Type 0
+IsParameterType e t = IsTold e.types t ⊎ (desig.is_opened e t ≡ true)
+
+-- the parameters of the typed program are those of a signature
+abbrev pub AreParameters : Env → List Formal → List Parameter → Type 0
+AreParameters e [] as' = as' ≡ []
+AreParameters e (x ∷ xs) as' =
+    (a : Parameter) × (rest : List Parameter) × (t : TypeId) × (as' ≡ a ∷ rest) × (x.of ≡ Some t) × (a.of ≡ type_as t)
+    × (a.by_reference ≡ x.by_reference) × IsParameterType e t × AreParameters e xs rest
+
+abbrev pub IsResultOf : Gives → Option TType → Type 0
+IsResultOf gives.Nothing r = r ≡ None
+IsResultOf (gives.Value of) r = (t : TypeId) × (of ≡ Some t) × (r ≡ Some (type_as t))
+
+pub record IsSigned (e : Env) (s : Signature) (q : Procedure) : Type 0 where
+  pub parameters : AreParameters e s.parameters q.parameters
+  pub result : IsResultOf s.gives q.result
+
+-- a scope that is searched is a module's own, or that of the procedure
+abbrev pub IsSearched : Env → Open → Type 0
+IsSearched e o = (o.scope ≡ 0) ⊎ ((o.home ≡ e.number) × (o.scope ≡ env.innermost e.path))
+
+-- each open array of the table stands behind its elements, whose type is told or an open array
+pub record AreOpensTold (e : Env) : Type 0 where
+  pub falls : OpensFall e.types
+  pub above : (t u : TypeId) → row_of e.types t ≡ Some (row.Open u) → 10 ≤ t.0
+  pub elements : (t u : TypeId) → row_of e.types t ≡ Some (row.Open u) → IsParameterType e u
+
+-- the type of a parameter that is there
+pub parameter_type : (e : Env) (t : TypeId) → t.0 < length e.types → (t.0 < 7) ⊎ (10 ≤ t.0) → IsParameterType e t
+parameter_type e t below (inl low) = inl (basic_told low)
+parameter_type e t below (inr high) = let r = some_there e.types t.0 below in by r.0 r.1 (is_open (Some r.0)) refl
+  where
+    no_low : is_basic t ≡ false
+    no_low = le-ltb t.0 7 (omega (arith, high))
+
+    by : (r : TypeRow) → slice_get e.types t.0 ≡ Some r → (b : Bool) → is_open (Some r) ≡ b → IsParameterType e t
+    by r there false shut = inl (defined r high there shut)
+    by r there true opening = inr (ap (λ b. not b && is_open (row_of e.types t)) no_low ∙ ap is_open there ∙ opening)
+
+pub opens_told : (e : Env) → OpensStand e.types → AreOpensTold e
+opens_told e stand = record {
+  falls = λ t u is. (stand t.0 (row.Open u) is).0;
+  above = λ t u is. (stand t.0 (row.Open u) is).1;
+  elements = λ t u is.
+      let one = stand t.0 (row.Open u) is in
+      let below = slice_get_within e.types t.0 (row.Open u) is in
+      let less = one.0 in
+      parameter_type e u (omega (arith, below, less)) one.2;
+}
+
+-- what is told has no open dimension
+pub told_element : (e : Env) → AreOpensTold e → (t : TypeId) → IsTold e.types t → element_of (row_of e.types t) ≡ None
+told_element e opens t told = by (row_of e.types t) refl
+  where
+    not_open : (u : TypeId) → row_of e.types t ≡ Some (row.Open u) → IsTold e.types t → ⊥
+    not_open u is (basic_told below) = let above = opens.above t u is in omega (arith, above, below)
+    not_open u is (defined r from there shut) = not_both (ap is_open (sym is ∙ there) ∙ shut)
+
+    by : (r : Option TypeRow) → row_of e.types t ≡ r → element_of r ≡ None
+    by (Some (row.Open u)) is = absurd (not_open u is told)
+    by None is = refl
+    by r is = refl
+
+-- The environment is that of bodies: each variable in the scope of a module or of the procedure has its type, the table is the program's
+-- and begins with what is predeclared, the types behind the first ten are its object types, each procedure is as its signature says, and
+-- each module's string constants are those of its text.
+pub record IsWhole (p : Inside) (e : Env) : Type 0 where
   pub variables : (o : Open) (s : Scope) (w : List ℕ) (x : Entry) (k : ℕ) → o.scope ≡ 0 → env.scope e o ≡ Some s → find s w ≡ Some x →
       x.means ≡ means.Variable k → IsTyped p e (ModuleVar o.home k) (env.variable_type e o k)
   pub constants : GoodConstants e
   pub parts : PartsAreTold e.types
   pub fields : (t : TypeId) (n : Name) (f : Field) (ts : List TypeId) → env.field e t n ≡ Some f → env.row_of e (Some t) ≡ Some (row.Record None ts) →
       (u : TypeId) × (f.of ≡ Some u) × (slice_get ts f.number ≡ Some u)
-  pub rows : p.types ≡ e.types
-  pub objects : length e.types ≡ 10 + length p.objects
+  pub rows : p.program.types ≡ e.types
+  pub objects : length e.types ≡ 10 + length p.program.objects
   pub basic : (k : ℕ) → k < 10 → slice_get e.types k ≡ slice_get env.basic_rows k
+  pub opens : AreOpensTold e
+  pub path : Each (IsSearched e) e.path
+  pub locals : (s : Scope) (w : List ℕ) (x : Entry) (k : ℕ) → is_some (env.own_signature e) ≡ true →
+      let o : Open = record { home = e.number; scope = env.innermost e.path } in
+      env.scope e o ≡ Some s → find s w ≡ Some x → x.means ≡ means.Variable k → IsTyped p e (desig.own_place e k) (env.variable_type e o k)
+  pub own : (s : Signature) → env.own_signature e ≡ Some s → (q : Procedure) × (p.own ≡ Some q) × IsSigned e s q
+  pub own_body : env.own_signature e ≡ None → p.own ≡ None
+  pub signatures : (m k : ℕ) (s : Signature) → env.signature e m k ≡ Some s → (q : Procedure) × (procedure_in p.program m k ≡ Some q) × IsSigned e s q
   pub strings : (m : ℕ) (h : Home) → env.home e m ≡ Some h →
-      (x : Module) × (slice_get p.modules m ≡ Some x) × (length x.variables ≡ env.variable_count e m) × (x.texts ≡ texts_of h)
+      (x : Module) × (slice_get p.program.modules m ≡ Some x) × (length x.variables ≡ env.variable_count e m) × (x.texts ≡ texts_of h)
 
 -- the type of string constants has no parts
-pub text_row : (p : Program) (e : Env) → IsWhole p e → (t : TypeId) (r : TypeRow) → t ≡ text → env.row_of e (Some t) ≡ Some r → row.Basic (basic.Text 0) ≡ r
+pub text_row : (p : Inside) (e : Env) → IsWhole p e → (t : TypeId) (r : TypeRow) → t ≡ text → env.row_of e (Some t) ≡ Some r → row.Basic (basic.Text 0) ≡ r
 text_row p e whole t r is there =
     same_Some (row.Basic (basic.Text 0)) r (sym (whole.basic 9 (omega arith)) ∙ ap (λ (u : TypeId). slice_get e.types u.0) (sym is) ∙ there)
 
@@ -82,26 +170,50 @@ no_record ts is = cc
 pub no_array : (m : ℕ) (u : TypeId) → row.Basic (basic.Text 0) ≡ row.Array m u → ⊥
 no_array m u is = cc
 
+record_open : (ts : List TypeId) → is_open (Some (row.Record None ts)) ≡ true → ⊥
+record_open ts is = cc
+
+array_open : (m : ℕ) (u : TypeId) → is_open (Some (row.Array m u)) ≡ true → ⊥
+array_open m u is = cc
+
+pub no_open : (u : TypeId) → row.Basic (basic.Text 0) ≡ row.Open u → ⊥
+no_open u is = cc
+
+-- what is told is no open array
+pub told_closed : (e : Env) (t : TypeId) → IsTold e.types t → desig.is_opened e t ≡ true → ⊥
+told_closed e t (basic_told below) is = not_both (sym (and_parts (not (is_basic t)) _ is).0 ∙ ap not (lt-ltb t.0 7 below))
+told_closed e t (defined r from there shut) is = not_both (sym (and_parts (not (is_basic t)) _ is).1 ∙ ap is_open there ∙ shut)
+
+-- the row of an open array
+pub opened_row : (e : Env) (t : TypeId) → desig.is_opened e t ≡ true → (u : TypeId) × (is_basic t ≡ false) × (row_of e.types t ≡ Some (row.Open u))
+opened_row e t is = by (row_of e.types t) refl (and_parts (not (is_basic t)) _ is).1
+  where
+    low : (b : Bool) → not b ≡ true → b ≡ false
+    low true h = absurd (not_both (sym h))
+    low false h = refl
+
+    by : (r : Option TypeRow) → row_of e.types t ≡ r → is_open r ≡ true → (u : TypeId) × (is_basic t ≡ false) × (row_of e.types t ≡ Some (row.Open u))
+    by (Some (row.Open u)) at h = (u, low (is_basic t) (and_parts (not (is_basic t)) _ is).0, at)
+    by r at h = absurd (not_both (sym h))
+
+pub row_opened : (e : Env) (t u : TypeId) → is_basic t ≡ false → row_of e.types t ≡ Some (row.Open u) → desig.is_opened e t ≡ true
+row_opened e t u low is = rw (low, is) refl
+
 -- a designator is a variable of its type, or a sound value
-abbrev IsSoundHeld : Program → Env → Known → Held → Type 0
+abbrev IsSoundHeld : Inside → Env → Known → Held → Type 0
 IsSoundHeld p e k (Stands place) = IsTyped p e place k.of
 IsSoundHeld p e k (Value x) = IsPlain p (record { known = k; typed = x })
 
-abbrev pub IsSoundSpot : Program → Env → Spot → Type 0
+abbrev pub IsSoundSpot : Inside → Env → Spot → Type 0
 IsSoundSpot p e a = IsSoundHeld p e a.known a.held
 
--- a variable may be written, or read alone
-abbrev IsStored : Class → Type 0
-IsStored Variable = Unit {0}
-IsStored ReadOnly = Unit {0}
-IsStored c = ⊥
-
-abbrev IsStoredHeld : Held → Class → Type 0
+-- a variable may be written, or read alone; a value is neither
+abbrev pub IsStoredHeld : Held → Class → Type 0
 IsStoredHeld (Stands place) c = IsStored c
-IsStoredHeld (Value x) c = Unit {0}
+IsStoredHeld (Value x) c = IsMade c
 
 -- a designator as a part of an expression
-pub record IsSpot (p : Program) (e : Env) (a : Spot) : Type 0 where
+pub record IsSpot (p : Inside) (e : Env) (a : Spot) : Type 0 where
   pub class : IsKnownClass IsGood a.known.class
   pub valued : not (is_lost a.known.class) ≡ true
   pub stored : IsStoredHeld a.held a.known.class
@@ -111,13 +223,6 @@ pub record IsSpot (p : Program) (e : Env) (a : Spot) : Type 0 where
 no_variable : (m : Meaning) → IsPredeclared m → (k : ℕ) → m ≡ means.Variable k → ⊥
 no_variable m another k e = cc
 no_variable m x k e = cc
-
-abbrev AnyScope : Open → Type 0
-AnyScope o = Unit {0}
-
-any_scope : (os : List Open) → Each AnyScope os
-any_scope [] = tt
-any_scope (o ∷ os) = (tt, any_scope os)
 
 access_stored : (here : Bool) (mark : Option Export) → IsStored (desig.access here mark)
 access_stored here None = tt
@@ -161,9 +266,16 @@ part_stored may c part (Stands place) s = by may c s
     by may (Constant v) s = absurd s
     by may Unknown s = absurd s
     by may Computed s = absurd s
-part_stored may c part (Value x) s = tt
+part_stored may c part (Value x) s = by may c s
+  where
+    by : (may : Bool) (c : Class) → IsMade c → IsMade (desig.part_class may c)
+    by may Variable s = absurd (s tt)
+    by may (Constant v) s = s
+    by may Unknown s = s
+    by may ReadOnly s = s
+    by may Computed s = s
 
-module _ (p : Program) (e : Env) where
+module _ (p : Inside) (e : Env) where
   abbrev pub Part : Answer → Type 0
   Part = IsPart p (IsWhole p e)
 
@@ -173,22 +285,43 @@ module _ (p : Program) (e : Env) where
   -- What is found of a name.
 
   abbrev IsVariable : Symbol → Type 0
-  IsVariable x = (k : ℕ) → x.means ≡ means.Variable k → x.at.scope ≡ 0 → IsTyped p e (ModuleVar x.at.home k) (env.variable_type e x.at k)
+  IsVariable x = (k : ℕ) → x.means ≡ means.Variable k → desig.is_reached e x ≡ true → IsTyped p e (desig.place_of_variable e x k) (env.variable_type e x.at k)
 
   abbrev pub MayFind : Lookup → Type 0
   MayFind l = IsWhole p e → (x : Symbol) → l ≡ Found x → IsVariable x
 
-  all_variables : IsWhole p e → IsOfAll e AnyScope IsVariable
+  all_variables : IsWhole p e → IsOfAll e (IsSearched e) IsVariable
   all_variables whole = record {
-    entries = λ o s w x any there is k means at. whole.variables o s w x k at there is means;
+    entries = λ o s w x searched there is k means at. variable o s w x k searched there is means at;
     others = λ m is k means at. absurd (no_variable m is k means);
   }
+    where
+      variable : (o : Open) (s : Scope) (w : List ℕ) (x : Entry) (k : ℕ) → IsSearched e o → env.scope e o ≡ Some s → find s w ≡ Some x → x.means ≡ means.Variable k →
+          desig.is_reached e (env.declared_at o x) ≡ true → IsTyped p e (desig.place_of_variable e (env.declared_at o x) k) (env.variable_type e o k)
+      variable o s w x k searched there is means at = by (o.scope == 0) refl searched
+        where
+          Typed : Bool → Type 0
+          Typed b = IsTyped p e (if b then ModuleVar o.home k else desig.own_place e k) (env.variable_type e o k)
+
+          reached : (o.scope == 0) ≡ false → is_some (env.own_signature e) ≡ true
+          reached isnt = sym (ap (λ b. b || is_some (env.own_signature e)) isnt) ∙ at
+
+          own : (o' : Open) → o ≡ o' → is_some (env.own_signature e) ≡ true → o'.home ≡ e.number → o'.scope ≡ env.innermost e.path → IsTyped p e (desig.own_place e k) (env.variable_type e o k)
+          own o' same signed home inner =
+              let here : o ≡ record { home = e.number; scope = env.innermost e.path } = same ∙ ap₂ (λ h i. record { home = h; scope = i }) home inner in
+              subst (λ o. IsTyped p e (desig.own_place e k) (env.variable_type e o k)) (sym here)
+              (whole.locals s w x k signed (subst (λ o. env.scope e o ≡ Some s) here there) is means)
+
+          by : (b : Bool) → (o.scope == 0) ≡ b → IsSearched e o → Typed b
+          by true z searched = whole.variables o s w x k (eqb-true o.scope 0 z) there is means
+          by false z (inl none) = absurd (not_both (sym (eq-eqb o.scope 0 none) ∙ z))
+          by false z (inr same) = own o refl (reached z) same.0 same.1
 
   none_found : MayFind NoName
   none_found whole x is = absurd (cc)
 
   pub plain_head : (n : Name) → MayFind (desig.plain e n).found
-  plain_head n whole = lookup_is e AnyScope IsVariable (all_variables whole) (any_scope e.path) n
+  plain_head n whole = lookup_is e (IsSearched e) IsVariable (all_variables whole) whole.path n
 
   of_out : (n : Name) → MayFind (desig.member_of_out e n)
   of_out n = by (is_among procedures_of_out (word e.here.text n))
@@ -201,7 +334,7 @@ module _ (p : Program) (e : Env) where
       by false = none_found
 
   of_meaning : (m : Meaning) (n : Name) → MayFind (desig.member_of e m n)
-  of_meaning (means.Module m) n = λ whole. member_is e AnyScope IsVariable (all_variables whole) m tt n
+  of_meaning (means.Module m) n = λ whole. member_is e (IsSearched e) IsVariable (all_variables whole) m (inl refl) n
   of_meaning means.Out n = of_out n
   of_meaning m n = none_found
 
@@ -215,7 +348,7 @@ module _ (p : Program) (e : Env) where
   pub refused_part : (rule : ℕ) (at : Pos) → Holds Valued (desig.refused rule at)
   refused_part rule at = broken Valued _ [] _
 
-  refused_value_part : (rule : ℕ) (at : Pos) → Holds Valued (desig.refused_value rule at)
+  pub refused_value_part : (rule : ℕ) (at : Pos) → Holds Valued (desig.refused_value rule at)
   refused_value_part rule at = broken Valued _ [] _
 
   pub guarded_part : (of : Option TypeId) (is_guard : Bool) (at first : Pos) → Holds Valued (desig.guarded e of is_guard at first)
@@ -243,7 +376,7 @@ module _ (p : Program) (e : Env) where
   Spotted = IsSpot p e
 
   pub spotted : (at : Pos) (j : Judged Answer) → Holds Valued j → Holds Spotted (desig.spotted at j)
-  spotted at j h = holds_bind Valued Spotted j (λ a. kept (spot_of at a)) h (λ a x e. record { class = x.class; valued = x.valued; stored = tt; sound = x.plain })
+  spotted at j h = holds_bind Valued Spotted j (λ a. kept (spot_of at a)) h (λ a x e. record { class = x.class; valued = x.valued; stored = x.made; sound = x.plain })
 
   stored : (c : Class) (of : Option TypeId) (place : Place) (at : Pos) → IsStored c → (IsWhole p e → IsTyped p e place of) → Spotted (record { known = known_as c of; held = Stands place; at = at })
   stored Variable of place at s h = record { class = tt; valued = refl; stored = tt; sound = h }
@@ -252,22 +385,27 @@ module _ (p : Program) (e : Env) where
   stored Unknown of place at s h = absurd s
   stored Computed of place at s h = absurd s
 
+  otherwise_spot : (m : Meaning) (h : Head) → Holds Spotted (desig.meant_otherwise m h)
+  otherwise_spot (means.Type of) h = spotted h.at (desig.refused 16 h.at) (refused_part 16 h.at)
+  otherwise_spot (means.Module m) h = spotted h.at (desig.refused 16 h.at) (refused_part 16 h.at)
+  otherwise_spot means.Out h = spotted h.at (desig.refused 16 h.at) (refused_part 16 h.at)
+  otherwise_spot (means.Truth b) h = spotted h.at (kept (constant_answer (literal.Bool b))) (λ none. constant_part p (IsWhole p e) (literal.Bool b) tt)
+  otherwise_spot (means.Function f) h = spotted h.at (desig.refused_value 36 h.first) (refused_value_part 36 h.first)
+  otherwise_spot (means.Routine r) h = spotted h.at (desig.refused_value 36 h.first) (refused_value_part 36 h.first)
+  otherwise_spot means.Proper h = spotted h.at (desig.refused_value 36 h.first) (refused_value_part 36 h.first)
+  otherwise_spot (means.Procedure k) h = spotted h.at (desig.refused_value 99 h.first) (refused_value_part 99 h.first)
+  otherwise_spot (means.Variable k) h = spotted h.at (desig.refused_value 99 h.first) (refused_value_part 99 h.first)
+  otherwise_spot (means.Constant k) h = spotted h.at (desig.refused_value 99 h.first) (refused_value_part 99 h.first)
+  otherwise_spot means.Other h = spotted h.at (desig.refused_value 99 h.first) (refused_value_part 99 h.first)
+
   meant_spot : GoodConstants e → (x : Symbol) → (IsWhole p e → IsVariable x) → (m : Meaning) → x.means ≡ m → (h : Head) → Holds Spotted (desig.meant e x m h)
-  meant_spot good x sound (means.Variable k) is h = by (x.at.scope == 0) refl
+  meant_spot good x sound (means.Variable k) is h = by (desig.is_reached e x) refl
     where
-      by : (b : Bool) → (x.at.scope == 0) ≡ b → Holds Spotted (if b then kept (desig.variable e x k h.at) else desig.spotted h.at (desig.refused 99 h.at))
-      by true own = λ none. stored (desig.access (x.at.home == e.number) x.mark) (env.variable_type e x.at k) (ModuleVar x.at.home k) h.at (access_stored (x.at.home == e.number) x.mark) (λ whole. sound whole k is (eqb-true x.at.scope 0 own))
+      by : (b : Bool) → desig.is_reached e x ≡ b → Holds Spotted (if b then kept (desig.variable e x k h.at) else desig.spotted h.at (desig.refused 99 h.at))
+      by true own = λ none. stored (desig.access (x.at.home == e.number) x.mark) (env.variable_type e x.at k) (desig.place_of_variable e x k) h.at (access_stored (x.at.home == e.number) x.mark) (λ whole. sound whole k is own)
       by false own = spotted h.at (desig.refused 99 h.at) (refused_part 99 h.at)
   meant_spot good x sound (means.Constant k) is h = spotted h.at (desig.constant_of (env.constant e x.at k h.first) h.at) (constant_there good x.at k h.first h.at)
-  meant_spot good x sound (means.Type of) is h = spotted h.at (desig.refused 16 h.at) (refused_part 16 h.at)
-  meant_spot good x sound (means.Module m) is h = spotted h.at (desig.refused 16 h.at) (refused_part 16 h.at)
-  meant_spot good x sound means.Out is h = spotted h.at (desig.refused 16 h.at) (refused_part 16 h.at)
-  meant_spot good x sound (means.Truth b) is h = spotted h.at (kept (constant_answer (literal.Bool b))) (λ none. constant_part p (IsWhole p e) (literal.Bool b) tt)
-  meant_spot good x sound (means.Function f) is h = spotted h.at (desig.refused_value 36 h.first) (refused_value_part 36 h.first)
-  meant_spot good x sound (means.Routine r) is h = spotted h.at (desig.refused_value 36 h.first) (refused_value_part 36 h.first)
-  meant_spot good x sound means.Proper is h = spotted h.at (desig.refused_value 36 h.first) (refused_value_part 36 h.first)
-  meant_spot good x sound (means.Procedure k) is h = spotted h.at (desig.refused_value 99 h.first) (refused_value_part 99 h.first)
-  meant_spot good x sound means.Other is h = spotted h.at (desig.refused_value 99 h.first) (refused_value_part 99 h.first)
+  meant_spot good x sound m is h = otherwise_spot m h
 
   found_spot : GoodConstants e → (l : Lookup) → MayFind l → (h : Head) → Holds Spotted (desig.found e l h)
   found_spot good NoName may h = spotted h.at (desig.refused 14 h.at) (refused_part 14 h.at)
@@ -281,7 +419,12 @@ module _ (p : Program) (e : Env) where
 
   -- a part whose type isn't known is none where all types are
   no_type : (k : Known) (h : Held) → k.of ≡ None → IsSoundHeld p e k h → ⊥
-  no_type k (Stands place) is s = subst (λ o. IsKnown e.types o) is s.known
+  no_type k (Stands place) is s = by k.of is s
+    where
+      by : (of : Option TypeId) → of ≡ None → IsTyped p e place of → ⊥
+      by None is (closed typed known) = known
+      by None is (opened t r same at opening rows lengths) = none-some t same
+      by (Some t) is s = none-some t (sym is)
   no_type k (Value x) is s = none-some s.of (sym is ∙ s.known)
 
   unknown_fine : (a : Spot) → Spotted a → a.known.of ≡ None → (at : Pos) → Spotted (desig.unknown_part at a)
@@ -335,14 +478,16 @@ module _ (p : Program) (e : Env) where
   -- a field of a record
   field_typed : IsWhole p e → (t : TypeId) (n : Name) (f : Field) (ts : List TypeId) → env.field e t n ≡ Some f → env.row_of e (Some t) ≡ Some (row.Record None ts) →
       IsPartOf (Some t) f.of (λ place. FieldOf place (type_as t) f.number)
-  field_typed whole t n f ts is r place h =
+  field_typed whole t n f ts is r place (closed typed known) =
       let g = whole.fields t n f ts is r in
       let u = g.0 in
       let told : IsTold e.types u = each_at (IsTold e.types) ts f.number u (whole.parts t.0 (row.Record None ts) r) g.2 in
-      let there : field_type (row_of p.types (id_of (type_as t))) f.number ≡ Some (id_of (type_as u)) =
-      ap (λ i. field_type (row_of p.types i) f.number) (id_as e.types t h.known) ∙ ap (λ rows. field_type (row_of rows t) f.number) whole.rows
+      let there : field_type (row_of p.program.types (id_of (type_as t))) f.number ≡ Some (id_of (type_as u)) =
+      ap (λ i. field_type (row_of p.program.types i) f.number) (id_as e.types t known) ∙ ap (λ rows. field_type (row_of rows t) f.number) whole.rows
       ∙ ap (λ w. field_type w f.number) r ∙ g.2 ∙ ap (λ i. Some i) (sym (id_as e.types u told)) in
-      subst (λ o. IsTyped p e (FieldOf place (type_as t) f.number) o) (sym g.1) (record { typed = (h.typed, there); known = told })
+      subst (λ o. IsTyped p e (FieldOf place (type_as t) f.number) o) (sym g.1) (closed (typed, there) told)
+  field_typed whole t n f ts is r place (opened u q same at opening rows lengths) =
+      absurd (record_open ts (sym (ap (λ w. is_open w) (subst (λ v. env.row_of e (Some v) ≡ Some (row.Record None ts)) (same_Some t u same) r)) ∙ (and_parts (not (is_basic u)) _ opening).1))
 
   field_in : (t : TypeId) (c : Class) (held : Held) (at : Pos) → Spotted (record { known = record { of = Some t; class = c }; held = held; at = at }) → (q : Pos) (n : Name) →
       Holds Spotted (desig.field e (record { known = record { of = Some t; class = c }; held = held; at = at }) q n)
@@ -382,12 +527,42 @@ module _ (p : Program) (e : Env) where
   -- an element of an array
   element_typed : IsWhole p e → (t u : TypeId) (m : ℕ) (i : Answer) → env.row_of e (Some t) ≡ Some (row.Array m u) → IsSound p i → is_number i.known.of ≡ true →
       IsPartOf (Some t) (Some u) (λ place. Index place m (type_as u) i.typed)
-  element_typed whole t u m i r s k place h =
+  element_typed whole t u m i r s k place (closed typed known) =
       let told : IsTold e.types u = (whole.parts t.0 (row.Array m u) r).1 in
-      let there : row_of p.types (id_of (type_as t)) ≡ Some (row.Array m (id_of (type_as u))) =
-      ap (λ i. row_of p.types i) (id_as e.types t h.known) ∙ ap (λ rows. row_of rows t) whole.rows
+      let there : row_of p.program.types (id_of (type_as t)) ≡ Some (row.Array m (id_of (type_as u))) =
+      ap (λ i. row_of p.program.types i) (id_as e.types t known) ∙ ap (λ rows. row_of rows t) whole.rows
       ∙ r ∙ ap (λ v. Some (row.Array m v)) (sym (id_as e.types u told)) in
-      record { typed = (type_as t, h.typed, there, sound_number p i s k, refl); known = told }
+      closed (type_as t, typed, there, sound_number p i s k, refl) told
+  element_typed whole t u m i r s k place (opened v q same at opening rows lengths) =
+      absurd (array_open m u (sym (ap (λ w. is_open w) (subst (λ v. env.row_of e (Some v) ≡ Some (row.Array m u)) (same_Some t v same) r)) ∙ (and_parts (not (is_basic v)) _ opening).1))
+
+  -- an element of an open array, which is an open array or has a type that is told
+  row_typed : IsWhole p e → (t u : TypeId) (i : Answer) → is_basic t ≡ false → env.row_of e (Some t) ≡ Some (row.Open u) → IsSound p i → is_number i.known.of ≡ true →
+      IsPartOf (Some t) (Some u) (λ place. Of (Row (desig.rows_of place) (type_as (open_element e.types t)) i.typed))
+  row_typed whole t u i low r s k place (closed typed known) = absurd (told_closed e t known (row_opened e t u low r))
+  row_typed whole t u i low r s k place (opened v q same at opening rows lengths) =
+      subst (λ place. IsTyped p e (Of (Row (desig.rows_of place) E i.typed)) (Some u)) (sym at) (by (whole.opens.elements t u r))
+    where
+      E : TType
+      E = type_as (open_element e.types t)
+
+      deep : AreRows p q (suc (open_dimensions e.types u)) E
+      deep =
+          subst (λ n. AreRows p q n E) (next_dimensions e.types whole.opens.falls t u r)
+          (subst (λ v. AreRows p q (open_dimensions e.types v) (type_as (open_element e.types v))) (sym (same_Some t v same)) rows)
+
+      elements : type_as (open_element e.types u) ≡ E
+      elements = ap type_as (sym (next_element e.types whole.opens.falls t u r))
+
+      index : IsOf p i.typed (type.Integer W64)
+      index = sound_number p i s k
+
+      by : IsParameterType e u → IsTyped p e (Of (Row q E i.typed)) (Some u)
+      by (inl told) =
+          let none = told_element e whole.opens u told in
+          let is : type_as u ≡ E = ap type_as (sym (closed_element e.types u none)) ∙ elements in
+          closed (subst (λ T. AreRows p q 1 T) (sym is) (subst (λ n. AreRows p q (suc n) E) (closed_dimensions e.types u none) deep), index, is) told
+      by (inr more) = opened u (Row q E i.typed) refl refl more (subst (λ T. AreRows p q (suc (open_dimensions e.types u)) T) (sym elements) deep, index, elements) lengths
 
   element_in : (t : TypeId) (c : Class) (held : Held) (at : Pos) → Spotted (record { known = record { of = Some t; class = c }; held = held; at = at }) → (q : Pos) (i : Answer) → Part i →
       Holds Spotted (desig.element e q (record { known = record { of = Some t; class = c }; held = held; at = at }) i)
@@ -402,21 +577,29 @@ module _ (p : Program) (e : Env) where
           λ none. part_fine true (Some u) (λ place. Index place m (type_as u) i.typed) at a x t refl (other, λ whole is_text. no_array m u (text_row p e whole t (row.Array m u) is_text r)) (λ whole. element_typed whole t u m i r (y.sound whole) k)
       tested other m u r false k = spotted q (desig.refused 42 q) (refused_part 42 q)
 
+      row_tested : is_basic t ≡ false → (u : TypeId) → env.row_of e (Some t) ≡ Some (row.Open u) → (b : Bool) → is_number i.known.of ≡ b →
+          Holds Spotted (if b then kept (desig.row_spot (open_element e.types t) u i a) else desig.spotted q (desig.refused 42 q))
+      row_tested other u r true k =
+          λ none. part_fine true (Some u) (λ place. Of (Row (desig.rows_of place) (type_as (open_element e.types t)) i.typed)) at a x t refl (other, λ whole is_text. no_open u (text_row p e whole t (row.Open u) is_text r))
+          (λ whole. row_typed whole t u i other r (y.sound whole) k)
+      row_tested other u r false k = spotted q (desig.refused 42 q) (refused_part 42 q)
+
       in_row : is_basic t ≡ false → (r : Option TypeRow) → env.row_of e (Some t) ≡ r → Holds Spotted (desig.element_in_row e q a i t r)
       in_row other (Some (row.Array m u)) r = tested other m u r (is_number i.known.of) refl
+      in_row other (Some (row.Open u)) r = row_tested other u r (is_number i.known.of) refl
       in_row other w r = lacking_fine t q
 
       by : (b : Bool) → is_basic t ≡ b → Holds Spotted (if b then desig.lacking e t q else desig.element_in_row e q a i t (env.row_of e (Some t)))
       by true low = lacking_fine t q
       by false other = in_row other (env.row_of e (Some t)) refl
 
-  element_of : (of : Option TypeId) (c : Class) (held : Held) (at : Pos) → Spotted (record { known = record { of = of; class = c }; held = held; at = at }) → (q : Pos) (i : Answer) → Part i →
+  element_typed_of : (of : Option TypeId) (c : Class) (held : Held) (at : Pos) → Spotted (record { known = record { of = of; class = c }; held = held; at = at }) → (q : Pos) (i : Answer) → Part i →
       Holds Spotted (desig.element e q (record { known = record { of = of; class = c }; held = held; at = at }) i)
-  element_of None c held at x q i y = λ none. unknown_fine (record { known = record { of = None; class = c }; held = held; at = at }) x refl at
-  element_of (Some t) c held at x q i y = element_in t c held at x q i y
+  element_typed_of None c held at x q i y = λ none. unknown_fine (record { known = record { of = None; class = c }; held = held; at = at }) x refl at
+  element_typed_of (Some t) c held at x q i y = element_in t c held at x q i y
 
   pub element_part : (a : Spot) → Spotted a → (q : Pos) (i : Answer) → Part i → Holds Spotted (desig.element e q a i)
-  element_part a x q i y = element_of a.known.of a.known.class a.held a.at x q i y
+  element_part a x q i y = element_typed_of a.known.of a.known.class a.held a.at x q i y
 
   followed_of : (of : Option TypeId) (c : Class) (held : Held) (at : Pos) → Spotted (record { known = record { of = of; class = c }; held = held; at = at }) → (q : Pos) →
       Holds Spotted (desig.followed e (record { known = record { of = of; class = c }; held = held; at = at }) q)
@@ -431,20 +614,57 @@ module _ (p : Program) (e : Env) where
   abbrev IsScalarOrWhole : TypeId → Expr → Type 0
   IsScalarOrWhole t x = IsScalar p t x ⊎ (IsWholeRead p t x ⊎ (t ≡ text))
 
-  place_read : (place : Place) (t : TypeId) → IsTyped p e place (Some t) → IsScalarOrWhole t (Read (type_as t) place)
-  place_read place t h = by (is_basic t) refl
+  -- a variable that isn't of a basic type is a whole one, or an open array
+  pub held_place : IsWhole p e → (place : Place) (t : TypeId) → is_basic t ≡ false → IsTyped p e place (Some t) → IsClosedPlace p t place ⊎ IsOpenPlace p t place
+  held_place whole place t other (closed typed known) = inl (typed, id_as e.types t known, shut)
+    where
+      isnt : (b : Bool) → desig.is_opened e t ≡ b → b ≡ false
+      isnt true is = absurd (told_closed e t known is)
+      isnt false is = refl
+
+      shut : is_open (row_of p.program.types t) ≡ false
+      shut = ap (λ rows. is_open (row_of rows t)) whole.rows ∙ sym (ap (λ b. not b && is_open (row_of e.types t)) other) ∙ isnt (desig.is_opened e t) refl
+  held_place whole place t other (opened v r same at opening rows lengths) =
+      let u = opened_row e v opening in
+      let is = sym (same_Some t v same) in
+      subst (λ t. IsClosedPlace p t place ⊎ IsOpenPlace p t place) is
+      (inr (
+        r,
+        at,
+        ap (λ rows. is_open (row_of rows v)) whole.rows ∙ ap is_open u.2,
+        subst (λ types. AreRows p r (open_dimensions types v) (type_as (open_element types v))) (sym whole.rows) rows,
+        lengths,
+      ))
+
+  -- one of a basic type is no open array
+  low_typed : (place : Place) (t : TypeId) → is_basic t ≡ true → IsTyped p e place (Some t) → IsPlaceOf p place (type_as t)
+  low_typed place t low (closed typed known) = typed
+  low_typed place t low (opened v r same at opening rows lengths) = absurd (not_both (sym low ∙ ap is_basic (same_Some t v same) ∙ (opened_row e v opening).1))
+
+  place_read : IsWhole p e → (place : Place) (t : TypeId) → IsTyped p e place (Some t) → IsScalarOrWhole t (Read (type_as t) place)
+  place_read whole place t h = by (is_basic t) refl
     where
       by : (b : Bool) → is_basic t ≡ b → IsScalarOrWhole t (Read (type_as t) place)
-      by true low = inl (low, (h.typed, as_basic t low, includes_itself (type_as t)))
-      by false other = inr (inl (other, place, refl, h.typed, id_as e.types t h.known))
+      by true low = inl (low, (low_typed place t low h, as_basic t low, includes_itself (type_as t)))
+      by false other = inr (inl (other, place, refl, held_place whole place t other h))
 
-  stands_sound : (place : Place) (of : Option TypeId) → IsTyped p e place of → (t : TypeId) × (of ≡ Some t) × IsScalarOrWhole t (Read (type_of of) place)
-  stands_sound place None h = absurd h.known
-  stands_sound place (Some t) h = (t, refl, place_read place t h)
+  stands_sound : IsWhole p e → (place : Place) (of : Option TypeId) → IsTyped p e place of → (t : TypeId) × (of ≡ Some t) × IsScalarOrWhole t (Read (type_of of) place)
+  stands_sound whole place None (closed typed known) = absurd known
+  stands_sound whole place None (opened t r same at opening rows lengths) = absurd (none-some t same)
+  stands_sound whole place (Some t) h = (t, refl, place_read whole place t h)
 
-  read_sound : (k : Known) (x : Held) → IsSoundHeld p e k x → IsSound p (record { known = k; typed = read_from k.of x })
-  read_sound k (Stands place) h = let r = stands_sound place k.of h in record { of = r.0; known = r.1; typed = r.2 }
-  read_sound k (Value x) h = plain_sound p (record { known = k; typed = x }) h
+  read_sound : IsWhole p e → (k : Known) (x : Held) → IsSoundHeld p e k x → IsSound p (record { known = k; typed = read_from k.of x })
+  read_sound whole k (Stands place) h = let r = stands_sound whole place k.of h in record { of = r.0; known = r.1; typed = r.2 }
+  read_sound whole k (Value x) h = plain_sound p (record { known = k; typed = x }) h
+
+  is_read : (c : Class) (of : Option TypeId) (x : Held) → IsStoredHeld x c → IsStored c → (place : Place) × (read_from of x ≡ Read (type_of of) place)
+  is_read c of (Stands place) stored s = (place, refl)
+  is_read c of (Value x) made s = absurd (made s)
 
   pub read_part : (a : Spot) → Spotted a → Holds Part (desig.read e a)
-  read_part a x none = record { class = x.class; valued = x.valued; sound = λ whole. read_sound a.known a.held (x.sound whole) }
+  read_part a x none = record {
+    class = x.class;
+    valued = x.valued;
+    read = is_read a.known.class a.known.of a.held x.stored;
+    sound = λ whole. read_sound whole a.known a.held (x.sound whole);
+  }

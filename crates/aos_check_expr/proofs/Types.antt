@@ -15,10 +15,11 @@ use Rattle.aos_typed.specs.declared.tree.Literal.TheVariants as literal
 use Rattle.aos_typed.specs.declared.tree.TType.{TType}
 use Rattle.aos_typed.specs.declared.tree.TType.TheVariants as type
 use Rattle.aos_typed.specs.Numbers.{id_of}
-use Rattle.aos_typed.specs.Program.{Expr, Lit, Read, Unary, Binary, And, Or, Element, Ord, Chr, CompareTexts, Len, Program}
-use Rattle.aos_typed.specs.WellTyped.{bits, Includes, IsLiteral, HasRange, Gives, GivesOfTwo, is_basic as is_basic_type, IsOf}
+use Rattle.aos_typed.specs.Program.{Expr, Lit, Read, Unary, Binary, And, Or, Element, Ord, Chr, CompareTexts, Len, LenBehind, Function}
+use Rattle.aos_typed.specs.WellTyped.{bits, Includes, IsLiteral, HasRange, Gives, GivesOfTwo, is_basic as is_basic_type}
 use Rattle.aos_symbols.specs.Env.{shortint, integer, longint, hugeint, boolean, char, set}
 use Rattle.aos_symbols.proofs.Told.{IsTold, basic, defined}
+use Rattle.aos_check_expr.proofs.Inside.{Inside, IsOf}
 use Rattle.aos_check_expr.specs.Known.{is_integer, is_basic, is, fits_type, width_of_type, type_as, object_number}
 
 -- Integer types.
@@ -180,7 +181,7 @@ gives_of_two_wider two.Xor t u i g = set_wider t u i g
 gives_of_two_wider two.SetSpan t u i g = set_wider t u i g
 gives_of_two_wider two.In t u i g = boolean_wider t u i g
 
-pub wider : (p : Program) (x : Expr) (t u : TType) → IsOf p x t → Includes u t → IsOf p x u
+pub wider : (p : Inside) (x : Expr) (t u : TType) → IsOf p x t → Includes u t → IsOf p x u
 wider p (Lit l) t u h i = literal_wider l t u i h
 wider p (Read of place) t u h i = (h.0, h.1, includes_on u t of i h.2)
 wider p (Unary op a) t u h i = (h.0, gives_wider op t u i h.1)
@@ -190,8 +191,10 @@ wider p (Or a b) t u h i = (h.0, h.1, boolean_wider t u i h.2)
 wider p (Element a) t u h i = (h.0, set_wider t u i h.1)
 wider p (Ord a) t u h i = (h.0, includes_on u t (type.Integer W16) i h.1)
 wider p (Chr a) t u h i = (h.0, char_wider t u i h.1)
-wider p (CompareTexts r a n b m) t u h i = (h.0, h.1, boolean_wider t u i h.2)
-wider p (Len place n) t u h i = (h.0, h.1, h.2, h.3, h.4, includes_on u t (type.Integer W32) i h.5)
+wider p (CompareTexts r a b) t u h i = (h.0, h.1, boolean_wider t u i h.2)
+wider p (Len r d) t u h i = (h.0, h.1, h.2, h.3, h.4, includes_on u t (type.Integer W32) i h.5)
+wider p (LenBehind r n) t u h i = (h.0, h.1, h.2, h.3, includes_on u t (type.Integer W32) i h.4)
+wider p (Function m k more) t u h i = (h.0, h.1, h.2, h.3, h.4, includes_on u t h.1 i h.5, h.6)
 
 -- The types of the table.
 
@@ -256,7 +259,7 @@ fits_includes t u h = by (is_integer t) (is_integer u) refl refl h
 
 -- Types that are told: their numbers in the table are theirs in the typed program.
 
-as_named : (t : TypeId) → 7 ≤ t.0 → type_as t ≡ type.Named (object_number t)
+pub as_named : (t : TypeId) → 7 ≤ t.0 → type_as t ≡ type.Named (object_number t)
 as_named t from =
     let o = type.Named (object_number t) in
     ap (λ w. if w then type.Integer (width_of_type t) else if is boolean t then type.Boolean else if is char t then type.Char else if is set t then type.Set else o) (le-ltb t.0 4 (omega arith))
@@ -264,10 +267,13 @@ as_named t from =
     ∙ ap (λ w. if w then type.Char else if is set t then type.Set else o) (ne_eqb 5 t.0 (λ h. omega arith))
     ∙ ap (λ w. if w then type.Set else o) (ne_eqb 6 t.0 (λ h. omega arith))
 
-pub id_as : (types : List TypeRow) (t : TypeId) → IsTold types t → id_of (type_as t) ≡ t
-id_as types t (basic below) = basic_cases (λ t. id_of (type_as t) ≡ t) (integer_cases (λ t. id_of (type_as t) ≡ t) refl refl refl refl) refl refl refl t (lt-ltb t.0 7 below)
-id_as types t (defined r from there closed) =
-    ap id_of (as_named t (omega arith)) ∙ ap (λ (n : ℕ). record { 0 = n }) (back t.0 from)
+-- of one that a module defines or writes
+pub id_above : (t : TypeId) → 10 ≤ t.0 → id_of (type_as t) ≡ t
+id_above t from = ap id_of (as_named t (omega arith)) ∙ ap (λ (n : ℕ). record { 0 = n }) (back t.0 from)
   where
     back : (n : ℕ) → 10 ≤ n → (n - 10) + 10 ≡ n
     back n from = omega arith
+
+pub id_as : (types : List TypeRow) (t : TypeId) → IsTold types t → id_of (type_as t) ≡ t
+id_as types t (basic below) = basic_cases (λ t. id_of (type_as t) ≡ t) (integer_cases (λ t. id_of (type_as t) ≡ t) refl refl refl refl) refl refl refl t (lt-ltb t.0 7 below)
+id_as types t (defined r from there closed) = id_above t from

@@ -1,5 +1,5 @@
 -- Expressions that break no rule are well typed, where the types of all variables are known and all constants have values.
-use Rattle.std.proofs.Common.{◌≡◌, ℕ, List, [], Bool, true, false, not, Some, None, if◌then◌else◌, refl}
+use Rattle.std.proofs.Common.{◌≡◌, ℕ, suc, List, [], length, ap, Bool, true, false, not, Some, None, if◌then◌else◌, refl}
 use Rattle.aos_base.specs.declared.text.Pos.{Pos}
 use Rattle.aos_base.specs.declared.number.Width.TheVariants.{W64}
 use Rattle.aos_tree.specs.declared.name.Name.{Name}
@@ -15,8 +15,6 @@ use Rattle.aos_tree.specs.declared.expr.Desig.{Desig, Row_of-Selector, end_of-Se
 use Rattle.aos_tree.specs.declared.expr.Selector.{Selector, items-the_row-Expr}
 use Rattle.aos_tree.specs.declared.expr.Selector.TheVariants as s
 use Rattle.aos_typed.specs.declared.tree.TType.TheVariants as type
-use Rattle.aos_typed.specs.Program.{Program}
-use Rattle.aos_typed.specs.WellTyped.{IsOf, IsText}
 use Rattle.aos_symbols.specs.declared.env.Env.{Env}
 use Rattle.aos_symbols.specs.Breaches.{breach_unless}
 use Rattle.aos_symbols.specs.Judged.{Judged, judged, kept, bind, walk}
@@ -24,6 +22,7 @@ use Rattle.aos_symbols.specs.Env.{text_constant}
 use Rattle.aos_symbols.proofs.Holds.{Holds, holds_bind, holds_walk, broken, test_is}
 use Rattle.aos_base.specs.Number.{if_within}
 use Rattle.aos_base.specs.Operators.{natural}
+use Rattle.aos_check_expr.proofs.Inside.{IsOf, AreRows}
 use Rattle.aos_check_expr.specs.declared.known.Class.{Class}
 use Rattle.aos_check_expr.specs.declared.known.Class.TheVariants.{Unknown, Constant, Variable, ReadOnly, Computed}
 use Rattle.aos_check_expr.specs.Known.{Answer, Spot, is_number, is_boolean, is_char, is_lost}
@@ -32,18 +31,20 @@ use Rattle.aos_check_expr.specs.Designators as desig
 use Rattle.aos_check_expr.specs.Expressions as judge
 use Rattle.aos_check_expr.proofs.Good.{IsKnownClass, within_if, natural_below}
 use Rattle.aos_check_expr.proofs.Parts.{Elements, added_part, multiplied_part, related_part, signed_part, opposite_part, number_part, character_part, string_part, no_elements, with_element_part, with_span_part, whole_part}
-use Rattle.aos_check_expr.proofs.Spots.{MayFind, Part, Spotted, guarded_part, plain_head, behind_head, spotted, named_spot, field_part, element_part, followed_part, read_part}
+use Rattle.aos_check_expr.proofs.Spots.{MayFind, IsStoredHeld, Part, Spotted, guarded_part, plain_head, behind_head, spotted, named_spot, field_part, element_part, followed_part, read_part}
 use Rattle.aos_check_expr.proofs.CallParts.{Parts, called_part}
 use Rattle.aos_check_expr.proofs.Worded.{first_below, texts_part}
 pub use Rattle.aos_check_expr.proofs.Types.{wider}
 pub use Rattle.aos_check_expr.proofs.Good.{IsGood, HasGood}
 pub use Rattle.aos_check_expr.proofs.Sound.{IsSound, sound_number, sound_char, sound_boolean}
 pub use Rattle.aos_check_expr.proofs.Spots.{IsTyped, GoodConstants, IsWhole, IsSoundSpot}
-pub use Rattle.aos_check_expr.proofs.Worded.{characters_are, text_place_is}
+pub use Rattle.aos_check_expr.proofs.Worded.{characters_are, text_rows_are}
+pub use Rattle.aos_check_expr.proofs.Inside.{Inside}
+pub use Rattle.aos_check_expr.proofs.Passed.{arguments_part}
 
 -- The walk over an expression.
 
-module _ (p : Program) (e : Env) (good : GoodConstants e) where
+module _ (p : Inside) (e : Env) (good : GoodConstants e) where
   abbrev IsFine : Judged Answer → Type 0
   IsFine = Holds (Part p e)
 
@@ -84,15 +85,20 @@ module _ (p : Program) (e : Env) (good : GoodConstants e) where
       part_of (bind (judge.spot_of_part e a) (λ b. desig.followed e b q))
       (holds_bind (Spotted p e) (Spotted p e) (judge.spot_of_part e a) (λ b. desig.followed e b q) (spot_fine a may) (λ b x. followed_part p e b x q))
 
-  bracketed_fine : (first : Pos) (a : judge.Part) → Parted a → (q : Pos) (js : List (Judged Answer)) → Parts p e js → (xs : List Expr) → IsFinePart (judge.bracketed e first a q js xs)
-  bracketed_fine first (judge.Begun h) may q js parts xs = by (desig.is_module h.found)
+  bracketed_fine : (first : Pos) (a : judge.Part) → Parted a → (q : Pos) (js : List (Judged Answer)) → Parts p e js → (xs : List Expr) → length js ≡ length xs → IsFinePart (judge.bracketed e first a q js xs)
+  bracketed_fine first (judge.Begun h) may q js parts xs many = by (desig.is_module h.found)
     where
       by : (b : Bool) → IsFinePart (if b then judge.as_part (desig.named e h) else judge.as_part (desig.spotted h.first (judge.called e h q js xs)))
       by true = part_of (desig.named e h) (named_spot p e good h may)
-      by false = part_of (desig.spotted h.first (judge.called e h q js xs)) (spotted p e h.first (judge.called e h q js xs) (called_part p e h q js parts xs))
-  bracketed_fine first (judge.Meant a) x q js parts xs =
+      by false = part_of (desig.spotted h.first (judge.called e h q js xs)) (spotted p e h.first (judge.called e h q js xs) (called_part p e h q js parts xs many))
+  bracketed_fine first (judge.Meant a) x q js parts xs many =
       let j = desig.guarded e a.known.of (judge.is_guard e xs) q first in
       part_of (desig.spotted a.at j) (spotted p e a.at j (guarded_part p e a.known.of (judge.is_guard e xs) q first))
+
+  -- there are as many arguments as expressions
+  as_many : {m : _} (r : Row_of-Expr m) → length (judge.arguments e r) ≡ length (items-the_row-Expr _ r)
+  as_many end_of-Expr = refl
+  as_many (more_of-Expr x xs) = ap suc (as_many xs)
 
   refused_answer : (rule : ℕ) (at : Pos) → IsFine (desig.refused rule at)
   refused_answer rule at = broken (Part p e) _ [] _
@@ -180,7 +186,7 @@ module _ (p : Program) (e : Env) (good : GoodConstants e) where
         part_of (bind (judge.spot_of_part e a) (λ b. judge.indices e q b row))
         (holds_bind (Spotted p e) (Spotted p e) (judge.spot_of_part e a) (λ b. judge.indices e q b row) (spot_fine a h) (λ b k. indices_fine q b k row))
     selector_fine first a h (s.Follow q) = followed_part_fine a h q
-    selector_fine first a h (s.Paren' q shape row) = bracketed_fine first a h q (judge.arguments e row) (arguments_fine row) (items-the_row-Expr _ row)
+    selector_fine first a h (s.Paren' q shape row) = bracketed_fine first a h q (judge.arguments e row) (arguments_fine row) (items-the_row-Expr _ row) (as_many row)
 
     indices_fine : {m : _} (at : Pos) (a : Spot) → Spotted p e a → (r : Row_of-Expr m) → IsFineSpot (judge.indices e at a r)
     indices_fine at a h end_of-Expr = λ none. h
@@ -203,22 +209,29 @@ module _ (p : Program) (e : Env) (good : GoodConstants e) where
 
 -- The law.
 
-pub expr_sound : (p : Program) (e : Env) → IsWhole p e → (x : Expr) → Holds (IsSound p) (judge.expr e x)
+pub expr_sound : (p : Inside) (e : Env) → IsWhole p e → (x : Expr) → Holds (IsSound p) (judge.expr e x)
 expr_sound p e whole x none = (expr_fine p e whole.constants x none).sound whole
 
-pub designator_sound : (p : Program) (e : Env) → IsWhole p e → (d : Desig) → Holds (IsSoundSpot p e) (judge.designator e d)
+pub designator_sound : (p : Inside) (e : Env) → IsWhole p e → (d : Desig) → Holds (IsSoundSpot p e) (judge.designator e d)
 designator_sound p e whole d none = (designator_fine p e whole.constants d none).sound whole
 
+-- an expression, and a designator, as parts of others
+pub expr_part : (p : Inside) (e : Env) → IsWhole p e → (x : Expr) → Holds (Part p e) (judge.expr e x)
+expr_part p e whole x = expr_fine p e whole.constants x
+
+pub designator_stored : (p : Inside) (e : Env) → IsWhole p e → (d : Desig) → Holds (λ a. IsStoredHeld a.held a.known.class) (judge.designator e d)
+designator_stored p e whole d none = (designator_fine p e whole.constants d none).stored
+
 -- and its class is known
-pub designator_known : (p : Program) (e : Env) → IsWhole p e → (d : Desig) → Holds (λ a. IsKnownClass IsGood a.known.class) (judge.designator e d)
+pub designator_known : (p : Inside) (e : Env) → IsWhole p e → (d : Desig) → Holds (λ a. IsKnownClass IsGood a.known.class) (judge.designator e d)
 designator_known p e whole d none = (designator_fine p e whole.constants d none).class
 
-pub condition_sound : (p : Program) (e : Env) → IsWhole p e → (x : Expr) → Holds (λ t. IsOf p t type.Boolean) (judge.condition e x)
+pub condition_sound : (p : Inside) (e : Env) → IsWhole p e → (x : Expr) → Holds (λ t. IsOf p t type.Boolean) (judge.condition e x)
 condition_sound p e whole x =
     holds_bind (IsSound p) (λ t. IsOf p t type.Boolean) (judge.expr e x) (λ a. judged (breach_unless (is_boolean a.known.of) 37 (out-Expr x).pos) a.typed)
     (expr_sound p e whole x) (λ a h none. sound_boolean p a h (test_is (is_boolean a.known.of) 37 (out-Expr x).pos none))
 
-pub argument_sound : (p : Program) (e : Env) → IsWhole p e → (x : Expr) →
+pub argument_sound : (p : Inside) (e : Env) → IsWhole p e → (x : Expr) →
     Holds (λ t. IsOf p t (type.Integer W64)) (judge.argument e is_number x) × Holds (λ t. IsOf p t type.Char) (judge.argument e is_char x)
 argument_sound p e whole x = (number, character)
   where
@@ -233,18 +246,18 @@ argument_sound p e whole x = (number, character)
         (expr_sound p e whole x) (λ a h none. sound_char p a h (test_is (is_char a.known.of) 35 (out-Expr x).pos none))
 
 -- an argument that must be a text
-abbrev pub IsTextAt : Program → Env → Answer → Type 0
-IsTextAt p e v = let at = judge.text_place e v in IsText p at.0 at.1
+abbrev pub IsTextAt : Inside → Env → Answer → Type 0
+IsTextAt p e v = AreRows p (judge.text_rows e v) 1 type.Char
 
-pub text_argument : (p : Program) (e : Env) → IsWhole p e → (x : Expr) →
+pub text_argument : (p : Inside) (e : Env) → IsWhole p e → (x : Expr) →
     Holds (IsTextAt p e) (bind (judge.expr e x) (λ v. judged (breach_unless (judge.may_be_text e v.known) 35 (out-Expr x).pos) v))
 text_argument p e whole x =
     holds_bind (IsSound p) (IsTextAt p e) (judge.expr e x) (λ v. judged (breach_unless (judge.may_be_text e v.known) 35 (out-Expr x).pos) v)
-    (expr_sound p e whole x) (λ v h none. text_place_is p e whole v h (test_is (judge.may_be_text e v.known) 35 (out-Expr x).pos none))
+    (expr_sound p e whole x) (λ v h none. text_rows_are p e whole v h (test_is (judge.may_be_text e v.known) 35 (out-Expr x).pos none))
 
 -- a constant expression reads no variable, so that the program may be any
-no_program : Program
-no_program = record { modules = []; types = []; objects = [] }
+no_program : Inside
+no_program = record { program = record { modules = []; types = []; objects = [] }; own = None }
 
 pub constant_good : (e : Env) → GoodConstants e → (x : Expr) → Holds HasGood (judge.constant e x)
 constant_good e good x =

@@ -1,5 +1,5 @@
 -- Designators: what a name, or a name behind that of a module, stands for, and what is known of it.
-use Rattle.std.specs.Prelude.{ℕ, List, [], ◌++◌, Bool, true, false, not, ◌==◌, ◌&&◌, ◌||◌, Option, Some, None, is_some, if◌then◌else◌}
+use Rattle.std.specs.Prelude.{ℕ, List, [], ◌++◌, Bool, true, false, not, ◌==◌, ◌&&◌, ◌||◌, Option, Some, None, is_some, option_and_then, if◌then◌else◌, slice_get}
 use Rattle.aos_base.specs.declared.text.Pos.{Pos}
 use Rattle.aos_tree.specs.declared.name.Name.{Name}
 use Rattle.aos_tree.specs.declared.decl.Export.{Export}
@@ -9,10 +9,13 @@ use Rattle.aos_types.specs.declared.row.TypeRow.{TypeRow}
 use Rattle.aos_types.specs.declared.row.TypeRow.TheVariants as row
 use Rattle.aos_typed.specs.declared.tree.Literal.{Literal}
 use Rattle.aos_typed.specs.declared.tree.Literal.TheVariants as literal
-use Rattle.aos_typed.specs.Program.{Place, ModuleVar, Index, Expr, Read}
+use Rattle.aos_types.specs.Table.{is_open}
+use Rattle.aos_typed.specs.Program.{Place, ModuleVar, Local, Passed, Index, Of, Rows, Known, Opened, Row, Expr, Read}
 use Rattle.aos_typed.specs.Program.{Field as FieldOf}
 use Rattle.aos_typed.specs.WellTyped.{is_whole}
+use Rattle.aos_typed.specs.Open.{open_dimensions, open_element}
 use Rattle.aos_symbols.specs.declared.breach.Breach.{Breach}
+use Rattle.aos_symbols.specs.declared.home.Parameter.{Parameter}
 use Rattle.aos_symbols.specs.declared.scope.Meaning.{Meaning}
 use Rattle.aos_symbols.specs.declared.scope.Meaning.TheVariants as means
 use Rattle.aos_symbols.specs.declared.env.Symbol.{Symbol}
@@ -99,27 +102,75 @@ constant_of None at = judged (lost (Constant None) at) (answered (Constant None)
 constant_of (Some None) at = kept unknown
 constant_of (Some (Some v)) at = kept (constant_answer v)
 
+-- Types: a basic type, that of string constants, one of records or arrays, which have parts, or an open array. What is of the others
+-- isn't built.
+
+abbrev pub has_parts : Env → TypeId → Bool
+has_parts e t = not (is_basic t) && is_whole (env.row_of e (Some t))
+
+abbrev pub is_opened : Env → TypeId → Bool
+is_opened e t = not (is_basic t) && is_open (env.row_of e (Some t))
+
+abbrev pub is_built : Env → TypeId → Bool
+is_built e t = ((is_basic t || is_long_text t) || has_parts e t) || is_opened e t
+
+-- Variables. Those of a procedure are numbered in its scope: its parameters come first. An open array is found with the lengths of its
+-- open dimensions, and stands for the array of these rows.
+
+abbrev pub unopened_place : ℕ → Parameter → Place
+unopened_place k a = if a.by_reference then Passed k else Local k
+
+abbrev pub parameter_place : Env → ℕ → Parameter → Place
+parameter_place e k a = by a.of
+  where
+    by : Option TypeId → Place
+    by None = unopened_place k a
+    by (Some t) = if is_opened e t then Of (Opened k (open_dimensions e.types t)) else unopened_place k a
+
+-- the parameter with this number of the procedure in which the place stands
+abbrev pub own_parameter : Env → ℕ → Option Parameter
+own_parameter e k = option_and_then (λ s. slice_get s.parameters k) (env.own_signature e)
+
+abbrev pub own_place : Env → ℕ → Place
+own_place e k = by (own_parameter e k)
+  where
+    by : Option Parameter → Place
+    by None = Local k
+    by (Some a) = parameter_place e k a
+
+abbrev pub is_of_module : Symbol → Bool
+is_of_module x = x.at.scope == 0
+
+abbrev pub place_of_variable : Env → Symbol → ℕ → Place
+place_of_variable e x k = if is_of_module x then ModuleVar x.at.home k else own_place e k
+
+-- a variable of a module, or of the procedure in which the place stands; one of an object type isn't built
+abbrev pub is_reached : Env → Symbol → Bool
+is_reached e x = is_of_module x || is_some (env.own_signature e)
+
 abbrev pub variable : Env → Symbol → ℕ → Pos → Spot
 variable e x k at =
     record {
       known = known_as (access (x.at.home == e.number) x.mark) (env.variable_type e x.at k);
-      held = Stands (ModuleVar x.at.home k);
+      held = Stands (place_of_variable e x k);
       at = at;
     }
 
 -- what a name stands for that is no call: the name of a type or a module is no value, nor is a procedure
+abbrev pub meant_otherwise : Meaning → Head → Judged Spot
+meant_otherwise (means.Type of) h = spotted h.at (refused 16 h.at)
+meant_otherwise (means.Module m) h = spotted h.at (refused 16 h.at)
+meant_otherwise means.Out h = spotted h.at (refused 16 h.at)
+meant_otherwise (means.Truth b) h = spotted h.at (kept (constant_answer (literal.Bool b)))
+meant_otherwise (means.Function f) h = spotted h.at (refused_value 36 h.first)
+meant_otherwise (means.Routine r) h = spotted h.at (refused_value 36 h.first)
+meant_otherwise means.Proper h = spotted h.at (refused_value 36 h.first)
+meant_otherwise m h = spotted h.at (refused_value 99 h.first)
+
 abbrev pub meant : Env → Symbol → Meaning → Head → Judged Spot
-meant e x (means.Variable k) h = if x.at.scope == 0 then kept (variable e x k h.at) else spotted h.at (refused 99 h.at)
+meant e x (means.Variable k) h = if is_reached e x then kept (variable e x k h.at) else spotted h.at (refused 99 h.at)
 meant e x (means.Constant k) h = spotted h.at (constant_of (env.constant e x.at k h.first) h.at)
-meant e x (means.Type of) h = spotted h.at (refused 16 h.at)
-meant e x (means.Module m) h = spotted h.at (refused 16 h.at)
-meant e x means.Out h = spotted h.at (refused 16 h.at)
-meant e x (means.Truth b) h = spotted h.at (kept (constant_answer (literal.Bool b)))
-meant e x (means.Function f) h = spotted h.at (refused_value 36 h.first)
-meant e x (means.Routine r) h = spotted h.at (refused_value 36 h.first)
-meant e x means.Proper h = spotted h.at (refused_value 36 h.first)
-meant e x (means.Procedure k) h = spotted h.at (refused_value 99 h.first)
-meant e x means.Other h = spotted h.at (refused_value 99 h.first)
+meant e x m h = meant_otherwise m h
 
 abbrev pub found : Env → Lookup → Head → Judged Spot
 found e NoName h = spotted h.at (refused 14 h.at)
@@ -128,14 +179,6 @@ found e (Found x) h = meant e x x.means h
 
 abbrev pub named : Env → Head → Judged Spot
 named e h = found e h.found h
-
--- Types: a basic type, that of string constants, or one of records or arrays, which have parts. What is of the others isn't built.
-
-abbrev pub has_parts : Env → TypeId → Bool
-has_parts e t = not (is_basic t) && is_whole (env.row_of e (Some t))
-
-abbrev pub is_built : Env → TypeId → Bool
-is_built e t = (is_basic t || is_long_text t) || has_parts e t
 
 -- Parts of variables.
 
@@ -197,8 +240,21 @@ element_spot m u i a = part_spot true (Some u) (λ p. Index p m (type_as u) i.ty
 abbrev pub element_found : ℕ → TypeId → Pos → Spot → Answer → Judged Spot
 element_found m u p a i = if is_number i.known.of then kept (element_spot m u i a) else spotted p (refused 42 p)
 
+-- the rows of an open array; what is no open array has no open dimensions
+abbrev pub rows_of : Place → Rows
+rows_of (Of r) = r
+rows_of place = Known place []
+
+-- an element of an open array, which has one dimension less. The elements behind all its dimensions are of a type
+abbrev pub row_spot : (of u : TypeId) → Answer → Spot → Spot
+row_spot of u i a = part_spot true (Some u) (λ p. Of (Row (rows_of p) (type_as of) i.typed)) a.at a
+
+abbrev pub row_found : (of u : TypeId) → Pos → Spot → Answer → Judged Spot
+row_found of u p a i = if is_number i.known.of then kept (row_spot of u i a) else spotted p (refused 42 p)
+
 abbrev pub element_in_row : Env → Pos → Spot → Answer → TypeId → Option TypeRow → Judged Spot
 element_in_row e p a i t (Some (row.Array m u)) = element_found m u p a i
+element_in_row e p a i t (Some (row.Open u)) = row_found (open_element e.types t) u p a i
 element_in_row e p a i t r = lacking e t p
 
 abbrev pub element : Env → Pos → Spot → Answer → Judged Spot

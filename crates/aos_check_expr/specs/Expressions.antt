@@ -1,7 +1,6 @@
 -- Expressions: which rules they break, what is known of them and what they are in the typed program (Oberon-2 report, section
 -- 8). A type test and NIL aren't built.
-use Rattle.std.specs.Prelude.{ℕ, suc, ◌+◌, ◌^◌, ℤ, pos, List, [], ◌∷◌, ◌++◌, length, Bool, true, false, not, ◌&&◌, ◌||◌, ◌==◌, Option, Some, None, is_some, option_and_then, if◌then◌else◌}
-use Rattle.std.specs.Option.{is_none, unwrap_or}
+use Rattle.std.specs.Prelude.{ℕ, ℤ, pos, List, [], ◌∷◌, ◌++◌, Bool, true, false, Option, Some, None, option_and_then, if◌then◌else◌}
 use Rattle.aos_base.specs.declared.text.Pos.{Pos}
 use Rattle.aos_base.specs.declared.number.Width.TheVariants.{W64}
 use Rattle.aos_base.specs.declared.number.Relation.{Relation}
@@ -10,7 +9,6 @@ use Rattle.aos_base.specs.Number.{if_within, holds}
 use Rattle.aos_base.specs.Text.{order}
 use Rattle.aos_base.specs.Operators.{natural}
 use Rattle.aos_tree.specs.declared.name.Name.{Name}
-use Rattle.aos_tree.specs.declared.name.Text.{Text}
 use Rattle.aos_tree.specs.declared.expr.RelationOp.{RelationOp}
 use Rattle.aos_tree.specs.declared.expr.RelationOp.TheVariants as relation_op
 use Rattle.aos_tree.specs.declared.expr.Sign.{Sign}
@@ -18,28 +16,29 @@ use Rattle.aos_tree.specs.declared.expr.AddOp.{AddOp}
 use Rattle.aos_tree.specs.declared.expr.MulOp.{MulOp}
 use Rattle.aos_tree.specs.declared.expr.Expr.{Expr, Expr', Held-Expr-right, Expr-right-None', Expr-right-Some', out-Expr}
 use Rattle.aos_tree.specs.declared.expr.Relation.{Relation as TreeRelation, Relation'}
-use Rattle.aos_tree.specs.declared.expr.Simple.{Simple, Simple', Row_of-Addition, end_of-Addition, more_of-Addition, out-Simple}
+use Rattle.aos_tree.specs.declared.expr.Simple.{Simple, Simple', Row_of-Addition, end_of-Addition, more_of-Addition}
 use Rattle.aos_tree.specs.declared.expr.Addition.{Addition, Addition'}
 use Rattle.aos_tree.specs.declared.expr.Product.{Product}
-use Rattle.aos_tree.specs.declared.expr.Term.{Term, Term', Row_of-Product, end_of-Product, more_of-Product, out-Term}
+use Rattle.aos_tree.specs.declared.expr.Term.{Term, Term', Row_of-Product, end_of-Product, more_of-Product}
 use Rattle.aos_tree.specs.declared.expr.Factor.{Factor, Row_of-Expr, end_of-Expr, more_of-Expr, Row_of-Factor, end_of-Factor, more_of-Factor, Row_of-Elem, end_of-Elem, more_of-Elem}
 use Rattle.aos_tree.specs.declared.expr.Factor.TheVariants as f
 use Rattle.aos_tree.specs.declared.expr.Elem.{Elem, Elem', Elem-last-None', Elem-last-Some'}
-use Rattle.aos_tree.specs.declared.expr.Desig.{Desig, Row_of-Selector, end_of-Selector, more_of-Selector, items-the_row-Selector}
+use Rattle.aos_tree.specs.declared.expr.Desig.{Desig, Row_of-Selector, end_of-Selector, more_of-Selector}
 use Rattle.aos_tree.specs.declared.expr.Selector.{Selector, items-the_row-Expr}
 use Rattle.aos_tree.specs.declared.expr.Selector.TheVariants as s
 use Rattle.aos_types.specs.declared.row.TypeId.{TypeId}
-use Rattle.aos_types.specs.declared.row.TypeRow.{TypeRow}
-use Rattle.aos_types.specs.declared.row.TypeRow.TheVariants as row
 use Rattle.aos_typed.specs.declared.tree.Literal.{Literal}
 use Rattle.aos_typed.specs.declared.tree.Literal.TheVariants as literal
 use Rattle.aos_typed.specs.declared.tree.TextConstant.{TextConstant}
-use Rattle.aos_typed.specs.Program.{Place, ModuleVar, Expr as Typed, CompareTexts, Len}
-use Rattle.aos_typed.specs.WellTyped.{dimension}
+use Rattle.aos_typed.specs.Program.{Expr as Typed, CompareTexts, Function as Invoked}
+use Rattle.aos_symbols.specs.declared.home.Gives.{Gives}
+use Rattle.aos_symbols.specs.declared.home.Gives.TheVariants as gives
+use Rattle.aos_symbols.specs.declared.home.Signature.{Signature}
 use Rattle.aos_symbols.specs.declared.scope.Meaning.{Meaning}
 use Rattle.aos_symbols.specs.declared.scope.Meaning.TheVariants as means
 use Rattle.aos_symbols.specs.declared.scope.Function.{Function}
 use Rattle.aos_symbols.specs.declared.scope.Function.TheVariants as function
+use Rattle.aos_symbols.specs.declared.env.Symbol.{Symbol}
 use Rattle.aos_symbols.specs.declared.env.Lookup.{Lookup}
 use Rattle.aos_symbols.specs.declared.env.Lookup.TheVariants.{Unknown as NoName, NotExported, Found}
 use Rattle.aos_symbols.specs.declared.env.Env.{Env}
@@ -54,9 +53,11 @@ use Rattle.aos_check_expr.specs.declared.operations.Joint.TheVariants as joint
 use Rattle.aos_check_expr.specs.declared.operations.Step.{Step}
 use Rattle.aos_check_expr.specs.declared.calls.Limit.{Limit}
 use Rattle.aos_check_expr.specs.declared.calls.Limit.TheVariants as which
-use Rattle.aos_check_expr.specs.Known.{Answer, Spot, is_basic, is_number, is_boolean, is_char, is_integer, constant_answer, answered, nothing}
+use Rattle.aos_check_expr.specs.Known.{Answer, Spot, passes, is_basic, is_number, is_boolean, is_integer, constant_answer, answered, nothing}
 use Rattle.aos_check_expr.specs.Operations as op
 use Rattle.aos_check_expr.specs.Designators as desig
+pub use Rattle.aos_check_expr.specs.Arrays.{is_array, length_of, is_opening, array_in, lengths_from, array_rows, len_class, length_behind, len_typed, len_answer, number_in, has_dimension, is_dimension, len_alone, len_in, is_characters, string_in, is_text, is_only_text, may_be_text, are_texts, string_rows, rows_in, text_rows, has_room, text_for}
+pub use Rattle.aos_check_expr.specs.Arguments.{is_factor, first_factor, desig_in, desig_alone, Handing, nothing_handed, listed, handed_from, arguments_for}
 
 -- Forms without parts.
 
@@ -88,33 +89,6 @@ abbrev pub head_of : Env → Name → List Selector → Option Head
 head_of e n [] = Some (desig.plain e n)
 head_of e m (s.Field p n ∷ []) = head_behind e (desig.is_module (env.lookup e m)) m n
 head_of e n _ = None
-
--- an expression is its first factor
-abbrev pub is_factor : Expr → Bool
-is_factor x =
-    let a = out-Simple (out-Expr x).left in
-    (is_none (out-Expr x).right && is_none a.sign) && (is_nothing a.rest && is_nothing (out-Term a.first).rest)
-  where
-    is_nothing : {A : Type 0} → List A → Bool
-    is_nothing [] = true
-    is_nothing (x ∷ xs) = false
-
-abbrev pub first_factor : Expr → Factor
-first_factor x = (out-Term (out-Simple (out-Expr x).left).first).first
-
--- the argument of NEW: an expression that is a designator
-abbrev pub desig_in : Factor → Option Desig
-desig_in (f.Desig' n shape row) = Some (record { name = n; selectors = items-the_row-Selector _ row })
-desig_in (f.Number p n) = None
-desig_in (f.Char p n) = None
-desig_in (f.Text t) = None
-desig_in (f.Nil p) = None
-desig_in (f.Set' p shape row) = None
-desig_in (f.Paren' p shape row) = None
-desig_in (f.Not' p shape row) = None
-
-abbrev pub desig_alone : Expr → Option Desig
-desig_alone x = if is_factor x then desig_in (first_factor x) else None
 
 abbrev pub name_alone : Env → Expr → Option Head
 name_alone e x = option_and_then (λ d. head_of e d.name d.selectors) (desig_alone x)
@@ -169,6 +143,7 @@ limit e value xs at = desig.refused 34 at
 
 pub data Callee : Type 0 where
   Calls : Function → Callee
+  Invokes : (home number : ℕ) → Callee
   Converts : TypeId → Callee
   Neither : Callee
 
@@ -177,15 +152,17 @@ abbrev pub conversion : Option TypeId → Callee
 conversion None = Neither
 conversion (Some t) = if is_integer t then Converts t else Neither
 
-abbrev pub callee_meant : Meaning → Callee
-callee_meant (means.Function f) = Calls f
-callee_meant (means.Type of) = conversion of
-callee_meant m = Neither
+-- a procedure of a module; one of an object type isn't built
+abbrev pub callee_meant : Symbol → Meaning → Callee
+callee_meant x (means.Function f) = Calls f
+callee_meant x (means.Type of) = conversion of
+callee_meant x (means.Procedure k) = if desig.is_of_module x then Invokes x.at.home k else Neither
+callee_meant x m = Neither
 
 abbrev pub callee : Lookup → Callee
 callee NoName = Neither
 callee NotExported = Neither
-callee (Found x) = callee_meant x.means
+callee (Found x) = callee_meant x x.means
 
 -- a call of what can't be called: of a type that has no conversion, or of a variable or value
 abbrev pub not_called : Env → Head → Pos → List Expr → Judged Answer
@@ -222,60 +199,40 @@ abbrev pub two_of : Pos → List (Judged Answer) → List Expr → Judged Answer
 two_of at (j ∷ k ∷ []) (x ∷ y ∷ []) = bind j (λ a. bind k (λ b. two_arguments at (out-Expr x).pos (out-Expr y).pos a b))
 two_of at js xs = desig.refused 34 at
 
--- LEN of an array, and of one of its dimensions, which a constant integer tells. Its value is no constant.
-
--- a type that is an array's, or may be
-abbrev pub is_array : Env → Option TypeId → Bool
-is_array e of = of_row of (env.row_of e of)
-  where
-    of_row : Option TypeId → Option TypeRow → Bool
-    of_row None r = true
-    of_row (Some t) (Some (row.Array n u)) = not (is_basic t)
-    of_row (Some t) r = false
-
-abbrev pub length_of : Env → Option TypeId → ℕ → Option ℕ
-length_of e of d = dimension e.types d (env.row_of e of)
-
--- what is made of an array is no constant
-abbrev pub len_class : Class → Class
-len_class Unknown = Unknown
-len_class c = Computed
-
-abbrev pub len_answer : Env → Answer → (dimension : ℕ) → Answer
-len_answer e a d =
-    let takes = is_array e a.known.of in
-    answered (op.kept_class takes (len_class a.known.class)) (op.kept_type takes (Some env.longint))
-    (Len (desig.place_in a.typed) (unwrap_or (length_of e a.known.of d) 0))
-
--- the number of a dimension
-abbrev pub number_in : Class → Option ℕ
-number_in (Constant (Some (literal.Int n))) = natural (2 ^ 32) n
-number_in c = None
-
--- it is one of the array's, where that is known
-abbrev pub is_dimension : Env → Option TypeId → Class → Bool
-is_dimension e of Unknown = true
-is_dimension e of c = by of (number_in c)
-  where
-    by : Option TypeId → Option ℕ → Bool
-    by of None = false
-    by None (Some d) = true
-    by (Some t) (Some d) = is_some (length_of e (Some t) d)
-
-abbrev pub len_alone : Env → Pos → Answer → Judged Answer
-len_alone e at a = judged (op.argument (is_array e a.known.of) at) (len_answer e a 0)
-
-abbrev pub len_in : Env → (first second : Pos) → Answer → Answer → Judged Answer
-len_in e first second a d =
-    judged
-    (op.argument (is_array e a.known.of) first ++ breach_unless (is_dimension e a.known.of d.known.class) 20 second)
-    (len_answer e a (unwrap_or (number_in d.known.class) 0))
-
 abbrev pub len_of : Env → Pos → List (Judged Answer) → List Expr → Judged Answer
 len_of e at (j ∷ []) (x ∷ []) = bind j (λ a. len_alone e (out-Expr x).pos a)
 len_of e at (j ∷ k ∷ []) (x ∷ y ∷ []) =
     bind j (λ a. bind k (λ d. len_in e (out-Expr x).pos (out-Expr y).pos a d))
 len_of e at js xs = desig.refused 34 at
+
+-- A procedure's value: that of a function, whose result is of a basic type.
+
+-- the result of a function with these arguments, which has no type where a rule of the call is broken
+abbrev pub function_answer : (home number : ℕ) → Option TypeId → Handing → Answer
+function_answer m k of h =
+    answered (op.kept_class h.are_kept Computed) (op.kept_type h.are_kept of) (Invoked m k (listed h.given))
+
+-- a result that isn't of a basic type isn't built
+abbrev pub function_told : (first : Pos) → (home number : ℕ) → Option TypeId → Handing → Judged Answer
+function_told first m k of h = judged (breach_unless (passes is_basic of) 99 first) (function_answer m k of h)
+
+abbrev pub function_value : Env → (first : Pos) → (home number : ℕ) → Signature → Option TypeId → List (Judged Answer) → List Expr → Judged Answer
+function_value e first m k s of js xs = bind (arguments_for e first s.parameters js xs) (function_told first m k of)
+
+abbrev pub value_of_procedure : Env → (first : Pos) → (home number : ℕ) → Signature → List (Judged Answer) → List Expr → Judged Answer
+value_of_procedure e first m k s js xs = by s.gives
+  where
+    by : Gives → Judged Answer
+    by gives.Nothing = desig.refused_value 36 first
+    by (gives.Value of) = function_value e first m k s of js xs
+
+-- where its heading isn't met yet a constant is needed
+abbrev pub invoked : Env → (first : Pos) → (home number : ℕ) → List (Judged Answer) → List Expr → Judged Answer
+invoked e first m k js xs = by (env.signature e m k)
+  where
+    by : Option Signature → Judged Answer
+    by None = desig.refused_value 20 first
+    by (Some s) = value_of_procedure e first m k s js xs
 
 abbrev pub called_by : Env → Callee → Head → Pos → List (Judged Answer) → List Expr → Judged Answer
 called_by e (Calls function.Max) h at js xs = limit e op.greatest_value xs h.first
@@ -283,6 +240,7 @@ called_by e (Calls function.Min) h at js xs = limit e op.least_value xs h.first
 called_by e (Calls function.Len) h at js xs = len_of e h.first js xs
 called_by e (Calls function.Ash) h at js xs = two_of h.first js xs
 called_by e (Calls f) h at js xs = one_of (λ of. op.applied f of) h.first js xs
+called_by e (Invokes m k) h at js xs = invoked e h.first m k js xs
 called_by e (Converts t) h at js xs = one_of (λ of. op.converted t of) h.first js xs
 called_by e Neither h at js xs = not_called e h at xs
 
@@ -343,49 +301,10 @@ abbrev pub is_test : RelationOp → Bool
 is_test relation_op.Is = true
 is_test o = false
 
--- Texts: an array of characters is one, and so is a string constant.
-
-abbrev pub is_characters : Env → Known → Bool
-is_characters e k = by k.of
-  where
-    of_row : Option TypeRow → Bool
-    of_row (Some (row.Array n t)) = t.0 == env.char.0
-    of_row r = false
-
-    by : Option TypeId → Bool
-    by None = false
-    by (Some t) = not (is_basic t) && of_row (env.row_of e (Some t))
-
-abbrev pub string_in : Env → Class → Option TextConstant
-string_in e (Constant (Some (literal.Text t))) = if env.has_string e t then Some t else None
-string_in e c = None
-
-abbrev pub is_text : Env → Known → Bool
-is_text e k = is_characters e k || is_some (string_in e k.class)
-
--- a text that is no character
-abbrev pub is_only_text : Env → Known → Bool
-is_only_text e k = is_text e k && not (is_char k.of)
-
-abbrev pub may_be_text : Env → Known → Bool
-may_be_text e k = is_none k.of || is_text e k
-
--- two texts are compared as such where one of them is no character
-abbrev pub are_texts : Env → Known → Known → Bool
-are_texts e a b = (may_be_text e a && may_be_text e b) && (is_only_text e a || is_only_text e b)
-
 abbrev pub compares_texts : Env → RelationOp → Known → Known → Bool
 compares_texts e relation_op.In a b = false
 compares_texts e relation_op.Is a b = false
 compares_texts e o a b = are_texts e a b
-
--- the place of a text and how many elements are there: a string constant's has its 0X behind its characters
-abbrev pub text_place : Env → Answer → Place × ℕ
-text_place e a = by (string_in e a.known.class)
-  where
-    by : Option TextConstant → Place × ℕ
-    by (Some t) = (ModuleVar t.home (env.string_place e t), suc (length (env.characters e t)))
-    by None = (desig.place_in a.typed, unwrap_or (length_of e a.known.of 0) 0)
 
 -- the relation of an operator; a type test has none, and no texts are tested
 abbrev pub relation_in : RelationOp → Relation
@@ -411,9 +330,7 @@ texts_class e r a b = by (string_in e a) (string_in e b)
 
 abbrev pub texts_related : Env → Relation → Answer → Answer → Answer
 texts_related e r a b =
-    let left = text_place e a in
-    let right = text_place e b in
-    answered (texts_class e r a.known.class b.known.class) (Some env.boolean) (CompareTexts r left.0 left.1 right.0 right.1)
+    answered (texts_class e r a.known.class b.known.class) (Some env.boolean) (CompareTexts r (text_rows e a) (text_rows e b))
 
 abbrev pub related_by : Env → Pos → Pos → RelationOp → Answer → Answer → Judged Answer
 related_by e first at o a b =

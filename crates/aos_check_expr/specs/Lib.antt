@@ -3,3 +3,5 @@ pub mod Operations
 pub mod Designators
 pub mod Expressions
 pub mod Seen
+pub mod Arrays
+pub mod Arguments

@@ -1,5 +1,6 @@
 -- What the code's answers are seen as.
-use Rattle.aos_typed.specs.Seen.{seen_place, seen_expr}
+use Rattle.std.specs.Prelude.{map}
+use Rattle.aos_typed.specs.Seen.{seen_place, seen_rows, seen_expr}
 use Rattle.aos_check_expr.specs.declared.known.Answer.{Answer as CodeAnswer}
 use Rattle.aos_check_expr.specs.declared.known.Held.{Held as CodeHeld}
 use Rattle.aos_check_expr.specs.declared.known.Held.TheVariants as held
@@ -8,6 +9,10 @@ use Rattle.aos_check_expr.specs.declared.selectors.Part.{Part as CodePart}
 use Rattle.aos_check_expr.specs.declared.selectors.Part.TheVariants as code_part
 use Rattle.aos_check_expr.specs.Expressions.{Part, Begun, Meant}
 use Rattle.aos_check_expr.specs.Known.{Answer, Spot, Held, Stands, Value}
+use Rattle.aos_typed.specs.declared.tree.TArgument.{TArgument}
+use Rattle.aos_typed.specs.declared.tree.TArgument.TheVariants as argument
+use Rattle.aos_check_expr.specs.declared.arguments.Handing.{Handing as CodeHanding}
+use Rattle.aos_check_expr.specs.Arguments.{Given, Scalar, Whole, Opening, Handing}
 
 abbrev pub seen_answer : CodeAnswer → Answer
 seen_answer a = record { known = a.known; typed = seen_expr a.typed }
@@ -22,3 +27,11 @@ seen_spot a = record { known = a.known; held = seen_held a.held; at = a.at }
 abbrev pub seen_part : CodePart → Part
 seen_part (code_part.Begun h) = Begun h
 seen_part (code_part.Meant a) = Meant (seen_spot a)
+
+abbrev pub seen_given : TArgument → Given
+seen_given (argument.Scalar e) = Scalar (seen_expr e)
+seen_given (argument.Whole p) = Whole (seen_place p)
+seen_given (argument.Opening r) = Opening (seen_rows r)
+
+abbrev pub seen_handing : CodeHanding → Handing
+seen_handing h = record { are_kept = h.are_kept; given = map seen_given h.given.items }

@@ -6,18 +6,20 @@ ghost use Rattle.aos_symbols.specs.Breaches.{first_after};
 ghost use Rattle.aos_symbols.specs.Judged.{bind};
 ghost use Rattle.aos_check_expr.specs.Designators as designators;
 ghost use Rattle.aos_check_expr.specs.Expressions as judge;
-ghost use Rattle.aos_check_expr.specs.Seen.{seen_answer};
+ghost use Rattle.aos_check_expr.specs.Known.{passes, is_basic as is_basic_type};
+ghost use Rattle.aos_check_expr.specs.Seen.{seen_answer, seen_handing};
 
+use crate::arguments::Handing;
 use crate::designators::{Head, guarded, is_module, member, named, plain, refused};
-use crate::known::{Answer, constant_answer, is_number};
+use crate::known::{Answer, Class, answered, constant_answer, is_basic, is_number};
 use crate::operations::{self, Step};
 use aos_base::Pos;
 use aos_symbols::{
     ARGUMENT_COUNT, ARGUMENT_TYPE, Breach, Env, Lookup, Meaning, NOT_BUILT, NOT_EXPORTED,
-    OTHER_KIND, UNKNOWN, WRONG_CALL,
+    OTHER_KIND, UNKNOWN, WRONG_CALL, note,
 };
 use aos_tree::{Desig, Expr, Factor, Name, Selector};
-use aos_typed::Literal;
+use aos_typed::{Literal, TExpr};
 use aos_types::TypeId;
 use std::alloc::{AllocError, Global};
 
@@ -179,50 +181,89 @@ pub fn limit_called(
 /// A call of a name that is no type, which has a value that can't be called.
 #[tactic(auto, using(aos_symbols::proofs::Keeping::after_more))]
 fn value_called(
+    alloc: Global,
     found: &mut Option<Breach>,
     env: &Env<'_>,
     head: Head,
     at: Pos,
     arguments: &[Expr],
-) -> Answer
-    ensures noted { found.new ≡ first_after found.old
+) -> Result<Answer, AllocError>
+    ensures noted { OnOk result (found.new ≡ first_after found.old
         (bind (designators.named env.now head)
-        (λ a. designators.guarded env.now a.known.of (judge.is_guard env.now arguments.now) at head.first)).breaches }
-    ensures answer { seen_answer result ≡
+        (λ a. designators.guarded env.now a.known.of (judge.is_guard env.now arguments.now) at head.first)).breaches) }
+    ensures answer { IfOk result (λ r. seen_answer r ≡
         (bind (designators.named env.now head)
-        (λ a. designators.guarded env.now a.known.of (judge.is_guard env.now arguments.now) at head.first)).answer }
+        (λ a. designators.guarded env.now a.known.of (judge.is_guard env.now arguments.now) at head.first)).answer) }
 {
-    let spot = named(found, env, head);
-    guarded(
-        found,
-        env,
-        spot.known.of,
-        is_guard(env, arguments),
-        at,
-        head.first,
-    )
+    let of = named(alloc, found, env, head)?.known.of;
+    let is_guard = is_guard(env, arguments);
+    Ok(guarded(found, env, of, is_guard, at, head.first))
 }
 
 /// A call of what can't be called.
 pub fn not_called(
+    alloc: Global,
     found: &mut Option<Breach>,
     env: &Env<'_>,
     head: Head,
     at: Pos,
     arguments: &[Expr],
-) -> Answer
-    ensures noted { found.new ≡ first_after found.old
-        (judge.not_called env.now head at arguments.now).breaches }
-    ensures answer { seen_answer result ≡ (judge.not_called env.now head at arguments.now).answer }
+) -> Result<Answer, AllocError>
+    ensures noted { OnOk result (found.new ≡ first_after found.old
+        (judge.not_called env.now head at arguments.now).breaches) }
+    ensures answer { IfOk result (λ r. seen_answer r ≡
+        (judge.not_called env.now head at arguments.now).answer) }
 {
     match head.found {
         Lookup::Found(symbol) => match symbol.means {
-            Meaning::Type(Some(_)) => refused(found, WRONG_CALL, head.first),
-            Meaning::Type(None) => refused(found, NOT_BUILT, head.first),
-            _ => value_called(found, env, head, at, arguments),
+            Meaning::Type(Some(_)) => Ok(refused(found, WRONG_CALL, head.first)),
+            Meaning::Type(None) => Ok(refused(found, NOT_BUILT, head.first)),
+            _ => value_called(alloc, found, env, head, at, arguments),
         },
-        _ => value_called(found, env, head, at, arguments),
+        _ => value_called(alloc, found, env, head, at, arguments),
     }
+}
+
+/// Whether a type is a basic one, or may be.
+fn may_be_basic(of: Option<TypeId>) -> bool
+    ensures { result ≡ passes is_basic_type of }
+{
+    match of {
+        Some(of) => is_basic(of),
+        None => true,
+    }
+}
+
+/// The result of a function with these arguments.
+#[tactic(auto, using(crate::proofs::Handed::function_is))]
+fn function_answer(home: u32, number: u32, of: Option<TypeId>, handing: Handing) -> Answer
+    ensures { seen_answer result ≡ judge.function_answer home number of (seen_handing handing) }
+{
+    answered(
+        operations::kept_class(handing.are_kept, Class::Computed),
+        operations::kept_type(handing.are_kept, of),
+        TExpr::Function(home, number, handing.given),
+    )
+}
+
+/// The value of a function of this result with these arguments, in a call that begins here.
+pub fn function_value(
+    found: &mut Option<Breach>,
+    first: Pos,
+    home: u32,
+    number: u32,
+    of: Option<TypeId>,
+    handing: Handing,
+) -> Answer
+    ensures noted { found.new ≡ first_after found.old
+        (judge.function_told first home number of (seen_handing handing)).breaches }
+    ensures answer { seen_answer result ≡
+        (judge.function_told first home number of (seen_handing handing)).answer }
+{
+    if !may_be_basic(of) {
+        note(found, NOT_BUILT, first);
+    }
+    function_answer(home, number, of, handing)
 }
 
 /// The value of a function of one argument, which begins here.

@@ -1,6 +1,6 @@
 // Designators: what a name, or a name behind that of a module, stands for.
 
-ghost use Rattle.std.specs.Prelude.{◌≡◌};
+ghost use Rattle.std.specs.Prelude.{◌≡◌, OnOk, IfOk};
 ghost use Rattle.aos_typed.specs.Seen.{seen_expr, seen_place};
 ghost use Rattle.aos_symbols.specs.Breaches.{breach_unless, first_after};
 ghost use Rattle.aos_check_expr.specs.Known as known;
@@ -11,6 +11,7 @@ use crate::known::{
     Answer, Class, Held, Known, Spot, answered, constant_answer, is_basic, is_long_text, nothing,
     read_from, some_value, spot_of, unknown,
 };
+use crate::variables::{is_opened, is_reached, place_of_variable};
 use aos_base::Pos;
 use aos_symbols::{
     Breach, Env, Lookup, Meaning, NO_VARIABLE, NOT_BUILT, NOT_CONSTANT, NOT_EXPORTED, OTHER_KIND,
@@ -19,6 +20,7 @@ use aos_symbols::{
 use aos_tree::{Export, Name};
 use aos_typed::{Literal, TExpr, TPlace};
 use aos_types::{TypeId, TypeRow};
+use std::alloc::{AllocError, Global};
 use std::mem;
 
 /// What is found of a name, where the name stands, and where its designator begins.
@@ -132,7 +134,7 @@ pub fn refused(found: &mut Option<Breach>, rule: u16, at: Pos) -> Answer
 }
 
 /// A part that breaks a rule, and is some value.
-fn refused_value(found: &mut Option<Breach>, rule: u16, at: Pos) -> Answer
+pub fn refused_value(found: &mut Option<Breach>, rule: u16, at: Pos) -> Answer
     ensures noted { found.new ≡ first_after found.old (judge.refused_value rule at).breaches }
     ensures answer { seen_answer result ≡ (judge.refused_value rule at).answer }
 {
@@ -155,17 +157,23 @@ fn constant_of(found: &mut Option<Breach>, value: Option<Option<Literal>>, at: P
     }
 }
 
-fn variable(env: &Env<'_>, symbol: Symbol, number: u32, at: Pos) -> Spot
-    ensures { seen_spot result ≡ judge.variable env.now symbol number at }
+fn variable(
+    alloc: Global,
+    env: &Env<'_>,
+    symbol: Symbol,
+    number: u32,
+    at: Pos,
+) -> Result<Spot, AllocError>
+    ensures { IfOk result (λ r. seen_spot r ≡ judge.variable env.now symbol number at) }
 {
-    Spot {
+    Ok(Spot {
         known: Known {
             of: env.variable_type(symbol.at, number),
             class: access(symbol.at.home == env.number, symbol.mark),
         },
-        held: Held::Stands(TPlace::ModuleVar(symbol.at.home, number)),
+        held: Held::Stands(place_of_variable(alloc, env, symbol, number)?),
         at,
-    }
+    })
 }
 
 /// A name that breaks a rule.
@@ -188,29 +196,42 @@ fn refused_value_at(found: &mut Option<Breach>, rule: u16, first: Pos, at: Pos) 
 
 /// What a name stands for that is no call.
 fn meant(
+    alloc: Global,
     found: &mut Option<Breach>,
     env: &Env<'_>,
     symbol: Symbol,
     means: Meaning,
     head: Head,
-) -> Spot
-    ensures noted { found.new ≡
-        first_after found.old (judge.meant env.now symbol means head).breaches }
-    ensures answer { seen_spot result ≡ (judge.meant env.now symbol means head).answer }
+) -> Result<Spot, AllocError>
+    ensures noted { OnOk result (found.new ≡
+        first_after found.old (judge.meant env.now symbol means head).breaches) }
+    ensures answer { IfOk result (λ r. seen_spot r ≡ (judge.meant env.now symbol means head).answer) }
 {
     let at = head.at;
     match means {
         Meaning::Variable(number) => {
-            if symbol.at.scope == 0 {
-                variable(env, symbol, number, at)
+            if is_reached(env, symbol) {
+                variable(alloc, env, symbol, number, at)
             } else {
-                refused_at(found, NOT_BUILT, at)
+                Ok(refused_at(found, NOT_BUILT, at))
             }
         }
         Meaning::Constant(number) => {
             let value = env.constant(symbol.at, number, head.first);
-            spot_of(at, constant_of(found, value, at))
+            Ok(spot_of(at, constant_of(found, value, at)))
         }
+        _ => Ok(meant_otherwise(found, means, head)),
+    }
+}
+
+/// What a name stands for that is neither a call nor a variable nor a constant of the text.
+fn meant_otherwise(found: &mut Option<Breach>, means: Meaning, head: Head) -> Spot
+    ensures noted { found.new ≡
+        first_after found.old (judge.meant_otherwise means head).breaches }
+    ensures answer { seen_spot result ≡ (judge.meant_otherwise means head).answer }
+{
+    let at = head.at;
+    match means {
         Meaning::Truth(value) => spot_of(at, constant_answer(Literal::Bool(value))),
         Meaning::Type(_) => refused_at(found, OTHER_KIND, at),
         Meaning::Module(_) => refused_at(found, OTHER_KIND, at),
@@ -218,20 +239,25 @@ fn meant(
         Meaning::Function(_) => refused_value_at(found, WRONG_CALL, head.first, at),
         Meaning::Routine(_) => refused_value_at(found, WRONG_CALL, head.first, at),
         Meaning::Proper => refused_value_at(found, WRONG_CALL, head.first, at),
-        Meaning::Procedure(_) => refused_value_at(found, NOT_BUILT, head.first, at),
-        Meaning::Other => refused_value_at(found, NOT_BUILT, head.first, at),
+        _ => refused_value_at(found, NOT_BUILT, head.first, at),
     }
 }
 
 /// A name that is no call.
-pub fn named(found: &mut Option<Breach>, env: &Env<'_>, head: Head) -> Spot
-    ensures noted { found.new ≡ first_after found.old (judge.named env.now head).breaches }
-    ensures answer { seen_spot result ≡ (judge.named env.now head).answer }
+pub fn named(
+    alloc: Global,
+    found: &mut Option<Breach>,
+    env: &Env<'_>,
+    head: Head,
+) -> Result<Spot, AllocError>
+    ensures noted { OnOk result (found.new ≡
+        first_after found.old (judge.named env.now head).breaches) }
+    ensures answer { IfOk result (λ r. seen_spot r ≡ (judge.named env.now head).answer) }
 {
     match head.found {
-        Lookup::Unknown => refused_at(found, UNKNOWN, head.at),
-        Lookup::NotExported => refused_at(found, NOT_EXPORTED, head.at),
-        Lookup::Found(symbol) => meant(found, env, symbol, symbol.means, head),
+        Lookup::Unknown => Ok(refused_at(found, UNKNOWN, head.at)),
+        Lookup::NotExported => Ok(refused_at(found, NOT_EXPORTED, head.at)),
+        Lookup::Found(symbol) => meant(alloc, found, env, symbol, symbol.means, head),
     }
 }
 
@@ -248,11 +274,11 @@ pub fn has_parts(env: &Env<'_>, of: TypeId) -> bool
     )
 }
 
-/// Whether a type is built: a basic type, that of string constants, or one that has parts.
+/// Whether a type is built: a basic type, that of string constants, one that has parts, or an open array.
 pub fn is_built(env: &Env<'_>, of: TypeId) -> bool
     ensures { result ≡ judge.is_built env.now of }
 {
-    is_basic(of) || is_long_text(of) || has_parts(env, of)
+    is_basic(of) || is_long_text(of) || has_parts(env, of) || is_opened(env, of)
 }
 
 /// A call of what is of this type, or a guard, where the argument is the name of a type.

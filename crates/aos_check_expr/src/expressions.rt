@@ -1,16 +1,20 @@
 // Expressions: which rules they break, what is known of them and what they are in the typed program.
 
-ghost use Rattle.std.specs.Prelude.{◌≡◌, OnOk, IfOk, map};
+ghost use Rattle.std.specs.Prelude.{◌≡◌, OnOk, IfOk, map, true};
 ghost use Rattle.aos_typed.specs.Seen.{seen_expr};
 ghost use Rattle.aos_symbols.specs.Breaches.{first_after};
 ghost use Rattle.aos_symbols.specs.Judged.{walk};
 ghost use Rattle.aos_check_expr.specs.Known as known;
 ghost use Rattle.aos_check_expr.specs.Operations as operations;
 ghost use Rattle.aos_check_expr.specs.Expressions as judge;
-ghost use Rattle.aos_check_expr.specs.Seen.{seen_answer, seen_part, seen_spot};
+ghost use Rattle.aos_check_expr.specs.Seen.{seen_answer, seen_handing, seen_part, seen_spot};
 
-use crate::calls::{Limit, is_guard, limit_called, not_called, value_of_one, value_of_two};
-use crate::designators::{Head, guarded, is_module, named, plain, read, refused};
+use crate::arguments::{Handing, hand, nothing_handed};
+use crate::calls::{
+    Limit, desig_alone, function_value, is_guard, limit_called, not_called, value_of_one,
+    value_of_two,
+};
+use crate::designators::{Head, guarded, is_module, named, plain, read, refused, refused_value};
 use crate::forms::{
     added, byte_of, character, multiplied, not_yet, number, opposite, related, signed, string,
     whole_set, with_element, with_span,
@@ -19,9 +23,11 @@ use crate::known::{Answer, Class, Spot, is_boolean, is_char, is_integer, is_numb
 use crate::lengths::{len_alone, len_in};
 use crate::operations;
 use crate::selectors::{self, Part, followed_part, pointed, spot_of_part};
+use crate::variables::is_of_module;
 use aos_base::Pos;
 use aos_symbols::{
-    ARGUMENT_COUNT, Breach, Env, Function, Lookup, Meaning, NO_CONDITION, NOT_CONSTANT, note,
+    ARGUMENT_COUNT, Breach, Env, Function, Gives, Lookup, Meaning, NO_CONDITION, NOT_CONSTANT,
+    Parameter, Symbol, WRONG_CALL, note,
 };
 use aos_tree::{Addition, Desig, Elem, Expr, Factor, Product, Relation, Selector, Simple, Term};
 use aos_typed::{Literal, TExpr};
@@ -278,7 +284,7 @@ pub fn designator(
     let begun = Part::Begun(plain(env, part.name));
     let first = part.name.pos;
     let whole = selectors(alloc, found, env, first, begun, part.selectors.as_slice())?;
-    Ok(spot_of_part(found, env, whole))
+    spot_of_part(alloc, found, env, whole)
 }
 
 /// What a designator that begins here is so far, and its selectors.
@@ -323,7 +329,7 @@ fn selector(
     match part {
         Selector::Field(at, name) => pointed(alloc, found, env, whole, *at, *name),
         Selector::Index(at, all) => { indexed(alloc, found, env, whole, *at, all.as_slice()) }
-        Selector::Follow(at) => Ok(followed_part(found, env, whole, *at)),
+        Selector::Follow(at) => followed_part(alloc, found, env, whole, *at),
         Selector::Paren(at, arguments) => {
             bracketed(alloc, found, env, first, whole, *at, arguments.as_slice())
         }
@@ -346,7 +352,7 @@ fn indexed(
     ensures answer { IfOk result (λ r. seen_part r ≡
         (judge.indexed env.now at (seen_part whole) all.now).answer) }
 {
-    let begun = spot_of_part(found, env, whole);
+    let begun = spot_of_part(alloc, found, env, whole)?;
     let reached = indices(alloc, found, env, at, begun, all)?;
     Ok(Part::Meant(reached))
 }
@@ -442,7 +448,7 @@ fn bracketed_name(
         (map (judge.expr env.now) arguments.now) arguments.now).answer) }
 {
     if is_module(head.found) {
-        return Ok(Part::Meant(named(found, env, head)));
+        return Ok(Part::Meant(named(alloc, found, env, head)?));
     }
     let value = called(alloc, found, env, head, at, arguments)?;
     Ok(Part::Meant(spot_of(head.first, value)))
@@ -467,8 +473,8 @@ fn called(
         (map (judge.expr env.now) arguments.now) arguments.now).answer) }
 {
     match head.found {
-        Lookup::Found(symbol) => called_as(alloc, found, env, symbol.means, head, at, arguments),
-        _ => Ok(not_called(found, env, head, at, arguments)),
+        Lookup::Found(symbol) => called_as(alloc, found, env, symbol, head, at, arguments),
+        _ => not_called(alloc, found, env, head, at, arguments),
     }
 }
 
@@ -479,19 +485,19 @@ fn called_as(
     alloc: Global,
     found: &mut Option<Breach>,
     env: &Env<'_>,
-    means: Meaning,
+    symbol: Symbol,
     head: Head,
     at: Pos,
     arguments: &[Expr],
 ) -> Result<Answer, AllocError>
     ensures noted { OnOk result (found.new ≡ first_after found.old
-        (judge.called_by env.now (judge.callee_meant means) head at
+        (judge.called_by env.now (judge.callee_meant symbol symbol.means) head at
         (map (judge.expr env.now) arguments.now) arguments.now).breaches) }
     ensures answer { IfOk result (λ r. seen_answer r ≡
-        (judge.called_by env.now (judge.callee_meant means) head at
+        (judge.called_by env.now (judge.callee_meant symbol symbol.means) head at
         (map (judge.expr env.now) arguments.now) arguments.now).answer) }
 {
-    match means {
+    match symbol.means {
         Meaning::Function(Function::Max) => {
             Ok(limit_called(found, env, Limit::Greatest, arguments, head.first))
         }
@@ -503,15 +509,115 @@ fn called_as(
         Meaning::Function(function) => {
             applied(alloc, found, env, function, head.first, arguments)
         }
-        Meaning::Type(Some(of)) => {
-            if is_integer(of) {
-                converted(alloc, found, env, of, head.first, arguments)
-            } else {
-                Ok(not_called(found, env, head, at, arguments))
-            }
+        Meaning::Procedure(number) if is_of_module(symbol) => {
+            invoked(
+                alloc,
+                found,
+                env,
+                head.first,
+                symbol.at.home,
+                number,
+                arguments,
+            )
         }
-        _ => Ok(not_called(found, env, head, at, arguments)),
+        Meaning::Type(Some(of)) if is_integer(of) => {
+            converted(alloc, found, env, of, head.first, arguments)
+        }
+        _ => not_called(alloc, found, env, head, at, arguments),
     }
+}
+
+/// A call of a procedure of a module, which begins here.
+#[cycle(exprs)]
+#[tactic(auto, using(aos_symbols::proofs::Keeping::after_more))]
+fn invoked(
+    alloc: Global,
+    found: &mut Option<Breach>,
+    env: &Env<'_>,
+    first: Pos,
+    home: u32,
+    number: u32,
+    arguments: &[Expr],
+) -> Result<Answer, AllocError>
+    ensures noted { OnOk result (found.new ≡ first_after found.old
+        (judge.invoked env.now first home number
+        (map (judge.expr env.now) arguments.now) arguments.now).breaches) }
+    ensures answer { IfOk result (λ r. seen_answer r ≡
+        (judge.invoked env.now first home number
+        (map (judge.expr env.now) arguments.now) arguments.now).answer) }
+{
+    let Some(signature) = env.signature(home, number) else {
+        return Ok(refused_value(found, NOT_CONSTANT, first));
+    };
+    let Gives::Value(of) = signature.gives else {
+        return Ok(refused_value(found, WRONG_CALL, first));
+    };
+    let parameters = signature.parameters.as_slice();
+    let handing = arguments_for(alloc, found, env, first, parameters, arguments)?;
+    Ok(function_value(found, first, home, number, of, handing))
+}
+
+/// The arguments of a call that begins here: there is one for each parameter.
+#[cycle(exprs)]
+#[tactic(auto, using(aos_symbols::proofs::Keeping::after_more))]
+pub fn arguments_for(
+    alloc: Global,
+    found: &mut Option<Breach>,
+    env: &Env<'_>,
+    first: Pos,
+    parameters: &[Parameter],
+    arguments: &[Expr],
+) -> Result<Handing, AllocError>
+    ensures noted { OnOk result (found.new ≡ first_after found.old
+        (judge.arguments_for env.now first parameters.now
+        (map (judge.expr env.now) arguments.now) arguments.now).breaches) }
+    ensures answer { IfOk result (λ r. seen_handing r ≡
+        (judge.arguments_for env.now first parameters.now
+        (map (judge.expr env.now) arguments.now) arguments.now).answer) }
+{
+    if parameters.len() != arguments.len() {
+        note(found, ARGUMENT_COUNT, first);
+        return Ok(nothing_handed(alloc, false));
+    }
+    handed(alloc, found, env, parameters, arguments)
+}
+
+/// As many arguments as there are parameters, one after another.
+#[cycle(exprs)]
+#[tactic(auto, using(aos_symbols::proofs::Keeping::after_more, crate::proofs::Handed::handed_noted, crate::proofs::Handed::handed_answer, crate::proofs::Handed::at_end, crate::proofs::Handed::no_more))]
+fn handed(
+    alloc: Global,
+    found: &mut Option<Breach>,
+    env: &Env<'_>,
+    parameters: &[Parameter],
+    arguments: &[Expr],
+) -> Result<Handing, AllocError>
+    ensures noted { OnOk result (found.new ≡ first_after found.old
+        (judge.handed_from env.now (judge.nothing_handed true) parameters.now
+        (map (judge.expr env.now) arguments.now) arguments.now).breaches) }
+    ensures answer { IfOk result (λ r. seen_handing r ≡
+        (judge.handed_from env.now (judge.nothing_handed true) parameters.now
+        (map (judge.expr env.now) arguments.now) arguments.now).answer) }
+{
+    let mut all = nothing_handed(alloc, true);
+    for argument in arguments {
+        let Some(parameter) = parameters.get(all.given.len()) else {
+            return Ok(all);
+        };
+        let value = expr(alloc, found, env, argument)?;
+        let is_designator = desig_alone(argument).is_some();
+        all = hand(
+            alloc,
+            found,
+            env,
+            all,
+            *parameter,
+            is_designator,
+            argument.pos,
+            value,
+        )?;
+    }
+    Ok(all)
 }
 
 /// A predeclared function of one argument, in a call that begins here.
@@ -615,12 +721,20 @@ fn measured(
     match arguments {
         [argument] => {
             let array = expr(alloc, found, env, argument)?;
-            Ok(len_alone(found, env, argument.pos, array))
+            len_alone(alloc, found, env, argument.pos, array)
         }
         [argument, number] => {
             let array = expr(alloc, found, env, argument)?;
             let dimension = expr(alloc, found, env, number)?;
-            Ok(len_in(found, env, argument.pos, number.pos, array, dimension))
+            len_in(
+                alloc,
+                found,
+                env,
+                argument.pos,
+                number.pos,
+                array,
+                dimension,
+            )
         }
         _ => Ok(refused(found, ARGUMENT_COUNT, first)),
     }

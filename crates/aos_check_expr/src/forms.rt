@@ -142,7 +142,7 @@ pub fn related(
         return Ok(tested(found, env, a.known.of, at));
     }
     if compares_texts(env, op, a.known, b.known) {
-        let whole = texts_related(env, relation_in(op), a, b)?;
+        let whole = texts_related(alloc, env, relation_in(op), a, b)?;
         operations::told(found, first, &whole);
         return Ok(whole);
     }

@@ -1,7 +1,7 @@
 // Parts of variables: the fields of records and the elements of arrays; and what a designator is so far.
 
 ghost use Rattle.std.specs.Prelude.{◌≡◌, OnOk, IfOk};
-ghost use Rattle.aos_typed.specs.Program.{Index};
+ghost use Rattle.aos_typed.specs.Program.{Index, Of, Row};
 ghost use Rattle.aos_typed.specs.Program.{Field as FieldOf};
 ghost use Rattle.aos_typed.specs.Seen.{seen_expr};
 ghost use Rattle.aos_symbols.specs.Breaches.{first_after};
@@ -12,10 +12,11 @@ ghost use Rattle.aos_check_expr.specs.Seen.{seen_answer, seen_held, seen_part, s
 
 use crate::designators::{Head, is_built, is_module, member_behind, named, refused_at};
 use crate::known::{Answer, Class, Held, Spot, is_basic, is_number, known_as, type_as};
+use crate::variables::rows_of;
 use aos_base::Pos;
 use aos_symbols::{Breach, Env, Field, NOT_BUILT, NOT_EXPORTED, WRONG_SELECTOR};
 use aos_tree::{Export, Name};
-use aos_typed::{TExpr, TPlace};
+use aos_typed::{TExpr, TPlace, TRows, open_array};
 use aos_types::{TypeId, TypeRow};
 use std::alloc::{AllocError, Global};
 
@@ -213,6 +214,61 @@ fn found_element(
     }
 }
 
+fn row_held(alloc: Global, of: TypeId, index: TExpr, whole: Held) -> Result<Held, AllocError>
+    ensures { IfOk result (λ r. seen_held r ≡
+        judge.part_held (λ p. Of (Row (judge.rows_of p) (known.type_as of) (seen_expr index)))
+        (seen_held whole)) }
+{
+    match whole {
+        Held::Stands(place) => {
+            let rows = Box::new(alloc, rows_of(alloc, place)?)?;
+            let index = Box::new(alloc, index)?;
+            let row = TRows::Row(rows, type_as(of), index);
+            Ok(Held::Stands(TPlace::Of(Box::new(alloc, row)?)))
+        }
+        Held::Value(value) => Ok(Held::Value(value)),
+    }
+}
+
+/// An element, of a type, of a variable that is an open array; behind all dimensions its elements are of another type.
+fn row_spot(
+    alloc: Global,
+    behind: TypeId,
+    of: TypeId,
+    index: Answer,
+    whole: Spot,
+) -> Result<Spot, AllocError>
+    ensures { IfOk result (λ r. seen_spot r ≡
+        judge.row_spot behind of (seen_answer index) (seen_spot whole)) }
+{
+    Ok(Spot {
+        known: known_as(part_class(true, whole.known.class), Some(of)),
+        held: row_held(alloc, behind, index.typed, whole.held)?,
+        at: whole.at,
+    })
+}
+
+/// The same, with the bracket here: the index must be of an integer type.
+fn found_row(
+    alloc: Global,
+    found: &mut Option<Breach>,
+    behind: TypeId,
+    of: TypeId,
+    at: Pos,
+    whole: Spot,
+    index: Answer,
+) -> Result<Spot, AllocError>
+    ensures noted { OnOk result (found.new ≡ first_after found.old
+        (judge.row_found behind of at (seen_spot whole) (seen_answer index)).breaches) }
+    ensures answer { IfOk result (λ r. seen_spot r ≡
+        (judge.row_found behind of at (seen_spot whole) (seen_answer index)).answer) }
+{
+    if !is_number(index.known.of) {
+        return Ok(refused_at(found, WRONG_SELECTOR, at));
+    }
+    row_spot(alloc, behind, of, index, whole)
+}
+
 /// An element, in a bracket that stands here.
 pub fn element(
     alloc: Global,
@@ -236,6 +292,10 @@ pub fn element(
     match env.row(Some(of)) {
         Some(TypeRow::Array(elements, of)) => {
             found_element(alloc, found, *elements, *of, at, whole, index)
+        }
+        Some(TypeRow::Open(element)) => {
+            let behind = open_array(&env.types, of).element;
+            found_row(alloc, found, behind, *element, at, whole, index)
         }
         _ => Ok(lacking(found, env, of, at)),
     }
@@ -261,15 +321,20 @@ pub enum Part {
 }
 
 /// What a designator is so far, as a variable or a value.
-pub fn spot_of_part(found: &mut Option<Breach>, env: &Env<'_>, part: Part) -> Spot
-    ensures noted { found.new ≡ first_after found.old
-        (expressions.spot_of_part env.now (seen_part part)).breaches }
-    ensures answer { seen_spot result ≡
-        (expressions.spot_of_part env.now (seen_part part)).answer }
+pub fn spot_of_part(
+    alloc: Global,
+    found: &mut Option<Breach>,
+    env: &Env<'_>,
+    part: Part,
+) -> Result<Spot, AllocError>
+    ensures noted { OnOk result (found.new ≡ first_after found.old
+        (expressions.spot_of_part env.now (seen_part part)).breaches) }
+    ensures answer { IfOk result (λ r. seen_spot r ≡
+        (expressions.spot_of_part env.now (seen_part part)).answer) }
 {
     match part {
-        Part::Begun(head) => named(found, env, head),
-        Part::Meant(spot) => spot,
+        Part::Begun(head) => named(alloc, found, env, head),
+        Part::Meant(spot) => Ok(spot),
     }
 }
 
@@ -288,7 +353,7 @@ fn pointed_name(
     ensures answer { IfOk result (λ r. seen_part r ≡
         (expressions.pointed_name env.now head at name).answer) }
 {
-    let whole = named(found, env, head);
+    let whole = named(alloc, found, env, head)?;
     let part = field(alloc, found, env, whole, at, name)?;
     Ok(Part::Meant(part))
 }
@@ -324,12 +389,18 @@ pub fn pointed(
 
 /// `^`, which stands here, behind what a designator is so far.
 #[tactic(auto, using(aos_symbols::proofs::Keeping::after_more))]
-pub fn followed_part(found: &mut Option<Breach>, env: &Env<'_>, part: Part, at: Pos) -> Part
-    ensures noted { found.new ≡ first_after found.old
-        (expressions.followed_part env.now (seen_part part) at).breaches }
-    ensures answer { seen_part result ≡
-        (expressions.followed_part env.now (seen_part part) at).answer }
+pub fn followed_part(
+    alloc: Global,
+    found: &mut Option<Breach>,
+    env: &Env<'_>,
+    part: Part,
+    at: Pos,
+) -> Result<Part, AllocError>
+    ensures noted { OnOk result (found.new ≡ first_after found.old
+        (expressions.followed_part env.now (seen_part part) at).breaches) }
+    ensures answer { IfOk result (λ r. seen_part r ≡
+        (expressions.followed_part env.now (seen_part part) at).answer) }
 {
-    let whole = spot_of_part(found, env, part);
-    Part::Meant(followed(found, env, whole, at))
+    let whole = spot_of_part(alloc, found, env, part)?;
+    Ok(Part::Meant(followed(found, env, whole, at)))
 }

@@ -2,20 +2,20 @@
 
 ghost use Rattle.std.specs.Prelude.{◌≡◌, suc, length, IfOk};
 ghost use Rattle.aos_base.specs.Text as text;
-ghost use Rattle.aos_typed.specs.Seen.{seen_place};
+ghost use Rattle.aos_typed.specs.Seen.{seen_rows};
 ghost use Rattle.aos_check_expr.specs.Expressions as judge;
 ghost use Rattle.aos_check_expr.specs.Seen.{seen_answer};
 
 use crate::designators::place_in;
 use crate::known::{Answer, Class, Known, answered, is_basic, is_char};
-use crate::lengths::length_of;
+use crate::lengths::{array_rows, is_opening, length_of};
 use crate::operations::{Joint, class_of};
 use aos_base::{Relation, related};
 use aos_symbols::{BOOLEAN, CHAR, Env};
 use aos_tree::RelationOp;
-use aos_typed::{Literal, TExpr, TPlace, TextConstant};
-use aos_types::TypeRow;
-use std::alloc::AllocError;
+use aos_typed::{Literal, TExpr, TPlace, TRows, TextConstant};
+use aos_types::{TypeId, TypeRow};
+use std::alloc::{AllocError, Global};
 use std::cmp::Ordering;
 
 /// Whether what is known of a part is that it is an array of characters, which is a text.
@@ -30,6 +30,7 @@ pub fn is_characters(env: &Env<'_>, known: Known) -> bool
     }
     match env.row(Some(of)) {
         Some(TypeRow::Array(_, of)) => of.0 == CHAR.0,
+        Some(TypeRow::Open(of)) => of.0 == CHAR.0,
         _ => false,
     }
 }
@@ -94,20 +95,55 @@ fn element_count(characters: &[u8]) -> Result<u32, AllocError>
     }
 }
 
-/// The place of a text, and how many elements are there.
-pub fn text_place(env: &Env<'_>, part: Answer) -> Result<(TPlace, u32), AllocError>
-    ensures { IfOk result (λ r. (seen_place r.0, r.1) ≡
-        judge.text_place env.now (seen_answer part)) }
+/// A string constant as an array.
+fn string_rows(alloc: Global, env: &Env<'_>, text: TextConstant) -> Result<TRows, AllocError>
+    ensures { IfOk result (λ r. seen_rows r ≡ judge.string_rows env.now text) }
 {
-    match string_in(env, part.known.class) {
-        Some(text) => {
-            let place = TPlace::ModuleVar(text.home, env.string_place(text)?);
-            Ok((place, element_count(env.characters(text))?))
-        }
-        None => {
-            let elements = length_of(env, part.known.of, 0).unwrap_or(0);
-            Ok((place_in(part.typed), elements))
-        }
+    let place = TPlace::ModuleVar(text.home, env.string_place(text)?);
+    let mut lengths = Vec::new(alloc);
+    lengths.push(element_count(env.characters(text))?)?;
+    Ok(TRows::Known(Box::new(alloc, place)?, lengths))
+}
+
+/// A part as an array, with the lengths of its first dimensions.
+pub fn rows_in(
+    alloc: Global,
+    env: &Env<'_>,
+    dimensions: u32,
+    part: Answer,
+) -> Result<TRows, AllocError>
+    ensures { IfOk result (λ r. seen_rows r ≡
+        judge.rows_in env.now dimensions (seen_answer part)) }
+{
+    let known = part.known;
+    match string_in(env, known.class) {
+        Some(text) => string_rows(alloc, env, text),
+        None => array_rows(alloc, env, dimensions, known.of, place_in(part.typed)),
+    }
+}
+
+/// The array of a text, with its length.
+pub fn text_rows(alloc: Global, env: &Env<'_>, part: Answer) -> Result<TRows, AllocError>
+    ensures { IfOk result (λ r. seen_rows r ≡ judge.text_rows env.now (seen_answer part)) }
+{
+    rows_in(alloc, env, 1, part)
+}
+
+/// Whether an array of characters has room for a string constant and its 0X, or is open.
+pub fn has_room(env: &Env<'_>, of: Option<TypeId>, text: TextConstant) -> bool
+    ensures { result ≡ judge.has_room env.now of text }
+{
+    is_opening(env, of) || env.characters(text).len() < length_of(env, of, 0).unwrap_or(0) as usize
+}
+
+/// The string constant that is meant for an array of characters.
+pub fn text_for(env: &Env<'_>, array: Known, class: Class) -> Option<TextConstant>
+    ensures { result ≡ judge.text_for env.now array class }
+{
+    if is_characters(env, array) {
+        string_in(env, class)
+    } else {
+        None
     }
 }
 
@@ -161,6 +197,7 @@ fn texts_class(env: &Env<'_>, relation: Relation, a: Class, b: Class) -> Class
 
 /// A relation of two texts.
 pub fn texts_related(
+    alloc: Global,
     env: &Env<'_>,
     relation: Relation,
     a: Answer,
@@ -170,8 +207,8 @@ pub fn texts_related(
         judge.texts_related env.now relation (seen_answer a) (seen_answer b)) }
 {
     let class = texts_class(env, relation, a.known.class, b.known.class);
-    let (left, elements) = text_place(env, a)?;
-    let (right, others) = text_place(env, b)?;
-    let typed = TExpr::CompareTexts(relation, left, elements, right, others);
+    let left = text_rows(alloc, env, a)?;
+    let right = text_rows(alloc, env, b)?;
+    let typed = TExpr::CompareTexts(relation, left, right);
     Ok(answered(class, Some(BOOLEAN), typed))
 }

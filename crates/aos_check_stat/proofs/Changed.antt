@@ -1,8 +1,9 @@
 -- The predeclared procedures that change a variable or trap are well typed.
-use Rattle.std.proofs.Common.{◌≡◌, ◌<◌, pos, negsuc, List, [], ◌∷◌, Bool, true, false, ◌&&◌, Option, Some, None, nat_lt, refl, sym, ap, subst, ltb-true, arith, if◌then◌else◌}
+use Rattle.std.proofs.Common.{◌≡◌, ◌<◌, pos, negsuc, List, [], ◌∷◌, Bool, true, false, ◌&&◌, Option, Some, None, nat_lt, refl, sym, ap, ◌∙◌, subst, ltb-true, arith, if◌then◌else◌}
 use Rattle.std.specs.Option.{unwrap_or}
 use Rattle.std.proofs.lemmas.Bool.{and_parts}
 use Rattle.std.proofs.lemmas.Int.{ints}
+use Rattle.std.proofs.lemmas.Option.{none-some}
 use Rattle.aos_base.specs.declared.text.Pos.{Pos}
 use Rattle.aos_base.specs.declared.number.Width.{Width}
 use Rattle.aos_base.specs.declared.number.Width.TheVariants.{W8, W16, W32, W64}
@@ -15,8 +16,8 @@ use Rattle.aos_typed.specs.declared.tree.Change.{Change}
 use Rattle.aos_typed.specs.declared.tree.Change.TheVariants as change
 use Rattle.aos_typed.specs.declared.tree.TType.TheVariants as type
 use Rattle.aos_typed.specs.Meaning.{changed_type}
-use Rattle.aos_typed.specs.Program.{Program, Place, Lit, Assert, Halt}
-use Rattle.aos_typed.specs.WellTyped.{amount_type, IsOf, IsPlaceOf}
+use Rattle.aos_typed.specs.Program.{Place, Lit, Assert, Halt}
+use Rattle.aos_typed.specs.WellTyped.{amount_type}
 use Rattle.aos_symbols.specs.declared.env.Env.{Env}
 use Rattle.aos_symbols.specs.Env.{set}
 use Rattle.aos_symbols.specs.declared.scope.Routine.{Routine}
@@ -24,15 +25,16 @@ use Rattle.aos_symbols.specs.declared.scope.Routine.TheVariants as routine
 use Rattle.aos_symbols.specs.Breaches.{breach_unless}
 use Rattle.aos_symbols.specs.Judged.{judged, kept, bind}
 use Rattle.aos_symbols.proofs.Holds.{Holds, holds_bind, none_left, none_right, test_is}
-use Rattle.aos_symbols.proofs.Told.{IsKnown}
 use Rattle.aos_check_expr.specs.declared.known.Class.{Class}
 use Rattle.aos_check_expr.specs.declared.known.Class.TheVariants.{Constant}
-use Rattle.aos_check_expr.specs.Known.{Answer, Spot, is_number, is_set, fits, type_as, width_of}
+use Rattle.aos_check_expr.specs.Known.{Answer, Spot, is_basic, is_number, is_set, fits, type_as, width_of}
 use Rattle.aos_check_expr.specs.Designators.{place_of, written}
 use Rattle.aos_check_expr.specs.Expressions.{expr, condition, designator, desig_alone}
+use Rattle.aos_check_expr.proofs.Inside.{Inside, IsPlaceOf, IsOf}
 use Rattle.aos_check_expr.proofs.Types.{as_integer, integer_basic, same_type}
-use Rattle.aos_check_expr.proofs.Sound.{IsSound, sound_number}
-use Rattle.aos_check_expr.proofs.Typing.{IsTyped, IsWhole, expr_sound, condition_sound}
+use Rattle.aos_check_expr.proofs.Sound.{not_both, IsSound, sound_number}
+use Rattle.aos_check_expr.proofs.Spots.{IsTyped, closed, opened, opened_row}
+use Rattle.aos_check_expr.proofs.Typing.{IsWhole, expr_sound, condition_sound}
 use Rattle.aos_check_stat.specs.Bodies.{changing, is_changed_set, is_amount, is_changed, changed_breaches, changed_by, amount, change_of, change_at, change_call, code_in, trap_code, assert_call, halt_call, refused}
 use Rattle.aos_check_stat.proofs.Places.{MayBe, IsRead, read_sound, written_typed, fits_basic}
 
@@ -61,7 +63,7 @@ one_within W16 = record { low = omega (arith, ints); high = omega (arith, ints) 
 one_within W32 = record { low = omega (arith, ints); high = omega (arith, ints) }
 one_within W64 = record { low = omega (arith, ints); high = omega (arith, ints) }
 
-module _ (p : Program) (e : Env) (whole : IsWhole p e) where
+module _ (p : Inside) (e : Env) (whole : IsWhole p e) where
   one_of : (c : Change) → IsOf p (Lit (literal.Int (pos 1))) (amount_type c)
   one_of (change.Add w) = one_within w
   one_of (change.Subtract w) = one_within w
@@ -72,9 +74,23 @@ module _ (p : Program) (e : Env) (whole : IsWhole p e) where
   abbrev IsChanged : Routine → Spot → Type 0
   IsChanged r a = IsTyped p e (place_of a.held) a.known.of × (is_changed r a.known.of ≡ true)
 
+  -- no open array is changed
+  low_changed : (r : Routine) (t : TypeId) → is_changed r (Some t) ≡ true → is_basic t ≡ true
+  low_changed r t is = by (is_changed_set r) is
+    where
+      by : (b : Bool) → (if b then is_set (Some t) else is_number (Some t)) ≡ true → is_basic t ≡ true
+      by true i = ap is_basic (sym (same_type set t i))
+      by false i = integer_basic t i
+
+  changed_known : (r : Routine) (place : Place) (of : Option TypeId) → IsTyped p e place of → is_changed r of ≡ true →
+      (t : TypeId) × (of ≡ Some t) × IsPlaceOf p place (type_as t)
+  changed_known r place None (closed typed known) is = absurd known
+  changed_known r place (Some t) (closed typed known) is = (t, refl, typed)
+  changed_known r place of (opened t q same at opening rows lengths) is =
+      absurd (not_both (sym (low_changed r t (subst (λ o. is_changed r o ≡ true) same is)) ∙ (opened_row e t opening).1))
+
   pub place_changed : (r : Routine) (place : Place) (of : Option TypeId) → IsTyped p e place of → is_changed r of ≡ true → IsPlaceOf p place (changed_type (changing r of))
-  place_changed r place None typed is = absurd typed.known
-  place_changed r place (Some t) typed is = subst (IsPlaceOf p place) (changed_as r t is) typed.typed
+  place_changed r place of typed is = let c = changed_known r place of typed is in subst (λ o. IsPlaceOf p place (changed_type (changing r o))) (sym c.1) (subst (IsPlaceOf p place) (changed_as r c.0 (subst (λ o. is_changed r o ≡ true) c.1 is)) c.2)
 
   -- what it is changed by
   element_of : (of : Option TypeId) (v : Answer) → IsSound p v → (is_number v.known.of && true) ≡ true → IsOf p v.typed (type.Integer W64)
@@ -96,11 +112,12 @@ module _ (p : Program) (e : Env) (whole : IsWhole p e) where
   amount_of routine.Halt t i v sound is = number_of t v i sound is
   amount_of routine.New t i v sound is = number_of t v i sound is
 
-  amount_sound : (r : Routine) (of : Option TypeId) → IsKnown e.types of → is_changed r of ≡ true → (x : Option TreeExpr) →
+  amount_sound : (r : Routine) (place : Place) (of : Option TypeId) → IsTyped p e place of → is_changed r of ≡ true → (x : Option TreeExpr) →
       Holds (λ n. IsOf p n (amount_type (changing r of))) (amount e r of x)
-  amount_sound r of known is None = λ h. one_of (changing r of)
-  amount_sound r None known is (Some x) = absurd known
-  amount_sound r (Some t) known is (Some x) =
+  amount_sound r place of typed is None = λ h. one_of (changing r of)
+  amount_sound r place None (closed typed known) is (Some x) = absurd known
+  amount_sound r place None (opened t q same at opening rows lengths) is (Some x) = absurd (none-some t same)
+  amount_sound r place (Some t) typed is (Some x) =
       holds_bind (IsSound p) (λ n. IsOf p n (amount_type (changing r (Some t)))) (expr e x)
       (λ v. judged (breach_unless (is_amount r (Some t) v.known.of) 35 (out-Expr x).pos) v.typed) (expr_sound p e whole x)
       (λ v sound h. amount_of r t is v sound (test_is (is_amount r (Some t) v.known.of) 35 (out-Expr x).pos h))
@@ -111,7 +128,7 @@ module _ (p : Program) (e : Env) (whole : IsWhole p e) where
       (λ h. let own = breach_unless (is_changed r a.known.of) 35 first in
       (written_typed p e whole a first is (none_left (written a.known.class first) own h), test_is (is_changed r a.known.of) 35 first (none_right (written a.known.class first) own h)))
       (λ b changed. holds_bind (λ n. IsOf p n (amount_type (changing r b.known.of))) (MayBe p) (amount e r b.known.of x) (λ n. kept (Some (changed_by r at b n)))
-      (amount_sound r b.known.of changed.0.known changed.1 x)
+      (amount_sound r (place_of b.held) b.known.of changed.0 changed.1 x)
       (λ n is h. (place_changed r (place_of b.held) b.known.of changed.0 changed.1, is)))
 
   change_at_sound : (r : Routine) (at : Pos) (y : TreeExpr) (o : Option Desig) (x : Option TreeExpr) → Holds (MayBe p) (change_at e r at y o x)

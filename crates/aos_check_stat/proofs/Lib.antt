@@ -1,5 +1,4 @@
 pub mod Rows
-pub mod Values
 pub mod Places
 pub mod Apart
 pub mod Changed

@@ -1,7 +1,9 @@
 -- Statements that break no rule are well typed, where the types of all variables are known.
-use Rattle.std.proofs.Common.{◌≡◌, ℤ, ◌⊎◌, List, [], ◌∷◌, ◌++◌, drop, length, Bool, true, false, ◌||◌, codes, Option, Some, None, is_some, refl, sym, ap, ◌∙◌, if◌then◌else◌}
+use Rattle.std.proofs.Common.{◌≡◌, ℤ, ◌⊎◌, List, [], ◌∷◌, ◌++◌, drop, length, Bool, true, false, ◌||◌, codes, map, ℕ, not, ◌==◌, Option, Some, None, is_some, refl, sym, ap, ◌∙◌, subst, if◌then◌else◌}
 use Rattle.aos_base.specs.declared.text.Pos.{Pos}
 use Rattle.std.specs.Prelude.{All}
+use Rattle.std.proofs.lemmas.Bool.{and_parts}
+use Rattle.std.proofs.lemmas.List.{length-map}
 use Rattle.std.proofs.lemmas.List.Elements.{All-nil, All-drop}
 use Rattle.aos_base.specs.declared.number.Width.TheVariants.{W64}
 use Rattle.aos_base.specs.Number.{IsWithin}
@@ -15,36 +17,49 @@ use Rattle.aos_tree.specs.declared.stat.Case.TheVariants as case
 use Rattle.aos_tree.specs.declared.stat.Stat.{Stat as TreeStat, Row_of-Stat, end_of-Stat, more_of-Stat, Row_of-Elsif, end_of-Elsif, more_of-Elsif, Row_of-Case, end_of-Case, more_of-Case, Held-Stat-If-4, None', Some'}
 use Rattle.aos_tree.specs.declared.stat.Stat.TheVariants as stat
 use Rattle.aos_typed.specs.declared.tree.TType.TheVariants as type
-use Rattle.aos_typed.specs.declared.tree.TextConstant.{TextConstant}
-use Rattle.aos_typed.specs.Program.{Program, Expr, Call, Open, Char, Int, String, Ln, Stat, Assign, Copy, If, Case as CaseOf, While, Repeat, Loop, For, Block as BlockOf, Out, Arms, Otherwise, Arm, Cases, Else, OfLabels}
-use Rattle.aos_typed.specs.WellTyped.{AreLabels, IsOf, IsCall, IsStatement, AreStatements, AreArms, AreCases}
+use Rattle.aos_typed.specs.Routines.{result_of}
+use Rattle.aos_typed.specs.Program.{Expr, Call, Open as OutOpen, Char, Int, String, Ln, Stat, Assign, Copy, If, Case as CaseOf, While, Repeat, Loop, For, Block as BlockOf, Perform, Return, Out, Parameter, Arms, Otherwise, Arm, Cases, Else, OfLabels}
+use Rattle.aos_typed.specs.WellTyped.{AreLabels}
+use Rattle.aos_typed.specs.WellTyped as typed
 use Rattle.aos_types.specs.declared.row.TypeId.{TypeId}
 use Rattle.aos_symbols.specs.declared.scope.Meaning.{Meaning}
 use Rattle.aos_symbols.specs.declared.scope.Meaning.TheVariants as means
 use Rattle.aos_symbols.specs.declared.scope.Routine.{Routine}
 use Rattle.aos_symbols.specs.declared.scope.Routine.TheVariants as routine
+use Rattle.aos_symbols.specs.declared.home.Gives.{Gives}
+use Rattle.aos_symbols.specs.declared.home.Gives.TheVariants as gives
+use Rattle.aos_symbols.specs.declared.home.Signature.{Signature}
+use Rattle.aos_tree.specs.declared.decl.Export.{Export}
+use Rattle.aos_symbols.specs.declared.env.Open.{Open}
+use Rattle.aos_symbols.specs.declared.env.Symbol.{Symbol}
 use Rattle.aos_symbols.specs.declared.env.Lookup.{Lookup}
 use Rattle.aos_symbols.specs.declared.env.Lookup.TheVariants.{Unknown as NoName, NotExported, Found}
 use Rattle.aos_symbols.specs.declared.env.Env.{Env}
-use Rattle.aos_symbols.specs.Breaches.{breach}
+use Rattle.aos_symbols.specs.Breaches.{breach, breach_unless}
 use Rattle.aos_symbols.specs.Judged.{Judged, judged, kept, bind, walk}
 use Rattle.aos_symbols.specs.Spelling.{is_word}
 use Rattle.aos_symbols.specs.Env as env
-use Rattle.aos_symbols.proofs.Holds.{Holds, holds_bind, holds_walk, test_is}
+use Rattle.aos_symbols.proofs.Each.{Each}
+use Rattle.aos_symbols.proofs.Holds.{Holds, holds_bind, holds_walk, none_left, none_right, test_is}
 use Rattle.aos_check_expr.specs.declared.known.Class.{Class}
 use Rattle.aos_check_expr.specs.declared.known.Class.TheVariants.{Unknown, Constant, Variable, ReadOnly, Computed}
-use Rattle.aos_check_expr.specs.Known.{Answer, Spot, fits, type_as, is_basic as is_basic_type, is_long_text, is_number, is_char, width_of}
-use Rattle.aos_check_expr.specs.Designators.{has_parts, assigned, place_of, place_in}
-use Rattle.aos_check_expr.specs.Expressions.{text_place, expr, condition, argument, designator, desig_alone}
+use Rattle.aos_check_expr.specs.declared.designators.Head.{Head}
+use Rattle.aos_check_expr.specs.Known.{Answer, Spot, fits, passes, type_as, is_basic as is_basic_type, is_long_text, is_number, is_char, width_of}
+use Rattle.aos_check_expr.specs.Designators as desig
+use Rattle.aos_check_expr.specs.Designators.{has_parts, is_opened, assigned, place_of, place_in}
+use Rattle.aos_check_expr.specs.Arguments.{Handing, arguments_for, listed as listed_arguments}
+use Rattle.aos_check_expr.specs.Expressions.{is_opening, text_rows, expr, condition, argument, designator, desig_alone}
+use Rattle.aos_check_expr.proofs.Inside.{Inside, IsOf, AreArguments, IsCall, IsStatement, AreStatements, AreArms, AreCases}
 use Rattle.aos_check_expr.proofs.Types.{as_basic}
-use Rattle.aos_check_expr.proofs.Typing.{IsWhole, IsSound, IsTextAt, expr_sound, condition_sound, argument_sound, text_argument}
+use Rattle.aos_check_expr.proofs.Spots.{AreParameters, IsResultOf, Part}
+use Rattle.aos_check_expr.proofs.Typing.{IsWhole, IsSound, IsTextAt, expr_sound, expr_part, condition_sound, argument_sound, text_argument, arguments_part}
 use Rattle.aos_check_stat.specs.Bodies as judge
 use Rattle.aos_check_stat.specs.Bodies.{listed, put, made, new_breaches, outs, ended, arguments, behind_arguments, modifier_breaches}
-use Rattle.aos_check_stat.proofs.Places.{MayBe as MayBeOf, not_long, IsRead, read_sound, IsAssigned, assigned_sound, fitting, copying, putting, copied_text, made_sound}
+use Rattle.aos_check_stat.proofs.Places.{MayBe as MayBeOf, not_long, IsRead, read_sound, IsAssigned, assigned_sound, told_typed, fits_basic, fitting, copying, putting, copied_text, made_sound}
 use Rattle.aos_check_stat.proofs.Changed.{place_changed, change_call_sound, assert_sound, halt_sound}
 use Rattle.aos_check_stat.proofs.Controlled.{IsControl, control_sound, fitting_sound, step_sound, selector_sound, labels_sound}
 
-module _ (p : Program) (e : Env) (whole : IsWhole p e) where
+module _ (p : Inside) (e : Env) (whole : IsWhole p e) where
   abbrev MayBe : Option Stat → Type 0
   MayBe o = MayBeOf p o
 
@@ -74,27 +89,37 @@ module _ (p : Program) (e : Env) (whole : IsWhole p e) where
   none_of (Some x) h = absurd (cc)
 
   -- an assigned value fits
-  stat_sound_of : (first : Pos) (a : Spot) (v : Answer) → IsAssigned p e whole a → IsSound p v → judge.value_fits e a v (judge.text_for e a v) ≡ true →
+  stat_sound_of : (first : Pos) (a : Spot) (v : Answer) → IsAssigned p e whole a → IsSound p v → judge.value_fits e a v (judge.text_to e a v) ≡ true →
       IsStatement p (judge.assigned_stat e first a v)
   stat_sound_of first a v is sound h =
-      either_stat (is_some (judge.text_for e a v)) (judge.put_text e first true v a) _
-      (λ some. let t = some_of (judge.text_for e a v) some in putting p e whole first a v t.0 is sound t.1 (fit (Some t.0) t.1))
-      (λ none. rw is.known (by (fit None (none_of (judge.text_for e a v) none)) (has_parts e is.of) refl))
+      either_stat (is_some (judge.text_to e a v)) (judge.put_text e first true v a) _
+      (λ some. let t = some_of (judge.text_to e a v) some in putting p e whole first a v t.0 is sound t.1)
+      (λ none. let fit = fitted (none_of (judge.text_to e a v) none) in rw is.known (by fit.0 fit.1 (has_parts e is.of) refl))
     where
-      fit : (o : Option TextConstant) → judge.text_for e a v ≡ o → judge.value_fits e a v o ≡ true
-      fit o found = ap (judge.value_fits e a v) (sym found) ∙ h
+      not_true : (b : Bool) → not b ≡ true → b ≡ false
+      not_true true e = absurd (cc)
+      not_true false e = refl
 
-      without_parts : (b c : Bool) → (b || c) ≡ true → c ≡ false → b ≡ true
-      without_parts true c e n = refl
-      without_parts false c e n = sym n ∙ e
+      fitted : judge.text_to e a v ≡ None → (fits v.known.of a.known.of ≡ true) × (is_opened e is.of ≡ false)
+      fitted none =
+          let two = and_parts (fits v.known.of a.known.of) (not (is_opening e a.known.of)) (ap (judge.value_fits e a v) (sym none) ∙ h) in
+          (two.0, not_true (is_opened e is.of) (ap (λ o. not (is_opening e o)) (sym is.known) ∙ two.1))
 
-      by : fits v.known.of a.known.of ≡ true → (parts : Bool) → has_parts e is.of ≡ parts →
+      without : (b c : Bool) → (b || c) ≡ true → c ≡ false → b ≡ true
+      without true c e n = refl
+      without false c e n = sym n ∙ e
+
+      by : fits v.known.of a.known.of ≡ true → is_opened e is.of ≡ false → (parts : Bool) → has_parts e is.of ≡ parts →
           IsStatement p (if parts then Copy first (type_as is.of) (place_of a.held) (place_in v.typed) else Assign first (type_as is.of) (place_of a.held) v.typed)
-      by h true parts = let c = copying p e whole a v is parts sound h in (is.typed, c.from, c.row)
-      by h false parts =
-          let short = without_parts (is_basic_type is.of || is_long_text is.of) (has_parts e is.of) is.built parts in
-          let low : is_basic_type is.of ≡ true = without_parts (is_basic_type is.of) (is_long_text is.of) short (not_long e.types is.of is.told) in
-          (is.typed, as_basic is.of low, fitting p e whole a v is low sound h)
+      by h isnt true parts =
+          let held = told_typed p e whole (place_of a.held) is.of isnt is.typed in
+          let c = copying p e whole a v is held.0 parts sound h in (held.1, c.from, c.row)
+      by h isnt false parts =
+          let held = told_typed p e whole (place_of a.held) is.of isnt is.typed in
+          let built = without ((is_basic_type is.of || is_long_text is.of) || has_parts e is.of) (is_opened e is.of) is.built isnt in
+          let short = without (is_basic_type is.of || is_long_text is.of) (has_parts e is.of) built parts in
+          let low : is_basic_type is.of ≡ true = without (is_basic_type is.of) (is_long_text is.of) short (not_long e.types is.of held.0) in
+          (held.1, as_basic is.of low, fitting p e whole a v is low sound h)
 
   assign_sound : (d : Desig) (at : Pos) (x : TreeExpr) → Holds MayBe (judge.assign e d at x)
   assign_sound d at x =
@@ -102,7 +127,7 @@ module _ (p : Program) (e : Env) (whole : IsWhole p e) where
       holds_bind (IsAssigned p e whole) MayBe (bind (designator e d) (λ a. assigned e d.name.pos a)) (λ a. bind (expr e x) (λ v. last a v))
       (holds_bind (IsRead p e whole) (IsAssigned p e whole) (designator e d) (λ a. assigned e d.name.pos a) (read_sound p e whole d) (λ a is. assigned_sound p e whole a d.name.pos is))
       (λ a is. holds_bind (IsSound p) MayBe (expr e x) (λ v. last a v) (expr_sound p e whole x)
-      (λ v sound h. stat_sound_of d.name.pos a v is sound (test_is (judge.value_fits e a v (judge.text_for e a v)) 31 at h)))
+      (λ v sound h. stat_sound_of d.name.pos a v is sound (test_is (judge.value_fits e a v (judge.text_to e a v)) 31 at h)))
 
   -- The procedures of Out.
 
@@ -129,7 +154,7 @@ module _ (p : Program) (e : Env) (whole : IsWhole p e) where
   string_sound : (at : Pos) (xs : List TreeExpr) → Holds MayBe (judge.string_call e at xs)
   string_sound at [] = λ h. tt
   string_sound at (a ∷ []) =
-      let last = λ (v : Answer). let text = text_place e v in kept (String text.0 text.1) in
+      let last = λ (v : Answer). kept (String (text_rows e v)) in
       outs_sound at (bind (judge.text_argument e a) last)
       (holds_bind (IsTextAt p e) (IsCall p) (judge.text_argument e a) last (text_argument p e whole a) (λ v is h. is))
   string_sound at (a ∷ b ∷ xs) = λ h. tt
@@ -148,7 +173,7 @@ module _ (p : Program) (e : Env) (whole : IsWhole p e) where
       (choice_sound (is_word e.here.text (codes "Char") n) (judge.char_call e at xs) _ (char_call_sound at xs)
       (choice_sound (is_word e.here.text (codes "String") n) (judge.string_call e at xs) _ (string_sound at xs)
       (choice_sound (is_word e.here.text (codes "Ln") n) (judge.plain_call Ln at xs) _ (plain_sound Ln tt at xs)
-      (choice_sound (is_word e.here.text (codes "Open") n) (judge.plain_call Open at xs) _ (plain_sound Open tt at xs) (λ h. tt)))))
+      (choice_sound (is_word e.here.text (codes "Open") n) (judge.plain_call OutOpen at xs) _ (plain_sound OutOpen tt at xs) (λ h. tt)))))
 
   ended_sound : (first : Pos) (xs : List Selector) (j : Judged (Option Stat)) → Holds MayBe j → Holds MayBe (ended first xs j)
   ended_sound first [] j sound = sound
@@ -219,24 +244,95 @@ module _ (p : Program) (e : Env) (whole : IsWhole p e) where
       holds_bind (IsRead p e whole) MayBe (designator e d) (λ a. judge.no_call d.name.pos a.known.class) (read_sound p e whole d)
       (λ a is. no_call_sound d.name.pos a.known.class)
 
-  called_meaning_sound : (m : Meaning) (d : Desig) → Holds MayBe (judge.called_meaning e m d)
-  called_meaning_sound means.Out d = out_selectors_sound d.name.pos d.selectors
-  called_meaning_sound (means.Routine r) d =
+  -- Procedures that modules declare.
+
+  parts_of : (xs : List TreeExpr) → Each (Holds (Part p e)) (map (expr e) xs)
+  parts_of [] = tt
+  parts_of (x ∷ xs) = (expr_part p e whole x, parts_of xs)
+
+  abbrev IsHanded : Signature → Handing → Type 0
+  IsHanded sig g =
+      (g.are_kept ≡ true)
+      × (IsWhole p e → (as' : List Parameter) → AreParameters e sig.parameters as' → AreArguments p (listed_arguments g.given) as')
+
+  perform_with_sound : (at : Pos) (m k : ℕ) (sig : Signature) → env.signature e m k ≡ Some sig → sig.gives ≡ gives.Nothing → (xs : List TreeExpr) → Holds MayBe (judge.perform_with e at m k sig xs)
+  perform_with_sound at m k sig is none xs =
+      holds_bind (IsHanded sig) MayBe (arguments_for e at sig.parameters (map (expr e) xs) xs) (λ h. kept (Some (Perform at m k (listed_arguments h.given))))
+      (arguments_part p e at sig.parameters (map (expr e) xs) (parts_of xs) xs (length-map xs (expr e)))
+      (λ g handed h. let q = whole.signatures m k sig is in (q.0, q.1, subst (λ o. IsResultOf o q.0.result) none q.2.result, handed.1 whole q.0.parameters q.2.parameters))
+
+  perform_signed_sound : (at : Pos) (m k : ℕ) (sig : Signature) → env.signature e m k ≡ Some sig → (xs : List TreeExpr) → Holds MayBe (judge.perform_signed e at m k sig xs)
+  perform_signed_sound at m k sig is xs = by sig.gives refl
+    where
+      by : (g : Gives) → sig.gives ≡ g → Holds MayBe (judge.perform_signed e at m k sig xs)
+      by gives.Nothing same = rw same (perform_with_sound at m k sig is same xs)
+      by (gives.Value of) same = rw same (λ h. tt)
+
+  perform_sound : (at : Pos) (x : Symbol) (k : ℕ) (xs : List TreeExpr) → Holds MayBe (judge.perform e at x k xs)
+  perform_sound at x k xs = by (x.at.scope == 0) refl (env.signature e x.at.home k) refl
+    where
+      by : (b : Bool) → (x.at.scope == 0) ≡ b → (o : Option Signature) → env.signature e x.at.home k ≡ o → Holds MayBe (judge.perform e at x k xs)
+      by true own (Some sig) is = rw (own, is) (perform_signed_sound at x.at.home k sig is xs)
+      by true own None is = rw (own, is) (λ h. tt)
+      by false own (Some sig) is = rw own (λ h. tt)
+      by false own None is = rw own (λ h. tt)
+
+  performed_sound : (at : Pos) (x : Symbol) (k : ℕ) (more : List Selector) → Holds MayBe (judge.performed e at x k more)
+  performed_sound at x k more = ended_sound at (behind_arguments more) (judge.perform e at x k (arguments more)) (perform_sound at x k (arguments more))
+
+  member_meant_sound : (m : Meaning) (o : Open) (mark : Option Export) (more : List Selector) (d : Desig) →
+      Holds MayBe (judge.called_member e (Found (record { at = o; mark = mark; means = m })) more d)
+  member_meant_sound (means.Procedure k) o mark more d = performed_sound d.name.pos (record { at = o; mark = mark; means = means.Procedure k }) k more
+  member_meant_sound m o mark more d = value_sound d
+
+  called_member_sound : (l : Lookup) (more : List Selector) (d : Desig) → Holds MayBe (judge.called_member e l more d)
+  called_member_sound NoName more d = value_sound d
+  called_member_sound NotExported more d = value_sound d
+  called_member_sound (Found x) more d = member_meant_sound x.means x.at x.mark more d
+
+  in_module_sound : (h : Head) (ss : List Selector) (d : Desig) → Holds MayBe (judge.called_in_module e h ss d)
+  in_module_sound h [] d = value_sound d
+  in_module_sound h (s.Field q n ∷ more) d = called_member_sound (desig.member_behind e h n).found more d
+  in_module_sound h (s.Paren' q shape row ∷ more) d = value_sound d
+  in_module_sound h (s.Index' q shape row ∷ more) d = value_sound d
+  in_module_sound h (s.Follow q ∷ more) d = value_sound d
+
+  called_meaning_sound : (x : Symbol) (m : Meaning) (d : Desig) → Holds MayBe (judge.called_meaning e x m d)
+  called_meaning_sound x means.Out d = out_selectors_sound d.name.pos d.selectors
+  called_meaning_sound x (means.Module m) d = in_module_sound (desig.plain e d.name) d.selectors d
+  called_meaning_sound x (means.Routine r) d =
       let xs = arguments d.selectors in ended_sound d.name.pos (behind_arguments d.selectors) (judge.routine_call e r d.name.pos xs) (routine_sound r d.name.pos xs)
-  called_meaning_sound means.Proper d = λ h. tt
-  called_meaning_sound (means.Procedure k) d = λ h. tt
-  called_meaning_sound (means.Constant k) d = value_sound d
-  called_meaning_sound (means.Type of) d = value_sound d
-  called_meaning_sound (means.Variable k) d = value_sound d
-  called_meaning_sound (means.Module m) d = value_sound d
-  called_meaning_sound (means.Truth b) d = value_sound d
-  called_meaning_sound (means.Function f) d = value_sound d
-  called_meaning_sound means.Other d = value_sound d
+  called_meaning_sound x means.Proper d = λ h. tt
+  called_meaning_sound x (means.Procedure k) d = performed_sound d.name.pos x k d.selectors
+  called_meaning_sound x m d = value_sound d
 
   called_sound : (l : Lookup) (d : Desig) → Holds MayBe (judge.called e l d)
   called_sound NoName d = λ h. tt
   called_sound NotExported d = λ h. tt
-  called_sound (Found x) d = called_meaning_sound x.means d
+  called_sound (Found x) d = called_meaning_sound x x.means d
+
+  -- RETURN.
+
+  -- what the procedure gives in which a statement stands
+  own_result : IsResultOf (judge.gives_here e) (result_of p.own)
+  own_result = by (env.own_signature e) refl
+    where
+      by : (o : Option Signature) → env.own_signature e ≡ o → IsResultOf (judge.gives_here e) (result_of p.own)
+      by None is = rw is (ap result_of (whole.own_body is))
+      by (Some sig) is = let q = whole.own sig is in rw is (subst (λ o. IsResultOf sig.gives (result_of o)) (sym q.1) q.2.result)
+
+  return_sound : (at : Pos) (g : Gives) → IsResultOf g (result_of p.own) → (x : Option TreeExpr) → Holds MayBe (judge.return_of e at g x)
+  return_sound at gives.Nothing is None = λ h. subst (λ r. typed.IsReturn p.program p.own None r) (sym is) tt
+  return_sound at gives.Nothing is (Some x) = holds_bind (IsSound p) MayBe (expr e x) (λ _. judge.refused 40 at) (expr_sound p e whole x) (λ _ sound h. tt)
+  return_sound at (gives.Value of) is None = λ h. tt
+  return_sound at (gives.Value of) is (Some x) =
+      holds_bind (IsSound p) MayBe (expr e x)
+      (λ v. judged (breach_unless (fits v.known.of of) 40 at ++ breach_unless (passes is_basic_type of) 99 at) (Some (Return at (Some v.typed)))) (expr_sound p e whole x)
+      (λ v sound h. let fit = breach_unless (fits v.known.of of) 40 at in
+      let low = breach_unless (passes is_basic_type of) 99 at in
+      subst (λ r. typed.IsReturn p.program p.own (Some v.typed) r) (sym is.2)
+      (fits_basic p e whole is.0 v (subst (λ o. passes is_basic_type o ≡ true) is.1 (test_is (passes is_basic_type of) 99 at (none_right fit low h))) sound
+      (subst (λ o. fits v.known.of o ≡ true) is.1 (test_is (fits v.known.of of) 40 at (none_left fit low h)))))
 
   exit_sound : (in_loop : Bool) (at : Pos) → Holds MayBe (judge.exit_of in_loop at)
   exit_sound true at = λ h. tt
@@ -259,7 +355,7 @@ module _ (p : Program) (e : Env) (whole : IsWhole p e) where
         (λ h. tt)
         (λ none are. holds_bind Are MayBe (judge.stats_in e in_loop none row) (λ body. kept (Some (BlockOf q (listed body)))) (stats_sound in_loop none are row) (λ body all h. all))
     stat_sound in_loop (stat.Exit q) = exit_sound in_loop q
-    stat_sound in_loop (stat.Return q x) = λ h. tt
+    stat_sound in_loop (stat.Return q x) = return_sound q (judge.gives_here e) own_result x
     stat_sound in_loop (stat.Await q x) = λ h. tt
     stat_sound in_loop (stat.If' q c shape row shapes rows otherwise) =
         let last = bind (judge.else_in e in_loop otherwise) (λ ss. kept (Otherwise (listed ss))) in
@@ -290,11 +386,11 @@ module _ (p : Program) (e : Env) (whole : IsWhole p e) where
         (control_sound p e whole n)
         (λ c is. let IsValue = λ (x : Expr). IsOf p x (type.Integer (width_of c.1)) in
         holds_bind IsValue MayBe (judge.fitting e c.1 31 r from) (λ a. bind (judge.fitting e c.1 48 n.pos to) (λ b. bind (judge.step_of e n.pos c.1 by) (λ step. bind (judge.stats_in e in_loop [] row) (whole_for c a b step))))
-        (fitting_sound p e whole c.1 is.typed.known is.number 31 r from)
+        (fitting_sound p e whole c.0 c.1 is.typed is.number 31 r from)
         (λ a x. holds_bind IsValue MayBe (judge.fitting e c.1 48 n.pos to) (λ b. bind (judge.step_of e n.pos c.1 by) (λ step. bind (judge.stats_in e in_loop [] row) (whole_for c a b step)))
-        (fitting_sound p e whole c.1 is.typed.known is.number 48 n.pos to)
+        (fitting_sound p e whole c.0 c.1 is.typed is.number 48 n.pos to)
         (λ b y. holds_bind (λ z. IsWithin (width_of c.1) z) MayBe (judge.step_of e n.pos c.1 by) (λ step. bind (judge.stats_in e in_loop [] row) (whole_for c a b step))
-        (step_sound p e whole c.1 is.typed.known is.number n.pos by)
+        (step_sound p e whole c.0 c.1 is.typed is.number n.pos by)
         (λ step z. holds_bind Are MayBe (judge.stats_in e in_loop [] row) (whole_for c a b step) (stats_sound in_loop [] tt row)
         (λ body are h. (is.variable, place_changed p e whole routine.Inc c.0 c.1 is.typed is.number, x, y, z, are))))))
     stat_sound in_loop (stat.With' q a r b shape row) = λ h. tt

@@ -1,8 +1,8 @@
 -- The third pass: bodies. Built are assignments to variables of basic types and of whole records and arrays, those of string
--- constants to arrays of characters, all statements without calls but RETURN, AWAIT and WITH, the predeclared procedures, of which
+-- constants to arrays of characters, calls of procedures, all other statements but AWAIT and WITH, the predeclared procedures, of which
 -- NEW takes an object variable that is no part of another, the calls of Out, and of the modifiers ACTIVE on an object's body.
 -- A statement that isn't built is refused at its first token, a modifier at itself.
-use Rattle.std.specs.Prelude.{ℕ, ℤ, pos, int_le, ◌==◌, ◌||◌, drop, List, [], ◌∷◌, ◌++◌, length, nat_lt, codes, Bool, true, false, not, ◌&&◌, Option, Some, None, is_some, if◌then◌else◌}
+use Rattle.std.specs.Prelude.{ℕ, ℤ, pos, int_le, ◌||◌, drop, List, [], ◌∷◌, ◌++◌, length, codes, map, Bool, true, false, not, ◌&&◌, Option, Some, None, is_some, if◌then◌else◌}
 use Rattle.std.specs.Option.{is_none, unwrap_or, option_map}
 use Rattle.std.specs.List.{list_any}
 use Rattle.std.specs.Ordering.{int_eq}
@@ -19,7 +19,7 @@ use Rattle.aos_tree.specs.declared.stat.Label.{Label}
 use Rattle.aos_tree.specs.declared.stat.Case.TheVariants as case
 use Rattle.aos_tree.specs.declared.stat.Stat.{Stat as TreeStat, Row_of-Stat, end_of-Stat, more_of-Stat, Row_of-Elsif, end_of-Elsif, more_of-Elsif, Row_of-Case, end_of-Case, more_of-Case, Held-Stat-If-4, None', Some'}
 use Rattle.aos_tree.specs.declared.stat.Stat.TheVariants as stat
-use Rattle.aos_typed.specs.Program.{Call, Open, Char, Int, String, Ln, Place, ModuleVar, Expr as Typed, Lit, Stat, Assign, Copy, PutText, If, Case, While, Repeat, Loop, Exit, For, Block, Assert, Halt, Change, New, Out, Stats, Nothing, Then, Arms, Otherwise, Arm, Cases, NoElse, Else, OfLabels}
+use Rattle.aos_typed.specs.Program.{Call, Open, Char, Int, String, Ln, Place, ModuleVar, Expr as Typed, Lit, Stat, Assign, Copy, PutText, If, Case, While, Repeat, Loop, Exit, For, Block, Assert, Halt, Change, Perform, Return, New, Out, Stats, Nothing, Then, Arms, Otherwise, Arm, Cases, NoElse, Else, OfLabels}
 use Rattle.aos_typed.specs.declared.tree.TextConstant.{TextConstant}
 use Rattle.aos_typed.specs.declared.tree.Literal.{Literal}
 use Rattle.aos_typed.specs.declared.tree.Literal.TheVariants as literal
@@ -32,6 +32,9 @@ use Rattle.aos_symbols.specs.declared.scope.Meaning.{Meaning}
 use Rattle.aos_symbols.specs.declared.scope.Meaning.TheVariants as means
 use Rattle.aos_symbols.specs.declared.scope.Routine.{Routine}
 use Rattle.aos_symbols.specs.declared.scope.Routine.TheVariants as routine
+use Rattle.aos_symbols.specs.declared.home.Gives.{Gives}
+use Rattle.aos_symbols.specs.declared.home.Gives.TheVariants as gives
+use Rattle.aos_symbols.specs.declared.home.Signature.{Signature}
 use Rattle.aos_symbols.specs.declared.env.Symbol.{Symbol}
 use Rattle.aos_symbols.specs.declared.env.Lookup.{Lookup}
 use Rattle.aos_symbols.specs.declared.env.Lookup.TheVariants.{Unknown as NoName, NotExported, Found}
@@ -46,8 +49,11 @@ use Rattle.aos_check_expr.specs.declared.known.Class.{Class}
 use Rattle.aos_check_expr.specs.declared.known.Class.TheVariants.{Unknown, Constant, Variable, ReadOnly, Computed}
 use Rattle.aos_check_expr.specs.Known.{Answer, Spot, passes, is_number, is_char, is_set, is_basic, fits, width_of, type_of, type_of_literal, object_number}
 use Rattle.aos_check_expr.specs.Operations.{number}
+use Rattle.aos_check_expr.specs.declared.designators.Head.{Head}
+use Rattle.aos_check_expr.specs.Designators as desig
 use Rattle.aos_check_expr.specs.Designators.{has_parts, assigned, written, place_of, place_in}
-use Rattle.aos_check_expr.specs.Expressions.{constant_class, is_characters, string_in, may_be_text, text_place, length_of, expr, condition, argument, designator, desig_alone}
+use Rattle.aos_check_expr.specs.Arguments.{arguments_for, listed as listed_arguments}
+use Rattle.aos_check_expr.specs.Expressions.{constant_class, is_characters, is_opening, may_be_text, text_rows, array_rows, text_for, has_room, expr, condition, argument, designator, desig_alone}
 
 -- statements as a sequence of the typed program
 abbrev pub listed : List Stat → Stats
@@ -199,7 +205,7 @@ abbrev pub with_label : Labels → Pos → Option LabelRange → Judged Labels
 with_label ls at None = kept ls
 with_label ls at (Some r) = if list_any (meets r) ls then judged (breach 38 at) ls else kept (ls ++ r ∷ [])
 
--- FOR: its variable is an integer variable of the module by its plain name; what breaks a rule is no variable.
+-- FOR: its variable is an integer variable by its plain name; what breaks a rule is no variable.
 abbrev pub Control : Type 0
 Control = Place × Option TypeId
 
@@ -221,32 +227,27 @@ step_in (Constant (Some (literal.Int n))) = n
 step_in c = pos 1
 
 module _ (e : Env) where
-  -- how many elements an array has
-  abbrev pub room : Option TypeId → ℕ
-  room of = unwrap_or (length_of e of 0) 0
-
   -- the string constant that is stored in an array of characters
-  abbrev pub text_for : Spot → Answer → Option TextConstant
-  text_for a v = if is_characters e a.known then string_in e v.known.class else None
+  abbrev pub text_to : Spot → Answer → Option TextConstant
+  text_to a v = text_for e a.known v.known.class
 
-  -- a string constant fits where there is room for its 0X
+  -- a string constant fits where there is room for its 0X; no other value fits an open array
   abbrev pub value_fits : Spot → Answer → Option TextConstant → Bool
-  value_fits a v (Some t) = nat_lt (length (env.characters e t)) (room a.known.of)
-  value_fits a v None = fits v.known.of a.known.of
+  value_fits a v (Some t) = has_room e a.known.of t
+  value_fits a v None = fits v.known.of a.known.of && not (is_opening e a.known.of)
 
   -- the value must fit the variable, or else `:=` is refused
   abbrev pub assign_breaches : Pos → Spot → Answer → List Breach
-  assign_breaches at a v = breach_unless (value_fits a v (text_for a v)) 31 at
+  assign_breaches at a v = breach_unless (value_fits a v (text_to a v)) 31 at
 
   -- the text of a part is put in an array of characters
   abbrev pub put_text : Pos → Bool → Answer → Spot → Stat
-  put_text at strict v a =
-      let from = text_place e v in PutText at strict from.0 from.1 (place_of a.held) (room a.known.of)
+  put_text at strict v a = PutText at strict (text_rows e v) (array_rows e 1 a.known.of (place_of a.held))
 
   -- a string constant is put in an array of characters, and a whole record or array is copied
   abbrev pub assigned_stat : Pos → Spot → Answer → Stat
   assigned_stat first a v =
-      if is_some (text_for a v) then put_text first true v a
+      if is_some (text_to a v) then put_text first true v a
       else if passes_parts a.known.of
       then Copy first (type_of a.known.of) (place_of a.held) (place_in v.typed)
       else Assign first (type_of a.known.of) (place_of a.held) v.typed
@@ -276,7 +277,7 @@ module _ (e : Env) where
 
   abbrev pub string_call : Pos → List TreeExpr → Judged (Option Stat)
   string_call at (a ∷ []) =
-      outs at (bind (text_argument a) (λ v. let text = text_place e v in kept (String text.0 text.1)))
+      outs at (bind (text_argument a) (λ v. kept (String (text_rows e v))))
   string_call at xs = refused 34 at
 
   abbrev pub out_call : Pos → Name → List TreeExpr → Judged (Option Stat)
@@ -356,19 +357,84 @@ module _ (e : Env) where
   routine_call routine.Incl at xs = change_call routine.Incl at xs
   routine_call routine.New at xs = new_call at xs
 
-  -- a call, by what its first name stands for; procedures but those of Out and the predeclared ones aren't built
-  abbrev pub called_meaning : Meaning → Desig → Judged (Option Stat)
-  called_meaning means.Out d = out_selectors d.name.pos d.selectors
-  called_meaning (means.Routine r) d =
+  -- Procedures that modules declare.
+
+  -- a call of a proper one, which begins here
+  abbrev pub perform_with : (at : Pos) → (home number : ℕ) → Signature → List TreeExpr → Judged (Option Stat)
+  perform_with at m k s xs =
+      bind (arguments_for e at s.parameters (map (expr e) xs) xs) (λ h. kept (Some (Perform at m k (listed_arguments h.given))))
+
+  -- a function gives a value
+  abbrev pub perform_signed : (at : Pos) → (home number : ℕ) → Signature → List TreeExpr → Judged (Option Stat)
+  perform_signed at m k s xs = by s.gives
+    where
+      by : Gives → Judged (Option Stat)
+      by gives.Nothing = perform_with at m k s xs
+      by (gives.Value of) = refused 36 at
+
+  -- one of an object type isn't built
+  abbrev pub perform : (at : Pos) → Symbol → ℕ → List TreeExpr → Judged (Option Stat)
+  perform at x k xs = by (desig.is_of_module x) (env.signature e x.at.home k)
+    where
+      by : Bool → Option Signature → Judged (Option Stat)
+      by true (Some s) = perform_signed at x.at.home k s xs
+      by _ _ = not_yet at
+
+  abbrev pub performed : (at : Pos) → Symbol → ℕ → List Selector → Judged (Option Stat)
+  performed at x k more = ended at (behind_arguments more) (perform at x k (arguments more))
+
+  -- what is no procedure
+  abbrev pub called_value : Desig → Judged (Option Stat)
+  called_value d = bind (designator e d) (λ a. no_call d.name.pos a.known.class)
+
+  -- a name of another module, with what stands behind it
+  abbrev pub called_member : Lookup → List Selector → Desig → Judged (Option Stat)
+  called_member NoName more d = called_value d
+  called_member NotExported more d = called_value d
+  called_member (Found x) more d = by x.means
+    where
+      by : Meaning → Judged (Option Stat)
+      by (means.Procedure k) = performed d.name.pos x k more
+      by m = called_value d
+
+  abbrev pub called_in_module : Head → List Selector → Desig → Judged (Option Stat)
+  called_in_module h (s.Field p n ∷ more) d = called_member (desig.member_behind e h n).found more d
+  called_in_module h more d = called_value d
+
+  -- a call, by what its first name stands for
+  abbrev pub called_meaning : Symbol → Meaning → Desig → Judged (Option Stat)
+  called_meaning x means.Out d = out_selectors d.name.pos d.selectors
+  called_meaning x (means.Module m) d = called_in_module (desig.plain e d.name) d.selectors d
+  called_meaning x (means.Routine r) d =
       ended d.name.pos (behind_arguments d.selectors) (routine_call r d.name.pos (arguments d.selectors))
-  called_meaning means.Proper d = not_yet d.name.pos
-  called_meaning (means.Procedure k) d = not_yet d.name.pos
-  called_meaning m d = bind (designator e d) (λ a. no_call d.name.pos a.known.class)
+  called_meaning x means.Proper d = not_yet d.name.pos
+  called_meaning x (means.Procedure k) d = performed d.name.pos x k d.selectors
+  called_meaning x m d = called_value d
 
   abbrev pub called : Lookup → Desig → Judged (Option Stat)
   called NoName d = refused 14 d.name.pos
   called NotExported d = refused 15 d.name.pos
-  called (Found x) d = called_meaning x.means d
+  called (Found x) d = called_meaning x x.means d
+
+  -- RETURN: what the procedure gives in which it stands
+  abbrev pub gives_here : Gives
+  gives_here = by (env.own_signature e)
+    where
+      by : Option Signature → Gives
+      by None = gives.Nothing
+      by (Some s) = s.gives
+
+  -- a function gives a value that fits its result; a result that isn't of a basic type isn't built
+  abbrev pub return_value : Pos → Option TypeId → TreeExpr → Judged (Option Stat)
+  return_value at of x =
+      bind (expr e x) (λ v.
+      judged (breach_unless (fits v.known.of of) 40 at ++ breach_unless (passes is_basic of) 99 at) (Some (Return at (Some v.typed))))
+
+  abbrev pub return_of : Pos → Gives → Option TreeExpr → Judged (Option Stat)
+  return_of at gives.Nothing None = kept (Some (Return at None))
+  return_of at gives.Nothing (Some x) = bind (expr e x) (λ _. refused 40 at)
+  return_of at (gives.Value of) None = refused 40 at
+  return_of at (gives.Value of) (Some x) = return_value at of x
 
   abbrev pub selector : TreeExpr → Judged Answer
   selector x = bind (expr e x) (λ v. judged (breach_unless (is_selector v.known.of) 38 (out-Expr x).pos) v)
@@ -394,7 +460,7 @@ module _ (e : Env) where
 
   abbrev pub control_meant : Pos → Symbol → Meaning → Judged Control
   control_meant at x (means.Variable k) =
-      if x.at.scope == 0 then control_variable at (ModuleVar x.at.home k) (env.variable_type e x.at k) else lost 99 at
+      if desig.is_reached e x then control_variable at (desig.place_of_variable e x k) (env.variable_type e x.at k) else lost 99 at
   control_meant at x m = lost 48 at
 
   abbrev pub control_found : Pos → Lookup → Judged Control
@@ -425,7 +491,7 @@ module _ (e : Env) where
         bind (judged (modifier_breaches e.here.text false ms) []) (λ none. bind (stats_in in_loop none row) (λ body.
         kept (Some (Block p (listed body)))))
     stat_of in_loop (stat.Exit p) = exit_of in_loop p
-    stat_of in_loop (stat.Return p x) = not_yet p
+    stat_of in_loop (stat.Return p x) = return_of p gives_here x
     stat_of in_loop (stat.Await p x) = not_yet p
     stat_of in_loop (stat.If' p c shape row shapes rows otherwise) =
         bind (condition e c) (λ test. bind (stats_in in_loop [] row) (λ body.

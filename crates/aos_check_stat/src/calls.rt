@@ -5,24 +5,23 @@ ghost use Rattle.std.specs.Option.{option_copied};
 ghost use Rattle.aos_typed.specs.Seen.{seen_stat};
 ghost use Rattle.aos_symbols.specs.Breaches.{first_after};
 ghost use Rattle.aos_symbols.specs.Env as scopes;
-ghost use Rattle.aos_symbols.specs.Judged.{bind};
 ghost use Rattle.aos_typed.specs.WellTyped.{is_variable as is_variable_place};
 ghost use Rattle.aos_check_expr.specs.Seen.{seen_held, seen_spot};
 ghost use Rattle.aos_check_expr.specs.Designators.{place_of as place_held};
-ghost use Rattle.aos_check_expr.specs.Expressions as expression;
 ghost use Rattle.aos_check_stat.specs.Bodies as judge;
 
 use crate::out::out_selectors;
+use crate::procedures::{called_in_module, called_value, performed};
 use crate::refusals::{arguments, behind_arguments, not_yet, refuse_behind, refused};
 use crate::routines::{assert_call, change_call, halt_call};
 use crate::texts::copy_call;
 use aos_base::Pos;
 use aos_check_expr::{
-    Class, Held, Spot, desig_alone, designator, is_basic, object_number, place_of,
+    Class, Held, Spot, desig_alone, designator, is_basic, object_number, place_of, plain,
 };
 use aos_symbols::{
     ARGUMENT_COUNT, Breach, Env, Lookup, Meaning, NOT_BUILT, NOT_EXPORTED, READ_ONLY, Routine,
-    UNKNOWN, WRONG_CALL, WRONG_NEW, note,
+    Symbol, UNKNOWN, WRONG_NEW, note,
 };
 use aos_tree::{Desig, Expr, Selector};
 use aos_typed::{TPlace, TStat};
@@ -49,6 +48,9 @@ fn is_variable(held: &Held) -> bool
     match held {
         Held::Value(_) => true,
         Held::Stands(TPlace::ModuleVar(_, _)) => true,
+        Held::Stands(TPlace::Local(_)) => true,
+        Held::Stands(TPlace::Passed(_)) => true,
+        Held::Stands(TPlace::Of(_)) => false,
         Held::Stands(TPlace::Field(_, _, _)) => false,
         Held::Stands(TPlace::Index(_, _, _, _)) => false,
     }
@@ -183,61 +185,34 @@ fn routine_selectors(
     Ok(call)
 }
 
-/// A call of what can't be called, which begins at a place.
-fn no_call(found: &mut Option<Breach>, at: Pos, class: Class) -> Option<TStat>
-    ensures noted { found.new ≡ first_after found.old (judge.no_call at class).breaches }
-    ensures answer { option_map seen_stat result ≡ (judge.no_call at class).answer }
-{
-    match class {
-        Class::Unknown => None,
-        Class::Constant(_) => refused(found, WRONG_CALL, at),
-        Class::Variable => refused(found, WRONG_CALL, at),
-        Class::ReadOnly => refused(found, WRONG_CALL, at),
-        Class::Computed => refused(found, WRONG_CALL, at),
-    }
-}
-
-/// A call of what a designator is, which is no procedure.
-#[tactic(auto, using(aos_symbols::proofs::Keeping::after_more))]
-fn called_value(
-    alloc: Global,
-    found: &mut Option<Breach>,
-    env: &Env<'_>,
-    desig: &Desig,
-) -> Result<Option<TStat>, AllocError>
-    ensures noted { OnOk result (found.new ≡ first_after found.old
-        (bind (expression.designator env.now desig.now)
-        (λ a. judge.no_call desig.now.name.pos a.known.class)).breaches) }
-    ensures answer { IfOk result (λ s. option_map seen_stat s ≡
-        (bind (expression.designator env.now desig.now)
-        (λ a. judge.no_call desig.now.name.pos a.known.class)).answer) }
-{
-    let spot = designator(alloc, found, env, desig)?;
-    Ok(no_call(found, desig.name.pos, spot.known.class))
-}
-
 /// A call whose first name stands for this.
 fn called_meaning(
     alloc: Global,
     found: &mut Option<Breach>,
     env: &Env<'_>,
-    means: Meaning,
+    symbol: Symbol,
     desig: &Desig,
 ) -> Result<Option<TStat>, AllocError>
     ensures noted { OnOk result (found.new ≡
-        first_after found.old (judge.called_meaning env.now means desig.now).breaches) }
-    ensures answer { IfOk result
-        (λ s. option_map seen_stat s ≡ (judge.called_meaning env.now means desig.now).answer) }
+        first_after found.old (judge.called_meaning env.now symbol symbol.means desig.now).breaches) }
+    ensures answer { IfOk result (λ s. option_map seen_stat s ≡
+        (judge.called_meaning env.now symbol symbol.means desig.now).answer) }
 {
     let at = desig.name.pos;
     let selectors = desig.selectors.as_slice();
-    match means {
+    match symbol.means {
         Meaning::Out => out_selectors(alloc, found, env, at, selectors),
         Meaning::Routine(routine) => {
             routine_selectors(alloc, found, env, routine, at, selectors)
         },
         Meaning::Proper => Ok(not_yet(found, at)),
-        Meaning::Procedure(_) => Ok(not_yet(found, at)),
+        Meaning::Procedure(number) => {
+            performed(alloc, found, env, at, symbol, number, selectors)
+        },
+        Meaning::Module(_) => {
+            let head = plain(env, desig.name);
+            called_in_module(alloc, found, env, head, selectors, desig)
+        },
         _ => called_value(alloc, found, env, desig),
     }
 }
@@ -260,6 +235,6 @@ pub fn called(
     match env.lookup(desig.name) {
         Lookup::Unknown => Ok(refused(found, UNKNOWN, at)),
         Lookup::NotExported => Ok(refused(found, NOT_EXPORTED, at)),
-        Lookup::Found(symbol) => called_meaning(alloc, found, env, symbol.means, desig),
+        Lookup::Found(symbol) => called_meaning(alloc, found, env, symbol, desig),
     }
 }

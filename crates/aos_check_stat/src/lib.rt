@@ -6,6 +6,7 @@ mod calls;
 mod labels;
 mod loops;
 mod out;
+mod procedures;
 mod refusals;
 mod routines;
 mod statements;

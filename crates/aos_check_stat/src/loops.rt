@@ -6,7 +6,9 @@ ghost use Rattle.aos_symbols.specs.Breaches.{first_after};
 ghost use Rattle.aos_check_stat.specs.Bodies as judge;
 
 use aos_base::Pos;
-use aos_check_expr::{Class, expr, fits, is_number, type_of_literal};
+use aos_check_expr::{
+    Class, expr, fits, is_number, is_reached, place_of_variable, type_of_literal,
+};
 use aos_symbols::{
     Breach, Env, Lookup, Meaning, NOT_BUILT, NOT_EXPORTED, Symbol, UNKNOWN, WRONG_FOR, note,
 };
@@ -43,37 +45,46 @@ fn control_variable(
 }
 
 fn control_meant(
+    alloc: Global,
     found: &mut Option<Breach>,
     env: &Env<'_>,
     at: Pos,
     symbol: Symbol,
-) -> (TPlace, Option<TypeId>)
-    ensures noted { found.new ≡ first_after found.old
-        (judge.control_meant env.now at symbol symbol.means).breaches }
-    ensures answer { (seen_place result.0, result.1) ≡
-        (judge.control_meant env.now at symbol symbol.means).answer }
+) -> Result<(TPlace, Option<TypeId>), AllocError>
+    ensures noted { OnOk result (found.new ≡ first_after found.old
+        (judge.control_meant env.now at symbol symbol.means).breaches) }
+    ensures answer { IfOk result (λ r. (seen_place r.0, r.1) ≡
+        (judge.control_meant env.now at symbol symbol.means).answer) }
 {
     match symbol.means {
         Meaning::Variable(number) => {
-            if symbol.at.scope != 0 {
-                return lost(found, NOT_BUILT, at);
+            if !is_reached(env, symbol) {
+                return Ok(lost(found, NOT_BUILT, at));
             }
             let of = env.variable_type(symbol.at, number);
-            control_variable(found, at, TPlace::ModuleVar(symbol.at.home, number), of)
+            let place = place_of_variable(alloc, env, symbol, number)?;
+            Ok(control_variable(found, at, place, of))
         },
-        _ => lost(found, WRONG_FOR, at),
+        _ => Ok(lost(found, WRONG_FOR, at)),
     }
 }
 
-/// The variable of FOR, by its name, with its type: an integer variable of a module.
-pub fn control(found: &mut Option<Breach>, env: &Env<'_>, name: Name) -> (TPlace, Option<TypeId>)
-    ensures noted { found.new ≡ first_after found.old (judge.control env.now name).breaches }
-    ensures answer { (seen_place result.0, result.1) ≡ (judge.control env.now name).answer }
+/// The variable of FOR, by its name, with its type: an integer variable.
+pub fn control(
+    alloc: Global,
+    found: &mut Option<Breach>,
+    env: &Env<'_>,
+    name: Name,
+) -> Result<(TPlace, Option<TypeId>), AllocError>
+    ensures noted { OnOk result (found.new ≡
+        first_after found.old (judge.control env.now name).breaches) }
+    ensures answer { IfOk result (λ r.
+        (seen_place r.0, r.1) ≡ (judge.control env.now name).answer) }
 {
     match env.lookup(name) {
-        Lookup::Unknown => lost(found, UNKNOWN, name.pos),
-        Lookup::NotExported => lost(found, NOT_EXPORTED, name.pos),
-        Lookup::Found(symbol) => control_meant(found, env, name.pos, symbol),
+        Lookup::Unknown => Ok(lost(found, UNKNOWN, name.pos)),
+        Lookup::NotExported => Ok(lost(found, NOT_EXPORTED, name.pos)),
+        Lookup::Found(symbol) => control_meant(alloc, found, env, name.pos, symbol),
     }
 }
 

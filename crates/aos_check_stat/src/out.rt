@@ -8,7 +8,7 @@ ghost use Rattle.aos_check_stat.specs.Bodies as judge;
 use crate::refusals::{arguments, behind_arguments, refuse_behind, refused};
 use crate::texts::text_argument;
 use aos_base::Pos;
-use aos_check_expr::{char_argument, number_argument, text_place};
+use aos_check_expr::{char_argument, number_argument, text_rows};
 use aos_symbols::{ARGUMENT_COUNT, Breach, Env, OTHER_KIND, UNKNOWN, is_word};
 use aos_tree::{Expr, Name, Selector};
 use aos_typed::{OutCall, TStat};
@@ -78,8 +78,8 @@ fn string_call(
     match arguments {
         [text] => {
             let text = text_argument(alloc, found, env, text)?;
-            let (place, elements) = text_place(env, text)?;
-            Ok(Some(TStat::Out(at, OutCall::String(place, elements))))
+            let rows = text_rows(alloc, env, text)?;
+            Ok(Some(TStat::Out(at, OutCall::String(rows))))
         },
         _ => Ok(refused(found, ARGUMENT_COUNT, at)),
     }

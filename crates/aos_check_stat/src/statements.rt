@@ -15,8 +15,9 @@ ghost use Rattle.aos_check_stat.specs.Listed.{onto};
 use crate::calls::called;
 use crate::labels::{Labels, labels_in, selector};
 use crate::loops::{control, fitting, step_of};
+use crate::procedures::return_of;
 use crate::refusals::{not_yet, refuse_modifiers, refused};
-use crate::texts::{put_text, text_for, value_fits};
+use crate::texts::{put_text, text_to, value_fits};
 use aos_base::Pos;
 use aos_check_expr::{
     Answer, Spot, condition, designator, expr, has_parts, place_in, place_of, refuse_assigned,
@@ -40,12 +41,18 @@ fn refuse_unfit(found: &mut Option<Breach>, env: &Env<'_>, at: Pos, spot: &Spot,
 
 /// The assignment of a value, which begins at a place: a string constant is put in an array of characters, and a whole record or
 /// array is copied.
-fn assigned_stat(env: &Env<'_>, first: Pos, spot: Spot, value: Answer) -> Result<TStat, AllocError>
+fn assigned_stat(
+    alloc: Global,
+    env: &Env<'_>,
+    first: Pos,
+    spot: Spot,
+    value: Answer,
+) -> Result<TStat, AllocError>
     ensures { IfOk result (λ s. seen_stat s ≡
         judge.assigned_stat env.now first (seen_spot spot) (seen_answer value)) }
 {
-    if text_for(env, &spot, &value).is_some() {
-        return put_text(env, first, true, value, spot);
+    if text_to(env, &spot, &value).is_some() {
+        return put_text(alloc, env, first, true, value, spot);
     }
     let of = type_of(spot.known.of);
     if let Some(known) = spot.known.of {
@@ -76,7 +83,7 @@ fn assign(
     refuse_assigned(found, env, first, &spot);
     let value = expr(alloc, found, env, value)?;
     refuse_unfit(found, env, at, &spot, &value);
-    Ok(Some(assigned_stat(env, first, spot, value)?))
+    Ok(Some(assigned_stat(alloc, env, first, spot, value)?))
 }
 
 /// Puts a statement behind those before it, if it is one.
@@ -123,7 +130,7 @@ fn stat_of(
         Stat::Call(desig) => called(alloc, found, env, desig),
         Stat::Block(block) => block_of(alloc, found, env, in_loop, block),
         Stat::Exit(at) => Ok(exit_of(found, in_loop, *at)),
-        Stat::Return(at, _) => Ok(not_yet(found, *at)),
+        Stat::Return(at, value) => return_of(alloc, found, env, *at, value),
         Stat::Await(at, _) => Ok(not_yet(found, *at)),
         Stat::If(at, test, body, arms, last) => {
             let first = arm_of(alloc, found, env, in_loop, body, test)?;
@@ -352,7 +359,7 @@ fn for_of(
     ensures answer { IfOk result (λ s. option_map seen_stat s ≡
         (listed.for_of env.now in_loop at name assigned from.now to.now by.now body.now.stats).answer) }
 {
-    let (place, of) = control(found, env, name);
+    let (place, of) = control(alloc, found, env, name)?;
     let from = fitting(alloc, found, env, of, UNFIT, assigned, from)?;
     let to = fitting(alloc, found, env, of, WRONG_FOR, name.pos, to)?;
     let step = step_of(alloc, found, env, name.pos, of, by)?;

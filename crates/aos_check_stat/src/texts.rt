@@ -12,46 +12,35 @@ ghost use Rattle.aos_check_stat.specs.Bodies as judge;
 use crate::refusals::refused;
 use aos_base::Pos;
 use aos_check_expr::{
-    Answer, Known, Spot, desig_alone, designator, expr, fits, is_characters, length_of,
-    may_be_text, place_of, refuse_written, string_in, text_place,
+    Answer, Known, Spot, array_rows, desig_alone, designator, expr, fits, has_room, is_characters,
+    is_opening, may_be_text, place_of, refuse_written, text_for, text_rows,
 };
 use aos_symbols::{ARGUMENT_COUNT, ARGUMENT_TYPE, Breach, Env, NO_VARIABLE, note};
 use aos_tree::{Desig, Expr};
 use aos_typed::{TStat, TextConstant};
-use aos_types::TypeId;
 use std::alloc::{AllocError, Global};
 
-/// How many elements an array has.
-fn room(env: &Env<'_>, of: Option<TypeId>) -> u32
-    ensures { result ≡ judge.room env.now of }
-{
-    length_of(env, of, 0).unwrap_or(0)
-}
-
 /// The string constant that is stored in an array of characters.
-pub fn text_for(env: &Env<'_>, spot: &Spot, value: &Answer) -> Option<TextConstant>
-    ensures { result ≡ judge.text_for env.now (seen_spot spot.now) (seen_answer value.now) }
+pub fn text_to(env: &Env<'_>, spot: &Spot, value: &Answer) -> Option<TextConstant>
+    ensures { result ≡ judge.text_to env.now (seen_spot spot.now) (seen_answer value.now) }
 {
-    if is_characters(env, spot.known) {
-        string_in(env, value.known.class)
-    } else {
-        None
-    }
+    text_for(env, spot.known, value.known.class)
 }
 
-/// Whether a value fits a variable: a string constant fits where there is room for its 0X.
+/// Whether a value fits a variable: a string constant fits where there is room for its 0X, and no other value fits an open array.
 pub fn value_fits(env: &Env<'_>, spot: &Spot, value: &Answer) -> bool
     ensures { result ≡ judge.value_fits env.now (seen_spot spot.now) (seen_answer value.now)
-        (judge.text_for env.now (seen_spot spot.now) (seen_answer value.now)) }
+        (judge.text_to env.now (seen_spot spot.now) (seen_answer value.now)) }
 {
-    match text_for(env, spot, value) {
-        Some(text) => env.characters(text).len() < room(env, spot.known.of) as usize,
-        None => fits(value.known.of, spot.known.of),
+    match text_to(env, spot, value) {
+        Some(text) => has_room(env, spot.known.of, text),
+        None => fits(value.known.of, spot.known.of) && !is_opening(env, spot.known.of),
     }
 }
 
 /// The text of a part is put in an array of characters.
 pub fn put_text(
+    alloc: Global,
     env: &Env<'_>,
     at: Pos,
     strict: bool,
@@ -61,9 +50,9 @@ pub fn put_text(
     ensures { IfOk result (λ s. seen_stat s ≡
         judge.put_text env.now at strict (seen_answer value) (seen_spot spot)) }
 {
-    let (from, elements) = text_place(env, value)?;
-    let room = room(env, spot.known.of);
-    Ok(TStat::PutText(at, strict, from, elements, place_of(spot.held), room))
+    let from = text_rows(alloc, env, value)?;
+    let to = array_rows(alloc, env, 1, spot.known.of, place_of(spot.held))?;
+    Ok(TStat::PutText(at, strict, from, to))
 }
 
 /// An argument that must be a text.
@@ -100,6 +89,7 @@ fn may_be_characters(env: &Env<'_>, known: Known) -> bool
 /// that may be written.
 #[tactic(auto, using(aos_symbols::proofs::Keeping::after_more))]
 fn copied(
+    alloc: Global,
     found: &mut Option<Breach>,
     env: &Env<'_>,
     at: Pos,
@@ -116,7 +106,7 @@ fn copied(
     if !may_be_characters(env, spot.known) {
         note(found, ARGUMENT_TYPE, second);
     }
-    Ok(Some(put_text(env, at, false, value, spot)?))
+    Ok(Some(put_text(alloc, env, at, false, value, spot)?))
 }
 
 /// COPY to an argument, which is a designator or not, in a call that begins at a place.
@@ -141,7 +131,7 @@ fn copied_to(
         return Ok(refused(found, NO_VARIABLE, second));
     };
     let spot = designator(alloc, found, env, variable)?;
-    copied(found, env, at, value, second, spot)
+    copied(alloc, found, env, at, value, second, spot)
 }
 
 /// COPY of these arguments, in a call that begins at a place.

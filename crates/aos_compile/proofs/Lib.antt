@@ -8,6 +8,7 @@ pub mod TypingPrograms
 pub mod TypingScopes
 pub mod TypingTypes
 pub mod TypingProcedures
+pub mod TypingLocals
 pub mod TypingScalars
 pub mod TypingFields
 pub mod TypingModules

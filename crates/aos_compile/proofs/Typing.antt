@@ -39,8 +39,8 @@ module _ (ss : List Source) where
 
 -- all that is typed of a program
 pub record TypedWell (p : Program) : Type 0 where
-  pub bodies : All (λ m. AreStatements p m.body) p.modules
-  pub objects : All (λ o. AreStatements p o.body) p.objects
+  pub bodies : All (λ m. AreStatements p None m.body) p.modules
+  pub objects : All (λ o. AreStatements p None o.body) p.objects
   pub homes : All (λ o. o.home < length p.modules) p.objects
   pub types : AreTypes p.types
   pub texts : All (λ m. All (λ t. All (λ c. c < 256) t) m.texts) p.modules
@@ -89,8 +89,8 @@ module _ (w : World) (sound : IsWorld w) where
 
   world_typed : TypedWell (program_of w)
   world_typed = record {
-    bodies = all_of (λ m. AreStatements (program_of w) m.body) w.modules sound.bodies;
-    objects = all_of (λ o. AreStatements (program_of w) o.body) w.objects sound.objects;
+    bodies = all_of (λ m. AreStatements (program_of w) None m.body) w.modules sound.bodies;
+    objects = all_of (λ o. AreStatements (program_of w) None o.body) w.objects sound.objects;
     homes = all_of (λ o. o.home < length w.modules) w.objects sound.places;
     types = sound.table.sound;
     texts = all_of HasCodes w.modules (codes_of_homes w.before w.modules sound.homes);

@@ -1,8 +1,8 @@
 -- One module more: where those before it are well typed and it breaks no rule, all are well typed.
-use Rattle.std.proofs.Common.{◌≡◌, ℕ, zero, suc, ◌+◌, ◌<◌, ◌≤◌, ◌==◌, List, [], ◌∷◌, ◌++◌, length, map, Bool, true, false, All, Option, Some, None, option_map, option_and_then, slice_get, zip, sum_by, refl, sym, ap, ◌∙◌, subst, arith, eqb-true, length-append, if◌then◌else◌}
+use Rattle.std.proofs.Common.{◌≡◌, ℕ, zero, suc, ◌+◌, ◌-◌, ◌<◌, ◌≤◌, ◌==◌, ◌⊎◌, inl, inr, nat_lt, List, [], ◌∷◌, ◌++◌, length, map, Bool, true, false, All, is_some, Option, Some, None, option_map, option_and_then, slice_get, zip, sum_by, refl, sym, ap, ◌∙◌, subst, arith, eqb-true, eq-eqb, lt-ltb, le-ltb, append_assoc, append-nil, length-append, if◌then◌else◌}
 use Rattle.std.specs.List.{flat_map}
 use Rattle.std.proofs.lemmas.List.{length-map}
-use Rattle.std.proofs.lemmas.List.Elements.{All-weaker}
+use Rattle.std.proofs.lemmas.List.Elements.{All-weaker, All-head, All-tail}
 use Rattle.std.proofs.lemmas.Option.{none-some, same_Some, slice_get-map, slice_get_within}
 use Rattle.aos_base.specs.declared.text.Pos.{Pos}
 use Rattle.aos_tree.specs.declared.stat.Block.{Block}
@@ -14,39 +14,47 @@ use Rattle.aos_types.specs.declared.TheConstants.{MOST_SCALARS}
 use Rattle.aos_types.specs.declared.row.Basic.TheVariants.{Text}
 use Rattle.aos_types.specs.declared.row.TypeRow.{TypeRow}
 use Rattle.aos_types.specs.declared.row.TypeRow.TheVariants as row
-use Rattle.aos_typed.specs.Program.{ModuleVar, Stat, Stats, ObjectType, Module, Program}
-use Rattle.aos_typed.specs.WellTyped.{AreStatements, IsProcedure}
+use Rattle.aos_typed.specs.Program.{ModuleVar, Stat, Stats, Procedure as TypedProcedure, ObjectType, Module, Program}
+use Rattle.aos_typed.specs.WellTyped.{procedure_in, AreStatements, IsProcedure}
 use Rattle.aos_symbols.specs.declared.scope.Entry.{Entry}
 use Rattle.aos_symbols.specs.declared.scope.Meaning.TheVariants as means
+use Rattle.aos_symbols.specs.declared.home.Signature.{Signature}
 use Rattle.aos_symbols.specs.declared.env.Open.{Open}
 use Rattle.aos_symbols.specs.declared.env.Env.{Env}
 use Rattle.aos_symbols.specs.Judged.{judged, kept, bind, walk}
 use Rattle.aos_symbols.specs.Outcome.{went, passed}
 use Rattle.aos_symbols.specs.Outcome as outcome
-use Rattle.aos_symbols.specs.Declarations.{Procedure, procedures, type_defs, all_type_defs, single_variables}
+use Rattle.aos_symbols.specs.Declarations.{Procedure, procedures, type_defs, all_type_defs, single_variables, formal_names}
 use Rattle.aos_symbols.specs.Scope.{Scope, find}
-use Rattle.aos_symbols.specs.Home.{Home, texts_of}
+use Rattle.aos_symbols.specs.Home.{Home, texts_of, signature_in}
+use Rattle.aos_symbols.specs.Entries.{procedure_scope}
 use Rattle.aos_symbols.specs.Names.{name_breaches}
 use Rattle.aos_symbols.specs.Env as env
 use Rattle.aos_symbols.proofs.Each.{Each, all_of, joined, implied, each_at}
 use Rattle.aos_symbols.proofs.Holds.{Holds, holds_bind, holds_walk, passed_went, then_went, same_went}
 use Rattle.aos_symbols.proofs.Told.{IsKnown, GoOn, known_on, get_front, get_end, PartsAreTold, FieldsAgree}
 use Rattle.aos_check_expr.specs.Known.{type_of}
-use Rattle.aos_check_expr.proofs.Typing.{IsTyped, IsWhole}
+use Rattle.aos_check_expr.specs.Designators as desig
+use Rattle.aos_check_expr.proofs.Inside.{Inside}
+use Rattle.aos_check_expr.proofs.Opens.{OpensStand, some_there, stand_fall}
+use Rattle.aos_check_expr.proofs.Sound.{not_both}
+use Rattle.aos_check_expr.proofs.Spots.{IsTyped, closed, IsSigned, IsSearched, IsWhole, opens_told}
 use Rattle.aos_check_decl.specs.Pass.{declare}
-use Rattle.aos_check_decl.proofs.Typing.{AreGood, AreReady, IsReady, variable_cells, IsDeclared, declare_sound}
+use Rattle.aos_check_decl.proofs.Typing.{AreGood, AreReady, IsReady, variable_cells, IsHeading, HasHeading, IsDeclared, declare_sound}
 use Rattle.aos_check_stat.specs.Bodies.{listed, body_of}
 use Rattle.aos_check_stat.proofs.Typing.{body_sound}
-use Rattle.aos_compile.specs.Modules.{World, no_modules, program_of, object_body, object_in, local_type, unnamed_type, other_types, bodies_from, first_scope, Bodies, bodies, variables_of, variable_of, module_of, extended, elaborated, spelling}
-use Rattle.aos_compile.proofs.TypingPrograms.{Grows, grown, statements_grow}
-use Rattle.aos_compile.proofs.TypingScopes.{variables_are}
-use Rattle.aos_compile.proofs.TypingTypes.{RowsStay, some_at, basic_ready}
+use Rattle.aos_compile.specs.Modules.{World, no_modules, program_of, object_body, object_in, local_type, unnamed_type, other_types, bodies_from, first_scope, Bodies, bodies, variables_of, variable_of, procedure_of, module_of, extended, elaborated, spelling}
+use Rattle.aos_compile.proofs.TypingPrograms.{HaveTypes, Grows, grown, body_grows}
+use Rattle.aos_compile.proofs.TypingScopes.{variables_are, locals_are, procedure_at}
+use Rattle.aos_compile.proofs.TypingTypes.{RowsStay, longer as more_rows, basic_ready}
 use Rattle.aos_compile.proofs.TypingScalars.{sum_stays}
 use Rattle.aos_compile.proofs.TypingFields.{fields_told, fields_on}
-use Rattle.aos_compile.proofs.TypingProcedures.{HaveHeadings, procedures_typed, procedure_grows}
+use Rattle.aos_compile.proofs.TypingProcedures.{HaveHeadings, AreBodies as AreProcedureBodies, procedures_typed, procedure_grows, IsSignature, heading_signature, signed, signature_on, signatures_are}
+use Rattle.aos_compile.proofs.TypingLocals.{types_beside, own_typed}
 
 -- A module that breaks no rule, and what it declares: each type that its scope names is told, each variable of its scope has a
--- type, and the program's module has these, and the string constants of its text; each constant has a good value.
+-- type, and the program's module has these, the string constants of its text, and a procedure for each signature; each constant has a
+-- good value.
 pub record IsHome (types : List TypeRow) (h : Home) (m : Module) : Type 0 where
   pub scope : Scope
   pub is : slice_get h.scopes 0 ≡ Some scope
@@ -58,6 +66,8 @@ pub record IsHome (types : List TypeRow) (h : Home) (m : Module) : Type 0 where
   pub few : sum_by (variable_cells types) scope.variables ≤ MOST_SCALARS
   pub fields : FieldsAgree types h
   pub good : (k : ℕ) (s : Scope) → slice_get h.scopes k ≡ Some s → AreGood s.constants
+  pub procedures : (k : ℕ) (s : Signature) → slice_get h.signatures k ≡ Some s →
+      (q : TypedProcedure) × (slice_get m.procedures k ≡ Some q) × IsSignature types s q
 
 abbrev pub AreHomes : List TypeRow → List Home → List Module → Type 0
 AreHomes types [] [] = Unit {0}
@@ -68,8 +78,8 @@ AreHomes types (h ∷ hs) (m ∷ ms) = IsHome types h m × AreHomes types hs ms
 pub record IsWorld (w : World) : Type 0 where
   pub homes : AreHomes w.types w.before w.modules
   pub count : length w.types ≡ 10 + length w.objects
-  pub bodies : Each (λ m. AreStatements (program_of w) m.body) w.modules
-  pub objects : Each (λ o. AreStatements (program_of w) o.body) w.objects
+  pub bodies : Each (λ m. AreStatements (program_of w) None m.body) w.modules
+  pub objects : Each (λ o. AreStatements (program_of w) None o.body) w.objects
   pub places : Each (λ o. o.home < length w.modules) w.objects
   pub table : AreReady w.types
   pub procedures : Each (λ m. All (IsProcedure (program_of w)) m.procedures) w.modules
@@ -84,6 +94,11 @@ no_world = record {
   table = basic_ready;
   procedures = tt;
 }
+
+all_at : {X : Type 0} (P : X → Type 0) (xs : List X) (i : ℕ) (x : X) → All P xs → slice_get xs i ≡ Some x → P x
+all_at P [] i x all e = absurd (none-some x e)
+all_at P (y ∷ ys) zero x all e = subst P (same_Some y x e) (All-head P y ys all)
+all_at P (y ∷ ys) (suc i) x all e = all_at P ys i x (All-tail P y ys all) e
 
 -- Homes beside their modules.
 
@@ -126,6 +141,7 @@ module _ (ts us : List TypeRow) (old : AreReady ts) (new : AreReady us) (on : Go
         (sym (sum_stays ts us ten old.closed stay old.sound.none_contains_itself new.sound.none_contains_itself is.scope.variables is.known)) is.few;
     fields = fields_on ts us stay h is.fields;
     good = is.good;
+    procedures = λ k s there. let q = is.procedures k s there in (q.0, q.1, signature_on ts us (more_rows ts us stay) s q.0 q.2);
   }
 
   homes_on : (hs : List Home) (ms : List Module) → AreHomes ts hs ms → AreHomes us hs ms
@@ -139,10 +155,19 @@ module _ (ts us : List TypeRow) (old : AreReady ts) (new : AreReady us) (on : Go
 no_scope : {A : Type 0} {x : A} → None ≡ Some x → ⊥
 no_scope e = cc
 
-whole : (p : Program) (e : Env) (hs : List Home) → AreHomes e.types hs p.modules → ((m : ℕ) (h : Home) → env.home e m ≡ Some h → slice_get hs m ≡ Some h) →
-    PartsAreTold e.types → FieldsAgree e.types e.here → ((m : ℕ) (h : Home) → slice_get e.before m ≡ Some h → FieldsAgree e.types h) →
-    p.types ≡ e.types → length e.types ≡ 10 + length p.objects → ((k : ℕ) → k < 10 → slice_get e.types k ≡ slice_get env.basic_rows k) → IsWhole p e
-whole p e hs are at parts here before rows count basic = record {
+-- the place of a body: which scopes are searched there, and what is its own
+pub record IsPlaced (p : Inside) (e : Env) : Type 0 where
+  pub path : Each (IsSearched e) e.path
+  pub locals : (s : Scope) (w : List ℕ) (x : Entry) (k : ℕ) → is_some (env.own_signature e) ≡ true →
+      let o : Open = record { home = e.number; scope = env.innermost e.path } in
+      env.scope e o ≡ Some s → find s w ≡ Some x → x.means ≡ means.Variable k → IsTyped p e (desig.own_place e k) (env.variable_type e o k)
+  pub own : (s : Signature) → env.own_signature e ≡ Some s → (q : TypedProcedure) × (p.own ≡ Some q) × IsSigned e s q
+  pub own_body : env.own_signature e ≡ None → p.own ≡ None
+
+whole : (p : Inside) (e : Env) (hs : List Home) → AreHomes e.types hs p.program.modules → ((m : ℕ) (h : Home) → env.home e m ≡ Some h → slice_get hs m ≡ Some h) →
+    PartsAreTold e.types → OpensStand e.types → FieldsAgree e.types e.here → ((m : ℕ) (h : Home) → slice_get e.before m ≡ Some h → FieldsAgree e.types h) →
+    p.program.types ≡ e.types → length e.types ≡ 10 + length p.program.objects → ((k : ℕ) → k < 10 → slice_get e.types k ≡ slice_get env.basic_rows k) → IsPlaced p e → IsWhole p e
+whole p e hs are at parts stand here before rows count basic placed = record {
   variables = λ o s w x k first there found means. by_home o s w x k first found means there (env.home e o.home) refl there;
   constants = λ o s there. by_scope o s (env.home e o.home) refl there;
   parts = parts;
@@ -150,7 +175,13 @@ whole p e hs are at parts here before rows count basic = record {
   rows = rows;
   objects = count;
   basic = basic;
-  strings = λ m h there. let one = home_at e.types hs p.modules are m h (at m h there) in (one.0, one.1, counted m h one.0 there one.2, one.2.texts);
+  opens = opens_told e stand;
+  path = placed.path;
+  locals = placed.locals;
+  own = placed.own;
+  own_body = placed.own_body;
+  signatures = λ m k s is. by_signature m k s (env.home e m) refl is;
+  strings = λ m h there. let one = home_at e.types hs p.program.modules are m h (at m h there) in (one.0, one.1, counted m h one.0 there one.2, one.2.texts);
 }
   where
     counted : (m : ℕ) (h : Home) (x : Module) → env.home e m ≡ Some h → IsHome e.types h x → length x.variables ≡ env.variable_count e m
@@ -158,102 +189,252 @@ whole p e hs are at parts here before rows count basic = record {
         let scoped : env.scope e (env.own m) ≡ Some is.scope = ap (option_and_then (λ (h : Home). slice_get h.scopes 0)) there ∙ is.is in
         rw scoped (sym (length-map x.variables (λ v. v.of)) ∙ ap length is.typed ∙ length-map is.scope.variables type_of)
 
+    by_signature : (m k : ℕ) (s : Signature) (h : Option Home) → env.home e m ≡ h → option_and_then (λ h. slice_get h.signatures k) h ≡ Some s →
+        (q : TypedProcedure) × (procedure_in p.program m k ≡ Some q) × IsSigned e s q
+    by_signature m k s None home is = absurd (no_scope is)
+    by_signature m k s (Some h) home is =
+        let one = home_at e.types hs p.program.modules are m h (at m h home) in
+        let q = one.2.procedures k s is in
+        (q.0, ap (option_and_then (λ (x : Module). slice_get x.procedures k)) one.1 ∙ q.1, signed e s q.0 q.2)
+
     by_scope : (o : Open) (s : Scope) (h : Option Home) → env.home e o.home ≡ h → option_and_then (λ h. slice_get h.scopes o.scope) h ≡ Some s → AreGood s.constants
     by_scope o s None home there = absurd (no_scope there)
-    by_scope o s (Some h) home there = (home_at e.types hs p.modules are o.home h (at o.home h home)).2.good o.scope s there
+    by_scope o s (Some h) home there = (home_at e.types hs p.program.modules are o.home h (at o.home h home)).2.good o.scope s there
 
     by_home : (o : Open) (s : Scope) (w : List ℕ) (x : Entry) (k : ℕ) → o.scope ≡ 0 → find s w ≡ Some x → x.means ≡ means.Variable k → env.scope e o ≡ Some s →
         (h : Option Home) → env.home e o.home ≡ h → option_and_then (λ h. slice_get h.scopes o.scope) h ≡ Some s → IsTyped p e (ModuleVar o.home k) (env.variable_type e o k)
     by_home o s w x k first found means there None home here = absurd (no_scope here)
     by_home o s w x k first found means there (Some h) home here =
-        let one = home_at e.types hs p.modules are o.home h (at o.home h home) in
+        let one = home_at e.types hs p.program.modules are o.home h (at o.home h home) in
         let same : one.2.scope ≡ s = same_Some one.2.scope s (sym one.2.is ∙ ap (slice_get h.scopes) (sym first) ∙ here) in
         let below : k < length s.variables =
         subst (λ (z : Scope). k < length z.variables) same (one.2.numbers w x k (ap (λ z. find z w) same ∙ found) means) in
-        let of = some_at s.variables k below in
+        let of = some_there s.variables k below in
         let is : env.variable_type e o k ≡ of.0 = ap (λ z. env.joined (option_and_then (λ s. slice_get s.variables k) z)) there ∙ ap env.joined of.1 in
-        record {
-          typed =
-              ap (λ z. option_and_then (λ x. option_map (λ v. v.of) (slice_get x.variables k)) z) one.1
-              ∙ sym (slice_get-map (λ v. v.of) one.0.variables k)
-              ∙ ap (λ z. slice_get z k) (one.2.typed ∙ ap (λ (z : Scope). map type_of z.variables) same)
-              ∙ slice_get-map type_of s.variables k
-              ∙ ap (option_map type_of) of.1
-              ∙ ap (λ z. Some (type_of z)) (sym is);
-          known = subst (IsKnown e.types) (sym is)
-              (each_at (IsKnown e.types) s.variables k of.0 (subst (λ (z : Scope). Each (IsKnown e.types) z.variables) same one.2.known) of.1);
-        }
+        closed
+        (ap (λ z. option_and_then (λ x. option_map (λ v. v.of) (slice_get x.variables k)) z) one.1
+        ∙ sym (slice_get-map (λ v. v.of) one.0.variables k)
+        ∙ ap (λ z. slice_get z k) (one.2.typed ∙ ap (λ (z : Scope). map type_of z.variables) same)
+        ∙ slice_get-map type_of s.variables k
+        ∙ ap (option_map type_of) of.1
+        ∙ ap (λ z. Some (type_of z)) (sym is))
+        (subst (IsKnown e.types) (sym is)
+        (each_at (IsKnown e.types) s.variables k of.0 (subst (λ (z : Scope). Each (IsKnown e.types) z.variables) same one.2.known) of.1))
 
 -- Bodies.
 
-module _ (p : Program) (e : Env) (is_whole : IsWhole p e) where
-  inside : (k : ℕ) → IsWhole p (env.within e k)
-  inside k = record {
-    variables = λ o s w x n own there found means. let is = is_whole.variables o s w x n own there found means in record { typed = is.typed; known = is.known };
-    constants = λ o s there. is_whole.constants o s there;
-    parts = is_whole.parts;
-    fields = λ t n f ts found is. is_whole.fields t n f ts found is;
-    rows = is_whole.rows;
-    objects = is_whole.objects;
-    basic = is_whole.basic;
-    strings = λ m h there. is_whole.strings m h there;
+module _ (program : Program) (e : Env) (m : Tree) (begins : RowsStay env.basic_rows program.types)
+    (everywhere : (own : Option TypedProcedure) (path : List Open) → IsPlaced (record { program = program; own = own }) (env.back_at path e) →
+    IsWhole (record { program = program; own = own }) (env.back_at path e))
+    (path_is : e.path ≡ env.own e.number ∷ []) (first_is : e.here.first ≡ first_scope m)
+    (headings : (j : ℕ) (q : Procedure) → slice_get (procedures m.decls) j ≡ Some q → HasHeading m e j q)
+    (below : (j : ℕ) (q : Procedure) → slice_get (procedures m.decls) j ≡ Some q → (s : Scope) → slice_get e.here.scopes (first_scope m + j) ≡ Some s →
+    (w : List ℕ) (x : Entry) (k : ℕ) → find s w ≡ Some x → x.means ≡ means.Variable k → k < length s.variables) where
+  abbrev outside : Inside
+  outside = record { program = program; own = None }
+
+  -- the module's body, and those of its objects, are no procedure's
+  none_placed : (path : List Open) → Each (IsSearched (env.back_at path e)) path → env.own_signature (env.back_at path e) ≡ None → IsPlaced outside (env.back_at path e)
+  none_placed path searched none = record {
+    path = searched;
+    locals = λ s w x k some there found means. absurd (not_both (sym some ∙ ap is_some none));
+    own = λ s is. absurd (none-some s (sym none ∙ is));
+    own_body = λ is. refl;
   }
 
-  abbrev IsBody : List Stat → Type 0
-  IsBody ss = AreStatements p (listed ss)
+  own_searched : (f : Env) → Each (IsSearched f) (env.own e.number ∷ [])
+  own_searched f = (inl refl, tt)
 
-  inside_sound : (k : ℕ) (may_be_active : Bool) (b : Option Block) → Holds IsBody (body_of (env.within e k) may_be_active b)
-  inside_sound k may_be_active b = body_sound p (env.within e k) (inside k) may_be_active b
+  no_signature : (k : ℕ) → k < first_scope m → signature_in e.here k ≡ None
+  no_signature k less =
+      ap (λ n. if nat_lt k n then None else slice_get e.here.signatures (k - n)) first_is
+      ∙ ap (λ b. if b then None else slice_get e.here.signatures (k - first_scope m)) (lt-ltb k (first_scope m) less)
+
+  pub base : IsWhole outside e
+  base =
+      everywhere None e.path
+      (none_placed e.path (subst (Each (IsSearched e)) (sym path_is) (own_searched e)) (ap (λ os. signature_in e.here (env.innermost os)) path_is ∙ no_signature 0 (omega arith)))
+
+  abbrev deeper : ℕ → List Open
+  deeper k = record { home = e.number; scope = k } ∷ e.path
+
+  deeper_searched : (k : ℕ) → Each (IsSearched (env.within e k)) (deeper k)
+  deeper_searched k = (inr (refl, refl), subst (Each (IsSearched (env.within e k))) (sym path_is) (own_searched (env.within e k)))
+
+  abbrev IsBody : List Stat → Type 0
+  IsBody ss = AreStatements program None (listed ss)
+
+  inside_sound : (k : ℕ) → k < first_scope m → (may_be_active : Bool) (b : Option Block) → Holds IsBody (body_of (env.within e k) may_be_active b)
+  inside_sound k less may_be_active b =
+      body_sound outside (env.within e k) (everywhere None (deeper k) (none_placed (deeper k) (deeper_searched k) (no_signature k less))) may_be_active b
 
   abbrev AreObjects : List ObjectType → Type 0
-  AreObjects os = Each (λ o. AreStatements p o.body) os × Each (λ o. o.home ≡ e.number) os
+  AreObjects os = Each (λ o. AreStatements program None o.body) os × Each (λ o. o.home ≡ e.number) os
 
   both : (os qs : List ObjectType) → AreObjects os → AreObjects qs → AreObjects (os ++ qs)
-  both os qs are also = (joined (λ o. AreStatements p o.body) os qs are.0 also.0, joined (λ o. o.home ≡ e.number) os qs are.1 also.1)
+  both os qs are also = (joined (λ o. AreStatements program None o.body) os qs are.0 also.0, joined (λ o. o.home ≡ e.number) os qs are.1 also.1)
 
-  object_in_sound : (os : List ObjectType) (d : TypeDef) → AreObjects os → Holds AreObjects (object_in e os d)
-  object_in_sound os d are =
+  -- one more, whose scope is that of a type
+  abbrev IsOneMore : List ObjectType → List ObjectType → Type 0
+  IsOneMore os qs = AreObjects qs × (length qs ≡ suc (length os))
+
+  object_in_sound : (os : List ObjectType) (d : TypeDef) → length os < length (type_defs m.decls) → AreObjects os → Holds (IsOneMore os) (object_in e os d)
+  object_in_sound os d few are =
       let k = suc (length os) in
       let named = λ (ss : List Stat). let o : ObjectType = record { name = spelling e.here.text d.def.name; home = e.number; body = listed ss } in o in
-      holds_bind IsBody AreObjects (body_of (env.within e k) true (object_body d.value)) (λ ss. kept (os ++ named ss ∷ []))
-      (inside_sound k true (object_body d.value)) (λ ss is h. both os (named ss ∷ []) are ((is, tt), (refl, tt)))
+      holds_bind IsBody (IsOneMore os) (body_of (env.within e k) true (object_body d.value)) (λ ss. kept (os ++ named ss ∷ []))
+      (inside_sound k (omega (arith, few)) true (object_body d.value))
+      (λ ss is h. (both os (named ss ∷ []) are ((is, tt), (refl, tt)), let long = length-append os (named ss ∷ []) in omega (arith, long)))
 
-  locals_are : (ds : List TypeDef) → AreObjects (map (local_type e) ds)
-  locals_are [] = (tt, tt)
-  locals_are (d ∷ ds) = let more = locals_are ds in ((tt, more.0), (refl, more.1))
+  objects_sound : (ds : List TypeDef) (os : List ObjectType) → length os + length ds ≤ length (type_defs m.decls) → AreObjects os → Holds AreObjects (walk (object_in e) os ds)
+  objects_sound [] os few are = λ h. are
+  objects_sound (d ∷ ds) os few are =
+      holds_bind (IsOneMore os) AreObjects (object_in e os d) (λ qs. walk (object_in e) qs ds) (object_in_sound os d (omega (arith, few)) are)
+      (λ qs more. let long = more.1 in objects_sound ds qs (omega (arith, few, long)) more.0)
+
+  locals_are_objects : (ds : List TypeDef) → AreObjects (map (local_type e) ds)
+  locals_are_objects [] = (tt, tt)
+  locals_are_objects (d ∷ ds) = let more = locals_are_objects ds in ((tt, more.0), (refl, more.1))
 
   unnamed_are : (ats : List Pos) → AreObjects (map (unnamed_type e) ats)
   unnamed_are [] = (tt, tt)
   unnamed_are (at ∷ ats) = let more = unnamed_are ats in ((tt, more.0), (refl, more.1))
 
-  others_are : (m : Tree) → AreObjects (other_types e m)
-  others_are m =
+  others_are : AreObjects (other_types e m)
+  others_are =
       let ds = flat_map (λ p. type_defs p.decls) (procedures m.decls) in
-      both (map (local_type e) ds) (map (unnamed_type e) e.places) (locals_are ds) (unnamed_are e.places)
+      both (map (local_type e) ds) (map (unnamed_type e) e.places) (locals_are_objects ds) (unnamed_are e.places)
 
-  procedures_sound : (qs : List Procedure) (k : ℕ) (done : List Stats) → Each (AreStatements p) done → Holds (Each (AreStatements p)) (bodies_from e k done qs)
-  procedures_sound [] k done are = λ h. are
-  procedures_sound (q ∷ qs) k done are =
-      holds_bind IsBody (Each (AreStatements p)) (body_of (env.within e k) false q.body) (λ ss. bodies_from e (suc k) (done ++ listed ss ∷ []) qs)
-      (inside_sound k false q.body)
-      (λ ss is. procedures_sound qs (suc k) (done ++ listed ss ∷ []) (joined (AreStatements p) done (listed ss ∷ []) are (is, tt)))
+  -- The bodies of procedures.
+
+  module _ (j : ℕ) (q : Procedure) (at : slice_get (procedures m.decls) j ≡ Some q) (b : Stats) where
+    abbrev head : HasHeading m e j q
+    head = headings j q at
+
+    abbrev scope_number : ℕ
+    scope_number = first_scope m + j
+
+    signed_here : signature_in e.here scope_number ≡ Some head.signature
+    signed_here =
+        ap (λ n. if nat_lt scope_number n then None else slice_get e.here.signatures (scope_number - n)) first_is
+        ∙ ap (λ c. if c then None else slice_get e.here.signatures (scope_number - first_scope m)) (le-ltb scope_number (first_scope m) (omega arith))
+        ∙ ap (slice_get e.here.signatures) (let same : scope_number - first_scope m ≡ j = omega arith in same) ∙ head.signature_is
+
+    abbrev own_procedure : TypedProcedure
+    own_procedure = procedure_of e.here.text q head.signature head.scope.variables b
+
+    abbrev place : Env
+    place = env.within e scope_number
+
+    scope_here : env.scope place (record { home = e.number; scope = scope_number }) ≡ Some head.scope
+    scope_here =
+        ap (λ c. option_and_then (λ h. slice_get h.scopes scope_number) (if c then Some e.here else slice_get e.before e.number)) (eq-eqb e.number e.number refl)
+        ∙ head.scope_is
+
+    placed : IsPlaced (record { program = program; own = Some own_procedure }) place
+    placed = record {
+      path = deeper_searched scope_number;
+      locals = λ s w x k some there found means. local s w x k there found means;
+      own = λ s is. (
+        own_procedure,
+        refl,
+        signed place s own_procedure
+            (subst (λ (z : Signature). IsSignature e.types z own_procedure) (same_Some head.signature s (sym signed_here ∙ is))
+            (heading_signature e.types e.here.text q head.signature head.scope head.scope.variables b head.heading)),
+      );
+      own_body = λ none. absurd (none-some head.signature (sym none ∙ signed_here));
+    }
+      where
+        local : (s : Scope) (w : List ℕ) (x : Entry) (k : ℕ) → env.scope place (record { home = e.number; scope = scope_number }) ≡ Some s → find s w ≡ Some x → x.means ≡ means.Variable k →
+            IsTyped (record { program = program; own = Some own_procedure }) place (desig.own_place place k) (env.variable_type place (record { home = e.number; scope = scope_number }) k)
+        local s w x k there found means =
+            let same : s ≡ head.scope = same_Some s head.scope (sym there ∙ scope_here) in
+            let less : k < length head.scope.variables = below j q at head.scope head.scope_is w x k (ap (λ (z : Scope). find z w) (sym same) ∙ found) means in
+            subst (IsTyped (record { program = program; own = Some own_procedure }) place (desig.own_place place k))
+            (sym (ap (λ z. env.joined (option_and_then (λ (y : Scope). slice_get y.variables k) z)) scope_here))
+            (own_typed program e base q head.signature head.scope head.heading b scope_number signed_here k less)
+
+    body_whole : IsWhole (record { program = program; own = Some own_procedure }) place
+    body_whole = everywhere (Some own_procedure) (deeper scope_number) placed
+
+  -- a body of the procedure with a signature and a scope
+  abbrev IsBodyOf : ℕ → Procedure → Signature → Stats → Type 0
+  IsBodyOf k q s b = AreStatements program (Some (procedure_of e.here.text q s (variables_of (slice_get e.here.scopes k)) b)) b
+
+  procedure_sound : (j k : ℕ) (q : Procedure) (s : Signature) → k ≡ first_scope m + j → slice_get (procedures m.decls) j ≡ Some q → slice_get e.here.signatures j ≡ Some s →
+      Holds (λ ss. IsBodyOf k q s (listed ss)) (body_of (env.within e k) false q.body)
+  procedure_sound j k q s is at there =
+      subst (λ k. Holds (λ ss. IsBodyOf k q s (listed ss)) (body_of (env.within e k) false q.body)) (sym is) (λ none.
+      let b = listed (body_of (env.within e (first_scope m + j)) false q.body).answer in
+      let h = headings j q at in
+      subst (λ (o : Option Scope). AreStatements program (Some (procedure_of e.here.text q s (variables_of o) b)) b) (sym h.scope_is)
+      (subst (λ (z : Signature). AreStatements program (Some (procedure_of e.here.text q z h.scope.variables b)) b) (same_Some h.signature s (sym h.signature_is ∙ there))
+      (body_sound (record { program = program; own = Some (own_procedure j q at b) }) (env.within e (first_scope m + j)) (body_whole j q at b) false q.body none)))
+
+  abbrev AreMore : ℕ → List Procedure → List Signature → List Stats → List Stats → Type 0
+  AreMore k qs ss done bs = (rest : List Stats) × (bs ≡ done ++ rest) × AreProcedureBodies program begins e.here.text e.here.scopes k qs ss rest
+
+  procedures_sound : (qs : List Procedure) (ss : List Signature) (j k : ℕ) (done : List Stats) → k ≡ first_scope m + j →
+      ((i : ℕ) → slice_get qs i ≡ slice_get (procedures m.decls) (j + i)) → ((i : ℕ) → slice_get ss i ≡ slice_get e.here.signatures (j + i)) →
+      Holds (AreMore k qs ss done) (bodies_from e k done qs)
+  procedures_sound [] ss j k done is same also = λ h. ([], sym (append-nil done), tt)
+  procedures_sound (q ∷ qs) [] j k done is same also =
+      absurd (none-some (headings j q (at same)).signature (also 0 ∙ ap (slice_get e.here.signatures) (plus j) ∙ (headings j q (at same)).signature_is))
+    where
+      plus : (j : ℕ) → j + 0 ≡ j
+      plus j = omega arith
+
+      at : ((i : ℕ) → slice_get (q ∷ qs) i ≡ slice_get (procedures m.decls) (j + i)) → slice_get (procedures m.decls) j ≡ Some q
+      at same = sym (same 0 ∙ ap (slice_get (procedures m.decls)) (plus j))
+  procedures_sound (q ∷ qs) (s ∷ ss) j k done is same also =
+      holds_bind (λ sts. IsBodyOf k q s (listed sts)) (AreMore k (q ∷ qs) (s ∷ ss) done) (body_of (env.within e k) false q.body) (λ sts. bodies_from e (suc k) (done ++ listed sts ∷ []) qs)
+      (procedure_sound j k q s is (sym (same 0 ∙ ap (slice_get (procedures m.decls)) (plus j))) (sym (also 0 ∙ ap (slice_get e.here.signatures) (plus j))))
+      (λ sts typed none. let more = procedures_sound qs ss (suc j) (suc k) (done ++ listed sts ∷ []) (omega (arith, is))
+      (λ i. same (suc i) ∙ ap (slice_get (procedures m.decls)) (next j i)) (λ i. also (suc i) ∙ ap (slice_get e.here.signatures) (next j i)) none in
+      (listed sts ∷ more.0, more.1 ∙ append_assoc done (listed sts ∷ []) more.0, (typed, more.2)))
+    where
+      plus : (j : ℕ) → j + 0 ≡ j
+      plus j = omega arith
+
+      next : (j i : ℕ) → j + suc i ≡ suc j + i
+      next j i = omega arith
 
   pub record AreBodies (b : Bodies) : Type 0 where
     pub objects : AreObjects b.objects
-    pub procedures : Each (AreStatements p) b.procedures
+    pub procedures : AreProcedureBodies program begins e.here.text e.here.scopes (first_scope m) (procedures m.decls) e.here.signatures b.procedures
     pub own : IsBody b.own
 
-  bodies_sound : (m : Tree) → Holds AreBodies (bodies e m)
-  bodies_sound m =
+  from_zero : (i : ℕ) → i ≡ 0 + i
+  from_zero i = omega arith
+
+  bodies_sound : Holds AreBodies (bodies e m)
+  bodies_sound =
       let last = λ (os : List ObjectType) (ps : List Stats) (ss : List Stat). let b : Bodies = record { objects = os ++ other_types e m; procedures = ps; own = ss } in b in
+      let Typed = AreMore (first_scope m) (procedures m.decls) e.here.signatures [] in
       holds_bind AreObjects AreBodies (walk (object_in e) [] (type_defs m.decls))
       (λ os. bind (bodies_from e (first_scope m) [] (procedures m.decls)) (λ ps. bind (body_of e false m.body) (λ ss. kept (last os ps ss))))
-      (holds_walk AreObjects (object_in e) object_in_sound (type_defs m.decls) [] (tt, tt))
-      (λ os are. holds_bind (Each (AreStatements p)) AreBodies (bodies_from e (first_scope m) [] (procedures m.decls))
+      (objects_sound (type_defs m.decls) [] (omega arith) (tt, tt))
+      (λ os are. holds_bind Typed AreBodies (bodies_from e (first_scope m) [] (procedures m.decls))
       (λ ps. bind (body_of e false m.body) (λ ss. kept (last os ps ss)))
-      (procedures_sound (procedures m.decls) (first_scope m) [] tt)
-      (λ ps typed. holds_bind IsBody AreBodies (body_of e false m.body) (λ ss. kept (last os ps ss)) (body_sound p e is_whole false m.body)
-      (λ ss is h. record { objects = both os (other_types e m) are (others_are m); procedures = typed; own = is })))
+      (procedures_sound (procedures m.decls) e.here.signatures 0 (first_scope m) [] (omega arith) (λ i. ap (slice_get (procedures m.decls)) (from_zero i))
+      (λ i. ap (slice_get e.here.signatures) (from_zero i)))
+      (λ ps typed. holds_bind IsBody AreBodies (body_of e false m.body) (λ ss. kept (last os ps ss)) (body_sound outside e base false m.body)
+      (λ ss is h. record {
+        objects = both os (other_types e m) are others_are;
+        procedures = subst (AreProcedureBodies program begins e.here.text e.here.scopes (first_scope m) (procedures m.decls) e.here.signatures) (sym typed.1) typed.2;
+        own = is;
+      })))
+
+-- A body for each procedure.
+
+bodies_count : (e : Env) (qs : List Procedure) (k : ℕ) (done : List Stats) → length (bodies_from e k done qs).answer ≡ length done + length qs
+bodies_count e [] k done = omega arith
+bodies_count e (q ∷ qs) k done =
+    let b = listed (body_of (env.within e k) false q.body).answer in
+    bodies_count e qs (suc k) (done ++ b ∷ []) ∙ counted (length-append done (b ∷ []))
+  where
+    counted : {n : ℕ} → n ≡ length done + 1 → n + length qs ≡ length done + suc (length qs)
+    counted is = omega arith
 
 -- Something stands beside each type.
 
@@ -282,14 +463,6 @@ beside_count e m =
       length-append own inner,
     )
 
--- variables beside their types
-types_beside : (text : List ℕ) (ds : List Def) (ofs : List (Option TypeId)) → length ofs ≡ length ds →
-    map (λ v. v.of) (map (variable_of text) (zip ds ofs)) ≡ map type_of ofs
-types_beside text [] [] e = refl
-types_beside text [] (of ∷ ofs) e = absurd (omega arith)
-types_beside text (d ∷ ds) [] e = absurd (omega arith)
-types_beside text (d ∷ ds) (of ∷ ofs) e = ap (λ z. type_of of ∷ z) (types_beside text ds ofs (omega arith))
-
 -- One module more.
 
 module _ (w : World) (sound : IsWorld w) (text : List ℕ) (m : Tree) where
@@ -313,8 +486,8 @@ module _ (w : World) (sound : IsWorld w) (text : List ℕ) (m : Tree) where
         subst (λ n. k < n) (sym is.count)
         (variables_are text w.before is.numbers m v x k (ap (λ es. find (record { entries = es; constants = []; variables = [] }) v) (sym is.entries_are) ∙ found) means)
 
-    home : (b : Bodies) → IsHome e.types e.here (module_of e m b)
-    home b = record {
+    home : (b : Bodies) → length b.procedures ≡ length (procedures m.decls) → IsHome e.types e.here (module_of e m b)
+    home b many = record {
       scope = is.own;
       is = is.own_is;
       names = is.names;
@@ -327,6 +500,10 @@ module _ (w : World) (sound : IsWorld w) (text : List ℕ) (m : Tree) where
       few = is.few;
       fields = is.fields;
       good = is.constants;
+      procedures =
+          signatures_are e.types e.here.text e.here.scopes (first_scope m) (procedures m.decls) e.here.signatures b.procedures many
+          (λ j q s at there. let one = is.procedures j q at in
+          (one.scope, subst (λ (z : Signature). IsHeading e.types q z one.scope) (same_Some one.signature s (sym one.signature_is ∙ there)) one.heading)) is.signatures;
     }
 
     homes_now : AreHomes e.types w.before w.modules
@@ -335,12 +512,12 @@ module _ (w : World) (sound : IsWorld w) (text : List ℕ) (m : Tree) where
     fields_before : (k : ℕ) (h : Home) → slice_get e.before k ≡ Some h → FieldsAgree e.types h
     fields_before k h at = (home_at e.types w.before w.modules homes_now k h (ap (λ hs. slice_get hs k) (sym is.before_is) ∙ at)).2.fields
 
-    module _ (b : Bodies) (count : length b.objects ≡ length (all_type_defs m.decls) + length e.places) where
+    module _ (b : Bodies) (count : length b.objects ≡ length (all_type_defs m.decls) + length e.places) (many : length b.procedures ≡ length (procedures m.decls)) where
       abbrev world : World
       world = extended w e m b
 
       homes_more : AreHomes e.types world.before world.modules
-      homes_more = one_more e.types w.before w.modules e.here (module_of e m b) homes_now (home b)
+      homes_more = one_more e.types w.before w.modules e.here (module_of e m b) homes_now (home b many)
 
       at_home : (k : ℕ) (h : Home) → env.home e k ≡ Some h → slice_get world.before k ≡ Some h
       at_home k h = by (k == e.number) refl
@@ -352,32 +529,64 @@ module _ (w : World) (sound : IsWorld w) (text : List ℕ) (m : Tree) where
       count_objects : length e.types ≡ 10 + length world.objects
       count_objects = omega (arith, is.long, sound.count, count, length-append w.objects b.objects)
 
-      bodies_whole : IsWhole (program_of world) e
-      bodies_whole = whole (program_of world) e world.before homes_more at_home is.table.parts is.fields fields_before refl count_objects is.table.basic
+      everywhere : (own : Option TypedProcedure) (path : List Open) → IsPlaced (record { program = program_of world; own = own }) (env.back_at path e) →
+          IsWhole (record { program = program_of world; own = own }) (env.back_at path e)
+      everywhere own path placed =
+          whole (record { program = program_of world; own = own }) (env.back_at path e) world.before homes_more at_home is.table.parts is.table.opens is.fields fields_before refl count_objects
+          is.table.basic placed
+
+      own_path : e.path ≡ env.own e.number ∷ []
+      own_path = is.path_is ∙ ap (λ n. env.own n ∷ []) (sym is.number_is)
+
+      locals_below : (j : ℕ) (q : Procedure) → slice_get (procedures m.decls) j ≡ Some q → (s : Scope) → slice_get e.here.scopes (first_scope m + j) ≡ Some s →
+          (v : List ℕ) (x : Entry) (k : ℕ) → find s v ≡ Some x → x.means ≡ means.Variable k → k < length s.variables
+      locals_below j q at s there v x k found means =
+          let one = is.procedures j q at in
+          let same : one.scope ≡ s = same_Some one.scope s (sym one.scope_is ∙ there) in
+          let from = procedure_at text w.before is.numbers m j q at in
+          let made = procedure_scope text is.numbers from.0 q.formals q.decls in
+          let entries : s.entries ≡ made.entries =
+          same_Some s.entries made.entries
+          (sym (ap (option_map (λ (z : Scope). z.entries)) there) ∙ is.all_entries_are (first_scope m + j) ∙ ap (option_map (λ (z : Scope). z.entries)) from.1) in
+          let less : k < length (formal_names q.formals) + length (single_variables q.decls) =
+          locals_are text is.numbers from.0 q v x k (ap (λ es. find (record { entries = es; constants = []; variables = [] }) v) (sym entries) ∙ found) means in
+          subst (λ (z : Scope). k < length z.variables) same (subst (λ n. k < n) (sym one.heading.count) less)
+
+      abbrev are_bodies : Bodies → Type 0
+      are_bodies = AreBodies (program_of world) e m is.table.basic everywhere own_path is.first_is is.procedures locals_below
+
+      parameters_there : (n k : ℕ) (x : TypedProcedure) → procedure_in (program_of w) n k ≡ Some x → HaveTypes (program_of w) x.parameters
+      parameters_there n k x there = by (slice_get w.modules n) refl there
+        where
+          by : (o : Option Module) → slice_get w.modules n ≡ o → option_and_then (λ (y : Module). slice_get y.procedures k) o ≡ Some x → HaveTypes (program_of w) x.parameters
+          by None at there = absurd (no_scope there)
+          by (Some y) at there =
+              (all_at (IsProcedure (program_of w)) y.procedures k x (each_at (λ (y : Module). All (IsProcedure (program_of w)) y.procedures) w.modules n y sound.procedures at) there).parameters
 
       grows : Grows (program_of w) (program_of world)
-      grows = grown w.modules (module_of e m b ∷ []) w.types e.types w.objects b.objects is.stays
+      grows =
+          grown w.modules (module_of e m b ∷ []) w.types e.types w.objects b.objects is.stays (stand_fall w.types sound.table.opens) (stand_fall e.types is.table.opens) parameters_there
 
       longer : length world.modules ≡ length w.modules + 1
       longer = length-append w.modules (module_of e m b ∷ [])
 
-      module _ (are : AreBodies (program_of world) e bodies_whole b) where
+      module _ (are : are_bodies b) where
         abbrev AreSound : Module → Type 0
-        AreSound x = AreStatements (program_of world) x.body
+        AreSound x = AreStatements (program_of world) None x.body
 
         abbrev IsSound : ObjectType → Type 0
-        IsSound o = AreStatements (program_of world) o.body
+        IsSound o = AreStatements (program_of world) None o.body
 
         all_bodies : Each AreSound world.modules
         all_bodies =
             joined AreSound w.modules (module_of e m b ∷ [])
-            (implied (λ x. AreStatements (program_of w) x.body) AreSound (λ x is. statements_grow (program_of w) (program_of world) grows x.body is) w.modules sound.bodies)
+            (implied (λ x. AreStatements (program_of w) None x.body) AreSound (λ x is. body_grows (program_of w) (program_of world) grows x.body is) w.modules sound.bodies)
             (are.own, tt)
 
         all_objects : Each IsSound world.objects
         all_objects =
             joined IsSound w.objects b.objects
-            (implied (λ o. AreStatements (program_of w) o.body) IsSound (λ o is. statements_grow (program_of w) (program_of world) grows o.body is) w.objects sound.objects)
+            (implied (λ o. AreStatements (program_of w) None o.body) IsSound (λ o is. body_grows (program_of w) (program_of world) grows o.body is) w.objects sound.objects)
             are.objects.0
 
         all_places : Each (λ o. o.home < length world.modules) world.objects
@@ -421,10 +630,17 @@ module _ (w : World) (sound : IsWorld w) (text : List ℕ) (m : Tree) where
           procedures = all_procedures;
         }
 
+    nothing_before : (n : ℕ) → n ≡ 0 + n
+    nothing_before n = omega arith
+
     bodies_typed : (bodies e m).breaches ≡ [] → IsWorld (extended w e m (bodies e m).answer)
     bodies_typed none =
         let b = (bodies e m).answer in
-        world_sound b (beside_count e m) (bodies_sound (program_of (extended w e m b)) e (bodies_whole b (beside_count e m)) m none)
+        let count = beside_count e m in
+        let many : length b.procedures ≡ length (procedures m.decls) = bodies_count e (procedures m.decls) (first_scope m) [] ∙ sym (nothing_before (length (procedures m.decls))) in
+        let p = program_of (extended w e m b) in
+        world_sound b count many
+        (bodies_sound p e m is.table.basic (everywhere b count many) (own_path b count many) is.first_is is.procedures (locals_below b count many) none)
 
   pub module_sound : (file : ℕ) (v : World) → elaborated w file text m ≡ went v → IsWorld v
   module_sound file v is =

@@ -1,10 +1,11 @@
 -- A module's procedures: their parameters, their locals and what they give have types as they are to be.
-use Rattle.std.proofs.Common.{◌≡◌, ℕ, suc, ◌+◌, List, [], ◌∷◌, length, map, drop, zip, true, Option, Some, None, slice_get, refl, sym, ap, ◌∙◌, subst, arith}
-use Rattle.std.proofs.lemmas.Option.{same_Some}
+use Rattle.std.proofs.Common.{◌≡◌, ℕ, zero, suc, ◌+◌, ◌≤◌, List, [], ◌∷◌, length, map, drop, zip, true, All, Option, Some, None, slice_get, refl, sym, ap, ◌∙◌, subst, arith}
+use Rattle.std.proofs.lemmas.Option.{none-some, same_Some}
 use Rattle.std.proofs.lemmas.List.Elements.{All-weaker}
 use Rattle.aos_tree.specs.declared.name.Name.{Name}
 use Rattle.aos_tree.specs.declared.decl.Def.{Def}
 use Rattle.aos_types.specs.declared.row.TypeId.{TypeId}
+use Rattle.aos_types.specs.declared.row.TypeRow.{TypeRow}
 use Rattle.aos_types.specs.Table.{row_of, is_scalar}
 use Rattle.aos_typed.specs.declared.tree.TType.{TType}
 use Rattle.aos_typed.specs.Numbers.{id_of}
@@ -15,11 +16,13 @@ use Rattle.aos_symbols.specs.declared.home.Gives.{Gives}
 use Rattle.aos_symbols.specs.declared.home.Gives.TheVariants as gives
 use Rattle.aos_symbols.specs.declared.home.Signature.{Signature}
 use Rattle.aos_symbols.specs.Declarations.{Procedure, single_variables, formal_names}
+use Rattle.aos_symbols.specs.declared.env.Env.{Env}
 use Rattle.aos_symbols.specs.Scope.{Scope}
 use Rattle.aos_symbols.specs.Env.{basic_rows}
 use Rattle.aos_symbols.proofs.Each.{Each, all_of}
 use Rattle.aos_symbols.proofs.Told.{IsKnown}
-use Rattle.aos_check_expr.specs.Known.{type_of}
+use Rattle.aos_check_expr.specs.Known.{type_as, type_of}
+use Rattle.aos_check_expr.proofs.Spots.{AreParameters, IsResultOf, IsSigned, parameter_type}
 use Rattle.aos_check_decl.proofs.Typing.{IsThere, IsResult as IsScalarType, IsHeading}
 use Rattle.aos_compile.specs.Modules.{variables_of, variable_of, parameter_of, result_of, procedure_of, procedures_of}
 use Rattle.aos_compile.proofs.TypingPrograms.{Grows, statements_grow}
@@ -47,8 +50,8 @@ module _ (p : Program) (begins : RowsStay basic_rows p.types) (text : List ℕ) 
       subst (λ (o : Option TypeId). is_scalar (row_of p.types (id_of (type_of o))) ≡ true) (sym one.is)
       (subst (λ (u : TypeId). is_scalar (row_of p.types u) ≡ true) (sym (number_is one.type (told_number p.types one.type one.told))) one.scalar)
 
-  procedure : (q : Procedure) (s : Signature) (scope : Scope) (b : Stats) → IsHeading p.types q s scope → AreStatements p b →
-      IsProcedure p (procedure_of text q s scope.variables b)
+  pub procedure : (q : Procedure) (s : Signature) (scope : Scope) (b : Stats) → IsHeading p.types q s scope →
+      AreStatements p (Some (procedure_of text q s scope.variables b)) b → IsProcedure p (procedure_of text q s scope.variables b)
   procedure q s scope b heading typed =
       let names = formal_names q.formals in
       let ps = map (parameter_of text) (zip names s.parameters) in
@@ -71,8 +74,34 @@ module _ (p : Program) (begins : RowsStay basic_rows p.types) (text : List ℕ) 
   abbrev pub HaveHeadings : List Scope → ℕ → List Procedure → List Signature → Type 0
   HaveHeadings scopes k qs ss = (j : ℕ) (q : Procedure) → slice_get qs j ≡ Some q → Has scopes k ss j q
 
+  -- the bodies of procedures, each in its own
+  abbrev pub AreBodies : List Scope → ℕ → List Procedure → List Signature → List Stats → Type 0
+  AreBodies scopes k [] ss bs = Unit {0}
+  AreBodies scopes k (q ∷ qs) [] bs = Unit {0}
+  AreBodies scopes k (q ∷ qs) (s ∷ ss) [] = Unit {0}
+  AreBodies scopes k (q ∷ qs) (s ∷ ss) (b ∷ bs) =
+      AreStatements p (Some (procedure_of text q s (variables_of (slice_get scopes k)) b)) b × AreBodies scopes (suc k) qs ss bs
+
+  no_more : (k : ℕ) → k ≡ k + 0
+  no_more k = omega arith
+
+  one_more : (k j : ℕ) → suc k + j ≡ k + suc j
+  one_more k j = omega arith
+
+  -- without the first
+  others : (scopes : List Scope) (k : ℕ) (q : Procedure) (qs : List Procedure) (s : Signature) (ss : List Signature) → HaveHeadings scopes k (q ∷ qs) (s ∷ ss) → HaveHeadings scopes (suc k) qs ss
+  others scopes k q qs s ss headings j r is =
+      let two = headings (suc j) r is in
+      record {
+        signature = two.signature;
+        scope = two.scope;
+        signature_is = two.signature_is;
+        scope_is = ap (slice_get scopes) (one_more k j) ∙ two.scope_is;
+        heading = two.heading;
+      }
+
   pub procedures_typed : (scopes : List Scope) (k : ℕ) (qs : List Procedure) (ss : List Signature) (bs : List Stats) → HaveHeadings scopes k qs ss →
-      Each (AreStatements p) bs → Each (IsProcedure p) (procedures_of text scopes k qs ss bs)
+      AreBodies scopes k qs ss bs → Each (IsProcedure p) (procedures_of text scopes k qs ss bs)
   procedures_typed scopes k [] ss bs headings typed = tt
   procedures_typed scopes k (q ∷ qs) [] bs headings typed = tt
   procedures_typed scopes k (q ∷ qs) (s ∷ ss) [] headings typed = tt
@@ -81,24 +110,109 @@ module _ (p : Program) (begins : RowsStay basic_rows p.types) (text : List ℕ) 
       let here : slice_get scopes k ≡ Some one.scope = ap (slice_get scopes) (no_more k) ∙ one.scope_is in
       let heading : IsHeading p.types q s one.scope =
       subst (λ (z : Signature). IsHeading p.types q z one.scope) (sym (same_Some s one.signature one.signature_is)) one.heading in (
-        subst (λ (o : Option Scope). IsProcedure p (procedure_of text q s (variables_of o) b)) (sym here) (procedure q s one.scope b heading typed.0),
-        procedures_typed scopes (suc k) qs ss bs
-            (λ j r is.
-            let two = headings (suc j) r is in
-            record {
-              signature = two.signature;
-              scope = two.scope;
-              signature_is = two.signature_is;
-              scope_is = ap (slice_get scopes) (one_more k j) ∙ two.scope_is;
-              heading = two.heading;
-            }) typed.1,
+        subst (λ (o : Option Scope). IsProcedure p (procedure_of text q s (variables_of o) b)) (sym here)
+            (procedure q s one.scope b heading (subst (λ (o : Option Scope). AreStatements p (Some (procedure_of text q s (variables_of o) b)) b) here typed.0)),
+        procedures_typed scopes (suc k) qs ss bs (others scopes k q qs s ss headings) typed.1,
       )
-    where
-      no_more : (k : ℕ) → k ≡ k + 0
-      no_more k = omega arith
 
-      one_more : (k j : ℕ) → suc k + j ≡ k + suc j
-      one_more k j = omega arith
+-- Signatures, and the procedures of the typed program that have them.
+
+-- a parameter of the typed program for each of a signature, whose type is there
+abbrev pub AreFormals : List TypeRow → List Formal → List Parameter → Type 0
+AreFormals types [] as' = as' ≡ []
+AreFormals types (x ∷ xs) as' =
+    (a : Parameter) × (rest : List Parameter) × (t : TypeId) × (as' ≡ a ∷ rest) × (x.of ≡ Some t) × (a.of ≡ type_as t)
+    × (a.by_reference ≡ x.by_reference) × IsThere types (Some t) × AreFormals types xs rest
+
+pub record IsSignature (types : List TypeRow) (s : Signature) (q : TypedProcedure) : Type 0 where
+  pub parameters : AreFormals types s.parameters q.parameters
+  pub result : IsResultOf s.gives q.result
+
+formals_are : (types : List TypeRow) (text : List ℕ) (names : List Name) (ps : List Formal) → length ps ≡ length names → Each (λ a. IsThere types a.of) ps →
+    AreFormals types ps (map (parameter_of text) (zip names ps))
+formals_are types text [] [] few each = refl
+formals_are types text [] (a ∷ ps) few each = absurd (omega (arith, few))
+formals_are types text (n ∷ names) [] few each = absurd (omega (arith, few))
+formals_are types text (n ∷ names) (a ∷ ps) few each = by a.of refl each.0 (formals_are types text names ps (omega (arith, few)) each.1)
+  where
+    by : (of : Option TypeId) → a.of ≡ of → IsThere types of → AreFormals types ps (map (parameter_of text) (zip names ps)) → AreFormals types (a ∷ ps) (map (parameter_of text) (zip (n ∷ names) (a ∷ ps)))
+    by None is there more = absurd there
+    by (Some t) is there more =
+        (parameter_of text (n, a), map (parameter_of text) (zip names ps), t, refl, is, ap type_of is, refl, there, more)
+
+result_is : (types : List TypeRow) (g : Gives) → ((of : Option TypeId) → g ≡ gives.Value of → IsScalarType types of) → IsResultOf g (result_of g)
+result_is types gives.Nothing h = refl
+result_is types (gives.Value of) h = let one = h of refl in (one.type, one.is, ap (λ o. Some (type_of o)) one.is)
+
+pub heading_signature : (types : List TypeRow) (text : List ℕ) (q : Procedure) (s : Signature) (scope : Scope) (variables : List (Option TypeId)) (b : Stats) → IsHeading types q s scope →
+    IsSignature types s (procedure_of text q s variables b)
+heading_signature types text q s scope variables b heading = record {
+  parameters = formals_are types text (formal_names q.formals) s.parameters heading.few heading.parameters;
+  result = result_is types s.gives heading.result;
+}
+
+-- the parameter with a number
+pub formal_at : (types : List TypeRow) (xs : List Formal) (as' : List Parameter) → AreFormals types xs as' → (k : ℕ) (x : Formal) → slice_get xs k ≡ Some x →
+    (a : Parameter) × (t : TypeId) × (slice_get as' k ≡ Some a) × (x.of ≡ Some t) × (a.of ≡ type_as t) × (a.by_reference ≡ x.by_reference) × IsThere types (Some t)
+formal_at types [] as' are k x is = absurd (none-some x is)
+formal_at types (y ∷ ys) as' are zero x is =
+    let same = same_Some y x is in (
+      are.0,
+      are.2,
+      ap (λ l. slice_get l 0) are.3,
+      ap (λ (z : Formal). z.of) (sym same) ∙ are.4,
+      are.5,
+      are.6 ∙ ap (λ (z : Formal). z.by_reference) same,
+      are.7,
+    )
+formal_at types (y ∷ ys) as' are (suc k) x is =
+    let more = formal_at types ys are.1 are.8 k x is in
+    (more.0, more.1, ap (λ l. slice_get l (suc k)) are.3 ∙ more.2, more.3, more.4, more.5, more.6)
+
+formals_long : (types : List TypeRow) (xs : List Formal) (as' : List Parameter) → AreFormals types xs as' → length as' ≡ length xs
+formals_long types [] as' are = ap length are
+formals_long types (x ∷ xs) as' are = ap length are.3 ∙ ap suc (formals_long types xs are.1 are.8)
+
+pub signature_long : (types : List TypeRow) (s : Signature) (q : TypedProcedure) → IsSignature types s q → length q.parameters ≡ length s.parameters
+signature_long types s q is = formals_long types s.parameters q.parameters is.parameters
+
+-- at a place of a module
+pub signed : (e : Env) (s : Signature) (q : TypedProcedure) → IsSignature e.types s q → IsSigned e s q
+signed e s q is = record { parameters = parameters s.parameters q.parameters is.parameters; result = is.result }
+  where
+    parameters : (xs : List Formal) (as' : List Parameter) → AreFormals e.types xs as' → AreParameters e xs as'
+    parameters [] as' are = are
+    parameters (x ∷ xs) as' are =
+        (are.0, are.1, are.2, are.3, are.4, are.5, are.6, parameter_type e are.2 are.7.0 are.7.1, parameters xs are.1 are.8)
+
+-- and where the table goes on
+pub signature_on : (ts us : List TypeRow) → length ts ≤ length us → (s : Signature) (q : TypedProcedure) → IsSignature ts s q → IsSignature us s q
+signature_on ts us longer s q is = record { parameters = formals_on s.parameters q.parameters is.parameters; result = is.result }
+  where
+    formals_on : (xs : List Formal) (as' : List Parameter) → AreFormals ts xs as' → AreFormals us xs as'
+    formals_on [] as' are = are
+    formals_on (x ∷ xs) as' are =
+        (are.0, are.1, are.2, are.3, are.4, are.5, are.6, (let below = are.7.0 in omega (arith, below, longer), are.7.1), formals_on xs are.1 are.8)
+
+-- the procedures of a module have its signatures, one for each
+pub signatures_are : (types : List TypeRow) (text : List ℕ) (scopes : List Scope) (k : ℕ) (qs : List Procedure) (ss : List Signature) (bs : List Stats) → length bs ≡ length qs →
+    ((j : ℕ) (q : Procedure) (s : Signature) → slice_get qs j ≡ Some q → slice_get ss j ≡ Some s → (scope : Scope) × IsHeading types q s scope) →
+    length ss ≡ length qs → (j : ℕ) (s : Signature) → slice_get ss j ≡ Some s →
+    (x : TypedProcedure) × (slice_get (procedures_of text scopes k qs ss bs) j ≡ Some x) × IsSignature types s x
+signatures_are types text scopes k [] [] bs long headings count j s is = absurd (none-some s is)
+signatures_are types text scopes k [] (z ∷ ss) bs long headings count j s is = absurd (omega (arith, count))
+signatures_are types text scopes k (q ∷ qs) [] bs long headings count j s is = absurd (none-some s is)
+signatures_are types text scopes k (q ∷ qs) (z ∷ ss) [] long headings count j s is = absurd (omega (arith, long))
+signatures_are types text scopes k (q ∷ qs) (z ∷ ss) (b ∷ bs) long headings count zero s is =
+    let same = same_Some z s is in
+    let one = headings 0 q z refl refl in (
+      procedure_of text q z (variables_of (slice_get scopes k)) b,
+      refl,
+      subst (λ (y : Signature). IsSignature types y (procedure_of text q z (variables_of (slice_get scopes k)) b)) same
+          (heading_signature types text q z one.0 (variables_of (slice_get scopes k)) b one.1),
+    )
+signatures_are types text scopes k (q ∷ qs) (z ∷ ss) (b ∷ bs) long headings count (suc j) s is =
+    signatures_are types text scopes (suc k) qs ss bs (omega (arith, long)) (λ i r y at there. headings (suc i) r y at there) (omega (arith, count)) j s is
 
 -- With more modules, and more rows behind those that are there.
 
@@ -118,5 +232,5 @@ module _ (p q : Program) (grows : Grows p q) where
     parameters = All-weaker (λ (a : Parameter). IsType p a.of) (λ (a : Parameter). IsType q a.of) (λ a is. type_grows a.of is) x.parameters h.parameters;
     locals = All-weaker (λ (v : Variable). IsVariableType p v.of) (λ (v : Variable). IsVariableType q v.of) (λ v is. variable_grows v.of is) x.locals h.locals;
     result = result_grows x.result h.result;
-    body = statements_grow p q grows x.body h.body;
+    body = statements_grow p q grows (Some x) (λ y same. subst (λ (z : TypedProcedure). All (λ a. IsType p a.of) z.parameters) (same_Some x y same) h.parameters) x.body h.body;
   }

@@ -1,5 +1,7 @@
 -- A module's own scope: each variable that it names has the number of one.
-use Rattle.std.proofs.Common.{◌≡◌, ℕ, suc, ◌+◌, ◌<◌, ◌≤◌, List, [], ◌∷◌, ◌++◌, length, map, Bool, true, false, Option, Some, arith, codes, bytes_eq, unwrap_or, if◌then◌else◌}
+use Rattle.std.proofs.Common.{◌≡◌, ℕ, zero, suc, ◌+◌, ◌<◌, ◌≤◌, List, [], ◌∷◌, ◌++◌, length, map, Bool, true, false, Option, Some, slice_get, refl, ap, ◌∙◌, length-append, arith, codes, bytes_eq, unwrap_or, if◌then◌else◌}
+use Rattle.std.proofs.lemmas.List.{length-map}
+use Rattle.std.proofs.lemmas.Option.{none-some, same_Some}
 use Rattle.aos_tree.specs.declared.decl.Def.{Def}
 use Rattle.aos_tree.specs.declared.decl.TypeDef.{TypeDef}
 use Rattle.aos_tree.specs.declared.module.Import.{Import}
@@ -10,12 +12,13 @@ use Rattle.aos_symbols.specs.declared.scope.Meaning.{Meaning}
 use Rattle.aos_symbols.specs.declared.scope.Meaning.TheVariants as means
 use Rattle.aos_symbols.specs.declared.entries.Sort.TheVariants as sort
 use Rattle.aos_symbols.specs.Spelling.{word}
-use Rattle.aos_symbols.specs.Declarations.{constant_defs, type_defs, single_variables, procedure_defs}
+use Rattle.aos_symbols.specs.Declarations.{constant_defs, type_defs, single_variables, procedure_defs, Procedure, procedures, formal_names}
 use Rattle.aos_symbols.specs.Scope.{Named, find}
 use Rattle.aos_symbols.specs.Home.{Home}
-use Rattle.aos_symbols.specs.Entries.{among, module_named, numbered, types_from, import_entry, other_entries, own_scope}
+use Rattle.aos_symbols.specs.Entries.{among, module_named, numbered, types_from, import_entry, other_entries, own_scope, unmarked, procedure_scope, procedure_scopes, scopes}
 use Rattle.aos_symbols.proofs.Each.{Each, joined}
 use Rattle.aos_symbols.proofs.Found.{found_is}
+use Rattle.aos_check_decl.proofs.TypingEntries.{behind_types}
 
 -- what a module is named is no variable
 
@@ -81,6 +84,35 @@ module _ (text : List ℕ) (to : ℕ) where
     where
       below : (n : ℕ) → k ≡ n → n < to
       below n is = omega arith
+
+-- the scope of a procedure, and its variables
+procedure_from : (text : List ℕ) (numbers : List (Option TypeId)) (k : ℕ) (ps : List Procedure) (j : ℕ) (p : Procedure) → slice_get ps j ≡ Some p →
+    (n : ℕ) × (slice_get (procedure_scopes text numbers k ps) j ≡ Some (procedure_scope text numbers n p.formals p.decls))
+procedure_from text numbers k [] j p is = absurd (none-some p is)
+procedure_from text numbers k (q ∷ qs) zero p is = (k, ap (λ (r : Procedure). Some (procedure_scope text numbers k r.formals r.decls)) (same_Some q p is))
+procedure_from text numbers k (q ∷ qs) (suc j) p is = procedure_from text numbers (k + length (type_defs q.decls)) qs j p is
+
+pub procedure_at : (text : List ℕ) (hs : List Home) (numbers : List (Option TypeId)) (m : Tree) (j : ℕ) (p : Procedure) → slice_get (procedures m.decls) j ≡ Some p →
+    (n : ℕ) × (slice_get (scopes text hs numbers m) (suc (length (type_defs m.decls)) + j) ≡ Some (procedure_scope text numbers n p.formals p.decls))
+procedure_at text hs numbers m j p is =
+    let one = procedure_from text numbers (length (type_defs m.decls)) (procedures m.decls) j p is in
+    (one.0, behind_types text hs numbers m j ∙ one.1)
+
+pub locals_are : (text : List ℕ) (numbers : List (Option TypeId)) (n : ℕ) (p : Procedure) (w : List ℕ) (x : Entry) (k : ℕ) →
+    find (procedure_scope text numbers n p.formals p.decls) w ≡ Some x → x.means ≡ means.Variable k → k < length (formal_names p.formals) + length (single_variables p.decls)
+locals_are text numbers n p w x k found means =
+    let vs = map unmarked (formal_names p.formals) ++ single_variables p.decls in
+    let to = length (formal_names p.formals) + length (single_variables p.decls) in
+    let many : length vs ≡ to = length-append (map unmarked (formal_names p.formals)) (single_variables p.decls) ∙ ap (λ i. i + length (single_variables p.decls)) (length-map (formal_names p.formals) unmarked) in
+    let ts = types_from text numbers n (type_defs p.decls) in
+    let cs = numbered text sort.Constant 0 (constant_defs p.decls) in
+    let ns = numbered text sort.Variable 0 vs in
+    let P = IsBelow text to in
+    found_is P (ts ++ cs ++ ns) w x
+    (joined P (ts ++ cs) ns
+    (joined P ts cs (types_below text to numbers n (type_defs p.decls)) (constants_below text to 0 (constant_defs p.decls)))
+    (variables_below text to 0 vs (omega (arith, many))))
+    found k means
 
 pub variables_are : (text : List ℕ) (hs : List Home) (numbers : List (Option TypeId)) (m : Tree) (w : List ℕ) (x : Entry) (k : ℕ) →
     find (own_scope text hs numbers m) w ≡ Some x → x.means ≡ means.Variable k → k < length (single_variables m.decls)

@@ -1,5 +1,5 @@
 -- Types of variables and parameters, by their numbers in the table. What is known of a type stays where its row does.
-use Rattle.std.proofs.Common.{◌≡◌, ℕ, zero, suc, ◌+◌, ◌-◌, ◌<◌, ◌≤◌, ◌⊎◌, inl, inr, List, [], ◌∷◌, ◌++◌, length, map, Bool, true, false, Option, Some, None, slice_get, refl, sym, ap, ◌∙◌, subst, lt-ltb, arith}
+use Rattle.std.proofs.Common.{◌≡◌, ℕ, zero, suc, ◌+◌, ◌<◌, ◌≤◌, ◌⊎◌, inl, inr, List, [], ◌∷◌, ◌++◌, length, map, Bool, true, false, Option, Some, None, slice_get, refl, sym, ap, ◌∙◌, subst, lt-ltb, arith}
 use Rattle.std.proofs.lemmas.Option.{slice_get_within}
 use Rattle.aos_types.specs.declared.TheConstants.{MOST_SCALARS}
 use Rattle.aos_types.specs.declared.row.TypeId.{TypeId}
@@ -17,18 +17,15 @@ use Rattle.aos_symbols.specs.Env.{basic_rows}
 use Rattle.aos_symbols.proofs.Each.{Each}
 use Rattle.aos_symbols.proofs.Told.{IsTold, basic, defined, IsKnown, AreToldParts}
 use Rattle.aos_check_expr.specs.Known.{type_as, type_of}
-use Rattle.aos_check_expr.proofs.Types.{integer_cases, basic_cases}
+use Rattle.aos_check_expr.proofs.Types.{integer_cases, basic_cases, id_above}
+use Rattle.aos_check_expr.proofs.Opens.{IsOpenAt, some_there}
 use Rattle.aos_check_decl.proofs.Typing.{AreReady, IsThere}
-use Rattle.aos_check_stat.proofs.Places.{as_object}
 
 -- the number of a type in the typed program is that in the table
 pub number_is : (t : TypeId) → (t.0 < 7) ⊎ (10 ≤ t.0) → id_of (type_as t) ≡ t
 number_is t (inl below) =
     basic_cases (λ t. id_of (type_as t) ≡ t) (integer_cases (λ t. id_of (type_as t) ≡ t) refl refl refl refl) refl refl refl t (lt-ltb t.0 7 below)
-number_is t (inr from) = ap id_of (as_object t (omega arith)) ∙ ap (λ (n : ℕ). record { 0 = n }) (above t.0 from)
-  where
-    above : (n : ℕ) → 10 ≤ n → (n - 10) + 10 ≡ n
-    above n h = omega arith
+number_is t (inr from) = id_above t from
 
 pub told_number : (rows : List TypeRow) (t : TypeId) → IsTold rows t → (t.0 < 7) ⊎ (10 ≤ t.0)
 told_number rows t (basic below) = inl below
@@ -39,14 +36,16 @@ told_number rows t (defined r from is closed) = inr from
 abbrev pub RowsStay : List TypeRow → List TypeRow → Type 0
 RowsStay ts us = (k : ℕ) → k < length ts → slice_get us k ≡ slice_get ts k
 
-pub some_at : {X : Type 0} (xs : List X) (k : ℕ) → k < length xs → (x : X) × (slice_get xs k ≡ Some x)
-some_at [] k h = absurd (omega arith)
-some_at (x ∷ xs) zero h = (x, refl)
-some_at (x ∷ xs) (suc k) h = some_at xs k (omega arith)
-
 module _ (ts us : List TypeRow) (stay : RowsStay ts us) where
   pub there_stays : (k : ℕ) → k < length ts → k < length us
-  there_stays k h = let one = some_at ts k h in slice_get_within us k one.0 (stay k h ∙ one.1)
+  there_stays k h = let one = some_there ts k h in slice_get_within us k one.0 (stay k h ∙ one.1)
+
+  pub longer : length ts ≤ length us
+  longer = by (length ts) refl
+    where
+      by : (n : ℕ) → length ts ≡ n → n ≤ length us
+      by zero is = omega arith
+      by (suc n) is = let below = there_stays n (omega (arith, is)) in omega (arith, below)
 
   pub closed_stays : (k : ℕ) → k < length ts → is_open (slice_get ts k) ≡ false → is_open (slice_get us k) ≡ false
   closed_stays k h closed = ap is_open (stay k h) ∙ closed
@@ -123,6 +122,16 @@ flat_told rows (row.Pointer t) h = absurd h
 flat_told rows (row.Object b fs) h = absurd h
 flat_told rows (row.Procedure fs r) h = absurd h
 
+flat_open : (k : ℕ) (r : TypeRow) → IsFlat (Some r) → IsOpenAt k r
+flat_open k (row.Basic b) h = tt
+flat_open k row.Any h = tt
+flat_open k (row.Array n t) h = absurd h
+flat_open k (row.Open t) h = absurd h
+flat_open k (row.Record b fs) h = absurd h
+flat_open k (row.Pointer t) h = absurd h
+flat_open k (row.Object b fs) h = absurd h
+flat_open k (row.Procedure fs r) h = absurd h
+
 flat_size : (contents : TypeId → Shape TypeId) (rows : List TypeRow) (t : TypeId) (o : Option TypeRow) → IsFlat o →
     size (with_parts contents rows t o) ≤ 1
 flat_size contents rows t None h = omega arith
@@ -142,6 +151,7 @@ basic_ready = record {
   closed = λ k r is p e. absurd (flat_names r (subst IsFlat is (basic_flat k)) p e);
   sound = record { none_contains_itself = λ t e. by t e.between e.chain; sizes = λ t. few t };
   parts = λ k r is. flat_told basic_rows r (subst IsFlat is (basic_flat k));
+  opens = λ k r is. flat_open k r (subst IsFlat is (basic_flat k));
 }
   where
     by : (t : TypeId) (between : List TypeId) → IsChain basic_rows t (between ++ t ∷ []) → ⊥

@@ -120,6 +120,7 @@ module _ (text : List ℕ) where
         text = text;
         strings = strings_of m.strings;
         scopes = scopes homes numbers m;
+        first = suc (length (type_defs m.decls));
         signatures = [];
         records = [];
       }

@@ -26,7 +26,8 @@ use Rattle.aos_symbols.specs.declared.env.Lookup.TheVariants.{Unknown, NotExport
 use Rattle.aos_symbols.specs.declared.env.Env.{Env}
 use Rattle.aos_symbols.specs.Spelling.{word}
 use Rattle.aos_symbols.specs.Scope.{Scope, find}
-use Rattle.aos_symbols.specs.Home.{Home, fields_of, string_number, string_in, character}
+use Rattle.aos_symbols.specs.declared.home.Signature.{Signature}
+use Rattle.aos_symbols.specs.Home.{Home, signature_in, fields_of, string_number, string_in, character}
 
 -- the types that stand first in each table; those that modules declare come behind them
 abbrev pub basic_rows : List TypeRow
@@ -236,6 +237,14 @@ row_of e (Some t) = slice_get e.types t.0
 abbrev pub innermost : List Open → ℕ
 innermost [] = 0
 innermost (o ∷ os) = o.scope
+
+-- the signature of the procedure in which this place stands; a body has none
+abbrev pub own_signature : Env → Option Signature
+own_signature e = signature_in e.here (innermost e.path)
+
+-- the signature of a procedure of a module, where its heading is met
+abbrev pub signature : Env → (home number : ℕ) → Option Signature
+signature e m k = option_and_then (λ h. slice_get h.signatures k) (home e m)
 
 -- at a place within the scope with a number
 abbrev pub within : Env → ℕ → Env

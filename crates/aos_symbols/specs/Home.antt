@@ -1,7 +1,7 @@
 -- What a module has declared: its name, its text, the strings there, its scopes, the signatures of its procedures, and the fields of
 -- the record types that it writes. The first scope is the module's own; behind it come those of the types that it defines, in which the names within
 -- an object type stand, and then those of its procedures, each in the order of the text.
-use Rattle.std.specs.Prelude.{ℕ, pos, nat_eq, ◌+◌, ◌-◌, List, [], ◌∷◌, ◌++◌, map, fold, Option, Some, None, slice_get, slice_set, position}
+use Rattle.std.specs.Prelude.{ℕ, pos, nat_eq, nat_lt, ◌+◌, ◌-◌, List, [], ◌∷◌, ◌++◌, map, fold, Option, Some, None, if◌then◌else◌, slice_get, slice_set, position}
 use Rattle.std.specs.Option.{unwrap_or}
 use Rattle.std.specs.List.{slice_range}
 use Rattle.aos_base.specs.Operators.{natural}
@@ -18,6 +18,7 @@ pub record Home : Type 0 where
   pub text : List ℕ
   pub strings : List (ℕ × ℕ)  -- where each begins with its quote, and where it ends
   pub scopes : List Scope
+  pub first : ℕ  -- the number of the scope of the first procedure
   pub signatures : List Signature
   pub records : List (ℕ × Scope)  -- by the types' numbers
 
@@ -46,6 +47,10 @@ fields_of h t = lookup (λ k. nat_eq t.0 k) h.records
 -- with the signature of the next procedure
 abbrev pub add_signature : Home → Signature → Home
 add_signature h x = record h { signatures = h.signatures ++ x ∷ [] }
+
+-- the signature of the procedure whose scope has a number, where its heading is met
+abbrev pub signature_in : Home → (scope : ℕ) → Option Signature
+signature_in h k = if nat_lt k h.first then None else slice_get h.signatures (k - h.first)
 
 -- Strings.
 

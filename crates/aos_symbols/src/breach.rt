@@ -58,6 +58,8 @@ pub const NO_CONDITION: u16 = 37;
 pub const WRONG_LABEL: u16 = 38;
 /// EXIT outside a LOOP.
 pub const EXIT_OUTSIDE: u16 = 39;
+/// A RETURN without the value of a function, or with one that isn't allowed or doesn't fit.
+pub const WRONG_RETURN: u16 = 40;
 /// A type test or guard of what has no dynamic type.
 pub const WRONG_TEST: u16 = 41;
 /// A selector that the type hasn't.

@@ -486,7 +486,8 @@ pub fn home_of<'a>(
     for decl in decls {
         add_inner_scopes_in(alloc, &mut scopes, text, decl)?;
     }
+    let first = scopes.len();
     add_procedure_scopes(alloc, &mut scopes, place, text, numbers, decls)?;
     let strings = tree.strings.as_slice();
-    Ok(Home::new(alloc, word(text, tree.name), text, strings, scopes)?)
+    Ok(Home::new(alloc, word(text, tree.name), text, strings, scopes, first)?)
 }

@@ -6,7 +6,7 @@ ghost use Rattle.std.specs.Option.{option_copied};
 ghost use Rattle.std.specs.Str.{bytes_eq};
 ghost use Rattle.aos_symbols.specs.Env as env;
 
-use crate::home::Home;
+use crate::home::{Home, Signature};
 use crate::scope::{Entry, Function, Meaning, Routine, Scope};
 use crate::spelling::word;
 use aos_base::Pos;
@@ -412,6 +412,23 @@ impl<'a> Env<'a> {
         match self.path.as_slice().first() {
             Some(open) => open.scope,
             None => 0,
+        }
+    }
+
+    /// The signature of the procedure in which this place stands; a body has none.
+    pub fn own_signature(&self) -> Option<&Signature>
+        ensures { option_copied result ≡ env.own_signature self.now }
+    {
+        self.here.signature_in(self.innermost())
+    }
+
+    /// The signature of a procedure of a module, where its heading is met.
+    pub fn signature(&self, home: u32, number: u32) -> Option<&Signature>
+        ensures { option_copied result ≡ env.signature self.now home number }
+    {
+        match self.home(home) {
+            Some(home) => home.signature(number),
+            None => None,
         }
     }
 

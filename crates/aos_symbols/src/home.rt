@@ -36,13 +36,14 @@ pub struct Signature {
 
 /// A module's name, its text, the strings there, its scopes, the signatures of its procedures, and the fields of the record types that it writes,
 /// by the types' numbers: they are the variables of a scope. The first scope is the module's own; behind it come those of the
-/// types that it defines and then those of its procedures, each in the order of the text.
+/// types that it defines and then those of its procedures, the first of which has the number `first`, each in the order of the text.
 #[derive(Drop)]
 pub struct Home<'a> {
     name: &'a [u8],
     text: &'a [u8],
     strings: IndexMap<u32, u32>,
     scopes: Vec<Scope<'a>>,
+    first: usize,
     signatures: Vec<Signature>,
     records: IndexMap<u32, Scope<'a>>,
 }
@@ -81,6 +82,7 @@ impl<'a> Model for Home<'a> {
       text = h.text.now;
       strings = h.strings.entries;
       scopes = h.scopes.items;
+      first = h.first;
       signatures = h.signatures.items;
       records = h.records.entries;
     } };
@@ -89,20 +91,22 @@ impl<'a> Model for Home<'a> {
 }
 
 impl<'a> Home<'a> {
-    /// A module of this name, with this text and these strings and scopes; no procedure has its signature yet, and no record type
-    /// its fields.
+    /// A module of this name, with this text and these strings and scopes, of which that of the first procedure has a number; no
+    /// procedure has its signature yet, and no record type its fields.
     pub fn new(
         alloc: Global,
         name: &'a [u8],
         text: &'a [u8],
         strings: &[Text],
         scopes: Vec<Scope<'a>>,
+        first: usize,
     ) -> Result<Home<'a>, AllocError>
         ensures { IfOk result (λ h. h ≡ record {
           name = name.now;
           text = text.now;
           strings = home.strings_of strings.now;
           scopes = scopes.entry.items;
+          first = first;
           signatures = [];
           records = [];
         }) }
@@ -112,6 +116,7 @@ impl<'a> Home<'a> {
             text,
             strings: strings_of(alloc, strings)?,
             scopes,
+            first,
             signatures: Vec::new(alloc),
             records: IndexMap::new(alloc),
         })
@@ -215,6 +220,14 @@ impl<'a> Home<'a> {
         ensures { option_copied result ≡ slice_get self.now.signatures number }
     {
         self.signatures.get(number as usize)
+    }
+
+    /// The signature of the procedure whose scope has a number, where its heading is met.
+    pub fn signature_in(&self, scope: u32) -> Option<&Signature>
+        ensures { option_copied result ≡ home.signature_in self.now scope }
+    {
+        let number = (scope as usize).checked_sub(self.first)?;
+        self.signatures.get(number)
     }
 
     /// The signature of the next procedure. Without memory all stays as it was.

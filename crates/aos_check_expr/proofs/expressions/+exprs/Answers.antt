@@ -1,11 +1,11 @@
 -- Numbers, the forms of a factor and of a selector that stand in a row or a box, spans, and calls with two arguments.
-use Rattle.std.proofs.Common.{◌≡◌, map, IfOk, OnOk, refl, sym, ap, ◌∙◌, subst, w64, to_z, of_z, to_z-of_z, arith}
+use Rattle.std.proofs.Common.{◌≡◌, map, IfOk, OnOk, sym, ap, ◌∙◌, subst, w64, to_z, of_z, to_z-of_z, arith}
 use Rattle.aos_base.specs.declared.number.Width.TheVariants.{W64}
 use Rattle.aos_base.specs.Number.{if_within}
 use Rattle.aos_tree.specs.declared.expr.Expr.{out-Expr}
 use Rattle.aos_tree.specs.declared.expr.Elem.{out-Elem}
 use Rattle.aos_symbols.specs.Breaches.{first_after}
-use Rattle.aos_symbols.specs.Judged.{Judged, bind, walk}
+use Rattle.aos_symbols.specs.Judged.{Judged, walk}
 use Rattle.aos_check_expr.specs.Known.{Answer}
 use Rattle.aos_check_expr.specs.Operations.{no_elements}
 use Rattle.aos_check_expr.specs.Designators.{read}
@@ -143,9 +143,10 @@ measured-returns-in_ok-dimension-in-len2-clause-noted t c =
     let is = ap (λ xs. judge.len_of env c.args.first (map (judge.expr env) xs) xs) all in
     let one = c.in_ok-array-in-len2 in
     let two = c.in_ok-dimension-in-len2 in
+    subst (λ z. OnOk c.len_in.result (c.len_in.new.found ≡ z))
+    (told.noted_two whole (judge.expr env x) (judge.expr env y) (judge.len_in env (out-Expr x).pos (out-Expr y).pos) (seen_answer one.array) (seen_answer two.dimension) is
+    one.ensures.answer two.ensures.answer c.args.found.now c.expr-in-len2.new.found c.expr-in-len2-2.new.found one.ensures.noted two.ensures.noted)
     c.len_in.ensures.noted
-    ∙ told.noted_two whole (judge.expr env x) (judge.expr env y) (judge.len_in env (out-Expr x).pos (out-Expr y).pos) (seen_answer one.array) (seen_answer two.dimension) is
-    one.ensures.answer two.ensures.answer c.args.found.now c.expr-in-len2.new.found c.expr-in-len2-2.new.found one.ensures.noted two.ensures.noted
 
 pub measured-returns-in_ok-dimension-in-len2-clause-answer : goal.measured-returns-in_ok-dimension-in-len2-clause-answer
 measured-returns-in_ok-dimension-in-len2-clause-answer t c =
@@ -157,5 +158,6 @@ measured-returns-in_ok-dimension-in-len2-clause-answer t c =
     let is = ap (λ xs. judge.len_of env c.args.first (map (judge.expr env) xs) xs) all in
     let one = c.in_ok-array-in-len2 in
     let two = c.in_ok-dimension-in-len2 in
+    subst (λ z. IfOk c.len_in.result (λ r. seen_answer r ≡ z))
+    (told.answer_two whole (judge.expr env x) (judge.expr env y) (judge.len_in env (out-Expr x).pos (out-Expr y).pos) (seen_answer one.array) (seen_answer two.dimension) is one.ensures.answer two.ensures.answer)
     c.len_in.ensures.answer
-    ∙ told.answer_two whole (judge.expr env x) (judge.expr env y) (judge.len_in env (out-Expr x).pos (out-Expr y).pos) (seen_answer one.array) (seen_answer two.dimension) is one.ensures.answer two.ensures.answer

@@ -1,9 +1,9 @@
 -- What was noted and found so far, and what the rest leads to, is what the whole leads to.
-use Rattle.std.proofs.Common.{◌≡◌, drop}
+use Rattle.std.proofs.Common.{◌≡◌, drop, length, map, true}
 use Rattle.aos_symbols.specs.Breaches.{first_after}
 use Rattle.aos_symbols.specs.Judged.{walk}
 use Rattle.aos_check_expr.specs.Operations.{no_elements}
-use Rattle.aos_check_expr.specs.Seen.{seen_answer, seen_part, seen_spot}
+use Rattle.aos_check_expr.specs.Seen.{seen_answer, seen_handing, seen_part, seen_spot}
 use Rattle.aos_check_expr.specs.Expressions as judge
 use Rattle.aos_check_expr.proofs.expressions.+exprs.Given as goal
 
@@ -35,4 +35,11 @@ abbrev pub invariant-indices-loop-part : goal.invariant-indices-loop-part
 invariant-indices-loop-part l = record {
   noted : first_after l.found (walk (judge.index l.env l.at) (seen_spot l.whole) (drop l.part-index l.all)).breaches ≡ first_after l.initial.found (walk (judge.index l.env l.at) (seen_spot l.initial.whole) l.all).breaches;
   answer : (walk (judge.index l.env l.at) (seen_spot l.whole) (drop l.part-index l.all)).answer ≡ (walk (judge.index l.env l.at) (seen_spot l.initial.whole) l.all).answer;
+}
+
+abbrev pub invariant-handed-loop-argument : goal.invariant-handed-loop-argument
+invariant-handed-loop-argument l = record {
+  count : length l.all.given.items ≡ l.argument-index;
+  noted : first_after l.found (judge.handed_from l.env (seen_handing l.all) (drop l.argument-index l.parameters) (map (judge.expr l.env) (drop l.argument-index l.arguments)) (drop l.argument-index l.arguments)).breaches ≡ first_after l.initial.found (judge.handed_from l.env (judge.nothing_handed true) l.parameters (map (judge.expr l.env) l.arguments) l.arguments).breaches;
+  answer : (judge.handed_from l.env (seen_handing l.all) (drop l.argument-index l.parameters) (map (judge.expr l.env) (drop l.argument-index l.arguments)) (drop l.argument-index l.arguments)).answer ≡ (judge.handed_from l.env (judge.nothing_handed true) l.parameters (map (judge.expr l.env) l.arguments) l.arguments).answer;
 }

@@ -46,14 +46,14 @@ for_of-returns-clause-answer t c =
     let n = c.args.name in
     let b = c.in_ok-body.body in
     let body = c.in_ok-body.ensures.answer ∙ ap (λ l. (parts.listed_in e c.args.in_loop l).answer) c.as_slice.ensures in
-    let k = c.control-place.ensures.answer in
+    let k = c.in_ok-place.ensures.answer in
     let of = ap (λ z. z.1) k in
     let from = c.in_ok-from.ensures.answer ∙ ap (λ z. (judge.fitting e z 31 c.args.assigned c.args.from.now).answer) of in
     let to = c.in_ok-to.ensures.answer ∙ ap (λ z. (judge.fitting e z 48 n.pos c.args.to.now).answer) of in
     let step = c.in_ok-step.ensures.answer ∙ ap (λ z. (judge.step_of e n.pos z c.args.by.now).answer) of in
     let width = c.width_of.ensures ∙ ap width_of of in
     let fits : FitsSigned w64 c.in_ok-step.step = search rules in
-    ap (λ s. Some s) (for_seen c.args.at c.width_of.result c.control-place.result.0 c.in_ok-from.from c.in_ok-to.to (to_z w64 (of_z w64 c.in_ok-step.step)) b
+    ap (λ s. Some s) (for_seen c.args.at c.width_of.result c.in_ok-place.place c.in_ok-from.from c.in_ok-to.to (to_z w64 (of_z w64 c.in_ok-step.step)) b
     ∙ (λ i. For c.args.at (width i) (k i).0 (from i) (to i) ((to_z-of_z w64 c.in_ok-step.step fits ∙ step) i) ((stats_seen b.items ∙ ap listed body) i)))
 
 pub loop_of-returns-clause-answer : goal.loop_of-returns-clause-answer

@@ -1,0 +1,38 @@
+-- What is well typed in the body of a procedure of a program, or in one of none.
+use Rattle.std.proofs.Common.{ℕ, List, Option}
+use Rattle.aos_typed.specs.declared.tree.TType.{TType}
+use Rattle.aos_typed.specs.Program.{Place, Rows, Arguments, Expr, Call, Stat, Stats, Arms, Cases, Parameter, Procedure, Program}
+use Rattle.aos_typed.specs.WellTyped as typed
+
+pub record Inside : Type 0 where
+  pub program : Program
+  pub own : Option Procedure
+
+abbrev pub IsPlaceOf : Inside → Place → TType → Type 0
+IsPlaceOf p = typed.IsPlaceOf p.program p.own
+
+abbrev pub AreRows : Inside → Rows → ℕ → TType → Type 0
+AreRows p = typed.AreRows p.program p.own
+
+abbrev pub AreArguments : Inside → Arguments → List Parameter → Type 0
+AreArguments p = typed.AreArguments p.program p.own
+
+abbrev pub IsOf : Inside → Expr → TType → Type 0
+IsOf p = typed.IsOf p.program p.own
+
+-- Statements.
+
+abbrev pub IsCall : Inside → Call → Type 0
+IsCall p = typed.IsCall p.program p.own
+
+abbrev pub IsStatement : Inside → Stat → Type 0
+IsStatement p = typed.IsStatement p.program p.own
+
+abbrev pub AreStatements : Inside → Stats → Type 0
+AreStatements p = typed.AreStatements p.program p.own
+
+abbrev pub AreArms : Inside → Arms → Type 0
+AreArms p = typed.AreArms p.program p.own
+
+abbrev pub AreCases : Inside → Cases → Type 0
+AreCases p = typed.AreCases p.program p.own

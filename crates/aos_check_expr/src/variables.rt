@@ -1,0 +1,122 @@
+// The places of variables: those of modules, and those of the procedure in which a name stands.
+
+ghost use Rattle.std.specs.Prelude.{◌≡◌, IfOk};
+ghost use Rattle.aos_typed.specs.Open.{open_dimensions as dimensions_in};
+ghost use Rattle.aos_typed.specs.Seen.{seen_place, seen_rows};
+ghost use Rattle.aos_check_expr.specs.Designators as judge;
+
+use crate::known::is_basic;
+use aos_symbols::{Env, Parameter, Symbol};
+use aos_typed::{TPlace, TRows, open_array};
+use aos_types::{TypeId, TypeRow};
+use std::alloc::{AllocError, Global};
+use std::mem;
+
+/// Whether a type is that of an open array.
+pub fn is_opened(env: &Env<'_>, of: TypeId) -> bool
+    ensures { result ≡ judge.is_opened env.now of }
+{
+    !is_basic(of) && matches!(env.row(Some(of)), Some(TypeRow::Open(_)))
+}
+
+/// How many dimensions of a type are open. 2^32 and more are want of memory.
+pub fn open_dimensions(env: &Env<'_>, of: TypeId) -> Result<u32, AllocError>
+    ensures { IfOk result (λ n. n ≡ dimensions_in env.now.types of) }
+{
+    match u32::try_from(open_array(&env.types, of).dimensions) {
+        Ok(count) => Ok(count),
+        Err(_) => Err(AllocError),
+    }
+}
+
+/// A parameter that is no open array.
+fn unopened(number: u32, parameter: Parameter) -> TPlace
+    ensures { seen_place result ≡ judge.unopened_place number parameter }
+{
+    if parameter.by_reference {
+        TPlace::Passed(number)
+    } else {
+        TPlace::Local(number)
+    }
+}
+
+/// A parameter of the procedure in which a place stands.
+fn parameter_place(
+    alloc: Global,
+    env: &Env<'_>,
+    number: u32,
+    parameter: Parameter,
+) -> Result<TPlace, AllocError>
+    ensures { IfOk result (λ p. seen_place p ≡ judge.parameter_place env.now number parameter) }
+{
+    match parameter.of {
+        Some(of) if is_opened(env, of) => {
+            let rows = TRows::Opened(number, open_dimensions(env, of)?);
+            Ok(TPlace::Of(Box::new(alloc, rows)?))
+        }
+        _ => Ok(unopened(number, parameter)),
+    }
+}
+
+/// The parameter with a number of the procedure in which a place stands.
+fn own_parameter(env: &Env<'_>, number: u32) -> Option<Parameter>
+    ensures { result ≡ judge.own_parameter env.now number }
+{
+    let signature = env.own_signature()?;
+    signature
+        .parameters
+        .as_slice()
+        .get(number as usize)
+        .copied()
+}
+
+/// A parameter or a local of the procedure in which a place stands.
+fn own_place(alloc: Global, env: &Env<'_>, number: u32) -> Result<TPlace, AllocError>
+    ensures { IfOk result (λ p. seen_place p ≡ judge.own_place env.now number) }
+{
+    match own_parameter(env, number) {
+        Some(parameter) => parameter_place(alloc, env, number, parameter),
+        None => Ok(TPlace::Local(number)),
+    }
+}
+
+/// Whether a name is declared by a module itself.
+pub fn is_of_module(symbol: Symbol) -> bool
+    ensures { result ≡ judge.is_of_module symbol }
+{
+    symbol.at.scope == 0
+}
+
+/// The place of a variable.
+pub fn place_of_variable(
+    alloc: Global,
+    env: &Env<'_>,
+    symbol: Symbol,
+    number: u32,
+) -> Result<TPlace, AllocError>
+    ensures { IfOk result (λ p. seen_place p ≡ judge.place_of_variable env.now symbol number) }
+{
+    if is_of_module(symbol) {
+        Ok(TPlace::ModuleVar(symbol.at.home, number))
+    } else {
+        own_place(alloc, env, number)
+    }
+}
+
+/// Whether a variable is one of a module, or of the procedure in which the place stands.
+pub fn is_reached(env: &Env<'_>, symbol: Symbol) -> bool
+    ensures { result ≡ judge.is_reached env.now symbol }
+{
+    is_of_module(symbol) || env.own_signature().is_some()
+}
+
+/// The rows of an open array; what is none has no open dimensions.
+pub fn rows_of(alloc: Global, place: TPlace) -> Result<TRows, AllocError>
+    ensures { IfOk result (λ r. seen_rows r ≡ judge.rows_of (seen_place place)) }
+{
+    let mut place = place;
+    if let TPlace::Of(rows) = &mut place {
+        return Ok(mem::replace(&mut **rows, TRows::Opened(0, 0)));
+    }
+    Ok(TRows::Known(Box::new(alloc, place)?, Vec::new(alloc)))
+}

@@ -1,0 +1,264 @@
+// Procedures that modules declare: their calls as statements, and RETURN.
+
+ghost use Rattle.std.specs.Prelude.{◌≡◌, OnOk, IfOk, option_map};
+ghost use Rattle.aos_typed.specs.Seen.{seen_stat};
+ghost use Rattle.aos_symbols.specs.Breaches.{first_after};
+ghost use Rattle.aos_check_expr.specs.Known.{passes, is_basic as is_basic_type};
+ghost use Rattle.aos_check_stat.specs.Bodies as judge;
+
+use crate::refusals::{arguments, behind_arguments, not_yet, refuse_behind, refused};
+use aos_base::Pos;
+use aos_check_expr::{
+    Class, Head, arguments_for, designator, expr, fits, is_basic, is_of_module, member_behind,
+};
+use aos_symbols::{
+    Breach, Env, Gives, Lookup, Meaning, NOT_BUILT, Signature, Symbol, WRONG_CALL, WRONG_RETURN,
+    note,
+};
+use aos_tree::{Desig, Expr, Selector};
+use aos_typed::TStat;
+use aos_types::TypeId;
+use std::alloc::{AllocError, Global};
+
+/// A call of a proper procedure with these arguments, which begins at a place.
+#[tactic(auto, using(aos_symbols::proofs::Keeping::after_more, aos_check_expr::proofs::Handed::as_listed))]
+fn perform_with(
+    alloc: Global,
+    found: &mut Option<Breach>,
+    env: &Env<'_>,
+    at: Pos,
+    home: u32,
+    number: u32,
+    signature: &Signature,
+    arguments: &[Expr],
+) -> Result<Option<TStat>, AllocError>
+    ensures noted { OnOk result (found.new ≡ first_after found.old
+        (judge.perform_with env.now at home number signature.now arguments.now).breaches) }
+    ensures answer { IfOk result (λ s. option_map seen_stat s ≡
+        (judge.perform_with env.now at home number signature.now arguments.now).answer) }
+{
+    let parameters = signature.parameters.as_slice();
+    let handing = arguments_for(alloc, found, env, at, parameters, arguments)?;
+    Ok(Some(TStat::Perform(at, home, number, handing.given)))
+}
+
+/// A call of a procedure with these arguments, which begins at a place: a function gives a value.
+fn perform_signed(
+    alloc: Global,
+    found: &mut Option<Breach>,
+    env: &Env<'_>,
+    at: Pos,
+    home: u32,
+    number: u32,
+    signature: &Signature,
+    arguments: &[Expr],
+) -> Result<Option<TStat>, AllocError>
+    ensures noted { OnOk result (found.new ≡ first_after found.old
+        (judge.perform_signed env.now at home number signature.now arguments.now).breaches) }
+    ensures answer { IfOk result (λ s. option_map seen_stat s ≡
+        (judge.perform_signed env.now at home number signature.now arguments.now).answer) }
+{
+    match signature.gives {
+        Gives::Nothing => {
+            perform_with(alloc, found, env, at, home, number, signature, arguments)
+        },
+        Gives::Value(_) => Ok(refused(found, WRONG_CALL, at)),
+    }
+}
+
+/// A call of a procedure with these arguments, which begins at a place: one of an object type isn't built.
+fn perform(
+    alloc: Global,
+    found: &mut Option<Breach>,
+    env: &Env<'_>,
+    at: Pos,
+    symbol: Symbol,
+    number: u32,
+    arguments: &[Expr],
+) -> Result<Option<TStat>, AllocError>
+    ensures noted { OnOk result (found.new ≡ first_after found.old
+        (judge.perform env.now at symbol number arguments.now).breaches) }
+    ensures answer { IfOk result (λ s. option_map seen_stat s ≡
+        (judge.perform env.now at symbol number arguments.now).answer) }
+{
+    let home = symbol.at.home;
+    if !is_of_module(symbol) {
+        return Ok(not_yet(found, at));
+    }
+    match env.signature(home, number) {
+        Some(signature) => {
+            perform_signed(alloc, found, env, at, home, number, signature, arguments)
+        },
+        None => Ok(not_yet(found, at)),
+    }
+}
+
+/// What stands behind the name of a procedure, in a call that begins at a place.
+#[tactic(auto, using(crate::proofs::Rows::ended_noted, crate::proofs::Rows::ended_answer))]
+pub fn performed(
+    alloc: Global,
+    found: &mut Option<Breach>,
+    env: &Env<'_>,
+    at: Pos,
+    symbol: Symbol,
+    number: u32,
+    selectors: &[Selector],
+) -> Result<Option<TStat>, AllocError>
+    ensures noted { OnOk result (found.new ≡ first_after found.old
+        (judge.performed env.now at symbol number selectors.now).breaches) }
+    ensures answer { IfOk result (λ s. option_map seen_stat s ≡
+        (judge.performed env.now at symbol number selectors.now).answer) }
+{
+    let call = perform(alloc, found, env, at, symbol, number, arguments(selectors))?;
+    refuse_behind(found, at, behind_arguments(selectors));
+    Ok(call)
+}
+
+/// A call of what can't be called, which begins at a place.
+fn no_call(found: &mut Option<Breach>, at: Pos, class: Class) -> Option<TStat>
+    ensures noted { found.new ≡ first_after found.old (judge.no_call at class).breaches }
+    ensures answer { option_map seen_stat result ≡ (judge.no_call at class).answer }
+{
+    match class {
+        Class::Unknown => None,
+        Class::Constant(_) => refused(found, WRONG_CALL, at),
+        Class::Variable => refused(found, WRONG_CALL, at),
+        Class::ReadOnly => refused(found, WRONG_CALL, at),
+        Class::Computed => refused(found, WRONG_CALL, at),
+    }
+}
+
+/// A call of what a designator is, which is no procedure.
+#[tactic(auto, using(aos_symbols::proofs::Keeping::after_more))]
+pub fn called_value(
+    alloc: Global,
+    found: &mut Option<Breach>,
+    env: &Env<'_>,
+    desig: &Desig,
+) -> Result<Option<TStat>, AllocError>
+    ensures noted { OnOk result (found.new ≡
+        first_after found.old (judge.called_value env.now desig.now).breaches) }
+    ensures answer { IfOk result (λ s.
+        option_map seen_stat s ≡ (judge.called_value env.now desig.now).answer) }
+{
+    let spot = designator(alloc, found, env, desig)?;
+    Ok(no_call(found, desig.name.pos, spot.known.class))
+}
+
+/// A call of a name behind that of a module, of which this is found, with what stands behind it.
+fn called_member(
+    alloc: Global,
+    found: &mut Option<Breach>,
+    env: &Env<'_>,
+    member: Lookup,
+    more: &[Selector],
+    desig: &Desig,
+) -> Result<Option<TStat>, AllocError>
+    ensures noted { OnOk result (found.new ≡ first_after found.old
+        (judge.called_member env.now member more.now desig.now).breaches) }
+    ensures answer { IfOk result (λ s. option_map seen_stat s ≡
+        (judge.called_member env.now member more.now desig.now).answer) }
+{
+    let Lookup::Found(symbol) = member else {
+        return called_value(alloc, found, env, desig);
+    };
+    match symbol.means {
+        Meaning::Procedure(number) => {
+            performed(alloc, found, env, desig.name.pos, symbol, number, more)
+        },
+        _ => called_value(alloc, found, env, desig),
+    }
+}
+
+/// A call that begins with the name of a module, whose head this is, with what stands behind it.
+pub fn called_in_module(
+    alloc: Global,
+    found: &mut Option<Breach>,
+    env: &Env<'_>,
+    head: Head,
+    selectors: &[Selector],
+    desig: &Desig,
+) -> Result<Option<TStat>, AllocError>
+    ensures noted { OnOk result (found.new ≡ first_after found.old
+        (judge.called_in_module env.now head selectors.now desig.now).breaches) }
+    ensures answer { IfOk result (λ s. option_map seen_stat s ≡
+        (judge.called_in_module env.now head selectors.now desig.now).answer) }
+{
+    match selectors.split_first() {
+        Some((Selector::Field(_, name), more)) => {
+            let member = member_behind(env, head, *name).found;
+            called_member(alloc, found, env, member, more, desig)
+        },
+        _ => called_value(alloc, found, env, desig),
+    }
+}
+
+/// What the procedure gives in which a place stands.
+fn gives_here(env: &Env<'_>) -> Gives
+    ensures { result ≡ judge.gives_here env.now }
+{
+    match env.own_signature() {
+        Some(signature) => signature.gives,
+        None => Gives::Nothing,
+    }
+}
+
+/// The value of a RETURN, which stands at a place, in a function with a result of this type: it must fit that.
+#[tactic(auto, using(aos_symbols::proofs::Keeping::after_more))]
+fn return_value(
+    alloc: Global,
+    found: &mut Option<Breach>,
+    env: &Env<'_>,
+    at: Pos,
+    of: Option<TypeId>,
+    value: &Expr,
+) -> Result<Option<TStat>, AllocError>
+    ensures noted { OnOk result (found.new ≡ first_after found.old
+        (judge.return_value env.now at of value.now).breaches) }
+    ensures answer { IfOk result (λ s. option_map seen_stat s ≡
+        (judge.return_value env.now at of value.now).answer) }
+{
+    let value = expr(alloc, found, env, value)?;
+    if !fits(value.known.of, of) {
+        note(found, WRONG_RETURN, at);
+    }
+    if !may_be_basic(of) {
+        note(found, NOT_BUILT, at);
+    }
+    Ok(Some(TStat::Return(at, Some(value.typed))))
+}
+
+/// Whether a type is a basic one, or may be.
+fn may_be_basic(of: Option<TypeId>) -> bool
+    ensures { result ≡ passes is_basic_type of }
+{
+    match of {
+        Some(of) => is_basic(of),
+        None => true,
+    }
+}
+
+/// RETURN at a place, with a value or without.
+#[tactic(auto, using(aos_symbols::proofs::Keeping::after_more))]
+pub fn return_of(
+    alloc: Global,
+    found: &mut Option<Breach>,
+    env: &Env<'_>,
+    at: Pos,
+    value: &Option<Expr>,
+) -> Result<Option<TStat>, AllocError>
+    ensures noted { OnOk result (found.new ≡ first_after found.old
+        (judge.return_of env.now at (judge.gives_here env.now) value.now).breaches) }
+    ensures answer { IfOk result (λ s. option_map seen_stat s ≡
+        (judge.return_of env.now at (judge.gives_here env.now) value.now).answer) }
+{
+    match (gives_here(env), value) {
+        (Gives::Nothing, None) => Ok(Some(TStat::Return(at, None))),
+        (Gives::Nothing, Some(value)) => {
+            let _value = expr(alloc, found, env, value)?;
+            Ok(refused(found, WRONG_RETURN, at))
+        },
+        (Gives::Value(_), None) => Ok(refused(found, WRONG_RETURN, at)),
+        (Gives::Value(of), Some(value)) => return_value(alloc, found, env, at, of, value),
+    }
+}
