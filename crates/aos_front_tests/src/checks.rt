@@ -48,9 +48,9 @@ const MODULES: [(&str, &str); 9] = [
     ),
     (
         "MODULE M; VAR a: ARRAY 4 OF CHAR; BEGIN a := \"abc\"; COPY(a, a) END M.",
-        "kept, kept, kept: [PutText(Pos { line: 1, col: 41 }, true, ModuleVar(0, 1), 4, \
-         ModuleVar(0, 0), 4), PutText(Pos { line: 1, col: 53 }, false, ModuleVar(0, 0), 4, \
-         ModuleVar(0, 0), 4)]",
+        "kept, kept, kept: [PutText(Pos { line: 1, col: 41 }, true, Known(ModuleVar(0, 1), [4]), \
+         Known(ModuleVar(0, 0), [4])), PutText(Pos { line: 1, col: 53 }, false, \
+         Known(ModuleVar(0, 0), [4]), Known(ModuleVar(0, 0), [4]))]",
     ),
     (
         "MODULE M; TYPE A = ARRAY 2, 0 OF CHAR; B = RECORD b: B END; END M.",

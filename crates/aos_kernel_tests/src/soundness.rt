@@ -128,7 +128,7 @@ static UNSOUND_CALLS: [&str; 10] = [
     "num 1; module 0 1; call 3; out_char; return",
     // no such procedure, cell, keep, type
     "call 4; return",
-    "frame 1; load n; out_char; return",
+    "frame 2; load n; out_char; return",
     "num 1; keep 1 n; return",
     "module 0 1; offset 0 2; load n; out_char; return",
     // more lengths than there are, and one that isn't among them

@@ -75,11 +75,7 @@ PROCEDURE P(a, a: LONGINT); END P; => 16: rule 13: name declared twice
 PROCEDURE P(a: LONGINT); VAR a: LONGINT; END P; => 30: rule 13: name declared twice
 PROCEDURE P; TYPE T = SET; END P; VAR v: T; => 42: rule 14: unknown name
 VAR o: ARRAY 2 OF LONGINT; BEGIN NEW(o) => 34: rule 47: wrong NEW
-PROCEDURE P(x: LONGINT); BEGIN x := 1 END P; => 32: rule 99: not built yet
-PROCEDURE P; VAR x: LONGINT; BEGIN Out.Int(x, 0) END P; => 44: rule 99: not built yet
-PROCEDURE P; BEGIN u := 1 END P; => 20: rule 14: unknown name
-PROCEDURE F(): LONGINT; BEGIN RETURN 1 END F; => 31: rule 99: not built yet
-PROCEDURE P; END P; BEGIN P => 27: rule 99: not built yet";
+PROCEDURE P; BEGIN u := 1 END P; => 20: rule 14: unknown name";
 
 const ACCEPTED: &str = "\
 TYPE T = ARRAY 4096, 4096 OF CHAR; => 

@@ -49,11 +49,11 @@ fn refuses_texts(rt: HostRuntime) -> Result<(), Fail> {
             "M.Mod:1:18: rule 14: unknown name\n",
         ),
         (
-            "MODULE M; PROCEDURE P; END P; BEGIN P END M.",
-            "M.Mod:1:37: rule 99: not built yet\n",
+            "MODULE M; VAR x: SET; PROCEDURE P; END P; BEGIN x := P END M.",
+            "M.Mod:1:54: rule 99: not built yet\n",
         ),
         (
-            "MODULE M; BEGIN RETURN END M.",
+            "MODULE M; BEGIN AWAIT(TRUE) END M.",
             "M.Mod:1:17: rule 99: not built yet\n",
         ),
         (

@@ -169,7 +169,7 @@ EXCL(s, b) => 9: rule 35: argument type
 EXCL({1}, 1) => 6: rule 32: not a variable
 i := INC(i) => 6: rule 36: wrong call
 BEGIN {EXCLUSIVE} END => 8: rule 99: not built yet
-RETURN => 1: rule 99: not built yet";
+RETURN 1 => 1: rule 40: wrong RETURN";
 
 #[test]
 fn carries_statements_out(rt: HostRuntime) -> Result<(), Fail> {
