@@ -9,7 +9,7 @@ top=$(cd "$(dirname "${BASH_SOURCE[0]}")/.." && pwd)
 program=${1:-$top/crates/aos_main/out/aos_main}
 folder=$(mktemp -d)
 trap 'rm -rf "$folder"' EXIT
-steps=100000000
+source "$top/bench/timing.sh"
 
 if ! [ -x "$program" ]; then
     echo "$program isn't built: call ./aos once" >&2
@@ -131,23 +131,6 @@ M
 deep 1
 deep 510
 
-script() {
-    printf 'aos-script 1\nworkers 1\nbudget %s\ns 0 %s\nend\n' "$1" "$steps" >"$folder/$1.script"
-}
-
-# Five runs of a command: a line each, with the wall time and the processor time in seconds.
-five_runs() {
-    local TIMEFORMAT='%3R %3U %3S'
-    for _ in 1 2 3 4 5; do
-        { time "$@" >"$folder/out" 2>/dev/null; } 2>&1
-    done | awk '{ print $1, $2 + $3 }'
-}
-
-# The least of each column.
-least() {
-    awk 'NR == 1 || $1 < wall { wall = $1 } NR == 1 || $2 < cpu { cpu = $2 } END { printf "%.3f %.3f", wall, cpu }'
-}
-
 # The most memory that a command's process had at a time, in KiB. A small program starts it, since what a process had before it
 # began the command counts too.
 cat >"$folder/memory.c" <<'M'
@@ -175,9 +158,7 @@ most_memory() {
     "$folder/memory" "$@"
 }
 
-echo "model   $(LC_ALL=C lscpu | sed -n 's/^Model name: *//p' | head -1)"
-echo "cores   $(nproc)"
-echo "load    $(cut -d ' ' -f 1 /proc/loadavg)"
+machine
 
 # A module with the number of its statements and of its calls: it ends in that budget and not in one statement less.
 measured() {

@@ -8,10 +8,10 @@ top=$(cd "$(dirname "${BASH_SOURCE[0]}")/.." && pwd)
 program=${1:-$top/crates/aos_main/out/aos_main}
 folder=$(mktemp -d)
 trap 'rm -rf "$folder"' EXIT
+source "$top/bench/timing.sh"
 # each of 2,000,000 inner rounds begins a comparison, a statement and an addition; each of 2,000 outer rounds two of these and
 # the inner FOR with its first assignment and its last comparison; each outer FOR three; and s := 0 and Out.Int are two
 statements=6010008
-steps=100000000
 
 if ! [ -x "$program" ]; then
     echo "$program isn't built: call ./aos once" >&2
@@ -59,23 +59,6 @@ def run():
 
 run()
 M
-script() {
-    printf 'aos-script 1\nworkers 1\nbudget %s\ns 0 %s\nend\n' "$1" "$steps" >"$folder/$1.script"
-}
-
-# Five runs of a command: a line each, with the wall time and the processor time in seconds.
-five_runs() {
-    local TIMEFORMAT='%3R %3U %3S'
-    for _ in 1 2 3 4 5; do
-        { time "$@" >"$folder/out" 2>/dev/null; } 2>&1
-    done | awk '{ print $1, $2 + $3 }'
-}
-
-# The least of each column.
-least() {
-    awk 'NR == 1 || $1 < wall { wall = $1 } NR == 1 || $2 < cpu { cpu = $2 } END { printf "%.3f %.3f", wall, cpu }'
-}
-
 # The program ends in its whole budget, and not in one statement less.
 script $((statements + 1))
 script "$statements"
@@ -86,9 +69,7 @@ status=0
 python3 "$folder/nested.py" >"$folder/python.out"
 cmp "$folder/program.out" "$folder/python.out"
 
-echo "model   $(LC_ALL=C lscpu | sed -n 's/^Model name: *//p' | head -1)"
-echo "cores   $(nproc)"
-echo "load    $(cut -d ' ' -f 1 /proc/loadavg)"
+machine
 read -r wall cpu <<<"$(five_runs "$program" replay --script "$folder/$((statements + 1)).script" "$folder/Nested.Mod" | least)"
 echo "program $wall s wall, $cpu s processor"
 awk -v n="$statements" -v w="$wall" -v c="$cpu" 'BEGIN {

@@ -9,6 +9,7 @@ top=$(cd "$(dirname "${BASH_SOURCE[0]}")/.." && pwd)
 program=${1:-$top/crates/aos_main/out/aos_main}
 folder=$(mktemp -d)
 trap 'rm -rf "$folder"' EXIT
+source "$top/bench/timing.sh"
 characters=1000000
 most=$((1 << 20))
 few=1
@@ -41,27 +42,12 @@ same_output() {
     [ "$(stat -c %s "$folder/program.out")" = $((characters * $1)) ]
 }
 
-# Five runs of a command: a line each, with the wall time and the processor time in seconds.
-five_runs() {
-    local TIMEFORMAT='%3R %3U %3S'
-    for _ in 1 2 3 4 5; do
-        { time "$@" >"$folder/out" 2>/dev/null; } 2>&1
-    done | awk '{ print $1, $2 + $3 }'
-}
-
-# The least of each column.
-least() {
-    awk 'NR == 1 || $1 < wall { wall = $1 } NR == 1 || $2 < cpu { cpu = $2 } END { printf "%.3f %.3f", wall, cpu }'
-}
-
 for rounds in "$few" "$many"; do
     module "$rounds"
     same_output "$rounds"
 done
 
-echo "model   $(LC_ALL=C lscpu | sed -n 's/^Model name: *//p' | head -1)"
-echo "cores   $(nproc)"
-echo "load    $(cut -d ' ' -f 1 /proc/loadavg)"
+machine
 echo "text    $(stat -c %s "$folder/$few.Mod") bytes, with a string constant of $characters characters"
 
 read -r wall_few cpu_few <<<"$(five_runs "$program" run "$folder/$few.Mod" | least)"

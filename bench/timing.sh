@@ -1,0 +1,26 @@
+# What the scripts beside it share, which source it: times of commands, and scripts for `replay`. Files lie in $folder.
+
+# Five runs of a command: a line each, with the wall time and the processor time in seconds.
+five_runs() {
+    local TIMEFORMAT='%3R %3U %3S'
+    for _ in 1 2 3 4 5; do
+        { time "$@" >"$folder/out" 2>/dev/null; } 2>&1
+    done | awk '{ print $1, $2 + $3 }'
+}
+
+# The least of each column.
+least() {
+    awk 'NR == 1 || $1 < wall { wall = $1 } NR == 1 || $2 < cpu { cpu = $2 } END { printf "%.3f %.3f", wall, cpu }'
+}
+
+# A script of one worker with this budget, and with more steps than its programs make.
+script() {
+    printf 'aos-script 1\nworkers 1\nbudget %s\ns 0 100000000\nend\n' "$1" >"$folder/$1.script"
+}
+
+# The machine, and what else it has to do.
+machine() {
+    echo "model   $(LC_ALL=C lscpu | sed -n 's/^Model name: *//p' | head -1)"
+    echo "cores   $(nproc)"
+    echo "load    $(cut -d ' ' -f 1 /proc/loadavg)"
+}
