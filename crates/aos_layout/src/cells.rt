@@ -2,7 +2,6 @@
 
 ghost use Rattle.std.specs.Prelude.{◌≡◌, ◌<◌, ◌≤◌, ◌++◌, ◌∷◌, [], All, length, map, replicate, OnOk};
 ghost use Rattle.aos_types.specs.Chain.{NoneContainsItself};
-ghost use Rattle.aos_types.specs.Sameness.{element_of as element_in};
 ghost use Rattle.aos_types.specs.Table as table;
 ghost use Rattle.aos_code.specs.declared.instr.Kind.TheVariants as kind;
 ghost use Rattle.aos_typed.specs.Seen.{seen_parameter, seen_variable};
@@ -15,7 +14,7 @@ use crate::part::row_of;
 use crate::work::{is_object, kinds_of};
 use aos_base::Width;
 use aos_code::Kind;
-use aos_typed::{TParameter, TType, TVariable};
+use aos_typed::{TParameter, TType, TVariable, open_array};
 use aos_types::{TypeId, TypeRow, Types};
 use std::alloc::{AllocError, Global};
 
@@ -44,42 +43,6 @@ pub(crate) fn is_open(types: &Types, t: TypeId) -> bool
     ensures { result ≡ table.is_open (table.row_of types.now t) }
 {
     matches!(row_of(types, t), Some(TypeRow::Open(_)))
-}
-
-/// The type of an open array's elements.
-fn element_of(types: &Types, t: TypeId) -> Option<TypeId>
-    ensures { result ≡ element_in (table.row_of types.now t) }
-{
-    match row_of(types, t) {
-        Some(TypeRow::Open(element)) => Some(*element),
-        _ => None,
-    }
-}
-
-/// An open array: how many of its dimensions are open, and the type of the elements behind them.
-#[derive(Clone, Copy)]
-pub(crate) struct OpenArray {
-    pub dimensions: u64,
-    pub element: TypeId,
-}
-
-/// The open dimensions of a type.
-pub(crate) fn open_array(types: &Types, t: TypeId) -> OpenArray
-    ensures dimensions { result.dimensions ≡ frame.open_dimensions types.now t }
-    ensures element { result.element ≡ frame.open_element types.now t }
-{
-    let mut open = OpenArray {
-        dimensions: 0,
-        element: t,
-    };
-    for _step in 0..types.len() {
-        let Some(element) = element_of(types, open.element) else {
-            return open;
-        };
-        open.dimensions += 1;
-        open.element = element;
-    }
-    open
 }
 
 /// Puts the kinds of a variable's cells behind others.

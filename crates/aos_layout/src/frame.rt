@@ -12,12 +12,12 @@ ghost use Rattle.aos_layout.specs.Frame as frame;
 ghost use Rattle.aos_layout.specs.Layout as layout;
 ghost use Rattle.aos_layout.specs.Seen.{seen_frame};
 
-use crate::cells::{Cells, id_of, is_open, open_array};
+use crate::cells::{Cells, id_of, is_open};
 use crate::part::{row_of, variable_scalars};
 use crate::work::kind_of;
 use aos_base::NoMemory;
 use aos_code::{Kind, ParamKind, ProcShape};
-use aos_typed::{TParameter, TProcedure, TType};
+use aos_typed::{TParameter, TProcedure, TType, open_array};
 use aos_types::{TypeId, TypeRow, Types};
 use std::alloc::{AllocError, Global};
 

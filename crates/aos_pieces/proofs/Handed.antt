@@ -1,7 +1,7 @@
 -- The kinds of what a call hands over, in the order in which it lies on the stack, and those of an open array.
-use Rattle.std.proofs.Common.{◌≡◌, ◌≤◌, ◌-◌, inl, inr, ℕ, zero, suc, true, false, List, [], ◌∷◌, ◌++◌, Option, Some, None, length, map, refl, sym, ap, ◌∙◌, arith, append_assoc, append-nil, length-append}
+use Rattle.std.proofs.Common.{◌≡◌, ◌≤◌, ◌+◌, ◌-◌, inl, inr, ℕ, zero, suc, true, false, List, [], ◌∷◌, ◌++◌, Option, Some, None, length, map, refl, sym, ap, ◌∙◌, arith, append_assoc, append-nil, length-append}
 use Rattle.std.specs.Prelude.{replicate, reverse, ◌⊎◌}
-use Rattle.std.proofs.lemmas.List.{length-replicate, reverse-append}
+use Rattle.std.proofs.lemmas.List.{length-replicate, replicate-append-replicate, reverse-append}
 use Rattle.aos_types.specs.declared.row.TypeRow.{TypeRow}
 use Rattle.aos_types.specs.declared.row.TypeRow.TheVariants as row
 use Rattle.aos_types.specs.Table.{row_of, is_open, is_scalar}
@@ -17,7 +17,7 @@ use Rattle.aos_sound.specs.Sound.{Kinds, row as opened, without, all_topped}
 use Rattle.aos_typed.specs.declared.tree.TType.{TType}
 use Rattle.aos_typed.specs.Numbers.{id_of}
 use Rattle.aos_typed.specs.Open.{open_dimensions}
-use Rattle.aos_typed.specs.Program.{Parameter, Procedure, Rows, Known, Opened, Row, Arguments, NoMore, Scalar, Whole, Opening, Program}
+use Rattle.aos_typed.specs.Program.{Parameter, Procedure, Rows, Known, Opened, Row, Longer, Arguments, NoMore, Scalar, Whole, Opening, Program}
 use Rattle.aos_typed.specs.WellTyped.{is_basic, is_whole, is_open_parameter, IsByReference, IsByValue, IsOpening, AreRows, AreArguments}
 use Rattle.aos_sim.specs.Code.{kind_of, dimensions}
 use Rattle.aos_sim.specs.Need.{arguments_need}
@@ -30,6 +30,7 @@ pub dimensions_are : (p : Program) (o : Option Procedure) (r : Rows) (n : ℕ) (
 dimensions_are p o (Known x ns) n t h = sym h.0
 dimensions_are p o (Opened k j) n t h = sym h.0
 dimensions_are p o (Row r of e) n t h = let d = dimensions_are p o r (suc n) t h.0 in omega (arith, d)
+dimensions_are p o (Longer r ns) n t h = ap (λ m. m + length ns) (dimensions_are p o r h.0 h.1 h.3) ∙ sym h.2
 
 -- one more below others of its kind
 pub pushed : (k : Kind) (j : ℕ) (s : Kinds) → replicate j k ++ k ∷ s ≡ k ∷ (replicate j k ++ s)
@@ -51,6 +52,12 @@ rows_taken j s = ap (without (opened j)) (sym (append_assoc (replicate j N) (A �
 -- for an element of it with a dimension less, and an index
 pub opened_row : (j : ℕ) (s : Kinds) → all_topped (opened (j - 1)) (without (N ∷ opened j) (N ∷ (replicate j N ++ A ∷ s))) ≡ Some (replicate (j - 1) N ++ A ∷ s)
 opened_row j s = ap (all_topped (opened (j - 1))) (rows_taken j s) ∙ ap (λ l. Some l) (append_assoc (replicate (j - 1) N) (A ∷ []) s)
+
+-- more lengths above those of an open array
+pub opened_longer : (n j : ℕ) (s : Kinds) → replicate n N ++ (replicate j N ++ A ∷ s) ≡ replicate (j + n) N ++ A ∷ s
+opened_longer n j s =
+    let e : n + j ≡ j + n = omega arith in
+    sym (append_assoc (replicate n N) (replicate j N) (A ∷ s)) ∙ ap (λ l. l ++ A ∷ s) (replicate-append-replicate n j N ∙ ap (λ m. replicate m N) e)
 
 reversed_same : (j : ℕ) (k : Kind) → reverse (replicate j k) ≡ replicate j k
 reversed_same zero k = refl

@@ -90,6 +90,12 @@ module _ (image : Image) (own : ℕ) (role : Role) (depth : ℕ) where
   are_ok_both whole kinds [] d at a b = let n : at + 0 ≡ at = omega arith in subst (λ p. AreOk image own role depth whole kinds d p) n b
   are_ok_both whole kinds (i ∷ c) d at a b = let n : at + suc (length c) ≡ at + 1 + length c = omega arith in (a.0, are_ok_both whole kinds c d (at + 1) a.1 (subst (λ p. AreOk image own role depth whole kinds d p) n b))
 
+  -- a piece with places in it that have its first operands
+  abbrev pub Entries : Round → List Instr → (at : ℕ) → (place : ℕ → ℕ) → (s t : Kinds) → Type 0
+  Entries Asks code at place s t =
+      (q : Piece image own role depth Asks code at s t)
+      × ((kinds : Typing) → Lies kinds at q.types → kinds (at + length code) ≡ Some t → (n : ℕ) → kinds (place n) ≡ Some s)
+
 module _ {image : Image} {own : ℕ} {role : Role} {depth : ℕ} where
   -- nothing
   pub nothing : {Asks : Round} {at : ℕ} {s : Kinds} → Piece image own role depth Asks [] at s s
@@ -97,9 +103,9 @@ module _ {image : Image} {own : ℕ} {role : Role} {depth : ℕ} where
       let n : at + 0 ≡ at = omega arith in
       record { types = []; long = refl; enters = λ kinds l e. ap kinds (sym n) ∙ e; flows = λ whole kinds w st l e o. tt }
 
-  -- one piece behind another
-  pub both : {Asks : Round} {c d : List Instr} {at : ℕ} {s t u : Kinds} → Piece image own role depth Asks c at s t → Piece image own role depth Asks d (at + length c) t u → Piece image own role depth Asks (c ++ d) at s u
-  both {c = c} {d = d} {at = at} {t = t} {u = u} p q =
+  -- one piece behind another, which has what the first one asks
+  pub followed : {Asks Before : Round} {c d : List Instr} {at : ℕ} {s t u : Kinds} → Piece image own role depth Before c at s t → (q : Piece image own role depth Asks d (at + length c) t u) → ((whole : List Instr) (kinds : Typing) → Lies kinds (at + length c) q.types → kinds (at + length c + length d) ≡ Some u → Asks whole kinds → Before whole kinds) → Piece image own role depth Asks (c ++ d) at s u
+  followed {c = c} {d = d} {at = at} {t = t} {u = u} p q asked =
       let la = length-append c d in
       let place : at + length (c ++ d) ≡ at + length c + length d = omega (arith, la) in
       let lp = p.long in
@@ -110,9 +116,13 @@ module _ {image : Image} {own : ℕ} {role : Role} {depth : ℕ} where
         long = (let lt = length-append p.types q.types in let lq = q.long in omega (arith, lt, la, lp, lq));
         enters = λ kinds l e. p.enters kinds (lies_first kinds at p.types q.types l) (seam kinds l e);
         flows = λ whole kinds w st l e o. are_ok_both image own role depth whole kinds c d at
-            (p.flows whole kinds w (stands_first whole at c d st) (lies_first kinds at p.types q.types l) (seam kinds l e) o)
+            (p.flows whole kinds w (stands_first whole at c d st) (lies_first kinds at p.types q.types l) (seam kinds l e) (asked whole kinds (second kinds l) (ap kinds (sym place) ∙ e) o))
             (q.flows whole kinds w (stands_second whole at c d st) (second kinds l) (ap kinds (sym place) ∙ e) o);
       }
+
+  -- one piece behind another
+  pub both : {Asks : Round} {c d : List Instr} {at : ℕ} {s t u : Kinds} → Piece image own role depth Asks c at s t → Piece image own role depth Asks d (at + length c) t u → Piece image own role depth Asks (c ++ d) at s u
+  both p q = followed p q (λ whole kinds l e o. o)
 
   -- what a piece asks follows from what is at its own ends, and from where it stands
   pub asks_less : {Asks : Round} (Asks' : Round) {code : List Instr} {at : ℕ} {s t : Kinds} → Piece image own role depth Asks code at s t → ((whole : List Instr) (kinds : Typing) → Stands whole at code → kinds at ≡ Some s → kinds (at + length code) ≡ Some t → Asks' whole kinds → Asks whole kinds) → Piece image own role depth Asks' code at s t
@@ -204,29 +214,24 @@ module _ {image : Image} {own : ℕ} {role : Role} {depth : ℕ} where
   stops i {at = at} left e n few may =
       single i left e few (λ whole kinds f o to leads. absurd (subst (λ x. Leads x at to) n leads)) (λ whole kinds w o. may whole at)
 
-  -- labels that may lead to one piece, and else the code goes on at another
-  pub picks : {Asks : Round} {ls b more : List Instr} {at : ℕ} (hit next end : ℕ) {s t : Kinds} → hit ≡ at + length ls + 1 → next ≡ hit + length b + 1 → end ≡ next + length more → length s ≤ depth → length t ≤ depth → Piece image own role depth (At hit s) ls at s s → Piece image own role depth Asks b hit s t → Piece image own role depth Asks more next s t → Piece image own role depth Asks (ls ++ (Jump next ∷ (b ++ (Jump end ∷ more)))) at s t
-  picks {Asks} {ls} {b} {more} {at} hit next end {s} {t} h n e few few' pl pb pm =
+  -- one arm, which leads behind the others, and the others
+  pub arm : {Asks : Round} {b more : List Instr} {at : ℕ} (end : ℕ) (place : ℕ → ℕ) {s t : Kinds} → end ≡ at + length b + 1 + length more → place 0 ≡ at → length t ≤ depth → Piece image own role depth Asks b at s t → Entries image own role depth Asks more (at + length b + 1) (λ n. place (suc n)) s t → Entries image own role depth Asks (b ++ (Jump end ∷ more)) at place s t
+  unfolding asks_less both followed jump_forth single
+  arm {Asks} {b} {more} {at} end place {s} {t} e first few pb pm =
       let Outer : Round = λ whole kinds. Asks whole kinds × (kinds end ≡ Some t) in
-      let Inner : Round = λ whole kinds. Asks whole kinds × (kinds next ≡ Some s) × (kinds end ≡ Some t) in
-      let labels = ls ++ Jump next ∷ [] in
-      let body = b ++ Jump end ∷ [] in
-      let l1 = length-append ls (Jump next ∷ []) in
-      let l2 = length-append b (Jump end ∷ []) in
-      let l3 = length-append labels body in
-      let l4 = length-append (labels ++ body) more in
-      let place1 : at + length labels ≡ hit = omega (arith, l1, h) in
-      let place2 : at + length (labels ++ body) ≡ next = omega (arith, l1, l2, l3, h, n) in
-      let place3 : at + length ((labels ++ body) ++ more) ≡ end = omega (arith, l4, place2, e) in
-      let over = asks_less (At next s) (jump_forth next {at = at + length ls} {s = s} {u = s} (omega (arith, h, n)) few) (λ whole kinds st f g q. q) in
-      let Tests : Round = λ whole kinds. (kinds hit ≡ Some s) × (kinds next ≡ Some s) in
-      let tests = asks_less Inner (both (asks_less Tests pl (λ whole kinds st f g q. q.0)) (asks_less Tests over (λ whole kinds st f g q. q.1))) (λ whole kinds st f g q. (ap kinds (sym place1) ∙ g, q.1)) in
-      let past = asks_less Inner (jump_forth end {at = hit + length b} {s = t} {u = s} (omega (arith, n, e)) few') (λ whole kinds st f g q. q.2) in
-      let inner = moved (sym place1) (both (asks_less Inner pb (λ whole kinds st f g q. q.0)) past) in
-      let upper = asks_less Outer (both tests inner) (λ whole kinds st f g q. (q.0, ap kinds (sym place2) ∙ g, q.1)) in
-      let lower = moved (sym place2) (asks_less Outer pm (λ whole kinds st f g q. q.0)) in
-      let same : (labels ++ body) ++ more ≡ ls ++ (Jump next ∷ (b ++ (Jump end ∷ more))) = append_assoc labels body more ∙ append_assoc ls (Jump next ∷ []) (body ++ more) ∙ ap (λ x. ls ++ (Jump next ∷ x)) (append_assoc b (Jump end ∷ []) more) in
-      recoded same (asks_less Asks (both upper lower) (λ whole kinds st f g q. (q, ap kinds (sym place3) ∙ g)))
+      let la = length-append b (Jump end ∷ more) in
+      let ends : at + length (b ++ (Jump end ∷ more)) ≡ end = omega (arith, la, e) in
+      let over = asks_less Outer (jump_forth end {at = at + length b} {s = t} {u = s} (omega (arith, e)) few) (λ whole kinds st f g q. q.1) in
+      let upper = asks_less Outer pb (λ whole kinds st f g q. q.0) in
+      let lower = asks_less Outer pm.0 (λ whole kinds st f g q. q.0) in
+      let all = asks_less Asks (both upper (both over lower)) (λ whole kinds st f g q. (q, ap kinds (sym ends) ∙ g)) in
+      let second : (kinds : Typing) → Lies kinds at all.types → Lies kinds (at + length b + 1) pm.0.types = λ kinds l. subst (λ n. Lies kinds (at + n + 1) pm.0.types) pb.long (lies_second kinds at pb.types (t ∷ pm.0.types) l).1 in
+      let z : at + length (b ++ (Jump end ∷ more)) ≡ at + length b + 1 + length more = omega (arith, la) in
+      (all, λ kinds l g. at_place kinds (ap kinds first ∙ all.enters kinds l g) (pm.1 kinds (second kinds l) (ap kinds (sym z) ∙ g)))
+    where
+      at_place : (kinds : Typing) → kinds (place 0) ≡ Some s → ((n : ℕ) → kinds (place (suc n)) ≡ Some s) → (n : ℕ) → kinds (place n) ≡ Some s
+      at_place kinds h others zero = h
+      at_place kinds h others (suc n) = others n
 
   -- statements, and then a test: where it gives 0, once more
   pub repeats_until : {Asks : Round} (line col : ℕ) {b c : List Instr} {at : ℕ} {s : Kinds} → is_procedure role ≡ true → suc (length s) ≤ depth → Piece image own role depth Asks b (at + 1) s s → Piece image own role depth Asks c (at + 1 + length b) s (N ∷ s) → Piece image own role depth Asks (Begin line col ∷ (b ++ (c ++ JumpFalse at ∷ []))) at s s

@@ -1,12 +1,13 @@
 -- The code of each statement and each sequence is a piece that leaves the operands as they were.
-use Rattle.std.proofs.Common.{◌≡◌, ◌≤◌, ◌<◌, inl, inr, ℕ, suc, ◌+◌, ◌*◌, List, [], ◌∷◌, ◌++◌, Some, length, Option, None, refl, ap, ◌∙◌, arith, append_assoc, length-append}
+use Rattle.std.proofs.Common.{◌≡◌, ◌≤◌, ◌<◌, inl, inr, ℕ, suc, ◌+◌, ℤ, List, [], ◌∷◌, ◌++◌, Some, length, Option, None, refl, sym, ap, ◌∙◌, subst, arith, append_assoc, length-append}
 use Rattle.std.specs.Prelude.{IsTrue, ◌⊎◌, option_map}
 use Rattle.std.proofs.lemmas.Bool.{lt-ltb}
 use Rattle.std.proofs.Math.Nat.{le-max_left, le-max_right}
 use Rattle.aos_base.specs.declared.text.Pos.{Pos}
 use Rattle.aos_base.specs.declared.number.Width.{Width}
 use Rattle.aos_base.specs.declared.number.Width.TheVariants.{W8, W16, W32, W64}
-use Rattle.aos_base.specs.declared.number.Relation.TheVariants.{LessEqual, GreaterEqual}
+use Rattle.aos_base.specs.declared.number.Relation.{Relation}
+use Rattle.aos_base.specs.declared.number.Relation.TheVariants.{Less, LessEqual, GreaterEqual}
 use Rattle.aos_base.specs.declared.operator.Binary.TheVariants as binary
 use Rattle.aos_code.specs.declared.instr.Kind.{Kind}
 use Rattle.aos_code.specs.declared.instr.Kind.TheVariants.{N, R, C, A}
@@ -29,12 +30,13 @@ use Rattle.aos_typed.specs.Routines.{result_of}
 use Rattle.aos_layout.specs.Layout.{kind_of as cell_kind}
 use Rattle.aos_typed.specs.Program.{Program, Procedure as Declared, Place, Expr, Lit, Read, Binary, Call, Open, Char, Int, String, Ln, Stat, Assign, Copy, PutText, If, Case, While, Repeat, Loop, Exit, For, Block, Assert, Halt, Change, Perform, Return, New, Out, Stats, Nothing, Then, Arms, Otherwise, Arm, Cases, NoElse, Else, OfLabels}
 use Rattle.aos_typed.specs.WellTyped.{Includes, amount_type, IsPlaceOf, IsOf, IsCall, IsReturn, IsStatement, AreStatements, AreArms, AreCases}
-use Rattle.aos_sim.specs.Code.{begin, kind_of, cells_of, place_code, value_code, out_code, new_code, assign_code, change_code, changed_code, for_head, step_code, body_place, labels_code, stat_code, stats_code, arms_code, cases_code}
+use Rattle.aos_sim.specs.Code.{begin, kind_of, cells_of, place_code, value_code, out_code, new_code, assign_code, change_code, changed_code, for_head, step_code, body_place, stat_code, stats_code, arms_code, cases_code, arm_place}
+use Rattle.aos_sim.specs.Search.{Search, Nowhere, At as Labels, Split, arms_in, search_of, label_code, search_size, search_code}
 use Rattle.aos_sim.specs.Need.{place_need, value_need, out_need, assign_need, changed_need, stat_need, stats_need, arms_need, cases_need, stat_level, stats_level, arms_level, cases_level}
 use Rattle.aos_sim.proofs.Stats.{basic_kind, basic_cell}
-use Rattle.aos_sim.proofs.Sizes.{labels_length, stats_length, arms_length, cases_length, stats_above}
+use Rattle.aos_sim.proofs.Sizes.{search_length, stats_length, arms_length, cases_length, arm_ahead, stats_above}
 use Rattle.aos_pieces.specs.Piece.{Round, Piece}
-use Rattle.aos_pieces.proofs.Pieces.{At, nothing, one, both, one_then, then_one, moved, recoded, asks_less, jump_forth, branch, choose, picks, repeats, repeats_until, loops, stops}
+use Rattle.aos_pieces.proofs.Pieces.{At, Entries, nothing, one, followed, both, one_then, then_one, moved, recoded, asks_less, jump_forth, branch, choose, arm, repeats, repeats_until, loops, stops}
 use Rattle.aos_pieces.proofs.Numbers.{HasNumbers}
 use Rattle.aos_pieces.proofs.Handed.{dimensions_are}
 use Rattle.aos_pieces.proofs.Values.{some_place, some_rows, some_need, as_kind, place_piece, value_piece, text_piece, texts_piece, call_takes, call_piece, value_basic}
@@ -155,23 +157,51 @@ module _ (p : Program) (o : Option Declared) (image : Image) (own : ℕ) (depth 
       (one_then i.Swap refl refl (omega (arith, room, k, few.1)) (λ whole q. refl)
       (change_piece c s _ (omega (arith, room, few.2)))))))))
 
-  -- labels, where the selector's value is kept
-  labels_piece : (rs : List LabelRange) (d at hit : ℕ) (s : Kinds) → d < keeps → at + 9 * length rs ≤ hit → length s + 2 ≤ depth → Piece image own Procedure depth (At hit s) (labels_code rs d at hit) at s s
-  labels_piece [] d at hit s lt le room = nothing
-  labels_piece (r ∷ rs) d at hit s lt le room =
-      let Both : Round = λ whole kinds. (kinds hit ≡ Some s) × (kinds (at + 9) ≡ Some s) in
-      let far : at + 9 + 9 * length rs ≤ hit = omega (arith, le) in
-      let label =
+  -- all these places have no operands
+  abbrev AtAll : (ℕ → ℕ) → Round
+  AtAll place = λ whole kinds. (n : ℕ) → kinds (place n) ≡ Some []
+
+  -- a comparison of the selector's value, which is kept, and a jump where it doesn't hold
+  test_piece : (relation : Relation) (z : ℤ) (d to at : ℕ) → d < keeps → at + 4 ≤ to → 2 ≤ depth → Piece image own Procedure depth (At to []) (i.Kept d N ∷ (i.Num z ∷ (i.Binary (binary.Cmp relation) ∷ (i.JumpFalse to ∷ [])))) at [] []
+  test_piece relation z d to at lt ahead room =
       one_then (i.Kept d N) refl refl (omega (arith, room)) (may_keep d lt)
-      (one_then (i.Num r.low) refl refl (omega (arith, room)) (λ whole q. refl)
-      (one_then (i.Binary (binary.Cmp GreaterEqual)) refl refl (omega (arith, room)) (λ whole q. refl)
-      (both (asks_less Both (branch (at + 9) {at = at + 1 + 1 + 1} {s = s} (omega arith) (omega (arith, room))) (λ whole kinds st f g q. q.1))
-      (one_then (i.Kept d N) refl refl (omega (arith, room)) (may_keep d lt)
-      (one_then (i.Num r.high) refl refl (omega (arith, room)) (λ whole q. refl)
-      (one_then (i.Binary (binary.Cmp LessEqual)) refl refl (omega (arith, room)) (λ whole q. refl)
-      (both (asks_less Both (branch (at + 9) {at = at + 1 + 1 + 1 + 1 + 1 + 1 + 1} {s = s} (omega arith) (omega (arith, room))) (λ whole kinds st f g q. q.1))
-      (asks_less Both (jump_forth hit {at = at + 1 + 1 + 1 + 1 + 1 + 1 + 1 + 1} {s = s} {u = s} (omega (arith, le)) (omega (arith, room))) (λ whole kinds st f g q. q.0))))))))) in
-      both (asks_less (At hit s) label (λ whole kinds st f g q. (q, g))) (labels_piece rs d (at + 9) hit s lt far room)
+      (one_then (i.Num z) refl refl (omega (arith, room)) (λ whole q. refl)
+      (one_then (i.Binary (binary.Cmp relation)) refl refl (omega (arith, room)) (λ whole q. refl)
+      (branch to {at = at + 1 + 1 + 1} {s = []} (omega (arith, ahead)) (omega (arith, room)))))
+
+  -- labels
+  label_piece : (r : LabelRange) (d at hit : ℕ) → d < keeps → at + 9 ≤ hit → 2 ≤ depth → Piece image own Procedure depth (At hit []) (label_code r d at hit) at [] []
+  label_piece r d at hit lt le room =
+      let Both : Round = λ whole kinds. (kinds hit ≡ Some []) × (kinds (at + 9) ≡ Some []) in
+      let low = asks_less Both (test_piece GreaterEqual r.low d (at + 9) at lt (omega arith) room) (λ whole kinds st f g q. q.1) in
+      let high = asks_less Both (test_piece LessEqual r.high d (at + 9) (at + 4) lt (omega arith) room) (λ whole kinds st f g q. q.1) in
+      let over = asks_less Both (jump_forth hit {at = at + 4 + 4} {s = []} {u = []} (omega (arith, le)) (omega arith)) (λ whole kinds st f g q. q.0) in
+      asks_less (At hit []) (both low (both high over)) (λ whole kinds st f g q. (q, g))
+
+  -- a search
+  search_piece : (place : ℕ → ℕ) (other : ℕ) (t : Search) (d at : ℕ) → d < keeps → ((n : ℕ) → at + search_size t ≤ place n) → 2 ≤ depth → Piece image own Procedure depth (AtAll place) (search_code place other t d at) at [] []
+  search_piece place other Nowhere d at lt ahead room =
+      asks_less (AtAll place) (jump_forth (place other) {at = at} {s = []} {u = []} (omega (arith, ahead other)) (omega arith)) (λ whole kinds st f g q. q other)
+  search_piece place other (Labels r) d at lt ahead room =
+      both (asks_less (AtAll place) (label_piece r.labels d at (place r.arm) lt (omega (arith, ahead r.arm)) room) (λ whole kinds st f g q. q r.arm))
+      (asks_less (AtAll place) (jump_forth (place other) {at = at + 9} {s = []} {u = []} (omega (arith, ahead other)) (omega arith)) (λ whole kinds st f g q. q other))
+  search_piece place other (Split middle below above) d at lt ahead room =
+      let to = at + 4 + search_size below in
+      let Both : Round = λ whole kinds. AtAll place whole kinds × (kinds to ≡ Some []) in
+      let size = search_length place other below d (at + 4) in
+      let behind : at + 4 + length (search_code place other below d (at + 4)) ≡ to = ap (λ n. at + 4 + n) size in
+      let ends : at + suc (suc (suc (suc (length (search_code place other below d (at + 4)))))) ≡ to = omega (arith, behind) in
+      let test = asks_less Both (test_piece Less middle d to at lt (omega arith) room) (λ whole kinds st f g q. q.1) in
+      let upper = asks_less Both (search_piece place other below d (at + 4) lt (λ n. omega (arith, ahead n)) room) (λ whole kinds st f g q. q.0) in
+      both (asks_less (AtAll place) (both test upper) (λ whole kinds st f g q. (q, ap kinds (sym ends) ∙ g)))
+      (moved (sym ends) (search_piece place other above d to lt (λ n. omega (arith, ahead n)) room))
+
+  -- in the labels of a CASE, if there are any
+  labels_piece : (place : ℕ → ℕ) (cases : Cases) (d at : ℕ) → d < keeps → ((n : ℕ) → at + search_size (search_of cases) ≤ place n) → cases_need cases ≤ depth → Piece image own Procedure depth (AtAll place) (search_code place (arms_in cases) (search_of cases) d at) at [] []
+  labels_piece place NoElse d at lt ahead room = asks_less (AtAll place) (jump_forth (place 0) {at = at} {s = []} {u = []} (omega (arith, ahead 0)) (omega arith)) (λ whole kinds st f g q. q 0)
+  labels_piece place (Else ss) d at lt ahead room = asks_less (AtAll place) (jump_forth (place 0) {at = at} {s = []} {u = []} (omega (arith, ahead 0)) (omega arith)) (λ whole kinds st f g q. q 0)
+  labels_piece place (OfLabels rs ss cases) d at lt ahead room =
+      search_piece place (suc (arms_in cases)) (search_of (OfLabels rs ss cases)) d at lt ahead (omega (arith, room))
 
   -- a procedure that gives nothing ends without operands,
   nothing_returned : (r : Option TType) → result_of o ≡ r → IsReturn p o None r → returned (numbered image.shapes.items own) [] ≡ Some []
@@ -209,14 +239,24 @@ module _ (p : Program) (o : Option Declared) (image : Image) (own : ℕ) (depth 
         begins here (omega (arith, room)) (arms_piece arms h (at + 1) end x d (omega (arith, same)) (omega (arith, le)) kept room)
     stat_piece (Case here e cases) h at x d le kept room =
         let c = value_code p o e (at + 1) in
-        let first = at + 1 + length c + 1 in
+        let from = at + 1 + length c + 1 in
+        let first = from + search_size (search_of cases) in
         let end = first + length (cases_code p o cases first 0 x d) in
+        let place = arm_place p o cases first x d in
+        let search = search_code place (arms_in cases) (search_of cases) d from in
+        let arms = cases_code p o cases first end x d in
         let same = cases_length p o cases first end 0 x x d in
-        let counted = length-append c (i.Keep d N ∷ cases_code p o cases first end x d) in
+        let size = search_length place (arms_in cases) (search_of cases) d from in
+        let l1 = length-append c (i.Keep d N ∷ (search ++ arms)) in
+        let l2 = length-append search arms in
         let k = some_need e in
+        let lt : d < keeps = omega (arith, kept, le-max_left (suc d) (cases_level cases d)) in
+        let z : first ≡ from + length search = omega (arith, size) in
+        let all = subst (λ n. Entries image own Procedure depth (At x []) arms n place [] []) z
+        (cases_piece cases h.2 first end x d (omega (arith, same)) (omega (arith, le, same, size, l1, l2)) (omega (arith, kept, le-max_right (suc d) (cases_level cases d))) (omega (arith, room))) in
         begins here (omega (arith, room)) (both (selector_piece e h.0 (at + 1) [] (omega (arith, room)))
-        (one_then (i.Keep d N) refl refl (omega (arith, room, k)) (may_keep d (omega (arith, kept, le-max_left (suc d) (cases_level cases d))))
-        (cases_piece cases h.1 first end x d (omega (arith, same)) (omega (arith, le, counted)) (omega (arith, kept, le-max_left (suc d) (cases_level cases d))) (omega (arith, kept, le-max_right (suc d) (cases_level cases d))) (omega (arith, room)))))
+        (one_then (i.Keep d N) refl refl (omega (arith, room, k)) (may_keep d lt)
+        (followed (labels_piece place cases d from lt (arm_ahead p o cases first x d) (omega (arith, room))) all.0 (λ whole kinds l g q. all.1 kinds l g))))
     stat_piece (While here e body) h at x d le kept room =
         let c = value_code p o e (at + 1) in
         let first = at + 1 + length c + 1 in
@@ -313,19 +353,17 @@ module _ (p : Program) (o : Option Declared) (image : Image) (own : ℕ) (depth 
         (stats_piece ss h.1 first x d (omega (arith, ends, le, l1, l2)) (omega (arith, kept, le-max_left (stats_level ss d) (arms_level arms d))) (omega (arith, room)))
         (arms_piece arms h.2 next end x d (omega (arith, ends, l1, l2)) le (omega (arith, kept, le-max_right (stats_level ss d) (arms_level arms d))) (omega (arith, room)))
 
-    cases_piece : (cases : Cases) → AreCases p o cases → (at end x d : ℕ) → end ≡ at + length (cases_code p o cases at end x d) → end ≤ x → d < keeps → cases_level cases d ≤ keeps → cases_need cases ≤ depth → Piece image own Procedure depth (At x []) (cases_code p o cases at end x d) at [] []
-    cases_piece NoElse h at end x d ends le lt kept room = stops (i.Fail 4) [] refl refl (omega (arith, room)) (λ whole q. refl)
-    cases_piece (Else ss) h at end x d ends le lt kept room = stats_piece ss h at x d (omega (arith, ends, le)) kept room
-    cases_piece (OfLabels rs ss cases) h at end x d ends le lt kept room =
-        let hit = at + 9 * length rs + 1 in
-        let ls = labels_code rs d at hit in
-        let b = stats_code p o ss hit x d in
-        let next = hit + length b + 1 in
-        let more = cases_code p o cases next end x d in
-        let counted = labels_length rs d at hit in
-        let l1 = length-append ls (i.Jump next ∷ (b ++ (i.Jump end ∷ more))) in
-        let l2 = length-append b (i.Jump end ∷ more) in
-        picks hit next end (omega (arith, counted)) refl (omega (arith, ends, counted, l1, l2)) (omega (arith, room)) (omega (arith, room))
-        (labels_piece rs d at hit [] lt (omega arith) (omega (arith, room)))
-        (stats_piece ss h.1 hit x d (omega (arith, ends, le, counted, l1, l2)) (omega (arith, kept, le-max_left (stats_level ss d) (cases_level cases d))) (omega (arith, room)))
-        (cases_piece cases h.2 next end x d (omega (arith, ends, counted, l1, l2)) le lt (omega (arith, kept, le-max_right (stats_level ss d) (cases_level cases d))) (omega (arith, room)))
+    cases_piece : (cases : Cases) → AreCases p o cases → (at end x d : ℕ) → end ≡ at + length (cases_code p o cases at end x d) → end ≤ x → cases_level cases d ≤ keeps → cases_need cases ≤ depth → Entries image own Procedure depth (At x []) (cases_code p o cases at end x d) at (arm_place p o cases at x d) [] []
+    cases_piece NoElse h at end x d ends le kept room =
+        let q : Piece image own Procedure depth (At x []) (i.Fail 4 ∷ []) at [] [] = stops (i.Fail 4) [] refl refl (omega (arith, room)) (λ whole q. refl) in
+        (q, λ kinds l e n. q.enters kinds l e)
+    cases_piece (Else ss) h at end x d ends le kept room =
+        let q = stats_piece ss h at x d (omega (arith, ends, le)) kept room in
+        (q, λ kinds l e n. q.enters kinds l e)
+    cases_piece (OfLabels rs ss cases) h at end x d ends le kept room =
+        let b = stats_code p o ss at x d in
+        let next = at + length b + 1 in
+        let la = length-append b (i.Jump end ∷ cases_code p o cases next end x d) in
+        arm end (arm_place p o (OfLabels rs ss cases) at x d) (omega (arith, ends, la)) refl (omega (arith, room))
+        (stats_piece ss h.1 at x d (omega (arith, ends, le, la)) (omega (arith, kept, le-max_left (stats_level ss d) (cases_level cases d))) (omega (arith, room)))
+        (cases_piece cases h.2 next end x d (omega (arith, ends, la)) le (omega (arith, kept, le-max_right (stats_level ss d) (cases_level cases d))) (omega (arith, room)))

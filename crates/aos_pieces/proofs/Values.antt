@@ -23,7 +23,7 @@ use Rattle.aos_sound.specs.declared.effect.Next.TheVariants.{On}
 use Rattle.aos_sound.specs.declared.stand.Role.{Role}
 use Rattle.aos_sound.specs.Sound.{Kinds, row, without, topped, given, called, is_some, frame_cells, is_procedure, next_of, after, may_stand}
 use Rattle.aos_typed.specs.Numbers.{id_of, procedure_number}
-use Rattle.aos_typed.specs.Program.{Program, Procedure, Parameter, Place, ModuleVar, Local, Passed, Field, Index, Of, Rows, Known, Opened, Row, Arguments, NoMore, Scalar, Whole, Opening, Expr, Lit, Read, Unary, Binary, And, Or, Element, Ord, Chr, CompareTexts, Len, LenBehind, Function}
+use Rattle.aos_typed.specs.Program.{Program, Procedure, Parameter, Place, ModuleVar, Local, Passed, Field, Index, Of, Rows, Known, Opened, Row, Longer, Arguments, NoMore, Scalar, Whole, Opening, Expr, Lit, Read, Unary, Binary, And, Or, Element, Ord, Chr, CompareTexts, Len, LenBehind, Function}
 use Rattle.aos_typed.specs.declared.tree.Literal.{Literal}
 use Rattle.aos_typed.specs.declared.tree.Literal.TheVariants as literal
 use Rattle.aos_typed.specs.declared.tree.TType.{TType}
@@ -37,7 +37,7 @@ use Rattle.aos_sim.proofs.Stats.{basic_kind, basic_cell}
 use Rattle.aos_pieces.specs.Piece.{Round, Piece}
 use Rattle.aos_pieces.proofs.Pieces.{nothing, one, both, one_then, then_one, choose, left_with}
 use Rattle.aos_pieces.proofs.Operands.{included_kind, literal_kind, taken_kind, given_kind, given_of_two_kind, taken_kinds}
-use Rattle.aos_pieces.proofs.Handed.{dimensions_are, pushed, rows_taken, opened_row, reversed_row, kinds_taken, handed_first, scalar_kinds, place_kinds, open_kinds, handed_room, passed_size, opened_size}
+use Rattle.aos_pieces.proofs.Handed.{dimensions_are, pushed, rows_taken, opened_row, opened_longer, reversed_row, kinds_taken, handed_first, scalar_kinds, place_kinds, open_kinds, handed_room, passed_size, opened_size}
 use Rattle.aos_pieces.proofs.Numbers.{HasNumbers}
 
 mutual
@@ -55,6 +55,7 @@ mutual
   some_rows (Known x ns) = omega arith
   some_rows (Opened k j) = omega arith
   some_rows (Row r t e) = let h = some_rows r in omega (arith, h)
+  some_rows (Longer r ns) = omega arith
 
   -- and so does an expression
   pub some_need : (e : Expr) → 1 ≤ value_need e
@@ -227,6 +228,11 @@ module _ (p : Program) (o : Option Procedure) (image : Image) (own : ℕ) (role 
         (then_one
         (value_piece e (Integer W64) h.1 (at + length (rows_code p o r at)) (opened j s) (omega (arith, room, long)))
         (i.IndexOpen j (cells_of p o of)) (opened_row j s) refl (omega (arith, room, long, k)) (λ whole q. lt-ltb 0 j (omega (arith, d))))
+    rows_piece (Longer r ns) n t h at s room =
+        let j = dimensions r in
+        left_with (opened_longer (length ns) j s)
+        (both (rows_piece r h.0 h.1 h.3 at s (omega (arith, room)))
+        (numbers_piece ns (at + length (rows_code p o r at)) (opened j s) (omega (arith, room, opened_long j s))))
 
     -- what is handed over for these parameters
     pub arguments_piece : {Asks : Round} (as' : Arguments) (ps : List Parameter) → AreArguments p o as' ps → (at : ℕ) (s : Kinds) → length s + arguments_need as' ≤ depth → Piece image own role depth Asks (arguments_code p o as' at) at s (reverse (kinds_of (map (parameter_kind p.types) ps)) ++ s)

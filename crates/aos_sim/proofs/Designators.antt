@@ -1,13 +1,13 @@
 -- The code of a designator finds the place that the designator names, or traps as it does; that of an array finds its place and the
 -- lengths of its dimensions.
-use Rattle.std.proofs.Common.{◌≡◌, ℕ, zero, suc, ℤ, pos, negsuc, ◌+◌, ◌-◌, ◌*◌, ◌<◌, ◌^◌, Bool, true, false, List, [], ◌∷◌, ◌++◌, length, map, Option, Some, None, if◌then◌else◌, refl, sym, ap, ◌∙◌, subst, arith, append_assoc, append-nil, length-append}
+use Rattle.std.proofs.Common.{◌≡◌, ℕ, zero, suc, ℤ, pos, negsuc, ◌+◌, ◌*◌, ◌<◌, ◌^◌, Bool, true, false, List, [], ◌∷◌, ◌++◌, length, map, Option, Some, None, if◌then◌else◌, refl, sym, ap, ◌∙◌, subst, arith, append_assoc, append-nil, length-append}
 use Rattle.std.proofs.Common.{◌⊎◌}
 use Rattle.std.specs.Prelude.{All, nat_lt, reverse, slice_get, option_and_then, option_map}
 use Rattle.std.specs.Option.{unwrap_or}
 use Rattle.std.proofs.lemmas.Bool.{ltb-true, lt-ltb}
 use Rattle.std.proofs.lemmas.Grind.{reverse_onto}
-use Rattle.std.proofs.lemmas.List.{length-map}
-use Rattle.std.proofs.lemmas.List.Elements.{All-tail}
+use Rattle.std.proofs.lemmas.List.{length-map, map-append}
+use Rattle.std.proofs.lemmas.List.Elements.{All-tail, All-append}
 use Rattle.std.proofs.lemmas.Option.{slice_get-map}
 use Rattle.aos_base.specs.declared.number.Width.TheVariants.{W64}
 use Rattle.aos_base.specs.declared.place.Root.TheVariants.{Frame as FrameRoot, Module as ModuleRoot}
@@ -48,7 +48,7 @@ use Rattle.aos_sim.proofs.Runs.{Run, Onward, on_run, runs}
 use Rattle.aos_sim.proofs.Parts.{shape_on, cell_on, field_part, field_offset, array_shape, element_part, element_offset, row_part, row_offset, variable_size, part_of_row, nested_size}
 use Rattle.aos_sim.proofs.Does.{HasTypes, lengths_are, spot_cell, HasPlace, HasText, HasRoom, HasPredeclared, characters, IsReached, Given, Does, does_bind, does_more, place_grows}
 use Rattle.aos_sim.proofs.Variables.{basic_is_one, variable_there, variable_few, cell_there, constant_there, constant_few, constant_cell, local_there, alias_there, open_there}
-use Rattle.aos_sim.proofs.Evaluates.{OfType, number_in, pushed, OnTop, OnStack, Brings, ComesTo, Remain, Stays, Evaluates, piece_does, pieces_do, two_do}
+use Rattle.aos_sim.proofs.Evaluates.{OfType, number_in, pushed, OnTop, OnStack, pushed-append, Brings, ComesTo, Remain, Stays, Evaluates, front_does, piece_does, pieces_do, two_do}
 
 module _ (program : Program) where
   -- a variable of this type is there, and its cells have numbers of 32 bits
@@ -187,6 +187,10 @@ counted_taken (n ∷ ns) zs f s =
 nested_shape : (rows : List TypeRow) → IsRanked rows → (ns : List ℕ) (t of : TypeId) → IsArrayOf rows ns t of → variable_shape rows t ≡ nested ns (variable_shape rows of)
 nested_shape rows ranked [] t of h = ap (variable_shape rows) h
 nested_shape rows ranked (n ∷ ns) t of h = array_shape rows ranked t h.0 n h.1 ∙ ap (repeated n) (nested_shape rows ranked ns h.0 of h.2)
+
+nested_behind : {S : Type 0} (ls ns : List ℕ) (s : Shape S) → nested (ls ++ ns) s ≡ nested ls (nested ns s)
+nested_behind [] ns s = refl
+nested_behind (l ∷ ls) ns s = ap (repeated l) (nested_behind ls ns s)
 
 module _ (program : Program) (own : Option Procedure) (shapes : List ProcShape) (number here : ℕ) (code : List Instr) where
   abbrev onward : List Instr → Onward
@@ -376,6 +380,36 @@ module _ (program : Program) (own : Option Procedure) (shapes : List ProcShape) 
         };
         run = ap (λ c. onward rest 0 (at + 1) keeps (cell.Place (ModuleRoot m) c 0 ∷ s)) (sym (constant_cell program w known.modules m k n of own));
       })
+
+  -- the known lengths of dimensions behind those of an array
+  pub longer_does : HasTypes program → (bounded : Type 0) (m : ℕ) (u t : TType) (ns : List ℕ) (xs : List Instr) (r : Doing Found) (at : ℕ) → IsArrayOf program.types ns (id_of u) (id_of t) → FindsRows bounded m u xs r at → FindsRows (bounded × All IsLength ns) (m + length ns) t (xs ++ map (λ n. i.Num (pos n)) ns) (bind r (λ x. found x.place (x.lengths ++ map (λ n. Int (pos n)) ns))) at
+  longer_does typed bounded m u t ns xs r at of h w known rest k s =
+      let tail = map (λ (n : ℕ). i.Num (pos n)) ns in
+      let more = map (λ (n : ℕ). Int (pos n)) ns in
+      let q = at + length (xs ++ tail) in
+      let behind : at + length xs + length ns ≡ q = omega (arith, length-append xs tail, length-map ns (λ (n : ℕ). i.Num (pos n))) in
+      front_does program own shapes number here code (AreFound program bounded m u) rows_cells (WithRows (bounded × All IsLength ns) (m + length ns) t rest q k s) (λ x. found x.place (x.lengths ++ more)) xs tail r at rest k s h w known
+      (λ w' up x a f e.
+      let below = pushed (rows_cells w' x) s in
+      let cells : map (cell_of w') (x.lengths ++ more) ≡ map (cell_of w') x.lengths ++ numbers ns = map-append (cell_of w') x.lengths more ∙ ap (λ cs. map (cell_of w') x.lengths ++ cs) (lengths_are w' ns) in
+      record {
+        is = record {
+          lengths = f.lengths ++ ns;
+          are = ap (λ vs. vs ++ more) f.are ∙ sym (map-append (λ (n : ℕ). Int (pos n)) f.lengths ns);
+          many = length-append f.lengths ns ∙ ap (λ n. n + length ns) f.many;
+          at = with_shape w' x.place f.lengths f.at;
+          bound = λ b. All-append IsLength f.lengths ns (f.bound b.0) b.1;
+        };
+        run = e ∙ numbers_given ns rest (at + length xs) k below
+            ∙ ap (λ j. onward rest 0 j k (pushed (numbers ns) below)) behind
+            ∙ ap (λ vs. onward rest 0 q k vs) (sym (pushed-append (map (cell_of w') x.lengths) (numbers ns) (place_in w' x.place ∷ s)))
+            ∙ ap (λ vs. onward rest 0 q k (pushed vs (place_in w' x.place ∷ s))) (sym cells);
+      })
+    where
+      with_shape : (w : World Sort) (p : Spot) (ls : List ℕ) → AreRowsAt program ls u w p → AreRowsAt program (ls ++ ns) t w p
+      with_shape w p ls f =
+          let e = ap (nested ls) (nested_shape program.types typed.ranked ns (id_of u) (id_of t) of) ∙ sym (nested_behind ls ns (variable_shape program.types (id_of t))) in
+          record { there = f.there ∙ ap (λ z. Some z) e; few = subst (λ z. cell_at w p.root p.path + size z < 2 ^ 32) e f.few; declared = f.declared }
 
   -- Open array parameters
 

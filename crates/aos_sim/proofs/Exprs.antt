@@ -26,7 +26,7 @@ use Rattle.aos_typed.specs.declared.tree.Literal.{Literal}
 use Rattle.aos_typed.specs.declared.tree.Literal.TheVariants as literal
 use Rattle.aos_typed.specs.declared.tree.TType.{TType}
 use Rattle.aos_typed.specs.declared.tree.TType.TheVariants as type
-use Rattle.aos_typed.specs.Program.{Place as Designator, ModuleVar, Local, Passed, Field, Index, Of, Rows, Known, Opened, Row, Arguments, NoMore, Scalar, Whole, Opening, Expr, Lit, Read, Unary, Binary, And, Or, Element, Ord, Chr, CompareTexts, Len, LenBehind, Function, Parameter, Procedure, Program}
+use Rattle.aos_typed.specs.Program.{Place as Designator, ModuleVar, Local, Passed, Field, Index, Of, Rows, Known, Opened, Row, Longer, Arguments, NoMore, Scalar, Whole, Opening, Expr, Lit, Read, Unary, Binary, And, Or, Element, Ord, Chr, CompareTexts, Len, LenBehind, Function, Parameter, Procedure, Program}
 use Rattle.aos_typed.specs.Numbers.{id_of, procedure_number}
 use Rattle.aos_typed.specs.Sort.{Sort, variable_shape}
 use Rattle.aos_typed.specs.Typing.{nested}
@@ -49,7 +49,7 @@ use Rattle.aos_sim.proofs.First.{all_get}
 use Rattle.aos_sim.proofs.Does.{HasPredeclared, HasTypes, HasShapes, Handles, HandlesFor, Given, IsAnswer, addr_of, lengths_are, Does, knows_grows, along, does_bind}
 use Rattle.aos_sim.proofs.Variables.{basic_row, basic_is_one, value_from, value_to}
 use Rattle.aos_sim.proofs.Evaluates.{OfType, number_in, pushed, pushed-append, Pushed, OnTop, Brings, Remain, Evaluates, front_does, piece_does, pieces_do, two_do, values_stay, operand_does, ends_at}
-use Rattle.aos_sim.proofs.Designators.{IsFound, AreFound, rows_cells, IsText, text_cells, counted_taken, Finds, FindsRows, Hands, FindsText, FindsRoom, places_stay, rows_remain, texts_remain, variable_does, local_does, passed_does, field_does, index_does, array_rows, constant_rows, opened_does, row_does, of_does, rows_text, rows_room}
+use Rattle.aos_sim.proofs.Designators.{IsFound, AreFound, rows_cells, IsText, text_cells, counted_taken, Finds, FindsRows, Hands, FindsText, FindsRoom, places_stay, rows_remain, texts_remain, variable_does, local_does, passed_does, field_does, index_does, array_rows, constant_rows, opened_does, longer_does, row_does, of_does, rows_text, rows_room}
 use Rattle.aos_sim.proofs.Routines.{called, routine_there}
 use Rattle.aos_sim.proofs.Called.{call_asks, call_valid, call_gives}
 use Rattle.aos_sim.proofs.Results.{Agrees, chr_agrees}
@@ -346,6 +346,7 @@ module _ (program : Program) (own : Option Procedure) (shapes : List ProcShape) 
   dimensions_are (Known p ns) n t ok = sym ok.0
   dimensions_are (Opened k j) n t ok = sym ok.0
   dimensions_are (Row r u e) n t ok = let h = dimensions_are r (suc n) t ok.0 in omega (arith, h)
+  dimensions_are (Longer r ns) n t ok = ap (λ m. m + length ns) (dimensions_are r ok.0 ok.1 ok.3) ∙ sym ok.2
 
   module _ (typed : HasTypes program) (shaped : HasShapes program shapes) where
     abbrev RowsFound : Rows → ℕ → TType → ℕ → Type 0
@@ -392,6 +393,9 @@ module _ (program : Program) (own : Option Procedure) (shapes : List ProcShape) 
           let pb = at + length ca in
           subst (λ v. FindsRows program own shapes number here code (HaveLengths r) n t (operands_code ca (value_code program own e pb) (i.IndexOpen (dimensions r) (cells_of program own v))) (rows_of program here (Row r u e)) at) ok.2
           (row_does program own shapes number here code (HaveLengths r) n (dimensions r) t ca (value_code program own e pb) (rows_of program here r) (value_of program here e) at (dimensions_are r (suc n) t ok.0) (rows_does r (suc n) t ok.0 at) (value_does e (type.Integer W64) ok.1 pb))
+      rows_does (Longer r ns) n t ok at =
+          subst (λ m. RowsFound (Longer r ns) m t at) (sym ok.2)
+          (longer_does program own shapes number here code typed (HaveLengths r) ok.0 ok.1 t ns (rows_code program own r at) (rows_of program here r) at ok.4 (rows_does r ok.0 ok.1 ok.3 at))
 
       -- what is handed over for parameters
       pub arguments_do : (us : Arguments) (as' : List Parameter) → AreArguments program own us as' → (at : ℕ) → Hands program own shapes number here code as' (arguments_code program own us at) (arguments_of program here us) at

@@ -13,7 +13,7 @@ use Rattle.aos_base.specs.Question.{Tree, Val, Asks, Traps, bind, feed, ask, Rea
 use Rattle.aos_types.specs.Content.{Content}
 use Rattle.aos_typed.specs.declared.tree.Literal.{Literal}
 use Rattle.aos_typed.specs.Numbers.{procedure_number}
-use Rattle.aos_typed.specs.Program.{Place, ModuleVar, Local, Passed, Field, Index, Of, Rows, Known, Opened, Row, Arguments, NoMore, Scalar, Whole, Opening, Expr, Lit, Read, Unary, Binary, And, Or, Element, Ord, Chr, CompareTexts, Len, LenBehind, Function, Program}
+use Rattle.aos_typed.specs.Program.{Place, ModuleVar, Local, Passed, Field, Index, Of, Rows, Known, Opened, Row, Longer, Arguments, NoMore, Scalar, Whole, Opening, Expr, Lit, Read, Unary, Binary, And, Or, Element, Ord, Chr, CompareTexts, Len, LenBehind, Function, Program}
 use Rattle.aos_typed.specs.Spot.{Spot}
 use Rattle.aos_typed.specs.Value.{Value, Int, Flag, Place as PlaceValue, literal_value, number_of, Sort, Character, given, unary_sort, binary_sort, unary, binary, element, ord, chr, is_true}
 use Rattle.aos_typed.specs.Meaning.{Question, Doing, Found, found, After, Into, place_in, own_place, part_of, element_of, row_at, length_at, text_length, lengths_from, place_of, rows_of, arguments_of, value_of}
@@ -270,6 +270,8 @@ module _ (c : Content Value) where
             let at : Expr → Found → Doing Found = λ d x. bind (value d) (λ i. row_at x i) in
             on_both rows v (rows r) (rows (first_row r)) (at e) (at (first_value e)) (Row (first_row r) t e) (Row r t (first_value e)) refl refl (one_row r)
             (λ x. on_one v (value e) (value (first_value e)) (λ i. row_at x i) (λ i. row_silent x i) (one_read e)) asks
+        one_row (Longer r ns) asks =
+            on_one v (rows r) (rows (first_row r)) (λ x. found x.place (x.lengths ++ map (λ n. Int (pos n)) ns)) (λ x. refl) (one_row r) asks
 
         one_argument : (us : Arguments) → Turns v (arguments us) (arguments (first_argument us))
         one_argument NoMore asks = absurd (cc asks)

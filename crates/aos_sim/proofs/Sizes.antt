@@ -1,29 +1,31 @@
 -- How long the code of statements is depends neither on where EXIT leads nor on where an arm goes on, so each jump forward knows where
 -- it goes; and what is around statements is not counted again.
-use Rattle.std.proofs.Common.{◌≡◌, ℕ, suc, ◌+◌, ◌*◌, ◌≤◌, ℤ, Option, Some, None, List, [], ◌∷◌, ◌++◌, length, refl, ap, ◌∙◌, arith, length-append}
+use Rattle.std.proofs.Common.{◌≡◌, ℕ, zero, suc, ◌+◌, ◌≤◌, ℤ, Option, Some, None, List, [], ◌∷◌, ◌++◌, length, refl, ap, ◌∙◌, arith, length-append}
 use Rattle.std.proofs.Math.Nat.{le-max_left}
 use Rattle.aos_base.specs.declared.text.Pos.{Pos}
 use Rattle.aos_base.specs.declared.operator.Binary.TheVariants.{Cmp}
-use Rattle.aos_typed.specs.declared.tree.LabelRange.{LabelRange}
 use Rattle.aos_typed.specs.declared.tree.TType.TheVariants.{Integer}
 use Rattle.aos_typed.specs.Meaning.{until}
 use Rattle.aos_typed.specs.Program.{Read, Stat, Assign, Copy, PutText, If, Case, While, Repeat, Loop, Exit, For, Block, Assert, Halt, Change, Perform, Return, New, Out, Stats, Nothing, Then, Arms, Otherwise, Arm, Cases, NoElse, Else, OfLabels, Procedure, Program}
 use Rattle.aos_code.specs.declared.instr.Instr.{Instr}
 use Rattle.aos_code.specs.declared.instr.Instr.TheVariants as i
 use Rattle.aos_code.specs.declared.instr.Kind.TheVariants.{N}
-use Rattle.aos_sim.specs.Code.{value_code, labels_code, round_code, for_head, step_code, body_place, rounds_with, stat_code, stats_code, arms_code, cases_code}
+use Rattle.aos_sim.specs.Search.{Search, Nowhere, At, Split, arms_in, search_of, search_size, search_code}
+use Rattle.aos_sim.specs.Code.{value_code, round_code, for_head, step_code, body_place, rounds_with, stat_code, stats_code, arms_code, cases_code, arm_place}
 use Rattle.aos_sim.specs.Need.{stat_level, stats_level, arms_level, cases_level}
 
-pub labels_length : (rs : List LabelRange) (d at hit : ℕ) → length (labels_code rs d at hit) ≡ 9 * length rs
-labels_length [] d at hit = refl
-labels_length (r ∷ rs) d at hit = omega (arith, labels_length rs d (at + 9) hit)
+-- a search has as many instructions wherever it stands and leads to
+pub search_length : (place : ℕ → ℕ) (other : ℕ) (t : Search) (d at : ℕ) → length (search_code place other t d at) ≡ search_size t
+search_length place other Nowhere d at = refl
+search_length place other (At r) d at = refl
+search_length place other (Split middle below above) d at =
+    let b = search_code place other below d (at + 4) in
+    let from = at + 4 + search_size below in
+    omega (arith, length-append b (search_code place other above d from), search_length place other below d (at + 4), search_length place other above d from)
 
--- a test or labels, an arm, and what is behind it
+-- a test, an arm, and what is behind it
 arm_length : (c b more : List Instr) (to end : ℕ) → length (c ++ (i.JumpFalse to ∷ (b ++ (i.Jump end ∷ more)))) ≡ length c + length b + length more + 2
 arm_length c b more to end = omega (arith, length-append c (i.JumpFalse to ∷ (b ++ (i.Jump end ∷ more))), length-append b (i.Jump end ∷ more))
-
-case_length : (ls b more : List Instr) (next end : ℕ) → length (ls ++ (i.Jump next ∷ (b ++ (i.Jump end ∷ more)))) ≡ length ls + length b + length more + 2
-case_length ls b more next end = omega (arith, length-append ls (i.Jump next ∷ (b ++ (i.Jump end ∷ more))), length-append b (i.Jump end ∷ more))
 
 pub round_length : (there : Pos) (v : List Instr) (step : ℤ) (d : ℕ) (b n : List Instr) (at : ℕ) → length (round_code there v step d b n at) ≡ length v + length b + length n + 5
 round_length there v step d b n at =
@@ -42,9 +44,15 @@ module _ (program : Program) (own : Option Procedure) where
         ap (λ n. suc n) (arms_length arms (at + 1) (at + 1 + length (arms_code program own arms (at + 1) 0 x d)) (at + 1 + length (arms_code program own arms (at + 1) 0 y d)) x y d)
     stat_length (Case here e cases) at x y d =
         let c = value_code program own e (at + 1) in
-        let first = at + 1 + length c + 1 in
+        let t = search_of cases in
+        let from = at + 1 + length c + 1 in
+        let first = from + search_size t in
         let end : ℕ → ℕ = λ z. first + length (cases_code program own cases first 0 z d) in
-        omega (arith, cases_length cases first (end x) (end y) x y d, length-append c (i.Keep d N ∷ cases_code program own cases first (end x) x d), length-append c (i.Keep d N ∷ cases_code program own cases first (end y) y d))
+        let search : ℕ → List Instr = λ z. search_code (arm_place program own cases first z d) (arms_in cases) t d from in
+        let arms : ℕ → List Instr = λ z. cases_code program own cases first (end z) z d in
+        let size : (z : ℕ) → length (search z) ≡ search_size t = λ z. search_length (arm_place program own cases first z d) (arms_in cases) t d from in
+        let whole : ℕ → _ = λ z. length-append c (i.Keep d N ∷ (search z ++ arms z)) in
+        omega (arith, cases_length cases first (end x) (end y) x y d, size x, size y, whole x, whole y, length-append (search x) (arms x), length-append (search y) (arms y))
     stat_length (While here e body) at x y d =
         let c = value_code program own e (at + 1) in
         let first = at + 1 + length c + 1 in
@@ -103,13 +111,18 @@ module _ (program : Program) (own : Option Procedure) where
     cases_length NoElse at end other x y d = refl
     cases_length (Else ss) at end other x y d = stats_length ss at x y d
     cases_length (OfLabels rs ss cases) at end other x y d =
-        let hit = at + 9 * length rs + 1 in
-        let c = labels_code rs d at hit in
-        let b : ℕ → List Instr = λ z. stats_code program own ss hit z d in
-        let next : ℕ → ℕ = λ z. hit + length (b z) + 1 in
-        let h = stats_length ss hit x y d in
-        let more = cases_length cases (next x) end other x y d ∙ ap (λ n. length (cases_code program own cases (hit + n + 1) other y d)) h in
-        omega (arith, h, more, case_length c (b x) (cases_code program own cases (next x) end x d) (next x) end, case_length c (b y) (cases_code program own cases (next y) other y d) (next y) other)
+        let b : ℕ → List Instr = λ z. stats_code program own ss at z d in
+        let next : ℕ → ℕ = λ z. at + length (b z) + 1 in
+        let h = stats_length ss at x y d in
+        let more = cases_length cases (next x) end other x y d ∙ ap (λ n. length (cases_code program own cases (at + n + 1) other y d)) h in
+        omega (arith, h, more, length-append (b x) (i.Jump end ∷ cases_code program own cases (next x) end x d), length-append (b y) (i.Jump other ∷ cases_code program own cases (next y) other y d))
+
+  -- no arm begins before the first
+  pub arm_ahead : (cases : Cases) (at x d n : ℕ) → at ≤ arm_place program own cases at x d n
+  arm_ahead NoElse at x d n = omega arith
+  arm_ahead (Else ss) at x d n = omega arith
+  arm_ahead (OfLabels rs ss cases) at x d zero = omega arith
+  arm_ahead (OfLabels rs ss cases) at x d (suc n) = omega (arith, arm_ahead cases (at + length (stats_code program own ss at x d) + 1) x d n)
 
 -- statements keep nothing under a number that something around them has
 mutual

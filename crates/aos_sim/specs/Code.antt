@@ -1,10 +1,9 @@
 -- The code of a program. A jump names its target, so each piece of code is told where it stands. Code of statements is told too where
 -- EXIT leads, and how many FORs and CASEs are around it: what one of them keeps has this number, so that what is in it keeps nothing there.
-use Rattle.std.specs.Prelude.{ℕ, zero, suc, ℤ, pos, ◌+◌, ◌-◌, ◌*◌, Option, Some, None, option_map, List, [], ◌∷◌, ◌++◌, length, map, slice_get}
+use Rattle.std.specs.Prelude.{ℕ, zero, suc, ℤ, pos, ◌+◌, ◌-◌, Option, Some, None, option_map, List, [], ◌∷◌, ◌++◌, length, map, slice_get}
 use Rattle.aos_base.specs.declared.text.Pos.{Pos}
 use Rattle.aos_base.specs.declared.operator.Unary.TheVariants.{Range}
 use Rattle.aos_base.specs.declared.number.Width.{Width}
-use Rattle.aos_base.specs.declared.number.Relation.TheVariants.{LessEqual, GreaterEqual}
 use Rattle.aos_base.specs.declared.operator.Binary.TheVariants.{SetSpan, Cmp, Add, Sub, Union, Minus}
 use Rattle.aos_base.specs.Operators.{flag}
 use Rattle.aos_types.specs.Shape.{number_of, offset}
@@ -13,13 +12,13 @@ use Rattle.aos_typed.specs.declared.tree.Literal.{Literal}
 use Rattle.aos_typed.specs.declared.tree.Literal.TheVariants as literal
 use Rattle.aos_typed.specs.declared.tree.Change.{Change as Changing}
 use Rattle.aos_typed.specs.declared.tree.Change.TheVariants as change
-use Rattle.aos_typed.specs.declared.tree.LabelRange.{LabelRange}
 use Rattle.aos_typed.specs.Meaning.{until}
 use Rattle.aos_typed.specs.Numbers.{id_of, procedure_number}
 use Rattle.aos_typed.specs.Routines.{result_of}
 use Rattle.aos_layout.specs.Frame.{frame}
-use Rattle.aos_typed.specs.Program.{Place, ModuleVar, Local, Passed, Field, Index, Of, Rows, Known, Opened, Row, Arguments, NoMore, Scalar, Whole, Opening, Expr, Lit, Read, Unary, Binary, And, Or, Element, Ord, Chr, CompareTexts, Len, LenBehind, Function, Call, Open, Char, Int, String, Ln, Stat, Assign, Copy, PutText, If, Case, While, Repeat, Loop, Exit, For, Block, Assert, Halt, Change, Perform, Return, New, Out, Stats, Nothing, Then, Arms, Otherwise, Arm, Cases, NoElse, Else, OfLabels, Procedure, Program}
+use Rattle.aos_typed.specs.Program.{Place, ModuleVar, Local, Passed, Field, Index, Of, Rows, Known, Opened, Row, Longer, Arguments, NoMore, Scalar, Whole, Opening, Expr, Lit, Read, Unary, Binary, And, Or, Element, Ord, Chr, CompareTexts, Len, LenBehind, Function, Call, Open, Char, Int, String, Ln, Stat, Assign, Copy, PutText, If, Case, While, Repeat, Loop, Exit, For, Block, Assert, Halt, Change, Perform, Return, New, Out, Stats, Nothing, Then, Arms, Otherwise, Arm, Cases, NoElse, Else, OfLabels, Procedure, Program}
 use Rattle.aos_typed.specs.Source.{module_shape}
+use Rattle.aos_sim.specs.Search.{arms_in, search_of, search_size, search_code}
 use Rattle.aos_typed.specs.declared.tree.TType.{TType}
 use Rattle.aos_typed.specs.declared.tree.TType.TheVariants as type
 use Rattle.aos_typed.specs.declared.tree.TType.TheVariants.{Integer}
@@ -88,20 +87,6 @@ round_code here v step level b n at =
 abbrev pub round_head : (value : List Instr) → ℕ
 round_head v = 1 + length v + 2 + 1
 
--- a range of labels: where the selector's value, which is kept, is in it the code goes on there
-abbrev pub label_code : LabelRange → (level at hit : ℕ) → List Instr
-label_code r level at hit =
-    Kept level N ∷ Num r.low ∷ OnTwo (Cmp GreaterEqual) ∷ JumpFalse (at + 9)
-    ∷ Kept level N ∷ Num r.high ∷ OnTwo (Cmp LessEqual) ∷ JumpFalse (at + 9) ∷ Jump hit ∷ []
-
-abbrev pub labels_code : List LabelRange → (level at hit : ℕ) → List Instr
-labels_code [] level at hit = []
-labels_code (r ∷ rs) level at hit = label_code r level at hit ++ labels_code rs level (at + 9) hit
-
--- an arm with labels, and the arms behind it
-abbrev pub case_code : (labels body : List Instr) → (next end : ℕ) → List Instr → List Instr
-case_code ls b next end more = ls ++ (Jump next ∷ (b ++ (Jump end ∷ more)))
-
 -- how INC, DEC, INCL and EXCL change a value that lies below what it's changed by
 abbrev pub change_code : Changing → List Instr
 change_code (change.Add w) = OnTwo (Add w) ∷ []
@@ -114,6 +99,7 @@ abbrev pub dimensions : Rows → ℕ
 dimensions (Known p ns) = length ns
 dimensions (Opened k j) = j
 dimensions (Row r t e) = dimensions r - 1
+dimensions (Longer r ns) = dimensions r + length ns
 
 -- so many lengths of an open array parameter, in cells of the frame from this one on
 abbrev pub lengths_code : (cell many : ℕ) → List Instr
@@ -157,6 +143,7 @@ module _ (program : Program) (own : Option Procedure) where
     rows_code (Opened k j) at = Param (own_cell k) ∷ lengths_code (suc (own_cell k)) j
     rows_code (Row r t e) at =
         operands_code (rows_code r at) (value_code e (at + length (rows_code r at))) (IndexOpen (dimensions r) (cells_of t))
+    rows_code (Longer r ns) at = rows_code r at ++ map (λ n. Num (pos n)) ns
 
     pub arguments_code : Arguments → ℕ → List Instr
     arguments_code NoMore at = []
@@ -237,8 +224,11 @@ module _ (program : Program) (own : Option Procedure) where
         begin here ∷ arms_code arms (at + 1) (at + 1 + length (arms_code arms (at + 1) 0 exit level)) exit level
     stat_code (Case here e cases) at exit level =
         let c = value_code e (at + 1) in
-        let first = at + 1 + length c + 1 in
-        begin here ∷ (c ++ (Keep level N ∷ cases_code cases first (first + length (cases_code cases first 0 exit level)) exit level))
+        let search = search_of cases in
+        let from = at + 1 + length c + 1 in
+        let first = from + search_size search in
+        let end = first + length (cases_code cases first 0 exit level) in
+        begin here ∷ (c ++ (Keep level N ∷ (search_code (arm_place cases first exit level) (arms_in cases) search level from ++ cases_code cases first end exit level)))
     stat_code (While here e body) at exit level =
         let c = value_code e (at + 1) in while_code here c (stats_code body (at + 1 + length c + 1) exit level) at
     stat_code (Repeat here body e) at exit level =
@@ -274,14 +264,20 @@ module _ (program : Program) (own : Option Procedure) where
         let b = stats_code ss (at + length c + 1) exit level in
         arm_code c b at end (arms_code arms (at + length c + 1 + length b + 1) end exit level)
 
+    -- the arms of CASE, one behind another
     pub cases_code : Cases → (at end exit level : ℕ) → List Instr
     cases_code NoElse at end exit level = Fail 4 ∷ []
     cases_code (Else ss) at end exit level = stats_code ss at exit level
     cases_code (OfLabels rs ss cases) at end exit level =
-        let hit = at + 9 * length rs + 1 in
-        let b = stats_code ss hit exit level in
-        let next = hit + length b + 1 in
-        case_code (labels_code rs level at hit) b next end (cases_code cases next end exit level)
+        let b = stats_code ss at exit level in
+        b ++ (Jump end ∷ cases_code cases (at + length b + 1) end exit level)
+
+    -- where the arm of this number begins
+    pub arm_place : Cases → (at exit level : ℕ) → ℕ → ℕ
+    arm_place NoElse at exit level k = at
+    arm_place (Else ss) at exit level k = at
+    arm_place (OfLabels rs ss cases) at exit level zero = at
+    arm_place (OfLabels rs ss cases) at exit level (suc k) = arm_place cases (at + length (stats_code ss at exit level) + 1) exit level k
 
   -- the rounds of a FOR, in which more is kept
   abbrev pub rounds_code : Pos → Width → Place → ℤ → Stats → (at exit level : ℕ) → List Instr

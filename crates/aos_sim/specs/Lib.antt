@@ -1,3 +1,4 @@
+pub mod Search
 pub mod Code
 pub mod Cells
 pub mod Shows

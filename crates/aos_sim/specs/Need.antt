@@ -1,7 +1,7 @@
 -- How many operands code has at most, beyond those that are there where it begins.
 use Rattle.std.specs.Prelude.{◌≡◌, ℕ, suc, ◌+◌, map, max, length, Some, None}
 use Rattle.aos_sim.specs.Code.{dimensions}
-use Rattle.aos_typed.specs.Program.{Place, ModuleVar, Local, Passed, Field, Index, Of, Rows, Known, Opened, Row, Arguments, NoMore, Scalar, Whole, Opening, Expr, Lit, Read, Unary, Binary, And, Or, Element, Ord, Chr, CompareTexts, Len, LenBehind, Function, Call, Open, Char, Int, String, Ln, Stat, Assign, Copy, PutText, If, Case, While, Repeat, Loop, Exit, For, Block, Assert, Halt, Change, Perform, Return, New, Out, Stats, Nothing, Then, Arms, Otherwise, Arm, Cases, NoElse, Else, OfLabels, Program}
+use Rattle.aos_typed.specs.Program.{Place, ModuleVar, Local, Passed, Field, Index, Of, Rows, Known, Opened, Row, Longer, Arguments, NoMore, Scalar, Whole, Opening, Expr, Lit, Read, Unary, Binary, And, Or, Element, Ord, Chr, CompareTexts, Len, LenBehind, Function, Call, Open, Char, Int, String, Ln, Stat, Assign, Copy, PutText, If, Case, While, Repeat, Loop, Exit, For, Block, Assert, Halt, Change, Perform, Return, New, Out, Stats, Nothing, Then, Arms, Otherwise, Arm, Cases, NoElse, Else, OfLabels, Program}
 use Rattle.aos_typed.specs.declared.tree.Change.{Change as Changing}
 use Rattle.aos_typed.specs.declared.tree.Change.TheVariants as change
 use Rattle.aos_typed.specs.Routines.{routines}
@@ -26,6 +26,7 @@ abbrev mutual
   rows_need (Known p ns) = max (place_need p) (1 + length ns)
   rows_need (Opened k j) = 1 + j
   rows_need (Row r t e) = max (rows_need r) (1 + dimensions r + value_need e)
+  rows_need (Longer r ns) = max (rows_need r) (1 + dimensions r + length ns)
 
   -- what is handed over: all that was before lies below
   pub arguments_need : Arguments → ℕ

@@ -5,7 +5,7 @@ use Rattle.aos_base.specs.Question.{Tree, Val, Asks, Traps, bind, feed, Places, 
 use Rattle.aos_types.specs.Content.{Content}
 use Rattle.aos_typed.specs.declared.tree.Literal.{Literal}
 use Rattle.aos_typed.specs.declared.tree.TType.{TType}
-use Rattle.aos_typed.specs.Program.{Place, ModuleVar, Local, Passed, Field, Index, Of, Rows, Known, Opened, Row, Arguments, NoMore, Scalar, Whole, Opening, Expr, Lit, Read, Unary, Binary, And, Or, Element, Ord, Chr, CompareTexts, Len, LenBehind, Function, Assign, Program}
+use Rattle.aos_typed.specs.Program.{Place, ModuleVar, Local, Passed, Field, Index, Of, Rows, Known, Opened, Row, Longer, Arguments, NoMore, Scalar, Whole, Opening, Expr, Lit, Read, Unary, Binary, And, Or, Element, Ord, Chr, CompareTexts, Len, LenBehind, Function, Assign, Program}
 use Rattle.aos_typed.specs.Value.{Value, literal_value}
 use Rattle.aos_typed.specs.Spot.{Spot}
 use Rattle.aos_typed.specs.Meaning.{Doing, After, place_of, rows_of, arguments_of, value_of, stat_of}
@@ -68,6 +68,7 @@ module _ (p : Program) (here : ℕ) (c : Content Value) where
     with_first_row l (Known q ns) = Known (with_first_index l q) ns
     with_first_row l (Opened k j) = Opened k j
     with_first_row l (Row r t e) = if asks_rows r then Row (with_first_row l r) t e else Row r t (with_first l e)
+    with_first_row l (Longer r ns) = Longer (with_first_row l r) ns
 
     pub with_first_argument : Literal → Arguments → Arguments
     with_first_argument l NoMore = NoMore

@@ -31,6 +31,7 @@ mutual
     Known : Place → List ℕ → Rows
     Opened : (number dimensions : ℕ) → Rows
     Row : Rows → (of : TType) → Expr → Rows
+    Longer : Rows → List ℕ → Rows  -- with the known lengths of dimensions behind
 
   -- what a call hands over: a value; the place of a record or an array by value, which is copied, or of a variable for a VAR parameter;
   -- or an array for an open one

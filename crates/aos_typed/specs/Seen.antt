@@ -23,7 +23,7 @@ use Rattle.aos_typed.specs.declared.tree.TProcedure.{TProcedure}
 use Rattle.aos_typed.specs.declared.tree.TObject.{TObject}
 use Rattle.aos_typed.specs.declared.tree.TModule.{TModule}
 use Rattle.aos_typed.specs.declared.tree.Program.{Program as TProgram}
-use Rattle.aos_typed.specs.Program.{Place, ModuleVar, Local, Passed, Field, Index, Of, Rows, Known, Opened, Row, Arguments, NoMore, Scalar, Whole, Opening, Expr, Lit, Read, Unary, Binary, And, Or, Element, Ord, Chr, CompareTexts, Len, LenBehind, Function, Call, Open, Char, Int, String, Ln, Stat, Assign, Copy, PutText, If, Case, While, Repeat, Loop, Exit, For, Block, Assert, Halt, Change, Perform, Return, New, Out, Stats, Nothing, Then, Arms, Otherwise, Arm, Cases, NoElse, Else, OfLabels, Variable, Parameter, Procedure, ObjectType, Module, Program}
+use Rattle.aos_typed.specs.Program.{Place, ModuleVar, Local, Passed, Field, Index, Of, Rows, Known, Opened, Row, Longer, Arguments, NoMore, Scalar, Whole, Opening, Expr, Lit, Read, Unary, Binary, And, Or, Element, Ord, Chr, CompareTexts, Len, LenBehind, Function, Call, Open, Char, Int, String, Ln, Stat, Assign, Copy, PutText, If, Case, While, Repeat, Loop, Exit, For, Block, Assert, Halt, Change, Perform, Return, New, Out, Stats, Nothing, Then, Arms, Otherwise, Arm, Cases, NoElse, Else, OfLabels, Variable, Parameter, Procedure, ObjectType, Module, Program}
 
 abbrev mutual
   pub seen_place : TPlace → Place
@@ -38,6 +38,7 @@ abbrev mutual
   seen_rows (rows.Known' p q ns) = Known (seen_place q) ns.items
   seen_rows (rows.Opened k j) = Opened k j
   seen_rows (rows.Row' p r t q e) = Row (seen_rows r) t (seen_expr e)
+  seen_rows (rows.Longer' p r ns) = Longer (seen_rows r) ns.items
 
   pub seen_arguments : {m : _} → Row_of-TArgument m → Arguments
   seen_arguments end_of-TArgument = NoMore

@@ -4,8 +4,8 @@
 -- tests is a truth value, and NEW makes an object of its variable's type. No type
 -- contains itself, and none has more scalars than a type may have (Oberon-2 report, 6.2 and 6.3), nor have the variables of a module; only parameters are of open
 -- arrays, and a function gives a scalar (Oberon-2 report, 10.1). The predeclared types stand first in the table.
-use Rattle.std.specs.Prelude.{◌≡◌, ◌≢◌, ◌⊎◌, ℕ, zero, suc, ℤ, pos, ◌≤◌, ◌<◌, ◌+◌, ◌==◌, ◌^◌, nat_le, List, [], ◌∷◌, length, All, Bool, true, false, ◌&&◌, ◌||◌, Option, Some, None, slice_get, sum_by, option_map, option_and_then}
-use Rattle.std.specs.List.{AllPairs, list_all}
+use Rattle.std.specs.Prelude.{◌≡◌, ◌≢◌, ◌⊎◌, ℕ, zero, suc, ℤ, pos, ◌≤◌, ◌<◌, ◌+◌, ◌==◌, ◌^◌, nat_le, int_le, List, [], ◌∷◌, ◌++◌, length, All, Bool, true, false, ◌&&◌, ◌||◌, Option, Some, None, slice_get, sum_by, option_map, option_and_then}
+use Rattle.std.specs.List.{AllPairs, list_all, list_any}
 use Rattle.std.specs.Char.{is_ascii_digit, is_ascii_alphabetic}
 use Rattle.aos_base.specs.declared.number.Width.{Width}
 use Rattle.aos_base.specs.declared.number.Width.TheVariants.{W8, W16, W32, W64}
@@ -27,7 +27,7 @@ use Rattle.aos_typed.specs.declared.tree.Literal.{Literal}
 use Rattle.aos_typed.specs.declared.tree.Literal.TheVariants as literal
 use Rattle.aos_typed.specs.declared.tree.TType.{TType}
 use Rattle.aos_typed.specs.declared.tree.TType.TheVariants.{Integer, Boolean, Char, Set, Named}
-use Rattle.aos_typed.specs.Program.{Place, ModuleVar, Local, Passed, Field, Index, Of, Rows, Known, Opened, Row, Arguments, NoMore, Scalar, Whole, Opening, Expr, Lit, Read, Unary, Binary, And, Or, Element, Ord, Chr, CompareTexts, Len, LenBehind, Function, Call, Open as OutOpen, Char as OutChar, Int as OutInt, String as OutString, Ln as OutLn, Stat, Assign, Copy, PutText, If, Case, While, Repeat, Loop, Exit, For, Block, Assert, Halt, Change, Perform, Return, New, Out, Stats, Nothing, Then, Arms, Otherwise, Arm, Cases, NoElse, Else, OfLabels, Parameter, Procedure, Module, Program}
+use Rattle.aos_typed.specs.Program.{Place, ModuleVar, Local, Passed, Field, Index, Of, Rows, Known, Opened, Row, Longer, Arguments, NoMore, Scalar, Whole, Opening, Expr, Lit, Read, Unary, Binary, And, Or, Element, Ord, Chr, CompareTexts, Len, LenBehind, Function, Call, Open as OutOpen, Char as OutChar, Int as OutInt, String as OutString, Ln as OutLn, Stat, Assign, Copy, PutText, If, Case, While, Repeat, Loop, Exit, For, Block, Assert, Halt, Change, Perform, Return, New, Out, Stats, Nothing, Then, Arms, Otherwise, Arm, Cases, NoElse, Else, OfLabels, Parameter, Procedure, Module, Program}
 use Rattle.aos_typed.specs.declared.tree.Change.{Change as Changing}
 use Rattle.aos_typed.specs.declared.tree.Change.TheVariants as change
 use Rattle.aos_typed.specs.declared.tree.LabelRange.{LabelRange}
@@ -180,6 +180,20 @@ pub record IsString (m : Module) (number elements : ℕ) : Type 0 where
 abbrev pub AreLabels : LabelRange → Type 0
 AreLabels r = IsWithin W64 r.low × IsWithin W64 r.high
 
+-- two ranges of labels have a value together
+abbrev pub meets : LabelRange → LabelRange → Bool
+meets a b = (int_le a.low b.high && int_le b.low a.high) && (int_le a.low a.high && int_le b.low b.high)
+
+-- no two have one
+abbrev pub AreApart : List LabelRange → Type 0
+AreApart [] = Unit {0}
+AreApart (r ∷ rs) = (list_any (meets r) rs ≡ false) × AreApart rs
+
+abbrev pub labels_of : Cases → List LabelRange
+labels_of NoElse = []
+labels_of (Else ss) = []
+labels_of (OfLabels rs ss cases) = rs ++ labels_of cases
+
 -- what a variable is changed by
 abbrev pub amount_type : Changing → TType
 amount_type (change.Add w) = Integer w
@@ -197,6 +211,7 @@ abbrev pub HaveLengths : Rows → Type 0
 HaveLengths (Known place ns) = All IsLength ns
 HaveLengths (Opened k j) = Unit {0}
 HaveLengths (Row r t e) = HaveLengths r
+HaveLengths (Longer r ns) = HaveLengths r × All IsLength ns
 
 -- Programs.
 
@@ -260,6 +275,8 @@ module _ (p : Program) where
           ⊎ ((m : ℕ) × (ns ≡ m ∷ []) × IsConstantText place m × (t ≡ Char)))
       AreRows (Opened k j) n t = (n ≡ j) × ((a : Parameter) × IsParameter k a × IsOpening a j t)
       AreRows (Row r of e) n t = AreRows r (suc n) t × IsOf e (Integer W64) × (t ≡ of)
+      AreRows (Longer r ns) n t =
+          (m : ℕ) × (u : TType) × (n ≡ m + length ns) × AreRows r m u × IsArrayOf p.types ns (id_of u) (id_of t)
 
       -- what is handed over for these parameters
       pub AreArguments : Arguments → List Parameter → Type 0
@@ -314,7 +331,7 @@ module _ (p : Program) where
       IsStatement (Copy at t to from) = IsPlaceOf to t × IsPlaceOf from t × (is_whole (row_of p.types (id_of t)) ≡ true)
       IsStatement (PutText at strict from to) = AreRows from 1 Char × AreRows to 1 Char × HaveLengths to
       IsStatement (If at arms) = AreArms arms
-      IsStatement (Case at e cases) = (IsOf e (Integer W64) ⊎ IsOf e Char) × AreCases cases
+      IsStatement (Case at e cases) = (IsOf e (Integer W64) ⊎ IsOf e Char) × AreApart (labels_of cases) × AreCases cases
       IsStatement (While at e body) = IsOf e Boolean × AreStatements body
       IsStatement (Repeat at body e) = AreStatements body × IsOf e Boolean
       IsStatement (Loop at body) = AreStatements body

@@ -55,6 +55,8 @@ pub enum TRows {
     /// An element of an array with open dimensions, which has one less, by its index; trap 2 where there is none. The elements behind
     /// all dimensions are of this type.
     Row(Box<TRows>, TType, Box<TExpr>),
+    /// An array with open dimensions, with the known lengths of dimensions behind these.
+    Longer(Box<TRows>, Vec<u32>),
 }
 
 /// What a call hands over for a parameter.
@@ -179,6 +181,13 @@ pub enum Change {
 pub struct LabelRange {
     pub low: i64,
     pub high: i64,
+}
+
+/// Labels of CASE that lead to the arm of this number; the first arm has the number 0.
+#[derive(Clone, Copy, Debug)]
+pub struct LabelRow {
+    pub labels: LabelRange,
+    pub arm: u32,
 }
 
 /// An arm of IF: its statements are carried out where its test is TRUE and none before was.
