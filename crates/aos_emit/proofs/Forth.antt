@@ -7,7 +7,7 @@ use Rattle.aos_base.specs.declared.operator.Binary.TheVariants.{SetSpan}
 use Rattle.aos_typed.specs.Numbers.{procedure_number}
 use Rattle.aos_typed.specs.declared.tree.Literal.{Literal}
 use Rattle.aos_typed.specs.declared.tree.Literal.TheVariants as literal
-use Rattle.aos_typed.specs.Program.{Place, ModuleVar, Local, Passed, Field, Index, Of, Rows, Known, Opened, Row, Arguments, NoMore, Scalar, Whole, Opening, Expr, Lit, Read, Unary, Binary, And, Or, Element, Ord, Chr, CompareTexts, Len, LenBehind, Function, Procedure, Program}
+use Rattle.aos_typed.specs.Program.{Place, ModuleVar, Local, Passed, Field, Index, Of, Rows, Known, Opened, Row, Longer, Arguments, NoMore, Scalar, Whole, Opening, Expr, Lit, Read, Unary, Binary, And, Or, Element, Ord, Chr, CompareTexts, Len, LenBehind, Function, Procedure, Program}
 use Rattle.aos_code.specs.declared.instr.Instr.{Instr}
 use Rattle.aos_code.specs.declared.instr.Instr.TheVariants.{Num, Dup, Drop, Frame as FrameOf, Param, Length, Module, Offset, Index as IndexOf, IndexOpen, PickLen, Call as CallOf, Unary as OnOne, Binary as OnTwo, Jump, JumpFalse, Load, CmpText}
 use Rattle.aos_sim.specs.Code.{literal_code, kind_of, variable_cell, own_cell, field_cell, cells_of, dimensions, lengths_code, drops, place_code, rows_code, arguments_code, value_code}
@@ -120,6 +120,9 @@ module _ (p : Program) (own : Option Procedure) where
         let both = length-append cr (ce ++ index ∷ []) in
         let second = operand (value_code p own e) (back_code p own e) (at + length cr) end (index ∷ []) (behind ++ index ∷ []) behind (forth e) (last_first end behind index) (omega arith) in
         operand (rows_code p own r) (back_rows p own r) at end (ce ++ index ∷ []) (back_code p own e (behind ++ index ∷ [])) behind (rows_forth r) second ends
+    rows_forth (Longer r ns) at behind end ends =
+        let lengths = map (λ n. Num (pos n)) ns in
+        operand (rows_code p own r) (back_rows p own r) at end lengths (behind ++ reverse lengths) behind (rows_forth r) (turned end behind lengths (numbers_placed end ns)) ends
 
     pub arguments_forth : (as' : Arguments) → IsPlaced (arguments_code p own as') (back_arguments p own as')
     arguments_forth NoMore at behind end ends = refl

@@ -8,3 +8,5 @@ pub mod Parts
 pub mod Ends
 pub mod Found
 pub mod Fields
+pub mod Sorts
+pub mod Searches

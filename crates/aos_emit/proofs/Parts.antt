@@ -3,7 +3,7 @@ use Rattle.std.proofs.Common.{◌≡◌, ℕ, zero, suc, ◌+◌, ◌<◌, ◌�
 use Rattle.aos_typed.specs.declared.tree.TArgument.{TArgument}
 use Rattle.aos_typed.specs.declared.tree.TArgument.TheVariants as argument
 use Rattle.aos_typed.specs.declared.tree.TExpr.{TExpr}
-use Rattle.aos_typed.specs.Program.{Place, ModuleVar, Local, Passed, Field, Index, Of, Rows, Known, Opened, Row, Arguments, NoMore, Scalar, Whole, Opening, Expr, Lit, Read, Unary, Binary, And, Or, Element, Ord, Chr, CompareTexts, Len, LenBehind, Function}
+use Rattle.aos_typed.specs.Program.{Place, ModuleVar, Local, Passed, Field, Index, Of, Rows, Known, Opened, Row, Longer, Arguments, NoMore, Scalar, Whole, Opening, Expr, Lit, Read, Unary, Binary, And, Or, Element, Ord, Chr, CompareTexts, Len, LenBehind, Function}
 use Rattle.aos_typed.specs.Seen.{seen_argument, seen_list, seen_expr}
 
 abbrev mutual
@@ -19,6 +19,7 @@ abbrev mutual
   rows_size (Known p ns) = suc (place_size p)
   rows_size (Opened k j) = 0
   rows_size (Row r t e) = suc (rows_size r + value_size e)
+  rows_size (Longer r ns) = suc (rows_size r)
 
   pub arguments_size : Arguments → ℕ
   arguments_size NoMore = 0

@@ -1,5 +1,5 @@
 -- Code of which jumps forward are written after the instructions that they pass.
-use Rattle.std.proofs.Common.{◌≡◌, Option, ℕ, suc, ℤ, ◌+◌, ◌*◌, List, [], ◌∷◌, ◌++◌, length, map, sym, ap, ◌∙◌, arith, append_assoc, length-append}
+use Rattle.std.proofs.Common.{◌≡◌, Option, ℕ, suc, ℤ, ◌+◌, List, [], ◌∷◌, ◌++◌, length, map, sym, ap, ◌∙◌, arith, append_assoc, length-append}
 use Rattle.std.specs.Prelude.{slice_set}
 use Rattle.std.proofs.Math.Seq.{set-append_seam}
 use Rattle.std.proofs.lemmas.List.{take_at, drop_at}
@@ -15,8 +15,8 @@ use Rattle.aos_typed.specs.Seen.{seen_stat}
 use Rattle.aos_code.specs.declared.instr.Instr.{Instr}
 use Rattle.aos_code.specs.declared.instr.Instr.TheVariants.{Kept, Binary, Jump, JumpFalse}
 use Rattle.aos_code.specs.declared.instr.Kind.TheVariants.{N}
-use Rattle.aos_sim.specs.Code.{begin, value_code, step_code, body_place, rounds_with, labels_code, case_code, stat_code, stats_code, cases_code}
-use Rattle.aos_sim.proofs.Sizes.{labels_length}
+use Rattle.aos_sim.specs.Code.{begin, value_code, step_code, body_place, rounds_with, stat_code, stats_code, cases_code}
+use Rattle.aos_emit.specs.Places.{places_from}
 use Rattle.aos_emit.specs.Redirect.{pending_exit, pending_end, redirect, redirect_behind}
 
 -- code behind other code
@@ -46,21 +46,29 @@ patched base front inside c1 c2 c3 c4 x last over n1 n2 e1 m1 e2 e3 e4 m2 =
     ∙ ap (λ n. base ++ (front ++ (over n ∷ (b ++ last ∷ [])))) d
 
 -- one more arm of CASE
-pub choice_more : (p : Program) (own : Option Procedure) (base code : List Instr) (rs : List LabelRange) (ss : Stats) (rest : Cases) (d : ℕ) → let hit = length base + 9 * length rs + 1 in let b = stats_code p own ss hit pending_exit d in code ≡ base ++ case_code (labels_code rs d (length base) hit) b (hit + length b + 1) pending_end [] → code ++ cases_code p own rest (length code) pending_end pending_exit d ≡ base ++ cases_code p own (OfLabels rs ss rest) (length base) pending_end pending_exit d
-choice_more p own base code rs ss rest d e =
-    let hit = length base + 9 * length rs + 1 in
-    let b = stats_code p own ss hit pending_exit d in
-    let next = hit + length b + 1 in
-    let ls = labels_code rs d (length base) hit in
-    let arm = ls ++ (Jump next ∷ (b ++ (Jump pending_end ∷ []))) in
-    let more : ℕ → List Instr = λ n. cases_code p own rest n pending_end pending_exit d in
-    let long = ap length e ∙ length-append base arm in
-    let n : length code ≡ next = omega (arith, long, labels_length rs d (length base) hit, length-append ls (Jump next ∷ (b ++ (Jump pending_end ∷ []))), length-append b (Jump pending_end ∷ [])) in
-    ap (λ m. code ++ more m) n
-    ∙ ap (λ l. l ++ more next) e
-    ∙ append_assoc base arm (more next)
-    ∙ ap (λ l. base ++ l) (append_assoc ls (Jump next ∷ (b ++ (Jump pending_end ∷ []))) (more next))
-    ∙ ap (λ l. base ++ (ls ++ (Jump next ∷ l))) (append_assoc b (Jump pending_end ∷ []) (more next))
+module _ (p : Program) (own : Option Procedure) (base c1 c2 : List Instr) (rs : List LabelRange) (ss : Stats) (rest : Cases) (d : ℕ) (e1 : c1 ≡ base ++ stats_code p own ss (length base) pending_exit d) (e2 : c2 ≡ c1 ++ Jump pending_end ∷ []) where
+  behind : length c2 ≡ length base + length (stats_code p own ss (length base) pending_exit d) + 1
+  behind =
+      let l1 = ap length e1 ∙ length-append base (stats_code p own ss (length base) pending_exit d) in
+      let l2 = ap length e2 ∙ length-append c1 (Jump pending_end ∷ []) in
+      omega (arith, l1, l2)
+
+  pub choice_more : c2 ++ cases_code p own rest (length c2) pending_end pending_exit d ≡ base ++ cases_code p own (OfLabels rs ss rest) (length base) pending_end pending_exit d
+  choice_more =
+      let b = stats_code p own ss (length base) pending_exit d in
+      let more = cases_code p own rest (length base + length b + 1) pending_end pending_exit d in
+      ap (λ m. c2 ++ cases_code p own rest m pending_end pending_exit d) behind
+      ∙ ap (λ l. l ++ more) e2
+      ∙ append_assoc c1 (Jump pending_end ∷ []) more
+      ∙ ap (λ l. l ++ Jump pending_end ∷ more) e1
+      ∙ append_assoc base b (Jump pending_end ∷ more)
+
+  -- and its place
+  pub place_more : (ps more : List ℕ) (n : ℕ) → more ≡ ps ++ n ∷ [] → n ≡ length base → more ++ places_from p own rest (length c2) pending_exit d ≡ ps ++ places_from p own (OfLabels rs ss rest) (length base) pending_exit d
+  place_more ps more n e is =
+      (λ j. e j ++ places_from p own rest (behind j) pending_exit d)
+      ∙ append_assoc ps (n ∷ []) (places_from p own rest (length base + length (stats_code p own ss (length base) pending_exit d) + 1) pending_exit d)
+      ∙ ap (λ m. ps ++ m ∷ places_from p own rest (length base + length (stats_code p own ss (length base) pending_exit d) + 1) pending_exit d) is
 
 -- code whose pending number is redirected
 pub ended : (base code : List Instr) (of : ℕ → List Instr) (p from to : ℕ) → code ≡ base ++ of p → from ≡ length base → map (redirect p to) (of p) ≡ of to → redirect_behind from p to code ≡ base ++ of to

@@ -1,6 +1,6 @@
 -- Code whose jumps forward have a pending number, which no instruction has, and that is redirected once they are known, is the code
 -- with the right ones.
-use Rattle.std.proofs.Common.{◌≡◌, ℕ, zero, suc, Option, Some, None, ◌+◌, ◌*◌, ◌<◌, ℤ, pos, Bool, true, false, List, [], ◌∷◌, ◌++◌, length, map, refl, ap, ◌∙◌, arith, length-append}
+use Rattle.std.proofs.Common.{◌≡◌, ℕ, zero, suc, Option, Some, None, ◌+◌, ◌<◌, ◌≤◌, ℤ, pos, Bool, true, false, List, [], ◌∷◌, ◌++◌, length, map, refl, ap, ◌∙◌, arith, length-append}
 use Rattle.std.specs.Prelude.{nat_eq, if◌then◌else◌}
 use Rattle.std.proofs.lemmas.Bool.{eq-eqb, eqb-true}
 use Rattle.std.proofs.lemmas.List.{map-append}
@@ -12,16 +12,16 @@ use Rattle.aos_typed.specs.declared.tree.Literal.{Literal}
 use Rattle.aos_typed.specs.declared.tree.Literal.TheVariants as literal
 use Rattle.aos_typed.specs.declared.tree.Change.{Change as Changing}
 use Rattle.aos_typed.specs.declared.tree.Change.TheVariants as change
-use Rattle.aos_typed.specs.declared.tree.LabelRange.{LabelRange}
 use Rattle.aos_typed.specs.declared.tree.TType.{TType}
 use Rattle.aos_typed.specs.declared.tree.TType.TheVariants.{Integer}
 use Rattle.aos_typed.specs.Meaning.{until}
-use Rattle.aos_typed.specs.Program.{Place, ModuleVar, Local, Passed, Field, Index, Of, Rows, Known, Opened, Row, Arguments, NoMore, Scalar, Whole, Opening, Expr, Lit, Read, Unary, Binary, And, Or, Element, Ord, Chr, CompareTexts, Len, LenBehind, Function, Call, Open, Char, Int, String, Ln, Stat, Assign, Copy, PutText, If, Case, While, Repeat, Loop, Exit, For, Block, Assert, Halt, Change, Perform, Return, New, Out, Stats, Nothing, Then, Arms, Otherwise, Arm, Cases, NoElse, Else, OfLabels, Procedure, Program}
+use Rattle.aos_typed.specs.Program.{Place, ModuleVar, Local, Passed, Field, Index, Of, Rows, Known, Opened, Row, Longer, Arguments, NoMore, Scalar, Whole, Opening, Expr, Lit, Read, Unary, Binary, And, Or, Element, Ord, Chr, CompareTexts, Len, LenBehind, Function, Call, Open, Char, Int, String, Ln, Stat, Assign, Copy, PutText, If, Case, While, Repeat, Loop, Exit, For, Block, Assert, Halt, Change, Perform, Return, New, Out, Stats, Nothing, Then, Arms, Otherwise, Arm, Cases, NoElse, Else, OfLabels, Procedure, Program}
 use Rattle.aos_code.specs.declared.instr.Instr.{Instr}
 use Rattle.aos_code.specs.declared.instr.Instr.TheVariants as i
 use Rattle.aos_code.specs.declared.instr.Kind.TheVariants.{N}
-use Rattle.aos_sim.specs.Code.{begin, literal_code, lengths_code, drops, dimensions, own_cell, place_code, rows_code, arguments_code, value_code, out_code, new_code, change_code, changed_code, assign_code, for_head, step_code, body_place, rounds_with, label_code, labels_code, stat_code, stats_code, arms_code, cases_code}
-use Rattle.aos_sim.proofs.Sizes.{labels_length, stat_length, stats_length, arms_length, cases_length}
+use Rattle.aos_sim.specs.Code.{begin, literal_code, lengths_code, drops, dimensions, own_cell, place_code, rows_code, arguments_code, value_code, out_code, new_code, change_code, changed_code, assign_code, for_head, step_code, body_place, rounds_with, stat_code, stats_code, arms_code, cases_code, arm_place}
+use Rattle.aos_sim.specs.Search.{Search, Nowhere, At, Split, arms_in, search_of, search_size, search_code}
+use Rattle.aos_sim.proofs.Sizes.{search_length, stat_length, stats_length, arms_length, cases_length}
 use Rattle.aos_emit.specs.Redirect.{redirected, redirect}
 
 -- what leads to the pending number is redirected
@@ -106,6 +106,7 @@ module _ (p x : ℕ) where
       rows_turn (Known q ns) at = behind (place_turns q at) (numbers_same ns)
       rows_turn (Opened k j) at = turn refl (lengths_turn (suc (own_cell program own k)) j)
       rows_turn (Row r t e) at = both (rows_turn r at) (behind (value_turns e (at + length (rows_code program own r at))) refl)
+      rows_turn (Longer r ns) at = behind (rows_turn r at) (numbers_same ns)
 
       arguments_turn : (as' : Arguments) (at : ℕ) → Turns at (arguments_code program own as' at) (arguments_code program own as' at)
       arguments_turn NoMore at = nothing
@@ -183,10 +184,32 @@ module _ (p x : ℕ) where
         (both (moved (omega (arith, counted)) (assign_turns here (Integer w) q (Binary (Add w) (Read (Integer w) q) (Lit (literal.Int step))) (body_place program own w q t + length b)))
         (jump t (omega (arith, lt)))))))))
 
-    labels_turn : (rs : List LabelRange) (d at hit : ℕ) → hit < p → Turns at (labels_code rs d at hit) (labels_code rs d at hit)
-    labels_turn [] d at hit lt = nothing
-    labels_turn (r ∷ rs) d at hit lt =
-        both {c = label_code r d at hit} {c' = label_code r d at hit} (record { is = λ below. (λ j. i.Kept d N ∷ i.Num r.low ∷ i.Binary (Cmp GreaterEqual) ∷ i.JumpFalse (at + 9) ∷ i.Kept d N ∷ i.Num r.high ∷ i.Binary (Cmp LessEqual) ∷ i.JumpFalse (at + 9) ∷ i.Jump (known hit lt j) ∷ []) }) (labels_turn rs d (at + 9) hit lt)
+    search_turns : (place : ℕ → ℕ) (other : ℕ) → ((n : ℕ) → place n < p) → (t : Search) (d at : ℕ) → Turns at (search_code place other t d at) (search_code place other t d at)
+    search_turns place other lt Nowhere d at = jump (place other) (lt other)
+    search_turns place other lt (At r) d at =
+        record { is = λ below. (λ j. i.Kept d N ∷ i.Num r.labels.low ∷ i.Binary (Cmp GreaterEqual) ∷ i.JumpFalse (at + 9) ∷ i.Kept d N ∷ i.Num r.labels.high ∷ i.Binary (Cmp LessEqual) ∷ i.JumpFalse (at + 9) ∷ i.Jump (known (place r.arm) (lt r.arm) j) ∷ i.Jump (known (place other) (lt other) j) ∷ []) }
+    search_turns place other lt (Split middle below above) d at =
+        turn refl (turn refl (turn refl (turn refl
+        (both (moved (omega arith) (search_turns place other lt below d (at + 4)))
+        (moved (omega (arith, search_length place other below d (at + 4))) (search_turns place other lt above d (at + 4 + search_size below)))))))
+
+    -- the arms begin where they do whatever their exit is, and none behind their end
+    arm_same : (cases : Cases) (at y z d n : ℕ) → arm_place program own cases at y d n ≡ arm_place program own cases at z d n
+    arm_same NoElse at y z d n = refl
+    arm_same (Else ss) at y z d n = refl
+    arm_same (OfLabels rs ss cases) at y z d zero = refl
+    arm_same (OfLabels rs ss cases) at y z d (suc n) =
+        arm_same cases (at + length (stats_code program own ss at y d) + 1) y z d n
+        ∙ ap (λ m. arm_place program own cases (at + m + 1) z d n) (stats_length program own ss at y z d)
+
+    arm_within : (cases : Cases) (at end y d n : ℕ) → arm_place program own cases at y d n ≤ at + length (cases_code program own cases at end y d)
+    arm_within NoElse at end y d n = omega arith
+    arm_within (Else ss) at end y d n = omega arith
+    arm_within (OfLabels rs ss cases) at end y d zero = omega arith
+    arm_within (OfLabels rs ss cases) at end y d (suc n) =
+        let b = stats_code program own ss at y d in
+        let next = at + length b + 1 in
+        omega (arith, arm_within cases next end y d n, length-append b (i.Jump end ∷ cases_code program own cases next end y d))
 
     mutual
       stat_turns : (s : Stat) (at y d : ℕ) → Turns at (stat_code program own s at y d) (stat_code program own s at (redirected p x y) d)
@@ -201,12 +224,23 @@ module _ (p x : ℕ) where
           turn refl (said (ap (λ n. arms_code program own arms (at + 1) n z d) (here ∙ ap (λ n. at + 1 + n) (arms_length program own arms (at + 1) 0 0 y z d))) (arms_turn arms (at + 1) end y d))))
       stat_turns (Case here e cases) at y d =
           let z = redirected p x y in
+          let t = search_of cases in
+          let other = arms_in cases in
           let c = value_code program own e (at + 1) in
-          let first = at + 1 + length c + 1 in
+          let from = at + 1 + length c + 1 in
+          let first = from + search_size t in
           let end = first + length (cases_code program own cases first 0 y d) in
-          let inside = i.Keep d N ∷ cases_code program own cases first end y d in
-          ends (λ lt. (let here = known end (omega (arith, lt, length-append c inside, cases_length program own cases first end 0 y y d)) in
-          turn refl (both (value_turns e (at + 1)) (turn refl (said (ap (λ n. cases_code program own cases first n z d) (here ∙ ap (λ n. first + n) (cases_length program own cases first 0 0 y z d))) (cases_turn cases first end y d))))))
+          let place : ℕ → ℕ = arm_place program own cases first y d in
+          let search = search_code place other t d from in
+          let arms = cases_code program own cases first end y d in
+          let size = search_length place other t d from in
+          let whole = length-append c (i.Keep d N ∷ (search ++ arms)) in
+          let ending = cases_length program own cases first end 0 y y d in
+          ends (λ lt. (let here = known end (omega (arith, lt, whole, length-append search arms, size, ending)) in
+          let below : (n : ℕ) → place n < p = λ n. omega (arith, lt, whole, length-append search arms, size, arm_within cases first end y d n) in
+          turn refl (both (value_turns e (at + 1)) (turn refl
+          (both (said (λ j. search_code (λ n. arm_same cases first y z d n j) other t d from) (search_turns place other below t d from))
+          (moved (omega (arith, size)) (said (ap (λ n. cases_code program own cases first n z d) (here ∙ ap (λ n. first + n) (cases_length program own cases first 0 0 y z d))) (cases_turn cases first end y d))))))))
       stat_turns (While here e body) at y d =
           let z = redirected p x y in
           let first = at + 1 + length (value_code program own e (at + 1)) + 1 in
@@ -257,17 +291,8 @@ module _ (p x : ℕ) where
       cases_turn (OfLabels rs ss cases) at end y d =
           let z = redirected p x y in
           let to = redirected p x end in
-          let hit = at + 9 * length rs + 1 in
-          let ls = labels_code rs d at hit in
-          let b = stats_code program own ss hit y d in
-          let next = hit + length b + 1 in
-          let more = cases_code program own cases next end y d in
-          let same = stats_length program own ss hit y z d in
-          let counted = labels_length rs d at hit in
-          ends (λ lt. (let here = known next (omega (arith, lt, counted, length-append ls (i.Jump next ∷ (b ++ (i.Jump end ∷ more))), length-append b (i.Jump end ∷ more))) in
-          both (labels_turn rs d at hit (omega (arith, lt, counted, length-append ls (i.Jump next ∷ (b ++ (i.Jump end ∷ more))))))
-          (turn (ap (λ n. i.Jump n) here ∙ ap (λ n. i.Jump (hit + n + 1)) same) (both (moved (omega (arith, counted)) (stats_turn ss hit y d)) (turn refl
-          (said (ap (λ n. cases_code program own cases (hit + n + 1) to z d) same) (moved (omega (arith, counted)) (cases_turn cases next end y d))))))))
+          both (stats_turn ss at y d) (turn refl
+          (said (ap (λ n. cases_code program own cases (at + n + 1) to z d) (stats_length program own ss at y z d)) (cases_turn cases (at + length (stats_code program own ss at y d) + 1) end y d)))
 
 module _ (program : Program) (own : Option Procedure) (p x : ℕ) where
   -- statements whose exit was pending

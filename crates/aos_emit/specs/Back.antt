@@ -3,7 +3,7 @@ use Rattle.std.specs.Prelude.{ℕ, suc, pos, ◌+◌, ◌-◌, Option, List, [],
 use Rattle.aos_base.specs.declared.operator.Unary.TheVariants.{Range}
 use Rattle.aos_base.specs.declared.operator.Binary.TheVariants.{SetSpan}
 use Rattle.aos_typed.specs.Numbers.{procedure_number}
-use Rattle.aos_typed.specs.Program.{Place, ModuleVar, Local, Passed, Field, Index, Of, Rows, Known, Opened, Row, Arguments, NoMore, Scalar, Whole, Opening, Expr, Lit, Read, Unary, Binary, And, Or, Element, Ord, Chr, CompareTexts, Len, LenBehind, Function, Procedure, Program}
+use Rattle.aos_typed.specs.Program.{Place, ModuleVar, Local, Passed, Field, Index, Of, Rows, Known, Opened, Row, Longer, Arguments, NoMore, Scalar, Whole, Opening, Expr, Lit, Read, Unary, Binary, And, Or, Element, Ord, Chr, CompareTexts, Len, LenBehind, Function, Procedure, Program}
 use Rattle.aos_code.specs.declared.instr.Instr.{Instr}
 use Rattle.aos_code.specs.declared.instr.Instr.TheVariants.{Num, Dup, Frame as FrameOf, Param, Module, Offset, Index as IndexOf, IndexOpen, PickLen, Call as CallOf, Unary as OnOne, Binary as OnTwo, Jump, JumpFalse, Load, CmpText}
 use Rattle.aos_sim.specs.Code.{literal_code, kind_of, variable_cell, own_cell, field_cell, cells_of, dimensions, lengths_code, drops}
@@ -26,6 +26,7 @@ module _ (program : Program) (own : Option Procedure) where
     back_rows (Opened k j) behind =
         behind ++ reverse (Param (own_cell program own k) ∷ lengths_code (suc (own_cell program own k)) j)
     back_rows (Row r t e) behind = back_rows r (back_code e (behind ++ IndexOpen (dimensions r) (cells_of program own t) ∷ []))
+    back_rows (Longer r ns) behind = back_rows r (behind ++ reverse (map (λ n. Num (pos n)) ns))
 
     -- the last argument comes first
     pub back_arguments : Arguments → List Instr → List Instr

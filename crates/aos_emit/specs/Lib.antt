@@ -1,6 +1,7 @@
 pub mod Back
 pub mod Forwards
 pub mod Redirect
+pub mod Places
 pub mod Laid
 pub mod Scope
 pub mod Made

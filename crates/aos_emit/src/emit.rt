@@ -130,6 +130,12 @@ pub fn dimensions(rows: &TRows) -> Result<u32, AllocError>
         TRows::Known(_, lengths) => number_of(lengths.len()),
         TRows::Opened(_, count) => Ok(*count),
         TRows::Row(whole, _, _) => Ok(dimensions(whole)?.saturating_sub(1)),
+        TRows::Longer(whole, lengths) => {
+            match dimensions(whole)?.checked_add(number_of(lengths.len())?) {
+                Some(count) => Ok(count),
+                None => Err(AllocError),
+            }
+        }
     }
 }
 
@@ -181,6 +187,10 @@ fn emit_rows_back(scope: &Scope<'_>, code: &mut Vec<Instr>, rows: &TRows) -> Res
                 let instr = Instr::IndexOpen(dimensions(whole)?, scope.cells_of(*of));
                 put(code, instr)?;
                 emit_back(scope, code, index)?;
+                rest = whole;
+            }
+            TRows::Longer(whole, lengths) => {
+                put_lengths(code, lengths)?;
                 rest = whole;
             }
         }

@@ -7,6 +7,7 @@ mod laid;
 mod level;
 mod need;
 mod scope;
+mod search;
 mod stats;
 
 pub use image::image_of;

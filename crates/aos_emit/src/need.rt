@@ -60,6 +60,11 @@ fn rows_need(rows: &TRows) -> Result<u32, AllocError>
                 need = need.max(above(below, value_need(index)?)?);
                 rest = whole;
             }
+            TRows::Longer(whole, lengths) => {
+                let below = above(1, dimensions(whole)?)?;
+                need = need.max(above(below, number_of(lengths.len())?)?);
+                rest = whole;
+            }
         }
     }
 }

@@ -1,14 +1,16 @@
 // From typed statements to instructions: what is emitted is the code that the definitions give. A jump forward to what isn't
 // emitted yet has a pending number, and is told where it goes when that is known.
 
-ghost use Rattle.std.specs.Prelude.{◌≡◌, ◌+◌, ◌*◌, ◌≤◌, [], ◌∷◌, ◌++◌, length, option_map, OnOk, IfOk};
+ghost use Rattle.std.specs.Prelude.{◌≡◌, ◌+◌, ◌≤◌, [], ◌∷◌, ◌++◌, length, option_map, OnOk, IfOk};
 ghost use Rattle.aos_typed.specs.Meaning as meaning;
 ghost use Rattle.aos_typed.specs.Program.{Read, Copy, PutText, Perform, Return, If, Case, While, Repeat, Loop, Block, Assert};
 ghost use Rattle.aos_typed.specs.Seen.{seen_place, seen_rows, seen_list, seen_expr, seen_call, seen_stat, seen_stats, seen_else, arms_of, cases_of};
 ghost use Rattle.aos_emit.specs.Redirect.{pending_exit, pending_end, redirect_behind, redirect as redirection};
 ghost use Rattle.aos_emit.specs.Scope.{program_of, own_of};
+ghost use Rattle.aos_emit.specs.Places.{places_from};
 ghost use Rattle.aos_sim.specs.Need.{body_need};
-ghost use Rattle.aos_sim.specs.Code.{begin, value_code, out_code, new_code, assign_code, change_code, changed_code, for_head, step_code, rounds_code, label_code, labels_code, arm_code, case_code, stat_code, stats_code, arms_code, cases_code, end_code, body_code};
+ghost use Rattle.aos_sim.specs.Search.{arms_in, search_of, search_size, search_code};
+ghost use Rattle.aos_sim.specs.Code.{begin, value_code, out_code, new_code, assign_code, change_code, changed_code, for_head, step_code, rounds_code, arm_code, stat_code, stats_code, arms_code, cases_code, arm_place, end_code, body_code};
 
 use crate::emit::{
     PENDING_END, cell_kind, emit_arguments, emit_place, emit_rows, emit_value, next_place,
@@ -17,10 +19,11 @@ use crate::emit::{
 use crate::level::deeper;
 use crate::need::stats_need;
 use crate::scope::Scope;
+use crate::search::{put_search, rows_of, set_places};
 use aos_base::{Binary, Pos, Relation, Width};
 use aos_code::{Body, Instr, Kind};
 use aos_typed::{
-    Change, LabelRange, OutCall, TArgument, TArm, TCase, TElse, TExpr, TPlace, TRows, TStat, TType,
+    Change, OutCall, TArgument, TArm, TCase, TElse, TExpr, TPlace, TRows, TStat, TType,
 };
 use std::alloc::{AllocError, Global};
 
@@ -381,52 +384,6 @@ fn emit_step(
     put(code, Instr::Store(Kind::N))
 }
 
-// One end of a range of labels: where the selector's value, which is kept, isn't so related to it the code goes on at `past`.
-fn put_bound(
-    code: &mut Vec<Instr>,
-    relation: Relation,
-    bound: &i64,
-    level: u32,
-    past: u32,
-) -> Result<(), AllocError>
-    ensures { OnOk result (code.new.items ≡ code.old.items ++
-        Instr.Kept level Kind.N ∷ Instr.Num bound.now ∷ Instr.Binary (Binary.Cmp relation) ∷ Instr.JumpFalse past ∷ []) }
-{
-    put(code, Instr::Kept(level, Kind::N))?;
-    put(code, Instr::Num(*bound))?;
-    put(code, Instr::Binary(Binary::Cmp(relation)))?;
-    put(code, Instr::JumpFalse(past))
-}
-
-// A range of labels: where the selector's value is in it the code goes on at `hit`.
-fn put_label(
-    code: &mut Vec<Instr>,
-    range: &LabelRange,
-    level: u32,
-    hit: u32,
-) -> Result<(), AllocError>
-    ensures { OnOk result (code.new.items ≡ code.old.items ++ label_code range.now level (length code.old.items) hit) }
-{
-    let past = number_of(code.len() + 9)?;
-    put_bound(code, Relation::GreaterEqual, &range.low, level, past)?;
-    put_bound(code, Relation::LessEqual, &range.high, level, past)?;
-    put(code, Instr::Jump(hit))
-}
-
-fn put_labels(
-    code: &mut Vec<Instr>,
-    labels: &[LabelRange],
-    level: u32,
-    hit: u32,
-) -> Result<(), AllocError>
-    ensures { OnOk result (code.new.items ≡ code.old.items ++ labels_code labels.now level (length code.old.items) hit) }
-{
-    for range in labels {
-        put_label(code, range, level, hit)?;
-    }
-    Ok(())
-}
-
 // A test and statements, behind which the code goes on at `then`; where the test doesn't hold it goes on behind them.
 #[cycle(emit_stat)]
 fn emit_arm(
@@ -622,32 +579,6 @@ fn emit_if(
     Ok(())
 }
 
-// An arm of CASE. The jump past its statements is told its target when their end is known.
-#[cycle(emit_stat)]
-fn emit_choice(
-    alloc: Global,
-    scope: &Scope<'_>,
-    code: &mut Vec<Instr>,
-    labels: &[LabelRange],
-    body: &[TStat],
-    level: u32,
-) -> Result<(), AllocError>
-    ensures { OnOk result (let hit = length code.old.items + 9 * length labels.now + 1 in
-        let b = stats_code (program_of scope.now) (own_of scope.now) (seen_stats body.now) hit pending_exit level in
-        code.new.items ≡ code.old.items ++
-        case_code (labels_code labels.now level (length code.old.items) hit) b (hit + length b + 1) pending_end []) }
-{
-    let hit = number_of(code.len() + 9 * labels.len() + 1)?;
-    put_labels(code, labels, level, hit)?;
-    let labels_end = code.len();
-    put(code, Instr::Jump(0))?;
-    emit_stats(alloc, scope, code, body, level)?;
-    put(code, Instr::Jump(PENDING_END))?;
-    let next = next_place(code)?;
-    code[labels_end] = Instr::Jump(next);
-    Ok(())
-}
-
 #[cycle(emit_stat)]
 #[tactic(auto, using(aos_typed::proofs::Seen::else_seen))]
 fn emit_else(
@@ -666,6 +597,7 @@ fn emit_else(
     }
 }
 
+// The arms of CASE, one behind another, and where they begin. The jumps past them are told their target when that is known.
 #[cycle(emit_stat)]
 #[tactic(auto, using(crate::proofs::Heights::case_less, crate::proofs::Heights::else_less))]
 fn emit_choices(
@@ -675,15 +607,54 @@ fn emit_choices(
     cases: &[TCase],
     otherwise: &TElse,
     level: u32,
-) -> Result<(), AllocError>
-    ensures { OnOk result (code.new.items ≡ code.old.items ++
+) -> Result<Vec<u32>, AllocError>
+    ensures code { OnOk result (code.new.items ≡ code.old.items ++
         cases_code (program_of scope.now) (own_of scope.now) (cases_of cases.now (seen_else otherwise.now))
         (length code.old.items) pending_end pending_exit level) }
+    ensures places { IfOk result (λ places. places.items ≡
+        places_from (program_of scope.now) (own_of scope.now) (cases_of cases.now (seen_else otherwise.now))
+        (length code.old.items) pending_exit level) }
 {
+    let mut places = Vec::new(alloc);
     for case in cases {
-        emit_choice(alloc, scope, code, &case.labels, &case.body, level)?;
+        let place = next_place(code)?;
+        places.push(place)?;
+        emit_stats(alloc, scope, code, &case.body, level)?;
+        put(code, Instr::Jump(PENDING_END))?;
     }
-    emit_else(alloc, scope, code, otherwise, level)
+    let last = next_place(code)?;
+    places.push(last)?;
+    emit_else(alloc, scope, code, otherwise, level)?;
+    Ok(places)
+}
+
+// The search of a CASE and its arms. The jumps of the search are told where the arms begin when these are there.
+#[cycle(emit_stat)]
+fn emit_found(
+    alloc: Global,
+    scope: &Scope<'_>,
+    code: &mut Vec<Instr>,
+    cases: &[TCase],
+    otherwise: &TElse,
+    level: u32,
+) -> Result<(), AllocError>
+    ensures { OnOk result (let all = cases_of cases.now (seen_else otherwise.now) in
+        let first = length code.old.items + search_size (search_of all) in
+        let end = first + length (cases_code (program_of scope.now) (own_of scope.now) all first 0 pending_exit level) in
+        code.new.items ≡ code.old.items ++
+        (search_code (arm_place (program_of scope.now) (own_of scope.now) all first pending_exit level) (arms_in all) (search_of all) level (length code.old.items)
+        ++ cases_code (program_of scope.now) (own_of scope.now) all first end pending_exit level)) }
+{
+    let rows = rows_of(alloc, cases)?;
+    let from = code.len();
+    let other = number_of(cases.len())?;
+    put_search(code, &rows, rows.len(), other, level)?;
+    let first = code.len();
+    let places = emit_choices(alloc, scope, code, cases, otherwise, level)?;
+    let end = next_place(code)?;
+    redirect(code, first, PENDING_END, end);
+    set_places(&mut code[from..first], &places);
+    Ok(())
 }
 
 #[cycle(emit_stat)]
@@ -704,11 +675,7 @@ fn emit_case(
     emit_begin(code, at)?;
     emit_value(alloc, scope, code, selector)?;
     put(code, Instr::Keep(level, Kind::N))?;
-    let first = code.len();
-    emit_choices(alloc, scope, code, cases, otherwise, level)?;
-    let end = next_place(code)?;
-    redirect(code, first, PENDING_END, end);
-    Ok(())
+    emit_found(alloc, scope, code, cases, otherwise, level)
 }
 
 #[cycle(emit_stat)]

@@ -1,6 +1,6 @@
-use Rattle.std.proofs.Common.{◌≡◌, ℕ, suc, ◌+◌, ◌*◌, ◌<◌, List, [], ◌∷◌, ◌++◌, length, drop, refl, sym, ap, ◌∙◌, rules, arith, append_assoc, length-append}
+use Rattle.std.proofs.Common.{◌≡◌, ℕ, suc, ◌+◌, ◌*◌, ◌<◌, ◌-◌, List, [], ◌∷◌, ◌++◌, length, map, take, drop, refl, sym, ap, ◌∙◌, rules, arith, append_assoc, length-append}
 use Rattle.std.proofs.lemmas.Result.{on_ok_weaker}
-use Rattle.std.proofs.lemmas.List.{drop_more}
+use Rattle.std.proofs.lemmas.List.{drop_more, drop_all}
 use Rattle.aos_base.specs.declared.operator.Binary.TheVariants.{Cmp}
 use Rattle.aos_code.specs.declared.instr.Instr.{Instr}
 use Rattle.aos_code.specs.declared.instr.Instr.TheVariants as i
@@ -8,15 +8,19 @@ use Rattle.aos_code.specs.declared.instr.Kind.TheVariants.{N}
 use Rattle.aos_typed.specs.declared.tree.TType.TheVariants.{Integer}
 use Rattle.aos_typed.specs.Meaning.{until}
 use Rattle.aos_typed.specs.Program.{OfLabels, Read, If, Case, While, Repeat, Loop, For, Block}
+use Rattle.aos_typed.specs.declared.tree.TCase.{out-TCase}
 use Rattle.aos_typed.specs.Seen.{seen_place, seen_expr, seen_stat, seen_stats, seen_else, arms_of, cases_of}
 use Rattle.aos_typed.proofs.Seen.{if_seen, case_seen, while_seen, repeat_seen, loop_seen, for_seen, block_seen}
-use Rattle.aos_sim.specs.Code.{begin, value_code, arm_code, step_code, for_head, rounds_code, labels_code, stats_code, arms_code, cases_code}
-use Rattle.aos_sim.proofs.Sizes.{labels_length, stats_length, arms_length, cases_length}
+use Rattle.aos_sim.specs.Search.{arms_in, in_order, search_of, search_size, search_code}
+use Rattle.aos_sim.specs.Code.{begin, value_code, arm_code, step_code, for_head, rounds_code, stats_code, arms_code, cases_code, arm_place}
+use Rattle.aos_sim.proofs.Sizes.{stats_length, arms_length}
 use Rattle.aos_emit.specs.Scope.{program_of, own_of}
+use Rattle.aos_emit.specs.Places.{places_from, place_in, led}
 use Rattle.aos_emit.specs.Redirect.{pending_exit, pending_end}
 use Rattle.aos_emit.proofs.Heights.{within, arms_within, cases_within}
-use Rattle.aos_emit.proofs.Patch.{followed, choice_more, patched, ended, round_is, emitted}
-use Rattle.aos_emit.proofs.Pending.{exit_known, arms_known, cases_known}
+use Rattle.aos_emit.proofs.Patch.{followed, choice_more, place_more, patched, ended, round_is, emitted}
+use Rattle.aos_emit.proofs.Pending.{exit_known, arms_known}
+use Rattle.aos_emit.proofs.Searches.{else_rows, else_arms, else_place, searched}
 use Rattle.aos_emit.proofs.stats.+emit_stat.Goals as goal
 
 pub emit_stat-emit_if-requires : goal.emit_stat-emit_if-requires
@@ -232,21 +236,25 @@ emit_if-returns t c =
     ∙ ended c1 c.emit_arms.new.code.items (λ n. arms_code p own all at n pending_exit d) pending_end c.len-first.result c.in_ok-end.end code (c.len-first.ensures ∙ c.emit_begin.new.code.ok.0) (arms_known p own pending_end c.in_ok-end.end all at pending_exit d refl below)
     ∙ ap (λ n. c1 ++ arms_code p own all at n pending_exit d) there)
 
-pub emit_choice-returns : goal.emit_choice-returns
-emit_choice-returns t c =
+pub emit_found-returns : goal.emit_found-returns
+emit_found-returns t c =
     let p = program_of c.args.scope.now in
     let own = own_of c.args.scope.now in
     let base = c.args.code.now.items in
-    let rs = c.args.labels.now in
-    let d = c.args.level in
-    let hit = length base + 9 * length rs + 1 in
-    let body : ℕ → List Instr = λ n. stats_code p own (seen_stats c.args.body.now) n pending_exit d in
-    let ls = labels_code rs d (length base) hit in
-    let to_hit : c.in_ok-hit.hit ≡ hit = omega (arith, c.in_ok-hit.ensures.is, c.len.ensures ∙ c.args.code.now.ok.0) in
-    let found : c.put_labels.new.code.items ≡ base ++ ls = c.in_ok-put_labels.ensures ∙ ap (λ n. base ++ labels_code rs d (length base) n) to_hit in
-    let here : length base + length ls + 1 ≡ hit = omega (arith, labels_length rs d (length base) hit) in
-    patched base ls body _ _ _ _ _ _ (λ n. i.Jump n) _ _ found (c.len-labels_end.ensures ∙ c.put_labels.new.code.ok.0) c.in_ok-put.ensures c.in_ok-emit_stats.ensures c.in_ok-put-2.ensures (c.in_ok-next.ensures.is ∙ ap length c.deref.ensures.value)
-    ∙ ap (λ n. base ++ (ls ++ (i.Jump (n + length (body n) + 1) ∷ (body n ++ (i.Jump pending_end ∷ []))))) here
+    let cases = c.args.cases.now in
+    let o = c.args.otherwise.now in
+    let c1 = c.put_search.new.code.items in
+    let c2 = c.emit_choices.new.code.items in
+    let now = c.deref_mut.result.now in
+    let from = c.len-from.result in
+    let first = c.len-first.result in
+    let rows = c.deref.ensures.value ∙ c.in_ok-rows.ensures ∙ ap in_order (sym (else_rows 0 cases o)) in
+    let deep = c.len.ensures ∙ c.in_ok-rows.rows.ok.0 ∙ sym (ap length c.deref.ensures.value) in
+    let len = ap length c.deref-2.ensures.value in
+    let few : length c.deref-2.result.now < 4294967294 = c.in_ok-end.ensures.few in
+    let below : length c2 < 4294967294 = omega (arith, few, len) in
+    let part = c.set_places.ensures ∙ ap (λ l. map (led (place_in 0 l)) (take (first - from) (drop from now))) c.deref-3.ensures.value in
+    searched p own (cases_of cases (seen_else o)) base c1 c2 c.redirect.new.code.items now c.set_places.new.code _ c.deref.result.now c.in_ok-places.places.items c.len.result from first c.in_ok-end.end c.in_ok-other.other c.redirect.new.code.len c.args.level rows deep (c.in_ok-other.ensures.is ∙ sym (else_arms cases o)) (c.len-from.ensures ∙ c.args.code.now.ok.0) c.in_ok-put_search.ensures (c.len-first.ensures ∙ c.put_search.new.code.ok.0) c.in_ok-places.ensures.code c.in_ok-places.ensures.places (c.in_ok-end.ensures.is ∙ len) below c.redirect.ensures c.deref_mut.ensures.value c.redirect.new.code.ok.0 part
 
 pub emit_case-returns : goal.emit_case-returns
 emit_case-returns t c =
@@ -259,24 +267,13 @@ emit_case-returns t c =
     let v = value_code p own (seen_expr c.args.selector.now) (length base + 1) in
     let e2 = followed base c.emit_begin.new.code.items c.emit_value.new.code.items (here ∷ []) (λ n. value_code p own (seen_expr c.args.selector.now) n) c.in_ok-emit_begin.ensures c.in_ok-emit_value.ensures in
     let e3 = followed base c.emit_value.new.code.items c.put.new.code.items (here ∷ v) (λ n. i.Keep d N ∷ []) e2 c.in_ok-put.ensures in
-    let c1 = c.put.new.code.items in
-    let at = length c1 in
-    let code = c.in_ok-emit_choices.ensures in
-    let long = ap length code ∙ length-append c1 (cases_code p own all at pending_end pending_exit d) in
-    let same = cases_length p own all at pending_end 0 pending_exit pending_exit d in
-    let len = ap length c.deref.ensures.value in
-    let few : length c.deref.result.now < 4294967294 = c.in_ok-end.ensures.few in
-    let below : at + length (cases_code p own all at pending_end pending_exit d) < 4294967294 = omega (arith, few, len, long) in
-    let there : c.in_ok-end.end ≡ at + length (cases_code p own all at 0 pending_exit d) = omega (arith, c.in_ok-end.ensures.is, len, long, same) in
-    let cases : ℕ → List Instr = λ n. cases_code p own all n (n + length (cases_code p own all n 0 pending_exit d)) pending_exit d in
+    let arms : ℕ → List Instr = λ n. cases_code p own all n (n + length (cases_code p own all n 0 pending_exit d)) pending_exit d in
+    let search : ℕ → List Instr = λ n. (let first = n + search_size (search_of all) in search_code (arm_place p own all first pending_exit d) (arms_in all) (search_of all) d n ++ arms first) in
     let front = here ∷ (v ++ i.Keep d N ∷ []) in
     let first : length base + length front ≡ length base + 1 + length v + 1 = omega (arith, length-append v (i.Keep d N ∷ [])) in
-    followed base c1 c.redirect.new.code.items front cases e3
-    (c.redirect.ensures
-    ∙ ended c1 c.emit_choices.new.code.items (λ n. cases_code p own all at n pending_exit d) pending_end c.len-first.result c.in_ok-end.end code (c.len-first.ensures ∙ c.put.new.code.ok.0) (cases_known p own pending_end c.in_ok-end.end all at pending_exit d refl below)
-    ∙ ap (λ n. c1 ++ cases_code p own all at n pending_exit d) there)
-    ∙ ap (λ l. base ++ (here ∷ l)) (append_assoc v (i.Keep d N ∷ []) (cases (length base + length front)))
-    ∙ ap (λ n. base ++ (here ∷ (v ++ (i.Keep d N ∷ cases n)))) first
+    on_ok_weaker c.emit_found.result (λ e. followed base c.put.new.code.items c.emit_found.new.code.items front search e3 e
+    ∙ ap (λ l. base ++ (here ∷ l)) (append_assoc v (i.Keep d N ∷ []) (search (length base + length front)))
+    ∙ ap (λ n. base ++ (here ∷ (v ++ (i.Keep d N ∷ search n)))) first) c.emit_found.ensures
 
 pub emit_choices-loop-case-preserved : goal.emit_choices-loop-case-preserved
 emit_choices-loop-case-preserved t c =
@@ -290,7 +287,30 @@ emit_choices-loop-case-preserved t c =
     let code = c.loop-case.code.items in
     let rest = cases_of (drop (k + 1) cases) otherwise in
     let there : drop k cases ≡ x ∷ drop (k + 1) cases = drop_more cases k x c.loop-case-test.true ∙ ap (λ y. y ∷ drop (k + 1) cases) (sym c.case-item.is) in
-    choice_more p own code c.emit_choice.new.code.items c.deref.result.now (seen_stats c.deref-in-loop-case.result.now) rest d c.in_ok-emit_choice.ensures
-    ∙ (λ i. code ++ cases_code p own (OfLabels (c.deref.ensures.value i) (seen_stats (c.deref-in-loop-case.ensures.value i)) rest) (length code) pending_end pending_exit d)
-    ∙ ap (λ l. code ++ cases_code p own (cases_of l otherwise) (length code) pending_end pending_exit d) (sym there)
-    ∙ c.loop-case.invariant
+    let of = out-TCase x in
+    let at = c.in_ok-place.ensures.is ∙ ap length c.deref.ensures.value in
+    let ss = seen_stats c.deref-in-loop-case.result.now in
+    let seen : cases_of (drop k cases) otherwise ≡ OfLabels of.labels.items ss rest =
+    ap (λ l. cases_of l otherwise) there ∙ sym (ap (λ l. OfLabels of.labels.items (seen_stats l) rest) c.deref-in-loop-case.ensures.value) in (
+      choice_more p own code c.emit_stats.new.code.items c.put.new.code.items of.labels.items ss rest d c.in_ok-emit_stats.ensures c.in_ok-put.ensures
+          ∙ ap (λ l. code ++ cases_code p own l (length code) pending_end pending_exit d) (sym seen)
+          ∙ c.loop-case.invariant.0,
+      place_more p own code c.emit_stats.new.code.items c.put.new.code.items of.labels.items ss rest d c.in_ok-emit_stats.ensures c.in_ok-put.ensures c.loop-case.places.items c.push.new.self.items c.in_ok-place.place c.in_ok-push.ensures.items at
+          ∙ ap (λ l. c.loop-case.places.items ++ places_from p own l (length code) pending_exit d) (sym seen)
+          ∙ c.loop-case.invariant.1,
+    )
+
+pub emit_choices-returns-clause-places : goal.emit_choices-returns-clause-places
+emit_choices-returns-clause-places t c =
+    let p = program_of c.args.scope.now in
+    let own = own_of c.args.scope.now in
+    let o = c.args.otherwise.now in
+    let code = c.loop-case.code.items in
+    let d = c.args.level in
+    let at = c.in_ok-last.ensures.is ∙ ap length c.deref-2.ensures.value in
+    let none : drop c.loop-case.case-index c.args.cases.now ≡ [] = drop_all c.loop-case.case-index c.args.cases.now c.loop-case-test.false in
+    c.in_ok-push-2.ensures.items
+    ∙ ap (λ n. c.loop-case.places.items ++ n ∷ []) at
+    ∙ ap (λ l. c.loop-case.places.items ++ l) (sym (else_place p own o (length code) pending_exit d))
+    ∙ ap (λ l. c.loop-case.places.items ++ places_from p own (cases_of l (seen_else o)) (length code) pending_exit d) (sym none)
+    ∙ c.loop-case.invariant.1

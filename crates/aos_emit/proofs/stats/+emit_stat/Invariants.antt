@@ -2,6 +2,7 @@ use Rattle.std.proofs.Common.{◌≡◌, ◌++◌, ◌+◌, ◌*◌, length, dro
 use Rattle.aos_typed.specs.Seen.{seen_stat, seen_stats, seen_else, arms_of, cases_of}
 use Rattle.aos_sim.specs.Code.{stats_code, arms_code, cases_code}
 use Rattle.aos_emit.specs.Scope.{program_of, own_of}
+use Rattle.aos_emit.specs.Places.{places_from}
 use Rattle.aos_emit.specs.Redirect.{pending_exit, pending_end}
 use Rattle.aos_emit.proofs.Heights.{height, heights, arms_height, cases_height}
 use Rattle.aos_emit.proofs.stats.+emit_stat.Given as goal
@@ -17,7 +18,7 @@ invariant-emit_arms-loop-arm l =
 
 abbrev pub invariant-emit_choices-loop-case : goal.invariant-emit_choices-loop-case
 invariant-emit_choices-loop-case l =
-    l.code.items ++ cases_code (program_of l.scope) (own_of l.scope) (cases_of (drop l.case-index l.cases) (seen_else l.otherwise)) (length l.code.items) pending_end pending_exit l.level ≡ l.fn.code.items ++ cases_code (program_of l.scope) (own_of l.scope) (cases_of l.fn.cases (seen_else l.fn.otherwise)) (length l.fn.code.items) pending_end pending_exit l.fn.level
+    (l.code.items ++ cases_code (program_of l.scope) (own_of l.scope) (cases_of (drop l.case-index l.cases) (seen_else l.otherwise)) (length l.code.items) pending_end pending_exit l.level ≡ l.fn.code.items ++ cases_code (program_of l.scope) (own_of l.scope) (cases_of l.fn.cases (seen_else l.fn.otherwise)) (length l.fn.code.items) pending_end pending_exit l.fn.level) × (l.places.items ++ places_from (program_of l.scope) (own_of l.scope) (cases_of (drop l.case-index l.cases) (seen_else l.otherwise)) (length l.code.items) pending_exit l.level ≡ places_from (program_of l.scope) (own_of l.scope) (cases_of l.fn.cases (seen_else l.fn.otherwise)) (length l.fn.code.items) pending_exit l.fn.level)
 
 abbrev pub decreases-emit_stat : goal.decreases-emit_stat
 decreases-emit_stat l = 5 * height (seen_stat l.statement.now)
@@ -52,14 +53,14 @@ decreases-emit_arms l = 5 * arms_height (arms_of l.arms.now (seen_stats l.otherw
 abbrev pub decreases-emit_if : goal.decreases-emit_if
 decreases-emit_if l = 5 * arms_height (arms_of l.arms.now (seen_stats l.otherwise.now)) + 4
 
-abbrev pub decreases-emit_choice : goal.decreases-emit_choice
-decreases-emit_choice l = 5 * heights (seen_stats l.body.now) + 2
-
 abbrev pub decreases-emit_else : goal.decreases-emit_else
-decreases-emit_else l = 5 * cases_height (seen_else l.otherwise.now) + 2
+decreases-emit_else l = 5 * cases_height (seen_else l.otherwise.now)
 
 abbrev pub decreases-emit_choices : goal.decreases-emit_choices
-decreases-emit_choices l = 5 * cases_height (cases_of l.cases.now (seen_else l.otherwise.now)) + 3
+decreases-emit_choices l = 5 * cases_height (cases_of l.cases.now (seen_else l.otherwise.now)) + 1
+
+abbrev pub decreases-emit_found : goal.decreases-emit_found
+decreases-emit_found l = 5 * cases_height (cases_of l.cases.now (seen_else l.otherwise.now)) + 2
 
 abbrev pub decreases-emit_case : goal.decreases-emit_case
-decreases-emit_case l = 5 * cases_height (cases_of l.cases.now (seen_else l.otherwise.now)) + 4
+decreases-emit_case l = 5 * cases_height (cases_of l.cases.now (seen_else l.otherwise.now)) + 3
