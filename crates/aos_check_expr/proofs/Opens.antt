@@ -1,5 +1,5 @@
 -- The open dimensions of types, in a table in which each open array stands behind its elements.
-use Rattle.std.proofs.Common.{◌≡◌, ℕ, zero, suc, ◌≤◌, ◌<◌, ◌⊎◌, List, [], ◌∷◌, length, false, Option, Some, None, slice_get, refl, sym, ap, ◌∙◌, subst, arith}
+use Rattle.std.proofs.Common.{◌≡◌, ℕ, zero, suc, ◌-◌, ◌≤◌, ◌<◌, ◌⊎◌, List, [], ◌∷◌, length, false, Option, Some, None, slice_get, refl, sym, ap, ◌∙◌, subst, arith}
 use Rattle.std.proofs.lemmas.Option.{none-some, same_Some, slice_get_within}
 use Rattle.aos_types.specs.declared.row.TypeId.{TypeId}
 use Rattle.aos_types.specs.declared.row.TypeRow.{TypeRow}
@@ -59,8 +59,15 @@ module _ (types : List TypeRow) where
   one_dimension : (n : ℕ) (t u : TypeId) → row_of types t ≡ Some (row.Open u) → behind_dimensions types (suc n) t ≡ behind_dimensions types n u
   one_dimension n t u is = rw is refl
 
-  closed_behind : (t : TypeId) → element_of (row_of types t) ≡ None → behind_dimensions types (open_dimensions types t) t ≡ Some (open_element types t)
-  closed_behind t e = ap (λ d. behind_dimensions types d t) (closed_dimensions t e) ∙ ap (λ u. Some u) (sym (closed_element t e))
+  -- behind so many dimensions stands this type: the first ones are those that are open
+  abbrev pub IsBehind : ℕ → TypeId → TypeId → Type 0
+  IsBehind n t v = (open_dimensions types t ≤ n) × (behind_dimensions types (n - open_dimensions types t) (open_element types t) ≡ Some v)
+
+  closed_behind : (n : ℕ) (t v : TypeId) → element_of (row_of types t) ≡ None → behind_dimensions types n t ≡ Some v → IsBehind n t v
+  closed_behind n t v none is =
+      let zero = closed_dimensions t none in
+      let all : n - open_dimensions types t ≡ n = omega (arith, zero) in
+      (omega (arith, zero), ap (λ d. behind_dimensions types d (open_element types t)) all ∙ ap (λ u. behind_dimensions types n u) (closed_element t none) ∙ is)
 
   abbrev pub OpensFall : Type 0
   OpensFall = (t u : TypeId) → row_of types t ≡ Some (row.Open u) → u.0 < t.0
@@ -130,20 +137,23 @@ module _ (types : List TypeRow) where
         by None e more = subst P (sym (closed_element u e)) (each t u is e)
         by (Some v) e more = let less = falls t u is in more v (omega (arith, less, a)) (open_is (row_of types u) v e)
 
-    -- behind all open dimensions stand the elements
-    pub all_behind : (n : ℕ) (t : TypeId) → t.0 ≤ n → behind_dimensions types (open_dimensions types t) t ≡ Some (open_element types t)
-    all_behind zero t a = closed_behind t (first_closed t a)
-    all_behind (suc n) t a = by (element_of (row_of types t)) refl (all_behind n)
+    -- so it is where that type has no open dimension
+    pub all_behind : (n : ℕ) (t v : TypeId) → element_of (row_of types v) ≡ None → behind_dimensions types n t ≡ Some v → IsBehind n t v
+    all_behind zero t v none is = closed_behind zero t v (ap (λ u. element_of (row_of types u)) (same_Some t v is) ∙ none) is
+    all_behind (suc n) t v none is = by (element_of (row_of types t)) refl (all_behind n)
       where
         by : (o : Option TypeId) → element_of (row_of types t) ≡ o →
-            ((u : TypeId) → u.0 ≤ n → behind_dimensions types (open_dimensions types u) u ≡ Some (open_element types u)) →
-            behind_dimensions types (open_dimensions types t) t ≡ Some (open_element types t)
-        by None e more = closed_behind t e
+            ((u v : TypeId) → element_of (row_of types v) ≡ None → behind_dimensions types n u ≡ Some v → IsBehind n u v) → IsBehind (suc n) t v
+        by None e more = closed_behind (suc n) t v e is
         by (Some u) e more =
-            let is = open_is (row_of types t) u e in
-            let less = falls t u is in
-            ap (λ d. behind_dimensions types d t) (next_dimensions t u is) ∙ one_dimension (open_dimensions types u) t u is
-            ∙ more u (omega (arith, less, a)) ∙ ap (λ v. Some v) (sym (next_element t u is))
+            let row = open_is (row_of types t) u e in
+            let rest = more u v none (sym (one_dimension n t u row) ∙ is) in
+            let next = next_dimensions t u row in
+            let left : suc n - open_dimensions types t ≡ n - open_dimensions types u = omega (arith, next) in (
+              omega (arith, rest.0, next),
+              ap (λ d. behind_dimensions types d (open_element types t)) left
+                  ∙ ap (λ w. behind_dimensions types (n - open_dimensions types u) w) (next_element t u row) ∙ rest.1,
+            )
 
 -- Where a table goes on, its types have the same open dimensions.
 module _ (types more : List TypeRow) (falls : OpensFall types) (falls_on : OpensFall more)

@@ -1,5 +1,5 @@
 -- Arguments that break no rule are those of the procedure's parameters, and a function's call is sound.
-use Rattle.std.proofs.Common.{◌≡◌, ℕ, zero, suc, ◌==◌, List, [], ◌∷◌, ◌++◌, length, Bool, true, false, not, ◌&&◌, ◌||◌, ◌⊎◌, inl, inr, nat_le, nat_lt, Option, Some, None, is_some, option_and_then, if◌then◌else◌, refl, sym, ap, ◌∙◌, subst, append_assoc, append-nil, eqb-true, arith}
+use Rattle.std.proofs.Common.{◌≡◌, ℕ, zero, suc, ◌-◌, ◌==◌, List, [], ◌∷◌, ◌++◌, length, Bool, true, false, not, ◌&&◌, ◌||◌, ◌⊎◌, inl, inr, nat_le, nat_lt, Option, Some, None, is_some, option_and_then, if◌then◌else◌, refl, sym, ap, ◌∙◌, subst, append_assoc, append-nil, eqb-true, arith}
 use Rattle.std.specs.Option.{is_none}
 use Rattle.std.proofs.lemmas.Bool.{and_parts}
 use Rattle.std.proofs.lemmas.Option.{none-some, same_Some}
@@ -15,7 +15,7 @@ use Rattle.aos_typed.specs.declared.tree.TextConstant.{TextConstant}
 use Rattle.aos_typed.specs.declared.tree.TType.{TType}
 use Rattle.aos_typed.specs.Numbers.{id_of}
 use Rattle.aos_typed.specs.Open.{open_dimensions, open_element}
-use Rattle.aos_typed.specs.Program.{Place, Rows, Known as KnownRows, Arguments, Read, Parameter}
+use Rattle.aos_typed.specs.Program.{Place, Rows, Known as KnownRows, Longer, Arguments, Read, Parameter}
 use Rattle.aos_typed.specs.WellTyped.{HaveLengths, IsArrayOf, IsByValue, IsOpening, is_whole, is_basic as is_basic_type}
 use Rattle.aos_symbols.specs.declared.home.Parameter.{Parameter as Formal}
 use Rattle.aos_symbols.specs.declared.home.Gives.{Gives}
@@ -184,15 +184,15 @@ module _ (p : Inside) (e : Env) (whole : IsWhole p e) where
     E = type_as (open_element e.types t)
 
     -- of a whole variable of a type that agrees
-    rows_passed : (u : TypeId) (place : Place) → is_basic u ≡ false → judge.agrees e t u ≡ true → judge.is_one_kind e t u ≡ true → IsClosedPlace p u place ⊎ IsOpenPlace p u place →
+    rows_passed : (u : TypeId) (place : Place) → is_basic u ≡ false → judge.agrees e t u ≡ true → IsClosedPlace p u place ⊎ IsOpenPlace p u place →
         AreRows p (arrays.array_rows e (open_dimensions e.types t) (Some u) place) (open_dimensions e.types t) (type_as (open_element e.types t))
-    rows_passed u place low does kind held = by held
+    rows_passed u place low does held = by held
       where
         two : (arrays.is_array e (Some u) ≡ true) × (judge.behind_dimensions e.types (open_dimensions e.types t) u ≡ Some (open_element e.types t))
         two = agreeing t u does
 
         at : Bool → Rows
-        at b = if b then rows_of place else KnownRows place (arrays.lengths_from e.types (open_dimensions e.types t) (row_of e.types u))
+        at b = if b then arrays.open_rows e (open_dimensions e.types t) u place else KnownRows place (arrays.lengths_from e.types (open_dimensions e.types t) (row_of e.types u))
 
         Are : Rows → Type 0
         Are r = AreRows p r (open_dimensions e.types t) (type_as (open_element e.types t))
@@ -206,23 +206,29 @@ module _ (p : Inside) (e : Env) (whole : IsWhole p e) where
             let ns = fixed_lengths (open_dimensions e.types t) u (open_element e.types t) none two.1 in
             (ns.0, inl (type_as u, c.0, in_program (arrays.lengths_from e.types (open_dimensions e.types t) (row_of e.types u)) u (open_element e.types t) ns.1 c.1 (elements_id t opening)))
 
-        one_kind : is_opened e u ≡ true → open_dimensions e.types u ≡ open_dimensions e.types t
-        one_kind is = eqb-true (open_dimensions e.types u) (open_dimensions e.types t) (sym (ap (λ b. not b || open_dimensions e.types u == open_dimensions e.types t) is) ∙ kind)
-
-        elements : is_opened e u ≡ true → open_element e.types u ≡ open_element e.types t
-        elements is =
-            same_Some (open_element e.types u) (open_element e.types t)
-            (sym (all_behind e.types whole.opens.falls u.0 u (omega arith)) ∙ ap (λ n. judge.behind_dimensions e.types n u) (one_kind is) ∙ two.1)
+        -- the lengths of the parameter's dimensions that aren't open in it are known
+        longer : is_opened e u ≡ true → (r : Rows) → AreRows p r (open_dimensions e.types u) (type_as (open_element e.types u)) →
+            Are (Longer r (arrays.lengths_from e.types (open_dimensions e.types t - open_dimensions e.types u) (row_of e.types (open_element e.types u))))
+        longer is r rows =
+            let left = open_dimensions e.types t - open_dimensions e.types u in
+            let inner = open_element e.types u in
+            let closed : (v : TypeId) → is_opened e v ≡ true → element_of (row_of e.types (open_element e.types v)) ≡ None = λ v o. told_element e whole.opens (open_element e.types v) (elements_told v o) in
+            let split = all_behind e.types whole.opens.falls (open_dimensions e.types t) u (open_element e.types t) (closed t opening) two.1 in
+            let ns = fixed_lengths left inner (open_element e.types t) (closed u is) split.1 in (
+              open_dimensions e.types u,
+              type_as inner,
+              omega (arith, split.0, ns.0),
+              rows,
+              in_program (arrays.lengths_from e.types left (row_of e.types inner)) inner (open_element e.types t) ns.1 (elements_id u is) (elements_id t opening),
+            )
 
         by : IsClosedPlace p u place ⊎ IsOpenPlace p u place → Are (at (is_opened e u))
         by (inl c) = subst (λ b. Are (at b)) (sym (sym here ∙ c.2)) (fixed c)
         by (inr o) =
             let is = sym here ∙ o.2 in
             subst (λ b. Are (at b)) (sym is)
-            (subst (λ place. Are (rows_of place)) (sym o.1)
-            (subst (λ n. AreRows p o.0 n (type_as (open_element e.types t))) (one_kind is)
-            (subst (λ v. AreRows p o.0 (open_dimensions e.types u) (type_as v)) (elements is)
-            (subst (λ types. AreRows p o.0 (open_dimensions types u) (type_as (open_element types u))) whole.rows o.3))))
+            (subst (λ place. Are (arrays.open_rows e (open_dimensions e.types t) u place)) (sym o.1)
+            (longer is o.0 (subst (λ types. AreRows p o.0 (open_dimensions types u) (type_as (open_element types u))) whole.rows o.3)))
 
     -- a string constant, for characters
     string_passed : (s : TextConstant) → env.has_string e s ≡ true → arrays.is_characters e (judge.variable_of t) ≡ true →
@@ -247,21 +253,19 @@ module _ (p : Inside) (e : Env) (whole : IsWhole p e) where
         sound : IsSound p v
         sound = x.sound whole
 
-        typed : (u : TypeId) → judge.agrees e t u ≡ true → judge.is_one_kind e t u ≡ true → IsScalar p u v.typed ⊎ (IsWholeRead p u v.typed ⊎ (u ≡ text)) →
+        typed : (u : TypeId) → judge.agrees e t u ≡ true → IsScalar p u v.typed ⊎ (IsWholeRead p u v.typed ⊎ (u ≡ text)) →
             AreRows p (arrays.array_rows e (open_dimensions e.types t) (Some u) (place_in v.typed)) (open_dimensions e.types t) (type_as (open_element e.types t))
-        typed u does kind (inl s) = absurd (not_both (sym s.0 ∙ (array_row p e whole u (agreeing t u does).0).1))
-        typed u does kind (inr (inl w)) =
+        typed u does (inl s) = absurd (not_both (sym s.0 ∙ (array_row p e whole u (agreeing t u does).0).1))
+        typed u does (inr (inl w)) =
             subst (λ y. AreRows p (arrays.array_rows e (open_dimensions e.types t) (Some u) (place_in y)) (open_dimensions e.types t) (type_as (open_element e.types t))) (sym w.2)
-            (rows_passed u w.1 w.0 does kind w.3)
-        typed u does kind (inr (inr q)) = absurd (no_text p e whole u q (array_row p e whole u (agreeing t u does).0))
+            (rows_passed u w.1 w.0 does w.3)
+        typed u does (inr (inr q)) = absurd (no_text p e whole u q (array_row p e whole u (agreeing t u does).0))
 
         array : judge.array_rule e t v.known.of ≡ None →
             AreRows p (arrays.array_rows e (open_dimensions e.types t) v.known.of (place_in v.typed)) (open_dimensions e.types t) (type_as (open_element e.types t))
         array none =
             subst (λ of. AreRows p (arrays.array_rows e (open_dimensions e.types t) of (place_in v.typed)) (open_dimensions e.types t) (type_as (open_element e.types t))) (sym sound.known)
-            (let two = or_none (judge.broken_unless 35 (judge.agrees e t sound.of)) (judge.broken_unless 99 (judge.is_one_kind e t sound.of))
-            (subst (λ of. judge.array_rule e t of ≡ None) sound.known none) in
-            typed sound.of (unless_none 35 (judge.agrees e t sound.of) two.0) (unless_none 99 (judge.is_one_kind e t sound.of) two.1) sound.typed)
+            (typed sound.of (unless_none 35 (judge.agrees e t sound.of) (subst (λ of. judge.array_rule e t of ≡ None) sound.known none)) sound.typed)
 
         by : (o : Option TextConstant) → arrays.string_in e v.known.class ≡ o → judge.open_rule e t v.known ≡ None →
             AreRows p (arrays.rows_in e (open_dimensions e.types t) v) (open_dimensions e.types t) (type_as (open_element e.types t))

@@ -24,7 +24,7 @@ use Rattle.aos_typed.specs.declared.tree.TType.TheVariants as type
 use Rattle.aos_typed.specs.Numbers.{id_of}
 use Rattle.aos_typed.specs.declared.tree.TType.{TType}
 use Rattle.aos_typed.specs.Open.{open_dimensions, open_element}
-use Rattle.aos_typed.specs.Program.{Place, ModuleVar, Local, Passed, Field, Index, Of, Rows, Known as KnownRows, Expr, CompareTexts, Len, LenBehind}
+use Rattle.aos_typed.specs.Program.{Place, ModuleVar, Local, Passed, Field, Index, Of, Rows, Known as KnownRows, Longer, Expr, CompareTexts, Len, LenBehind}
 use Rattle.aos_typed.specs.WellTyped.{HaveLengths, IsLength as IsArrayLength, dimension, IsConstantText}
 use Rattle.aos_symbols.specs.declared.env.Env.{Env}
 use Rattle.aos_symbols.specs.Home.{Home, character, between_quotes, string_number, string_in}
@@ -126,11 +126,14 @@ module _ (p : Inside) (e : Env) (whole : IsWhole p e) where
   fixed_rows t place n typed same is = rw is (refl, inl (type_as t, typed, (char, ap (row_of p.program.types) same ∙ ap (λ rows. row_of rows t) whole.rows ∙ is, refl)))
 
   -- an open array of characters has one dimension
-  open_rows : (t : TypeId) (r : Rows) → row_of e.types t ≡ Some (row.Open char) → AreRows p r (open_dimensions e.types t) (type_as (open_element e.types t)) → AreRows p r 1 type.Char
-  open_rows t r is rows =
+  open_text : (t : TypeId) (r : Rows) → row_of e.types t ≡ Some (row.Open char) → AreRows p r (open_dimensions e.types t) (type_as (open_element e.types t)) →
+      AreRows p (Longer r (judge.lengths_from e.types (1 - open_dimensions e.types t) (row_of e.types (open_element e.types t)))) 1 type.Char
+  open_text t r is rows =
       let falls = whole.opens.falls in
-      subst (λ T. AreRows p r 1 T) (ap type_as (next_element e.types falls t char is ∙ closed_element e.types char char_row))
-      (subst (λ n. AreRows p r n (type_as (open_element e.types t))) (next_dimensions e.types falls t char is ∙ ap suc (closed_dimensions e.types char char_row)) rows)
+      let many : open_dimensions e.types t ≡ 1 = next_dimensions e.types falls t char is ∙ ap suc (closed_dimensions e.types char char_row) in
+      let of : open_element e.types t ≡ char = next_element e.types falls t char is ∙ closed_element e.types char char_row in
+      subst (λ ns. AreRows p (Longer r ns) 1 type.Char) (ap (λ n. judge.lengths_from e.types (1 - n) (row_of e.types (open_element e.types t))) (sym many))
+      (1, type.Char, refl, subst (λ T. AreRows p r 1 T) (ap type_as of) (subst (λ n. AreRows p r n (type_as (open_element e.types t))) many rows), refl)
 
   -- a whole variable of such a type, as rows
   rows_read : (t : TypeId) (c : Class) (place : Place) → IsClosedPlace p t place ⊎ IsOpenPlace p t place → AreChars t c → AreRows p (judge.array_rows e 1 (Some t) place) 1 type.Char
@@ -140,7 +143,7 @@ module _ (p : Inside) (e : Env) (whole : IsWhole p e) where
       r = characters_row t c is
 
       at : Bool → Rows
-      at b = if b then rows_of place else KnownRows place (judge.lengths_from e.types 1 (row_of e.types t))
+      at b = if b then judge.open_rows e 1 t place else KnownRows place (judge.lengths_from e.types 1 (row_of e.types t))
 
       fixed : (n : ℕ) → row_of e.types t ≡ Some (row.Array n r.0.0) → is_opened e t ≡ false
       fixed n a = ap (λ b. not b && is_open (row_of e.types t)) r.0.1 ∙ ap is_open a
@@ -159,8 +162,8 @@ module _ (p : Inside) (e : Env) (whole : IsWhole p e) where
       by (inr o) (inl n) = absurd (not_both (sym o.2 ∙ (shut ∙ ap is_open n.1)))
       by (inr o) (inr a) =
           subst (λ b. AreRows p (at b) 1 type.Char) (sym (opening a))
-          (subst (λ place. AreRows p (rows_of place) 1 type.Char) (sym o.1)
-          (open_rows t o.0 (a ∙ ap (λ u. Some (row.Open u)) r.1)
+          (subst (λ place. AreRows p (judge.open_rows e 1 t place) 1 type.Char) (sym o.1)
+          (open_text t o.0 (a ∙ ap (λ u. Some (row.Open u)) r.1)
           (subst (λ types. AreRows p o.0 (open_dimensions types t) (type_as (open_element types t))) whole.rows o.3)))
 
   -- The lengths of arrays.
@@ -182,8 +185,8 @@ module _ (p : Inside) (e : Env) (whole : IsWhole p e) where
   lengths_by : (n : ℕ) (t : TypeId) (place : Place) → (is_opened e t ≡ true → HaveLengths (rows_of place)) → HaveLengths (judge.array_rows e n (Some t) place)
   lengths_by n t place opening = by (is_opened e t) refl
     where
-      by : (b : Bool) → is_opened e t ≡ b → HaveLengths (if b then rows_of place else KnownRows place (judge.lengths_from e.types n (row_of e.types t)))
-      by true is = opening is
+      by : (b : Bool) → is_opened e t ≡ b → HaveLengths (if b then judge.open_rows e n t place else KnownRows place (judge.lengths_from e.types n (row_of e.types t)))
+      by true is = (opening is, fixed_kept (n - open_dimensions e.types t) (open_element e.types t) place)
       by false is = fixed_kept n t place
 
   -- of a whole variable

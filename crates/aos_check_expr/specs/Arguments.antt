@@ -97,13 +97,9 @@ agrees e t u = is_array e (Some u) && by (behind_dimensions e.types (open_dimens
     by None = false
     by (Some of) = is (open_element e.types t) of
 
--- the lengths of its dimensions are all known, or are all found with it: else it isn't built
-abbrev pub is_one_kind : Env → (parameter array : TypeId) → Bool
-is_one_kind e t u = not (is_opened e u) || open_dimensions e.types u == open_dimensions e.types t
-
 abbrev pub array_rule : Env → TypeId → Option TypeId → Option ℕ
 array_rule e t None = None
-array_rule e t (Some u) = or_else (broken_unless 35 (agrees e t u)) (broken_unless 99 (is_one_kind e t u))
+array_rule e t (Some u) = broken_unless 35 (agrees e t u)
 
 -- what is known of a variable
 abbrev pub variable_of : TypeId → Known

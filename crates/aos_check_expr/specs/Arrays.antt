@@ -11,7 +11,7 @@ use Rattle.aos_types.specs.Table.{row_of}
 use Rattle.aos_typed.specs.declared.tree.Literal.TheVariants as literal
 use Rattle.aos_typed.specs.declared.tree.TextConstant.{TextConstant}
 use Rattle.aos_typed.specs.Open.{open_dimensions, open_element}
-use Rattle.aos_typed.specs.Program.{Place, ModuleVar, Rows, Known as KnownRows, Expr, Len, LenBehind}
+use Rattle.aos_typed.specs.Program.{Place, ModuleVar, Rows, Known as KnownRows, Longer, Expr, Len, LenBehind}
 use Rattle.aos_typed.specs.WellTyped.{dimension}
 use Rattle.aos_symbols.specs.declared.env.Env.{Env}
 use Rattle.aos_symbols.specs.Breaches.{breach_unless}
@@ -55,10 +55,16 @@ lengths_from rows zero r = []
 lengths_from rows (suc n) (Some (row.Array m t)) = m ∷ lengths_from rows n (row_of rows t)
 lengths_from rows (suc n) r = []
 
--- an array of a type at a place, with the lengths of its first dimensions: those of an open one are found with it
+-- an open array: the lengths of its open dimensions are found with it, and those of dimensions behind these are known
+abbrev pub open_rows : Env → ℕ → TypeId → Place → Rows
+open_rows e n t place =
+    Longer (rows_of place) (lengths_from e.types (n - open_dimensions e.types t) (env.row_of e (Some (open_element e.types t))))
+
+-- an array of a type at a place, with the lengths of its first dimensions
 abbrev pub array_rows : Env → ℕ → Option TypeId → Place → Rows
-array_rows e n of place =
-    if is_opening e of then rows_of place else KnownRows place (lengths_from e.types n (env.row_of e of))
+array_rows e n None place = KnownRows place []
+array_rows e n (Some t) place =
+    if is_opened e t then open_rows e n t place else KnownRows place (lengths_from e.types n (env.row_of e (Some t)))
 
 -- LEN of an array, and of one of its dimensions, which a constant integer tells. Its value is no constant.
 

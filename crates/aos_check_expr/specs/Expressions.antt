@@ -56,7 +56,7 @@ use Rattle.aos_check_expr.specs.declared.calls.Limit.TheVariants as which
 use Rattle.aos_check_expr.specs.Known.{Answer, Spot, passes, is_basic, is_number, is_boolean, is_integer, constant_answer, answered, nothing}
 use Rattle.aos_check_expr.specs.Operations as op
 use Rattle.aos_check_expr.specs.Designators as desig
-pub use Rattle.aos_check_expr.specs.Arrays.{is_array, length_of, is_opening, array_in, lengths_from, array_rows, len_class, length_behind, len_typed, len_answer, number_in, has_dimension, is_dimension, len_alone, len_in, is_characters, string_in, is_text, is_only_text, may_be_text, are_texts, string_rows, rows_in, text_rows, has_room, text_for}
+pub use Rattle.aos_check_expr.specs.Arrays.{is_array, length_of, is_opening, array_in, lengths_from, open_rows, array_rows, len_class, length_behind, len_typed, len_answer, number_in, has_dimension, is_dimension, len_alone, len_in, is_characters, string_in, is_text, is_only_text, may_be_text, are_texts, string_rows, rows_in, text_rows, has_room, text_for}
 pub use Rattle.aos_check_expr.specs.Arguments.{is_factor, first_factor, desig_in, desig_alone, Handing, nothing_handed, listed, handed_from, arguments_for}
 
 -- Forms without parts.

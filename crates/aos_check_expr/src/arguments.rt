@@ -81,13 +81,6 @@ fn agrees(env: &Env<'_>, parameter: TypeId, array: TypeId) -> Result<bool, Alloc
     }
 }
 
-/// Whether the lengths of an array's dimensions are all known, or are all found with it.
-fn is_one_kind(env: &Env<'_>, parameter: TypeId, array: TypeId) -> Result<bool, AllocError>
-    ensures { IfOk result (λ b. b ≡ judge.is_one_kind env.now parameter array) }
-{
-    Ok(!is_opened(env, array) || open_dimensions(env, array)? == open_dimensions(env, parameter)?)
-}
-
 fn array_rule(
     env: &Env<'_>,
     parameter: TypeId,
@@ -98,10 +91,7 @@ fn array_rule(
     let Some(array) = array else {
         return Ok(None);
     };
-    if !agrees(env, parameter, array)? {
-        return Ok(Some(ARGUMENT_TYPE));
-    }
-    Ok(broken_unless(NOT_BUILT, is_one_kind(env, parameter, array)?))
+    Ok(broken_unless(ARGUMENT_TYPE, agrees(env, parameter, array)?))
 }
 
 /// What is known of a variable.

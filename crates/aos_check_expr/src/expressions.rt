@@ -1,10 +1,8 @@
 // Expressions: which rules they break, what is known of them and what they are in the typed program.
 
 ghost use Rattle.std.specs.Prelude.{◌≡◌, OnOk, IfOk, map, true};
-ghost use Rattle.aos_typed.specs.Seen.{seen_expr};
 ghost use Rattle.aos_symbols.specs.Breaches.{first_after};
 ghost use Rattle.aos_symbols.specs.Judged.{walk};
-ghost use Rattle.aos_check_expr.specs.Known as known;
 ghost use Rattle.aos_check_expr.specs.Operations as operations;
 ghost use Rattle.aos_check_expr.specs.Expressions as judge;
 ghost use Rattle.aos_check_expr.specs.Seen.{seen_answer, seen_handing, seen_part, seen_spot};
@@ -19,18 +17,17 @@ use crate::forms::{
     added, byte_of, character, multiplied, not_yet, number, opposite, related, signed, string,
     whole_set, with_element, with_span,
 };
-use crate::known::{Answer, Class, Spot, is_boolean, is_char, is_integer, is_number, spot_of};
+use crate::known::{Answer, Spot, is_integer, spot_of};
 use crate::lengths::{len_alone, len_in};
 use crate::operations;
 use crate::selectors::{self, Part, followed_part, pointed, spot_of_part};
 use crate::variables::is_of_module;
 use aos_base::Pos;
 use aos_symbols::{
-    ARGUMENT_COUNT, Breach, Env, Function, Gives, Lookup, Meaning, NO_CONDITION, NOT_CONSTANT,
-    Parameter, Symbol, WRONG_CALL, note,
+    ARGUMENT_COUNT, Breach, Env, Function, Gives, Lookup, Meaning, NOT_CONSTANT, Parameter, Symbol,
+    WRONG_CALL, note,
 };
 use aos_tree::{Addition, Desig, Elem, Expr, Factor, Product, Relation, Selector, Simple, Term};
-use aos_typed::{Literal, TExpr};
 use aos_types::TypeId;
 use std::alloc::{AllocError, Global};
 
@@ -738,90 +735,4 @@ fn measured(
         }
         _ => Ok(refused(found, ARGUMENT_COUNT, first)),
     }
-}
-
-/// The value of a constant expression, by its class.
-pub fn constant_class(found: &mut Option<Breach>, class: Class, at: Pos) -> Option<Literal>
-    ensures noted { found.new ≡ first_after found.old (judge.constant_class class at).breaches }
-    ensures answer { result ≡ (judge.constant_class class at).answer }
-{
-    match class {
-        Class::Constant(value) => value,
-        Class::Unknown => None,
-        _ => {
-            note(found, NOT_CONSTANT, at);
-            None
-        }
-    }
-}
-
-/// A constant expression, with its value where it breaks no rule.
-#[tactic(auto, using(aos_symbols::proofs::Keeping::after_more))]
-pub fn constant(
-    alloc: Global,
-    found: &mut Option<Breach>,
-    env: &Env<'_>,
-    part: &Expr,
-) -> Result<Option<Literal>, AllocError>
-    ensures noted { OnOk result (found.new ≡ first_after found.old
-        (judge.constant env.now part.now).breaches) }
-    ensures answer { IfOk result (λ r. r ≡ (judge.constant env.now part.now).answer) }
-{
-    let answer = expr(alloc, found, env, part)?;
-    Ok(constant_class(found, answer.known.class, part.pos))
-}
-
-/// An expression that must be BOOLEAN.
-#[tactic(auto, using(aos_symbols::proofs::Keeping::after_more))]
-pub fn condition(
-    alloc: Global,
-    found: &mut Option<Breach>,
-    env: &Env<'_>,
-    part: &Expr,
-) -> Result<TExpr, AllocError>
-    ensures noted { OnOk result (found.new ≡ first_after found.old
-        (judge.condition env.now part.now).breaches) }
-    ensures answer { IfOk result (λ r. seen_expr r ≡ (judge.condition env.now part.now).answer) }
-{
-    let answer = expr(alloc, found, env, part)?;
-    if !is_boolean(answer.known.of) {
-        note(found, NO_CONDITION, part.pos);
-    }
-    Ok(answer.typed)
-}
-
-/// An argument that must be an integer.
-#[tactic(auto, using(aos_symbols::proofs::Keeping::after_more))]
-pub fn number_argument(
-    alloc: Global,
-    found: &mut Option<Breach>,
-    env: &Env<'_>,
-    part: &Expr,
-) -> Result<TExpr, AllocError>
-    ensures noted { OnOk result (found.new ≡ first_after found.old
-        (judge.argument env.now known.is_number part.now).breaches) }
-    ensures answer { IfOk result (λ r. seen_expr r ≡
-        (judge.argument env.now known.is_number part.now).answer) }
-{
-    let answer = expr(alloc, found, env, part)?;
-    operations::argument(found, is_number(answer.known.of), part.pos);
-    Ok(answer.typed)
-}
-
-/// An argument that must be a character.
-#[tactic(auto, using(aos_symbols::proofs::Keeping::after_more))]
-pub fn char_argument(
-    alloc: Global,
-    found: &mut Option<Breach>,
-    env: &Env<'_>,
-    part: &Expr,
-) -> Result<TExpr, AllocError>
-    ensures noted { OnOk result (found.new ≡ first_after found.old
-        (judge.argument env.now known.is_char part.now).breaches) }
-    ensures answer { IfOk result (λ r. seen_expr r ≡
-        (judge.argument env.now known.is_char part.now).answer) }
-{
-    let answer = expr(alloc, found, env, part)?;
-    operations::argument(found, is_char(answer.known.of), part.pos);
-    Ok(answer.typed)
 }

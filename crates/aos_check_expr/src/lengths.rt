@@ -105,6 +105,24 @@ fn lengths_from(
     Ok(lengths)
 }
 
+/// An open array: the lengths of its open dimensions are found with it, and those of dimensions behind these are known.
+fn open_rows(
+    alloc: Global,
+    env: &Env<'_>,
+    dimensions: u32,
+    of: TypeId,
+    place: TPlace,
+) -> Result<TRows, AllocError>
+    ensures { IfOk result (λ r. seen_rows r ≡
+        judge.open_rows env.now dimensions of (seen_place place)) }
+{
+    let behind = open_array(&env.types, of).element;
+    let left = dimensions.saturating_sub(open_dimensions(env, of)?);
+    let lengths = lengths_from(alloc, env, Some(behind), left)?;
+    let rows = rows_of(alloc, place)?;
+    Ok(TRows::Longer(Box::new(alloc, rows)?, lengths))
+}
+
 /// An array of a type at a place, with the lengths of its first dimensions.
 pub fn array_rows(
     alloc: Global,
@@ -116,8 +134,11 @@ pub fn array_rows(
     ensures { IfOk result (λ r. seen_rows r ≡
         judge.array_rows env.now dimensions of (seen_place place)) }
 {
-    if is_opening(env, of) {
-        return rows_of(alloc, place);
+    let Some(array) = of else {
+        return Ok(TRows::Known(Box::new(alloc, place)?, Vec::new(alloc)));
+    };
+    if is_opened(env, array) {
+        return open_rows(alloc, env, dimensions, array, place);
     }
     let lengths = lengths_from(alloc, env, of, dimensions)?;
     Ok(TRows::Known(Box::new(alloc, place)?, lengths))

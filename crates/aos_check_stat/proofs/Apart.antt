@@ -1,5 +1,5 @@
 -- The labels of a CASE by their first values: which of them a further one meets, and one more.
-use Rattle.std.proofs.Common.{◌≡◌, ℤ, ◌≤ℤ◌, ◌<ℤ◌, int_le, List, [], ◌∷◌, ◌++◌, Bool, true, false, ◌&&◌, ◌||◌, ◌⊎◌, inl, inr, Some, None, IsSome, refl, sym, ap, ◌∙◌, subst, arith}
+use Rattle.std.proofs.Common.{◌≡◌, ℤ, ◌≤ℤ◌, ◌<ℤ◌, int_le, List, [], ◌∷◌, ◌++◌, drop, length, Bool, true, false, ◌&&◌, ◌||◌, ◌⊎◌, inl, inr, Some, None, IsSome, refl, sym, ap, ◌∙◌, subst, arith}
 use Rattle.std.specs.List.{list_any}
 use Rattle.std.specs.Cmp.{int_ranks}
 use Rattle.std.specs.Ordering.{MatchOrdering, int_cmp, is_gt, is_lt, is_eq}
@@ -7,11 +7,14 @@ use Rattle.std.proofs.lemmas.Int.{ints}
 use Rattle.std.specs.declared.cmp.Ordering.{Ordering}
 use Rattle.std.specs.declared.cmp.Ordering.TheVariants.{Less, Equal, Greater}
 use Rattle.std.specs.BTreeMap.{BTreeMap, get, Updates}
-use Rattle.std.proofs.lemmas.Bool.{and_parts}
+use Rattle.std.proofs.Math.Bool.{and_comm}
+use Rattle.std.proofs.lemmas.Bool.{and_parts, or_from, or_parts}
+use Rattle.std.proofs.lemmas.List.{append-nil, append_assoc}
+use Rattle.std.proofs.Math.Seq.{drop-append_seam}
 use Rattle.std.proofs.lemmas.Option.{none-some}
 use Rattle.std.proofs.lemmas.List.Folds.{list_any-append}
 use Rattle.aos_typed.specs.declared.tree.LabelRange.{LabelRange}
-use Rattle.aos_check_stat.specs.Bodies.{meets}
+use Rattle.aos_typed.specs.WellTyped.{meets, AreApart}
 use Rattle.aos_check_stat.specs.Taken.{AreTaken, range}
 
 abbrev Ends : Type 0
@@ -94,6 +97,41 @@ none_meets_empty q r h =
     ap (λ b. (int_le q.low r.high && int_le r.low q.high) && (int_le q.low q.high && b)) h
     ∙ ap (λ b. (int_le q.low r.high && int_le r.low q.high) && b) (never (int_le q.low q.high))
     ∙ never (int_le q.low r.high && int_le r.low q.high)
+
+-- No two labels meet.
+
+meets_same : (r s : LabelRange) → meets r s ≡ meets s r
+meets_same r s =
+    ap (λ b. b && (int_le r.low r.high && int_le s.low s.high)) (and_comm (int_le r.low s.high) (int_le s.low r.high))
+    ∙ ap (λ b. (int_le s.low r.high && int_le r.low s.high) && b) (and_comm (int_le r.low r.high) (int_le s.low s.high))
+
+-- nor where one more meets none of them
+pub apart_push : (ls : List LabelRange) (r : LabelRange) → AreApart ls → list_any (meets r) ls ≡ false → AreApart (ls ++ r ∷ [])
+apart_push [] r apart none = (refl, tt)
+apart_push (s ∷ ls) r apart none =
+    let two = or_parts (meets r s) (list_any (meets r) ls) none in (
+      list_any-append (meets s) ls (r ∷ [])
+          ∙ or_from (list_any (meets s) ls) (meets s r || false) apart.0 (or_from (meets s r) false (meets_same s r ∙ two.0) refl),
+      apart_push ls r apart.1 two.1,
+    )
+
+-- labels stand behind others
+abbrev pub Behind : List LabelRange → List LabelRange → Type 0
+Behind ls all = (rest : List LabelRange) × (all ≡ ls ++ rest)
+
+pub none_behind : (ls : List LabelRange) → Behind ls ls
+none_behind ls = ([], sym (append-nil ls))
+
+pub one_behind : (ls all : List LabelRange) (r : LabelRange) → Behind ls all → Behind ls (all ++ r ∷ [])
+one_behind ls all r (rest, same) = (rest ++ r ∷ [], ap (λ xs. xs ++ r ∷ []) same ∙ append_assoc ls rest (r ∷ []))
+
+-- the labels of an arm stand between those before it and those of the arms behind it
+pub between : (ls all more : List LabelRange) → Behind ls all → AreApart (all ++ more) → AreApart (ls ++ (drop (length ls) all ++ more))
+between ls all more (rest, same) apart =
+    subst AreApart
+    (ap (λ xs. xs ++ more) same ∙ append_assoc ls rest more
+    ∙ ap (λ xs. ls ++ (xs ++ more)) (sym (ap (λ xs. drop (length ls) xs) same ∙ drop-append_seam ls rest)))
+    apart
 
 pub no_labels : (m : Ends) → ((q : ℤ) → get int_cmp m q ≡ None) → AreTaken [] m
 no_labels m none =

@@ -19,7 +19,7 @@ use Rattle.aos_typed.specs.declared.tree.Literal.TheVariants as literal
 use Rattle.aos_typed.specs.declared.tree.TType.TheVariants as type
 use Rattle.aos_typed.specs.Open.{open_dimensions}
 use Rattle.aos_typed.specs.Program.{Place, ModuleVar, Local, Passed, Of, Opened, Lit}
-use Rattle.aos_typed.specs.WellTyped.{is_variable, AreLabels}
+use Rattle.aos_typed.specs.WellTyped.{is_variable, meets, AreLabels, AreApart}
 use Rattle.aos_symbols.specs.declared.env.Env.{Env}
 use Rattle.aos_symbols.specs.declared.home.Parameter.{Parameter}
 use Rattle.aos_symbols.specs.declared.env.Symbol.{Symbol}
@@ -45,9 +45,16 @@ use Rattle.aos_check_expr.proofs.Spots.{IsTyped, closed, opened, opened_row, pla
 use Rattle.aos_check_expr.proofs.Types.{as_integer, integer_basic, wider, fits_includes}
 use Rattle.aos_check_expr.proofs.Sound.{not_both, IsSound, sound_number, sound_char}
 use Rattle.aos_check_expr.proofs.Typing.{IsWhole, expr_sound, constant_good}
-use Rattle.aos_check_stat.specs.Bodies.{meets, Control, Labels, lost, control, control_found, control_meant, control_variable, fitting, is_step, step_in, step_of, is_selector, selector, is_label, range_of, label_value, label_range, with_label, label_in}
+use Rattle.aos_check_stat.specs.Bodies.{Control, Labels, lost, control, control_found, control_meant, control_variable, fitting, is_step, step_in, step_of, is_selector, selector, is_label, range_of, label_value, label_range, with_label, label_in}
+use Rattle.aos_check_stat.proofs.Apart.{Behind, none_behind, one_behind, apart_push}
 use Rattle.aos_check_stat.proofs.Places.{fits_basic}
 use Rattle.aos_check_stat.proofs.Changed.{one_within}
+
+-- labels behind others, no two of which have a value together
+pub record AreMore (ls all : Labels) : Type 0 where
+  pub within : All AreLabels all
+  pub apart : AreApart all
+  pub behind : Behind ls all
 
 module _ (p : Inside) (e : Env) (whole : IsWhole p e) where
   -- FOR.
@@ -191,9 +198,6 @@ module _ (p : Inside) (e : Env) (whole : IsWhole p e) where
   MayBeLabels None = Unit {0}
   MayBeLabels (Some r) = AreLabels r
 
-  abbrev pub AreAll : Labels → Type 0
-  AreAll = All AreLabels
-
   value_within : (at : Pos) (of : Option TypeId) (x : TreeExpr) → Holds MayBeWithin (label_value e at of x)
   value_within at of x = λ h.
       let v = expr e x in
@@ -225,16 +229,21 @@ module _ (p : Inside) (e : Env) (whole : IsWhole p e) where
           holds_bind MayBeWithin MayBeLabels (label_value e at of l.first) (λ a. bind (label_value e at of y) (λ b. kept (range_of a b))) (value_within at of l.first)
           (λ a x. holds_bind MayBeWithin MayBeLabels (label_value e at of y) (λ b. kept (range_of a b)) (value_within at of y) (λ b z h. range_within a b x z))
 
-  with_within : (ls : Labels) (at : Pos) → AreAll ls → (o : Option LabelRange) → MayBeLabels o → Holds AreAll (with_label ls at o)
-  with_within ls at are None is = λ h. are
-  with_within ls at are (Some r) is = by (list_any (meets r) ls)
+  with_more : (ls all : Labels) (at : Pos) → AreMore ls all → (o : Option LabelRange) → MayBeLabels o → Holds (AreMore ls) (with_label all at o)
+  with_more ls all at are None is = λ h. are
+  with_more ls all at are (Some r) is = by (list_any (meets r) all) refl
     where
-      by : (b : Bool) → Holds AreAll (if b then judged (breach 38 at) ls else kept (ls ++ r ∷ []))
-      by true = λ h. are
-      by false = λ h. All-push AreLabels ls r are is
+      by : (b : Bool) → list_any (meets r) all ≡ b → Holds (AreMore ls) (if b then judged (breach 38 at) all else kept (all ++ r ∷ []))
+      by true any = λ h. are
+      by false none = λ h. record {
+        within = All-push AreLabels all r are.within is;
+        apart = apart_push all r are.apart none;
+        behind = one_behind ls all r are.behind;
+      }
 
-  pub labels_sound : (of : Option TypeId) (ls : Labels) → AreAll ls → (xs : List Label) → Holds AreAll (walk (label_in e of) ls xs)
-  labels_sound of ls are xs =
-      holds_walk AreAll (label_in e of)
-      (λ ms l more. holds_bind MayBeLabels AreAll (label_range e of l) (λ r. with_label ms (out-Expr l.first).pos r) (label_within of l) (λ r is. with_within ms (out-Expr l.first).pos more r is))
-      xs ls are
+  pub labels_sound : (of : Option TypeId) (ls : Labels) → All AreLabels ls → AreApart ls → (xs : List Label) → Holds (AreMore ls) (walk (label_in e of) ls xs)
+  labels_sound of ls within apart xs =
+      holds_walk (AreMore ls) (label_in e of)
+      (λ all l are. holds_bind MayBeLabels (AreMore ls) (label_range e of l) (λ r. with_label all (out-Expr l.first).pos r) (label_within of l)
+      (λ r is. with_more ls all (out-Expr l.first).pos are r is))
+      xs ls (record { within = within; apart = apart; behind = none_behind ls })

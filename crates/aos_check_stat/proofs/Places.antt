@@ -16,7 +16,7 @@ use Rattle.aos_typed.specs.Numbers.{id_of}
 use Rattle.aos_typed.specs.Program.{Place, Stat}
 use Rattle.aos_typed.specs.WellTyped.{is_whole, is_variable}
 use Rattle.aos_symbols.specs.declared.env.Env.{Env}
-use Rattle.aos_symbols.specs.Env.{char, text}
+use Rattle.aos_symbols.specs.Env.{text}
 use Rattle.aos_symbols.specs.declared.breach.Breach.{Breach}
 use Rattle.aos_symbols.specs.Breaches.{breach, breach_unless}
 use Rattle.aos_symbols.specs.Env as env

@@ -3,7 +3,7 @@ use Rattle.std.proofs.Common.{◌≡◌, ℤ, ◌⊎◌, List, [], ◌∷◌, �
 use Rattle.aos_base.specs.declared.text.Pos.{Pos}
 use Rattle.std.specs.Prelude.{All}
 use Rattle.std.proofs.lemmas.Bool.{and_parts}
-use Rattle.std.proofs.lemmas.List.{length-map}
+use Rattle.std.proofs.lemmas.List.{length-map, append-nil}
 use Rattle.std.proofs.lemmas.List.Elements.{All-nil, All-drop}
 use Rattle.aos_base.specs.declared.number.Width.TheVariants.{W64}
 use Rattle.aos_base.specs.Number.{IsWithin}
@@ -19,7 +19,7 @@ use Rattle.aos_tree.specs.declared.stat.Stat.TheVariants as stat
 use Rattle.aos_typed.specs.declared.tree.TType.TheVariants as type
 use Rattle.aos_typed.specs.Routines.{result_of}
 use Rattle.aos_typed.specs.Program.{Expr, Call, Open as OutOpen, Char, Int, String, Ln, Stat, Assign, Copy, If, Case as CaseOf, While, Repeat, Loop, For, Block as BlockOf, Perform, Return, Out, Parameter, Arms, Otherwise, Arm, Cases, Else, OfLabels}
-use Rattle.aos_typed.specs.WellTyped.{AreLabels}
+use Rattle.aos_typed.specs.WellTyped.{AreLabels, AreApart, labels_of}
 use Rattle.aos_typed.specs.WellTyped as typed
 use Rattle.aos_types.specs.declared.row.TypeId.{TypeId}
 use Rattle.aos_symbols.specs.declared.scope.Meaning.{Meaning}
@@ -57,7 +57,8 @@ use Rattle.aos_check_stat.specs.Bodies as judge
 use Rattle.aos_check_stat.specs.Bodies.{listed, put, made, new_breaches, outs, ended, arguments, behind_arguments, modifier_breaches}
 use Rattle.aos_check_stat.proofs.Places.{MayBe as MayBeOf, not_long, IsRead, read_sound, IsAssigned, assigned_sound, told_typed, fits_basic, fitting, copying, putting, copied_text, made_sound}
 use Rattle.aos_check_stat.proofs.Changed.{place_changed, change_call_sound, assert_sound, halt_sound}
-use Rattle.aos_check_stat.proofs.Controlled.{IsControl, control_sound, fitting_sound, step_sound, selector_sound, labels_sound}
+use Rattle.aos_check_stat.proofs.Apart.{between}
+use Rattle.aos_check_stat.proofs.Controlled.{IsControl, AreMore, control_sound, fitting_sound, step_sound, selector_sound, labels_sound}
 
 module _ (p : Inside) (e : Env) (whole : IsWhole p e) where
   abbrev MayBe : Option Stat → Type 0
@@ -338,6 +339,16 @@ module _ (p : Inside) (e : Env) (whole : IsWhole p e) where
   exit_sound true at = λ h. tt
   exit_sound false at = λ h. tt
 
+  -- arms of CASE behind labels: no two of all of them have a value together
+  record AreCasesBehind (ls : judge.Labels) (cases : Cases) : Type 0 where
+    arms : AreCases p cases
+    apart : AreApart (ls ++ labels_of cases)
+
+  -- what stands behind ELSE has no labels
+  record IsEnd (cases : Cases) : Type 0 where
+    arms : AreCases p cases
+    none : labels_of cases ≡ []
+
   abbrev IsTest : Expr → Type 0
   IsTest x = IsOf p x type.Boolean
 
@@ -371,8 +382,8 @@ module _ (p : Inside) (e : Env) (whole : IsWhole p e) where
         let IsSelector = λ (v : Answer). IsOf p v.typed (type.Integer W64) ⊎ IsOf p v.typed type.Char in
         holds_bind IsSelector MayBe (judge.selector e c) (λ v. bind (judge.cases_in e in_loop v.known.of [] row last) (λ cases. kept (Some (CaseOf q v.typed cases))))
         (selector_sound p e whole c)
-        (λ v is. holds_bind (AreCases p) MayBe (judge.cases_in e in_loop v.known.of [] row last) (λ cases. kept (Some (CaseOf q v.typed cases)))
-        (cases_sound in_loop v.known.of [] (All-nil AreLabels) row last (case_else_sound in_loop otherwise)) (λ cases all h. (is, all)))
+        (λ v is. holds_bind (AreCasesBehind []) MayBe (judge.cases_in e in_loop v.known.of [] row last) (λ cases. kept (Some (CaseOf q v.typed cases)))
+        (cases_sound in_loop v.known.of [] (All-nil AreLabels) tt row last (case_else_sound in_loop otherwise)) (λ cases all h. (is, all.apart, all.arms)))
     stat_sound in_loop (stat.Repeat' q shape row c) =
         holds_bind Are MayBe (judge.stats_in e in_loop [] row) (λ body. bind (condition e c) (λ test. kept (Some (Repeat q (listed body) test))))
         (stats_sound in_loop [] tt row)
@@ -406,10 +417,11 @@ module _ (p : Inside) (e : Env) (whole : IsWhole p e) where
     else_sound in_loop None' = λ h. tt
     else_sound in_loop (Some' shape row) = stats_sound in_loop [] tt row
 
-    case_else_sound : (in_loop : Bool) (o : Held-Stat-If-4) → Holds (AreCases p) (judge.case_else_in e in_loop o)
-    case_else_sound in_loop None' = λ h. tt
+    case_else_sound : (in_loop : Bool) (o : Held-Stat-If-4) → Holds IsEnd (judge.case_else_in e in_loop o)
+    case_else_sound in_loop None' = λ h. record { arms = tt; none = refl }
     case_else_sound in_loop (Some' shape row) =
-        holds_bind Are (AreCases p) (judge.stats_in e in_loop [] row) (λ body. kept (Else (listed body))) (stats_sound in_loop [] tt row) (λ body are h. are)
+        holds_bind Are IsEnd (judge.stats_in e in_loop [] row) (λ body. kept (Else (listed body))) (stats_sound in_loop [] tt row)
+        (λ body are h. record { arms = are; none = refl })
 
     elsifs_sound : {m : _} (in_loop : Bool) (r : Row_of-Elsif m) (last : Judged Arms) → Holds (AreArms p) last → Holds (AreArms p) (judge.elsifs_in e in_loop r last)
     elsifs_sound in_loop end_of-Elsif last fine = fine
@@ -421,17 +433,24 @@ module _ (p : Inside) (e : Env) (whole : IsWhole p e) where
         (λ body are. holds_bind (AreArms p) (AreArms p) (judge.elsifs_in e in_loop more last) (λ arms. kept (Arm test (listed body) arms)) (elsifs_sound in_loop more last fine)
         (λ arms all h. (is, are, all))))
 
-    cases_sound : {m : _} (in_loop : Bool) (of : Option TypeId) (ls : judge.Labels) → All AreLabels ls → (r : Row_of-Case m) (last : Judged Cases) → Holds (AreCases p) last →
-        Holds (AreCases p) (judge.cases_in e in_loop of ls r last)
-    cases_sound in_loop of ls known end_of-Case last fine = fine
-    cases_sound in_loop of ls known (more_of-Case case.Empty more) last fine = cases_sound in_loop of ls known more last fine
-    cases_sound in_loop of ls known (more_of-Case (case.Arm' labels shape row) more) last fine =
+    cases_sound : {m : _} (in_loop : Bool) (of : Option TypeId) (ls : judge.Labels) → All AreLabels ls → AreApart ls → (r : Row_of-Case m) (last : Judged Cases) →
+        Holds IsEnd last → Holds (AreCasesBehind ls) (judge.cases_in e in_loop of ls r last)
+    cases_sound in_loop of ls known apart end_of-Case last fine = λ h. let end = fine h in record {
+      arms = end.arms;
+      apart = subst (λ xs. AreApart (ls ++ xs)) (sym end.none) (subst AreApart (sym (append-nil ls)) apart);
+    }
+    cases_sound in_loop of ls known apart (more_of-Case case.Empty more) last fine = cases_sound in_loop of ls known apart more last fine
+    cases_sound in_loop of ls known apart (more_of-Case (case.Arm' labels shape row) more) last fine =
         let arm = λ (all : judge.Labels) (body : List Stat) (cases : Cases). kept (OfLabels (drop (length ls) all) (listed body) cases) in
-        holds_bind (All AreLabels) (AreCases p) (walk (judge.label_in e of) ls labels) (λ all. bind (judge.stats_in e in_loop [] row) (λ body. bind (judge.cases_in e in_loop of all more last) (arm all body)))
-        (labels_sound p e whole of ls known labels)
-        (λ all within. holds_bind Are (AreCases p) (judge.stats_in e in_loop [] row) (λ body. bind (judge.cases_in e in_loop of all more last) (arm all body)) (stats_sound in_loop [] tt row)
-        (λ body are. holds_bind (AreCases p) (AreCases p) (judge.cases_in e in_loop of all more last) (arm all body) (cases_sound in_loop of all within more last fine)
-        (λ cases others h. (All-drop AreLabels (length ls) all within, are, others))))
+        let IsThis = AreCasesBehind ls in
+        holds_bind (AreMore ls) IsThis (walk (judge.label_in e of) ls labels) (λ all. bind (judge.stats_in e in_loop [] row) (λ body. bind (judge.cases_in e in_loop of all more last) (arm all body)))
+        (labels_sound p e whole of ls known apart labels)
+        (λ all are. holds_bind Are IsThis (judge.stats_in e in_loop [] row) (λ body. bind (judge.cases_in e in_loop of all more last) (arm all body)) (stats_sound in_loop [] tt row)
+        (λ body built. holds_bind (AreCasesBehind all) IsThis (judge.cases_in e in_loop of all more last) (arm all body) (cases_sound in_loop of all are.within are.apart more last fine)
+        (λ cases others h. record {
+          arms = (All-drop AreLabels (length ls) all are.within, built, others.arms);
+          apart = between ls all (labels_of cases) are.behind others.apart;
+        })))
 
   stat_in_sound : (ts : List Stat) (x : TreeStat) → Are ts → Holds Are (judge.stat_in e false ts x)
   stat_in_sound ts x are = holds_bind MayBe Are (judge.stat_of e false x) (λ o. kept (put ts o)) (stat_sound false x) (λ o is h. put_sound ts o are is)

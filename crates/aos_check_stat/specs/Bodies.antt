@@ -2,7 +2,7 @@
 -- constants to arrays of characters, calls of procedures, all other statements but AWAIT and WITH, the predeclared procedures, of which
 -- NEW takes an object variable that is no part of another, the calls of Out, and of the modifiers ACTIVE on an object's body.
 -- A statement that isn't built is refused at its first token, a modifier at itself.
-use Rattle.std.specs.Prelude.{ℕ, ℤ, pos, int_le, ◌||◌, drop, List, [], ◌∷◌, ◌++◌, length, codes, map, Bool, true, false, not, ◌&&◌, Option, Some, None, is_some, if◌then◌else◌}
+use Rattle.std.specs.Prelude.{ℕ, ℤ, pos, ◌||◌, drop, List, [], ◌∷◌, ◌++◌, length, codes, map, Bool, true, false, not, ◌&&◌, Option, Some, None, is_some, if◌then◌else◌}
 use Rattle.std.specs.Option.{is_none, unwrap_or, option_map}
 use Rattle.std.specs.List.{list_any}
 use Rattle.std.specs.Ordering.{int_eq}
@@ -26,7 +26,7 @@ use Rattle.aos_typed.specs.declared.tree.Literal.TheVariants as literal
 use Rattle.aos_typed.specs.declared.tree.Change.{Change as Changing}
 use Rattle.aos_typed.specs.declared.tree.Change.TheVariants as change
 use Rattle.aos_typed.specs.declared.tree.LabelRange.{LabelRange}
-use Rattle.aos_typed.specs.WellTyped.{is_variable}
+use Rattle.aos_typed.specs.WellTyped.{is_variable, meets}
 use Rattle.aos_symbols.specs.declared.breach.Breach.{Breach}
 use Rattle.aos_symbols.specs.declared.scope.Meaning.{Meaning}
 use Rattle.aos_symbols.specs.declared.scope.Meaning.TheVariants as means
@@ -138,10 +138,6 @@ modifier_breaches text may_be_active [] = []
 modifier_breaches text may_be_active (m ∷ ms) =
     breach_unless (may_be_active && (is_active text m && is_none m.value)) 99 m.name.pos
     ++ modifier_breaches text (may_be_active && not (is_active text m)) ms
-
--- two ranges of labels have a value together
-abbrev pub meets : LabelRange → LabelRange → Bool
-meets a b = (int_le a.low b.high && int_le b.low a.high) && (int_le a.low a.high && int_le b.low b.high)
 
 -- INC, DEC, INCL and EXCL of a variable, by a value or by 1: the variable is of an integer type, or a set
 abbrev pub changing : Routine → Option TypeId → Changing

@@ -4,7 +4,7 @@ use Rattle.std.specs.List.{list_any}
 use Rattle.std.specs.Ordering.{int_cmp}
 use Rattle.std.specs.BTreeMap.{BTreeMap, get}
 use Rattle.aos_typed.specs.declared.tree.LabelRange.{LabelRange}
-use Rattle.aos_check_stat.specs.Bodies.{meets}
+use Rattle.aos_typed.specs.WellTyped.{meets}
 
 abbrev pub range : ℤ → ℤ → LabelRange
 range a b = record { low = a; high = b }

@@ -2,6 +2,7 @@
 
 ghost use Rattle.std.specs.Prelude.{◌≡◌, ◌++◌, ◌∷◌, [], drop, length, OnOk, IfOk, false};
 ghost use Rattle.std.specs.List.{list_any};
+ghost use Rattle.aos_typed.specs.WellTyped.{meets};
 ghost use Rattle.aos_symbols.specs.Breaches.{first_after};
 ghost use Rattle.aos_symbols.specs.Judged.{walk};
 ghost use Rattle.aos_check_expr.specs.Seen.{seen_answer};
@@ -20,7 +21,7 @@ use std::collections::BTreeMap;
 /// One more label among those that aren't empty, which meets none of the labels so far.
 fn take(taken: &mut BTreeMap<i64, i64>, range: LabelRange) -> Result<(), AllocError>
     ensures { OnOk result ((ls : judge.Labels) → AreTaken ls taken.old →
-        list_any (judge.meets range) ls ≡ false → AreTaken (ls ++ range ∷ []) taken.new) }
+        list_any (meets range) ls ≡ false → AreTaken (ls ++ range ∷ []) taken.new) }
 {
     if range.low <= range.high {
         taken.insert(range.low, range.high)?;
@@ -51,7 +52,7 @@ impl Labels {
     /// Whether one of these labels has a value of this one.
     fn meet(&self, range: LabelRange) -> bool
         requires { AreTaken self.now.all.items self.now.taken }
-        ensures { result ≡ list_any (judge.meets range) self.now.all.items }
+        ensures { result ≡ list_any (meets range) self.now.all.items }
     {
         if range.low > range.high {
             return false;
@@ -65,7 +66,7 @@ impl Labels {
     /// One more label, which meets none of these.
     fn add(&mut self, range: LabelRange) -> Result<(), AllocError>
         requires taken { AreTaken self.old.all.items self.old.taken }
-        requires apart { list_any (judge.meets range) self.old.all.items ≡ false }
+        requires apart { list_any (meets range) self.old.all.items ≡ false }
         ensures all { OnOk result (self.new.all.items ≡ self.old.all.items ++ range ∷ []) }
         ensures taken { OnOk result (AreTaken self.new.all.items self.new.taken) }
     {

@@ -1,18 +1,18 @@
 -- The environment in which a procedure's body stands: its parameters and its locals have the types that the typed program's have.
-use Rattle.std.proofs.Common.{◌≡◌, ℕ, zero, suc, ◌+◌, ◌-◌, ◌<◌, ◌≤◌, ◌⊎◌, inl, inr, List, [], ◌∷◌, length, map, take, drop, zip, Bool, true, false, not, ◌&&◌, Option, Some, None, option_map, option_and_then, slice_get, refl, sym, ap, ◌∙◌, subst, arith, if◌then◌else◌}
+use Rattle.std.proofs.Common.{◌≡◌, ℕ, zero, suc, ◌+◌, ◌-◌, ◌<◌, ◌≤◌, inl, inr, List, [], ◌∷◌, length, map, take, drop, zip, Bool, true, false, Option, Some, None, option_map, option_and_then, slice_get, refl, sym, ap, ◌∙◌, subst, arith, if◌then◌else◌}
 use Rattle.std.proofs.lemmas.List.{length-drop}
-use Rattle.std.proofs.lemmas.Option.{none-some, same_Some, slice_get-map, slice_get_within}
+use Rattle.std.proofs.lemmas.Option.{none-some, same_Some, slice_get-map}
 use Rattle.aos_tree.specs.declared.decl.Def.{Def}
 use Rattle.aos_types.specs.declared.row.TypeId.{TypeId}
 use Rattle.aos_typed.specs.Open.{open_dimensions, open_element}
-use Rattle.aos_typed.specs.Program.{Local, Passed, Of, Opened, Stats, Variable, Parameter, Procedure as TypedProcedure, Program}
+use Rattle.aos_typed.specs.Program.{Local, Passed, Of, Opened, Stats, Parameter, Procedure as TypedProcedure, Program}
 use Rattle.aos_symbols.specs.declared.home.Parameter.{Parameter as Formal}
 use Rattle.aos_symbols.specs.declared.home.Signature.{Signature}
 use Rattle.aos_symbols.specs.declared.env.Env.{Env}
 use Rattle.aos_symbols.specs.Declarations.{Procedure, single_variables, formal_names}
 use Rattle.aos_symbols.specs.Scope.{Scope}
 use Rattle.aos_symbols.specs.Env as env
-use Rattle.aos_symbols.proofs.Each.{Each, each_at}
+use Rattle.aos_symbols.proofs.Each.{each_at}
 use Rattle.aos_symbols.proofs.Told.{IsTold, IsKnown}
 use Rattle.aos_check_expr.specs.Known.{type_as, type_of}
 use Rattle.aos_check_expr.specs.Designators as desig
@@ -22,7 +22,7 @@ use Rattle.aos_check_expr.proofs.Sound.{not_both}
 use Rattle.aos_check_expr.proofs.Opens.{some_there}
 use Rattle.aos_check_expr.proofs.Spots.{IsTyped, closed, opened, IsWhole, IsParameterType, parameter_type}
 use Rattle.aos_check_expr.proofs.Passed.{is_opening, shut, elements_id}
-use Rattle.aos_check_decl.proofs.Typing.{IsThere, IsHeading}
+use Rattle.aos_check_decl.proofs.Typing.{IsHeading}
 use Rattle.aos_compile.specs.Modules.{variable_of, procedure_of}
 use Rattle.aos_compile.proofs.TypingProcedures.{IsSignature, heading_signature, formal_at, signature_long}
 

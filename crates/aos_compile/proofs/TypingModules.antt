@@ -1,12 +1,11 @@
 -- One module more: where those before it are well typed and it breaks no rule, all are well typed.
-use Rattle.std.proofs.Common.{◌≡◌, ℕ, zero, suc, ◌+◌, ◌-◌, ◌<◌, ◌≤◌, ◌==◌, ◌⊎◌, inl, inr, nat_lt, List, [], ◌∷◌, ◌++◌, length, map, Bool, true, false, All, is_some, Option, Some, None, option_map, option_and_then, slice_get, zip, sum_by, refl, sym, ap, ◌∙◌, subst, arith, eqb-true, eq-eqb, lt-ltb, le-ltb, append_assoc, append-nil, length-append, if◌then◌else◌}
+use Rattle.std.proofs.Common.{◌≡◌, ℕ, zero, suc, ◌+◌, ◌-◌, ◌<◌, ◌≤◌, ◌==◌, inl, inr, nat_lt, List, [], ◌∷◌, ◌++◌, length, map, Bool, true, false, All, is_some, Option, Some, None, option_map, option_and_then, slice_get, zip, sum_by, refl, sym, ap, ◌∙◌, subst, arith, eqb-true, eq-eqb, lt-ltb, le-ltb, append_assoc, append-nil, length-append, if◌then◌else◌}
 use Rattle.std.specs.List.{flat_map}
 use Rattle.std.proofs.lemmas.List.{length-map}
 use Rattle.std.proofs.lemmas.List.Elements.{All-weaker, All-head, All-tail}
 use Rattle.std.proofs.lemmas.Option.{none-some, same_Some, slice_get-map, slice_get_within}
 use Rattle.aos_base.specs.declared.text.Pos.{Pos}
 use Rattle.aos_tree.specs.declared.stat.Block.{Block}
-use Rattle.aos_tree.specs.declared.decl.Def.{Def}
 use Rattle.aos_tree.specs.declared.decl.TypeDef.{TypeDef}
 use Rattle.aos_tree.specs.declared.module.Module.{Module as Tree}
 use Rattle.aos_types.specs.declared.row.TypeId.{TypeId}
@@ -31,7 +30,7 @@ use Rattle.aos_symbols.specs.Entries.{procedure_scope}
 use Rattle.aos_symbols.specs.Names.{name_breaches}
 use Rattle.aos_symbols.specs.Env as env
 use Rattle.aos_symbols.proofs.Each.{Each, all_of, joined, implied, each_at}
-use Rattle.aos_symbols.proofs.Holds.{Holds, holds_bind, holds_walk, passed_went, then_went, same_went}
+use Rattle.aos_symbols.proofs.Holds.{Holds, holds_bind, passed_went, then_went, same_went}
 use Rattle.aos_symbols.proofs.Told.{IsKnown, GoOn, known_on, get_front, get_end, PartsAreTold, FieldsAgree}
 use Rattle.aos_check_expr.specs.Known.{type_of}
 use Rattle.aos_check_expr.specs.Designators as desig

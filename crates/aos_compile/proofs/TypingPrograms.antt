@@ -1,5 +1,5 @@
 -- A program with more modules and more objects: what is well typed stays so.
-use Rattle.std.proofs.Common.{◌≡◌, ℕ, zero, suc, ◌<◌, ◌≤◌, ◌⊎◌, inl, inr, List, [], ◌∷◌, ◌++◌, length, true, false, All, Option, Some, None, option_map, option_and_then, slice_get, refl, sym, ap, ◌∙◌, subst, length-append, arith}
+use Rattle.std.proofs.Common.{◌≡◌, ℕ, zero, suc, ◌<◌, ◌≤◌, ◌⊎◌, inl, inr, List, [], ◌∷◌, ◌++◌, length, true, All, Option, Some, None, option_map, option_and_then, slice_get, refl, sym, ap, ◌∙◌, subst, length-append, arith}
 use Rattle.std.proofs.lemmas.List.Elements.{All-head, All-tail}
 use Rattle.std.proofs.lemmas.Option.{none-some, same_Some, slice_get_within}
 use Rattle.aos_base.specs.declared.operator.Binary.{Binary as BinaryOperator}
@@ -10,12 +10,11 @@ use Rattle.aos_types.specs.declared.row.TypeRow.{TypeRow}
 use Rattle.aos_types.specs.declared.row.TypeRow.TheVariants as row
 use Rattle.aos_types.specs.Table.{row_of, is_object, is_open}
 use Rattle.aos_typed.specs.declared.tree.TType.{TType}
-use Rattle.aos_typed.specs.declared.tree.TType.TheVariants.{Integer, Named, Boolean, Char as TChar}
+use Rattle.aos_typed.specs.declared.tree.TType.TheVariants.{Integer, Named, Char as TChar}
 use Rattle.aos_typed.specs.Numbers.{id_of}
 use Rattle.aos_typed.specs.Meaning.{changed_type}
-use Rattle.aos_typed.specs.Open.{open_dimensions, open_element}
 use Rattle.aos_typed.specs.Routines.{result_of}
-use Rattle.aos_typed.specs.Program.{Place, ModuleVar, Local, Passed, Field, Index, Of, Rows, Known, Opened, Row, Arguments, NoMore, Scalar, Whole, Opening, Expr, Lit, Read, Unary, Binary, And, Or, Element, Ord, Chr, CompareTexts, Len, LenBehind, Function, Call, Open, Char, Int, String, Ln, Stat, Assign, Copy, PutText, If, Case, While, Repeat, Loop, Exit, For, Block, Assert, Halt, Change, Perform, Return, New, Out, Stats, Nothing, Then, Arms, Otherwise, Arm, Cases, NoElse, Else, OfLabels, Parameter, Procedure, Module, ObjectType, Program}
+use Rattle.aos_typed.specs.Program.{Place, ModuleVar, Local, Passed, Field, Index, Of, Rows, Known, Opened, Row, Longer, Arguments, NoMore, Scalar, Whole, Opening, Expr, Lit, Read, Unary, Binary, And, Or, Element, Ord, Chr, CompareTexts, Len, LenBehind, Function, Call, Open, Char, Int, String, Ln, Stat, Assign, Copy, PutText, If, Case, While, Repeat, Loop, Exit, For, Block, Assert, Halt, Change, Perform, Return, New, Out, Stats, Nothing, Then, Arms, Otherwise, Arm, Cases, NoElse, Else, OfLabels, Parameter, Procedure, Module, ObjectType, Program}
 use Rattle.aos_typed.specs.WellTyped.{variable_type, procedure_in, field_type, is_whole, amount_type, Takes, IsArrayOf, IsConstantText, IsOpening, IsByReference, IsByValue, IsParameter, IsPlaceOf, AreRows, AreArguments, IsOf, IsCall, IsReturn, IsStatement, AreStatements, AreArms, AreCases, IsType}
 use Rattle.aos_symbols.proofs.Told.{get_front}
 use Rattle.aos_check_expr.proofs.Opens.{OpensFall, dimensions_stay, element_stays}
@@ -155,6 +154,7 @@ module _ (p q : Program) (grows : Grows p q) where
       rows_grow (Known x ns) n t h = (h.0, known_grows (IsPlaceOf p own x) (IsPlaceOf q own x) (place_grows x) x ns t h.1)
       rows_grow (Opened k j) n t h = let a = h.1 in (h.0, (a.0, a.1, opening_grows a.0 j t (own_there k a.0 a.1) a.2))
       rows_grow (Row r of e) n t h = (rows_grow r (suc n) t h.0, value_grows e (Integer W64) h.1, h.2)
+      rows_grow (Longer r ns) n t h = (h.0, h.1, h.2, rows_grow r h.0 h.1 h.3, arrays_grow ns (id_of h.1) (id_of t) h.4)
 
       arguments_grow : (x : Arguments) (as' : List Parameter) → HaveTypes p as' → AreArguments p own x as' → AreArguments q own x as'
       arguments_grow NoMore as' all h = h
@@ -207,7 +207,7 @@ module _ (p q : Program) (grows : Grows p q) where
       statement_grows (Copy at t x y) h = (place_grows x t h.0, place_grows y t h.1, fact_stays p.types q.types grows.rows is_whole refl (id_of t).0 h.2)
       statement_grows (PutText at strict x y) h = (rows_grow x 1 TChar h.0, rows_grow y 1 TChar h.1, h.2)
       statement_grows (If at arms) h = arms_grow arms h
-      statement_grows (Case at e cases) h = (selector_grows e h.0, cases_grow cases h.1)
+      statement_grows (Case at e cases) h = (selector_grows e h.0, h.1, cases_grow cases h.2)
       statement_grows (While at e body) h = (value_grows e _ h.0, statements_grow body h.1)
       statement_grows (Repeat at body e) h = (statements_grow body h.0, value_grows e _ h.1)
       statement_grows (Loop at body) h = statements_grow body h
