@@ -5,16 +5,7 @@
 # and in processor time, which other work on the machine disturbs less. Usage: bench/calls.sh [PROGRAM], where PROGRAM is the built
 # program.
 set -euo pipefail
-top=$(cd "$(dirname "${BASH_SOURCE[0]}")/.." && pwd)
-program=${1:-$top/crates/aos_main/out/aos_main}
-folder=$(mktemp -d)
-trap 'rm -rf "$folder"' EXIT
-source "$top/bench/timing.sh"
-
-if ! [ -x "$program" ]; then
-    echo "$program isn't built: call ./aos once" >&2
-    exit 1
-fi
+source "$(dirname "${BASH_SOURCE[0]}")/timing.sh"
 
 cat >"$folder/Fib.Mod" <<'M'
 MODULE Fib;

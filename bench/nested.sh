@@ -4,19 +4,10 @@
 # write is compared. Each figure is the best of five of the whole process, in wall time and in processor time, which other work
 # on the machine disturbs less. Usage: bench/nested.sh [PROGRAM], where PROGRAM is the built program.
 set -euo pipefail
-top=$(cd "$(dirname "${BASH_SOURCE[0]}")/.." && pwd)
-program=${1:-$top/crates/aos_main/out/aos_main}
-folder=$(mktemp -d)
-trap 'rm -rf "$folder"' EXIT
-source "$top/bench/timing.sh"
+source "$(dirname "${BASH_SOURCE[0]}")/timing.sh"
 # each of 2,000,000 inner rounds begins a comparison, a statement and an addition; each of 2,000 outer rounds two of these and
 # the inner FOR with its first assignment and its last comparison; each outer FOR three; and s := 0 and Out.Int are two
 statements=6010008
-
-if ! [ -x "$program" ]; then
-    echo "$program isn't built: call ./aos once" >&2
-    exit 1
-fi
 
 cat >"$folder/Nested.Mod" <<'M'
 MODULE Nested;

@@ -5,20 +5,12 @@
 # rounds take is the difference; each figure is the best of five, in wall time and in processor time, which other work on the
 # machine disturbs less. Usage: bench/texts.sh [PROGRAM], where PROGRAM is the built program.
 set -euo pipefail
-top=$(cd "$(dirname "${BASH_SOURCE[0]}")/.." && pwd)
-program=${1:-$top/crates/aos_main/out/aos_main}
-folder=$(mktemp -d)
-trap 'rm -rf "$folder"' EXIT
-source "$top/bench/timing.sh"
+source "$(dirname "${BASH_SOURCE[0]}")/timing.sh"
 characters=1000000
 most=$((1 << 20))
 few=1
 many=21
 
-if ! [ -x "$program" ]; then
-    echo "$program isn't built: call ./aos once" >&2
-    exit 1
-fi
 cc -O2 -o "$folder/by_hand" "$top/bench/texts.c"
 
 # A module that makes so many rounds. It is filled up with blanks, so that its text is as long as one may be but for its last bytes.

@@ -1,4 +1,13 @@
-# What the scripts beside it share, which source it: times of commands, and scripts for `replay`. Files lie in $folder.
+# What the scripts beside it share, which source it: the built program, which may be their first word, a folder for files, times of
+# commands, and scripts for `replay`.
+top=$(cd "$(dirname "${BASH_SOURCE[0]}")/.." && pwd)
+program=${1:-$top/crates/aos_main/out/aos_main}
+folder=$(mktemp -d)
+trap 'rm -rf "$folder"' EXIT
+if ! [ -x "$program" ]; then
+    echo "$program isn't built: call ./aos once" >&2
+    exit 1
+fi
 
 # Five runs of a command: a line each, with the wall time and the processor time in seconds.
 five_runs() {

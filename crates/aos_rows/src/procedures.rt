@@ -24,6 +24,9 @@ VAR a: ARRAY 4 OF LONGINT; PROCEDURE P(VAR b: ARRAY OF LONGINT); BEGIN b[1] := 7
 VAR a: ARRAY 2, 3 OF LONGINT; PROCEDURE Row(VAR b: ARRAY OF LONGINT; n: LONGINT); BEGIN b[2] := n + LEN(b) END Row; PROCEDURE P(VAR m: ARRAY OF ARRAY OF LONGINT); BEGIN m[0, 1] := 5; m[1][0] := LEN(m); Row(m[1], LEN(m, 1)) END P; BEGIN P(a); Out.Int(a[0, 1], 0); Out.Int(a[1, 0], 2); Out.Int(a[1][2], 2) => 5 2 6
 TYPE T = ARRAY 3 OF LONGINT; VAR a: ARRAY 2 OF T; PROCEDURE P(m: ARRAY OF T); BEGIN m[1, 2] := 1; Out.Int(LEN(m), 0); Out.Int(LEN(m, 1), 2); Out.Int(LEN(m[0]), 2); Out.Int(a[1, 2], 2) END P; BEGIN P(a) => 2 3 3 0
 VAR a: ARRAY 2, 3 OF LONGINT; PROCEDURE Q(b: ARRAY OF ARRAY OF LONGINT): LONGINT; BEGIN b[1, 1] := 8; RETURN b[1, 1] * 10 + LEN(b, 1) END Q; PROCEDURE P(VAR b: ARRAY OF ARRAY OF LONGINT): LONGINT; BEGIN RETURN Q(b) + b[1, 1] END P; BEGIN a[1, 1] := 2; Out.Int(P(a), 0) => 85
+TYPE T = ARRAY 3 OF LONGINT; VAR a: ARRAY 2 OF T; PROCEDURE Q(VAR b: ARRAY OF ARRAY OF LONGINT); BEGIN b[1, 2] := b[0, 1] + 4; Out.Int(LEN(b, 0), 0); Out.Int(LEN(b, 1), 2) END Q; PROCEDURE P(VAR m: ARRAY OF T); BEGIN m[0, 1] := 3; Q(m); Out.Int(m[1, 2], 2) END P; BEGIN P(a); Out.Int(a[1, 2], 2) => 2 3 7 7
+TYPE T = ARRAY 3 OF LONGINT; VAR a: ARRAY 2 OF T; PROCEDURE Q(b: ARRAY OF ARRAY OF LONGINT): LONGINT; BEGIN b[1, 1] := 8; RETURN b[1, 1] * 100 + LEN(b, 0) * 10 + LEN(b, 1) END Q; PROCEDURE P(m: ARRAY OF T): LONGINT; BEGIN RETURN Q(m) + m[1, 1] END P; BEGIN a[1, 1] := 2; Out.Int(P(a), 0); Out.Int(a[1, 1], 2) => 825 2
+TYPE V = ARRAY 4 OF LONGINT; VAR a: ARRAY 2, 3 OF V; PROCEDURE R(VAR c: ARRAY OF ARRAY OF ARRAY OF LONGINT); BEGIN c[1, 2, 3] := LEN(c) * 100 + LEN(c, 1) * 10 + LEN(c, 2) END R; PROCEDURE Q(VAR b: ARRAY OF ARRAY OF LONGINT); BEGIN b[2, 0] := LEN(b) * 10 + LEN(b, 1) END Q; PROCEDURE P(VAR m: ARRAY OF ARRAY OF V); BEGIN R(m); Q(m[1]) END P; BEGIN P(a); Out.Int(a[1, 2, 3], 0); Out.Int(a[1, 2, 0], 3) => 234 34
 PROCEDURE P(s: ARRAY OF CHAR); BEGIN Out.String(s); Out.Int(LEN(s), 2); s[0] := \"z\" END P; BEGIN P(\"abc\"); P(\"x\"); P(\"\") => abc 4x 2 1
 VAR t: ARRAY 8 OF CHAR; PROCEDURE Put(VAR s: ARRAY OF CHAR; x: ARRAY OF CHAR); BEGIN COPY(x, s); IF s = x THEN Out.Char(\"=\") ELSE Out.Char(\"#\") END; s[0] := CAP(s[0]) END Put; BEGIN Put(t, \"hello\"); Out.String(t); Put(t, \"hello, world\"); Out.String(t) => =Hello#Hello, 
 VAR c: CHAR; h: HUGEINT; PROCEDURE P(c: CHAR; h: HUGEINT; b: BOOLEAN; s: SET); BEGIN IF b & (3 IN s) THEN Out.Char(c); Out.Int(h, 0) END END P; BEGIN P(\"w\", 5, TRUE, {1..4}) => w5
@@ -40,12 +43,12 @@ PROCEDURE F(): BOOLEAN; BEGIN Out.Char(\"f\"); RETURN FALSE END F; BEGIN IF F() 
 PROCEDURE F(n: LONGINT): LONGINT; BEGIN RETURN n + 1 END F; VAR i: LONGINT; BEGIN FOR i := F(0) TO F(2) DO Out.Int(i, 0) END; CASE F(4) OF 5: Out.Char(\"v\") END; ASSERT(F(1) = 2) => 123v";
 
 const DECLARED: &str = "\
-MODULE M; IMPORT Out; VAR i: LONGINT; a: ARRAY 3 OF LONGINT; m: ARRAY 2, 3 OF LONGINT; t: ARRAY 3 OF CHAR;
+MODULE M; IMPORT Out; TYPE N = ARRAY 3 OF LONGINT; VAR i: LONGINT; a: ARRAY 3 OF LONGINT; m: ARRAY 2, 3 OF LONGINT; t: ARRAY 3 OF CHAR; n: ARRAY 2 OF N; s: ARRAY 1 OF N;
 PROCEDURE F(n: LONGINT): LONGINT;
 BEGIN IF n = 0 THEN RETURN 1 END END F;
 PROCEDURE D(n: LONGINT): LONGINT; BEGIN RETURN 6 DIV n END D;
 PROCEDURE O(b: ARRAY OF LONGINT; n: LONGINT): LONGINT; BEGIN RETURN b[n] END O;
-PROCEDURE V(VAR x: LONGINT; n: LONGINT); BEGIN x := n END V; PROCEDURE T(VAR s: ARRAY OF CHAR); BEGIN s := \"abc\" END T; PROCEDURE I(VAR b: ARRAY OF ARRAY OF LONGINT; k: LONGINT): LONGINT; BEGIN RETURN b[1, k] END I;
+PROCEDURE V(VAR x: LONGINT; n: LONGINT); BEGIN x := n END V; PROCEDURE T(VAR s: ARRAY OF CHAR); BEGIN s := \"abc\" END T; PROCEDURE I(VAR b: ARRAY OF ARRAY OF LONGINT; k: LONGINT): LONGINT; BEGIN RETURN b[1, k] END I; PROCEDURE J(VAR b: ARRAY OF N; k: LONGINT): LONGINT; BEGIN RETURN I(b, k) END J;
 BEGIN
 ";
 
@@ -110,6 +113,11 @@ PROCEDURE F(h: HUGEINT): LONGINT; BEGIN RETURN h END F; BEGIN => 41: rule 40: wr
 PROCEDURE F(): LONGINT; BEGIN LOOP RETURN \"a\" END END F; BEGIN => 36: rule 40: wrong RETURN
 TYPE T = OBJECT BEGIN {ACTIVE} RETURN 1 END T; BEGIN => 32: rule 40: wrong RETURN";
 
+const OPENED: &str = "\
+TYPE T = ARRAY 3 OF CHAR; PROCEDURE Q(VAR b: ARRAY OF ARRAY OF LONGINT); BEGIN END Q; PROCEDURE P(VAR m: ARRAY OF T); BEGIN Q(m) END P; BEGIN => 127: rule 35: argument type
+PROCEDURE Q(VAR b: ARRAY OF ARRAY OF LONGINT); BEGIN END Q; PROCEDURE P(VAR m: ARRAY OF LONGINT); BEGIN Q(m) END P; BEGIN => 107: rule 35: argument type
+TYPE T = ARRAY 3 OF LONGINT; PROCEDURE Q(VAR b: ARRAY OF T); BEGIN END Q; PROCEDURE P(VAR m: ARRAY OF ARRAY OF LONGINT); BEGIN Q(m) END P; BEGIN => 130: rule 35: argument type";
+
 #[test]
 fn carries_calls_out(rt: HostRuntime) -> Result<(), Fail> {
     expect_outputs(&rt, rt.alloc(), HEAD, OUTPUTS, " END M.")?;
@@ -130,6 +138,8 @@ fn traps_in_procedures(rt: HostRuntime) -> Result<(), Fail> {
         ("V(a[3], 1 DIV a[0])", "trap 2 0 activity 0 at M:8:1\n"),
         ("T(t)", "trap 15 0 activity 0 at M:6:103\n"),
         ("i := I(m, 2) + I(m, 3)", "trap 2 0 activity 0 at M:6:195\n"),
+        ("i := J(n, 2) + J(n, 3)", "trap 2 0 activity 0 at M:6:195\n"),
+        ("i := J(s, 2)", "trap 2 0 activity 0 at M:6:195\n"),
         (
             "i := F(0) + F(0) * F(1 - 1); ASSERT(i = 3)",
             "trap 7 0 activity 0 at M:8:30\n",
@@ -215,5 +225,6 @@ fn refuses_calls(rt: HostRuntime) -> Result<(), Fail> {
     let alloc = rt.alloc();
     expect_refusals(&rt, alloc, NAMED, REFUSED, 6)?;
     expect_refusals(&rt, alloc, "MODULE M;\n", RETURNS, 2)?;
+    expect_refusals(&rt, alloc, "MODULE M;\n", OPENED, 2)?;
     Ok(())
 }

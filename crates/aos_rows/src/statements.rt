@@ -39,6 +39,9 @@ CASE -3 OF MIN(HUGEINT)..-1: Out.Int(1, 0) | 0..MAX(HUGEINT): Out.Int(2, 0) END;
 i := 1; CASE i OF 1: i := 2; Out.Int(i, 0) | 2: Out.Int(9, 0) END; CASE i OF | 2: Out.Int(3, 0) | END; CASE 3 OF ELSE Out.Int(4, 0) END => 234
 FOR i := 0 TO 2 DO CASE i OF 0: FOR j := 1 TO 2 DO CASE j OF 1: Out.Char(\"p\") | 2: Out.Char(\"q\") END END | 1..2: Out.Int(i, 0) END END => pq12
 LOOP CASE i OF 3: EXIT ELSE Out.Int(i, 0) END; INC(i) END; Out.Char(\".\") => 012.
+FOR i := -4 TO 12 DO CASE i OF 7: Out.Char(\"a\") | 3, 11, 5: Out.Char(\"b\") | -2..0: Out.Char(\"c\") | 9: | 1: Out.Char(\"d\") ELSE Out.Char(\".\") END END => ..cccd.b.b.a..b.
+FOR i := 0 TO 9 DO IF i < 8 THEN CASE i OF 6: Out.Int(6, 0) | 4, 2: Out.Int(2, 0) | 9..7: Out.Int(9, 0) | 0: ELSE Out.Char(\"-\") END ELSE Out.Char(\"!\") END END => -2-2-6-!!
+i := 4; CASE i OF 6..5: Out.Int(1, 0) ELSE Out.Int(2, 0) END; CASE MIN(HUGEINT) OF MAX(HUGEINT): Out.Int(1, 0) | MIN(HUGEINT): Out.Int(3, 0) END => 23
 BEGIN i := 3; BEGIN Out.Int(i, 0) END; BEGIN END END; LOOP BEGIN EXIT END END; Out.Int(4, 2) => 3 4
 ASSERT(TRUE); ASSERT(i = 0, 255); ASSERT(~b & (i < 1), 7); Out.Int(1, 0) => 1
 INC(i); INC(i, 5); DEC(i); DEC(i, -2); Out.Int(i, 0); INC(a[2], i); DEC(a[i - 5]); Out.Int(a[2], 2); INC(k, 127); Out.Int(k, 4) => 7 6 127
@@ -78,6 +81,7 @@ BEGIN
 
 const TRAPS: &str = "\
 i := 3 | CASE i OF 1: | 2: END => 4
+i := 0 | CASE i OF -1: | 1..3: | 7: | 5: END => 4
 c := \"x\" | CASE c OF \"a\"..\"w\": END => 4
 i := 3 | CASE i DIV z OF 1: ELSE END => 6
 i := 3 | IF i DIV z = 1 THEN END => 6
