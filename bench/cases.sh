@@ -31,15 +31,7 @@ labels=$(seq 0 999 | awk '{ print ($1 * 577) % 1000 }')
     echo '    print(s, end="")'
     echo 'run()'
 } >"$folder/cases.py"
-# The program ends in its whole budget, and not in one statement less.
-script $((statements + 1))
-script "$statements"
-"$program" replay --script "$folder/$((statements + 1)).script" "$folder/Cases.Mod" >"$folder/program.out"
-status=0
-"$program" replay --script "$folder/$statements.script" "$folder/Cases.Mod" >/dev/null 2>&1 || status=$?
-[ "$status" = 5 ]
-python3 "$folder/cases.py" >"$folder/python.out"
-cmp "$folder/program.out" "$folder/python.out"
+begins_as_many "$statements" "$folder/Cases.Mod" "$folder/cases.py"
 
 machine
 for call in "$program replay --script $folder/$((statements + 1)).script $folder/Cases.Mod" "python3 $folder/cases.py"; do

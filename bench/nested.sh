@@ -50,15 +50,7 @@ def run():
 
 run()
 M
-# The program ends in its whole budget, and not in one statement less.
-script $((statements + 1))
-script "$statements"
-"$program" replay --script "$folder/$((statements + 1)).script" "$folder/Nested.Mod" >"$folder/program.out"
-status=0
-"$program" replay --script "$folder/$statements.script" "$folder/Nested.Mod" >/dev/null 2>&1 || status=$?
-[ "$status" = 5 ]
-python3 "$folder/nested.py" >"$folder/python.out"
-cmp "$folder/program.out" "$folder/python.out"
+begins_as_many "$statements" "$folder/Nested.Mod" "$folder/nested.py"
 
 machine
 read -r wall cpu <<<"$(five_runs "$program" replay --script "$folder/$((statements + 1)).script" "$folder/Nested.Mod" | least)"

@@ -33,3 +33,15 @@ machine() {
     echo "cores   $(nproc)"
     echo "load    $(cut -d ' ' -f 1 /proc/loadavg)"
 }
+
+# A module begins so many statements: it ends in a budget of one more, and not in this one; and it writes what a program of CPython does.
+begins_as_many() {
+    local count=$1 module=$2 other=$3 status=0
+    script $((count + 1))
+    script "$count"
+    "$program" replay --script "$folder/$((count + 1)).script" "$module" >"$folder/program.out"
+    "$program" replay --script "$folder/$count.script" "$module" >/dev/null 2>&1 || status=$?
+    [ "$status" = 5 ]
+    python3 "$other" >"$folder/python.out"
+    cmp "$folder/program.out" "$folder/python.out"
+}
