@@ -27,6 +27,16 @@ use Rattle.aos_sim.proofs.Sizes.{stats_length, arms_length}
 use Rattle.aos_sim.proofs.Carries.{Stands, Same, Holds, HasStatement, HasStatements, Carries, bound, moved, GoesOn, Behind, carries_all, StatementDoes}
 use Rattle.aos_sim.proofs.Stats.{from_here, jumps_on, jumps_back}
 
+-- where the code of a loop stands that begins with a test, wherever its jumps lead
+loop_stands : (code : List Instr) (at : ℕ) (there : Pos) (c b rest : List Instr) (over back : ℕ) → drop at code ≡ (begin there ∷ (c ++ (i.JumpFalse over ∷ (b ++ i.Jump back ∷ [])))) ++ rest → drop at code ≡ begin there ∷ (c ++ (i.JumpFalse over ∷ (b ++ (i.Jump back ∷ rest))))
+loop_stands code at there c b rest over back e =
+    e ∙ ap (λ l. begin there ∷ l) (append_assoc c (i.JumpFalse over ∷ (b ++ i.Jump back ∷ [])) rest ∙ ap (λ l. c ++ (i.JumpFalse over ∷ l)) (append_assoc b (i.Jump back ∷ []) rest))
+
+-- and of one that ends with a test, whatever is behind that
+tested_stands : (code : List Instr) (at : ℕ) (there : Pos) (b c last rest : List Instr) → drop at code ≡ (begin there ∷ (b ++ (c ++ last))) ++ rest → drop at code ≡ begin there ∷ (b ++ (c ++ (last ++ rest)))
+tested_stands code at there b c last rest e =
+    e ∙ ap (λ l. begin there ∷ l) (append_assoc b (c ++ last) rest ∙ ap (λ l. b ++ l) (append_assoc c last rest))
+
 module _ (program : Program) (own : Option Procedure) (shapes : List ProcShape) (number here : ℕ) (code : List Instr) where
   abbrev onward : List Instr → Onward
   onward = runs shapes number here code
@@ -121,18 +131,17 @@ module _ (program : Program) (own : Option Procedure) (shapes : List ProcShape) 
           let b1 = stats_code program own b pb x d in
           let pj = pb + length b1 in
           let end = pj + 1 in
+          let h0 = loop_stands code at there c1 b1 rest _ _ has.stands.here in
+          let h1 = drop_next at code (begin there) _ h0 in
+          let h3 : drop pb code ≡ _ = drop_next p code _ _ (drop_past c1 (at + 1) code _ h1) in
+          let h4 : drop pj code ≡ _ = drop_past b1 pb code _ h3 in
+          let back : Same program own shapes number here code pj at = λ k' s. from_here program own shapes number here code pj (i.Jump at ∷ rest) k' s h4 ∙ jumps_back program own shapes number here code at pj there rest _ k' s (omega arith) h0 in
           let rest1 = b1 ++ (i.Jump at ∷ rest) in
           let tail = i.JumpFalse end ∷ (b1 ++ i.Jump at ∷ []) in
-          let flat : (c1 ++ tail) ++ rest ≡ c1 ++ (i.JumpFalse end ∷ rest1) = append_assoc c1 tail rest ∙ ap (λ l. c1 ++ (i.JumpFalse end ∷ l)) (append_assoc b1 (i.Jump at ∷ []) rest) in
-          let h0 : drop at code ≡ begin there ∷ (c1 ++ (i.JumpFalse end ∷ rest1)) = has.stands.here ∙ ap (λ l. begin there ∷ l) flat in
-          let h1 : drop (at + 1) code ≡ c1 ++ (i.JumpFalse end ∷ rest1) = drop_next at code (begin there) (c1 ++ (i.JumpFalse end ∷ rest1)) h0 in
-          let h3 : drop pb code ≡ rest1 = drop_next p code (i.JumpFalse end) rest1 (drop_past c1 (at + 1) code (i.JumpFalse end ∷ rest1) h1) in
-          let h4 : drop pj code ≡ i.Jump at ∷ rest = drop_past b1 pb code (i.Jump at ∷ rest) h3 in
           let h5 : drop end code ≡ rest = drop_next pj code (i.Jump at) rest h4 in
           let len : at + suc (length (c1 ++ tail)) ≡ end = omega (arith, length-append c1 tail, length-append b1 (i.Jump at ∷ [])) in
           let c' : Carried after end = subst (Carried after) len c in
           let le : end ≤ x = bound program own shapes number here code after end x d k c' in
-          let back : Same program own shapes number here code pj at = λ k' s. from_here program own shapes number here code pj (i.Jump at ∷ rest) k' s h4 ∙ jumps_back program own shapes number here code at pj there rest (c1 ++ (i.JumpFalse end ∷ rest1)) k' s (omega arith) h0 in
           let again : Carried (Do l ∷ after) pj = (at, omega (arith, le), back, has, c) in
           let inner : HasStatements program own shapes number here code b pb x d = record { stands = record { rest = i.Jump at ∷ rest; here = h3 }; typed = has.typed.1; holds = has.holds } in
           let body : Carried ((items_of b ++ Do l ∷ []) ++ after) pb = subst (λ is. Carried is pb) (sym (append_assoc (items_of b) (Do l ∷ []) after)) (carries_all program own shapes number here code b pb x d k (Do l ∷ after) inner again) in
@@ -169,18 +178,15 @@ module _ (program : Program) (own : Option Procedure) (shapes : List ProcShape) 
           let pc = at + 1 + length b1 in
           let c1 = value_code program own e pc in
           let pj = pc + length c1 in
+          let h0 = tested_stands code at there b1 c1 _ rest has.stands.here in
+          let h1 = drop_past b1 (at + 1) code _ (drop_next at code (begin there) _ h0) in
+          let tested = test_does e (λ v. Val (Into (if is_true v then [] else Do l ∷ []))) after pc at rest k w known has.typed.1 h1 (jumps_back program own shapes number here code at pj there rest _ k [] (omega arith) h0) in
           let last = i.JumpFalse at ∷ [] in
-          let whole : List Instr = b1 ++ (c1 ++ (i.JumpFalse at ∷ rest)) in
-          let flat : (b1 ++ (c1 ++ last)) ++ rest ≡ whole = append_assoc b1 (c1 ++ last) rest ∙ ap (λ l. b1 ++ l) (append_assoc c1 last rest) in
-          let h0 : drop at code ≡ begin there ∷ whole = has.stands.here ∙ ap (λ l. begin there ∷ l) flat in
-          let h1 : drop pc code ≡ c1 ++ (i.JumpFalse at ∷ rest) = drop_past b1 (at + 1) code (c1 ++ (i.JumpFalse at ∷ rest)) (drop_next at code (begin there) whole h0) in
-          let h2 : drop (pj + 1) code ≡ rest = drop_next pj code (i.JumpFalse at) rest (drop_past c1 pc code (i.JumpFalse at ∷ rest) h1) in
           let len : at + suc (length (b1 ++ (c1 ++ last))) ≡ pj + 1 = omega (arith, length-append b1 (c1 ++ last), length-append c1 last) in
           let c' : Carried after (pj + 1) = subst (Carried after) len c in
           let le : pj + 1 ≤ x = bound program own shapes number here code after (pj + 1) x d k c' in
           let again : Carried (Do l ∷ after) at = (at, omega (arith, le), (λ k' s. refl), has, c) in
-          test_does e (λ v. Val (Into (if is_true v then [] else Do l ∷ []))) after pc at rest k w known has.typed.1 h1
-          (jumps_back program own shapes number here code at pj there rest whole k [] (omega arith) h0)
+          tested
           (λ w' up. record { at = pj + 1; exit = x; level = d; keeps = k; runs = refl; carries = c' })
           (λ w' up. record { at = at; exit = x; level = d; keeps = k; runs = refl; carries = again })
 

@@ -2,6 +2,7 @@
 -- its number.
 use Rattle.std.proofs.Common.{◌≡◌, ℕ, suc, ℤ, ◌+◌, ◌<◌, ◌≤◌, Bool, true, false, Option, List, [], ◌∷◌, ◌++◌, length, drop, if◌then◌else◌, refl, sym, ap, ◌∙◌, subst, arith, append_assoc, length-append}
 use Rattle.aos_base.specs.declared.number.Width.{Width}
+use Rattle.aos_base.specs.declared.number.Relation.{Relation}
 use Rattle.aos_base.specs.declared.operator.Binary.TheVariants.{Cmp}
 use Rattle.aos_base.specs.declared.text.Pos.{Pos}
 use Rattle.aos_base.specs.Number.{holds}
@@ -30,6 +31,11 @@ use Rattle.aos_sim.proofs.Carries.{kept_here, kept_below, Same, HasStatement, Ha
 use Rattle.aos_sim.proofs.Stats.{from_here, jumps_on, jumps_back, keeps_number, takes_number}
 use Rattle.aos_sim.proofs.Loops.{jumps_if}
 use Rattle.aos_sim.proofs.Changes.{includes_itself}
+
+-- where the code of a FOR stands before its rounds, whatever these are
+head_stands : (code : List Instr) (at : ℕ) (there : Pos) (v : List Instr) (keep : Instr) (a more rest : List Instr) → drop at code ≡ ((begin there ∷ (v ++ (keep ∷ a))) ++ more) ++ rest → drop at code ≡ begin there ∷ (v ++ (keep ∷ (a ++ (more ++ rest))))
+head_stands code at there v keep a more rest e =
+    e ∙ append_assoc (begin there ∷ (v ++ (keep ∷ a))) more rest ∙ ap (λ l. begin there ∷ l) (append_assoc v (keep ∷ a) (more ++ rest))
 
 module _ (program : Program) (own : Option Procedure) (shapes : List ProcShape) (number here : ℕ) (code : List Instr) (typed : HasTypes program) (shaped : HasShapes program shapes) where
   abbrev onward : List Instr → Onward
@@ -73,11 +79,13 @@ module _ (program : Program) (own : Option Procedure) (shapes : List ProcShape) 
     chosen true p over m runs inside behind = record { at = p; exit = x; level = suc e; keeps = k; runs = runs; carries = inside }
     chosen false p over m runs inside behind = record { at = over; exit = x; level = e; keeps = k; runs = runs; carries = behind }
 
-    pub rounds_does : (world : World Sort) (at : ℕ) → Knows program own here world → HasRounds program own shapes number here code there w q step b at x e → k e ≡ Num last → Carries program own shapes number here code after (at + length (rounds_code program own there w q step b at x e)) x e k → Does program here (Behind program own shapes number here code after) world (run shapes number here code (at + 1) k []) (rounds_of program here there w q last step b)
-    rounds_does world at known has is_last c =
+    -- rounds whose test compares the variable with the last value by any relation that holds where the meaning's does
+    rounds_by : (r : Relation) → ((z : ℤ) → holds r z last ≡ holds (until step) z last) → (world : World Sort) (at : ℕ) → Knows program own here world → (has : HasRounds program own shapes number here code there w q step b at x e) → let ct = value_code program own (Read (Integer w) q) (at + 1) in let test = ct ++ (i.Kept e N ∷ (i.Binary (Cmp r) ∷ [])) in let pb = body_place program own w q at in let b1 = stats_code program own b pb x (suc e) in let inc = step_code program own there w q step (pb + length b1) in
+        drop at code ≡ (begin there ∷ (test ++ (i.JumpFalse (at + 1 + length test + 1 + length b1 + length inc + 1) ∷ (b1 ++ (inc ++ i.Jump at ∷ []))))) ++ has.stands.rest → k e ≡ Num last → Carries program own shapes number here code after (at + length (rounds_code program own there w q step b at x e)) x e k → Does program here (Behind program own shapes number here code after) world (run shapes number here code (at + 1) k []) (rounds_of program here there w q last step b)
+    rounds_by r asked world at known has here_is is_last c =
         let rest = has.stands.rest in
         let ct = value_code program own (Read (Integer w) q) (at + 1) in
-        let compare = i.Binary (Cmp (until step)) in
+        let compare = i.Binary (Cmp r) in
         let pair = i.Kept e N ∷ (compare ∷ []) in
         let test = ct ++ pair in
         let pb = body_place program own w q at in
@@ -91,7 +99,7 @@ module _ (program : Program) (own : Option Procedure) (shapes : List ProcShape) 
         let tail = i.JumpFalse over ∷ rest2 in
         let pt = at + 1 + length ct in
         let flat : (test ++ (i.JumpFalse over ∷ (b1 ++ (inc ++ i.Jump at ∷ [])))) ++ rest ≡ test ++ tail = append_assoc test (i.JumpFalse over ∷ (b1 ++ (inc ++ i.Jump at ∷ []))) rest ∙ ap (λ l. test ++ (i.JumpFalse over ∷ l)) (append_assoc b1 (inc ++ i.Jump at ∷ []) rest ∙ ap (λ l. b1 ++ l) (append_assoc inc (i.Jump at ∷ []) rest)) in
-        let h0 : drop at code ≡ begin there ∷ (test ++ tail) = has.stands.here ∙ ap (λ l. begin there ∷ l) flat in
+        let h0 : drop at code ≡ begin there ∷ (test ++ tail) = here_is ∙ ap (λ l. begin there ∷ l) flat in
         let h1 : drop (at + 1) code ≡ test ++ tail = drop_next at code (begin there) (test ++ tail) h0 in
         let h2 : drop pt code ≡ pair ++ tail = drop_past ct (at + 1) code (pair ++ tail) (h1 ∙ append_assoc ct pair tail) in
         let h4 : drop (pt + 1 + 1) code ≡ tail = drop_next (pt + 1) code compare tail (drop_next pt code (i.Kept e N) (compare ∷ tail) h2) in
@@ -113,11 +121,15 @@ module _ (program : Program) (own : Option Procedure) (shapes : List ProcShape) 
         (operand_does program own shapes number here code (Leaves after) (Integer w) f ct pair (value_of program here (Read (Integer w) q)) (at + 1) tail k []
         (value_does program own shapes number here code typed shaped (Read (Integer w) q) (Integer w) (has.place, refl, includes_itself w) (at + 1)) world known
         (λ w' up v m is e'.
-        let c = holds (until step) (number_of v) last in
-        chosen c (pt + 1 + 1 + 1) over m
+        let c = holds r (number_of v) last in
+        chosen (holds (until step) (number_of v) last) (pt + 1 + 1 + 1) over m
         (e' ∙ takes_number program own shapes number here code e last (compare ∷ tail) pt k (Num (number_of v) ∷ []) room is_last
-        ∙ jumps_if program own shapes number here code c over (pt + 1 + 1) rest2 k (jumps_on program own shapes number here code rest2 over (pt + 1 + 1) k [] (omega (arith, lt)) h5) h5)
+        ∙ jumps_if program own shapes number here code c over (pt + 1 + 1) rest2 k (jumps_on program own shapes number here code rest2 over (pt + 1 + 1) k [] (omega (arith, lt)) h5) h5
+        ∙ ap (λ d. from (if d then pt + 1 + 1 + 1 else over) k) (asked (number_of v)))
         inside c'))
+
+    pub rounds_does : (world : World Sort) (at : ℕ) → Knows program own here world → HasRounds program own shapes number here code there w q step b at x e → k e ≡ Num last → Carries program own shapes number here code after (at + length (rounds_code program own there w q step b at x e)) x e k → Does program here (Behind program own shapes number here code after) world (run shapes number here code (at + 1) k []) (rounds_of program here there w q last step b)
+    rounds_does world at known has is_last c = rounds_by _ (λ z. refl) world at known has has.stands.here is_last c
 
   -- FOR up to its first round
   module _ (x d : ℕ) (k : Keeps) (after : List Item) where
@@ -131,12 +143,12 @@ module _ (program : Program) (own : Option Procedure) (shapes : List ProcShape) 
         let head = for_head program own there w q first to at d in
         let t = at + length head in
         let c2 = rounds_code program own there w q step b t x d in
-        let rest2 = ca ++ (c2 ++ rest) in
-        let flat : (head ++ c2) ++ rest ≡ begin there ∷ (ce ++ (i.Keep d N ∷ rest2)) = append_assoc head c2 rest ∙ ap (λ l. begin there ∷ l) (append_assoc ce (i.Keep d N ∷ ca) (c2 ++ rest)) in
-        let h1 : drop (at + 1) code ≡ ce ++ (i.Keep d N ∷ rest2) = drop_next at code (begin there) (ce ++ (i.Keep d N ∷ rest2)) (has.stands.here ∙ flat) in
-        let h3 : drop pa code ≡ rest2 = drop_next pk code (i.Keep d N) rest2 (drop_past ce (at + 1) code (i.Keep d N ∷ rest2) h1) in
+        let h1 = drop_next at code (begin there) _ (head_stands code at there ce (i.Keep d N) ca _ rest has.stands.here) in
+        let h2 = drop_next pk code (i.Keep d N) _ (drop_past ce (at + 1) code _ h1) in
         let lh : pa + length ca ≡ t = omega (arith, length-append ce (i.Keep d N ∷ ca)) in
-        let h4 : drop t code ≡ c2 ++ rest = ap (λ n. drop n code) (sym lh) ∙ drop_past ca pa code (c2 ++ rest) h3 in
+        let h4 : drop t code ≡ c2 ++ rest = ap (λ n. drop n code) (sym lh) ∙ drop_past ca pa code _ h2 in
+        let rest2 = ca ++ (c2 ++ rest) in
+        let h3 : drop pa code ≡ rest2 = h2 in
         let len : at + length (head ++ c2) ≡ t + length c2 = omega (arith, length-append head c2) in
         let c' : Carried after (t + length c2) x d k = subst (λ n. Carried after n x d k) len c in
         let ends = bound program own shapes number here code after (t + length c2) x d k c' in

@@ -3,15 +3,14 @@
 use Rattle.std.proofs.Common.{◌≡◌, ℕ, zero, suc, ◌+◌, ◌≤◌, ℤ, Option, Some, None, List, [], ◌∷◌, ◌++◌, length, refl, ap, ◌∙◌, arith, length-append}
 use Rattle.std.proofs.Math.Nat.{le-max_left}
 use Rattle.aos_base.specs.declared.text.Pos.{Pos}
-use Rattle.aos_base.specs.declared.operator.Binary.TheVariants.{Cmp}
+use Rattle.aos_base.specs.declared.number.Width.{Width}
 use Rattle.aos_typed.specs.declared.tree.TType.TheVariants.{Integer}
-use Rattle.aos_typed.specs.Meaning.{until}
-use Rattle.aos_typed.specs.Program.{Read, Stat, Assign, Copy, PutText, If, Case, While, Repeat, Loop, Exit, For, Block, Assert, Halt, Change, Perform, Return, New, Out, Stats, Nothing, Then, Arms, Otherwise, Arm, Cases, NoElse, Else, OfLabels, Procedure, Program}
+use Rattle.aos_typed.specs.Program.{Place, Read, Stat, Assign, Copy, PutText, If, Case, While, Repeat, Loop, Exit, For, Block, Assert, Halt, Change, Perform, Return, New, Out, Stats, Nothing, Then, Arms, Otherwise, Arm, Cases, NoElse, Else, OfLabels, Procedure, Program}
 use Rattle.aos_code.specs.declared.instr.Instr.{Instr}
 use Rattle.aos_code.specs.declared.instr.Instr.TheVariants as i
 use Rattle.aos_code.specs.declared.instr.Kind.TheVariants.{N}
 use Rattle.aos_sim.specs.Search.{Search, Nowhere, At, Split, arms_in, search_of, search_size, search_code}
-use Rattle.aos_sim.specs.Code.{value_code, round_code, for_head, step_code, body_place, rounds_with, stat_code, stats_code, arms_code, cases_code, arm_place}
+use Rattle.aos_sim.specs.Code.{value_code, while_code, repeat_code, arm_code, round_code, for_head, step_code, body_place, rounds_with, stat_code, stats_code, arms_code, cases_code, arm_place}
 use Rattle.aos_sim.specs.Need.{stat_level, stats_level, arms_level, cases_level}
 
 -- a search has as many instructions wherever it stands and leads to
@@ -23,18 +22,44 @@ search_length place other (Split middle below above) d at =
     let from = at + 4 + search_size below in
     omega (arith, length-append b (search_code place other above d from), search_length place other below d (at + 4), search_length place other above d from)
 
--- a test, an arm, and what is behind it
-arm_length : (c b more : List Instr) (to end : ℕ) → length (c ++ (i.JumpFalse to ∷ (b ++ (i.Jump end ∷ more)))) ≡ length c + length b + length more + 2
-arm_length c b more to end = omega (arith, length-append c (i.JumpFalse to ∷ (b ++ (i.Jump end ∷ more))), length-append b (i.Jump end ∷ more))
+-- Code of these shapes is so long whatever its instructions are and wherever its jumps lead: a test, an arm, and what is behind it
+arm_size : (x y : Instr) (c b more : List Instr) → length (c ++ (x ∷ (b ++ (y ∷ more)))) ≡ length c + length b + length more + 2
+arm_size x y c b more = omega (arith, length-append c (x ∷ (b ++ (y ∷ more))), length-append b (y ∷ more))
+
+-- two pieces, and what is behind them
+pieces_alike : (b b' c c' more : List Instr) → length b ≡ length b' → length c ≡ length c' → suc (length (b ++ (c ++ more))) ≡ suc (length (b' ++ (c' ++ more)))
+pieces_alike b b' c c' more e f =
+    omega (arith, e, f, length-append b (c ++ more), length-append b' (c' ++ more), length-append c more, length-append c' more)
+
+-- a test with two instructions of its own, two pieces, and an instruction behind them
+round_size : (x y z last : Instr) (v b n : List Instr) → suc (length ((v ++ (x ∷ (y ∷ []))) ++ (z ∷ (b ++ (n ++ last ∷ []))))) ≡ length v + length b + length n + 5
+round_size x y z last v b n =
+    let c = v ++ (x ∷ (y ∷ [])) in
+    omega (arith, length-append v (x ∷ (y ∷ [])), length-append c (z ∷ (b ++ (n ++ last ∷ []))), length-append b (n ++ last ∷ []), length-append n (last ∷ []))
+
+arm_length : (c b : List Instr) (at end : ℕ) (more : List Instr) → length (arm_code c b at end more) ≡ length c + length b + length more + 2
+arm_length c b at end more = arm_size _ _ c b more
+
+while_length : (there : Pos) (c b : List Instr) (at : ℕ) → length (while_code there c b at) ≡ suc (length c + length b + 0 + 2)
+while_length there c b at = ap (λ n. suc n) (arm_size _ _ c b [])
+
+repeat_alike : (there : Pos) (b b' c c' : List Instr) (at : ℕ) → length b ≡ length b' → length c ≡ length c' → length (repeat_code there b c at) ≡ length (repeat_code there b' c' at)
+repeat_alike there b b' c c' at e f = pieces_alike b b' c c' _ e f
 
 pub round_length : (there : Pos) (v : List Instr) (step : ℤ) (d : ℕ) (b n : List Instr) (at : ℕ) → length (round_code there v step d b n at) ≡ length v + length b + length n + 5
-round_length there v step d b n at =
-    let test = i.Kept d N ∷ (i.Binary (Cmp (until step)) ∷ []) in
-    let c = v ++ test in
-    let tail = b ++ (n ++ i.Jump at ∷ []) in
-    omega (arith, length-append v test, length-append c (i.JumpFalse (at + 1 + length c + 1 + length b + length n + 1) ∷ tail), length-append b (n ++ i.Jump at ∷ []), length-append n (i.Jump at ∷ []))
+round_length there v step d b n at = round_size _ _ _ _ v b n
 
 module _ (program : Program) (own : Option Procedure) where
+  -- rounds of a FOR behind other code, wherever they are told they stand
+  rounds_alike : (head : List Instr) (there : Pos) (w : Width) (q : Place) (step : ℤ) (b b' : List Instr) (at d : ℕ) → length b ≡ length b' → length (head ++ rounds_with program own there w q step b at d) ≡ length (head ++ rounds_with program own there w q step b' at d)
+  rounds_alike head there w q step b b' at d e =
+      let v = value_code program own (Read (Integer w) q) (at + 1) in
+      let first = body_place program own w q at in
+      let n : List Instr → List Instr = λ l. step_code program own there w q step (first + length l) in
+      let same = ap (λ m. length (step_code program own there w q step (first + m))) e in
+      let whole : List Instr → _ = λ l. length-append head (rounds_with program own there w q step l at d) in
+      omega (arith, e, same, whole b, whole b', round_length there v step d b (n b) at, round_length there v step d b' (n b') at)
+
   mutual
     pub stat_length : (s : Stat) (at x y d : ℕ) → length (stat_code program own s at x d) ≡ length (stat_code program own s at y d)
     stat_length (Assign here t p e) at x y d = refl
@@ -55,28 +80,20 @@ module _ (program : Program) (own : Option Procedure) where
         omega (arith, cases_length cases first (end x) (end y) x y d, size x, size y, whole x, whole y, length-append (search x) (arms x), length-append (search y) (arms y))
     stat_length (While here e body) at x y d =
         let c = value_code program own e (at + 1) in
-        let first = at + 1 + length c + 1 in
-        let b : ℕ → List Instr = λ z. stats_code program own body first z d in
-        let to : ℕ → ℕ = λ z. first + length (b z) + 1 in
-        omega (arith, stats_length body first x y d, length-append c (i.JumpFalse (to x) ∷ (b x ++ i.Jump at ∷ [])), length-append c (i.JumpFalse (to y) ∷ (b y ++ i.Jump at ∷ [])), length-append (b x) (i.Jump at ∷ []), length-append (b y) (i.Jump at ∷ []))
+        let b : ℕ → List Instr = λ z. stats_code program own body (at + 1 + length c + 1) z d in
+        omega (arith, stats_length body (at + 1 + length c + 1) x y d, while_length here c (b x) at, while_length here c (b y) at)
     stat_length (Repeat here body e) at x y d =
         let b : ℕ → List Instr = λ z. stats_code program own body (at + 1) z d in
         let c : ℕ → List Instr = λ z. value_code program own e (at + 1 + length (b z)) in
         let h = stats_length body (at + 1) x y d in
-        omega (arith, h, ap (λ n. length (value_code program own e (at + 1 + n))) h, length-append (b x) (c x ++ i.JumpFalse at ∷ []), length-append (b y) (c y ++ i.JumpFalse at ∷ []), length-append (c x) (i.JumpFalse at ∷ []), length-append (c y) (i.JumpFalse at ∷ []))
+        repeat_alike here (b x) (b y) (c x) (c y) at h (ap (λ n. length (value_code program own e (at + 1 + n))) h)
     stat_length (Loop here body) at x y d = refl
     stat_length (Exit here) at x y d = refl
     stat_length (For here w p from to step body) at x y d =
         let head = for_head program own here w p from to at d in
-        let t = at + length head in
-        let first = body_place program own w p t in
-        let v = value_code program own (Read (Integer w) p) (t + 1) in
+        let first = body_place program own w p (at + length head) in
         let b : ℕ → List Instr = λ z. stats_code program own body first z (suc d) in
-        let n : ℕ → List Instr = λ z. step_code program own here w p step (first + length (b z)) in
-        let h = stats_length body first x y (suc d) in
-        let same = ap (λ m. length (step_code program own here w p step (first + m))) h in
-        let whole : ℕ → _ = λ z. length-append head (rounds_with program own here w p step (b z) t d) in
-        omega (arith, h, same, whole x, whole y, round_length here v step d (b x) (n x) t, round_length here v step d (b y) (n y) t)
+        rounds_alike head here w p step (b x) (b y) _ d (stats_length body first x y (suc d))
     stat_length (Block here body) at x y d = ap (λ n. suc n) (stats_length body (at + 1) x y d)
     stat_length (Assert here e code) at x y d = refl
     stat_length (Halt here code) at x y d = refl
@@ -105,7 +122,7 @@ module _ (program : Program) (own : Option Procedure) where
         let next : ℕ → ℕ = λ z. first + length (b z) + 1 in
         let h = stats_length ss first x y d in
         let more = arms_length arms (next x) end other x y d ∙ ap (λ n. length (arms_code program own arms (first + n + 1) other y d)) h in
-        omega (arith, h, more, arm_length c (b x) (arms_code program own arms (next x) end x d) (next x) end, arm_length c (b y) (arms_code program own arms (next y) other y d) (next y) other)
+        omega (arith, h, more, arm_length c (b x) at end (arms_code program own arms (next x) end x d), arm_length c (b y) at other (arms_code program own arms (next y) other y d))
 
     pub cases_length : (cases : Cases) (at end other x y d : ℕ) → length (cases_code program own cases at end x d) ≡ length (cases_code program own cases at other y d)
     cases_length NoElse at end other x y d = refl
