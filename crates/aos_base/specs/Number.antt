@@ -1,5 +1,5 @@
 -- The integers of each width, in two's complement (Active Oberon Language Report, section on basic types).
-use Rattle.std.specs.Prelude.{ℕ, ◌-◌, ◌++◌, ◌&&◌, List, replicate, length, ℤ, pos, negsuc, ◌≤ℤ◌, ◌*ℤ◌, ◌^◌, suc, Bool, not, int_lt, int_le, Option, Some, None, nat_le, if◌then◌else◌}
+use Rattle.std.specs.Prelude.{ℕ, zero, ◌-◌, ◌++◌, ◌&&◌, List, [], ◌∷◌, replicate, length, ℤ, pos, negsuc, ◌≤ℤ◌, ◌*ℤ◌, ◌^◌, suc, Bool, not, int_lt, int_le, Option, Some, None, nat_le, if◌then◌else◌}
 use Rattle.std.specs.Ordering.{int_eq}
 use Rattle.std.specs.Int.{int_div_euclid}
 use Rattle.std.specs.Fmt.{signed_decimal}
@@ -42,6 +42,17 @@ shifted a (negsuc n) = int_div_euclid a (pos (2 ^ suc n))
 -- in decimal, with blanks before it up to this many places (Oakwood Guidelines, module Out)
 abbrev pub right_justified : ℤ → ℕ → List ℕ
 right_justified z places = replicate (places - length (signed_decimal z)) 32 ++ signed_decimal z
+
+-- the lengths with which an open array is made: none is below 1
+abbrev pub with_length : ℤ → Option (List ℕ) → Option (List ℕ)
+with_length z None = None
+with_length (pos zero) (Some ns) = None
+with_length (pos (suc n)) (Some ns) = Some (suc n ∷ ns)
+with_length (negsuc n) (Some ns) = None
+
+abbrev pub array_lengths : List ℤ → Option (List ℕ)
+array_lengths [] = Some []
+array_lengths (z ∷ zs) = with_length z (array_lengths zs)
 
 -- the number of places must be 0 to 255
 abbrev pub places_of : ℤ → Option ℕ

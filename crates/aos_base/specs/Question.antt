@@ -35,7 +35,7 @@ pub data Ask (P V K C : Type 0) : Type 0 where
   ComparesTexts : Relation → (left : P) → (length : V) → (right : P) → (other : V) → Ask P V K C
   Calls : (procedure : ℕ) → (arguments : List V) → Ask P V K C
   Ends : (result : Option V) → Ask P V K C  -- the end of the frame, which has no answer
-  Makes : (type : ℕ) → Ask P V K C  -- a new object of this type, which is the answer
+  Makes : (type : ℕ) → (lengths : List V) → Ask P V K C  -- a new object of this type, an open array of these lengths, which is the answer
   Starts : (object : V) → Ask P V K C  -- the activity of an object
   PutsInt : (value places : V) → Ask P V K C
   PutsChar : (code : V) → Ask P V K C
@@ -44,3 +44,6 @@ pub data Ask (P V K C : Type 0) : Type 0 where
   PutsLn : Ask P V K C
   Places : (parameter : P) → Ask P V K C  -- the place that a parameter stands for
   Lengths : (parameter : P) → Ask P V K C  -- a length of an open array parameter
+  Opens : (object : V) → Ask P V K C  -- the place of what an object holds
+  Sizes : (object : V) → (dimension : ℕ) → Ask P V K C  -- a length of an open array that is an object
+  Tests : (object : V) → (type : ℕ) → Ask P V K C  -- whether an object's type extends this one

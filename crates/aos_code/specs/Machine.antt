@@ -8,13 +8,13 @@ use Rattle.aos_base.specs.declared.place.Root.TheVariants.{Frame as FrameRoot, M
 use Rattle.aos_base.specs.declared.kernel.Did.{Did}
 use Rattle.aos_base.specs.declared.kernel.Did.TheVariants.{Went, Ended as NoFrame, Start, Trapped}
 use Rattle.aos_base.specs.declared.kernel.Verdict.TheVariants.{Fails as NeverHolds}
-use Rattle.aos_base.specs.Number.{places_of, justified, holds}
+use Rattle.aos_base.specs.Number.{places_of, justified, holds, array_lengths}
 use Rattle.aos_base.specs.Operators.{natural, flag}
 use Rattle.aos_base.specs.Text.{order, ended_within, cut_within}
 use Rattle.aos_base.specs.Book.{Where}
 use Rattle.aos_base.specs.Machine.{Turn, Machine, State, start_of}
-use Rattle.aos_base.specs.Rooted.{Rooted, from_last, change_from_last, change_at, change_by_number, at_root, load, load_all, spliced}
-use Rattle.aos_base.specs.Question.{Reads, Stores, Copies, PutsText, ComparesTexts, Calls, Ends, Makes, Starts, PutsInt, PutsChar, PutsString, PutsNothing, PutsLn, Places, Lengths}
+use Rattle.aos_base.specs.Rooted.{Made, Rooted, by_number, from_last, change_from_last, change_at, change_by_number, at_root, load, load_all, spliced}
+use Rattle.aos_base.specs.Question.{Reads, Stores, Copies, PutsText, ComparesTexts, Calls, Ends, Makes, Starts, PutsInt, PutsChar, PutsString, PutsNothing, PutsLn, Places, Lengths, Opens, Sizes, Tests}
 use Rattle.aos_code.specs.declared.instr.Cell.{Cell}
 use Rattle.aos_code.specs.declared.instr.Cell.TheVariants.{Num, Ref, Call as CallCell, Place}
 use Rattle.aos_code.specs.declared.instr.Kind.{Kind}
@@ -139,9 +139,41 @@ module _ (following : List ℕ) where
   writes_out (Some bytes) at k s f fs mem = puts bytes (behind at k s f ∷ fs) mem
 
   -- an object is made, where the heap has room for it
-  abbrev pub makes : Bool → ℕ → ℕ → Keeps → Stack → Frame → List Frame → Memory → Turned
-  makes true t at k s f fs mem = goes_on (behind at k (Ref (new_number mem) ∷ s) f ∷ fs) (with_object t mem)
-  makes false t at k s f fs mem = leaves (Trapped 12 0) (f ∷ fs) mem
+  abbrev pub makes : Bool → Made → List Cell → ℕ → Keeps → Stack → Frame → List Frame → Memory → Turned
+  makes true m cells at k s f fs mem = goes_on (behind at k (Ref (new_number mem) ∷ s) f ∷ fs) (with_object m cells mem)
+  makes false m cells at k s f fs mem = leaves (Trapped 12 0) (f ∷ fs) mem
+
+  -- numbers that are to be lengths
+  abbrev pub number_in : Cell → Option ℤ
+  number_in (Num z) = Some z
+  number_in (Ref o) = None
+  number_in (CallCell p o) = None
+  number_in (Place root cell type) = None
+
+  abbrev pub numbers_in : List Cell → Option (List ℤ)
+  numbers_in [] = Some []
+  numbers_in (v ∷ vs) = option_and_then (λ z. option_map (λ zs. z ∷ zs) (numbers_in vs)) (number_in v)
+
+  -- rows in one another, of these lengths
+  abbrev pub times : ℕ → List Cell → List Cell
+  times zero vs = []
+  times (suc n) vs = vs ++ times n vs
+
+  abbrev pub in_rows : List ℕ → List Cell → List Cell
+  in_rows [] vs = vs
+  in_rows (n ∷ ns) vs = times n (in_rows ns vs)
+
+  -- an object of a type, of these lengths, none of which may be below 1
+  abbrev pub makes_with : Option (List ℕ) → ℕ → TypeDesc → ℕ → Keeps → Stack → Frame → List Frame → Memory → Turned
+  makes_with None t d at k s f fs mem = leaves (Trapped 15 0) (f ∷ fs) mem
+  makes_with (Some ns) t d at k s f fs mem =
+      let m : Made = record { type = t; lengths = ns } in
+      let cells = in_rows ns (map first_cell d.kinds.items) in makes (has_room m cells mem) m cells at k s f fs mem
+
+  abbrev pub makes_of : Option TypeDesc → Option (List ℤ) → ℕ → ℕ → Keeps → Stack → Frame → List Frame → Memory → Turned
+  makes_of None zs t at k s f fs mem = leaves (Trapped 16 0) (f ∷ fs) mem
+  makes_of (Some d) None t at k s f fs mem = leaves (Trapped 16 0) (f ∷ fs) mem
+  makes_of (Some d) (Some zs) t at k s f fs mem = makes_with (array_lengths zs) t d at k s f fs mem
 
   -- an object's activity is left to the kernel
   abbrev pub starts : Cell → ℕ → Keeps → Stack → Frame → List Frame → Memory → Turned
@@ -275,7 +307,7 @@ module _ (following : List ℕ) where
       calls_with p shape (handed (suc (length fs)) (rooted (f ∷ fs) mem) shape.params.items vs (length shape.kinds.items)) at k s f fs mem
 
   -- the question of the instruction at this place is answered; s has the operands below its own
-  module _ (shapes : List ProcShape) where
+  module _ (shapes : List ProcShape) (types : List TypeDesc) where
     abbrev pub answer : Question → ℕ → Keeps → Stack → Frame → List Frame → Memory → Turned
     answer (Reads kind a) at k s f fs mem = reads kind (load a.root a.cell (rooted (f ∷ fs) mem)) at k s f fs mem
     answer (Stores a v) at k s f fs mem =
@@ -288,7 +320,7 @@ module _ (following : List ℕ) where
         let x = rooted (f ∷ fs) mem in compares r (text_at a n x) (text_at b m x) at k s f fs mem
     answer (Calls p vs) at k s f fs mem = calls (numbered shapes p) p vs at k s f fs mem
     answer (Ends result) at k s f fs mem = ends result fs mem
-    answer (Makes t) at k s f fs mem = makes (has_room mem) t at k s f fs mem
+    answer (Makes t vs) at k s f fs mem = makes_of (numbered types t) (numbers_in vs) t at k s f fs mem
     answer (Starts v) at k s f fs mem = starts v at k s f fs mem
     answer (PutsInt v n) at k s f fs mem = prints (written v n) at k s f fs mem
     answer (PutsChar v) at k s f fs mem = writes_out (option_map (λ c. c ∷ []) (code_in v)) at k s f fs mem
@@ -298,6 +330,9 @@ module _ (following : List ℕ) where
     -- answered at once, before a turn comes here
     answer (Places a) at k s f fs mem = leaves (Trapped 16 0) (f ∷ fs) mem
     answer (Lengths a) at k s f fs mem = leaves (Trapped 16 0) (f ∷ fs) mem
+    answer (Opens v) at k s f fs mem = leaves (Trapped 16 0) (f ∷ fs) mem
+    answer (Sizes v d) at k s f fs mem = leaves (Trapped 16 0) (f ∷ fs) mem
+    answer (Tests v t) at k s f fs mem = leaves (Trapped 16 0) (f ∷ fs) mem
 
     abbrev pub goes : Stop → Frame → List Frame → Memory → Turned
     goes (Work q at k s) f fs mem = answer q at k s f fs mem
@@ -363,20 +398,26 @@ module _ (image : Image) where
   abbrev pub home_of : ℕ → ℕ
   home_of p = home_in (numbered image.shapes.items p)
 
-  abbrev pub stop_of : Frame → List Frame → Stop
-  stop_of f fs = silent image.shapes.items f.procedure (length fs) f.cells (code_of f.procedure) f.next f.keeps f.stack
+  -- the silent work of a frame, where objects are known to be made as this
+  abbrev pub stop_of : (ℕ → Option Made) → Frame → List Frame → Stop
+  stop_of made f fs =
+      silent image.shapes.items image.types.items made f.procedure (length fs) f.cells (code_of f.procedure) f.next f.keeps f.stack
+
+  abbrev pub made_in : Memory → ℕ → Option Made
+  made_in mem o = by_number o mem.made
 
   abbrev pub turn_at : List ℕ → List Frame → Memory → Turned
   turn_at following [] mem = leaves following NoFrame [] mem
-  turn_at following (f ∷ fs) mem = goes following image.shapes.items (stop_of f fs) f fs mem
+  turn_at following (f ∷ fs) mem = goes following image.shapes.items image.types.items (stop_of (made_in mem) f fs) f fs mem
 
   -- all silent work up to and with the next visible instruction
   abbrev pub turn : Memory → Frames → Turned
   turn mem fs = let now = opened fs in turn_at now.following now.frames mem
 
+  -- a frame that has left work to the kernel stands at its instruction, so no object is asked on the way
   abbrev pub past_all : List Frame → List Frame
   past_all [] = []
-  past_all (f ∷ fs) = past_stop (stop_of f fs) f ∷ fs
+  past_all (f ∷ fs) = past_stop (stop_of (λ o. None) f fs) f ∷ fs
 
   abbrev pub past : Frames → Frames
   past fs = let now = opened fs in record now { frames = past_all now.frames }

@@ -1,5 +1,6 @@
 -- The memory that code works on: cells below each root, and what objects were made as.
-use Rattle.std.specs.Prelude.{ℕ, suc, List, [], ◌∷◌, ◌++◌, length, nat_lt, Bool, Option, option_map}
+use Rattle.std.specs.Prelude.{ℕ, suc, ◌+◌, List, [], ◌∷◌, ◌++◌, length, max, sum_by, nat_le, Bool, ◌&&◌, Option, option_map}
+use Rattle.std.specs.List.{list_all}
 use Rattle.aos_base.specs.declared.place.Root.{Root}
 use Rattle.aos_base.specs.Rooted.{Made, by_number}
 use Rattle.aos_code.specs.declared.instr.Cell.{Cell}
@@ -18,13 +19,18 @@ pub record Memory : Type 0 where
 abbrev pub type_of_object : ℕ → Memory → Option ℕ
 type_of_object o mem = option_map (λ m. m.type) (by_number o mem.made)
 
--- a new object of this type, which has no cells, and its number
-abbrev pub with_object : ℕ → Memory → Memory
-with_object t mem = record mem { objects = mem.objects ++ [] ∷ []; made = mem.made ++ (record { type = t; lengths = [] }) ∷ [] }
+-- a new object that is made as this, with these cells, and its number
+abbrev pub with_object : Made → List Cell → Memory → Memory
+with_object m cells mem = record mem { objects = mem.objects ++ cells ∷ []; made = mem.made ++ m ∷ [] }
 
 abbrev pub new_number : Memory → ℕ
 new_number mem = suc (length mem.made)
 
--- the heap has room for so many scalars; an object without fields counts as one
-abbrev pub has_room : Memory → Bool
-has_room mem = nat_lt (length mem.made) 16777216
+-- how many scalars an object counts as: one that has none counts as one
+abbrev pub counted : List Cell → ℕ
+counted cells = max 1 (length cells)
+
+-- the heap has room for so many scalars, and for no array that is longer
+abbrev pub has_room : Made → List Cell → Memory → Bool
+has_room m cells mem =
+    list_all (λ n. nat_le n 16777216) m.lengths && nat_le (counted cells + sum_by counted mem.objects) 16777216

@@ -1,14 +1,15 @@
 -- What each instruction does, and the silent work up to the next visible instruction.
-use Rattle.std.specs.Prelude.{ℕ, zero, suc, ℤ, pos, negsuc, ◌+◌, ◌-◌, ◌*◌, ◌^◌, List, [], ◌∷◌, ◌++◌, map, reverse, Bool, true, false, Option, Some, None, option_and_then, nat_eq, nat_lt, if◌then◌else◌, slice_get, drop, replicate}
+use Rattle.std.specs.Prelude.{ℕ, zero, suc, ℤ, pos, negsuc, ◌+◌, ◌-◌, ◌*◌, ◌^◌, List, [], ◌∷◌, ◌++◌, length, map, reverse, Bool, true, false, Option, Some, None, option_and_then, nat_eq, nat_le, nat_lt, if◌then◌else◌, slice_get, take, drop, replicate}
 use Rattle.std.specs.List.{flat_map}
 use Rattle.aos_base.specs.declared.text.Pos.{Pos}
 use Rattle.aos_base.specs.declared.number.Relation.{Relation}
 use Rattle.aos_base.specs.declared.place.Root.{Root}
-use Rattle.aos_base.specs.declared.place.Root.TheVariants.{Frame as FrameRoot, Module as ModuleRoot}
+use Rattle.aos_base.specs.declared.place.Root.TheVariants.{Frame as FrameRoot, Module as ModuleRoot, Object as ObjectRoot}
 use Rattle.aos_base.specs.declared.operator.Given.{Given}
 use Rattle.aos_base.specs.declared.operator.Given.TheVariants.{Number, Trap, Undefined}
-use Rattle.aos_base.specs.Question.{Ask, Reads, Stores, Copies, PutsText, ComparesTexts, Calls, Ends, Makes, Starts, PutsInt, PutsChar, PutsString, PutsNothing, PutsLn, Places, Lengths}
-use Rattle.aos_base.specs.Operators.{unary, binary, natural}
+use Rattle.aos_base.specs.Question.{Ask, Reads, Stores, Copies, PutsText, ComparesTexts, Calls, Ends, Makes, Starts, PutsInt, PutsChar, PutsString, PutsNothing, PutsLn, Places, Lengths, Opens, Sizes, Tests}
+use Rattle.aos_base.specs.Rooted.{Made}
+use Rattle.aos_base.specs.Operators.{unary, binary, natural, flag}
 use Rattle.aos_code.specs.declared.instr.Cell.{Cell}
 use Rattle.aos_code.specs.declared.instr.Cell.TheVariants.{Num, Ref, Call as CallCell, Place}
 use Rattle.aos_code.specs.declared.instr.Kind.{Kind}
@@ -18,6 +19,7 @@ use Rattle.aos_code.specs.declared.instr.Instr.TheVariants as instr
 use Rattle.aos_code.specs.declared.image.ParamKind.{ParamKind}
 use Rattle.aos_code.specs.declared.image.ParamKind.TheVariants as param
 use Rattle.aos_code.specs.declared.image.ProcShape.{ProcShape}
+use Rattle.aos_code.specs.declared.image.TypeDesc.{TypeDesc}
 use Rattle.aos_code.specs.Memory.{Addr}
 use Rattle.aos_code.specs.Numbered.{numbered}
 
@@ -43,12 +45,21 @@ pub data Stop : Type 0 where
   Work : Question → (at : ℕ) → Keeps → (stack : Stack) → Stop
   Ended : End → Keeps → Stop
 
+-- What an instruction asks an object for: the place of a cell; the place of its elements and so many lengths; whether its type
+-- extends this one; or itself, where that is so.
+pub data Look : Type 0 where
+  AtCell : (cell : ℕ) → Look
+  AtElements : (dimensions : ℕ) → Look
+  IsType : (type : ℕ) → Look
+  AsType : (type : ℕ) → Look
+
 -- What one instruction does: silent work after which so many instructions are passed over, a value that is kept or one that was
--- kept of this kind, a question, or an end.
+-- kept of this kind, what an object tells by what it was made as, a question, or an end.
 pub data Act : Type 0 where
   Goes : (over : ℕ) → (stack : Stack) → Act
   Puts : (keep : ℕ) → Cell → (stack : Stack) → Act
   Takes : (keep : ℕ) → Kind → (stack : Stack) → Act
+  Looks : Look → (object : ℕ) → (stack : Stack) → Act
   Sees : Question → (stack : Stack) → Act
   Stops : End → Act
 
@@ -143,6 +154,40 @@ asserts code (pos (suc zero)) s = Goes 0 s
 asserts code (pos (suc (suc n))) s = Stops lost
 asserts code (negsuc n) s = Stops lost
 
+-- Objects.
+
+abbrev pub object_then : (ℕ → Act) → Cell → Act
+object_then k (Num z) = Stops lost
+object_then k (Ref o) = k o
+object_then k (CallCell p o) = Stops lost
+object_then k (Place root cell type) = Stops lost
+
+abbrev pub on_object : (ℕ → Stack → Act) → Stack → Act
+on_object k s = on_any (λ v s'. object_then (λ o. k o s') v) s
+
+abbrev pub unless_nil : ℕ → (at_nil otherwise : Act) → Act
+unless_nil zero a b = a
+unless_nil (suc o) a b = b
+
+-- what an object is asked for; NIL is none
+abbrev pub looks : Look → (at_nil : Stack → Act) → Stack → Act
+looks l at_nil s = on_object (λ o s'. unless_nil o (at_nil s') (Looks l o s')) s
+
+abbrev pub on_objects : (ℕ → ℕ → Stack → Act) → Stack → Act
+on_objects k s = on_object (λ b s1. on_object (λ a s2. k a b s2) s1) s
+
+-- a type extends another one where it is that one, or its base extends it
+abbrev pub on_base : (ℕ → Bool) → Option TypeDesc → Bool
+on_base k None = false
+on_base k (Some t) = k t.base
+
+abbrev pub extends_by : ℕ → List TypeDesc → (type other : ℕ) → Bool
+extends_by zero types d t = nat_eq d t
+extends_by (suc n) types d t = if nat_eq d t then true else on_base (λ b. extends_by n types b t) (numbered types d)
+
+abbrev pub extends : List TypeDesc → (type other : ℕ) → Bool
+extends types d t = extends_by (length types) types d t
+
 -- cells have numbers of 32 bits
 abbrev pub gives_place : Root → (cell type : ℕ) → List Cell → Stack → Act
 gives_place root cell type above s =
@@ -227,13 +272,14 @@ abbrev pub if_kept : ℕ → Option ProcShape → Act → Act
 if_kept c shape k = if nat_lt c (keeps_in shape) then k else Stops lost
 
 -- in a frame of procedure `own`, above so many others of its activity
-module _ (shapes : List ProcShape) (own here : ℕ) where
+module _ (shapes : List ProcShape) (types : List TypeDesc) (own here : ℕ) where
   abbrev pub own_place : ℕ → Addr
   own_place c = record { root = FrameRoot here; cell = c }
 
   -- the instruction at this place of the code
   abbrev pub act : Instr → List Instr → ℕ → Stack → Act
   act (instr.Num n) code at s = gives (Num n) s
+  act instr.Nil code at s = gives (Ref 0) s
   act instr.Dup code at s = duplicates s
   act instr.Drop code at s = on_any (λ v s'. Goes 0 s') s
   act instr.Swap code at s = swaps s
@@ -241,12 +287,20 @@ module _ (shapes : List ProcShape) (own here : ℕ) where
   act (instr.Module m c) code at s = gives (Place (ModuleRoot m) c 0) s
   act (instr.Param c) code at s = Sees (Places (own_place c)) s
   act (instr.Length c) code at s = Sees (Lengths (own_place c)) s
+  act (instr.Deref c) code at s = looks (AtCell c) (λ s'. Stops (Fails 1 0)) s
+  act (instr.OpenRef j) code at s = looks (AtElements j) (λ s'. Stops (Fails 1 0)) s
   act (instr.Offset c t) code at s = on_place (λ a u s'. gives_place a.root (a.cell + c) t [] s') s
   act (instr.Index n k) code at s = indexes n k s
   act (instr.IndexOpen j k) code at s = indexes_open j k s
   act (instr.PickLen d j) code at s = picks d j s
   act (instr.Unary op) code at s = on_number (λ a s'. given (unary op a) s') s
   act (instr.Binary op) code at s = on_numbers (λ a b s'. given (binary op a b) s') s
+  act instr.EqRef code at s = on_objects (λ a b s'. gives (Num (flag (nat_eq a b))) s') s
+  act (instr.Is t) code at s = looks (IsType t) (λ s'. gives (Num (pos 0)) s') s
+  act (instr.IsPlace t) code at s = on_place (λ a d s'. gives (Num (flag (extends types d t))) s') s
+  act (instr.Guard t) code at s = looks (AsType t) (λ s'. Stops (Fails 3 0)) s
+  act (instr.GuardPlace t) code at s =
+      on_place (λ a d s'. if extends types d t then gives (Place a.root a.cell d) s' else Stops (Fails 3 0)) s
   act (instr.Keep c k) code at s = if_kept c (numbered shapes own) (on_kind k (λ v s'. Puts c v s') s)
   act (instr.Kept c k) code at s = if_kept c (numbered shapes own) (Takes c k s)
   act (instr.Fail n) code at s = Stops (Fails n 0)
@@ -261,7 +315,8 @@ module _ (shapes : List ProcShape) (own here : ℕ) where
   act (instr.PutText strict) code at s = on_text (λ to room s1. on_text (λ from n s2. Sees (PutsText strict from n to room) s2) s1) s
   act (instr.CmpText r) code at s = on_text (λ b m s1. on_text (λ a n s2. Sees (ComparesTexts r a n b m) s2) s1) s
   act (instr.Call p) code at s = calls (numbered shapes p) p s
-  act (instr.NewObject t) code at s = Sees (Makes t) s
+  act (instr.NewObject t) code at s = Sees (Makes t []) s
+  act (instr.NewArray t j) code at s = counted_on j [] (λ zs s'. Sees (Makes t (map (λ z. Num z) zs)) s') s
   act instr.Start code at s = on_kind R (λ o s'. Sees (Starts o) s') s
   act instr.Return code at s = ends (numbered shapes own) s
   act instr.OutChar code at s = on_kind N (λ c s'. Sees (PutsChar c) s') s
@@ -291,22 +346,45 @@ on_noted Visible q next at k s = Work q at k s
 on_noted (Answered v) q next at k s = next 0 (at + 1) k (v ∷ s)
 on_noted Unknown q next at k s = Ended lost k
 
+-- What an object tells is answered at once, by what it was made as: these operands, a trap, or nothing, where there is no such object
+-- or it has fewer lengths.
+pub data Told : Type 0 where
+  Tells : List Cell → Told
+  Refuses : (number : ℕ) → Told
+  Unheard : Told
+
+abbrev pub told_by : List TypeDesc → Look → (object : ℕ) → Option Made → Told
+told_by types l o None = Unheard
+told_by types (AtCell c) o (Some m) = Tells (Place (ObjectRoot o) c m.type ∷ [])
+told_by types (AtElements j) o (Some m) =
+    if nat_le j (length m.lengths) then Tells (length_cells (take j m.lengths) ++ Place (ObjectRoot o) 0 0 ∷ []) else Unheard
+told_by types (IsType t) o (Some m) = Tells (Num (flag (extends types m.type t)) ∷ [])
+told_by types (AsType t) o (Some m) = if extends types m.type t then Tells (Ref o ∷ []) else Refuses 3
+
+abbrev pub on_told : Told → (ℕ → ℕ → Keeps → Stack → Stop) → ℕ → Keeps → Stack → Stop
+on_told (Tells vs) next at k s = next 0 (at + 1) k (vs ++ s)
+on_told (Refuses n) next at k s = Ended (Fails n 0) k
+on_told Unheard next at k s = Ended lost k
+
 -- the value kept under a number
 abbrev pub kept : ℕ → Cell → Keeps → Keeps
 kept c v k = λ x. if nat_eq x c then v else k x
 
-abbrev pub on_act : List Cell → Act → (ℕ → ℕ → Keeps → Stack → Stop) → ℕ → Keeps → Stop
-on_act cells (Goes over s) next at k = next over (at + 1) k s
-on_act cells (Puts c v s) next at k = next 0 (at + 1) (kept c v k) s
-on_act cells (Takes c kind s) next at k = if is_of kind (k c) then next 0 (at + 1) k (k c ∷ s) else Ended lost k
-on_act cells (Sees q s) next at k = on_noted (noted cells q) q next at k s
-on_act cells (Stops end) next at k = Ended end k
+-- beside a frame's cells stands what objects are known to be made as
+module _ (types : List TypeDesc) (made : ℕ → Option Made) (cells : List Cell) where
+  abbrev pub on_act : Act → (ℕ → ℕ → Keeps → Stack → Stop) → ℕ → Keeps → Stop
+  on_act (Goes over s) next at k = next over (at + 1) k s
+  on_act (Puts c v s) next at k = next 0 (at + 1) (kept c v k) s
+  on_act (Takes c kind s) next at k = if is_of kind (k c) then next 0 (at + 1) k (k c ∷ s) else Ended lost k
+  on_act (Looks l o s) next at k = on_told (told_by types l o (made o)) next at k s
+  on_act (Sees q s) next at k = on_noted (noted cells q) q next at k s
+  on_act (Stops end) next at k = Ended end k
 
-module _ (shapes : List ProcShape) (own here : ℕ) (cells : List Cell) where
+module _ (shapes : List ProcShape) (types : List TypeDesc) (made : ℕ → Option Made) (own here : ℕ) (cells : List Cell) where
   -- silent work over the instructions from `at` on, of which the first `over` are passed over
   abbrev pub walk : List Instr → List Instr → (over at : ℕ) → Keeps → Stack → Stop
   walk code [] over at k s = Ended lost k
-  walk code (i ∷ rest) zero at k s = on_act cells (act shapes own here i code at s) (walk code rest) at k
+  walk code (i ∷ rest) zero at k s = on_act types made cells (act shapes types own here i code at s) (walk code rest) at k
   walk code (i ∷ rest) (suc n) at k s = walk code rest n (at + 1) k s
 
   -- silent work from a place of the code

@@ -51,9 +51,14 @@ pub struct ModuleDesc {
     pub body: u32,
 }
 
-/// A type of objects: the number of the procedure that is their body, 0 for none.
+/// A type of objects.
 #[derive(Drop, Debug)]
 pub struct TypeDesc {
+    /// The number of the type that it extends, 0 for none.
+    pub base: u32,
+    /// The kinds of an object's cells, in their order; of an open array those of one element.
+    pub kinds: Vec<Kind>,
+    /// The number of the procedure that is its objects' body, 0 for none.
     pub body: u32,
 }
 

@@ -32,6 +32,8 @@ pub enum Kind {
 pub enum Instr {
     /// Gives a number.
     Num(i64),
+    /// Gives NIL.
+    Nil,
     /// Gives the topmost operand once more.
     Dup,
     /// Takes an operand.
@@ -46,6 +48,10 @@ pub enum Instr {
     Param(u32),
     /// Gives the length that a parameter's cell holds.
     Length(u32),
+    /// Takes an object and gives the place of its cell of this number, with the object's type; trap 1 at NIL.
+    Deref(u32),
+    /// Takes an open array that is an object, and gives its place and so many lengths; trap 1 at NIL.
+    OpenRef(u32),
     /// Takes a place and gives the one so many cells on, with this dynamic type of a record there, 0 for none.
     Offset(u32, u32),
     /// Takes the place of an array of so many elements, each of so many cells, and an index, and gives the element's place;
@@ -60,6 +66,16 @@ pub enum Instr {
     Unary(Unary),
     /// Takes two numbers and gives what the operator does; trap 16 where the operator isn't defined for them.
     Binary(Binary),
+    /// Takes two objects and gives whether they are one.
+    EqRef,
+    /// Takes an object and gives whether its type extends the one of this number, from 1; NIL's doesn't.
+    Is(u32),
+    /// Takes a record's place and gives whether the record's type extends the one of this number, from 1.
+    IsPlace(u32),
+    /// Takes an object and gives it; trap 3 where its type doesn't extend the one of this number, from 1, or it is NIL.
+    Guard(u32),
+    /// Takes a record's place and gives it; trap 3 where the record's type doesn't extend the one of this number, from 1.
+    GuardPlace(u32),
     /// Takes a value of this kind and keeps it in the frame, under this number.
     Keep(u32, Kind),
     /// Gives what is kept under this number, which is of this kind.
@@ -91,6 +107,9 @@ pub enum Instr {
     Call(u32),
     /// Makes an object of the type of this number, from 1, and gives it; trap 12 where the heap is full.
     NewObject(u32),
+    /// Takes so many lengths, and makes an open array of them of the type of the first number, from 1, and gives it; trap 15 where
+    /// a length is below 1, trap 12 where the heap is full.
+    NewArray(u32, u32),
     /// Takes an object and starts its activity; trap 13 where there is no room for one.
     Start,
     /// Ends the frame, with the result on the stack where there is one.

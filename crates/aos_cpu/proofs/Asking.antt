@@ -1,11 +1,12 @@
 -- Silent work that ends at a question without a step has come from the instruction that asks it.
-use Rattle.std.proofs.Common.{◌≡◌, ◌≤◌, ◌+◌, ℕ, ℤ, zero, suc, pos, negsuc, List, [], ◌∷◌, drop, reverse, refl, sym, ap, ◌∙◌, arith}
+use Rattle.std.proofs.Common.{◌≡◌, ◌≤◌, ◌+◌, ℕ, ℤ, zero, suc, pos, negsuc, List, [], ◌∷◌, ◌++◌, drop, reverse, refl, sym, ap, ◌∙◌, arith}
 use Rattle.std.specs.Prelude.{Option, Some, None, Bool, true, false, nat_lt, slice_get, if◌then◌else◌}
 use Rattle.aos_base.specs.declared.place.Root.{Root}
 use Rattle.aos_base.specs.declared.operator.Given.{Given}
 use Rattle.aos_base.specs.declared.operator.Given.TheVariants.{Number, Trap, Undefined}
 use Rattle.aos_base.specs.Question.{Reads, Stores, Copies, PutsText, ComparesTexts, Starts, PutsString}
-use Rattle.aos_base.specs.Operators.{unary, binary, natural}
+use Rattle.aos_base.specs.Rooted.{Made}
+use Rattle.aos_base.specs.Operators.{unary, binary, natural, flag}
 use Rattle.aos_code.specs.declared.instr.Cell.{Cell}
 use Rattle.aos_code.specs.declared.instr.Cell.TheVariants.{Num, Ref, Call as CallCell, Place}
 use Rattle.aos_code.specs.declared.instr.Kind.{Kind}
@@ -13,13 +14,15 @@ use Rattle.aos_code.specs.declared.instr.Kind.TheVariants.{N, R}
 use Rattle.aos_code.specs.declared.instr.Instr.{Instr}
 use Rattle.aos_code.specs.declared.instr.Instr.TheVariants as instr
 use Rattle.aos_code.specs.declared.image.ProcShape.{ProcShape}
+use Rattle.aos_code.specs.declared.image.TypeDesc.{TypeDesc}
 use Rattle.aos_code.specs.Memory.{Addr}
 use Rattle.aos_code.specs.Numbered.{numbered}
-use Rattle.aos_code.specs.Silent.{Stack, Keeps, Question, Stop, Work, Ended, Act, Goes, Puts, Takes, Sees, Stops, lost, is_of, on_any, on_kind, on_number, number_then, place_then, on_place, on_text, length_then, lengths_on, counted_on, given, asserts, gives_place, element, cells_of, length_cells, in_rows, gives_picked, on_kinds, kinds_of, calls, ends, lands, jumps, jumps_on_false, act, Noted, Visible, Answered, Unknown, noted, on_noted, on_act, walk, silent}
+use Rattle.aos_silent.proofs.Walks.{drop_next}
+use Rattle.aos_code.specs.Silent.{Stack, Keeps, Question, Stop, Work, Ended, Act, Goes, Puts, Takes, Looks, Look, AtCell, AtElements, IsType, AsType, Sees, Stops, Fails, lost, is_of, gives, on_any, on_kind, on_number, number_then, place_then, object_then, on_object, unless_nil, looks, extends, Told, Tells, Refuses, Unheard, told_by, on_told, on_place, on_text, length_then, lengths_on, counted_on, given, asserts, gives_place, element, cells_of, length_cells, in_rows, gives_picked, on_kinds, kinds_of, calls, ends, lands, jumps, jumps_on_false, act, Noted, Visible, Answered, Unknown, noted, on_noted, on_act, walk, silent}
 
 -- Where silent work ends.
 
-module _ (cells : List Cell) (q : Question) (place : ℕ) (k' : Keeps) (s' : Stack) where
+module _ (types : List TypeDesc) (made : ℕ → Option Made) (cells : List Cell) (q : Question) (place : ℕ) (k' : Keeps) (s' : Stack) where
   if_later : (b : Bool) (at : ℕ) (t : Stop) (k : Keeps) → (t ≡ Work q place k' s' → at ≤ place) → (if b then t else Ended lost k) ≡ Work q place k' s' → at ≤ place
   if_later true at t k h e = h e
   if_later false at t k h e = absurd (cc e)
@@ -30,11 +33,17 @@ module _ (cells : List Cell) (q : Question) (place : ℕ) (k' : Keeps) (s' : Sta
   noted_later (Answered v) asked next at k s h e = (let z = h 0 k (v ∷ s) e in omega arith)
   noted_later Unknown asked next at k s h e = absurd (cc e)
 
+  told_later : (r : Told) (next : ℕ → ℕ → Keeps → Stack → Stop) (at : ℕ) (k : Keeps) (s : Stack) → ((over : ℕ) (k : Keeps) (s : Stack) → next over (at + 1) k s ≡ Work q place k' s' → at + 1 ≤ place) → on_told r next at k s ≡ Work q place k' s' → at ≤ place
+  told_later (Tells vs) next at k s h e = (let z = h 0 k (vs ++ s) e in omega arith)
+  told_later (Refuses n) next at k s h e = absurd (cc e)
+  told_later Unheard next at k s h e = absurd (cc e)
+
   act_later : (a : Act) (next : ℕ → ℕ → Keeps → Stack → Stop) (at : ℕ) (k : Keeps) → ((over : ℕ) (k : Keeps) (s : Stack) → next over (at + 1) k s ≡ Work q place k' s' → at + 1 ≤ place) →
-      on_act cells a next at k ≡ Work q place k' s' → at ≤ place
+      on_act types made cells a next at k ≡ Work q place k' s' → at ≤ place
   act_later (Goes over s) next at k h e = (let z = h over k s e in omega arith)
   act_later (Puts c v s) next at k h e = (let z = h 0 _ s e in omega arith)
   act_later (Takes c kind s) next at k h e = if_later (is_of kind (k c)) at (next 0 (at + 1) k (k c ∷ s)) k (λ x. (let z = h 0 k (k c ∷ s) x in omega arith)) e
+  act_later (Looks l o s) next at k h e = told_later (told_by types l o (made o)) next at k s h e
   act_later (Sees asked s) next at k h e = noted_later (noted cells asked) asked next at k s h e
   act_later (Stops end) next at k h e = absurd (cc e)
 
@@ -48,25 +57,31 @@ module _ (cells : List Cell) (q : Question) (place : ℕ) (k' : Keeps) (s' : Sta
   noted_here (Answered v) asked next k s h e = absurd (h 0 k (v ∷ s) e)
   noted_here Unknown asked next k s h e = absurd (cc e)
 
+  told_here : (r : Told) (next : ℕ → ℕ → Keeps → Stack → Stop) (k : Keeps) (s : Stack) → ((over : ℕ) (k : Keeps) (s : Stack) → next over (place + 1) k s ≡ Work q place k' s' → ⊥) → on_told r next place k s ≡ Work q place k' s' → ⊥
+  told_here (Tells vs) next k s h e = h 0 k (vs ++ s) e
+  told_here (Refuses n) next k s h e = cc e
+  told_here Unheard next k s h e = cc e
+
   act_here : (a : Act) (next : ℕ → ℕ → Keeps → Stack → Stop) (k : Keeps) → ((over : ℕ) (k : Keeps) (s : Stack) → next over (place + 1) k s ≡ Work q place k' s' → ⊥) →
-      on_act cells a next place k ≡ Work q place k' s' → a ≡ Sees q s'
+      on_act types made cells a next place k ≡ Work q place k' s' → a ≡ Sees q s'
   act_here (Goes over s) next k h e = absurd (h over k s e)
   act_here (Puts c v s) next k h e = absurd (h 0 _ s e)
   act_here (Takes c kind s) next k h e = absurd (if_here (is_of kind (k c)) (next 0 (place + 1) k (k c ∷ s)) k (λ x. h 0 k (k c ∷ s) x) e)
+  act_here (Looks l o s) next k h e = absurd (told_here (told_by types l o (made o)) next k s h e)
   act_here (Sees asked s) next k h e = noted_here (noted cells asked) asked next k s h e
   act_here (Stops end) next k h e = absurd (cc e)
 
   module _ (shapes : List ProcShape) (own here : ℕ) (code : List Instr) where
-    walk_later : (rest : List Instr) (over at : ℕ) (k : Keeps) (s : Stack) → walk shapes own here cells code rest over at k s ≡ Work q place k' s' → at ≤ place
+    walk_later : (rest : List Instr) (over at : ℕ) (k : Keeps) (s : Stack) → walk shapes types made own here cells code rest over at k s ≡ Work q place k' s' → at ≤ place
     walk_later [] over at k s e = absurd (cc e)
     walk_later (i ∷ rest) zero at k s e =
-        act_later (act shapes own here i code at s) (walk shapes own here cells code rest) at k (λ over k1 s1. walk_later rest over (at + 1) k1 s1) e
+        act_later (act shapes types own here i code at s) (walk shapes types made own here cells code rest) at k (λ over k1 s1. walk_later rest over (at + 1) k1 s1) e
     walk_later (i ∷ rest) (suc n) at k s e = (let z = walk_later rest n (at + 1) k s e in omega arith)
 
-    asked_at : (rest : List Instr) (k : Keeps) (s : Stack) → walk shapes own here cells code rest 0 place k s ≡ Work q place k' s' → (i : Instr) × (act shapes own here i code place s ≡ Sees q s')
+    asked_at : (rest : List Instr) (k : Keeps) (s : Stack) → walk shapes types made own here cells code rest 0 place k s ≡ Work q place k' s' → (i : Instr) × (act shapes types own here i code place s ≡ Sees q s')
     asked_at [] k s e = absurd (cc e)
     asked_at (i ∷ rest) k s e =
-        (i, act_here (act shapes own here i code place s) (walk shapes own here cells code rest) k (λ over k1 s1 x. (let z = walk_later rest over (place + 1) k1 s1 x in absurd (omega arith))) e)
+        (i, act_here (act shapes types own here i code place s) (walk shapes types made own here cells code rest) k (λ over k1 s1 x. (let z = walk_later rest over (place + 1) k1 s1 x in absurd (omega arith))) e)
 
 -- What isn't a start.
 
@@ -188,47 +203,138 @@ start_on_top : (s : Stack) (v : Cell) (s' : Stack) → on_kind R (λ o s1. Sees 
 start_on_top [] v s' e = absurd (cc e)
 start_on_top (w ∷ s) v s' e = start_if (is_of R w) w v s s' e
 
--- whose activity is started lies on top
-act_starts : (shapes : List ProcShape) (own here : ℕ) (i : Instr) (code : List Instr) (at : ℕ) (s : Stack) (v : Cell) (s' : Stack) → act shapes own here i code at s ≡ Sees (Starts v) s' → s ≡ v ∷ s'
-act_starts shapes own here (instr.Num n) code at s v s' e = marked _ v s s' refl e
-act_starts shapes own here instr.Dup code at s v s' e = marked _ v s s' (calm_any _ s (λ w r. refl)) e
-act_starts shapes own here instr.Drop code at s v s' e = marked _ v s s' (calm_any _ s (λ w r. refl)) e
-act_starts shapes own here instr.Swap code at s v s' e = marked _ v s s' (calm_any _ s (λ w r. calm_any _ r (λ x y. refl))) e
-act_starts shapes own here (instr.Frame c) code at s v s' e = marked _ v s s' refl e
-act_starts shapes own here (instr.Module m c) code at s v s' e = marked _ v s s' refl e
-act_starts shapes own here (instr.Param c) code at s v s' e = marked _ v s s' refl e
-act_starts shapes own here (instr.Length c) code at s v s' e = marked _ v s s' refl e
-act_starts shapes own here (instr.Offset c t) code at s v s' e = marked _ v s s' (calm_place (λ a u r. gives_place a.root (a.cell + c) t [] r) s (λ a u r. calm_gives a.root (a.cell + c) t [] r)) e
-act_starts shapes own here (instr.Index n k) code at s v s' e = marked _ v s s' (calm_number _ s (λ z r. calm_place _ r (λ a t x. calm_element a (natural n z) k [] x))) e
-act_starts shapes own here (instr.IndexOpen j k) code at s v s' e = marked _ v s s' (calm_number _ s (λ z r. calm_lengths j [] _ r (λ ns x. calm_rows ns z k x))) e
-act_starts shapes own here (instr.PickLen d j) code at s v s' e = marked _ v s s' (calm_counted j [] _ s (λ zs r. calm_place _ r (λ a t x. calm_picked (slice_get zs d) x))) e
-act_starts shapes own here (instr.Unary op) code at s v s' e = marked _ v s s' (calm_number _ s (λ a r. calm_given (unary op a) r)) e
-act_starts shapes own here (instr.Binary op) code at s v s' e = marked _ v s s' (calm_number _ s (λ b r. calm_number _ r (λ a x. calm_given (binary op a b) x))) e
-act_starts shapes own here (instr.Keep c k) code at s v s' e = marked _ v s s' (calm_if (nat_lt c _) _ (calm_kind k _ s (λ w r. refl))) e
-act_starts shapes own here (instr.Kept c k) code at s v s' e = marked _ v s s' (calm_if (nat_lt c _) _ refl) e
-act_starts shapes own here (instr.Fail n) code at s v s' e = marked _ v s s' refl e
-act_starts shapes own here (instr.Assert c) code at s v s' e = marked _ v s s' (calm_number _ s (λ a r. calm_asserts c a r)) e
-act_starts shapes own here (instr.Halt c) code at s v s' e = marked _ v s s' refl e
-act_starts shapes own here (instr.Jump to) code at s v s' e = marked _ v s s' (calm_jumps code to at s) e
-act_starts shapes own here (instr.JumpFalse to) code at s v s' e = marked _ v s s' (calm_number _ s (λ a r. calm_on_false code to at a r)) e
-act_starts shapes own here (instr.Begin line col) code at s v s' e = marked _ v s s' refl e
-act_starts shapes own here (instr.Load kind) code at s v s' e = marked _ v s s' (calm_place (λ a t r. Sees (Reads kind a) r) s (λ a t r. refl)) e
-act_starts shapes own here (instr.Store kind) code at s v s' e = marked _ v s s' (calm_kind kind _ s (λ w r. calm_place (λ a t x. Sees (Stores a w) x) r (λ a t x. refl))) e
-act_starts shapes own here (instr.Copy n) code at s v s' e = marked _ v s s' (calm_place (λ a t r. on_place (λ b u x. Sees (Copies n a b) x) r) s (λ a t r. calm_place (λ b u x. Sees (Copies n a b) x) r (λ b u x. refl))) e
-act_starts shapes own here (instr.PutText strict) code at s v s' e = marked _ v s s' (calm_text (λ a n r. on_text (λ b m x. Sees (PutsText strict b m a n) x) r) s (λ a n r. calm_text (λ b m x. Sees (PutsText strict b m a n) x) r (λ b m x. refl))) e
-act_starts shapes own here (instr.CmpText o) code at s v s' e = marked _ v s s' (calm_text (λ b m r. on_text (λ a n x. Sees (ComparesTexts o a n b m) x) r) s (λ b m r. calm_text (λ a n x. Sees (ComparesTexts o a n b m) x) r (λ a n x. refl))) e
-act_starts shapes own here (instr.Call p) code at s v s' e = marked _ v s s' (calm_calls (numbered shapes p) p s) e
-act_starts shapes own here (instr.NewObject t) code at s v s' e = marked _ v s s' refl e
-act_starts shapes own here instr.Start code at s v s' e = start_on_top s v s' e
-act_starts shapes own here instr.Return code at s v s' e = marked _ v s s' (calm_ends (numbered shapes own) s) e
-act_starts shapes own here instr.OutChar code at s v s' e = marked _ v s s' (calm_kind N _ s (λ w r. refl)) e
-act_starts shapes own here instr.OutInt code at s v s' e = marked _ v s s' (calm_kind N _ s (λ w r. calm_kind N _ r (λ x y. refl))) e
-act_starts shapes own here instr.OutString code at s v s' e = marked _ v s s' (calm_text (λ a n r. Sees (PutsString a n) r) s (λ a n r. refl)) e
-act_starts shapes own here instr.OutLn code at s v s' e = marked _ v s s' refl e
-act_starts shapes own here instr.OutOpen code at s v s' e = marked _ v s s' refl e
+calm_object_then : (k : ℕ → Act) (v : Cell) → ((o : ℕ) → mark (k o) ≡ 0) → mark (object_then k v) ≡ 0
+calm_object_then k (Num a) h = refl
+calm_object_then k (Ref o) h = h o
+calm_object_then k (CallCell p o) h = refl
+calm_object_then k (Place root cell type) h = refl
 
-pub started_on_top : (shapes : List ProcShape) (own here : ℕ) (cells : List Cell) (code : List Instr) (at : ℕ) (k : Keeps) (s : Stack) (v : Cell) (k' : Keeps) (s' : Stack) →
-    silent shapes own here cells code at k s ≡ Work (Starts v) at k' s' → s ≡ v ∷ s'
-started_on_top shapes own here cells code at k s v k' s' e =
-    let asked = asked_at cells (Starts v) at k' s' shapes own here code (drop at code) k s e in
-    act_starts shapes own here asked.0 code at s v s' asked.1
+calm_object : (k : ℕ → Stack → Act) (s : Stack) → ((o : ℕ) (s' : Stack) → mark (k o s') ≡ 0) → mark (on_object k s) ≡ 0
+calm_object k s h = calm_any _ s (λ v s'. calm_object_then (λ o. k o s') v (λ o. h o s'))
+
+calm_unless : (o : ℕ) (a b : Act) → mark a ≡ 0 → mark b ≡ 0 → mark (unless_nil o a b) ≡ 0
+calm_unless zero a b g h = g
+calm_unless (suc o) a b g h = h
+
+calm_looks : (l : Look) (nil : Stack → Act) (s : Stack) → ((s' : Stack) → mark (nil s') ≡ 0) → mark (looks l nil s) ≡ 0
+calm_looks l nil s h = calm_object _ s (λ o s'. calm_unless o (nil s') (Looks l o s') (h s') refl)
+
+calm_either : (b : Bool) (x y : Act) → mark x ≡ 0 → mark y ≡ 0 → mark (if b then x else y) ≡ 0
+calm_either true x y g h = g
+calm_either false x y g h = h
+
+-- whose activity is started lies on top
+act_starts : (shapes : List ProcShape) (types : List TypeDesc) (own here : ℕ) (i : Instr) (code : List Instr) (at : ℕ) (s : Stack) (v : Cell) (s' : Stack) → act shapes types own here i code at s ≡ Sees (Starts v) s' → s ≡ v ∷ s'
+act_starts shapes types own here (instr.Num n) code at s v s' e = marked _ v s s' refl e
+act_starts shapes types own here instr.Nil code at s v s' e = marked _ v s s' refl e
+act_starts shapes types own here instr.Dup code at s v s' e = marked _ v s s' (calm_any _ s (λ w r. refl)) e
+act_starts shapes types own here instr.Drop code at s v s' e = marked _ v s s' (calm_any _ s (λ w r. refl)) e
+act_starts shapes types own here instr.Swap code at s v s' e = marked _ v s s' (calm_any _ s (λ w r. calm_any _ r (λ x y. refl))) e
+act_starts shapes types own here (instr.Frame c) code at s v s' e = marked _ v s s' refl e
+act_starts shapes types own here (instr.Module m c) code at s v s' e = marked _ v s s' refl e
+act_starts shapes types own here (instr.Param c) code at s v s' e = marked _ v s s' refl e
+act_starts shapes types own here (instr.Length c) code at s v s' e = marked _ v s s' refl e
+act_starts shapes types own here (instr.Deref c) code at s v s' e = marked _ v s s' (calm_looks (AtCell c) _ s (λ r. refl)) e
+act_starts shapes types own here (instr.OpenRef j) code at s v s' e = marked _ v s s' (calm_looks (AtElements j) _ s (λ r. refl)) e
+act_starts shapes types own here (instr.Offset c t) code at s v s' e = marked _ v s s' (calm_place (λ a u r. gives_place a.root (a.cell + c) t [] r) s (λ a u r. calm_gives a.root (a.cell + c) t [] r)) e
+act_starts shapes types own here (instr.Index n k) code at s v s' e = marked _ v s s' (calm_number _ s (λ z r. calm_place _ r (λ a t x. calm_element a (natural n z) k [] x))) e
+act_starts shapes types own here (instr.IndexOpen j k) code at s v s' e = marked _ v s s' (calm_number _ s (λ z r. calm_lengths j [] _ r (λ ns x. calm_rows ns z k x))) e
+act_starts shapes types own here (instr.PickLen d j) code at s v s' e = marked _ v s s' (calm_counted j [] _ s (λ zs r. calm_place _ r (λ a t x. calm_picked (slice_get zs d) x))) e
+act_starts shapes types own here (instr.Unary op) code at s v s' e = marked _ v s s' (calm_number _ s (λ a r. calm_given (unary op a) r)) e
+act_starts shapes types own here (instr.Binary op) code at s v s' e = marked _ v s s' (calm_number _ s (λ b r. calm_number _ r (λ a x. calm_given (binary op a b) x))) e
+act_starts shapes types own here instr.EqRef code at s v s' e = marked _ v s s' (calm_object _ s (λ b r. calm_object _ r (λ a x. refl))) e
+act_starts shapes types own here (instr.Is t) code at s v s' e = marked _ v s s' (calm_looks (IsType t) _ s (λ r. refl)) e
+act_starts shapes types own here (instr.IsPlace t) code at s v s' e = marked _ v s s' (calm_place (λ a d r. gives (Num (flag (extends types d t))) r) s (λ a d r. refl)) e
+act_starts shapes types own here (instr.Guard t) code at s v s' e = marked _ v s s' (calm_looks (AsType t) _ s (λ r. refl)) e
+act_starts shapes types own here (instr.GuardPlace t) code at s v s' e = marked _ v s s' (calm_place (λ a d r. if extends types d t then gives (Place a.root a.cell d) r else Stops (Fails 3 0)) s (λ a d r. calm_either (extends types d t) (gives (Place a.root a.cell d) r) (Stops (Fails 3 0)) refl refl)) e
+act_starts shapes types own here (instr.Keep c k) code at s v s' e = marked _ v s s' (calm_if (nat_lt c _) _ (calm_kind k _ s (λ w r. refl))) e
+act_starts shapes types own here (instr.Kept c k) code at s v s' e = marked _ v s s' (calm_if (nat_lt c _) _ refl) e
+act_starts shapes types own here (instr.Fail n) code at s v s' e = marked _ v s s' refl e
+act_starts shapes types own here (instr.Assert c) code at s v s' e = marked _ v s s' (calm_number _ s (λ a r. calm_asserts c a r)) e
+act_starts shapes types own here (instr.Halt c) code at s v s' e = marked _ v s s' refl e
+act_starts shapes types own here (instr.Jump to) code at s v s' e = marked _ v s s' (calm_jumps code to at s) e
+act_starts shapes types own here (instr.JumpFalse to) code at s v s' e = marked _ v s s' (calm_number _ s (λ a r. calm_on_false code to at a r)) e
+act_starts shapes types own here (instr.Begin line col) code at s v s' e = marked _ v s s' refl e
+act_starts shapes types own here (instr.Load kind) code at s v s' e = marked _ v s s' (calm_place (λ a t r. Sees (Reads kind a) r) s (λ a t r. refl)) e
+act_starts shapes types own here (instr.Store kind) code at s v s' e = marked _ v s s' (calm_kind kind _ s (λ w r. calm_place (λ a t x. Sees (Stores a w) x) r (λ a t x. refl))) e
+act_starts shapes types own here (instr.Copy n) code at s v s' e = marked _ v s s' (calm_place (λ a t r. on_place (λ b u x. Sees (Copies n a b) x) r) s (λ a t r. calm_place (λ b u x. Sees (Copies n a b) x) r (λ b u x. refl))) e
+act_starts shapes types own here (instr.PutText strict) code at s v s' e = marked _ v s s' (calm_text (λ a n r. on_text (λ b m x. Sees (PutsText strict b m a n) x) r) s (λ a n r. calm_text (λ b m x. Sees (PutsText strict b m a n) x) r (λ b m x. refl))) e
+act_starts shapes types own here (instr.CmpText o) code at s v s' e = marked _ v s s' (calm_text (λ b m r. on_text (λ a n x. Sees (ComparesTexts o a n b m) x) r) s (λ b m r. calm_text (λ a n x. Sees (ComparesTexts o a n b m) x) r (λ a n x. refl))) e
+act_starts shapes types own here (instr.Call p) code at s v s' e = marked _ v s s' (calm_calls (numbered shapes p) p s) e
+act_starts shapes types own here (instr.NewObject t) code at s v s' e = marked _ v s s' refl e
+act_starts shapes types own here (instr.NewArray t j) code at s v s' e = marked _ v s s' (calm_counted j [] _ s (λ zs r. refl)) e
+act_starts shapes types own here instr.Start code at s v s' e = start_on_top s v s' e
+act_starts shapes types own here instr.Return code at s v s' e = marked _ v s s' (calm_ends (numbered shapes own) s) e
+act_starts shapes types own here instr.OutChar code at s v s' e = marked _ v s s' (calm_kind N _ s (λ w r. refl)) e
+act_starts shapes types own here instr.OutInt code at s v s' e = marked _ v s s' (calm_kind N _ s (λ w r. calm_kind N _ r (λ x y. refl))) e
+act_starts shapes types own here instr.OutString code at s v s' e = marked _ v s s' (calm_text (λ a n r. Sees (PutsString a n) r) s (λ a n r. refl)) e
+act_starts shapes types own here instr.OutLn code at s v s' e = marked _ v s s' refl e
+act_starts shapes types own here instr.OutOpen code at s v s' e = marked _ v s s' refl e
+
+pub started_on_top : (shapes : List ProcShape) (types : List TypeDesc) (made : ℕ → Option Made) (own here : ℕ) (cells : List Cell) (code : List Instr) (at : ℕ) (k : Keeps) (s : Stack) (v : Cell) (k' : Keeps) (s' : Stack) →
+    silent shapes types made own here cells code at k s ≡ Work (Starts v) at k' s' → s ≡ v ∷ s'
+started_on_top shapes types made own here cells code at k s v k' s' e =
+    let asked = asked_at types made cells (Starts v) at k' s' shapes own here code (drop at code) k s e in
+    act_starts shapes types own here asked.0 code at s v s' asked.1
+
+-- it does so whatever objects were made as
+pub started_again : (shapes : List ProcShape) (types : List TypeDesc) (made all : ℕ → Option Made) (own here : ℕ) (cells : List Cell) (code : List Instr) (at : ℕ) (k : Keeps) (s : Stack) (v : Cell) (k' : Keeps) (s' : Stack) →
+    silent shapes types made own here cells code at k s ≡ Work (Starts v) at k' s' → silent shapes types all own here cells code at k s ≡ Work (Starts v) at k s'
+started_again shapes types made all own here cells code at k s v k' s' e = by (drop at code) e
+  where
+    by : (rest : List Instr) → walk shapes types made own here cells code rest 0 at k s ≡ Work (Starts v) at k' s' → walk shapes types all own here cells code rest 0 at k s ≡ Work (Starts v) at k s'
+    by [] f = absurd (cc f)
+    by (i ∷ rest) f =
+        let a : act shapes types own here i code at s ≡ Sees (Starts v) s' =
+        act_here types made cells (Starts v) at k' s' (act shapes types own here i code at s) (walk shapes types made own here cells code rest) k
+        (λ over k1 s1 x. (let z = walk_later types made cells (Starts v) at k' s' shapes own here code rest over (at + 1) k1 s1 x in absurd (omega arith))) f in
+        ap (λ b. on_act types all cells b (walk shapes types all own here cells code rest) at k) a
+
+-- Where it comes to a start on its way, it does so from there with what is on top.
+module _ (shapes : List ProcShape) (types : List TypeDesc) (made : ℕ → Option Made) (own here : ℕ) (cells : List Cell) (code : List Instr) (v : Cell) (place : ℕ) (k' : Keeps) (s' : Stack) where
+  abbrev Starting : Type 0
+  Starting = silent shapes types made own here cells code place k' (v ∷ s') ≡ Work (Starts v) place k' s'
+
+  abbrev Next : Type 0
+  Next = ℕ → ℕ → Keeps → Stack → Stop
+
+  starting_by : (rest : List Instr) (i : Instr) (at : ℕ) (s : Stack) → drop at code ≡ i ∷ rest → act shapes types own here i code at s ≡ Sees (Starts v) s' → at ≡ place → Starting
+  starting_by rest i at s d e is =
+      let top : s ≡ v ∷ s' = act_starts shapes types own here i code at s v s' e in
+      let a : act shapes types own here i code place (v ∷ s') ≡ Sees (Starts v) s' = (λ j. act shapes types own here i code (sym is j) (sym top j)) ∙ e in
+      ap (λ l. walk shapes types made own here cells code l 0 place k' (v ∷ s')) (ap (λ n. drop n code) (sym is) ∙ d)
+      ∙ ap (λ b. on_act types made cells b (walk shapes types made own here cells code rest) place k') a
+
+  if_start : (b : Bool) (t : Stop) (k : Keeps) → (t ≡ Work (Starts v) place k' s' → Starting) → (if b then t else Ended lost k) ≡ Work (Starts v) place k' s' → Starting
+  if_start true t k h e = h e
+  if_start false t k h e = absurd (cc e)
+
+  noted_start : (n : Noted) (q : Question) (next : Next) (at : ℕ) (k : Keeps) (s : Stack) → ((over : ℕ) (k : Keeps) (s : Stack) → next over (at + 1) k s ≡ Work (Starts v) place k' s' → Starting) →
+      (Sees q s ≡ Sees (Starts v) s' → at ≡ place → Starting) → on_noted n q next at k s ≡ Work (Starts v) place k' s' → Starting
+  noted_start Visible q next at k s h g e = g (cc e) (cc e)
+  noted_start (Answered w) q next at k s h g e = h 0 k (w ∷ s) e
+  noted_start Unknown q next at k s h g e = absurd (cc e)
+
+  told_start : (r : Told) (next : Next) (at : ℕ) (k : Keeps) (s : Stack) → ((over : ℕ) (k : Keeps) (s : Stack) → next over (at + 1) k s ≡ Work (Starts v) place k' s' → Starting) → on_told r next at k s ≡ Work (Starts v) place k' s' → Starting
+  told_start (Tells vs) next at k s h e = h 0 k (vs ++ s) e
+  told_start (Refuses n) next at k s h e = absurd (cc e)
+  told_start Unheard next at k s h e = absurd (cc e)
+
+  act_start : (a : Act) (next : Next) (at : ℕ) (k : Keeps) → ((over : ℕ) (k : Keeps) (s : Stack) → next over (at + 1) k s ≡ Work (Starts v) place k' s' → Starting) →
+      (a ≡ Sees (Starts v) s' → at ≡ place → Starting) → on_act types made cells a next at k ≡ Work (Starts v) place k' s' → Starting
+  act_start (Goes over s) next at k h g e = h over k s e
+  act_start (Puts c w s) next at k h g e = h 0 _ s e
+  act_start (Takes c kind s) next at k h g e = if_start (is_of kind (k c)) (next 0 (at + 1) k (k c ∷ s)) k (λ x. h 0 k (k c ∷ s) x) e
+  act_start (Looks l o s) next at k h g e = told_start (told_by types l o (made o)) next at k s h e
+  act_start (Sees q s) next at k h g e = noted_start (noted cells q) q next at k s h g e
+  act_start (Stops end) next at k h g e = absurd (cc e)
+
+  walk_start : (rest : List Instr) (over at : ℕ) (k : Keeps) (s : Stack) → drop at code ≡ rest → walk shapes types made own here cells code rest over at k s ≡ Work (Starts v) place k' s' → Starting
+  walk_start [] over at k s d e = absurd (cc e)
+  walk_start (i ∷ rest) zero at k s d e =
+      act_start (act shapes types own here i code at s) (walk shapes types made own here cells code rest) at k (λ over k1 s1. walk_start rest over (at + 1) k1 s1 (drop_next at code i rest d))
+      (λ a is. starting_by rest i at s d a is) e
+  walk_start (i ∷ rest) (suc n) at k s d e = walk_start rest n (at + 1) k s (drop_next at code i rest d) e
+
+  pub starts_there : (at : ℕ) (k : Keeps) (s : Stack) → silent shapes types made own here cells code at k s ≡ Work (Starts v) place k' s' → Starting
+  starts_there at k s e = walk_start (drop at code) 0 at k s refl e

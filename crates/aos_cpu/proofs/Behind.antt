@@ -33,7 +33,7 @@ went_made : (old new : KeptFrames) (f : Frame) (fs : List Frame) (mem : Memory) 
 went_made old new f fs mem at taken above out is b = record { store = refl; frames = sym (b f fs is); output = sym (append-nil out); begun = refl; left = refl }
 
 pub nothing_made : (old new : KeptFrames) (mem : Memory) (at : ℕ) (out : List ℕ) → IsBehind at 0 [] old new → IsAnswered PutsNothing at 0 old new mem mem Went out out
-nothing_made old new mem at out b shapes f fs is = went_made old new f fs mem at 0 [] out is b
+nothing_made old new mem at out b shapes types f fs is = went_made old new f fs mem at 0 [] out is b
 
 -- Cells are changed, and the topmost frame goes on behind.
 
@@ -71,7 +71,7 @@ stored_made old mid new mem now f fs to vs at taken out is ef em b =
 
 pub write_made : (old mid new : KeptFrames) (mem now : Memory) (a : Addr) (v : Cell) (at : ℕ) (out : List ℕ) → true ≡ is_some (load a.root a.cell (rooted (list_in old.list.items) mem)) →
     frames_in mid ≡ with_frames a.root (spliced a.cell (v ∷ [])) old → now ≡ memory_with a.root (spliced a.cell (v ∷ [])) mem → IsBehind at 2 [] mid new → IsAnswered (Stores a v) at 2 old new mem now Went out out
-write_made old mid new mem now a v at out there ef em b shapes f fs is =
+write_made old mid new mem now a v at out there ef em b shapes types f fs is =
     subst (λ b. Made (writes (reverse old.following.items) b a (v ∷ []) at f.keeps (drop 2 f.stack) f fs mem) false Went (frames_in new) now out out)
     (there ∙ ap (λ l. is_some (load a.root a.cell (rooted l mem))) is) (stored_made old mid new mem now f fs a (v ∷ []) at 2 out is ef em b)
 
@@ -116,7 +116,7 @@ pub copy_made : (old mid new : KeptFrames) (mem now : Memory) (n : ℕ) (from to
     frames_in mid ≡ with_frames to.root (spliced to.cell (read_all n from.cell (at_root from.root (rooted (list_in old.list.items) mem)))) old →
     now ≡ memory_with to.root (spliced to.cell (read_all n from.cell (at_root from.root (rooted (list_in old.list.items) mem)))) mem →
     IsBehind at 2 [] mid new → IsAnswered (Copies n from to) at 2 old new mem now Went out out
-copy_made old mid new mem now n from to at out there ef em b shapes f fs is =
+copy_made old mid new mem now n from to at out there ef em b shapes types f fs is =
     let fol = reverse old.following.items in
     let x = rooted (f ∷ fs) mem in
     let vs = read_all n from.cell (at_root from.root x) in
@@ -140,7 +140,7 @@ module _ (following : List ℕ) (strict : Bool) (to : Addr) (x : Rooted (List Ce
 pub text_lost : (old new : KeptFrames) (mem now : Memory) (strict : Bool) (from : Addr) (n : Cell) (to : Addr) (room : Cell) (at : ℕ) (out cs : List ℕ) (trap : ℕ) →
     IsFitted strict (text_at [] from n (rooted (list_in old.list.items) mem)) (length_in [] room) cs trap → trap ≡ 0 → false ≡ has_all (length cs) to.cell (at_root to.root (rooted (list_in old.list.items) mem)) →
     frames_in new ≡ frames_in old → now ≡ mem → IsAnswered (PutsText strict from n to room) at 4 old new mem now (Trapped 16 0) out out
-text_lost old new mem now strict from n to room at out cs trap h z lost ef em shapes f fs is =
+text_lost old new mem now strict from n to room at out cs trap h z lost ef em shapes types f fs is =
     let fol = reverse old.following.items in
     let x = rooted (f ∷ fs) mem in
     let fits = subst (λ l. IsFitted strict (text_at [] from n (rooted l mem)) (length_in [] room) cs trap) is h in
@@ -152,7 +152,7 @@ pub text_made : (old mid new : KeptFrames) (mem now : Memory) (strict : Bool) (f
     IsFitted strict (text_at [] from n (rooted (list_in old.list.items) mem)) (length_in [] room) cs trap → trap ≡ 0 → true ≡ has_all (length cs) to.cell (at_root to.root (rooted (list_in old.list.items) mem)) →
     frames_in mid ≡ with_frames to.root (spliced to.cell (character_cells [] cs)) old → now ≡ memory_with to.root (spliced to.cell (character_cells [] cs)) mem → IsBehind at 4 [] mid new →
     IsAnswered (PutsText strict from n to room) at 4 old new mem now Went out out
-text_made old mid new mem now strict from n to room at out cs trap h z there ef em b shapes f fs is =
+text_made old mid new mem now strict from n to room at out cs trap h z there ef em b shapes types f fs is =
     let fol = reverse old.following.items in
     let x = rooted (f ∷ fs) mem in
     let fits = subst (λ l. IsFitted strict (text_at [] from n (rooted l mem)) (length_in [] room) cs trap) is h in

@@ -11,7 +11,7 @@ use Rattle.aos_base.specs.declared.place.Root.TheVariants.{Frame as FrameRoot, M
 use Rattle.aos_base.specs.declared.kernel.Did.{Did}
 use Rattle.aos_base.specs.declared.kernel.Did.TheVariants.{Went, Ended as NoFrame, Enter, Leave, Await, Start, Trapped}
 use Rattle.aos_base.specs.Question.{Reads, Stores}
-use Rattle.aos_base.specs.Rooted.{load, at_root, by_number, spliced, from_last, change_from_last}
+use Rattle.aos_base.specs.Rooted.{Made as MadeAs, load, at_root, by_number, spliced, from_last, change_from_last}
 use Rattle.aos_code.specs.declared.instr.Cell.{Cell}
 use Rattle.aos_code.specs.declared.instr.Cell.TheVariants.{Num as NumCell, Ref, Call as CallCell, Place}
 use Rattle.aos_code.specs.declared.instr.Kind.{Kind}
@@ -20,24 +20,25 @@ use Rattle.aos_code.specs.declared.instr.Instr.TheVariants.{Num, Load, Store}
 use Rattle.aos_code.specs.declared.image.Image.{Image}
 use Rattle.aos_code.specs.Memory.{Memory}
 use Rattle.aos_code.specs.Silent.{Stack, Stop, Work, Ended, Begins, Sees, Stops, lost, is_of, on_place, on_numbers, Goes, on_act, stores, act, walk, silent}
-use Rattle.aos_code.specs.Machine.{Frame, Frames, Turned, rooted, frames_with, memory_with, turn, code_of, stop_of, goes, reads, writes, goes_on, leaves, behind, opened}
+use Rattle.aos_code.specs.Machine.{Frame, Frames, Turned, rooted, frames_with, memory_with, turn, code_of, made_in, stop_of, goes, reads, writes, goes_on, leaves, behind, opened}
 use Rattle.aos_store.specs.declared.frames.Frame.{Frame as KeptFrame}
 use Rattle.aos_store.specs.declared.frames.Frames.{Frames as KeptFrames}
 use Rattle.aos_store.specs.declared.cells.Change.TheVariants.{Sets}
 use Rattle.aos_store.specs.Store.{frame_in, list_in, frames_in, fits, fits_in, changed, with_cells}
 use Rattle.aos_store.proofs.Lists.{there_is}
 use Rattle.aos_silent.specs.declared.act.Act.{Act as KeptAct}
-use Rattle.aos_silent.specs.declared.act.Act.TheVariants.{Goes as GoesOn, Begins as BeginsAt}
+use Rattle.aos_silent.specs.declared.act.Act.TheVariants.{Goes as GoesOn, Sees as Asks, Begins as BeginsAt, Fails as FailsWith}
 use Rattle.aos_silent.specs.declared.act.Spot.{Spot}
-use Rattle.aos_silent.specs.Acts.{spot_in, kind_in, addr_in}
-use Rattle.aos_silent.specs.Steps.{IsStep, after}
+use Rattle.aos_silent.specs.Acts.{spot_in, kind_in, addr_in, WhereStays}
+use Rattle.aos_silent.specs.Known.{Knows}
+use Rattle.aos_silent.specs.Steps.{IsStepOf, after}
 use Rattle.aos_silent.specs.Silent.{Seen, silent_at, seen_at}
 use Rattle.aos_silent.proofs.Walks.{acts, seen_on}
 use Rattle.aos_cpu.specs.Turns.{SeenFrames, Alike, seen_frames, counted, Shown, IsTurned, Rests, WhereLeft}
-use Rattle.aos_cpu.specs.Private.{no_memory, is_of_frame, is_own_stop, alone, IsPrivate, after_turns, begun_after, IsMadePrivately, turns_since}
+use Rattle.aos_cpu.specs.Private.{no_memory, made_by, is_of_frame, is_own_stop, alone, IsPrivate, after_turns, begun_after, IsMadePrivately, turns_since}
 use Rattle.aos_cpu.specs.InPlace.{on_top, IsSet, HasSet, TurnsTo, HasTurnedTop, HasWorked, HasRunTop, HasTriedTop, HasTriedInPlace}
-use Rattle.aos_cpu.proofs.Turns.{some_same, list_top, list_set, all_but_top, rest_length, turn_alike}
-use Rattle.aos_cpu.proofs.Own.{own_private, own_alike, own_store, at_or_below, told, AllTold}
+use Rattle.aos_cpu.proofs.Turns.{itself, after_turn, alike_both, some_same, list_top, list_set, all_but_top, rest_length, turn_alike}
+use Rattle.aos_cpu.proofs.Own.{none_here, no_number, nothing_made, own_turned, own_store, at_or_below, told, AllTold}
 
 -- Cells of the topmost frame.
 
@@ -91,14 +92,6 @@ set_elsewhere true (ObjectRoot o) here c v mem now f other there e =
 set_elsewhere false (ObjectRoot o) here c v mem now f other there e = (refl, e)
 
 -- without memory there are cells in frames alone
-none_here : {A : Type 0} (n : ℕ) → slice_get {X = A} [] n ≡ None
-none_here zero = refl
-none_here (suc n) = refl
-
-no_number : {A : Type 0} (o : ℕ) → by_number {X = A} o [] ≡ None
-no_number zero = refl
-no_number (suc o) = none_here o
-
 is_none : {A : Type 0} (o : Option A) → o ≡ None → is_some o ≡ true → ⊥
 is_none o e there = (let z : false ≡ true = ap is_some (sym e) ∙ there in absurd (cc z))
 
@@ -142,70 +135,97 @@ not_empty (v ∷ s) t e = omega arith
 -- A turn of the topmost frame.
 
 -- frames with a topmost one that is seen the same are alike
-alike_top : (image : Image) (here : ℕ) (f g : Frame) (following : List ℕ) (rest : List Frame) (fs : Frames) → length rest ≡ here → seen_at image here f ≡ seen_at image here g →
-    Alike image fs (on_top following f rest) → Alike image fs (on_top following g rest)
-alike_top image here f g following rest fs len e h =
-    h ∙ (λ i. (let x : SeenFrames = record { following = following; top = Some (subst (λ n. seen_at image n f ≡ seen_at image n g) (sym len) e i); below = rest } in x))
+alike_top : (image : Image) (made : ℕ → Option MadeAs) (here : ℕ) (f g : Frame) (following : List ℕ) (rest : List Frame) (fs : Frames) → length rest ≡ here →
+    ((all : ℕ → Option MadeAs) → Knows all made → seen_at image all here f ≡ seen_at image all here g) → Alike image made fs (on_top following f rest) → Alike image made fs (on_top following g rest)
+alike_top image made here f g following rest fs len e h all knows =
+    h all knows
+    ∙ (λ i. (let x : SeenFrames = record { following = following; top = Some (subst (λ n. seen_at image all n f ≡ seen_at image all n g) (sym len) (e all knows) i); below = rest } in x))
 
-pub turned_top : (image : Image) (here : ℕ) (mem now : Memory) (f g : Frame) (begins : Bool) (stop : Stop) → g.procedure ≡ f.procedure → silent_at image here f ≡ stop →
+pub turned_top : (image : Image) (here : ℕ) (mem now : Memory) (f g : Frame) (begins : Bool) (stop : Stop) → g.procedure ≡ f.procedure → silent_at image (made_in image mem) here f ≡ stop →
     ((rest : List Frame) → length rest ≡ here → mem ≡ no_memory → is_own_stop image.shapes.items stop ≡ true) →
     ((following : List ℕ) (rest : List Frame) → length rest ≡ here →
-    goes following image.shapes.items stop f rest mem ≡ record { store = now; frames = on_top following g rest; output = []; begun = begins; left = Went }) →
+    goes following image.shapes.items image.types.items stop f rest mem ≡ record { store = now; frames = on_top following g rest; output = []; begun = begins; left = Went }) →
     HasTurnedTop image here begins mem now f g
-turned_top image here mem now f g begins stop same is own comes = (
-  same,
-  λ following rest fs len h.
-      let top = on_top following f rest in
-      let at_stop : stop_of image f rest ≡ stop = ap (λ n. silent_at image n f) len ∙ is in
-      let turned : turn image mem top ≡ record { store = now; frames = on_top following g rest; output = []; begun = begins; left = Went } =
-      ap (λ s. goes following image.shapes.items s f rest mem) at_stop ∙ comes following rest len in
-      let similar = turn_alike image mem fs top h in
-      record {
-        own = λ none. own_alike image fs top h ∙ ap (is_own_stop image.shapes.items) at_stop ∙ own rest len none;
-        store = similar.store ∙ ap (λ (t : Turned). t.store) turned;
-        alike = similar.alike ∙ ap (λ (t : Turned). seen_frames image (opened t.frames)) turned;
-        output = similar.output ∙ ap (λ (t : Turned). t.output) turned;
-        begun = similar.begun ∙ ap (λ (t : Turned). t.begun) turned;
-        left = similar.left ∙ ap (λ (t : Turned). t.left) turned;
-      },
-)
+turned_top image here mem now f g begins stop same is own comes =
+    let at_stop : (rest : List Frame) → length rest ≡ here → stop_of image (made_in image mem) f rest ≡ stop = λ rest len. ap (λ n. silent_at image (made_in image mem) n f) len ∙ is in
+    record {
+      same = same;
+      own = λ none following rest len.
+          ap (λ (m : Memory). is_own_stop image.shapes.items (stop_of image (made_in image m) f rest)) (sym none) ∙ ap (is_own_stop image.shapes.items) (at_stop rest len) ∙ own rest len none;
+      turns = λ following rest fs len h.
+          let top = on_top following f rest in
+          let turned : turn image mem top ≡ record { store = now; frames = on_top following g rest; output = []; begun = begins; left = Went } =
+          ap (λ s. goes following image.shapes.items image.types.items s f rest mem) (at_stop rest len) ∙ comes following rest len in
+          let similar = turn_alike image mem fs top h in
+          record {
+            store = similar.store ∙ ap (λ (t : Turned). t.store) turned;
+            alike = λ all knows. similar.alike all (subst (λ (t : Turned). Knows all (after_turn image t)) (sym turned) knows) ∙ ap (λ (t : Turned). seen_frames image all (opened t.frames)) turned;
+            output = similar.output ∙ ap (λ (t : Turned). t.output) turned;
+            begun = similar.begun ∙ ap (λ (t : Turned). t.begun) turned;
+            left = similar.left ∙ ap (λ (t : Turned). t.left) turned;
+          };
+    }
+
+-- silent work after silent work
+pub worked_none : (image : Image) (here : ℕ) (mem : Memory) (f : Frame) → HasWorked image here mem mem f f
+worked_none image here mem f = record { seen = λ all knows. refl; memory = refl }
+
+pub worked_both : (image : Image) (here : ℕ) (mem was now : Memory) (f mid g : Frame) → HasWorked image here mem was f mid → HasWorked image here was now mid g → HasWorked image here mem now f g
+worked_both image here mem was now f mid g first second =
+    record {
+      seen = λ all knows. second.seen all (subst (λ (m : Memory). Knows all (made_in image m)) (sym first.memory) knows) ∙ first.seen all knows;
+      memory = second.memory ∙ first.memory;
+    }
 
 -- also from a frame that is seen the same
 pub turned_after : (image : Image) (here : ℕ) (begins : Bool) (mem was now : Memory) (f mid g : Frame) → HasWorked image here mem was f mid → HasTurnedTop image here begins was now mid g → HasTurnedTop image here begins mem now f g
-turned_after image here begins mem was now f mid g e turned = (
-  turned.0 ∙ ap (λ (x : Seen). x.procedure) e.0,
-  λ following rest fs len h. subst (λ m. TurnsTo image begins m now fs (on_top following g rest)) e.1 (turned.1 following rest fs len (alike_top image here f mid following rest fs len (sym e.0) h)),
-)
+turned_after image here begins mem was now f mid g e turned =
+    let made = made_in image mem in
+    let seen_so = e.seen made (itself made) in
+    record {
+      same = turned.same ∙ ap (λ (x : Seen). x.procedure) seen_so;
+      own = λ none following rest len.
+          let stops : stop_of image made f rest ≡ stop_of image made mid rest = ap (λ n. silent_at image made n f) len ∙ ap (λ (x : Seen). x.stop) (sym seen_so) ∙ ap (λ n. silent_at image made n mid) (sym len) in
+          let alone_so : stop_of image (made_by []) f rest ≡ stop_of image (made_by []) mid rest = subst (λ (m : Memory). stop_of image (made_in image m) f rest ≡ stop_of image (made_in image m) mid rest) none stops in
+          ap (is_own_stop image.shapes.items) alone_so ∙ turned.own (e.memory ∙ none) following rest len;
+      turns = λ following rest fs len h.
+          subst (λ m. TurnsTo image begins m now fs (on_top following g rest)) e.memory
+          (turned.turns following rest fs len (subst (λ (m : Memory). Alike image (made_in image m) fs (on_top following mid rest)) (sym e.memory) (alike_top image made here f mid following rest fs len (λ all knows. sym (e.seen all knows)) h)));
+    }
 
-module _ (image : Image) (here : ℕ) (f : Frame) where
+module _ (image : Image) (made : ℕ → Option MadeAs) (here : ℕ) (f : Frame) where
   abbrev code : List Instr
   code = code_of image f.procedure
 
   -- where silent work ends that stands before a question
   stands_at : (i : Instr) (stop : Stop) → slice_get code f.next ≡ Some i →
-      on_act f.cells (act image.shapes.items f.procedure here i code f.next f.stack) (walk image.shapes.items f.procedure here f.cells code (drop (f.next + 1) code)) f.next f.keeps ≡ stop →
-      silent_at image here f ≡ stop
-  stands_at i stop is e = acts image.shapes.items f.procedure here f.cells code f.next i f.keeps f.stack is ∙ e
+      on_act image.types.items made f.cells (act image.shapes.items image.types.items f.procedure here i code f.next f.stack) (walk image.shapes.items image.types.items made f.procedure here f.cells code (drop (f.next + 1) code)) f.next f.keeps ≡ stop →
+      silent_at image made here f ≡ stop
+  stands_at i stop is e = acts image.shapes.items image.types.items made f.procedure here f.cells code f.next i f.keeps f.stack is ∙ e
 
-  pub read_top : (mem : Memory) (kind : Kind) (p : Spot) (v : Cell) → slice_get code f.next ≡ Some (Load kind) → spot_in (slice_get f.stack 0) ≡ Some p →
+module _ (image : Image) (here : ℕ) (f : Frame) where
+  abbrev own_code : List Instr
+  own_code = code_of image f.procedure
+
+  pub read_top : (mem : Memory) (kind : Kind) (p : Spot) (v : Cell) → slice_get own_code f.next ≡ Some (Load kind) → spot_in (slice_get f.stack 0) ≡ Some p →
       ((rest : List Frame) → length rest ≡ here → load p.root p.cell (rooted (f ∷ rest) mem) ≡ Some v) → is_of kind v ≡ true →
       HasTurnedTop image here false mem mem f (record f { next = f.next + 1; stack = v ∷ drop 1 f.stack })
   read_top mem kind p v is place holds of =
-      let next = walk image.shapes.items f.procedure here f.cells code (drop (f.next + 1) code) in
+      let next = walk image.shapes.items image.types.items (made_in image mem) f.procedure here f.cells own_code (drop (f.next + 1) own_code) in
       turned_top image here mem mem f _ false (Work (Reads kind (addr_in p)) f.next f.keeps (drop 1 f.stack)) refl
-      (stands_at (Load kind) _ is (ap (λ a. on_act f.cells a next f.next f.keeps) (read_asks kind f.stack p place)))
+      (stands_at image (made_in image mem) here f (Load kind) _ is (ap (λ a. on_act image.types.items (made_in image mem) f.cells a next f.next f.keeps) (read_asks kind f.stack p place)))
       (λ rest len none. in_frames p.root p.cell f rest mem (ap is_some (holds rest len)) none)
       (λ following rest len.
       ap (λ o. reads following kind o f.next f.keeps (drop 1 f.stack) f rest mem) (holds rest len)
       ∙ ap (λ b. if b then goes_on following (behind following f.next f.keeps (v ∷ drop 1 f.stack) f ∷ rest) mem else leaves following (Trapped 16 0) (f ∷ rest) mem) of)
 
-  pub store_top : (mem now : Memory) (kind : Kind) (p : Spot) (v : Cell) (h : Frame) → slice_get code f.next ≡ Some (Store kind) → kind_in kind (slice_get f.stack 0) ≡ Some v →
+  pub store_top : (mem now : Memory) (kind : Kind) (p : Spot) (v : Cell) (h : Frame) → slice_get own_code f.next ≡ Some (Store kind) → kind_in kind (slice_get f.stack 0) ≡ Some v →
       spot_in (slice_get f.stack 1) ≡ Some p → IsSet here p.root p.cell v mem now f h →
       HasTurnedTop image here false mem now f (record h { next = f.next + 1; stack = drop 2 f.stack })
   store_top mem now kind p v h is value place set =
-      let next = walk image.shapes.items f.procedure here f.cells code (drop (f.next + 1) code) in
+      let next = walk image.shapes.items image.types.items (made_in image mem) f.procedure here f.cells own_code (drop (f.next + 1) own_code) in
       turned_top image here mem now f _ false (Work (Stores (addr_in p) v) f.next f.keeps (drop 2 f.stack)) (ap (λ (x : Frame). x.procedure) set.others)
-      (stands_at (Store kind) _ is (ap (λ a. on_act f.cells a next f.next f.keeps) (store_asks kind f.stack v p value place)))
+      (stands_at image (made_in image mem) here f (Store kind) _ is (ap (λ a. on_act image.types.items (made_in image mem) f.cells a next f.next f.keeps) (store_asks kind f.stack v p value place)))
       (λ rest len none. in_frames p.root p.cell f rest mem (set.there rest len) none)
       (λ following rest len.
       ap (λ b. writes following b (addr_in p) (v ∷ []) f.next f.keeps (drop 2 f.stack) f rest mem) (set.there rest len)
@@ -213,21 +233,24 @@ module _ (image : Image) (here : ℕ) (f : Frame) where
 
 -- An act that has been done.
 module _ (image : Image) (here : ℕ) (mem : Memory) (f g : Frame) (code : List Instr) (at : ℕ) (did : KeptAct) (code_is : code ≡ code_of image f.procedure) (at_is : at ≡ f.next) (within : at < length code)
-    (step : IsStep (act image.shapes.items f.procedure here (get_or code at (Num (pos 0))) code at f.stack) did f g) where
+    (step : IsStepOf image.types.items (made_in image mem) (act image.shapes.items image.types.items f.procedure here (get_or code at (Num (pos 0))) code at f.stack) did f g) where
   pub silent_top : (over m : ℕ) → did ≡ GoesOn over → m ≡ min (at + 1 + over) (2 ^ 64 - 1) → length code < 2 ^ 64 → HasWorked image here mem mem f (record g { next = m })
-  silent_top over m e is small = (
-    seen_on image here f g image.shapes.items code did refl code_is (subst (λ n. n < length code) at_is within)
-        (subst (λ n. IsStep (act image.shapes.items f.procedure here (get_or code n (Num (pos 0))) code n f.stack) did f g) at_is step) over m e
-        (subst (λ n. m ≡ min (n + 1 + over) (2 ^ 64 - 1)) at_is is) small,
-    refl,
-  )
+  silent_top over m e is small =
+      let there = subst (λ n. IsStepOf image.types.items (made_in image mem) (act image.shapes.items image.types.items f.procedure here (get_or code n (Num (pos 0))) code n f.stack) did f g) at_is step in
+      record {
+        seen = λ all knows.
+            seen_on image all here f g code did code_is (subst (λ n. n < length code) at_is within) (there.more all knows) there.same over m e
+            (subst (λ n. m ≡ min (n + 1 + over) (2 ^ 64 - 1)) at_is is) small;
+        memory = refl;
+      }
 
   pub begun_top : (to : ℕ) (p : Pos) → did ≡ BeginsAt to p → HasTurnedTop image here true mem mem f (record g { next = to + 1; at = Some p })
   begun_top to p e =
-      let next = walk image.shapes.items f.procedure here f.cells code (drop (at + 1) code) in
-      let stop : silent_at image here f ≡ Ended (Begins to p g.stack) g.keeps =
-      (λ j. silent image.shapes.items f.procedure here f.cells (sym code_is j) (sym at_is j) f.keeps f.stack)
-      ∙ acts image.shapes.items f.procedure here f.cells code at (get_or code at (Num (pos 0))) f.keeps f.stack (slice_get-get_or code at (Num (pos 0)) within)
+      let made = made_in image mem in
+      let next = walk image.shapes.items image.types.items made f.procedure here f.cells code (drop (at + 1) code) in
+      let stop : silent_at image made here f ≡ Ended (Begins to p g.stack) g.keeps =
+      (λ j. silent image.shapes.items image.types.items made f.procedure here f.cells (sym code_is j) (sym at_is j) f.keeps f.stack)
+      ∙ acts image.shapes.items image.types.items made f.procedure here f.cells code at (get_or code at (Num (pos 0))) f.keeps f.stack (slice_get-get_or code at (Num (pos 0)) within)
       ∙ step.goes next at ∙ ap (λ d. after d next at g.keeps g.stack) e in
       turned_top image here mem mem f (record g { next = to + 1; at = Some p }) true (Ended (Begins to p g.stack) g.keeps) (ap (λ (x : Frame). x.procedure) step.same) stop
       (λ rest len none. refl)
@@ -238,41 +261,51 @@ pub still_none : (image : Image) (here : ℕ) (begins : Bool) (mem now : Memory)
 still_none image here begins mem now f g turned none =
     let rest = replicate here f in
     let top = on_top [] f rest in
-    let t = turned.1 [] rest top (length-replicate here f) refl in
-    sym t.store ∙ ap (λ m. (turn image m top).store) none ∙ own_store image top (t.own none)
+    let len = length-replicate here f in
+    let t = turned.turns [] rest top len (λ all knows. refl) in
+    sym t.store ∙ ap (λ m. (turn image m top).store) none ∙ own_store image top (turned.own none [] rest len)
 
 -- Turns one after the other.
 
 pub run_none : (image : Image) (here budget begun : ℕ) (f : Frame) → HasRunTop image here budget 0 begun begun f f
 run_none image here budget begun f = (
   refl,
-  λ following rest fs len h. record { private = λ i lt. absurd (omega arith); below = λ i lt. absurd (omega arith); alike = h; statements = refl },
+  λ following rest made fs len h. record { private = λ i lt. absurd (omega arith); below = λ i lt. absurd (omega arith); alike = h; statements = refl },
 )
 
-pub run_still : (image : Image) (here budget made begun now : ℕ) (f mid g : Frame) → HasRunTop image here budget made begun now f mid → seen_at image here g ≡ seen_at image here mid →
-    HasRunTop image here budget made begun now f g
-run_still image here budget made begun now f mid g before e = (
-  ap (λ (x : Seen). x.procedure) e ∙ before.0,
-  λ following rest fs len h.
-      let r = before.1 following rest fs len h in
-      record { private = r.private; below = r.below; alike = alike_top image here mid g following rest (after_turns image made fs) len (sym e) r.alike; statements = r.statements },
+-- silent work of a frame where there is no memory
+pub run_still : (image : Image) (here budget many begun now : ℕ) (f mid g : Frame) → HasRunTop image here budget many begun now f mid → ((all : ℕ → Option MadeAs) → seen_at image all here g ≡ seen_at image all here mid) →
+    HasRunTop image here budget many begun now f g
+run_still image here budget many begun now f mid g before e = (
+  ap (λ (x : Seen). x.procedure) (e (made_by [])) ∙ before.0,
+  λ following rest made fs len h.
+      let r = before.1 following rest made fs len h in
+      record {
+        private = r.private;
+        below = r.below;
+        alike = alike_top image (made_by made) here mid g following rest (after_turns image made many fs) len (λ all knows. sym (e all)) r.alike;
+        statements = r.statements;
+      },
 )
 
-pub run_more : (image : Image) (here budget made begun now now' : ℕ) (begins : Bool) (mem was : Memory) (f mid g : Frame) → mem ≡ no_memory → HasRunTop image here budget made begun now f mid → now < budget →
-    HasTurnedTop image here begins mem was mid g → now' ≡ counted begins now → HasRunTop image here budget (made + 1) begun now' f g
-run_more image here budget made begun now now' begins mem was f mid g none before below had counts =
+pub run_more : (image : Image) (here budget many begun now now' : ℕ) (begins : Bool) (mem was : Memory) (f mid g : Frame) → mem ≡ no_memory → HasRunTop image here budget many begun now f mid → now < budget →
+    HasTurnedTop image here begins mem was mid g → now' ≡ counted begins now → HasRunTop image here budget (many + 1) begun now' f g
+run_more image here budget many begun now now' begins mem was f mid g none before below had counts =
     let turned = subst (λ m. HasTurnedTop image here begins m was mid g) none had in
-    let one : suc made ≡ made + 1 = omega arith in
+    let one : suc many ≡ many + 1 = omega arith in
+    let still = still_none image here begins no_memory was mid g turned refl in
     subst (λ n. HasRunTop image here budget n begun now' f g) one (
-      turned.0 ∙ before.0,
-      λ following rest fs len h.
-          let r = before.1 following rest fs len h in
-          let t = turned.1 following rest (after_turns image made fs) len r.alike in
+      turned.same ∙ before.0,
+      λ following rest made fs len h.
+          let r = before.1 following rest made fs len h in
+          let top = on_top following mid rest in
+          let t = turned.turns following rest top len (λ all knows. refl) in
+          let o = own_turned image made (after_turns image made many fs) top r.alike (turned.own refl following rest len) t.left in
           record {
-            private = at_or_below (λ i. IsPrivate image (after_turns image i fs)) made r.private (own_private image (after_turns image made fs) (t.own refl) t.left);
-            below = at_or_below (λ i. begun_after image i fs begun < budget) made r.below (subst (λ n. n < budget) r.statements below);
-            alike = t.alike;
-            statements = counts ∙ (λ i. counted (sym t.begun i) (r.statements i));
+            private = at_or_below (λ i. IsPrivate image made (after_turns image made i fs)) many r.private o.0;
+            below = at_or_below (λ i. begun_after image made i fs begun < budget) many r.below (subst (λ n. n < budget) r.statements below);
+            alike = λ all knows. o.1 all knows ∙ t.alike all (subst (λ (x : Memory). Knows all (made_in image x)) (sym still) (nothing_made all));
+            statements = counts ∙ (λ i. counted (sym (o.2 ∙ t.begun) i) (r.statements i));
           },
     )
 
@@ -297,45 +330,45 @@ module _ (old : KeptFrames) (n here : ℕ) (f g : KeptFrame) (len : n ≡ length
   new_top : now_frames ≡ on_top following (frame_in g) rest
   new_top = ap (λ l. (let x : Frames = record { following = following; frames = l } in x)) (list_set old.list.items n f g len e)
 
-  pub kept_run : (new : KeptFrames) (image : Image) (budget made now : ℕ) → frames_in new ≡ now_frames → HasRunTop image here budget made old.begun now (frame_in f) (frame_in g) →
-      new.begun ≡ now → new.turns ≡ (old.turns + made) % 2 ^ 64 → IsMadePrivately image budget made old new
-  kept_run new image budget made now frames run begun turns fs h =
-      let r = run.1 following rest fs so_many (subst (Alike image fs) old_top h) in
+  pub kept_run : (new : KeptFrames) (image : Image) (budget many now : ℕ) → frames_in new ≡ now_frames → HasRunTop image here budget many old.begun now (frame_in f) (frame_in g) →
+      new.begun ≡ now → new.turns ≡ (old.turns + many) % 2 ^ 64 → IsMadePrivately image budget many old new
+  kept_run new image budget many now frames run begun turns made fs h =
+      let r = run.1 following rest made fs so_many (subst (Alike image (made_by made) fs) old_top h) in
       record {
         private = r.private;
         below = r.below;
-        alike = subst (Alike image (after_turns image made fs)) (sym (frames ∙ new_top)) r.alike;
+        alike = subst (Alike image (made_by made) (after_turns image made many fs)) (sym (frames ∙ new_top)) r.alike;
         begun = begun ∙ r.statements;
         turns = turns;
       }
 
-  kept_worked : (image : Image) (mem now : Memory) → HasWorked image here mem now (frame_in f) (frame_in g) → Alike image (frames_in old) now_frames × (now ≡ mem)
+  kept_worked : (image : Image) (mem now : Memory) → HasWorked image here mem now (frame_in f) (frame_in g) → Alike image (made_in image mem) (frames_in old) now_frames × (now ≡ mem)
   kept_worked image mem now worked = (
-    subst (Alike image (frames_in old)) (sym new_top)
-        (alike_top image here (frame_in f) (frame_in g) following rest (frames_in old) so_many (sym worked.0) (subst (Alike image (frames_in old)) old_top refl)),
-    worked.1,
+    subst (Alike image (made_in image mem) (frames_in old)) (sym new_top)
+        (alike_top image (made_in image mem) here (frame_in f) (frame_in g) following rest (frames_in old) so_many (λ all knows. sym (worked.seen all knows)) (subst (Alike image (made_in image mem) (frames_in old)) old_top (λ all knows. refl))),
+    worked.memory,
   )
 
   pub kept_tried : (image : Image) (r : Option Bool) (mem now : Memory) → HasTriedTop image here r mem now (frame_in f) (frame_in g) → HasTriedInPlace image r mem now (frames_in old) now_frames
   kept_tried image None mem now tried = kept_worked image mem now tried
   kept_tried image (Some begins) mem now tried =
-      λ fs h. subst (TurnsTo image begins mem now fs) (sym new_top) (tried.1 following rest fs so_many (subst (Alike image fs) old_top h))
+      λ fs h. subst (TurnsTo image begins mem now fs) (sym new_top) (tried.turns following rest fs so_many (subst (Alike image (made_in image mem) fs) old_top h))
 
 pub kept_none : (image : Image) (budget : ℕ) (old : KeptFrames) → old.turns < 2 ^ 64 → IsMadePrivately image budget 0 old old
-kept_none image budget old lt fs h =
+kept_none image budget old lt made fs h =
     record { private = λ i small. absurd (omega arith); below = λ i small. absurd (omega arith); alike = h; begun = refl; turns = omega arith }
 
 -- Some turns, and then some more.
 
-after_both : (image : Image) (m : ℕ) (fs : Frames) (j : ℕ) → after_turns image j (after_turns image m fs) ≡ after_turns image (j + m) fs
-after_both image m fs zero = ap (λ n. after_turns image n fs) (let z : m ≡ 0 + m = omega arith in z)
-after_both image m fs (suc j) =
-    ap (λ (x : Frames). (alone image x).frames) (after_both image m fs j) ∙ ap (λ n. after_turns image n fs) (let z : suc (j + m) ≡ suc j + m = omega arith in z)
+after_both : (image : Image) (made : List MadeAs) (m : ℕ) (fs : Frames) (j : ℕ) → after_turns image made j (after_turns image made m fs) ≡ after_turns image made (j + m) fs
+after_both image made m fs zero = ap (λ n. after_turns image made n fs) (let z : m ≡ 0 + m = omega arith in z)
+after_both image made m fs (suc j) =
+    ap (λ (x : Frames). (alone image made x).frames) (after_both image made m fs j) ∙ ap (λ n. after_turns image made n fs) (let z : suc (j + m) ≡ suc j + m = omega arith in z)
 
-begun_both : (image : Image) (m begun : ℕ) (fs : Frames) (j : ℕ) → begun_after image j (after_turns image m fs) (begun_after image m fs begun) ≡ begun_after image (j + m) fs begun
-begun_both image m begun fs zero = ap (λ n. begun_after image n fs begun) (let z : m ≡ 0 + m = omega arith in z)
-begun_both image m begun fs (suc j) =
-    (λ i. counted (alone image (after_both image m fs j i)).begun (begun_both image m begun fs j i)) ∙ ap (λ n. begun_after image n fs begun) (let z : suc (j + m) ≡ suc j + m = omega arith in z)
+begun_both : (image : Image) (made : List MadeAs) (m begun : ℕ) (fs : Frames) (j : ℕ) → begun_after image made j (after_turns image made m fs) (begun_after image made m fs begun) ≡ begun_after image made (j + m) fs begun
+begun_both image made m begun fs zero = ap (λ n. begun_after image made n fs begun) (let z : m ≡ 0 + m = omega arith in z)
+begun_both image made m begun fs (suc j) =
+    (λ i. counted (alone image made (after_both image made m fs j i)).begun (begun_both image made m begun fs j i)) ∙ ap (λ n. begun_after image made n fs begun) (let z : suc (j + m) ≡ suc j + m = omega arith in z)
 
 within_both : (P : ℕ → Type 0) (m k : ℕ) → ((i : ℕ) → i < m → P i) → ((j : ℕ) → j < k → P (j + m)) → (i : ℕ) → i < m + k → P i
 within_both P m k first next i lt =
@@ -345,16 +378,16 @@ within_both P m k first next i lt =
     ]
 
 pub made_both : (image : Image) (budget m k : ℕ) (old mid new : KeptFrames) → IsMadePrivately image budget m old mid → IsMadePrivately image budget k mid new → IsMadePrivately image budget (m + k) old new
-made_both image budget m k old mid new before next fs h =
-    let p = before fs h in
-    let q = next (after_turns image m fs) p.alike in
+made_both image budget m k old mid new before next made fs h =
+    let p = before made fs h in
+    let q = next made (after_turns image made m fs) p.alike in
     let all : k + m ≡ m + k = omega arith in
     record {
-      private = within_both (λ i. IsPrivate image (after_turns image i fs)) m k p.private (λ j lt. subst (IsPrivate image) (after_both image m fs j) (q.private j lt));
-      below = within_both (λ i. begun_after image i fs old.begun < budget) m k p.below
-          (λ j lt. subst (λ n. n < budget) (ap (begun_after image j (after_turns image m fs)) p.begun ∙ begun_both image m old.begun fs j) (q.below j lt));
-      alike = subst (λ (x : Frames). Alike image x (frames_in new)) (after_both image m fs k ∙ ap (λ n. after_turns image n fs) all) q.alike;
-      begun = q.begun ∙ ap (begun_after image k (after_turns image m fs)) p.begun ∙ begun_both image m old.begun fs k ∙ ap (λ n. begun_after image n fs old.begun) all;
+      private = within_both (λ i. IsPrivate image made (after_turns image made i fs)) m k p.private (λ j lt. subst (IsPrivate image made) (after_both image made m fs j) (q.private j lt));
+      below = within_both (λ i. begun_after image made i fs old.begun < budget) m k p.below
+          (λ j lt. subst (λ n. n < budget) (ap (begun_after image made j (after_turns image made m fs)) p.begun ∙ begun_both image made m old.begun fs j) (q.below j lt));
+      alike = subst (λ (x : Frames). Alike image (made_by made) x (frames_in new)) (after_both image made m fs k ∙ ap (λ n. after_turns image made n fs) all) q.alike;
+      begun = q.begun ∙ ap (begun_after image made k (after_turns image made m fs)) p.begun ∙ begun_both image made m old.begun fs k ∙ ap (λ n. begun_after image made n fs old.begun) all;
       turns = (let a = p.turns in let b = q.turns in omega arith);
     }
 
@@ -363,7 +396,7 @@ pub told_both : (image : Image) (budget m k : ℕ) (old mid new : KeptFrames) �
     AllTold image budget old new × (m + k ≡ turns_since old new)
 told_both image budget m k old mid new lt small before e next =
     let all = made_both image budget m k old mid new (subst (λ n. IsMadePrivately image budget n old mid) (sym e) before) next in
-    let z : turns_since old new ≡ m + k = told old.turns new.turns (m + k) lt small (all (frames_in old) refl).turns in
+    let z : turns_since old new ≡ m + k = told old.turns new.turns (m + k) lt small (all [] (frames_in old) (λ a knows. refl)).turns in
     (subst (λ n. IsMadePrivately image budget n old new) (sym z) all, sym z)
 
 -- A turn that is made in place, or by what its silent work comes to.
@@ -385,13 +418,19 @@ went_in_place image begins mem now old new out tried counts fs h =
 pub turned_behind : (image : Image) (did : Did) (old mid new : KeptFrames) (mem was now : Memory) (before after : List ℕ) → HasTriedInPlace image None mem was (frames_in old) (frames_in mid) → mid.begun ≡ old.begun →
     IsTurned image did mid new was now before after → IsTurned image did old new mem now before after
 turned_behind image did old mid new mem was now before after tried counts turned fs h =
-    let t = subst (λ m. Shown image (turn image m fs) did mid new now before after) tried.1 (turned fs (h ∙ tried.0)) in
+    let alike = alike_both image (made_in image mem) fs (frames_in old) (frames_in mid) h tried.0 in
+    let t = subst (λ m. Shown image (turn image m fs) did mid new now before after) tried.1 (turned fs (subst (λ (m : Memory). Alike image (made_in image m) fs (frames_in mid)) (sym tried.1) alike)) in
     record { store = t.store; alike = t.alike; output = t.output; begun = t.begun ∙ ap (counted (turn image mem fs).begun) counts; left = t.left }
 
 pub rests_behind : (image : Image) (old mid new : KeptFrames) (mem was now : Memory) (before after : List ℕ) → HasTriedInPlace image None mem was (frames_in old) (frames_in mid) → mid.begun ≡ old.begun →
     Rests image mid new was now before after → Rests image old new mem now before after
 rests_behind image old mid new mem was now before after tried counts r =
-    record { alike = tried.0 ∙ r.alike; begun = r.begun ∙ counts; memory = r.memory ∙ tried.1; output = r.output }
+    record {
+      alike = alike_both image (made_in image mem) (frames_in old) (frames_in mid) (frames_in new) tried.0 (subst (λ (m : Memory). Alike image (made_in image m) (frames_in mid) (frames_in new)) tried.1 r.alike);
+      begun = r.begun ∙ counts;
+      memory = r.memory ∙ tried.1;
+      output = r.output;
+    }
 
 pub left_more : (did : Did) (P Q : Type 0) → (P → Q) → WhereLeft did P → WhereLeft did Q
 left_more Went P Q f p = p
@@ -401,3 +440,9 @@ left_more (Leave l) P Q f p = f p
 left_more (Await l c) P Q f p = f p
 left_more (Start o) P Q f p = f p
 left_more (Trapped n c) P Q f p = f p
+
+pub stays_more : (did : KeptAct) (P Q : Type 0) → (P → Q) → WhereStays did P → WhereStays did Q
+stays_more (GoesOn over) P Q f p = p
+stays_more (Asks q) P Q f p = f p
+stays_more (BeginsAt at place) P Q f p = p
+stays_more (FailsWith n c) P Q f p = f p

@@ -8,3 +8,5 @@ pub mod Characters
 pub mod Storing
 pub mod Handing
 pub mod Calling
+pub mod Growing
+pub mod Making

@@ -1,34 +1,38 @@
 -- Turns don't see silent work.
-use Rattle.std.proofs.Common.{◌≡◌, ◌<◌, ◌+◌, ◌-◌, ◌^◌, ℕ, zero, suc, List, [], ◌∷◌, ◌++◌, map, length, take, drop, reverse, refl, sym, ap, ◌∙◌, subst, arith}
+use Rattle.std.proofs.Common.{◌≡◌, ◌<◌, ◌+◌, ◌-◌, ◌^◌, ℕ, ℤ, zero, suc, List, [], ◌∷◌, ◌++◌, map, length, take, drop, reverse, refl, sym, ap, ◌∙◌, subst, arith}
 use Rattle.std.specs.Prelude.{Option, Some, None, Bool, true, false, slice_get, slice_set, get_or, if◌then◌else◌, option_map, is_some}
-use Rattle.std.proofs.lemmas.List.{set_split, drop_all, length-map, length-reverse, length-take}
+use Rattle.std.proofs.lemmas.List.{append-nil, set_split, drop_all, length-map, length-reverse, length-take}
 use Rattle.std.proofs.lemmas.Option.{slice_get_within, slice_get_read}
+use Rattle.aos_base.specs.declared.text.Pos.{Pos}
 use Rattle.aos_base.specs.declared.number.Relation.{Relation}
 use Rattle.aos_base.specs.declared.kernel.Did.{Did}
 use Rattle.aos_base.specs.declared.kernel.Did.TheVariants.{Ended as NoFrame, Went, Start, Enter, Leave, Await, Trapped}
-use Rattle.aos_base.specs.Question.{Reads, Stores, Copies, PutsText, ComparesTexts, Calls, Ends, Makes, Starts, PutsInt, PutsChar, PutsString, PutsNothing, PutsLn, Places, Lengths}
-use Rattle.aos_base.specs.Rooted.{Rooted, load}
+use Rattle.aos_base.specs.Question.{Reads, Stores, Copies, PutsText, ComparesTexts, Calls, Ends, Makes, Starts, PutsInt, PutsChar, PutsString, PutsNothing, PutsLn, Places, Lengths, Opens, Sizes, Tests}
+use Rattle.aos_base.specs.Number.{array_lengths}
+use Rattle.aos_base.specs.Rooted.{Made, Rooted, by_number, load}
 use Rattle.aos_code.specs.declared.instr.Cell.{Cell}
 use Rattle.aos_code.specs.declared.instr.Cell.TheVariants.{Num, Ref, Call as CallCell, Place}
 use Rattle.aos_code.specs.declared.instr.Kind.{Kind}
 use Rattle.aos_code.specs.declared.image.Image.{Image}
 use Rattle.aos_code.specs.declared.image.ProcShape.{ProcShape}
+use Rattle.aos_code.specs.declared.image.TypeDesc.{TypeDesc}
 use Rattle.aos_code.specs.Memory.{Memory, Addr, has_room}
 use Rattle.aos_code.specs.Numbered.{numbered}
 use Rattle.aos_code.specs.Silent.{Stack, Keeps, Question, Begins, Fails, Stop, Work, Ended, is_of}
-use Rattle.aos_code.specs.Machine.{Frame, Frames, Turned, Handed, rooted, cells_at, written, leaves, goes_on, reads, writes, copies, ends, prints, writes_out, makes, starts, stores_text, fitted, puts_text, compares, is_deep, enters, calls_with, calls, handed, called_frame, answer, goes, text_at, length_in, code_in, opened, opened_by, past, past_all, past_stop, code_of, stop_of, turn, turn_at, behind}
+use Rattle.aos_code.specs.Machine.{Frame, Frames, Turned, Handed, rooted, cells_at, written, leaves, goes_on, reads, writes, copies, ends, prints, writes_out, makes, makes_with, makes_of, numbers_in, in_rows, first_cell, made_in, starts, stores_text, fitted, puts_text, compares, is_deep, enters, calls_with, calls, handed, called_frame, answer, goes, text_at, length_in, code_in, opened, opened_by, past, past_all, past_stop, code_of, stop_of, turn, turn_at, behind, home_of, position, position_in, position_or, or_below}
 use Rattle.aos_store.specs.declared.frames.Frame.{Frame as KeptFrame}
 use Rattle.aos_store.specs.declared.frames.Frames.{Frames as KeptFrames}
 use Rattle.aos_store.specs.Store.{frame_in, list_in, frames_in}
 use Rattle.aos_silent.specs.declared.act.Question.{Question as KeptQuestion}
 use Rattle.aos_silent.specs.declared.act.Question.TheVariants.{Starts as AsksStart}
 use Rattle.aos_silent.specs.declared.silent.Stop.{Stop as KeptStop}
-use Rattle.aos_silent.specs.declared.silent.Stop.TheVariants.{Work as AtWork}
+use Rattle.aos_silent.specs.declared.silent.Stop.TheVariants.{Work as AtWork, Begins as AtBegin, Fails as AtFault}
 use Rattle.aos_silent.specs.Acts.{question_in, operands_of}
-use Rattle.aos_cpu.specs.Answers.{Made}
+use Rattle.aos_cpu.specs.Answers.{Made as HasMade, begun_at}
 use Rattle.aos_silent.specs.Silent.{Seen, stop_in, IsStopOf, silent_at, seen_at}
-use Rattle.aos_cpu.specs.Turns.{SeenFrames, seen, seen_all, seen_frames, Alike, Shown, StandsAtStop, HasAnswered, Stands, Same, WhereLeft, IsBefore, IsBeforeStart, counted}
-use Rattle.aos_cpu.proofs.Asking.{started_on_top}
+use Rattle.aos_cpu.specs.Turns.{SeenFrames, seen, seen_all, seen_frames, Alike, Shown, StandsAtStop, HasAnswered, Stands, Same, WhereLeft, IsBefore, IsBeforeStart, StandsAtStart, IsTurned, home_of_top, counted}
+use Rattle.aos_silent.specs.Known.{Knows}
+use Rattle.aos_cpu.proofs.Asking.{started_on_top, started_again, starts_there}
 use Rattle.aos_silent.proofs.Topmost.{top_some, reverse-push}
 
 -- The topmost frame, where it is kept last of so many.
@@ -77,40 +81,44 @@ rest_length fs =
     length-map (reverse (all_but_top fs)) frame_in ∙ length-reverse (all_but_top fs) ∙ omega (arith, length-take (length fs - 1) fs)
 
 -- the topmost of opened frames has done some silent work
-pub advanced : (image : Image) (old mid : KeptFrames) (n here : ℕ) (f g : KeptFrame) → frames_in mid ≡ opened (frames_in old) → n ≡ length mid.list.items → here ≡ n - 1 →
-    slice_get mid.list.items (n - 1) ≡ Some f → seen_at image here (frame_in g) ≡ seen_at image here (frame_in f) →
-    Alike image (frames_in old) (record { following = reverse mid.following.items; frames = list_in (slice_set mid.list.items (n - 1) g) })
-advanced image old mid n here f g opens len is e same =
+pub advanced : (image : Image) (made : ℕ → Option Made) (old mid : KeptFrames) (n here : ℕ) (f g : KeptFrame) → frames_in mid ≡ opened (frames_in old) → n ≡ length mid.list.items → here ≡ n - 1 →
+    slice_get mid.list.items (n - 1) ≡ Some f → ((all : ℕ → Option Made) → Knows all made → seen_at image all here (frame_in g) ≡ seen_at image all here (frame_in f)) →
+    Alike image made (frames_in old) (record { following = reverse mid.following.items; frames = list_in (slice_set mid.list.items (n - 1) g) })
+advanced image made old mid n here f g opens len is e same all knows =
     let following = reverse mid.following.items in
     let rest = list_in (all_but_top mid.list.items) in
     let count : here ≡ length rest = is ∙ ap (λ m. m - 1) len ∙ sym (rest_length mid.list.items) in
-    let seen_same : seen image (frame_in f) rest ≡ seen image (frame_in g) rest = sym (subst (λ m. seen_at image m (frame_in g) ≡ seen_at image m (frame_in f)) count same) in
-    ap (seen_frames image) (sym opens) ∙ ap (seen_all image following) (list_top mid.list.items n f len e)
+    let seen_same : seen image all (frame_in f) rest ≡ seen image all (frame_in g) rest = sym (subst (λ m. seen_at image all m (frame_in g) ≡ seen_at image all m (frame_in f)) count (same all knows)) in
+    ap (seen_frames image all) (sym opens) ∙ ap (seen_all image all following) (list_top mid.list.items n f len e)
     ∙ (λ i. (let x : SeenFrames = record { following = following; top = Some (seen_same i); below = rest } in x))
-    ∙ ap (λ l. seen_frames image (opened_by l following)) (sym (list_set mid.list.items n f g len e))
+    ∙ ap (λ l. seen_frames image all (opened_by l following)) (sym (list_set mid.list.items n f g len e))
 
 -- and stands where that ends
-pub stands_there : (image : Image) (stop : KeptStop) (fs : List KeptFrame) (n here : ℕ) (f g : KeptFrame) → n ≡ length fs → here ≡ n - 1 → slice_get fs (n - 1) ≡ Some f →
-    stop_in stop (frame_in g) ≡ silent_at image here (frame_in f) → IsStopOf stop (frame_in g) → seen_at image here (frame_in g) ≡ seen_at image here (frame_in f) →
-    StandsAtStop image stop (list_in (slice_set fs (n - 1) g))
-stands_there image stop fs n here f g len is e ends place same =
+pub stands_there : (image : Image) (made : ℕ → Option Made) (stop : KeptStop) (fs : List KeptFrame) (n here : ℕ) (f g : KeptFrame) → n ≡ length fs → here ≡ n - 1 → slice_get fs (n - 1) ≡ Some f →
+    stop_in stop (frame_in g) ≡ silent_at image made here (frame_in f) → IsStopOf stop (frame_in g) → seen_at image made here (frame_in g) ≡ seen_at image made here (frame_in f) →
+    StandsAtStop image made stop (list_in (slice_set fs (n - 1) g))
+stands_there image made stop fs n here f g len is e ends place same =
     let rest = list_in (all_but_top fs) in
     let count : here ≡ length rest = is ∙ ap (λ m. m - 1) len ∙ sym (rest_length fs) in
-    let stops : silent_at image here (frame_in g) ≡ stop_in stop (frame_in g) = ap (λ (x : Seen). x.stop) same ∙ sym ends in
-    subst (StandsAtStop image stop) (sym (list_set fs n f g len e)) (subst (λ m. silent_at image m (frame_in g) ≡ stop_in stop (frame_in g)) count stops, place)
+    let stops : silent_at image made here (frame_in g) ≡ stop_in stop (frame_in g) = ap (λ (x : Seen). x.stop) same ∙ sym ends in
+    subst (StandsAtStop image made stop) (sym (list_set fs n f g len e)) (subst (λ m. silent_at image made m (frame_in g) ≡ stop_in stop (frame_in g)) count stops, place)
 
 -- a frame whose silent work is elsewhere
 abbrev pub ahead : Frame → ℕ → Keeps → Stack → Frame
 ahead g n k s = record g { next = n; keeps = k; stack = s }
 
-pub is_ahead : (image : Image) (f g : Frame) (fs gs : List Frame) → seen image f fs ≡ seen image g gs → f ≡ ahead g f.next f.keeps f.stack
-is_ahead image f g fs gs e =
+pub is_ahead : (image : Image) (all : ℕ → Option Made) (f g : Frame) (fs gs : List Frame) → seen image all f fs ≡ seen image all g gs → f ≡ ahead g f.next f.keeps f.stack
+is_ahead image all f g fs gs e =
     λ i. (let x : Frame = record { procedure = (e i).procedure; object = (e i).object; next = f.next; at = (e i).at; cells = (e i).cells; counted = (e i).counted; keeps = f.keeps; stack = f.stack } in x)
+
+-- what objects are known to be made as where a turn has come to
+abbrev pub after_turn : Image → Turned → ℕ → Option Made
+after_turn image t = λ o. by_number o t.store.made
 
 -- turns with the same store, output and work, and frames that are alike
 pub record Similar (image : Image) (t u : Turned) : Type 0 where
   pub store : t.store ≡ u.store
-  pub alike : Alike image t.frames u.frames
+  pub alike : Alike image (after_turn image u) t.frames u.frames
   pub output : t.output ≡ u.output
   pub begun : t.begun ≡ u.begun
   pub left : t.left ≡ u.left
@@ -119,7 +127,7 @@ pub similar_is : (image : Image) (t u : Turned) → t ≡ u → Similar image t 
 similar_is image t u e =
     record {
       store = ap (λ (x : Turned). x.store) e;
-      alike = ap (λ (x : Turned). seen_frames image (opened x.frames)) e;
+      alike = λ all knows. ap (λ (x : Turned). seen_frames image all (opened x.frames)) e;
       output = ap (λ (x : Turned). x.output) e;
       begun = ap (λ (x : Turned). x.begun) e;
       left = ap (λ (x : Turned). x.left) e;
@@ -133,7 +141,7 @@ pub record Both (image : Image) (q : Question) (t u : Turned) : Type 0 where
   pub similar : Similar image t u
   pub starts : (o : ℕ) → u.left ≡ Start o → q ≡ Starts (Ref o)
 
-module _ (image : Image) (following : List ℕ) (g : Frame) (n : ℕ) (k' : Keeps) (s' : Stack) (fs : List Frame) (mem : Memory) (h : seen image (ahead g n k' s') fs ≡ seen image g fs) where
+module _ (image : Image) (following : List ℕ) (g : Frame) (n : ℕ) (k' : Keeps) (s' : Stack) (fs : List Frame) (mem : Memory) (h : (all : ℕ → Option Made) → Knows all (made_in image mem) → seen image all (ahead g n k' s') fs ≡ seen image all g fs) where
   abbrev pub f' : Frame
   f' = ahead g n k' s'
 
@@ -142,7 +150,7 @@ module _ (image : Image) (following : List ℕ) (g : Frame) (n : ℕ) (k' : Keep
 
   lost_alike : (c d : ℕ) → Similar image (leaves following (Trapped c d) (f' ∷ fs) mem) (leaves following (Trapped c d) (g ∷ fs) mem)
   lost_alike c d =
-      record { store = refl; alike = λ i. (let x : SeenFrames = record { following = following; top = Some (h i); below = fs } in x); output = refl; begun = refl; left = refl }
+      record { store = refl; alike = λ all knows i. (let x : SeenFrames = record { following = following; top = Some (h all knows i); below = fs } in x); output = refl; begun = refl; left = refl }
 
   lost : (q : Question) (c d : ℕ) → Both image q (leaves following (Trapped c d) (f' ∷ fs) mem) (leaves following (Trapped c d) (g ∷ fs) mem)
   lost q c d = record { similar = lost_alike c d; starts = λ o x. absurd (cc x) }
@@ -171,9 +179,20 @@ module _ (image : Image) (following : List ℕ) (g : Frame) (n : ℕ) (k' : Keep
   out_both q None at k s = lost q 16 0
   out_both q (Some bytes) at k s = same q _ refl
 
-  make_both : (q : Question) (room : Bool) (t at : ℕ) (k : Keeps) (s : Stack) → Both image q (makes following room t at k s f' fs mem) (makes following room t at k s g fs mem)
-  make_both q true t at k s = same q _ refl
-  make_both q false t at k s = lost q 12 0
+  make_both : (q : Question) (room : Bool) (m : Made) (cells : List Cell) (at : ℕ) (k : Keeps) (s : Stack) → Both image q (makes following room m cells at k s f' fs mem) (makes following room m cells at k s g fs mem)
+  make_both q true m cells at k s = same q _ refl
+  make_both q false m cells at k s = lost q 12 0
+
+  make_with_both : (q : Question) (ns : Option (List ℕ)) (t : ℕ) (d : TypeDesc) (at : ℕ) (k : Keeps) (s : Stack) → Both image q (makes_with following ns t d at k s f' fs mem) (makes_with following ns t d at k s g fs mem)
+  make_with_both q None t d at k s = lost q 15 0
+  make_with_both q (Some ns) t d at k s =
+      let m : Made = record { type = t; lengths = ns } in
+      let cells = in_rows following ns (map first_cell d.kinds.items) in make_both q (has_room m cells mem) m cells at k s
+
+  make_of_both : (q : Question) (d : Option TypeDesc) (zs : Option (List ℤ)) (t at : ℕ) (k : Keeps) (s : Stack) → Both image q (makes_of following d zs t at k s f' fs mem) (makes_of following d zs t at k s g fs mem)
+  make_of_both q None zs t at k s = lost q 16 0
+  make_of_both q (Some d) None t at k s = lost q 16 0
+  make_of_both q (Some d) (Some zs) t at k s = make_with_both q (array_lengths zs) t d at k s
 
   start_both : (v : Cell) (at : ℕ) (k : Keeps) (s : Stack) → Both image (Starts v) (starts following v at k s f' fs mem) (starts following v at k s g fs mem)
   start_both (Ref zero) at k s = lost _ 16 0
@@ -210,7 +229,7 @@ module _ (image : Image) (following : List ℕ) (g : Frame) (n : ℕ) (k' : Keep
   call_both q (Some shape) p vs at k s =
       call_with_both q p shape (handed following (suc (length fs)) (rooted (g ∷ fs) mem) shape.params.items vs (length shape.kinds.items)) at k s
 
-  pub answer_both : (q : Question) (at : ℕ) (k : Keeps) (s : Stack) → Both image q (answer following image.shapes.items q at k s f' fs mem) (answer following image.shapes.items q at k s g fs mem)
+  pub answer_both : (q : Question) (at : ℕ) (k : Keeps) (s : Stack) → Both image q (answer following image.shapes.items image.types.items q at k s f' fs mem) (answer following image.shapes.items image.types.items q at k s g fs mem)
   answer_both (Reads kind a) at k s = read_both (Reads kind a) kind (load a.root a.cell (rooted (g ∷ fs) mem)) at k s
   answer_both (Stores a v) at k s = write_both (Stores a v) (is_some (load a.root a.cell (rooted (g ∷ fs) mem))) a (v ∷ []) at k s
   answer_both (Copies m from to) at k s =
@@ -221,7 +240,7 @@ module _ (image : Image) (following : List ℕ) (g : Frame) (n : ℕ) (k' : Keep
       compare_both (ComparesTexts r a m b l) r (text_at following a m (rooted (g ∷ fs) mem)) (text_at following b l (rooted (g ∷ fs) mem)) at k s
   answer_both (Calls p vs) at k s = call_both (Calls p vs) (numbered image.shapes.items p) p vs at k s
   answer_both (Ends result) at k s = same (Ends result) _ refl
-  answer_both (Makes t) at k s = make_both (Makes t) (has_room mem) t at k s
+  answer_both (Makes t vs) at k s = make_of_both (Makes t vs) (numbered image.types.items t) (numbers_in following vs) t at k s
   answer_both (Starts v) at k s = start_both v at k s
   answer_both (PutsInt v m) at k s = print_both (PutsInt v m) (written v m) at k s
   answer_both (PutsChar v) at k s = out_both (PutsChar v) (option_map (λ c. c ∷ []) (code_in following v)) at k s
@@ -230,8 +249,11 @@ module _ (image : Image) (following : List ℕ) (g : Frame) (n : ℕ) (k' : Keep
   answer_both PutsLn at k s = same PutsLn _ refl
   answer_both (Places a) at k s = lost (Places a) 16 0
   answer_both (Lengths a) at k s = lost (Lengths a) 16 0
+  answer_both (Opens v) at k s = lost (Opens v) 16 0
+  answer_both (Sizes v d) at k s = lost (Sizes v d) 16 0
+  answer_both (Tests v t) at k s = lost (Tests v t) 16 0
 
-  pub goes_alike : (stop : Stop) → Similar image (goes following image.shapes.items stop f' fs mem) (goes following image.shapes.items stop g fs mem)
+  pub goes_alike : (stop : Stop) → Similar image (goes following image.shapes.items image.types.items stop f' fs mem) (goes following image.shapes.items image.types.items stop g fs mem)
   goes_alike (Work q at k s) = (answer_both q at k s).similar
   goes_alike (Ended (Begins at p s) k) = similar_is image _ _ refl
   goes_alike (Ended (Fails c d) k) = lost_alike c d
@@ -242,42 +264,62 @@ some_same x y e = cc
 pub none_other : {A : Type 0} (x : A) → None ≡ Some x → ⊥
 none_other x e = absurd (cc e)
 
-turn_at_alike : (image : Image) (mem : Memory) (following following' : List ℕ) (fs gs : List Frame) → seen_all image following fs ≡ seen_all image following' gs → Similar image (turn_at image following fs mem) (turn_at image following' gs mem)
-turn_at_alike image mem following following' [] [] h = similar_is image _ _ (ap (λ (x : SeenFrames). leaves x.following NoFrame [] mem) h)
-turn_at_alike image mem following following' [] (g ∷ gs) h = absurd (none_other (seen image g gs) (ap (λ (x : SeenFrames). x.top) h))
-turn_at_alike image mem following following' (f ∷ fs) [] h = absurd (none_other (seen image f fs) (sym (ap (λ (x : SeenFrames). x.top) h)))
+-- what is known is known
+pub itself : (made : ℕ → Option Made) → Knows made made
+itself made o m e = e
+
+turn_at_alike : (image : Image) (mem : Memory) (following following' : List ℕ) (fs gs : List Frame) → ((all : ℕ → Option Made) → Knows all (made_in image mem) → seen_all image all following fs ≡ seen_all image all following' gs) →
+    Similar image (turn_at image following fs mem) (turn_at image following' gs mem)
+turn_at_alike image mem following following' [] [] h =
+    let e = h (made_in image mem) (itself (made_in image mem)) in similar_is image _ _ (ap (λ (x : SeenFrames). leaves x.following NoFrame [] mem) e)
+turn_at_alike image mem following following' [] (g ∷ gs) h = absurd (none_other (seen image (made_in image mem) g gs) (ap (λ (x : SeenFrames). x.top) (h (made_in image mem) (itself (made_in image mem)))))
+turn_at_alike image mem following following' (f ∷ fs) [] h = absurd (none_other (seen image (made_in image mem) f fs) (sym (ap (λ (x : SeenFrames). x.top) (h (made_in image mem) (itself (made_in image mem))))))
 turn_at_alike image mem following following' (f ∷ fs) (g ∷ gs) h =
-    let e : seen image f fs ≡ seen image g gs = some_same _ _ (ap (λ (x : SeenFrames). x.top) h) in
-    let below : fs ≡ gs = ap (λ (x : SeenFrames). x.below) h in
-    let is = is_ahead image f g fs gs e in
+    let made = made_in image mem in
+    let seen_so = h made (itself made) in
+    let e : seen image made f fs ≡ seen image made g gs = some_same _ _ (ap (λ (x : SeenFrames). x.top) seen_so) in
+    let below : fs ≡ gs = ap (λ (x : SeenFrames). x.below) seen_so in
+    let is = is_ahead image made f g fs gs e in
     let x = ahead g f.next f.keeps f.stack in
-    let seen_as : seen image x gs ≡ seen image g gs = (λ i. seen image (sym is i) (sym below i)) ∙ e in
-    let now : turn_at image following (f ∷ fs) mem ≡ goes following' image.shapes.items (stop_of image g gs) x gs mem =
-    λ i. goes (h i).following image.shapes.items (e i).stop (is i) (below i) mem in
-    similar_by image _ _ _ now (goes_alike image following' g f.next f.keeps f.stack gs mem seen_as (stop_of image g gs))
+    let seen_as : (all : ℕ → Option Made) → Knows all made → seen image all x gs ≡ seen image all g gs =
+    λ all knows. (λ i. seen image all (sym is i) (sym below i)) ∙ some_same (seen image all f fs) (seen image all g gs) (ap (λ (x : SeenFrames). x.top) (h all knows)) in
+    let now : turn_at image following (f ∷ fs) mem ≡ goes following' image.shapes.items image.types.items (stop_of image made g gs) x gs mem =
+    λ i. goes (seen_so i).following image.shapes.items image.types.items (e i).stop (is i) (below i) mem in
+    similar_by image _ _ _ now (goes_alike image following' g f.next f.keeps f.stack gs mem seen_as (stop_of image made g gs))
 
 -- turns of frames that are alike
-pub turn_alike : (image : Image) (mem : Memory) (fs gs : Frames) → Alike image fs gs → Similar image (turn image mem fs) (turn image mem gs)
+pub turn_alike : (image : Image) (mem : Memory) (fs gs : Frames) → Alike image (made_in image mem) fs gs → Similar image (turn image mem fs) (turn image mem gs)
 turn_alike image mem fs gs h = turn_at_alike image mem (opened fs).following (opened gs).following (opened fs).frames (opened gs).frames h
 
-pub shown_alike : (image : Image) (old new : KeptFrames) (mem mem' : Memory) (fs : Frames) (did : Did) (before after : List ℕ) → Alike image fs (frames_in old) →
+-- the same of frames that are alike to those
+pub alike_both : (image : Image) (made : ℕ → Option Made) (fs gs hs : Frames) → Alike image made fs gs → Alike image made gs hs → Alike image made fs hs
+alike_both image made fs gs hs h g all knows = h all knows ∙ g all knows
+
+pub alike_back : (image : Image) (made : ℕ → Option Made) (fs gs : Frames) → Alike image made fs gs → Alike image made gs fs
+alike_back image made fs gs h all knows = sym (h all knows)
+
+-- and where more is known
+pub alike_more : (image : Image) (made more : ℕ → Option Made) (fs gs : Frames) → Knows more made → Alike image made fs gs → Alike image more fs gs
+alike_more image made more fs gs k h all knows = h all (λ o m e. knows o m (k o m e))
+
+pub shown_alike : (image : Image) (old new : KeptFrames) (mem mem' : Memory) (fs : Frames) (did : Did) (before after : List ℕ) → Alike image (made_in image mem) fs (frames_in old) →
     Shown image (turn image mem (frames_in old)) did old new mem' before after → Shown image (turn image mem fs) did old new mem' before after
 shown_alike image old new mem mem' fs did before after h m =
     let s = turn_alike image mem fs (frames_in old) h in
     record {
       store = s.store ∙ m.store;
-      alike = s.alike ∙ m.alike;
+      alike = λ all knows. s.alike all (subst (λ (x : Memory). Knows all (made_in image x)) (sym m.store) knows) ∙ m.alike all knows;
       output = m.output ∙ ap (λ x. before ++ x) (sym s.output);
       begun = m.begun ∙ ap (λ b. counted b old.begun) (sym s.begun);
       left = s.left ∙ m.left;
     }
 
 pub shown_made : (image : Image) (t : Turned) (b : Bool) (did : Did) (old new : KeptFrames) (mem : Memory) (before after : List ℕ) →
-    Made t b did (frames_in new) mem before after → new.begun ≡ counted b old.begun → Shown image t did old new mem before after
+    HasMade t b did (frames_in new) mem before after → new.begun ≡ counted b old.begun → Shown image t did old new mem before after
 shown_made image t b did old new mem before after m e =
     record {
       store = m.store;
-      alike = ap (λ (x : Frames). seen_frames image (opened x)) m.frames;
+      alike = λ all knows. ap (λ (x : Frames). seen_frames image all (opened x)) m.frames;
       output = m.output;
       begun = e ∙ ap (λ x. counted x old.begun) (sym m.begun);
       left = m.left;
@@ -287,34 +329,34 @@ shown_made image t b did old new mem before after m e =
 same_left : (did : Did) (P : Type 0) (o : ℕ) → did ≡ Start o → WhereLeft did P → P
 same_left did P o e h = subst (λ (x : Did). WhereLeft x P) e h
 
-at_stop : (image : Image) (q : KeptQuestion) (at : ℕ) (l : List Frame) (f : Frame) (fs : List Frame) → StandsAtStop image (AtWork q at) l → l ≡ f ∷ fs → StandsAtStop image (AtWork q at) (f ∷ fs)
-at_stop image q at l f fs x is = subst (StandsAtStop image (AtWork q at)) is x
+at_stop : (image : Image) (made : ℕ → Option Made) (q : KeptQuestion) (at : ℕ) (l : List Frame) (f : Frame) (fs : List Frame) → StandsAtStop image made (AtWork q at) l → l ≡ f ∷ fs → StandsAtStop image made (AtWork q at) (f ∷ fs)
+at_stop image made q at l f fs x is = subst (StandsAtStop image made (AtWork q at)) is x
 
 -- the topmost frame stands at the question, and whose activity is started lies on top
-pub stands_at : (image : Image) (q : KeptQuestion) (at : ℕ) (old : KeptFrames) → StandsAtStop image (AtWork q at) (list_in old.list.items) → Stands q at old
-stands_at image (AsksStart o) at old x f fs is =
-    let y = at_stop image (AsksStart o) at (list_in old.list.items) f fs x is in
-    (y.1.0, started_on_top image.shapes.items f.procedure (length fs) f.cells (code_of image f.procedure) f.next f.keeps f.stack (Ref o) f.keeps (drop 1 f.stack) (y.0 ∙ ap (λ m. Work (Starts (Ref o)) m f.keeps (drop 1 f.stack)) y.1.0))
-stands_at image q at old x f fs is = ((at_stop image q at (list_in old.list.items) f fs x is).1.0, tt)
+pub stands_at : (image : Image) (made : ℕ → Option Made) (q : KeptQuestion) (at : ℕ) (old : KeptFrames) → StandsAtStop image made (AtWork q at) (list_in old.list.items) → Stands q at old
+stands_at image made (AsksStart o) at old x f fs is =
+    let y = at_stop image made (AsksStart o) at (list_in old.list.items) f fs x is in
+    (y.1.0, started_on_top image.shapes.items image.types.items made f.procedure (length fs) f.cells (code_of image f.procedure) f.next f.keeps f.stack (Ref o) f.keeps (drop 1 f.stack) (y.0 ∙ ap (λ m. Work (Starts (Ref o)) m f.keeps (drop 1 f.stack)) y.1.0))
+stands_at image made q at old x f fs is = ((at_stop image made q at (list_in old.list.items) f fs x is).1.0, tt)
 
 -- a question has been answered
 pub worked : (image : Image) (q : KeptQuestion) (at : ℕ) (old new : KeptFrames) (mem mem' : Memory) (did : Did) (before after : List ℕ) →
-    StandsAtStop image (AtWork q at) (list_in old.list.items) → HasAnswered image q at old new mem mem' did before after → new.begun ≡ old.begun →
+    StandsAtStop image (made_in image mem) (AtWork q at) (list_in old.list.items) → HasAnswered image q at old new mem mem' did before after → new.begun ≡ old.begun →
     Shown image (turn image mem (frames_in old)) did old new mem' before after
 worked image q at old new mem mem' did before after stands answered e = by_list (list_in old.list.items) refl stands
   where
-    by_list : (l : List Frame) → list_in old.list.items ≡ l → StandsAtStop image (AtWork q at) l →
+    by_list : (l : List Frame) → list_in old.list.items ≡ l → StandsAtStop image (made_in image mem) (AtWork q at) l →
         Shown image (turn image mem (frames_in old)) did old new mem' before after
     by_list [] is x = absurd x
     by_list (f ∷ fs) is x =
         let following = reverse old.following.items in
         subst (λ (l : List Frame). Shown image (turn image mem (record { following = following; frames = l })) did old new mem' before after) (sym is)
-        (subst (λ (y : Stop). Shown image (goes following image.shapes.items y f fs mem) did old new mem' before after) (sym x.0)
+        (subst (λ (y : Stop). Shown image (goes following image.shapes.items image.types.items y f fs mem) did old new mem' before after) (sym x.0)
         (shown_made image _ false did old new mem' before after (answered f fs is) e))
 
 -- and where a start is left to the kernel, the frames stand before it
 pub stands_before : (image : Image) (q : KeptQuestion) (at : ℕ) (old new : KeptFrames) (mem mem' : Memory) (did : Did) (before after : List ℕ) →
-    StandsAtStop image (AtWork q at) (list_in old.list.items) → HasAnswered image q at old new mem mem' did before after → WhereLeft did (Same old new mem mem' before after) →
+    StandsAtStop image (made_in image mem) (AtWork q at) (list_in old.list.items) → HasAnswered image q at old new mem mem' did before after → WhereLeft did (Same old new mem mem' before after) →
     IsBefore image did (frames_in new)
 stands_before image q at old new mem mem' did before after stands answered left =
     (elim did as (λ (x : Did). did ≡ x → IsBefore image x (frames_in new)) [
@@ -327,15 +369,19 @@ stands_before image q at old new mem mem' did before after stands answered left 
       | Trapped n c ↦ λ e. tt
     ]) refl
   where
-    by_list : (o : ℕ) → did ≡ Start o → (l : List Frame) → list_in old.list.items ≡ l → StandsAtStop image (AtWork q at) l → IsBeforeStart image o (list_in new.list.items)
+    by_list : (o : ℕ) → did ≡ Start o → (l : List Frame) → list_in old.list.items ≡ l → StandsAtStop image (made_in image mem) (AtWork q at) l → IsBeforeStart image o (list_in new.list.items)
     by_list o e [] is x = absurd x
     by_list o e (f ∷ fs) is x =
         let same : frames_in new ≡ frames_in old = (same_left did (Same old new mem mem' before after) o e left).frames in
         let following = reverse old.following.items in
         let m = answered f fs is in
-        let asks : question_in q f.stack ≡ Starts (Ref o) = (answer_both image following f f.next f.keeps f.stack fs mem refl (question_in q f.stack) at f.keeps (drop (operands_of q) f.stack)).starts o (m.left ∙ e) in
-        subst (IsBeforeStart image o) (sym (ap (λ (x : Frames). x.frames) same ∙ is))
-        (subst (λ n. n + 1 < 2 ^ 64) x.1.0 x.1.1, x.0 ∙ asked_start q f.stack asks at f.keeps ∙ ap (λ n. Work (Starts (Ref o)) n f.keeps (drop 1 f.stack)) x.1.0)
+        let asks : question_in q f.stack ≡ Starts (Ref o) = (answer_both image following f f.next f.keeps f.stack fs mem (λ all knows. refl) (question_in q f.stack) at f.keeps (drop (operands_of q) f.stack)).starts o (m.left ∙ e) in
+        let stops : stop_of image (made_in image mem) f fs ≡ Work (Starts (Ref o)) f.next f.keeps (drop 1 f.stack) =
+        x.0 ∙ asked_start q f.stack asks at f.keeps ∙ ap (λ n. Work (Starts (Ref o)) n f.keeps (drop 1 f.stack)) x.1.0 in
+        subst (IsBeforeStart image o) (sym (ap (λ (x : Frames). x.frames) same ∙ is)) (
+          subst (λ n. n + 1 < 2 ^ 64) x.1.0 x.1.1,
+          started_again image.shapes.items image.types.items (made_in image mem) (λ p. None) f.procedure (length fs) f.cells (code_of image f.procedure) f.next f.keeps f.stack (Ref o) f.keeps (drop 1 f.stack) stops,
+        )
       where
         asked_start : (q : KeptQuestion) (s : Stack) → question_in q s ≡ Starts (Ref o) → (at : ℕ) (k : Keeps) → Work (question_in q s) at k (drop (operands_of q) s) ≡ Work (Starts (Ref o)) at k (drop 1 s)
         asked_start (AsksStart p) s e at k = ap (λ y. Work y at k (drop 1 s)) e
@@ -343,28 +389,119 @@ stands_before image q at old new mem mem' did before after stands answered left 
 
 -- Past the work that was left to the kernel.
 
-past_at : (image : Image) (ps ps' : List ℕ) (l : List Frame) (f : Frame) (rest : List Frame) (q : Question) (at : ℕ) (k : Keeps) (s : Stack) →
-    seen_all image ps l ≡ seen_all image ps' (f ∷ rest) → stop_of image f rest ≡ Work q at k s →
-    (let x : Frames = record { following = ps; frames = past_all image l } in x) ≡ record { following = ps'; frames = past_stop (Work q at k s) f ∷ rest }
-past_at image ps ps' [] f rest q at k s h e = absurd (none_other (seen image f rest) (ap (λ (x : SeenFrames). x.top) h))
-past_at image ps ps' (x ∷ xs) f rest q at k s h e =
-    let same : seen image x xs ≡ seen image f rest = some_same _ _ (ap (λ (y : SeenFrames). y.top) h) in
-    let is = is_ahead image x f xs rest same in
-    let stops : stop_of image x xs ≡ Work q at k s = ap (λ (y : Seen). y.stop) same ∙ e in
+-- where a turn leaves the start of an activity, its frames stand at that
+start_left : (image : Image) (following : List ℕ) (f : Frame) (fs : List Frame) (mem : Memory) (stop : Stop) (o : ℕ) → stop_of image (made_in image mem) f fs ≡ stop →
+    (goes following image.shapes.items image.types.items stop f fs mem).left ≡ Start o → StandsAtStart image o (goes following image.shapes.items image.types.items stop f fs mem).frames.frames
+start_left image following f fs mem (Work q at k s) o is e =
+    let asks : q ≡ Starts (Ref o) = (answer_both image following f f.next f.keeps f.stack fs mem (λ all knows. refl) q at k s).starts o e in
+    subst (λ (x : Question). StandsAtStart image o (answer following image.shapes.items image.types.items x at k s f fs mem).frames.frames) (sym asks)
+    (by o (ap (λ (x : Question). (answer following image.shapes.items image.types.items x at k s f fs mem).left) (sym asks) ∙ e) (is ∙ ap (λ x. Work x at k s) asks))
+  where
+    by : (o : ℕ) → (answer following image.shapes.items image.types.items (Starts (Ref o)) at k s f fs mem).left ≡ Start o → stop_of image (made_in image mem) f fs ≡ Work (Starts (Ref o)) at k s →
+        StandsAtStart image o (answer following image.shapes.items image.types.items (Starts (Ref o)) at k s f fs mem).frames.frames
+    by zero e stops = absurd (cc e)
+    by (suc o) e stops =
+        started_again image.shapes.items image.types.items (made_in image mem) (λ p. None) f.procedure (length fs) f.cells (code_of image f.procedure) at k (Ref (suc o) ∷ s) (Ref (suc o)) k s
+        (starts_there image.shapes.items image.types.items (made_in image mem) f.procedure (length fs) f.cells (code_of image f.procedure) (Ref (suc o)) at k s f.next f.keeps f.stack stops)
+start_left image following f fs mem (Ended (Begins at p s) k) o is e = absurd (cc e)
+start_left image following f fs mem (Ended (Fails n c) k) o is e = absurd (cc e)
+
+pub turn_stands : (image : Image) (mem : Memory) (fs : Frames) (o : ℕ) → (turn image mem fs).left ≡ Start o → StandsAtStart image o (turn image mem fs).frames.frames
+turn_stands image mem fs o = by (opened fs).following (opened fs).frames
+  where
+    by : (following : List ℕ) (l : List Frame) → (turn_at image following l mem).left ≡ Start o → StandsAtStart image o (turn_at image following l mem).frames.frames
+    by following [] e = absurd (cc e)
+    by following (f ∷ fs) e = start_left image following f fs mem (stop_of image (made_in image mem) f fs) o refl e
+
+past_at : (image : Image) (made : ℕ → Option Made) (ps ps' : List ℕ) (l : List Frame) (f : Frame) (rest : List Frame) (o : ℕ) →
+    seen_all image made ps l ≡ seen_all image made ps' (f ∷ rest) → StandsAtStart image o l → StandsAtStart image o (f ∷ rest) →
+    (let x : Frames = record { following = ps; frames = past_all image l } in x) ≡ record { following = ps'; frames = past_stop (Work (Starts (Ref o)) f.next f.keeps (drop 1 f.stack)) f ∷ rest }
+past_at image made ps ps' [] f rest o h stands e = absurd stands
+past_at image made ps ps' (x ∷ xs) f rest o h stands e =
+    let same : seen image made x xs ≡ seen image made f rest = some_same _ _ (ap (λ (y : SeenFrames). y.top) h) in
+    let is = is_ahead image made x f xs rest same in
+    let again : stop_of image made x xs ≡ Work (Starts (Ref o)) x.next x.keeps (drop 1 x.stack) =
+    started_again image.shapes.items image.types.items (λ p. None) made x.procedure (length xs) x.cells (code_of image x.procedure) x.next x.keeps x.stack (Ref o) x.keeps (drop 1 x.stack) stands in
+    let there : stop_of image made f rest ≡ Work (Starts (Ref o)) f.next f.keeps (drop 1 f.stack) =
+    started_again image.shapes.items image.types.items (λ p. None) made f.procedure (length rest) f.cells (code_of image f.procedure) f.next f.keeps f.stack (Ref o) f.keeps (drop 1 f.stack) e in
+    let stops : stop_of image (λ p. None) x xs ≡ Work (Starts (Ref o)) f.next f.keeps (drop 1 f.stack) = stands ∙ sym again ∙ ap (λ (y : Seen). y.stop) same ∙ there in
     λ i. (let y : Frames = record { following = (h i).following; frames = past_stop (stops i) (is i) ∷ (h i).below } in y)
 
-pub passed : (image : Image) (o : ℕ) (fs : Frames) (old : KeptFrames) (n : ℕ) (f g : KeptFrame) (next : ℕ) → n ≡ length old.list.items → slice_get old.list.items (n - 1) ≡ Some f →
-    IsBeforeStart image o (list_in old.list.items) → Alike image fs (frames_in old) → (f.next + 1 < 2 ^ 64 → next ≡ f.next + 1) → frame_in g ≡ record (frame_in f) { next = next; stack = drop 1 (frame_in f).stack } →
-    Alike image (past image fs) (record { following = reverse old.following.items; frames = list_in (slice_set old.list.items (n - 1) g) })
-passed image o fs old n f g next len here before h small is =
+pub passed : (image : Image) (made : ℕ → Option Made) (o : ℕ) (fs : Frames) (old : KeptFrames) (n : ℕ) (f g : KeptFrame) (next : ℕ) → n ≡ length old.list.items → slice_get old.list.items (n - 1) ≡ Some f →
+    IsBeforeStart image o (list_in old.list.items) → StandsAtStart image o fs.frames → Alike image made fs (frames_in old) → (f.next + 1 < 2 ^ 64 → next ≡ f.next + 1) → frame_in g ≡ record (frame_in f) { next = next; stack = drop 1 (frame_in f).stack } →
+    Alike image made (past image fs) (record { following = reverse old.following.items; frames = list_in (slice_set old.list.items (n - 1) g) })
+passed image made o fs old n f g next len here before stands h small is all knows =
     let following = reverse old.following.items in
     let top = frame_in f in
     let rest = list_in (all_but_top old.list.items) in
-    let all = list_top old.list.items n f len here in
-    let b = subst (IsBeforeStart image o) all before in
-    let seen_so : seen_all image (opened fs).following (opened fs).frames ≡ seen_all image following (top ∷ rest) = h ∙ ap (λ l. seen_frames image (opened_by l following)) all in
+    let tops = list_top old.list.items n f len here in
+    let b = subst (IsBeforeStart image o) tops before in
+    let seen_so : seen_all image made (opened fs).following (opened fs).frames ≡ seen_all image made following (top ∷ rest) = h made (itself made) ∙ ap (λ l. seen_frames image made (opened_by l following)) tops in
     let moved : past_stop (Work (Starts (Ref o)) top.next top.keeps (drop 1 top.stack)) top ≡ frame_in g =
     ap (λ m. (let x : Frame = record top { next = m; stack = drop 1 top.stack } in x)) (sym (small b.0)) ∙ sym is in
-    ap (λ (x : Frames). seen_frames image (opened x)) (past_at image (opened fs).following following (opened fs).frames top rest (Starts (Ref o)) top.next top.keeps (drop 1 top.stack) seen_so b.1
+    ap (λ (x : Frames). seen_frames image all (opened x)) (past_at image made (opened fs).following following (opened fs).frames top rest o seen_so (still fs.following fs.frames stands) b.1
     ∙ (λ i. (let x : Frames = record { following = following; frames = moved i ∷ rest } in x))
     ∙ ap (λ l. (let x : Frames = record { following = following; frames = l } in x)) (sym (list_set old.list.items n f g len here)))
+  where
+    -- where there is a frame no body begins
+    still : (ps : List ℕ) (l : List Frame) → StandsAtStart image o l → StandsAtStart image o (opened_by l ps).frames
+    still ps [] x = absurd x
+    still ps (y ∷ ys) x = x
+
+-- Where frames stand in the text.
+
+position_same : (image : Image) (made : ℕ → Option Made) (ps qs : List ℕ) (l m : List Frame) → seen_all image made ps l ≡ seen_all image made qs m → position_in image l ≡ position_in image m
+position_same image made ps qs [] [] h = refl
+position_same image made ps qs [] (g ∷ gs) h = absurd (none_other (seen image made g gs) (ap (λ (x : SeenFrames). x.top) h))
+position_same image made ps qs (f ∷ fs) [] h = absurd (none_other (seen image made f fs) (sym (ap (λ (x : SeenFrames). x.top) h)))
+position_same image made ps qs (f ∷ fs) (g ∷ gs) h =
+    let e : seen image made f fs ≡ seen image made g gs = some_same _ _ (ap (λ (x : SeenFrames). x.top) h) in
+    let below : fs ≡ gs = ap (λ (x : SeenFrames). x.below) h in
+    λ i. or_below (e i).at (home_of image (e i).procedure) (position_or image (record { module_ = home_of image (e i).procedure; pos = record { line = 0; col = 0 } }) (below i))
+
+pub position_alike : (image : Image) (made : ℕ → Option Made) (fs gs : Frames) → Alike image made fs gs → position image fs ≡ position image gs
+position_alike image made fs gs h = position_same image made (opened fs).following (opened gs).following (opened fs).frames (opened gs).frames (h made (itself made))
+
+pub position_home : (image : Image) (ps : List ℕ) (l : List Frame) →
+    position_or image (home_of_top image (record { following = ps; frames = l })) l ≡ position image (record { following = ps; frames = l })
+position_home image [] [] = refl
+position_home image (p ∷ ps) [] = refl
+position_home image ps (f ∷ fs) = refl
+
+-- Turns that end at no question.
+
+-- a statement begins
+pub begun_shown : (image : Image) (at : ℕ) (pos : Pos) (old new : KeptFrames) (mem : Memory) (out : List ℕ) → StandsAtStop image (made_in image mem) (AtBegin at pos) (list_in old.list.items) →
+    ((f : Frame) (fs : List Frame) → list_in old.list.items ≡ f ∷ fs → list_in new.list.items ≡ begun_at at pos f ∷ fs) → new.following ≡ old.following → new.begun ≡ counted true old.begun →
+    Shown image (turn image mem (frames_in old)) Went old new mem out out
+begun_shown image at pos old new mem out stands moved following counts = by_list (list_in old.list.items) refl stands
+  where
+    by_list : (l : List Frame) → list_in old.list.items ≡ l → StandsAtStop image (made_in image mem) (AtBegin at pos) l → Shown image (turn image mem (frames_in old)) Went old new mem out out
+    by_list [] is x = absurd x
+    by_list (f ∷ fs) is x =
+        let fol = reverse old.following.items in
+        let now : record { following = fol; frames = begun_at at pos f ∷ fs } ≡ frames_in new =
+        λ i. (let y : Frames = record { following = reverse (sym following i).items; frames = sym (moved f fs is) i } in y) in
+        subst (λ (l : List Frame). Shown image (turn image mem (record { following = fol; frames = l })) Went old new mem out out) (sym is)
+        (subst (λ (y : Stop). Shown image (goes fol image.shapes.items image.types.items y f fs mem) Went old new mem out out) (sym x.0)
+        (record { store = refl; alike = λ all knows. ap (λ (y : Frames). seen_frames image all (opened y)) now; output = sym (append-nil out); begun = counts; left = refl }))
+
+-- a trap comes
+pub failed_shown : (image : Image) (number code : ℕ) (old : KeptFrames) (mem : Memory) (out : List ℕ) → StandsAtStop image (made_in image mem) (AtFault number code) (list_in old.list.items) →
+    Shown image (turn image mem (frames_in old)) (Trapped number code) old old mem out out
+failed_shown image number code old mem out stands = by_list (list_in old.list.items) refl stands
+  where
+    by_list : (l : List Frame) → list_in old.list.items ≡ l → StandsAtStop image (made_in image mem) (AtFault number code) l → Shown image (turn image mem (frames_in old)) (Trapped number code) old old mem out out
+    by_list [] is x = absurd x
+    by_list (f ∷ fs) is x =
+        let fol = reverse old.following.items in
+        subst (λ (l : List Frame). Shown image (turn image mem (record { following = fol; frames = l })) (Trapped number code) old old mem out out) (sym is)
+        (subst (λ (y : Stop). Shown image (goes fol image.shapes.items image.types.items y f fs mem) (Trapped number code) old old mem out out) (sym x.0)
+        (record { store = refl; alike = λ all knows. ap (λ (l : List Frame). seen_frames image all (opened (record { following = fol; frames = l }))) (sym is); output = sym (append-nil out); begun = refl; left = refl }))
+
+-- no frame is left, nor a body that is to follow
+pub ended_turned : (image : Image) (old : KeptFrames) (mem : Memory) (out : List ℕ) → frames_in old ≡ record { following = []; frames = [] } → IsTurned image NoFrame old old mem mem out out
+ended_turned image old mem out none fs h =
+    shown_alike image old old mem mem fs NoFrame out out h
+    (subst (λ (x : Frames). Shown image (turn image mem x) NoFrame old old mem out out) (sym none)
+    (record { store = refl; alike = λ all knows. ap (λ (x : Frames). seen_frames image all (opened x)) (sym none); output = sym (append-nil out); begun = refl; left = refl }))

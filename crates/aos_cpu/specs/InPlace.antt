@@ -2,17 +2,18 @@
 use Rattle.std.specs.Prelude.{◌≡◌, ◌<◌, ℕ, List, [], ◌∷◌, length, Bool, true, false, Option, Some, None, is_some}
 use Rattle.aos_base.specs.declared.kernel.Did.TheVariants.{Went}
 use Rattle.aos_base.specs.declared.place.Root.{Root}
-use Rattle.aos_base.specs.Rooted.{load, spliced}
+use Rattle.aos_base.specs.Rooted.{Made, load, spliced}
 use Rattle.aos_code.specs.declared.instr.Cell.{Cell}
 use Rattle.aos_code.specs.declared.image.Image.{Image}
 use Rattle.aos_code.specs.Memory.{Memory}
 use Rattle.aos_code.specs.Silent.{Stack}
-use Rattle.aos_code.specs.Machine.{Frame, Frames, rooted, frames_with, memory_with, turn}
+use Rattle.aos_code.specs.Machine.{Frame, Frames, rooted, frames_with, memory_with, made_in, turn}
+use Rattle.aos_silent.specs.Known.{Knows}
 use Rattle.aos_silent.specs.Silent.{seen_at}
 use Rattle.aos_cpu.specs.declared.in_place.Done.{Done}
 use Rattle.aos_cpu.specs.declared.in_place.Done.TheVariants.{Silent, Turned, Begun, Nothing}
 use Rattle.aos_cpu.specs.Turns.{Alike}
-use Rattle.aos_cpu.specs.Private.{no_memory, is_own_turn, IsPrivate, after_turns, begun_after}
+use Rattle.aos_cpu.specs.Private.{no_memory, made_by, is_own_turn, IsPrivate, after_turns, begun_after}
 
 -- a frame above others
 abbrev pub on_top : List ℕ → Frame → List Frame → Frames
@@ -39,36 +40,39 @@ module _ (here : ℕ) where
   HasSet false r c v mem now f g = (g ≡ f) × (now ≡ mem)
 
 module _ (image : Image) where
-  -- one turn of these frames comes to those, which leaves nothing to the kernel; where there is no memory it needs nothing but the frames
+  -- one turn of these frames comes to those, which leaves nothing to the kernel
   pub record TurnsTo (begins : Bool) (mem now : Memory) (fs gs : Frames) : Type 0 where
-    pub own : mem ≡ no_memory → is_own_turn image fs ≡ true
     pub store : (turn image mem fs).store ≡ now
-    pub alike : Alike image (turn image mem fs).frames gs
+    pub alike : Alike image (made_in image now) (turn image mem fs).frames gs
     pub output : (turn image mem fs).output ≡ []
     pub begun : (turn image mem fs).begun ≡ begins
     pub left : (turn image mem fs).left ≡ Went
 
   -- so many private turns come to those frames, none of which but the last may have used up the budget
-  pub record Runs (budget made begun now : ℕ) (fs gs : Frames) : Type 0 where
-    pub private : (i : ℕ) → i < made → IsPrivate image (after_turns image i fs)
-    pub below : (i : ℕ) → i < made → begun_after image i fs begun < budget
-    pub alike : Alike image (after_turns image made fs) gs
-    pub statements : now ≡ begun_after image made fs begun
+  pub record Runs (made : List Made) (budget many begun now : ℕ) (fs gs : Frames) : Type 0 where
+    pub private : (i : ℕ) → i < many → IsPrivate image made (after_turns image made i fs)
+    pub below : (i : ℕ) → i < many → begun_after image made i fs begun < budget
+    pub alike : Alike image (made_by made) (after_turns image made many fs) gs
+    pub statements : now ≡ begun_after image made many fs begun
 
   module _ (here : ℕ) where
-    -- one such turn has been made of frames whose topmost one, above so many others, was this, and is that now
-    abbrev pub HasTurnedTop : Bool → (mem now : Memory) → (f g : Frame) → Type 0
-    HasTurnedTop begins mem now f g =
-        (g.procedure ≡ f.procedure) × ((following : List ℕ) (rest : List Frame) (fs : Frames) → length rest ≡ here → Alike image fs (on_top following f rest) → TurnsTo begins mem now fs (on_top following g rest))
+    -- One such turn has been made of frames whose topmost one, above so many others, was this, and is that now. Where there is no memory
+    -- it needs nothing but the frames.
+    pub record HasTurnedTop (begins : Bool) (mem now : Memory) (f g : Frame) : Type 0 where
+      pub same : g.procedure ≡ f.procedure
+      pub own : mem ≡ no_memory → (following : List ℕ) (rest : List Frame) → length rest ≡ here → is_own_turn image (on_top following f rest) ≡ true
+      pub turns : (following : List ℕ) (rest : List Frame) (fs : Frames) → length rest ≡ here → Alike image (made_in image mem) fs (on_top following f rest) → TurnsTo begins mem now fs (on_top following g rest)
 
     -- silent work alone has been done
-    abbrev pub HasWorked : (mem now : Memory) → (f g : Frame) → Type 0
-    HasWorked mem now f g = (seen_at image here g ≡ seen_at image here f) × (now ≡ mem)
+    pub record HasWorked (mem now : Memory) (f g : Frame) : Type 0 where
+      pub seen : (all : ℕ → Option Made) → Knows all (made_in image mem) → seen_at image all here g ≡ seen_at image all here f
+      pub memory : now ≡ mem
 
     -- so many have been made
-    abbrev pub HasRunTop : (budget made begun now : ℕ) → (f g : Frame) → Type 0
-    HasRunTop budget made begun now f g =
-        (g.procedure ≡ f.procedure) × ((following : List ℕ) (rest : List Frame) (fs : Frames) → length rest ≡ here → Alike image fs (on_top following f rest) → Runs budget made begun now fs (on_top following g rest))
+    abbrev pub HasRunTop : (budget many begun now : ℕ) → (f g : Frame) → Type 0
+    HasRunTop budget many begun now f g =
+        (g.procedure ≡ f.procedure)
+        × ((following : List ℕ) (rest : List Frame) (made : List Made) (fs : Frames) → length rest ≡ here → Alike image (made_by made) fs (on_top following f rest) → Runs made budget many begun now fs (on_top following g rest))
 
     -- what an instruction has done
     abbrev pub IsDone : Done → (mem now : Memory) → (f g : Frame) → Type 0
@@ -84,5 +88,5 @@ module _ (image : Image) where
 
   -- the same of the frames as they are kept
   abbrev pub HasTriedInPlace : Option Bool → (mem now : Memory) → (old new : Frames) → Type 0
-  HasTriedInPlace None mem now old new = Alike image old new × (now ≡ mem)
-  HasTriedInPlace (Some begins) mem now old new = (fs : Frames) → Alike image fs old → TurnsTo begins mem now fs new
+  HasTriedInPlace None mem now old new = Alike image (made_in image mem) old new × (now ≡ mem)
+  HasTriedInPlace (Some begins) mem now old new = (fs : Frames) → Alike image (made_in image mem) fs old → TurnsTo begins mem now fs new

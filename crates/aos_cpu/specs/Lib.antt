@@ -1,5 +1,6 @@
 pub mod Answers
 pub mod Turns
 pub mod Calls
+pub mod Makes
 pub mod Private
 pub mod InPlace

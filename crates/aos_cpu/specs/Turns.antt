@@ -5,19 +5,21 @@ use Rattle.aos_base.specs.declared.kernel.Did.{Did}
 use Rattle.aos_base.specs.declared.kernel.Did.TheVariants.{Went, Ended, Enter, Leave, Await, Start, Trapped}
 use Rattle.aos_base.specs.Question.{Starts}
 use Rattle.aos_base.specs.Book.{Where}
+use Rattle.aos_base.specs.Rooted.{Made}
 use Rattle.aos_code.specs.declared.instr.Cell.TheVariants.{Ref}
 use Rattle.aos_code.specs.declared.image.Image.{Image}
 use Rattle.aos_code.specs.Memory.{Memory}
 use Rattle.aos_code.specs.Silent.{Work}
-use Rattle.aos_code.specs.Machine.{Frame, Frames, Turned, opened, home_of, stop_of, turn, answer}
+use Rattle.aos_code.specs.Machine.{Frame, Frames, Turned, opened, home_of, made_in, stop_of, turn, answer}
 use Rattle.aos_store.specs.declared.frames.Frames.{Frames as KeptFrames}
 use Rattle.aos_store.specs.Store.{list_in, frames_in}
 use Rattle.aos_silent.specs.declared.act.Question.{Question as KeptQuestion}
 use Rattle.aos_silent.specs.declared.act.Question.TheVariants.{Starts as AsksStart}
 use Rattle.aos_silent.specs.declared.silent.Stop.{Stop as KeptStop}
 use Rattle.aos_silent.specs.Acts.{question_in, operands_of}
+use Rattle.aos_silent.specs.Known.{Knows}
 use Rattle.aos_silent.specs.Silent.{Seen, stop_in, IsStopOf, seen_at}
-use Rattle.aos_cpu.specs.Answers.{Made}
+use Rattle.aos_cpu.specs.Answers.{Made as HasMade}
 
 -- what is seen of an activity's frames: of the topmost one, what is seen of a frame; those below as they are
 pub record SeenFrames : Type 0 where
@@ -35,29 +37,30 @@ counted true n = suc n % 2 ^ 64
 counted false n = n
 
 module _ (image : Image) where
-  abbrev pub seen : Frame → List Frame → Seen
-  seen f fs = seen_at image (length fs) f
+  abbrev pub seen : (all : ℕ → Option Made) → Frame → List Frame → Seen
+  seen all f fs = seen_at image all (length fs) f
 
-  abbrev pub seen_all : List ℕ → List Frame → SeenFrames
-  seen_all following [] = record { following = following; top = None; below = [] }
-  seen_all following (f ∷ fs) = record { following = following; top = Some (seen f fs); below = fs }
+  abbrev pub seen_all : (all : ℕ → Option Made) → List ℕ → List Frame → SeenFrames
+  seen_all all following [] = record { following = following; top = None; below = [] }
+  seen_all all following (f ∷ fs) = record { following = following; top = Some (seen all f fs); below = fs }
 
-  abbrev pub seen_frames : Frames → SeenFrames
-  seen_frames fs = seen_all fs.following fs.frames
+  abbrev pub seen_frames : (all : ℕ → Option Made) → Frames → SeenFrames
+  seen_frames all fs = seen_all all fs.following fs.frames
 
-  -- the same frames up to silent work, to which the opening of the next body belongs
-  abbrev pub Alike : Frames → Frames → Type 0
-  Alike fs gs = seen_frames (opened fs) ≡ seen_frames (opened gs)
+  -- the same frames up to silent work, to which the opening of the next body belongs, wherever so much is known of what objects were
+  -- made as
+  abbrev pub Alike : (made : ℕ → Option Made) → Frames → Frames → Type 0
+  Alike made fs gs = (all : ℕ → Option Made) → Knows all made → seen_frames all (opened fs) ≡ seen_frames all (opened gs)
 
   -- the topmost frame stands where its silent work ends so
-  abbrev pub StandsAtStop : KeptStop → List Frame → Type 0
-  StandsAtStop stop [] = ⊥
-  StandsAtStop stop (f ∷ fs) = (stop_of image f fs ≡ stop_in stop f) × IsStopOf stop f
+  abbrev pub StandsAtStop : (made : ℕ → Option Made) → KeptStop → List Frame → Type 0
+  StandsAtStop made stop [] = ⊥
+  StandsAtStop made stop (f ∷ fs) = (stop_of image made f fs ≡ stop_in stop f) × IsStopOf stop f
 
   -- silent work has come to its end; none where there is no frame, nor a body that is to follow
-  abbrev pub HasCome : Option KeptStop → Frames → Type 0
-  HasCome None fs = fs ≡ record { following = []; frames = [] }
-  HasCome (Some stop) fs = StandsAtStop stop fs.frames
+  abbrev pub HasCome : (made : ℕ → Option Made) → Option KeptStop → Frames → Type 0
+  HasCome made None fs = fs ≡ record { following = []; frames = [] }
+  HasCome made (Some stop) fs = StandsAtStop made stop fs.frames
 
   abbrev pub home_of_list : List Frame → Where
   home_of_list [] = record { module_ = 0; pos = record { line = 0; col = 0 } }
@@ -70,7 +73,7 @@ module _ (image : Image) where
   -- a turn has come to this; the output grows from one list to another
   pub record Shown (t : Turned) (did : Did) (old new : KeptFrames) (mem : Memory) (before after : List ℕ) : Type 0 where
     pub store : t.store ≡ mem
-    pub alike : Alike t.frames (frames_in new)
+    pub alike : Alike (made_in image mem) t.frames (frames_in new)
     pub output : after ≡ before ++ t.output
     pub begun : new.begun ≡ counted t.begun old.begun
     pub left : t.left ≡ did
@@ -78,19 +81,24 @@ module _ (image : Image) where
   -- a turn has been made, from any frames that are alike to the old ones
   abbrev pub IsTurned : Did → (old new : KeptFrames) → (old_memory new_memory : Memory) → (before after : List ℕ) → Type 0
   IsTurned did old new old_memory new_memory before after =
-      (fs : Frames) → Alike fs (frames_in old) → Shown (turn image old_memory fs) did old new new_memory before after
+      (fs : Frames) → Alike (made_in image old_memory) fs (frames_in old) → Shown (turn image old_memory fs) did old new new_memory before after
 
   -- nothing has been done but silent work
   pub record Rests (old new : KeptFrames) (old_memory new_memory : Memory) (before after : List ℕ) : Type 0 where
-    pub alike : Alike (frames_in old) (frames_in new)
+    pub alike : Alike (made_in image old_memory) (frames_in old) (frames_in new)
     pub begun : new.begun ≡ old.begun
     pub memory : new_memory ≡ old_memory
     pub output : after ≡ before
 
-  -- the topmost frame stands before the instruction that starts this object's activity
+  -- the topmost frame stands at the instruction that starts this object's activity, whatever objects were made as
+  abbrev pub StandsAtStart : ℕ → List Frame → Type 0
+  StandsAtStart o [] = ⊥
+  StandsAtStart o (f ∷ fs) = stop_of image (λ p. None) f fs ≡ Work (Starts (Ref o)) f.next f.keeps (drop 1 f.stack)
+
+  -- and there is a place behind it
   abbrev pub IsBeforeStart : ℕ → List Frame → Type 0
   IsBeforeStart o [] = ⊥
-  IsBeforeStart o (f ∷ fs) = (f.next + 1 < 2 ^ 64) × (stop_of image f fs ≡ Work (Starts (Ref o)) f.next f.keeps (drop 1 f.stack))
+  IsBeforeStart o (f ∷ fs) = (f.next + 1 < 2 ^ 64) × StandsAtStart o (f ∷ fs)
 
   -- where an activity's start is left to the kernel, the frames stand before it
   abbrev pub IsBefore : Did → Frames → Type 0
@@ -118,7 +126,7 @@ WhereLeft (Trapped n c) P = P
 abbrev pub HasAnswered : Image → KeptQuestion → (at : ℕ) → (old new : KeptFrames) → (old_memory new_memory : Memory) → Did → (before after : List ℕ) → Type 0
 HasAnswered image q at old new old_memory new_memory did before after =
     (f : Frame) (fs : List Frame) → list_in old.list.items ≡ f ∷ fs →
-    Made (answer (reverse old.following.items) image.shapes.items (question_in q f.stack) at f.keeps (drop (operands_of q) f.stack) f fs old_memory) false did (frames_in new) new_memory before after
+    HasMade (answer (reverse old.following.items) image.shapes.items image.types.items (question_in q f.stack) at f.keeps (drop (operands_of q) f.stack) f fs old_memory) false did (frames_in new) new_memory before after
 
 -- the topmost frame stands at this place; where it asks for the start of an activity, the object is its topmost operand
 abbrev pub Stands : KeptQuestion → (at : ℕ) → KeptFrames → Type 0

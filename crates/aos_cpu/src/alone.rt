@@ -1,16 +1,16 @@
 // Turns on an activity's own frames alone.
-ghost use Rattle.std.specs.Prelude.{◌≡◌, ◌≤◌, ◌∷◌, ◌&&◌, List, true, false, drop, reverse, if◌then◌else◌, IfOk, OnErr};
+ghost use Rattle.std.specs.Prelude.{◌≡◌, ◌≤◌, ◌∷◌, ◌&&◌, List, [], true, false, drop, reverse, if◌then◌else◌, IfOk, OnErr};
 ghost use Rattle.aos_store.specs.Store.{list_in, frames_in, memory_in, SameCounts};
 ghost use Rattle.aos_silent.specs.Acts.{question_in};
 ghost use Rattle.aos_cpu.specs.Turns.{Alike, StandsAtStop};
-ghost use Rattle.aos_cpu.specs.Private.{no_memory, is_of_frame as is_of_frame_root, is_own_value as is_own_cell, copies_own as copies_own_for, is_own as is_own_question, is_own_turn, is_private, HasTried, IsMadePrivately, turns_since, stop_after, WhereShared};
+ghost use Rattle.aos_cpu.specs.Private.{no_memory, made_by, is_of_frame as is_of_frame_root, is_own_value as is_own_cell, copies_own as copies_own_for, is_own as is_own_question, is_own_turn, is_private, HasTried, IsMadePrivately, turns_since, stop_after, WhereShared};
 
 use crate::in_place::make_in_place;
 use crate::turn::{come_to_stop, finish};
 use aos_base::{Did, NoMemory, Root};
 use aos_code::{Cell, Image, ParamKind};
 use aos_silent::{Question, Stop, numbered};
-use aos_store::{Frames, Store};
+use aos_store::{Frames, Heap, Store};
 use std::alloc::Global;
 
 /// Why private turns end: as many have been made as were asked for; the next isn't private; or so many statements have begun.
@@ -110,7 +110,7 @@ fn is_own(image: &Image, question: Question, operands: &[Cell]) -> bool
 
 /// Whether a turn needs nothing but the activity's own frames, which stand where their silent work ends.
 pub fn is_own_stop(image: &Image, frames: &Frames, stop: Stop) -> bool
-    requires { StandsAtStop image.now stop (list_in frames.now.list.items) }
+    requires { StandsAtStop image.now (made_by []) stop (list_in frames.now.list.items) }
     ensures { result ≡ is_own_turn image.now (frames_in frames.now) }
 {
     match stop {
@@ -132,11 +132,11 @@ fn make_own(
     store: &mut Store,
     output: &mut Vec<u8>,
 ) -> Result<bool, NoMemory>
-    requires stands { StandsAtStop image.now stop (list_in frames.old.list.items) }
+    requires stands { StandsAtStop image.now (made_by []) stop (list_in frames.old.list.items) }
     requires own { is_own_turn image.now (frames_in frames.old) ≡ true }
     requires memory { memory_in store.old ≡ no_memory }
     ensures ok { IfOk result (λ is. HasTried image.now is frames.old frames.new) }
-    ensures err { OnErr result (Alike image.now (frames_in frames.old) (frames_in frames.new)) }
+    ensures err { OnErr result (Alike image.now (made_by []) (frames_in frames.old) (frames_in frames.new)) }
     ensures counts { OnErr result (SameCounts frames.old frames.new) }
     ensures none { memory_in store.new ≡ no_memory }
 {
@@ -159,11 +159,11 @@ fn make_private(
 ) -> Result<bool, NoMemory>
     requires memory { memory_in store.old ≡ no_memory }
     ensures ok { IfOk result (λ is. HasTried image.now is frames.old frames.new) }
-    ensures err { OnErr result (Alike image.now (frames_in frames.old) (frames_in frames.new)) }
+    ensures err { OnErr result (Alike image.now (made_by []) (frames_in frames.old) (frames_in frames.new)) }
     ensures counts { OnErr result (SameCounts frames.old frames.new) }
     ensures none { memory_in store.new ≡ no_memory }
 {
-    match come_to_stop(alloc, image, frames)? {
+    match come_to_stop(alloc, image, &store.objects, frames)? {
         None => Ok(false),
         Some(stop) => {
             if is_own_stop(image, frames, stop) {
@@ -194,7 +194,7 @@ pub fn private(
     let _told = frames.turns;
     let mut store = Store {
         modules: Vec::new(alloc),
-        objects: Vec::new(alloc),
+        objects: Heap::new(alloc),
     };
     let mut output = Vec::new(alloc);
     let mut made = make_in_place(image, frames, &mut store, most, budget);

@@ -2,7 +2,7 @@
 ghost use Rattle.std.specs.Prelude.{◌≡◌, ℕ, ◌+◌, ◌<◌, ◌^◌, ◌≤◌, drop, [], ◌∷◌, ◌++◌, List, Option, IfOk, OnErr, vec_len, vec_capacity};
 ghost use Rattle.aos_base.specs.Number.{right_justified};
 ghost use Rattle.aos_base.specs.Operators.{natural};
-ghost use Rattle.aos_base.specs.Question.{Starts, Ends, Makes, Reads, Stores, Copies, PutsInt, PutsChar, PutsNothing, PutsLn};
+ghost use Rattle.aos_base.specs.Question.{Starts, Ends, Reads, Stores, Copies, PutsInt, PutsChar, PutsNothing, PutsLn};
 ghost use Rattle.aos_code.specs.declared.instr.Cell.TheVariants.{Num, Ref};
 ghost use Rattle.aos_code.specs.Memory.{Memory};
 ghost use Rattle.aos_code.specs.Machine.{behind, with_result};
@@ -13,6 +13,7 @@ ghost use Rattle.aos_cpu.specs.Turns.{HasAnswered, Stands, Same, WhereLeft};
 ghost use Rattle.aos_cpu.specs.Answers.{IsAnswered, IsBehind, StandsAt};
 
 use crate::calls::call;
+use crate::makes::make;
 use crate::texts::{compare_texts, put_string, put_text};
 use aos_base::{Did, NoMemory};
 use aos_code::{Cell, Image, Kind};
@@ -200,29 +201,6 @@ pub fn copy(
     Did::Went
 }
 
-/// An object is made, where the heap has room for it; trap 12 where it hasn't.
-pub fn make(
-    frames: &mut Frames,
-    store: &mut Store,
-    alloc: Global,
-    of_type: u32,
-    at: usize,
-) -> Result<Did, NoMemory>
-    requires { at + 1 < 2 ^ 64 }
-    ensures ok { (out : List ℕ) → IfOk result (λ did. IsAnswered (Makes of_type) at 0 frames.old frames.new (memory_in store.old) (memory_in store.new) did out out) }
-    ensures left { (out : List ℕ) → IfOk result (λ did. WhereLeft did (Same frames.old frames.new (memory_in store.old) (memory_in store.new) out out)) }
-    ensures err { (out : List ℕ) → OnErr result (Same frames.old frames.new (memory_in store.old) (memory_in store.new) out out) }
-    ensures counts { SameCounts frames.old frames.new }
-{
-    if !store.has_room() {
-        return Ok(Did::Trapped(12, 0));
-    }
-    store.reserve_object()?;
-    put_behind(frames, at, 0, Cell::Ref(store.next_number()))?;
-    store.make_object(alloc, of_type);
-    Ok(Did::Went)
-}
-
 /// The byte of a character, by its code.
 fn character(code: i64) -> Option<u8>
     ensures { result ≡ natural 256 code }
@@ -339,7 +317,9 @@ pub fn answer(
             call(alloc, image, procedure, count, at, frames, store)
         }
         Question::Ends(value) => end_frame(frames, value),
-        Question::Makes(of_type) => make(frames, store, alloc, of_type, at),
+        Question::Makes(of_type, lengths) => {
+            make(alloc, image, of_type, lengths, at, frames, store)
+        }
         Question::Starts(object) => Ok(start(object)),
         Question::PutsInt(value, places) => put_int(frames, output, value, places, at),
         Question::PutsChar(code) => put_char(frames, output, code, at),

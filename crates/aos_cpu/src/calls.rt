@@ -297,7 +297,7 @@ fn first_cell(kind: Kind) -> Cell
 }
 
 /// Cells more, which begin as these kinds say.
-fn add_first(kinds: &[Kind], cells: &mut Vec<Cell>) -> Result<(), NoMemory>
+pub fn add_first(kinds: &[Kind], cells: &mut Vec<Cell>) -> Result<(), NoMemory>
     ensures { OnOk result (cells.new.items ≡ cells.old.items ++ map first_cell_of kinds.now) }
 {
     for kind in kinds {

@@ -5,10 +5,10 @@ ghost use Rattle.aos_code.specs.declared.instr.Instr.TheVariants.{Num, Load, Sto
 ghost use Rattle.aos_code.specs.Numbered.{numbered as numbered_of};
 ghost use Rattle.aos_code.specs.Memory.{Memory};
 ghost use Rattle.aos_code.specs.Silent.{act, gives, keeps_in};
-ghost use Rattle.aos_code.specs.Machine.{Frame as FrameOf, rooted, code_of as code_at};
+ghost use Rattle.aos_code.specs.Machine.{Frame as FrameOf, rooted, made_in, code_of as code_at};
 ghost use Rattle.aos_store.specs.Store.{frame_in, frames_in, memory_in, SameCounts};
 ghost use Rattle.aos_silent.specs.Acts.{IsBeginOf, WhereStays};
-ghost use Rattle.aos_silent.specs.Steps.{IsStep};
+ghost use Rattle.aos_silent.specs.Steps.{IsStepOf};
 ghost use Rattle.aos_cpu.specs.Turns.{counted};
 ghost use Rattle.aos_cpu.specs.Private.{no_memory, IsMadePrivately};
 ghost use Rattle.aos_cpu.specs.InPlace.{IsAhead, HasSet, IsDone, HasRunTop, HasTriedTop, HasTriedInPlace};
@@ -38,7 +38,7 @@ fn go_after(code: &[Instr], at: usize, frame: &mut Frame, did: Act) -> Done
     requires within { at < length code.now }
     requires begins { IsBeginOf code.now did }
     ensures done { (image : Image) (here : ℕ) (mem : Memory) (f : FrameOf) → code.now ≡ code_at image f.procedure → at ≡ f.next →
-        IsStep (act image.shapes.items f.procedure here (get_or code.now at (Num (pos 0))) code.now at f.stack) did f (frame_in frame.old) →
+        IsStepOf image.types.items (made_in image mem) (act image.shapes.items image.types.items f.procedure here (get_or code.now at (Num (pos 0))) code.now at f.stack) did f (frame_in frame.old) →
         WhereStays did (frame_in frame.old ≡ f) → IsDone image here result mem mem f (frame_in frame.new) }
     ensures ahead { IsAhead result at frame.new.next }
 {
@@ -61,7 +61,7 @@ fn go_after(code: &[Instr], at: usize, frame: &mut Frame, did: Act) -> Done
 fn give_top(code: &[Instr], at: usize, frame: &mut Frame, value: Cell) -> Done
     requires within { at < length code.now }
     ensures done { (image : Image) (here : ℕ) (mem : Memory) → code.now ≡ code_at image frame.old.procedure → at ≡ frame.old.next →
-        act image.shapes.items frame.old.procedure here (get_or code.now at (Num (pos 0))) code.now at (frame_in frame.old).stack ≡ gives value (frame_in frame.old).stack →
+        act image.shapes.items image.types.items frame.old.procedure here (get_or code.now at (Num (pos 0))) code.now at (frame_in frame.old).stack ≡ gives value (frame_in frame.old).stack →
         IsDone image here result mem mem (frame_in frame.old) (frame_in frame.new) }
     ensures ahead { IsAhead result at frame.new.next }
 {
@@ -174,14 +174,15 @@ fn rest_top(
     here: u32,
     at: usize,
     frame: &mut Frame,
+    store: &Store,
 ) -> Done
     requires place { slice_get code.now at ≡ Some instr }
     requires within { at < length code.now }
     requires keeps { keeps ≡ keeps_in (numbered_of image.now.shapes.items frame.old.procedure) }
-    ensures done { (mem : Memory) → code.now ≡ code_at image.now frame.old.procedure → at ≡ frame.old.next → IsDone image.now here result mem mem (frame_in frame.old) (frame_in frame.new) }
+    ensures done { code.now ≡ code_at image.now frame.old.procedure → at ≡ frame.old.next → IsDone image.now here result (memory_in store.now) (memory_in store.now) (frame_in frame.old) (frame_in frame.new) }
     ensures ahead { IsAhead result at frame.new.next }
 {
-    match do_one(instr, &image.shapes, keeps, here, code, at, frame) {
+    match do_one(instr, image, &store.objects, keeps, here, code, at, frame) {
         Ok(did) => go_after(code, at, frame, did),
         Err(_) => Done::Nothing,
     }
@@ -219,7 +220,7 @@ fn do_top(
             go_after(code, at, frame, did)
         }
         Instr::Binary(operator) => operate_top(code, at, operator, frame),
-        instr => rest_top(instr, image, code, keeps, here, at, frame),
+        instr => rest_top(instr, image, code, keeps, here, at, frame, store),
     }
 }
 

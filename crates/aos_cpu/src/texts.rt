@@ -39,9 +39,9 @@ fn module_cells(store: &Store, number: u32) -> Option<&[Cell]>
 
 /// The object of a number, from 1.
 fn object(store: &Store, number: u32) -> Option<&Object>
-    ensures { option_copied result ≡ by_number number store.now.objects.items }
+    ensures { option_copied result ≡ by_number number store.now.objects }
 {
-    store.objects.get(number.checked_sub(1)? as usize)
+    store.objects.get(number)
 }
 
 /// The cells of an object.

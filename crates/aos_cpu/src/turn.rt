@@ -1,16 +1,18 @@
 // One turn of an activity: the silent work of its topmost frame, and the visible work that follows.
-ghost use Rattle.std.specs.Prelude.{◌≡◌, ◌<◌, ◌+◌, ◌^◌, ℕ, List, [], ◌∷◌, reverse, true, IfOk, OnOk, OnErr};
+ghost use Rattle.std.specs.Prelude.{◌≡◌, ◌<◌, ◌+◌, ◌^◌, ℕ, List, [], ◌∷◌, Option, reverse, true, IfOk, OnOk, OnErr};
+ghost use Rattle.aos_base.specs.Rooted.{Made};
 ghost use Rattle.aos_code.specs.Machine.{Frame as FrameOf, Frames as FramesOf, opened, past, position as position_at, body_frame};
 ghost use Rattle.aos_store.specs.Store.{list_in, frames_in, memory_in, SameCounts};
+ghost use Rattle.aos_silent.specs.Known.{known};
 ghost use Rattle.aos_cpu.specs.Answers.{begun_at};
-ghost use Rattle.aos_cpu.specs.Turns.{where_in, counted, home_of_top, Alike, HasCome, StandsAtStop, IsTurned, IsBefore, Rests, WhereLeft};
+ghost use Rattle.aos_cpu.specs.Turns.{where_in, counted, home_of_top, Alike, HasCome, StandsAtStop, StandsAtStart, IsTurned, IsBefore, Rests, WhereLeft};
 
 use crate::answers::answer;
 use crate::in_place::{count, turn_in_place};
 use aos_base::{Did, NoMemory, Pos};
 use aos_code::Image;
 use aos_silent::{Stop, home_of, numbered, silent_from, take};
-use aos_store::{Frames, Store};
+use aos_store::{Frames, Heap, Store};
 use std::alloc::Global;
 
 /// Puts the frame with which a body of an object, or of a module where that is 0, begins above no others.
@@ -58,14 +60,16 @@ pub fn open(alloc: Global, image: &Image, frames: &mut Frames) -> Result<(), NoM
     Ok(())
 }
 
-/// The silent work of the topmost frame, up to where it ends; none where there is no frame, nor a body that is to follow.
+/// The silent work of the topmost frame, up to where it ends, where these objects were made; none where there is no frame, nor a body
+/// that is to follow.
 pub(crate) fn come_to_stop(
     alloc: Global,
     image: &Image,
+    heap: &Heap,
     frames: &mut Frames,
 ) -> Result<Option<Stop>, NoMemory>
-    ensures stop { IfOk result (λ stop. HasCome image.now stop (frames_in frames.new)) }
-    ensures alike { Alike image.now (frames_in frames.old) (frames_in frames.new) }
+    ensures stop { IfOk result (λ stop. HasCome image.now (known heap.now) stop (frames_in frames.new)) }
+    ensures alike { Alike image.now (known heap.now) (frames_in frames.old) (frames_in frames.new) }
     ensures counts { SameCounts frames.old frames.new }
 {
     open(alloc, image, frames)?;
@@ -73,7 +77,7 @@ pub(crate) fn come_to_stop(
     let Some(frame) = frames.list.last_mut() else {
         return Ok(None);
     };
-    let stop = silent_from(image, here, frame)?;
+    let stop = silent_from(image, heap, here, frame)?;
     Ok(Some(stop))
 }
 
@@ -103,7 +107,7 @@ pub(crate) fn finish(
     store: &mut Store,
     output: &mut Vec<u8>,
 ) -> Result<Did, NoMemory>
-    requires { StandsAtStop image.now stop (list_in frames.old.list.items) }
+    requires { StandsAtStop image.now (known store.old.objects) stop (list_in frames.old.list.items) }
     ensures ok { IfOk result (λ did. IsTurned image.now did frames.old frames.new (memory_in store.old) (memory_in store.new) output.old.items output.new.items) }
     ensures before { IfOk result (λ did. IsBefore image.now did (frames_in frames.new)) }
     ensures left { IfOk result (λ did. WhereLeft did (Rests image.now frames.old frames.new (memory_in store.old) (memory_in store.new) output.old.items output.new.items)) }
@@ -134,7 +138,7 @@ fn by_stop(
     ensures err { OnErr result (Rests image.now frames.old frames.new (memory_in store.old) (memory_in store.new) output.old.items output.new.items) }
     ensures turns { frames.new.turns ≡ frames.old.turns }
 {
-    match come_to_stop(alloc, image, frames)? {
+    match come_to_stop(alloc, image, &store.objects, frames)? {
         None => Ok(Did::Ended),
         Some(stop) => finish(alloc, image, stop, frames, store, output),
     }
@@ -166,9 +170,9 @@ pub fn shared(
 
 /// Past a Start, whose activity has been started.
 pub fn pass(frames: &mut Frames)
-    ensures past { (image : Image) (object : ℕ) (fs : FramesOf) →
-        IsBefore image (Did.Start object) (frames_in frames.old) → Alike image fs (frames_in frames.old) →
-        Alike image (past image fs) (frames_in frames.new) }
+    ensures past { (image : Image) (made : ℕ → Option Made) (object : ℕ) (fs : FramesOf) →
+        IsBefore image (Did.Start object) (frames_in frames.old) → StandsAtStart image object fs.frames → Alike image made fs (frames_in frames.old) →
+        Alike image made (past image fs) (frames_in frames.new) }
     ensures counts { SameCounts frames.old frames.new }
 {
     if let Some(frame) = frames.list.last_mut() {
@@ -194,7 +198,7 @@ fn top_home(image: &Image, frames: &Frames) -> (u32, Pos)
 /// Where the topmost frame that has begun a statement stands: the module's number, and the place. An activity without frames stands
 /// where the next body that is to follow begins.
 pub fn position(image: &Image, frames: &Frames) -> (u32, Pos)
-    ensures { (fs : FramesOf) → Alike image.now fs (frames_in frames.now) → position_at image.now fs ≡ where_in result }
+    ensures { (made : ℕ → Option Made) (fs : FramesOf) → Alike image.now made fs (frames_in frames.now) → position_at image.now fs ≡ where_in result }
 {
     let mut found = top_home(image, frames);
     for frame in frames.list.as_slice() {

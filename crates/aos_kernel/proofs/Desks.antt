@@ -12,16 +12,20 @@ use Rattle.aos_base.specs.declared.kernel.Event.TheVariants as event
 use Rattle.aos_base.specs.declared.kernel.Did.{Did}
 use Rattle.aos_base.specs.declared.kernel.Did.TheVariants.{Went, Ended, Enter, Leave, Await, Start, Trapped}
 use Rattle.aos_base.specs.declared.text.Pos.{Pos}
+use Rattle.aos_base.specs.Rooted.{Made}
 use Rattle.aos_base.specs.Book as book
 use Rattle.aos_base.specs.Book.{put, leave_line, move, stands, ready, next_is, counted, spent_by, trapped, ended, first_at, on_worker, first_ready, or_next, is_ready, may_restart, born, is_full}
 use Rattle.aos_base.specs.Machine.{State, on_book, with_frames, go_past, trap, turned, finish, turn_by}
 use Rattle.aos_code.specs.declared.image.Image.{Image}
 use Rattle.aos_code.specs.declared.report.TrapRec.{TrapRec}
 use Rattle.aos_code.specs.Memory.{Memory}
-use Rattle.aos_code.specs.Machine.{Frames, machine, past, position, turn}
+use Rattle.aos_code.specs.Machine.{Frames, machine, made_in, past, position, turn}
 use Rattle.aos_store.specs.declared.frames.Frames.{Frames as Kept}
 use Rattle.aos_store.specs.declared.memory.Store.{Store}
 use Rattle.aos_store.specs.Store.{list_in, frames_in, memory_in}
+use Rattle.aos_silent.specs.Known.{Knows}
+use Rattle.aos_cpu.proofs.Turns.{alike_both, alike_more}
+use Rattle.aos_cpu.proofs.Growing.{turn_grows}
 use Rattle.aos_cpu.specs.Turns.{where_in, counted as counted_on, Alike, Shown, Rests, WhereLeft}
 use Rattle.aos_kernel.specs.declared.desk.Place.{Place}
 use Rattle.aos_kernel.specs.declared.desk.Place.TheVariants.{Ready}
@@ -41,10 +45,10 @@ by_case P x k same other =
 each_at : (G : ℕ → Type 0) (a : ℕ) → G a → ((x : ℕ) → x ≢ a → G x) → (x : ℕ) → G x
 each_at G a here other x = elim (eqb_tells x a) [ inl h ↦ subst G (sym h.1) here | inr h ↦ other x h.1 ]
 
-put_same : {A : Type 0} (f : ℕ → A) (k : ℕ) (v : A) → put nat_eq f k v k ≡ v
+pub put_same : {A : Type 0} (f : ℕ → A) (k : ℕ) (v : A) → put nat_eq f k v k ≡ v
 put_same f k v = by_case (λ q. (if q then v else f k) ≡ v) k k (λ e. refl) (λ ne. absurd (ne refl))
 
-put_other : {A : Type 0} (f : ℕ → A) (k : ℕ) (v : A) (x : ℕ) → x ≢ k → put nat_eq f k v x ≡ f x
+pub put_other : {A : Type 0} (f : ℕ → A) (k : ℕ) (v : A) (x : ℕ) → x ≢ k → put nat_eq f k v x ≡ f x
 put_other f k v x ne = by_case (λ q. (if q then v else f x) ≡ f x) x k (λ e. absurd (ne e)) (λ _. refl)
 
 -- The line
@@ -106,32 +110,43 @@ set_there xs i x g ne =
     ]
 
 -- the frames of an activity that hasn't ended
-pub frames_alike : (image : Image) (n : Next) (fs : Frames) (kept : Kept) → n ≢ Gone → ShowsFrames image n fs kept → Alike image fs (frames_in kept)
-frames_alike image Runs fs kept live h = h
-frames_alike image (WillTrap k) fs kept live h = h
-frames_alike image Unwinds fs kept live h = h
-frames_alike image Gone fs kept live h = absurd (live refl)
+pub frames_alike : (image : Image) (made : ℕ → Option Made) (n : Next) (fs : Frames) (kept : Kept) → n ≢ Gone → ShowsFrames image made n fs kept → Alike image made fs (frames_in kept)
+frames_alike image made Runs fs kept live h = h
+frames_alike image made (WillTrap k) fs kept live h = h
+frames_alike image made Unwinds fs kept live h = h
+frames_alike image made Gone fs kept live h = absurd (live refl)
+
+-- they show so where more objects are made
+frames_grown : (image : Image) (made all : ℕ → Option Made) (n : Next) (fs : Frames) (kept : Kept) → Knows all made → ShowsFrames image made n fs kept → ShowsFrames image all n fs kept
+frames_grown image made all Runs fs kept knows h = alike_more image made all fs (frames_in kept) knows h
+frames_grown image made all (WillTrap k) fs kept knows h = alike_more image made all fs (frames_in kept) knows h
+frames_grown image made all Unwinds fs kept knows h = alike_more image made all fs (frames_in kept) knows h
+frames_grown image made all Gone fs kept knows h = h
 
 -- an activity that runs hasn't ended
 pub runs_live : (n : Next) → Runs ≡ n → n ≢ Gone
 runs_live n e f = let z = e ∙ f in absurd (cc z)
 
 -- the desk's activities show those of a book with their frames
-abbrev pub EachShows : Image → List Activity → (ℕ → book.Activity) → (ℕ → Frames) → Type 0
-EachShows image items acts frames = (x : ℕ) (kept : Activity) → slice_get items x ≡ Some kept → ShowsActivity image kept (acts x) (frames x)
+abbrev pub EachShows : Image → (made : ℕ → Option Made) → List Activity → (ℕ → book.Activity) → (ℕ → Frames) → Type 0
+EachShows image made items acts frames = (x : ℕ) (kept : Activity) → slice_get items x ≡ Some kept → ShowsActivity image made kept (acts x) (frames x)
+
+each_grown : (image : Image) (made all : ℕ → Option Made) (items : List Activity) (acts : ℕ → book.Activity) (frames : ℕ → Frames) → Knows all made → EachShows image made items acts frames → EachShows image all items acts frames
+each_grown image made all items acts frames knows each x kept at =
+    let s = each x kept at in record { priority = s.priority; begun = s.begun; next = s.next; frames = frames_grown image made all kept.next (frames x) kept.frames knows s.frames }
 
 -- after one has changed
-each_after : (image : Image) (items items' : List Activity) (acts acts' : ℕ → book.Activity) (frames frames' : ℕ → Frames) (a : ℕ) (old new : Activity) → slice_get items a ≡ Some old → items' ≡ slice_set items a new →
-    ShowsActivity image new (acts' a) (frames' a) → ((x : ℕ) → x ≢ a → acts' x ≡ acts x) → ((x : ℕ) → x ≢ a → frames' x ≡ frames x) → EachShows image items acts frames → EachShows image items' acts' frames'
-each_after image items items' acts acts' frames frames' a old new was is here same_acts same_frames each =
-    each_at (λ x. (kept : Activity) → slice_get items' x ≡ Some kept → ShowsActivity image kept (acts' x) (frames' x)) a
+each_after : (image : Image) (made : ℕ → Option Made) (items items' : List Activity) (acts acts' : ℕ → book.Activity) (frames frames' : ℕ → Frames) (a : ℕ) (old new : Activity) → slice_get items a ≡ Some old → items' ≡ slice_set items a new →
+    ShowsActivity image made new (acts' a) (frames' a) → ((x : ℕ) → x ≢ a → acts' x ≡ acts x) → ((x : ℕ) → x ≢ a → frames' x ≡ frames x) → EachShows image made items acts frames → EachShows image made items' acts' frames'
+each_after image made items items' acts acts' frames frames' a old new was is here same_acts same_frames each =
+    each_at (λ x. (kept : Activity) → slice_get items' x ≡ Some kept → ShowsActivity image made kept (acts' x) (frames' x)) a
     (λ kept at.
     let z = sym (set_here items a new (slice_get_within items a old was)) ∙ sym (ap (λ xs. slice_get xs a) is) ∙ at in
     let e : new ≡ kept = cc z in
-    subst (λ k. ShowsActivity image k (acts' a) (frames' a)) e here)
+    subst (λ k. ShowsActivity image made k (acts' a) (frames' a)) e here)
     (λ x ne kept at.
     let s = each x kept (sym (set_there items a x new ne) ∙ sym (ap (λ xs. slice_get xs x) is) ∙ at) in
-    subst (λ v. ShowsActivity image kept v (frames' x)) (sym (same_acts x ne)) (subst (λ f. ShowsActivity image kept (acts x) f) (sym (same_frames x ne)) s))
+    subst (λ v. ShowsActivity image made kept v (frames' x)) (sym (same_acts x ne)) (subst (λ f. ShowsActivity image made kept (acts x) f) (sym (same_frames x ne)) s))
 
 -- and after one has been added
 get_last : {A : Type 0} (xs : List A) (y : A) → slice_get (xs ++ y ∷ []) (length xs) ≡ Some y
@@ -144,18 +159,18 @@ get_before [] y (suc k) kept ne e = e
 get_before (x ∷ xs) y zero kept ne e = e
 get_before (x ∷ xs) y (suc k) kept ne e = get_before xs y k kept (λ z. ne (ap suc z)) e
 
-each_joined : (image : Image) (items items' : List Activity) (acts : ℕ → book.Activity) (frames : ℕ → Frames) (n : ℕ) (new : Activity) (act : book.Activity) (fs : Frames) → n ≡ length items → items' ≡ items ++ new ∷ [] →
-    ShowsActivity image new act fs → EachShows image items acts frames → EachShows image items' (put nat_eq acts n act) (put nat_eq frames n fs)
-each_joined image items items' acts frames n new act fs count is here each =
-    each_at (λ x. (kept : Activity) → slice_get items' x ≡ Some kept → ShowsActivity image kept (put nat_eq acts n act x) (put nat_eq frames n fs x)) n
+each_joined : (image : Image) (made : ℕ → Option Made) (items items' : List Activity) (acts : ℕ → book.Activity) (frames : ℕ → Frames) (n : ℕ) (new : Activity) (act : book.Activity) (fs : Frames) → n ≡ length items → items' ≡ items ++ new ∷ [] →
+    ShowsActivity image made new act fs → EachShows image made items acts frames → EachShows image made items' (put nat_eq acts n act) (put nat_eq frames n fs)
+each_joined image made items items' acts frames n new act fs count is here each =
+    each_at (λ x. (kept : Activity) → slice_get items' x ≡ Some kept → ShowsActivity image made kept (put nat_eq acts n act x) (put nat_eq frames n fs x)) n
     (λ kept at.
     let z : Some new ≡ Some kept = sym (get_last items new) ∙ sym (ap (slice_get (items ++ new ∷ [])) count) ∙ sym (ap (λ xs. slice_get xs n) is) ∙ at in
     let e : new ≡ kept = cc z in
-    subst (λ k. ShowsActivity image k (put nat_eq acts n act n) (put nat_eq frames n fs n)) e
-    (subst (λ v. ShowsActivity image new v (put nat_eq frames n fs n)) (sym (put_same acts n act)) (subst (λ f. ShowsActivity image new act f) (sym (put_same frames n fs)) here)))
+    subst (λ k. ShowsActivity image made k (put nat_eq acts n act n) (put nat_eq frames n fs n)) e
+    (subst (λ v. ShowsActivity image made new v (put nat_eq frames n fs n)) (sym (put_same acts n act)) (subst (λ f. ShowsActivity image made new act f) (sym (put_same frames n fs)) here)))
     (λ x ne kept at.
     let s = each x kept (get_before items new x kept (λ z. ne (z ∙ sym count)) (sym (ap (λ xs. slice_get xs x) is) ∙ at)) in
-    subst (λ v. ShowsActivity image kept v (put nat_eq frames n fs x)) (sym (put_other acts n act x ne)) (subst (λ f. ShowsActivity image kept (acts x) f) (sym (put_other frames n fs x ne)) s))
+    subst (λ v. ShowsActivity image made kept v (put nat_eq frames n fs x)) (sym (put_other acts n act x ne)) (subst (λ f. ShowsActivity image made kept (acts x) f) (sym (put_other frames n fs x ne)) s))
 
 -- an activity below the budget is so after one statement more, unless it is spent
 not_spent : (does_begin : Bool) (budget begun a : ℕ) (spent : Option ℕ) → begun < budget → spent_by does_begin budget (if does_begin then suc begun else begun) a spent ≡ None → (if does_begin then suc begun else begun) < budget
@@ -180,6 +195,9 @@ spent_same before begun budget a spent e = ap (λ q. spent_by q budget begun a s
 -- Each operation
 
 module _ (image : Image) (earlier : List Event) (d : Desk) (st : State Memory Frames) (a : ℕ) (h : Shows image earlier d st) (there : a < st.book.started) where
+  abbrev made : ℕ → Option Made
+  made = made_in image (memory_in d.store)
+
   here_is : (kept : Activity) × (slice_get d.activities.items a ≡ Some kept)
   here_is = get_below d.activities.items a (subst (λ n. a < n) h.started there)
 
@@ -224,13 +242,13 @@ module _ (image : Image) (earlier : List Event) (d : Desk) (st : State Memory Fr
 
   -- the next turn has changed, with the frames
   next_after : (activities : Vec Activity Global) (old : Activity) (n : Next) (frames : Kept) → slice_get d.activities.items a ≡ Some old → activities.items ≡ slice_set d.activities.items a (record old { next = n; frames = frames }) →
-      frames.begun ≡ old.frames.begun → ShowsFrames image n (st.frames a) frames → EachShows image activities.items (put nat_eq st.book.activity a (record (st.book.activity a) { next = next_in n })) st.frames
+      frames.begun ≡ old.frames.begun → ShowsFrames image made n (st.frames a) frames → EachShows image made activities.items (put nat_eq st.book.activity a (record (st.book.activity a) { next = next_in n })) st.frames
   next_after activities old n frames was is count shown =
       let s = h.activities a old was in
       let new : Activity = record old { next = n; frames = frames } in
       let v : book.Activity = record (st.book.activity a) { next = next_in n } in
-      each_after image d.activities.items activities.items st.book.activity (put nat_eq st.book.activity a v) st.frames st.frames a old new was is
-      (subst (λ x. ShowsActivity image new x (st.frames a)) (sym (put_same st.book.activity a v)) (record { priority = s.priority; begun = s.begun ∙ sym count; next = refl; frames = shown }))
+      each_after image made d.activities.items activities.items st.book.activity (put nat_eq st.book.activity a v) st.frames st.frames a old new was is
+      (subst (λ x. ShowsActivity image made new x (st.frames a)) (sym (put_same st.book.activity a v)) (record { priority = s.priority; begun = s.begun ∙ sym count; next = refl; frames = shown }))
       (λ x ne. put_other st.book.activity a v x ne) (λ x ne. refl) h.activities
 
   -- there are as many activities
@@ -265,15 +283,15 @@ module _ (image : Image) (earlier : List Event) (d : Desk) (st : State Memory Fr
 
   pub shows_trapped : (traps : Vec TrapRec Global) (events : Vec Event Global) (activities : Vec Activity Global) (n c : ℕ) (at : ℕ × Pos) →
       ((kept : Activity) → slice_get d.activities.items a ≡ Some kept → kept.next ≢ Gone) →
-      ((kept : Activity) (fs : Frames) → slice_get d.activities.items a ≡ Some kept → Alike image fs (frames_in kept.frames) → position image fs ≡ where_in at) →
+      ((made : ℕ → Option Made) (kept : Activity) (fs : Frames) → slice_get d.activities.items a ≡ Some kept → Alike image made fs (frames_in kept.frames) → position image fs ≡ where_in at) →
       traps.items ≡ d.traps.items ++ record { number = n; code = c; activity = a; «module» = at.0; pos = at.1 } ∷ [] → events.items ≡ d.events.items ++ event.Trap a n ∷ [] →
       ((kept : Activity) → slice_get d.activities.items a ≡ Some kept → activities.items ≡ slice_set d.activities.items a (record kept { next = Unwinds })) →
       Shows image earlier (record d { traps = traps; events = events; activities = activities }) (trap (machine image) a n c st)
   unfolding trap trapped next_is
   shows_trapped traps events activities n c at live placed told is set =
       let r = here_is in
-      let alike = frames_alike image r.0.next (st.frames a) r.0.frames (live r.0 r.1) (h.activities a r.0 r.1).frames in
-      let p = placed r.0 (st.frames a) r.1 alike in
+      let alike = frames_alike image made r.0.next (st.frames a) r.0.frames (live r.0 r.1) (h.activities a r.0 r.1).frames in
+      let p = placed made r.0 (st.frames a) r.1 alike in
       record {
         store = h.store;
         line = h.line;
@@ -299,6 +317,9 @@ module _ (image : Image) (earlier : List Event) (d : Desk) (st : State Memory Fr
   shows_turned store activities output spent frames old left was runs is shown when none small =
       let t = turn image st.store (st.frames a) in
       let s = h.activities a old was in
+      let all = made_in image (memory_in store) in
+      let knows : Knows all made =
+      subst (λ (m : Memory × Memory). Knows (made_in image m.0) (made_in image m.1)) (λ i. (shown.store i, h.store i)) (turn_grows image st.store (st.frames a)) in
       let begun = (st.book.activity a).begun in
       let new : Activity = record old { frames = frames } in
       let less : begun < st.book.budget = h.unspent a none in
@@ -317,11 +338,11 @@ module _ (image : Image) (earlier : List Event) (d : Desk) (st : State Memory Fr
         spent = (λ i. spent_by (sym told.0 i) (h.budget i) (count i) a (h.spent i)) ∙ sym when;
         started = started_after activities new is;
         known = h.known;
-        activities = each_after image d.activities.items activities.items st.book.activity (put nat_eq st.book.activity a v) st.frames (put nat_eq st.frames a t.frames) a old new was is
-            (subst (λ x. ShowsActivity image new x (put nat_eq st.frames a t.frames a)) (sym (put_same st.book.activity a v))
-            (subst (λ x. ShowsActivity image new v x) (sym (put_same st.frames a t.frames))
-            (record { priority = s.priority; begun = count; next = s.next; frames = subst (λ m. ShowsFrames image m t.frames frames) runs shown.alike })))
-            (λ x ne. put_other st.book.activity a v x ne) (λ x ne. put_other st.frames a t.frames x ne) h.activities;
+        activities = each_after image all d.activities.items activities.items st.book.activity (put nat_eq st.book.activity a v) st.frames (put nat_eq st.frames a t.frames) a old new was is
+            (subst (λ x. ShowsActivity image all new x (put nat_eq st.frames a t.frames a)) (sym (put_same st.book.activity a v))
+            (subst (λ x. ShowsActivity image all new v x) (sym (put_same st.frames a t.frames))
+            (record { priority = s.priority; begun = count; next = s.next; frames = subst (λ m. ShowsFrames image all m t.frames frames) runs shown.alike })))
+            (λ x ne. put_other st.book.activity a v x ne) (λ x ne. put_other st.frames a t.frames x ne) (each_grown image made all d.activities.items st.book.activity st.frames knows h.activities);
         unspent = λ x spends. each_at (λ y. (put nat_eq st.book.activity a v y).begun < st.book.budget) a
             (subst (λ (y : book.Activity). y.begun < st.book.budget) (sym (put_same st.book.activity a v)) (not_spent t.begun st.book.budget begun a st.book.spent less spends))
             (λ y ne. subst (λ (y : book.Activity). y.begun < st.book.budget) (sym (put_other st.book.activity a v y ne)) (h.unspent y none)) x;
@@ -329,7 +350,7 @@ module _ (image : Image) (earlier : List Event) (d : Desk) (st : State Memory Fr
 
   -- the activity goes on behind a start
   pub shows_past : (activities : Vec Activity Global) (old : Activity) (frames : Kept) → slice_get d.activities.items a ≡ Some old → Runs ≡ old.next →
-      activities.items ≡ slice_set d.activities.items a (record old { frames = frames }) → frames.begun ≡ old.frames.begun → Alike image (past image (st.frames a)) (frames_in frames) → Shows image earlier (record d { activities = activities }) (go_past (machine image) a st)
+      activities.items ≡ slice_set d.activities.items a (record old { frames = frames }) → frames.begun ≡ old.frames.begun → Alike image made (past image (st.frames a)) (frames_in frames) → Shows image earlier (record d { activities = activities }) (go_past (machine image) a st)
   unfolding go_past
   shows_past activities old frames was runs is count alike =
       let s = h.activities a old was in
@@ -346,9 +367,9 @@ module _ (image : Image) (earlier : List Event) (d : Desk) (st : State Memory Fr
         spent = h.spent;
         started = started_after activities new is;
         known = h.known;
-        activities = each_after image d.activities.items activities.items st.book.activity st.book.activity st.frames (put nat_eq st.frames a fs) a old new was is
-            (subst (λ x. ShowsActivity image new (st.book.activity a) x) (sym (put_same st.frames a fs))
-            (record { priority = s.priority; begun = s.begun ∙ sym count; next = s.next; frames = subst (λ m. ShowsFrames image m fs frames) runs alike }))
+        activities = each_after image made d.activities.items activities.items st.book.activity st.book.activity st.frames (put nat_eq st.frames a fs) a old new was is
+            (subst (λ x. ShowsActivity image made new (st.book.activity a) x) (sym (put_same st.frames a fs))
+            (record { priority = s.priority; begun = s.begun ∙ sym count; next = s.next; frames = subst (λ m. ShowsFrames image made m fs frames) runs alike }))
             (λ x ne. refl) (λ x ne. put_other st.frames a fs x ne) h.activities;
         unspent = h.unspent;
       }
@@ -365,7 +386,7 @@ module _ (image : Image) (earlier : List Event) (d : Desk) (st : State Memory Fr
 -- a new activity is ready
 pub shows_born : (image : Image) (earlier : List Event) (d : Desk) (st : State Memory Frames) (n : ℕ) (activities : Vec Activity Global) (line : Vec Stand Global) (running : List (Option ℕ)) (events : Vec Event Global) (frames : Kept) (fs : Frames) →
     n ≡ length d.activities.items → activities.items ≡ d.activities.items ++ record { priority = 2; next = Runs; frames = frames } ∷ [] → line_in line.items ≡ move n (place_in (Ready 2)) (line_in d.line.items) → IsRunning running (line_in line.items) → events.items ≡ d.events.items ++ event.Start n ∷ [] →
-    frames.begun ≡ 0 → Alike image fs (frames_in frames) → Shows image earlier d st →
+    frames.begun ≡ 0 → Alike image (made_in image (memory_in d.store)) fs (frames_in frames) → Shows image earlier d st →
     Shows image earlier (record d { activities = activities; line = line; running = running; events = events }) (on_book (born 2) (with_frames st.book.started fs st))
 unfolding born
 shows_born image earlier d st n activities line running events frames fs count is moved on told none alike h =
@@ -384,7 +405,7 @@ shows_born image earlier d st n activities line running events frames fs count i
       spent = h.spent;
       started = ap suc h.started ∙ sym (ap length is ∙ added d.activities.items new);
       known = known_moved (suc k) k (book.Ready 2) st.book.line (known_more k st.book.line h.known) (omega arith);
-      activities = each_joined image d.activities.items activities.items st.book.activity st.frames k new act fs h.started is (record { priority = refl; begun = sym none; next = refl; frames = alike }) h.activities;
+      activities = each_joined image (made_in image (memory_in d.store)) d.activities.items activities.items st.book.activity st.frames k new act fs h.started is (record { priority = refl; begun = sym none; next = refl; frames = alike }) h.activities;
       unspent = λ x spends. each_at (λ y. (put nat_eq st.book.activity k act y).begun < st.book.budget) k
           (subst (λ (y : book.Activity). y.begun < st.book.budget) (sym (put_same st.book.activity k act)) (positive (st.book.activity 0).begun st.book.budget (h.unspent 0 spends)))
           (λ y ne. subst (λ (y : book.Activity). y.begun < st.book.budget) (sym (put_other st.book.activity k act y ne)) (h.unspent y spends)) x;
@@ -424,7 +445,7 @@ shows_same image earlier d new st e h = record {
   spent = h.spent ∙ sym e.spent;
   started = h.started ∙ ap length (sym e.activities);
   known = h.known;
-  activities = subst (λ xs. EachShows image xs st.book.activity st.frames) (sym e.activities) h.activities;
+  activities = subst (λ (x : List Activity × Store). EachShows image (made_in image (memory_in x.1)) x.0 st.book.activity st.frames) (λ i. (sym e.activities i, sym e.store i)) h.activities;
   unspent = h.unspent;
 }
 
@@ -443,6 +464,7 @@ pub shows_silent : (image : Image) (earlier : List Event) (d : Desk) (st : State
     slice_get d.activities.items a ≡ Some old → Runs ≡ old.next → activities.items ≡ slice_set d.activities.items a (record old { frames = frames }) → Rests image old.frames frames (memory_in d.store) (memory_in store) d.output.items output.items →
     spent ≡ d.spent → Shows image earlier d st → Shows image earlier (record d { store = store; activities = activities; output = output; spent = spent }) st
 shows_silent image earlier d st store activities output spent a old frames was runs is rests same h =
+    let made = made_in image (memory_in d.store) in
     let s = h.activities a old was in
     let new : Activity = record old { frames = frames } in
     record {
@@ -456,13 +478,13 @@ shows_silent image earlier d st store activities output spent a old frames was r
       spent = h.spent ∙ sym same;
       started = h.started ∙ sym (ap length is ∙ length-set d.activities.items a new);
       known = h.known;
-      activities = each_after image d.activities.items activities.items st.book.activity st.book.activity st.frames st.frames a old new was is
+      activities = subst (λ (m : Memory). EachShows image (made_in image m) activities.items st.book.activity st.frames) (sym rests.memory) (each_after image made d.activities.items activities.items st.book.activity st.book.activity st.frames st.frames a old new was is
           (record {
             priority = s.priority;
             begun = s.begun ∙ sym rests.begun;
             next = s.next;
-            frames = subst (λ m. ShowsFrames image m (st.frames a) old.frames → ShowsFrames image m (st.frames a) frames) runs (λ e. e ∙ rests.alike) s.frames;
-          }) (λ x ne. refl) (λ x ne. refl) h.activities;
+            frames = subst (λ m. ShowsFrames image made m (st.frames a) old.frames → ShowsFrames image made m (st.frames a) frames) runs (λ e. alike_both image made (st.frames a) (frames_in old.frames) (frames_in frames) e rests.alike) s.frames;
+          }) (λ x ne. refl) (λ x ne. refl) h.activities);
       unspent = h.unspent;
     }
 

@@ -1,25 +1,27 @@
 -- What turns leave to the kernel, it can do.
-use Rattle.std.proofs.Common.{ℕ, zero, suc, List, [], ◌∷◌}
+use Rattle.std.proofs.Common.{ℕ, ℤ, zero, suc, List, [], ◌∷◌}
 use Rattle.std.specs.Prelude.{Option, Some, None, Bool, true, false, if◌then◌else◌}
 use Rattle.aos_base.specs.declared.number.Relation.{Relation}
 use Rattle.aos_base.specs.declared.kernel.Did.TheVariants.{Trapped}
-use Rattle.aos_base.specs.Question.{Reads, Stores, Copies, PutsText, ComparesTexts, Calls, Ends, Makes, Starts, PutsInt, PutsChar, PutsString, PutsNothing, PutsLn, Places, Lengths}
-use Rattle.aos_base.specs.Rooted.{Rooted}
+use Rattle.aos_base.specs.Question.{Reads, Stores, Copies, PutsText, ComparesTexts, Calls, Ends, Makes, Starts, PutsInt, PutsChar, PutsString, PutsNothing, PutsLn, Places, Lengths, Opens, Sizes, Tests}
+use Rattle.aos_base.specs.Number.{array_lengths}
+use Rattle.aos_base.specs.Rooted.{Made, Rooted}
 use Rattle.aos_code.specs.declared.instr.Cell.{Cell}
 use Rattle.aos_code.specs.declared.instr.Cell.TheVariants.{Num, Ref, Call as CallCell, Place}
 use Rattle.aos_code.specs.declared.instr.Kind.{Kind}
 use Rattle.aos_code.specs.declared.image.ProcShape.{ProcShape}
 use Rattle.aos_code.specs.declared.image.Image.{Image}
-use Rattle.aos_code.specs.Memory.{Addr, Memory, has_room}
+use Rattle.aos_code.specs.declared.image.TypeDesc.{TypeDesc}
+use Rattle.aos_code.specs.Memory.{Addr, Memory}
 use Rattle.aos_code.specs.Numbered.{numbered}
 use Rattle.aos_code.specs.Silent.{Stack, Keeps, Question, Begins, Fails, Stop, Work, Ended, is_of}
-use Rattle.aos_code.specs.Machine.{Frame, Frames, Turned, Handed, goes_on, leaves, behind, written, writes, reads, copies, prints, writes_out, makes, starts, stores_text, fitted, puts_text, compares, called_frame, is_deep, enters, calls_with, calls, answer, goes, opened, stop_of, turn_at, turn}
+use Rattle.aos_code.specs.Machine.{Frame, Frames, Turned, Handed, goes_on, leaves, behind, written, writes, reads, copies, prints, writes_out, makes, makes_with, makes_of, numbers_in, made_in, starts, stores_text, fitted, puts_text, compares, called_frame, is_deep, enters, calls_with, calls, answer, goes, opened, stop_of, turn_at, turn}
 use Rattle.aos_kernel.specs.Shows.{IsServed}
 
 abbrev Serves : Turned → Type 0
 Serves t = IsServed t.left
 
-module _ (ps : List ℕ) (shapes : List ProcShape) (at : ℕ) (k : Keeps) (s : Stack) (f : Frame) (fs : List Frame) (mem : Memory) where
+module _ (ps : List ℕ) (shapes : List ProcShape) (types : List TypeDesc) (at : ℕ) (k : Keeps) (s : Stack) (f : Frame) (fs : List Frame) (mem : Memory) where
   wrote : (there : Bool) (a : Addr) (vs : List Cell) → Serves (writes ps there a vs at k s f fs mem)
   wrote true a vs = tt
   wrote false a vs = tt
@@ -41,9 +43,18 @@ module _ (ps : List ℕ) (shapes : List ProcShape) (at : ℕ) (k : Keeps) (s : S
   wrote_out None = tt
   wrote_out (Some bytes) = tt
 
-  made : (room : Bool) (t : ℕ) → Serves (makes ps room t at k s f fs mem)
-  made true t = tt
-  made false t = tt
+  made : (room : Bool) (m : Made) (cells : List Cell) → Serves (makes ps room m cells at k s f fs mem)
+  made true m cells = tt
+  made false m cells = tt
+
+  made_with : (ns : Option (List ℕ)) (t : ℕ) (d : TypeDesc) → Serves (makes_with ps ns t d at k s f fs mem)
+  made_with None t d = tt
+  made_with (Some ns) t d = made _ _ _
+
+  made_of : (d : Option TypeDesc) (zs : Option (List ℤ)) (t : ℕ) → Serves (makes_of ps d zs t at k s f fs mem)
+  made_of None zs t = tt
+  made_of (Some d) None t = tt
+  made_of (Some d) (Some zs) t = made_with (array_lengths zs) t d
 
   started : (v : Cell) → Serves (starts ps v at k s f fs mem)
   started (Num z) = tt
@@ -78,7 +89,7 @@ module _ (ps : List ℕ) (shapes : List ProcShape) (at : ℕ) (k : Keeps) (s : S
   called None p vs = tt
   called (Some shape) p vs = called_with p shape _
 
-  answered : (q : Question) → Serves (answer ps shapes q at k s f fs mem)
+  answered : (q : Question) → Serves (answer ps shapes types q at k s f fs mem)
   answered (Reads kind a) = has_read kind _
   answered (Stores a v) = wrote _ a (v ∷ [])
   answered (Copies n from to) = copied _ _ to
@@ -86,7 +97,7 @@ module _ (ps : List ℕ) (shapes : List ProcShape) (at : ℕ) (k : Keeps) (s : S
   answered (ComparesTexts r a n b m) = compared r _ _
   answered (Calls p vs) = called (numbered shapes p) p vs
   answered (Ends result) = tt
-  answered (Makes t) = made (has_room mem) t
+  answered (Makes t vs) = made_of (numbered types t) (numbers_in ps vs) t
   answered (Starts v) = started v
   answered (PutsInt v n) = printed (written v n)
   answered (PutsChar v) = wrote_out _
@@ -95,15 +106,18 @@ module _ (ps : List ℕ) (shapes : List ProcShape) (at : ℕ) (k : Keeps) (s : S
   answered PutsLn = tt
   answered (Places a) = tt
   answered (Lengths a) = tt
+  answered (Opens v) = tt
+  answered (Sizes v d) = tt
+  answered (Tests v t) = tt
 
-gone : (ps : List ℕ) (shapes : List ProcShape) (stop : Stop) (f : Frame) (fs : List Frame) (mem : Memory) → Serves (goes ps shapes stop f fs mem)
-gone ps shapes (Work q at k s) f fs mem = answered ps shapes at k s f fs mem q
-gone ps shapes (Ended (Begins at p s) k) f fs mem = tt
-gone ps shapes (Ended (Fails n c) k) f fs mem = tt
+gone : (ps : List ℕ) (shapes : List ProcShape) (types : List TypeDesc) (stop : Stop) (f : Frame) (fs : List Frame) (mem : Memory) → Serves (goes ps shapes types stop f fs mem)
+gone ps shapes types (Work q at k s) f fs mem = answered ps shapes types at k s f fs mem q
+gone ps shapes types (Ended (Begins at p s) k) f fs mem = tt
+gone ps shapes types (Ended (Fails n c) k) f fs mem = tt
 
 turned_at : (image : Image) (ps : List ℕ) (fs : List Frame) (mem : Memory) → Serves (turn_at image ps fs mem)
 turned_at image ps [] mem = tt
-turned_at image ps (f ∷ fs) mem = gone ps image.shapes.items (stop_of image f fs) f fs mem
+turned_at image ps (f ∷ fs) mem = gone ps image.shapes.items image.types.items (stop_of image (made_in image mem) f fs) f fs mem
 
 pub turn_served : (image : Image) (mem : Memory) (fs : Frames) → IsServed (turn image mem fs).left
 turn_served image mem fs = turned_at image (opened fs).following (opened fs).frames mem

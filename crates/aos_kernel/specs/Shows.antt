@@ -3,14 +3,15 @@ use Rattle.std.specs.Prelude.{◌≡◌, ◌≢◌, ℕ, ◌<◌, List, [], ◌�
 use Rattle.aos_base.specs.declared.kernel.Event.{Event}
 use Rattle.aos_base.specs.declared.kernel.Did.{Did}
 use Rattle.aos_base.specs.declared.kernel.Did.TheVariants.{Went, Ended, Enter, Leave, Await, Start, Trapped}
+use Rattle.aos_base.specs.Rooted.{Made}
 use Rattle.aos_base.specs.Book as book
 use Rattle.aos_base.specs.Machine.{State, turned}
 use Rattle.aos_code.specs.declared.image.Image.{Image}
 use Rattle.aos_code.specs.Memory.{Memory}
-use Rattle.aos_code.specs.Machine.{Frames, machine, turn}
+use Rattle.aos_code.specs.Machine.{Frames, machine, made_in, turn}
 use Rattle.aos_store.specs.declared.frames.Frames.{Frames as Kept}
 use Rattle.aos_store.specs.Store.{frames_in, memory_in}
-use Rattle.aos_cpu.specs.Turns.{Alike, IsBefore}
+use Rattle.aos_cpu.specs.Turns.{Alike, StandsAtStart, IsBefore}
 use Rattle.aos_kernel.specs.declared.desk.Place.{Place}
 use Rattle.aos_kernel.specs.declared.desk.Place.TheVariants.{On, Ready}
 use Rattle.aos_kernel.specs.declared.desk.Stand.{Stand}
@@ -42,18 +43,18 @@ next_in Unwinds = book.Unwinds []
 next_in Gone = book.Gone
 
 -- an activity that has ended keeps no frames, and any other keeps its own, up to silent work
-abbrev pub ShowsFrames : Image → Next → Frames → Kept → Type 0
-ShowsFrames image Runs fs kept = Alike image fs (frames_in kept)
-ShowsFrames image (WillTrap n) fs kept = Alike image fs (frames_in kept)
-ShowsFrames image Unwinds fs kept = Alike image fs (frames_in kept)
-ShowsFrames image Gone fs kept = frames_in kept ≡ record { following = []; frames = [] }
+abbrev pub ShowsFrames : Image → (made : ℕ → Option Made) → Next → Frames → Kept → Type 0
+ShowsFrames image made Runs fs kept = Alike image made fs (frames_in kept)
+ShowsFrames image made (WillTrap n) fs kept = Alike image made fs (frames_in kept)
+ShowsFrames image made Unwinds fs kept = Alike image made fs (frames_in kept)
+ShowsFrames image made Gone fs kept = frames_in kept ≡ record { following = []; frames = [] }
 
--- an activity with its frames
-pub record ShowsActivity (image : Image) (kept : Activity) (a : book.Activity) (fs : Frames) : Type 0 where
+-- an activity with its frames, where objects are known to be made as this
+pub record ShowsActivity (image : Image) (made : ℕ → Option Made) (kept : Activity) (a : book.Activity) (fs : Frames) : Type 0 where
   pub priority : a.priority ≡ kept.priority
   pub begun : a.begun ≡ kept.frames.begun
   pub next : a.next ≡ next_in kept.next
-  pub frames : ShowsFrames image kept.next fs kept.frames
+  pub frames : ShowsFrames image made kept.next fs kept.frames
 
 -- each stand is of one of so many activities
 abbrev pub IsKnown : ℕ → List book.Stand → Type 0
@@ -72,7 +73,7 @@ pub record Shows (image : Image) (earlier : List Event) (d : Desk) (st : State M
   pub spent : st.book.spent ≡ d.spent
   pub started : st.book.started ≡ length d.activities.items
   pub known : IsKnown st.book.started st.book.line
-  pub activities : (x : ℕ) (kept : Activity) → slice_get d.activities.items x ≡ Some kept → ShowsActivity image kept (st.book.activity x) (st.frames x)
+  pub activities : (x : ℕ) (kept : Activity) → slice_get d.activities.items x ≡ Some kept → ShowsActivity image (made_in image (memory_in d.store)) kept (st.book.activity x) (st.frames x)
   pub unspent : (x : ℕ) → st.book.spent ≡ None → (st.book.activity x).begun < st.book.budget
 
 -- from each state that the old desk shows, the new one shows what the operation on an activity makes of it
@@ -105,6 +106,16 @@ IsServed (Leave l) = ⊥
 IsServed (Await l c) = ⊥
 IsServed (Start o) = Unit {0}
 IsServed (Trapped n c) = Unit {0}
+
+-- where the start of an activity is left, the frames stand at it
+abbrev pub IsAtStart : Image → Did → Frames → Type 0
+IsAtStart image (Start o) fs = StandsAtStart image o fs.frames
+IsAtStart image Went fs = Unit {0}
+IsAtStart image Ended fs = Unit {0}
+IsAtStart image (Enter l) fs = Unit {0}
+IsAtStart image (Leave l) fs = Unit {0}
+IsAtStart image (Await l c) fs = Unit {0}
+IsAtStart image (Trapped n c) fs = Unit {0}
 
 -- an activity's next turn is this one
 abbrev pub NextIs : ℕ → Next → Desk → Type 0

@@ -1,12 +1,13 @@
 // What the kernel keeps of a run, and the operations on it, one for each of the definitions.
-ghost use Rattle.std.specs.Prelude.{◌≡◌, ◌≢◌, ℕ, ◌<◌, ◌≤◌, [], ◌∷◌, List, length, map, get_or, slice_get, slice_set, nat_le, nat_lt, ◌||◌, vec_len, vec_capacity, IfOk, OnOk, OnErr, Some, None};
+ghost use Rattle.std.specs.Prelude.{◌≡◌, ◌≢◌, ℕ, ◌<◌, ◌≤◌, [], ◌∷◌, List, length, map, get_or, slice_get, slice_set, nat_le, nat_lt, ◌||◌, vec_len, vec_capacity, IfOk, OnOk, OnErr, Option, Some, None};
+ghost use Rattle.aos_base.specs.Rooted.{Made as MadeAs};
 ghost use Rattle.aos_base.specs.Book.{outcome_of, leave_line, move, or_next, first_at, is_ready, on_worker as worker_in, first_ready, spent_by, stands, ready, ended, born, is_full, Runs, On};
 ghost use Rattle.aos_base.specs.Machine.{State, on_book, with_frames, go_past, trap, start, serve, turn_by};
 ghost use Rattle.aos_code.specs.Memory.{Memory};
 ghost use Rattle.aos_code.specs.Machine.{Frames as FramesOf, machine, bodies, body_frame, body_of, position};
 ghost use Rattle.aos_store.specs.Store.{frames_in, memory_in};
-ghost use Rattle.aos_cpu.specs.Turns.{where_in, Alike, WhereLeft};
-ghost use Rattle.aos_kernel.specs.Shows.{place_in, line_in, IsRunning, Shows, Performs, PerformsUnspent, ShowsSame, HasTurned, IsServed, StandsBefore, NextIs, IsLive, HasSame};
+ghost use Rattle.aos_cpu.specs.Turns.{where_in, Alike, StandsAtStart, WhereLeft};
+ghost use Rattle.aos_kernel.specs.Shows.{place_in, line_in, IsRunning, Shows, Performs, PerformsUnspent, ShowsSame, HasTurned, IsServed, IsAtStart, StandsBefore, NextIs, IsLive, HasSame};
 
 use aos_base::{Did, Event, NoMemory, Outcome, Pos};
 use aos_code::{Image, TrapRec};
@@ -154,8 +155,8 @@ fn next_of(activities: &[Activity], activity: u32) -> Next
 
 /// Where an activity stands in the text.
 fn place_of(image: &Image, activities: &[Activity], activity: u32) -> (u32, Pos)
-    ensures { (kept : Activity) (fs : FramesOf) → slice_get activities.now activity ≡ Some kept →
-        Alike image.now fs (frames_in kept.frames) → position image.now fs ≡ where_in result }
+    ensures { (made : ℕ → Option MadeAs) (kept : Activity) (fs : FramesOf) → slice_get activities.now activity ≡ Some kept →
+        Alike image.now made fs (frames_in kept.frames) → position image.now fs ≡ where_in result }
 {
     match activities.get(activity as usize) {
         Some(kept) => position_of(image, &kept.frames),
@@ -410,6 +411,7 @@ impl Desk {
         ensures { (image : Image) (object : ℕ) (earlier : List Event) (st : State Memory FramesOf) →
             Shows image earlier self.old st → activity < st.book.started →
             StandsBefore image activity (Did.Start object) self.old →
+            StandsAtStart image object (st.frames activity).frames →
             Shows image earlier self.new (go_past (machine image) activity st) }
     {
         if let Some(kept) = self.activities.get_mut(activity as usize) {
@@ -422,7 +424,7 @@ impl Desk {
         requires { StandsBefore image.now activity (Did.Start object) self.old }
         ensures ok { OnOk result ((earlier : List Event) (st : State Memory FramesOf) →
             Shows image.now earlier self.old st →
-            activity < st.book.started →
+            activity < st.book.started → StandsAtStart image.now object (st.frames activity).frames →
             Shows image.now earlier self.new
             (start (machine image.now) activity object (is_full st.book) st)) }
         ensures err { OnErr result (ShowsSame image.now self.old self.new) }
@@ -466,7 +468,7 @@ impl Desk {
         requires { StandsBefore image.now activity left self.old }
         ensures ok { OnOk result ((earlier : List Event) (st : State Memory FramesOf) →
             Shows image.now earlier self.old st →
-            activity < st.book.started → IsServed left →
+            activity < st.book.started → IsServed left → IsAtStart image.now left (st.frames activity) →
             Shows image.now earlier self.new (serve (machine image.now) activity left st)) }
         ensures err { OnErr result (ShowsSame image.now self.old self.new) }
         ensures left { OnErr result (left ≢ Did.Went) }

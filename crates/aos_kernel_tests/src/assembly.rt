@@ -58,6 +58,8 @@ fn plain_operator(name: &str) -> Option<Instr> {
 /// An instruction that has nothing but its name. `put_text_strict` traps where the text doesn't fit.
 fn plain(name: &str) -> Option<Instr> {
     match name {
+        "nil" => Some(Instr::Nil),
+        "eq_ref" => Some(Instr::EqRef),
         "dup" => Some(Instr::Dup),
         "drop" => Some(Instr::Drop),
         "swap" => Some(Instr::Swap),
@@ -129,6 +131,19 @@ fn numbered(name: &str, number: i64) -> Option<Instr> {
         "copy" => Some(Instr::Copy(number)),
         "call" => Some(Instr::Call(number)),
         "new_object" => Some(Instr::NewObject(number)),
+        "deref" => Some(Instr::Deref(number)),
+        "open_ref" => Some(Instr::OpenRef(number)),
+        _ => of_type(name, number),
+    }
+}
+
+/// An instruction that has the number of a type.
+fn of_type(name: &str, number: u32) -> Option<Instr> {
+    match name {
+        "is" => Some(Instr::Is(number)),
+        "is_place" => Some(Instr::IsPlace(number)),
+        "guard" => Some(Instr::Guard(number)),
+        "guard_place" => Some(Instr::GuardPlace(number)),
         _ => None,
     }
 }
@@ -164,6 +179,7 @@ fn of_two_numbers(name: &str, first: i64, second: i64) -> Option<Instr> {
         "index" => Some(Instr::Index(first, second)),
         "index_open" => Some(Instr::IndexOpen(first, second)),
         "pick_len" => Some(Instr::PickLen(first, second)),
+        "new_array" => Some(Instr::NewArray(first, second)),
         "begin" => Some(Instr::Begin(first, second)),
         _ => None,
     }

@@ -102,6 +102,27 @@ fn add_procedure(
     Ok(())
 }
 
+/// The types of objects: one with a body; a record of a number and an object, and one that extends it by a number; and the element of
+/// an open array.
+static TYPES: [(u32, &[Kind], u32); 4] = [
+    (0, &[], 10),
+    (0, &[Kind::N, Kind::R], 0),
+    (2, &[Kind::N, Kind::R, Kind::N], 0),
+    (0, &[Kind::N], 0),
+];
+
+fn types_of(alloc: Global) -> Result<Vec<TypeDesc>, Fail> {
+    let mut types = Vec::new(alloc);
+    for (base, kinds, body) in &TYPES {
+        types.push(TypeDesc {
+            base: *base,
+            kinds: Vec::from_slice(alloc, kinds)?,
+            body: *body,
+        })?;
+    }
+    Ok(types)
+}
+
 fn module_of(alloc: Global, cells: &[Cell]) -> Result<ModuleDesc, Fail> {
     Ok(ModuleDesc {
         name: String::from_str(alloc, "M")?,
@@ -114,12 +135,11 @@ fn module_of(alloc: Global, cells: &[Cell]) -> Result<ModuleDesc, Fail> {
 fn image_of(rt: &impl Abort, alloc: Global, cells: &[Cell], code: &str) -> Result<Image, Fail> {
     let mut image = Image {
         modules: Vec::new(alloc),
-        types: Vec::new(alloc),
+        types: types_of(alloc)?,
         shapes: Vec::new(alloc),
         bodies: Vec::new(alloc),
     };
     image.modules.push(module_of(alloc, cells)?)?;
-    image.types.push(TypeDesc { body: 10 })?;
     add_procedure(rt, alloc, &mut image, &(&[], &[], 0, None, code))?;
     for procedure in &PROCEDURES {
         add_procedure(rt, alloc, &mut image, procedure)?;
@@ -271,6 +291,73 @@ fn does_what_each_instruction_says(rt: HostRuntime) -> Result<(), Fail> {
     expect_all(&rt, rt.alloc(), &INSTRUCTIONS)
 }
 
+/// What comes of work on objects, as a number, or the trap.
+static OBJECTS: [(&str, &str); 29] = [
+    // a new object's cells begin as their kinds say
+    ("new_object 2; deref 0; load n", "Ended 0"),
+    ("new_object 2; deref 1; load r; nil; eq_ref", "Ended 1"),
+    (
+        "new_object 2; dup; deref 0; num 75; store n; deref 0; load n",
+        "Ended 75",
+    ),
+    ("nil; deref 0; load n", "Ended  trap 1 0"),
+    // 0 is no object's first cell either
+    ("nil; deref 1; load r; drop; num 1", "Ended  trap 1 0"),
+    ("nil; open_ref 1; drop; load n", "Ended  trap 1 0"),
+    ("nil; nil; eq_ref", "Ended 1"),
+    ("new_object 2; nil; eq_ref", "Ended 0"),
+    ("new_object 2; dup; eq_ref", "Ended 1"),
+    ("new_object 2; new_object 2; eq_ref", "Ended 0"),
+    ("nil; is 2", "Ended 0"),
+    ("new_object 2; is 2", "Ended 1"),
+    ("new_object 3; is 2", "Ended 1"),
+    ("new_object 2; is 3", "Ended 0"),
+    ("new_object 3; guard 2; deref 2; load n", "Ended 0"),
+    ("new_object 2; guard 3; is 3", "Ended  trap 3 0"),
+    ("nil; guard 2; is 2", "Ended  trap 3 0"),
+    ("new_object 3; deref 0; is_place 2", "Ended 1"),
+    ("new_object 2; deref 0; is_place 3", "Ended 0"),
+    ("new_object 3; deref 0; guard_place 2; load n", "Ended 0"),
+    (
+        "new_object 2; deref 0; guard_place 3; load n",
+        "Ended  trap 3 0",
+    ),
+    (
+        "num 3; new_array 4 1; open_ref 1; num 2; index_open 1 1; load n",
+        "Ended 0",
+    ),
+    (
+        "num 3; new_array 4 1; open_ref 1; num 3; index_open 1 1; load n",
+        "Ended  trap 2 0",
+    ),
+    // the first length is the first operand
+    (
+        "num 2; num 3; new_array 4 2; open_ref 2; pick_len 0 2",
+        "Ended 2",
+    ),
+    ("num 0; new_array 4 1; is 4", "Ended  trap 15 0"),
+    ("num 2; num -1; new_array 4 2; is 4", "Ended  trap 15 0"),
+    ("num 16777217; new_array 4 1; is 4", "Ended  trap 12 0"),
+    (
+        "num 4097; num 4096; new_array 4 2; is 4",
+        "Ended  trap 12 0",
+    ),
+    // a length below 1 goes before one that is too great
+    (
+        "num 16777217; num 0; new_array 4 2; is 4",
+        "Ended  trap 15 0",
+    ),
+];
+
+#[test]
+fn objects(rt: HostRuntime) -> Result<(), Fail> {
+    for (code, want) in &OBJECTS {
+        let written = format!(in rt.alloc(); "{code}; num 0; out_int")?;
+        expect(&rt, rt.alloc(), &written, want)?;
+    }
+    Ok(())
+}
+
 static CALLS: [(&str, &str); 10] = [
     ("num 4; call 2; num 0; out_int", "Ended 5"),
     ("module 0 0; num 2; call 3; out_char", "Ended i"),
@@ -357,7 +444,7 @@ fn operators(rt: HostRuntime) -> Result<(), Fail> {
     Ok(())
 }
 
-static UNSOUND: [&str; 30] = [
+static UNSOUND: [&str; 37] = [
     // no such module, cell, frame's cell, procedure
     "module 1 0; load n",
     "module 0 8; load n",
@@ -388,6 +475,14 @@ static UNSOUND: [&str; 30] = [
     "module 0 4294967295; offset 1 0",
     "module 0 4294967295; num 1; index 2 1",
     "module 0 4294967295; num 2; num 1; index_open 1 1",
+    // no such type, an object that has fewer cells and lengths, a number for an object
+    "new_object 5; drop",
+    "num 1; new_array 5 1; drop",
+    "new_object 2; deref 2; load n",
+    "num 2; new_array 4 1; open_ref 2; drop",
+    "num 1; deref 0; load n",
+    "nil; num 1; eq_ref",
+    "nil; new_array 4 1; drop",
     // a keep that isn't the frame's, and a jump back to no Begin
     "num 1; keep 2 n",
     "num 1; jump 1",

@@ -8,7 +8,7 @@ use std::alloc::{AllocError, Global};
 use std::process::Abort;
 use std::test::Fail;
 
-/// A module of two cells, and one type. Procedure 1 gives nothing, and has a cell and keeps one value; procedure 2 gives a number;
+/// A module of two cells, and one type, of a number. Procedure 1 gives nothing, and has a cell and keeps one value; procedure 2 gives a number;
 /// procedure 3 takes a number and an open array, and gives a number.
 fn image(alloc: Global) -> Result<Image, AllocError> {
     let module = ModuleDesc {
@@ -27,9 +27,14 @@ fn image(alloc: Global) -> Result<Image, AllocError> {
     called.cells = 3;
     called.kinds = vec![in alloc; Kind::N, Kind::A, Kind::N]?;
     called.result = Some(Kind::N);
+    let record = TypeDesc {
+        base: 0,
+        kinds: vec![in alloc; Kind::N]?,
+        body: 0,
+    };
     Ok(Image {
         modules: vec![in alloc; module]?,
-        types: vec![in alloc; TypeDesc { body: 0 }]?,
+        types: vec![in alloc; record]?,
         shapes: vec![in alloc; nothing, number, called]?,
         bodies: Vec::new(alloc),
     })
@@ -139,7 +144,29 @@ static UNSOUND_CALLS: [&str; 10] = [
     "module 0 1; num 1; index_open 0 1; load n; out_char; return",
 ];
 
-static CONDITIONS: [&str; 3] = [
+static OBJECTS: [&str; 5] = [
+    "new_object 1; dup; deref 0; num 1; store n; guard 1; is 1; out_char; return",
+    "nil; nil; eq_ref; out_char; return",
+    "new_object 1; deref 0; guard_place 1; is_place 1; out_char; return",
+    "num 1; num 2; new_array 1 2; open_ref 2; pick_len 1 2; out_char; return",
+    "num 1; new_array 1 1; open_ref 1; num 0; index_open 1 1; load n; out_char; return",
+];
+
+static UNSOUND_OBJECTS: [&str; 8] = [
+    // no such type
+    "nil; is 2; out_char; return",
+    "nil; guard 2; drop; return",
+    "module 0 1; is_place 2; out_char; return",
+    "num 1; new_array 2 1; drop; return",
+    // a number for an object, an object for a place, one length too few, and one too many
+    "num 1; deref 0; drop; return",
+    "new_object 1; is_place 1; out_char; return",
+    "num 1; new_array 1 2; drop; return",
+    "nil; open_ref 1; drop; return",
+];
+
+static CONDITIONS: [&str; 4] = [
+    "nil; is 1; jump_false 3; fail 7",
     "module 0 1; num 1; module 0 1; num 1; cmp_text <; jump_false 6; fail 7",
     "kept 0 n; jump_false 2; fail 7",
     "param 0; length 0; index 3 1; drop; fail 7",
@@ -151,5 +178,13 @@ fn soundness_of_calls_and_arrays(rt: HostRuntime) -> Result<(), Fail> {
     expect(&rt, alloc, &CALLS, (true, false))?;
     expect(&rt, alloc, &UNSOUND_CALLS, (false, false))?;
     expect(&rt, alloc, &CONDITIONS, (true, true))?;
+    Ok(())
+}
+
+#[test]
+fn soundness_of_objects(rt: HostRuntime) -> Result<(), Fail> {
+    let alloc = rt.alloc();
+    expect(&rt, alloc, &OBJECTS, (true, false))?;
+    expect(&rt, alloc, &UNSOUND_OBJECTS, (false, false))?;
     Ok(())
 }

@@ -1,5 +1,5 @@
 -- Whether an answer comes, by what it needs.
-use Rattle.std.proofs.Common.{◌≡◌, ◌<◌, ◌≤◌, ℕ, zero, suc, ◌+◌, ◌-◌, min, List, [], ◌∷◌, ◌++◌, length, take, drop, reverse, get_or, refl, sym, ap, ◌∙◌, subst, arith}
+use Rattle.std.proofs.Common.{◌≡◌, ◌<◌, ◌≤◌, ℕ, zero, suc, ◌+◌, ◌-◌, List, [], ◌∷◌, ◌++◌, length, take, drop, reverse, get_or, refl, sym, ap, ◌∙◌, arith}
 use Rattle.std.specs.Prelude.{Bool, true, false, not, ◌&&◌, nat_lt, Option, Some, None, is_some, option_map, if◌then◌else◌}
 use Rattle.std.proofs.lemmas.List.{length-append, length-take, drop_all}
 use Rattle.aos_base.specs.declared.kernel.Did.TheVariants.{Trapped}
@@ -11,14 +11,14 @@ use Rattle.aos_code.specs.declared.image.Image.{Image}
 use Rattle.aos_code.specs.declared.image.ProcShape.{ProcShape}
 use Rattle.aos_code.specs.Memory.{Memory, Addr}
 use Rattle.aos_code.specs.Silent.{Stack, Keeps, is_of}
-use Rattle.aos_code.specs.Machine.{Frame, Frames, Handed, rooted, cells_at, leaves, goes_on, behind, reads, writes, copies, stores_text, fitted, puts_text, compares, enters, called_frame, calls_with, calls, goes, stop_of, handed, text_at, text_in, length_in, code_in, character_then, character_cells}
+use Rattle.aos_code.specs.Machine.{Frame, Frames, rooted, cells_at, leaves, goes_on, behind, reads, writes, copies, stores_text, fitted, puts_text, compares, enters, called_frame, calls_with, calls, goes, stop_of, handed, text_in, code_in, character_then, character_cells}
 use Rattle.aos_store.specs.declared.frames.Frames.{Frames as KeptFrames}
 use Rattle.aos_store.specs.Store.{list_in, frames_in, has_all, deep}
 use Rattle.aos_silent.specs.declared.silent.Stop.{Stop as KeptStop}
 use Rattle.aos_cpu.specs.Answers.{ordered}
 use Rattle.aos_cpu.specs.Calls.{Gift, gifts, all_copied}
 use Rattle.aos_cpu.specs.Turns.{Alike, StandsAtStop}
-use Rattle.aos_cpu.specs.Private.{no_memory, has_gone, is_own_stop, is_own_turn, is_private}
+use Rattle.aos_cpu.specs.Private.{no_memory, made_by, has_gone, is_own_stop, is_own_turn, is_private}
 use Rattle.aos_cpu.proofs.Behind.{if_there}
 use Rattle.aos_cpu.proofs.Characters.{text_from}
 use Rattle.aos_cpu.proofs.Handing.{handed_gifts, put_as}
@@ -95,7 +95,7 @@ module _ (following : List ℕ) (at : ℕ) (k : Keeps) (s : Stack) (f : Frame) (
       ∙ ap (λ x. has_gone (calls_with following p shape x at k s f fs mem).left) (sym (handed_is shape vs (Some gs) e))
 
 -- turns of frames that are alike are private alike
-pub private_alike : (image : Image) (fs gs : Frames) → Alike image fs gs → is_private image fs ≡ is_private image gs
+pub private_alike : (image : Image) (fs gs : Frames) → Alike image (made_by []) fs gs → is_private image fs ≡ is_private image gs
 private_alike image fs gs h = λ i. own_alike image fs gs h i && has_gone ((turn_alike image no_memory fs gs h).left i)
 
 -- How many characters a text has, one cell after the other.
@@ -134,17 +134,17 @@ and_if : (a g h : Bool) → (a ≡ true → g ≡ h) → (a && g) ≡ (a && h)
 and_if true g h e = e refl
 and_if false g h e = refl
 
-pub private_stop : (image : Image) (stop : KeptStop) (frames : KeptFrames) (mem : Memory) (is : Bool) → StandsAtStop image stop (list_in frames.list.items) → mem ≡ no_memory → TellsStop is image.shapes.items stop frames mem →
+pub private_stop : (image : Image) (stop : KeptStop) (frames : KeptFrames) (mem : Memory) (is : Bool) → StandsAtStop image (made_by []) stop (list_in frames.list.items) → mem ≡ no_memory → TellsStop is image.shapes.items image.types.items stop frames mem →
     (is_own_turn image (frames_in frames) && is) ≡ is_private image (frames_in frames)
 private_stop image stop frames mem is stands none tells = by_list (list_in frames.list.items) refl stands
   where
-    by_list : (l : List Frame) → list_in frames.list.items ≡ l → StandsAtStop image stop l → (is_own_turn image (frames_in frames) && is) ≡ is_private image (frames_in frames)
+    by_list : (l : List Frame) → list_in frames.list.items ≡ l → StandsAtStop image (made_by []) stop l → (is_own_turn image (frames_in frames) && is) ≡ is_private image (frames_in frames)
     by_list [] e x = absurd x
     by_list (f ∷ fs) e x =
         let shapes = image.shapes.items in
         let fol = reverse frames.following.items in
         let now = λ (l : List Frame). let y : Frames = record { following = fol; frames = l } in y in
-        let goes_so : is_own_stop shapes (stop_of image f fs) ≡ true → is ≡ has_gone (goes fol shapes (stop_of image f fs) f fs no_memory).left =
-        λ own. tells f fs e (ap (is_own_stop shapes) (sym x.0) ∙ own) fol ∙ (λ i. has_gone (goes fol shapes (sym x.0 i) f fs (none i)).left) in
-        ap (λ l. is_own_turn image (now l) && is) e ∙ and_if (is_own_stop shapes (stop_of image f fs)) is (has_gone (goes fol shapes (stop_of image f fs) f fs no_memory).left) goes_so
+        let goes_so : is_own_stop shapes (stop_of image (made_by []) f fs) ≡ true → is ≡ has_gone (goes fol shapes image.types.items (stop_of image (made_by []) f fs) f fs no_memory).left =
+        λ own. tells f fs e (ap (is_own_stop shapes) (sym x.0) ∙ own) fol ∙ (λ i. has_gone (goes fol shapes image.types.items (sym x.0 i) f fs (none i)).left) in
+        ap (λ l. is_own_turn image (now l) && is) e ∙ and_if (is_own_stop shapes (stop_of image (made_by []) f fs)) is (has_gone (goes fol shapes image.types.items (stop_of image (made_by []) f fs) f fs no_memory).left) goes_so
         ∙ ap (λ l. is_private image (now l)) (sym e)

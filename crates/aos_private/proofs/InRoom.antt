@@ -3,13 +3,12 @@ use Rattle.std.proofs.Common.{◌≡◌, ◌<◌, ◌≤◌, ◌-◌, ◌^◌, �
 use Rattle.std.specs.Prelude.{Some, None, slice_get, slice_set, vec_capacity}
 use Rattle.std.proofs.lemmas.List.{length-set}
 use Rattle.std.proofs.lemmas.Option.{slice_get_within}
-use Rattle.aos_code.specs.declared.instr.Kind.{Kind}
 use Rattle.aos_code.specs.declared.image.Image.{Image}
 use Rattle.aos_code.specs.Numbered.{numbered}
 use Rattle.aos_code.specs.Silent.{keeps_in}
 use Rattle.aos_code.specs.Machine.{Frame, Frames, opened_by, code_of}
 use Rattle.aos_sound.specs.Fits.{KeepsToPaths, StandsOn, result_of}
-use Rattle.aos_sound.specs.FitFrames.{IsSoundImage, HasBody, FitFor, AreToFollow, FramesFit, depth_of}
+use Rattle.aos_sound.specs.FitFrames.{IsSoundImage, HasBody, FitFor, FramesFit, depth_of}
 use Rattle.aos_sound.proofs.FitsWalks.{keeps_to_paths}
 use Rattle.aos_sound.proofs.FitsFrames.{paths_of}
 use Rattle.aos_store.specs.declared.frames.Frame.{Frame as KeptFrame}

@@ -4,6 +4,7 @@ use Rattle.aos_base.specs.Rooted.{Rooted, at_root}
 use Rattle.aos_code.specs.declared.instr.Cell.{Cell}
 use Rattle.aos_code.specs.declared.instr.Kind.{Kind}
 use Rattle.aos_code.specs.declared.image.ProcShape.{ProcShape}
+use Rattle.aos_code.specs.declared.image.TypeDesc.{TypeDesc}
 use Rattle.aos_code.specs.Memory.{Memory, Addr}
 use Rattle.aos_code.specs.Silent.{Stack, Keeps, is_of}
 use Rattle.aos_code.specs.Machine.{Frame, answer, calls, goes}
@@ -43,13 +44,13 @@ TellsCall is shape count frames mem =
     is ≡ has_gone (calls following shape p (reverse (take count f.stack)) at k s f fs mem).left
 
 -- this tells whether the answer comes to the question of the topmost frame, if that needs nothing but the frames
-abbrev pub TellsOwn : Bool → List ProcShape → KeptQuestion → KeptFrames → Memory → Type 0
-TellsOwn is shapes q frames mem =
+abbrev pub TellsOwn : Bool → List ProcShape → List TypeDesc → KeptQuestion → KeptFrames → Memory → Type 0
+TellsOwn is shapes types q frames mem =
     (f : Frame) (fs : List Frame) → list_in frames.list.items ≡ f ∷ fs → is_own shapes (question_in q f.stack) ≡ true → (following : List ℕ) (at : ℕ) (k : Keeps) (s : Stack) →
-    is ≡ has_gone (answer following shapes (question_in q f.stack) at k s f fs mem).left
+    is ≡ has_gone (answer following shapes types (question_in q f.stack) at k s f fs mem).left
 
 -- and so does this where silent work ends
-abbrev pub TellsStop : Bool → List ProcShape → KeptStop → KeptFrames → Memory → Type 0
-TellsStop is shapes stop frames mem =
+abbrev pub TellsStop : Bool → List ProcShape → List TypeDesc → KeptStop → KeptFrames → Memory → Type 0
+TellsStop is shapes types stop frames mem =
     (f : Frame) (fs : List Frame) → list_in frames.list.items ≡ f ∷ fs → is_own_stop shapes (stop_in stop f) ≡ true → (following : List ℕ) →
-    is ≡ has_gone (goes following shapes (stop_in stop f) f fs mem).left
+    is ≡ has_gone (goes following shapes types (stop_in stop f) f fs mem).left

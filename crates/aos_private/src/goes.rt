@@ -111,7 +111,7 @@ fn calls(frames: &Frames, store: &Store, shape: Option<&ProcShape>, count: usize
 
 /// Whether the answer to a question comes that needs nothing but the activity's own frames, of which the topmost one asks it.
 pub fn goes(image: &Image, question: Question, frames: &Frames, store: &Store) -> bool
-    ensures { TellsOwn result image.now.shapes.items question frames.now (memory_in store.now) }
+    ensures { TellsOwn result image.now.shapes.items image.now.types.items question frames.now (memory_in store.now) }
 {
     match question {
         Question::Reads(kind, spot) => holds(

@@ -1,25 +1,27 @@
 // Whether the next turn is private.
-ghost use Rattle.std.specs.Prelude.{◌≡◌};
+ghost use Rattle.std.specs.Prelude.{◌≡◌, []};
 ghost use Rattle.aos_store.specs.Store.{list_in, frames_in, memory_in, SameCounts};
 ghost use Rattle.aos_sound.specs.FitFrames.{IsSoundImage, FramesFit};
 ghost use Rattle.aos_silent.specs.Room.{AreRoomy};
 ghost use Rattle.aos_cpu.specs.Turns.{Alike, HasCome, StandsAtStop};
-ghost use Rattle.aos_cpu.specs.Private.{no_memory, is_private};
+ghost use Rattle.aos_cpu.specs.Private.{no_memory, made_by, is_private};
 ghost use Rattle.aos_private.specs.Goes.{TellsStop};
 
 use crate::goes::goes;
 use aos_code::Image;
 use aos_cpu::alone::is_own_stop;
 use aos_silent::{Stop, silent_from};
-use aos_store::{Frames, Store};
+use aos_store::{Frames, Heap, Store};
 
-/// The silent work of the topmost frame, for which there is room, up to where it ends; none where there is no frame.
-fn come_in_room(image: &Image, frames: &mut Frames) -> Option<Stop>
+/// The silent work of the topmost frame, for which there is room, up to where it ends, where there is no object that tells anything;
+/// none where there is no frame.
+fn come_without(image: &Image, frames: &mut Frames, nothing: &Heap) -> Option<Stop>
     requires sound { IsSoundImage image.now }
     requires fit { FramesFit image.now (frames_in frames.old) }
     requires room { AreRoomy image.now frames.old }
-    ensures stop { HasCome image.now result (frames_in frames.new) }
-    ensures alike { Alike image.now (frames_in frames.old) (frames_in frames.new) }
+    requires none { nothing.now ≡ [] }
+    ensures stop { HasCome image.now (made_by []) result (frames_in frames.new) }
+    ensures alike { Alike image.now (made_by []) (frames_in frames.old) (frames_in frames.new) }
     ensures counts { SameCounts frames.old frames.new }
     ensures fit { FramesFit image.now (frames_in frames.new) }
     ensures room { AreRoomy image.now frames.new }
@@ -28,16 +30,31 @@ fn come_in_room(image: &Image, frames: &mut Frames) -> Option<Stop>
     let Some(frame) = frames.list.last_mut() else {
         return None;
     };
-    match silent_from(image, here, frame) {
+    match silent_from(image, nothing, here, frame) {
         Ok(stop) => Some(stop),
         // there is room for all that it gives
         Err(_) => None,
     }
 }
 
+/// The silent work of the topmost frame, for which there is room, up to where it ends; none where there is no frame.
+fn come_in_room(image: &Image, frames: &mut Frames) -> Option<Stop>
+    requires sound { IsSoundImage image.now }
+    requires fit { FramesFit image.now (frames_in frames.old) }
+    requires room { AreRoomy image.now frames.old }
+    ensures stop { HasCome image.now (made_by []) result (frames_in frames.new) }
+    ensures alike { Alike image.now (made_by []) (frames_in frames.old) (frames_in frames.new) }
+    ensures counts { SameCounts frames.old frames.new }
+    ensures fit { FramesFit image.now (frames_in frames.new) }
+    ensures room { AreRoomy image.now frames.new }
+{
+    let heap = Heap::new(*frames.list.allocator());
+    come_without(image, frames, &heap)
+}
+
 /// Whether no trap comes where silent work ends so, if that needs nothing but the activity's own frames.
 fn goes_on(image: &Image, frames: &Frames, store: &Store, stop: Stop) -> bool
-    ensures { TellsStop result image.now.shapes.items stop frames.now (memory_in store.now) }
+    ensures { TellsStop result image.now.shapes.items image.now.types.items stop frames.now (memory_in store.now) }
 {
     match stop {
         Stop::Work(question, _) => goes(image, question, frames, store),
@@ -48,7 +65,7 @@ fn goes_on(image: &Image, frames: &Frames, store: &Store, stop: Stop) -> bool
 
 /// Whether a turn of frames is private, which stand where their silent work ends.
 fn is_private_stop(image: &Image, frames: &Frames, store: &Store, stop: Stop) -> bool
-    requires stands { StandsAtStop image.now stop (list_in frames.now.list.items) }
+    requires stands { StandsAtStop image.now (made_by []) stop (list_in frames.now.list.items) }
     requires memory { memory_in store.now ≡ no_memory }
     ensures { result ≡ is_private image.now (frames_in frames.now) }
 {
@@ -62,7 +79,7 @@ pub fn next_private(image: &Image, frames: &mut Frames) -> bool
     requires fit { FramesFit image.now (frames_in frames.old) }
     requires room { AreRoomy image.now frames.old }
     ensures is { result ≡ is_private image.now (frames_in frames.old) }
-    ensures alike { Alike image.now (frames_in frames.old) (frames_in frames.new) }
+    ensures alike { Alike image.now (made_by []) (frames_in frames.old) (frames_in frames.new) }
     ensures counts { SameCounts frames.old frames.new }
     ensures fit { FramesFit image.now (frames_in frames.new) }
     ensures room { AreRoomy image.now frames.new }
@@ -73,7 +90,7 @@ pub fn next_private(image: &Image, frames: &mut Frames) -> bool
             let alloc = *frames.list.allocator();
             let store = Store {
                 modules: Vec::new(alloc),
-                objects: Vec::new(alloc),
+                objects: Heap::new(alloc),
             };
             is_private_stop(image, frames, &store, stop)
         }

@@ -5,3 +5,6 @@ pub mod Lengths
 pub mod Walks
 pub mod Stepped
 pub mod Roomy
+pub mod Knowing
+pub mod Telling
+pub mod Extending

@@ -22,7 +22,7 @@ operands_in stack = reverse stack.items
 abbrev pub addr_in : Spot → Addr
 addr_in p = record { root = p.root; cell = p.cell }
 
--- a question, where s are the operands from its own on; arguments of a call lie on the stack
+-- a question, where s are the operands from its own on; arguments of a call and lengths lie on the stack
 abbrev pub question_in : KeptQuestion → Stack → Question
 question_in (AsksRead kind p) s = Reads kind (addr_in p)
 question_in (AsksStore p v) s = Stores (addr_in p) v
@@ -31,7 +31,7 @@ question_in (AsksPutText strict from n to room) s = PutsText strict (addr_in fro
 question_in (AsksCompare r a n b m) s = ComparesTexts r (addr_in a) (Num n) (addr_in b) (Num m)
 question_in (AsksCall p count) s = Calls p (reverse (take count s))
 question_in (AsksEnd result) s = Ends result
-question_in (AsksNew t) s = Makes t
+question_in (AsksNew t j) s = Makes t (reverse (take j s))
 question_in (AsksStart o) s = Starts (Ref o)
 question_in (AsksInt a n) s = PutsInt (Num a) (Num n)
 question_in (AsksChar a) s = PutsChar (Num a)
@@ -52,7 +52,7 @@ operands_of (AsksPutText strict from n to room) = 4
 operands_of (AsksCompare r a n b m) = 4
 operands_of (AsksCall p count) = count
 operands_of (AsksEnd result) = results result
-operands_of (AsksNew t) = 0
+operands_of (AsksNew t j) = j
 operands_of (AsksStart o) = 1
 operands_of (AsksInt a n) = 2
 operands_of (AsksChar a) = 1

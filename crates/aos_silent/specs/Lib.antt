@@ -1,3 +1,4 @@
+pub mod Known
 pub mod Acts
 pub mod Taken
 pub mod Steps

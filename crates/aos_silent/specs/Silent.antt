@@ -1,6 +1,7 @@
 -- The silent work of a frame: where it ends, and what is seen of a frame besides.
 use Rattle.std.specs.Prelude.{◌≡◌, ◌<◌, ◌+◌, ◌^◌, ℕ, List, Option, drop}
 use Rattle.aos_base.specs.declared.text.Pos.{Pos}
+use Rattle.aos_base.specs.Rooted.{Made}
 use Rattle.aos_code.specs.declared.instr.Cell.{Cell}
 use Rattle.aos_code.specs.declared.image.Image.{Image}
 use Rattle.aos_code.specs.Silent.{Stop, Work, Ended as StopsAt, Begins, Fails, silent}
@@ -31,10 +32,10 @@ IsStopOf (AtBegin at pos) f = at + 1 < 2 ^ 64
 IsStopOf (AtFault n c) f = Unit {0}
 
 module _ (image : Image) where
-  -- the silent work of a frame above so many others
-  abbrev pub silent_at : ℕ → Frame → Stop
-  silent_at here f = silent image.shapes.items f.procedure here f.cells (code_of image f.procedure) f.next f.keeps f.stack
+  -- the silent work of a frame above so many others, where objects are known to be made as this
+  abbrev pub silent_at : (ℕ → Option Made) → ℕ → Frame → Stop
+  silent_at made here f = silent image.shapes.items image.types.items made f.procedure here f.cells (code_of image f.procedure) f.next f.keeps f.stack
 
-  abbrev pub seen_at : ℕ → Frame → Seen
-  seen_at here f =
-      record { procedure = f.procedure; object = f.object; at = f.at; cells = f.cells; counted = f.counted; stop = silent_at here f }
+  abbrev pub seen_at : (ℕ → Option Made) → ℕ → Frame → Seen
+  seen_at made here f =
+      record { procedure = f.procedure; object = f.object; at = f.at; cells = f.cells; counted = f.counted; stop = silent_at made here f }

@@ -25,7 +25,8 @@ pub enum Question {
     Calls(u32, usize),
     /// The end of the frame, with the result where there is one.
     Ends(Option<Cell>),
-    Makes(u32),
+    /// An object of this type is made, an open array whose lengths are so many operands.
+    Makes(u32, u32),
     Starts(u32),
     PutsInt(i64, i64),
     PutsChar(i64),

@@ -1,16 +1,18 @@
 // What instructions ask for. Their operands stay where they are.
-ghost use Rattle.std.specs.Prelude.{◌≡◌, ◌++◌, ◌∷◌, [], List, reverse, take, drop, replicate, Option};
-ghost use Rattle.aos_base.specs.Question.{Reads, Copies, PutsText, ComparesTexts, Starts, PutsInt, PutsChar, PutsString};
+ghost use Rattle.std.specs.Prelude.{◌≡◌, ◌++◌, ◌∷◌, [], List, map, reverse, take, drop, replicate, Option};
+ghost use Rattle.aos_base.specs.Question.{Reads, Copies, PutsText, ComparesTexts, Makes, Starts, PutsInt, PutsChar, PutsString};
 ghost use Rattle.aos_code.specs.declared.instr.Cell.{Cell as CellOf};
+ghost use Rattle.aos_code.specs.declared.instr.Cell.TheVariants.{Num};
 ghost use Rattle.aos_code.specs.declared.instr.Kind.{Kind as KindOf};
 ghost use Rattle.aos_code.specs.Numbered.{numbered as numbered_of};
-ghost use Rattle.aos_code.specs.Silent.{Stack, Act as ActOf, Sees, on_kind, on_kinds, on_place, on_text, stores, ends, kinds_of, calls};
+ghost use Rattle.aos_code.specs.Silent.{Stack, Act as ActOf, Sees, counted_on, on_kind, on_kinds, on_place, on_text, stores, ends, kinds_of, calls};
 ghost use Rattle.aos_silent.specs.Acts.{act_in, IsStay, or_lost};
 ghost use Rattle.aos_silent.specs.Taken.{kinds_from};
 
 use crate::act::{Act, LOST, Question};
 use crate::image::numbered;
 use crate::operands::{is_of, number, object, of_kind, operand, spot};
+use crate::rows::are_numbers;
 use aos_base::Relation;
 use aos_code::{Cell, Kind, ParamKind, ProcShape};
 
@@ -62,6 +64,18 @@ pub fn ask_start(stack: &[Cell]) -> Act
     match object(stack, 0) {
         None => LOST,
         Some(o) => Act::Sees(Question::Starts(o)),
+    }
+}
+
+/// An open array is made, whose lengths are so many operands.
+pub fn ask_array(of_type: u32, lengths: u32, stack: &[Cell]) -> Act
+    ensures act { act_in result (reverse stack.now) ≡ counted_on lengths [] (λ zs s. Sees (Makes of_type (map Num zs)) s) (reverse stack.now) }
+    ensures stays { IsStay result }
+{
+    if are_numbers(stack, lengths) {
+        Act::Sees(Question::Makes(of_type, lengths))
+    } else {
+        LOST
     }
 }
 

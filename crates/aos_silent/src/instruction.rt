@@ -2,34 +2,39 @@
 ghost use Rattle.std.specs.Prelude.{◌≡◌, ℕ, List, ◌<◌, ◌≤◌, Some, length, reverse, slice_get, IfOk, OnErr, vec_capacity};
 ghost use Rattle.aos_code.specs.declared.instr.Instr.{Instr as InstrOf};
 ghost use Rattle.aos_code.specs.declared.image.ProcShape.{ProcShape as ShapeOf};
+ghost use Rattle.aos_code.specs.declared.image.TypeDesc.{TypeDesc as TypeOf};
 ghost use Rattle.aos_code.specs.Numbered.{numbered as numbered_of};
 ghost use Rattle.aos_code.specs.Silent.{act, keeps_in};
 ghost use Rattle.aos_store.specs.Store.{frame_in, kept_cells};
 ghost use Rattle.aos_silent.specs.Acts.{operands_in, act_in, IsStay, IsBeginOf, WhereStays};
-ghost use Rattle.aos_silent.specs.Steps.{IsStep, Group, group_of};
+ghost use Rattle.aos_silent.specs.Known.{known};
+ghost use Rattle.aos_silent.specs.Steps.{IsStep, IsStepOf, Group, group_of};
 ghost use Rattle.aos_silent.specs.Room.{IsRefused};
 
 use crate::act::{Act, LOST, Question};
 use crate::ask::{
-    ask_call, ask_char, ask_compare, ask_copy, ask_end, ask_int, ask_put_text, ask_read, ask_start,
-    ask_store, ask_string,
+    ask_array, ask_call, ask_char, ask_compare, ask_copy, ask_end, ask_int, ask_put_text, ask_read,
+    ask_start, ask_store, ask_string,
 };
 use crate::image::numbered;
+use crate::objects::{
+    compare_objects, guard_place, tell_array, tell_as, tell_cell, tell_is, test_place,
+};
 use crate::rows::{index_open, pick_length};
 use crate::step::{give_again, give_value, keep_value, kept_value, length_value, param_value};
 use crate::values::{
     assert_true, drop_one, index, jump, jump_on_false, offset, operate_on_one, operate_on_two, swap,
 };
 use aos_base::{NoMemory, Pos, Root};
-use aos_code::{Cell, Instr, ProcShape};
-use aos_store::Frame;
+use aos_code::{Cell, Image, Instr, ProcShape, TypeDesc};
+use aos_store::{Frame, Heap};
 
 /// An instruction that works on operands, of which there aren't more after it.
 fn do_operands(instr: Instr, stack: &mut Vec<Cell>) -> Act
     requires { group_of instr ≡ Group.Operands }
     ensures kept { WhereStays result (stack.new ≡ stack.old) }
     ensures room { vec_capacity stack.new ≡ vec_capacity stack.old }
-    ensures act { (shapes : List ShapeOf) (own here at : ℕ) (code : List InstrOf) → act_in result (operands_in stack.new) ≡ act shapes own here instr code at (operands_in stack.old) }
+    ensures act { (shapes : List ShapeOf) (types : List TypeOf) (own here at : ℕ) (code : List InstrOf) → act_in result (operands_in stack.new) ≡ act shapes types own here instr code at (operands_in stack.old) }
     ensures begins { (code : List InstrOf) → IsBeginOf code result }
 {
     match instr {
@@ -37,11 +42,53 @@ fn do_operands(instr: Instr, stack: &mut Vec<Cell>) -> Act
         Instr::Binary(operator) => operate_on_two(operator, stack),
         Instr::Drop => drop_one(stack),
         Instr::Swap => swap(stack),
+        Instr::EqRef => compare_objects(stack),
         Instr::Offset(cells, of_type) => offset(stack, cells, of_type),
         Instr::Index(elements, cells) => index(stack, elements, cells),
         Instr::IndexOpen(lengths, cells) => index_open(stack, lengths, cells),
         Instr::PickLen(dimension, lengths) => pick_length(stack, dimension, lengths),
         _ => LOST,
+    }
+}
+
+/// An instruction that tests the type of the record at the topmost place.
+fn do_tests(instr: Instr, types: &[TypeDesc], stack: &mut Vec<Cell>) -> Act
+    requires { group_of instr ≡ Group.Tested }
+    ensures kept { WhereStays result (stack.new ≡ stack.old) }
+    ensures room { vec_capacity stack.new ≡ vec_capacity stack.old }
+    ensures act { (shapes : List ShapeOf) (own here at : ℕ) (code : List InstrOf) → act_in result (operands_in stack.new) ≡ act shapes types.now own here instr code at (operands_in stack.old) }
+    ensures begins { (code : List InstrOf) → IsBeginOf code result }
+{
+    match instr {
+        Instr::IsPlace(other) => test_place(stack, types, other),
+        Instr::GuardPlace(other) => guard_place(stack, types, other),
+        _ => LOST,
+    }
+}
+
+/// An instruction that asks the topmost object, by what it was made as.
+fn do_told(
+    instr: Instr,
+    types: &[TypeDesc],
+    heap: &Heap,
+    frame: &mut Frame,
+) -> Result<Act, NoMemory>
+    requires { group_of instr ≡ Group.Told }
+    ensures ok { IfOk result (λ did. (shapes : List ShapeOf) (own here at : ℕ) (code : List InstrOf) →
+        IsStepOf types.now (known heap.now) (act shapes types.now own here instr code at (frame_in frame.old).stack) did (frame_in frame.old) (frame_in frame.new)) }
+    ensures stays { IfOk result (λ did. WhereStays did (frame_in frame.new ≡ frame_in frame.old)) }
+    ensures begins { (code : List InstrOf) → IfOk result (λ did. IsBeginOf code did) }
+    ensures err { OnErr result (frame_in frame.new ≡ frame_in frame.old) }
+    ensures full { (keeps : ℕ) → OnErr result (IsRefused keeps instr frame.old) }
+    ensures room { vec_capacity frame.old.operands ≤ vec_capacity frame.new.operands }
+    ensures keeps { length (kept_cells frame.old) ≤ length (kept_cells frame.new) }
+{
+    match instr {
+        Instr::Deref(cell) => Ok(tell_cell(&mut frame.operands, heap, cell)),
+        Instr::Is(other) => Ok(tell_is(&mut frame.operands, types, heap, other)),
+        Instr::Guard(other) => Ok(tell_as(&frame.operands, types, heap, other)),
+        Instr::OpenRef(count) => tell_array(frame, heap, count),
+        _ => Ok(LOST),
     }
 }
 
@@ -52,7 +99,7 @@ fn do_jumps(instr: Instr, code: &[Instr], at: usize, stack: &mut Vec<Cell>) -> A
     requires group { group_of instr ≡ Group.Jumps }
     ensures kept { WhereStays result (stack.new ≡ stack.old) }
     ensures room { vec_capacity stack.new ≡ vec_capacity stack.old }
-    ensures act { (shapes : List ShapeOf) (own here : ℕ) → act_in result (operands_in stack.new) ≡ act shapes own here instr code.now at (operands_in stack.old) }
+    ensures act { (shapes : List ShapeOf) (types : List TypeOf) (own here : ℕ) → act_in result (operands_in stack.new) ≡ act shapes types own here instr code.now at (operands_in stack.old) }
     ensures begins { IsBeginOf code.now result }
 {
     match instr {
@@ -69,7 +116,7 @@ fn do_jumps(instr: Instr, code: &[Instr], at: usize, stack: &mut Vec<Cell>) -> A
 /// An instruction that asks for memory, or for a procedure.
 fn ask(instr: Instr, shapes: &[ProcShape], own: u32, stack: &[Cell]) -> Act
     requires { group_of instr ≡ Group.Asked }
-    ensures act { (here at : ℕ) (code : List InstrOf) → act_in result (reverse stack.now) ≡ act shapes.now own here instr code at (reverse stack.now) }
+    ensures act { (types : List TypeOf) (here at : ℕ) (code : List InstrOf) → act_in result (reverse stack.now) ≡ act shapes.now types own here instr code at (reverse stack.now) }
     ensures stays { IsStay result }
 {
     match instr {
@@ -77,7 +124,8 @@ fn ask(instr: Instr, shapes: &[ProcShape], own: u32, stack: &[Cell]) -> Act
         Instr::Store(kind) => ask_store(kind, stack),
         Instr::Copy(count) => ask_copy(count, stack),
         Instr::Call(procedure) => ask_call(shapes, procedure, stack),
-        Instr::NewObject(of_type) => Act::Sees(Question::Makes(of_type)),
+        Instr::NewObject(of_type) => Act::Sees(Question::Makes(of_type, 0)),
+        Instr::NewArray(of_type, lengths) => ask_array(of_type, lengths, stack),
         Instr::Start => ask_start(stack),
         Instr::Return => match numbered(shapes, own) {
             None => LOST,
@@ -90,7 +138,7 @@ fn ask(instr: Instr, shapes: &[ProcShape], own: u32, stack: &[Cell]) -> Act
 /// An instruction that works on a text, or asks for output.
 fn ask_written(instr: Instr, stack: &[Cell]) -> Act
     requires { group_of instr ≡ Group.Written }
-    ensures act { (shapes : List ShapeOf) (own here at : ℕ) (code : List InstrOf) → act_in result (reverse stack.now) ≡ act shapes own here instr code at (reverse stack.now) }
+    ensures act { (shapes : List ShapeOf) (types : List TypeOf) (own here at : ℕ) (code : List InstrOf) → act_in result (reverse stack.now) ≡ act shapes types own here instr code at (reverse stack.now) }
     ensures stays { IsStay result }
 {
     match instr {
@@ -108,8 +156,8 @@ fn ask_written(instr: Instr, stack: &[Cell]) -> Act
 /// An instruction that gives an operand more or keeps one, on a frame above so many others that keeps values under so many numbers.
 fn do_on_frame(instr: Instr, keeps: u32, here: u32, frame: &mut Frame) -> Result<Act, NoMemory>
     requires { group_of instr ≡ Group.OnFrame }
-    ensures ok { IfOk result (λ did. (shapes : List ShapeOf) (own at : ℕ) (code : List InstrOf) → keeps ≡ keeps_in (numbered_of shapes own) →
-        IsStep (act shapes own here instr code at (frame_in frame.old).stack) did (frame_in frame.old) (frame_in frame.new)) }
+    ensures ok { IfOk result (λ did. (shapes : List ShapeOf) (types : List TypeOf) (own at : ℕ) (code : List InstrOf) → keeps ≡ keeps_in (numbered_of shapes own) →
+        IsStep (act shapes types own here instr code at (frame_in frame.old).stack) did (frame_in frame.old) (frame_in frame.new)) }
     ensures stays { IfOk result (λ did. WhereStays did (frame_in frame.new ≡ frame_in frame.old)) }
     ensures begins { (code : List InstrOf) → IfOk result (λ did. IsBeginOf code did) }
     ensures err { OnErr result (frame_in frame.new ≡ frame_in frame.old) }
@@ -119,6 +167,7 @@ fn do_on_frame(instr: Instr, keeps: u32, here: u32, frame: &mut Frame) -> Result
 {
     match instr {
         Instr::Num(n) => give_value(frame, Cell::Num(n)),
+        Instr::Nil => give_value(frame, Cell::Ref(0)),
         Instr::Frame(cell) => give_value(frame, Cell::Place(Root::Frame(here), cell, 0)),
         Instr::Module(module, cell) => give_value(
             frame,
@@ -133,11 +182,12 @@ fn do_on_frame(instr: Instr, keeps: u32, here: u32, frame: &mut Frame) -> Result
     }
 }
 
-/// Does the instruction at this place of the code, on a frame above so many others that keeps values under so many numbers. Operands
-/// of a question stay where they are, and so they do where it traps.
+/// Does the instruction at this place of the code, on a frame above so many others that keeps values under so many numbers, where
+/// these objects were made. Operands of a question stay where they are, and so they do where it traps.
 pub fn do_one(
     instr: Instr,
-    shapes: &[ProcShape],
+    image: &Image,
+    heap: &Heap,
     keeps: u32,
     here: u32,
     code: &[Instr],
@@ -146,9 +196,9 @@ pub fn do_one(
 ) -> Result<Act, NoMemory>
     requires place { slice_get code.now at ≡ Some instr }
     requires within { at < length code.now }
-    requires keeps { keeps ≡ keeps_in (numbered_of shapes.now frame.old.procedure) }
+    requires keeps { keeps ≡ keeps_in (numbered_of image.now.shapes.items frame.old.procedure) }
     ensures ok { IfOk result (λ did.
-        IsStep (act shapes.now frame.old.procedure here instr code.now at (frame_in frame.old).stack) did (frame_in frame.old) (frame_in frame.new)) }
+        IsStepOf image.now.types.items (known heap.now) (act image.now.shapes.items image.now.types.items frame.old.procedure here instr code.now at (frame_in frame.old).stack) did (frame_in frame.old) (frame_in frame.new)) }
     ensures stays { IfOk result (λ did. WhereStays did (frame_in frame.new ≡ frame_in frame.old)) }
     ensures begins { IfOk result (λ did. IsBeginOf code.now did) }
     ensures err { OnErr result (frame_in frame.new ≡ frame_in frame.old) }
@@ -160,6 +210,7 @@ pub fn do_one(
         Instr::Num(_)
         | Instr::Frame(_)
         | Instr::Module(_, _)
+        | Instr::Nil
         | Instr::Dup
         | Instr::Keep(_, _)
         | Instr::Kept(_, _)
@@ -169,10 +220,19 @@ pub fn do_one(
         | Instr::Binary(_)
         | Instr::Drop
         | Instr::Swap
+        | Instr::EqRef
         | Instr::Offset(_, _)
         | Instr::Index(_, _)
         | Instr::IndexOpen(_, _)
         | Instr::PickLen(_, _) => Ok(do_operands(instr, &mut frame.operands)),
+        Instr::IsPlace(_) | Instr::GuardPlace(_) => Ok(do_tests(
+            instr,
+            &image.types,
+            &mut frame.operands,
+        )),
+        Instr::Deref(_) | Instr::OpenRef(_) | Instr::Is(_) | Instr::Guard(_) => {
+            do_told(instr, &image.types, heap, frame)
+        }
         Instr::Jump(_)
         | Instr::JumpFalse(_)
         | Instr::Begin(_, _)
@@ -184,8 +244,9 @@ pub fn do_one(
         | Instr::Copy(_)
         | Instr::Call(_)
         | Instr::NewObject(_)
+        | Instr::NewArray(_, _)
         | Instr::Start
-        | Instr::Return => Ok(ask(instr, shapes, frame.procedure, &frame.operands)),
+        | Instr::Return => Ok(ask(instr, &image.shapes, frame.procedure, &frame.operands)),
         _ => Ok(ask_written(instr, &frame.operands)),
     }
 }

@@ -5,6 +5,7 @@ pub mod act;
 pub mod ask;
 pub mod image;
 pub mod instruction;
+pub mod objects;
 pub mod operands;
 pub mod rows;
 pub mod silent;

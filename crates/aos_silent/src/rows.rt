@@ -13,7 +13,7 @@ use aos_base::Root;
 use aos_code::Cell;
 
 /// Whether so many topmost operands are numbers.
-fn are_numbers(stack: &[Cell], count: u32) -> bool
+pub fn are_numbers(stack: &[Cell], count: u32) -> bool
     ensures are { (k : List ℤ → Stack → ActOf) → counted_on count [] k (reverse stack.now) ≡
         (if result then k (reverse (numbers_of (take count (reverse stack.now)))) (drop count (reverse stack.now)) else Stops lost) }
     ensures numbers { IsTrue result → map Num (numbers_of (take count (reverse stack.now))) ≡ take count (reverse stack.now) }

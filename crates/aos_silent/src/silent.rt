@@ -1,10 +1,12 @@
 // The silent work of a frame, up to where it ends.
-ghost use Rattle.std.specs.Prelude.{◌≡◌, ◌<◌, ◌^◌, ℕ, IfOk, IsOk};
+ghost use Rattle.std.specs.Prelude.{◌≡◌, ◌<◌, ◌^◌, ℕ, Option, IfOk, IsOk};
+ghost use Rattle.aos_base.specs.Rooted.{Made};
 ghost use Rattle.aos_code.specs.Numbered.{numbered as numbered_of};
 ghost use Rattle.aos_code.specs.Silent.{keeps_in};
 ghost use Rattle.aos_code.specs.Machine.{code_of as code_at};
 ghost use Rattle.aos_store.specs.Store.{frame_in};
 ghost use Rattle.aos_sound.specs.Fits.{KeepsToPaths};
+ghost use Rattle.aos_silent.specs.Known.{known, Knows};
 ghost use Rattle.aos_silent.specs.Silent.{stop_in, silent_at, seen_at, IsStopOf};
 ghost use Rattle.aos_silent.specs.Room.{StandsInRoom};
 
@@ -13,7 +15,7 @@ use crate::image::{code_of, numbered};
 use crate::instruction::do_one;
 use aos_base::{NoMemory, Pos};
 use aos_code::{Image, Instr, ProcShape};
-use aos_store::Frame;
+use aos_store::{Frame, Heap};
 
 /// Where silent work ends: at a question or at a Begin, with its place in the code, or with a trap. The question's operands lie
 /// on the stack still.
@@ -34,9 +36,11 @@ pub fn keeps_of(shapes: &[ProcShape], procedure: u32) -> u32
     }
 }
 
-/// The silent work of a frame of this code above so many others, which keeps values under so many numbers.
+/// The silent work of a frame of this code above so many others, which keeps values under so many numbers, where these objects
+/// were made.
 fn walk_from(
     image: &Image,
+    heap: &Heap,
     code: &[Instr],
     keeps: u32,
     here: u32,
@@ -44,15 +48,15 @@ fn walk_from(
 ) -> Result<Stop, NoMemory>
     requires code { code.now ≡ code_at image.now frame.old.procedure }
     requires keeps { keeps ≡ keeps_in (numbered_of image.now.shapes.items frame.old.procedure) }
-    ensures stop { IfOk result (λ stop. stop_in stop (frame_in frame.new) ≡ silent_at image.now here (frame_in frame.old)) }
+    ensures stop { IfOk result (λ stop. stop_in stop (frame_in frame.new) ≡ silent_at image.now (known heap.now) here (frame_in frame.old)) }
     ensures place { IfOk result (λ stop. IsStopOf stop (frame_in frame.new)) }
-    ensures alike { seen_at image.now here (frame_in frame.new) ≡ seen_at image.now here (frame_in frame.old) }
+    ensures alike { (all : ℕ → Option Made) → Knows all (known heap.now) → seen_at image.now all here (frame_in frame.new) ≡ seen_at image.now all here (frame_in frame.old) }
     ensures room { (depth : ℕ) → KeepsToPaths image.now frame.old.procedure code.now depth → StandsInRoom image.now depth keeps code.now frame.old →
         IsOk result × StandsInRoom image.now depth keeps code.now frame.new }
 {
     while frame.next < code.len() {
         let at = frame.next;
-        match do_one(code[at], &image.shapes, keeps, here, code, at, frame)? {
+        match do_one(code[at], image, heap, keeps, here, code, at, frame)? {
             Act::Goes(over) => frame.next = (at + 1).saturating_add(over),
             Act::Sees(question) => return Ok(Stop::Work(question, at)),
             Act::Begins(to, pos) => {
@@ -65,11 +69,17 @@ fn walk_from(
     Ok(Stop::Fails(16, 0))
 }
 
-/// The silent work of a frame above so many others, up to where it ends. Where memory runs out, some of it has been done.
-pub fn silent_from(image: &Image, here: usize, frame: &mut Frame) -> Result<Stop, NoMemory>
-    ensures stop { IfOk result (λ stop. stop_in stop (frame_in frame.new) ≡ silent_at image.now here (frame_in frame.old)) }
+/// The silent work of a frame above so many others, up to where it ends, where these objects were made. Where memory runs out, some
+/// of it has been done. It is seen as before also where more objects are made.
+pub fn silent_from(
+    image: &Image,
+    heap: &Heap,
+    here: usize,
+    frame: &mut Frame,
+) -> Result<Stop, NoMemory>
+    ensures stop { IfOk result (λ stop. stop_in stop (frame_in frame.new) ≡ silent_at image.now (known heap.now) here (frame_in frame.old)) }
     ensures place { IfOk result (λ stop. IsStopOf stop (frame_in frame.new)) }
-    ensures alike { seen_at image.now here (frame_in frame.new) ≡ seen_at image.now here (frame_in frame.old) }
+    ensures alike { (all : ℕ → Option Made) → Knows all (known heap.now) → seen_at image.now all here (frame_in frame.new) ≡ seen_at image.now all here (frame_in frame.old) }
     ensures room { (depth : ℕ) → KeepsToPaths image.now frame.old.procedure (code_at image.now frame.old.procedure) depth → here < 2 ^ 32 →
         StandsInRoom image.now depth (keeps_in (numbered_of image.now.shapes.items frame.old.procedure)) (code_at image.now frame.old.procedure) frame.old →
         IsOk result × StandsInRoom image.now depth (keeps_in (numbered_of image.now.shapes.items frame.old.procedure)) (code_at image.now frame.old.procedure) frame.new }
@@ -79,6 +89,7 @@ pub fn silent_from(image: &Image, here: usize, frame: &mut Frame) -> Result<Stop
     };
     walk_from(
         image,
+        heap,
         code_of(image, frame.procedure),
         keeps_of(&image.shapes, frame.procedure),
         above,

@@ -1,13 +1,14 @@
 -- Frames have the cells that their procedures name, behind each turn too.
-use Rattle.std.proofs.Common.{◌≡◌, ◌≤◌, ℕ, zero, suc, ◌+◌, List, [], ◌∷◌, ◌++◌, length, map, take, drop, Bool, true, false, nat_eq, Option, Some, None, option_map, option_and_then, is_some, slice_get, if◌then◌else◌, refl, ap, arith, length-append}
+use Rattle.std.proofs.Common.{◌≡◌, ◌≤◌, ℕ, ℤ, zero, suc, ◌+◌, List, [], ◌∷◌, ◌++◌, length, map, take, drop, Bool, true, false, nat_eq, Option, Some, None, option_map, option_and_then, is_some, slice_get, if◌then◌else◌, refl, ap, arith, length-append}
 use Rattle.std.specs.List.{flat_map}
 use Rattle.std.proofs.lemmas.List.{length-map, length-drop, length-take}
 use Rattle.aos_base.specs.declared.place.Root.{Root}
 use Rattle.aos_base.specs.declared.place.Root.TheVariants.{Frame as FrameRoot, Module as ModuleRoot, Object as ObjectRoot}
 use Rattle.aos_base.specs.declared.number.Relation.{Relation}
 use Rattle.aos_base.specs.declared.kernel.Did.TheVariants.{Trapped}
-use Rattle.aos_base.specs.Question.{Reads, Stores, Copies, PutsText, ComparesTexts, Calls, Ends, Makes, Starts, PutsInt, PutsChar, PutsString, PutsNothing, PutsLn, Places, Lengths}
-use Rattle.aos_base.specs.Rooted.{Rooted, change_from_last, load, spliced}
+use Rattle.aos_base.specs.Question.{Reads, Stores, Copies, PutsText, ComparesTexts, Calls, Ends, Makes, Starts, PutsInt, PutsChar, PutsString, PutsNothing, PutsLn, Places, Lengths, Opens, Sizes, Tests}
+use Rattle.aos_base.specs.Number.{array_lengths}
+use Rattle.aos_base.specs.Rooted.{Made, Rooted, change_from_last, load, spliced}
 use Rattle.aos_code.specs.declared.instr.Cell.{Cell}
 use Rattle.aos_code.specs.declared.instr.Cell.TheVariants.{Ref}
 use Rattle.aos_code.specs.declared.instr.Kind.{Kind}
@@ -19,7 +20,7 @@ use Rattle.aos_code.specs.Numbered.{numbered}
 use Rattle.aos_code.specs.Memory.{Addr, Memory, has_room, type_of_object}
 use Rattle.aos_code.specs.Silent.{Stack, Keeps, Question, Begins, Fails, Stop, Work, Ended, is_of}
 use Rattle.aos_code.specs.Machine as machine
-use Rattle.aos_code.specs.Machine.{Frame, Frames, Turned, Handed, first_cell, rooted, called_frame, frames_with, behind, body_frame, bodies, stop_of, opened, opened_by, turn, turn_at, past, past_stop, body_of, object_frames, first_frames}
+use Rattle.aos_code.specs.Machine.{Frame, Frames, Turned, Handed, first_cell, made_in, rooted, called_frame, frames_with, behind, body_frame, bodies, stop_of, opened, opened_by, turn, turn_at, past, past_stop, body_of, object_frames, first_frames}
 use Rattle.aos_sound.specs.Sound.{frame_cells}
 use Rattle.aos_sound.specs.FitFrames.{cells_named, IsLaidOut, AllHaveCells, AllNameNone, HaveCells}
 
@@ -85,9 +86,20 @@ module _ (image : Image) (laid : IsLaidOut image) where
       writes_out_have None = (have, none)
       writes_out_have (Some bytes) = (have, none)
 
-      makes_have : (b : Bool) (t : ℕ) → Have (machine.makes following b t at k s f fs mem)
-      makes_have true t = (have, none)
-      makes_have false t = (have, none)
+      makes_have : (b : Bool) (m : Made) (cells : List Cell) → Have (machine.makes following b m cells at k s f fs mem)
+      makes_have true m cells = (have, none)
+      makes_have false m cells = (have, none)
+
+      makes_with_have : (ns : Option (List ℕ)) (t : ℕ) (d : TypeDesc) → Have (machine.makes_with following ns t d at k s f fs mem)
+      makes_with_have None t d = (have, none)
+      makes_with_have (Some ns) t d =
+          let m : Made = record { type = t; lengths = ns } in
+          let cells = machine.in_rows following ns (map first_cell d.kinds.items) in makes_have (has_room m cells mem) m cells
+
+      makes_of_have : (d : Option TypeDesc) (zs : Option (List ℤ)) (t : ℕ) → Have (machine.makes_of following d zs t at k s f fs mem)
+      makes_of_have None zs t = (have, none)
+      makes_of_have (Some d) None t = (have, none)
+      makes_of_have (Some d) (Some zs) t = makes_with_have (array_lengths zs) t d
 
       starts_have : (v : Cell) → Have (machine.starts following v at k s f fs mem)
       starts_have (Ref (suc o)) = (have, none)
@@ -128,7 +140,7 @@ module _ (image : Image) (laid : IsLaidOut image) where
       ends_have (Some v) [] h = tt
       ends_have (Some v) (g ∷ gs) h = h
 
-      answer_has : (q : Question) → Have (machine.answer following image.shapes.items q at k s f fs mem)
+      answer_has : (q : Question) → Have (machine.answer following image.shapes.items image.types.items q at k s f fs mem)
       answer_has (Reads kind a) = reads_have kind (load a.root a.cell (rooted (f ∷ fs) mem))
       answer_has (Stores a v) = writes_have (is_some (load a.root a.cell (rooted (f ∷ fs) mem))) a (v ∷ [])
       answer_has (Copies n from to) = copies_have (machine.cells_at n from (rooted (f ∷ fs) mem)) (is_some (machine.cells_at n to (rooted (f ∷ fs) mem))) to
@@ -136,7 +148,7 @@ module _ (image : Image) (laid : IsLaidOut image) where
       answer_has (ComparesTexts r a n b m) = compares_have r (machine.text_at following a n (rooted (f ∷ fs) mem)) (machine.text_at following b m (rooted (f ∷ fs) mem))
       answer_has (Calls p vs) = calls_have (numbered image.shapes.items p) p vs refl
       answer_has (Ends result) = (ends_have result fs have.1, none)
-      answer_has (Makes t) = makes_have (has_room mem) t
+      answer_has (Makes t vs) = makes_of_have (numbered image.types.items t) (machine.numbers_in following vs) t
       answer_has (Starts v) = starts_have v
       answer_has (PutsInt v n) = prints_have (machine.written v n)
       answer_has (PutsChar v) = writes_out_have (option_map (λ c. c ∷ []) (machine.code_in following v))
@@ -145,8 +157,11 @@ module _ (image : Image) (laid : IsLaidOut image) where
       answer_has PutsLn = (have, none)
       answer_has (Places a) = (have, none)
       answer_has (Lengths a) = (have, none)
+      answer_has (Opens v) = (have, none)
+      answer_has (Sizes v d) = (have, none)
+      answer_has (Tests v t) = (have, none)
 
-    goes_has : (mem : Memory) (stop : Stop) → Have (machine.goes following image.shapes.items stop f fs mem)
+    goes_has : (mem : Memory) (stop : Stop) → Have (machine.goes following image.shapes.items image.types.items stop f fs mem)
     goes_has mem (Work q at k s) = answer_has at k s mem q
     goes_has mem (Ended (Begins at p s) k) = (have, none)
     goes_has mem (Ended (Fails n c) k) = (have, none)
@@ -158,7 +173,7 @@ module _ (image : Image) (laid : IsLaidOut image) where
 
   turned_has : (fs : List Frame) (following : List ℕ) (mem : Memory) → AllHaveCells image fs → AllNameNone image following → HaveCells image (turn_at image following fs mem).frames
   turned_has [] following mem h none = (tt, none)
-  turned_has (f ∷ fs) following mem h none = goes_has following none f fs h mem (stop_of image f fs)
+  turned_has (f ∷ fs) following mem h none = goes_has following none f fs h mem (stop_of image (made_in image mem) f fs)
 
   pub turn_has : (mem : Memory) (fs : Frames) → HaveCells image fs → HaveCells image (turn image mem fs).frames
   turn_has mem fs h = let o = opened_has fs.frames fs.following h.0 h.1 in turned_has (opened fs).frames (opened fs).following mem o.0 o.1
@@ -172,7 +187,7 @@ module _ (image : Image) (laid : IsLaidOut image) where
 
       by : (fs : List Frame) → AllHaveCells image fs → AllHaveCells image (machine.past_all image fs)
       by [] h = tt
-      by (f ∷ fs) h = stopped (stop_of image f fs) f fs h
+      by (f ∷ fs) h = stopped (stop_of image (λ o. None) f fs) f fs h
 
   pub body_has : (mem : Memory) (o : ℕ) → HaveCells image (body_of image mem o)
   body_has mem o = of (option_and_then (numbered image.types.items) (type_of_object o mem)) (by (type_of_object o mem))

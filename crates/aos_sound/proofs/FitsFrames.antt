@@ -1,15 +1,15 @@
 -- Frames that fit a sound image do so behind each turn.
-use Rattle.std.proofs.Common.{◌≡◌, ◌≤◌, ℕ, zero, suc, pos, ◌+◌, List, [], ◌∷◌, ◌++◌, length, map, drop, Bool, true, false, nat_eq, Option, Some, None, option_map, option_and_then, is_some, slice_get, if◌then◌else◌, refl, sym, ap, ◌∙◌, subst, arith}
+use Rattle.std.proofs.Common.{◌≡◌, ◌≤◌, ℕ, ℤ, zero, suc, pos, ◌+◌, List, [], ◌∷◌, ◌++◌, length, map, drop, Bool, true, false, nat_eq, Option, Some, None, option_map, option_and_then, is_some, slice_get, if◌then◌else◌, refl, sym, ap, ◌∙◌, subst, arith}
 use Rattle.std.specs.List.{flat_map}
 use Rattle.aos_base.specs.declared.place.Root.{Root}
 use Rattle.aos_base.specs.declared.place.Root.TheVariants.{Frame as FrameRoot, Module as ModuleRoot, Object as ObjectRoot}
 use Rattle.aos_base.specs.declared.number.Relation.{Relation}
 use Rattle.aos_base.specs.declared.kernel.Did.TheVariants.{Start as DidStart, Trapped}
-use Rattle.aos_base.specs.Question.{Reads, Stores, Copies, PutsText, ComparesTexts, Calls, Ends, Makes, Starts, PutsInt, PutsChar, PutsString, PutsNothing, PutsLn, Places, Lengths}
+use Rattle.aos_base.specs.Question.{Reads, Stores, Copies, PutsText, ComparesTexts, Calls, Ends, Makes, Starts, PutsInt, PutsChar, PutsString, PutsNothing, PutsLn, Places, Lengths, Opens, Sizes, Tests}
 use Rattle.aos_base.specs.Operators.{flag}
-use Rattle.aos_base.specs.Number.{holds}
+use Rattle.aos_base.specs.Number.{holds, array_lengths}
 use Rattle.aos_base.specs.Text.{order}
-use Rattle.aos_base.specs.Rooted.{Rooted, change_from_last, load, spliced}
+use Rattle.aos_base.specs.Rooted.{Made, Rooted, change_from_last, load, spliced}
 use Rattle.aos_code.specs.declared.instr.Cell.{Cell}
 use Rattle.aos_code.specs.declared.instr.Cell.TheVariants.{Num, Ref}
 use Rattle.aos_code.specs.declared.instr.Kind.{Kind}
@@ -24,7 +24,7 @@ use Rattle.aos_code.specs.Numbered.{numbered}
 use Rattle.aos_code.specs.Memory.{Addr, Memory, new_number, has_room, type_of_object}
 use Rattle.aos_code.specs.Silent.{Stack, Keeps, Question, Begins, Fails, Stop, Work, Ended, is_of, walk, silent}
 use Rattle.aos_code.specs.Machine as machine
-use Rattle.aos_code.specs.Machine.{Frame, Frames, Turned, Handed, rooted, called_frame, frames_with, behind, body_frame, bodies, code_in_body, code_of, stop_of, opened, opened_by, turn, turn_at, past, past_stop, body_of, object_frames, first_frames}
+use Rattle.aos_code.specs.Machine.{Frame, Frames, Turned, Handed, first_cell, made_in, rooted, called_frame, frames_with, behind, body_frame, bodies, code_in_body, code_of, stop_of, opened, opened_by, turn, turn_at, past, past_stop, body_of, object_frames, first_frames}
 use Rattle.aos_sound.specs.Sound as sound
 use Rattle.aos_sound.specs.Sound.{ArePathsSound}
 use Rattle.aos_sound.specs.Fits.{IsResult, result_of, StandsOn, StandsGiven, StandsAsked, StandsStopped}
@@ -40,8 +40,8 @@ behind_is (suc at) (y ∷ xs) x e =
     behind_is at xs x e ∙ ap (λ m. x ∷ drop m (y ∷ xs)) n
 
 -- silent work that stands before a start with the object on top
-at_start : (shapes : List ProcShape) (own here : ℕ) (cells : List Cell) (code : List Instr) (at : ℕ) (k : Keeps) (s : Stack) (o : ℕ) → slice_get code at ≡ Some instr.Start → silent shapes own here cells code at k (Ref o ∷ s) ≡ Work (Starts (Ref o)) at k s
-at_start shapes own here cells code at k s o is = ap (λ l. walk shapes own here cells code l 0 at k (Ref o ∷ s)) (behind_is at code instr.Start is)
+at_start : (shapes : List ProcShape) (types : List TypeDesc) (made : ℕ → Option Made) (own here : ℕ) (cells : List Cell) (code : List Instr) (at : ℕ) (k : Keeps) (s : Stack) (o : ℕ) → slice_get code at ≡ Some instr.Start → silent shapes types made own here cells code at k (Ref o ∷ s) ≡ Work (Starts (Ref o)) at k s
+at_start shapes types made own here cells code at k s o is = ap (λ l. walk shapes types made own here cells code l 0 at k (Ref o ∷ s)) (behind_is at code instr.Start is)
 
 module _ (image : Image) (whole : IsSoundImage image) where
   -- the paths of a procedure's code
@@ -61,8 +61,8 @@ module _ (image : Image) (whole : IsSoundImage image) where
       by (Some k) st = let l = room_given image f.procedure (code_of image f.procedure) (depth_of image f.procedure) (paths_of f.procedure h.0) f.next k f.stack st in omega (arith, l)
 
   -- silent work of a frame on a path
-  pub stop_stands : (f : Frame) (fs : List Frame) → FitFor image None (f ∷ fs) → StandsStopped image f.procedure (code_of image f.procedure) (stop_of image f fs)
-  stop_stands f fs h = silent_stands image f.procedure (code_of image f.procedure) (depth_of image f.procedure) (paths_of f.procedure h.0) (length fs) f.cells f.next f.keeps f.stack h.1
+  pub stop_stands : (made : ℕ → Option Made) (f : Frame) (fs : List Frame) → FitFor image None (f ∷ fs) → StandsStopped image f.procedure (code_of image f.procedure) (stop_of image made f fs)
+  stop_stands made f fs h = silent_stands image f.procedure (code_of image f.procedure) (depth_of image f.procedure) (paths_of f.procedure h.0) (length fs) made f.cells f.next f.keeps f.stack h.1
 
   -- cells that change
   changed_fit : (d : ℕ) (g : List Cell → List Cell) (r : Option Kind) (fs : List Frame) → FitFor image r fs → FitFor image r (change_from_last d (λ f. record f { cells = g f.cells }) fs)
@@ -125,13 +125,24 @@ module _ (image : Image) (whole : IsSoundImage image) where
       writes_out_fit None st = ((fit, follow), λ o e. absurd (cc e))
       writes_out_fit (Some bytes) st = ((on s st, follow), λ o e. absurd (cc e))
 
-      makes_fit : (b : Bool) (t : ℕ) → Asked (Some R) at s → Fit (machine.makes following b t at k s f fs mem)
-      makes_fit true t st = let v = Ref (new_number mem) in ((on (v ∷ s) (st v refl), follow), λ o e. absurd (cc e))
-      makes_fit false t st = ((fit, follow), λ o e. absurd (cc e))
+      makes_fit : (b : Bool) (m : Made) (cells : List Cell) → Asked (Some R) at s → Fit (machine.makes following b m cells at k s f fs mem)
+      makes_fit true m cells st = let v = Ref (new_number mem) in ((on (v ∷ s) (st v refl), follow), λ o e. absurd (cc e))
+      makes_fit false m cells st = ((fit, follow), λ o e. absurd (cc e))
+
+      makes_with_fit : (ns : Option (List ℕ)) (t : ℕ) (d : TypeDesc) → Asked (Some R) at s → Fit (machine.makes_with following ns t d at k s f fs mem)
+      makes_with_fit None t d st = ((fit, follow), λ o e. absurd (cc e))
+      makes_with_fit (Some ns) t d st =
+          let m : Made = record { type = t; lengths = ns } in
+          let cells = machine.in_rows following ns (map first_cell d.kinds.items) in makes_fit (has_room m cells mem) m cells st
+
+      makes_of_fit : (d : Option TypeDesc) (zs : Option (List ℤ)) (t : ℕ) → Asked (Some R) at s → Fit (machine.makes_of following d zs t at k s f fs mem)
+      makes_of_fit None zs t st = ((fit, follow), λ o e. absurd (cc e))
+      makes_of_fit (Some d) None t st = ((fit, follow), λ o e. absurd (cc e))
+      makes_of_fit (Some d) (Some zs) t st = makes_with_fit (array_lengths zs) t d st
 
       starts_fit : (v : Cell) → slice_get (code_of image f.procedure) at ≡ Some instr.Start → On at (v ∷ s) → On (at + 1) s → Fit (machine.starts following v at k s f fs mem)
       starts_fit (Ref (suc o)) is st behind_st =
-          let z : Work (Starts (Ref (suc o))) at k s ≡ stop_of image (machine.before following at k (Ref (suc o) ∷ s) f) fs = sym (at_start image.shapes.items f.procedure (length fs) f.cells (code_of image f.procedure) at k s (suc o) is) in
+          let z : Work (Starts (Ref (suc o))) at k s ≡ stop_of image (λ o. None) (machine.before following at k (Ref (suc o) ∷ s) f) fs = sym (at_start image.shapes.items image.types.items (λ o. None) f.procedure (length fs) f.cells (code_of image f.procedure) at k s (suc o) is) in
           (((fit.0, st, fit.2), follow), λ p e. subst (λ x. FramesFit image (record { following = following; frames = past_stop x (machine.before following at k (Ref (suc o) ∷ s) f) ∷ fs })) z ((fit.0, behind_st, fit.2), follow))
       starts_fit v is st behind_st = ((fit, follow), λ o e. absurd (cc e))
 
@@ -162,7 +173,7 @@ module _ (image : Image) (whole : IsSoundImage image) where
       calls_fit (Some shape) p vs e st =
           calls_with_fit p shape (machine.handed following (suc (length fs)) (rooted (f ∷ fs) mem) shape.params.items vs (length shape.kinds.items)) (whole.shapes p shape e) st
 
-      pub answer_fits : (q : Question) → StandsAsked image f.procedure (code_of image f.procedure) q at s → Fit (machine.answer following image.shapes.items q at k s f fs mem)
+      pub answer_fits : (q : Question) → StandsAsked image f.procedure (code_of image f.procedure) q at s → Fit (machine.answer following image.shapes.items image.types.items q at k s f fs mem)
       answer_fits (Reads kind a) st = reads_fit kind (load a.root a.cell (rooted (f ∷ fs) mem)) st
       answer_fits (Stores a v) st = writes_fit (is_some (load a.root a.cell (rooted (f ∷ fs) mem))) a (v ∷ []) st
       answer_fits (Copies n from to) st = copies_fit (machine.cells_at n from (rooted (f ∷ fs) mem)) (is_some (machine.cells_at n to (rooted (f ∷ fs) mem))) to st
@@ -170,7 +181,7 @@ module _ (image : Image) (whole : IsSoundImage image) where
       answer_fits (ComparesTexts r a n b m) st = compares_fit r (machine.text_at following a n (rooted (f ∷ fs) mem)) (machine.text_at following b m (rooted (f ∷ fs) mem)) st
       answer_fits (Calls p vs) st = calls_fit (numbered image.shapes.items p) p vs refl st
       answer_fits (Ends result) st = ((ends_fit following result fs (result_of (numbered image.shapes.items f.procedure)) fit.2 st.1, follow), λ o e. absurd (cc e))
-      answer_fits (Makes t) st = makes_fit (has_room mem) t st
+      answer_fits (Makes t vs) st = makes_of_fit (numbered image.types.items t) (machine.numbers_in following vs) t st
       answer_fits (Starts v) st = starts_fit v st.0 st.1 st.2
       answer_fits (PutsInt v n) st = prints_fit (machine.written v n) st
       answer_fits (PutsChar v) st = writes_out_fit (option_map (λ c. c ∷ []) (machine.code_in following v)) st
@@ -179,8 +190,11 @@ module _ (image : Image) (whole : IsSoundImage image) where
       answer_fits PutsLn st = ((on s st, follow), λ o e. absurd (cc e))
       answer_fits (Places a) st = ((fit, follow), λ o e. absurd (cc e))
       answer_fits (Lengths a) st = ((fit, follow), λ o e. absurd (cc e))
+      answer_fits (Opens v) st = ((fit, follow), λ o e. absurd (cc e))
+      answer_fits (Sizes v d) st = ((fit, follow), λ o e. absurd (cc e))
+      answer_fits (Tests v t) st = ((fit, follow), λ o e. absurd (cc e))
 
-    pub goes_fits : (mem : Memory) (stop : Stop) → StandsStopped image f.procedure (code_of image f.procedure) stop → Fit (machine.goes following image.shapes.items stop f fs mem)
+    pub goes_fits : (mem : Memory) (stop : Stop) → StandsStopped image f.procedure (code_of image f.procedure) stop → Fit (machine.goes following image.shapes.items image.types.items stop f fs mem)
     goes_fits mem (Work q at k s) st = answer_fits at k s mem q st
     goes_fits mem (Ended (Begins at p s) k) st = (((fit.0, st.2, fit.2), follow), λ o e. absurd (cc e))
     goes_fits mem (Ended (Fails n c) k) st = ((fit, follow), λ o e. absurd (cc e))
@@ -194,7 +208,7 @@ module _ (image : Image) (whole : IsSoundImage image) where
   turned_fit : (fs : List Frame) (following : List ℕ) (mem : Memory) → FitFor image None fs → AreToFollow image following →
       FramesFit image (turn_at image following fs mem).frames × ((o : ℕ) → (turn_at image following fs mem).left ≡ DidStart o → FramesFit image (past image (turn_at image following fs mem).frames))
   turned_fit [] following mem h follow = ((tt, follow), λ o e. absurd (cc e))
-  turned_fit (f ∷ fs) following mem h follow = goes_fits following follow f fs h mem (stop_of image f fs) (stop_stands f fs h)
+  turned_fit (f ∷ fs) following mem h follow = goes_fits following follow f fs h mem (stop_of image (made_in image mem) f fs) (stop_stands (made_in image mem) f fs h)
 
   pub opened_fits : (fs : Frames) → FramesFit image fs → FramesFit image (opened fs)
   opened_fits fs h = opened_fit fs.frames fs.following h.0 h.1

@@ -1,7 +1,8 @@
 -- Sound code finds the operands that it takes, but for what soundness doesn't decide.
-use Rattle.std.proofs.Common.{◌≡◌, ◌<◌, ℕ, zero, suc, ℤ, pos, negsuc, ◌+◌, ◌*◌, ◌-◌, ◌^◌, List, [], ◌∷◌, ◌++◌, length, replicate, reverse, Bool, true, false, ◌&&◌, ◌||◌, Option, Some, None, nat_lt, slice_get, if◌then◌else◌, refl, sym, ◌∙◌, subst, arith, ltb-true, ltb-false}
+use Rattle.std.proofs.Common.{◌≡◌, ◌<◌, ℕ, zero, suc, ℤ, pos, negsuc, ◌+◌, ◌*◌, ◌-◌, ◌^◌, List, [], ◌∷◌, ◌++◌, length, map, replicate, reverse, Bool, true, false, ◌&&◌, ◌||◌, Option, Some, None, nat_eq, nat_lt, slice_get, if◌then◌else◌, refl, sym, ap, ◌∙◌, subst, arith, ltb-true, ltb-false}
 use Rattle.std.specs.Option.{option_zip}
 use Rattle.std.proofs.lemmas.Option.{slice_get-get_or}
+use Rattle.std.proofs.lemmas.List.{append-nil}
 use Rattle.aos_base.specs.declared.place.Root.{Root}
 use Rattle.aos_base.specs.declared.number.Width.{Width}
 use Rattle.aos_base.specs.declared.operator.Given.{Given}
@@ -11,8 +12,8 @@ use Rattle.aos_base.specs.declared.operator.Unary.TheVariants as unary_is
 use Rattle.aos_base.specs.declared.operator.Binary.{Binary}
 use Rattle.aos_base.specs.declared.operator.Binary.TheVariants as binary_is
 use Rattle.aos_base.specs.Number as number
-use Rattle.aos_base.specs.Operators.{natural, or_trap, or_divisor, or_undefined, on_width, on_widths, set_of, on_sets, unary, binary}
-use Rattle.aos_base.specs.Question.{Reads, Stores, Copies, PutsText, ComparesTexts, Calls as CallsOf, Starts, PutsInt, PutsChar, PutsString}
+use Rattle.aos_base.specs.Operators.{natural, flag, or_trap, or_divisor, or_undefined, on_width, on_widths, set_of, on_sets, unary, binary}
+use Rattle.aos_base.specs.Question.{Reads, Stores, Copies, PutsText, ComparesTexts, Calls as CallsOf, Makes, Starts, PutsInt, PutsChar, PutsString}
 use Rattle.aos_code.specs.declared.instr.Cell.{Cell}
 use Rattle.aos_code.specs.declared.instr.Cell.TheVariants.{Num, Place}
 use Rattle.aos_code.specs.declared.instr.Kind.{Kind}
@@ -23,12 +24,12 @@ use Rattle.aos_code.specs.declared.image.ProcShape.{ProcShape}
 use Rattle.aos_code.specs.declared.image.Image.{Image}
 use Rattle.aos_code.specs.Numbered.{numbered}
 use Rattle.aos_code.specs.Silent as silent
-use Rattle.aos_code.specs.Silent.{Stack, Act, Goes, Puts, Sees, Stops, lost, on_kind, on_number, on_place, on_text, lengths_on, in_rows, gives_picked, keeps_in, kinds_of, asserts, lands, jumps, jumps_on_false, act}
+use Rattle.aos_code.specs.Silent.{Stack, Fails, Act, Goes, Puts, Look, AtCell, AtElements, IsType, AsType, Sees, Stops, lost, on_kind, on_number, on_object, counted_on, gives, extends, on_place, on_text, lengths_on, in_rows, gives_picked, keeps_in, kinds_of, asserts, lands, jumps, jumps_on_false, act}
 use Rattle.aos_sound.specs.declared.stand.Role.{Role}
 use Rattle.aos_sound.specs.Sound.{Kinds, without, row, given, called, returned, is_begin, is_procedure, may_jump, may_stand, after, IsSound}
 use Rattle.aos_sound.specs.Fits.{AreOf, StandsOn}
 use Rattle.aos_sound.specs.Undecided.{IsBelowOr, IsFar, IsFarElement, IsFarRow, IsNoFlag, IsUndecided}
-use Rattle.aos_sound.proofs.FitsOperands.{topped_is, all_topped_is, number_found, place_found, kind_holds, on_place_holds, on_text_holds, counted_hold, kinds_hold, twice_holds, drop_holds, swap_holds, ends_hold}
+use Rattle.aos_sound.proofs.FitsOperands.{topped_is, all_topped_is, number_found, place_found, kind_holds, on_object_holds, looks_hold, on_place_holds, on_text_holds, counted_hold, kinds_hold, twice_holds, drop_holds, swap_holds, ends_hold}
 
 -- it isn't that trap
 abbrev Keeps : Act → Type 0
@@ -159,6 +160,17 @@ jumps_keep role code to at s may = by (nat_lt at to) refl
     by true b = λ e. cc e
     by false b = lands_keep (slice_get code to) (both (is_procedure role) (is_begin (slice_get code to)) (second (nat_lt at to) (is_procedure role && is_begin (slice_get code to)) b (both (nat_lt to (length code)) (nat_lt at to || (is_procedure role && is_begin (slice_get code to))) may).1)).1
 
+-- what an object is asked for is none
+looks_keep : (l : Look) (at_nil : Stack → Act) (s t : Kinds) (stack : Stack) → AreOf s stack → without (R ∷ []) s ≡ Some t → ((rest : Stack) → Keeps (at_nil rest)) → Keeps (silent.looks l at_nil stack)
+looks_keep l at_nil s t stack are e h = looks_hold Keeps l at_nil s t stack are e (λ rest are1. h rest) (λ o rest are1 f. cc f)
+
+guards_keep : (b : Bool) (a : Act) → Keeps a → Keeps (if b then a else Stops (Fails 3 0))
+guards_keep true a h = h
+guards_keep false a h = other 3 (omega arith)
+  where
+    other : (n : ℕ) → n < 16 → Stops (Fails n 0) ≡ Stops lost → ⊥
+    other n lt e = let z : n ≡ 16 = cc in absurd (omega (arith, lt, z))
+
 calls_keep : (o : Option ProcShape) (p : ℕ) (s t : Kinds) (stack : Stack) → AreOf s stack → called o s ≡ Some t → Keeps (silent.calls o p stack)
 calls_keep None p s t stack are e = absurd (cc e)
 calls_keep (Some f) p s t stack are e =
@@ -175,13 +187,14 @@ returns_keep (Some f) s t stack are e = ends_hold Keeps f f.result s t stack are
 
 module _ (image : Image) (own : ℕ) (role : Role) (code : List Instr) (here at : ℕ) where
   abbrev does : Instr → Stack → Act
-  does i stack = act image.shapes.items own here i code at stack
+  does i stack = act image.shapes.items image.types.items own here i code at stack
 
   abbrev Answer : Instr → Stack → Type 0
   Answer i stack = does i stack ≡ Stops lost → IsUndecided i stack
 
   undecided : (i : Instr) (s t : Kinds) (stack : Stack) → may_stand image own role code at i ≡ true → AreOf s stack → after image own i s ≡ Some t → Answer i stack
   undecided (instr.Num n) s t stack may are e = λ f. cc f
+  undecided instr.Nil s t stack may are e = λ f. cc f
   undecided instr.Dup s t stack may are e = twice_holds Keeps s t stack are e (λ rest are1 f. cc f)
   undecided instr.Drop s t stack may are e = drop_holds Keeps s t stack are e (λ rest are1 f. cc f)
   undecided instr.Swap s t stack may are e = swap_holds Keeps s t stack are e (λ rest are1 f. cc f)
@@ -189,6 +202,8 @@ module _ (image : Image) (own : ℕ) (role : Role) (code : List Instr) (here at 
   undecided (instr.Module m n) s t stack may are e = λ f. cc f
   undecided (instr.Param n) s t stack may are e = λ f. cc f
   undecided (instr.Length n) s t stack may are e = λ f. cc f
+  undecided (instr.Deref n) s t stack may are e = let w = topped_is A (without (R ∷ []) s) t e in looks_keep (AtCell n) (λ s1. Stops (Fails 1 0)) s w.0 stack are w.1 (λ rest f. cc f)
+  undecided (instr.OpenRef j) s t stack may are e = let w = all_topped_is (row j) (without (R ∷ []) s) t e in looks_keep (AtElements j) (λ s1. Stops (Fails 1 0)) s w.0 stack are w.1 (λ rest f. cc f)
   undecided (instr.Offset n ty) s t stack may are e =
       let w = topped_is A (without (A ∷ []) s) t e in
       place_found [] s w.0 stack (Answer (instr.Offset n ty)) are w.1
@@ -219,6 +234,19 @@ module _ (image : Image) (own : ℕ) (role : Role) (code : List Instr) (here at 
       number_found (N ∷ []) s w.0 stack (Answer (instr.Binary op)) are w.1
       (λ z u rest are1 e1. number_found [] u w.0 rest (λ st. Answer (instr.Binary op) (Num z ∷ st)) are1 e1
       (λ y u2 rest2 are2 e2 f. binary_own op y z rest2 f))
+  undecided instr.EqRef s t stack may are e =
+      let w = topped_is N (without (R ∷ R ∷ []) s) t e in
+      on_object_holds Keeps (R ∷ []) s w.0 (λ b s1. on_object (λ a s2. gives (Num (flag (nat_eq a b))) s2) s1) stack are w.1
+      (λ b u rest are1 e1. on_object_holds Keeps [] u w.0 (λ a s2. gives (Num (flag (nat_eq a b))) s2) rest are1 e1 (λ a u2 rest2 are2 e2 f. cc f))
+  undecided (instr.Is ty) s t stack may are e = let w = topped_is N (without (R ∷ []) s) t e in looks_keep (IsType ty) (λ s1. gives (Num (pos 0)) s1) s w.0 stack are w.1 (λ rest f. cc f)
+  undecided (instr.IsPlace ty) s t stack may are e =
+      let w = topped_is N (without (A ∷ []) s) t e in
+      on_place_holds Keeps [] s w.0 (λ a d s1. gives (Num (flag (extends image.types.items d ty))) s1) stack are w.1 (λ a d u rest are1 e1 f. cc f)
+  undecided (instr.Guard ty) s t stack may are e = let w = topped_is R (without (R ∷ []) s) t e in looks_keep (AsType ty) (λ s1. Stops (Fails 3 0)) s w.0 stack are w.1 (λ rest f. cc f)
+  undecided (instr.GuardPlace ty) s t stack may are e =
+      let w = topped_is A (without (A ∷ []) s) t e in
+      on_place_holds Keeps [] s w.0 (λ a d s1. if extends image.types.items d ty then gives (Place a.root a.cell d) s1 else Stops (Fails 3 0)) stack are w.1
+      (λ a d u rest are1 e1. guards_keep (extends image.types.items d ty) (gives (Place a.root a.cell d) rest) (λ f. cc f))
   undecided (instr.Keep n k) s t stack may are e =
       if_keeps (nat_lt n (keeps_in (numbered image.shapes.items own))) (on_kind k (λ v s1. Puts n v s1) stack) (both (is_procedure role) (nat_lt n (keeps_in (numbered image.shapes.items own))) may).1
       (kind_holds Keeps k [] s t (λ v s1. Puts n v s1) stack are e (λ v u rest o are1 e1 f. cc f))
@@ -250,6 +278,9 @@ module _ (image : Image) (own : ℕ) (role : Role) (code : List Instr) (here at 
       (λ b m u rest are1 e1. on_text_holds Keeps [] u w.0 (λ a n s2. Sees (ComparesTexts r a n b m) s2) rest are1 e1 (λ a n u2 rest2 are2 e2 f. cc f))
   undecided (instr.Call p) s t stack may are e = calls_keep (numbered image.shapes.items p) p s t stack are e
   undecided (instr.NewObject ty) s t stack may are e = λ f. cc f
+  undecided (instr.NewArray ty j) s t stack may are e =
+      let w = topped_is R (without (replicate j N) s) t e in
+      counted_hold Keeps j [] [] s w.0 (λ zs s1. Sees (Makes ty (map (λ z. Num z) zs)) s1) stack are (ap (λ ks. without ks s) (append-nil (replicate j N)) ∙ w.1) (λ zs u rest l are1 e1 f. cc f)
   undecided instr.Start s t stack may are e = kind_holds Keeps R [] s t (λ o s1. Sees (Starts o) s1) stack are e (λ v u rest o are1 e1 f. cc f)
   undecided instr.Return s t stack may are e = returns_keep (numbered image.shapes.items own) s t stack are e
   undecided instr.OutChar s t stack may are e = kind_holds Keeps N [] s t (λ v s1. Sees (PutsChar v) s1) stack are e (λ v u rest o are1 e1 f. cc f)
@@ -260,7 +291,7 @@ module _ (image : Image) (own : ℕ) (role : Role) (code : List Instr) (here at 
   undecided instr.OutLn s t stack may are e = λ f. cc f
   undecided instr.OutOpen s t stack may are e = λ f. cc f
 
-  pub lost_undecided : (depth : ℕ) → IsSound image own role code depth → (i : Instr) (stack : Stack) → slice_get code at ≡ Some i → StandsOn image own code at stack → act image.shapes.items own here i code at stack ≡ Stops lost → IsUndecided i stack
+  pub lost_undecided : (depth : ℕ) → IsSound image own role code depth → (i : Instr) (stack : Stack) → slice_get code at ≡ Some i → StandsOn image own code at stack → act image.shapes.items image.types.items own here i code at stack ≡ Stops lost → IsUndecided i stack
   lost_undecided depth sound i stack is st =
       let f = sound.paths.find at st.0 st.1 in
       let z : Some f.instr ≡ Some i = sym f.stands ∙ is in

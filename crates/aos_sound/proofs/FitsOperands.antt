@@ -14,7 +14,7 @@ use Rattle.aos_code.specs.declared.instr.Kind.TheVariants.{N, R, C, A}
 use Rattle.aos_code.specs.Memory.{Addr}
 use Rattle.aos_code.specs.declared.image.ProcShape.{ProcShape}
 use Rattle.aos_code.specs.Silent as silent
-use Rattle.aos_code.specs.Silent.{Stack, Fails, Act, Goes, Sees, Stops, lost, is_of, if_of, on_any, on_kind, number_then, on_number, on_numbers, place_then, on_place, on_text, length_then, lengths_on, counted_on, duplicates, swaps, gives_place, element, length_cells, gives_picked, on_kinds}
+use Rattle.aos_code.specs.Silent.{Stack, Fails, Act, Goes, Looks, Look, Sees, Stops, lost, is_of, if_of, on_any, on_kind, number_then, on_number, on_numbers, object_then, on_object, unless_nil, place_then, on_place, on_text, length_then, lengths_on, counted_on, duplicates, swaps, gives_place, element, length_cells, gives_picked, on_kinds}
 use Rattle.aos_sound.specs.Sound.{Kinds, same_kind, without, topped, all_topped, row, dropped, twice, swapped, if_empty, alone}
 use Rattle.aos_sound.specs.Fits.{AreOf, IsResult}
 use Rattle.aos_sound.proofs.Taken.{reverse_lengths}
@@ -66,7 +66,7 @@ are_length [] (v ∷ vs) are = absurd are
 are_length (k ∷ ks) [] are = absurd are
 are_length (k ∷ ks) (v ∷ vs) are = ap (λ n. suc n) (are_length ks vs are.1)
 
-are_both : (ks js : Kinds) (vs ws : Stack) → AreOf ks vs → AreOf js ws → AreOf (ks ++ js) (vs ++ ws)
+pub are_both : (ks js : Kinds) (vs ws : Stack) → AreOf ks vs → AreOf js ws → AreOf (ks ++ js) (vs ++ ws)
 are_both [] js [] ws are more = more
 are_both [] js (v ∷ vs) ws are more = absurd are
 are_both (k ∷ ks) js [] ws are more = absurd are
@@ -85,7 +85,7 @@ lengths_are [] = tt
 lengths_are (n ∷ ns) = (refl, lengths_are ns)
 
 -- the place of an open array and its lengths above it
-row_is : (ns : List ℕ) (u : Kinds) (v : Cell) (rest : Stack) → is_of A v ≡ true → AreOf u rest → AreOf (row (length ns) ++ u) (length_cells ns ++ v ∷ rest)
+pub row_is : (ns : List ℕ) (u : Kinds) (v : Cell) (rest : Stack) → is_of A v ≡ true → AreOf u rest → AreOf (row (length ns) ++ u) (length_cells ns ++ v ∷ rest)
 row_is ns u v rest o are =
     let above : AreOf (replicate (length ns) N) (length_cells ns) = subst (λ x. AreOf x (length_cells ns)) (reverse_lengths (length ns)) (are_reversed (replicate (length ns) N) (map (λ n. Num (pos n)) ns) (lengths_are ns)) in
     subst (λ x. AreOf x (length_cells ns ++ v ∷ rest)) (sym (append_assoc (replicate (length ns) N) (A ∷ []) u)) (are_both (replicate (length ns) N) (A ∷ u) (length_cells ns) (v ∷ rest) above (o, are))
@@ -148,6 +148,29 @@ module _ (P : Act → Type 0) where
   on_number_holds ks (x ∷ s) t f (v ∷ vs) are e h =
       let w = first_taken N x ks s t e in
       number_holds (λ z. f z vs) v (subst (λ y. is_of y v ≡ true) w.0 are.0) (λ z. h z s vs are.1 w.1)
+
+  object_holds : (f : ℕ → Act) (v : Cell) → is_of R v ≡ true → ((o : ℕ) → P (f o)) → P (object_then f v)
+  object_holds f (Num z) o h = absurd (cc o)
+  object_holds f (Ref r) o h = h r
+  object_holds f (CallCell p r) o h = absurd (cc o)
+  object_holds f (Place root cell ty) o h = absurd (cc o)
+
+  pub on_object_holds : (ks s t : Kinds) (f : ℕ → Stack → Act) (stack : Stack) → AreOf s stack → without (R ∷ ks) s ≡ Some t → ((o : ℕ) (u : Kinds) (rest : Stack) → AreOf u rest → without ks u ≡ Some t → P (f o rest)) → P (on_object f stack)
+  on_object_holds ks [] t f stack are e h = absurd (cc e)
+  on_object_holds ks (x ∷ s) t f [] are e h = absurd are
+  on_object_holds ks (x ∷ s) t f (v ∷ vs) are e h =
+      let w = first_taken R x ks s t e in
+      object_holds (λ o. f o vs) v (subst (λ y. is_of y v ≡ true) w.0 are.0) (λ o. h o s vs are.1 w.1)
+
+  unless_holds : (o : ℕ) (a b : Act) → P a → P b → P (unless_nil o a b)
+  unless_holds zero a b p q = p
+  unless_holds (suc o) a b p q = q
+
+  -- what an object is asked for
+  pub looks_hold : (l : Look) (at_nil : Stack → Act) (s t : Kinds) (stack : Stack) → AreOf s stack → without (R ∷ []) s ≡ Some t → ((rest : Stack) → AreOf t rest → P (at_nil rest)) → ((o : ℕ) (rest : Stack) → AreOf t rest → P (Looks l o rest)) → P (silent.looks l at_nil stack)
+  looks_hold l at_nil s t stack are e h g =
+      on_object_holds [] s t (λ o s1. unless_nil o (at_nil s1) (Looks l o s1)) stack are e
+      (λ o u rest are1 e1. let are2 = retyped u t rest e1 are1 in unless_holds o (at_nil rest) (Looks l o rest) (h rest are2) (g o rest are2))
 
   pub on_place_holds : (ks s t : Kinds) (f : Addr → ℕ → Stack → Act) (stack : Stack) → AreOf s stack → without (A ∷ ks) s ≡ Some t → ((a : Addr) (ty : ℕ) (u : Kinds) (rest : Stack) → AreOf u rest → without ks u ≡ Some t → P (f a ty rest)) → P (on_place f stack)
   on_place_holds ks [] t f stack are e h = absurd (cc e)

@@ -1,10 +1,11 @@
 -- What an instruction of a sound body leaves of operands that stand on a path.
-use Rattle.std.proofs.Common.{◌≡◌, inl, inr, ℕ, zero, suc, ℤ, pos, negsuc, ◌+◌, ◌-◌, ◌^◌, List, [], ◌∷◌, ◌++◌, length, reverse, Bool, true, false, Option, Some, None, nat_lt, slice_get, if◌then◌else◌, refl, sym, ap, ◌∙◌, subst, arith, ltb-true}
+use Rattle.std.proofs.Common.{◌≡◌, inl, inr, ℕ, zero, suc, ℤ, pos, negsuc, ◌+◌, ◌-◌, ◌^◌, List, [], ◌∷◌, ◌++◌, length, map, replicate, reverse, Bool, true, false, Option, Some, None, nat_eq, nat_lt, slice_get, if◌then◌else◌, refl, sym, ap, ◌∙◌, subst, arith, ltb-true}
+use Rattle.std.proofs.lemmas.List.{append-nil}
 use Rattle.aos_base.specs.declared.place.Root.TheVariants.{Frame as FrameRoot, Module as ModuleRoot}
-use Rattle.aos_base.specs.Question.{Reads, Stores, Copies, PutsText, ComparesTexts, Calls as CallsOf, Starts, PutsInt, PutsChar, PutsString}
-use Rattle.aos_base.specs.Operators.{unary, binary, natural}
+use Rattle.aos_base.specs.Question.{Reads, Stores, Copies, PutsText, ComparesTexts, Calls as CallsOf, Makes, Starts, PutsInt, PutsChar, PutsString}
+use Rattle.aos_base.specs.Operators.{unary, binary, natural, flag}
 use Rattle.aos_code.specs.declared.instr.Cell.{Cell}
-use Rattle.aos_code.specs.declared.instr.Cell.TheVariants.{Num, Place}
+use Rattle.aos_code.specs.declared.instr.Cell.TheVariants.{Num, Ref, Place}
 use Rattle.aos_code.specs.declared.instr.Kind.{Kind}
 use Rattle.aos_code.specs.declared.instr.Kind.TheVariants.{N, R, A}
 use Rattle.aos_code.specs.declared.instr.Instr.{Instr}
@@ -13,11 +14,11 @@ use Rattle.aos_code.specs.declared.image.ProcShape.{ProcShape}
 use Rattle.aos_code.specs.declared.image.Image.{Image}
 use Rattle.aos_code.specs.Numbered.{numbered}
 use Rattle.aos_code.specs.Silent as silent
-use Rattle.aos_code.specs.Silent.{Stack, Fails, Act, Goes, Puts, Takes, Sees, Stops, is_of, on_kind, on_number, on_place, on_text, gives_place, lengths_on, in_rows, gives_picked, keeps_in, kinds_of, asserts, lands, jumps, jumps_on_false, act}
+use Rattle.aos_code.specs.Silent.{Stack, Fails, Act, Goes, Puts, Takes, Look, AtCell, AtElements, IsType, AsType, Sees, Stops, is_of, on_kind, on_number, on_object, on_place, on_text, counted_on, gives, extends, gives_place, lengths_on, in_rows, gives_picked, keeps_in, kinds_of, asserts, lands, jumps, jumps_on_false, act}
 use Rattle.aos_sound.specs.Sound.{Kinds, without, row, given, called, returned, is_begin, next_of, Leads, after, Comes, Finds, ArePathsSound}
 use Rattle.aos_sound.specs.Sound as sound
-use Rattle.aos_sound.specs.Fits.{AreOf, IsResult, result_of, StandsOn, StandsGiven, StandsAfter, StandsBegun}
-use Rattle.aos_sound.proofs.FitsOperands.{first_taken, topped_is, all_topped_is, retyped, with_top, kind_holds, on_number_holds, on_place_holds, on_text_holds, lengths_hold, counted_hold, kinds_hold, twice_holds, drop_holds, swap_holds, given_holds, if_holds, element_holds, rows_hold, picked_holds, ends_hold}
+use Rattle.aos_sound.specs.Fits.{AreOf, IsResult, result_of, told_kinds, StandsOn, StandsGiven, StandsTold, StandsAfter, StandsBegun}
+use Rattle.aos_sound.proofs.FitsOperands.{first_taken, topped_is, all_topped_is, retyped, with_top, are_both, kind_holds, on_number_holds, on_object_holds, looks_hold, on_place_holds, on_text_holds, lengths_hold, counted_hold, kinds_hold, twice_holds, drop_holds, swap_holds, given_holds, if_holds, element_holds, rows_hold, picked_holds, ends_hold}
 
 module _ (image : Image) (own : ℕ) (code : List Instr) (here at : ℕ) where
   abbrev After : Act → Type 0
@@ -94,6 +95,46 @@ module _ (image : Image) (own : ℕ) (code : List Instr) (here at : ℕ) where
       (λ zs u rest l are1 e1. on_place_holds After [] u w.0 (λ a ty s2. gives_picked (slice_get zs d) s2) rest are1 e1
       (λ a ty u2 rest2 are2 e2. picked_holds After fails (slice_get zs d) rest2 (λ z. going (Num z ∷ rest2) (top N w.0 t w.2 on u2 rest2 are2 e2 (Num z) refl))))
 
+  -- what an object tells is given on what is left
+  told_stands : (ks u t : Kinds) → ks ++ u ≡ t → On t → (rest : Stack) → AreOf u rest → StandsTold image own code ks (at + 1) rest
+  told_stands ks u t e on rest are vs of = on (vs ++ rest) (subst (λ x. AreOf x (vs ++ rest)) e (are_both ks u vs rest of are))
+
+  looks_stand : (l : Look) (at_nil : Stack → Act) (s t u : Kinds) (stack : Stack) → AreOf s stack → without (R ∷ []) s ≡ Some u → told_kinds l ++ u ≡ t → On t → ((rest : Stack) → AreOf u rest → After (at_nil rest)) → After (silent.looks l at_nil stack)
+  looks_stand l at_nil s t u stack are e f on h = looks_hold After l at_nil s u stack are e h (λ o rest are1. told_stands (told_kinds l) u t f on rest are1)
+
+  objects_stand : (s t : Kinds) (stack : Stack) → AreOf s stack → sound.topped N (without (R ∷ R ∷ []) s) ≡ Some t → On t → After (silent.on_objects (λ a b s1. gives (Num (flag (nat_eq a b))) s1) stack)
+  objects_stand s t stack are e on =
+      let w = topped_is N (without (R ∷ R ∷ []) s) t e in
+      on_object_holds After (R ∷ []) s w.0 (λ b s1. on_object (λ a s2. gives (Num (flag (nat_eq a b))) s2) s1) stack are w.1
+      (λ b u rest are1 e1. on_object_holds After [] u w.0 (λ a s2. gives (Num (flag (nat_eq a b))) s2) rest are1 e1
+      (λ a u2 rest2 are2 e2. let v : Cell = Num (flag (nat_eq a b)) in going (v ∷ rest2) (top N w.0 t w.2 on u2 rest2 are2 e2 v refl)))
+
+  -- a test of a record's place, and a guard
+  tests_place_stand : (ty : ℕ) (s t : Kinds) (stack : Stack) → AreOf s stack → sound.topped N (without (A ∷ []) s) ≡ Some t → On t → After (on_place (λ a d s1. gives (Num (flag (extends image.types.items d ty))) s1) stack)
+  tests_place_stand ty s t stack are e on =
+      let w = topped_is N (without (A ∷ []) s) t e in
+      on_place_holds After [] s w.0 (λ a d s1. gives (Num (flag (extends image.types.items d ty))) s1) stack are w.1
+      (λ a d u rest are1 e1. let v : Cell = Num (flag (extends image.types.items d ty)) in going (v ∷ rest) (top N w.0 t w.2 on u rest are1 e1 v refl))
+
+  either_stands : (b : Bool) (a c : Act) → After a → After c → After (if b then a else c)
+  either_stands true a c h g = h
+  either_stands false a c h g = g
+
+  guards_place_stand : (ty : ℕ) (s t : Kinds) (stack : Stack) → AreOf s stack → sound.topped A (without (A ∷ []) s) ≡ Some t → On t → After (on_place (λ a d s1. if extends image.types.items d ty then gives (Place a.root a.cell d) s1 else Stops (Fails 3 0)) stack)
+  guards_place_stand ty s t stack are e on =
+      let w = topped_is A (without (A ∷ []) s) t e in
+      on_place_holds After [] s w.0 (λ a d s1. if extends image.types.items d ty then gives (Place a.root a.cell d) s1 else Stops (Fails 3 0)) stack are w.1
+      (λ a d u rest are1 e1.
+      let v : Cell = Place a.root a.cell d in
+      either_stands (extends image.types.items d ty) (gives v rest) (Stops (Fails 3 0)) (going (v ∷ rest) (top A w.0 t w.2 on u rest are1 e1 v refl)) tt)
+
+  arrays_stand : (ty j : ℕ) (s t : Kinds) (stack : Stack) → AreOf s stack → sound.topped R (without (replicate j N) s) ≡ Some t → On t → After (counted_on j [] (λ zs s1. Sees (Makes ty (map (λ z. Num z) zs)) s1) stack)
+  arrays_stand ty j s t stack are e on =
+      let w = topped_is R (without (replicate j N) s) t e in
+      let f : without (replicate j N ++ []) s ≡ Some w.0 = ap (λ ks. without ks s) (append-nil (replicate j N)) ∙ w.1 in
+      counted_hold After j [] [] s w.0 (λ zs s1. Sees (Makes ty (map (λ z. Num z) zs)) s1) stack are f
+      (λ zs u rest l are1 e1 v o. top R w.0 t w.2 on u rest are1 e1 v o)
+
   asserts_stand : (c : ℕ) (z : ℤ) (rest : Stack) → After (Goes 0 rest) → After (asserts c z rest)
   asserts_stand c (pos zero) rest h = tt
   asserts_stand c (pos (suc zero)) rest h = h
@@ -148,8 +189,9 @@ module _ (image : Image) (own : ℕ) (code : List Instr) (here at : ℕ) where
   onward i s t is c e l rest are = (t, sound.Goes c i is t e (at + 1) l, are)
 
   -- each instruction
-  stands_after : (i : Instr) (s t : Kinds) (stack : Stack) → slice_get code at ≡ Some i → Comes image own code at s → AreOf s stack → after image own i s ≡ Some t → After (act image.shapes.items own here i code at stack)
+  stands_after : (i : Instr) (s t : Kinds) (stack : Stack) → slice_get code at ≡ Some i → Comes image own code at s → AreOf s stack → after image own i s ≡ Some t → After (act image.shapes.items image.types.items own here i code at stack)
   stands_after (instr.Num n) s t stack is c are e = going (Num n ∷ stack) (give N (Num n) s t stack refl e are (onward (instr.Num n) s t is c e refl))
+  stands_after instr.Nil s t stack is c are e = going (Ref 0 ∷ stack) (give R (Ref 0) s t stack refl e are (onward instr.Nil s t is c e refl))
   stands_after instr.Dup s t stack is c are e = twice_holds After s t stack are e (goes t (onward instr.Dup s t is c e refl))
   stands_after instr.Drop s t stack is c are e = drop_holds After s t stack are e (goes t (onward instr.Drop s t is c e refl))
   stands_after instr.Swap s t stack is c are e = swap_holds After s t stack are e (goes t (onward instr.Swap s t is c e refl))
@@ -157,6 +199,12 @@ module _ (image : Image) (own : ℕ) (code : List Instr) (here at : ℕ) where
   stands_after (instr.Module m n) s t stack is c are e = going (Place (ModuleRoot m) n 0 ∷ stack) (give A (Place (ModuleRoot m) n 0) s t stack refl e are (onward (instr.Module m n) s t is c e refl))
   stands_after (instr.Param n) s t stack is c are e = λ v o. give A v s t stack o e are (onward (instr.Param n) s t is c e refl)
   stands_after (instr.Length n) s t stack is c are e = λ v o. give N v s t stack o e are (onward (instr.Length n) s t is c e refl)
+  stands_after (instr.Deref n) s t stack is c are e =
+      let w = topped_is A (without (R ∷ []) s) t e in
+      looks_stand (AtCell n) (λ s1. Stops (Fails 1 0)) s t w.0 stack are w.1 w.2 (onward (instr.Deref n) s t is c e refl) (λ rest are1. tt)
+  stands_after (instr.OpenRef j) s t stack is c are e =
+      let w = all_topped_is (row j) (without (R ∷ []) s) t e in
+      looks_stand (AtElements j) (λ s1. Stops (Fails 1 0)) s t w.0 stack are w.1 w.2 (onward (instr.OpenRef j) s t is c e refl) (λ rest are1. tt)
   stands_after (instr.Offset n ty) s t stack is c are e = offset_stands n ty s t stack are e (onward (instr.Offset n ty) s t is c e refl)
   stands_after (instr.Index n k) s t stack is c are e = index_stands n k s t stack are e (onward (instr.Index n k) s t is c e refl)
   stands_after (instr.IndexOpen j k) s t stack is c are e = rows_stand j k s t stack are e (onward (instr.IndexOpen j k) s t is c e refl)
@@ -167,6 +215,17 @@ module _ (image : Image) (own : ℕ) (code : List Instr) (here at : ℕ) where
   stands_after (instr.Binary op) s t stack is c are e =
       numbers_joined s t stack (λ a b s1. silent.given (binary op a b) s1) are e (onward (instr.Binary op) s t is c e refl)
       (λ y z rest h. given_holds After fails (binary op y z) rest h)
+  stands_after instr.EqRef s t stack is c are e = objects_stand s t stack are e (onward instr.EqRef s t is c e refl)
+  stands_after (instr.Is ty) s t stack is c are e =
+      let on = onward (instr.Is ty) s t is c e refl in
+      let w = topped_is N (without (R ∷ []) s) t e in
+      looks_stand (IsType ty) (λ s1. gives (Num (pos 0)) s1) s t w.0 stack are w.1 w.2 on
+      (λ rest are1. going (Num (pos 0) ∷ rest) (top N w.0 t w.2 on w.0 rest are1 refl (Num (pos 0)) refl))
+  stands_after (instr.IsPlace ty) s t stack is c are e = tests_place_stand ty s t stack are e (onward (instr.IsPlace ty) s t is c e refl)
+  stands_after (instr.Guard ty) s t stack is c are e =
+      let w = topped_is R (without (R ∷ []) s) t e in
+      looks_stand (AsType ty) (λ s1. Stops (Fails 3 0)) s t w.0 stack are w.1 w.2 (onward (instr.Guard ty) s t is c e refl) (λ rest are1. tt)
+  stands_after (instr.GuardPlace ty) s t stack is c are e = guards_place_stand ty s t stack are e (onward (instr.GuardPlace ty) s t is c e refl)
   stands_after (instr.Keep n k) s t stack is c are e =
       let on = onward (instr.Keep n k) s t is c e refl in
       if_holds After fails (nat_lt n (keeps_in (numbered image.shapes.items own))) (on_kind k (λ v s1. Puts n v s1) stack)
@@ -214,6 +273,7 @@ module _ (image : Image) (own : ℕ) (code : List Instr) (here at : ℕ) where
       (λ a n u2 rest2 are2 e2. w.2 rest2 (retyped u2 w.0 rest2 e2 are2)))
   stands_after (instr.Call p) s t stack is c are e = calls_stand (numbered image.shapes.items p) p s t stack refl are e (onward (instr.Call p) s t is c e refl)
   stands_after (instr.NewObject ty) s t stack is c are e = λ v o. give R v s t stack o e are (onward (instr.NewObject ty) s t is c e refl)
+  stands_after (instr.NewArray ty j) s t stack is c are e = arrays_stand ty j s t stack are e (onward (instr.NewArray ty j) s t is c e refl)
   stands_after instr.Start s t stack is c are e = starts_stand s t stack is c are e (onward instr.Start s t is c e refl)
   stands_after instr.Return s t stack is c are e = returns_stand (numbered image.shapes.items own) s t stack refl are e
   stands_after instr.OutChar s t stack is c are e =
@@ -230,7 +290,7 @@ module _ (image : Image) (own : ℕ) (code : List Instr) (here at : ℕ) where
   stands_after instr.OutLn s t stack is c are e = onward instr.OutLn s t is c e refl stack (retyped s t stack e are)
   stands_after instr.OutOpen s t stack is c are e = onward instr.OutOpen s t is c e refl stack (retyped s t stack e are)
 
-  pub step_stands : (depth : ℕ) → ArePathsSound image own code depth → (i : Instr) (stack : Stack) → slice_get code at ≡ Some i → StandsOn image own code at stack → StandsAfter image own code at (act image.shapes.items own here i code at stack)
+  pub step_stands : (depth : ℕ) → ArePathsSound image own code depth → (i : Instr) (stack : Stack) → slice_get code at ≡ Some i → StandsOn image own code at stack → StandsAfter image own code at (act image.shapes.items image.types.items own here i code at stack)
   step_stands depth paths i stack is st =
       let f = paths.find at st.0 st.1 in
       let z : Some f.instr ≡ Some i = sym f.stands ∙ is in

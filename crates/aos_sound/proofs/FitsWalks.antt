@@ -1,24 +1,28 @@
 -- What silent work over a sound body comes to, from operands that stand on a path; and that they never are more than its depth.
-use Rattle.std.proofs.Common.{◌≡◌, ◌≤◌, ◌<◌, ℕ, zero, suc, pos, ◌+◌, List, [], ◌∷◌, length, drop, true, Option, Some, None, slice_get, Bool, if◌then◌else◌, false, refl, sym, ap, ◌∙◌, subst, arith}
+use Rattle.std.proofs.Common.{◌≡◌, ◌≤◌, ◌<◌, nat_le, ℕ, zero, suc, pos, ◌+◌, List, [], ◌∷◌, ◌++◌, length, map, take, drop, true, Option, Some, None, slice_get, Bool, if◌then◌else◌, false, refl, sym, ap, ◌∙◌, subst, arith, leb-true, length-append}
+use Rattle.std.proofs.lemmas.List.{append-nil, length-map, length-take-le}
 use Rattle.std.proofs.lemmas.Option.{slice_get_within}
-use Rattle.aos_base.specs.declared.place.Root.TheVariants.{Frame as FrameRoot}
+use Rattle.aos_base.specs.declared.place.Root.TheVariants.{Frame as FrameRoot, Object as ObjectRoot}
 use Rattle.aos_base.specs.declared.text.Pos.{Pos}
+use Rattle.aos_base.specs.Operators.{flag}
 use Rattle.aos_base.specs.Question.{PutsNothing, Places, Lengths}
+use Rattle.aos_base.specs.Rooted.{Made}
 use Rattle.aos_code.specs.declared.instr.Cell.{Cell}
 use Rattle.aos_code.specs.declared.instr.Cell.TheVariants.{Num, Ref, Call as CallCell, Place}
 use Rattle.aos_code.specs.declared.instr.Kind.{Kind}
 use Rattle.aos_code.specs.declared.instr.Kind.TheVariants.{N, R, C, A}
 use Rattle.aos_code.specs.declared.instr.Instr.{Instr}
 use Rattle.aos_code.specs.declared.instr.Instr.TheVariants as instr
+use Rattle.aos_code.specs.declared.image.TypeDesc.{TypeDesc}
 use Rattle.aos_code.specs.declared.image.Image.{Image}
-use Rattle.aos_code.specs.Silent.{Stack, Keeps, Question, Begins, Fails, Stop, Work, Act, Goes, Puts, Takes, Sees, Stops, Ended, lost, is_of, act, noted, noted_as, on_noted, Noted, Visible, Answered, Unknown, on_act, kept, walk, silent}
+use Rattle.aos_code.specs.Silent.{Stack, Keeps, Question, Begins, Fails, Stop, Work, Act, Goes, Puts, Takes, Looks, Look, AtCell, AtElements, IsType, AsType, Sees, Stops, Ended, lost, is_of, act, noted, noted_as, on_noted, Noted, Visible, Answered, Unknown, Told, Tells, Refuses, Unheard, told_by, on_told, length_cells, extends, on_act, kept, walk, silent}
 use Rattle.aos_sound.specs.declared.effect.Effect.{Effect}
 use Rattle.aos_sound.specs.declared.effect.Effect.TheVariants.{Gives, Twice}
-use Rattle.aos_sound.specs.Sound.{Kinds, effect_of, next_of, left_by, Leads, after, Goes as PathGoes, ArePathsSound}
+use Rattle.aos_sound.specs.Sound.{Kinds, row, effect_of, next_of, left_by, Leads, after, Goes as PathGoes, ArePathsSound}
 use Rattle.aos_sound.specs.declared.effect.Next.TheVariants.{On}
 use Rattle.aos_sound.specs.Sound as sound
-use Rattle.aos_sound.specs.Fits.{KeepsToPaths, gives_more, StandsOn, StandsGiven, StandsAfter, StandsAsked, StandsBegun, StandsStopped}
-use Rattle.aos_sound.proofs.FitsOperands.{are_length}
+use Rattle.aos_sound.specs.Fits.{AreOf, KeepsToPaths, gives_more, told_kinds, StandsOn, StandsGiven, StandsTold, StandsAfter, StandsAsked, StandsBegun, StandsStopped}
+use Rattle.aos_sound.proofs.FitsOperands.{are_length, row_is}
 use Rattle.aos_sound.proofs.FitsSteps.{step_stands}
 
 drop_next : {X : Type 0} (at : ℕ) (xs : List X) (x : X) (rest : List X) → drop at xs ≡ x ∷ rest → (slice_get xs at ≡ Some x) × (drop (at + 1) xs ≡ rest)
@@ -36,6 +40,34 @@ one N = Num (pos 0)
 one R = Ref 0
 one C = CallCell 0 0
 one A = Place (FrameRoot 0) 0 0
+
+-- what an object tells is of its kinds
+told_are : (types : List TypeDesc) (l : Look) (o : ℕ) (m : Option Made) (vs : List Cell) → told_by types l o m ≡ Tells vs → AreOf (told_kinds l) vs
+told_are types l o None vs e = absurd (cc e)
+told_are types (AtCell c) o (Some m) vs e =
+    let z : Place (ObjectRoot o) c m.type ∷ [] ≡ vs = cc in
+    subst (λ x. AreOf (A ∷ []) x) z (refl, tt)
+told_are types (AtElements j) o (Some m) vs e = by (nat_le j (length m.lengths)) refl e
+  where
+    there : (n : ℕ) → n ≡ j → AreOf (row n ++ []) vs → AreOf (row j) vs
+    there n f are = subst (λ ks. AreOf ks vs) (append-nil (row n) ∙ ap row f) are
+
+    by : (b : Bool) → nat_le j (length m.lengths) ≡ b → (if b then Tells (length_cells (take j m.lengths) ++ Place (ObjectRoot o) 0 0 ∷ []) else Unheard) ≡ Tells vs → AreOf (row j) vs
+    by true within f =
+        let ns = take j m.lengths in
+        let z : length_cells ns ++ Place (ObjectRoot o) 0 0 ∷ [] ≡ vs = cc in
+        there (length ns) (length-take-le j m.lengths (leb-true j (length m.lengths) within)) (subst (λ x. AreOf (row (length ns) ++ []) x) z (row_is ns [] (Place (ObjectRoot o) 0 0) [] refl tt))
+    by false within f = absurd (cc f)
+told_are types (IsType t) o (Some m) vs e =
+    let z : Num (flag (extends types m.type t)) ∷ [] ≡ vs = cc in
+    subst (λ x. AreOf (N ∷ []) x) z (refl, tt)
+told_are types (AsType t) o (Some m) vs e = by (extends types m.type t) e
+  where
+    by : (b : Bool) → (if b then Tells (Ref o ∷ []) else Refuses 3) ≡ Tells vs → AreOf (R ∷ []) vs
+    by true f =
+        let z : Ref o ∷ [] ≡ vs = cc in
+        subst (λ x. AreOf (R ∷ []) x) z (refl, tt)
+    by false f = absurd (cc f)
 
 module _ (image : Image) (own : ℕ) (code : List Instr) (depth : ℕ) (paths : ArePathsSound image own code depth) where
   -- a path stays within the code
@@ -88,10 +120,21 @@ module _ (image : Image) (own : ℕ) (code : List Instr) (depth : ℕ) (paths : 
   one_of C = refl
   one_of A = refl
 
+  ones_of : (ks : Kinds) → AreOf ks (map one ks)
+  ones_of [] = tt
+  ones_of (k ∷ ks) = (one_of k, ones_of ks)
+
+  pub room_told : (at : ℕ) (ks : Kinds) (stack : Stack) → StandsTold image own code ks at stack → length ks + length stack ≤ depth
+  room_told at ks stack st =
+      let l = room at (map one ks ++ stack) (st (map one ks) (ones_of ks)) in
+      let a = length-append (map one ks) stack in
+      let b = length-map ks one in
+      omega (arith, l, a, b)
+
   pub room_given : (at : ℕ) (k : Kind) (stack : Stack) → StandsGiven image own code (Some k) at stack → suc (length stack) ≤ depth
   room_given at k stack st = room at (one k ∷ stack) (st (one k) (one_of k))
 
-  module _ (here : ℕ) (cells : List Cell) where
+  module _ (here : ℕ) (made : ℕ → Option Made) (cells : List Cell) where
     -- what silent work does next
     noted_stands : (k : Kind) (o : Option Cell) (q : Question) (next : ℕ → ℕ → Keeps → Stack → Stop) (at : ℕ) (keeps : Keeps) (stack : Stack) →
         StandsGiven image own code (Some k) (at + 1) stack → ((s : Stack) → StandsOn image own code (at + 1) s → StandsStopped image own code (next 0 (at + 1) keeps s)) →
@@ -110,9 +153,16 @@ module _ (image : Image) (own : ℕ) (code : List Instr) (depth : ℕ) (paths : 
     asked_stands (Lengths a) next at keeps stack st go = noted_stands N (slice_get cells a.cell) (Lengths a) next at keeps stack st go
     asked_stands q next at keeps stack st go = st
 
+    heard_stands : (ks : Kinds) (r : Told) (next : ℕ → ℕ → Keeps → Stack → Stop) (at : ℕ) (keeps : Keeps) (stack : Stack) →
+        ((vs : List Cell) → r ≡ Tells vs → AreOf ks vs) → StandsTold image own code ks (at + 1) stack → ((s : Stack) → StandsOn image own code (at + 1) s → StandsStopped image own code (next 0 (at + 1) keeps s)) →
+        StandsStopped image own code (on_told r next at keeps stack)
+    heard_stands ks (Tells vs) next at keeps stack of st go = go (vs ++ stack) (st vs (of vs refl))
+    heard_stands ks (Refuses n) next at keeps stack of st go = tt
+    heard_stands ks Unheard next at keeps stack of st go = tt
+
     act_stands : (a : Act) (next : ℕ → ℕ → Keeps → Stack → Stop) (at : ℕ) (keeps : Keeps) →
         StandsAfter image own code at a → ((over : ℕ) (k : Keeps) (s : Stack) → StandsOn image own code (at + 1 + over) s → StandsStopped image own code (next over (at + 1) k s)) →
-        StandsStopped image own code (on_act cells a next at keeps)
+        StandsStopped image own code (on_act image.types.items made cells a next at keeps)
     act_stands (Goes over s) next at keeps st go = go over keeps s st
     act_stands (Puts c v s) next at keeps st go = go 0 (kept c v keeps) s (let z : at + 1 ≡ at + 1 + 0 = omega arith in subst (λ p. StandsOn image own code p s) z st)
     act_stands (Takes c k s) next at keeps st go = by (is_of k (keeps c)) refl
@@ -120,16 +170,19 @@ module _ (image : Image) (own : ℕ) (code : List Instr) (depth : ℕ) (paths : 
         by : (b : Bool) → is_of k (keeps c) ≡ b → StandsStopped image own code (if b then next 0 (at + 1) keeps (keeps c ∷ s) else Ended lost keeps)
         by true e = go 0 keeps (keeps c ∷ s) (let z : at + 1 ≡ at + 1 + 0 = omega arith in subst (λ p. StandsOn image own code p (keeps c ∷ s)) z (st (keeps c) e))
         by false e = tt
+    act_stands (Looks l o s) next at keeps st go =
+        heard_stands (told_kinds l) (told_by image.types.items l o (made o)) next at keeps s (told_are image.types.items l o (made o)) st
+        (λ s1 st1. go 0 keeps s1 (let z : at + 1 ≡ at + 1 + 0 = omega arith in subst (λ p. StandsOn image own code p s1) z st1))
     act_stands (Sees q s) next at keeps st go = asked_stands q next at keeps s st (λ s1 st1. go 0 keeps s1 (let z : at + 1 ≡ at + 1 + 0 = omega arith in subst (λ p. StandsOn image own code p s1) z st1))
     act_stands (Stops (Begins to p s)) next at keeps st go = st
     act_stands (Stops (Fails n c)) next at keeps st go = tt
 
-    pub walk_stands : (rest : List Instr) (over at : ℕ) (keeps : Keeps) (stack : Stack) → drop at code ≡ rest → StandsOn image own code (at + over) stack → StandsStopped image own code (walk image.shapes.items own here cells code rest over at keeps stack)
+    pub walk_stands : (rest : List Instr) (over at : ℕ) (keeps : Keeps) (stack : Stack) → drop at code ≡ rest → StandsOn image own code (at + over) stack → StandsStopped image own code (walk image.shapes.items image.types.items made own here cells code rest over at keeps stack)
     walk_stands [] over at keeps stack d st = tt
     walk_stands (i ∷ rest) zero at keeps stack d st =
         let w = drop_next at code i rest d in
         let z : at + zero ≡ at = omega arith in
-        act_stands (act image.shapes.items own here i code at stack) (walk image.shapes.items own here cells code rest) at keeps
+        act_stands (act image.shapes.items image.types.items own here i code at stack) (walk image.shapes.items image.types.items made own here cells code rest) at keeps
         (step_stands image own code here at depth paths i stack w.0 (subst (λ p. StandsOn image own code p stack) z st))
         (λ over k s st1. walk_stands rest over (at + 1) k s w.1 st1)
     walk_stands (i ∷ rest) (suc n) at keeps stack d st =
@@ -138,7 +191,7 @@ module _ (image : Image) (own : ℕ) (code : List Instr) (depth : ℕ) (paths : 
         walk_stands rest n (at + 1) keeps stack w.1 (subst (λ p. StandsOn image own code p stack) z st)
 
     -- silent work from a place of a path
-    pub silent_stands : (at : ℕ) (keeps : Keeps) (stack : Stack) → StandsOn image own code at stack → StandsStopped image own code (silent image.shapes.items own here cells code at keeps stack)
+    pub silent_stands : (at : ℕ) (keeps : Keeps) (stack : Stack) → StandsOn image own code at stack → StandsStopped image own code (silent image.shapes.items image.types.items made own here cells code at keeps stack)
     silent_stands at keeps stack st = let z : at ≡ at + 0 = omega arith in walk_stands (drop at code) 0 at keeps stack refl (subst (λ p. StandsOn image own code p stack) z st)
 
     -- a stop that tells where silent work goes on, and with which operands
@@ -170,7 +223,14 @@ module _ (image : Image) (own : ℕ) (code : List Instr) (depth : ℕ) (paths : 
     asked_goes (Lengths a) at over keeps l stack t st e = noted_goes N (slice_get cells a.cell) (Lengths a) at over keeps l stack t st e
     asked_goes q at over keeps l stack t st e = let x : at ≡ at + 1 + over = cc in absurd (omega (arith, x))
 
-    act_goes : (a : Act) (at over : ℕ) (keeps l : Keeps) (t : Stack) → StandsAfter image own code at a → on_act cells a told at keeps ≡ told over (at + 1) l t → StandsOn image own code (at + 1 + over) t
+    heard_goes : (ks : Kinds) (r : Told) (at over : ℕ) (keeps l : Keeps) (stack t : Stack) → ((vs : List Cell) → r ≡ Tells vs → AreOf ks vs) → StandsTold image own code ks (at + 1) stack →
+        on_told r told at keeps stack ≡ told over (at + 1) l t → StandsOn image own code (at + 1 + over) t
+    unfolding told
+    heard_goes ks (Tells vs) at over keeps l stack t of st e = told_same at over (at + 1) keeps l (vs ++ stack) t (st vs (of vs refl)) refl e
+    heard_goes ks (Refuses n) at over keeps l stack t of st e = absurd (cc e)
+    heard_goes ks Unheard at over keeps l stack t of st e = absurd (cc e)
+
+    act_goes : (a : Act) (at over : ℕ) (keeps l : Keeps) (t : Stack) → StandsAfter image own code at a → on_act image.types.items made cells a told at keeps ≡ told over (at + 1) l t → StandsOn image own code (at + 1 + over) t
     unfolding told
     act_goes (Goes o s) at over keeps l t st e =
         let x : at + 1 + o ≡ at + 1 + over = cc in
@@ -182,13 +242,14 @@ module _ (image : Image) (own : ℕ) (code : List Instr) (depth : ℕ) (paths : 
         by : (b : Bool) → is_of k (keeps c) ≡ b → (if b then told 0 (at + 1) keeps (keeps c ∷ s) else Ended lost keeps) ≡ told over (at + 1) l t → StandsOn image own code (at + 1 + over) t
         by true f g = told_same at over (at + 1) keeps l (keeps c ∷ s) t (st (keeps c) f) refl g
         by false f g = absurd (cc g)
+    act_goes (Looks k o s) at over keeps l t st e = heard_goes (told_kinds k) (told_by image.types.items k o (made o)) at over keeps l s t (told_are image.types.items k o (made o)) st e
     act_goes (Sees q s) at over keeps l t st e = asked_goes q at over keeps l s t st e
     act_goes (Stops end) at over keeps l t st e = absurd (cc e)
 
     -- where silent work goes on after an instruction, whatever follows
     pub goes_stands : (at : ℕ) (i : Instr) (keeps : Keeps) (stack : Stack) → slice_get code at ≡ Some i → StandsOn image own code at stack → (over : ℕ) (l : Keeps) (t : Stack) →
-        ((next : ℕ → ℕ → Keeps → Stack → Stop) → on_act cells (act image.shapes.items own here i code at stack) next at keeps ≡ next over (at + 1) l t) → StandsOn image own code (at + 1 + over) t
-    goes_stands at i keeps stack is st over l t h = act_goes (act image.shapes.items own here i code at stack) at over keeps l t (step_stands image own code here at depth paths i stack is st) (h told)
+        ((next : ℕ → ℕ → Keeps → Stack → Stop) → on_act image.types.items made cells (act image.shapes.items image.types.items own here i code at stack) next at keeps ≡ next over (at + 1) l t) → StandsOn image own code (at + 1 + over) t
+    goes_stands at i keeps stack is st over l t h = act_goes (act image.shapes.items image.types.items own here i code at stack) at over keeps l t (step_stands image own code here at depth paths i stack is st) (h told)
 
     -- and where it ends at a Begin
     noted_begins : (o : Noted) (q : Question) (at : ℕ) (keeps l : Keeps) (stack t : Stack) (to : ℕ) (p : Pos) → on_noted o q told at keeps stack ≡ Ended (Begins to p t) l → ⊥
@@ -197,7 +258,13 @@ module _ (image : Image) (own : ℕ) (code : List Instr) (depth : ℕ) (paths : 
     noted_begins (Answered v) q at keeps l stack t to p e = cc e
     noted_begins Unknown q at keeps l stack t to p e = cc e
 
-    act_begins : (a : Act) (at : ℕ) (keeps l : Keeps) (t : Stack) (to : ℕ) (p : Pos) → StandsAfter image own code at a → on_act cells a told at keeps ≡ Ended (Begins to p t) l → StandsBegun image own code to t
+    heard_begins : (r : Told) (at : ℕ) (keeps l : Keeps) (stack t : Stack) (to : ℕ) (p : Pos) → on_told r told at keeps stack ≡ Ended (Begins to p t) l → ⊥
+    unfolding told
+    heard_begins (Tells vs) at keeps l stack t to p e = cc e
+    heard_begins (Refuses n) at keeps l stack t to p e = cc e
+    heard_begins Unheard at keeps l stack t to p e = cc e
+
+    act_begins : (a : Act) (at : ℕ) (keeps l : Keeps) (t : Stack) (to : ℕ) (p : Pos) → StandsAfter image own code at a → on_act image.types.items made cells a told at keeps ≡ Ended (Begins to p t) l → StandsBegun image own code to t
     unfolding told
     act_begins (Goes o s) at keeps l t to p st e = absurd (cc e)
     act_begins (Puts c v s) at keeps l t to p st e = absurd (cc e)
@@ -206,6 +273,7 @@ module _ (image : Image) (own : ℕ) (code : List Instr) (depth : ℕ) (paths : 
         by : (b : Bool) → (if b then told 0 (at + 1) keeps (keeps c ∷ s) else Ended lost keeps) ≡ Ended (Begins to p t) l → StandsBegun image own code to t
         by true g = absurd (cc g)
         by false g = absurd (cc g)
+    act_begins (Looks k o s) at keeps l t to p st e = absurd (heard_begins (told_by image.types.items k o (made o)) at keeps l s t to p e)
     act_begins (Sees q s) at keeps l t to p st e = absurd (noted_begins (noted cells q) q at keeps l s t to p e)
     act_begins (Stops (Begins x q s)) at keeps l t to p st e =
         let y : x ≡ to = cc in
@@ -214,20 +282,21 @@ module _ (image : Image) (own : ℕ) (code : List Instr) (depth : ℕ) (paths : 
     act_begins (Stops (Fails n c)) at keeps l t to p st e = absurd (cc e)
 
     pub begins_stands : (at : ℕ) (i : Instr) (keeps : Keeps) (stack : Stack) → slice_get code at ≡ Some i → StandsOn image own code at stack → (to : ℕ) (p : Pos) (l : Keeps) (t : Stack) →
-        ((next : ℕ → ℕ → Keeps → Stack → Stop) → on_act cells (act image.shapes.items own here i code at stack) next at keeps ≡ Ended (Begins to p t) l) → StandsBegun image own code to t
-    begins_stands at i keeps stack is st to p l t h = act_begins (act image.shapes.items own here i code at stack) at keeps l t to p (step_stands image own code here at depth paths i stack is st) (h told)
+        ((next : ℕ → ℕ → Keeps → Stack → Stop) → on_act image.types.items made cells (act image.shapes.items image.types.items own here i code at stack) next at keeps ≡ Ended (Begins to p t) l) → StandsBegun image own code to t
+    begins_stands at i keeps stack is st to p l t h = act_begins (act image.shapes.items image.types.items own here i code at stack) at keeps l t to p (step_stands image own code here at depth paths i stack is st) (h told)
 
   pub keeps_to_paths : KeepsToPaths image own code depth
   keeps_to_paths =
       record {
         begins = ([], sound.Begins, tt);
         step = λ here at i stack is st. step_stands image own code here at depth paths i stack is st;
-        goes = λ here cells. goes_stands here cells;
-        begun = λ here cells. begins_stands here cells;
-        walk = λ here cells. walk_stands here cells;
-        work = λ here cells. silent_stands here cells;
+        goes = λ here made cells. goes_stands here made cells;
+        begun = λ here made cells. begins_stands here made cells;
+        walk = λ here made cells. walk_stands here made cells;
+        work = λ here made cells. silent_stands here made cells;
         within = within;
         room = room;
+        told = room_told;
         more = room_more;
         given = room_given;
       }

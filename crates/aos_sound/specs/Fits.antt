@@ -1,7 +1,8 @@
 -- What a frame's operands are on the paths of its procedure's code, and what instructions and silent work leave of them.
-use Rattle.std.specs.Prelude.{◌≡◌, ◌<◌, ◌≤◌, ◌+◌, ℕ, suc, List, [], ◌∷◌, Bool, true, false, Option, Some, None, length, drop, slice_get, IsTrue}
+use Rattle.std.specs.Prelude.{◌≡◌, ◌<◌, ◌≤◌, ◌+◌, ℕ, suc, List, [], ◌∷◌, ◌++◌, Bool, true, false, Option, Some, None, length, drop, slice_get, IsTrue}
 use Rattle.aos_base.specs.declared.text.Pos.{Pos}
-use Rattle.aos_base.specs.Question.{Reads, Stores, Copies, PutsText, ComparesTexts, Calls, Ends, Makes, Starts, PutsInt, PutsChar, PutsString, PutsNothing, PutsLn, Places, Lengths}
+use Rattle.aos_base.specs.Question.{Reads, Stores, Copies, PutsText, ComparesTexts, Calls, Ends, Makes, Starts, PutsInt, PutsChar, PutsString, PutsNothing, PutsLn, Places, Lengths, Opens, Sizes, Tests}
+use Rattle.aos_base.specs.Rooted.{Made}
 use Rattle.aos_code.specs.declared.instr.Cell.{Cell}
 use Rattle.aos_code.specs.declared.instr.Kind.{Kind}
 use Rattle.aos_code.specs.declared.instr.Kind.TheVariants.{N, R, A}
@@ -10,10 +11,10 @@ use Rattle.aos_code.specs.declared.instr.Instr.TheVariants.{Start}
 use Rattle.aos_code.specs.declared.image.ProcShape.{ProcShape}
 use Rattle.aos_code.specs.declared.image.Image.{Image}
 use Rattle.aos_code.specs.Numbered.{numbered}
-use Rattle.aos_code.specs.Silent.{Stack, Keeps, Question, Begins, Fails, Stop, Work, Ended, Act, Goes, Puts, Takes, Sees, Stops, lost, is_of, act, on_act, walk, silent}
+use Rattle.aos_code.specs.Silent.{Stack, Keeps, Question, Begins, Fails, Stop, Work, Ended, Act, Goes, Puts, Takes, Looks, Sees, Stops, Look, AtCell, AtElements, IsType, AsType, lost, is_of, act, on_act, walk, silent}
 use Rattle.aos_sound.specs.declared.effect.Effect.{Effect}
 use Rattle.aos_sound.specs.declared.effect.Effect.TheVariants.{Gives, Twice}
-use Rattle.aos_sound.specs.Sound.{Kinds, Comes, is_begin, effect_of}
+use Rattle.aos_sound.specs.Sound.{Kinds, Comes, row, is_begin, effect_of}
 use Rattle.aos_sound.specs.Undecided.{IsUndecided}
 
 -- each operand is of its kind, and there are as many operands as kinds
@@ -46,9 +47,12 @@ abbrev pub answer_kind : List ProcShape → Question → Option Kind
 answer_kind shapes (Reads k a) = Some k
 answer_kind shapes (ComparesTexts r a n b m) = Some N
 answer_kind shapes (Calls p vs) = result_of (numbered shapes p)
-answer_kind shapes (Makes t) = Some R
+answer_kind shapes (Makes t ns) = Some R
 answer_kind shapes (Places a) = Some A
 answer_kind shapes (Lengths a) = Some N
+answer_kind shapes (Opens v) = Some A
+answer_kind shapes (Sizes v d) = Some N
+answer_kind shapes (Tests v t) = Some N
 answer_kind shapes (Stores a v) = None
 answer_kind shapes (Copies n from to) = None
 answer_kind shapes (PutsText strict from n to room) = None
@@ -60,6 +64,13 @@ answer_kind shapes (PutsString a n) = None
 answer_kind shapes PutsNothing = None
 answer_kind shapes PutsLn = None
 
+-- the kinds of what an object tells
+abbrev pub told_kinds : Look → Kinds
+told_kinds (AtCell c) = A ∷ []
+told_kinds (AtElements j) = row j
+told_kinds (IsType t) = N ∷ []
+told_kinds (AsType t) = R ∷ []
+
 -- in an image, as the procedure of this number, which has this code
 module _ (image : Image) (own : ℕ) (code : List Instr) where
   -- a path comes to this place with operands of the kinds that these have
@@ -70,6 +81,10 @@ module _ (image : Image) (own : ℕ) (code : List Instr) where
   abbrev pub StandsGiven : Option Kind → (at : ℕ) → Stack → Type 0
   StandsGiven None at stack = StandsOn at stack
   StandsGiven (Some k) at stack = (v : Cell) → is_of k v ≡ true → StandsOn at (v ∷ stack)
+
+  -- and so it does with any operands of these kinds on top
+  abbrev pub StandsTold : Kinds → (at : ℕ) → Stack → Type 0
+  StandsTold ks at stack = (vs : List Cell) → AreOf ks vs → StandsOn at (vs ++ stack)
 
   -- Below the operands of the question of the instruction at this place lie these: behind it they stand on a path with the answer. At
   -- the end of the frame there are none, and the result is the procedure's. Before a start, which is left to the kernel, the object lies
@@ -88,6 +103,7 @@ module _ (image : Image) (own : ℕ) (code : List Instr) where
   StandsAfter at (Goes over s) = StandsOn (at + 1 + over) s
   StandsAfter at (Puts c v s) = StandsOn (at + 1) s
   StandsAfter at (Takes c kind s) = StandsGiven (Some kind) (at + 1) s
+  StandsAfter at (Looks l o s) = StandsTold (told_kinds l) (at + 1) s
   StandsAfter at (Sees q s) = StandsAsked q at s
   StandsAfter at (Stops (Begins to p s)) = StandsBegun to s
   StandsAfter at (Stops (Fails n c)) = Unit {0}
@@ -103,28 +119,30 @@ pub record KeepsToPaths (image : Image) (own : ℕ) (code : List Instr) (depth :
   -- a frame begins on a path
   pub begins : StandsOn image own code 0 []
   -- where a frame stands on a path, so does what each instruction leaves
-  pub step : (here at : ℕ) (i : Instr) (stack : Stack) → slice_get code at ≡ Some i → StandsOn image own code at stack → StandsAfter image own code at (act image.shapes.items own here i code at stack)
+  pub step : (here at : ℕ) (i : Instr) (stack : Stack) → slice_get code at ≡ Some i → StandsOn image own code at stack → StandsAfter image own code at (act image.shapes.items image.types.items own here i code at stack)
   -- and so does what silent work goes on with after the instruction, whatever follows
   pub goes :
-      (here : ℕ) (cells : List Cell) (at : ℕ) (i : Instr) (k : Keeps) (stack : Stack) → slice_get code at ≡ Some i → StandsOn image own code at stack
+      (here : ℕ) (made : ℕ → Option Made) (cells : List Cell) (at : ℕ) (i : Instr) (k : Keeps) (stack : Stack) → slice_get code at ≡ Some i → StandsOn image own code at stack
       → (over : ℕ) (l : Keeps) (left : Stack)
-      → ((next : ℕ → ℕ → Keeps → Stack → Stop) → on_act cells (act image.shapes.items own here i code at stack) next at k ≡ next over (at + 1) l left)
+      → ((next : ℕ → ℕ → Keeps → Stack → Stop) → on_act image.types.items made cells (act image.shapes.items image.types.items own here i code at stack) next at k ≡ next over (at + 1) l left)
       → StandsOn image own code (at + 1 + over) left
   -- or what it comes to a Begin with
   pub begun :
-      (here : ℕ) (cells : List Cell) (at : ℕ) (i : Instr) (k : Keeps) (stack : Stack) → slice_get code at ≡ Some i → StandsOn image own code at stack
+      (here : ℕ) (made : ℕ → Option Made) (cells : List Cell) (at : ℕ) (i : Instr) (k : Keeps) (stack : Stack) → slice_get code at ≡ Some i → StandsOn image own code at stack
       → (to : ℕ) (p : Pos) (l : Keeps) (left : Stack)
-      → ((next : ℕ → ℕ → Keeps → Stack → Stop) → on_act cells (act image.shapes.items own here i code at stack) next at k ≡ Ended (Begins to p left) l)
+      → ((next : ℕ → ℕ → Keeps → Stack → Stop) → on_act image.types.items made cells (act image.shapes.items image.types.items own here i code at stack) next at k ≡ Ended (Begins to p left) l)
       → StandsBegun image own code to left
   -- and what all silent work comes to
   pub walk :
-      (here : ℕ) (cells : List Cell) (rest : List Instr) (over at : ℕ) (k : Keeps) (stack : Stack) → drop at code ≡ rest → StandsOn image own code (at + over) stack
-      → StandsStopped image own code (walk image.shapes.items own here cells code rest over at k stack)
-  pub work : (here : ℕ) (cells : List Cell) (at : ℕ) (k : Keeps) (stack : Stack) → StandsOn image own code at stack → StandsStopped image own code (silent image.shapes.items own here cells code at k stack)
+      (here : ℕ) (made : ℕ → Option Made) (cells : List Cell) (rest : List Instr) (over at : ℕ) (k : Keeps) (stack : Stack) → drop at code ≡ rest → StandsOn image own code (at + over) stack
+      → StandsStopped image own code (walk image.shapes.items image.types.items made own here cells code rest over at k stack)
+  pub work : (here : ℕ) (made : ℕ → Option Made) (cells : List Cell) (at : ℕ) (k : Keeps) (stack : Stack) → StandsOn image own code at stack → StandsStopped image own code (silent image.shapes.items image.types.items made own here cells code at k stack)
   -- a path stays within the code
   pub within : (at : ℕ) (stack : Stack) → StandsOn image own code at stack → at < length code
   -- there are no more operands than the depth
   pub room : (at : ℕ) (stack : Stack) → StandsOn image own code at stack → length stack ≤ depth
+  -- and few enough where some are to be told by an object
+  pub told : (at : ℕ) (ks : Kinds) (stack : Stack) → StandsTold image own code ks at stack → length ks + length stack ≤ depth
   -- and fewer where one is to be given: by an instruction that gives one more than it takes, or as an answer or a result
   pub more : (at : ℕ) (i : Instr) (stack : Stack) → slice_get code at ≡ Some i → StandsOn image own code at stack → gives_more (effect_of i) ≡ true → suc (length stack) ≤ depth
   pub given : (at : ℕ) (k : Kind) (stack : Stack) → StandsGiven image own code (Some k) at stack → suc (length stack) ≤ depth
@@ -133,4 +151,4 @@ pub record KeepsToPaths (image : Image) (own : ℕ) (code : List Instr) (depth :
 abbrev pub FindsAll : (image : Image) (own : ℕ) (code : List Instr) → Type 0
 FindsAll image own code =
     (here at : ℕ) (i : Instr) (stack : Stack) → slice_get code at ≡ Some i → StandsOn image own code at stack
-    → act image.shapes.items own here i code at stack ≡ Stops lost → IsUndecided i stack
+    → act image.shapes.items image.types.items own here i code at stack ≡ Stops lost → IsUndecided i stack

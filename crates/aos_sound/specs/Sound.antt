@@ -3,14 +3,14 @@ use Rattle.std.specs.Prelude.{◌≡◌, ◌≤◌, ℕ, zero, suc, ◌+◌, ◌
 use Rattle.aos_code.specs.declared.instr.Kind.{Kind}
 use Rattle.aos_code.specs.declared.instr.Kind.TheVariants.{N, R, C, A}
 use Rattle.aos_code.specs.declared.instr.Instr.{Instr}
-use Rattle.aos_code.specs.declared.instr.Instr.TheVariants.{Num, Dup, Drop, Swap, Frame, Module, Param, Length, Offset, Index, IndexOpen, PickLen, Unary, Binary, Keep, Kept, Fail, Assert, Halt, Jump, JumpFalse, Begin, Load, Store, Copy, PutText, CmpText, Call, NewObject, Start, Return, OutChar, OutInt, OutString, OutLn, OutOpen}
+use Rattle.aos_code.specs.declared.instr.Instr.TheVariants.{Num, Nil, Deref, OpenRef, EqRef, Is, IsPlace, Guard, GuardPlace, NewArray, Dup, Drop, Swap, Frame, Module, Param, Length, Offset, Index, IndexOpen, PickLen, Unary, Binary, Keep, Kept, Fail, Assert, Halt, Jump, JumpFalse, Begin, Load, Store, Copy, PutText, CmpText, Call, NewObject, Start, Return, OutChar, OutInt, OutString, OutLn, OutOpen}
 use Rattle.aos_code.specs.declared.image.ModuleDesc.{ModuleDesc}
 use Rattle.aos_code.specs.declared.image.ProcShape.{ProcShape}
 use Rattle.aos_code.specs.declared.image.Image.{Image}
 use Rattle.aos_code.specs.Numbered.{numbered}
 use Rattle.aos_code.specs.Silent.{kinds_of, keeps_in}
 use Rattle.aos_sound.specs.declared.effect.Effect.{Effect}
-use Rattle.aos_sound.specs.declared.effect.Effect.TheVariants.{Pass, Gives, Takes, TakesTwo, Turns, Joins, Twice, Drops, Swaps, Rows, Picks, Texts, Calls, Returns}
+use Rattle.aos_sound.specs.declared.effect.Effect.TheVariants.{Pass, Gives, Takes, TakesTwo, Turns, Joins, Twice, Drops, Swaps, Rows, Picks, Spreads, Makes, Texts, Calls, Returns}
 use Rattle.aos_sound.specs.declared.effect.Next.{Next}
 use Rattle.aos_sound.specs.declared.effect.Next.TheVariants.{Ends, On, To, Either}
 use Rattle.aos_sound.specs.declared.stand.Role.{Role}
@@ -23,6 +23,7 @@ Kinds = List Kind
 -- what each instruction takes and gives
 abbrev pub effect_of : Instr → Effect
 effect_of (Num n) = Gives N
+effect_of Nil = Gives R
 effect_of Dup = Twice
 effect_of Drop = Drops
 effect_of Swap = Swaps
@@ -30,12 +31,19 @@ effect_of (Frame c) = Gives A
 effect_of (Module m c) = Gives A
 effect_of (Param c) = Gives A
 effect_of (Length c) = Gives N
+effect_of (Deref c) = Turns R A
+effect_of (OpenRef j) = Spreads j
 effect_of (Offset c t) = Turns A A
 effect_of (Index n k) = Joins N A A
 effect_of (IndexOpen j k) = Rows j
 effect_of (PickLen d j) = Picks j
 effect_of (Unary op) = Turns N N
 effect_of (Binary op) = Joins N N N
+effect_of EqRef = Joins R R N
+effect_of (Is t) = Turns R N
+effect_of (IsPlace t) = Turns A N
+effect_of (Guard t) = Turns R R
+effect_of (GuardPlace t) = Turns A A
 effect_of (Keep c k) = Takes k
 effect_of (Kept c k) = Gives k
 effect_of (Fail n) = Pass
@@ -51,6 +59,7 @@ effect_of (PutText strict) = Texts None
 effect_of (CmpText r) = Texts (Some N)
 effect_of (Call p) = Calls p
 effect_of (NewObject t) = Gives R
+effect_of (NewArray t j) = Makes j
 effect_of Start = Takes R
 effect_of Return = Returns
 effect_of OutChar = Takes N
@@ -200,6 +209,11 @@ module _ (image : Image) (own : ℕ) where
   may_stand role code at (JumpFalse to) = may_jump role code to at
   may_stand role code at (Call p) = is_procedure role && is_some (numbered image.shapes.items p)
   may_stand role code at (NewObject t) = is_procedure role && is_some (numbered image.types.items t)
+  may_stand role code at (NewArray t j) = is_procedure role && is_some (numbered image.types.items t)
+  may_stand role code at (Is t) = is_some (numbered image.types.items t)
+  may_stand role code at (IsPlace t) = is_some (numbered image.types.items t)
+  may_stand role code at (Guard t) = is_some (numbered image.types.items t)
+  may_stand role code at (GuardPlace t) = is_some (numbered image.types.items t)
   may_stand role code at (Assert c) = is_procedure role
   may_stand role code at (Halt c) = is_procedure role
   may_stand role code at (Begin line col) = is_procedure role
@@ -228,6 +242,8 @@ module _ (image : Image) (own : ℕ) where
   left_by Swaps s = swapped s
   left_by (Rows j) s = all_topped (row (j - 1)) (without (N ∷ row j) s)
   left_by (Picks j) s = topped N (without (row j) s)
+  left_by (Spreads j) s = all_topped (row j) (without (R ∷ []) s)
+  left_by (Makes j) s = topped R (without (replicate j N) s)
   left_by (Texts r) s = given r (without (N ∷ A ∷ N ∷ A ∷ []) s)
   left_by (Calls p) s = called (numbered image.shapes.items p) s
   left_by Returns s = returned (numbered image.shapes.items own) s

@@ -1,6 +1,6 @@
 // The stack behind an instruction.
 
-ghost use Rattle.std.specs.Prelude.{◌≡◌, ◌<◌, ◌-◌, List, ◌∷◌, length, Option, IfOk};
+ghost use Rattle.std.specs.Prelude.{◌≡◌, ◌<◌, ◌-◌, List, ◌∷◌, ◌++◌, length, replicate, Option, IfOk};
 ghost use Rattle.aos_code.specs.declared.instr.Kind.{Kind};
 ghost use Rattle.aos_code.specs.declared.instr.Kind.TheVariants.{N};
 ghost use Rattle.aos_code.specs.Numbered.{numbered};
@@ -10,7 +10,7 @@ ghost use Rattle.aos_sound.specs.Stacks.{stack_at, Extends, Means};
 
 use crate::effect::Effect;
 use crate::stacks::Stacks;
-use crate::take::{drop_one, take, take_arguments, take_row, take_texts, take_two};
+use crate::take::{drop_one, take, take_arguments, take_lengths, take_row, take_texts, take_two};
 use aos_base::NoMemory;
 use aos_code::{Image, Kind, ProcShape};
 
@@ -73,6 +73,35 @@ fn take_index(stacks: &Stacks, lengths: u32, id: u32) -> Option<u32>
             }
         },
         None => None,
+    }
+}
+
+/// So many lengths are given on a stack.
+fn give_lengths(below: u32, lengths: u32, stacks: &mut Stacks) -> Result<u32, NoMemory>
+    requires { below < length stacks.old }
+    ensures kept { IfOk result (λ r. Extends stacks.old stacks.new) }
+    ensures given { IfOk result (λ r. (r < length stacks.new) × (stack_at stacks.new r ≡ replicate lengths N ++ stack_at stacks.old below)) }
+{
+    let mut id = below;
+    for _ in 0..lengths {
+        id = stacks.on_top(Kind::N, id)?;
+    }
+    Ok(id)
+}
+
+/// The place of an open array is given on what is left, if any, and so many lengths above it.
+fn give_row(below: Option<u32>, lengths: u32, stacks: &mut Stacks) -> Result<Option<u32>, NoMemory>
+    requires { (s : Option Kinds) × Means stacks.old below s }
+    ensures kept { IfOk result (λ r. Extends stacks.old stacks.new) }
+    ensures given { IfOk result (λ r. (s : Option Kinds) →
+        Means stacks.old below s → Means stacks.new r (all_topped (row lengths) s)) }
+{
+    match below {
+        Some(id) => {
+            let array = stacks.on_top(Kind::A, id)?;
+            Ok(Some(give_lengths(array, lengths, stacks)?))
+        }
+        None => Ok(None),
     }
 }
 
@@ -184,6 +213,8 @@ pub fn left_by(
         Effect::Swaps => swap(stacks, id),
         Effect::Rows(lengths) => Ok(take_index(stacks, lengths, id)),
         Effect::Picks(lengths) => give(take_row(stacks, lengths, id), Kind::N, stacks),
+        Effect::Spreads(lengths) => give_row(take(stacks, Kind::R, id), lengths, stacks),
+        Effect::Makes(lengths) => give(take_lengths(stacks, lengths, id), Kind::R, stacks),
         Effect::Texts(to) => give_any(take_texts(stacks, id), to, stacks),
         Effect::Calls(p) => call(&image.shapes, p, stacks, id),
         Effect::Returns => Ok(ends(&image.shapes, own, stacks, id)),

@@ -30,6 +30,10 @@ pub enum Effect {
     Rows(u32),
     /// Takes so many lengths and below them the place of an open array, and gives a number.
     Picks(u32),
+    /// Takes an object and gives the place of an open array and above it so many lengths.
+    Spreads(u32),
+    /// Takes so many lengths and gives an object.
+    Makes(u32),
     /// Takes two texts, each a place and above it a length, and gives an operand of this kind, if any.
     Texts(Option<Kind>),
     /// Takes the arguments of the procedure of this number, the last one from the top, and gives its result, if any.
@@ -57,6 +61,7 @@ pub fn effect_of(i: &Instr) -> Effect
 {
     match *i {
         Instr::Num(_) => Effect::Gives(Kind::N),
+        Instr::Nil => Effect::Gives(Kind::R),
         Instr::Dup => Effect::Twice,
         Instr::Drop => Effect::Drops,
         Instr::Swap => Effect::Swaps,
@@ -64,12 +69,19 @@ pub fn effect_of(i: &Instr) -> Effect
         Instr::Module(_, _) => Effect::Gives(Kind::A),
         Instr::Param(_) => Effect::Gives(Kind::A),
         Instr::Length(_) => Effect::Gives(Kind::N),
+        Instr::Deref(_) => Effect::Turns(Kind::R, Kind::A),
+        Instr::OpenRef(j) => Effect::Spreads(j),
         Instr::Offset(_, _) => Effect::Turns(Kind::A, Kind::A),
         Instr::Index(_, _) => Effect::Joins(Kind::N, Kind::A, Kind::A),
         Instr::IndexOpen(j, _) => Effect::Rows(j),
         Instr::PickLen(_, j) => Effect::Picks(j),
         Instr::Unary(_) => Effect::Turns(Kind::N, Kind::N),
         Instr::Binary(_) => Effect::Joins(Kind::N, Kind::N, Kind::N),
+        Instr::EqRef => Effect::Joins(Kind::R, Kind::R, Kind::N),
+        Instr::Is(_) => Effect::Turns(Kind::R, Kind::N),
+        Instr::IsPlace(_) => Effect::Turns(Kind::A, Kind::N),
+        Instr::Guard(_) => Effect::Turns(Kind::R, Kind::R),
+        Instr::GuardPlace(_) => Effect::Turns(Kind::A, Kind::A),
         Instr::Keep(_, kind) => Effect::Takes(kind),
         Instr::Kept(_, kind) => Effect::Gives(kind),
         Instr::Fail(_) => Effect::Pass,
@@ -85,6 +97,7 @@ pub fn effect_of(i: &Instr) -> Effect
         Instr::CmpText(_) => Effect::Texts(Some(Kind::N)),
         Instr::Call(p) => Effect::Calls(p),
         Instr::NewObject(_) => Effect::Gives(Kind::R),
+        Instr::NewArray(_, j) => Effect::Makes(j),
         Instr::Start => Effect::Takes(Kind::R),
         Instr::Return => Effect::Returns,
         Instr::OutChar => Effect::Takes(Kind::N),

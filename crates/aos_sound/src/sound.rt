@@ -27,7 +27,7 @@ fn is_sound_as(
 
 /// Whether a body is sound as that of the procedure of this number, with as many operands at most as it says. It looks at each
 /// instruction once as it stands, and once as a path comes to it, so its time grows with the length of the code, and with how
-/// many arguments and lengths are taken in it, of which it takes no more than there are.
+/// many arguments and lengths are taken in it, of which it takes no more than there are, and how many lengths objects tell.
 pub fn is_sound(alloc: Global, body: &Body, own: u32, image: &Image) -> Result<bool, NoMemory>
     requires { (0 < own) × (own ≤ length image.now.shapes.items) }
     ensures { IfOk result (λ b. IsTrue b ↔ IsSound image.now own Procedure body.now.code.items body.now.depth) }

@@ -1,6 +1,6 @@
 // What an instruction takes from a stack.
 
-ghost use Rattle.std.specs.Prelude.{◌≡◌, ◌<◌, [], ◌∷◌, length, reverse};
+ghost use Rattle.std.specs.Prelude.{◌≡◌, ◌<◌, [], ◌∷◌, length, replicate, reverse};
 ghost use Rattle.aos_code.specs.declared.instr.Kind.TheVariants.{N, A};
 ghost use Rattle.aos_code.specs.Silent.{kinds_of};
 ghost use Rattle.aos_sound.specs.Sound as sound;
@@ -75,11 +75,10 @@ pub fn take_texts(stacks: &Stacks, id: u32) -> Option<u32>
     }
 }
 
-/// What is left where so many lengths are taken, and the place of an open array below them. It looks at no more
-/// operands than there are, however many lengths are to be taken.
-pub fn take_row(stacks: &Stacks, lengths: u32, id: u32) -> Option<u32>
+/// What is left where so many lengths are taken. It looks at no more operands than there are, however many are to be taken.
+pub fn take_lengths(stacks: &Stacks, lengths: u32, id: u32) -> Option<u32>
     requires { id < length stacks.now }
-    ensures { Means stacks.now result (without (row lengths) (stack_at stacks.now id)) }
+    ensures { Means stacks.now result (without (replicate lengths N) (stack_at stacks.now id)) }
 {
     let mut todo = lengths;
     let mut left = id;
@@ -90,7 +89,18 @@ pub fn take_row(stacks: &Stacks, lengths: u32, id: u32) -> Option<u32>
         }
         todo -= 1;
     }
-    take(stacks, Kind::A, left)
+    Some(left)
+}
+
+/// What is left where so many lengths are taken, and the place of an open array below them.
+pub fn take_row(stacks: &Stacks, lengths: u32, id: u32) -> Option<u32>
+    requires { id < length stacks.now }
+    ensures { Means stacks.now result (without (row lengths) (stack_at stacks.now id)) }
+{
+    match take_lengths(stacks, lengths, id) {
+        Some(array) => take(stacks, Kind::A, array),
+        None => None,
+    }
 }
 
 /// What is left where the argument for a parameter is taken.

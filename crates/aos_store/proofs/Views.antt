@@ -1,27 +1,28 @@
 -- What changes of frames and memory show.
-use Rattle.std.proofs.Common.{◌<◌, ◌≤◌, ◌-◌, take, drop, get_or, replicate, arith, ◌≡◌, ℕ, suc, ◌+◌, List, [], ◌∷◌, ◌++◌, length, map, reverse, refl, sym, ap, ◌∙◌}
+use Rattle.std.proofs.Common.{◌<◌, ◌≤◌, ◌-◌, take, drop, get_or, replicate, arith, ◌≡◌, ℕ, zero, suc, max, ◌+◌, List, [], ◌∷◌, ◌++◌, length, map, reverse, refl, sym, ap, ◌∙◌}
 use Rattle.std.specs.Prelude.{Option, Some, None, slice_get, slice_set, Bool, true, false, if◌then◌else◌, Vec, sum_by, is_some, pos}
 use Rattle.std.specs.Option.{option_map, option_and_then}
 use Rattle.std.specs.Vec.{with_item}
 use Rattle.std.specs.declared.alloc.Global.{Global}
 use Rattle.std.proofs.lemmas.Option.{slice_get-map}
-use Rattle.std.proofs.lemmas.List.{reverse-append, length-append, length-replicate, length-take-le, length-set, take-append-le, drop-append-le, take-set-le, drop-set-add}
+use Rattle.std.proofs.lemmas.List.{reverse-append, map-append, length-append, length-replicate, length-take-le, length-set, take-append-le, drop-append-le, take-set-le, drop-set-add}
 use Rattle.std.proofs.Math.Seq.{take-append_seam, drop-append_seam}
 use Rattle.std.proofs.lemmas.List.Sums.{sum_by-cons}
 use Rattle.aos_base.specs.declared.place.Root.{Root}
 use Rattle.aos_base.specs.declared.place.Root.TheVariants.{Frame as FrameRoot, Module, Object as ObjectRoot}
-use Rattle.aos_base.specs.Rooted.{from_last, change_from_last}
+use Rattle.aos_base.specs.Rooted.{Made, from_last, change_from_last, change_by_number}
 use Rattle.aos_code.specs.declared.instr.Cell.{Cell}
 use Rattle.aos_code.specs.declared.instr.Cell.TheVariants.{Num}
 use Rattle.aos_code.specs.declared.instr.Kind.{Kind}
 use Rattle.aos_store.specs.declared.cells.Change.TheVariants.{Sets}
-use Rattle.aos_code.specs.Memory.{Memory}
+use Rattle.aos_code.specs.Memory.{Memory, counted, with_object}
 use Rattle.aos_code.specs.Machine.{Frame, Frames, memory_with, first_cell}
 use Rattle.aos_store.specs.declared.frames.Frame.{Frame as KeptFrame}
 use Rattle.aos_store.specs.declared.frames.Frames.{Frames as KeptFrames}
-use Rattle.aos_store.specs.declared.memory.Object.{Object}
+use Rattle.aos_store.specs.declared.heap.Object.{Object}
 use Rattle.aos_store.specs.declared.memory.Store.{Store}
-use Rattle.aos_store.specs.Store.{own_cells, kept_cells, with_kept, frame_in, list_in, memory_in, object_cells, made_in, with_cells, with_frames, frames_in, new_frame, fits_in}
+use Rattle.aos_store.specs.Objects.{object_cells, object_counted, made_in}
+use Rattle.aos_store.specs.Store.{own_cells, kept_cells, with_kept, frame_in, list_in, memory_in, with_cells, with_frames, frames_in, new_frame, fits_in}
 use Rattle.aos_store.proofs.Lists.{changed_at, same_at, map_reverse, sum_reverse, from_last_reverse, change_reverse, zeros, there_is, get_zeros, get_set}
 
 -- Frames.
@@ -57,16 +58,93 @@ frames_counted fs = counted_of_list (reverse fs) ∙ sum_reverse (λ (f : KeptFr
 -- a module has other cells, or the same
 pub module_changed : (s : Store) (m : ℕ) (v w : Vec Cell Global) (b : Bool) (g : List Cell → List Cell) → slice_get s.modules.items m ≡ Some v → w.items ≡ (if b then g v.items else v.items) →
     memory_in (record s { modules = with_item s.modules m w }) ≡ (if b then memory_with (Module m) g (memory_in s) else memory_in s)
-module_changed s m v w true g here e = ap (λ ms. let mem : Memory = record { modules = ms; objects = map object_cells s.objects.items; made = map made_in s.objects.items } in mem) (changed_at (λ (v : Vec Cell Global). v.items) g s.modules.items m v w here e)
-module_changed s m v w false g here e = ap (λ ms. let mem : Memory = record { modules = ms; objects = map object_cells s.objects.items; made = map made_in s.objects.items } in mem) (same_at (λ (v : Vec Cell Global). v.items) s.modules.items m v w here e)
+module_changed s m v w true g here e = ap (λ ms. let mem : Memory = record { modules = ms; objects = map object_cells s.objects; made = map made_in s.objects } in mem) (changed_at (λ (v : Vec Cell Global). v.items) g s.modules.items m v w here e)
+module_changed s m v w false g here e = ap (λ ms. let mem : Memory = record { modules = ms; objects = map object_cells s.objects; made = map made_in s.objects } in mem) (same_at (λ (v : Vec Cell Global). v.items) s.modules.items m v w here e)
 
--- an object has other cells, or the same, and is made as before
-pub object_changed : (s : Store) (k : ℕ) (x y : Object) (b : Bool) (g : List Cell → List Cell) → slice_get s.objects.items k ≡ Some x → y.cells.items ≡ (if b then g x.cells.items else x.cells.items) → made_in y ≡ made_in x →
-    memory_in (record s { objects = with_item s.objects k y }) ≡ (if b then memory_with (ObjectRoot (suc k)) g (memory_in s) else memory_in s)
-object_changed s k x y true g here e m =
-    (λ i. let mem : Memory = record { modules = map (λ (v : Vec Cell Global). v.items) s.modules.items; objects = changed_at object_cells g s.objects.items k x y here e i; made = same_at made_in s.objects.items k x y here m i } in mem)
-object_changed s k x y false g here e m =
-    (λ i. let mem : Memory = record { modules = map (λ (v : Vec Cell Global). v.items) s.modules.items; objects = same_at object_cells s.objects.items k x y here e i; made = same_at made_in s.objects.items k x y here m i } in mem)
+-- an object has other cells, or the same
+pub object_changed : (os : List Object) (k : ℕ) (x y : Object) (b : Bool) (g : List Cell → List Cell) → slice_get os k ≡ Some x → y.cells.items ≡ (if b then g x.cells.items else x.cells.items) →
+    map object_cells (slice_set os k y) ≡ (if b then change_by_number (suc k) g (map object_cells os) else map object_cells os)
+object_changed os k x y true g here e = changed_at object_cells g os k x y here e
+object_changed os k x y false g here e = same_at object_cells os k x y here e
+
+-- it counts as many scalars as before
+pub object_counts : (os : List Object) (k : ℕ) (x y : Object) → slice_get os k ≡ Some x → object_counted y ≡ object_counted x → sum_by object_counted (slice_set os k y) ≡ sum_by object_counted os
+object_counts [] k x y here e = absurd (cc here)
+object_counts (z ∷ zs) zero x y here e =
+    let same : z ≡ x = cc here in
+    sum_by-cons object_counted y zs ∙ ap (λ n. n + sum_by object_counted zs) (e ∙ ap object_counted (sym same)) ∙ sym (sum_by-cons object_counted z zs)
+object_counts (z ∷ zs) (suc k) x y here e =
+    sum_by-cons object_counted z (slice_set zs k y) ∙ ap (λ n. object_counted z + n) (object_counts zs k x y here e) ∙ sym (sum_by-cons object_counted z zs)
+
+-- objects with other cells, made as before
+pub heap_changed : (s : Store) (os : List Object) (b : Bool) (n : ℕ) (g : List Cell → List Cell) → map object_cells os ≡ (if b then change_by_number n g (map object_cells s.objects) else map object_cells s.objects) → map made_in os ≡ map made_in s.objects →
+    memory_in (record s { objects = os }) ≡ (if b then memory_with (ObjectRoot n) g (memory_in s) else memory_in s)
+heap_changed s os true n g e m = (λ i. let mem : Memory = record { modules = map (λ (v : Vec Cell Global). v.items) s.modules.items; objects = e i; made = m i } in mem)
+heap_changed s os false n g e m = (λ i. let mem : Memory = record { modules = map (λ (v : Vec Cell Global). v.items) s.modules.items; objects = e i; made = m i } in mem)
+
+-- how many scalars objects count as
+pub heap_counted : (os : List Object) → sum_by counted (map object_cells os) ≡ sum_by object_counted os
+heap_counted [] = refl
+heap_counted (o ∷ os) =
+    sum_by-cons counted (object_cells o) (map object_cells os) ∙ ap (λ n. object_counted o + n) (heap_counted os) ∙ sym (sum_by-cons object_counted o os)
+
+-- each counts as one at least
+pub heap_long : (os : List Object) → length os ≤ sum_by object_counted os
+heap_long [] = omega arith
+heap_long (o ∷ os) =
+    let a = sum_by-cons object_counted o os in
+    let b = heap_long os in
+    let c = one_at_least (length (object_cells o)) in
+    omega (arith, a, b, c)
+  where
+    one_at_least : (n : ℕ) → 1 ≤ max 1 n
+    one_at_least n = omega arith
+
+-- with one object more
+pub heap_more : (s : Store) (os : List Object) (o : Object) → os ≡ s.objects ++ o ∷ [] → memory_in (record s { objects = os }) ≡ with_object (made_in o) (object_cells o) (memory_in s)
+heap_more s os o e =
+    let a = ap (map object_cells) e ∙ map-append object_cells s.objects (o ∷ []) in
+    let b = ap (map made_in) e ∙ map-append made_in s.objects (o ∷ []) in
+    (λ i. let mem : Memory = record { modules = map (λ (v : Vec Cell Global). v.items) s.modules.items; objects = a i; made = b i } in mem)
+
+-- what shows as a list with one more at its end is one
+last_of : {A B : Type 0} (h : A → B) (xs : List A) (ys : List B) (y : B) → map h xs ≡ ys ++ y ∷ [] → (zs : List A) × (z : A) × (xs ≡ zs ++ z ∷ [])
+last_of h [] [] y e = absurd (cc e)
+last_of h [] (v ∷ ys) y e = absurd (cc e)
+last_of h (x ∷ []) ys y e = ([], x, refl)
+last_of h (x ∷ w ∷ xs) [] y e = absurd (cc e)
+last_of h (x ∷ w ∷ xs) (v ∷ ys) y e =
+    let f : map h (w ∷ xs) ≡ ys ++ y ∷ [] = cc in
+    let l = last_of h (w ∷ xs) ys y f in
+    (x ∷ l.0, l.1, ap (λ us. x ∷ us) l.2)
+
+same_before : {A : Type 0} (xs ys : List A) (x y : A) → xs ++ x ∷ [] ≡ ys ++ y ∷ [] → xs ≡ ys
+same_before [] [] x y e = refl
+same_before [] (v ∷ []) x y e = absurd (cc e)
+same_before [] (v ∷ w ∷ ys) x y e = absurd (cc e)
+same_before (u ∷ []) [] x y e = absurd (cc e)
+same_before (u ∷ w ∷ xs) [] x y e = absurd (cc e)
+same_before (u ∷ xs) (v ∷ ys) x y e =
+    let f : xs ++ x ∷ [] ≡ ys ++ y ∷ [] = cc in
+    let g : u ≡ v = cc in
+    (λ i. g i ∷ same_before xs ys x y f i)
+
+-- without the last one
+pub heap_before : (s : Store) (os : List Object) (made : Made) (cells : List Cell) (before : Memory) →
+    ((xs : List Object) (x : Object) → s.objects ≡ xs ++ x ∷ [] → os ≡ xs) → memory_in s ≡ with_object made cells before → memory_in (record s { objects = os }) ≡ before
+heap_before s os made cells before h e =
+    let eo : map object_cells s.objects ≡ before.objects ++ cells ∷ [] = ap (λ m. m.objects) e in
+    let em : map made_in s.objects ≡ before.made ++ made ∷ [] = ap (λ m. m.made) e in
+    let l = last_of object_cells s.objects before.objects cells eo in
+    let is = h l.0 l.1 l.2 in
+    let a : map object_cells l.0 ≡ before.objects =
+    same_before (map object_cells l.0) before.objects (object_cells l.1) cells (sym (ap (map object_cells) l.2 ∙ map-append object_cells l.0 (l.1 ∷ [])) ∙ eo) in
+    let b : map made_in l.0 ≡ before.made =
+    same_before (map made_in l.0) before.made (made_in l.1) made (sym (ap (map made_in) l.2 ∙ map-append made_in l.0 (l.1 ∷ [])) ∙ em) in
+    let c = ap (map object_cells) is ∙ a in
+    let d = ap (map made_in) is ∙ b in
+    let m : map (λ (v : Vec Cell Global). v.items) s.modules.items ≡ before.modules = ap (λ m. m.modules) e in
+    (λ i. let mem : Memory = record { modules = m i; objects = c i; made = d i } in mem)
 
 -- Both.
 

@@ -1,7 +1,7 @@
 -- Frames and memory as code keeps them, and what of the definitions they show.
 use Rattle.std.specs.Prelude.{◌≡◌, replicate, ℕ, ◌+◌, ◌-◌, pos, List, [], ◌∷◌, ◌++◌, length, map, reverse, take, drop, get_or, Bool, true, false, ◌&&◌, nat_lt, nat_le, if◌then◌else◌, Option, Some, None, sum_by}
 use Rattle.aos_base.specs.declared.place.Root.{Root}
-use Rattle.aos_base.specs.Rooted.{Made, Rooted, spliced}
+use Rattle.aos_base.specs.Rooted.{Rooted, spliced}
 use Rattle.aos_code.specs.declared.instr.Cell.{Cell}
 use Rattle.aos_code.specs.declared.instr.Cell.TheVariants.{Num}
 use Rattle.aos_code.specs.declared.instr.Kind.{Kind}
@@ -10,10 +10,8 @@ use Rattle.aos_code.specs.Silent.{Keeps, kept}
 use Rattle.aos_code.specs.Machine.{Frame, Frames, rooted, frames_with, first_cell}
 use Rattle.aos_store.specs.declared.frames.Frame.{Frame as KeptFrame}
 use Rattle.aos_store.specs.declared.frames.Frames.{Frames as KeptFrames}
-use Rattle.aos_store.specs.declared.memory.Object.{Object}
+use Rattle.aos_store.specs.Objects.{object_cells, made_in}
 use Rattle.aos_store.specs.declared.memory.Store.{Store}
-use Rattle.aos_store.specs.declared.memory.StoreErr.{StoreErr}
-use Rattle.aos_store.specs.declared.memory.StoreErr.TheVariants.{Full, NoMemory}
 use Rattle.aos_store.specs.declared.frames.FrameErr.{FrameErr}
 use Rattle.aos_store.specs.declared.frames.FrameErr.TheVariants.{Deep, NoMemory as NoFrameMemory}
 use Rattle.aos_store.specs.declared.cells.Change.{Change}
@@ -52,18 +50,12 @@ list_in fs = map frame_in (reverse fs)
 abbrev pub frames_in : KeptFrames → Frames
 frames_in fs = record { following = reverse fs.following.items; frames = list_in fs.list.items }
 
-abbrev pub made_in : Object → Made
-made_in o = record { type = o.made_of; lengths = o.lengths.items }
-
-abbrev pub object_cells : Object → List Cell
-object_cells o = o.cells.items
-
 abbrev pub memory_in : Store → Memory
 memory_in s =
     record {
       modules = map (λ v. v.items) s.modules.items;
-      objects = map object_cells s.objects.items;
-      made = map made_in s.objects.items;
+      objects = map object_cells s.objects;
+      made = map made_in s.objects;
     }
 
 -- all cells that places name
@@ -99,12 +91,7 @@ with_kept c v f = record f { keeps = kept c v f.keeps }
 abbrev pub with_frames : Root → (List Cell → List Cell) → KeptFrames → Frames
 with_frames r g fs = record { following = reverse fs.following.items; frames = frames_with r g (list_in fs.list.items) }
 
--- Objects and frames that are made.
-
--- whether the heap has room for an object that isn't made
-abbrev pub IsRefusal : StoreErr → (room : Bool) → Type 0
-IsRefusal Full room = room ≡ false
-IsRefusal NoMemory room = room ≡ true
+-- Frames that are made.
 
 -- an activity has 512 frames and 65,536 scalars in them at most, with a frame more that has so many
 abbrev pub deep : ℕ → List Frame → Bool

@@ -3,10 +3,12 @@
 
 pub mod cells;
 pub mod frames;
+pub mod heap;
 pub mod memory;
 pub mod places;
 
 pub use cells::Change;
 pub use frames::{Frame, FrameErr, Frames, MAX_COUNTED, MAX_FRAMES};
-pub use memory::{MAX_SCALARS, Object, Store, StoreErr};
+pub use heap::{Heap, MAX_SCALARS, Object};
+pub use memory::Store;
 pub use places::{change_at, copy_at, has_cells_at, len_at, load_at, store_at};

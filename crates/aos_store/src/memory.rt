@@ -1,39 +1,23 @@
 // The cells of modules and objects.
-ghost use Rattle.std.specs.Prelude.{◌≡◌, ◌<◌, ℕ, length, true, map, take, slice_get, vec_len, vec_capacity, IfOk, IfErr, OnErr, if◌then◌else◌};
-ghost use Rattle.std.specs.Option.{option_and_then, option_map, option_copied};
-ghost use Rattle.aos_base.specs.Rooted.{by_number};
-ghost use Rattle.aos_code.specs.Memory.{has_room, with_object, new_number, type_of_object};
+ghost use Rattle.std.specs.Prelude.{◌≡◌, ◌≤◌, ◌+◌, ℕ, max, List, length, sum_by, nat_le, slice_get, IfOk, OnErr, if◌then◌else◌};
+ghost use Rattle.std.specs.Option.{option_and_then, option_map};
+ghost use Rattle.aos_base.specs.Rooted.{Made, by_number};
+ghost use Rattle.aos_code.specs.declared.instr.Cell.{Cell as CellOf};
+ghost use Rattle.aos_code.specs.Memory.{Memory, counted, with_object, new_number, type_of_object};
 ghost use Rattle.aos_code.specs.Machine.{memory_with, first_memory};
-ghost use Rattle.aos_store.specs.Store.{memory_in, fits_in, changed, IsRefusal};
+ghost use Rattle.aos_store.specs.Store.{memory_in, fits_in, changed};
 
 use crate::cells::{Change, make_change};
+use crate::heap::{Heap, Object};
 use aos_base::{NoMemory, Root};
 use aos_code::{Cell, Image};
 use std::alloc::Global;
-
-/// The most scalars in the heap. An object without fields counts as one.
-pub const MAX_SCALARS: usize = 16_777_216;
-
-/// An object: the number of the type that it was made of, from 1; the lengths, where it's an open array; and its cells.
-#[derive(Drop)]
-pub struct Object {
-    pub made_of: u32,
-    pub lengths: Vec<u32>,
-    pub cells: Vec<Cell>,
-}
 
 /// What all activities share: the cells of each module, in load order, and the objects, in the order of making.
 #[derive(Drop)]
 pub struct Store {
     pub modules: Vec<Vec<Cell>>,
-    pub objects: Vec<Object>,
-}
-
-/// Why an object isn't made: the heap is full, or memory was wanted and not had.
-#[derive(Clone, Copy, PartialEq, Eq, Debug)]
-pub enum StoreErr {
-    Full,
-    NoMemory,
+    pub objects: Heap,
 }
 
 impl Store {
@@ -49,7 +33,7 @@ impl Store {
         }
         Ok(Store {
             modules,
-            objects: Vec::new(alloc),
+            objects: Heap::new(alloc),
         })
     }
 
@@ -77,24 +61,17 @@ impl Store {
     pub fn cells_of_object(&self, number: u32) -> Option<usize>
         ensures { result ≡ option_map length (by_number number (memory_in self.now).objects) }
     {
-        match self.object(number) {
+        match self.objects.get(number) {
             None => None,
             Some(object) => Some(object.cells.len()),
         }
-    }
-
-    /// The object of this number, from 1.
-    fn object(&self, number: u32) -> Option<&Object>
-        ensures { option_copied result ≡ by_number number self.now.objects.items }
-    {
-        self.objects.get(number.checked_sub(1)? as usize)
     }
 
     /// What a cell of an object holds, where there is such a cell.
     pub fn load_object(&self, number: u32, cell: usize) -> Option<Cell>
         ensures { result ≡ option_and_then (λ cells. slice_get cells cell) (by_number number (memory_in self.now).objects) }
     {
-        match self.object(number) {
+        match self.objects.get(number) {
             None => None,
             Some(object) => object.cells.get(cell).copied(),
         }
@@ -104,7 +81,7 @@ impl Store {
     pub fn type_of(&self, number: u32) -> Option<u32>
         ensures { result ≡ type_of_object number (memory_in self.now) }
     {
-        match self.object(number) {
+        match self.objects.get(number) {
             None => None,
             Some(object) => Some(object.made_of),
         }
@@ -126,68 +103,39 @@ impl Store {
         ensures there { result ≡ fits_in what (by_number number (memory_in self.old).objects) }
         ensures after { memory_in self.new ≡ (if result then memory_with (Root.Object number) (changed what) (memory_in self.old) else memory_in self.old) }
     {
-        if number == 0 {
-            return false;
-        }
-        match self.objects.get_mut(number as usize - 1) {
-            None => false,
-            Some(object) => make_change(&mut object.cells, what),
-        }
+        self.objects.change(number, what)
     }
 
-    /// Whether the heap has room for an object more.
-    pub fn has_room(&self) -> bool
-        ensures { result ≡ has_room (memory_in self.now) }
+    /// Whether the heap has room for an object more, which has so many cells.
+    pub fn has_room(&self, cells: u64) -> bool
+        ensures { result ≡ nat_le (max 1 cells + sum_by counted (memory_in self.now).objects) 16777216 }
     {
-        self.objects.len() < MAX_SCALARS
+        self.objects.has_room(cells)
     }
 
-    /// The number of the object that is made next.
-    pub fn next_number(&self) -> u32
-        requires { has_room (memory_in self.now) ≡ true }
-        ensures { result ≡ new_number (memory_in self.now) }
+    /// Makes an object, for which the heap has room, and gives its number.
+    pub fn new_object(
+        &mut self,
+        made_of: u32,
+        lengths: Vec<u32>,
+        cells: Vec<Cell>,
+    ) -> Result<u32, NoMemory>
+        requires { counted cells.items + sum_by counted (memory_in self.old).objects ≤ 16777216 }
+        ensures ok { IfOk result (λ o. (o ≡ new_number (memory_in self.old)) ×
+            (memory_in self.new ≡ with_object (record { type = made_of; lengths = lengths.items }) cells.items (memory_in self.old))) }
+        ensures err { OnErr result (memory_in self.new ≡ memory_in self.old) }
     {
-        self.objects.len() as u32 + 1
-    }
-
-    /// Takes the memory for an object more.
-    pub fn reserve_object(&mut self) -> Result<(), NoMemory>
-        ensures same { memory_in self.new ≡ memory_in self.old }
-        ensures room { IfOk result (λ _. vec_len self.new.objects < vec_capacity self.new.objects) }
-    {
-        self.objects.reserve(1)?;
-        Ok(())
-    }
-
-    /// Makes an object of a type, which has no cells, in memory that was taken.
-    pub fn make_object(&mut self, alloc: Global, made_of: u32)
-        requires { vec_len self.old.objects < vec_capacity self.old.objects }
-        ensures { memory_in self.new ≡ with_object made_of (memory_in self.old) }
-    {
-        self.objects.push_reserved(Object {
+        self.objects.add(Object {
             made_of,
-            lengths: Vec::new(alloc),
-            cells: Vec::new(alloc),
-        });
+            lengths,
+            cells,
+        })
     }
 
-    /// Makes an object of a type, which has no cells, and gives its number.
-    pub fn new_object(&mut self, alloc: Global, made_of: u32) -> Result<u32, StoreErr>
-        ensures ok { IfOk result (λ o. (has_room (memory_in self.old) ≡ true) × (o ≡ new_number (memory_in self.old)) × (memory_in self.new ≡ with_object made_of (memory_in self.old))) }
-        ensures err { IfErr result (λ e. IsRefusal e (has_room (memory_in self.old))) }
-        ensures same { OnErr result (memory_in self.new ≡ memory_in self.old) }
+    /// Takes back the object that was made last.
+    pub fn take_back(&mut self)
+        ensures { (made : Made) (cells : List CellOf) (before : Memory) → memory_in self.old ≡ with_object made cells before → memory_in self.new ≡ before }
     {
-        if self.objects.len() >= MAX_SCALARS {
-            return Err(StoreErr::Full);
-        }
-        if self.objects.reserve(1).is_err() {
-            return Err(StoreErr::NoMemory);
-        }
-        self.objects.push_reserved(Object {
-            made_of,
-            lengths: Vec::new(alloc),
-            cells: Vec::new(alloc),
-        });
-        Ok(self.objects.len() as u32)
+        self.objects.forget_last();
     }
 }

@@ -1,7 +1,7 @@
 use Rattle.std.proofs.Common.{◌<◌, ◌^◌, ◌+◌, arith, subst}
 use Rattle.std.specs.Prelude.{Bool}
 use Rattle.aos_cpu.specs.Private.{HasTried}
-use Rattle.aos_cpu.proofs.Own.{none_made, made_more}
+use Rattle.aos_cpu.proofs.Own.{none_made, made_more, made_still}
 use Rattle.aos_cpu.proofs.InPlace.{told_both}
 use Rattle.aos_cpu.proofs.alone.private.Goals as goal
 
@@ -25,3 +25,12 @@ loop-made-preserved c =
     let all : c.loop-made.made + 1 + c.make_in_place.result < 2 ^ 64 = omega arith in
     let both = told_both c.args.image.now c.args.budget (c.loop-made.made + 1) c.make_in_place.result old c.make_private.new.frames c.make_in_place.new.frames lt all one.0 one.1 c.make_in_place.ensures.made in
     record { turns = both.0; told = omega (arith, both.1); most = omega arith; memory = c.make_in_place.ensures.none }
+
+pub returns-in_err-make_private-clause-made : goal.returns-in_err-make_private-clause-made
+returns-in_err-make_private-clause-made c =
+    (made_still c.args.image.now c.args.budget c.args.frames.now c.loop-made.frames c.make_private.new.frames c.loop-made.invariant.turns c.in_err-make_private.ensures.err c.in_err-make_private.ensures.counts).0
+
+pub returns-then-not-branch-clause-made : goal.returns-then-not-branch-clause-made
+returns-then-not-branch-clause-made c =
+    let holds = subst (λ (is : Bool). HasTried c.args.image.now is c.loop-made.frames c.make_private.new.frames) c.if-not-branch.true c.in_ok-make_private.ensures.ok in
+    (made_still c.args.image.now c.args.budget c.args.frames.now c.loop-made.frames c.make_private.new.frames c.loop-made.invariant.turns holds.alike holds.counts).0

@@ -1,7 +1,7 @@
 use Rattle.std.proofs.Common.{rules, ◌≡◌, ap, sym, subst, w64, ℤ}
 use Rattle.std.specs.Prelude.{IfOk}
 use mir.Val.{to_z, of_z}
-use Rattle.aos_base.specs.Question.{Reads, Stores, Copies, Ends, Makes, Starts, PutsInt, PutsChar, PutsNothing, PutsLn, PutsString, PutsText, ComparesTexts}
+use Rattle.aos_base.specs.Question.{Reads, Stores, Copies, Ends, Starts, PutsInt, PutsChar, PutsNothing, PutsLn, PutsString, PutsText, ComparesTexts}
 use Rattle.aos_code.specs.declared.instr.Cell.TheVariants.{Num, Ref}
 use Rattle.aos_store.specs.Store.{memory_in}
 use Rattle.aos_silent.specs.Acts.{addr_in, question_in, operands_of, results}
@@ -36,9 +36,8 @@ returns-in-Ends-clause-ok c =
 
 pub returns-in-Makes-clause-ok : goal.returns-in-Makes-clause-ok
 returns-in-Makes-clause-ok c =
-    has_ok c.args.image.now c.args.question (Makes c.in-Makes.of_type) c.args.at 0 (λ s. ap (λ x. question_in x s) c.in-Makes.is) (ap operands_of c.in-Makes.is)
-    c.args.frames.now c.make.new.frames (memory_in c.args.store.now) (memory_in c.make.new.store) c.args.output.now.items c.args.output.now.items c.make.result
-    (c.make.ensures.ok c.args.output.now.items)
+    let out = c.args.output.now.items in
+    subst (λ q. IfOk c.make.result (λ did. HasAnswered c.args.image.now q c.args.at c.args.frames.now c.make.new.frames (memory_in c.args.store.now) (memory_in c.make.new.store) did out out)) (sym c.in-Makes.is) (c.make.ensures.ok out)
 
 pub returns-in-Starts-clause-ok : goal.returns-in-Starts-clause-ok
 returns-in-Starts-clause-ok c =

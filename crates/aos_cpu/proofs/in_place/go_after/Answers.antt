@@ -16,7 +16,7 @@ returns-in-Begins-clause-done c image here mem f code_is at_is step same =
     begun_top image here mem f (frame_in c.args.frame.now) c.args.code.now c.args.at c.args.did code_is at_is c.requires.within step c.in-Begins.to c.in-Begins.pos c.in-Begins.is
 
 pub returns-in-Sees-clause-done : goal.returns-in-Sees-clause-done
-returns-in-Sees-clause-done c image here mem f code_is at_is step same = (ap (seen_at image here) (subst (λ (d : Act). WhereStays d (frame_in c.args.frame.now ≡ f)) c.in-Sees.is same), refl)
+returns-in-Sees-clause-done c image here mem f code_is at_is step same = record { seen = λ all knows. ap (seen_at image all here) (subst (λ (d : Act). WhereStays d (frame_in c.args.frame.now ≡ f)) c.in-Sees.is same); memory = refl }
 
 pub returns-in-Fails-clause-done : goal.returns-in-Fails-clause-done
-returns-in-Fails-clause-done c image here mem f code_is at_is step same = (ap (seen_at image here) (subst (λ (d : Act). WhereStays d (frame_in c.args.frame.now ≡ f)) c.in-Fails.is same), refl)
+returns-in-Fails-clause-done c image here mem f code_is at_is step same = record { seen = λ all knows. ap (seen_at image all here) (subst (λ (d : Act). WhereStays d (frame_in c.args.frame.now ≡ f)) c.in-Fails.is same); memory = refl }

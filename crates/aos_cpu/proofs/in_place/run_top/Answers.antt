@@ -1,16 +1,21 @@
-use Rattle.std.proofs.Common.{◌≡◌, ◌∙◌, subst, arith}
+use Rattle.std.proofs.Common.{◌≡◌, sym, ◌∙◌, subst, arith}
 use Rattle.aos_store.specs.Store.{frame_in, memory_in}
+use Rattle.aos_code.specs.Memory.{Memory}
+use Rattle.aos_code.specs.Machine.{made_in}
+use Rattle.aos_silent.specs.Known.{Knows}
 use Rattle.aos_cpu.specs.InPlace.{HasRunTop}
+use Rattle.aos_cpu.proofs.Own.{nothing_made}
 use Rattle.aos_cpu.proofs.InPlace.{run_still, run_more, still_none}
 use Rattle.aos_cpu.proofs.in_place.run_top.Goals as goal
 
 pub returns-in_default-clause-made : goal.returns-in_default-clause-made
 returns-in_default-clause-made c =
     run_still c.args.image.now c.args.here c.args.budget c.loop-made.made c.args.begun c.loop-made.now (frame_in c.args.frame.now) (frame_in c.loop-made.frame) (frame_in c.turn_top.new.frame)
-    c.loop-made.invariant.run c.in_default.ensures.0
+    c.loop-made.invariant.run
+    (λ all. c.in_default.ensures.seen all (subst (λ (m : Memory). Knows all (made_in c.args.image.now m)) (sym c.loop-made.invariant.none) (nothing_made all)))
 
 pub returns-in_default-clause-none : goal.returns-in_default-clause-none
-returns-in_default-clause-none c = c.in_default.ensures.1 ∙ c.loop-made.invariant.none
+returns-in_default-clause-none c = c.in_default.ensures.memory ∙ c.loop-made.invariant.none
 
 pub loop-made-preserved : goal.loop-made-preserved
 loop-made-preserved c =

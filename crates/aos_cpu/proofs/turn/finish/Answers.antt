@@ -1,20 +1,22 @@
 use Rattle.std.proofs.Common.{subst}
 use Rattle.aos_store.specs.Store.{list_in, memory_in}
+use Rattle.aos_base.specs.declared.kernel.Did.TheVariants.{Went, Trapped}
 use Rattle.aos_silent.specs.declared.silent.Stop.{Stop}
+use Rattle.aos_silent.specs.Known.{known}
 use Rattle.aos_cpu.specs.Turns.{StandsAtStop, HasAnswered, WhereLeft, Same, IsTurned}
 use Rattle.aos_silent.proofs.Oks.{ok_more, ok_both}
-use Rattle.aos_cpu.proofs.Turns.{shown_alike, worked, stands_at, stands_before}
+use Rattle.aos_cpu.proofs.Turns.{begun_shown, failed_shown, shown_alike, worked, stands_at, stands_before}
 use Rattle.aos_cpu.proofs.turn.finish.Goals as goal
 
 pub answer-requires-clause-stands : goal.answer-requires-clause-stands
 answer-requires-clause-stands c =
-    stands_at c.args.image.now c.in-Work.question c.in-Work.at c.args.frames.now
-    (subst (λ (s : Stop). StandsAtStop c.args.image.now s (list_in c.args.frames.now.list.items)) c.in-Work.is c.requires)
+    stands_at c.args.image.now (known c.args.store.now.objects) c.in-Work.question c.in-Work.at c.args.frames.now
+    (subst (λ (s : Stop). StandsAtStop c.args.image.now (known c.args.store.now.objects) s (list_in c.args.frames.now.list.items)) c.in-Work.is c.requires)
 
 pub returns-in-Work-clause-ok : goal.returns-in-Work-clause-ok
 returns-in-Work-clause-ok c =
     let old = c.args.frames.now in
-    let stands = subst (λ (s : Stop). StandsAtStop c.args.image.now s (list_in old.list.items)) c.in-Work.is c.requires in
+    let stands = subst (λ (s : Stop). StandsAtStop c.args.image.now (known c.args.store.now.objects) s (list_in old.list.items)) c.in-Work.is c.requires in
     let before = memory_in c.args.store.now in
     let after = memory_in c.answer.new.store in
     ok_more c.answer.result
@@ -27,7 +29,7 @@ returns-in-Work-clause-ok c =
 pub returns-in-Work-clause-before : goal.returns-in-Work-clause-before
 returns-in-Work-clause-before c =
     let old = c.args.frames.now in
-    let stands = subst (λ (s : Stop). StandsAtStop c.args.image.now s (list_in old.list.items)) c.in-Work.is c.requires in
+    let stands = subst (λ (s : Stop). StandsAtStop c.args.image.now (known c.args.store.now.objects) s (list_in old.list.items)) c.in-Work.is c.requires in
     let before = memory_in c.args.store.now in
     let after = memory_in c.answer.new.store in
     ok_both c.answer.result
@@ -36,3 +38,22 @@ returns-in-Work-clause-before c =
     _
     (λ did answered left. stands_before c.args.image.now c.in-Work.question c.in-Work.at old c.answer.new.frames before after did c.args.output.now.items c.answer.new.output.items stands answered left)
     c.answer.ensures.ok c.answer.ensures.left
+
+pub returns-in-Begins-clause-ok : goal.returns-in-Begins-clause-ok
+returns-in-Begins-clause-ok c fs h =
+    let image = c.args.image.now in
+    let old = c.args.frames.now in
+    let new = c.begin_statement.new.frames in
+    let mem = memory_in c.args.store.now in
+    let out = c.args.output.now.items in
+    let stands = subst (λ (s : Stop). StandsAtStop image (known c.args.store.now.objects) s (list_in old.list.items)) c.in-Begins.is c.requires in
+    shown_alike image old new mem mem fs Went out out h (begun_shown image c.in-Begins.at c.in-Begins.pos old new mem out stands c.begin_statement.ensures.frames c.begin_statement.ensures.following c.begin_statement.ensures.begun)
+
+pub returns-in-Fails-clause-ok : goal.returns-in-Fails-clause-ok
+returns-in-Fails-clause-ok c fs h =
+    let image = c.args.image.now in
+    let old = c.args.frames.now in
+    let mem = memory_in c.args.store.now in
+    let out = c.args.output.now.items in
+    let stands = subst (λ (s : Stop). StandsAtStop image (known c.args.store.now.objects) s (list_in old.list.items)) c.in-Fails.is c.requires in
+    shown_alike image old old mem mem fs (Trapped c.in-Fails.number c.in-Fails.code) out out h (failed_shown image c.in-Fails.number c.in-Fails.code old mem out stands)

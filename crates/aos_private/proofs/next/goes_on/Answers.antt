@@ -6,5 +6,5 @@ use Rattle.aos_private.proofs.next.goes_on.Goals as goal
 
 pub returns-in-Work : goal.returns-in-Work
 returns-in-Work c =
-    subst (λ (s : Stop). TellsStop c.goes.result c.args.image.now.shapes.items s c.args.frames.now (memory_in c.args.store.now)) (sym c.in-Work.is)
+    subst (λ (s : Stop). TellsStop c.goes.result c.args.image.now.shapes.items c.args.image.now.types.items s c.args.frames.now (memory_in c.args.store.now)) (sym c.in-Work.is)
     (λ f fs is own following. c.goes.ensures f fs is own following _ _ _)

@@ -2,11 +2,14 @@ use Rattle.std.proofs.Common.{◌≡◌, ◌<◌, length, refl, sym, ap, ◌∙�
 use Rattle.std.proofs.lemmas.Option.{slice_get_within, slice_get-get_or}
 use Rattle.std.specs.Prelude.{pos, vec_len}
 use Rattle.aos_code.specs.declared.instr.Instr.TheVariants.{Begin, Num}
+use Rattle.aos_code.specs.Numbered.{numbered}
+use Rattle.aos_code.specs.Silent.{keeps_in}
 use Rattle.aos_code.specs.Machine.{code_of}
 use Rattle.aos_sound.specs.Fits.{KeepsToPaths}
 use Rattle.aos_store.specs.Store.{frame_in}
 use Rattle.aos_silent.specs.declared.act.Act.TheVariants.{Begins as BeginsAt}
 use Rattle.aos_silent.specs.Acts.{IsBeginOf, WhereStays}
+use Rattle.aos_silent.specs.Known.{known}
 use Rattle.aos_silent.specs.Silent.{Seen}
 use Rattle.aos_silent.proofs.Roomy.{never_refused, room_on, room_begin, room_stay}
 use Rattle.aos_silent.proofs.Walks.{seen_on, seen_begin}
@@ -17,14 +20,15 @@ loop-frame-preserved c =
     let image = c.args.image.now in
     let f = c.loop-frame.frame in
     let g = c.do_one.new.frame in
-    let code : c.args.code.now ≡ code_of image f.procedure = c.requires.code ∙ ap (λ (x : Seen). code_of image x.procedure) (sym c.loop-frame.invariant.seen) in
+    let code : c.args.code.now ≡ code_of image f.procedure = c.requires.code ∙ ap (λ (x : Seen). code_of image x.procedure) (sym (c.loop-frame.invariant.seen (known c.args.heap.now) (λ o m e. e))) in
     record {
-      seen = seen_on image c.args.here (frame_in f) (frame_in g) c.deref.result.now c.args.code.now c.in_ok-over.field-0 c.deref.ensures.value code (omega arith) c.in_ok-over.ensures.ok c.in-Goes.over c.saturating_add-frame.result
+      seen = λ all knows.
+          seen_on image all c.args.here (frame_in f) (frame_in g) c.args.code.now c.in_ok-over.field-0 code (omega arith) (c.in_ok-over.ensures.ok.more all knows) c.in_ok-over.ensures.ok.same c.in-Goes.over c.saturating_add-frame.result
           c.in-Goes.is c.saturating_add-frame.ensures (omega arith)
-          ∙ c.loop-frame.invariant.seen;
+          ∙ c.loop-frame.invariant.seen all knows;
       room = λ depth paths stands.
-          room_on image c.deref.result.now c.args.here depth c.args.keeps c.args.code.now f g c.in_ok-over.field-0 c.deref.ensures.value (omega arith) c.in_ok-over.ensures.ok c.do_one.ensures.room c.do_one.ensures.keeps
-          (subst (λ p. KeepsToPaths image p c.args.code.now depth) (sym (ap (λ (x : Seen). x.procedure) c.loop-frame.invariant.seen)) paths) (c.loop-frame.invariant.room depth paths stands) c.in-Goes.over c.saturating_add-frame.result c.in-Goes.is
+          room_on image (known c.args.heap.now) c.args.here depth c.args.keeps c.args.code.now f g c.in_ok-over.field-0 (omega arith) c.in_ok-over.ensures.ok c.do_one.ensures.room c.do_one.ensures.keeps
+          (subst (λ p. KeepsToPaths image p c.args.code.now depth) (sym (ap (λ (x : Seen). x.procedure) (c.loop-frame.invariant.seen (known c.args.heap.now) (λ o m e. e)))) paths) (c.loop-frame.invariant.room depth paths stands) c.in-Goes.over c.saturating_add-frame.result c.in-Goes.is
           c.saturating_add-frame.ensures (omega arith);
     }
 
@@ -36,38 +40,38 @@ returns-in-Begins-clause-place c =
     omega arith
 
 pub returns-in-Begins-clause-alike : goal.returns-in-Begins-clause-alike
-returns-in-Begins-clause-alike c =
+returns-in-Begins-clause-alike c all knows =
     let image = c.args.image.now in
     let f = frame_in c.loop-frame.frame in
-    let code : c.args.code.now ≡ code_of image f.procedure = c.requires.code ∙ ap (λ (x : Seen). code_of image x.procedure) (sym c.loop-frame.invariant.seen) in
-    seen_begin image c.args.here f (frame_in c.do_one.new.frame) c.deref.result.now c.args.code.now c.in_ok-over.field-0 c.deref.ensures.value code (omega arith) c.in_ok-over.ensures.ok c.in-Begins.to c.in-Begins.pos
+    let code : c.args.code.now ≡ code_of image f.procedure = c.requires.code ∙ ap (λ (x : Seen). code_of image x.procedure) (sym (c.loop-frame.invariant.seen (known c.args.heap.now) (λ o m e. e))) in
+    seen_begin image all c.args.here f (frame_in c.do_one.new.frame) c.args.code.now c.in_ok-over.field-0 code (omega arith) (c.in_ok-over.ensures.ok.more all knows) c.in_ok-over.ensures.ok.same c.in-Begins.to c.in-Begins.pos
     c.in-Begins.is c.in_ok-over.ensures.begins
-    ∙ c.loop-frame.invariant.seen
+    ∙ c.loop-frame.invariant.seen all knows
 
 pub returns-in-Begins-clause-room : goal.returns-in-Begins-clause-room
 returns-in-Begins-clause-room c depth paths stands = (
   refl,
-  room_begin c.args.image.now c.deref.result.now c.args.here depth c.args.keeps c.args.code.now c.loop-frame.frame c.do_one.new.frame c.in_ok-over.field-0 c.deref.ensures.value (omega arith) c.in_ok-over.ensures.ok
+  room_begin c.args.image.now (known c.args.heap.now) c.args.here depth c.args.keeps c.args.code.now c.loop-frame.frame c.do_one.new.frame c.in_ok-over.field-0 (omega arith) c.in_ok-over.ensures.ok
       c.do_one.ensures.room c.do_one.ensures.keeps
-      (subst (λ p. KeepsToPaths c.args.image.now p c.args.code.now depth) (sym (ap (λ (x : Seen). x.procedure) c.loop-frame.invariant.seen)) paths) (c.loop-frame.invariant.room depth paths stands) c.in-Begins.to
+      (subst (λ p. KeepsToPaths c.args.image.now p c.args.code.now depth) (sym (ap (λ (x : Seen). x.procedure) (c.loop-frame.invariant.seen (known c.args.heap.now) (λ o m e. e)))) paths) (c.loop-frame.invariant.room depth paths stands) c.in-Begins.to
       c.in-Begins.pos c.in-Begins.is,
 )
 
 pub returns-in-Sees-clause-room : goal.returns-in-Sees-clause-room
 returns-in-Sees-clause-room c depth paths stands = (
   refl,
-  room_stay c.args.image.now c.deref.result.now c.args.here depth c.args.keeps c.args.code.now c.loop-frame.frame c.do_one.new.frame c.in_ok-over.field-0 c.deref.ensures.value (omega arith) c.in_ok-over.ensures.ok
+  room_stay c.args.image.now (known c.args.heap.now) c.args.here depth c.args.keeps c.args.code.now c.loop-frame.frame c.do_one.new.frame c.in_ok-over.field-0 (omega arith) c.in_ok-over.ensures.ok
       c.do_one.ensures.room c.do_one.ensures.keeps
-      (subst (λ p. KeepsToPaths c.args.image.now p c.args.code.now depth) (sym (ap (λ (x : Seen). x.procedure) c.loop-frame.invariant.seen)) paths) (c.loop-frame.invariant.room depth paths stands)
+      (subst (λ p. KeepsToPaths c.args.image.now p c.args.code.now depth) (sym (ap (λ (x : Seen). x.procedure) (c.loop-frame.invariant.seen (known c.args.heap.now) (λ o m e. e)))) paths) (c.loop-frame.invariant.room depth paths stands)
       (subst (λ d. WhereStays d (frame_in c.do_one.new.frame ≡ frame_in c.loop-frame.frame)) c.in-Sees.is c.in_ok-over.ensures.stays),
 )
 
 pub returns-in-Fails-clause-room : goal.returns-in-Fails-clause-room
 returns-in-Fails-clause-room c depth paths stands = (
   refl,
-  room_stay c.args.image.now c.deref.result.now c.args.here depth c.args.keeps c.args.code.now c.loop-frame.frame c.do_one.new.frame c.in_ok-over.field-0 c.deref.ensures.value (omega arith) c.in_ok-over.ensures.ok
+  room_stay c.args.image.now (known c.args.heap.now) c.args.here depth c.args.keeps c.args.code.now c.loop-frame.frame c.do_one.new.frame c.in_ok-over.field-0 (omega arith) c.in_ok-over.ensures.ok
       c.do_one.ensures.room c.do_one.ensures.keeps
-      (subst (λ p. KeepsToPaths c.args.image.now p c.args.code.now depth) (sym (ap (λ (x : Seen). x.procedure) c.loop-frame.invariant.seen)) paths) (c.loop-frame.invariant.room depth paths stands)
+      (subst (λ p. KeepsToPaths c.args.image.now p c.args.code.now depth) (sym (ap (λ (x : Seen). x.procedure) (c.loop-frame.invariant.seen (known c.args.heap.now) (λ o m e. e)))) paths) (c.loop-frame.invariant.room depth paths stands)
       (subst (λ d. WhereStays d (frame_in c.do_one.new.frame ≡ frame_in c.loop-frame.frame)) c.in-Fails.is c.in_ok-over.ensures.stays),
 )
 
@@ -77,8 +81,12 @@ returns-in_err-over-clause-room c depth paths stands =
     let code = c.args.code.now in
     let f = c.loop-frame.frame in
     let len : vec_len f.operands ≡ length f.operands.items = omega arith in
-    absurd (never_refused image depth c.args.keeps code f (subst (λ p. KeepsToPaths image p code depth) (sym (ap (λ (x : Seen). x.procedure) c.loop-frame.invariant.seen)) paths) (c.loop-frame.invariant.room depth paths stands) len
+    absurd (never_refused image depth c.args.keeps code f (subst (λ p. KeepsToPaths image p code depth) (sym (ap (λ (x : Seen). x.procedure) (c.loop-frame.invariant.seen (known c.args.heap.now) (λ o m e. e)))) paths) (c.loop-frame.invariant.room depth paths stands) len
     _ (slice_get-get_or code f.next (Num (pos 0)) (omega arith)) c.in_err-over.ensures.full)
 
 pub returns-clause-room : goal.returns-clause-room
 returns-clause-room c depth paths stands = (refl, c.loop-frame.invariant.room depth paths stands)
+
+pub do_one-requires-clause-keeps : goal.do_one-requires-clause-keeps
+do_one-requires-clause-keeps c =
+    c.requires.keeps ∙ ap (λ (x : Seen). keeps_in (numbered c.args.image.now.shapes.items x.procedure)) (sym (c.loop-frame.invariant.seen (known c.args.heap.now) (λ o m e. e)))

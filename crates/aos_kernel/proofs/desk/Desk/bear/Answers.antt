@@ -36,4 +36,4 @@ returns-clause-born c earlier st h =
     let last : n ≡ length d.activities.items = omega (arith, ap length c.reserve_activity.ensures.same.activities) in
     shows_born image earlier d st (length d.activities.items) c.push_reserved.new.self c.move_in.new.line c.workers_in-self.result c.push_reserved-2.new.self frames (body_of image st.store c.args.object)
     refl c.push_reserved.ensures.items (c.move_in.ensures ∙ ap (λ m. move m (Ready 2) (line_in d.line.items)) last) (running_by c.workers_in-self.result c.move_in.new.line.items c.deref.result.now c.deref.ensures.value c.workers_in-self.ensures) (c.push_reserved-2.ensures.items ∙ ap (λ m. d.events.items ++ Start m ∷ []) last)
-    c.in_ok-frames.ensures.begun (ap (λ fs. seen_frames image (opened fs)) body) h1
+    c.in_ok-frames.ensures.begun (λ all knows. ap (λ fs. seen_frames image all (opened fs)) body) h1

@@ -1,5 +1,6 @@
-use Rattle.std.proofs.Common.{◌≡◌, subst, List}
-use Rattle.std.specs.Prelude.{slice_get, Some}
+use Rattle.std.proofs.Common.{◌≡◌, ℕ, subst, List}
+use Rattle.aos_base.specs.Rooted.{Made}
+use Rattle.std.specs.Prelude.{slice_get, Option, Some}
 use Rattle.aos_code.specs.Machine.{Frames, position}
 use Rattle.aos_store.specs.Store.{frames_in}
 use Rattle.aos_cpu.specs.Turns.{Alike, where_in}
@@ -16,5 +17,5 @@ returns-clause-ok c earlier st h there =
     let d = c.reserve_trap.new.self in
     shows_trapped image earlier d st c.args.activity (shows_same image earlier c.args.self.now d st c.reserve_trap.ensures.same h) there c.push_reserved.new.self c.push_reserved-2.new.self c.set_next.new.activities c.args.number c.args.code c.place_of-module.result
     (live_same c.args.self.now d c.args.activity c.reserve_trap.ensures.same c.requires)
-    (subst (λ (xs : List Activity). (kept : Activity) (fs : Frames) → slice_get xs c.args.activity ≡ Some kept → Alike image fs (frames_in kept.frames) → position image fs ≡ where_in c.place_of-module.result) c.deref.ensures.value c.place_of-module.ensures)
+    (subst (λ (xs : List Activity). (made : ℕ → Option Made) (kept : Activity) (fs : Frames) → slice_get xs c.args.activity ≡ Some kept → Alike image made fs (frames_in kept.frames) → position image fs ≡ where_in c.place_of-module.result) c.deref.ensures.value c.place_of-module.ensures)
     c.push_reserved.ensures.items c.push_reserved-2.ensures.items c.set_next.ensures

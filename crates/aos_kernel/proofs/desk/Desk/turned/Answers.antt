@@ -4,7 +4,7 @@ use Rattle.std.specs.Vec.{with_item}
 use Rattle.std.proofs.lemmas.Option.{slice_get_read}
 use Rattle.aos_base.specs.Book.{spent_by}
 use Rattle.aos_code.specs.Memory.{Memory}
-use Rattle.aos_code.specs.Machine.{turn}
+use Rattle.aos_code.specs.Machine.{made_in, turn}
 use Rattle.aos_store.specs.Store.{memory_in}
 use Rattle.aos_cpu.specs.Turns.{Shown}
 use Rattle.aos_kernel.specs.declared.desk.Activity.{Activity}
@@ -43,7 +43,7 @@ returns-in-Some-clause-ok c earlier st h there none =
     let new : Activity = record kept { frames = c.shared.new.frames } in
     let was = slice_get_read d.activities.items _ a kept refl c.in-Some.ensures.item.3.0 c.in-Some.ensures.item.1 in
     let runs = c.requires kept was in
-    let told = c.in_ok-left.ensures.ok (st.frames a) (subst (λ n. ShowsFrames image n (st.frames a) kept.frames) (sym runs) (h.activities a kept was).frames) in
+    let told = c.in_ok-left.ensures.ok (st.frames a) (subst (λ n. ShowsFrames image (made_in image (memory_in d.store)) n (st.frames a) kept.frames) (sym runs) (h.activities a kept was).frames) in
     let left = c.in_ok-left.left in
     let shown = subst (λ (m : Memory). Shown image (turn image m (st.frames a)) left kept.frames c.shared.new.frames (memory_in c.shared.new.store) d.output.items c.shared.new.output.items) (sym h.store) told in
     let spends : spent_by (nat_lt c.begun-before.result c.begun-begun.result) d.budget c.begun-begun.result a d.spent ≡ spent_by (nat_lt kept.frames.begun c.shared.new.frames.begun) d.budget c.shared.new.frames.begun a d.spent =
