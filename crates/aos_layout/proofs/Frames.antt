@@ -10,16 +10,17 @@ use Rattle.aos_types.specs.Contents.{contents, scalars, variable_scalars}
 use Rattle.aos_types.specs.Shape.{Shape, One, Nothing, Pair, size, row, repeated}
 use Rattle.aos_code.specs.declared.instr.Kind.{Kind}
 use Rattle.aos_code.specs.declared.instr.Kind.TheVariants.{N}
-use Rattle.aos_layout.specs.Layout.{leaves, shaped, kind_of, kinds, cells, text_cells}
+use Rattle.aos_layout.specs.Layout.{leaves, shaped, kind_of, kinds, type_kinds, cells, text_cells}
 use Rattle.aos_layout.specs.Part.{variable}
 use Rattle.aos_code.specs.declared.image.ParamKind.TheVariants.{Whole, Open}
 use Rattle.aos_typed.specs.Program.{Parameter}
 use Rattle.aos_typed.specs.Numbers.{id_of}
+use Rattle.aos_typed.specs.Open.{open_element as element}
 use Rattle.aos_layout.specs.Frame.{places_from, open_dimensions, open_element, parameter_kind}
 use Rattle.aos_layout.specs.Cells.{kinds_of}
 use Rattle.aos_layout.proofs.Outcomes.{other_kinds, kinds_counted}
 
-flatten_shaped : {S T : Type 0} (f : S → T) (s : Shape S) → leaves (shaped f s) ≡ map f (leaves s)
+pub flatten_shaped : {S T : Type 0} (f : S → T) (s : Shape S) → leaves (shaped f s) ≡ map f (leaves s)
 flatten_shaped f (One k) = refl
 flatten_shaped f Nothing = refl
 flatten_shaped f (Pair a b) =
@@ -45,6 +46,15 @@ flatten_text cs = flatten_ones (suc (length cs)) ∙ ap (λ n. replicate n N) (l
 -- a variable of another type than an object type has the type's own cells
 pub other_cells : (rows : List TypeRow) (t : TypeId) → is_object (row_of rows t) ≡ false → leaves (cells rows t) ≡ kinds rows t
 other_cells rows t e = flatten_shaped (kind_of rows) (variable rows t) ∙ other_kinds rows t e
+
+-- the kinds of an open array's type are those of an element's cells
+pub open_kinds : (rows : List TypeRow) (t : TypeId) → is_open (row_of rows t) ≡ true → type_kinds rows t ≡ leaves (cells rows (element rows t))
+open_kinds rows t e =
+    ap (λ b. if b then map (kind_of rows) (leaves (variable rows (element rows t))) else kinds rows t) e
+    ∙ sym (flatten_shaped (kind_of rows) (variable rows (element rows t)))
+
+pub other_type_kinds : (rows : List TypeRow) (t : TypeId) → is_open (row_of rows t) ≡ false → type_kinds rows t ≡ kinds rows t
+other_type_kinds rows t e = ap (λ b. if b then map (kind_of rows) (leaves (variable rows (element rows t))) else kinds rows t) e
 
 -- one more part
 kinds_of_more : (ss : List (Shape Kind)) (s : Shape Kind) → kinds_of (ss ++ s ∷ []) ≡ kinds_of ss ++ leaves s

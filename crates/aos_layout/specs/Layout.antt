@@ -1,18 +1,19 @@
 -- Where scalars lie: each has a cell, those of a type in order of declaration from 0, the base's first, and those of an array
 -- element by element.
-use Rattle.std.specs.Prelude.{ℕ, suc, List, ◌++◌, length, map, Option, Some}
+use Rattle.std.specs.Prelude.{ℕ, suc, ◌-◌, List, ◌++◌, length, map, Option, Some, None, if◌then◌else◌}
 use Rattle.aos_types.specs.declared.row.Basic.TheVariants as basic
 use Rattle.aos_types.specs.declared.row.TypeId.{TypeId}
 use Rattle.aos_types.specs.declared.row.TypeRow.{TypeRow}
 use Rattle.aos_types.specs.declared.row.TypeRow.TheVariants as row
-use Rattle.aos_types.specs.Table.{row_of}
+use Rattle.aos_types.specs.Table.{row_of, is_open}
 use Rattle.aos_types.specs.Shape.{Shape, One, repeated, row as row_of_shapes}
 pub use Rattle.aos_types.specs.Shape.{leaves, shaped}
 use Rattle.aos_types.specs.Contents.{contents, of_variable}
 use Rattle.aos_code.specs.declared.instr.Kind.{Kind}
 use Rattle.aos_code.specs.declared.instr.Kind.TheVariants.{N, R, C}
 use Rattle.aos_typed.specs.Program.{Variable, Module}
-use Rattle.aos_typed.specs.Numbers.{id_of}
+use Rattle.aos_typed.specs.Numbers.{id_of, predeclared_types}
+use Rattle.aos_typed.specs.Open.{open_element}
 
 -- the kind of a scalar's cell: a number's, a reference's, which NIL is, or a procedure value's
 abbrev pub kind_in : Option TypeRow → Kind
@@ -33,6 +34,18 @@ kinds rows t = map (kind_of rows) (leaves (contents rows t))
 -- the cells of a variable, an element or a field of a type
 abbrev pub cells : List TypeRow → TypeId → Shape Kind
 cells rows t = shaped (kind_of rows) (of_variable (contents rows) rows t)
+
+-- the kinds of the cells of a type's objects; of an open array, those of an element's
+abbrev pub type_kinds : List TypeRow → TypeId → List Kind
+type_kinds rows t =
+    if is_open (row_of rows t)
+    then map (kind_of rows) (leaves (of_variable (contents rows) rows (open_element rows t)))
+    else kinds rows t
+
+-- the number of a type's base among the types that a program names, from 1 on, and 0 for none
+abbrev pub base_number : Option TypeId → ℕ
+base_number None = 0
+base_number (Some b) = suc b.0 - predeclared_types
 
 -- the cells of variables, one behind the other
 abbrev pub variable_cells : List TypeRow → List Variable → List (Shape Kind)

@@ -19,7 +19,7 @@ use aos_types::{TypeId, TypeRow, Types};
 use std::alloc::{AllocError, Global};
 
 /// How many types are predeclared, before those that a program names.
-const PREDECLARED_TYPES: u32 = 10;
+pub(crate) const PREDECLARED_TYPES: u32 = 10;
 
 /// The number of a type in the table.
 pub(crate) fn id_of(of: TType) -> TypeId
@@ -34,6 +34,7 @@ pub(crate) fn id_of(of: TType) -> TypeId
         TType::Boolean => TypeId(4),
         TType::Char => TypeId(5),
         TType::Set => TypeId(6),
+        TType::Any => TypeId(8),
         TType::Named(number) => TypeId(number + PREDECLARED_TYPES),
     }
 }
@@ -46,7 +47,7 @@ pub(crate) fn is_open(types: &Types, t: TypeId) -> bool
 }
 
 /// Puts the kinds of a variable's cells behind others.
-fn push_variable(
+pub(crate) fn push_variable(
     alloc: Global,
     types: &Types,
     t: TypeId,

@@ -5,14 +5,17 @@ ghost use Rattle.aos_types.specs.declared.TheConstants.{MOST_SCALARS};
 ghost use Rattle.aos_types.specs.Chain.{NoneContainsItself};
 ghost use Rattle.aos_types.specs.Contents.{contents, scalars};
 ghost use Rattle.aos_types.specs.Shape as shape_of;
+ghost use Rattle.aos_types.specs.Table as table;
 ghost use Rattle.aos_layout.specs.Layout as layout;
 
-use crate::part::part_of;
+use crate::cells::{PREDECLARED_TYPES, is_open, push_variable};
+use crate::part::{base_of, part_of};
 use crate::work::kinds_of;
 use aos_base::NoMemory;
 use aos_code::Kind;
+use aos_typed::open_array;
 use aos_types::{TypeId, Types};
-use std::alloc::Global;
+use std::alloc::{AllocError, Global};
 
 /// The cell of what a path leads to within a type, counted from the type's first cell. The path has the number of a field,
 /// its base's first, or of an element, each from 0, one behind the other; it leads to something. Of an object type it speaks
@@ -44,4 +47,39 @@ pub fn shape(alloc: Global, types: &Types, t: TypeId) -> Result<Vec<Kind>, NoMem
 {
     let kinds = kinds_of(alloc, types, t)?;
     Ok(kinds)
+}
+
+/// The kinds of the cells of a variable.
+fn variable_kinds(alloc: Global, types: &Types, t: TypeId) -> Result<Vec<Kind>, AllocError>
+    requires { NoneContainsItself types.now }
+    ensures { IfOk result (λ kinds. kinds.items ≡ layout.leaves (layout.cells types.now t)) }
+{
+    let mut kinds = Vec::new(alloc);
+    push_variable(alloc, types, t, &mut kinds)?;
+    Ok(kinds)
+}
+
+/// The kinds of the cells of a type's objects, in their order: of a record those of its base first, and of an open array those of
+/// one element.
+#[tactic(auto, using(crate::proofs::Frames::open_kinds, crate::proofs::Frames::other_type_kinds))]
+pub fn object_kinds(alloc: Global, types: &Types, t: TypeId) -> Result<Vec<Kind>, NoMemory>
+    requires { NoneContainsItself types.now }
+    ensures { IfOk result (λ kinds. kinds.items ≡ layout.type_kinds types.now t) }
+{
+    let kinds = if is_open(types, t) {
+        variable_kinds(alloc, types, open_array(types, t).element)?
+    } else {
+        kinds_of(alloc, types, t)?
+    };
+    Ok(kinds)
+}
+
+/// The number of a type's base among the types that a program names, from 1 on; 0 where it has none.
+pub fn base_number(types: &Types, t: TypeId) -> u32
+    ensures { result ≡ layout.base_number (table.base_of (table.row_of types.now t)) }
+{
+    match base_of(types, t) {
+        Some(base) => base.0.saturating_sub(PREDECLARED_TYPES - 1),
+        None => 0,
+    }
 }

@@ -12,4 +12,4 @@ mod work;
 pub use block::{BlockShape, block_shape};
 pub use frame::{FrameShape, frame_shape};
 pub use laws::{law_of_blocks, law_of_frames, law_of_records};
-pub use layout::{offset, shape};
+pub use layout::{base_number, object_kinds, offset, shape};

@@ -30,7 +30,7 @@ pub(crate) fn row_of(types: &Types, t: TypeId) -> Option<&TypeRow>
 }
 
 /// The base of a record or an object type.
-fn base_of(types: &Types, t: TypeId) -> Option<TypeId>
+pub(crate) fn base_of(types: &Types, t: TypeId) -> Option<TypeId>
     ensures { result ≡ table.base_of (table.row_of types.now t) }
 {
     match row_of(types, t) {

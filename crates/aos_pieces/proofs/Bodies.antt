@@ -17,6 +17,8 @@ use Rattle.aos_typed.specs.Program.{Stats, Parameter, Variable, Procedure, Progr
 use Rattle.aos_typed.specs.Routines.{Routine, result_of, routines}
 use Rattle.aos_typed.specs.WellTyped.{AreStatements, IsWellTyped}
 use Rattle.aos_sim.proofs.First.{all_get}
+use Rattle.aos_sim.proofs.Runs.{tables_of}
+use Rattle.aos_sim.proofs.Typed.{has_types}
 use Rattle.aos_sim.specs.Code.{stats_code, end_code, body_code}
 use Rattle.aos_sim.proofs.Sizes.{stats_length}
 use Rattle.aos_sim.specs.Shows.{IsCodeOf}
@@ -74,7 +76,7 @@ module _ (p : Program) (image : Image) (well : IsWellTyped p) (ok : IsCodeOf p i
       record {
         routine = r;
         are = s.1;
-        sound = λ need le. subst (λ c. IsSound image (k + 1) role.Procedure c need) s.2 (body_sound p r.own image (k + 1) need (has_numbers p image well ok (k + 1) r there) r.body (keeps_known p image.shapes.items (has_shapes p image ok) (k + 1) r there) typed le);
+        sound = λ need le. subst (λ c. IsSound image (k + 1) role.Procedure c need) s.2 (body_sound p r.own image (k + 1) need (has_numbers p image well ok (k + 1) r there) r.body (keeps_known p (tables_of image) (has_shapes p image ok (has_types p image.bodies.items image.shapes.items image.modules.items image.types.items well ok)) (k + 1) r there) typed le);
       }
 
   -- and each with as many operands as it says, where that is what its statements need

@@ -1,6 +1,6 @@
 -- The kinds of what a call hands over, in the order in which it lies on the stack, and those of an open array.
 use Rattle.std.proofs.Common.{◌≡◌, ◌≤◌, ◌+◌, ◌-◌, inl, inr, ℕ, zero, suc, true, false, List, [], ◌∷◌, ◌++◌, Option, Some, None, length, map, refl, sym, ap, ◌∙◌, arith, append_assoc, append-nil, length-append}
-use Rattle.std.specs.Prelude.{replicate, reverse, ◌⊎◌}
+use Rattle.std.specs.Prelude.{replicate, reverse}
 use Rattle.std.proofs.lemmas.List.{length-replicate, replicate-append-replicate, reverse-append}
 use Rattle.aos_types.specs.declared.row.TypeRow.{TypeRow}
 use Rattle.aos_types.specs.declared.row.TypeRow.TheVariants as row
@@ -17,19 +17,20 @@ use Rattle.aos_sound.specs.Sound.{Kinds, row as opened, without, all_topped}
 use Rattle.aos_typed.specs.declared.tree.TType.{TType}
 use Rattle.aos_typed.specs.Numbers.{id_of}
 use Rattle.aos_typed.specs.Open.{open_dimensions}
-use Rattle.aos_typed.specs.Program.{Parameter, Procedure, Rows, Known, Opened, Row, Longer, Arguments, NoMore, Scalar, Whole, Opening, Program}
-use Rattle.aos_typed.specs.WellTyped.{is_basic, is_whole, is_open_parameter, IsByReference, IsByValue, IsOpening, AreRows, AreArguments}
+use Rattle.aos_typed.specs.Program.{Parameter, Procedure, Place, Rows, Known, Opened, Row, Spread, Longer, Arguments, NoMore, Scalar, Whole, Opening, Program}
+use Rattle.aos_typed.specs.WellTyped.{is_value, is_whole, is_open_parameter, IsGiven, IsOpening, AreRows, AreArguments}
 use Rattle.aos_sim.specs.Code.{kind_of, dimensions}
 use Rattle.aos_sim.specs.Need.{arguments_need}
 use Rattle.aos_sim.proofs.Does.{HasPredeclared}
-use Rattle.aos_sim.proofs.Stats.{basic_kind, basic_cell}
-use Rattle.aos_sim.proofs.Variables.{basic_row}
+use Rattle.aos_sim.proofs.References.{value_scalar}
+use Rattle.aos_pieces.proofs.Operands.{value_kind}
 
 -- an array has so many dimensions
 pub dimensions_are : (p : Program) (o : Option Procedure) (r : Rows) (n : ℕ) (t : TType) → AreRows p o r n t → dimensions r ≡ n
 dimensions_are p o (Known x ns) n t h = sym h.0
 dimensions_are p o (Opened k j) n t h = sym h.0
 dimensions_are p o (Row r of e) n t h = let d = dimensions_are p o r (suc n) t h.0 in omega (arith, d)
+dimensions_are p o (Spread e j) n t h = sym h.0
 dimensions_are p o (Longer r ns) n t h = ap (λ m. m + length ns) (dimensions_are p o r h.0 h.1 h.3) ∙ sym h.2
 
 -- one more below others of its kind
@@ -80,7 +81,7 @@ ones_size (suc j) = omega (arith, ones_size j)
 pub opened_size : (rows : List TypeRow) (a : Parameter) → is_open (row_of rows (id_of a.of)) ≡ true → size (parameter_cells rows a) ≡ suc (open_dimensions rows (id_of a.of))
 opened_size rows a e = let many = ones_size (open_dimensions rows (id_of a.of)) in rw e (omega (arith, many))
 
--- what is handed over for a parameter: a value of a basic type,
+-- what is handed over for a parameter: a value,
 value_kinds : (rows : List TypeRow) (a : Parameter) → is_open (row_of rows (id_of a.of)) ≡ false → a.by_reference ≡ false → is_scalar (row_of rows (id_of a.of)) ≡ true → (ks : List ParamKind) → kinds_of (parameter_kind rows a ∷ ks) ≡ cell_kind rows (id_of a.of) ∷ kinds_of ks
 value_kinds rows a e f g ks = rw (e, f, g) refl
 
@@ -109,16 +110,15 @@ module _ (p : Program) where
   abbrev pub kinds_for : List Parameter → Kinds
   kinds_for ps = kinds_of (map (parameter_kind p.types) ps)
 
-  pub scalar_kinds : HasPredeclared p → (a : Parameter) → is_open_parameter p a ≡ false → a.by_reference ≡ false → is_basic a.of ≡ true → (ks : List ParamKind) → kinds_of (parameter_kind p.types a ∷ ks) ≡ (kind_of a.of ∷ []) ++ kinds_of ks
-  scalar_kinds has a e f b ks =
-      value_kinds p.types a e f (ap is_scalar (basic_row p has a.of b)) ks ∙ ap (λ k. k ∷ kinds_of ks) (basic_cell p has a.of b ∙ sym (basic_kind a.of b))
+  pub scalar_kinds : HasPredeclared p → (a : Parameter) → is_open_parameter p a ≡ false → a.by_reference ≡ false → is_value p.types a.of ≡ true → (ks : List ParamKind) → kinds_of (parameter_kind p.types a ∷ ks) ≡ (kind_of a.of ∷ []) ++ kinds_of ks
+  scalar_kinds has a e f v ks =
+      value_kinds p.types a e f (value_scalar p has a.of v) ks ∙ ap (λ k. k ∷ kinds_of ks) (value_kind p has a.of v)
 
   -- the place of a variable, or of what is copied,
-  pub place_kinds : (a : Parameter) → IsByReference p a a.of ⊎ (IsByValue p a a.of × (is_whole (row_of p.types (id_of a.of)) ≡ true)) → (ks : List ParamKind) → kinds_of (parameter_kind p.types a ∷ ks) ≡ (A ∷ []) ++ kinds_of ks
-  place_kinds a h ks = elim h [
-    | inl r ↦ reference_kinds p.types a r.0 r.1 ks
-    | inr v ↦ whole_kinds p.types a v.0.0 v.0.1 (no_scalar (row_of p.types (id_of a.of)) v.1) ks
-  ]
+  pub place_kinds : (o : Option Procedure) (a : Parameter) (x : Place) (u : TType) → IsGiven p o a x u → (ks : List ParamKind) → kinds_of (parameter_kind p.types a ∷ ks) ≡ (A ∷ []) ++ kinds_of ks
+  place_kinds o a x u (inl r) ks = reference_kinds p.types a r.0.0 r.0.1 ks
+  place_kinds o a x u (inr (inl r)) ks = reference_kinds p.types a r.0 r.1 ks
+  place_kinds o a x u (inr (inr v)) ks = whole_kinds p.types a v.0.0 v.0.1 (no_scalar (row_of p.types (id_of a.of)) v.1) ks
 
   -- and an array
   pub open_kinds : (a : Parameter) (n : ℕ) (t : TType) → IsOpening p a n t → (j : ℕ) → j ≡ n → (ks : List ParamKind) → kinds_of (parameter_kind p.types a ∷ ks) ≡ (A ∷ replicate j N) ++ kinds_of ks
@@ -141,8 +141,8 @@ module _ (p : Program) where
       omega (arith, same, one, rest)
   handed_room o has (Whole x more) ps h =
       let same = ap (λ l. length (kinds_for l)) h.2 in
-      let one = ap length (place_kinds h.0 h.3 (map (parameter_kind p.types) h.1)) in
-      let rest = handed_room o has more h.1 h.5 in
+      let one = ap length (place_kinds o h.0 x h.3.0 h.3.2 (map (parameter_kind p.types) h.1)) in
+      let rest = handed_room o has more h.1 h.4 in
       omega (arith, same, one, rest)
   handed_room o has (Opening r more) ps h =
       let j = dimensions r in

@@ -7,6 +7,7 @@ use Rattle.std.proofs.lemmas.Bool.{le-leb}
 use Rattle.std.proofs.lemmas.List.{length-map}
 use Rattle.std.proofs.lemmas.Option.{slice_get-map, slice_get_cases}
 use Rattle.aos_types.specs.declared.row.TypeRow.{TypeRow}
+use Rattle.aos_types.specs.Table.{row_of, is_record}
 use Rattle.aos_types.specs.Shape.{Shape, One, shaped, size, part, inside, offset, number_of, leaves, repeated}
 use Rattle.aos_types.specs.Shape as shape
 use Rattle.aos_types.specs.Contents.{contents, of_variable}
@@ -21,12 +22,12 @@ use Rattle.aos_layout.specs.Layout.{kind_of, cells as cells_for, variable_cells}
 use Rattle.aos_layout.proofs.Frames.{size_shaped, cells_counted}
 use Rattle.aos_sound.specs.Sound.{has_place, has_own_place, frame_cells, is_some}
 use Rattle.aos_typed.specs.Program.{ModuleVar, Parameter, Variable, Procedure, Module, Program}
-use Rattle.aos_typed.specs.Numbers.{id_of}
+use Rattle.aos_typed.specs.Numbers.{id_of, predeclared_types}
 use Rattle.aos_typed.specs.Sort.{Sort, Plain, variable_shape}
 use Rattle.aos_typed.specs.Text.{text_shape}
 use Rattle.aos_typed.specs.Source.{module_shape}
 use Rattle.aos_typed.specs.declared.tree.TType.{TType}
-use Rattle.aos_typed.specs.declared.tree.TType.TheVariants.{Char}
+use Rattle.aos_typed.specs.declared.tree.TType.TheVariants.{Char, Named}
 use Rattle.aos_typed.specs.WellTyped.{variable_type, IsConstantText, IsParameter, IsLocal, IsWellTyped}
 use Rattle.aos_typed.specs.Routines.{Routine, routines}
 use Rattle.aos_base.specs.Rooted.{by_number}
@@ -34,11 +35,13 @@ use Rattle.aos_code.specs.declared.instr.Kind.{Kind}
 use Rattle.aos_code.specs.declared.image.ProcShape.{ProcShape}
 use Rattle.aos_layout.specs.Frame.{parameter_cells, frame_parts, frame}
 use Rattle.aos_layout.specs.Seen.{seen_shape}
+use Rattle.aos_sim.proofs.Runs.{tables_of}
 use Rattle.aos_sim.proofs.Does.{HasPredeclared, HasShapes}
 use Rattle.aos_sim.proofs.Carries.{IsOwn}
 use Rattle.aos_sim.proofs.Bodies.{own_known, has_shapes}
 use Rattle.aos_sim.proofs.First.{get_left, get_right, length-numbers}
 use Rattle.aos_sim.proofs.Parts.{part_of_row}
+use Rattle.aos_sim.proofs.Typed.{has_types}
 use Rattle.aos_sim.proofs.Variables.{declared}
 use Rattle.aos_sim.specs.Code.{variable_cell, own_cell}
 use Rattle.aos_sim.specs.Shows.{text_cells, first_cells, shape_of, IsCodeOf}
@@ -55,8 +58,9 @@ pub record HasNumbers (p : Program) (o : Option Procedure) (image : Image) (own 
   pub constants : (m c n : ℕ) → IsConstantText p (ModuleVar m c) n → has_place (slice_get image.modules.items m) (variable_cell p o m c) ≡ true
   pub types : (t : ℕ) → t < length p.objects → is_some (numbered image.types.items (t + 1)) ≡ true
   pub predeclared : HasPredeclared p
-  pub shapes : HasShapes p image.shapes.items
-  pub mine : IsOwn p o image.shapes.items own
+  pub records : (k : ℕ) → is_record (row_of p.types (id_of (Named k))) ≡ true → is_some (numbered image.types.items (k + 1)) ≡ true
+  pub shapes : HasShapes p (tables_of image)
+  pub mine : IsOwn p o (tables_of image) own
   pub locals : (k : ℕ) (t : TType) → IsLocal p o k t → has_own_place (numbered image.shapes.items own) (own_cell p o k) ≡ true
   pub parameters : (k : ℕ) (a : Parameter) → IsParameter p o k a → IsInFrame (numbered image.shapes.items own) (own_cell p o k) (size (parameter_cells p.types a))
 
@@ -155,6 +159,13 @@ module _ (p : Program) (o : Option Procedure) (image : Image) (ok : IsCodeOf p i
       let n : suc t ≡ t + 1 = omega arith in
       ap (λ k. is_some (numbered image.types.items k)) (sym n) ∙ some_within image.types.items t within
 
+  -- so each record that is declared has one
+  has_record : length p.types ≡ length p.objects + predeclared_types → (k : ℕ) → is_record (row_of p.types (id_of (Named k))) ≡ true → is_some (numbered image.types.items (k + 1)) ≡ true
+  has_record beside k is = elim (slice_get_cases p.types (k + predeclared_types)).1 [
+    | inl h ↦ let there = h.1 in has_type k (omega (arith, beside, there))
+    | inr h ↦ let none = sym (ap is_record h.1) ∙ is in absurd (cc)
+  ]
+
 -- the parts of the frame of a procedure, or of a body
 abbrev parts_of : List TypeRow → Option Procedure → List (Shape Kind)
 parts_of rows None = []
@@ -195,15 +206,16 @@ part_in p image own r x is known k s e =
 -- so it is where the image has the code of the program
 pub has_numbers : (p : Program) (image : Image) → IsWellTyped p → IsCodeOf p image → (own : ℕ) (r : Routine) → by_number own (routines p) ≡ Some r → HasNumbers p r.own image own
 has_numbers p image well ok own r there =
-    let shaped = has_shapes p image ok in
-    let x = shaped own r there in
+    let shaped = has_shapes p image ok (has_types p image.bodies.items image.shapes.items image.modules.items image.types.items well ok) in
+    let x = shaped.shapes own r there in
     record {
       cells = has_cell p r.own image ok;
       constants = has_constant p r.own image ok;
       types = has_type p r.own image ok;
       predeclared = well.predeclared;
+      records = has_record p r.own image ok well.beside;
       shapes = shaped;
-      mine = own_known p image.shapes.items shaped own r there;
+      mine = own_known p (tables_of image) shaped own r there;
       locals = λ k t h. (part_in p image own r x.0 x.1 x.2 k (cells_for p.types (id_of t)) (local_part p r.own k t h)).place;
       parameters = λ k a h. part_in p image own r x.0 x.1 x.2 k (parameter_cells p.types a) (parameter_part p r.own k a h);
     }

@@ -1,6 +1,7 @@
 -- The code of each statement and each sequence is a piece that leaves the operands as they were.
-use Rattle.std.proofs.Common.{◌≡◌, ◌≤◌, ◌<◌, inl, inr, ℕ, suc, ◌+◌, ℤ, List, [], ◌∷◌, ◌++◌, Some, length, Option, None, refl, sym, ap, ◌∙◌, subst, arith, append_assoc, length-append}
-use Rattle.std.specs.Prelude.{IsTrue, ◌⊎◌, option_map}
+use Rattle.std.proofs.Common.{◌≡◌, ◌≤◌, ◌<◌, inl, inr, ℕ, zero, suc, ◌+◌, ℤ, List, [], ◌∷◌, ◌++◌, Some, length, Option, None, refl, sym, ap, ◌∙◌, subst, arith, append_assoc, length-append}
+use Rattle.std.specs.Prelude.{IsTrue, ◌⊎◌, option_map, max, replicate}
+use Rattle.std.proofs.lemmas.List.{length-replicate}
 use Rattle.std.proofs.lemmas.Bool.{lt-ltb}
 use Rattle.std.proofs.Math.Nat.{le-max_left, le-max_right}
 use Rattle.aos_base.specs.declared.text.Pos.{Pos}
@@ -17,7 +18,7 @@ use Rattle.aos_code.specs.declared.image.Image.{Image}
 use Rattle.aos_code.specs.Numbered.{numbered}
 use Rattle.aos_code.specs.Silent.{keeps_in}
 use Rattle.aos_sound.specs.declared.stand.Role.TheVariants.{Procedure}
-use Rattle.aos_sound.specs.Sound.{Kinds, without, given, alone, returned, may_stand}
+use Rattle.aos_sound.specs.Sound.{Kinds, without, topped, given, alone, returned, may_stand}
 use Rattle.aos_typed.specs.declared.tree.Change.{Change as Changing}
 use Rattle.aos_typed.specs.declared.tree.Change.TheVariants as change
 use Rattle.aos_typed.specs.declared.tree.LabelRange.{LabelRange}
@@ -28,18 +29,18 @@ use Rattle.aos_typed.specs.Meaning.{until, changed_type}
 use Rattle.aos_typed.specs.Numbers.{id_of}
 use Rattle.aos_typed.specs.Routines.{result_of}
 use Rattle.aos_layout.specs.Layout.{kind_of as cell_kind}
-use Rattle.aos_typed.specs.Program.{Program, Procedure as Declared, Place, Expr, Lit, Read, Binary, Call, Open, Char, Int, String, Ln, Stat, Assign, Copy, PutText, If, Case, While, Repeat, Loop, Exit, For, Block, Assert, Halt, Change, Perform, Return, New, Out, Stats, Nothing, Then, Arms, Otherwise, Arm, Cases, NoElse, Else, OfLabels}
-use Rattle.aos_typed.specs.WellTyped.{Includes, amount_type, IsPlaceOf, IsOf, IsCall, IsReturn, IsStatement, AreStatements, AreArms, AreCases}
-use Rattle.aos_sim.specs.Code.{begin, kind_of, cells_of, place_code, value_code, out_code, new_code, assign_code, change_code, changed_code, for_head, step_code, body_place, stat_code, stats_code, arms_code, cases_code, arm_place}
+use Rattle.aos_typed.specs.Program.{Program, Procedure as Declared, Place, Expr, Lit, Read, Binary, Call, Open, Char, Int, String, Ln, Stat, Assign, Copy, PutText, If, Case, While, Repeat, Loop, Exit, For, Block, Assert, Halt, Change, Perform, Return, New, Make, With, WithRecord, Out, Stats, Nothing, Then, Arms, Otherwise, Arm, Cases, NoElse, Else, OfLabels}
+use Rattle.aos_typed.specs.WellTyped.{Includes, amount_type, IsPlaceOf, IsOf, AreLengthsOf, IsCall, IsReturn, IsStatement, AreStatements, AreArms, AreCases}
+use Rattle.aos_sim.specs.Code.{begin, kind_of, cells_of, place_code, value_code, values_code, make_instr, make_code, out_code, new_code, assign_code, change_code, changed_code, for_head, step_code, body_place, stat_code, stats_code, arms_code, cases_code, arm_place}
 use Rattle.aos_sim.specs.Search.{Search, Nowhere, At as Labels, Split, arms_in, search_of, label_code, search_size, search_code}
-use Rattle.aos_sim.specs.Need.{place_need, value_need, out_need, assign_need, changed_need, stat_need, stats_need, arms_need, cases_need, stat_level, stats_level, arms_level, cases_level}
-use Rattle.aos_sim.proofs.Stats.{basic_kind, basic_cell}
+use Rattle.aos_sim.specs.Need.{place_need, value_need, values_need, out_need, assign_need, changed_need, stat_need, stats_need, arms_need, cases_need, stat_level, stats_level, arms_level, cases_level}
 use Rattle.aos_sim.proofs.Sizes.{search_length, stats_length, arms_length, cases_length, arm_ahead, stats_above}
 use Rattle.aos_pieces.specs.Piece.{Round, Piece}
 use Rattle.aos_pieces.proofs.Pieces.{At, Entries, nothing, one, followed, both, one_then, then_one, moved, recoded, asks_less, jump_forth, branch, choose, arm, repeats, repeats_until, loops, stops}
 use Rattle.aos_pieces.proofs.Numbers.{HasNumbers}
-use Rattle.aos_pieces.proofs.Handed.{dimensions_are}
-use Rattle.aos_pieces.proofs.Values.{some_place, some_rows, some_need, as_kind, place_piece, value_piece, text_piece, texts_piece, call_takes, call_piece, value_basic}
+use Rattle.aos_pieces.proofs.Operands.{value_kind}
+use Rattle.aos_pieces.proofs.Handed.{dimensions_are, kinds_taken}
+use Rattle.aos_pieces.proofs.Values.{some_place, some_rows, some_need, as_kind, place_piece, value_piece, lengths_of, text_piece, texts_piece, call_takes, call_piece, value_typed}
 
 -- an operand of any kind is stored in a place
 stored : (k : Kind) (s : Kinds) → without (k ∷ A ∷ []) (k ∷ A ∷ s) ≡ Some s
@@ -47,6 +48,18 @@ stored N s = refl
 stored R s = refl
 stored C s = refl
 stored A s = refl
+
+-- a result is alone
+alone_one : (k : Kind) → alone (Some k) (k ∷ []) ≡ Some []
+alone_one N = refl
+alone_one R = refl
+alone_one C = refl
+alone_one A = refl
+
+-- there is room for each of some values
+some_values : (es : List Expr) → length es ≤ values_need es
+some_values [] = omega arith
+some_values (e ∷ es) = let h = some_values es in omega (arith, h)
 
 -- a type of integers includes itself
 included_self : (w : Width) → Includes (type.Integer w) (type.Integer w)
@@ -121,6 +134,22 @@ module _ (p : Program) (o : Option Declared) (image : Image) (own : ℕ) (depth 
       (one_then i.Swap refl refl (omega (arith, room, k)) (λ whole q. refl)
       (one_then (i.Store R) refl refl (omega (arith, room, k)) (λ whole q. refl)
       (one i.Start refl refl (omega (arith, room)) (λ whole q. refl))))))
+
+  -- the making of a record or an array, whose lengths are there
+  made_piece : {Asks : Round} (t n : ℕ) → t < length p.objects → (at : ℕ) (s : Kinds) → length s + n ≤ depth → Piece image own Procedure depth Asks (make_instr t n ∷ []) at (replicate n N ++ s) (R ∷ s)
+  made_piece t zero lt at s room = one (i.NewObject (t + 1)) refl refl (omega (arith, room)) (λ whole q. has.types t lt)
+  made_piece t (suc n) lt at s room =
+      one (i.NewArray (t + 1) (suc n)) (ap (topped R) (kinds_taken (replicate (suc n) N) s)) refl
+      (omega (arith, room, length-append (replicate (suc n) N) s, length-replicate (suc n) N)) (λ whole q. has.types t lt)
+
+  make_piece : {Asks : Round} (x : Place) (u : TType) (t : ℕ) (ns : List Expr) → IsPlaceOf p o x u → t < length p.objects → AreLengthsOf p o ns → (at : ℕ) (s : Kinds) → length s + max (place_need x) (1 + max 1 (values_need ns)) ≤ depth → Piece image own Procedure depth Asks (make_code p o x t ns at) at s s
+  make_piece x u t ns h lt lengths at s room =
+      let k = some_values ns in
+      let first = at + length (place_code p o x at) in
+      both (place_piece p o image own Procedure depth has refl x u h at s (omega (arith, room)))
+      (both (lengths_of p o image own Procedure depth has refl ns lengths first (A ∷ s) (omega (arith, room)))
+      (both (made_piece t (length ns) lt (first + length (values_code p o ns first)) (A ∷ s) (omega (arith, room, k)))
+      (one (i.Store R) refl refl (omega (arith, room)) (λ whole q. refl))))
 
   -- a value for a variable
   assign_piece : {Asks : Round} (here : Pos) (t : TType) (x : Place) (e : Expr) → IsPlaceOf p o x t → IsOf p o e t → (at : ℕ) (s : Kinds) → length s + assign_need (place_need x) (value_need e) ≤ depth → Piece image own Procedure depth Asks (assign_code p o here t x e at) at s s
@@ -213,12 +242,12 @@ module _ (p : Program) (o : Option Declared) (image : Image) (own : ℕ) (depth 
   return_piece e None is h at room = absurd h
   return_piece e (Some t) is h at room =
       let k = some_need e in
-      let basic = value_basic p o e t h in
-      let ends : returned (numbered image.shapes.items own) (N ∷ []) ≡ Some [] =
-      ap (λ f. returned f (N ∷ [])) has.mine.1
-      ∙ ap (λ k. alone k (N ∷ [])) (has.mine.2 ∙ ap (option_map (λ t. cell_kind p.types (id_of t))) is ∙ ap (λ k. Some k) (basic_cell p has.predeclared t basic)) in
+      let ends : returned (numbered image.shapes.items own) (kind_of t ∷ []) ≡ Some [] =
+      ap (λ f. returned f (kind_of t ∷ [])) has.mine.1
+      ∙ ap (λ k. alone k (kind_of t ∷ [])) (has.mine.2 ∙ ap (option_map (λ t. cell_kind p.types (id_of t))) is ∙ ap (λ k. Some k) (value_kind p has.predeclared t (value_typed p o e t h)))
+      ∙ alone_one (kind_of t) in
       both
-      (as_kind p o image own Procedure depth has refl (basic_kind t basic) (value_piece p o image own Procedure depth has refl e t h at [] (omega (arith, room))))
+      (value_piece p o image own Procedure depth has refl e t h at [] (omega (arith, room)))
       (stops i.Return [] ends refl (omega (arith, room, k)) (λ whole q. refl))
 
   mutual
@@ -229,7 +258,7 @@ module _ (p : Program) (o : Option Declared) (image : Image) (own : ℕ) (depth 
         begins here (omega (arith, room)) (both
         (place_piece p o image own Procedure depth has refl y t h.0 (at + 1) [] (omega (arith, room)))
         (then_one
-        (place_piece p o image own Procedure depth has refl z t h.1 (at + 1 + length (place_code p o y (at + 1))) (A ∷ []) (omega (arith, room)))
+        (place_piece p o image own Procedure depth has refl z h.1.0 h.1.1 (at + 1 + length (place_code p o y (at + 1))) (A ∷ []) (omega (arith, room)))
         (i.Copy (cells_of p o t)) refl refl (let k = some_place z in omega (arith, room, k)) (λ whole q. refl)))
     stat_piece (PutText here strict a b) h at x d le kept room =
         begins here (omega (arith, room)) (texts_piece p o image own Procedure depth has refl a b h.0 h.1 (i.PutText strict) (at + 1) [] (omega (arith, room)) refl refl (λ whole q. refl))
@@ -305,12 +334,12 @@ module _ (p : Program) (o : Option Declared) (image : Image) (own : ℕ) (depth 
         (assign_piece here (type.Integer w) y from h.1 h.2 (at + 1 + length last + 1) [] (omega (arith, room))))))
         (recoded (ap (λ l. begin here ∷ (test ++ (i.JumpFalse end ∷ l))) (append_assoc b n (i.Jump t ∷ [])))
         (repeats here.line here.col {c = test} {b = b ++ n} end (omega (arith, l2)) refl (omega (arith, room))
-        (both (value_piece p o image own Procedure depth has refl (Read (type.Integer w) y) (type.Integer w) (h.1, refl, included_self w) (t + 1) [] (omega (arith, room)))
+        (both (value_piece p o image own Procedure depth has refl (Read (type.Integer w) y) (type.Integer w) (h.1, refl, inl (included_self w)) (t + 1) [] (omega (arith, room)))
         (one_then (i.Kept d N) refl refl (omega (arith, room)) may
         (one (i.Binary (binary.Cmp (until step))) refl refl (omega (arith, room)) (λ whole q. refl))))
         (both
         (moved (omega (arith, l1)) (stats_piece body h.5 first x (suc d) (omega (arith, le, l1, l2, l3, l4, l5)) kept (omega (arith, room))))
-        (moved (omega (arith, l1)) (assign_piece here (type.Integer w) y (Binary (binary.Add w) (Read (type.Integer w) y) (Lit (literal.Int step))) h.1 (((h.1, refl, included_self w), h.4), included_self w) (first + length b) [] (omega (arith, room)))))))
+        (moved (omega (arith, l1)) (assign_piece here (type.Integer w) y (Binary (binary.Add w) (Read (type.Integer w) y) (Lit (literal.Int step))) h.1 (((h.1, refl, inl (included_self w)), inl h.4), included_self w) (first + length b) [] (omega (arith, room)))))))
     stat_piece (Block here body) h at x d le kept room = begins here (omega (arith, room)) (stats_piece body h (at + 1) x d (omega (arith, le)) kept room)
     stat_piece (Assert here e code) h at x d le kept room =
         let k = some_need e in
@@ -325,6 +354,21 @@ module _ (p : Program) (o : Option Declared) (image : Image) (own : ℕ) (depth 
         begins here (omega (arith, room)) (stops i.Return [] (nothing_returned (result_of o) refl h) refl (omega (arith, room)) (λ whole q. refl))
     stat_piece (Return here (Some e)) h at x d le kept room = begins here (omega (arith, room)) (return_piece e (result_of o) refl h (at + 1) room)
     stat_piece (New here y t) h at x d le kept room = begins here (omega (arith, room)) (new_piece y t h.1 h.3 (at + 1) [] (omega (arith, room)))
+    stat_piece (Make here y t ns) h at x d le kept room = begins here (omega (arith, room)) (make_piece y h.0.0 t ns h.0.1 h.2 h.3 (at + 1) [] (omega (arith, room)))
+    stat_piece (With here e body) h at x d le kept room =
+        let c = value_code p o e (at + 1) in
+        let b = stats_code p o body (at + 1 + length c + 1) x d in
+        let k = some_need e in
+        begins here (omega (arith, room)) (both (value_piece p o image own Procedure depth has refl e h.0.0 h.0.1 (at + 1) [] (omega (arith, room)))
+        (one_then i.Drop refl refl (omega (arith, room, k)) (λ whole q. refl)
+        (stats_piece body h.1 (at + 1 + length c + 1) x d (omega (arith, le, length-append c (i.Drop ∷ b))) kept (omega (arith, room)))))
+    stat_piece (WithRecord here y body) h at x d le kept room =
+        let c = place_code p o y (at + 1) in
+        let b = stats_code p o body (at + 1 + length c + 1) x d in
+        let k = some_place y in
+        begins here (omega (arith, room)) (both (place_piece p o image own Procedure depth has refl y h.0.0 h.0.1 (at + 1) [] (omega (arith, room)))
+        (one_then i.Drop refl refl (omega (arith, room, k)) (λ whole q. refl)
+        (stats_piece body h.1 (at + 1 + length c + 1) x d (omega (arith, le, length-append c (i.Drop ∷ b))) kept (omega (arith, room)))))
     stat_piece (Out here call) h at x d le kept room = begins here (omega (arith, room)) (out_piece call h (at + 1) [] (omega (arith, room)))
 
     -- a sequence of statements

@@ -9,7 +9,7 @@ use Rattle.aos_base.specs.declared.operator.Unary.TheVariants.{Range}
 use Rattle.aos_base.specs.declared.operator.Binary.TheVariants.{SetSpan}
 use Rattle.aos_base.specs.declared.number.Width.TheVariants.{W16, W32, W64}
 use Rattle.aos_code.specs.declared.instr.Kind.{Kind}
-use Rattle.aos_code.specs.declared.instr.Kind.TheVariants.{N, A}
+use Rattle.aos_code.specs.declared.instr.Kind.TheVariants.{N, R, A}
 use Rattle.aos_code.specs.declared.instr.Instr.{Instr}
 use Rattle.aos_code.specs.declared.instr.Instr.TheVariants as i
 use Rattle.aos_code.specs.declared.image.Image.{Image}
@@ -21,22 +21,22 @@ use Rattle.aos_types.specs.Shape.{size}
 use Rattle.aos_typed.specs.Open.{open_dimensions}
 use Rattle.aos_sound.specs.declared.effect.Next.TheVariants.{On}
 use Rattle.aos_sound.specs.declared.stand.Role.{Role}
-use Rattle.aos_sound.specs.Sound.{Kinds, row, without, topped, given, called, is_some, frame_cells, is_procedure, next_of, after, may_stand}
+use Rattle.aos_sound.specs.Sound.{Kinds, row, without, topped, given, called, is_some, is_type_or_none, frame_cells, is_procedure, next_of, after, may_stand}
 use Rattle.aos_typed.specs.Numbers.{id_of, procedure_number}
-use Rattle.aos_typed.specs.Program.{Program, Procedure, Parameter, Place, ModuleVar, Local, Passed, Field, Index, Of, Rows, Known, Opened, Row, Longer, Arguments, NoMore, Scalar, Whole, Opening, Expr, Lit, Read, Unary, Binary, And, Or, Element, Ord, Chr, CompareTexts, Len, LenBehind, Function}
+use Rattle.aos_typed.specs.Program.{Program, Procedure, Parameter, Place, ModuleVar, Local, Passed, Field, Index, Of, Deref, Typed, Guarded, Rows, Known, Opened, Row, Spread, Longer, Arguments, NoMore, Scalar, Whole, Opening, Expr, Lit, Read, Unary, Binary, And, Or, Element, Ord, Chr, CompareTexts, Len, LenBehind, Function, Same, Is, IsRecord, Guard, Had}
 use Rattle.aos_typed.specs.declared.tree.Literal.{Literal}
 use Rattle.aos_typed.specs.declared.tree.Literal.TheVariants as literal
 use Rattle.aos_typed.specs.declared.tree.TType.{TType}
 use Rattle.aos_typed.specs.declared.tree.TType.TheVariants.{Integer, Boolean, Char, Named}
-use Rattle.aos_typed.specs.WellTyped.{taken, is_basic, procedure_in, IsConstantText, IsParameter, IsPlaceOf, AreRows, AreArguments, IsOf}
-use Rattle.aos_sim.specs.Code.{kind_of, literal_code, variable_cell, own_cell, field_cell, cells_of, dimensions, lengths_code, drops, operands_code, place_code, rows_code, arguments_code, value_code}
-use Rattle.aos_sim.specs.Need.{texts_need, place_need, rows_need, arguments_need, value_need}
+use Rattle.aos_types.specs.Extension.{comes_to}
+use Rattle.aos_typed.specs.WellTyped.{taken, is_value, IsLiteral, procedure_in, IsConstantText, IsParameter, IsPlaceOf, AreRows, AreArguments, IsOf, AreLengthsOf}
+use Rattle.aos_sim.specs.Code.{kind_of, literal_code, variable_cell, own_cell, field_cell, cells_of, dimensions, lengths_code, drops, operands_code, place_code, rows_code, arguments_code, value_code, values_code}
+use Rattle.aos_sim.specs.Need.{texts_need, place_need, rows_need, arguments_need, value_need, values_need}
 use Rattle.aos_sim.proofs.Routines.{routine_there}
 use Rattle.aos_sim.proofs.Routines as routine
-use Rattle.aos_sim.proofs.Stats.{basic_kind, basic_cell}
 use Rattle.aos_pieces.specs.Piece.{Round, Piece}
-use Rattle.aos_pieces.proofs.Pieces.{nothing, one, both, one_then, then_one, choose, left_with}
-use Rattle.aos_pieces.proofs.Operands.{included_kind, literal_kind, taken_kind, given_kind, given_of_two_kind, taken_kinds}
+use Rattle.aos_pieces.proofs.Pieces.{nothing, one, both, one_then, then_one, choose, left_with, recoded}
+use Rattle.aos_pieces.proofs.Operands.{included_kind, literal_kind, taken_kind, given_kind, given_of_two_kind, taken_kinds, number_value, reference_value, any_or_target, fitted_value, reference_kind, target_kind, value_kind, fitted_kind}
 use Rattle.aos_pieces.proofs.Handed.{dimensions_are, pushed, rows_taken, opened_row, opened_longer, reversed_row, kinds_taken, handed_first, scalar_kinds, place_kinds, open_kinds, handed_room, passed_size, opened_size}
 use Rattle.aos_pieces.proofs.Numbers.{HasNumbers}
 
@@ -49,12 +49,16 @@ mutual
   some_place (Field x t k) = some_place x
   some_place (Index x n t e) = omega arith
   some_place (Of r) = let h = some_rows r in omega (arith, h)
+  some_place (Deref e t) = some_need e
+  some_place (Typed x t) = some_place x
+  some_place (Guarded x t) = some_place x
 
   -- an array for the lengths of its dimensions above that,
   pub some_rows : (r : Rows) → suc (dimensions r) ≤ rows_need r
   some_rows (Known x ns) = omega arith
   some_rows (Opened k j) = omega arith
   some_rows (Row r t e) = let h = some_rows r in omega (arith, h)
+  some_rows (Spread e j) = omega arith
   some_rows (Longer r ns) = omega arith
 
   -- and so does an expression
@@ -72,29 +76,33 @@ mutual
   some_need (Len r d) = let h = some_rows r in omega (arith, h)
   some_need (LenBehind r n) = let h = some_rows r in omega (arith, h)
   some_need (Function m k more) = omega arith
+  some_need (Same a b) = omega arith
+  some_need (Is a t) = some_need a
+  some_need (IsRecord x t) = some_place x
+  some_need (Guard a t) = some_need a
+  some_need (Had v) = omega arith
 
--- a value is of a basic type
-pub value_basic : (p : Program) (o : Option Procedure) (e : Expr) (t : TType) → IsOf p o e t → is_basic t ≡ true
-value_basic p o e t h = by_kind t (kind e h)
-  where
-    by_kind : (t : TType) → kind_of t ≡ N → is_basic t ≡ true
-    by_kind (Named k) e = absurd (cc)
-    by_kind t e = refl
-
-    kind : (e : Expr) → IsOf p o e t → kind_of t ≡ N
-    kind (Lit l) h = literal_kind l t h
-    kind (Read u x) h = included_kind t u h.2 ∙ basic_kind u h.1
-    kind (Unary op a) h = given_kind op t h.1
-    kind (Binary op a b) h = given_of_two_kind op t h.1
-    kind (And a b) h = ap kind_of h.2
-    kind (Or a b) h = ap kind_of h.2
-    kind (Element a) h = ap kind_of h.1
-    kind (Ord a) h = included_kind t (Integer W16) h.1
-    kind (Chr a) h = ap kind_of h.1
-    kind (CompareTexts r a b) h = ap kind_of h.2
-    kind (Len r d) h = included_kind t (Integer W32) h.5
-    kind (LenBehind r n) h = included_kind t (Integer W32) h.4
-    kind (Function m k more) h = included_kind t h.1 h.5 ∙ basic_kind h.1 h.4
+-- the type of an expression is one of scalars that are built
+pub value_typed : (p : Program) (o : Option Procedure) (e : Expr) (t : TType) → IsOf p o e t → is_value p.types t ≡ true
+value_typed p o (Lit l) t (inl h) = number_value p t (literal_kind l t h)
+value_typed p o (Lit l) t (inr h) = reference_value p t h.1
+value_typed p o (Read u x) t h = fitted_value p t u h.2 h.1
+value_typed p o (Unary op a) t h = number_value p t (given_kind op t h.1)
+value_typed p o (Binary op a b) t h = number_value p t (given_of_two_kind op t h.1)
+value_typed p o (And a b) t h = number_value p t (ap kind_of h.2)
+value_typed p o (Or a b) t h = number_value p t (ap kind_of h.2)
+value_typed p o (Element a) t h = number_value p t (ap kind_of h.1)
+value_typed p o (Ord a) t h = number_value p t (included_kind t (Integer W16) h.1)
+value_typed p o (Chr a) t h = number_value p t (ap kind_of h.1)
+value_typed p o (CompareTexts r a b) t h = number_value p t (ap kind_of h.2)
+value_typed p o (Len r d) t h = number_value p t (included_kind t (Integer W32) h.5)
+value_typed p o (LenBehind r n) t h = number_value p t (included_kind t (Integer W32) h.4)
+value_typed p o (Function m k more) t h = fitted_value p t h.1 h.5 h.4
+value_typed p o (Same a b) t h = number_value p t (ap kind_of h.2)
+value_typed p o (Is a k) t h = number_value p t (ap kind_of h.2)
+value_typed p o (IsRecord x k) t h = number_value p t (ap kind_of h.4)
+value_typed p o (Guard a k) t h = reference_value p t (any_or_target p t (λ b. comes_to p.types (id_of (Named k)) b ≡ true) h.2)
+value_typed p o (Had v) t h = absurd h
 
 -- with so many lengths above a place
 abbrev opened : ℕ → Kinds → Kinds
@@ -109,12 +117,13 @@ module _ (p : Program) (o : Option Procedure) (image : Image) (own : ℕ) (role 
   as_kind {Asks} {code} {at} {s} e c = left_with (ap (λ x. x ∷ s) e) c
 
   -- a literal
-  literal_piece : {Asks : Round} (l : Literal) {at : ℕ} {s : Kinds} → length s ≤ depth → Piece image own role depth Asks (literal_code l ∷ []) at s (N ∷ s)
-  literal_piece (literal.Int n) few = one (i.Num n) refl refl few (λ whole q. refl)
-  literal_piece (literal.Bool b) few = one (i.Num (flag b)) refl refl few (λ whole q. refl)
-  literal_piece (literal.Char c) few = one (i.Num (pos c)) refl refl few (λ whole q. refl)
-  literal_piece (literal.Set b) few = one (i.Num (pos b)) refl refl few (λ whole q. refl)
-  literal_piece (literal.Text t) few = one (i.Num (pos t.first)) refl refl few (λ whole q. refl)
+  literal_piece : {Asks : Round} (l : Literal) (t : TType) → IsLiteral l t → {at : ℕ} {s : Kinds} → length s ≤ depth → Piece image own role depth Asks (literal_code l ∷ []) at s (N ∷ s)
+  literal_piece (literal.Int n) t h few = one (i.Num n) refl refl few (λ whole q. refl)
+  literal_piece (literal.Bool b) t h few = one (i.Num (flag b)) refl refl few (λ whole q. refl)
+  literal_piece (literal.Char c) t h few = one (i.Num (pos c)) refl refl few (λ whole q. refl)
+  literal_piece (literal.Set b) t h few = one (i.Num (pos b)) refl refl few (λ whole q. refl)
+  literal_piece (literal.Text c) t h few = one (i.Num (pos c.first)) refl refl few (λ whole q. refl)
+  literal_piece literal.Nil t h few = absurd h
 
   -- the place of a string constant
   constant_piece : {Asks : Round} (x : Place) (n : ℕ) → IsConstantText p x n → (at : ℕ) (s : Kinds) → length s + place_need x ≤ depth → Piece image own role depth Asks (place_code p o x at) at s (A ∷ s)
@@ -124,6 +133,9 @@ module _ (p : Program) (o : Option Procedure) (image : Image) (own : ℕ) (role 
   constant_piece (Field x of c) n h at s room = absurd h
   constant_piece (Index x l of e) n h at s room = absurd h
   constant_piece (Of r) n h at s room = absurd h
+  constant_piece (Deref e t) n h at s room = absurd h
+  constant_piece (Typed x t) n h at s room = absurd h
+  constant_piece (Guarded x t) n h at s room = absurd h
 
   -- so many numbers more
   numbers_piece : {Asks : Round} (ns : List ℕ) (at : ℕ) (s : Kinds) → length s + length ns ≤ depth → Piece image own role depth Asks (map (λ n. i.Num (pos n)) ns) at s (replicate (length ns) N ++ s)
@@ -157,7 +169,7 @@ module _ (p : Program) (o : Option Procedure) (image : Image) (own : ℕ) (role 
   -- an instruction that takes what is handed over, and gives the kind of what a procedure gives
   pub call_takes : (m k : ℕ) (q : Procedure) → procedure_in p m k ≡ Some q → (s : Kinds) → called (numbered image.shapes.items (procedure_number p m k)) (reverse (kinds_of (map (parameter_kind p.types) q.parameters)) ++ s) ≡ given (option_map (λ t. cell_kind p.types (id_of t)) q.result) (Some s)
   call_takes m k q there s =
-      let x = has.shapes (procedure_number p m k) (routine.called m q) (routine_there p m k q there) in
+      let x = has.shapes.shapes (procedure_number p m k) (routine.called m q) (routine_there p m k q there) in
       let ks = reverse (kinds_of (map (parameter_kind p.types) q.parameters)) in
       ap (λ f. called f (ks ++ s)) x.1
       ∙ (λ j. given ((x.2 j).result) (without (reverse (kinds_of (x.2 j).params)) (ks ++ s)))
@@ -165,8 +177,12 @@ module _ (p : Program) (o : Option Procedure) (image : Image) (own : ℕ) (role 
 
   call_stands : (m k : ℕ) (q : Procedure) → procedure_in p m k ≡ Some q → (whole : List Instr) (at : ℕ) → IsTrue (may_stand image own role whole at (i.Call (procedure_number p m k)))
   call_stands m k q there whole at =
-      let x = has.shapes (procedure_number p m k) (routine.called m q) (routine_there p m k q there) in
+      let x = has.shapes.shapes (procedure_number p m k) (routine.called m q) (routine_there p m k q there) in
       ap (λ b. b && is_some (numbered image.shapes.items (procedure_number p m k))) performs ∙ ap is_some x.1
+
+  -- a type that is there is one that a place may be given
+  type_or_none : (t : ℕ) → is_some (numbered image.types.items (t + 1)) ≡ true → IsTrue (is_type_or_none image (t + 1))
+  type_or_none t e = let n : suc t ≡ t + 1 = omega arith in ap (is_type_or_none image) (sym n) ∙ ap (λ k. is_some (numbered image.types.items k)) n ∙ e
 
   -- what is handed over, and a call that takes it
   called_piece : {Asks : Round} (m k : ℕ) (q : Procedure) → procedure_in p m k ≡ Some q → (more : Arguments) → AreArguments p o more q.parameters → (at : ℕ) (s : Kinds) {t : Kinds} → called (numbered image.shapes.items (procedure_number p m k)) (reverse (kinds_of (map (parameter_kind p.types) q.parameters)) ++ s) ≡ Some t → length s + arguments_need more ≤ depth → Piece image own role depth Asks (arguments_code p o more at) at s (reverse (kinds_of (map (parameter_kind p.types) q.parameters)) ++ s) → Piece image own role depth Asks (arguments_code p o more at ++ i.Call (procedure_number p m k) ∷ []) at s t
@@ -196,6 +212,15 @@ module _ (p : Program) (o : Option Procedure) (image : Image) (own : ℕ) (role 
     place_piece (Passed k) t h at s room = param_piece k h.0 h.1 (omega (arith, passed_size p.types h.0 h.2.0 h.2.1)) at s (omega (arith, room))
     place_piece (Of r) t h at s room =
         left_with (ap (λ j. opened j s) (dimensions_are p o r 0 t h)) (rows_piece r 0 t h at s room)
+    place_piece (Deref e u) t h at s room =
+        let k = some_need e in
+        then_one (as_kind (target_kind p has.predeclared h.0 (id_of u) h.2) (value_piece e h.0 h.1 at s room)) (i.Deref 0) refl refl (omega (arith, room, k)) (λ whole q. refl)
+    place_piece (Typed x c) t h at s room =
+        let k = some_place x in
+        then_one (place_piece x (Named c) h.0 at s room) (i.Offset 0 (c + 1)) refl refl (omega (arith, room, k)) (λ whole q. type_or_none c (has.records c h.1))
+    place_piece (Guarded x c) t h at s room =
+        let k = some_place x in
+        then_one (place_piece x h.0 h.1 at s room) (i.GuardPlace (c + 1)) refl refl (omega (arith, room, k)) (λ whole q. has.records c h.3)
     place_piece (Field x of c) t h at s room =
         let k = some_place x in
         then_one (place_piece x of h.0 at s room) (i.Offset (field_cell p o of c) 0) refl refl (omega (arith, room, k)) (λ whole q. refl)
@@ -228,6 +253,9 @@ module _ (p : Program) (o : Option Procedure) (image : Image) (own : ℕ) (role 
         (then_one
         (value_piece e (Integer W64) h.1 (at + length (rows_code p o r at)) (opened j s) (omega (arith, room, long)))
         (i.IndexOpen j (cells_of p o of)) (opened_row j s) refl (omega (arith, room, long, k)) (λ whole q. lt-ltb 0 j (omega (arith, d))))
+    rows_piece (Spread e j) n t h at s room =
+        then_one (as_kind (target_kind p has.predeclared h.1.0 h.1.1 h.1.3) (value_piece e h.1.0 h.1.2 at s (omega (arith, room))))
+        (i.OpenRef j) (ap (λ l. Some l) (append_assoc (replicate j N) (A ∷ []) s)) refl (omega (arith, room)) (λ whole q. refl)
     rows_piece (Longer r ns) n t h at s room =
         let j = dimensions r in
         left_with (opened_longer (length ns) j s)
@@ -242,9 +270,9 @@ module _ (p : Program) (o : Option Procedure) (image : Image) (own : ℕ) (role 
         (both (value_piece e h.0.of h.5 at s (omega (arith, room)))
         (arguments_piece more h.1 h.6 (at + length (value_code p o e at)) (kind_of h.0.of ∷ s) (omega (arith, room))))
     arguments_piece (Whole x more) ps h at s room =
-        left_with (handed_first p (A ∷ []) h.0 h.1 ps s h.2 (place_kinds p h.0 h.3))
-        (both (place_piece x h.0.of h.4 at s (omega (arith, room)))
-        (arguments_piece more h.1 h.5 (at + length (place_code p o x at)) (A ∷ s) (omega (arith, room))))
+        left_with (handed_first p (A ∷ []) h.0 h.1 ps s h.2 (place_kinds p o h.0 x h.3.0 h.3.2))
+        (both (place_piece x h.3.0 h.3.1 at s (omega (arith, room)))
+        (arguments_piece more h.1 h.4 (at + length (place_code p o x at)) (A ∷ s) (omega (arith, room))))
     arguments_piece (Opening r more) ps h at s room =
         let j = dimensions r in
         let d = dimensions_are p o r h.2 h.3 h.6 in
@@ -254,10 +282,12 @@ module _ (p : Program) (o : Option Procedure) (image : Image) (own : ℕ) (role 
 
     -- an expression of a type gives an operand of the type's kind
     pub value_piece : {Asks : Round} (e : Expr) (t : TType) → IsOf p o e t → (at : ℕ) (s : Kinds) → length s + value_need e ≤ depth → Piece image own role depth Asks (value_code p o e at) at s (kind_of t ∷ s)
-    value_piece (Lit l) t h at s room = as_kind (sym (literal_kind l t h)) (literal_piece l (omega (arith, room)))
+    value_piece (Lit l) t (inl h) at s room = as_kind (sym (literal_kind l t h)) (literal_piece l t h (omega (arith, room)))
+    value_piece (Lit l) t (inr h) at s room =
+        recoded (ap (λ x. literal_code x ∷ []) (sym h.0)) (as_kind (sym (reference_kind p has.predeclared t h.1)) (one i.Nil refl refl (omega (arith, room)) (λ whole q. refl)))
     value_piece (Read u x) t h at s room =
         let k = some_place x in
-        as_kind (sym (included_kind t u h.2)) (then_one (place_piece x u h.0 at s room) (i.Load (kind_of u)) refl refl (omega (arith, room, k)) (λ whole q. refl))
+        as_kind (sym (fitted_kind p has.predeclared t u h.2)) (then_one (place_piece x u h.0 at s room) (i.Load (kind_of u)) refl refl (omega (arith, room, k)) (λ whole q. refl))
     value_piece (Unary op a) t h at s room =
         let k = some_need a in
         as_kind (sym (given_kind op t h.1)) (then_one
@@ -312,8 +342,38 @@ module _ (p : Program) (o : Option Procedure) (image : Image) (own : ℕ) (role 
         (both (left_with (sym (append_assoc (replicate j N) (A ∷ []) s)) (rows_piece r h.0 h.1 h.2 at s room))
         (then_one (drops_piece (suc j) (row j) (at + length (rows_code p o r at)) s long (omega (arith, room, some, long))) (i.Num (pos n)) refl refl (omega (arith, room, some)) (λ whole q. refl)))
     value_piece (Function m k more) t h at s room =
-        let gives = call_takes m k h.0 h.2 s ∙ ap (λ r. given (option_map (λ t. cell_kind p.types (id_of t)) r) (Some s)) h.3 ∙ ap (λ k. given (Some k) (Some s)) (basic_cell p has.predeclared h.1 h.4) in
-        as_kind (sym (included_kind t h.1 h.5 ∙ basic_kind h.1 h.4)) (called_piece m k h.0 h.2 more h.6 at s gives (omega (arith, room)) (arguments_piece more h.0.parameters h.6 at s (omega (arith, room))))
+        let gives = call_takes m k h.0 h.2 s ∙ ap (λ r. given (option_map (λ t. cell_kind p.types (id_of t)) r) (Some s)) h.3 ∙ ap (λ k. given (Some k) (Some s)) (value_kind p has.predeclared h.1 h.4) in
+        as_kind (sym (fitted_kind p has.predeclared t h.1 h.5)) (called_piece m k h.0 h.2 more h.6 at s gives (omega (arith, room)) (arguments_piece more h.0.parameters h.6 at s (omega (arith, room))))
+    value_piece (Same a b) t h at s room =
+        let k = some_need b in
+        as_kind (ap kind_of (sym h.2)) (both
+        (as_kind (reference_kind p has.predeclared h.0.0 h.0.2) (value_piece a h.0.0 h.0.1 at s (omega (arith, room))))
+        (then_one
+        (as_kind (reference_kind p has.predeclared h.1.0 h.1.2) (value_piece b h.1.0 h.1.1 (at + length (value_code p o a at)) (R ∷ s) (omega (arith, room))))
+        i.EqRef refl refl (omega (arith, room, k)) (λ whole q. refl)))
+    value_piece (Is a c) t h at s room =
+        let k = some_need a in
+        as_kind (ap kind_of (sym h.2)) (then_one
+        (as_kind (reference_kind p has.predeclared h.0.0 h.0.2) (value_piece a h.0.0 h.0.1 at s room))
+        (i.Is (c + 1)) refl refl (omega (arith, room, k)) (λ whole q. has.types c h.1))
+    value_piece (IsRecord x c) t h at s room =
+        let k = some_place x in
+        as_kind (ap kind_of (sym h.4)) (then_one (place_piece x h.0 h.1 at s room) (i.IsPlace (c + 1)) refl refl (omega (arith, room, k)) (λ whole q. has.records c h.3))
+    value_piece (Guard a c) t h at s room =
+        let k = some_need a in
+        let is = any_or_target p t (λ b. comes_to p.types (id_of (Named c)) b ≡ true) h.2 in
+        as_kind (sym (reference_kind p has.predeclared t is)) (then_one
+        (as_kind (reference_kind p has.predeclared h.0.0 h.0.2) (value_piece a h.0.0 h.0.1 at s room))
+        (i.Guard (c + 1)) refl refl (omega (arith, room, k)) (λ whole q. has.types c h.1))
+    value_piece (Had v) t h at s room = absurd h
+
+  -- lengths, one above the other
+  pub lengths_of : {Asks : Round} (es : List Expr) → AreLengthsOf p o es → (at : ℕ) (s : Kinds) → length s + values_need es ≤ depth → Piece image own role depth Asks (values_code p o es at) at s (replicate (length es) N ++ s)
+  lengths_of [] h at s room = nothing
+  lengths_of (e ∷ es) h at s room =
+      left_with (pushed N (length es) s) (both
+      (value_piece e (Integer W64) h.0 at s (omega (arith, room)))
+      (lengths_of es h.1 (at + length (value_code p o e at)) (N ∷ s) (omega (arith, room))))
 
   -- a text and two texts as statements have them, and a call
   pub text_piece : {Asks : Round} (r : Rows) → AreRows p o r 1 Char → (at : ℕ) (s : Kinds) → length s + rows_need r ≤ depth → Piece image own role depth Asks (rows_code p o r at) at s (N ∷ A ∷ s)

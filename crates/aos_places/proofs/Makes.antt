@@ -9,6 +9,11 @@ use Rattle.aos_places.specs.Shows.{Shown, AllShown, FramesShown, Shows, AreKept}
 use Rattle.aos_places.proofs.Grow.{fits_grows, cells_grow, objects_grow}
 
 module _ {S V C : Type 0} (Is : World S → S → V → Type 0) (cell : World S → V → C) (IsPlain : S → Type 0) (kept : AreKept Is cell IsPlain) where
+  -- contents that have grown are shown by the same cells
+  pub shown_grows : (w w' : World S) → Grows w w' → (s : Shape S) (c : Content V) (y : List C) → Shown Is cell w s c y → Shown Is cell w' s c y
+  shown_grows w w' g s c y h =
+      record { fits = fits_grows Is cell IsPlain kept w w' g s c h.fits; same = h.same ∙ cells_grow Is cell IsPlain kept w w' g s c h.fits }
+
   -- what variables and cells of each sort begin with
   module _ (first : S → V) (zero_cell : S → C) (first_is : (w : World S) (k : S) → IsPlain k → Is w k (first k)) (first_same : (w : World S) (k : S) → cell w (first k) ≡ zero_cell k) where
     pub first_fits : (w : World S) (s : Shape S) → EachSort IsPlain s → Fits (Is w) s (first_content first s)
@@ -23,10 +28,6 @@ module _ {S V C : Type 0} (Is : World S → S → V → Type 0) (cell : World S 
         map-append (cell w) (flatten (first_content first a)) (flatten (first_content first b))
         ∙ (λ i. first_cells w a i ++ first_cells w b i)
         ∙ sym (map-append zero_cell (leaves a) (leaves b))
-
-    shown_grows : (w w' : World S) → Grows w w' → (s : Shape S) (c : Content V) (y : List C) → Shown Is cell w s c y → Shown Is cell w' s c y
-    shown_grows w w' g s c y h =
-        record { fits = fits_grows Is cell IsPlain kept w w' g s c h.fits; same = h.same ∙ cells_grow Is cell IsPlain kept w w' g s c h.fits }
 
     all_grow : (w w' : World S) → Grows w w' → (ss : List (Shape S)) (cs : List (Content V)) (ys : List (List C)) → AllShown Is cell w ss cs ys → AllShown Is cell w' ss cs ys
     all_grow w w' g [] [] [] h = tt

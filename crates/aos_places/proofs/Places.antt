@@ -25,7 +25,7 @@ splice_behind front new old back e =
     ∙ ap (λ l. front ++ (new ++ l)) (drop-append-add front (old ++ back) (length new) ∙ ap (λ n. drop n (old ++ back)) e ∙ drop-append_seam old back)
 
 module _ {S : Type 0} where
-  size_join : (s more : Shape S) → size s ≤ size (join s more)
+  pub size_join : (s more : Shape S) → size s ≤ size (join s more)
   size_join (One k) more = omega arith
   size_join Nothing more = omega arith
   size_join (Pair a b) more = let h = size_join b more in omega (arith, h)

@@ -1,5 +1,5 @@
 -- What an image has of each routine of a program: its code, which carries out the routine's statements, and its shape.
-use Rattle.std.proofs.Common.{◌≡◌, ℕ, zero, suc, pos, List, [], ◌∷◌, ◌++◌, map, Option, Some, None, refl, sym, ap, ◌∙◌, arith}
+use Rattle.std.proofs.Common.{◌≡◌, ℕ, zero, suc, pos, ◌+◌, ◌<◌, length, List, [], ◌∷◌, ◌++◌, map, Option, Some, None, refl, sym, ap, ◌∙◌, arith}
 use Rattle.std.specs.Prelude.{All, slice_get, option_map}
 use Rattle.std.proofs.lemmas.List.Elements.{All-nil, All-cons, All-append, All-map, All-tail}
 use Rattle.std.proofs.lemmas.Option.{slice_get-map}
@@ -19,9 +19,14 @@ use Rattle.aos_code.specs.Silent.{keeps_in}
 use Rattle.aos_code.specs.Machine.{home_in, code_in_body, code_of}
 use Rattle.aos_sim.specs.Code.{body_code}
 use Rattle.aos_sim.specs.Need.{keeps_of}
-use Rattle.aos_sim.specs.Shows.{shape_of, IsCodeOf}
+use Rattle.aos_sim.specs.Shows.{shape_of, type_kinds, IsCodeOf}
+use Rattle.aos_typed.specs.Numbers.{id_of_made, predeclared_types}
+use Rattle.aos_code.specs.declared.image.TypeDesc.{TypeDesc}
+use Rattle.std.specs.List.{range_with_len}
 use Rattle.aos_sim.proofs.First.{all_get}
-use Rattle.aos_sim.proofs.Does.{HasShapes}
+use Rattle.aos_sim.proofs.Runs.{Tables, tables_of}
+use Rattle.aos_sim.proofs.Does.{HasTypes, HasShapes}
+use Rattle.aos_sim.proofs.Extends.{extends_alike}
 use Rattle.aos_sim.proofs.Carries.{IsOwn}
 use Rattle.aos_sim.proofs.Stats.{body_goes}
 use Rattle.aos_sim.proofs.States.{RoutinesRun}
@@ -35,25 +40,30 @@ alike_at {A = A} f g xs ys same k y e =
     by None there h = absurd (cc)
     by (Some x) there h = (x, there, cc)
 
+range_get : (n from k : ℕ) → k < n → slice_get (range_with_len from n) k ≡ Some (k + from)
+range_get zero from k l = absurd (omega (arith, l))
+range_get (suc n) from zero l = let e : from ≡ 0 + from = omega arith in ap (λ m. Some m) e
+range_get (suc n) from (suc k) l = let e : k + (from + 1) ≡ suc k + from = omega arith in range_get n (from + 1) k (omega (arith, l)) ∙ ap (λ m. Some m) e
+
 -- what a shape says of a routine
 
-module _ (p : Program) (shapes : List ProcShape) (shaped : HasShapes p shapes) (number : ℕ) (r : Routine) (there : by_number number (routines p) ≡ Some r) where
-  pub own_known : IsOwn p r.own shapes number
-  own_known = let x = shaped number r there in (x.0, x.1, ap (λ z. z.result) x.2 ∙ by r.own)
+module _ (p : Program) (tables : Tables) (shaped : HasShapes p tables) (number : ℕ) (r : Routine) (there : by_number number (routines p) ≡ Some r) where
+  pub own_known : IsOwn p r.own tables number
+  own_known = let x = shaped.shapes number r there in (x.0, x.1, ap (λ z. z.result) x.2 ∙ by r.own)
     where
       by : (own : Option Procedure) → (shape_of p.types (record { home = r.home; own = own; body = r.body })).result ≡ option_map (λ t. kind_of p.types (id_of t)) (result_of own)
       by None = refl
       by (Some q) = refl
 
-  pub home_known : home_in (numbered shapes number) ≡ r.home
-  home_known = let x = shaped number r there in ap home_in x.1 ∙ ap (λ z. z.module_) x.2 ∙ by r.own
+  pub home_known : home_in (numbered tables.procedures number) ≡ r.home
+  home_known = let x = shaped.shapes number r there in ap home_in x.1 ∙ ap (λ z. z.module_) x.2 ∙ by r.own
     where
       by : (own : Option Procedure) → (shape_of p.types (record { home = r.home; own = own; body = r.body })).module_ ≡ r.home
       by None = refl
       by (Some q) = refl
 
-  pub keeps_known : keeps_in (numbered shapes number) ≡ keeps_of r.body
-  keeps_known = let x = shaped number r there in ap keeps_in x.1 ∙ ap (λ z. z.keeps) x.2 ∙ by r.own
+  pub keeps_known : keeps_in (numbered tables.procedures number) ≡ keeps_of r.body
+  keeps_known = let x = shaped.shapes number r there in ap keeps_in x.1 ∙ ap (λ z. z.keeps) x.2 ∙ by r.own
     where
       by : (own : Option Procedure) → (shape_of p.types (record { home = r.home; own = own; body = r.body })).keeps ≡ keeps_of r.body
       by None = refl
@@ -86,13 +96,26 @@ module _ (p : Program) where
       (All-append IsTyped (map of p.objects) (procedures_from 0 p.modules) (All-map IsTyped of p.objects well.objects) (procedures_typed 0 p.modules well.procedures))
 
   module _ (image : Image) (ok : IsCodeOf p image) where
-    pub has_shapes : HasShapes p image.shapes.items
-    has_shapes zero r e = absurd (cc)
-    has_shapes (suc k) r e = alike_at seen_shape (shape_of p.types) image.shapes.items (routines p) ok.shapes k r e
+    routine_shapes : (q : ℕ) (r : Routine) → by_number q (routines p) ≡ Some r → (x : ProcShape) × (numbered image.shapes.items q ≡ Some x) × (seen_shape x ≡ shape_of p.types r)
+    routine_shapes zero r e = absurd (cc)
+    routine_shapes (suc k) r e = alike_at seen_shape (shape_of p.types) image.shapes.items (routines p) ok.shapes k r e
 
-    pub routines_run : IsWellTyped p → RoutinesRun p image
-    routines_run well zero r e here = absurd (cc)
-    routines_run well (suc k) r e here =
+    kinds_there : (k : ℕ) → k < length p.objects → (d : TypeDesc) × (numbered image.types.items (suc k) ≡ Some d) × (d.kinds.items ≡ type_kinds p.types (id_of_made (suc k)))
+    kinds_there k l =
+        let r = alike_at (λ (t : TypeDesc). t.kinds.items) (λ k. type_kinds p.types (record { 0 = k })) image.types.items (range_with_len predeclared_types (length p.objects)) ok.kinds k (k + predeclared_types) (range_get (length p.objects) predeclared_types k l) in
+        (r.0, r.1, r.2)
+
+    pub has_shapes : HasTypes p → HasShapes p (tables_of image)
+    has_shapes typed =
+        record {
+          shapes = routine_shapes;
+          kinds = λ k l. kinds_there k l;
+          extend = λ d t. extends_alike p typed image.types.items ok.bases d t;
+        }
+
+    pub routines_run : IsWellTyped p → HasShapes p (tables_of image) → RoutinesRun p image
+    routines_run well has zero r e here = absurd (cc)
+    routines_run well has (suc k) r e here =
         let b = alike_at (λ (b : Body). b.code.items) (λ r. body_code p r.own r.body) image.bodies.items (routines p) ok.bodies k r e in
-        let keeps = keeps_known p image.shapes.items has_shapes (suc k) r e in
-        body_goes p r.own image.shapes.items (suc k) here (code_of image (suc k)) r.body (λ c. Num (pos 0)) (all_get IsTyped (routines p) k r (routines_typed well) e) (omega (arith, keeps)) (ap code_in_body b.1 ∙ b.2)
+        let keeps = keeps_known p (tables_of image) has (suc k) r e in
+        body_goes p r.own (tables_of image) (suc k) here (code_of image (suc k)) r.body (λ c. Num (pos 0)) (all_get IsTyped (routines p) k r (routines_typed well) e) (omega (arith, keeps)) (ap code_in_body b.1 ∙ b.2)

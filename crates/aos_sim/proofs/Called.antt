@@ -11,16 +11,16 @@ use Rattle.aos_types.specs.declared.row.TypeId.{TypeId}
 use Rattle.aos_types.specs.declared.row.TypeRow.{TypeRow}
 use Rattle.aos_types.specs.declared.row.TypeRow.TheVariants as row
 use Rattle.aos_types.specs.Shape.{size}
-use Rattle.aos_types.specs.Table.{row_of, is_open, is_scalar}
+use Rattle.aos_types.specs.Table.{row_of, is_open, is_record, is_scalar}
 use Rattle.aos_types.specs.World.{World}
 use Rattle.aos_typed.specs.declared.tree.TType.{TType}
 use Rattle.aos_typed.specs.declared.tree.TType.TheVariants as type
 use Rattle.aos_typed.specs.Program.{Parameter, Procedure, Program}
 use Rattle.aos_typed.specs.Numbers.{id_of, procedure_number}
-use Rattle.aos_typed.specs.Open.{open_dimensions, open_element}
-use Rattle.aos_typed.specs.Sort.{Sort}
+use Rattle.aos_typed.specs.Open.{open_dimensions, open_element, first_same}
+use Rattle.aos_typed.specs.Sort.{Sort, Variable, Alias}
 use Rattle.aos_typed.specs.Value.{Value, Int, Flag, Char, Set, Object, Callable, Place}
-use Rattle.aos_typed.specs.Typing.{IsBasic, IsPlainly}
+use Rattle.aos_typed.specs.Typing.{IsBasic, IsPlainly, Extends, Is}
 use Rattle.aos_typed.specs.WellTyped.{is_basic, procedure_in}
 use Rattle.aos_layout.specs.Frame.{parameter_kind}
 use Rattle.aos_layout.specs.Layout.{kind_in, kind_of, cells}
@@ -37,9 +37,10 @@ use Rattle.aos_code.specs.Numbered.{numbered}
 use Rattle.aos_code.specs.Silent.{Question, Stack, Keeps, Act, Sees, Stops, lost, is_of, kinds_of, on_kind, on_kinds, calls}
 use Rattle.aos_sim.specs.Cells.{cell_of}
 use Rattle.aos_sim.specs.Shows.{shape_of}
-use Rattle.aos_sim.proofs.Runs.{gives_result, on_run, at_work, runs}
+use Rattle.aos_sim.proofs.Runs.{Tables, gives_result, on_run, at_work, runs}
 use Rattle.aos_sim.proofs.Types.{basic_of, number_cell, from_basic}
 use Rattle.aos_sim.proofs.Does.{HasShapes, Handles, Given, Valid}
+use Rattle.aos_sim.proofs.References.{reference_kind}
 use Rattle.aos_sim.proofs.Evaluates.{pushed}
 pub use Rattle.aos_sim.proofs.Routines.{called, routine_there}
 
@@ -102,16 +103,10 @@ module _ (rows : List TypeRow) (w : World Sort) where
   kind_of_value t (Some (row.Array n of)) v h = is_number v (pos 0) h
   kind_of_value t (Some (row.Open of)) v h = is_number v (pos 0) h
   kind_of_value t (Some (row.Record base fields)) v h = is_number v (pos 0) h
-  kind_of_value t (Some (row.Pointer to)) v h = is_reference v 0 h
-  kind_of_value t (Some (row.Object base fields)) (Object o) h = refl
-  kind_of_value t (Some (row.Object base fields)) (Int z) h = absurd h
-  kind_of_value t (Some (row.Object base fields)) (Flag b) h = absurd h
-  kind_of_value t (Some (row.Object base fields)) (Char c) h = absurd h
-  kind_of_value t (Some (row.Object base fields)) (Set s) h = absurd h
-  kind_of_value t (Some (row.Object base fields)) (Callable p o) h = absurd h
-  kind_of_value t (Some (row.Object base fields)) (Place p) h = absurd h
+  kind_of_value t (Some (row.Pointer to)) v h = reference_kind rows w (Extends rows (first_same rows to)) v h
+  kind_of_value t (Some (row.Object base fields)) v h = reference_kind rows w (Extends rows t) v h
   kind_of_value t (Some (row.Procedure formals r)) v h = subst (λ x. is_of C (cell_of w x) ≡ true) (sym h) refl
-  kind_of_value t (Some row.Any) v h = is_reference v 0 h
+  kind_of_value t (Some row.Any) v h = reference_kind rows w (λ m. Unit {0}) v h
 
 module _ (program : Program) where
   -- the kinds of what is handed over for a parameter
@@ -139,10 +134,26 @@ module _ (program : Program) where
     lengths_are (n ∷ ns) zero e = absurd (cc)
     lengths_are (n ∷ ns) (suc d) e = (refl, lengths_are ns d (omega (arith, e)))
 
+    -- what a VAR parameter stands for is a place
+    alias_kind : (b : Bool) (t : TypeId) (v : Value) → Is program.types w (if b then Variable t else Alias t) v → is_of A (cell_of w v) ≡ true
+    alias_kind b t (Place p) h = refl
+    alias_kind true t (Int z) h = absurd h
+    alias_kind true t (Flag b) h = absurd h
+    alias_kind true t (Char c) h = absurd h
+    alias_kind true t (Set s) h = absurd h
+    alias_kind true t (Object o) h = absurd h
+    alias_kind true t (Callable p o) h = absurd h
+    alias_kind false t (Int z) h = absurd h
+    alias_kind false t (Flag b) h = absurd h
+    alias_kind false t (Char c) h = absurd h
+    alias_kind false t (Set s) h = absurd h
+    alias_kind false t (Object o) h = absurd h
+    alias_kind false t (Callable p o) h = absurd h
+
     handled : (o b c : Bool) (t : TypeId) (us : List Value) → Handles program o b c w t us → AreOf (kinds_for o b c t) (map (cell_of w) us)
     handled true b c t us h =
         subst (λ us. AreOf (kinds_for true b c t) (map (cell_of w) us)) (sym h.2) (refl, lengths_are h.1 (open_dimensions program.types t) h.3)
-    handled false true c t us h = subst (λ us. AreOf (A ∷ []) (map (cell_of w) us)) (sym h.1) (refl, tt)
+    handled false true c t us h = subst (λ us. AreOf (A ∷ []) (map (cell_of w) us)) (sym h.1) (alias_kind (is_record (row_of program.types t)) t h.0 h.2, tt)
     handled false false true t us h =
         subst (λ us. AreOf (kind_of program.types t ∷ []) (map (cell_of w) us)) (sym h.1) (kind_of_value program.types w t (row_of program.types t) h.0 h.2, tt)
     handled false false false t us h = subst (λ us. AreOf (A ∷ []) (map (cell_of w) us)) (sym h.1) (refl, tt)
@@ -158,7 +169,7 @@ module _ (program : Program) where
         subst (λ ks. AreOf ks (map (cell_of w) vs)) (sym (kinds_first a ps))
         (subst (λ us. AreOf (kinds_for o a.by_reference c t ++ kinds_of ps) us) (sym (map-append (cell_of w) h.0 h.1) ∙ ap (map (cell_of w)) (sym h.2)) both)
 
-  module _ (shapes : List ProcShape) (shaped : HasShapes program shapes) (here : ℕ) (w : World Sort) (m k : ℕ) (q : Procedure) (there : procedure_in program m k ≡ Some q) (vs : List Value) (given : Given program w q.parameters vs) where
+  module _ (tables : Tables) (shaped : HasShapes program tables) (here : ℕ) (w : World Sort) (m k : ℕ) (q : Procedure) (there : procedure_in program m k ≡ Some q) (vs : List Value) (given : Given program w q.parameters vs) where
     abbrev called_number : ℕ
     called_number = procedure_number program m k
 
@@ -175,19 +186,19 @@ module _ (program : Program) where
         ∙ ap (λ us. Sees (Calls called_number us) s) (append-nil cells)
 
     -- with what is given on the stack, the code asks for the call
-    pub call_asks : (number : ℕ) (code rest : List Instr) (p : ℕ) (ks : Keeps) (s : Stack) → runs shapes number here code (i.Call called_number ∷ rest) 0 p ks (pushed (map (cell_of w) vs) s) ≡ at_work shapes asked p ks s (runs shapes number here code rest)
+    pub call_asks : (number : ℕ) (code rest : List Instr) (p : ℕ) (ks : Keeps) (s : Stack) → runs tables number here code (i.Call called_number ∷ rest) 0 p ks (pushed (map (cell_of w) vs) s) ≡ at_work tables asked p ks s (runs tables number here code rest)
     call_asks number code rest p ks s =
-        let x = shaped called_number (called m q) (routine_there program m k q there) in
-        ap (λ a. on_run shapes a (runs shapes number here code rest) p ks) (of_shape x.0 x.2 (numbered shapes called_number) x.1 s)
+        let x = shaped.shapes called_number (called m q) (routine_there program m k q there) in
+        ap (λ a. on_run tables a (runs tables number here code rest) p ks) (of_shape x.0 x.2 (numbered tables.procedures called_number) x.1 s)
 
     -- which is a valid question
     pub call_valid : Valid program here w (Calls called_number vs)
     call_valid = (called m q, routine_there program m k q there, given)
 
     -- and the code goes on with a function's result, and without one behind a procedure
-    pub call_gives : gives_result (numbered shapes called_number) ≡ is_some q.result
+    pub call_gives : gives_result (numbered tables.procedures called_number) ≡ is_some q.result
     call_gives =
-        let x = shaped called_number (called m q) (routine_there program m k q there) in
+        let x = shaped.shapes called_number (called m q) (routine_there program m k q there) in
         ap gives_result x.1 ∙ ap (λ z. is_some z.result) x.2 ∙ of_result q.result
       where
         of_result : (r : Option TType) → is_some (option_map (λ t. kind_of program.types (id_of t)) r) ≡ is_some r

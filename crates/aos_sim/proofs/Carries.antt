@@ -17,7 +17,6 @@ use Rattle.aos_typed.specs.Routines.{result_of}
 use Rattle.aos_typed.specs.Sort.{Sort}
 use Rattle.aos_typed.specs.Value.{Value}
 use Rattle.aos_typed.specs.Meaning.{Item, Do, Rounds, Round, Until, After, Into, Returns, Exits, leave, items_of, item_of, stat_of, pos_of}
-use Rattle.aos_typed.specs.Source as S
 use Rattle.aos_typed.specs.WellTyped.{IsPlaceOf, IsStatement, AreStatements}
 use Rattle.aos_layout.specs.Layout.{kind_of}
 use Rattle.aos_code.specs.declared.instr.Cell.{Cell}
@@ -29,8 +28,8 @@ use Rattle.aos_code.specs.Silent.{Stack, Keeps, kept, keeps_in}
 use Rattle.aos_sim.specs.Cells.{cell_of}
 use Rattle.aos_sim.specs.Code.{stat_code, stats_code, rounds_code, end_code}
 use Rattle.aos_sim.specs.Need.{stat_level, stats_level}
-use Rattle.aos_sim.proofs.Runs.{Run, AtBegin, run, calm, drop_past}
-use Rattle.aos_sim.proofs.Does.{HasTypes, HasShapes, Knows, IsResult, Does, Calmly}
+use Rattle.aos_sim.proofs.Runs.{Run, Tables, AtBegin, run, drop_past}
+use Rattle.aos_sim.proofs.Does.{HasTypes, HasShapes, Knows, IsResult, Does, Lasts}
 
 -- keeps that are the same below a level
 abbrev pub Below : ℕ → Keeps → Keeps → Type 0
@@ -56,23 +55,23 @@ pub record Stands (code : List Instr) (at : ℕ) (xs : List Instr) : Type 0 wher
   pub here : drop at code ≡ xs ++ rest
 
 -- code knows what the procedure with this number gives
-abbrev pub IsOwn : Program → Option Procedure → List ProcShape → ℕ → Type 0
-IsOwn program own shapes number =
-    (f : ProcShape) × (numbered shapes number ≡ Some f) × (f.result ≡ option_map (λ t. kind_of program.types (id_of t)) (result_of own))
+abbrev pub IsOwn : Program → Option Procedure → Tables → ℕ → Type 0
+IsOwn program own tables number =
+    (f : ProcShape) × (numbered tables.procedures number ≡ Some f) × (f.result ≡ option_map (λ t. kind_of program.types (id_of t)) (result_of own))
 
 -- where no item is left: the end of the frame, or a function's trap
 abbrev pub AtEnd : Option TType → Run → Type 0
 AtEnd None m = (g : Cell → Run) × (m ≡ Asks (Ends None) g)
 AtEnd (Some t) m = m ≡ Traps 10 0
 
-module _ (program : Program) (own : Option Procedure) (shapes : List ProcShape) (number here : ℕ) (code : List Instr) where
+module _ (program : Program) (own : Option Procedure) (tables : Tables) (number here : ℕ) (code : List Instr) where
   -- from both places the code does the same
   abbrev pub Same : ℕ → ℕ → Type 0
-  Same p q = (k : Keeps) (s : Stack) → run shapes number here code p k s ≡ run shapes number here code q k s
+  Same p q = (k : Keeps) (s : Stack) → run tables number here code p k s ≡ run tables number here code q k s
 
   -- the procedure keeps something under so many numbers at most
   abbrev pub Holds : ℕ → Type 0
-  Holds n = n ≤ keeps_in (numbered shapes number)
+  Holds n = n ≤ keeps_in (numbered tables.procedures number)
 
   -- the code of a well-typed statement stands at this place, and of well-typed statements
   pub record HasStatement (s : Stat) (at exit level : ℕ) : Type 0 where
@@ -146,7 +145,7 @@ module _ (program : Program) (own : Option Procedure) (shapes : List ProcShape) 
     pub exit : ℕ
     pub level : ℕ
     pub keeps : Keeps
-    pub runs : m ≡ run shapes number here code at keeps []
+    pub runs : m ≡ run tables number here code at keeps []
     pub carries : Carries is at exit level keeps
 
   -- what follows a statement is what the code goes on with, and with the items after it; or the code asks for the end of the frame,
@@ -157,7 +156,7 @@ module _ (program : Program) (own : Option Procedure) (shapes : List ProcShape) 
   Behind after w Exits m = GoesOn (leave after) m
 
   -- behind the innermost LOOP, from where EXIT leads
-  pub outside : (is : List Item) (at x d : ℕ) (k : Keeps) → Carries is at x d k → GoesOn (leave is) (run shapes number here code x k [])
+  pub outside : (is : List Item) (at x d : ℕ) (k : Keeps) → Carries is at x d k → GoesOn (leave is) (run tables number here code x k [])
   outside [] at x d k c = record { at = x; exit = x; level = d; keeps = k; runs = refl; carries = (x, omega arith, (λ k s. refl), c.4, c.4) }
   outside (Do s ∷ is) at x d k c = outside is (c.0 + length (stat_code program own s c.0 x d)) x d k c.4
   outside (Rounds there w q last step b ∷ is) at x d k c =
@@ -181,23 +180,23 @@ module _ (program : Program) (own : Option Procedure) (shapes : List ProcShape) 
 
   -- what remains of the items of a frame, whose variables these are and their cells, is what its code goes on with
   abbrev pub Remains : Content Value → List Cell → World Sort → Option (List Value) → List Item → ℕ → Keeps → Stack → Type 0
-  Remains c cells w None is next k s = (s ≡ []) × GoesOn is (run shapes number here code next k [])
+  Remains c cells w None is next k s = (s ≡ []) × GoesOn is (run tables number here code next k [])
   Remains c cells w (Some t) [] next k s = ⊥
   Remains c cells w (Some t) (i ∷ is) next k s =
-      Calmly program here (Behind is) cells w (calm cells (run shapes number here code next k s)) (S.calm c (feed t (item_of program here i)))
+      Lasts program here (Behind is) tables.types c cells w (run tables number here code next k s) (feed t (item_of program here i))
 
   -- the code of a statement does what the statement does
   abbrev pub StatementDoes : (exit level : ℕ) → Keeps → List Item → Stat → Type 0
   StatementDoes x d k after s =
       (w : World Sort) (at : ℕ) → Knows program own here w → HasStatement s at x d → Carries after (at + length (stat_code program own s at x d)) x d k →
-      Does program here (Behind after) w (run shapes number here code (at + 1) k []) (stat_of program here s)
+      Does program here (Behind after) w (run tables number here code (at + 1) k []) (stat_of program here s)
 
   -- a run comes to a Begin, and the code behind it does what this item does
   pub record BeginsAt (there : Pos) (i : Item) (after : List Item) (w : World Sort) (m : Run) : Type 0 where
     pub at : ℕ
     pub keeps : Keeps
     pub runs : m ≡ Val (AtBegin at there keeps [])
-    pub does : Does program here (Behind after) w (run shapes number here code (at + 1) keeps []) (item_of program here i)
+    pub does : Does program here (Behind after) w (run tables number here code (at + 1) keeps []) (item_of program here i)
 
   -- what a run comes to where these items are next: the beginning of the first, or what it does where it has none
   abbrev pub AtNext : List Item → World Sort → Run → Type 0
@@ -210,5 +209,5 @@ module _ (program : Program) (own : Option Procedure) (shapes : List ProcShape) 
 -- each item's code does what the item does
 abbrev pub ItemsDo : Program → Type 0
 ItemsDo program =
-    (own : Option Procedure) (shapes : List ProcShape) (number here : ℕ) (code : List Instr) (w : World Sort) (is : List Item) (m : Run) → HasTypes program → HasShapes program shapes → IsOwn program own shapes number → Knows program own here w →
-    GoesOn program own shapes number here code is m → AtNext program own shapes number here code is w m
+    (own : Option Procedure) (tables : Tables) (number here : ℕ) (code : List Instr) (w : World Sort) (is : List Item) (m : Run) → HasTypes program → HasShapes program tables → IsOwn program own tables number → Knows program own here w →
+    GoesOn program own tables number here code is m → AtNext program own tables number here code is w m

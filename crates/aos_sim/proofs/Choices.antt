@@ -17,8 +17,7 @@ use Rattle.aos_typed.specs.Program.{Expr, Case, Cases, NoElse, Else, OfLabels, P
 use Rattle.aos_typed.specs.Sort.{Sort}
 use Rattle.aos_typed.specs.Value.{Value, number_of}
 use Rattle.aos_typed.specs.Meaning.{Doing, Item, After, Into, items_of, value_of, is_in, case_of, stat_of}
-use Rattle.aos_typed.specs.WellTyped.{IsOf, AreCases}
-use Rattle.aos_code.specs.declared.image.ProcShape.{ProcShape}
+use Rattle.aos_typed.specs.WellTyped.{is_basic, IsOf, AreCases}
 use Rattle.aos_code.specs.declared.instr.Cell.TheVariants.{Num}
 use Rattle.aos_code.specs.declared.instr.Instr.{Instr}
 use Rattle.aos_code.specs.declared.instr.Instr.TheVariants as i
@@ -28,7 +27,7 @@ use Rattle.aos_code.specs.Silent.{Keeps, kept, keeps_in}
 use Rattle.aos_sim.specs.Search.{Search, Nowhere, At, Split, arms_in, search_of, found, label_code, search_size, search_code}
 use Rattle.aos_sim.specs.Code.{begin, value_code, stats_code, cases_code, arm_place}
 use Rattle.aos_sim.specs.Need.{stats_level, cases_level}
-use Rattle.aos_sim.proofs.Runs.{Run, Onward, runs, run, drop_next, drop_past}
+use Rattle.aos_sim.proofs.Runs.{Tables, Run, Onward, runs, run, drop_next, drop_past}
 use Rattle.aos_sim.proofs.Does.{HasTypes, HasShapes, Does, along}
 use Rattle.aos_sim.proofs.Evaluates.{operand_does}
 use Rattle.aos_sim.proofs.Exprs.{value_does}
@@ -38,21 +37,21 @@ use Rattle.aos_sim.proofs.Carries.{kept_here, kept_below, Stands, Same, Holds, H
 use Rattle.aos_sim.proofs.Stats.{from_here, jumps_on, keeps_number, takes_number}
 use Rattle.aos_sim.proofs.Loops.{jumps_if}
 
-module _ (program : Program) (own : Option Procedure) (shapes : List ProcShape) (number here : ℕ) (code : List Instr) where
+module _ (program : Program) (own : Option Procedure) (tables : Tables) (number here : ℕ) (code : List Instr) where
   abbrev onward : List Instr → Onward
-  onward = runs shapes number here code
+  onward = runs tables number here code
 
   abbrev from : ℕ → Keeps → Run
-  from p k = run shapes number here code p k []
+  from p k = run tables number here code p k []
 
   abbrev Leaves : List Item → World Sort → After → Run → Type 0
-  Leaves = Behind program own shapes number here code
+  Leaves = Behind program own tables number here code
 
   abbrev Goes : List Item → Run → Type 0
-  Goes = GoesOn program own shapes number here code
+  Goes = GoesOn program own tables number here code
 
   -- where the selector's value is kept
-  module _ (z : ℤ) (d : ℕ) (k : Keeps) (room : d < keeps_in (numbered shapes number)) (is_kept : k d ≡ Num z) where
+  module _ (z : ℤ) (d : ℕ) (k : Keeps) (room : d < keeps_in (numbered tables.procedures number)) (is_kept : k d ≡ Num z) where
     abbrev test : Relation → ℤ → ℕ → List Instr → List Instr
     test relation l to rest = i.Kept d N ∷ (i.Num l ∷ (i.Binary (Cmp relation) ∷ (i.JumpFalse to ∷ rest)))
 
@@ -61,15 +60,15 @@ module _ (program : Program) (own : Option Procedure) (shapes : List ProcShape) 
     label_runs relation l to p rest le st =
         let four : p + 1 + 1 + 1 + 1 ≡ p + 4 = omega arith in
         let h : drop (p + 1 + 1 + 1 + 1) code ≡ rest = ap (λ n. drop n code) four ∙ drop_past (test relation l to []) p code rest st in
-        from_here program own shapes number here code p (test relation l to rest) k [] st
-        ∙ takes_number program own shapes number here code d z (i.Num l ∷ (i.Binary (Cmp relation) ∷ (i.JumpFalse to ∷ rest))) p k [] room is_kept
-        ∙ jumps_if program own shapes number here code (holds relation z l) to (p + 1 + 1 + 1) rest k (jumps_on program own shapes number here code rest to (p + 1 + 1 + 1) k [] (omega (arith, le)) h) h
+        from_here program own tables number here code p (test relation l to rest) k [] st
+        ∙ takes_number program own tables number here code d z (i.Num l ∷ (i.Binary (Cmp relation) ∷ (i.JumpFalse to ∷ rest))) p k [] room is_kept
+        ∙ jumps_if program own tables number here code (holds relation z l) to (p + 1 + 1 + 1) rest k (jumps_on program own tables number here code rest to (p + 1 + 1 + 1) k [] (omega (arith, le)) h) h
         ∙ ap (λ n. from (if holds relation z l then n else to) k) four
 
     leads : (to p : ℕ) (rest : List Instr) → p < to → drop p code ≡ i.Jump to ∷ rest → from p k ≡ from to k
     leads to p rest lt st =
-        from_here program own shapes number here code p (i.Jump to ∷ rest) k [] st
-        ∙ jumps_on program own shapes number here code rest to p k [] lt (drop_next p code (i.Jump to) rest st)
+        from_here program own tables number here code p (i.Jump to ∷ rest) k [] st
+        ∙ jumps_on program own tables number here code rest to p k [] lt (drop_next p code (i.Jump to) rest st)
 
     range_runs : (r : LabelRange) (p hit : ℕ) (rest : List Instr) → p + 9 ≤ hit → drop p code ≡ label_code r d p hit ++ rest → from p k ≡ from (if is_in z r then hit else p + 9) k
     range_runs r p hit rest le st =
@@ -114,14 +113,14 @@ module _ (program : Program) (own : Option Procedure) (shapes : List ProcShape) 
 
     module _ (x : ℕ) (after : List Item) where
       abbrev Carried : ℕ → Type 0
-      Carried p = Carries program own shapes number here code after p x d k
+      Carried p = Carries program own tables number here code after p x d k
 
       -- the arm that has the value leads on to the same end as the others
-      pub cases_do : (cases : Cases) (p end : ℕ) (w : World Sort) → AreCases program own cases → Holds program own shapes number here code (cases_level cases d) → Stands code p (cases_code program own cases p end x d) → end ≡ p + length (cases_code program own cases p end x d) → Carries program own shapes number here code after end x d k → Does program here (Behind program own shapes number here code after) w (run shapes number here code (arm_place program own cases p x d (arm_of z cases)) k []) (case_of z cases)
-      cases_do NoElse p end w ok holds st len c = (from_here program own shapes number here code p (i.Fail 4 ∷ st.rest) k [] st.here, omega arith)
+      pub cases_do : (cases : Cases) (p end : ℕ) (w : World Sort) → AreCases program own cases → Holds program own tables number here code (cases_level cases d) → Stands code p (cases_code program own cases p end x d) → end ≡ p + length (cases_code program own cases p end x d) → Carries program own tables number here code after end x d k → Does program here (Behind program own tables number here code after) w (run tables number here code (arm_place program own cases p x d (arm_of z cases)) k []) (case_of z cases)
+      cases_do NoElse p end w ok holds st len c = (from_here program own tables number here code p (i.Fail 4 ∷ st.rest) k [] st.here, omega arith)
       cases_do (Else ss) p end w ok holds st len c =
-          let has : HasStatements program own shapes number here code ss p x d = record { stands = st; typed = ok; holds = holds } in
-          record { at = p; exit = x; level = d; keeps = k; runs = refl; carries = carries_all program own shapes number here code ss p x d k after has (subst Carried len c) }
+          let has : HasStatements program own tables number here code ss p x d = record { stands = st; typed = ok; holds = holds } in
+          record { at = p; exit = x; level = d; keeps = k; runs = refl; carries = carries_all program own tables number here code ss p x d k after has (subst Carried len c) }
       cases_do (OfLabels rs ss cases) p end w ok holds st len c =
           let b = stats_code program own ss p x d in
           let pj = p + length b in
@@ -132,10 +131,10 @@ module _ (program : Program) (own : Option Procedure) (shapes : List ProcShape) 
           let h2 : drop pj code ≡ i.Jump end ∷ rest2 = drop_past b p code (i.Jump end ∷ rest2) h1 in
           let h3 : drop next code ≡ rest2 = drop_next pj code (i.Jump end) rest2 h2 in
           let len2 : end ≡ next + length more = omega (arith, len, length-append b (i.Jump end ∷ more)) in
-          let le : end ≤ x = bound program own shapes number here code after end x d k c in
-          let over : Same program own shapes number here code pj end = λ k' s. from_here program own shapes number here code pj (i.Jump end ∷ rest2) k' s h2 ∙ jumps_on program own shapes number here code rest2 end pj k' s (omega (arith, len2)) h3 in
-          let has : HasStatements program own shapes number here code ss p x d = record { stands = record { rest = i.Jump end ∷ rest2; here = h1 }; typed = ok.1; holds = omega (arith, holds, le-max_left (stats_level ss d) (cases_level cases d)) } in
-          let row = carries_all program own shapes number here code ss p x d k after has (moved program own shapes number here code after pj end x d k (omega (arith, len2, le)) over c) in
+          let le : end ≤ x = bound program own tables number here code after end x d k c in
+          let over : Same program own tables number here code pj end = λ k' s. from_here program own tables number here code pj (i.Jump end ∷ rest2) k' s h2 ∙ jumps_on program own tables number here code rest2 end pj k' s (omega (arith, len2)) h3 in
+          let has : HasStatements program own tables number here code ss p x d = record { stands = record { rest = i.Jump end ∷ rest2; here = h1 }; typed = ok.1; holds = omega (arith, holds, le-max_left (stats_level ss d) (cases_level cases d)) } in
+          let row = carries_all program own tables number here code ss p x d k after has (moved program own tables number here code after pj end x d k (omega (arith, len2, le)) over c) in
           taken (list_any (is_in z) rs)
           (record { at = p; exit = x; level = d; keeps = k; runs = refl; carries = row })
           (cases_do cases next end w ok.2 (omega (arith, holds, le-max_right (stats_level ss d) (cases_level cases d))) (record { rest = st.rest; here = h3 }) len2 c)
@@ -144,10 +143,10 @@ module _ (program : Program) (own : Option Procedure) (shapes : List ProcShape) 
           taken true on_hit others = on_hit
           taken false on_hit others = others
 
-  module _ (typed : HasTypes program) (shaped : HasShapes program shapes) (x d : ℕ) (k : Keeps) (after : List Item) where
+  module _ (typed : HasTypes program) (shaped : HasShapes program tables) (x d : ℕ) (k : Keeps) (after : List Item) where
     -- with a selector of this type
-    selected : (of_type : TType) (there : Pos) (e : Expr) (cases : Cases) → IsOf program own e of_type → StatementDoes program own shapes number here code x d k after (Case there e cases)
-    selected of_type there e cases of w at known has c =
+    selected : (of_type : TType) (there : Pos) (e : Expr) (cases : Cases) → is_basic of_type ≡ true → IsOf program own e of_type → StatementDoes program own tables number here code x d k after (Case there e cases)
+    selected of_type there e cases basic of w at known has c =
         let rest = has.stands.rest in
         let c1 = value_code program own e (at + 1) in
         let pk = at + 1 + length c1 in
@@ -167,25 +166,25 @@ module _ (program : Program) (own : Option Procedure) (shapes : List ProcShape) 
         let h3 : drop ps code ≡ tail = drop_next pk code (i.Keep d N) tail (drop_past c1 (at + 1) code (i.Keep d N ∷ tail) h1) in
         let h4 : drop pa code ≡ cs ++ rest = ap (λ n. drop (ps + n) code) (sym size) ∙ drop_past search ps code (cs ++ rest) h3 in
         let len : at + suc (length (c1 ++ (i.Keep d N ∷ (search ++ cs)))) ≡ end = omega (arith, z, size, length-append c1 (i.Keep d N ∷ (search ++ cs)), length-append search cs) in
-        let room : d < keeps_in (numbered shapes number) = omega (arith, has.holds, le-max_left (suc d) (cases_level cases d)) in
-        let more : Holds program own shapes number here code (cases_level cases d) = omega (arith, has.holds, le-max_right (suc d) (cases_level cases d)) in
+        let room : d < keeps_in (numbered tables.procedures number) = omega (arith, has.holds, le-max_left (suc d) (cases_level cases d)) in
+        let more : Holds program own tables number here code (cases_level cases d) = omega (arith, has.holds, le-max_right (suc d) (cases_level cases d)) in
         let f : Value → Doing After = λ v. case_of (number_of v) cases in
-        along program here (Leaves after) w _ _ (bind (value_of program here e) f) (from_here program own shapes number here code (at + 1) (c1 ++ (i.Keep d N ∷ tail)) k [] h1 ∙ ap (λ l. onward l 0 (at + 1) k []) (sym (append_assoc c1 (i.Keep d N ∷ []) tail)))
-        (operand_does program own shapes number here code (Leaves after) of_type f c1 (i.Keep d N ∷ []) (value_of program here e) (at + 1) tail k [] (value_does program own shapes number here code typed shaped e of_type of (at + 1)) w known
+        along program here (Leaves after) w _ _ (bind (value_of program here e) f) (from_here program own tables number here code (at + 1) (c1 ++ (i.Keep d N ∷ tail)) k [] h1 ∙ ap (λ l. onward l 0 (at + 1) k []) (sym (append_assoc c1 (i.Keep d N ∷ []) tail)))
+        (operand_does program own tables number here code (Leaves after) of_type f c1 (i.Keep d N ∷ []) (value_of program here e) (at + 1) tail k [] (value_does program own tables number here code typed shaped e of_type basic of (at + 1)) w known
         (λ w' up v m is e'.
         let n = number_of v in
         let k' = kept d (Num n) k in
         let here_kept = kept_here d (Num n) k in
         along program here (Leaves after) w' m _ (f v)
-        (e' ∙ keeps_number program own shapes number here code d n tail pk k [] room ∙ sym (from_here program own shapes number here code ps tail k' [] h3)
+        (e' ∙ keeps_number program own tables number here code d n tail pk k [] room ∙ sym (from_here program own tables number here code ps tail k' [] h3)
         ∙ search_runs n d k' room here_kept place (arms_in cases) t ps (cs ++ rest) (arm_ahead program own cases pa x d) h3
         ∙ ap (λ a. from (place a) k') (found_first n cases has.typed.1))
         (cases_do n d k' room here_kept x after cases pa end w' has.typed.2 more (record { rest = rest; here = h4 }) z
-        (survives program own shapes number here code after end x d k k' (kept_below d d (Num n) k (omega arith)) (subst (λ q. Carries program own shapes number here code after q x d k) len c)))))
+        (survives program own tables number here code after end x d k k' (kept_below d d (Num n) k (omega arith)) (subst (λ q. Carries program own tables number here code after q x d k) len c)))))
 
-    pub case_does : (there : Pos) (e : Expr) (cases : Cases) → StatementDoes program own shapes number here code x d k after (Case there e cases)
+    pub case_does : (there : Pos) (e : Expr) (cases : Cases) → StatementDoes program own tables number here code x d k after (Case there e cases)
     case_does there e cases w at known has c = by has.typed.0
       where
         by : IsOf program own e (type.Integer W64) ⊎ IsOf program own e type.Char → Does program here (Leaves after) w (from (at + 1) k) (stat_of program here (Case there e cases))
-        by (inl h) = selected (type.Integer W64) there e cases h w at known has c
-        by (inr h) = selected type.Char there e cases h w at known has c
+        by (inl h) = selected (type.Integer W64) there e cases refl h w at known has c
+        by (inr h) = selected type.Char there e cases refl h w at known has c

@@ -4,12 +4,10 @@ use Rattle.std.specs.Prelude.{is_some, option_map, option_and_then}
 use Rattle.std.proofs.lemmas.Bool.{eq-eqb}
 use Rattle.std.proofs.lemmas.List.{length-take-le}
 use Rattle.aos_base.specs.Rooted.{Made, Rooted, load_all, store_all}
-use Rattle.aos_types.specs.Shape.{Shape, Nothing, size, join}
+use Rattle.aos_types.specs.Shape.{Shape, size, join}
 use Rattle.aos_types.specs.Content.{Content, flatten, overlay, EachSort}
-use Rattle.aos_types.specs.Contents.{contents, of_variable, variable_scalars}
-use Rattle.aos_types.specs.Chain.{IsRanked}
-use Rattle.aos_types.specs.Table.{row_of}
-use Rattle.aos_types.specs.World.{World, shape_at, world, read, write}
+use Rattle.aos_types.specs.Contents.{variable_scalars}
+use Rattle.aos_types.specs.World.{World, world, read, write}
 use Rattle.aos_typed.specs.declared.tree.TType.{TType}
 use Rattle.aos_typed.specs.Program.{Program}
 use Rattle.aos_typed.specs.Numbers.{id_of}
@@ -17,46 +15,39 @@ use Rattle.aos_typed.specs.Sort.{Sort, variable_shape}
 use Rattle.aos_typed.specs.Spot.{Spot}
 use Rattle.aos_typed.specs.Value.{Value}
 use Rattle.aos_typed.specs.Typing.{Is, IsPlain}
-use Rattle.aos_typed.specs.WellTyped.{is_whole}
 use Rattle.aos_code.specs.declared.instr.Cell.{Cell}
 use Rattle.aos_code.specs.Machine.{if_all, cells_at}
 use Rattle.aos_places.specs.Shows.{Shows}
-use Rattle.aos_places.proofs.Places.{loads_alike, copy_alike}
+use Rattle.aos_places.proofs.Places.{size_join, loads_alike, copy_alike}
 use Rattle.aos_sim.specs.Cells.{cell_of}
 use Rattle.aos_sim.proofs.Kept.{values_kept}
-use Rattle.aos_sim.proofs.Parts.{variable_size, plain_parts, whole_ends}
-use Rattle.aos_sim.proofs.Does.{scheme, addr_of, HasPlace}
-
-pub some_same : {A : Type 0} (x y : A) → Some x ≡ Some y → x ≡ y
-some_same x y e = cc
+use Rattle.aos_sim.proofs.Parts.{variable_size, each_join, variable_plain}
+use Rattle.aos_sim.proofs.Does.{scheme, addr_of, HasWhole}
+use Rattle.aos_sim.proofs.Objects.{some_same}
 
 pub all_there : (n : ℕ) (cells : List Cell) → length cells ≡ n → if_all n cells ≡ Some cells
 all_there n cells e = rw (eq-eqb (length cells) n e) refl
 
-module _ (program : Program) (ranked : IsRanked program.types) (made : List Made) (frames : List (Shape Sort)) (x : Rooted (Content Value)) (y : Rooted (List Cell)) (shows : Shows (Is program.types) cell_of (scheme program) made frames x y) (t : TType) (whole : is_whole (row_of program.types (id_of t)) ≡ true) where
+module _ (program : Program) (made : List Made) (frames : List (Shape Sort)) (x : Rooted (Content Value)) (y : Rooted (List Cell)) (shows : Shows (Is program.types) cell_of (scheme program) made frames x y) (t : TType) where
   abbrev now : World Sort
   now = world (scheme program) made frames
 
   abbrev shape : Shape Sort
   shape = variable_shape program.types (id_of t)
 
-  -- it's a row, with which the place begins
-  begins : (p : Spot) → HasPlace program now p t → shape_at now p.root p.path ≡ Some (join shape Nothing)
-  begins p h = h ∙ ap (λ s. Some s) (sym (whole_ends program.types ranked (id_of t) whole))
-
-  -- all cells of a place
+  -- all cells of the type at a place
   record AllCells (p : Spot) : Type 0 where
     cells : List Cell
     loaded : load_all (variable_scalars program.types (id_of t)) p.root (addr_of now p).cell y ≡ Some cells
     there : cells_at (variable_scalars program.types (id_of t)) (addr_of now p) y ≡ Some cells
 
-  all_cells : (p : Spot) → HasPlace program now p t → AllCells p
+  all_cells : (p : Spot) → HasWhole program now p (id_of t) → AllCells p
   all_cells p h =
       let n = variable_scalars program.types (id_of t) in
       let size_is : size shape ≡ n = variable_size program.types (id_of t) in
-      let a = loads_alike (Is program.types) cell_of IsPlain (values_kept program.types) (scheme program) made frames x y n shape p.root p.path shows h (omega (arith, size_is)) in
+      let a = loads_alike (Is program.types) cell_of IsPlain (values_kept program.types) (scheme program) made frames x y n (join shape h.0) p.root p.path shows h.1 (let l = size_join shape h.0 in omega (arith, size_is, l)) in
       let cells = take n (map (cell_of now) (flatten a.inner)) in
-      let many : length cells ≡ n = length-take-le n (map (cell_of now) (flatten a.inner)) (let l = a.long in omega (arith, l, size_is)) in
+      let many : length cells ≡ n = length-take-le n (map (cell_of now) (flatten a.inner)) (let l = a.long in let z = size_join shape h.0 in omega (arith, l, size_is, z)) in
       record { cells = cells; loaded = a.image; there = ap (option_and_then (if_all n)) a.image ∙ all_there n cells many }
 
   -- what both sides find, and that the one shows the other behind the copy
@@ -70,10 +61,10 @@ module _ (program : Program) (ranked : IsRanked program.types) (made : List Made
     pub there : is_some (cells_at (variable_scalars program.types (id_of t)) (addr_of now to) y) ≡ true
     pub alike : Shows (Is program.types) cell_of (scheme program) made frames (write to.root to.path (overlay shape new old) x) (store_all to.root (addr_of now to).cell cells y)
 
-  pub copied_alike : (from to : Spot) → HasPlace program now from t → HasPlace program now to t → CopiedAlike from to
+  pub copied_alike : (from to : Spot) → HasWhole program now from (id_of t) → HasWhole program now to (id_of t) → CopiedAlike from to
   copied_alike from to hf ht =
-      let plain : EachSort IsPlain (join shape Nothing) = subst (EachSort IsPlain) (sym (whole_ends program.types ranked (id_of t) whole)) (plain_parts (of_variable (contents program.types) program.types (id_of t))) in
-      let c = copy_alike (Is program.types) cell_of IsPlain (values_kept program.types) (scheme program) made frames x y shape Nothing Nothing from.root from.path to.root to.path shows (begins from hf) (begins to ht) plain in
+      let plain : EachSort IsPlain (join shape ht.0) = each_join IsPlain shape ht.0 (variable_plain program.types (id_of t)) ht.2 in
+      let c = copy_alike (Is program.types) cell_of IsPlain (values_kept program.types) (scheme program) made frames x y shape hf.0 ht.0 from.root from.path to.root to.path shows hf.1 ht.1 plain in
       let a = all_cells from hf in
       let stored = λ (cells : List Cell). store_all to.root (addr_of now to).cell cells y in
       let loaded : load_all (size shape) from.root (addr_of now from).cell y ≡ Some a.cells = ap (λ m. load_all m from.root (addr_of now from).cell y) (variable_size program.types (id_of t)) ∙ a.loaded in

@@ -1,42 +1,48 @@
 -- Code that does what the source does: it asks the same questions, of places that there are and values of the right types, and traps
 -- alike, in each world that has grown.
-use Rattle.std.proofs.Common.{◌≡◌, true, false, Bool, ℕ, suc, ◌+◌, ◌<◌, ◌^◌, Option, Some, None, List, [], ◌∷◌, ◌++◌, length, map, refl, sym, ap, ◌∙◌, subst, arith}
+use Rattle.std.proofs.Common.{◌≡◌, true, false, Bool, if◌then◌else◌, ℕ, zero, suc, ◌+◌, ◌≤◌, ◌<◌, ◌^◌, Option, Some, None, List, [], ◌∷◌, ◌++◌, length, map, refl, sym, ap, ◌∙◌, subst, arith}
 use Rattle.std.specs.Prelude.{pos, All, option_map, option_and_then, slice_get}
+use Rattle.std.specs.Option.{unwrap_or}
 use Rattle.std.proofs.lemmas.Option.{slice_get-map}
 use Rattle.std.proofs.lemmas.List.{map-append}
 use Rattle.aos_base.specs.declared.number.Width.TheVariants.{W64}
-use Rattle.aos_base.specs.Question.{Val, Asks, Traps, bind, feed, Reads, Stores, Copies, PutsText, ComparesTexts, Calls, Ends, Makes, Starts, PutsInt, PutsChar, PutsString, PutsNothing, PutsLn, Places, Lengths}
-use Rattle.aos_base.specs.declared.place.Root.TheVariants.{Frame, Module}
-use Rattle.aos_base.specs.Rooted.{by_number}
+use Rattle.aos_base.specs.Question.{Tree, Val, Asks, Traps, bind, feed, Reads, Stores, Copies, PutsText, ComparesTexts, Calls, Ends, Makes, Starts, PutsInt, PutsChar, PutsString, PutsNothing, PutsLn, Places, Lengths, Opens, Sizes, Tests}
+use Rattle.aos_base.specs.declared.place.Root.TheVariants.{Frame, Module, Object as ObjectRoot}
+use Rattle.aos_base.specs.Rooted.{Made, by_number}
+use Rattle.aos_base.specs.Number.{array_lengths}
+use Rattle.aos_base.specs.Operators.{flag}
 use Rattle.aos_types.specs.declared.row.TypeId.{TypeId}
-use Rattle.aos_types.specs.Shape.{Shape, One, Nothing, Pair, size, repeated, part, inside, offset, number_of, row}
-use Rattle.aos_types.specs.Content.{Content, Scalar, Empty, Row, flatten, found, Fits}
-use Rattle.aos_types.specs.Table.{row_of, is_open, is_scalar}
+use Rattle.aos_types.specs.declared.row.TypeRow.{TypeRow}
+use Rattle.aos_types.specs.Shape.{Shape, One, Pair, size, join, repeated, part, inside, offset, number_of, row}
+use Rattle.aos_types.specs.Content.{Content, Scalar, Empty, Row, flatten, found, Fits, EachSort}
+use Rattle.aos_types.specs.Table.{row_of, base_of, has_fields, is_open, is_record, is_scalar}
+use Rattle.aos_types.specs.Extension.{comes_to}
 use Rattle.aos_types.specs.Chain.{IsRanked}
 use Rattle.aos_types.specs.World.{World, Grows, Scheme, shape_at, cell_at}
 use Rattle.aos_typed.specs.declared.tree.TType.{TType}
 use Rattle.aos_typed.specs.declared.tree.TType.TheVariants as type
-use Rattle.aos_typed.specs.Numbers.{id_of, predeclared_types, predeclared_rows}
+use Rattle.aos_typed.specs.Numbers.{id_of, id_of_made, predeclared_types, predeclared_rows}
 use Rattle.aos_typed.specs.Open.{open_dimensions, open_element}
 use Rattle.aos_typed.specs.Program.{Parameter, Procedure, Program}
 use Rattle.aos_typed.specs.Routines.{Routine, parameters_of, result_of, routines}
 use Rattle.aos_typed.specs.Sort.{Sort, Plain, Variable, Alias, Elements, Length, variable_shape}
 use Rattle.aos_typed.specs.Spot.{Spot}
-use Rattle.aos_typed.specs.Value.{Value, Int, Object, Place}
+use Rattle.aos_typed.specs.Value.{Value, Int, Flag, Object, Place, number_of as number_of_value}
 use Rattle.aos_typed.specs.Typing.{Is, IsPlace, OnPlace, IsPlain, IsInteger, IsFlag, IsCharacter, nested}
-use Rattle.aos_typed.specs.Source.{module_shape, known}
+use Rattle.aos_typed.specs.Source.{module_shape, made_shape, object_place, length_in, known}
 use Rattle.aos_typed.specs.Source as S
 use Rattle.aos_typed.specs.Store.{scalar_in}
-use Rattle.aos_typed.specs.WellTyped.{is_basic, is_whole, IsLength, IsParameter, IsLocal}
+use Rattle.aos_typed.specs.WellTyped.{is_value, is_whole, IsLength, IsParameter, IsLocal}
 use Rattle.aos_typed.specs.Meaning as source
 use Rattle.aos_typed.specs.Meaning.{Doing}
 use Rattle.aos_code.specs.declared.instr.Cell.{Cell}
 use Rattle.aos_code.specs.declared.instr.Cell.TheVariants as cell
 use Rattle.aos_code.specs.declared.instr.Kind.TheVariants.{N, A}
 use Rattle.aos_code.specs.declared.image.ProcShape.{ProcShape}
+use Rattle.aos_code.specs.declared.image.TypeDesc.{TypeDesc}
 use Rattle.aos_code.specs.Memory.{Addr}
 use Rattle.aos_code.specs.Numbered.{numbered}
-use Rattle.aos_code.specs.Silent.{Question, Visible, Answered, noted, noted_as}
+use Rattle.aos_code.specs.Silent.{Question, Noted as Notice, Visible, Answered, extends, noted_as}
 use Rattle.aos_layout.specs.Seen.{seen_shape}
 use Rattle.aos_places.specs.Shows.{Shown}
 use Rattle.aos_places.proofs.Grow.{grows_same, grows_twice, shape_grows, cell_grows}
@@ -45,18 +51,25 @@ use Rattle.aos_places.proofs.Places.{get_behind}
 use Rattle.aos_sim.specs.Code.{kind_of, own_cell}
 use Rattle.aos_types.specs.Contents.{variable_scalars}
 use Rattle.aos_sim.specs.Cells.{cell_of}
-use Rattle.aos_sim.specs.Shows.{shape_of}
-use Rattle.aos_sim.proofs.Runs.{Run, calm, calm_visible, calm_answered}
+use Rattle.aos_sim.specs.Shows.{shape_of, type_kinds}
+use Rattle.aos_places.proofs.Makes.{shown_grows}
+use Rattle.aos_sim.proofs.Runs.{Run, Tables, answered, told_as, or_unknown, calm, calm_visible, calm_answered}
 use Rattle.aos_sim.proofs.Kept.{values_kept}
 use Rattle.aos_sim.proofs.Parts.{within_root}
 use Rattle.aos_sim.proofs.Types.{IsValueOf, number_cell, integer_is, character_is}
 
--- the shapes of a program's modules; an object has no fields yet
+-- the shapes of a program's modules and objects
 abbrev pub scheme : Program → Scheme Sort
-scheme p = record { modules = map (module_shape p) p.modules; made = λ m. Nothing }
+scheme p = record { modules = map (module_shape p) p.modules; made = made_shape p.types }
 
 abbrev pub addr_of : World Sort → Spot → Addr
 addr_of w p = record { root = p.root; cell = cell_at w p.root p.path }
+
+-- a length that there is
+some_length : (ns : List ℕ) (d : ℕ) → d < length ns → (n : ℕ) × (slice_get ns d ≡ Some n)
+some_length [] d l = absurd (omega (arith, l))
+some_length (n ∷ ns) zero l = (n, refl)
+some_length (n ∷ ns) (suc d) l = some_length ns d (omega (arith, l))
 
 -- lengths are in cells as they are
 pub lengths_are : (w : World Sort) (ns : List ℕ) → map (cell_of w) (map (λ n. Int (pos n)) ns) ≡ map (λ n. cell.Num (pos n)) ns
@@ -66,6 +79,11 @@ lengths_are w (n ∷ ns) = ap (λ l. cell.Num (pos n) ∷ l) (lengths_are w ns)
 -- an object, and not NIL
 abbrev pub IsMade : Value → Type 0
 IsMade v = (k : ℕ) × (v ≡ Object (suc k))
+
+-- integers, as those that are to be lengths
+abbrev pub AreIntegers : List Value → Type 0
+AreIntegers [] = Unit {0}
+AreIntegers (v ∷ vs) = IsInteger W64 v × AreIntegers vs
 
 -- so many characters
 abbrev pub characters : ℕ → Shape Sort
@@ -87,22 +105,31 @@ HasRoom w p v = (n : ℕ) × (v ≡ Int (pos n)) × HasCharacters w p n × (0 < 
 abbrev pub HasPredeclared : Program → Type 0
 HasPredeclared p = (k : ℕ) → k < predeclared_types → slice_get p.types k ≡ slice_get predeclared_rows k
 
--- what holds of a program's types, and of its modules: the predeclared types stand first, no type contains itself, and a module has
--- so few scalars that their cells have numbers of 32 bits
+-- what holds of a program's types, and of its modules: the predeclared types stand first, no type contains itself, a base has
+-- fields, and a module has so few scalars that their cells have numbers of 32 bits
 pub record HasTypes (p : Program) : Type 0 where
   pub predeclared : HasPredeclared p
   pub ranked : IsRanked p.types
+  pub bases : (t b : TypeId) → base_of (row_of p.types t) ≡ Some b → has_fields (row_of p.types b) ≡ true
+  pub record_bases : (t b : TypeId) → base_of (row_of p.types t) ≡ Some b → is_record (row_of p.types b) ≡ is_record (row_of p.types t)
+  pub beside : length p.types ≡ length p.objects + predeclared_types
   pub few : (m : ℕ) (s : Shape Sort) → slice_get (map (module_shape p) p.modules) m ≡ Some s → size s < 2 ^ 32
 
--- these shapes are those of the program's routines, in the order of their numbers
-abbrev pub HasShapes : Program → List ProcShape → Type 0
-HasShapes p shapes =
-    (q : ℕ) (r : Routine) → by_number q (routines p) ≡ Some r → (x : ProcShape) × (numbered shapes q ≡ Some x) × (seen_shape x ≡ shape_of p.types r)
+-- the shapes are those of the program's routines, in the order of their numbers, and types extend one another as the program's do and
+-- have cells of the same kinds
+pub record HasShapes (p : Program) (tables : Tables) : Type 0 where
+  pub shapes : (q : ℕ) (r : Routine) → by_number q (routines p) ≡ Some r → (x : ProcShape) × (numbered tables.procedures q ≡ Some x) × (seen_shape x ≡ shape_of p.types r)
+  pub extend : (d t : ℕ) → extends tables.types d (suc t) ≡ comes_to p.types (id_of_made d) (id_of_made (suc t))
+  pub kinds : (k : ℕ) → k < length p.objects → (d : TypeDesc) × (numbered tables.types (suc k) ≡ Some d) × (d.kinds.items ≡ type_kinds p.types (id_of_made (suc k)))
 
 -- What code knows of a world: the shapes of the program's modules, and that of its own frame.
 
 abbrev pub KnowsModules : Program → World Sort → Type 0
 KnowsModules p w = (m : ℕ) (s : Shape Sort) → slice_get (map (module_shape p) p.modules) m ≡ Some s → w.shape (Module m) ≡ Some s
+
+-- what a VAR parameter's cell stands for: a record, whose type the place names, or another variable
+abbrev pub alias_sort : List TypeRow → TypeId → Sort
+alias_sort rows t = if is_record (row_of rows t) then Variable t else Alias t
 
 -- the part of a frame that is a parameter of a type: an open array's place, with the lengths of its dimensions; the place of a variable;
 -- or a variable
@@ -110,7 +137,7 @@ abbrev pub IsPart : Program → (opens by_reference : Bool) → TypeId → Shape
 IsPart p true b t s =
     (ns : List ℕ) × (length ns ≡ open_dimensions p.types t) × All IsLength ns
     × (s ≡ Pair (One (Elements (open_element p.types t) ns)) (row (map (λ n. One (Length n)) ns)))
-IsPart p false true t s = s ≡ One (Alias t)
+IsPart p false true t s = s ≡ One (alias_sort p.types t)
 IsPart p false false t s = s ≡ variable_shape p.types t
 
 -- part k of a frame's shape is this, and stands at the cell that its code takes for it
@@ -136,7 +163,7 @@ pub record Knows (p : Program) (own : Option Procedure) (here : ℕ) (w : World 
 -- what stands in one is a place
 abbrev pub IsPlaceSort : Sort → Type 0
 IsPlaceSort (Plain t) = ⊥
-IsPlaceSort (Variable t) = ⊥
+IsPlaceSort (Variable t) = Unit {0}
 IsPlaceSort (Alias t) = Unit {0}
 IsPlaceSort (Elements t ns) = Unit {0}
 IsPlaceSort (Length n) = ⊥
@@ -149,6 +176,18 @@ IsReached w p = (s : Shape Sort) → shape_at w p.root p.path ≡ Some s → cel
 abbrev pub AreReached : World Sort → Type 0
 AreReached w = (r : _) (s : Shape Sort) → w.shape r ≡ Some s → size s < 2 ^ 32
 
+-- what is known of all objects of a world: what stands below an object has the shape that it's made as, and each root has cells with
+-- numbers of 32 bits
+pub record IsWhole (p : Program) (w : World Sort) : Type 0 where
+  pub reached : AreReached w
+  pub objects : (o : ℕ) (m : Made) → w.made o ≡ Some m → w.shape (ObjectRoot o) ≡ Some (made_shape p.types m)
+
+-- an object that isn't NIL, and what it's made as
+pub record IsObject (w : World Sort) (v : Value) (m : Made) : Type 0 where
+  pub number : ℕ
+  pub is : v ≡ Object (suc number)
+  pub made : w.made (suc number) ≡ Some m
+
 module _ (program : Program) where
   -- the question that the code asks where the source asks this one
   abbrev pub placed : World Sort → source.Question → Question
@@ -159,7 +198,7 @@ module _ (program : Program) where
   placed w (ComparesTexts r p n q m) = ComparesTexts r (addr_of w p) (cell_of w n) (addr_of w q) (cell_of w m)
   placed w (Calls p vs) = Calls p (map (cell_of w) vs)
   placed w (Ends r) = Ends (option_map (cell_of w) r)
-  placed w (Makes t) = Makes t
+  placed w (Makes t vs) = Makes t (map (cell_of w) vs)
   placed w (Starts v) = Starts (cell_of w v)
   placed w (PutsInt v n) = PutsInt (cell_of w v) (cell_of w n)
   placed w (PutsChar v) = PutsChar (cell_of w v)
@@ -168,6 +207,9 @@ module _ (program : Program) where
   placed w PutsLn = PutsLn
   placed w (Places p) = Places (addr_of w p)
   placed w (Lengths p) = Lengths (addr_of w p)
+  placed w (Opens v) = Opens (cell_of w v)
+  placed w (Sizes v d) = Sizes (cell_of w v) d
+  placed w (Tests v t) = Tests (cell_of w v) t
 
   -- there is a scalar of this sort at a place
   abbrev pub HasScalar : World Sort → Spot → Sort → Type 0
@@ -177,14 +219,18 @@ module _ (program : Program) where
   abbrev pub HasPlace : World Sort → Spot → TType → Type 0
   HasPlace w p t = shape_at w p.root p.path ≡ Some (variable_shape program.types (id_of t))
 
+  -- what stands at a place begins with a variable of this type
+  abbrev pub HasWhole : World Sort → Spot → TypeId → Type 0
+  HasWhole w p t = (more : Shape Sort) × (shape_at w p.root p.path ≡ Some (join (variable_shape program.types t) more)) × EachSort IsPlain more
+
   -- What a call hands over for a parameter: a value, a place, or an open array's place and the lengths of its dimensions.
   abbrev pub Handles : (opens by_reference scalar : Bool) → World Sort → TypeId → List Value → Type 0
   Handles true b c w t us =
       (p : Spot) × (ns : List ℕ) × (us ≡ Place p ∷ map (λ n. Int (pos n)) ns) × (length ns ≡ open_dimensions program.types t)
       × IsPlace program.types w (Elements (open_element program.types t) ns) p × All IsLength ns
-  Handles false true c w t us = (p : Spot) × (us ≡ Place p ∷ []) × IsPlace program.types w (Alias t) p
+  Handles false true c w t us = (v : Value) × (us ≡ v ∷ []) × Is program.types w (alias_sort program.types t) v
   Handles false false true w t us = (v : Value) × (us ≡ v ∷ []) × Is program.types w (Plain t) v
-  Handles false false false w t us = (p : Spot) × (us ≡ Place p ∷ []) × (shape_at w p.root p.path ≡ Some (variable_shape program.types t)) × (p.type ≡ 0)
+  Handles false false false w t us = (p : Spot) × (us ≡ Place p ∷ []) × HasWhole w p t
 
   abbrev pub HandlesFor : World Sort → Parameter → List Value → Type 0
   HandlesFor w a us =
@@ -210,24 +256,30 @@ module _ (program : Program) where
   -- an answer of the sort that the question has, where the answer matters
   abbrev pub Conforms : World Sort → source.Question → Value → Type 0
   Conforms w (Reads t p) v = Is program.types w (Plain (id_of t)) v
-  Conforms w (Makes t) v = (o : ℕ) × (v ≡ Object (suc o)) × (w.made (suc o) ≡ Some (record { type = t; lengths = [] }))
+  Conforms w (Makes t vs) v = (ns : List ℕ) × (array_lengths (map number_of_value vs) ≡ Some ns) × IsObject w v (record { type = t; lengths = ns }) × All (λ n. n ≤ 16777216) ns
   Conforms w (ComparesTexts r p n q m) v = IsFlag v
   Conforms w (Calls q vs) v = (r : Routine) → by_number q (routines program) ≡ Some r → IsAnswer w (result_of r.own) v
   Conforms w (Places p) v = ((k : Sort) → HasScalar w p k → Is program.types w k v) × OnPlace (IsReached w) v
   Conforms w (Lengths p) v = (k : Sort) → HasScalar w p k → Is program.types w k v
+  Conforms w (Opens u) v =
+      (m : Made) → IsObject w u m
+      → (v ≡ object_place (source.object_in u) (Some m)) × (w.shape (ObjectRoot (source.object_in u)) ≡ Some (made_shape program.types m)) × OnPlace (IsReached w) v
+  Conforms w (Sizes u d) v = (m : Made) → IsObject w u m → v ≡ length_in d (Some m)
+  Conforms w (Tests u t) v = (m : Made) → IsObject w u m → v ≡ Flag (comes_to program.types (id_of_made m.type) (id_of_made t))
   Conforms w q v = Unit {0}
 
   -- in a frame above so many others
   module _ (here : ℕ) where
-    -- a question is at places that there are, and its values are of the sorts that it takes: what is read is of a basic type, whose cell
+    -- a question is at places that there are, and its values are of the sorts that it takes: what is read is a scalar, whose cell
     -- is of the kind that its code takes, what is copied is a record or an array, a text is so many characters, of which one that is
     -- put somewhere has room for a 0X, what is called gets what its parameters take, and what a parameter stands for is asked of the
     -- frame itself; no program asks for an end, which follows its statements
     abbrev pub Valid : World Sort → source.Question → Type 0
-    Valid w (Reads t p) = (is_basic t ≡ true) × HasScalar w p (Plain (id_of t))
+    Valid w (Reads t p) = (is_value program.types t ≡ true) × HasScalar w p (Plain (id_of t))
     Valid w (Stores p v) = (k : Sort) × IsPlain k × HasScalar w p k × Is program.types w k v
-    Valid w (Copies t p q) = HasPlace w p t × HasPlace w q t × (is_whole (row_of program.types (id_of t)) ≡ true)
-    Valid w (Makes t) = Unit {0}
+    Valid w (Copies t p q) = HasWhole w p (id_of t) × HasWhole w q (id_of t) × (is_whole (row_of program.types (id_of t)) ≡ true)
+    Valid w (Makes t vs) =
+        (k : ℕ) × (t ≡ suc k) × (k < length program.objects) × (length vs ≡ open_dimensions program.types (id_of_made t)) × AreIntegers vs
     Valid w (Starts v) = IsMade v
     Valid w (PutsInt v n) = IsInteger W64 v × IsInteger W64 n
     Valid w (PutsChar v) = IsCharacter v
@@ -240,6 +292,9 @@ module _ (program : Program) where
     Valid w (PutsString p n) = HasText w p n
     Valid w (Places p) = (p.root ≡ Frame here) × (k : Sort) × IsPlaceSort k × HasScalar w p k
     Valid w (Lengths p) = (p.root ≡ Frame here) × (n : ℕ) × HasScalar w p (Length n)
+    Valid w (Opens v) = (m : Made) × IsObject w v m
+    Valid w (Sizes v d) = (m : Made) × IsObject w v m × (d < length m.lengths)
+    Valid w (Tests v t) = (m : Made) × IsObject w v m × (k : ℕ) × (t ≡ suc k)
 
     -- the code does what the source does, for all answers of the right sorts: it asks the same questions and has the same traps, which
     -- are those of the language, and where the source comes to a value a, the run that is left is related to a by R
@@ -250,12 +305,17 @@ module _ (program : Program) where
         × ((w' : World Sort) → Grows w w' → (v : Value) → Conforms w' q v → Does R w' (g (cell_of w' v)) (f v))
     Does R w m (Traps n c) = (m ≡ Traps n c) × (n < 16)
 
-    -- so it does behind the silent questions that stand first, which the frame's own cells answer; where nothing is left behind them,
-    -- it is behind them that the run is related to the value
-    abbrev pub Calmly : {A : Type 0} → (World Sort → A → Run → Type 0) → List Cell → World Sort → Run → Doing A → Type 0
-    Calmly R cells w m (Val a) = (m' : Run) × (m ≡ calm cells m') × R w a m'
-    Calmly R cells w m (Asks q f) = Does R w m (Asks q f)
-    Calmly R cells w m (Traps n c) = (m ≡ Traps n c) × (n < 16)
+    -- so it does behind the silent questions that stand first, which the frame's own cells answer, or what objects are made as; where
+    -- nothing is left behind them, it is behind them that the run is related to the value
+    abbrev pub Calmly : {A : Type 0} → (World Sort → A → Run → Type 0) → List TypeDesc → List Cell → World Sort → Run → Doing A → Type 0
+    Calmly R types cells w m (Val a) = (m' : Run) × (m ≡ calm types w.made cells m') × R w a m'
+    Calmly R types cells w m (Asks q f) = Does R w m (Asks q f)
+    Calmly R types cells w m (Traps n c) = (m ≡ Traps n c) × (n < 16)
+
+    -- and so it does in each whole world that has grown, where no silent question that stands first is answered otherwise
+    pub record Lasts {A : Type 0} (R : World Sort → A → Run → Type 0) (types : List TypeDesc) (c : Content Value) (cells : List Cell) (w : World Sort) (m : Run) (r : Doing A) : Type 0 where
+      pub heard : (w' : World Sort) → Grows w w' → S.calm program.types w'.made c r ≡ S.calm program.types w.made c r
+      pub does : (w' : World Sort) → Grows w w' → IsWhole program w' → Calmly R types cells w' (calm types w'.made cells m) (S.calm program.types w'.made c r)
 
 pub knows_grows : (p : Program) (own : Option Procedure) (here : ℕ) (w w' : World Sort) → Grows w w' → Knows p own here w → Knows p own here w'
 knows_grows p own here w w' g k =
@@ -267,6 +327,11 @@ knows_grows p own here w w' g k =
 -- what is at a place is at the same cell in a world that has grown
 pub spot_cell : (w w' : World Sort) → Grows w w' → (p : Spot) (s : Shape Sort) → shape_at w p.root p.path ≡ Some s → cell_of w (Place p) ≡ cell_of w' (Place p)
 spot_cell w w' g p s h = ap (λ n. cell.Place p.root n p.type) (cell_grows w w' g p.root p.path s h)
+
+pub bind_val : {Q V A : Type 0} (r : Tree Q V A) → bind r (λ a. Val a) ≡ r
+bind_val (Val a) = refl
+bind_val (Asks q f) = ap (Asks q) (λ i v. bind_val (f v) i)
+bind_val (Traps n c) = refl
 
 module _ (program : Program) (here : ℕ) where
   -- `Does` along equal runs
@@ -295,6 +360,15 @@ module _ (program : Program) (here : ℕ) where
     pub addr_grows : (p : Spot) (s : Shape Sort) → shape_at w p.root p.path ≡ Some s → addr_of w p ≡ addr_of w' p
     addr_grows p s h = ap (λ n. record { root = p.root; cell = n }) (cell_grows w w' g p.root p.path s h)
 
+    whole_grows : (p : Spot) (t : TypeId) → HasWhole program w p t → HasWhole program w' p t
+    whole_grows p t h = (h.0, place_grows p (join (variable_shape program.types t) h.0) h.1, h.2)
+
+    pub object_grows : (v : Value) (m : Made) → IsObject w v m → IsObject w' v m
+    object_grows v m h = record { number = h.number; is = h.is; made = g.made (suc h.number) m h.made }
+
+    object_cell : (v : Value) (m : Made) → IsObject w v m → cell_of w v ≡ cell_of w' v
+    object_cell v m h = ap (cell_of w) h.is ∙ sym (ap (cell_of w') h.is)
+
     made_cell : (v : Value) → IsMade v → cell_of w v ≡ cell_of w' v
     made_cell v h = ap (cell_of w) h.1 ∙ sym (ap (cell_of w') h.1)
 
@@ -305,6 +379,10 @@ module _ (program : Program) (here : ℕ) where
     integer_cell : (v : Value) → IsInteger W64 v → cell_of w v ≡ cell_of w' v
     integer_cell v h = value_cell (type.Integer W64) v (integer_is W64 v h)
 
+    integers_cells : (vs : List Value) → AreIntegers vs → map (cell_of w) vs ≡ map (cell_of w') vs
+    integers_cells [] h = refl
+    integers_cells (v ∷ vs) h = λ i. integer_cell v h.0 i ∷ integers_cells vs h.1 i
+
     length_cell : (v : Value) (n : ℕ) → v ≡ Int (pos n) → cell_of w v ≡ cell_of w' v
     length_cell v n e = ap (cell_of w) e ∙ sym (ap (cell_of w') e)
 
@@ -314,22 +392,22 @@ module _ (program : Program) (here : ℕ) where
     -- what is handed over
     handles_grow : (o b c : Bool) (t : TypeId) (us : List Value) → Handles program o b c w t us → Handles program o b c w' t us
     handles_grow true b c t us h =
-        (h.0, h.1, h.2, h.3, (place_grows h.0 (nested h.1 (variable_shape program.types (open_element program.types t))) h.4.0, h.4.1), h.5)
-    handles_grow false true c t us h = (h.0, h.1, (place_grows h.0 (variable_shape program.types t) h.2.0, h.2.1))
+        (h.0, h.1, h.2, h.3, place_grows h.0 (nested h.1 (variable_shape program.types (open_element program.types t))) h.4, h.5)
+    handles_grow false true c t us h = (h.0, h.1, (values_kept program.types).is w w' g (alias_sort program.types t) h.0 h.2)
     handles_grow false false true t us h = (h.0, h.1, (values_kept program.types).is w w' g (Plain t) h.0 h.2)
-    handles_grow false false false t us h = (h.0, h.1, place_grows h.0 (variable_shape program.types t) h.2, h.3)
+    handles_grow false false false t us h = (h.0, h.1, whole_grows h.0 t h.2)
 
     handles_cells : (o b c : Bool) (t : TypeId) (us : List Value) → Handles program o b c w t us → map (cell_of w) us ≡ map (cell_of w') us
     handles_cells true b c t us h =
         ap (map (cell_of w)) h.2
-        ∙ (λ i. spot_cell w w' g h.0 (nested h.1 (variable_shape program.types (open_element program.types t))) h.4.0 i ∷ (lengths_are w h.1 ∙ sym (lengths_are w' h.1)) i)
+        ∙ (λ i. spot_cell w w' g h.0 (nested h.1 (variable_shape program.types (open_element program.types t))) h.4 i ∷ (lengths_are w h.1 ∙ sym (lengths_are w' h.1)) i)
         ∙ sym (ap (map (cell_of w')) h.2)
     handles_cells false true c t us h =
-        ap (map (cell_of w)) h.1 ∙ ap (λ x. x ∷ []) (spot_cell w w' g h.0 (variable_shape program.types t) h.2.0) ∙ sym (ap (map (cell_of w')) h.1)
+        ap (map (cell_of w)) h.1 ∙ ap (λ x. x ∷ []) ((values_kept program.types).cells w w' g (alias_sort program.types t) h.0 h.2) ∙ sym (ap (map (cell_of w')) h.1)
     handles_cells false false true t us h =
         ap (map (cell_of w)) h.1 ∙ ap (λ x. x ∷ []) ((values_kept program.types).cells w w' g (Plain t) h.0 h.2) ∙ sym (ap (map (cell_of w')) h.1)
     handles_cells false false false t us h =
-        ap (map (cell_of w)) h.1 ∙ ap (λ x. x ∷ []) (spot_cell w w' g h.0 (variable_shape program.types t) h.2) ∙ sym (ap (map (cell_of w')) h.1)
+        ap (map (cell_of w)) h.1 ∙ ap (λ x. x ∷ []) (spot_cell w w' g h.0 (join (variable_shape program.types t) h.2.0) h.2.1) ∙ sym (ap (map (cell_of w')) h.1)
 
     pub given_grows : (as' : List Parameter) (vs : List Value) → Given program w as' vs → Given program w' as' vs
     given_grows [] vs h = h
@@ -350,7 +428,7 @@ module _ (program : Program) (here : ℕ) where
     pub placed_same : (q : source.Question) → Valid program here w q → placed program w q ≡ placed program w' q
     placed_same (Reads t p) h = ap (Reads (kind_of t)) (addr_grows p (One (Plain (id_of t))) h.1)
     placed_same (Stores p v) h = λ i. Stores (addr_grows p (One h.0) h.2 i) ((values_kept program.types).cells w w' g h.0 v h.3 i)
-    placed_same (Makes t) h = refl
+    placed_same (Makes t vs) h = ap (Makes t) (integers_cells vs h.4)
     placed_same (Starts v) h = ap Starts (made_cell v h)
     placed_same (PutsInt v n) h = λ i. PutsInt (integer_cell v h.0 i) (integer_cell n h.1 i)
     placed_same (PutsChar v) h = ap PutsChar (value_cell type.Char v (character_is v h))
@@ -358,7 +436,7 @@ module _ (program : Program) (here : ℕ) where
     placed_same PutsLn h = refl
     placed_same (Copies t p q) h =
         let s = variable_shape program.types (id_of t) in
-        λ i. Copies (variable_scalars program.types (id_of t)) (addr_grows p s h.0 i) (addr_grows q s h.1 i)
+        λ i. Copies (variable_scalars program.types (id_of t)) (addr_grows p (join s h.0.0) h.0.1 i) (addr_grows q (join s h.1.0) h.1.1 i)
     placed_same (PutsText strict p n q m) h =
         λ i. PutsText strict (addr_grows p (characters h.0.0) h.0.2 i) (length_cell n h.0.0 h.0.1 i) (addr_grows q (characters h.1.0) h.1.2 i) (length_cell m h.1.0 h.1.1 i)
     placed_same (ComparesTexts r p n q m) h =
@@ -368,19 +446,20 @@ module _ (program : Program) (here : ℕ) where
     placed_same (PutsString p n) h = λ i. PutsString (addr_grows p (characters h.0) h.2 i) (length_cell n h.0 h.1 i)
     placed_same (Places p) h = ap Places (addr_grows p (One h.1) h.3)
     placed_same (Lengths p) h = ap Lengths (addr_grows p (One (Length h.1)) h.2)
+    placed_same (Opens v) h = ap Opens (object_cell v h.0 h.1)
+    placed_same (Sizes v d) h = ap (λ x. Sizes x d) (object_cell v h.0 h.1)
+    placed_same (Tests v t) h = ap (λ x. Tests x t) (object_cell v h.0 h.1)
 
     pub valid_grows : (q : source.Question) → Valid program here w q → Valid program here w' q
     valid_grows (Reads t p) h = (h.0, place_grows p (One (Plain (id_of t))) h.1)
     valid_grows (Stores p v) h = (h.0, h.1, place_grows p (One h.0) h.2, (values_kept program.types).is w w' g h.0 v h.3)
-    valid_grows (Makes t) h = tt
+    valid_grows (Makes t vs) h = h
     valid_grows (Starts v) h = h
     valid_grows (PutsInt v n) h = h
     valid_grows (PutsChar v) h = h
     valid_grows PutsNothing h = tt
     valid_grows PutsLn h = tt
-    valid_grows (Copies t p q) h =
-        let s = variable_shape program.types (id_of t) in
-        (place_grows p s h.0, place_grows q s h.1, h.2)
+    valid_grows (Copies t p q) h = (whole_grows p (id_of t) h.0, whole_grows q (id_of t) h.1, h.2)
     valid_grows (PutsText strict p n q m) h = (text_grows p n h.0, (h.1.0, h.1.1, place_grows q (characters h.1.0) h.1.2, h.1.3))
     valid_grows (ComparesTexts r p n q m) h = (text_grows p n h.0, text_grows q m h.1)
     valid_grows (Calls q vs) h = (h.0, h.1, given_grows (parameters_of h.0.own) vs h.2)
@@ -388,6 +467,9 @@ module _ (program : Program) (here : ℕ) where
     valid_grows (PutsString p n) h = text_grows p n h
     valid_grows (Places p) h = (h.0, h.1, h.2, place_grows p (One h.1) h.3)
     valid_grows (Lengths p) h = (h.0, h.1, place_grows p (One (Length h.1)) h.2)
+    valid_grows (Opens v) h = (h.0, object_grows v h.0 h.1)
+    valid_grows (Sizes v d) h = (h.0, object_grows v h.0 h.1, h.2)
+    valid_grows (Tests v t) h = (h.0, object_grows v h.0 h.1, h.2, h.3)
 
     -- what was done in a world is done in the grown one
     pub does_grows : {A : Type 0} (R : World Sort → A → Run → Type 0) → ((a : A) (m : Run) → R w a m → R w' a m) → (m : Run) (r : Doing A) → Does program here R w m r → Does program here R w' m r
@@ -396,10 +478,12 @@ module _ (program : Program) (here : ℕ) where
         (d.0, d.1 ∙ ap (λ p. Asks p d.0) (placed_same q d.2), valid_grows q d.2, λ w2 up' v c. d.3 w2 (grows_twice w w' w2 g up') v c)
     does_grows R up m (Traps n c) d = d
 
-    pub calmly_grows : {A : Type 0} (R : World Sort → A → Run → Type 0) → ((a : A) (m : Run) → R w a m → R w' a m) → (cells : List Cell) (m : Run) (r : Doing A) → Calmly program here R cells w m r → Calmly program here R cells w' m r
-    calmly_grows R up cells m (Val a) d = (d.0, d.1, up a d.0 d.2)
-    calmly_grows R up cells m (Asks q f) d = does_grows R up m (Asks q f) d
-    calmly_grows R up cells m (Traps n c) d = d
+    pub lasts_grow : {A : Type 0} (R : World Sort → A → Run → Type 0) (types : List TypeDesc) (c : Content Value) (cells : List Cell) (m : Run) (r : Doing A) → Lasts program here R types c cells w m r → Lasts program here R types c cells w' m r
+    lasts_grow R types c cells m r d =
+        record {
+          heard = λ w2 up. d.heard w2 (grows_twice w w' w2 g up) ∙ sym (d.heard w' g);
+          does = λ w2 up whole. d.does w2 (grows_twice w w' w2 g up) whole;
+        }
 
   -- Silent questions, where the frame's cells show its variables.
 
@@ -417,24 +501,24 @@ module _ (program : Program) (here : ℕ) where
   module _ (w : World Sort) where
     place_reached : AreReached w → (k : Sort) (v : Value) → IsPlaceSort k → Is program.types w k v → OnPlace (IsReached w) v
     place_reached reached (Plain t) v p h = absurd p
-    place_reached reached (Variable t) v p h = absurd p
     place_reached reached (Length n) v p h = absurd p
     place_reached reached k (Place q) p h = within_reached w reached q
+    place_reached reached (Variable t) v p h = absurd h
     place_reached reached (Alias t) v p h = absurd h
     place_reached reached (Elements t ns) v p h = absurd h
 
     place_noted : (k : Sort) (v : Value) → IsPlaceSort k → Is program.types w k v → noted_as A (Some (cell_of w v)) ≡ Answered (cell_of w v)
     place_noted (Plain t) v p h = absurd p
-    place_noted (Variable t) v p h = absurd p
     place_noted (Length n) v p h = absurd p
     place_noted k (Place q) p h = refl
+    place_noted (Variable t) v p h = absurd h
     place_noted (Alias t) v p h = absurd h
     place_noted (Elements t ns) v p h = absurd h
 
     length_noted : (n : ℕ) (v : Value) → v ≡ Int (pos n) → noted_as N (Some (cell_of w v)) ≡ Answered (cell_of w v)
     length_noted n v e = subst (λ x. noted_as N (Some (cell_of w x)) ≡ Answered (cell_of w x)) (sym e) refl
 
-  module _ (w : World Sort) (s : Shape Sort) (c : Content Value) (cells : List Cell) (at : w.shape (Frame here) ≡ Some s) (shown : Shown (Is program.types) cell_of w s c cells) (reached : AreReached w) where
+  module _ (w : World Sort) (s : Shape Sort) (c : Content Value) (cells : List Cell) (at : w.shape (Frame here) ≡ Some s) (shown : Shown (Is program.types) cell_of w s c cells) (whole : IsWhole program w) (tables : Tables) (shaped : HasShapes program tables) where
     -- a scalar of the frame has a value, which is in its cell
     pub record Noticed (p : Spot) (k : Sort) : Type 0 where
       pub is : Is program.types w k (known c p)
@@ -459,48 +543,193 @@ module _ (program : Program) (here : ℕ) where
                   ∙ ap (option_map (cell_of w)) (ap (λ l. slice_get l (length front)) whole ∙ get_behind front v back) ∙ ap (λ x. Some (cell_of w x)) (sym e);
             }
 
+    -- What an object tells, by what it's made as.
+
+    abbrev noticed_as : source.Question → Notice
+    noticed_as q = answered tables.types w.made cells (placed program w q)
+
+    abbrev opened : Value → Value
+    opened v = object_place (source.object_in v) (w.made (source.object_in v))
+
+    made_at : (v : Value) (m : Made) → IsObject w v m → w.made (source.object_in v) ≡ Some m
+    made_at v m h = ap (λ u. w.made (source.object_in u)) h.is ∙ h.made
+
+    opens_conform : (v : Value) → Conforms program w (Opens v) (opened v)
+    opens_conform v m h =
+        let at = made_at v m h in (
+          ap (object_place (source.object_in v)) at,
+          whole.objects (source.object_in v) m at,
+          within_reached w whole.reached (source.place_in (opened v)),
+        )
+
+    opens_noticed : (v : Value) (m : Made) → IsObject w v m → noticed_as (Opens v) ≡ Answered (cell_of w (opened v))
+    opens_noticed v m h =
+        subst (λ u. noticed_as (Opens u) ≡ Answered (cell_of w (opened u))) (sym h.is)
+        (ap (told_as (λ x. Answered (cell.Place (ObjectRoot (suc h.number)) 0 x.type))) h.made
+        ∙ (λ i. Answered (cell.Place (ObjectRoot (suc h.number)) (first i) (S.type_in (sym h.made i)))))
+      where
+        first : 0 ≡ cell_at w (ObjectRoot (suc h.number)) []
+        first = sym (ap (number_of (offset [])) (whole.objects (suc h.number) m h.made))
+
+    sizes_noticed : (v : Value) (d : ℕ) (m : Made) → IsObject w v m → d < length m.lengths → noticed_as (Sizes v d) ≡ Answered (cell_of w (length_in d (w.made (source.object_in v))))
+    sizes_noticed v d m h less =
+        let n = some_length m.lengths d less in
+        subst (λ u. noticed_as (Sizes u d) ≡ Answered (cell_of w (length_in d (w.made (source.object_in u))))) (sym h.is)
+        (ap (told_as (λ x. or_unknown (slice_get x.lengths d))) h.made ∙ ap or_unknown n.1
+        ∙ sym (ap (λ x. Answered (cell_of w (length_in d x))) h.made ∙ ap (λ o. Answered (cell.Num (pos (unwrap_or o 0)))) n.1))
+
+    tests_noticed : (v : Value) (k : ℕ) (m : Made) → IsObject w v m → noticed_as (Tests v (suc k)) ≡ Answered (cell_of w (S.has_type_in program.types w.made c (suc k) (w.made (source.object_in v))))
+    tests_noticed v k m h =
+        subst (λ u. noticed_as (Tests u (suc k)) ≡ Answered (cell_of w (S.has_type_in program.types w.made c (suc k) (w.made (source.object_in u))))) (sym h.is)
+        (ap (told_as (λ x. Answered (cell.Num (flag (extends tables.types x.type (suc k)))))) h.made
+        ∙ ap (λ b. Answered (cell.Num (flag b))) (shaped.extend m.type k)
+        ∙ sym (ap (λ x. Answered (cell_of w (S.has_type_in program.types w.made c (suc k) x))) h.made))
+
     -- a question that no silent one is
-    visible_does : {A : Type 0} (R : World Sort → A → Run → Type 0) (m : Run) (q : source.Question) (f : Value → Doing A) → noted cells (placed program w q) ≡ Visible → Does program here R w m (Asks q f) → Does program here R w (calm cells m) (Asks q f)
-    visible_does R m q f e d = (d.0, ap (calm cells) d.1 ∙ calm_visible cells (placed program w q) d.0 e, d.2, d.3)
+    visible_does : {A : Type 0} (R : World Sort → A → Run → Type 0) (m : Run) (q : source.Question) (f : Value → Doing A) → noticed_as q ≡ Visible → Does program here R w m (Asks q f) → Does program here R w (calm tables.types w.made cells m) (Asks q f)
+    visible_does R m q f e d = (d.0, ap (calm tables.types w.made cells) d.1 ∙ calm_visible tables.types w.made cells (placed program w q) d.0 e, d.2, d.3)
+
+    -- what is known of the answer that the frame, or an object, gives at once
+    record Noted (q : source.Question) (v : Value) : Type 0 where
+      conforms : Conforms program w q v
+      cell : noticed_as q ≡ Answered (cell_of w v)
+
+    places_noted : (p : Spot) → Valid program here w (Places p) → Noted (Places p) (known c p)
+    places_noted p h =
+        let k = h.1 in
+        let n = noticed p k h.0 h.3 in
+        record {
+          conforms = ((λ j has. (noticed p j h.0 has).is), place_reached w whole.reached k (known c p) h.2 n.is);
+          cell = ap (noted_as A) n.cell ∙ place_noted w k (known c p) h.2 n.is;
+        }
+
+    lengths_noted : (p : Spot) → Valid program here w (Lengths p) → Noted (Lengths p) (known c p)
+    lengths_noted p h =
+        let n = noticed p (Length h.1) h.0 h.2 in
+        record {
+          conforms = λ j has. (noticed p j h.0 has).is;
+          cell = ap (noted_as N) n.cell ∙ length_noted w h.1 (known c p) n.is.0;
+        }
+
+    opens_noted : (v : Value) → Valid program here w (Opens v) → Noted (Opens v) (opened v)
+    opens_noted v h = record { conforms = opens_conform v; cell = opens_noticed v h.0 h.1 }
+
+    sizes_noted : (v : Value) (d : ℕ) → Valid program here w (Sizes v d) → Noted (Sizes v d) (length_in d (w.made (source.object_in v)))
+    sizes_noted v d h =
+        record {
+          conforms = λ m is. ap (length_in d) (made_at v m is);
+          cell = sizes_noticed v d h.0 h.1 h.2;
+        }
+
+    tests_noted : (v : Value) (t : ℕ) → Valid program here w (Tests v t) → Noted (Tests v t) (S.has_type_in program.types w.made c t (w.made (source.object_in v)))
+    tests_noted v t h =
+        record {
+          conforms = λ m is. ap (S.has_type_in program.types w.made c t) (made_at v m is);
+          cell = subst (λ u. noticed_as (Tests v u) ≡ Answered (cell_of w (S.has_type_in program.types w.made c u (w.made (source.object_in v))))) (sym h.3) (tests_noticed v h.2 h.0 h.1);
+        }
 
     -- where code does what the source does, it does so behind their silent questions
-    pub calm_does : {A : Type 0} (R : World Sort → A → Run → Type 0) (m : Run) (r : Doing A) → Does program here R w m r → Calmly program here R cells w (calm cells m) (S.calm c r)
-    calm_does R m (Val a) d = (m, refl, d)
-    calm_does R m (Traps n code) d = (ap (calm cells) d.0, d.1)
-    calm_does R m (Asks (Places p) f) d =
-        let k = d.2.1 in
-        let v = known c p in
-        let n = noticed p k d.2.0 d.2.3 in
-        let conforms : Conforms program w (Places p) v = ((λ j has. (noticed p j d.2.0 has).is), place_reached w reached k v d.2.2 n.is) in
-        let e : calm cells m ≡ calm cells (d.0 (cell_of w v)) = ap (calm cells) d.1
-        ∙ calm_answered cells (Places (addr_of w p)) d.0 (cell_of w v) (ap (noted_as A) n.cell ∙ place_noted w k v d.2.2 n.is) in
-        subst (λ x. Calmly program here R cells w x (S.calm c (f v))) (sym e) (calm_does R (d.0 (cell_of w v)) (f v) (d.3 w (grows_same w) v conforms))
-    calm_does R m (Asks (Lengths p) f) d =
-        let v = known c p in
-        let n = noticed p (Length d.2.1) d.2.0 d.2.2 in
-        let conforms : Conforms program w (Lengths p) v = λ j has. (noticed p j d.2.0 has).is in
-        let e : calm cells m ≡ calm cells (d.0 (cell_of w v)) = ap (calm cells) d.1
-        ∙ calm_answered cells (Lengths (addr_of w p)) d.0 (cell_of w v) (ap (noted_as N) n.cell ∙ length_noted w d.2.1 v n.is.0) in
-        subst (λ x. Calmly program here R cells w x (S.calm c (f v))) (sym e) (calm_does R (d.0 (cell_of w v)) (f v) (d.3 w (grows_same w) v conforms))
-    calm_does R m (Asks (Reads t p) f) d = visible_does R m (Reads t p) f refl d
-    calm_does R m (Asks (Stores p v) f) d = visible_does R m (Stores p v) f refl d
-    calm_does R m (Asks (Copies t p q) f) d = visible_does R m (Copies t p q) f refl d
-    calm_does R m (Asks (PutsText strict p n q j) f) d = visible_does R m (PutsText strict p n q j) f refl d
-    calm_does R m (Asks (ComparesTexts r p n q j) f) d = visible_does R m (ComparesTexts r p n q j) f refl d
-    calm_does R m (Asks (Calls q vs) f) d = visible_does R m (Calls q vs) f refl d
-    calm_does R m (Asks (Ends r) f) d = visible_does R m (Ends r) f refl d
-    calm_does R m (Asks (Makes t) f) d = visible_does R m (Makes t) f refl d
-    calm_does R m (Asks (Starts v) f) d = visible_does R m (Starts v) f refl d
-    calm_does R m (Asks (PutsInt v n) f) d = visible_does R m (PutsInt v n) f refl d
-    calm_does R m (Asks (PutsChar v) f) d = visible_does R m (PutsChar v) f refl d
-    calm_does R m (Asks (PutsString p n) f) d = visible_does R m (PutsString p n) f refl d
-    calm_does R m (Asks PutsNothing f) d = visible_does R m PutsNothing f refl d
-    calm_does R m (Asks PutsLn f) d = visible_does R m PutsLn f refl d
+    module _ {A : Type 0} (R : World Sort → A → Run → Type 0) where
+      abbrev Here : Run → Doing A → Type 0
+      Here m r = Calmly program here R tables.types cells w m (S.calm program.types w.made c r)
 
--- a question that is asked of no frame itself, and what has no other one first
+      noted_does : (m : Run) (q : source.Question) (f : Value → Doing A) (v : Value) → Noted q v → (d : Does program here R w m (Asks q f)) → (Does program here R w (d.0 (cell_of w v)) (f v) → Here (calm tables.types w.made cells (d.0 (cell_of w v))) (f v)) → Here (calm tables.types w.made cells m) (f v)
+      noted_does m q f v n d ih =
+          let e : calm tables.types w.made cells m ≡ calm tables.types w.made cells (d.0 (cell_of w v)) = ap (calm tables.types w.made cells) d.1
+          ∙ calm_answered tables.types w.made cells (placed program w q) d.0 (cell_of w v) n.cell in
+          subst (λ x. Here x (f v)) (sym e) (ih (d.3 w (grows_same w) v n.conforms))
+
+      pub calm_does : (m : Run) (r : Doing A) → Does program here R w m r → Here (calm tables.types w.made cells m) r
+      calm_does m (Val a) d = (m, refl, d)
+      calm_does m (Traps n code) d = (ap (calm tables.types w.made cells) d.0, d.1)
+      calm_does m (Asks (Places p) f) d = noted_does m (Places p) f (known c p) (places_noted p d.2) d (λ e. calm_does (d.0 (cell_of w (known c p))) (f (known c p)) e)
+      calm_does m (Asks (Lengths p) f) d = noted_does m (Lengths p) f (known c p) (lengths_noted p d.2) d (λ e. calm_does (d.0 (cell_of w (known c p))) (f (known c p)) e)
+      calm_does m (Asks (Opens v) f) d = noted_does m (Opens v) f (opened v) (opens_noted v d.2) d (λ e. calm_does (d.0 (cell_of w (opened v))) (f (opened v)) e)
+      calm_does m (Asks (Sizes v n) f) d =
+          let x = length_in n (w.made (source.object_in v)) in noted_does m (Sizes v n) f x (sizes_noted v n d.2) d (λ e. calm_does (d.0 (cell_of w x)) (f x) e)
+      calm_does m (Asks (Tests v t) f) d =
+          let x = S.has_type_in program.types w.made c t (w.made (source.object_in v)) in
+          noted_does m (Tests v t) f x (tests_noted v t d.2) d (λ e. calm_does (d.0 (cell_of w x)) (f x) e)
+      calm_does m (Asks (Reads t p) f) d = visible_does R m (Reads t p) f refl d
+      calm_does m (Asks (Stores p v) f) d = visible_does R m (Stores p v) f refl d
+      calm_does m (Asks (Copies t p q) f) d = visible_does R m (Copies t p q) f refl d
+      calm_does m (Asks (PutsText strict p n q j) f) d = visible_does R m (PutsText strict p n q j) f refl d
+      calm_does m (Asks (ComparesTexts r p n q j) f) d = visible_does R m (ComparesTexts r p n q j) f refl d
+      calm_does m (Asks (Calls q vs) f) d = visible_does R m (Calls q vs) f refl d
+      calm_does m (Asks (Ends r) f) d = visible_does R m (Ends r) f refl d
+      calm_does m (Asks (Makes t vs) f) d = visible_does R m (Makes t vs) f refl d
+      calm_does m (Asks (Starts v) f) d = visible_does R m (Starts v) f refl d
+      calm_does m (Asks (PutsInt v n) f) d = visible_does R m (PutsInt v n) f refl d
+      calm_does m (Asks (PutsChar v) f) d = visible_does R m (PutsChar v) f refl d
+      calm_does m (Asks (PutsString p n) f) d = visible_does R m (PutsString p n) f refl d
+      calm_does m (Asks PutsNothing f) d = visible_does R m PutsNothing f refl d
+      calm_does m (Asks PutsLn f) d = visible_does R m PutsLn f refl d
+
+      -- and in a world that has grown they are answered alike
+      module _ (w' : World Sort) (g : Grows w w') where
+        alike_made : (v : Value) (m : Made) → IsObject w v m → w'.made (source.object_in v) ≡ w.made (source.object_in v)
+        alike_made v m h = made_at' h ∙ sym (made_at v m h)
+          where
+            made_at' : IsObject w v m → w'.made (source.object_in v) ≡ Some m
+            made_at' h = ap (λ u. w'.made (source.object_in u)) h.is ∙ g.made (suc h.number) m h.made
+
+        abbrev Alike : Doing A → Type 0
+        Alike r = S.calm program.types w'.made c r ≡ S.calm program.types w.made c r
+
+        goes_alike : (m : Run) (q : source.Question) (f : Value → Doing A) (v : Value) → Noted q v → (d : Does program here R w m (Asks q f)) → Does program here R w (d.0 (cell_of w v)) (f v)
+        goes_alike m q f v n d = d.3 w (grows_same w) v n.conforms
+
+        -- also where something goes on with it
+        module _ {B : Type 0} (on : B → Doing A) where
+          pub heard_on : (m : Run) (r : Doing B) → Does program here R w m (bind r on) → S.calm program.types w'.made c r ≡ S.calm program.types w.made c r
+          heard_on m (Val a) d = refl
+          heard_on m (Traps n code) d = refl
+          heard_on m (Asks (Places p) f) d = heard_on (d.0 (cell_of w (known c p))) (f (known c p)) (goes_alike m (Places p) (λ v. bind (f v) on) (known c p) (places_noted p d.2) d)
+          heard_on m (Asks (Lengths p) f) d = heard_on (d.0 (cell_of w (known c p))) (f (known c p)) (goes_alike m (Lengths p) (λ v. bind (f v) on) (known c p) (lengths_noted p d.2) d)
+          heard_on m (Asks (Opens v) f) d =
+              ap (λ x. S.calm program.types w'.made c (f (object_place (source.object_in v) x))) (alike_made v d.2.0 d.2.1)
+              ∙ heard_on (d.0 (cell_of w (opened v))) (f (opened v)) (goes_alike m (Opens v) (λ x. bind (f x) on) (opened v) (opens_noted v d.2) d)
+          heard_on m (Asks (Sizes v n) f) d =
+              let x = length_in n (w.made (source.object_in v)) in
+              ap (λ y. S.calm program.types w'.made c (f (length_in n y))) (alike_made v d.2.0 d.2.1) ∙ heard_on (d.0 (cell_of w x)) (f x) (goes_alike m (Sizes v n) (λ y. bind (f y) on) x (sizes_noted v n d.2) d)
+          heard_on m (Asks (Tests v t) f) d =
+              let x = S.has_type_in program.types w.made c t (w.made (source.object_in v)) in
+              ap (λ y. S.calm program.types w'.made c (f (S.has_type_in program.types w.made c t y))) (alike_made v d.2.0 d.2.1)
+              ∙ heard_on (d.0 (cell_of w x)) (f x) (goes_alike m (Tests v t) (λ y. bind (f y) on) x (tests_noted v t d.2) d)
+          heard_on m (Asks (Reads t p) f) d = refl
+          heard_on m (Asks (Stores p v) f) d = refl
+          heard_on m (Asks (Copies t p q) f) d = refl
+          heard_on m (Asks (PutsText strict p n q j) f) d = refl
+          heard_on m (Asks (ComparesTexts r p n q j) f) d = refl
+          heard_on m (Asks (Calls q vs) f) d = refl
+          heard_on m (Asks (Ends r) f) d = refl
+          heard_on m (Asks (Makes t vs) f) d = refl
+          heard_on m (Asks (Starts v) f) d = refl
+          heard_on m (Asks (PutsInt v n) f) d = refl
+          heard_on m (Asks (PutsChar v) f) d = refl
+          heard_on m (Asks (PutsString p n) f) d = refl
+          heard_on m (Asks PutsNothing f) d = refl
+          heard_on m (Asks PutsLn f) d = refl
+
+        pub calm_heard : (m : Run) (r : Doing A) → Does program here R w m r → Alike r
+        calm_heard m r d = heard_on (λ a. Val a) m r (subst (λ z. Does program here R w m z) (sym (bind_val r)) d)
+
+  -- in each whole world that has grown
+  pub does_last : {A : Type 0} (R : World Sort → A → Run → Type 0) (w : World Sort) (s : Shape Sort) (c : Content Value) (cells : List Cell) (tables : Tables) (m : Run) (r : Doing A) → ((w' : World Sort) → Grows w w' → (a : A) (m : Run) → R w a m → R w' a m) → w.shape (Frame here) ≡ Some s → Shown (Is program.types) cell_of w s c cells → IsWhole program w → HasShapes program tables → Does program here R w m r → Lasts program here R tables.types c cells w m r
+  does_last R w s c cells tables m r up at shown whole shaped d =
+      record {
+        heard = λ w' g. calm_heard w s c cells at shown whole tables shaped R w' g m r d;
+        does = λ w' g whole'.
+            calm_does w' s c cells (g.shapes (Frame here) s at) (shown_grows (Is program.types) cell_of IsPlain (values_kept program.types) w w' g s c cells shown) whole' tables shaped R m r (does_grows w w' g R (up w' g) m r d);
+      }
+
+-- a question that is asked of no frame itself and of no object, and what has no other one first
 abbrev pub IsVisible : source.Question → Type 0
 IsVisible (Places p) = ⊥
 IsVisible (Lengths p) = ⊥
+IsVisible (Opens v) = ⊥
+IsVisible (Sizes v d) = ⊥
+IsVisible (Tests v t) = ⊥
 IsVisible q = Unit {0}
 
 abbrev pub IsCalm : {A : Type 0} → Doing A → Type 0
@@ -508,13 +737,28 @@ IsCalm (Val a) = Unit {0}
 IsCalm (Asks q f) = IsVisible q
 IsCalm (Traps n c) = Unit {0}
 
--- In a frame whose variables hold this, what is left behind the silent questions has none first, and is left once these are answered.
-module _ {A : Type 0} (c : Content Value) where
-  pub calm_again : (r : Doing A) → S.calm c (S.calm c r) ≡ S.calm c r
+-- What objects that are made so tell.
+
+abbrev opens : (ℕ → Option Made) → Value → Value
+opens made v = object_place (source.object_in v) (made (source.object_in v))
+
+abbrev sizes : (ℕ → Option Made) → Value → ℕ → Value
+sizes made v d = length_in d (made (source.object_in v))
+
+abbrev tests : List TypeRow → (ℕ → Option Made) → Content Value → Value → ℕ → Value
+tests rows made c v t = S.has_type_in rows made c t (made (source.object_in v))
+
+-- With what objects are made as, in a frame whose variables hold this, what is left behind the silent questions has none first, and
+-- is left once these are answered.
+module _ {A : Type 0} (rows : List TypeRow) (made : ℕ → Option Made) (c : Content Value) where
+  pub calm_again : (r : Doing A) → S.calm rows made c (S.calm rows made c r) ≡ S.calm rows made c r
   calm_again (Val a) = refl
   calm_again (Traps n code) = refl
   calm_again (Asks (Places p) f) = calm_again (f (known c p))
   calm_again (Asks (Lengths p) f) = calm_again (f (known c p))
+  calm_again (Asks (Opens v) f) = calm_again (f (opens made v))
+  calm_again (Asks (Sizes v d) f) = calm_again (f (sizes made v d))
+  calm_again (Asks (Tests v u) f) = calm_again (f (tests rows made c v u))
   calm_again (Asks (Reads t p) f) = refl
   calm_again (Asks (Stores p v) f) = refl
   calm_again (Asks (Copies t p q) f) = refl
@@ -522,7 +766,7 @@ module _ {A : Type 0} (c : Content Value) where
   calm_again (Asks (ComparesTexts r p n q m) f) = refl
   calm_again (Asks (Calls q vs) f) = refl
   calm_again (Asks (Ends r) f) = refl
-  calm_again (Asks (Makes t) f) = refl
+  calm_again (Asks (Makes t vs) f) = refl
   calm_again (Asks (Starts v) f) = refl
   calm_again (Asks (PutsInt v n) f) = refl
   calm_again (Asks (PutsChar v) f) = refl
@@ -530,11 +774,14 @@ module _ {A : Type 0} (c : Content Value) where
   calm_again (Asks PutsNothing f) = refl
   calm_again (Asks PutsLn f) = refl
 
-  pub feed_noted : (r : Doing A) → feed (S.noted c r) r ≡ S.calm c r
+  pub feed_noted : (r : Doing A) → feed (S.noted rows made c r) r ≡ S.calm rows made c r
   feed_noted (Val a) = refl
   feed_noted (Traps n code) = refl
   feed_noted (Asks (Places p) f) = feed_noted (f (known c p))
   feed_noted (Asks (Lengths p) f) = feed_noted (f (known c p))
+  feed_noted (Asks (Opens v) f) = feed_noted (f (opens made v))
+  feed_noted (Asks (Sizes v d) f) = feed_noted (f (sizes made v d))
+  feed_noted (Asks (Tests v u) f) = feed_noted (f (tests rows made c v u))
   feed_noted (Asks (Reads t p) f) = refl
   feed_noted (Asks (Stores p v) f) = refl
   feed_noted (Asks (Copies t p q) f) = refl
@@ -542,7 +789,7 @@ module _ {A : Type 0} (c : Content Value) where
   feed_noted (Asks (ComparesTexts r p n q m) f) = refl
   feed_noted (Asks (Calls q vs) f) = refl
   feed_noted (Asks (Ends r) f) = refl
-  feed_noted (Asks (Makes t) f) = refl
+  feed_noted (Asks (Makes t vs) f) = refl
   feed_noted (Asks (Starts v) f) = refl
   feed_noted (Asks (PutsInt v n) f) = refl
   feed_noted (Asks (PutsChar v) f) = refl
@@ -550,11 +797,14 @@ module _ {A : Type 0} (c : Content Value) where
   feed_noted (Asks PutsNothing f) = refl
   feed_noted (Asks PutsLn f) = refl
 
-  pub calm_seen : (r : Doing A) → IsCalm (S.calm c r)
+  pub calm_seen : (r : Doing A) → IsCalm (S.calm rows made c r)
   calm_seen (Val a) = tt
   calm_seen (Traps n code) = tt
   calm_seen (Asks (Places p) f) = calm_seen (f (known c p))
   calm_seen (Asks (Lengths p) f) = calm_seen (f (known c p))
+  calm_seen (Asks (Opens v) f) = calm_seen (f (opens made v))
+  calm_seen (Asks (Sizes v d) f) = calm_seen (f (sizes made v d))
+  calm_seen (Asks (Tests v u) f) = calm_seen (f (tests rows made c v u))
   calm_seen (Asks (Reads t p) f) = tt
   calm_seen (Asks (Stores p v) f) = tt
   calm_seen (Asks (Copies t p q) f) = tt
@@ -562,7 +812,7 @@ module _ {A : Type 0} (c : Content Value) where
   calm_seen (Asks (ComparesTexts r p n q m) f) = tt
   calm_seen (Asks (Calls q vs) f) = tt
   calm_seen (Asks (Ends r) f) = tt
-  calm_seen (Asks (Makes t) f) = tt
+  calm_seen (Asks (Makes t vs) f) = tt
   calm_seen (Asks (Starts v) f) = tt
   calm_seen (Asks (PutsInt v n) f) = tt
   calm_seen (Asks (PutsChar v) f) = tt
@@ -570,9 +820,12 @@ module _ {A : Type 0} (c : Content Value) where
   calm_seen (Asks PutsNothing f) = tt
   calm_seen (Asks PutsLn f) = tt
 
-  pub calm_visible_same : (q : source.Question) (f : Value → Doing A) → IsVisible q → S.calm c (Asks q f) ≡ Asks q f
+  pub calm_visible_same : (q : source.Question) (f : Value → Doing A) → IsVisible q → S.calm rows made c (Asks q f) ≡ Asks q f
   calm_visible_same (Places p) f h = absurd h
   calm_visible_same (Lengths p) f h = absurd h
+  calm_visible_same (Opens v) f h = absurd h
+  calm_visible_same (Sizes v d) f h = absurd h
+  calm_visible_same (Tests v t) f h = absurd h
   calm_visible_same (Reads t p) f h = refl
   calm_visible_same (Stores p v) f h = refl
   calm_visible_same (Copies t p q) f h = refl
@@ -580,7 +833,7 @@ module _ {A : Type 0} (c : Content Value) where
   calm_visible_same (ComparesTexts r p n q m) f h = refl
   calm_visible_same (Calls q vs) f h = refl
   calm_visible_same (Ends r) f h = refl
-  calm_visible_same (Makes t) f h = refl
+  calm_visible_same (Makes t vs) f h = refl
   calm_visible_same (Starts v) f h = refl
   calm_visible_same (PutsInt v n) f h = refl
   calm_visible_same (PutsChar v) f h = refl
@@ -588,13 +841,22 @@ module _ {A : Type 0} (c : Content Value) where
   calm_visible_same PutsNothing f h = refl
   calm_visible_same PutsLn f h = refl
 
+  -- in any world
+  pub calm_stays : (r : Doing A) → IsCalm r → S.calm rows made c r ≡ r
+  calm_stays (Val a) h = refl
+  calm_stays (Asks q f) h = calm_visible_same q f h
+  calm_stays (Traps n code) h = refl
+
   -- and so is what goes on with it
   module _ {B : Type 0} (on : A → Doing B) where
-    pub calm_bind : (r : Doing A) → S.calm c (bind r on) ≡ S.calm c (bind (S.calm c r) on)
+    pub calm_bind : (r : Doing A) → S.calm rows made c (bind r on) ≡ S.calm rows made c (bind (S.calm rows made c r) on)
     calm_bind (Val a) = refl
     calm_bind (Traps n code) = refl
     calm_bind (Asks (Places p) f) = calm_bind (f (known c p))
     calm_bind (Asks (Lengths p) f) = calm_bind (f (known c p))
+    calm_bind (Asks (Opens v) f) = calm_bind (f (opens made v))
+    calm_bind (Asks (Sizes v d) f) = calm_bind (f (sizes made v d))
+    calm_bind (Asks (Tests v u) f) = calm_bind (f (tests rows made c v u))
     calm_bind (Asks (Reads t p) f) = refl
     calm_bind (Asks (Stores p v) f) = refl
     calm_bind (Asks (Copies t p q) f) = refl
@@ -602,7 +864,7 @@ module _ {A : Type 0} (c : Content Value) where
     calm_bind (Asks (ComparesTexts r p n q m) f) = refl
     calm_bind (Asks (Calls q vs) f) = refl
     calm_bind (Asks (Ends r) f) = refl
-    calm_bind (Asks (Makes t) f) = refl
+    calm_bind (Asks (Makes t vs) f) = refl
     calm_bind (Asks (Starts v) f) = refl
     calm_bind (Asks (PutsInt v n) f) = refl
     calm_bind (Asks (PutsChar v) f) = refl
@@ -610,11 +872,14 @@ module _ {A : Type 0} (c : Content Value) where
     calm_bind (Asks PutsNothing f) = refl
     calm_bind (Asks PutsLn f) = refl
 
-    pub feed_noted_bind : (r : Doing A) → feed (S.noted c r) (bind r on) ≡ bind (S.calm c r) on
+    pub feed_noted_bind : (r : Doing A) → feed (S.noted rows made c r) (bind r on) ≡ bind (S.calm rows made c r) on
     feed_noted_bind (Val a) = refl
     feed_noted_bind (Traps n code) = refl
     feed_noted_bind (Asks (Places p) f) = feed_noted_bind (f (known c p))
     feed_noted_bind (Asks (Lengths p) f) = feed_noted_bind (f (known c p))
+    feed_noted_bind (Asks (Opens v) f) = feed_noted_bind (f (opens made v))
+    feed_noted_bind (Asks (Sizes v d) f) = feed_noted_bind (f (sizes made v d))
+    feed_noted_bind (Asks (Tests v u) f) = feed_noted_bind (f (tests rows made c v u))
     feed_noted_bind (Asks (Reads t p) f) = refl
     feed_noted_bind (Asks (Stores p v) f) = refl
     feed_noted_bind (Asks (Copies t p q) f) = refl
@@ -622,10 +887,32 @@ module _ {A : Type 0} (c : Content Value) where
     feed_noted_bind (Asks (ComparesTexts r p n q m) f) = refl
     feed_noted_bind (Asks (Calls q vs) f) = refl
     feed_noted_bind (Asks (Ends r) f) = refl
-    feed_noted_bind (Asks (Makes t) f) = refl
+    feed_noted_bind (Asks (Makes t vs) f) = refl
     feed_noted_bind (Asks (Starts v) f) = refl
     feed_noted_bind (Asks (PutsInt v n) f) = refl
     feed_noted_bind (Asks (PutsChar v) f) = refl
     feed_noted_bind (Asks (PutsString p n) f) = refl
     feed_noted_bind (Asks PutsNothing f) = refl
     feed_noted_bind (Asks PutsLn f) = refl
+
+-- What lasts of a tree lasts once its silent questions are answered.
+module _ {A : Type 0} (program : Program) (here : ℕ) (R : World Sort → A → Run → Type 0) (types : List TypeDesc) (c : Content Value) (cells : List Cell) (w : World Sort) (m : Run) where
+  abbrev calmed : World Sort → Doing A → Doing A
+  calmed w r = S.calm program.types w.made c r
+
+  -- a tree that is left as another is
+  lasts_as : (r r' : Doing A) → ((w' : World Sort) → Grows w w' → calmed w' r' ≡ calmed w' r) → Lasts program here R types c cells w m r → Lasts program here R types c cells w m r'
+  lasts_as r r' same d =
+      record {
+        heard = λ w' g. same w' g ∙ d.heard w' g ∙ sym (same w (grows_same w));
+        does = λ w' g whole. subst (λ z. Calmly program here R types cells w' (calm types w'.made cells m) z) (sym (same w' g)) (d.does w' g whole);
+      }
+
+  pub lasts_calm : (r : Doing A) → Lasts program here R types c cells w m r → Lasts program here R types c cells w m (calmed w r)
+  lasts_calm r d =
+      lasts_as r (calmed w r) (λ w' g. calm_stays program.types w'.made c (calmed w r) (calm_seen program.types w.made c r) ∙ sym (d.heard w' g)) d
+
+  pub lasts_calm_on : {B : Type 0} (on : B → Doing A) (r : Doing B) → ((w' : World Sort) → Grows w w' → S.calm program.types w'.made c r ≡ S.calm program.types w.made c r) → Lasts program here R types c cells w m (bind r on) → Lasts program here R types c cells w m (bind (S.calm program.types w.made c r) on)
+  lasts_calm_on on r heard d =
+      lasts_as (bind r on) (bind (S.calm program.types w.made c r) on)
+      (λ w' g. ap (λ z. S.calm program.types w'.made c (bind z on)) (sym (heard w' g)) ∙ sym (calm_bind program.types w'.made c on r)) d

@@ -9,6 +9,7 @@ use Rattle.aos_base.specs.Rooted.{Made, Rooted}
 use Rattle.aos_types.specs.declared.row.TypeRow.{TypeRow}
 use Rattle.aos_types.specs.declared.row.TypeId.{TypeId}
 use Rattle.aos_types.specs.Table.{row_of as type_row, is_open}
+use Rattle.aos_types.specs.Chain.{IsRanked}
 use Rattle.aos_types.specs.Shape.{Shape, One, size, part, before, inside, offset, number_of, leaves, row}
 use Rattle.aos_types.specs.World.{World}
 use Rattle.aos_typed.specs.declared.tree.TType.{TType}
@@ -229,7 +230,7 @@ module _ (program : Program) where
 
   -- A call
 
-  module _ (ps ms : List ℕ) (made : List Made) (fs : List S.Frame) (s : Store) (y : Rooted (List Cell)) (shows : Shows (Is program.types) cell_of (scheme program) made (shapes_of fs) (S.all_rooted fs s) y) (r : Routine) (vs : List Value) (given : Given program (world_of program made (shapes_of fs)) (parameters_of r.own) vs) (n : ℕ) (shape : ProcShape) (is : seen_shape shape ≡ shape_of program.types r) where
+  module _ (ranked : IsRanked program.types) (ps ms : List ℕ) (made : List Made) (fs : List S.Frame) (s : Store) (y : Rooted (List Cell)) (shows : Shows (Is program.types) cell_of (scheme program) made (shapes_of fs) (S.all_rooted fs s) y) (r : Routine) (vs : List Value) (given : Given program (world_of program made (shapes_of fs)) (parameters_of r.own) vs) (n : ℕ) (shape : ProcShape) (is : seen_shape shape ≡ shape_of program.types r) where
     abbrev called : S.Frame
     called = S.called_frame program ms r vs fs s
 
@@ -257,9 +258,9 @@ module _ (program : Program) where
     abbrev kinds : List Kind
     kinds = shape.kinds.items
 
-    pub alike : Alike program made (shapes_of fs) (S.all_rooted fs s) y shows above (frame_grows (scheme program) made called.shape (shapes_of fs)) (length fs) ps (map (taken_as rows) (parameters_of r.own)) handed (I.handed ps (length fs) y (map (parameter_kind rows) (parameters_of r.own)) (map (cell_of now) vs) (length kinds)) copy (length kinds)
+    pub alike : Alike program made (shapes_of fs) (S.all_rooted fs s) y shows above (frame_grows (scheme program) made called.shape (shapes_of fs)) (length fs) ps ranked (map (taken_as rows) (parameters_of r.own)) handed (I.handed ps (length fs) y (map (parameter_kind rows) (parameters_of r.own)) (map (cell_of now) vs) (length kinds)) copy (length kinds)
     alike =
-        handed_alike program made (shapes_of fs) (S.all_rooted fs s) y shows above (frame_grows (scheme program) made called.shape (shapes_of fs)) (length fs) ps (parameters_of r.own) vs copy (length kinds) given
+        handed_alike program made (shapes_of fs) (S.all_rooted fs s) y shows above (frame_grows (scheme program) made called.shape (shapes_of fs)) (length fs) ps ranked (parameters_of r.own) vs copy (length kinds) given
 
     same : SameSizes front known_parts
     same =

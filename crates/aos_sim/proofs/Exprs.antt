@@ -1,18 +1,19 @@
 -- The code of a well-typed designator, array, row of arguments or expression does what this does, for all answers of the right types.
 use Rattle.std.proofs.Common.{◌≡◌, ℕ, zero, suc, ℤ, pos, true, false, Bool, Option, Some, None, ◌+◌, ◌<◌, List, [], ◌∷◌, ◌++◌, length, map, if◌then◌else◌, refl, sym, ap, ◌∙◌, subst, arith, append_assoc, append-nil, length-append}
-use Rattle.std.proofs.Common.{◌⊎◌, inl, inr}
+use Rattle.std.proofs.Common.{inl, inr}
 use Rattle.std.specs.Prelude.{All, is_some, slice_get, option_map}
 use Rattle.std.specs.Option.{unwrap_or}
 use Rattle.std.proofs.lemmas.Int.{ints}
 use Rattle.std.proofs.lemmas.List.{length-map, map-append}
 use Rattle.std.proofs.lemmas.Option.{slice_get-map}
+use Rattle.aos_base.specs.declared.number.Width.{Width}
 use Rattle.aos_base.specs.declared.number.Width.TheVariants.{W16, W32, W64}
 use Rattle.aos_base.specs.declared.number.Relation.{Relation}
 use Rattle.aos_base.specs.Number.{IsWithin}
 use Rattle.aos_base.specs.declared.operator.Unary.{Unary as UnaryOperator}
-use Rattle.aos_base.specs.declared.operator.Unary.TheVariants.{Range}
+use Rattle.aos_base.specs.declared.operator.Unary.TheVariants.{Neg, Abs, Not, Odd, Cap, Compl, Range}
 use Rattle.aos_base.specs.declared.operator.Binary.{Binary as BinaryOperator}
-use Rattle.aos_base.specs.declared.operator.Binary.TheVariants.{SetSpan}
+use Rattle.aos_base.specs.declared.operator.Binary.TheVariants.{Add, Sub, Mul, Div, Mod, Ash, Cmp, Union, Minus, Meet, Xor, SetSpan, In}
 use Rattle.aos_base.specs.declared.operator.Given.{Given as Gives}
 use Rattle.aos_base.specs.declared.operator.Given.TheVariants.{Number, Trap, Undefined}
 use Rattle.aos_base.specs.Operators.{unary as unary_of, binary as binary_of}
@@ -20,21 +21,25 @@ use Rattle.aos_base.specs.Question.{Val, Asks, bind, ask, Reads, ComparesTexts, 
 use Rattle.aos_types.specs.declared.row.TypeId.{TypeId}
 use Rattle.aos_types.specs.declared.row.TypeRow.{TypeRow}
 use Rattle.aos_types.specs.declared.row.TypeRow.TheVariants as row
-use Rattle.aos_types.specs.Table.{row_of, is_open, is_scalar}
+use Rattle.aos_types.specs.Table.{row_of, is_open, is_record, is_scalar}
+use Rattle.aos_types.specs.Shape.{Shape}
+use Rattle.aos_types.proofs.Tables.{comes_on}
 use Rattle.aos_types.specs.World.{World}
 use Rattle.aos_typed.specs.declared.tree.Literal.{Literal}
 use Rattle.aos_typed.specs.declared.tree.Literal.TheVariants as literal
 use Rattle.aos_typed.specs.declared.tree.TType.{TType}
 use Rattle.aos_typed.specs.declared.tree.TType.TheVariants as type
-use Rattle.aos_typed.specs.Program.{Place as Designator, ModuleVar, Local, Passed, Field, Index, Of, Rows, Known, Opened, Row, Longer, Arguments, NoMore, Scalar, Whole, Opening, Expr, Lit, Read, Unary, Binary, And, Or, Element, Ord, Chr, CompareTexts, Len, LenBehind, Function, Parameter, Procedure, Program}
-use Rattle.aos_typed.specs.Numbers.{id_of, procedure_number}
-use Rattle.aos_typed.specs.Sort.{Sort, variable_shape}
-use Rattle.aos_typed.specs.Typing.{nested}
+use Rattle.aos_typed.specs.Program.{Place as Designator, ModuleVar, Local, Passed, Field, Index, Of, Deref, Typed, Guarded, Rows, Known, Opened, Row, Spread, Longer, Arguments, NoMore, Scalar, Whole, Opening, Expr, Lit, Read, Unary, Binary, And, Or, Element, Ord, Chr, CompareTexts, Len, LenBehind, Function, Same, Is as IsOfType, IsRecord, Guard, Had, Parameter, Procedure, Program}
+use Rattle.aos_typed.specs.Numbers.{id_of, id_of_made, procedure_number}
+use Rattle.aos_typed.specs.Open.{open_dimensions}
+use Rattle.aos_typed.specs.Sort.{Sort, Plain, Variable, Alias, variable_shape}
+use Rattle.aos_types.specs.Content.{EachSort}
+use Rattle.aos_typed.specs.Typing.{nested, Is, IsPlain}
+use Rattle.aos_sim.proofs.Parts.{each_rest}
 use Rattle.aos_typed.specs.Value.{Value, Int, Place, Sort as Kind, Character, literal_value, number_of, given as given_value, unary_sort, binary_sort, binary, element, ord}
 use Rattle.aos_typed.specs.Meaning.{Doing, Found, length_at, text_length, place_of, rows_of, arguments_of, value_of}
 use Rattle.aos_typed.specs.Spot.{Spot}
-use Rattle.aos_typed.specs.WellTyped.{is_basic, is_whole, Includes, taken, GivesOfTwo, procedure_in, IsConstantText, IsOpening, IsByReference, IsByValue, IsLength, HaveLengths, IsPlaceOf, AreRows, AreArguments, IsOf}
-use Rattle.aos_code.specs.declared.image.ProcShape.{ProcShape}
+use Rattle.aos_typed.specs.WellTyped.{is_basic, is_value, is_reference, is_whole, Includes, Fits, IsLiteral, HasRange, taken, Gives as GivenOf, GivesOfTwo, NamesType, IsGiven, procedure_in, IsConstantText, IsOpening, IsByValue, IsLength, HaveLengths, IsPlaceOf, AreRows, AreArguments, IsOf}
 use Rattle.aos_code.specs.declared.instr.Cell.{Cell}
 use Rattle.aos_code.specs.declared.instr.Cell.TheVariants.{Num}
 use Rattle.aos_code.specs.declared.instr.Instr.{Instr}
@@ -42,14 +47,16 @@ use Rattle.aos_code.specs.declared.instr.Instr.TheVariants as i
 use Rattle.aos_code.specs.Silent.{Stack, Keeps, Act, on_place, counted_on, gives_picked, gives, given}
 use Rattle.aos_sim.specs.Cells.{place_in, cell_of}
 use Rattle.aos_sim.specs.Code.{literal_code, kind_of, cells_of, dimensions, drops, place_code, rows_code, arguments_code, operands_code, value_code}
-use Rattle.aos_sim.proofs.Runs.{Run, Onward, past, on_run, runs}
+use Rattle.aos_sim.proofs.Runs.{Run, Onward, Tables, past, on_run, runs}
 use Rattle.aos_sim.proofs.Types.{IsValueOf, number_cell, flag_is, included, literal_is}
 use Rattle.aos_sim.proofs.Operators.{unary_agrees, Suit, operands_suit, binary_agrees}
 use Rattle.aos_sim.proofs.First.{all_get}
-use Rattle.aos_sim.proofs.Does.{HasPredeclared, HasTypes, HasShapes, Handles, HandlesFor, Given, IsAnswer, addr_of, lengths_are, Does, knows_grows, along, does_bind}
-use Rattle.aos_sim.proofs.Variables.{basic_row, basic_is_one, value_from, value_to}
-use Rattle.aos_sim.proofs.Evaluates.{OfType, number_in, pushed, pushed-append, Pushed, OnTop, Brings, Remain, Evaluates, front_does, piece_does, pieces_do, two_do, values_stay, operand_does, ends_at}
-use Rattle.aos_sim.proofs.Designators.{IsFound, AreFound, rows_cells, IsText, text_cells, counted_taken, Finds, FindsRows, Hands, FindsText, FindsRoom, places_stay, rows_remain, texts_remain, variable_does, local_does, passed_does, field_does, index_does, array_rows, constant_rows, opened_does, longer_does, row_does, of_does, rows_text, rows_room}
+use Rattle.aos_sim.proofs.Extended.{record_base, open_some}
+use Rattle.aos_sim.proofs.References.{nil_value, fitting_value, value_is_one, value_no_record, value_scalar}
+use Rattle.aos_sim.proofs.Objects.{deref_does, spread_does, is_does, guard_does, same_does, is_record_does, guard_place_does, typed_does}
+use Rattle.aos_sim.proofs.Does.{HasPredeclared, HasTypes, HasShapes, alias_sort, HasScalar, Handles, HandlesFor, Given, IsAnswer, addr_of, lengths_are, Does, knows_grows, along, does_bind}
+use Rattle.aos_sim.proofs.Evaluates.{OfType, number_in, pushed, pushed-append, Pushed, OnTop, OnStack, OfSort, Brings, Remain, Evaluates, Yields, yields, evaluates, sorts_stay, front_does, piece_does, pieces_do, two_do, values_stay, operand_does, ends_at}
+use Rattle.aos_sim.proofs.Designators.{IsFound, RowsHold, holds_exactly, holds_extension, longer_rows, AreFound, rows_cells, IsText, text_cells, counted_taken, Finds, FindsRows, Hands, FindsText, FindsRoom, places_stay, rows_remain, texts_remain, variable_does, local_does, passed_does, field_does, index_does, array_rows, constant_rows, opened_does, row_does, of_does, rows_text, rows_room}
 use Rattle.aos_sim.proofs.Routines.{called, routine_there}
 use Rattle.aos_sim.proofs.Called.{call_asks, call_valid, call_gives}
 use Rattle.aos_sim.proofs.Results.{Agrees, chr_agrees}
@@ -67,22 +74,103 @@ no_scalar (Some (row.Object base fields)) e = absurd (cc)
 no_scalar (Some (row.Procedure formals r)) e = absurd (cc)
 no_scalar (Some row.Any) e = absurd (cc)
 
+-- Types of which basic values are given.
+
+included_basic : (t : TType) (w : Width) → Includes t (type.Integer w) → is_basic t ≡ true
+included_basic (type.Integer v) w e = refl
+included_basic type.Boolean w e = absurd (cc)
+included_basic type.Char w e = absurd (cc)
+included_basic type.Set w e = absurd (cc)
+included_basic type.Any w e = absurd (cc)
+included_basic (type.Named k) w e = absurd (cc)
+
+literal_basic : (l : Literal) (t : TType) → IsLiteral l t → is_basic t ≡ true
+literal_basic l (type.Integer w) h = refl
+literal_basic l type.Boolean h = refl
+literal_basic l type.Char h = refl
+literal_basic l type.Set h = refl
+literal_basic (literal.Int n) type.Any h = absurd h
+literal_basic (literal.Bool b) type.Any h = absurd h
+literal_basic (literal.Char c) type.Any h = absurd h
+literal_basic (literal.Set s) type.Any h = absurd h
+literal_basic (literal.Text c) type.Any h = absurd h
+literal_basic literal.Nil type.Any h = absurd h
+literal_basic (literal.Int n) (type.Named k) h = absurd h
+literal_basic (literal.Bool b) (type.Named k) h = absurd h
+literal_basic (literal.Char c) (type.Named k) h = absurd h
+literal_basic (literal.Set s) (type.Named k) h = absurd h
+literal_basic (literal.Text c) (type.Named k) h = absurd h
+literal_basic literal.Nil (type.Named k) h = absurd h
+
+range_basic : (t : TType) (low high : ℤ) → HasRange t low high → is_basic t ≡ true
+range_basic (type.Integer w) low high h = refl
+range_basic type.Boolean low high h = absurd h
+range_basic type.Char low high h = absurd h
+range_basic type.Set low high h = absurd h
+range_basic type.Any low high h = absurd h
+range_basic (type.Named k) low high h = absurd h
+
+taken_basic : (op : UnaryOperator) → is_basic (taken op) ≡ true
+taken_basic (Neg w) = refl
+taken_basic (Abs w) = refl
+taken_basic Not = refl
+taken_basic Odd = refl
+taken_basic Cap = refl
+taken_basic Compl = refl
+taken_basic (Range low high) = refl
+
+given_basic : (op : UnaryOperator) (t : TType) → GivenOf op t → is_basic t ≡ true
+given_basic (Neg w) t g = included_basic t w g
+given_basic (Abs w) t g = included_basic t w g
+given_basic Not t g = ap is_basic g
+given_basic Odd t g = ap is_basic g
+given_basic Cap t g = ap is_basic g
+given_basic Compl t g = ap is_basic g
+given_basic (Range low high) t g = range_basic t low high g
+
+two_basic : (op : BinaryOperator) (t : TType) → GivesOfTwo op t → is_basic t ≡ true
+two_basic (Add w) t g = included_basic t w g
+two_basic (Sub w) t g = included_basic t w g
+two_basic (Mul w) t g = included_basic t w g
+two_basic (Div w) t g = included_basic t w g
+two_basic (Mod w) t g = included_basic t w g
+two_basic (Ash w) t g = included_basic t w g
+two_basic (Cmp r) t g = ap is_basic g
+two_basic Union t g = ap is_basic g
+two_basic Minus t g = ap is_basic g
+two_basic Meet t g = ap is_basic g
+two_basic Xor t g = ap is_basic g
+two_basic SetSpan t g = ap is_basic g
+two_basic In t g = ap is_basic g
+
 -- the code of a character is an integer
 ord_is : (v : Value) → IsValueOf type.Char v → IsValueOf (type.Integer W16) (ord v)
 ord_is v h = subst (λ x. IsValueOf (type.Integer W16) (ord x)) (sym h.1) (pos h.0, refl, record { low = omega (arith, ints, h.2); high = omega (arith, ints, h.2) })
 
-module _ (program : Program) (own : Option Procedure) (shapes : List ProcShape) (number here : ℕ) (code : List Instr) where
+module _ (program : Program) (own : Option Procedure) (tables : Tables) (number here : ℕ) (code : List Instr) where
   abbrev onward : List Instr → Onward
-  onward = runs shapes number here code
+  onward = runs tables number here code
 
   abbrev With : TType → List Instr → ℕ → Keeps → Stack → World Sort → Value → Run → Type 0
-  With = Pushed shapes number here code
+  With = Pushed tables number here code
 
   abbrev Comes : TType → List Instr → Doing Value → ℕ → Type 0
-  Comes = Evaluates program own shapes number here code
+  Comes = Evaluates program own tables number here code
+
+  abbrev Yield : TType → List Instr → Doing Value → ℕ → Type 0
+  Yield = Yields program own tables number here code
+
+  abbrev Yielded : TType → List Instr → ℕ → Keeps → Stack → World Sort → Value → Run → Type 0
+  Yielded t = OnStack tables number here code (OfSort program own tables number here code t) cell_of
+
+  -- a variable of a scalar is one
+  pub scalar_found : HasTypes program → (t : TType) → is_value program.types t ≡ true → (w : World Sort) (p : Spot) (named : Type 0) → IsFound program named t w p → HasScalar program w p (Plain (id_of t))
+  scalar_found typed t value w p named found =
+      found.there
+      ∙ ap (λ z. Some z) (holds_exactly program typed (id_of t) found.shape (value_no_record program typed.predeclared t value) found.holds ∙ value_is_one program typed.predeclared t value)
 
   -- what an operator gives
-  given_does : (t : TType) (z : Kind) (g : Gives) → Agrees t z g → (rest : List Instr) (at : ℕ) (k : Keeps) (s : Stack) (w : World Sort) (m : Run) → m ≡ on_run shapes (given g s) (onward rest) at k → Does program here (With t rest (at + 1) k s) w m (given_value z g)
+  given_does : (t : TType) (z : Kind) (g : Gives) → Agrees t z g → (rest : List Instr) (at : ℕ) (k : Keeps) (s : Stack) (w : World Sort) (m : Run) → m ≡ on_run tables (given g s) (onward rest) at k → Does program here (With t rest (at + 1) k s) w m (given_value z g)
   given_does t z (Number n) a rest at k s w m e = record { is = a.0; run = e ∙ ap (λ c. onward rest 0 (at + 1) k (Num c ∷ s)) (sym a.1) }
   given_does t z (Trap n) a rest at k s w m e = (e, a)
   given_does t z Undefined a rest at k s w m e = absurd a
@@ -91,39 +179,44 @@ module _ (program : Program) (own : Option Procedure) (shapes : List ProcShape) 
   on_numbers_does op t a b h g rest at k s w m e =
       given_does t (binary_sort op) (binary_of op (number_of a) (number_of b)) (binary_agrees op t a b h g) rest at k s w m e
 
-  literal_does : (t : TType) (l : Literal) (at : ℕ) → IsOf program own (Lit l) t → Comes t (value_code program own (Lit l) at) (value_of program here (Lit l)) at
-  literal_does t l at ok w known rest k s = record { is = literal_is l t ok; run = loaded l }
+  literal_does : (t : TType) (l : Literal) (at : ℕ) → IsLiteral l t → Comes t (value_code program own (Lit l) at) (value_of program here (Lit l)) at
+  literal_does t l at ok w known rest k s = record { is = literal_is l t ok; run = loaded l ok }
     where
-      loaded : (l : Literal) → onward (literal_code l ∷ rest) 0 at k s ≡ onward rest 0 (at + 1) k (Num (number_of (literal_value l)) ∷ s)
-      loaded (literal.Int n) = refl
-      loaded (literal.Bool b) = refl
-      loaded (literal.Char c) = refl
-      loaded (literal.Set n) = refl
-      loaded (literal.Text c) = refl
+      loaded : (l : Literal) → IsLiteral l t → onward (literal_code l ∷ rest) 0 at k s ≡ onward rest 0 (at + 1) k (Num (number_of (literal_value l)) ∷ s)
+      loaded (literal.Int n) ok = refl
+      loaded (literal.Bool b) ok = refl
+      loaded (literal.Char c) ok = refl
+      loaded (literal.Set n) ok = refl
+      loaded (literal.Text c) ok = refl
+      loaded literal.Nil ok = absurd ok
+
+  -- NIL
+  nil_does : HasPredeclared program → (t : TType) (at : ℕ) → is_reference program.types t ≡ true → Yield t (value_code program own (Lit literal.Nil) at) (value_of program here (Lit literal.Nil)) at
+  nil_does predeclared t at ref w known rest k s = record { is = nil_value program w predeclared t ref; run = refl }
 
   unary_does : (t u : TType) (op : UnaryOperator) (z : Kind) (xs : List Instr) (r : Doing Value) (at : ℕ) → ((v : Value) → IsValueOf u v → Agrees t z (unary_of op (number_of v))) → Comes u xs r at → Comes t (xs ++ i.Unary op ∷ []) (bind r (λ v. given_value z (unary_of op (number_of v)))) at
   unary_does t u op z xs r at of h w known rest k s =
       let f : Value → Doing Value = λ v. given_value z (unary_of op (number_of v)) in
       let n : at + length xs + 1 ≡ at + length (xs ++ i.Unary op ∷ []) = omega (arith, length-append xs (i.Unary op ∷ [])) in
-      operand_does program own shapes number here code (With t rest (at + length (xs ++ i.Unary op ∷ [])) k s) u f xs (i.Unary op ∷ []) r at rest k s h w known
-      (λ w' up v m is e. ends_at program own shapes number here code t rest (at + length xs + 1) (at + length (xs ++ i.Unary op ∷ [])) k s w' m (f v) n
+      operand_does program own tables number here code (With t rest (at + length (xs ++ i.Unary op ∷ [])) k s) u f xs (i.Unary op ∷ []) r at rest k s h w known
+      (λ w' up v m is e. ends_at program own tables number here code t rest (at + length xs + 1) (at + length (xs ++ i.Unary op ∷ [])) k s w' m (f v) n
       (given_does t z (unary_of op (number_of v)) (of v is) rest (at + length xs) k s w' m e))
 
   binary_does : (t u v : TType) (op : BinaryOperator) (ca cb : List Instr) (ra rb : Doing Value) (at : ℕ) → ((a b : Value) → IsValueOf u a → IsValueOf v b → Suit op a b) → GivesOfTwo op t → Comes u ca ra at → Comes v cb rb (at + length ca) → Comes t (operands_code ca cb (i.Binary op)) (bind ra (λ a. bind rb (λ b. binary op a b))) at
   binary_does t u v op ca cb ra rb at suit g ha hb w known rest k s =
       let x = i.Binary op in
       let n : at + length ca + length cb + 1 ≡ at + length (operands_code ca cb x) = omega (arith, length-append ca (cb ++ x ∷ []), length-append cb (x ∷ [])) in
-      pieces_do program own shapes number here code (OfType u) number_in (OfType v) number_in (With t rest (at + length (operands_code ca cb x)) k s) x (λ a b. binary op a b) ca cb ra rb at rest k s
-      (values_stay program own shapes number here code u) ha hb w known
-      (λ w' a b m p q e. ends_at program own shapes number here code t rest (at + length ca + length cb + 1) (at + length (operands_code ca cb x)) k s w' m (binary op a b) n
+      pieces_do program own tables number here code (OfType u) number_in (OfType v) number_in (With t rest (at + length (operands_code ca cb x)) k s) x (λ a b. binary op a b) ca cb ra rb at rest k s
+      (values_stay program own tables number here code u) ha hb w known
+      (λ w' a b m p q e. ends_at program own tables number here code t rest (at + length ca + length cb + 1) (at + length (operands_code ca cb x)) k s w' m (binary op a b) n
       (on_numbers_does op t a b (suit a b p q) g rest (at + length ca + length cb) k s w' m e))
 
   element_does : (xs : List Instr) (r : Doing Value) (at : ℕ) → Comes (type.Integer W64) xs r at → Comes type.Set (xs ++ (i.Dup ∷ (i.Binary SetSpan ∷ []))) (bind r (λ v. element v)) at
   element_does xs r at h w known rest k s =
       let tail = i.Dup ∷ (i.Binary SetSpan ∷ []) in
       let n : at + length xs + 1 + 1 ≡ at + length (xs ++ tail) = omega (arith, length-append xs tail) in
-      operand_does program own shapes number here code (With type.Set rest (at + length (xs ++ tail)) k s) (type.Integer W64) (λ v. element v) xs tail r at rest k s h w known
-      (λ w' up v m is e. ends_at program own shapes number here code type.Set rest (at + length xs + 1 + 1) (at + length (xs ++ tail)) k s w' m (element v) n
+      operand_does program own tables number here code (With type.Set rest (at + length (xs ++ tail)) k s) (type.Integer W64) (λ v. element v) xs tail r at rest k s h w known
+      (λ w' up v m is e. ends_at program own tables number here code type.Set rest (at + length xs + 1 + 1) (at + length (xs ++ tail)) k s w' m (element v) n
       (on_numbers_does SetSpan type.Set v v (is, is) refl rest (at + length xs + 1) k s w' m e))
 
   ord_does : (t : TType) (xs : List Instr) (r : Doing Value) (at : ℕ) → ((v : Value) → IsValueOf (type.Integer W16) v → IsValueOf t v) → Comes type.Char xs r at → Comes t xs (bind r (λ v. Val (ord v))) at
@@ -131,31 +224,31 @@ module _ (program : Program) (own : Option Procedure) (shapes : List ProcShape) 
       does_bind program here (With type.Char rest (at + length xs) k s) (With t rest (at + length xs) k s) w (onward (xs ++ rest) 0 at k s) r (λ v. Val (ord v)) (h w known rest k s)
       (λ w' up v m p. record { is = more (ord v) (ord_is v p.is); run = p.run })
 
-  -- a place of a basic type is read
-  read_does : HasPredeclared program → (t u : TType) (xs : List Instr) (r : Doing Spot) (at : ℕ) → is_basic u ≡ true → Includes t u → Finds program own shapes number here code u xs r at → Comes t (xs ++ i.Load (kind_of u) ∷ []) (bind r (λ p. ask (Reads u p))) at
-  read_does predeclared t u xs r at basic more h w known rest k s =
+  -- a place of a scalar is read
+  read_does : HasTypes program → (named : Type 0) (t u : TType) (xs : List Instr) (r : Doing Spot) (at : ℕ) → is_value program.types u ≡ true → Fits program.types t u → Finds program own tables number here code named u xs r at → Yield t (xs ++ i.Load (kind_of u) ∷ []) (bind r (λ p. ask (Reads u p))) at
+  read_does typed named t u xs r at value fits h w known rest k s =
       let q = at + length (xs ++ i.Load (kind_of u) ∷ []) in
       let n : at + length xs + 1 ≡ q = omega (arith, length-append xs (i.Load (kind_of u) ∷ [])) in
-      piece_does program own shapes number here code (IsFound program u) place_in (With t rest q k s) (λ p. ask (Reads u p)) xs (i.Load (kind_of u) ∷ []) r at rest k s h w known
+      piece_does program own tables number here code (IsFound program named u) place_in (Yielded t rest q k s) (λ p. ask (Reads u p)) xs (i.Load (kind_of u) ∷ []) r at rest k s h w known
       (λ w1 up p m found e. (
         (λ x. onward rest 0 (at + length xs + 1) k (x ∷ s)),
         e,
-        (basic, found.there ∙ ap (λ z. Some z) (basic_is_one program predeclared u basic)),
-        λ w2 up' v c.
-            let is = value_from program predeclared u w2 v basic c in
-            ends_at program own shapes number here code t rest (at + length xs + 1) q k s w2 _ (Val v) n
-            (record { is = included t u v more is; run = ap (λ c. onward rest 0 (at + length xs + 1) k (c ∷ s)) (number_cell w2 u v is) }),
+        (value, scalar_found typed u value w1 p named found),
+        λ w2 up' v c. record {
+          is = fitting_value program w2 typed t u v fits c;
+          run = ap (λ j. onward rest 0 j k (cell_of w2 v ∷ s)) n;
+        },
       ))
 
   -- two texts are compared
-  compare_does : (r : Relation) (ca cb : List Instr) (ra rb : Doing Found) (at : ℕ) → FindsText program own shapes number here code ca ra at → FindsText program own shapes number here code cb rb (at + length ca) → Comes type.Boolean (operands_code ca cb (i.CmpText r)) (bind ra (λ a. bind rb (λ b. ask (ComparesTexts r a.place (text_length a) b.place (text_length b))))) at
+  compare_does : (r : Relation) (ca cb : List Instr) (ra rb : Doing Found) (at : ℕ) → FindsText program own tables number here code ca ra at → FindsText program own tables number here code cb rb (at + length ca) → Comes type.Boolean (operands_code ca cb (i.CmpText r)) (bind ra (λ a. bind rb (λ b. ask (ComparesTexts r a.place (text_length a) b.place (text_length b))))) at
   compare_does r ca cb ra rb at ha hb w known rest k s =
       let x = i.CmpText r in
       let p = at + length ca + length cb in
       let q = at + length (operands_code ca cb x) in
       let behind : p + 1 ≡ q = omega (arith, length-append ca (cb ++ x ∷ []), length-append cb (x ∷ [])) in
       let go : Cell → Run = λ c. onward rest 0 (p + 1) k (c ∷ s) in
-      two_do program own shapes number here code IsText text_cells IsText text_cells (With type.Boolean rest q k s) x (λ a b. ask (ComparesTexts r a.place (text_length a) b.place (text_length b))) ca cb ra rb at rest k s (texts_remain program own shapes number here code) ha hb w known
+      two_do program own tables number here code IsText text_cells IsText text_cells (With type.Boolean rest q k s) x (λ a b. ask (ComparesTexts r a.place (text_length a) b.place (text_length b))) ca cb ra rb at rest k s (texts_remain program own tables number here code) ha hb w known
       (λ w1 a b m first second e.
       let found : Cell → Cell → Run = λ c d. onward (x ∷ rest) 0 p k (d ∷ (place_in w1 b.place ∷ (c ∷ (place_in w1 a.place ∷ s)))) in
       let asked : Cell → Cell → Run = λ c d. Asks (ComparesTexts r (addr_of w1 a.place) c (addr_of w1 b.place) d) go in
@@ -166,7 +259,7 @@ module _ (program : Program) (own : Option Procedure) (shapes : List ProcShape) 
         (first, second),
         λ w2 up v flag.
             let is = flag_is v flag in
-            ends_at program own shapes number here code type.Boolean rest (p + 1) q k s w2 _ (Val v) behind
+            ends_at program own tables number here code type.Boolean rest (p + 1) q k s w2 _ (Val v) behind
             (record { is = is; run = ap go (number_cell w2 type.Boolean v is) }),
       ))
 
@@ -176,12 +269,12 @@ module _ (program : Program) (own : Option Procedure) (shapes : List ProcShape) 
   length_there (n ∷ ls) zero l = (n, refl)
   length_there (n ∷ ls) (suc d) l = length_there ls d (omega (arith, l))
 
-  length_does : (t u : TType) (bounded : Type 0) (n j d : ℕ) (xs : List Instr) (r : Doing Found) (at : ℕ) → bounded → d < n → j ≡ n → Includes t (type.Integer W32) → FindsRows program own shapes number here code bounded n u xs r at → Comes t (xs ++ i.PickLen d j ∷ []) (bind r (λ x. Val (length_at d x))) at
+  length_does : (t u : TType) (bounded : Type 0) (n j d : ℕ) (xs : List Instr) (r : Doing Found) (at : ℕ) → bounded → d < n → j ≡ n → Includes t (type.Integer W32) → FindsRows program own tables number here code bounded n u xs r at → Comes t (xs ++ i.PickLen d j ∷ []) (bind r (λ x. Val (length_at d x))) at
   length_does t u bounded n j d xs r at b less many more h w known rest k s =
       let tail = i.PickLen d j ∷ [] in
       let q = at + length (xs ++ tail) in
       let behind : at + length xs + 1 ≡ q = omega (arith, length-append xs tail) in
-      front_does program own shapes number here code (AreFound program bounded n u) rows_cells (With t rest q k s) (λ x. Val (length_at d x)) xs tail r at rest k s h w known
+      front_does program own tables number here code (AreFound program bounded n u) rows_cells (With t rest q k s) (λ x. Val (length_at d x)) xs tail r at rest k s h w known
       (λ w' up x m found e.
       let ls = found.lengths in
       let get = length_there ls d (let c = found.many in omega (arith, c, less)) in
@@ -196,7 +289,7 @@ module _ (program : Program) (own : Option Procedure) (shapes : List ProcShape) 
       let acts : counted_on j [] f (pushed (map (cell_of w') x.lengths) (place ∷ s)) ≡ gives (Num (pos get.0)) s = (λ z. counted_on (all z) [] f (pushed (cells z) (place ∷ s))) ∙ counted_taken ls [] f (place ∷ s) ∙ ap (λ o. gives_picked o s) zs in
       record {
         is = subst (IsValueOf t) (sym is) (included t (type.Integer W32) (Int (pos get.0)) more (pos get.0, refl, (all_get IsLength ls d get.0 (found.bound b) get.1).1));
-        run = e ∙ ap (λ a. on_run shapes a (onward rest) (at + length xs) k) acts ∙ ap (λ z. onward rest 0 z k (Num (pos get.0) ∷ s)) behind
+        run = e ∙ ap (λ a. on_run tables a (onward rest) (at + length xs) k) acts ∙ ap (λ z. onward rest 0 z k (Num (pos get.0) ∷ s)) behind
             ∙ ap (λ v. onward rest 0 q k (Num (number_of v) ∷ s)) (sym is);
       })
 
@@ -215,13 +308,13 @@ module _ (program : Program) (own : Option Procedure) (shapes : List ProcShape) 
   length-drops zero = refl
   length-drops (suc n) = ap (λ m. suc m) (length-drops n)
 
-  behind_does : (t u : TType) (bounded : Type 0) (n j l : ℕ) (xs : List Instr) (r : Doing Found) (at : ℕ) → j ≡ n → IsWithin W32 (pos l) → Includes t (type.Integer W32) → FindsRows program own shapes number here code bounded n u xs r at → Comes t (xs ++ (drops (suc j) ++ i.Num (pos l) ∷ [])) (bind r (λ x. Val (Int (pos l)))) at
+  behind_does : (t u : TType) (bounded : Type 0) (n j l : ℕ) (xs : List Instr) (r : Doing Found) (at : ℕ) → j ≡ n → IsWithin W32 (pos l) → Includes t (type.Integer W32) → FindsRows program own tables number here code bounded n u xs r at → Comes t (xs ++ (drops (suc j) ++ i.Num (pos l) ∷ [])) (bind r (λ x. Val (Int (pos l)))) at
   behind_does t u bounded n j l xs r at many within more h w known rest k s =
       let last = i.Num (pos l) ∷ [] in
       let tail = drops (suc j) ++ last in
       let q = at + length (xs ++ tail) in
       let behind : at + length xs + suc j + 1 ≡ q = let a = length-append xs tail in let b = length-append (drops (suc j)) last in let c = length-drops (suc j) in omega (arith, a, b, c) in
-      front_does program own shapes number here code (AreFound program bounded n u) rows_cells (With t rest q k s) (λ x. Val (Int (pos l))) xs tail r at rest k s h w known
+      front_does program own tables number here code (AreFound program bounded n u) rows_cells (With t rest q k s) (λ x. Val (Int (pos l))) xs tail r at rest k s h w known
       (λ w' up x m found e.
       let cells = rows_cells w' x in
       let many' : suc j ≡ length cells = let a = found.many in let b = ap length found.are in let c = length-map found.lengths (λ (n : ℕ). Int (pos n)) in let d = length-map x.lengths (cell_of w') in omega (arith, many, a, b, c, d) in
@@ -235,12 +328,24 @@ module _ (program : Program) (own : Option Procedure) (shapes : List ProcShape) 
 
   -- What is handed over
 
+  -- where a place names the type of a record there is one
+  names_record : (p : Designator) (t : TType) → NamesType program own p t → is_record (row_of program.types (id_of t)) ≡ true
+  names_record (ModuleVar m k) t h = absurd h
+  names_record (Local k) t h = absurd h
+  names_record (Passed k) t h = h
+  names_record (Field p u k) t h = absurd h
+  names_record (Index p n u e) t h = absurd h
+  names_record (Of r) t h = absurd h
+  names_record (Deref e u) t h = h
+  names_record (Typed p k) t h = h
+  names_record (Guarded p k) t h = h
+
   -- the first of it, and the rest
-  handed_does : {A : Type 0} (P : World Sort → A → Type 0) (cells : World Sort → A → List Cell) (both : A → List Value → List Value) (as' rest' : List Parameter) (ca cb : List Instr) (ra : Doing A) (rb : Doing (List Value)) (at : ℕ) → Remain program own shapes number here code P cells → ((w : World Sort) (a : A) (vs : List Value) → P w a → Given program w rest' vs → Given program w as' (both a vs)) → ((w : World Sort) (a : A) (vs : List Value) → P w a → map (cell_of w) (both a vs) ≡ cells w a ++ map (cell_of w) vs) → Brings program own shapes number here code P cells ca ra at → Hands program own shapes number here code rest' cb rb (at + length ca) → Hands program own shapes number here code as' (ca ++ cb) (bind ra (λ a. bind rb (λ vs. Val (both a vs)))) at
+  handed_does : {A : Type 0} (P : World Sort → A → Type 0) (cells : World Sort → A → List Cell) (both : A → List Value → List Value) (as' rest' : List Parameter) (ca cb : List Instr) (ra : Doing A) (rb : Doing (List Value)) (at : ℕ) → Remain program own tables number here code P cells → ((w : World Sort) (a : A) (vs : List Value) → P w a → Given program w rest' vs → Given program w as' (both a vs)) → ((w : World Sort) (a : A) (vs : List Value) → P w a → map (cell_of w) (both a vs) ≡ cells w a ++ map (cell_of w) vs) → Brings program own tables number here code P cells ca ra at → Hands program own tables number here code rest' cb rb (at + length ca) → Hands program own tables number here code as' (ca ++ cb) (bind ra (λ a. bind rb (λ vs. Val (both a vs)))) at
   handed_does P cells both as' rest' ca cb ra rb at stays given same ha hb w known rest k s =
       let q = at + length (ca ++ cb) in
       let n : at + length ca + length cb ≡ q = omega (arith, length-append ca cb) in
-      front_does program own shapes number here code P cells (Handing as' rest q k s) (λ a. bind rb (λ vs. Val (both a vs))) ca cb ra at rest k s ha w known
+      front_does program own tables number here code P cells (Handing as' rest q k s) (λ a. bind rb (λ vs. Val (both a vs))) ca cb ra at rest k s ha w known
       (λ w1 up a m p e. along program here (Handing as' rest q k s) w1 m _ (bind rb (λ vs. Val (both a vs))) e
       (does_bind program here (Handing rest' rest (at + length ca + length cb) k (pushed (cells w1 a) s)) (Handing as' rest q k s) w1 _ rb (λ vs. Val (both a vs))
       (hb w1 (knows_grows program own here w w1 up known) rest k (pushed (cells w1 a) s))
@@ -255,7 +360,7 @@ module _ (program : Program) (own : Option Procedure) (shapes : List ProcShape) 
       })))
     where
       Handing : List Parameter → List Instr → ℕ → Keeps → Stack → World Sort → List Value → Run → Type 0
-      Handing as' = OnTop shapes number here code (λ w vs. Given program w as' vs) (λ w vs. map (cell_of w) vs)
+      Handing as' = OnTop tables number here code (λ w vs. Given program w as' vs) (λ w vs. map (cell_of w) vs)
 
   -- what each parameter takes
   abbrev Handled : (opens by_reference scalar : Bool) → World Sort → TypeId → List Value → Type 0
@@ -268,42 +373,59 @@ module _ (program : Program) (own : Option Procedure) (shapes : List ProcShape) 
   handled_one a rest as' e w us vs h more = subst (λ x. Given program w x (us ++ vs)) (sym e) (us, vs, refl, h, more)
 
   -- a value
-  scalar_does : HasPredeclared program → (a : Parameter) (rest as' : List Parameter) (ca cb : List Instr) (ra : Doing Value) (rb : Doing (List Value)) (at : ℕ) → as' ≡ a ∷ rest → IsByValue program a a.of → is_basic a.of ≡ true → Comes a.of ca ra at → Hands program own shapes number here code rest cb rb (at + length ca) → Hands program own shapes number here code as' (ca ++ cb) (bind ra (λ v. bind rb (λ vs. Val (v ∷ vs)))) at
-  scalar_does predeclared a rest as' ca cb ra rb at e by_value basic ha hb =
+  scalar_does : HasPredeclared program → (a : Parameter) (rest as' : List Parameter) (ca cb : List Instr) (ra : Doing Value) (rb : Doing (List Value)) (at : ℕ) → as' ≡ a ∷ rest → IsByValue program a a.of → is_value program.types a.of ≡ true → Yield a.of ca ra at → Hands program own tables number here code rest cb rb (at + length ca) → Hands program own tables number here code as' (ca ++ cb) (bind ra (λ v. bind rb (λ vs. Val (v ∷ vs)))) at
+  scalar_does predeclared a rest as' ca cb ra rb at e by_value value ha hb =
       let t = id_of a.of in
-      let one : is_scalar (row_of program.types t) ≡ true = ap is_scalar (basic_row program predeclared a.of basic) in
-      handed_does (OfType a.of) (λ w v. number_in w v ∷ []) (λ v vs. v ∷ vs) as' rest ca cb ra rb at
-      (λ w w' g v h. (h, refl))
+      let one : is_scalar (row_of program.types t) ≡ true = value_scalar program predeclared a.of value in
+      handed_does (OfSort program own tables number here code a.of) (λ w v. cell_of w v ∷ []) (λ v vs. v ∷ vs) as' rest ca cb ra rb at
+      (λ w w' g v h. let x = sorts_stay program own tables number here code a.of w w' g v h in (x.0, ap (λ c. c ∷ []) x.1))
       (λ w v vs is more. handled_one a rest as' e w (v ∷ []) vs
-      (is_handled (is_open (row_of program.types t)) a.by_reference (is_scalar (row_of program.types t)) false false true w t (v ∷ []) by_value.0 by_value.1 one
-      (v, refl, value_to program predeclared a.of w v basic is)) more)
-      (λ w v vs is. ap (λ c. c ∷ map (cell_of w) vs) (number_cell w a.of v is)) ha hb
+      (is_handled (is_open (row_of program.types t)) a.by_reference (is_scalar (row_of program.types t)) false false true w t (v ∷ []) by_value.0 by_value.1 one (v, refl, is)) more)
+      (λ w v vs is. refl) ha hb
 
   -- a variable, by its place
-  whole_does : (a : Parameter) (rest as' : List Parameter) (ca cb : List Instr) (ra : Doing Spot) (rb : Doing (List Value)) (at : ℕ) → as' ≡ a ∷ rest → (IsByReference program a a.of ⊎ (IsByValue program a a.of × (is_whole (row_of program.types (id_of a.of)) ≡ true))) → Finds program own shapes number here code a.of ca ra at → Hands program own shapes number here code rest cb rb (at + length ca) → Hands program own shapes number here code as' (ca ++ cb) (bind ra (λ p. bind rb (λ vs. Val (Place p ∷ vs)))) at
-  whole_does a rest as' ca cb ra rb at e by ha hb =
-      let stays = places_stay program own shapes number here code a.of in
-      handed_does (IsFound program a.of) (λ w p. place_in w p ∷ []) (λ p vs. Place p ∷ vs) as' rest ca cb ra rb at
+  whole_does : HasTypes program → (p : Designator) (u : TType) (a : Parameter) (rest as' : List Parameter) (ca cb : List Instr) (ra : Doing Spot) (rb : Doing (List Value)) (at : ℕ) → as' ≡ a ∷ rest → IsGiven program own a p u → Finds program own tables number here code (NamesType program own p u) u ca ra at → Hands program own tables number here code rest cb rb (at + length ca) → Hands program own tables number here code as' (ca ++ cb) (bind ra (λ p. bind rb (λ vs. Val (Place p ∷ vs)))) at
+  whole_does typed d u a rest as' ca cb ra rb at e given ha hb =
+      let named = NamesType program own d u in
+      let stays = places_stay program own tables number here code named u in
+      handed_does (IsFound program named u) (λ w p. place_in w p ∷ []) (λ p vs. Place p ∷ vs) as' rest ca cb ra rb at
       (λ w w' g p h. let x = stays w w' g p h in (x.0, ap (λ c. c ∷ []) x.1))
-      (λ w p vs is more. handled_one a rest as' e w (Place p ∷ []) vs (handles w p is by) more)
+      (λ w p vs is more. handled_one a rest as' e w (Place p ∷ []) vs (handles w p is given) more)
       (λ w p vs is. refl) ha hb
     where
-      handles : (w : World Sort) (p : Spot) → IsFound program a.of w p → (IsByReference program a a.of ⊎ (IsByValue program a a.of × (is_whole (row_of program.types (id_of a.of)) ≡ true))) → HandlesFor program w a (Place p ∷ [])
-      handles w p is (inl h) =
+      alias : (w : World Sort) (p : Spot) (b : Bool) → is_record (row_of program.types (id_of a.of)) ≡ b → Is program.types w (if b then Variable (id_of a.of) else Alias (id_of a.of)) (Place p) → Is program.types w (alias_sort program.types (id_of a.of)) (Place p)
+      alias w p b is h = subst (λ c. Is program.types w (if c then Variable (id_of a.of) else Alias (id_of a.of)) (Place p)) (sym is) h
+
+      handles : (w : World Sort) (p : Spot) → IsFound program (NamesType program own d u) u w p → IsGiven program own a d u → HandlesFor program w a (Place p ∷ [])
+      handles w p is (inl (h, isnt)) =
           let t = id_of a.of in
           let one = is_scalar (row_of program.types t) in
-          is_handled (is_open (row_of program.types t)) a.by_reference one false true one w t (Place p ∷ []) h.0 h.1 refl (p, refl, (is.there, is.declared))
-      handles w p is (inr h) =
+          let isnt' : is_record (row_of program.types t) ≡ false = ap (λ z. is_record (row_of program.types (id_of z))) h.2 ∙ isnt in
+          let exact : is.shape ≡ variable_shape program.types t = holds_exactly program typed (id_of u) is.shape isnt is.holds ∙ ap (λ z. variable_shape program.types (id_of z)) (sym h.2) in
+          is_handled (is_open (row_of program.types t)) a.by_reference one false true one w t (Place p ∷ []) h.0 h.1 refl (Place p, refl, alias w p false isnt' (is.there ∙ ap (λ z. Some z) exact))
+      handles w p is (inr (inl h)) =
           let t = id_of a.of in
-          is_handled (is_open (row_of program.types t)) a.by_reference (is_scalar (row_of program.types t)) false false false w t (Place p ∷ []) h.0.0 h.0.1 (no_scalar (row_of program.types t) h.1) (p, refl, is.there, is.declared)
+          let one = is_scalar (row_of program.types t) in
+          let n = is.names h.2 in
+          let rec = record_base program typed (id_of u) t (names_record d u h.2) h.3 in
+          is_handled (is_open (row_of program.types t)) a.by_reference one false true one w t (Place p ∷ []) h.0 h.1 refl
+          (Place p, refl, alias w p true rec (record { extends = comes_on program.types typed.ranked (id_of_made p.type) (id_of u) t n.extends h.3; more = n.more; plain = n.plain; there = n.there }))
+      handles w p is (inr (inr h)) =
+          let t = id_of a.of in
+          let r = holds_extension program typed (id_of u) t is.shape h.1 h.2 is.holds in
+          is_handled (is_open (row_of program.types t)) a.by_reference (is_scalar (row_of program.types t)) false false false w t (Place p ∷ []) h.0.0 h.0.1 (no_scalar (row_of program.types t) h.1) (p, refl, (r.0, is.there ∙ ap (λ z. Some z) r.1, each_rest IsPlain (variable_shape program.types t) r.0 (subst (EachSort IsPlain) r.1 is.plain)))
 
   -- an array for an open one
-  opening_does : (a : Parameter) (rest as' : List Parameter) (bounded : Type 0) (n : ℕ) (t : TType) (ca cb : List Instr) (ra : Doing Found) (rb : Doing (List Value)) (at : ℕ) → as' ≡ a ∷ rest → IsOpening program a n t → bounded → FindsRows program own shapes number here code bounded n t ca ra at → Hands program own shapes number here code rest cb rb (at + length ca) → Hands program own shapes number here code as' (ca ++ cb) (bind ra (λ x. bind rb (λ vs. Val (Place x.place ∷ (x.lengths ++ vs))))) at
+  opening_does : (a : Parameter) (rest as' : List Parameter) (bounded : Type 0) (n : ℕ) (t : TType) (ca cb : List Instr) (ra : Doing Found) (rb : Doing (List Value)) (at : ℕ) → as' ≡ a ∷ rest → IsOpening program a n t → bounded → FindsRows program own tables number here code bounded n t ca ra at → Hands program own tables number here code rest cb rb (at + length ca) → Hands program own tables number here code as' (ca ++ cb) (bind ra (λ x. bind rb (λ vs. Val (Place x.place ∷ (x.lengths ++ vs))))) at
   opening_does a rest as' bounded n t ca cb ra rb at e opening b ha hb =
-      handed_does (AreFound program bounded n t) rows_cells (λ x vs. Place x.place ∷ (x.lengths ++ vs)) as' rest ca cb ra rb at (rows_remain program own shapes number here code bounded n t)
+      handed_does (AreFound program bounded n t) rows_cells (λ x vs. Place x.place ∷ (x.lengths ++ vs)) as' rest ca cb ra rb at (rows_remain program own tables number here code bounded n t)
       (λ w x vs is more. handled_one a rest as' e w (Place x.place ∷ x.lengths) vs (handles w x is) more)
       (λ w x vs is. ap (λ l. place_in w x.place ∷ l) (map-append (cell_of w) x.lengths vs)) ha hb
     where
+      opened : (ls : List ℕ) → length ls ≡ open_dimensions program.types (id_of a.of) → (s : Shape Sort) → RowsHold program ls (id_of t) s → s ≡ nested ls (variable_shape program.types (id_of t))
+      opened [] l s h = let some = open_some program.types (id_of a.of) opening.0 in absurd (omega (arith, l, some))
+      opened (l ∷ ls) n s h = h
+
       handles : (w : World Sort) (x : Found) → AreFound program bounded n t w x → HandlesFor program w a (Place x.place ∷ x.lengths)
       handles w x is =
           let u = id_of a.of in
@@ -314,91 +436,121 @@ module _ (program : Program) (own : Option Procedure) (shapes : List ProcShape) 
             is.lengths,
             ap (λ l. Place x.place ∷ l) is.are,
             is.many ∙ opening.1,
-            (is.at.there ∙ ap (λ v. Some (nested is.lengths (variable_shape program.types v))) (sym opening.2), is.at.declared),
+            is.at.there ∙ ap (λ s. Some s) (opened is.lengths (is.many ∙ opening.1) is.at.shape is.at.holds) ∙ ap (λ v. Some (nested is.lengths (variable_shape program.types v))) (sym opening.2),
             is.bound b,
           )
 
   -- a function is called
-  function_does : HasPredeclared program → HasShapes program shapes → (m k : ℕ) (q : Procedure) (t u : TType) (ca : List Instr) (ra : Doing (List Value)) (at : ℕ) → procedure_in program m k ≡ Some q → q.result ≡ Some u → is_basic u ≡ true → Includes t u → Hands program own shapes number here code q.parameters ca ra at → Comes t (ca ++ i.Call (procedure_number program m k) ∷ []) (bind ra (λ vs. ask (Calls (procedure_number program m k) vs))) at
-  function_does predeclared shaped m k q t u ca ra at there result basic more h w known rest ks s =
+  function_does : HasTypes program → HasShapes program tables → (m k : ℕ) (q : Procedure) (t u : TType) (ca : List Instr) (ra : Doing (List Value)) (at : ℕ) → procedure_in program m k ≡ Some q → q.result ≡ Some u → Fits program.types t u → Hands program own tables number here code q.parameters ca ra at → Yield t (ca ++ i.Call (procedure_number program m k) ∷ []) (bind ra (λ vs. ask (Calls (procedure_number program m k) vs))) at
+  function_does typed shaped m k q t u ca ra at there result fits h w known rest ks s =
       let n = procedure_number program m k in
       let x = i.Call n in
       let p = at + length ca in
       let z = at + length (ca ++ x ∷ []) in
       let behind : p + 1 ≡ z = omega (arith, length-append ca (x ∷ [])) in
-      front_does program own shapes number here code (λ w vs. Given program w q.parameters vs) (λ w vs. map (cell_of w) vs) (With t rest z ks s) (λ vs. ask (Calls n vs)) ca (x ∷ []) ra at rest ks s h w known
+      front_does program own tables number here code (λ w vs. Given program w q.parameters vs) (λ w vs. map (cell_of w) vs) (Yielded t rest z ks s) (λ vs. ask (Calls n vs)) ca (x ∷ []) ra at rest ks s h w known
       (λ w1 up vs m' given e. (
-        (λ c. past shapes (Calls n (map (cell_of w1) vs)) c p ks s (onward rest)),
-        e ∙ call_asks program shapes shaped here w1 m k q there vs given number code rest p ks s,
-        call_valid program shapes shaped here w1 m k q there vs given,
+        (λ c. past tables (Calls n (map (cell_of w1) vs)) c p ks s (onward rest)),
+        e ∙ call_asks program tables shaped here w1 m k q there vs given number code rest p ks s,
+        call_valid program tables shaped here w1 m k q there vs given,
         λ w2 up' v answer.
-            let is = value_from program predeclared u w2 v basic (subst (λ r. IsAnswer program w2 r v) result (answer (called m q) (routine_there program m k q there))) in
-            let gives = call_gives program shapes shaped here w1 m k q there vs given ∙ ap is_some result in
-            ends_at program own shapes number here code t rest (p + 1) z ks s w2 _ (Val v) behind
-            (record {
-              is = included t u v more is;
-              run = ap (λ b. onward rest 0 (p + 1) ks (if b then cell_of w2 v ∷ s else s)) gives ∙ ap (λ c. onward rest 0 (p + 1) ks (c ∷ s)) (number_cell w2 u v is);
-            }),
+            let is = subst (λ r. IsAnswer program w2 r v) result (answer (called m q) (routine_there program m k q there)) in
+            let gives = call_gives program tables shaped here w1 m k q there vs given ∙ ap is_some result in
+            record {
+              is = fitting_value program w2 typed t u v fits is;
+              run = ap (λ b. onward rest 0 (p + 1) ks (if b then cell_of w2 v ∷ s else s)) gives ∙ ap (λ j. onward rest 0 j ks (cell_of w2 v ∷ s)) behind;
+            },
       ))
 
   -- how many dimensions of an array have their lengths behind its place
   dimensions_are : (r : Rows) (n : ℕ) (t : TType) → AreRows program own r n t → dimensions r ≡ n
   dimensions_are (Known p ns) n t ok = sym ok.0
   dimensions_are (Opened k j) n t ok = sym ok.0
+  dimensions_are (Spread e j) n t ok = sym ok.0
+  dimensions_are (Longer r ns) n t ok = let h = dimensions_are r ok.0 ok.1 ok.3 in let l = ok.2 in omega (arith, h, l)
   dimensions_are (Row r u e) n t ok = let h = dimensions_are r (suc n) t ok.0 in omega (arith, h)
-  dimensions_are (Longer r ns) n t ok = ap (λ m. m + length ns) (dimensions_are r ok.0 ok.1 ok.3) ∙ sym ok.2
 
-  module _ (typed : HasTypes program) (shaped : HasShapes program shapes) where
+  module _ (typed : HasTypes program) (shaped : HasShapes program tables) where
     abbrev RowsFound : Rows → ℕ → TType → ℕ → Type 0
-    RowsFound r n t at = FindsRows program own shapes number here code (HaveLengths r) n t (rows_code program own r at) (rows_of program here r) at
+    RowsFound r n t at = FindsRows program own tables number here code (HaveLengths r) n t (rows_code program own r at) (rows_of program here r) at
 
     constant_known : (p : Designator) (m at : ℕ) → IsConstantText program p m → RowsFound (Known p (m ∷ [])) 1 type.Char at
-    constant_known (ModuleVar h k) m at of = constant_rows program own shapes number here code typed (All IsLength (m ∷ [])) h k m at (λ b. b) of
+    constant_known (ModuleVar h k) m at of = constant_rows program own tables number here code typed (All IsLength (m ∷ [])) h k m at (λ b. b) of
     constant_known (Local k) m at of = absurd of
     constant_known (Passed k) m at of = absurd of
     constant_known (Field p u k) m at of = absurd of
     constant_known (Index p l u e) m at of = absurd of
     constant_known (Of r) m at of = absurd of
+    constant_known (Deref e u) m at of = absurd of
+    constant_known (Typed p u) m at of = absurd of
+    constant_known (Guarded p u) m at of = absurd of
 
-    known_rows : (p : Designator) (ns : List ℕ) (n : ℕ) (t : TType) (at : ℕ) → ((u : TType) → IsPlaceOf program own p u → Finds program own shapes number here code u (place_code program own p at) (place_of program here p) at) → AreRows program own (Known p ns) n t → RowsFound (Known p ns) n t at
+    known_rows : (p : Designator) (ns : List ℕ) (n : ℕ) (t : TType) (at : ℕ) → ((u : TType) → IsPlaceOf program own p u → Finds program own tables number here code (NamesType program own p u) u (place_code program own p at) (place_of program here p) at) → AreRows program own (Known p ns) n t → RowsFound (Known p ns) n t at
     known_rows p ns n t at found (e, inl h) =
         subst (λ m. RowsFound (Known p ns) m t at) (sym e)
-        (array_rows program own shapes number here code typed (All IsLength ns) h.0 t ns (place_code program own p at) (place_of program here p) at (λ b. b) h.2 (found h.0 h.1))
+        (array_rows program own tables number here code typed (NamesType program own p h.0) (All IsLength ns) h.0 t ns (place_code program own p at) (place_of program here p) at (λ b. b) h.2 (found h.0 h.1))
     known_rows p ns n t at found (e, inr h) =
         let c = constant_known p h.0 at h.2 in
         let one : n ≡ 1 = e ∙ ap length h.1 in
         subst (λ m. RowsFound (Known p ns) m t at) (sym one)
         (subst (λ u. RowsFound (Known p ns) 1 u at) (sym h.3) (subst (λ ms. RowsFound (Known p ms) 1 type.Char at) (sym h.1) c))
 
+    -- an expression of a basic type whose values may be known as any
+    basic_value : (t : TType) → is_basic t ≡ true → (e : Expr) (at : ℕ) → Yield t (value_code program own e at) (value_of program here e) at → Comes t (value_code program own e at) (value_of program here e) at
+    basic_value t basic e at h = evaluates program own tables number here code typed.predeclared t (value_code program own e at) (value_of program here e) at basic h
+
+    told_value : (t : TType) → is_basic t ≡ true → (e : Expr) (at : ℕ) → Comes t (value_code program own e at) (value_of program here e) at → Yield t (value_code program own e at) (value_of program here e) at
+    told_value t basic e at h = yields program own tables number here code typed.predeclared t (value_code program own e at) (value_of program here e) at basic h
+
+    -- a truth value
+    truth : (e : Expr) (t : TType) (at : ℕ) → t ≡ type.Boolean → Comes type.Boolean (value_code program own e at) (value_of program here e) at → Yield t (value_code program own e at) (value_of program here e) at
+    truth e t at is h = subst (λ x. Yield x (value_code program own e at) (value_of program here e) at) (sym is) (told_value type.Boolean refl e at h)
+
+    literal_yields : (l : Literal) (t : TType) (at : ℕ) → IsOf program own (Lit l) t → Yield t (value_code program own (Lit l) at) (value_of program here (Lit l)) at
+    literal_yields l t at (inl ok) = told_value t (literal_basic l t ok) (Lit l) at (literal_does t l at ok)
+    literal_yields l t at (inr ok) = subst (λ x. Yield t (value_code program own (Lit x) at) (value_of program here (Lit x)) at) (sym ok.0) (nil_does typed.predeclared t at ok.1)
+
     mutual
       -- a designator's place, with a variable of its type
-      pub place_does : (p : Designator) (t : TType) → IsPlaceOf program own p t → (at : ℕ) → Finds program own shapes number here code t (place_code program own p at) (place_of program here p) at
-      place_does (ModuleVar m k) t ok at = variable_does program own shapes number here code typed m k t at ok
-      place_does (Local k) t ok at = local_does program own shapes number here code k t at ok
-      place_does (Passed k) t ok at = passed_does program own shapes number here code k t at ok.0 ok.1 ok.2
-      place_does (Field p u k) t ok at = field_does program own shapes number here code typed u t k (place_code program own p at) (place_of program here p) at ok.1 (place_does p u ok.0 at)
+      pub place_does : (p : Designator) (t : TType) → IsPlaceOf program own p t → (at : ℕ) → Finds program own tables number here code (NamesType program own p t) t (place_code program own p at) (place_of program here p) at
+      place_does (ModuleVar m k) t ok at = variable_does program own tables number here code typed m k t at ok
+      place_does (Local k) t ok at = local_does program own tables number here code typed k t at ok
+      place_does (Passed k) t ok at = passed_does program own tables number here code typed k t at ok.0 ok.1 ok.2
+      place_does (Field p u k) t ok at = field_does program own tables number here code typed (NamesType program own p u) u t k (place_code program own p at) (place_of program here p) at ok.1 (place_does p u ok.0 at)
       place_does (Index p n u e) t ok at =
           let ca = place_code program own p at in
           let pb = at + length ca in
-          subst (λ x. Finds program own shapes number here code x (place_code program own (Index p n u e) at) (place_of program here (Index p n u e)) at) (sym ok.4)
-          (index_does program own shapes number here code typed ok.0 u n ca (value_code program own e pb) (place_of program here p) (value_of program here e) at ok.2 (place_does p ok.0 ok.1 at) (value_does e (type.Integer W64) ok.3 pb))
-      place_does (Of r) t ok at = of_does program own shapes number here code (HaveLengths r) t (rows_code program own r at) (rows_of program here r) at (rows_does r 0 t ok at)
+          subst (λ x. Finds program own tables number here code ⊥ x (place_code program own (Index p n u e) at) (place_of program here (Index p n u e)) at) (sym ok.4)
+          (index_does program own tables number here code typed (NamesType program own p ok.0) ok.0 u n ca (value_code program own e pb) (place_of program here p) (value_of program here e) at ok.2 (place_does p ok.0 ok.1 at) (basic_value (type.Integer W64) refl e pb (yields_do e (type.Integer W64) ok.3 pb)))
+      place_does (Of r) t ok at = of_does program own tables number here code (HaveLengths r) t (rows_code program own r at) (rows_of program here r) at (rows_does r 0 t ok at)
+      place_does (Deref e u) t ok at =
+          subst (λ x. Finds program own tables number here code (NamesType program own (Deref e u) x) x (place_code program own (Deref e u) at) (place_of program here (Deref e u)) at) (sym ok.4)
+          (deref_does program own tables number here code typed ok.0 u (value_code program own e at) (value_of program here e) at ok.2 ok.3 (yields_do e ok.0 ok.1 at))
+      place_does (Typed p k) t ok at =
+          subst (λ x. Finds program own tables number here code (NamesType program own (Typed p k) x) x (place_code program own (Typed p k) at) (place_of program here (Typed p k)) at) (sym ok.2)
+          (typed_does program own tables number here code typed (NamesType program own p (type.Named k)) k (k + 1) (place_code program own p at) (place_of program here p) at (omega arith) ok.1 (place_does p (type.Named k) ok.0 at))
+      place_does (Guarded p k) t ok at =
+          subst (λ x. Finds program own tables number here code (NamesType program own (Guarded p k) x) x (place_code program own (Guarded p k) at) (place_of program here (Guarded p k)) at) (sym ok.4)
+          (guard_place_does program own tables number here code shaped typed (NamesType program own p ok.0) ok.0 k (k + 1) (place_code program own p at) (place_of program here p) at (omega arith) ok.2 ok.3 (place_does p ok.0 ok.1 at))
 
       -- an array's place, and the lengths of its dimensions
-      pub rows_does : (r : Rows) (n : ℕ) (t : TType) → AreRows program own r n t → (at : ℕ) → FindsRows program own shapes number here code (HaveLengths r) n t (rows_code program own r at) (rows_of program here r) at
+      pub rows_does : (r : Rows) (n : ℕ) (t : TType) → AreRows program own r n t → (at : ℕ) → FindsRows program own tables number here code (HaveLengths r) n t (rows_code program own r at) (rows_of program here r) at
       rows_does (Known p ns) n t ok at = known_rows p ns n t at (λ u h. place_does p u h at) ok
-      rows_does (Opened k j) n t ok at = subst (λ m. RowsFound (Opened k j) m t at) (sym ok.0) (opened_does program own shapes number here code k j t at ok.1.0 ok.1.1 ok.1.2)
+      rows_does (Opened k j) n t ok at = subst (λ m. RowsFound (Opened k j) m t at) (sym ok.0) (opened_does program own tables number here code typed k j t at ok.1.0 ok.1.1 ok.1.2)
       rows_does (Row r u e) n t ok at =
           let ca = rows_code program own r at in
           let pb = at + length ca in
-          subst (λ v. FindsRows program own shapes number here code (HaveLengths r) n t (operands_code ca (value_code program own e pb) (i.IndexOpen (dimensions r) (cells_of program own v))) (rows_of program here (Row r u e)) at) ok.2
-          (row_does program own shapes number here code (HaveLengths r) n (dimensions r) t ca (value_code program own e pb) (rows_of program here r) (value_of program here e) at (dimensions_are r (suc n) t ok.0) (rows_does r (suc n) t ok.0 at) (value_does e (type.Integer W64) ok.1 pb))
+          subst (λ v. FindsRows program own tables number here code (HaveLengths r) n t (operands_code ca (value_code program own e pb) (i.IndexOpen (dimensions r) (cells_of program own v))) (rows_of program here (Row r u e)) at) ok.2
+          (row_does program own tables number here code typed (HaveLengths r) n (dimensions r) t ca (value_code program own e pb) (rows_of program here r) (value_of program here e) at (dimensions_are r (suc n) t ok.0) (rows_does r (suc n) t ok.0 at) (basic_value (type.Integer W64) refl e pb (yields_do e (type.Integer W64) ok.1 pb)))
+      rows_does (Spread e j) n t ok at =
+          subst (λ m. RowsFound (Spread e j) m t at) (sym ok.0)
+          (spread_does program own tables number here code typed ok.1.0 t ok.1.1 j (value_code program own e at) (value_of program here e) at ok.1.3 ok.1.4 ok.1.5 ok.1.6 (yields_do e ok.1.0 ok.1.2 at))
       rows_does (Longer r ns) n t ok at =
           subst (λ m. RowsFound (Longer r ns) m t at) (sym ok.2)
-          (longer_does program own shapes number here code typed (HaveLengths r) ok.0 ok.1 t ns (rows_code program own r at) (rows_of program here r) at ok.4 (rows_does r ok.0 ok.1 ok.3 at))
+          (longer_rows program own tables number here code typed (HaveLengths r) (All IsLength ns) ok.0 ok.1 t ns (rows_code program own r at) (rows_of program here r) at (λ b. b) ok.4 (rows_does r ok.0 ok.1 ok.3 at))
 
       -- what is handed over for parameters
-      pub arguments_do : (us : Arguments) (as' : List Parameter) → AreArguments program own us as' → (at : ℕ) → Hands program own shapes number here code as' (arguments_code program own us at) (arguments_of program here us) at
+      pub arguments_do : (us : Arguments) (as' : List Parameter) → AreArguments program own us as' → (at : ℕ) → Hands program own tables number here code as' (arguments_code program own us at) (arguments_of program here us) at
       arguments_do NoMore as' ok at =
           λ w known rest k s.
           record {
@@ -408,58 +560,85 @@ module _ (program : Program) (own : Option Procedure) (shapes : List ProcShape) 
       arguments_do (Scalar e more) as' ok at =
           let ca = value_code program own e at in
           let pb = at + length ca in
-          scalar_does typed.predeclared ok.0 ok.1 as' ca (arguments_code program own more pb) (value_of program here e) (arguments_of program here more) at ok.2 ok.3 ok.4 (value_does e ok.0.of ok.5 at) (arguments_do more ok.1 ok.6 pb)
+          scalar_does typed.predeclared ok.0 ok.1 as' ca (arguments_code program own more pb) (value_of program here e) (arguments_of program here more) at ok.2 ok.3 ok.4 (yields_do e ok.0.of ok.5 at) (arguments_do more ok.1 ok.6 pb)
       arguments_do (Whole p more) as' ok at =
           let ca = place_code program own p at in
           let pb = at + length ca in
-          whole_does ok.0 ok.1 as' ca (arguments_code program own more pb) (place_of program here p) (arguments_of program here more) at ok.2 ok.3 (place_does p ok.0.of ok.4 at) (arguments_do more ok.1 ok.5 pb)
+          let u = ok.3.0 in
+          whole_does typed p u ok.0 ok.1 as' ca (arguments_code program own more pb) (place_of program here p) (arguments_of program here more) at ok.2 ok.3.2 (place_does p u ok.3.1 at) (arguments_do more ok.1 ok.4 pb)
       arguments_do (Opening r more) as' ok at =
           let ca = rows_code program own r at in
           let pb = at + length ca in
           opening_does ok.0 ok.1 as' (HaveLengths r) ok.2 ok.3 ca (arguments_code program own more pb) (rows_of program here r) (arguments_of program here more) at ok.4 ok.5 ok.7 (rows_does r ok.2 ok.3 ok.6 at) (arguments_do more ok.1 ok.8 pb)
 
-      pub value_does : (e : Expr) (t : TType) → IsOf program own e t → (at : ℕ) → Evaluates program own shapes number here code t (value_code program own e at) (value_of program here e) at
-      value_does (Lit l) t ok at = literal_does t l at ok
-      value_does (Read u p) t ok at = read_does typed.predeclared t u (place_code program own p at) (place_of program here p) at ok.1 ok.2 (place_does p u ok.0 at)
-      value_does (Unary op a) t ok at =
-          unary_does t (taken op) op (unary_sort op) (value_code program own a at) (value_of program here a) at (λ v h. unary_agrees op t v h ok.1) (value_does a (taken op) ok.0 at)
-      value_does (Binary op a b) t ok at =
+      -- an expression's value
+      pub yields_do : (e : Expr) (t : TType) → IsOf program own e t → (at : ℕ) → Yields program own tables number here code t (value_code program own e at) (value_of program here e) at
+      yields_do (Lit l) t ok at = literal_yields l t at ok
+      yields_do (Read u p) t ok at = read_does typed (NamesType program own p u) t u (place_code program own p at) (place_of program here p) at ok.1 ok.2 (place_does p u ok.0 at)
+      yields_do (Unary op a) t ok at =
+          told_value t (given_basic op t ok.1) (Unary op a) at
+          (unary_does t (taken op) op (unary_sort op) (value_code program own a at) (value_of program here a) at (λ v h. unary_agrees op t v h ok.1) (basic_value (taken op) (taken_basic op) a at (yields_do a (taken op) ok.0 at)))
+      yields_do (Binary op a b) t ok at =
           let o = operands_suit op (IsOf program own a) (IsOf program own b) ok.0 in
           let pb = at + length (value_code program own a at) in
-          binary_does t o.0 o.1 op (value_code program own a at) (value_code program own b pb) (value_of program here a) (value_of program here b) at o.4 ok.1 (value_does a o.0 o.2 at) (value_does b o.1 o.3 pb)
-      value_does (And a b) t ok at =
+          told_value t (two_basic op t ok.1) (Binary op a b) at
+          (binary_does t o.0 o.1 op (value_code program own a at) (value_code program own b pb) (value_of program here a) (value_of program here b) at o.4 ok.1 (basic_value o.0 o.5 a at (yields_do a o.0 o.2 at)) (basic_value o.1 o.6 b pb (yields_do b o.1 o.3 pb)))
+      yields_do (And a b) t ok at =
           let ca = value_code program own a at in
           let pb = at + length ca + 1 in
-          subst (λ x. Comes x (value_code program own (And a b) at) (value_of program here (And a b)) at) (sym ok.2)
-          (and_does program own shapes number here code ca (value_code program own b pb) (value_of program here a) (value_of program here b) at (value_does a type.Boolean ok.0 at) (value_does b type.Boolean ok.1 pb))
-      value_does (Or a b) t ok at =
+          truth (And a b) t at ok.2
+          (and_does program own tables number here code ca (value_code program own b pb) (value_of program here a) (value_of program here b) at (basic_value type.Boolean refl a at (yields_do a type.Boolean ok.0 at)) (basic_value type.Boolean refl b pb (yields_do b type.Boolean ok.1 pb)))
+      yields_do (Or a b) t ok at =
           let ca = value_code program own a at in
           let pb = at + length ca + 3 in
-          subst (λ x. Comes x (value_code program own (Or a b) at) (value_of program here (Or a b)) at) (sym ok.2)
-          (or_does program own shapes number here code ca (value_code program own b pb) (value_of program here a) (value_of program here b) at (value_does a type.Boolean ok.0 at) (value_does b type.Boolean ok.1 pb))
-      value_does (Element a) t ok at =
-          subst (λ x. Comes x (value_code program own (Element a) at) (value_of program here (Element a)) at) (sym ok.1) (element_does (value_code program own a at) (value_of program here a) at (value_does a (type.Integer W64) ok.0 at))
-      value_does (Ord a) t ok at = ord_does t (value_code program own a at) (value_of program here a) at (λ v. included t (type.Integer W16) v ok.1) (value_does a type.Char ok.0 at)
-      value_does (Chr a) t ok at =
-          subst (λ x. Comes x (value_code program own (Chr a) at) (value_of program here (Chr a)) at) (sym ok.1)
-          (unary_does type.Char (type.Integer W64) (Range (pos 0) (pos 255)) Character (value_code program own a at) (value_of program here a) at (λ v h. chr_agrees (number_of v)) (value_does a (type.Integer W64) ok.0 at))
-      value_does (CompareTexts r a b) t ok at =
+          truth (Or a b) t at ok.2
+          (or_does program own tables number here code ca (value_code program own b pb) (value_of program here a) (value_of program here b) at (basic_value type.Boolean refl a at (yields_do a type.Boolean ok.0 at)) (basic_value type.Boolean refl b pb (yields_do b type.Boolean ok.1 pb)))
+      yields_do (Element a) t ok at =
+          subst (λ x. Yield x (value_code program own (Element a) at) (value_of program here (Element a)) at) (sym ok.1)
+          (told_value type.Set refl (Element a) at (element_does (value_code program own a at) (value_of program here a) at (basic_value (type.Integer W64) refl a at (yields_do a (type.Integer W64) ok.0 at))))
+      yields_do (Ord a) t ok at =
+          told_value t (included_basic t W16 ok.1) (Ord a) at
+          (ord_does t (value_code program own a at) (value_of program here a) at (λ v. included t (type.Integer W16) v ok.1) (basic_value type.Char refl a at (yields_do a type.Char ok.0 at)))
+      yields_do (Chr a) t ok at =
+          subst (λ x. Yield x (value_code program own (Chr a) at) (value_of program here (Chr a)) at) (sym ok.1)
+          (told_value type.Char refl (Chr a) at (unary_does type.Char (type.Integer W64) (Range (pos 0) (pos 255)) Character (value_code program own a at) (value_of program here a) at (λ v h. chr_agrees (number_of v)) (basic_value (type.Integer W64) refl a at (yields_do a (type.Integer W64) ok.0 at))))
+      yields_do (CompareTexts r a b) t ok at =
           let ca = rows_code program own a at in
           let pb = at + length ca in
-          let text = rows_text program own shapes number here code typed.predeclared in
-          subst (λ x. Comes x (value_code program own (CompareTexts r a b) at) (value_of program here (CompareTexts r a b)) at) (sym ok.2)
+          let text = rows_text program own tables number here code typed.predeclared in
+          truth (CompareTexts r a b) t at ok.2
           (compare_does r ca (rows_code program own b pb) (rows_of program here a) (rows_of program here b) at
           (text (HaveLengths a) ca (rows_of program here a) at (rows_does a 1 type.Char ok.0 at)) (text (HaveLengths b) (rows_code program own b pb) (rows_of program here b) pb (rows_does b 1 type.Char ok.1 pb)))
-      value_does (Len r d) t ok at =
-          length_does t ok.1 (HaveLengths r) ok.0 (dimensions r) d (rows_code program own r at) (rows_of program here r) at ok.3 ok.4 (dimensions_are r ok.0 ok.1 ok.2) ok.5 (rows_does r ok.0 ok.1 ok.2 at)
-      value_does (LenBehind r l) t ok at =
-          behind_does t ok.1 (HaveLengths r) ok.0 (dimensions r) l (rows_code program own r at) (rows_of program here r) at (dimensions_are r ok.0 ok.1 ok.2) ok.3 ok.4 (rows_does r ok.0 ok.1 ok.2 at)
-      value_does (Function m k more) t ok at =
-          function_does typed.predeclared shaped m k ok.0 t ok.1 (arguments_code program own more at) (arguments_of program here more) at ok.2 ok.3 ok.4 ok.5 (arguments_do more ok.0.parameters ok.6 at)
+      yields_do (Len r d) t ok at =
+          told_value t (included_basic t W32 ok.5) (Len r d) at
+          (length_does t ok.1 (HaveLengths r) ok.0 (dimensions r) d (rows_code program own r at) (rows_of program here r) at ok.3 ok.4 (dimensions_are r ok.0 ok.1 ok.2) ok.5 (rows_does r ok.0 ok.1 ok.2 at))
+      yields_do (LenBehind r l) t ok at =
+          told_value t (included_basic t W32 ok.4) (LenBehind r l) at
+          (behind_does t ok.1 (HaveLengths r) ok.0 (dimensions r) l (rows_code program own r at) (rows_of program here r) at (dimensions_are r ok.0 ok.1 ok.2) ok.3 ok.4 (rows_does r ok.0 ok.1 ok.2 at))
+      yields_do (Function m k more) t ok at =
+          function_does typed shaped m k ok.0 t ok.1 (arguments_code program own more at) (arguments_of program here more) at ok.2 ok.3 ok.5 (arguments_do more ok.0.parameters ok.6 at)
+      yields_do (Same a b) t ok at =
+          let ca = value_code program own a at in
+          let pb = at + length ca in
+          truth (Same a b) t at ok.2
+          (same_does program own tables number here code typed ok.0.0 ok.1.0 ca (value_code program own b pb) (value_of program here a) (value_of program here b) at ok.0.2 ok.1.2 (yields_do a ok.0.0 ok.0.1 at) (yields_do b ok.1.0 ok.1.1 pb))
+      yields_do (IsOfType a k) t ok at =
+          truth (IsOfType a k) t at ok.2
+          (is_does program own tables number here code typed shaped ok.0.0 k (k + 1) (value_code program own a at) (value_of program here a) at (omega arith) ok.0.2 (yields_do a ok.0.0 ok.0.1 at))
+      yields_do (IsRecord p k) t ok at =
+          truth (IsRecord p k) t at ok.4
+          (is_record_does program own tables number here code shaped (NamesType program own p ok.0) ok.0 k (k + 1) (place_code program own p at) (place_of program here p) at (omega arith) (place_does p ok.0 ok.1 at))
+      yields_do (Guard a k) t ok at =
+          guard_does program own tables number here code typed shaped ok.0.0 t k (k + 1) (value_code program own a at) (value_of program here a) at (omega arith) ok.0.2 ok.2 (yields_do a ok.0.0 ok.0.1 at)
+      yields_do (Had v) t ok at = absurd ok
+
+    -- one of a basic type
+    pub value_does : (e : Expr) (t : TType) → is_basic t ≡ true → IsOf program own e t → (at : ℕ) → Evaluates program own tables number here code t (value_code program own e at) (value_of program here e) at
+    value_does e t basic ok at = basic_value t basic e at (yields_do e t ok at)
 
     -- a text, and an array of characters that has room for one
-    pub text_found : (r : Rows) → AreRows program own r 1 type.Char → (at : ℕ) → FindsText program own shapes number here code (rows_code program own r at) (rows_of program here r) at
-    text_found r ok at = rows_text program own shapes number here code typed.predeclared (HaveLengths r) (rows_code program own r at) (rows_of program here r) at (rows_does r 1 type.Char ok at)
+    pub text_found : (r : Rows) → AreRows program own r 1 type.Char → (at : ℕ) → FindsText program own tables number here code (rows_code program own r at) (rows_of program here r) at
+    text_found r ok at = rows_text program own tables number here code typed.predeclared (HaveLengths r) (rows_code program own r at) (rows_of program here r) at (rows_does r 1 type.Char ok at)
 
-    pub room_found : (r : Rows) → AreRows program own r 1 type.Char → HaveLengths r → (at : ℕ) → FindsRoom program own shapes number here code (rows_code program own r at) (rows_of program here r) at
-    room_found r ok long at = rows_room program own shapes number here code typed.predeclared (HaveLengths r) (rows_code program own r at) (rows_of program here r) at long (rows_does r 1 type.Char ok at)
+    pub room_found : (r : Rows) → AreRows program own r 1 type.Char → HaveLengths r → (at : ℕ) → FindsRoom program own tables number here code (rows_code program own r at) (rows_of program here r) at
+    room_found r ok long at = rows_room program own tables number here code typed.predeclared (HaveLengths r) (rows_code program own r at) (rows_of program here r) at long (rows_does r 1 type.Char ok at)

@@ -82,10 +82,10 @@ first_in_is rows w t (Some (row.Basic b)) = first_basic_is b
 first_in_is rows w t (Some (row.Array n of)) = refl
 first_in_is rows w t (Some (row.Open of)) = refl
 first_in_is rows w t (Some (row.Record base fields)) = refl
-first_in_is rows w t (Some (row.Pointer to)) = refl
+first_in_is rows w t (Some (row.Pointer to)) = tt
 first_in_is rows w t (Some (row.Object base fields)) = tt
 first_in_is rows w t (Some (row.Procedure formals r)) = refl
-first_in_is rows w t (Some row.Any) = refl
+first_in_is rows w t (Some row.Any) = tt
 
 first_basic_same : (w : World Sort) (b : Basic) → cell_of w (first_basic b) ≡ first_cell (kind_in (Some (row.Basic b)))
 first_basic_same w basic.ShortInt = refl
@@ -136,7 +136,7 @@ module _ (p : Program) where
   first_same w (Elements t ns) = refl
   first_same w (Length n) = refl
 
-  part_cells : (s : Shape TypeId) → map first_cell (leaves (shaped (kind_of p.types) s)) ≡ map zero_cell (leaves (shaped Plain s))
+  pub part_cells : (s : Shape TypeId) → map first_cell (leaves (shaped (kind_of p.types) s)) ≡ map zero_cell (leaves (shaped Plain s))
   part_cells (One t) = refl
   part_cells Nothing = refl
   part_cells (Pair a b) =

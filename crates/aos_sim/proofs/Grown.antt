@@ -1,12 +1,13 @@
 -- A turn of the source makes objects, and those that there are stay as they were made.
-use Rattle.std.proofs.Common.{◌≡◌, ℕ, zero, suc, List, [], ◌∷◌, ◌++◌, length, Bool, true, false, Option, Some, None, if◌then◌else◌, refl, sym, append-nil}
+use Rattle.std.proofs.Common.{◌≡◌, ℕ, zero, suc, List, [], ◌∷◌, ◌++◌, length, map, Bool, true, false, Option, Some, None, if◌then◌else◌, refl, sym, append-nil}
 use Rattle.std.specs.Prelude.{unsigned_abs}
 use Rattle.aos_base.specs.declared.place.Root.{Root}
 use Rattle.aos_base.specs.declared.place.Root.TheVariants.{Frame as FrameRoot, Module as ModuleRoot, Object as ObjectRoot}
 use Rattle.aos_base.specs.Rooted.{Made, by_number}
-use Rattle.aos_base.specs.Question.{Val, Asks, Traps, feed, Reads, Stores, Copies, PutsText, ComparesTexts, Calls, Ends, Makes, Starts, PutsInt, PutsChar, PutsString, PutsLn, PutsNothing, Places, Lengths}
+use Rattle.aos_base.specs.Question.{Val, Asks, Traps, feed, Reads, Stores, Copies, PutsText, ComparesTexts, Calls, Ends, Makes, Starts, PutsInt, PutsChar, PutsString, PutsLn, PutsNothing, Places, Lengths, Opens, Sizes, Tests}
 use Rattle.aos_types.specs.Shape.{Shape}
-use Rattle.aos_types.specs.Content.{Content, Scalar, placed, overlay}
+use Rattle.aos_base.specs.Number.{array_lengths}
+use Rattle.aos_types.specs.Content.{Content, Scalar, placed, overlay, first_content}
 use Rattle.aos_types.specs.World.{read}
 use Rattle.aos_typed.specs.Program.{Repeat, Program}
 use Rattle.aos_typed.specs.Numbers.{id_of}
@@ -15,9 +16,9 @@ use Rattle.aos_typed.specs.Sort.{Sort, variable_shape}
 use Rattle.aos_typed.specs.Spot.{Spot}
 use Rattle.aos_typed.specs.Text.{text_in, with_text, fitted}
 use Rattle.aos_typed.specs.Value.{Value, Int, Flag, Char, Set, Object, Callable, Place, number_of, is_true}
-use Rattle.aos_typed.specs.Store.{Store, store_with, has_room}
+use Rattle.aos_typed.specs.Store.{Store, store_with, has_room, made_in}
 use Rattle.aos_typed.specs.Meaning.{Question, Doing, Item, Do, Rounds, Round, Until, After, Into, Returns, Exits, leave, item_of, value_of}
-use Rattle.aos_typed.specs.Source.{Frame, Turned, answered, done, all_rooted, begins, ends, tests, finishes, settles, written, prints, makes, starts, copies, stores_text, calm, noted, is_deep, enters, called_frame, calls, answer, goes, item_turn, turn_at}
+use Rattle.aos_typed.specs.Source.{Frame, Turned, answered, done, all_rooted, begins, ends, tests, finishes, settles, first_value, made_shape, written, prints, makes, makes_with, starts, copies, stores_text, calm, noted, is_deep, enters, called_frame, calls, answer, goes, item_turn, turn_at}
 
 -- more objects than before
 abbrev pub Grown : List Made → List Made → Type 0
@@ -40,9 +41,9 @@ module _ (following : List ℕ) where
   prints_grown None f fs s = none s.made
   prints_grown (Some bytes) f fs s = none s.made
 
-  makes_grown : (room : Bool) (t : ℕ) (f : Frame) (fs : List Frame) (s : Store) → Grown s.made (makes following room t f fs s).store.made
-  makes_grown true t f fs s = ((record { type = t; lengths = [] }) ∷ [], refl)
-  makes_grown false t f fs s = none s.made
+  makes_grown : (room : Bool) (m : Made) (c : Content Value) (f : Frame) (fs : List Frame) (s : Store) → Grown s.made (makes following room m c f fs s).store.made
+  makes_grown true m c f fs s = (m ∷ [], refl)
+  makes_grown false m c f fs s = none s.made
 
   starts_grown : (v : Value) (f : Frame) (fs : List Frame) (s : Store) → Grown s.made (starts following v f fs s).store.made
   starts_grown (Object zero) f fs s = none s.made
@@ -74,10 +75,16 @@ module _ (program : Program) (following : List ℕ) where
   calls_grown (Some r) vs f fs s =
       let g = called_frame program following r vs (f ∷ fs) s in enters_grown following (is_deep following g (f ∷ fs)) g (f ∷ fs) s
 
+  makes_with_grown : (ns : Option (List ℕ)) (t : ℕ) (f : Frame) (fs : List Frame) (s : Store) → Grown s.made (makes_with program following ns t f fs s).store.made
+  makes_with_grown None t f fs s = none s.made
+  makes_with_grown (Some ns) t f fs s =
+      let m : Made = record { type = t; lengths = ns } in
+      let c = first_content (first_value program) (made_shape program.types m) in makes_grown following (has_room m c s) m c f fs s
+
   answer_grown : (q : Question) (f : Frame) (fs : List Frame) (s : Store) → Grown s.made (answer program following q f fs s).store.made
   answer_grown (Stores p v) f fs s = writes_grown following p.root (placed p.path (Scalar v)) s
   answer_grown (Ends result) f fs s = ends_grown following result fs s
-  answer_grown (Makes t) f fs s = makes_grown following (has_room s) t f fs s
+  answer_grown (Makes t vs) f fs s = makes_with_grown (array_lengths (map number_of vs)) t f fs s
   answer_grown (Starts v) f fs s = starts_grown following v f fs s
   answer_grown (PutsInt v n) f fs s = prints_grown following (written v n) f fs s
   answer_grown (Reads t p) f fs s = none s.made
@@ -96,6 +103,9 @@ module _ (program : Program) (following : List ℕ) where
   answer_grown (PutsString a n) f fs s = none s.made
   answer_grown (Places a) f fs s = none s.made
   answer_grown (Lengths a) f fs s = none s.made
+  answer_grown (Opens v) f fs s = none s.made
+  answer_grown (Sizes v d) f fs s = none s.made
+  answer_grown (Tests v t) f fs s = none s.made
 
   tests_grown : (d : Doing Value) (if_true if_false : Turned) (f : Frame) (fs : List Frame) (s : Store) → Grown s.made if_true.store.made → Grown s.made if_false.store.made → Grown s.made (tests program following d if_true if_false f fs s).store.made
   tests_grown (Val v) if_true if_false f fs s h k = by (is_true v)
@@ -117,8 +127,8 @@ module _ (program : Program) (following : List ℕ) where
   settles_grown (Round st ∷ is) f fs s = none s.made
   settles_grown (Until at b e ∷ is) f fs s =
       let test = value_of program (length fs) e in
-      tests_grown (calm f.variables test) (settles program following is f fs s) (begins following at (Do (Repeat at b e) ∷ is) f fs s)
-      (record f { items = Until at b e ∷ is; answers = Some (noted f.variables test) }) fs s (settles_grown is f fs s) (none s.made)
+      tests_grown (calm program.types (made_in s) f.variables test) (settles program following is f fs s) (begins following at (Do (Repeat at b e) ∷ is) f fs s)
+      (record f { items = Until at b e ∷ is; answers = Some (noted program.types (made_in s) f.variables test) }) fs s (settles_grown is f fs s) (none s.made)
 
   goes_grown : (d : Doing After) (rest : List Item) (f : Frame) (fs : List Frame) (s : Store) → Grown s.made (goes program following d rest f fs s).store.made
   goes_grown (Val (Into is)) rest f fs s = settles_grown (is ++ rest) f fs s
@@ -132,7 +142,7 @@ module _ (program : Program) (following : List ℕ) where
   item_grown (Some vs) [] f fs s = none s.made
   item_grown (Some vs) (i ∷ is) f fs s =
       let left = feed vs (item_of program (length fs) i) in
-      goes_grown (calm f.variables left) is (record f { answers = Some (vs ++ noted f.variables left) }) fs s
+      goes_grown (calm program.types (made_in s) f.variables left) is (record f { answers = Some (vs ++ noted program.types (made_in s) f.variables left) }) fs s
 
   pub turn_grown : (fs : List Frame) (s : Store) → Grown s.made (turn_at program following fs s).store.made
   turn_grown [] s = none s.made

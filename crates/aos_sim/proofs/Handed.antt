@@ -9,21 +9,22 @@ use Rattle.aos_types.specs.declared.row.TypeId.{TypeId}
 use Rattle.aos_types.specs.declared.row.TypeRow.{TypeRow}
 use Rattle.aos_types.specs.declared.row.TypeRow.TheVariants as type
 use Rattle.aos_types.specs.Table.{row_of as type_row, is_open, is_scalar, is_object}
-use Rattle.aos_types.specs.Shape.{Shape, One, Pair, size, row, shaped}
+use Rattle.aos_types.specs.Chain.{IsRanked}
+use Rattle.aos_types.specs.Shape.{Shape, One, Nothing, Pair, size, join, row, shaped}
 use Rattle.aos_types.specs.Contents.{with_parts, unfolded}
-use Rattle.aos_types.specs.Content.{Content, Scalar, Row, flatten, Fits}
+use Rattle.aos_types.specs.Content.{Content, Scalar, Row, flatten, cut, Fits}
 use Rattle.aos_types.specs.World.{World, Grows, shape_at, cell_at, world}
 use Rattle.aos_typed.specs.Program.{Parameter, Program}
 use Rattle.aos_typed.specs.Numbers.{id_of}
 use Rattle.aos_typed.specs.Open.{open_dimensions, open_element}
-use Rattle.aos_typed.specs.Sort.{Sort, Plain, Alias, Elements, Length, variable_shape}
+use Rattle.aos_typed.specs.Sort.{Sort, Plain, Elements, Length, variable_shape}
 use Rattle.aos_typed.specs.Spot.{Spot}
 use Rattle.aos_typed.specs.Value.{Value, Int, Place}
 use Rattle.aos_typed.specs.Typing.{Is, IsPlain, nested}
 use Rattle.aos_typed.specs.Handed as H
 use Rattle.aos_typed.specs.Handed.{Part, Handed, hand, head, scalar, naturals, content_row, or_empty, open_part}
 use Rattle.aos_typed.specs.Source.{row_of}
-use Rattle.aos_typed.specs.WellTyped.{IsLength}
+use Rattle.aos_typed.specs.WellTyped.{is_whole, IsLength}
 use Rattle.aos_code.specs.declared.instr.Cell.{Cell}
 use Rattle.aos_code.specs.declared.instr.Cell.TheVariants as cell
 use Rattle.aos_code.specs.declared.image.ParamKind.{ParamKind}
@@ -34,11 +35,11 @@ use Rattle.aos_code.specs.Machine.{if_all}
 use Rattle.aos_layout.specs.Layout.{cells, kind_of}
 use Rattle.aos_layout.specs.Frame.{parameter_kind}
 use Rattle.aos_places.specs.Shows.{Shown, Shows}
-use Rattle.aos_places.proofs.Wholes.{shown_pair, shown_long, whole_alike}
+use Rattle.aos_places.proofs.Wholes.{shown_pair, shown_long, whole_alike, first_alike}
 use Rattle.aos_sim.specs.Cells.{cell_of}
 use Rattle.aos_sim.proofs.Kept.{values_kept}
-use Rattle.aos_sim.proofs.Parts.{nested_size, cells_size}
-use Rattle.aos_sim.proofs.Does.{scheme, IsPart, Handles, Given}
+use Rattle.aos_sim.proofs.Parts.{nested_size, cells_size, whole_ends}
+use Rattle.aos_sim.proofs.Does.{scheme, alias_sort, IsPart, Handles, Given}
 use Rattle.aos_sim.proofs.First.{all_get}
 use Rattle.aos_sim.proofs.Copied.{all_there}
 
@@ -101,6 +102,26 @@ scalar_variable rows t e = by (type_row rows t) refl e
     by (Some (type.Procedure formals r)) here e' = of_row (Some (type.Procedure formals r)) here
     by (Some type.Any) here e' = of_row (Some type.Any) here
 
+-- what is no scalar is a row that ends
+other_ends : (rows : List TypeRow) → IsRanked rows → (t : TypeId) → is_scalar (type_row rows t) ≡ false → join (variable_shape rows t) Nothing ≡ variable_shape rows t
+other_ends rows ranked t e = by (type_row rows t) refl e
+  where
+    nothing : (o : Option TypeRow) → type_row rows t ≡ o → shaped Plain (if is_object o then One t else with_parts (unfolded (length rows) rows) rows t o) ≡ Nothing → join (variable_shape rows t) Nothing ≡ variable_shape rows t
+    nothing o here n =
+        let is : variable_shape rows t ≡ Nothing = ap (λ z. shaped Plain (if is_object z then One t else with_parts (unfolded (length rows) rows) rows t z)) here ∙ n in
+        ap (λ s. join s Nothing) is ∙ sym is
+
+    by : (o : Option TypeRow) → type_row rows t ≡ o → is_scalar o ≡ false → join (variable_shape rows t) Nothing ≡ variable_shape rows t
+    by None here e' = nothing None here refl
+    by (Some (type.Basic b)) here e' = absurd (cc)
+    by (Some (type.Array n of)) here e' = whole_ends rows ranked t (ap is_whole here)
+    by (Some (type.Open of)) here e' = nothing (Some (type.Open of)) here refl
+    by (Some (type.Record base fields)) here e' = whole_ends rows ranked t (ap is_whole here)
+    by (Some (type.Pointer to)) here e' = absurd (cc)
+    by (Some (type.Object base fields)) here e' = absurd (cc)
+    by (Some (type.Procedure formals r)) here e' = absurd (cc)
+    by (Some type.Any) here e' = absurd (cc)
+
 module _ (program : Program) (w : World Sort) where
   -- the parts of a row are shown by these cells
   abbrev pub PartsShown : List Part → List Cell → Type 0
@@ -145,7 +166,7 @@ module _ (ps : List ℕ) (w : World Sort) where
   lengths_found (n ∷ ns) = ap (option_map (λ l. n ∷ l)) (lengths_found ns)
 
 -- in a world behind those of these frames
-module _ (program : Program) (made : List Made) (frames : List (Shape Sort)) (x : Rooted (Content Value)) (y : Rooted (List Cell)) (shows : Shows (Is program.types) cell_of (scheme program) made frames x y) (w : World Sort) (up : Grows (world (scheme program) made frames) w) (here : ℕ) (ps : List ℕ) where
+module _ (program : Program) (made : List Made) (frames : List (Shape Sort)) (x : Rooted (Content Value)) (y : Rooted (List Cell)) (shows : Shows (Is program.types) cell_of (scheme program) made frames x y) (w : World Sort) (up : Grows (world (scheme program) made frames) w) (here : ℕ) (ps : List ℕ) (ranked : IsRanked program.types) where
   abbrev now : World Sort
   now = world (scheme program) made frames
 
@@ -203,6 +224,22 @@ module _ (program : Program) (made : List Made) (frames : List (Shape Sort)) (x 
         shown = subst (λ o. IsShown s (or_empty o) a.cells) (sym a.source) a.shown;
       }
 
+  -- the parts of a shape with which it begins
+  record Begun (p : Spot) (s : Shape Sort) (n : ℕ) : Type 0 where
+    cells : List Cell
+    there : I.whole_at ps n (cell_of now (Place p)) y ≡ Some cells
+    shown : IsShown s (cut s (H.content_at rows here x (Place p))) cells
+
+  begun : (p : Spot) (s more : Shape Sort) (n : ℕ) → join s Nothing ≡ s → size s ≡ n → shape_at now p.root p.path ≡ Some (join s more) → Begun p s n
+  begun p s more n ends many at =
+      let a = first_alike (Is rows) cell_of IsPlain (values_kept rows) (scheme program) made frames x y w up p.root p.path s more ends shows at in
+      let long = shown_long (Is rows) cell_of w s (cut s a.inner) a.cells a.shown ∙ many in
+      record {
+        cells = a.cells;
+        there = ap (option_and_then (if_all n)) (ap (λ m. load_all m p.root (cell_at now p.root p.path) y) (sym many) ∙ a.image) ∙ all_there n a.cells long;
+        shown = subst (λ o. IsShown s (cut s (or_empty o)) a.cells) (sym a.source) a.shown;
+      }
+
   -- an open array's place and lengths
   open_shown : (of : TypeId) (v : Value) (ns : List ℕ) (c : Cell) → Is rows w (Elements of ns) v → cell_of w v ≡ c → All IsLength ns → let part = open_part of v (lengths_of ns) in IsShown part.shape part.content (c ∷ map (cell_of now) (lengths_of ns))
   open_shown of v ns c is at lengths =
@@ -229,7 +266,7 @@ module _ (program : Program) (made : List Made) (frames : List (Shape Sort)) (x 
         then (if r
         then hand (open_part of v lengths) [] (parameters as' (drop (suc many) vs) copy)
         else hand (open_part of (H.own_part rows here x copy) lengths) (H.copied rows here x of v lengths ∷ []) (parameters as' (drop (suc many) vs) (suc copy)))
-        else if r then hand (scalar (Alias t) v) [] (parameters as' (drop 1 vs) copy)
+        else if r then hand (scalar (alias_sort rows t) v) [] (parameters as' (drop 1 vs) copy)
         else if c then hand (scalar (Plain t) v) [] (parameters as' (drop 1 vs) copy)
         else hand (H.whole rows here x t v) [] (parameters as' (drop 1 vs) copy)
 
@@ -264,16 +301,17 @@ module _ (program : Program) (made : List Made) (frames : List (Shape Sort)) (x 
     -- one value
     one_alike : (r c : Bool) (us rest : List Value) (copy at : ℕ) → c ≡ is_scalar (type_row rows t) → Handles program false r c now t us → OthersAlike rest → FirstAlike false r c (us ++ rest) copy at
     one_alike true c us rest copy at e h ih =
-        let v = Place h.0 in
+        let v = h.0 in
+        let k = alias_sort rows t in
         subst (λ l. FirstAlike false true c (l ++ rest) copy at) (sym h.1)
-        (one_more (taken_so false true) taken_others (scalar (Alias t) v) [] (cell_of now v ∷ []) [] (others rest copy) (cells_of_others (map (cell_of now) rest) at) copy at copy at refl (λ st. (scalar_shown (Alias t) v h.2, st)) (none_shown program w) (ih copy at))
+        (one_more (taken_so false true) taken_others (scalar k v) [] (cell_of now v ∷ []) [] (others rest copy) (cells_of_others (map (cell_of now) rest) at) copy at copy at refl (λ st. (scalar_shown k v h.2, st)) (none_shown program w) (ih copy at))
     one_alike false true us rest copy at e h ih =
         let v = h.0 in
         subst (λ l. FirstAlike false false true (l ++ rest) copy at) (sym h.1)
         (one_more (taken_so false false) taken_others (scalar (Plain t) v) [] (cell_of now v ∷ []) [] (others rest copy) (cells_of_others (map (cell_of now) rest) at) copy at copy at (sym (scalar_variable rows t (sym e))) (λ st. (scalar_shown (Plain t) v h.2, st)) (none_shown program w) (ih copy at))
     one_alike false false us rest copy at e h ih =
         let v = Place h.0 in
-        let a = found h.0 (variable_shape rows t) (size (cells rows t)) (cells_size rows t) h.2 in
+        let a = begun h.0 (variable_shape rows t) h.2.0 (size (cells rows t)) (other_ends rows ranked t (sym e)) (cells_size rows t) h.2.1 in
         let more = one_more (taken_so false false) taken_others (H.whole rows here x t v) [] a.cells [] (others rest copy) (cells_of_others (map (cell_of now) rest) at) copy at copy at refl (λ st. (a.shown, st)) (none_shown program w) (ih copy at) in
         subst (λ l. FirstAlike false false false (l ++ rest) copy at) (sym h.1)
         (subst (λ o. Alike (taken_so false false ∷ taken_others) (hand (H.whole rows here x t v) [] (others rest copy)) (option_and_then (λ cs. option_map (I.hand ps cs []) (cells_of_others (map (cell_of now) rest) at)) o) copy at) (sym a.there) more)
@@ -337,7 +375,7 @@ module _ (program : Program) (made : List Made) (frames : List (Shape Sort)) (x 
       elements = nested ns (variable_shape rows of)
 
       there : shape_at now p.root p.path ≡ Some elements
-      there = is.0
+      there = is
 
       copied_alike : (copy at : ℕ) → OthersAlike rest → FirstAlike true false true (Place p ∷ (first ++ rest)) copy at
       copied_alike copy at ih =
@@ -353,7 +391,7 @@ module _ (program : Program) (made : List Made) (frames : List (Shape Sort)) (x 
           let whole : PartsShown program w (copy_part ∷ []) a.cells = subst (PartsShown program w (copy_part ∷ [])) (append-nil a.cells)
           (more_shown program w copy_part [] a.cells [] (subst (λ z. IsShown z copy_part.content a.cells) (sym same) a.shown) (none_shown program w)) in
           let stands : Stand program w here copy at (copy_part ∷ (others rest (suc copy)).copies) → IsShown part.shape part.content (cell.Place (FrameRoot here) at 0 ∷ handed_cells) × Stand program w here (suc copy) next (others rest (suc copy)).copies = λ st. (
-            open_shown of here_part ns (cell.Place (FrameRoot here) at 0) (st.0 ∙ ap (λ z. Some z) same, refl) (ap (λ n. cell.Place (FrameRoot here) n 0) st.1) lengths,
+            open_shown of here_part ns (cell.Place (FrameRoot here) at 0) (st.0 ∙ ap (λ z. Some z) same) (ap (λ n. cell.Place (FrameRoot here) n 0) st.1) lengths,
             subst (λ n. Stand program w here (suc copy) n (others rest (suc copy)).copies) far st.2,
           ) in
           let alike = one_more (taken_so true false) taken_others part (copy_part ∷ []) (cell.Place (FrameRoot here) at 0 ∷ handed_cells) a.cells (others rest (suc copy)) (cells_of_others (map (cell_of now) rest) next) copy at (suc copy) next (opening here_part ns long lengths false) stands whole (ih (suc copy) next) in
@@ -362,11 +400,11 @@ module _ (program : Program) (made : List Made) (frames : List (Shape Sort)) (x 
           (subst (λ o. Alike (taken_so true false ∷ taken_others) (copied first rest copy) o copy at) (image_found ∙ image) alike)
 
     -- of each kind
-    first_alike : (o r c : Bool) (us rest : List Value) (copy at : ℕ) → c ≡ is_scalar (type_row rows t) → Handles program o r c now t us → OthersAlike rest → FirstAlike o r c (us ++ rest) copy at
-    first_alike false r c us rest copy at e h ih = one_alike r c us rest copy at e h ih
-    first_alike true true c us rest copy at e h ih =
+    each_alike : (o r c : Bool) (us rest : List Value) (copy at : ℕ) → c ≡ is_scalar (type_row rows t) → Handles program o r c now t us → OthersAlike rest → FirstAlike o r c (us ++ rest) copy at
+    each_alike false r c us rest copy at e h ih = one_alike r c us rest copy at e h ih
+    each_alike true true c us rest copy at e h ih =
         subst (λ l. FirstAlike true true c (l ++ rest) copy at) (sym h.2) (referred_alike h.0 h.1 rest h.3 h.4 h.5 copy at ih)
-    first_alike true false c us rest copy at e h ih =
+    each_alike true false c us rest copy at e h ih =
         subst (λ l. FirstAlike true false c (l ++ rest) copy at) (sym h.2) (copied_alike h.0 h.1 rest h.3 h.4 h.5 copy at ih)
 
   -- all that is handed over
@@ -376,5 +414,5 @@ module _ (program : Program) (made : List Made) (frames : List (Shape Sort)) (x 
   handed_alike (a ∷ as') vs copy at g =
       let o = is_open (type_row rows (id_of a.of)) in
       let c = is_scalar (type_row rows (id_of a.of)) in
-      let alike = first_alike a as' o a.by_reference c g.0 g.1 copy at refl g.3 (λ copy' at'. handed_alike as' g.1 copy' at' g.4) in
+      let alike = each_alike a as' o a.by_reference c g.0 g.1 copy at refl g.3 (λ copy' at'. handed_alike as' g.1 copy' at' g.4) in
       subst (λ l. Alike (map (taken_as rows) (a ∷ as')) (parameters (a ∷ as') l copy) (cells_handed (map (parameter_kind rows) (a ∷ as')) (map (cell_of now) l) at) copy at) (sym g.2) alike

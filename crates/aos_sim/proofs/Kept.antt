@@ -1,16 +1,19 @@
 -- Values stay of their sorts, and keep their cells, as frames are put on top and objects are made.
 use Rattle.std.proofs.Common.{◌≡◌, ℕ, zero, suc, List, Option, Some, None, refl, ap}
+use Rattle.aos_base.specs.Rooted.{Made}
 use Rattle.aos_types.specs.declared.row.Basic.{Basic}
 use Rattle.aos_types.specs.declared.row.Basic.TheVariants as basic
 use Rattle.aos_types.specs.declared.row.TypeId.{TypeId}
 use Rattle.aos_types.specs.declared.row.TypeRow.{TypeRow}
 use Rattle.aos_types.specs.declared.row.TypeRow.TheVariants as row
 use Rattle.aos_types.specs.Table.{row_of}
+use Rattle.aos_types.specs.Shape.{join}
 use Rattle.aos_types.specs.World.{World, MadeAlike, Grows}
 use Rattle.aos_typed.specs.Sort.{Sort, Plain, Variable, Alias, Elements, Length, variable_shape, object_shape}
 use Rattle.aos_typed.specs.Spot.{Spot}
 use Rattle.aos_typed.specs.Value.{Value, Int, Flag, Char, Set, Object, Callable, Place}
-use Rattle.aos_typed.specs.Typing.{id_of_made, nested, IsBasic, Refers, IsReference, IsPlainly, IsPlace, OnPlace, Is, IsPlain}
+use Rattle.aos_typed.specs.Open.{first_same}
+use Rattle.aos_typed.specs.Typing.{id_of_made, nested, Extends, IsBasic, Refers, IsReference, IsPlainly, IsPlace, OnPlace, Is, IsPlain}
 use Rattle.aos_code.specs.declared.instr.Cell.TheVariants as cell
 use Rattle.aos_places.specs.Shows.{AreKept}
 use Rattle.aos_places.proofs.Grow.{shape_grows, cell_grows}
@@ -18,18 +21,18 @@ use Rattle.aos_sim.specs.Cells.{cell_of}
 
 module _ (rows : List TypeRow) where
   module _ (w v : World Sort) (made : MadeAlike w v) where
-    refers_kept : (t : TypeId) (o : ℕ) → Refers rows w t o → Refers rows v t o
-    refers_kept t zero h = tt
-    refers_kept t (suc o) h = (h.0, made (suc o) h.0 h.1, h.2, h.3)
+    refers_kept : (P : Made → Type 0) (o : ℕ) → Refers rows w P o → Refers rows v P o
+    refers_kept P zero h = tt
+    refers_kept P (suc o) h = (h.0, made (suc o) h.0 h.1, h.2, h.3)
 
-    reference_kept : (t : TypeId) (x : Value) → IsReference rows w t x → IsReference rows v t x
-    reference_kept t (Object o) h = refers_kept t o h
-    reference_kept t (Int z) h = absurd h
-    reference_kept t (Flag b) h = absurd h
-    reference_kept t (Char c) h = absurd h
-    reference_kept t (Set s) h = absurd h
-    reference_kept t (Callable p o) h = absurd h
-    reference_kept t (Place p) h = absurd h
+    reference_kept : (P : Made → Type 0) (x : Value) → IsReference rows w P x → IsReference rows v P x
+    reference_kept P (Object o) h = refers_kept P o h
+    reference_kept P (Int z) h = absurd h
+    reference_kept P (Flag b) h = absurd h
+    reference_kept P (Char c) h = absurd h
+    reference_kept P (Set s) h = absurd h
+    reference_kept P (Callable p o) h = absurd h
+    reference_kept P (Place p) h = absurd h
 
     plainly_kept : (t : TypeId) (r : Option TypeRow) (x : Value) → IsPlainly rows w t r x → IsPlainly rows v t r x
     plainly_kept t None x h = h
@@ -37,10 +40,10 @@ module _ (rows : List TypeRow) where
     plainly_kept t (Some (row.Array n of)) x h = h
     plainly_kept t (Some (row.Open of)) x h = h
     plainly_kept t (Some (row.Record base fields)) x h = h
-    plainly_kept t (Some (row.Pointer to)) x h = h
-    plainly_kept t (Some (row.Object base fields)) x h = reference_kept t x h
+    plainly_kept t (Some (row.Pointer to)) x h = reference_kept (Extends rows (first_same rows to)) x h
+    plainly_kept t (Some (row.Object base fields)) x h = reference_kept (Extends rows t) x h
     plainly_kept t (Some (row.Procedure formals r)) x h = h
-    plainly_kept t (Some row.Any) x h = h
+    plainly_kept t (Some row.Any) x h = reference_kept (λ m. Unit {0}) x h
 
     plain_kept : (k : Sort) (x : Value) → IsPlain k → Is rows w k x → Is rows v k x
     plain_kept (Plain t) x p h = plainly_kept t (row_of rows t) x h
@@ -54,13 +57,13 @@ module _ (rows : List TypeRow) where
     place_kept (Plain t) p h = absurd h
     place_kept (Variable t) p h =
         record {
-          dynamic = h.dynamic;
-          named = h.named;
           extends = h.extends;
-          there = shape_grows w v g p.root p.path (object_shape rows (id_of_made p.type)) h.there;
+          more = h.more;
+          plain = h.plain;
+          there = shape_grows w v g p.root p.path (join (object_shape rows (id_of_made p.type)) h.more) h.there;
         }
-    place_kept (Alias t) p h = (shape_grows w v g p.root p.path (variable_shape rows t) h.0, h.1)
-    place_kept (Elements t ns) p h = (shape_grows w v g p.root p.path (nested ns (variable_shape rows t)) h.0, h.1)
+    place_kept (Alias t) p h = shape_grows w v g p.root p.path (variable_shape rows t) h
+    place_kept (Elements t ns) p h = shape_grows w v g p.root p.path (nested ns (variable_shape rows t)) h
     place_kept (Length n) p h = absurd h
 
     on_place_kept : (k : Sort) (x : Value) → OnPlace (IsPlace rows w k) x → OnPlace (IsPlace rows v k) x
@@ -82,15 +85,12 @@ module _ (rows : List TypeRow) where
     -- a place keeps its cell
     place_cell : (k : Sort) (p : Spot) → IsPlace rows w k p → cell_of w (Place p) ≡ cell_of v (Place p)
     place_cell (Plain t) p h = absurd h
-    place_cell (Variable t) p h = ap (λ n. cell.Place p.root n p.type) (cell_grows w v g p.root p.path (object_shape rows (id_of_made p.type)) h.there)
-    place_cell (Alias t) p h = ap (λ n. cell.Place p.root n p.type) (cell_grows w v g p.root p.path (variable_shape rows t) h.0)
-    place_cell (Elements t ns) p h = ap (λ n. cell.Place p.root n p.type) (cell_grows w v g p.root p.path (nested ns (variable_shape rows t)) h.0)
+    place_cell (Variable t) p h = ap (λ n. cell.Place p.root n p.type) (cell_grows w v g p.root p.path (join (object_shape rows (id_of_made p.type)) h.more) h.there)
+    place_cell (Alias t) p h = ap (λ n. cell.Place p.root n p.type) (cell_grows w v g p.root p.path (variable_shape rows t) h)
+    place_cell (Elements t ns) p h = ap (λ n. cell.Place p.root n p.type) (cell_grows w v g p.root p.path (nested ns (variable_shape rows t)) h)
     place_cell (Length n) p h = absurd h
 
     -- no plain value is a place
-    no_reference : (t : TypeId) (p : Spot) → IsReference rows w t (Place p) → ⊥
-    no_reference t p h = h
-
     no_basic : (b : Basic) (p : Spot) → IsBasic b (Place p) → ⊥
     no_basic basic.ShortInt p h = h
     no_basic basic.Integer p h = h
@@ -108,10 +108,10 @@ module _ (rows : List TypeRow) where
     no_plain t (Some (row.Array n of)) p h = absurd (cc)
     no_plain t (Some (row.Open of)) p h = absurd (cc)
     no_plain t (Some (row.Record base fields)) p h = absurd (cc)
-    no_plain t (Some (row.Pointer to)) p h = absurd (cc)
+    no_plain t (Some (row.Pointer to)) p h = h
     no_plain t (Some (row.Object base fields)) p h = h
     no_plain t (Some (row.Procedure formals r)) p h = absurd (cc)
-    no_plain t (Some row.Any) p h = absurd (cc)
+    no_plain t (Some row.Any) p h = h
 
     cell_kept : (k : Sort) (x : Value) → Is rows w k x → cell_of w x ≡ cell_of v x
     cell_kept k (Int z) h = refl

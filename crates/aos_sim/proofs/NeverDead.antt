@@ -1,13 +1,14 @@
 -- No turn of a program enters a region or awaits a condition, so no execution of it comes to be Dead.
 use Rattle.std.proofs.Common.{◌≢◌, ℕ, zero, suc, List, [], ◌∷◌, ◌++◌, Bool, true, false}
-use Rattle.std.specs.Prelude.{length, Option, Some, None, unsigned_abs, if◌then◌else◌}
+use Rattle.std.specs.Prelude.{length, map, Option, Some, None, unsigned_abs, if◌then◌else◌}
 use Rattle.aos_base.specs.declared.kernel.Outcome.TheVariants.{Dead}
 use Rattle.aos_base.specs.Machine.{Choice, execution}
 use Rattle.aos_base.specs.Observation.{observation}
-use Rattle.aos_base.specs.Rooted.{by_number}
-use Rattle.aos_base.specs.Question.{Val, Asks, Traps, feed, Reads, Stores, Copies, PutsText, ComparesTexts, Calls, Ends, Makes, Starts, PutsInt, PutsChar, PutsString, PutsLn, PutsNothing, Places, Lengths}
+use Rattle.aos_base.specs.Number.{array_lengths}
+use Rattle.aos_base.specs.Rooted.{Made, by_number}
+use Rattle.aos_base.specs.Question.{Val, Asks, Traps, feed, Reads, Stores, Copies, PutsText, ComparesTexts, Calls, Ends, Makes, Starts, PutsInt, PutsChar, PutsString, PutsLn, PutsNothing, Places, Lengths, Opens, Sizes, Tests}
 use Rattle.aos_types.specs.Shape.{Shape}
-use Rattle.aos_types.specs.Content.{Content}
+use Rattle.aos_types.specs.Content.{Content, first_content}
 use Rattle.aos_types.specs.World.{read}
 use Rattle.aos_typed.specs.Program.{Repeat, Program}
 use Rattle.aos_typed.specs.Numbers.{id_of}
@@ -15,10 +16,10 @@ use Rattle.aos_typed.specs.Sort.{Sort, variable_shape}
 use Rattle.aos_typed.specs.Spot.{Spot}
 use Rattle.aos_typed.specs.Text.{text_in, fitted}
 use Rattle.aos_typed.specs.Value.{Value, Int, Flag, Char, Set, Object, Callable, Place, number_of, is_true}
-use Rattle.aos_typed.specs.Store.{Store, has_room}
+use Rattle.aos_typed.specs.Store.{Store, has_room, made_in}
 use Rattle.aos_typed.specs.Routines.{Routine, routines}
 use Rattle.aos_typed.specs.Meaning.{Question, Doing, Item, Do, Rounds, Round, Until, After, Into, Exits, Returns, leave, item_of, value_of}
-use Rattle.aos_typed.specs.Source.{Frame, Turned, answered, done, all_rooted, begins, ends, finishes, tests, settles, written, prints, makes, starts, copies, stores_text, is_deep, enters, called_frame, calls, calm, noted, answer, goes, item_turn, turn_at, opened, source, first_state, first_store, first_frames}
+use Rattle.aos_typed.specs.Source.{Frame, Turned, answered, done, all_rooted, begins, ends, finishes, tests, settles, first_value, made_shape, written, prints, makes, makes_with, starts, copies, stores_text, is_deep, enters, called_frame, calls, calm, noted, answer, goes, item_turn, turn_at, opened, source, first_state, first_store, first_frames}
 use Rattle.aos_concurrency.specs.Spot.{NoOne}
 use Rattle.aos_concurrency.specs.Waits.{MayWait}
 use Rattle.aos_concurrency.proofs.Itself.{Any, anything}
@@ -36,9 +37,9 @@ module _ (following : List ℕ) where
   prints_lively None f fs s h = h
   prints_lively (Some bytes) f fs s h = h
 
-  makes_lively : (room : Bool) (t : ℕ) (f : Frame) (fs : List Frame) (s : Store) → Lively (makes following room t f fs s)
-  makes_lively true t f fs s h = h
-  makes_lively false t f fs s h = h
+  makes_lively : (room : Bool) (m : Made) (c : Content Value) (f : Frame) (fs : List Frame) (s : Store) → Lively (makes following room m c f fs s)
+  makes_lively true m c f fs s h = h
+  makes_lively false m c f fs s h = h
 
   starts_lively : (v : Value) (f : Frame) (fs : List Frame) (s : Store) → Lively (starts following v f fs s)
   starts_lively (Object zero) f fs s h = h
@@ -71,9 +72,15 @@ module _ (program : Program) (following : List ℕ) where
       let g = called_frame program following r vs (f ∷ fs) s in
       enters_lively following (is_deep following g (f ∷ fs)) g (f ∷ fs) s
 
+  makes_with_lively : (ns : Option (List ℕ)) (t : ℕ) (f : Frame) (fs : List Frame) (s : Store) → Lively (makes_with program following ns t f fs s)
+  makes_with_lively None t f fs s = λ h. h
+  makes_with_lively (Some ns) t f fs s =
+      let m : Made = record { type = t; lengths = ns } in
+      let c = first_content (first_value program) (made_shape program.types m) in makes_lively following (has_room m c s) m c f fs s
+
   answer_lively : (q : Question) (f : Frame) (fs : List Frame) (s : Store) → Lively (answer program following q f fs s)
   answer_lively (Ends result) f fs s = ends_lively following result fs s
-  answer_lively (Makes t) f fs s = makes_lively following (has_room s) t f fs s
+  answer_lively (Makes t vs) f fs s = makes_with_lively (array_lengths (map number_of vs)) t f fs s
   answer_lively (Starts v) f fs s = starts_lively following v f fs s
   answer_lively (PutsInt v n) f fs s = prints_lively following (written v n) f fs s
   answer_lively (Reads t p) f fs s = λ h. h
@@ -93,6 +100,9 @@ module _ (program : Program) (following : List ℕ) where
   answer_lively (PutsString a n) f fs s = λ h. h
   answer_lively (Places a) f fs s = λ h. h
   answer_lively (Lengths a) f fs s = λ h. h
+  answer_lively (Opens v) f fs s = λ h. h
+  answer_lively (Sizes v d) f fs s = λ h. h
+  answer_lively (Tests v t) f fs s = λ h. h
 
   tests_lively : (d : Doing Value) (if_true if_false : Turned) (f : Frame) (fs : List Frame) (s : Store) → Lively if_true → Lively if_false → Lively (tests program following d if_true if_false f fs s)
   tests_lively (Val v) if_true if_false f fs s h k = by (is_true v)
@@ -114,8 +124,8 @@ module _ (program : Program) (following : List ℕ) where
   settles_lively (Round st ∷ is) f fs s = λ h. h
   settles_lively (Until at b e ∷ is) f fs s =
       let test = value_of program (length fs) e in
-      tests_lively (calm f.variables test) (settles program following is f fs s) (begins following at (Do (Repeat at b e) ∷ is) f fs s)
-      (record f { items = Until at b e ∷ is; answers = Some (noted f.variables test) }) fs s (settles_lively is f fs s) (λ h. h)
+      tests_lively (calm program.types (made_in s) f.variables test) (settles program following is f fs s) (begins following at (Do (Repeat at b e) ∷ is) f fs s)
+      (record f { items = Until at b e ∷ is; answers = Some (noted program.types (made_in s) f.variables test) }) fs s (settles_lively is f fs s) (λ h. h)
 
   goes_lively : (d : Doing After) (rest : List Item) (f : Frame) (fs : List Frame) (s : Store) → Lively (goes program following d rest f fs s)
   goes_lively (Val (Into is)) rest f fs s = settles_lively (is ++ rest) f fs s
@@ -129,7 +139,7 @@ module _ (program : Program) (following : List ℕ) where
   item_lively (Some vs) [] f fs s = λ h. h
   item_lively (Some vs) (i ∷ is) f fs s =
       let left = feed vs (item_of program (length fs) i) in
-      goes_lively (calm f.variables left) is (record f { answers = Some (vs ++ noted f.variables left) }) fs s
+      goes_lively (calm program.types (made_in s) f.variables left) is (record f { answers = Some (vs ++ noted program.types (made_in s) f.variables left) }) fs s
 
   turn_at_lively : (fs : List Frame) (s : Store) → Lively (turn_at program following fs s)
   turn_at_lively [] s = λ h. h

@@ -1,10 +1,10 @@
 -- No meaning of a program has trap 16, so no execution of an image that shows the program has one.
 use Rattle.std.proofs.Common.{◌≡◌, ℕ, zero, suc, ◌<◌, List, [], ◌∷◌, ◌++◌, Bool, true, false, refl, sym, subst, arith}
-use Rattle.std.specs.Prelude.{length, All, ℤ, pos, ◌+ℤ◌, ◌-ℤ◌, ◌*ℤ◌, neg_ℤ, unsigned_abs, int_lt, ◌&&◌, int_le, if◌then◌else◌, Option, Some, None}
+use Rattle.std.specs.Prelude.{length, map, All, ℤ, pos, ◌+ℤ◌, ◌-ℤ◌, ◌*ℤ◌, neg_ℤ, unsigned_abs, int_lt, ◌&&◌, int_le, if◌then◌else◌, Option, Some, None}
 use Rattle.std.specs.Option.{option_zip}
 use Rattle.std.specs.List.{list_any}
 use Rattle.std.specs.Int.{int_div_euclid, int_rem_euclid}
-use Rattle.aos_base.specs.Number.{is_within, if_within, shifted}
+use Rattle.aos_base.specs.Number.{is_within, if_within, shifted, array_lengths}
 use Rattle.aos_base.specs.declared.operator.Unary.{Unary as UnaryOperator}
 use Rattle.aos_base.specs.declared.operator.Unary.TheVariants.{Neg, Abs, Not, Odd, Cap, Compl, Range}
 use Rattle.aos_base.specs.declared.operator.Binary.{Binary as BinaryOperator}
@@ -14,13 +14,14 @@ use Rattle.aos_base.specs.declared.operator.Given.TheVariants.{Number, Trap, Und
 use Rattle.aos_base.specs.Operators.{or_trap, or_undefined, set_of, on_sets, natural, unary as unary_of, binary as binary_of}
 use Rattle.aos_base.specs.Machine.{Choice, execution}
 use Rattle.aos_base.specs.Observation.{Observation, observation}
-use Rattle.aos_base.specs.Rooted.{by_number}
-use Rattle.aos_base.specs.Question.{Val, Asks, Traps, bind, feed, Reads, Stores, Copies, PutsText, ComparesTexts, Calls, Ends, Makes, Starts, PutsInt, PutsChar, PutsString, PutsLn, PutsNothing, Places, Lengths}
+use Rattle.aos_base.specs.Rooted.{Made, by_number}
+use Rattle.aos_base.specs.Question.{Val, Asks, Traps, bind, ask, feed, Reads, Stores, Copies, PutsText, ComparesTexts, Calls, Ends, Makes, Starts, PutsInt, PutsChar, PutsString, PutsLn, PutsNothing, Places, Lengths, Opens, Sizes, Tests}
+use Rattle.aos_types.specs.declared.row.TypeRow.{TypeRow}
 use Rattle.aos_types.specs.Shape.{Shape}
-use Rattle.aos_types.specs.Content.{Content}
+use Rattle.aos_types.specs.Content.{Content, first_content}
 use Rattle.aos_types.specs.World.{read}
 use Rattle.aos_code.specs.declared.image.Image.{Image}
-use Rattle.aos_typed.specs.Program.{Place, ModuleVar, Local, Passed, Field, Index, Of, Rows, Known as KnownRows, Opened, Row, Longer, Arguments, NoMore, Scalar, Whole, Opening, Expr, Lit, Read, Unary, Binary, And, Or, Element, Ord, Chr, CompareTexts, Len, LenBehind, Function, Call, Open as OutOpen, Char as OutChar, Int as OutInt, String as OutString, Ln as OutLn, Stat, Assign, Copy, PutText, If, Case, While, Repeat, Loop, Exit, For, Block, Assert, Halt, Change, Perform, Return, New, Out, Arms, Otherwise, Arm, Cases, NoElse, Else, OfLabels, Program}
+use Rattle.aos_typed.specs.Program.{Place, ModuleVar, Local, Passed, Field, Index, Of, Deref, Typed, Guarded, Rows, Known as KnownRows, Opened, Row, Spread, Longer, Arguments, NoMore, Scalar, Whole, Opening, Expr, Lit, Read, Unary, Binary, And, Or, Element, Ord, Chr, CompareTexts, Len, LenBehind, Function, Same, Is, IsRecord, Guard, Had, Call, Open as OutOpen, Char as OutChar, Int as OutInt, String as OutString, Ln as OutLn, Stat, Assign, Copy, PutText, If, Case, While, Repeat, Loop, Exit, For, Block, Assert, Halt, Change, Perform, Return, New, Make, With, WithRecord, Out, Arms, Otherwise, Arm, Cases, NoElse, Else, OfLabels, Program}
 use Rattle.aos_typed.specs.declared.tree.Change.{Change as Changing}
 use Rattle.aos_typed.specs.declared.tree.Change.TheVariants as change
 use Rattle.aos_typed.specs.declared.tree.TType.TheVariants as type
@@ -29,10 +30,10 @@ use Rattle.aos_typed.specs.Sort.{Sort as ScalarSort, variable_shape}
 use Rattle.aos_typed.specs.Spot.{Spot}
 use Rattle.aos_typed.specs.Text.{text_in, fitted}
 use Rattle.aos_typed.specs.Value.{Value, Int, Flag, Char, Set, Object, Callable, Place as Spotted, number_of, Sort, Integer, Character, Elements, element, given, unary_sort, binary_sort, is_true}
-use Rattle.aos_typed.specs.Store.{Store, has_room}
+use Rattle.aos_typed.specs.Store.{Store, has_room, made_in}
 use Rattle.aos_typed.specs.Routines.{Routine, routines}
-use Rattle.aos_typed.specs.Meaning.{Question, Doing, Item, Do, Rounds, Round, Until, After, Into, Exits, Returns, leave, is_in, element_of, Found, row_at, lengths_from, place_of, rows_of, arguments_of, value_of, changed, arms_of, case_of, out_of, stat_of, item_of}
-use Rattle.aos_typed.specs.Source.{Frame, Turned, answered, done, all_rooted, begins, ends, finishes, tests, settles, written, prints, makes, starts, copies, stores_text, is_deep, enters, called_frame, calls, known, calm, noted, answer, goes, item_turn, turn_at, opened, source, first_state, first_store, first_frames}
+use Rattle.aos_typed.specs.Meaning.{Question, Doing, object_in, by_number as by_object, dereferenced, sizes_from, spread, is_instance, guarded, has_type, record_guarded, Item, Do, Rounds, Round, Until, After, Into, Exits, Returns, leave, is_in, element_of, Found, row_at, lengths_from, place_of, rows_of, arguments_of, value_of, values_of, changed, arms_of, case_of, out_of, stat_of, item_of}
+use Rattle.aos_typed.specs.Source.{Frame, Turned, answered, done, all_rooted, begins, ends, finishes, tests, settles, first_value, made_shape, written, prints, makes, makes_with, starts, copies, stores_text, is_deep, enters, called_frame, calls, known, length_in, object_place, has_type_in, calm, noted, answer, goes, item_turn, turn_at, opened, source, first_state, first_store, first_frames}
 use Rattle.aos_sim.specs.Shows.{Shows, NeverLost}
 use Rattle.aos_sim.proofs.Traps.{Leaves, traps_with}
 
@@ -150,6 +151,31 @@ changed_comes change.Include v n =
 changed_comes change.Exclude v n =
     comes_then (element n) _ (given_comes Elements _ (binary_gives SetSpan (number_of n) (number_of n))) (λ x. given_comes Elements _ (binary_gives Minus (number_of v) (number_of x)))
 
+-- Objects
+
+nil_comes : {A : Type 0} (o : ℕ) (t u : Doing A) → Comes t → Comes u → Comes (by_object o t u)
+nil_comes zero t u h k = h
+nil_comes (suc o) t u h k = k
+
+dereferenced_comes : (v : Value) → Comes (dereferenced v)
+dereferenced_comes v = nil_comes (object_in v) (Traps 1 0) _ (omega arith) (λ x. tt)
+
+sizes_come : (v : Value) (d n : ℕ) → Comes (sizes_from v d n)
+sizes_come v d zero = tt
+sizes_come v d (suc n) = λ x. comes_then (sizes_from v (suc d) n) _ (sizes_come v (suc d) n) (λ xs. tt)
+
+spread_comes : (v : Value) (j : ℕ) → Comes (spread v j)
+spread_comes v j = nil_comes (object_in v) (Traps 1 0) _ (omega arith) (λ x. comes_then (sizes_from v 0 j) _ (sizes_come v 0 j) (λ ns. tt))
+
+instance_comes : (v : Value) (t : ℕ) → Comes (is_instance v t)
+instance_comes v t = nil_comes (object_in v) (Val (Flag false)) (ask (Tests v (suc t))) tt (λ x. tt)
+
+guarded_comes : (v : Value) (t : ℕ) → Comes (guarded v t)
+guarded_comes v t = nil_comes (object_in v) (Traps 3 0) _ (omega arith) (λ b. either_comes (is_true b) (Val v) (Traps 3 0) tt (omega arith))
+
+record_comes : (rows : List TypeRow) (s : Spot) (t : ℕ) → Comes (record_guarded rows s t)
+record_comes rows s t = either_comes (has_type rows s t) (Val s) (Traps 3 0) tt (omega arith)
+
 module _ (program : Program) (here : ℕ) where
   lengths_come : (k d n : ℕ) → Comes (lengths_from program here k d n)
   lengths_come k d zero = tt
@@ -164,12 +190,16 @@ module _ (program : Program) (here : ℕ) where
     place_comes (Index p n t e) =
         comes_then (place_of program here p) _ (place_comes p) (λ s. comes_then (value_of program here e) _ (value_comes e) (λ v. element_comes n v s))
     place_comes (Of r) = comes_then (rows_of program here r) _ (rows_come r) (λ x. tt)
+    place_comes (Deref e t) = comes_then (value_of program here e) _ (value_comes e) dereferenced_comes
+    place_comes (Typed p t) = comes_then (place_of program here p) _ (place_comes p) (λ s. tt)
+    place_comes (Guarded p t) = comes_then (place_of program here p) _ (place_comes p) (λ s. record_comes program.types s t)
 
     rows_come : (r : Rows) → Comes (rows_of program here r)
     rows_come (KnownRows p ns) = comes_then (place_of program here p) _ (place_comes p) (λ s. tt)
     rows_come (Opened k j) = λ v. comes_then (lengths_from program here k 0 j) _ (lengths_come k 0 j) (λ ns. tt)
     rows_come (Row r t e) =
         comes_then (rows_of program here r) _ (rows_come r) (λ x. comes_then (value_of program here e) _ (value_comes e) (λ v. row_comes x v))
+    rows_come (Spread e j) = comes_then (value_of program here e) _ (value_comes e) (λ v. spread_comes v j)
     rows_come (Longer r ns) = comes_then (rows_of program here r) _ (rows_come r) (λ x. tt)
 
     arguments_come : (as' : Arguments) → Comes (arguments_of program here as')
@@ -203,6 +233,17 @@ module _ (program : Program) (here : ℕ) where
     value_comes (Len r d) = comes_then (rows_of program here r) _ (rows_come r) (λ x. tt)
     value_comes (LenBehind r n) = comes_then (rows_of program here r) _ (rows_come r) (λ x. tt)
     value_comes (Function m k as') = comes_then (arguments_of program here as') _ (arguments_come as') (λ vs v. tt)
+    value_comes (Same a b) =
+        comes_then (value_of program here a) _ (value_comes a) (λ x. comes_then (value_of program here b) _ (value_comes b) (λ y. tt))
+    value_comes (Is a t) = comes_then (value_of program here a) _ (value_comes a) (λ v. instance_comes v t)
+    value_comes (IsRecord p t) = comes_then (place_of program here p) _ (place_comes p) (λ s. tt)
+    value_comes (Guard a t) = comes_then (value_of program here a) _ (value_comes a) (λ v. guarded_comes v t)
+    value_comes (Had v) = tt
+
+  values_come : (es : List Expr) → Comes (values_of program here es)
+  values_come [] = tt
+  values_come (e ∷ es) =
+      comes_then (value_of program here e) _ (value_comes e) (λ v. comes_then (values_of program here es) _ (values_come es) (λ vs. tt))
 
   out_comes : (call : Call) → Comes (out_of program here call)
   out_comes OutOpen = λ v. tt
@@ -241,6 +282,10 @@ module _ (program : Program) (here : ℕ) where
   stat_comes (Return at None) = tt
   stat_comes (Return at (Some e)) = comes_then (value_of program here e) _ (value_comes e) (λ v. tt)
   stat_comes (New at p t) = λ o. comes_then (place_of program here p) _ (place_comes p) (λ s v w. tt)
+  stat_comes (Make at p t ns) =
+      comes_then (place_of program here p) _ (place_comes p) (λ s. comes_then (values_of program here ns) _ (values_come ns) (λ vs o w. tt))
+  stat_comes (With at e body) = comes_then (value_of program here e) _ (value_comes e) (λ x. tt)
+  stat_comes (WithRecord at p body) = comes_then (place_of program here p) _ (place_comes p) (λ s. tt)
   stat_comes (Out at call) = out_comes call
 
   item_comes : (i : Item) → Comes (item_of program here i)
@@ -250,25 +295,31 @@ module _ (program : Program) (here : ℕ) where
   item_comes (Until at b e) = comes_then (value_of program here e) _ (value_comes e) (λ x. tt)
 
 -- what is left behind silent questions
-calm_comes : {A : Type 0} (c : Content Value) (t : Doing A) → Comes t → Comes (calm c t)
-calm_comes c (Val a) h = tt
-calm_comes c (Traps n code) h = h
-calm_comes c (Asks (Places s) k) h = calm_comes c (k (known c s)) (h (known c s))
-calm_comes c (Asks (Lengths s) k) h = calm_comes c (k (known c s)) (h (known c s))
-calm_comes c (Asks (Reads t p) k) h = h
-calm_comes c (Asks (Stores p v) k) h = h
-calm_comes c (Asks (Copies t from to) k) h = h
-calm_comes c (Asks (PutsText strict from n to room) k) h = h
-calm_comes c (Asks (ComparesTexts r a n b m) k) h = h
-calm_comes c (Asks (Calls p vs) k) h = h
-calm_comes c (Asks (Ends r) k) h = h
-calm_comes c (Asks (Makes t) k) h = h
-calm_comes c (Asks (Starts v) k) h = h
-calm_comes c (Asks (PutsInt v n) k) h = h
-calm_comes c (Asks (PutsChar v) k) h = h
-calm_comes c (Asks (PutsString a n) k) h = h
-calm_comes c (Asks PutsNothing k) h = h
-calm_comes c (Asks PutsLn k) h = h
+module _ (rows : List TypeRow) (made : ℕ → Option Made) (c : Content Value) where
+  calm_comes : {A : Type 0} (t : Doing A) → Comes t → Comes (calm rows made c t)
+  calm_comes (Val a) h = tt
+  calm_comes (Traps n code) h = h
+  calm_comes (Asks (Places s) k) h = calm_comes (k (known c s)) (h (known c s))
+  calm_comes (Asks (Lengths s) k) h = calm_comes (k (known c s)) (h (known c s))
+  calm_comes (Asks (Opens v) k) h =
+      let x = object_place (object_in v) (made (object_in v)) in calm_comes (k x) (h x)
+  calm_comes (Asks (Sizes v d) k) h = let x = length_in d (made (object_in v)) in calm_comes (k x) (h x)
+  calm_comes (Asks (Tests v t) k) h =
+      let x = has_type_in rows made c t (made (object_in v)) in calm_comes (k x) (h x)
+  calm_comes (Asks (Reads t p) k) h = h
+  calm_comes (Asks (Stores p v) k) h = h
+  calm_comes (Asks (Copies t from to) k) h = h
+  calm_comes (Asks (PutsText strict from n to room) k) h = h
+  calm_comes (Asks (ComparesTexts r a n b m) k) h = h
+  calm_comes (Asks (Calls p vs) k) h = h
+  calm_comes (Asks (Ends r) k) h = h
+  calm_comes (Asks (Makes t vs) k) h = h
+  calm_comes (Asks (Starts v) k) h = h
+  calm_comes (Asks (PutsInt v n) k) h = h
+  calm_comes (Asks (PutsChar v) k) h = h
+  calm_comes (Asks (PutsString a n) k) h = h
+  calm_comes (Asks PutsNothing k) h = h
+  calm_comes (Asks PutsLn k) h = h
 
 -- Turns
 
@@ -284,9 +335,9 @@ module _ (following : List ℕ) where
   prints_known None f fs s = omega arith
   prints_known (Some bytes) f fs s = tt
 
-  makes_known : (room : Bool) (t : ℕ) (f : Frame) (fs : List Frame) (s : Store) → Known (makes following room t f fs s)
-  makes_known true t f fs s = tt
-  makes_known false t f fs s = omega arith
+  makes_known : (room : Bool) (m : Made) (c : Content Value) (f : Frame) (fs : List Frame) (s : Store) → Known (makes following room m c f fs s)
+  makes_known true m c f fs s = tt
+  makes_known false m c f fs s = omega arith
 
   starts_known : (v : Value) (f : Frame) (fs : List Frame) (s : Store) → Known (starts following v f fs s)
   starts_known (Object zero) f fs s = tt
@@ -319,9 +370,15 @@ module _ (program : Program) (following : List ℕ) where
       let g = called_frame program following r vs (f ∷ fs) s in
       enters_known following (is_deep following g (f ∷ fs)) g (f ∷ fs) s
 
+  makes_with_known : (ns : Option (List ℕ)) (t : ℕ) (f : Frame) (fs : List Frame) (s : Store) → Known (makes_with program following ns t f fs s)
+  makes_with_known None t f fs s = omega arith
+  makes_with_known (Some ns) t f fs s =
+      let m : Made = record { type = t; lengths = ns } in
+      let c = first_content (first_value program) (made_shape program.types m) in makes_known following (has_room m c s) m c f fs s
+
   answer_known : (q : Question) (f : Frame) (fs : List Frame) (s : Store) → Known (answer program following q f fs s)
   answer_known (Ends result) f fs s = ends_known following result fs s
-  answer_known (Makes t) f fs s = makes_known following (has_room s) t f fs s
+  answer_known (Makes t vs) f fs s = makes_with_known (array_lengths (map number_of vs)) t f fs s
   answer_known (Starts v) f fs s = starts_known following v f fs s
   answer_known (PutsInt v n) f fs s = prints_known following (written v n) f fs s
   answer_known (Reads t p) f fs s = tt
@@ -341,6 +398,9 @@ module _ (program : Program) (following : List ℕ) where
   answer_known (PutsString a n) f fs s = tt
   answer_known (Places a) f fs s = tt
   answer_known (Lengths a) f fs s = tt
+  answer_known (Opens v) f fs s = tt
+  answer_known (Sizes v d) f fs s = tt
+  answer_known (Tests v t) f fs s = tt
 
   tests_known : (d : Doing Value) (if_true if_false : Turned) (f : Frame) (fs : List Frame) (s : Store) → Comes d → Known if_true → Known if_false → Known (tests program following d if_true if_false f fs s)
   tests_known (Val v) if_true if_false f fs s c h k = by (is_true v)
@@ -362,9 +422,9 @@ module _ (program : Program) (following : List ℕ) where
   settles_known (Round st ∷ is) f fs s = tt
   settles_known (Until at b e ∷ is) f fs s =
       let test = value_of program (length fs) e in
-      tests_known (calm f.variables test) (settles program following is f fs s) (begins following at (Do (Repeat at b e) ∷ is) f fs s)
-      (record f { items = Until at b e ∷ is; answers = Some (noted f.variables test) }) fs s
-      (calm_comes f.variables test (value_comes program (length fs) e)) (settles_known is f fs s) tt
+      tests_known (calm program.types (made_in s) f.variables test) (settles program following is f fs s) (begins following at (Do (Repeat at b e) ∷ is) f fs s)
+      (record f { items = Until at b e ∷ is; answers = Some (noted program.types (made_in s) f.variables test) }) fs s
+      (calm_comes program.types (made_in s) f.variables test (value_comes program (length fs) e)) (settles_known is f fs s) tt
 
   goes_known : (d : Doing After) (rest : List Item) (f : Frame) (fs : List Frame) (s : Store) → Comes d → Known (goes program following d rest f fs s)
   goes_known (Val (Into is)) rest f fs s h = settles_known (is ++ rest) f fs s
@@ -379,8 +439,8 @@ module _ (program : Program) (following : List ℕ) where
   item_known (Some vs) (i ∷ is) f fs s =
       let doing = item_of program (length fs) i in
       let left = feed vs doing in
-      goes_known (calm f.variables left) is (record f { answers = Some (vs ++ noted f.variables left) }) fs s
-      (calm_comes f.variables left (comes_fed vs doing (item_comes program (length fs) i)))
+      goes_known (calm program.types (made_in s) f.variables left) is (record f { answers = Some (vs ++ noted program.types (made_in s) f.variables left) }) fs s
+      (calm_comes program.types (made_in s) f.variables left (comes_fed vs doing (item_comes program (length fs) i)))
 
   turn_at_known : (fs : List Frame) (s : Store) → Known (turn_at program following fs s)
   turn_at_known [] s = tt

@@ -1,9 +1,11 @@
 -- Each operator gives values of the types that it is said to give, of operands of the types that it takes.
-use Rattle.std.proofs.Common.{◌^◌, pos, ◌+ℤ◌, ◌-ℤ◌, int_lt, unsigned_abs, Bool, true, false, ◌&&◌, refl, sym, subst, arith}
+use Rattle.std.proofs.Common.{◌≡◌, ◌^◌, pos, ◌+ℤ◌, ◌-ℤ◌, int_lt, unsigned_abs, Bool, true, false, ◌&&◌, refl, sym, subst, arith}
 use Rattle.std.specs.Prelude.{neg_ℤ, ◌*ℤ◌}
 use Rattle.std.specs.Int.{w32, int_div_euclid, int_rem_euclid, bit_not, is_in_range}
 use Rattle.std.proofs.lemmas.Nat.{and_le_l, or_of_32, xor_of_32}
 use Rattle.aos_base.specs.declared.number.Width.TheVariants.{W64}
+use Rattle.aos_base.specs.declared.number.Relation.{Relation}
+use Rattle.aos_base.specs.declared.number.Relation.TheVariants as relation
 use Rattle.aos_base.specs.declared.operator.Unary.{Unary as UnaryOperator}
 use Rattle.aos_base.specs.declared.operator.Unary.TheVariants.{Neg, Abs, Not, Odd, Cap, Compl, Range}
 use Rattle.aos_base.specs.declared.operator.Binary.{Binary as BinaryOperator}
@@ -14,7 +16,7 @@ use Rattle.aos_base.specs.Operators.{flag, capital, unary as unary_of, binary as
 use Rattle.aos_typed.specs.declared.tree.TType.{TType}
 use Rattle.aos_typed.specs.declared.tree.TType.TheVariants as type
 use Rattle.aos_typed.specs.Value.{Value, number_of, Integer, Boolean, Character, Elements, unary_sort, binary_sort}
-use Rattle.aos_typed.specs.WellTyped.{taken, Gives, Takes, GivesOfTwo}
+use Rattle.aos_typed.specs.WellTyped.{taken, is_ordered, is_basic, is_compared, Gives, Takes, GivesOfTwo}
 use Rattle.aos_sim.proofs.Types.{IsValueOf}
 use Rattle.aos_sim.proofs.Results.{Agrees, agrees_if, of_width, of_widths, if_within_agrees, divisor_agrees, odd_agrees, flag_agrees, member_agrees, natural_is, capital_below, set_agrees, sets_agree, element_below, span_agrees, range_agrees, agrees_at}
 
@@ -40,6 +42,7 @@ unary_agrees (Range low high) (type.Integer w) v h g = range_agrees low high (nu
 unary_agrees (Range low high) type.Boolean v h g = absurd g
 unary_agrees (Range low high) type.Char v h g = absurd g
 unary_agrees (Range low high) type.Set v h g = absurd g
+unary_agrees (Range low high) type.Any v h g = absurd g
 unary_agrees (Range low high) (type.Named t) v h g = absurd g
 
 -- Operators on two operands.
@@ -48,21 +51,38 @@ unary_agrees (Range low high) (type.Named t) v h g = absurd g
 abbrev pub Suit : BinaryOperator → Value → Value → Type 0
 Suit op a b = Takes op (λ t. IsValueOf t a) (λ t. IsValueOf t b)
 
--- two operands are of types of which the operator takes all values
-pub operands_suit : (op : BinaryOperator) (A B : TType → Type 0) → Takes op A B → (t : TType) × (u : TType) × A t × B u × ((a b : Value) → IsValueOf t a → IsValueOf u b → Suit op a b)
-operands_suit (Add w) A B h = (type.Integer w, type.Integer w, h.0, h.1, λ a b p q. (p, q))
-operands_suit (Sub w) A B h = (type.Integer w, type.Integer w, h.0, h.1, λ a b p q. (p, q))
-operands_suit (Mul w) A B h = (type.Integer w, type.Integer w, h.0, h.1, λ a b p q. (p, q))
-operands_suit (Div w) A B h = (type.Integer w, type.Integer w, h.0, h.1, λ a b p q. (p, q))
-operands_suit (Mod w) A B h = (type.Integer w, type.Integer w, h.0, h.1, λ a b p q. (p, q))
-operands_suit (Ash w) A B h = (type.Integer w, type.Integer W64, h.0, h.1, λ a b p q. (p, q))
-operands_suit (Cmp r) A B h = (h.0, h.0, h.2, h.3, λ a b p q. (h.0, h.1, p, q))
-operands_suit Union A B h = (type.Set, type.Set, h.0, h.1, λ a b p q. (p, q))
-operands_suit Minus A B h = (type.Set, type.Set, h.0, h.1, λ a b p q. (p, q))
-operands_suit Meet A B h = (type.Set, type.Set, h.0, h.1, λ a b p q. (p, q))
-operands_suit Xor A B h = (type.Set, type.Set, h.0, h.1, λ a b p q. (p, q))
-operands_suit SetSpan A B h = (type.Integer W64, type.Integer W64, h.0, h.1, λ a b p q. (p, q))
-operands_suit In A B h = (type.Integer W64, type.Set, h.0, h.1, λ a b p q. (p, q))
+ordered_basic : (t : TType) → is_ordered t ≡ true → is_basic t ≡ true
+ordered_basic (type.Integer w) e = refl
+ordered_basic type.Char e = refl
+ordered_basic type.Boolean e = absurd (cc)
+ordered_basic type.Set e = absurd (cc)
+ordered_basic type.Any e = absurd (cc)
+ordered_basic (type.Named t) e = absurd (cc)
+
+-- what is compared is of a basic type
+compared_basic : (r : Relation) (t : TType) → is_compared r t ≡ true → is_basic t ≡ true
+compared_basic relation.Equal t e = e
+compared_basic relation.NotEqual t e = e
+compared_basic relation.Less t e = ordered_basic t e
+compared_basic relation.LessEqual t e = ordered_basic t e
+compared_basic relation.Greater t e = ordered_basic t e
+compared_basic relation.GreaterEqual t e = ordered_basic t e
+
+-- two operands are of basic types of which the operator takes all values
+pub operands_suit : (op : BinaryOperator) (A B : TType → Type 0) → Takes op A B → (t : TType) × (u : TType) × A t × B u × ((a b : Value) → IsValueOf t a → IsValueOf u b → Suit op a b) × (is_basic t ≡ true) × (is_basic u ≡ true)
+operands_suit (Add w) A B h = (type.Integer w, type.Integer w, h.0, h.1, (λ a b p q. (p, q)), refl, refl)
+operands_suit (Sub w) A B h = (type.Integer w, type.Integer w, h.0, h.1, (λ a b p q. (p, q)), refl, refl)
+operands_suit (Mul w) A B h = (type.Integer w, type.Integer w, h.0, h.1, (λ a b p q. (p, q)), refl, refl)
+operands_suit (Div w) A B h = (type.Integer w, type.Integer w, h.0, h.1, (λ a b p q. (p, q)), refl, refl)
+operands_suit (Mod w) A B h = (type.Integer w, type.Integer w, h.0, h.1, (λ a b p q. (p, q)), refl, refl)
+operands_suit (Ash w) A B h = (type.Integer w, type.Integer W64, h.0, h.1, (λ a b p q. (p, q)), refl, refl)
+operands_suit (Cmp r) A B h = (h.0, h.0, h.2, h.3, (λ a b p q. (h.0, h.1, p, q)), compared_basic r h.0 h.1, compared_basic r h.0 h.1)
+operands_suit Union A B h = (type.Set, type.Set, h.0, h.1, (λ a b p q. (p, q)), refl, refl)
+operands_suit Minus A B h = (type.Set, type.Set, h.0, h.1, (λ a b p q. (p, q)), refl, refl)
+operands_suit Meet A B h = (type.Set, type.Set, h.0, h.1, (λ a b p q. (p, q)), refl, refl)
+operands_suit Xor A B h = (type.Set, type.Set, h.0, h.1, (λ a b p q. (p, q)), refl, refl)
+operands_suit SetSpan A B h = (type.Integer W64, type.Integer W64, h.0, h.1, (λ a b p q. (p, q)), refl, refl)
+operands_suit In A B h = (type.Integer W64, type.Set, h.0, h.1, (λ a b p q. (p, q)), refl, refl)
 
 pub binary_agrees : (op : BinaryOperator) (t : TType) (a b : Value) → Suit op a b → GivesOfTwo op t → Agrees t (binary_sort op) (binary_of op (number_of a) (number_of b))
 binary_agrees (Add w) t a b h g = agrees_if t Integer _ (is_within w (number_of a) && is_within w (number_of b)) (of_widths w a b h.0 h.1) (if_within_agrees w t (number_of a +ℤ number_of b) g)

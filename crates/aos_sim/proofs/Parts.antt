@@ -1,7 +1,6 @@
 -- The parts of what a place holds: what they are, and where their cells stand.
 use Rattle.std.proofs.Common.{◌≡◌, ℕ, zero, suc, ◌+◌, ◌*◌, ◌<◌, ◌≤◌, true, false, List, [], ◌∷◌, ◌++◌, map, Option, Some, None, if◌then◌else◌, refl, sym, ap, ◌∙◌, arith}
 use Rattle.std.specs.Prelude.{slice_get, option_map, option_and_then}
-use Rattle.std.proofs.lemmas.Option.{slice_get-map}
 use Rattle.aos_base.specs.declared.place.Root.{Root}
 use Rattle.aos_types.specs.declared.row.TypeId.{TypeId}
 use Rattle.aos_types.specs.declared.row.TypeRow.{TypeRow}
@@ -16,9 +15,9 @@ use Rattle.aos_types.specs.World.{World, shape_at, cell_at}
 use Rattle.aos_types.proofs.Offsets.{inside_within}
 use Rattle.std.proofs.Math.Nat.{suc-mul}
 use Rattle.aos_types.proofs.Tables.{by_parts}
-use Rattle.aos_typed.specs.Sort.{Plain, variable_shape}
+use Rattle.aos_typed.specs.Sort.{Plain, variable_shape, object_shape}
 use Rattle.aos_typed.specs.Typing.{IsPlain, nested}
-use Rattle.aos_typed.specs.WellTyped.{field_type, is_whole}
+use Rattle.aos_typed.specs.WellTyped.{is_whole}
 use Rattle.aos_code.specs.Silent as silent
 use Rattle.aos_layout.specs.Layout.{cells, kind_of}
 use Rattle.aos_layout.proofs.Frames.{size_shaped}
@@ -96,13 +95,13 @@ row_offset n s i l = before_step i (repeated n s) ∙ before_repeated n i s l
 -- Shapes with other scalars
 
 module _ {S T : Type 0} (f : S → T) where
-  part_shaped : (i : ℕ) (s : Shape S) → part i (shaped f s) ≡ option_map (shaped f) (part i s)
+  pub part_shaped : (i : ℕ) (s : Shape S) → part i (shaped f s) ≡ option_map (shaped f) (part i s)
   part_shaped i (One k) = refl
   part_shaped i Nothing = refl
   part_shaped zero (Pair a b) = refl
   part_shaped (suc i) (Pair a b) = part_shaped i b
 
-  before_shaped : (i : ℕ) (s : Shape S) → before i (shaped f s) ≡ before i s
+  pub before_shaped : (i : ℕ) (s : Shape S) → before i (shaped f s) ≡ before i s
   before_shaped i (One k) = refl
   before_shaped i Nothing = refl
   before_shaped zero (Pair a b) = refl
@@ -112,7 +111,7 @@ module _ {S T : Type 0} (f : S → T) where
   shaped_repeated zero s = refl
   shaped_repeated (suc n) s = ap (Pair (shaped f s)) (shaped_repeated n s)
 
-  shaped_join : (a b : Shape S) → shaped f (join a b) ≡ join (shaped f a) (shaped f b)
+  pub shaped_join : (a b : Shape S) → shaped f (join a b) ≡ join (shaped f a) (shaped f b)
   shaped_join (One k) b = refl
   shaped_join Nothing b = refl
   shaped_join (Pair x y) b = ap (Pair (shaped f x)) (shaped_join y b)
@@ -132,29 +131,37 @@ plain_parts (One t) = tt
 plain_parts Nothing = tt
 plain_parts (Pair a b) = (plain_parts a, plain_parts b)
 
+-- nor is one of rows of such, or of what stands behind another
+module _ {S : Type 0} (P : S → Type 0) where
+  pub each_repeated : (n : ℕ) (s : Shape S) → EachSort P s → EachSort P (repeated n s)
+  each_repeated zero s h = tt
+  each_repeated (suc n) s h = (h, each_repeated n s h)
+
+  pub each_nested : (ns : List ℕ) (s : Shape S) → EachSort P s → EachSort P (nested ns s)
+  each_nested [] s h = h
+  each_nested (n ∷ ns) s h = each_repeated n (nested ns s) (each_nested ns s h)
+
+  pub each_join : (s more : Shape S) → EachSort P s → EachSort P more → EachSort P (join s more)
+  each_join (One k) more h g = (h, g)
+  each_join Nothing more h g = g
+  each_join (Pair a b) more h g = (h.0, each_join b more h.1 g)
+
+  pub each_rest : (s more : Shape S) → EachSort P (join s more) → EachSort P more
+  each_rest (One k) more h = h.1
+  each_rest Nothing more h = h
+  each_rest (Pair a b) more h = each_rest b more h.1
+
+pub variable_plain : (rows : List TypeRow) (t : TypeId) → EachSort IsPlain (variable_shape rows t)
+variable_plain rows t = plain_parts (of_variable (contents rows) rows t)
+
+pub object_plain : (rows : List TypeRow) (t : TypeId) → EachSort IsPlain (object_shape rows t)
+object_plain rows t = plain_parts (contents rows t)
+
 -- Records and arrays
-
--- a record that has such a field
-record HasField (o : Option TypeRow) (k : ℕ) (u : TypeId) : Type 0 where
-  fields : List TypeId
-  is : o ≡ Some (row.Record None fields)
-  field : slice_get fields k ≡ Some u
-
-has_field : (o : Option TypeRow) (k : ℕ) (u : TypeId) → field_type o k ≡ Some u → HasField o k u
-has_field None k u e = absurd (cc)
-has_field (Some (row.Basic b)) k u e = absurd (cc)
-has_field (Some (row.Array n of)) k u e = absurd (cc)
-has_field (Some (row.Open of)) k u e = absurd (cc)
-has_field (Some (row.Record None fields)) k u e = record { fields = fields; is = refl; field = e }
-has_field (Some (row.Record (Some b) fields)) k u e = absurd (cc)
-has_field (Some (row.Pointer to)) k u e = absurd (cc)
-has_field (Some (row.Object base fields)) k u e = absurd (cc)
-has_field (Some (row.Procedure formals r)) k u e = absurd (cc)
-has_field (Some row.Any) k u e = absurd (cc)
 
 module _ (rows : List TypeRow) where
   -- a variable that is no reference to an object has its type's contents
-  own_contents : (t : TypeId) → is_object (row_of rows t) ≡ false → variable_shape rows t ≡ shaped Plain (contents rows t)
+  pub own_contents : (t : TypeId) → is_object (row_of rows t) ≡ false → variable_shape rows t ≡ shaped Plain (contents rows t)
   own_contents t e = ap (λ b. shaped Plain (if b then One t else contents rows t)) e
 
   pub variable_size : (t : TypeId) → size (variable_shape rows t) ≡ variable_scalars rows t
@@ -164,23 +171,9 @@ module _ (rows : List TypeRow) where
   pub cells_size : (t : TypeId) → size (variable_shape rows t) ≡ size (cells rows t)
   cells_size t = variable_size t ∙ sym (size_shaped (kind_of rows) (of_variable (contents rows) rows t))
 
-  pub field_offset : (t u : TypeId) (k : ℕ) → field_type (row_of rows t) k ≡ Some u → offset (k ∷ []) (variable_shape rows t) ≡ offset (k ∷ []) (contents rows t)
-  field_offset t u k e =
-      ap (offset (k ∷ [])) (own_contents t (ap is_object (has_field (row_of rows t) k u e).is))
-      ∙ before_step k (shaped Plain (contents rows t)) ∙ before_shaped Plain k (contents rows t) ∙ sym (before_step k (contents rows t))
-
   module _ (ranked : IsRanked rows) where
     by_row : (t : TypeId) (o : Option TypeRow) → row_of rows t ≡ o → is_object o ≡ false → variable_shape rows t ≡ shaped Plain (with_parts (contents rows) rows t o)
     by_row t o e n = own_contents t (ap is_object e ∙ n) ∙ ap (shaped Plain) (by_parts rows ranked t ∙ ap (with_parts (contents rows) rows t) e)
-
-    pub field_part : (t u : TypeId) (k : ℕ) → field_type (row_of rows t) k ≡ Some u → inside (k ∷ []) (variable_shape rows t) ≡ Some (variable_shape rows u)
-    field_part t u k e =
-        let r = has_field (row_of rows t) k u e in
-        let of = of_variable (contents rows) rows in
-        ap (inside (k ∷ [])) (by_row t (Some (row.Record None r.fields)) r.is refl)
-        ∙ ap (option_and_then (λ s. Some s))
-        (part_shaped Plain k (shape.row (map of r.fields))
-        ∙ ap (option_map (shaped Plain)) (part_of_row k (map of r.fields) ∙ slice_get-map of r.fields k ∙ ap (option_map of) r.field))
 
     module _ (t u : TypeId) (n : ℕ) (e : row_of rows t ≡ Some (row.Array n u)) where
       pub array_shape : variable_shape rows t ≡ repeated n (variable_shape rows u)

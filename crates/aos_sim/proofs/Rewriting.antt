@@ -1,6 +1,6 @@
--- To answer a designator's or an expression's reads is to replace them by literals.
+-- To answer a designator's or an expression's reads is to replace them by values.
 use Rattle.std.proofs.Common.{◌≡◌, ℕ, zero, suc, Option, Some, None, List, [], ◌∷◌, ◌++◌, map, Bool, true, false, refl, sym, ap, ◌∙◌}
-use Rattle.std.specs.Prelude.{pos, unsigned_abs, if◌then◌else◌}
+use Rattle.std.specs.Prelude.{pos, unsigned_abs, ◌==◌, if◌then◌else◌}
 use Rattle.aos_base.specs.declared.number.Relation.{Relation}
 use Rattle.aos_base.specs.declared.operator.Unary.{Unary as UnaryOperator}
 use Rattle.aos_base.specs.declared.operator.Unary.TheVariants.{Range}
@@ -9,15 +9,15 @@ use Rattle.aos_base.specs.declared.operator.Binary.TheVariants.{SetSpan}
 use Rattle.aos_base.specs.declared.operator.Given.{Given}
 use Rattle.aos_base.specs.declared.operator.Given.TheVariants.{Number, Trap, Undefined}
 use Rattle.aos_base.specs.Operators.{natural, unary as unary_of, binary as binary_of}
-use Rattle.aos_base.specs.Question.{Tree, Val, Asks, Traps, bind, feed, ask, Reads, Stores, Copies, PutsText, ComparesTexts, Calls, Ends, Makes, Starts, PutsInt, PutsChar, PutsString, PutsNothing, PutsLn, Places, Lengths}
+use Rattle.aos_base.specs.Question.{Tree, Val, Asks, Traps, bind, feed, ask, Reads, Stores, Copies, PutsText, ComparesTexts, Calls, Ends, Makes, Starts, PutsInt, PutsChar, PutsString, PutsNothing, PutsLn, Places, Lengths, Opens, Sizes, Tests}
+use Rattle.aos_base.specs.Rooted.{Made}
 use Rattle.aos_types.specs.Content.{Content}
-use Rattle.aos_typed.specs.declared.tree.Literal.{Literal}
 use Rattle.aos_typed.specs.Numbers.{procedure_number}
-use Rattle.aos_typed.specs.Program.{Place, ModuleVar, Local, Passed, Field, Index, Of, Rows, Known, Opened, Row, Longer, Arguments, NoMore, Scalar, Whole, Opening, Expr, Lit, Read, Unary, Binary, And, Or, Element, Ord, Chr, CompareTexts, Len, LenBehind, Function, Program}
+use Rattle.aos_typed.specs.Program.{Place, ModuleVar, Local, Passed, Field, Index, Of, Deref, Typed, Guarded, Rows, Known, Opened, Row, Spread, Longer, Arguments, NoMore, Scalar, Whole, Opening, Expr, Lit, Read, Unary, Binary, And, Or, Element, Ord, Chr, CompareTexts, Len, LenBehind, Function, Same, Is, IsRecord, Guard, Had, Program}
 use Rattle.aos_typed.specs.Spot.{Spot}
-use Rattle.aos_typed.specs.Value.{Value, Int, Flag, Place as PlaceValue, literal_value, number_of, Sort, Character, given, unary_sort, binary_sort, unary, binary, element, ord, chr, is_true}
-use Rattle.aos_typed.specs.Meaning.{Question, Doing, Found, found, After, Into, place_in, own_place, part_of, element_of, row_at, length_at, text_length, lengths_from, place_of, rows_of, arguments_of, value_of}
-use Rattle.aos_typed.specs.Source.{known}
+use Rattle.aos_typed.specs.Value.{Value, Int, Flag, Place as PlaceValue, number_of, Sort, Character, given, unary_sort, binary_sort, unary, binary, element, ord, chr, is_true}
+use Rattle.aos_typed.specs.Meaning.{Question, Doing, Found, found, After, Into, place_in, own_place, part_of, element_of, row_at, length_at, text_length, object_in, by_number, dereferenced, sizes_from, spread, is_instance, guarded, has_type, record_guarded, lengths_from, place_of, rows_of, arguments_of, value_of}
+use Rattle.aos_typed.specs.Source.{known, length_in, object_place, has_type_in}
 use Rattle.aos_sim.specs.Rewriting.{is_asking, are_asked, settled, with_first_index, with_first_row, with_first_argument, with_first, rewritten_place, rewritten, DesignatorRewrites, ExpressionRewrites, AssignedRewrites, AssignmentRewrites, StatementRewrites}
 
 module _ {Q V A : Type 0} where
@@ -105,17 +105,20 @@ row_silent x v = by x.lengths
         let i = unsigned_abs (number_of n) in
         none_asks (element_of i v x.place) (λ s. found s ns) (element_silent i v x.place) (λ s. refl)
 
--- What is left where all that a frame's own variables tell is known.
+-- What is left where all is known that a frame's own variables and what objects were made as tell.
 
-module _ (c : Content Value) where
+module _ (p : Program) (made : ℕ → Option Made) (c : Content Value) where
   abbrev S : {A : Type 0} → Doing A → Doing A
-  S = settled c
+  S = settled p made c
 
-  settled_bind : {A B : Type 0} (t : Doing A) (k : A → Doing B) → settled c (bind t k) ≡ bind (settled c t) (λ a. settled c (k a))
+  settled_bind : {A B : Type 0} (t : Doing A) (k : A → Doing B) → settled p made c (bind t k) ≡ bind (settled p made c t) (λ a. settled p made c (k a))
   settled_bind (Val a) k = refl
   settled_bind (Traps n code) k = refl
   settled_bind (Asks (Places s) f) k = settled_bind (f (known c s)) k
   settled_bind (Asks (Lengths s) f) k = settled_bind (f (known c s)) k
+  settled_bind (Asks (Opens v) f) k = settled_bind (f (object_place (object_in v) (made (object_in v)))) k
+  settled_bind (Asks (Sizes v d) f) k = settled_bind (f (length_in d (made (object_in v)))) k
+  settled_bind (Asks (Tests v t) f) k = settled_bind (f (has_type_in p.types made c t (made (object_in v)))) k
   settled_bind (Asks (Reads t s) f) k = ap (Asks (Reads t s)) (λ i v. settled_bind (f v) k i)
   settled_bind (Asks (Stores s x) f) k = ap (Asks (Stores s x)) (λ i v. settled_bind (f v) k i)
   settled_bind (Asks (Copies t a b) f) k = ap (Asks (Copies t a b)) (λ i v. settled_bind (f v) k i)
@@ -123,7 +126,7 @@ module _ (c : Content Value) where
   settled_bind (Asks (ComparesTexts r a n b m) f) k = ap (Asks (ComparesTexts r a n b m)) (λ i v. settled_bind (f v) k i)
   settled_bind (Asks (Calls q vs) f) k = ap (Asks (Calls q vs)) (λ i v. settled_bind (f v) k i)
   settled_bind (Asks (Ends r) f) k = ap (Asks (Ends r)) (λ i v. settled_bind (f v) k i)
-  settled_bind (Asks (Makes t) f) k = ap (Asks (Makes t)) (λ i v. settled_bind (f v) k i)
+  settled_bind (Asks (Makes t vs) f) k = ap (Asks (Makes t vs)) (λ i v. settled_bind (f v) k i)
   settled_bind (Asks (Starts o) f) k = ap (Asks (Starts o)) (λ i v. settled_bind (f v) k i)
   settled_bind (Asks (PutsInt x n) f) k = ap (Asks (PutsInt x n)) (λ i v. settled_bind (f v) k i)
   settled_bind (Asks (PutsChar x) f) k = ap (Asks (PutsChar x)) (λ i v. settled_bind (f v) k i)
@@ -131,7 +134,7 @@ module _ (c : Content Value) where
   settled_bind (Asks PutsNothing f) k = ap (Asks PutsNothing) (λ i v. settled_bind (f v) k i)
   settled_bind (Asks PutsLn f) k = ap (Asks PutsLn) (λ i v. settled_bind (f v) k i)
 
-  settled_silent : {A : Type 0} (t : Doing A) → is_asking t ≡ false → is_asking (settled c t) ≡ false
+  settled_silent : {A : Type 0} (t : Doing A) → is_asking t ≡ false → is_asking (settled p made c t) ≡ false
   settled_silent (Val a) none = refl
   settled_silent (Asks q f) none = absurd (cc none)
   settled_silent (Traps n code) none = refl
@@ -140,22 +143,24 @@ module _ (c : Content Value) where
 
   -- what is meant, of which this answer makes another
   abbrev Turns : {A : Type 0} → Value → Doing A → Doing A → Type 0
-  Turns v t t' = is_asking (settled c t) ≡ true → feed (v ∷ []) (settled c t) ≡ settled c t'
+  Turns v t t' = is_asking (settled p made c t) ≡ true → feed (v ∷ []) (settled p made c t) ≡ settled p made c t'
 
   -- where the first of two pieces asks, it has the answer
-  on_first : {A B : Type 0} (v : Value) (t t' : Doing A) (k : A → Doing B) → Turns v t t' → is_asking (settled c t) ≡ true → feed (v ∷ []) (settled c (bind t k)) ≡ settled c (bind t' k)
+  on_first : {A B : Type 0} (v : Value) (t t' : Doing A) (k : A → Doing B) → Turns v t t' → is_asking (settled p made c t) ≡ true → feed (v ∷ []) (settled p made c (bind t k)) ≡ settled p made c (bind t' k)
   on_first v t t' k one first =
       ap (feed (v ∷ [])) (settled_bind t k) ∙ fed_before v (S t) (λ a. S (k a)) first ∙ ap (λ r. bind r (λ a. S (k a))) (one first) ∙ sym (settled_bind t' k)
 
-  -- an operand, and what goes on with its value without a question
+  -- an operand, and what goes on with its value without a question that stays
+  on_calm : {A B : Type 0} (v : Value) (t t' : Doing A) (k : A → Doing B) → ((x : A) → is_asking (settled p made c (k x)) ≡ false) → Turns v t t' → Turns v (bind t k) (bind t' k)
+  on_calm v t t' k silent one asks =
+      on_first v t t' k one (asks_first (S t) (λ a. S (k a)) silent (ap is_asking (sym (settled_bind t k)) ∙ asks))
+
   on_one : {A B : Type 0} (v : Value) (t t' : Doing A) (k : A → Doing B) → ((x : A) → is_asking (k x) ≡ false) → Turns v t t' → Turns v (bind t k) (bind t' k)
-  on_one v t t' k silent one asks =
-      on_first v t t' k one
-      (asks_first (S t) (λ a. S (k a)) (λ x. settled_silent (k x) (silent x)) (ap is_asking (sym (settled_bind t k)) ∙ asks))
+  on_one v t t' k silent one asks = on_calm v t t' k (λ x. settled_silent (k x) (silent x)) one asks
 
   -- two operands, where the second one's answer makes this of what is done behind the value of the first
   module _ {A B X : Type 0} (of : X → Doing B) (v : Value) (t t' : Doing A) (k : A → Doing B) (x y : X) where
-    on_two : of x ≡ bind t' k → Turns v t t' → ((a : A) → settled c t ≡ Val a → is_asking (settled c (k a)) ≡ true → feed (v ∷ []) (settled c (k a)) ≡ settled c (of y)) → (b : Bool) → is_asking (settled c t) ≡ b → Turns v (bind t k) (of (if b then x else y))
+    on_two : of x ≡ bind t' k → Turns v t t' → ((a : A) → settled p made c t ≡ Val a → is_asking (settled p made c (k a)) ≡ true → feed (v ∷ []) (settled p made c (k a)) ≡ settled p made c (of y)) → (b : Bool) → is_asking (settled p made c t) ≡ b → Turns v (bind t k) (of (if b then x else y))
     on_two is_x one other true first asks = on_first v t t' k one first ∙ ap S (sym is_x)
     on_two is_x one other false none asks =
         let e = settled_bind t k in
@@ -163,18 +168,18 @@ module _ (c : Content Value) where
         ap (feed (v ∷ [])) e ∙ ap (λ r. feed (v ∷ []) (bind r (λ a. S (k a)))) a.1 ∙ other a.0 a.1 a.2
 
   -- what goes on behind a value
-  behind_value : {A B : Type 0} (t : Doing A) (k : A → Doing B) (a : A) → settled c t ≡ Val a → settled c (k a) ≡ settled c (bind t k)
+  behind_value : {A B : Type 0} (t : Doing A) (k : A → Doing B) (a : A) → settled p made c t ≡ Val a → settled p made c (k a) ≡ settled p made c (bind t k)
   behind_value t k a e = sym (settled_bind t k ∙ ap (λ r. bind r (λ a. S (k a))) e)
 
   -- two operands of an operator
   module _ {A B X : Type 0} (of : X → Doing B) (v : Value) (t t' : Doing A) (k k' : A → Doing B) (x y : X) where
-    on_both : of x ≡ bind t' k → of y ≡ bind t k' → Turns v t t' → ((a : A) → Turns v (k a) (k' a)) → Turns v (bind t k) (of (if is_asking (settled c t) then x else y))
+    on_both : of x ≡ bind t' k → of y ≡ bind t k' → Turns v t t' → ((a : A) → Turns v (k a) (k' a)) → Turns v (bind t k) (of (if is_asking (settled p made c t) then x else y))
     on_both is_x is_y one other =
         on_two of v t t' k x y is_x one (λ a e asks. other a asks ∙ behind_value t k' a e ∙ ap S (sym is_y)) (is_asking (S t)) refl
 
-  -- a question that stands last is answered by a literal
+  -- a question that stands last is answered by a value
   module _ {A X : Type 0} (of : X → Doing Value) (v : Value) (t t' : Doing A) (q : A → Question) (x y : X) where
-    on_last : ((a : A) → settled c (ask (q a)) ≡ ask (q a)) → of x ≡ bind t' (λ a. ask (q a)) → of y ≡ Val v → Turns v t t' → Turns v (bind t (λ a. ask (q a))) (of (if is_asking (settled c t) then x else y))
+    on_last : ((a : A) → settled p made c (ask (q a)) ≡ ask (q a)) → of x ≡ bind t' (λ a. ask (q a)) → of y ≡ Val v → Turns v t t' → Turns v (bind t (λ a. ask (q a))) (of (if is_asking (settled p made c t) then x else y))
     on_last visible is_x is_y one =
         on_two of v t t' (λ a. ask (q a)) x y is_x one (λ a e asks. ap (feed (v ∷ [])) (visible a) ∙ ap S (sym is_y)) (is_asking (S t)) refl
 
@@ -187,25 +192,61 @@ module _ (c : Content Value) where
   if_false v t t' true one asks = absurd (cc asks)
   if_false v t t' false one asks = one asks
 
-  module _ (p : Program) (here : ℕ) where
+  -- What an object tells is no visible work
+
+  nil_silent : {A : Type 0} (o : ℕ) (t u : Doing A) → is_asking (settled p made c t) ≡ false → is_asking (settled p made c u) ≡ false → is_asking (settled p made c (by_number o t u)) ≡ false
+  nil_silent zero t u h k = h
+  nil_silent (suc o) t u h k = k
+
+  either_silent : {A : Type 0} (b : Bool) (t u : Doing A) → is_asking t ≡ false → is_asking u ≡ false → is_asking (if b then t else u) ≡ false
+  either_silent true t u h k = h
+  either_silent false t u h k = k
+
+  dereferenced_silent : (v : Value) → is_asking (settled p made c (dereferenced v)) ≡ false
+  dereferenced_silent v = nil_silent (object_in v) (Traps 1 0) _ refl refl
+
+  sizes_silent : (v : Value) (d n : ℕ) → is_asking (settled p made c (sizes_from v d n)) ≡ false
+  sizes_silent v d zero = refl
+  sizes_silent v d (suc n) =
+      let x = length_in d (made (object_in v)) in
+      let more = sizes_from v (suc d) n in
+      ap is_asking (settled_bind more (λ xs. Val (x ∷ xs))) ∙ none_asks (S more) (λ xs. Val (x ∷ xs)) (sizes_silent v (suc d) n) (λ xs. refl)
+
+  spread_silent : (v : Value) (j : ℕ) → is_asking (settled p made c (spread v j)) ≡ false
+  spread_silent v j =
+      let s : Spot = record (place_in (object_place (object_in v) (made (object_in v)))) { type = 0 } in
+      let lengths = sizes_from v 0 j in
+      nil_silent (object_in v) (Traps 1 0) _ refl
+      (ap is_asking (settled_bind lengths (λ ns. found s ns)) ∙ none_asks (S lengths) (λ ns. found s ns) (sizes_silent v 0 j) (λ ns. refl))
+
+  instance_silent : (v : Value) (t : ℕ) → is_asking (settled p made c (is_instance v t)) ≡ false
+  instance_silent v t = nil_silent (object_in v) (Val (Flag false)) _ refl refl
+
+  guarded_silent : (v : Value) (t : ℕ) → is_asking (settled p made c (guarded v t)) ≡ false
+  guarded_silent v t =
+      let b = is_true (has_type_in p.types made c (suc t) (made (object_in v))) in
+      let d : Doing Value = if b then Val v else Traps 3 0 in
+      nil_silent (object_in v) (Traps 3 0) _ refl (settled_silent d (either_silent b (Val v) (Traps 3 0) refl refl))
+
+  record_silent : (s : Spot) (t : ℕ) → is_asking (record_guarded p.types s t) ≡ false
+  record_silent s t = either_silent (has_type p.types s t) (Val s) (Traps 3 0) refl refl
+
+  module _ (here : ℕ) where
     -- an open array parameter has no visible work
-    lengths_silent : (k d n : ℕ) → is_asking (settled c (lengths_from p here k d n)) ≡ false
+    lengths_silent : (k d n : ℕ) → is_asking (settled p made c (lengths_from p here k d n)) ≡ false
     lengths_silent k d zero = refl
     lengths_silent k d (suc n) =
         let v = known c (part_of (suc d) (own_place p here k)) in
         let more = lengths_from p here k (suc d) n in
         ap is_asking (settled_bind more (λ vs. Val (v ∷ vs))) ∙ none_asks (S more) (λ vs. Val (v ∷ vs)) (lengths_silent k (suc d) n) (λ vs. refl)
 
-    opened_silent : (k j : ℕ) → is_asking (settled c (rows_of p here (Opened k j))) ≡ false
+    opened_silent : (k j : ℕ) → is_asking (settled p made c (rows_of p here (Opened k j))) ≡ false
     opened_silent k j =
         let s = place_in (known c (part_of 0 (own_place p here k))) in
         let lengths = lengths_from p here k 0 j in
         ap is_asking (settled_bind lengths (λ ns. found s ns)) ∙ none_asks (S lengths) (λ ns. found s ns) (lengths_silent k 0 j) (λ ns. refl)
 
-    module _ (l : Literal) where
-      abbrev v : Value
-      v = literal_value l
-
+    module _ (v : Value) where
       abbrev place : Place → Doing Spot
       place = place_of p here
 
@@ -219,16 +260,16 @@ module _ (c : Content Value) where
       value = value_of p here
 
       abbrev first_place : Place → Place
-      first_place = with_first_index p here c l
+      first_place = with_first_index p here made c v
 
       abbrev first_row : Rows → Rows
-      first_row = with_first_row p here c l
+      first_row = with_first_row p here made c v
 
       abbrev first_argument : Arguments → Arguments
-      first_argument = with_first_argument p here c l
+      first_argument = with_first_argument p here made c v
 
       abbrev first_value : Expr → Expr
-      first_value = with_first p here c l
+      first_value = with_first p here made c v
 
       -- two texts compared, of which the places are asked for first
       module _ (r : Relation) (a b : Rows) where
@@ -240,10 +281,10 @@ module _ (c : Content Value) where
 
         compare_turns : Turns v (rows a) (rows (first_row a)) → Turns v (rows b) (rows (first_row b)) → Turns v (value (CompareTexts r a b)) (value (first_value (CompareTexts r a b)))
         compare_turns one other =
-            on_two value v (rows a) (rows (first_row a)) (second b) (CompareTexts r (first_row a) b) (if is_asking (S (rows b)) then CompareTexts r a (first_row b) else Lit l) refl one
+            on_two value v (rows a) (rows (first_row a)) (second b) (CompareTexts r (first_row a) b) (if is_asking (S (rows b)) then CompareTexts r a (first_row b) else Had v) refl one
             (λ x e asks. by x e asks (is_asking (S (rows b))) refl) (is_asking (S (rows a))) refl
           where
-            by : (x : Found) → settled c (rows a) ≡ Val x → is_asking (settled c (second b x)) ≡ true → (d : Bool) → is_asking (settled c (rows b)) ≡ d → feed (v ∷ []) (settled c (second b x)) ≡ settled c (value (if d then CompareTexts r a (first_row b) else Lit l))
+            by : (x : Found) → settled p made c (rows a) ≡ Val x → is_asking (settled p made c (second b x)) ≡ true → (d : Bool) → is_asking (settled p made c (rows b)) ≡ d → feed (v ∷ []) (settled p made c (second b x)) ≡ settled p made c (value (if d then CompareTexts r a (first_row b) else Had v))
             by x e asks true first =
                 on_first v (rows b) (rows (first_row b)) (λ y. ask (compared x y)) other first ∙ behind_value (rows a) (second (first_row b)) x e
             by x e asks false none =
@@ -262,6 +303,10 @@ module _ (c : Content Value) where
             on_both place v (place q) (place (first_place q)) (at e) (at (first_value e)) (Index (first_place q) n t e) (Index q n t (first_value e)) refl refl (one_index q)
             (λ s. on_one v (value e) (value (first_value e)) (λ x. element_of n x s) (λ x. element_silent n x s) (one_read e)) asks
         one_index (Of r) asks = on_one v (rows r) (rows (first_row r)) (λ x. Val x.place) (λ x. refl) (one_row r) asks
+        one_index (Deref e t) asks = on_calm v (value e) (value (first_value e)) (λ x. dereferenced x) dereferenced_silent (one_read e) asks
+        one_index (Typed q t) asks = on_one v (place q) (place (first_place q)) (λ s. Val (record s { type = suc t })) (λ s. refl) (one_index q) asks
+        one_index (Guarded q t) asks =
+            on_one v (place q) (place (first_place q)) (λ s. record_guarded p.types s t) (λ s. record_silent s t) (one_index q) asks
 
         one_row : (r : Rows) → Turns v (rows r) (rows (first_row r))
         one_row (Known q ns) asks = on_one v (place q) (place (first_place q)) (λ s. found s (map (λ n. Int (pos n)) ns)) (λ s. refl) (one_index q) asks
@@ -270,6 +315,7 @@ module _ (c : Content Value) where
             let at : Expr → Found → Doing Found = λ d x. bind (value d) (λ i. row_at x i) in
             on_both rows v (rows r) (rows (first_row r)) (at e) (at (first_value e)) (Row (first_row r) t e) (Row r t (first_value e)) refl refl (one_row r)
             (λ x. on_one v (value e) (value (first_value e)) (λ i. row_at x i) (λ i. row_silent x i) (one_read e)) asks
+        one_row (Spread e j) asks = on_calm v (value e) (value (first_value e)) (λ x. spread x j) (λ x. spread_silent x j) (one_read e) asks
         one_row (Longer r ns) asks =
             on_one v (rows r) (rows (first_row r)) (λ x. found x.place (x.lengths ++ map (λ n. Int (pos n)) ns)) (λ x. refl) (one_row r) asks
 
@@ -290,7 +336,7 @@ module _ (c : Content Value) where
 
         one_read : (e : Expr) → Turns v (value e) (value (first_value e))
         one_read (Lit m) asks = absurd (cc asks)
-        one_read (Read t q) asks = on_last value v (place q) (place (first_place q)) (λ s. Reads t s) (Read t (first_place q)) (Lit l) (λ s. refl) refl refl (one_index q) asks
+        one_read (Read t q) asks = on_last value v (place q) (place (first_place q)) (λ s. Reads t s) (Read t (first_place q)) (Had v) (λ s. refl) refl refl (one_index q) asks
         one_read (Unary op a) asks = on_one v (value a) (value (first_value a)) (on_operand op) (unary_silent op) (one_read a) asks
         one_read (Binary op a b) asks =
             let after : Expr → Value → Doing Value = λ d x. bind (value d) (on_operands op x) in
@@ -311,49 +357,57 @@ module _ (c : Content Value) where
         one_read (Len r d) asks = on_one v (rows r) (rows (first_row r)) (λ x. Val (length_at d x)) (λ x. refl) (one_row r) asks
         one_read (LenBehind r n) asks = on_one v (rows r) (rows (first_row r)) (λ x. Val (Int (pos n))) (λ x. refl) (one_row r) asks
         one_read (Function m k more) asks =
-            on_last value v (arguments more) (arguments (first_argument more)) (λ vs. Calls (procedure_number p m k) vs) (Function m k (first_argument more)) (Lit l) (λ vs. refl) refl refl (one_argument more) asks
+            on_last value v (arguments more) (arguments (first_argument more)) (λ vs. Calls (procedure_number p m k) vs) (Function m k (first_argument more)) (Had v) (λ vs. refl) refl refl (one_argument more) asks
+        one_read (Same a b) asks =
+            let after : Expr → Value → Doing Value = λ d x. bind (value d) (λ y. Val (Flag (object_in x == object_in y))) in
+            on_both value v (value a) (value (first_value a)) (after b) (after (first_value b)) (Same (first_value a) b) (Same a (first_value b)) refl refl (one_read a)
+            (λ x. on_one v (value b) (value (first_value b)) (λ y. Val (Flag (object_in x == object_in y))) (λ y. refl) (one_read b)) asks
+        one_read (Is a t) asks = on_calm v (value a) (value (first_value a)) (λ x. is_instance x t) (λ x. instance_silent x t) (one_read a) asks
+        one_read (IsRecord q t) asks =
+            on_one v (place q) (place (first_place q)) (λ s. Val (Flag (has_type p.types s t))) (λ s. refl) (one_index q) asks
+        one_read (Guard a t) asks = on_calm v (value a) (value (first_value a)) (λ x. guarded x t) (λ x. guarded_silent x t) (one_read a) asks
+        one_read (Had x) asks = absurd (cc asks)
 
   -- One answer after another
 
   -- what is meant by x, and what `first` makes of x with one answer and `all` with some; `onto` goes on with what is meant
-  module _ {A B X : Type 0} (of : X → Doing A) (first : Literal → X → X) (all : List Literal → X → X) (none : (x : X) → all [] x ≡ x) (more : (l : Literal) (ls : List Literal) (x : X) → all (l ∷ ls) x ≡ all ls (first l x)) (one : (l : Literal) (x : X) → Turns (literal_value l) (of x) (of (first l x))) (onto : Doing A → Doing B) (asks_on : (t : Doing A) → is_asking t ≡ true → is_asking (onto t) ≡ true) (fed_on : (v : Value) (t : Doing A) → is_asking t ≡ true → feed (v ∷ []) (onto t) ≡ onto (feed (v ∷ []) t)) where
-    all_fed : (x : X) (ls : List Literal) → are_asked (map literal_value ls) (settled c (of x)) ≡ true → feed (map literal_value ls) (onto (settled c (of x))) ≡ onto (settled c (of (all ls x)))
+  module _ {A B X : Type 0} (of : X → Doing A) (first : Value → X → X) (all : List Value → X → X) (none : (x : X) → all [] x ≡ x) (more : (l : Value) (ls : List Value) (x : X) → all (l ∷ ls) x ≡ all ls (first l x)) (one : (l : Value) (x : X) → Turns l (of x) (of (first l x))) (onto : Doing A → Doing B) (asks_on : (t : Doing A) → is_asking t ≡ true → is_asking (onto t) ≡ true) (fed_on : (v : Value) (t : Doing A) → is_asking t ≡ true → feed (v ∷ []) (onto t) ≡ onto (feed (v ∷ []) t)) where
+    all_fed : (x : X) (ls : List Value) → are_asked ls (settled p made c (of x)) ≡ true → feed ls (onto (settled p made c (of x))) ≡ onto (settled p made c (of (all ls x)))
     all_fed x [] asked = ap (λ y. onto (S (of y))) (sym (none x))
     all_fed x (l ∷ ls) asked =
-        let vs = map literal_value ls in
         let t = S (of x) in
-        let asks = asks_now (literal_value l) vs t asked in
-        let rest : are_asked vs (S (of (first l x))) ≡ true = ap (are_asked vs) (sym (one l x asks)) ∙ asks_then (literal_value l) vs t asked in
-        first_fed (literal_value l) vs (onto t) (asks_on t asks) ∙ ap (feed vs) (fed_on (literal_value l) t asks ∙ ap onto (one l x asks))
+        let asks = asks_now l ls t asked in
+        let rest : are_asked ls (S (of (first l x))) ≡ true = ap (are_asked ls) (sym (one l x asks)) ∙ asks_then l ls t asked in
+        first_fed l ls (onto t) (asks_on t asks) ∙ ap (feed ls) (fed_on l t asks ∙ ap onto (one l x asks))
         ∙ all_fed (first l x) ls rest ∙ ap (λ y. onto (S (of y))) (sym (more l ls x))
 
 pub designator_rewrites : DesignatorRewrites
-designator_rewrites p here c q ls asked =
-    all_fed c (place_of p here) (with_first_index p here c) (rewritten_place p here c) (λ x. refl) (λ l ls x. refl) (one_index c p here) (λ t. t) (λ t a. a) (λ v t a. refl) q ls asked
+designator_rewrites p here made c q ls asked =
+    all_fed p made c (place_of p here) (with_first_index p here made c) (rewritten_place p here made c) (λ x. refl) (λ l ls x. refl) (one_index p made c here) (λ t. t) (λ t a. a) (λ v t a. refl) q ls asked
 
 pub expression_rewrites : ExpressionRewrites
-expression_rewrites p here c e ls asked =
-    all_fed c (value_of p here) (with_first p here c) (rewritten p here c) (λ x. refl) (λ l ls x. refl) (one_read c p here) (λ t. t) (λ t a. a) (λ v t a. refl) e ls asked
+expression_rewrites p here made c e ls asked =
+    all_fed p made c (value_of p here) (with_first p here made c) (rewritten p here made c) (λ x. refl) (λ l ls x. refl) (one_read p made c here) (λ t. t) (λ t a. a) (λ v t a. refl) e ls asked
 
 pub statement_rewrites : StatementRewrites
-statement_rewrites p here c e onward ls asked =
-    all_fed c (value_of p here) (with_first p here c) (rewritten p here c) (λ x. refl) (λ l ls x. refl) (one_read c p here) (λ t. bind t onward) (λ t a. asks_before t onward a) (λ v t a. fed_before v t onward a) e ls asked
+statement_rewrites p here made c e onward ls asked =
+    all_fed p made c (value_of p here) (with_first p here made c) (rewritten p here made c) (λ x. refl) (λ l ls x. refl) (one_read p made c here) (λ t. bind t onward) (λ t a. asks_before t onward a) (λ v t a. fed_before v t onward a) e ls asked
 
 -- what an assignment goes on with behind its designator
 abbrev stored : Program → ℕ → Expr → Spot → Doing After
 stored p here e s = bind (value_of p here e) (λ v. bind (ask (Stores s v)) (λ _. Val (Into [])))
 
 pub assigned_rewrites : AssignedRewrites
-assigned_rewrites p here c at t q e ls asked =
-    let next : Spot → Doing After = λ s. settled c (stored p here e s) in
-    ap (feed (map literal_value ls)) (settled_bind c (place_of p here q) (stored p here e))
-    ∙ all_fed c (place_of p here) (with_first_index p here c) (rewritten_place p here c) (λ x. refl) (λ l ls x. refl) (one_index c p here) (λ r. bind r next) (λ r a. asks_before r next a) (λ v r a. fed_before v r next a) q ls asked
-    ∙ sym (settled_bind c (place_of p here (rewritten_place p here c ls q)) (stored p here e))
+assigned_rewrites p here made c at t q e ls asked =
+    let next : Spot → Doing After = λ s. settled p made c (stored p here e s) in
+    ap (feed ls) (settled_bind p made c (place_of p here q) (stored p here e))
+    ∙ all_fed p made c (place_of p here) (with_first_index p here made c) (rewritten_place p here made c) (λ x. refl) (λ l ls x. refl) (one_index p made c here) (λ r. bind r next) (λ r a. asks_before r next a) (λ v r a. fed_before v r next a) q ls asked
+    ∙ sym (settled_bind p made c (place_of p here (rewritten_place p here made c ls q)) (stored p here e))
 
 pub assignment_rewrites : AssignmentRewrites
-assignment_rewrites p here c at t q s e ls is asked =
+assignment_rewrites p here made c at t q s e ls is asked =
     let onward : Value → Doing After = λ v. bind (ask (Stores s v)) (λ _. Val (Into [])) in
-    ap (feed (map literal_value ls)) (sym (behind_value c (place_of p here q) (stored p here e) s is) ∙ settled_bind c (value_of p here e) onward)
-    ∙ statement_rewrites p here c e (λ v. settled c (onward v)) ls asked
-    ∙ sym (settled_bind c (value_of p here (rewritten p here c ls e)) onward)
-    ∙ behind_value c (place_of p here q) (stored p here (rewritten p here c ls e)) s is
+    ap (feed ls) (sym (behind_value p made c (place_of p here q) (stored p here e) s is) ∙ settled_bind p made c (value_of p here e) onward)
+    ∙ statement_rewrites p here made c e (λ v. settled p made c (onward v)) ls asked
+    ∙ sym (settled_bind p made c (value_of p here (rewritten p here made c ls e)) onward)
+    ∙ behind_value p made c (place_of p here q) (stored p here (rewritten p here made c ls e)) s is

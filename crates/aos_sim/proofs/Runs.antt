@@ -1,13 +1,22 @@
 -- What code does, as a tree of questions; and machine-independent facts on trees.
 use Rattle.std.proofs.Common.{◌≡◌, ℕ, zero, suc, ◌+◌, List, [], ◌∷◌, ◌++◌, Some, length, drop, refl, sym, ap, ◌∙◌, arith, Bool, true, false, if◌then◌else◌}
-use Rattle.std.specs.Prelude.{Option, None, is_some, slice_get}
+use Rattle.std.proofs.Common.{append_assoc}
+use Rattle.std.proofs.lemmas.Grind.{reverse_onto}
+use Rattle.std.proofs.Math.Dec.{leb-zero, leb-suc-zero, leb-suc-suc}
+use Rattle.std.specs.Prelude.{pos, nat_le, Option, None, is_some, slice_get, map, reverse, take}
 use Rattle.aos_base.specs.declared.text.Pos.{Pos}
-use Rattle.aos_base.specs.Question.{Tree, Val, Asks, Traps, feed, Reads, Stores, Copies, PutsText, ComparesTexts, Calls, Ends, Makes, Starts, PutsInt, PutsChar, PutsString, PutsNothing, PutsLn, Places, Lengths}
+use Rattle.aos_base.specs.Question.{Tree, Val, Asks, Traps, feed, Reads, Stores, Copies, PutsText, ComparesTexts, Calls, Ends, Makes, Starts, PutsInt, PutsChar, PutsString, PutsNothing, PutsLn, Places, Lengths, Opens, Sizes, Tests}
+use Rattle.aos_base.specs.Rooted.{Made}
+use Rattle.aos_base.specs.declared.place.Root.TheVariants.{Object as ObjectRoot}
+use Rattle.aos_base.specs.Operators.{flag}
 use Rattle.aos_code.specs.declared.instr.Cell.{Cell}
+use Rattle.aos_code.specs.declared.instr.Cell.TheVariants.{Num, Ref, Call as CallCell, Place}
 use Rattle.aos_code.specs.declared.instr.Instr.{Instr}
 use Rattle.aos_code.specs.declared.image.ProcShape.{ProcShape}
+use Rattle.aos_code.specs.declared.image.TypeDesc.{TypeDesc}
+use Rattle.aos_code.specs.declared.image.Image.{Image}
 use Rattle.aos_code.specs.Numbered.{numbered}
-use Rattle.aos_code.specs.Silent.{Stack, Keeps, Question, End, Begins, Fails, Stop, Work, Ended, Act, Goes, Puts, Takes, Sees, Stops, is_of, kept, Noted, Visible, Answered, Unknown, noted, on_noted, act, on_act, walk, silent}
+use Rattle.aos_code.specs.Silent.{Stack, Keeps, Question, End, Begins, Fails, Stop, Work, Ended, Look, AtCell, AtElements, IsType, AsType, Act, Goes, Puts, Takes, Looks, Sees, Stops, is_of, kept, extends, length_cells, Noted, Visible, Answered, Unknown, noted, on_noted, Told, Tells, Refuses, Unheard, told_by, on_told, act, on_act, walk, silent}
 
 -- where code comes to a Begin: its place in the code and the text, what is kept, and the operands
 pub data Left : Type 0 where
@@ -28,8 +37,49 @@ abbrev pub gives_result : Option ProcShape → Bool
 gives_result None = false
 gives_result (Some f) = is_some f.result
 
--- procedures have these shapes
-module _ (shapes : List ProcShape) where
+-- what is known of an image's procedures and types
+pub record Tables : Type 0 where
+  pub procedures : List ProcShape
+  pub types : List TypeDesc
+
+abbrev pub tables_of : Image → Tables
+tables_of image = record { procedures = image.shapes.items; types = image.types.items }
+
+-- what an object tells is asked of it as a row of questions
+
+abbrev pub is_asked_at_once : Question → Bool
+is_asked_at_once (Opens v) = true
+is_asked_at_once (Sizes v d) = true
+is_asked_at_once (Tests v t) = true
+is_asked_at_once q = false
+
+-- this cell of what stands at the place
+abbrev pub at_cell : ℕ → Cell → Cell
+at_cell c (Place root cell type) = Place root c type
+at_cell c v = v
+
+-- the place of elements, which names no type
+abbrev pub at_elements : Cell → Cell
+at_elements (Place root cell type) = Place root cell 0
+at_elements v = v
+
+-- so many lengths of an object, one above the other
+abbrev pub asks_sizes : Cell → (dimension many : ℕ) → (Stack → Run) → Stack → Run
+asks_sizes v d zero k s = k s
+asks_sizes v d (suc n) k s = Asks (Sizes v d) (λ x. asks_sizes v (suc d) n k (x ∷ s))
+
+abbrev pub if_passed : Cell → Run → Run
+if_passed (Num (pos (suc zero))) r = r
+if_passed v r = Traps 3 0
+
+abbrev pub looked : Look → (object : Cell) → (Stack → Run) → Stack → Run
+looked (AtCell c) v k s = Asks (Opens v) (λ x. k (at_cell c x ∷ s))
+looked (AtElements j) v k s = Asks (Opens v) (λ x. asks_sizes v 0 j k (at_elements x ∷ s))
+looked (IsType t) v k s = Asks (Tests v t) (λ x. k (x ∷ s))
+looked (AsType t) v k s = Asks (Tests v t) (λ x. if_passed x (k (v ∷ s)))
+
+-- of an image's procedures and types this is known
+module _ (tables : Tables) where
   -- work is done, and with its answer the code goes on behind it; behind an end nothing follows
   abbrev pub past : Question → Cell → ℕ → Keeps → Stack → Onward → Run
   past (Reads kind a) x at k s next = next 0 (at + 1) k (x ∷ s)
@@ -37,9 +87,9 @@ module _ (shapes : List ProcShape) where
   past (Copies n from to) x at k s next = next 0 (at + 1) k s
   past (PutsText strict from n to room) x at k s next = next 0 (at + 1) k s
   past (ComparesTexts r a n b m) x at k s next = next 0 (at + 1) k (x ∷ s)
-  past (Calls p vs) x at k s next = next 0 (at + 1) k (if gives_result (numbered shapes p) then x ∷ s else s)
+  past (Calls p vs) x at k s next = next 0 (at + 1) k (if gives_result (numbered tables.procedures p) then x ∷ s else s)
   past (Ends r) x at k s next = Traps 0 0
-  past (Makes t) x at k s next = next 0 (at + 1) k (x ∷ s)
+  past (Makes t ns) x at k s next = next 0 (at + 1) k (x ∷ s)
   past (Starts v) x at k s next = next 0 (at + 1) k s
   past (PutsInt v n) x at k s next = next 0 (at + 1) k s
   past (PutsChar v) x at k s next = next 0 (at + 1) k s
@@ -48,33 +98,60 @@ module _ (shapes : List ProcShape) where
   past PutsLn x at k s next = next 0 (at + 1) k s
   past (Places a) x at k s next = next 0 (at + 1) k (x ∷ s)
   past (Lengths a) x at k s next = next 0 (at + 1) k (x ∷ s)
+  past (Opens v) x at k s next = Traps 16 0
+  past (Sizes v d) x at k s next = Traps 16 0
+  past (Tests v t) x at k s next = Traps 16 0
 
+  -- what an object is asked for is no work of an instruction
   abbrev pub at_work : Question → ℕ → Keeps → Stack → Onward → Run
-  at_work q at k s next = Asks q (λ x. past q x at k s next)
+  at_work q at k s next = if is_asked_at_once q then Traps 16 0 else Asks q (λ x. past q x at k s next)
 
   abbrev pub on_run : Act → Onward → ℕ → Keeps → Run
   on_run (Goes over s) next at k = next over (at + 1) k s
   on_run (Puts c v s) next at k = next 0 (at + 1) (kept c v k) s
   on_run (Takes c kind s) next at k = if is_of kind (k c) then next 0 (at + 1) k (k c ∷ s) else Traps 16 0
+  on_run (Looks l o s) next at k = looked l (Ref o) (λ s'. next 0 (at + 1) k s') s
   on_run (Sees q s) next at k = at_work q at k s next
   on_run (Stops end) next at k = ended end k
 
--- the first visible question, behind silent ones that the frame's own cells answer
-abbrev pub calm : List Cell → Run → Run
-calm cells (Val a) = Val a
-calm cells (Traps n c) = Traps n c
-calm cells (Asks q f) = by (noted cells q) (λ v. calm cells (f v))
-  where
-    by : Noted → (Cell → Run) → Run
-    by Visible on = Asks q f
-    by (Answered v) on = on v
-    by Unknown on = Traps 16 0
+-- Silent questions are answered by the frame's own cells, or by what objects are known to be made as.
+abbrev pub told_as : (Made → Noted) → Option Made → Noted
+told_as f None = Unknown
+told_as f (Some m) = f m
+
+abbrev pub or_unknown : Option ℕ → Noted
+or_unknown None = Unknown
+or_unknown (Some n) = Answered (Num (pos n))
+
+module _ (types : List TypeDesc) (made : ℕ → Option Made) (cells : List Cell) where
+  abbrev pub of_object : (ℕ → Noted) → Cell → Noted
+  of_object f (Ref o) = f o
+  of_object f (Num z) = Unknown
+  of_object f (CallCell p o) = Unknown
+  of_object f (Place root cell type) = Unknown
+
+  abbrev pub answered : Question → Noted
+  answered (Opens v) = of_object (λ o. told_as (λ m. Answered (Place (ObjectRoot o) 0 m.type)) (made o)) v
+  answered (Sizes v d) = of_object (λ o. told_as (λ m. or_unknown (slice_get m.lengths d)) (made o)) v
+  answered (Tests v t) = of_object (λ o. told_as (λ m. Answered (Num (flag (extends types m.type t)))) (made o)) v
+  answered q = noted cells q
+
+  -- the first visible question behind silent ones
+  abbrev pub calm : Run → Run
+  calm (Val a) = Val a
+  calm (Traps n c) = Traps n c
+  calm (Asks q f) = by (answered q) (λ v. calm (f v))
+    where
+      by : Noted → (Cell → Run) → Run
+      by Visible on = Asks q f
+      by (Answered v) on = on v
+      by Unknown on = Traps 16 0
 
 -- in a frame of a procedure, above so many others
-module _ (shapes : List ProcShape) (own here : ℕ) (code : List Instr) where
+module _ (tables : Tables) (own here : ℕ) (code : List Instr) where
   abbrev pub runs : List Instr → Onward
   runs [] over at k s = Traps 16 0
-  runs (i ∷ rest) zero at k s = on_run shapes (act shapes own here i code at s) (runs rest) at k
+  runs (i ∷ rest) zero at k s = on_run tables (act tables.procedures tables.types own here i code at s) (runs rest) at k
   runs (i ∷ rest) (suc n) at k s = runs rest n (at + 1) k s
 
   -- from a place of the code
@@ -83,7 +160,7 @@ module _ (shapes : List ProcShape) (own here : ℕ) (code : List Instr) where
 
   -- the run from where silent work stops
   abbrev pub resume : Stop → Run
-  resume (Work q at k s) = at_work shapes q at k s (λ over at' k' s'. runs (drop at' code) over at' k' s')
+  resume (Work q at k s) = at_work tables q at k s (λ over at' k' s'. runs (drop at' code) over at' k' s')
   resume (Ended end k) = ended end k
 
 pub drop_next : (at : ℕ) (code : List Instr) (i : Instr) (rest : List Instr) → drop at code ≡ i ∷ rest → drop (at + 1) code ≡ rest
@@ -108,86 +185,239 @@ get_at (suc at) (x ∷ xs) i rest e = get_at at xs i rest e
 
 -- Silent questions.
 
-module _ (cells : List Cell) (q : Question) (f : Cell → Run) where
-  pub calm_visible : noted cells q ≡ Visible → calm cells (Asks q f) ≡ Asks q f
+module _ (types : List TypeDesc) (made : ℕ → Option Made) (cells : List Cell) (q : Question) (f : Cell → Run) where
+  pub calm_visible : answered types made cells q ≡ Visible → calm types made cells (Asks q f) ≡ Asks q f
   calm_visible e = rw e refl
 
-  pub calm_answered : (v : Cell) → noted cells q ≡ Answered v → calm cells (Asks q f) ≡ calm cells (f v)
+  pub calm_answered : (v : Cell) → answered types made cells q ≡ Answered v → calm types made cells (Asks q f) ≡ calm types made cells (f v)
   calm_answered v e = rw e refl
 
-  calm_unknown : noted cells q ≡ Unknown → calm cells (Asks q f) ≡ Traps 16 0
+  calm_unknown : answered types made cells q ≡ Unknown → calm types made cells (Asks q f) ≡ Traps 16 0
   calm_unknown e = rw e refl
 
 -- with the answer to a silent question the code goes on behind it
-past_answered : (shapes : List ProcShape) (cells : List Cell) (q : Question) (v : Cell) (at : ℕ) (k : Keeps) (s : Stack) (next : Onward) → noted cells q ≡ Answered v → past shapes q v at k s next ≡ next 0 (at + 1) k (v ∷ s)
-past_answered shapes cells (Places a) v at k s next e = refl
-past_answered shapes cells (Lengths a) v at k s next e = refl
-past_answered shapes cells (Reads kind a) v at k s next e = refl
-past_answered shapes cells (Stores a x) v at k s next e = absurd (cc)
-past_answered shapes cells (Copies n from to) v at k s next e = absurd (cc)
-past_answered shapes cells (PutsText strict from n to room) v at k s next e = absurd (cc)
-past_answered shapes cells (ComparesTexts r a n b m) v at k s next e = refl
-past_answered shapes cells (Calls p vs) v at k s next e = absurd (cc)
-past_answered shapes cells (Ends r) v at k s next e = absurd (cc)
-past_answered shapes cells (Makes t) v at k s next e = refl
-past_answered shapes cells (Starts x) v at k s next e = absurd (cc)
-past_answered shapes cells (PutsInt x n) v at k s next e = absurd (cc)
-past_answered shapes cells (PutsChar x) v at k s next e = absurd (cc)
-past_answered shapes cells (PutsString a n) v at k s next e = absurd (cc)
-past_answered shapes cells PutsNothing v at k s next e = absurd (cc)
-past_answered shapes cells PutsLn v at k s next e = absurd (cc)
+past_answered : (tables : Tables) (cells : List Cell) (q : Question) (v : Cell) (at : ℕ) (k : Keeps) (s : Stack) (next : Onward) → noted cells q ≡ Answered v → past tables q v at k s next ≡ next 0 (at + 1) k (v ∷ s)
+past_answered tables cells (Places a) v at k s next e = refl
+past_answered tables cells (Lengths a) v at k s next e = refl
+past_answered tables cells (Reads kind a) v at k s next e = refl
+past_answered tables cells (Stores a x) v at k s next e = absurd (cc)
+past_answered tables cells (Copies n from to) v at k s next e = absurd (cc)
+past_answered tables cells (PutsText strict from n to room) v at k s next e = absurd (cc)
+past_answered tables cells (ComparesTexts r a n b m) v at k s next e = refl
+past_answered tables cells (Calls p vs) v at k s next e = absurd (cc)
+past_answered tables cells (Ends r) v at k s next e = absurd (cc)
+past_answered tables cells (Makes t ns) v at k s next e = refl
+past_answered tables cells (Starts x) v at k s next e = absurd (cc)
+past_answered tables cells (PutsInt x n) v at k s next e = absurd (cc)
+past_answered tables cells (PutsChar x) v at k s next e = absurd (cc)
+past_answered tables cells (PutsString a n) v at k s next e = absurd (cc)
+past_answered tables cells PutsNothing v at k s next e = absurd (cc)
+past_answered tables cells PutsLn v at k s next e = absurd (cc)
+past_answered tables cells (Opens x) v at k s next e = absurd (cc)
+past_answered tables cells (Sizes x d) v at k s next e = absurd (cc)
+past_answered tables cells (Tests x t) v at k s next e = absurd (cc)
 
-past_same : (shapes : List ProcShape) (q : Question) (x : Cell) (at : ℕ) (k : Keeps) (s : Stack) (next next' : Onward) → ((s' : Stack) → next 0 (at + 1) k s' ≡ next' 0 (at + 1) k s') → past shapes q x at k s next ≡ past shapes q x at k s next'
-past_same shapes (Reads kind a) x at k s next next' e = e (x ∷ s)
-past_same shapes (Stores a v) x at k s next next' e = e s
-past_same shapes (Copies n from to) x at k s next next' e = e s
-past_same shapes (PutsText strict from n to room) x at k s next next' e = e s
-past_same shapes (ComparesTexts r a n b m) x at k s next next' e = e (x ∷ s)
-past_same shapes (Calls p vs) x at k s next next' e = e (if gives_result (numbered shapes p) then x ∷ s else s)
-past_same shapes (Ends r) x at k s next next' e = refl
-past_same shapes (Makes t) x at k s next next' e = e (x ∷ s)
-past_same shapes (Starts v) x at k s next next' e = e s
-past_same shapes (PutsInt v n) x at k s next next' e = e s
-past_same shapes (PutsChar v) x at k s next next' e = e s
-past_same shapes (PutsString a n) x at k s next next' e = e s
-past_same shapes PutsNothing x at k s next next' e = e s
-past_same shapes PutsLn x at k s next next' e = e s
-past_same shapes (Places a) x at k s next next' e = e (x ∷ s)
-past_same shapes (Lengths a) x at k s next next' e = e (x ∷ s)
+past_same : (tables : Tables) (q : Question) (x : Cell) (at : ℕ) (k : Keeps) (s : Stack) (next next' : Onward) → ((s' : Stack) → next 0 (at + 1) k s' ≡ next' 0 (at + 1) k s') → past tables q x at k s next ≡ past tables q x at k s next'
+past_same tables (Reads kind a) x at k s next next' e = e (x ∷ s)
+past_same tables (Stores a v) x at k s next next' e = e s
+past_same tables (Copies n from to) x at k s next next' e = e s
+past_same tables (PutsText strict from n to room) x at k s next next' e = e s
+past_same tables (ComparesTexts r a n b m) x at k s next next' e = e (x ∷ s)
+past_same tables (Calls p vs) x at k s next next' e = e (if gives_result (numbered tables.procedures p) then x ∷ s else s)
+past_same tables (Ends r) x at k s next next' e = refl
+past_same tables (Makes t ns) x at k s next next' e = e (x ∷ s)
+past_same tables (Starts v) x at k s next next' e = e s
+past_same tables (PutsInt v n) x at k s next next' e = e s
+past_same tables (PutsChar v) x at k s next next' e = e s
+past_same tables (PutsString a n) x at k s next next' e = e s
+past_same tables PutsNothing x at k s next next' e = e s
+past_same tables PutsLn x at k s next next' e = e s
+past_same tables (Places a) x at k s next next' e = e (x ∷ s)
+past_same tables (Lengths a) x at k s next next' e = e (x ∷ s)
+past_same tables (Opens v) x at k s next next' e = refl
+past_same tables (Sizes v d) x at k s next next' e = refl
+past_same tables (Tests v t) x at k s next next' e = refl
 
-module _ (shapes : List ProcShape) (own here : ℕ) (cells : List Cell) (code : List Instr) where
+-- What an object tells as a row of questions is what it tells at once.
+
+-- the operands below those of these cells, of which the last is the topmost
+abbrev pub pushed : List Cell → Stack → Stack
+pushed [] s = s
+pushed (c ∷ cs) s = pushed cs (c ∷ s)
+
+pub pushed_reverse : (cs : List Cell) (s : Stack) → pushed cs s ≡ reverse cs ++ s
+pushed_reverse [] s = refl
+pushed_reverse (c ∷ cs) s =
+    pushed_reverse cs (c ∷ s) ∙ sym (append_assoc (reverse cs) (c ∷ []) s) ∙ ap (λ l. l ++ s) (sym (reverse_onto cs c []))
+
+abbrev pub numbers : List ℕ → List Cell
+numbers ns = map (λ n. Num (pos n)) ns
+
+module _ (types : List TypeDesc) (made : ℕ → Option Made) (cells : List Cell) (o : ℕ) (k : Stack → Run) where
+  abbrev calmed : Run → Run
+  calmed r = calm types made cells r
+
+  -- what is told, and what follows
+  abbrev told_run : Told → Stack → Run
+  told_run (Tells vs) s = calmed (k (vs ++ s))
+  told_run (Refuses n) s = Traps n 0
+  told_run Unheard s = Traps 16 0
+
+  module _ (m : Made) (is : made o ≡ Some m) where
+    size_known : (d n x : ℕ) (s : Stack) → slice_get m.lengths d ≡ Some x → calmed (asks_sizes (Ref o) d (suc n) k s) ≡ calmed (asks_sizes (Ref o) (suc d) n k (Num (pos x) ∷ s))
+    size_known d n x s e =
+        calm_answered types made cells (Sizes (Ref o) d) (λ y. asks_sizes (Ref o) (suc d) n k (y ∷ s)) (Num (pos x))
+        (ap (told_as (λ m. or_unknown (slice_get m.lengths d))) is ∙ ap or_unknown e)
+
+    size_unknown : (d n : ℕ) (s : Stack) → slice_get m.lengths d ≡ None → calmed (asks_sizes (Ref o) d (suc n) k s) ≡ Traps 16 0
+    size_unknown d n s e =
+        calm_unknown types made cells (Sizes (Ref o) d) (λ y. asks_sizes (Ref o) (suc d) n k (y ∷ s))
+        (ap (told_as (λ m. or_unknown (slice_get m.lengths d))) is ∙ ap or_unknown e)
+
+    sizes_told : (n d : ℕ) (ns : List ℕ) (s : Stack) → ((j : ℕ) → slice_get ns j ≡ slice_get m.lengths (d + j)) → calmed (asks_sizes (Ref o) d n k s) ≡ (if nat_le n (length ns) then calmed (k (pushed (numbers (take n ns)) s)) else Traps 16 0)
+    sizes_told zero d ns s e = rw (leb-zero (length ns)) refl
+    sizes_told (suc n) d [] s e =
+        let z : d + 0 ≡ d = omega arith in
+        size_unknown d n s (ap (slice_get m.lengths) (sym z) ∙ sym (e 0)) ∙ ap (λ b. if b then calmed (k s) else Traps 16 0) (sym (leb-suc-zero n))
+    sizes_told (suc n) d (x ∷ ns) s e =
+        let z : d + 0 ≡ d = omega arith in
+        size_known d n x s (ap (slice_get m.lengths) (sym z) ∙ sym (e 0))
+        ∙ sizes_told n (suc d) ns (Num (pos x) ∷ s) (λ j. let f : d + suc j ≡ suc d + j = omega arith in e (suc j) ∙ ap (slice_get m.lengths) f)
+        ∙ ap (λ b. if b then calmed (k (pushed (numbers (take n ns)) (Num (pos x) ∷ s))) else Traps 16 0) (sym (leb-suc-suc n (length ns)))
+
+    elements_told : (j : ℕ) (s : Stack) → calmed (asks_sizes (Ref o) 0 j k (Place (ObjectRoot o) 0 0 ∷ s)) ≡ told_run (told_by types (AtElements j) o (Some m)) s
+    elements_told j s =
+        sizes_told j 0 m.lengths (Place (ObjectRoot o) 0 0 ∷ s) (λ i. let z : i ≡ 0 + i = omega arith in ap (slice_get m.lengths) z) ∙ by (nat_le j (length m.lengths))
+      where
+        by : (b : Bool) → (if b then calmed (k (pushed (numbers (take j m.lengths)) (Place (ObjectRoot o) 0 0 ∷ s))) else Traps 16 0) ≡ told_run (if b then Tells (length_cells (take j m.lengths) ++ Place (ObjectRoot o) 0 0 ∷ []) else Unheard) s
+        by true =
+            ap (λ z. calmed (k z)) (pushed_reverse (numbers (take j m.lengths)) (Place (ObjectRoot o) 0 0 ∷ s)
+            ∙ sym (append_assoc (length_cells (take j m.lengths)) (Place (ObjectRoot o) 0 0 ∷ []) s))
+        by false = refl
+
+    test_told : (b : Bool) (s : Stack) → calmed (if_passed (Num (flag b)) (k (Ref o ∷ s))) ≡ told_run (if b then Tells (Ref o ∷ []) else Refuses 3) s
+    test_told true s = refl
+    test_told false s = refl
+
+    tells : (l : Look) (s : Stack) → calmed (looked l (Ref o) k s) ≡ told_run (told_by types l o (Some m)) s
+    tells (AtCell c) s =
+        calm_answered types made cells (Opens (Ref o)) (λ x. k (at_cell c x ∷ s)) (Place (ObjectRoot o) 0 m.type) (ap (told_as (λ m. Answered (Place (ObjectRoot o) 0 m.type))) is)
+    tells (AtElements j) s =
+        calm_answered types made cells (Opens (Ref o)) (λ x. asks_sizes (Ref o) 0 j k (at_elements x ∷ s)) (Place (ObjectRoot o) 0 m.type) (ap (told_as (λ m. Answered (Place (ObjectRoot o) 0 m.type))) is)
+        ∙ elements_told j s
+    tells (IsType t) s =
+        calm_answered types made cells (Tests (Ref o) t) (λ x. k (x ∷ s)) (Num (flag (extends types m.type t))) (ap (told_as (λ m. Answered (Num (flag (extends types m.type t))))) is)
+    tells (AsType t) s =
+        calm_answered types made cells (Tests (Ref o) t) (λ x. if_passed x (k (Ref o ∷ s))) (Num (flag (extends types m.type t))) (ap (told_as (λ m. Answered (Num (flag (extends types m.type t))))) is)
+        ∙ test_told (extends types m.type t) s
+
+  tells_nothing : made o ≡ None → (l : Look) (s : Stack) → calmed (looked l (Ref o) k s) ≡ Traps 16 0
+  tells_nothing e (AtCell c) s = calm_unknown types made cells (Opens (Ref o)) (λ x. k (at_cell c x ∷ s)) (ap (told_as (λ m. Answered (Place (ObjectRoot o) 0 m.type))) e)
+  tells_nothing e (AtElements j) s =
+      calm_unknown types made cells (Opens (Ref o)) (λ x. asks_sizes (Ref o) 0 j k (at_elements x ∷ s)) (ap (told_as (λ m. Answered (Place (ObjectRoot o) 0 m.type))) e)
+  tells_nothing e (IsType t) s = calm_unknown types made cells (Tests (Ref o) t) (λ x. k (x ∷ s)) (ap (told_as (λ m. Answered (Num (flag (extends types m.type t))))) e)
+  tells_nothing e (AsType t) s =
+      calm_unknown types made cells (Tests (Ref o) t) (λ x. if_passed x (k (Ref o ∷ s))) (ap (told_as (λ m. Answered (Num (flag (extends types m.type t))))) e)
+
+  told_at_once : (l : Look) (s : Stack) → calmed (looked l (Ref o) k s) ≡ told_run (told_by types l o (made o)) s
+  told_at_once l s = by (made o) refl
+    where
+      by : (r : Option Made) → made o ≡ r → calmed (looked l (Ref o) k s) ≡ told_run (told_by types l o r) s
+      by None e = tells_nothing e l s
+      by (Some m) e = tells m e l s
+
+-- whatever object it is, a question that is asked at once isn't visible work
+answered_noted : (types : List TypeDesc) (made : ℕ → Option Made) (cells : List Cell) (q : Question) → is_asked_at_once q ≡ false → answered types made cells q ≡ noted cells q
+answered_noted types made cells (Reads kind a) e = refl
+answered_noted types made cells (Stores a v) e = refl
+answered_noted types made cells (Copies n from to) e = refl
+answered_noted types made cells (PutsText strict from n to room) e = refl
+answered_noted types made cells (ComparesTexts r a n b m) e = refl
+answered_noted types made cells (Calls p vs) e = refl
+answered_noted types made cells (Ends r) e = refl
+answered_noted types made cells (Makes t ns) e = refl
+answered_noted types made cells (Starts v) e = refl
+answered_noted types made cells (PutsInt v n) e = refl
+answered_noted types made cells (PutsChar v) e = refl
+answered_noted types made cells (PutsString a n) e = refl
+answered_noted types made cells PutsNothing e = refl
+answered_noted types made cells PutsLn e = refl
+answered_noted types made cells (Places a) e = refl
+answered_noted types made cells (Lengths a) e = refl
+answered_noted types made cells (Opens v) e = absurd (cc)
+answered_noted types made cells (Sizes v d) e = absurd (cc)
+answered_noted types made cells (Tests v t) e = absurd (cc)
+
+-- and by its cells a frame answers none of them
+object_unnoted : (cells : List Cell) (q : Question) → is_asked_at_once q ≡ true → noted cells q ≡ Visible
+object_unnoted cells (Opens v) e = refl
+object_unnoted cells (Sizes v d) e = refl
+object_unnoted cells (Tests v t) e = refl
+object_unnoted cells (Reads kind a) e = absurd (cc)
+object_unnoted cells (Stores a v) e = absurd (cc)
+object_unnoted cells (Copies n from to) e = absurd (cc)
+object_unnoted cells (PutsText strict from n to room) e = absurd (cc)
+object_unnoted cells (ComparesTexts r a n b m) e = absurd (cc)
+object_unnoted cells (Calls p vs) e = absurd (cc)
+object_unnoted cells (Ends r) e = absurd (cc)
+object_unnoted cells (Makes t ns) e = absurd (cc)
+object_unnoted cells (Starts v) e = absurd (cc)
+object_unnoted cells (PutsInt v n) e = absurd (cc)
+object_unnoted cells (PutsChar v) e = absurd (cc)
+object_unnoted cells (PutsString a n) e = absurd (cc)
+object_unnoted cells PutsNothing e = absurd (cc)
+object_unnoted cells PutsLn e = absurd (cc)
+object_unnoted cells (Places a) e = absurd (cc)
+object_unnoted cells (Lengths a) e = absurd (cc)
+
+module _ (tables : Tables) (made : ℕ → Option Made) (own here : ℕ) (cells : List Cell) (code : List Instr) where
   abbrev runs_here : List Instr → Onward
-  runs_here = runs shapes own here code
+  runs_here = runs tables own here code
+
+  abbrev calm_here : Run → Run
+  calm_here = calm tables.types made cells
 
   abbrev stops : List Instr → ℕ → ℕ → Keeps → Stack → Stop
-  stops = walk shapes own here cells code
+  stops = walk tables.procedures tables.types made own here cells code
 
   abbrev from_stop : Stop → Run
-  from_stop = resume shapes own here code
+  from_stop = resume tables own here code
 
   -- silent work over the rest of the code leads where its run does, as far as it's silent
   abbrev Leads : List Instr → ℕ → Type 0
-  Leads rest at = (over : ℕ) (k : Keeps) (s : Stack) → calm cells (runs_here rest over at k s) ≡ from_stop (stops rest over at k s)
+  Leads rest at = (over : ℕ) (k : Keeps) (s : Stack) → calm_here (runs_here rest over at k s) ≡ from_stop (stops rest over at k s)
 
-  by_note : (rest : List Instr) (at : ℕ) → drop (at + 1) code ≡ rest → Leads rest (at + 1) → (q : Question) (k : Keeps) (s : Stack) (n : Noted) → noted cells q ≡ n → calm cells (at_work shapes q at k s (runs_here rest)) ≡ from_stop (on_noted n q (stops rest) at k s)
-  by_note rest at e ih q k s Visible n =
-      calm_visible cells q (λ x. past shapes q x at k s (runs_here rest)) n
-      ∙ ap (Asks q) (λ j x. past_same shapes q x at k s (runs_here rest) (λ over at' k' s'. runs_here (drop at' code) over at' k' s') (λ s'. ap (λ l. runs_here l 0 (at + 1) k s') (sym e)) j)
-  by_note rest at e ih q k s (Answered v) n =
-      calm_answered cells q (λ x. past shapes q x at k s (runs_here rest)) v n
-      ∙ ap (calm cells) (past_answered shapes cells q v at k s (runs_here rest) n) ∙ ih 0 k (v ∷ s)
-  by_note rest at e ih q k s Unknown n = calm_unknown cells q (λ x. past shapes q x at k s (runs_here rest)) n
+  by_note : (rest : List Instr) (at : ℕ) → drop (at + 1) code ≡ rest → Leads rest (at + 1) → (q : Question) (k : Keeps) (s : Stack) (n : Noted) → noted cells q ≡ n → (b : Bool) → is_asked_at_once q ≡ b → calm_here (if b then Traps 16 0 else Asks q (λ x. past tables q x at k s (runs_here rest))) ≡ from_stop (on_noted n q (stops rest) at k s)
+  by_note rest at e ih q k s Visible n false h =
+      calm_visible tables.types made cells q (λ x. past tables q x at k s (runs_here rest)) (answered_noted tables.types made cells q h ∙ n)
+      ∙ ap (Asks q) (λ j x. past_same tables q x at k s (runs_here rest) (λ over at' k' s'. runs_here (drop at' code) over at' k' s') (λ s'. ap (λ l. runs_here l 0 (at + 1) k s') (sym e)) j)
+      ∙ ap (λ c. if c then Traps 16 0 else Asks q (λ x. past tables q x at k s (λ over at' k' s'. runs_here (drop at' code) over at' k' s'))) (sym h)
+  by_note rest at e ih q k s Visible n true h =
+      ap (λ c. if c then Traps 16 0 else Asks q (λ x. past tables q x at k s (λ over at' k' s'. runs_here (drop at' code) over at' k' s'))) (sym h)
+  by_note rest at e ih q k s (Answered v) n false h =
+      calm_answered tables.types made cells q (λ x. past tables q x at k s (runs_here rest)) v (answered_noted tables.types made cells q h ∙ n)
+      ∙ ap calm_here (past_answered tables cells q v at k s (runs_here rest) n) ∙ ih 0 k (v ∷ s)
+  by_note rest at e ih q k s (Answered v) n true h = let z = object_unnoted cells q h in absurd (cc)
+  by_note rest at e ih q k s Unknown n false h = calm_unknown tables.types made cells q (λ x. past tables q x at k s (runs_here rest)) (answered_noted tables.types made cells q h ∙ n)
+  by_note rest at e ih q k s Unknown n true h = let z = object_unnoted cells q h in absurd (cc)
 
-  by_test : (rest : List Instr) (at : ℕ) → Leads rest (at + 1) → (b : Bool) (k : Keeps) (s : Stack) → calm cells (if b then runs_here rest 0 (at + 1) k s else Traps 16 0) ≡ from_stop (if b then stops rest 0 (at + 1) k s else Ended (Fails 16 0) k)
+  by_test : (rest : List Instr) (at : ℕ) → Leads rest (at + 1) → (b : Bool) (k : Keeps) (s : Stack) → calm_here (if b then runs_here rest 0 (at + 1) k s else Traps 16 0) ≡ from_stop (if b then stops rest 0 (at + 1) k s else Ended (Fails 16 0) k)
   by_test rest at ih true k s = ih 0 k s
   by_test rest at ih false k s = refl
 
+  by_told : (rest : List Instr) (at : ℕ) → Leads rest (at + 1) → (o : ℕ) (k : Keeps) (s : Stack) (t : Told) → told_run tables.types made cells o (λ s'. runs_here rest 0 (at + 1) k s') t s ≡ from_stop (on_told t (stops rest) at k s)
+  by_told rest at ih o k s (Tells vs) = ih 0 k (vs ++ s)
+  by_told rest at ih o k s (Refuses n) = refl
+  by_told rest at ih o k s Unheard = refl
+
   -- one instruction, where the rest is known
-  by_act : (rest : List Instr) (at : ℕ) → drop (at + 1) code ≡ rest → Leads rest (at + 1) → (k : Keeps) (a : Act) → calm cells (on_run shapes a (runs_here rest) at k) ≡ from_stop (on_act cells a (stops rest) at k)
+  by_act : (rest : List Instr) (at : ℕ) → drop (at + 1) code ≡ rest → Leads rest (at + 1) → (k : Keeps) (a : Act) → calm_here (on_run tables a (runs_here rest) at k) ≡ from_stop (on_act tables.types made cells a (stops rest) at k)
   by_act rest at e ih k (Goes over s) = ih over k s
   by_act rest at e ih k (Puts c v s) = ih 0 (kept c v k) s
   by_act rest at e ih k (Takes c kind s) = by_test rest at ih (is_of kind (k c)) k (k c ∷ s)
-  by_act rest at e ih k (Sees q s) = by_note rest at e ih q k s (noted cells q) refl
+  by_act rest at e ih k (Looks l o s) =
+      told_at_once tables.types made cells o (λ s'. runs_here rest 0 (at + 1) k s') l s ∙ by_told rest at ih o k s (told_by tables.types l o (made o))
+  by_act rest at e ih k (Sees q s) = by_note rest at e ih q k s (noted cells q) refl (is_asked_at_once q) refl
   by_act rest at e ih k (Stops (Begins to p s)) = refl
   by_act rest at e ih k (Stops (Fails n c)) = refl
 
@@ -196,10 +426,10 @@ module _ (shapes : List ProcShape) (own here : ℕ) (cells : List Cell) (code : 
   run_by_walk (i ∷ rest) at e (suc n) k s = run_by_walk rest (at + 1) (drop_next at code i rest e) n k s
   run_by_walk (i ∷ rest) at e zero k s =
       let next = drop_next at code i rest e in
-      by_act rest at next (run_by_walk rest (at + 1) next) k (act shapes own here i code at s)
+      by_act rest at next (run_by_walk rest (at + 1) next) k (act tables.procedures tables.types own here i code at s)
 
   -- the run from a place of the code, as far as it's silent, is that from where silent work from there stops
-  pub run_by_silent : (at : ℕ) (k : Keeps) (s : Stack) → calm cells (run shapes own here code at k s) ≡ resume shapes own here code (silent shapes own here cells code at k s)
+  pub run_by_silent : (at : ℕ) (k : Keeps) (s : Stack) → calm tables.types made cells (run tables own here code at k s) ≡ resume tables own here code (silent tables.procedures tables.types made own here cells code at k s)
   run_by_silent at k s = run_by_walk (drop at code) at refl 0 k s
 
 feed-traps : {Q V A : Type 0} (u : List V) (n c : ℕ) → feed {Q = Q} {V = V} {A = A} u (Traps n c) ≡ Traps n c

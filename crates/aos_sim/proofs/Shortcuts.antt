@@ -8,27 +8,26 @@ use Rattle.aos_typed.specs.Program.{Procedure, Program}
 use Rattle.aos_typed.specs.Sort.{Sort}
 use Rattle.aos_typed.specs.Value.{Value, Flag, number_of, is_true}
 use Rattle.aos_typed.specs.Meaning.{Doing}
-use Rattle.aos_code.specs.declared.image.ProcShape.{ProcShape}
 use Rattle.aos_code.specs.declared.instr.Cell.TheVariants.{Num}
 use Rattle.aos_code.specs.declared.instr.Instr.{Instr}
 use Rattle.aos_code.specs.declared.instr.Instr.TheVariants as i
 use Rattle.aos_code.specs.Silent.{Stack, Keeps}
 use Rattle.aos_sim.specs.Code.{and_code, or_code}
-use Rattle.aos_sim.proofs.Runs.{Run, Onward, runs}
+use Rattle.aos_sim.proofs.Runs.{Tables, Run, Onward, runs}
 use Rattle.aos_sim.proofs.Types.{IsValueOf}
 use Rattle.aos_sim.proofs.Does.{Does, along, does_more, Knows, knows_grows}
 use Rattle.aos_sim.proofs.Evaluates.{Pushed, passed, jump_on, Evaluates, operand_does, ends_at}
 
-module _ (program : Program) (own : Option Procedure) (shapes : List ProcShape) (number here : ℕ) (code : List Instr) where
+module _ (program : Program) (own : Option Procedure) (tables : Tables) (number here : ℕ) (code : List Instr) where
   abbrev onward : List Instr → Onward
-  onward = runs shapes number here code
+  onward = runs tables number here code
 
   -- behind a truth value, it is on the stack
   abbrev Truth : List Instr → ℕ → Keeps → Stack → World Sort → Value → Run → Type 0
-  Truth = Pushed shapes number here code type.Boolean
+  Truth = Pushed tables number here code type.Boolean
 
   abbrev Tests : List Instr → Doing Value → ℕ → Type 0
-  Tests = Evaluates program own shapes number here code type.Boolean
+  Tests = Evaluates program own tables number here code type.Boolean
 
   -- behind a first operand of &: where it is TRUE the second one's value is the whole's, and else FALSE
   and_goes : (cb : List Instr) (rb : Doing Value) (p q to over : ℕ) (rest : List Instr) (k : Keeps) (s : Stack) → to ≡ p + 1 + length cb + 1 → over ≡ p + 1 + length cb + 2 → q ≡ p + 1 + length cb + 2 → Tests cb rb (p + 1) → (w : World Sort) → Knows program own here w → (b : Bool) (m : Run) → m ≡ onward ((i.JumpFalse to ∷ (cb ++ (i.Jump over ∷ (i.Num (pos 0) ∷ [])))) ++ rest) 0 p k (Num (flag b) ∷ s) → Does program here (Truth rest q k s) w m (if is_true (Flag b) then rb else Val (Flag false))
@@ -40,16 +39,16 @@ module _ (program : Program) (own : Option Procedure) (shapes : List ProcShape) 
       (does_more program here (Truth end (p + 1 + length cb) k s) (Truth rest q k s) w (onward (cb ++ end) 0 (p + 1) k s) rb (h w known end k s)
       (λ w' up v m' r. record {
         is = r.is;
-        run = r.run ∙ jump_on shapes number here code (i.Num (pos 0) ∷ rest) over (p + 1 + length cb) 1 k (Num (number_of v) ∷ s) (omega arith) ∙ ap (λ n. onward rest 0 n k (Num (number_of v) ∷ s)) n;
+        run = r.run ∙ jump_on tables number here code (i.Num (pos 0) ∷ rest) over (p + 1 + length cb) 1 k (Num (number_of v) ∷ s) (omega arith) ∙ ap (λ n. onward rest 0 n k (Num (number_of v) ∷ s)) n;
       }))
   and_goes cb rb p q to over rest k s e1 e2 e3 h w known false m e =
       let last = i.Jump over ∷ (i.Num (pos 0) ∷ []) in
       let n : p + 1 + length cb + 1 + 1 ≡ q = omega arith in
       record {
         is = (false, refl);
-        run = e ∙ jump_on shapes number here code ((cb ++ last) ++ rest) to p (length cb + 1) k s (omega arith)
+        run = e ∙ jump_on tables number here code ((cb ++ last) ++ rest) to p (length cb + 1) k s (omega arith)
             ∙ ap (λ l. onward l (length cb + 1) (p + 1) k s) (append_assoc cb last rest)
-            ∙ passed shapes number here code cb (last ++ rest) 1 (p + 1) k s
+            ∙ passed tables number here code cb (last ++ rest) 1 (p + 1) k s
             ∙ ap (λ n. onward rest 0 n k (Num (pos 0) ∷ s)) n;
       }
 
@@ -59,21 +58,21 @@ module _ (program : Program) (own : Option Procedure) (shapes : List ProcShape) 
       let n : p + 1 + 1 + 1 + length cb ≡ q = omega arith in
       record {
         is = (true, refl);
-        run = e ∙ jump_on shapes number here code (cb ++ rest) over (p + 1 + 1) (length cb + 0) k (Num (pos 1) ∷ s) (omega arith)
-            ∙ passed shapes number here code cb rest 0 (p + 1 + 1 + 1) k (Num (pos 1) ∷ s)
+        run = e ∙ jump_on tables number here code (cb ++ rest) over (p + 1 + 1) (length cb + 0) k (Num (pos 1) ∷ s) (omega arith)
+            ∙ passed tables number here code cb rest 0 (p + 1 + 1 + 1) k (Num (pos 1) ∷ s)
             ∙ ap (λ n. onward rest 0 n k (Num (pos 1) ∷ s)) n;
       }
   or_goes cb rb p pb q to over rest k s e1 e2 e3 e4 h w known false m e =
       let n : p + 1 + 1 + 1 ≡ pb = omega arith in
       along program here (Truth rest q k s) w m (onward (cb ++ rest) 0 pb k s) rb
-      (e ∙ jump_on shapes number here code (i.Num (pos 1) ∷ (i.Jump over ∷ (cb ++ rest))) to p 2 k s (omega arith) ∙ ap (λ n. onward (cb ++ rest) 0 n k s) n)
-      (ends_at program own shapes number here code type.Boolean rest (pb + length cb) q k s w (onward (cb ++ rest) 0 pb k s) rb (omega arith) (h w known rest k s))
+      (e ∙ jump_on tables number here code (i.Num (pos 1) ∷ (i.Jump over ∷ (cb ++ rest))) to p 2 k s (omega arith) ∙ ap (λ n. onward (cb ++ rest) 0 n k s) n)
+      (ends_at program own tables number here code type.Boolean rest (pb + length cb) q k s w (onward (cb ++ rest) 0 pb k s) rb (omega arith) (h w known rest k s))
 
   -- what follows a truth value, by which of both it is
   pub by_flag : {C : Type 0} (Q : World Sort → C → Run → Type 0) (f : Value → Doing C) (rest : List Instr) (at : ℕ) (k : Keeps) (s : Stack) (w : World Sort) → ((b : Bool) (m : Run) → m ≡ onward rest 0 at k (Num (flag b) ∷ s) → Does program here Q w m (f (Flag b))) → (v : Value) (m : Run) → IsValueOf type.Boolean v → m ≡ onward rest 0 at k (Num (number_of v) ∷ s) → Does program here Q w m (f v)
   by_flag Q f rest at k s w go v m is e = subst (λ x. m ≡ onward rest 0 at k (Num (number_of x) ∷ s) → Does program here Q w m (f x)) (sym is.1) (go is.0 m) e
 
-  pub and_does : (ca cb : List Instr) (ra rb : Doing Value) (at : ℕ) → Evaluates program own shapes number here code type.Boolean ca ra at → Evaluates program own shapes number here code type.Boolean cb rb (at + length ca + 1) → Evaluates program own shapes number here code type.Boolean (and_code ca cb at) (bind ra (λ a. if is_true a then rb else Val (Flag false))) at
+  pub and_does : (ca cb : List Instr) (ra rb : Doing Value) (at : ℕ) → Evaluates program own tables number here code type.Boolean ca ra at → Evaluates program own tables number here code type.Boolean cb rb (at + length ca + 1) → Evaluates program own tables number here code type.Boolean (and_code ca cb at) (bind ra (λ a. if is_true a then rb else Val (Flag false))) at
   and_does ca cb ra rb at ha hb w known rest k s =
       let p = at + length ca in
       let to = p + 1 + length cb + 1 in
@@ -83,10 +82,10 @@ module _ (program : Program) (own : Option Procedure) (shapes : List ProcShape) 
       let q = at + length (and_code ca cb at) in
       let n : q ≡ p + 1 + length cb + 2 = omega (arith, length-append ca tail, length-append cb last) in
       let f : Value → Doing Value = λ a. if is_true a then rb else Val (Flag false) in
-      operand_does program own shapes number here code (Truth rest q k s) type.Boolean f ca tail ra at rest k s ha w known
+      operand_does program own tables number here code (Truth rest q k s) type.Boolean f ca tail ra at rest k s ha w known
       (λ w' up. by_flag (Truth rest q k s) f (tail ++ rest) p k s w' (and_goes cb rb p q to over rest k s refl refl n hb w' (knows_grows program own here w w' up known)))
 
-  pub or_does : (ca cb : List Instr) (ra rb : Doing Value) (at : ℕ) → Evaluates program own shapes number here code type.Boolean ca ra at → Evaluates program own shapes number here code type.Boolean cb rb (at + length ca + 3) → Evaluates program own shapes number here code type.Boolean (or_code ca cb at) (bind ra (λ a. if is_true a then Val (Flag true) else rb)) at
+  pub or_does : (ca cb : List Instr) (ra rb : Doing Value) (at : ℕ) → Evaluates program own tables number here code type.Boolean ca ra at → Evaluates program own tables number here code type.Boolean cb rb (at + length ca + 3) → Evaluates program own tables number here code type.Boolean (or_code ca cb at) (bind ra (λ a. if is_true a then Val (Flag true) else rb)) at
   or_does ca cb ra rb at ha hb w known rest k s =
       let p = at + length ca in
       let to = p + 3 in
@@ -95,5 +94,5 @@ module _ (program : Program) (own : Option Procedure) (shapes : List ProcShape) 
       let q = at + length (or_code ca cb at) in
       let n : q ≡ p + 3 + length cb = omega (arith, length-append ca tail) in
       let f : Value → Doing Value = λ a. if is_true a then Val (Flag true) else rb in
-      operand_does program own shapes number here code (Truth rest q k s) type.Boolean f ca tail ra at rest k s ha w known
+      operand_does program own tables number here code (Truth rest q k s) type.Boolean f ca tail ra at rest k s ha w known
       (λ w' up. by_flag (Truth rest q k s) f (tail ++ rest) p k s w' (or_goes cb rb p (p + 3) q to over rest k s refl refl n refl hb w' (knows_grows program own here w w' up known)))

@@ -1,8 +1,10 @@
 -- An image that has a well-typed program's code shows the program.
-use Rattle.std.proofs.Common.{◌≡◌, ℕ, zero, suc, ◌+◌, List, [], ◌∷◌, ◌++◌, map, length, Option, Some, None, refl, sym, ap, ◌∙◌, subst, arith}
+use Rattle.std.proofs.Common.{◌≡◌, ℕ, zero, suc, ◌+◌, ◌<◌, ◌^◌, List, [], ◌∷◌, ◌++◌, map, length, Option, Some, None, refl, sym, ap, ◌∙◌, subst, arith}
 use Rattle.std.specs.Prelude.{slice_get, flat_map, option_map, option_and_then}
 use Rattle.std.specs.List.{range_with_len}
 use Rattle.std.proofs.lemmas.Option.{slice_get-map}
+use Rattle.std.proofs.lemmas.List.Elements.{All-nil}
+use Rattle.aos_types.specs.Shape.{size}
 use Rattle.aos_base.specs.Book.{Where}
 use Rattle.aos_base.specs.Rooted.{Made, by_number}
 use Rattle.aos_base.specs.Machine.{Choice, execution}
@@ -29,17 +31,18 @@ use Rattle.aos_sim.specs.Cells.{cell_of}
 use Rattle.aos_sim.proofs.Items.{items_do}
 use Rattle.aos_sim.proofs.First.{number_at, modules_shown}
 use Rattle.aos_sim.proofs.Typed.{has_types}
-use Rattle.aos_sim.proofs.Does.{HasShapes}
+use Rattle.aos_sim.proofs.Runs.{tables_of}
+use Rattle.aos_sim.proofs.Does.{HasTypes, HasShapes}
 use Rattle.aos_sim.proofs.States.{world_of, SameStore, Placed, RoutinesRun, Follows, Waiting, SameFrames, Same, body_same, body_shown, opened_same, same_grows}
 use Rattle.aos_sim.proofs.Routines.{module_there, object_there}
 use Rattle.aos_sim.proofs.Bodies.{has_shapes, home_known, routines_run}
 use Rattle.aos_sim.proofs.Grown.{turn_grown}
 use Rattle.aos_sim.proofs.Turns.{Together, turn_alike}
 
-module _ (program : Program) (image : Image) (shaped : HasShapes program image.shapes.items) where
+module _ (program : Program) (image : Image) (shaped : HasShapes program (tables_of image)) where
   -- a frame's text is of the module that its procedure's shape names
   home_same : (f : S.Frame) (g : I.Frame) → Placed program image f g → f.home ≡ home_of image g.procedure
-  home_same f g h = sym (home_known program image.shapes.items shaped g.procedure h.routine h.there ∙ h.home_is)
+  home_same f g h = sym (home_known program (tables_of image) shaped g.procedure h.routine h.there ∙ h.home_is)
 
   waiting_position : (made : List Made) (result : Option TType) (below : Where) (fs : List S.Frame) (gs : List I.Frame) → Waiting program image made result fs gs → S.position_or below fs ≡ I.position_or image below gs
   waiting_position made result below [] [] h = refl
@@ -69,15 +72,19 @@ module _ (p : Program) (image : Image) (well : IsWellTyped p) (ok : IsCodeOf p i
   first_store_same =
       record {
         made = refl;
+        few = All-nil (λ m. size (S.made_shape p.types m) < 2 ^ 32);
         of_modules = subst (λ ys. AllShown (Is p.types) cell_of (world_of p [] []) (map (S.module_shape p) ms) (S.first_store p).modules ys) (sym ok.cells) (modules_shown p (world_of p [] []) well.predeclared ms well.texts);
         of_objects = tt;
       }
 
-  abbrev shaped : HasShapes p image.shapes.items
-  shaped = has_shapes p image ok
+  abbrev typed : HasTypes p
+  typed = has_types p image.bodies.items image.shapes.items image.modules.items image.types.items well ok
+
+  abbrev shaped : HasShapes p (tables_of image)
+  shaped = has_shapes p image ok typed
 
   abbrev run : RoutinesRun p image
-  run = routines_run p image ok well
+  run = routines_run p image ok well shaped
 
   -- the bodies of modules follow one another
   bodies_follow : (k : ℕ) (xs : List Module) (ds : List ModuleDesc) → ((j : ℕ) (m : Module) → slice_get xs j ≡ Some m → slice_get ms (k + j) ≡ Some m) → map (λ (d : ModuleDesc). d.body) ds ≡ numbers_from (suc k) xs → Follows p image (range_with_len k (length xs)) (flat_map (λ (d : ModuleDesc). bodies d.body) ds)
@@ -126,7 +133,7 @@ module _ (p : Program) (image : Image) (well : IsWellTyped p) (ok : IsCodeOf p i
   -- one turn of the image is one turn of the source
   simulates : Simulates (SameStore p) (Together p image) Anyone (S.source p) (machine image)
   simulates = record {
-    turn = λ s mem fs gs stores h. turn_alike p image (has_types p image.bodies.items image.shapes.items image.modules.items image.types.items well ok) shaped run (items_do p) s mem fs gs stores h.now;
+    turn = λ s mem fs gs stores h. turn_alike p image typed shaped run (items_do p) s mem fs gs stores h.now;
     kept = λ s mem fs gs stores h w fs' gs' h'.
         let g = turn_grown p (S.opened p fs).following (S.opened p fs).frames s in
         record {

@@ -5,12 +5,12 @@ use Rattle.std.proofs.Math.Nat.{le-max_left}
 use Rattle.aos_base.specs.declared.text.Pos.{Pos}
 use Rattle.aos_base.specs.declared.number.Width.{Width}
 use Rattle.aos_typed.specs.declared.tree.TType.TheVariants.{Integer}
-use Rattle.aos_typed.specs.Program.{Place, Read, Stat, Assign, Copy, PutText, If, Case, While, Repeat, Loop, Exit, For, Block, Assert, Halt, Change, Perform, Return, New, Out, Stats, Nothing, Then, Arms, Otherwise, Arm, Cases, NoElse, Else, OfLabels, Procedure, Program}
+use Rattle.aos_typed.specs.Program.{Place, Read, Stat, Assign, Copy, PutText, If, Case, While, Repeat, Loop, Exit, For, Block, Assert, Halt, Change, Perform, Return, New, Make, With, WithRecord, Out, Stats, Nothing, Then, Arms, Otherwise, Arm, Cases, NoElse, Else, OfLabels, Procedure, Program}
 use Rattle.aos_code.specs.declared.instr.Instr.{Instr}
 use Rattle.aos_code.specs.declared.instr.Instr.TheVariants as i
 use Rattle.aos_code.specs.declared.instr.Kind.TheVariants.{N}
 use Rattle.aos_sim.specs.Search.{Search, Nowhere, At, Split, arms_in, search_of, search_size, search_code}
-use Rattle.aos_sim.specs.Code.{value_code, while_code, repeat_code, arm_code, round_code, for_head, step_code, body_place, rounds_with, stat_code, stats_code, arms_code, cases_code, arm_place}
+use Rattle.aos_sim.specs.Code.{place_code, value_code, while_code, repeat_code, arm_code, round_code, for_head, step_code, body_place, rounds_with, stat_code, stats_code, arms_code, cases_code, arm_place}
 use Rattle.aos_sim.specs.Need.{stat_level, stats_level, arms_level, cases_level}
 
 -- a search has as many instructions wherever it stands and leads to
@@ -102,6 +102,15 @@ module _ (program : Program) (own : Option Procedure) where
     stat_length (Return here None) at x y d = refl
     stat_length (Return here (Some e)) at x y d = refl
     stat_length (New here p t) at x y d = refl
+    stat_length (Make here p t ns) at x y d = refl
+    stat_length (With here e body) at x y d =
+        let c = value_code program own e (at + 1) in
+        let b : ℕ → List Instr = λ z. stats_code program own body (at + 1 + length c + 1) z d in
+        omega (arith, stats_length body (at + 1 + length c + 1) x y d, length-append c (i.Drop ∷ b x), length-append c (i.Drop ∷ b y))
+    stat_length (WithRecord here p body) at x y d =
+        let c = place_code program own p (at + 1) in
+        let b : ℕ → List Instr = λ z. stats_code program own body (at + 1 + length c + 1) z d in
+        omega (arith, stats_length body (at + 1 + length c + 1) x y d, length-append c (i.Drop ∷ b x), length-append c (i.Drop ∷ b y))
     stat_length (Out here call) at x y d = refl
 
     pub stats_length : (ss : Stats) (at x y d : ℕ) → length (stats_code program own ss at x d) ≡ length (stats_code program own ss at y d)
@@ -161,6 +170,9 @@ mutual
   stat_above (Perform here m k more) d = omega arith
   stat_above (Return here e) d = omega arith
   stat_above (New here p t) d = omega arith
+  stat_above (Make here p t ns) d = omega arith
+  stat_above (With here e body) d = stats_above body d
+  stat_above (WithRecord here p body) d = stats_above body d
   stat_above (Out here call) d = omega arith
 
   pub stats_above : (ss : Stats) (d : ℕ) → d ≤ stats_level ss d

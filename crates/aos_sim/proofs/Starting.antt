@@ -1,12 +1,12 @@
 -- Silent work that ends at a question has come to the instruction that asks it; and what starts an activity asks so once more, where
 -- the object lies on top.
-use Rattle.std.proofs.Common.{◌≡◌, ◌+◌, ℕ, ℤ, zero, suc, pos, negsuc, List, [], ◌∷◌, drop, reverse, refl, sym, ap, ◌∙◌}
+use Rattle.std.proofs.Common.{◌≡◌, ◌+◌, ℕ, ℤ, zero, suc, pos, negsuc, List, [], ◌∷◌, ◌++◌, drop, reverse, refl, sym, ap, ◌∙◌}
 use Rattle.std.specs.Prelude.{Option, Some, None, Bool, true, false, nat_lt, slice_get, if◌then◌else◌}
 use Rattle.aos_base.specs.declared.place.Root.{Root}
 use Rattle.aos_base.specs.declared.operator.Given.{Given}
 use Rattle.aos_base.specs.declared.operator.Given.TheVariants.{Number, Trap, Undefined}
 use Rattle.aos_base.specs.Question.{Asks, Reads, Stores, Copies, PutsText, ComparesTexts, Starts, PutsString}
-use Rattle.aos_base.specs.Operators.{unary, binary, natural}
+use Rattle.aos_base.specs.Operators.{flag, unary, binary, natural}
 use Rattle.aos_code.specs.declared.instr.Cell.{Cell}
 use Rattle.aos_code.specs.declared.instr.Cell.TheVariants.{Num, Ref, Call as CallCell, Place}
 use Rattle.aos_code.specs.declared.instr.Kind.{Kind}
@@ -16,8 +16,9 @@ use Rattle.aos_code.specs.declared.instr.Instr.TheVariants as instr
 use Rattle.aos_code.specs.declared.image.ProcShape.{ProcShape}
 use Rattle.aos_code.specs.Memory.{Addr}
 use Rattle.aos_code.specs.Numbered.{numbered}
-use Rattle.aos_code.specs.Silent.{Stack, Keeps, Question, Stop, Work, Ended, Act, Goes, Puts, Takes, Sees, Stops, lost, kept, is_of, on_any, on_kind, on_number, number_then, place_then, on_place, on_text, length_then, lengths_on, counted_on, given, asserts, gives_place, element, cells_of, length_cells, in_rows, gives_picked, on_kinds, kinds_of, calls, ends, lands, jumps, jumps_on_false, act, Noted, Visible, Answered, Unknown, noted, on_noted, on_act, walk, silent}
-use Rattle.aos_sim.proofs.Runs.{on_run, runs, run, drop_next}
+use Rattle.aos_code.specs.Silent.{Stack, Keeps, Question, Fails, Stop, Work, Ended, Look, AtCell, AtElements, IsType, AsType, Act, Goes, Puts, Takes, Looks, Sees, Stops, object_then, on_object, unless_nil, looks, extends, Told, Tells, Refuses, Unheard, told_by, on_told, lost, kept, is_of, on_any, on_kind, on_number, number_then, place_then, on_place, on_text, length_then, lengths_on, counted_on, gives, given, asserts, gives_place, element, cells_of, length_cells, in_rows, gives_picked, on_kinds, kinds_of, calls, ends, lands, jumps, jumps_on_false, act, Noted, Visible, Answered, Unknown, noted, on_noted, on_act, walk, silent}
+use Rattle.aos_base.specs.Rooted.{Made}
+use Rattle.aos_sim.proofs.Runs.{Tables, on_run, runs, run, drop_next}
 
 -- What isn't a start.
 
@@ -128,6 +129,22 @@ calm_on_false code to at (pos (suc zero)) s = refl
 calm_on_false code to at (pos (suc (suc n))) s = refl
 calm_on_false code to at (negsuc n) s = refl
 
+calm_object_then : (k : ℕ → Act) (v : Cell) → ((o : ℕ) → mark (k o) ≡ 0) → mark (object_then k v) ≡ 0
+calm_object_then k (Num a) h = refl
+calm_object_then k (Ref o) h = h o
+calm_object_then k (CallCell p o) h = refl
+calm_object_then k (Place root cell type) h = refl
+
+calm_object : (k : ℕ → Stack → Act) (s : Stack) → ((o : ℕ) (s' : Stack) → mark (k o s') ≡ 0) → mark (on_object k s) ≡ 0
+calm_object k s h = calm_any _ s (λ v s'. calm_object_then (λ o. k o s') v (λ o. h o s'))
+
+calm_nil : (o : ℕ) (a b : Act) → mark a ≡ 0 → mark b ≡ 0 → mark (unless_nil o a b) ≡ 0
+calm_nil zero a b h g = h
+calm_nil (suc o) a b h g = g
+
+calm_looks : (l : Look) (at_nil : Stack → Act) (s : Stack) → ((s' : Stack) → mark (at_nil s') ≡ 0) → mark (looks l at_nil s) ≡ 0
+calm_looks l at_nil s h = calm_object _ s (λ o s'. calm_nil o (at_nil s') (Looks l o s') (h s') refl)
+
 marked : (a : Act) (v : Cell) (s s' : Stack) → mark a ≡ 0 → a ≡ Sees (Starts v) s' → s ≡ v ∷ s'
 marked a v s s' h e = (let z : 0 ≡ 1 = sym h ∙ ap mark e in absurd (cc z))
 
@@ -140,56 +157,68 @@ start_on_top [] v s' e = absurd (cc e)
 start_on_top (w ∷ s) v s' e = start_if (is_of R w) w v s s' e
 
 -- whose activity is started lies on top
-act_starts : (shapes : List ProcShape) (own here : ℕ) (i : Instr) (code : List Instr) (at : ℕ) (s : Stack) (v : Cell) (s' : Stack) → act shapes own here i code at s ≡ Sees (Starts v) s' → s ≡ v ∷ s'
-act_starts shapes own here (instr.Num n) code at s v s' e = marked _ v s s' refl e
-act_starts shapes own here instr.Dup code at s v s' e = marked _ v s s' (calm_any _ s (λ w r. refl)) e
-act_starts shapes own here instr.Drop code at s v s' e = marked _ v s s' (calm_any _ s (λ w r. refl)) e
-act_starts shapes own here instr.Swap code at s v s' e = marked _ v s s' (calm_any _ s (λ w r. calm_any _ r (λ x y. refl))) e
-act_starts shapes own here (instr.Frame c) code at s v s' e = marked _ v s s' refl e
-act_starts shapes own here (instr.Module m c) code at s v s' e = marked _ v s s' refl e
-act_starts shapes own here (instr.Param c) code at s v s' e = marked _ v s s' refl e
-act_starts shapes own here (instr.Length c) code at s v s' e = marked _ v s s' refl e
-act_starts shapes own here (instr.Offset c t) code at s v s' e = marked _ v s s' (calm_place (λ a u r. gives_place a.root (a.cell + c) t [] r) s (λ a u r. calm_gives a.root (a.cell + c) t [] r)) e
-act_starts shapes own here (instr.Index n k) code at s v s' e = marked _ v s s' (calm_number _ s (λ z r. calm_place _ r (λ a t x. calm_element a (natural n z) k [] x))) e
-act_starts shapes own here (instr.IndexOpen j k) code at s v s' e = marked _ v s s' (calm_number _ s (λ z r. calm_lengths j [] _ r (λ ns x. calm_rows ns z k x))) e
-act_starts shapes own here (instr.PickLen d j) code at s v s' e = marked _ v s s' (calm_counted j [] _ s (λ zs r. calm_place _ r (λ a t x. calm_picked (slice_get zs d) x))) e
-act_starts shapes own here (instr.Unary op) code at s v s' e = marked _ v s s' (calm_number _ s (λ a r. calm_given (unary op a) r)) e
-act_starts shapes own here (instr.Binary op) code at s v s' e = marked _ v s s' (calm_number _ s (λ b r. calm_number _ r (λ a x. calm_given (binary op a b) x))) e
-act_starts shapes own here (instr.Keep c k) code at s v s' e = marked _ v s s' (calm_if (nat_lt c _) _ (calm_kind k _ s (λ w r. refl))) e
-act_starts shapes own here (instr.Kept c k) code at s v s' e = marked _ v s s' (calm_if (nat_lt c _) _ refl) e
-act_starts shapes own here (instr.Fail n) code at s v s' e = marked _ v s s' refl e
-act_starts shapes own here (instr.Assert c) code at s v s' e = marked _ v s s' (calm_number _ s (λ a r. calm_asserts c a r)) e
-act_starts shapes own here (instr.Halt c) code at s v s' e = marked _ v s s' refl e
-act_starts shapes own here (instr.Jump to) code at s v s' e = marked _ v s s' (calm_jumps code to at s) e
-act_starts shapes own here (instr.JumpFalse to) code at s v s' e = marked _ v s s' (calm_number _ s (λ a r. calm_on_false code to at a r)) e
-act_starts shapes own here (instr.Begin line col) code at s v s' e = marked _ v s s' refl e
-act_starts shapes own here (instr.Load kind) code at s v s' e = marked _ v s s' (calm_place (λ a t r. Sees (Reads kind a) r) s (λ a t r. refl)) e
-act_starts shapes own here (instr.Store kind) code at s v s' e = marked _ v s s' (calm_kind kind _ s (λ w r. calm_place (λ a t x. Sees (Stores a w) x) r (λ a t x. refl))) e
-act_starts shapes own here (instr.Copy n) code at s v s' e = marked _ v s s' (calm_place (λ a t r. on_place (λ b u x. Sees (Copies n a b) x) r) s (λ a t r. calm_place (λ b u x. Sees (Copies n a b) x) r (λ b u x. refl))) e
-act_starts shapes own here (instr.PutText strict) code at s v s' e = marked _ v s s' (calm_text (λ a n r. on_text (λ b m x. Sees (PutsText strict b m a n) x) r) s (λ a n r. calm_text (λ b m x. Sees (PutsText strict b m a n) x) r (λ b m x. refl))) e
-act_starts shapes own here (instr.CmpText o) code at s v s' e = marked _ v s s' (calm_text (λ b m r. on_text (λ a n x. Sees (ComparesTexts o a n b m) x) r) s (λ b m r. calm_text (λ a n x. Sees (ComparesTexts o a n b m) x) r (λ a n x. refl))) e
-act_starts shapes own here (instr.Call p) code at s v s' e = marked _ v s s' (calm_calls (numbered shapes p) p s) e
-act_starts shapes own here (instr.NewObject t) code at s v s' e = marked _ v s s' refl e
-act_starts shapes own here instr.Start code at s v s' e = start_on_top s v s' e
-act_starts shapes own here instr.Return code at s v s' e = marked _ v s s' (calm_ends (numbered shapes own) s) e
-act_starts shapes own here instr.OutChar code at s v s' e = marked _ v s s' (calm_kind N _ s (λ w r. refl)) e
-act_starts shapes own here instr.OutInt code at s v s' e = marked _ v s s' (calm_kind N _ s (λ w r. calm_kind N _ r (λ x y. refl))) e
-act_starts shapes own here instr.OutString code at s v s' e = marked _ v s s' (calm_text (λ a n r. Sees (PutsString a n) r) s (λ a n r. refl)) e
-act_starts shapes own here instr.OutLn code at s v s' e = marked _ v s s' refl e
-act_starts shapes own here instr.OutOpen code at s v s' e = marked _ v s s' refl e
+act_starts : (tables : Tables) (own here : ℕ) (i : Instr) (code : List Instr) (at : ℕ) (s : Stack) (v : Cell) (s' : Stack) → act tables.procedures tables.types own here i code at s ≡ Sees (Starts v) s' → s ≡ v ∷ s'
+act_starts tables own here (instr.Num n) code at s v s' e = marked _ v s s' refl e
+act_starts tables own here instr.Nil code at s v s' e = marked _ v s s' refl e
+act_starts tables own here instr.Dup code at s v s' e = marked _ v s s' (calm_any _ s (λ w r. refl)) e
+act_starts tables own here instr.Drop code at s v s' e = marked _ v s s' (calm_any _ s (λ w r. refl)) e
+act_starts tables own here instr.Swap code at s v s' e = marked _ v s s' (calm_any _ s (λ w r. calm_any _ r (λ x y. refl))) e
+act_starts tables own here (instr.Frame c) code at s v s' e = marked _ v s s' refl e
+act_starts tables own here (instr.Module m c) code at s v s' e = marked _ v s s' refl e
+act_starts tables own here (instr.Param c) code at s v s' e = marked _ v s s' refl e
+act_starts tables own here (instr.Length c) code at s v s' e = marked _ v s s' refl e
+act_starts tables own here (instr.Deref c) code at s v s' e = marked _ v s s' (calm_looks (AtCell c) (λ r. Stops (Fails 1 0)) s (λ r. refl)) e
+act_starts tables own here (instr.OpenRef j) code at s v s' e = marked _ v s s' (calm_looks (AtElements j) (λ r. Stops (Fails 1 0)) s (λ r. refl)) e
+act_starts tables own here (instr.Offset c t) code at s v s' e = marked _ v s s' (calm_place (λ a u r. gives_place a.root (a.cell + c) t [] r) s (λ a u r. calm_gives a.root (a.cell + c) t [] r)) e
+act_starts tables own here (instr.Index n k) code at s v s' e = marked _ v s s' (calm_number _ s (λ z r. calm_place _ r (λ a t x. calm_element a (natural n z) k [] x))) e
+act_starts tables own here (instr.IndexOpen j k) code at s v s' e = marked _ v s s' (calm_number _ s (λ z r. calm_lengths j [] _ r (λ ns x. calm_rows ns z k x))) e
+act_starts tables own here (instr.PickLen d j) code at s v s' e = marked _ v s s' (calm_counted j [] _ s (λ zs r. calm_place _ r (λ a t x. calm_picked (slice_get zs d) x))) e
+act_starts tables own here (instr.Unary op) code at s v s' e = marked _ v s s' (calm_number _ s (λ a r. calm_given (unary op a) r)) e
+act_starts tables own here (instr.Binary op) code at s v s' e = marked _ v s s' (calm_number _ s (λ b r. calm_number _ r (λ a x. calm_given (binary op a b) x))) e
+act_starts tables own here instr.EqRef code at s v s' e = marked _ v s s' (calm_object _ s (λ b r. calm_object _ r (λ a x. refl))) e
+act_starts tables own here (instr.Is t) code at s v s' e = marked _ v s s' (calm_looks (IsType t) (λ r. gives (Num (pos 0)) r) s (λ r. refl)) e
+act_starts tables own here (instr.IsPlace t) code at s v s' e = marked _ v s s' (calm_place (λ a d r. gives (Num (flag (extends tables.types d t))) r) s (λ a d r. refl)) e
+act_starts tables own here (instr.Guard t) code at s v s' e = marked _ v s s' (calm_looks (AsType t) (λ r. Stops (Fails 3 0)) s (λ r. refl)) e
+act_starts tables own here (instr.GuardPlace t) code at s v s' e =
+    marked _ v s s'
+    (calm_place (λ a d r. if extends tables.types d t then gives (Place a.root a.cell d) r else Stops (Fails 3 0)) s
+    (λ a d r. calm_jump (extends tables.types d t) (gives (Place a.root a.cell d) r) (Stops (Fails 3 0)) refl refl)) e
+act_starts tables own here (instr.Keep c k) code at s v s' e = marked _ v s s' (calm_if (nat_lt c _) _ (calm_kind k _ s (λ w r. refl))) e
+act_starts tables own here (instr.Kept c k) code at s v s' e = marked _ v s s' (calm_if (nat_lt c _) _ refl) e
+act_starts tables own here (instr.Fail n) code at s v s' e = marked _ v s s' refl e
+act_starts tables own here (instr.Assert c) code at s v s' e = marked _ v s s' (calm_number _ s (λ a r. calm_asserts c a r)) e
+act_starts tables own here (instr.Halt c) code at s v s' e = marked _ v s s' refl e
+act_starts tables own here (instr.Jump to) code at s v s' e = marked _ v s s' (calm_jumps code to at s) e
+act_starts tables own here (instr.JumpFalse to) code at s v s' e = marked _ v s s' (calm_number _ s (λ a r. calm_on_false code to at a r)) e
+act_starts tables own here (instr.Begin line col) code at s v s' e = marked _ v s s' refl e
+act_starts tables own here (instr.Load kind) code at s v s' e = marked _ v s s' (calm_place (λ a t r. Sees (Reads kind a) r) s (λ a t r. refl)) e
+act_starts tables own here (instr.Store kind) code at s v s' e = marked _ v s s' (calm_kind kind _ s (λ w r. calm_place (λ a t x. Sees (Stores a w) x) r (λ a t x. refl))) e
+act_starts tables own here (instr.Copy n) code at s v s' e = marked _ v s s' (calm_place (λ a t r. on_place (λ b u x. Sees (Copies n a b) x) r) s (λ a t r. calm_place (λ b u x. Sees (Copies n a b) x) r (λ b u x. refl))) e
+act_starts tables own here (instr.PutText strict) code at s v s' e = marked _ v s s' (calm_text (λ a n r. on_text (λ b m x. Sees (PutsText strict b m a n) x) r) s (λ a n r. calm_text (λ b m x. Sees (PutsText strict b m a n) x) r (λ b m x. refl))) e
+act_starts tables own here (instr.CmpText o) code at s v s' e = marked _ v s s' (calm_text (λ b m r. on_text (λ a n x. Sees (ComparesTexts o a n b m) x) r) s (λ b m r. calm_text (λ a n x. Sees (ComparesTexts o a n b m) x) r (λ a n x. refl))) e
+act_starts tables own here (instr.Call p) code at s v s' e = marked _ v s s' (calm_calls (numbered tables.procedures p) p s) e
+act_starts tables own here (instr.NewObject t) code at s v s' e = marked _ v s s' refl e
+act_starts tables own here (instr.NewArray t j) code at s v s' e = marked _ v s s' (calm_counted j [] _ s (λ zs r. refl)) e
+act_starts tables own here instr.Start code at s v s' e = start_on_top s v s' e
+act_starts tables own here instr.Return code at s v s' e = marked _ v s s' (calm_ends (numbered tables.procedures own) s) e
+act_starts tables own here instr.OutChar code at s v s' e = marked _ v s s' (calm_kind N _ s (λ w r. refl)) e
+act_starts tables own here instr.OutInt code at s v s' e = marked _ v s s' (calm_kind N _ s (λ w r. calm_kind N _ r (λ x y. refl))) e
+act_starts tables own here instr.OutString code at s v s' e = marked _ v s s' (calm_text (λ a n r. Sees (PutsString a n) r) s (λ a n r. refl)) e
+act_starts tables own here instr.OutLn code at s v s' e = marked _ v s s' refl e
+act_starts tables own here instr.OutOpen code at s v s' e = marked _ v s s' refl e
 
-module _ (shapes : List ProcShape) (own here : ℕ) (cells : List Cell) (code : List Instr) (q : Question) (p : ℕ) (k' : Keeps) (s' : Stack) where
+module _ (tables : Tables) (made : ℕ → Option Made) (own here : ℕ) (cells : List Cell) (code : List Instr) (q : Question) (p : ℕ) (k' : Keeps) (s' : Stack) where
   -- the instruction that asks, and the operands that it finds
   record Asked : Type 0 where
     instruction : Instr
     rest : List Instr
     there : drop p code ≡ instruction ∷ rest
     stack : Stack
-    asks : act shapes own here instruction code p stack ≡ Sees q s'
+    asks : act tables.procedures tables.types own here instruction code p stack ≡ Sees q s'
     visible : noted cells q ≡ Visible
 
   module _ (i : Instr) (rest : List Instr) (at : ℕ) (there : drop at code ≡ i ∷ rest) (next : ℕ → ℕ → Keeps → Stack → Stop) (ih : (over : ℕ) (k : Keeps) (s : Stack) → next over (at + 1) k s ≡ Work q p k' s' → Asked) (s : Stack) where
-    noted_asks : (n : Noted) (asked : Question) (k : Keeps) (s1 : Stack) → noted cells asked ≡ n → act shapes own here i code at s ≡ Sees asked s1 → on_noted n asked next at k s1 ≡ Work q p k' s' → Asked
+    noted_asks : (n : Noted) (asked : Question) (k : Keeps) (s1 : Stack) → noted cells asked ≡ n → act tables.procedures tables.types own here i code at s ≡ Sees asked s1 → on_noted n asked next at k s1 ≡ Work q p k' s' → Asked
     noted_asks Visible asked k s1 n seen e =
         let a : asked ≡ q = cc e in
         let b : at ≡ p = cc e in
@@ -199,7 +228,7 @@ module _ (shapes : List ProcShape) (own here : ℕ) (cells : List Cell) (code : 
           rest = rest;
           there = ap (λ x. drop x code) (sym b) ∙ there;
           stack = s;
-          asks = ap (λ x. act shapes own here i code x s) (sym b) ∙ seen ∙ (λ j. Sees (a j) (c j));
+          asks = ap (λ x. act tables.procedures tables.types own here i code x s) (sym b) ∙ seen ∙ (λ j. Sees (a j) (c j));
           visible = ap (noted cells) (sym a) ∙ n;
         }
     noted_asks (Answered v) asked k s1 n seen e = ih 0 k (v ∷ s1) e
@@ -209,37 +238,43 @@ module _ (shapes : List ProcShape) (own here : ℕ) (cells : List Cell) (code : 
     if_asks true k s1 e = ih 0 k s1 e
     if_asks false k s1 e = absurd (cc e)
 
-    act_asks : (a : Act) (k : Keeps) → act shapes own here i code at s ≡ a → on_act cells a next at k ≡ Work q p k' s' → Asked
+    told_asks : (t : Told) (k : Keeps) (s1 : Stack) → on_told t next at k s1 ≡ Work q p k' s' → Asked
+    told_asks (Tells vs) k s1 e = ih 0 k (vs ++ s1) e
+    told_asks (Refuses n) k s1 e = absurd (cc e)
+    told_asks Unheard k s1 e = absurd (cc e)
+
+    act_asks : (a : Act) (k : Keeps) → act tables.procedures tables.types own here i code at s ≡ a → on_act tables.types made cells a next at k ≡ Work q p k' s' → Asked
     act_asks (Goes over s1) k seen e = ih over k s1 e
     act_asks (Puts c v s1) k seen e = ih 0 (kept c v k) s1 e
     act_asks (Takes c kind s1) k seen e = if_asks (is_of kind (k c)) k (k c ∷ s1) e
+    act_asks (Looks l o s1) k seen e = told_asks (told_by tables.types l o (made o)) k s1 e
     act_asks (Sees asked s1) k seen e = noted_asks (noted cells asked) asked k s1 refl seen e
     act_asks (Stops end) k seen e = absurd (cc e)
 
-  walk_asks : (rest : List Instr) (over at : ℕ) (k : Keeps) (s : Stack) → drop at code ≡ rest → walk shapes own here cells code rest over at k s ≡ Work q p k' s' → Asked
+  walk_asks : (rest : List Instr) (over at : ℕ) (k : Keeps) (s : Stack) → drop at code ≡ rest → walk tables.procedures tables.types made own here cells code rest over at k s ≡ Work q p k' s' → Asked
   walk_asks [] over at k s there e = absurd (cc e)
   walk_asks (i ∷ rest) (suc n) at k s there e = walk_asks rest n (at + 1) k s (drop_next at code i rest there) e
   walk_asks (i ∷ rest) zero at k s there e =
-      act_asks i rest at there (walk shapes own here cells code rest) (λ over k1 s1 e1. walk_asks rest over (at + 1) k1 s1 (drop_next at code i rest there) e1) s (act shapes own here i code at s) k refl e
+      act_asks i rest at there (walk tables.procedures tables.types made own here cells code rest) (λ over k1 s1 e1. walk_asks rest over (at + 1) k1 s1 (drop_next at code i rest there) e1) s (act tables.procedures tables.types own here i code at s) k refl e
 
 -- from where silent work has come to a start, with the object on top
-module _ (shapes : List ProcShape) (own here : ℕ) (cells : List Cell) (code : List Instr) (at : ℕ) (k : Keeps) (s : Stack) (v : Cell) (p : ℕ) (k' : Keeps) (s' : Stack) (e : silent shapes own here cells code at k s ≡ Work (Starts v) p k' s') where
-  abbrev asking : Asked shapes own here cells code (Starts v) p k' s'
-  asking = walk_asks shapes own here cells code (Starts v) p k' s' (drop at code) 0 at k s refl e
+module _ (tables : Tables) (made : ℕ → Option Made) (own here : ℕ) (cells : List Cell) (code : List Instr) (at : ℕ) (k : Keeps) (s : Stack) (v : Cell) (p : ℕ) (k' : Keeps) (s' : Stack) (e : silent tables.procedures tables.types made own here cells code at k s ≡ Work (Starts v) p k' s') where
+  abbrev asking : Asked tables made own here cells code (Starts v) p k' s'
+  asking = walk_asks tables made own here cells code (Starts v) p k' s' (drop at code) 0 at k s refl e
 
-  starts_so : act shapes own here asking.instruction code p (v ∷ s') ≡ Sees (Starts v) s'
+  starts_so : act tables.procedures tables.types own here asking.instruction code p (v ∷ s') ≡ Sees (Starts v) s'
   starts_so =
-      ap (λ x. act shapes own here asking.instruction code p x) (sym (act_starts shapes own here asking.instruction code p asking.stack v s' asking.asks)) ∙ asking.asks
+      ap (λ x. act tables.procedures tables.types own here asking.instruction code p x) (sym (act_starts tables own here asking.instruction code p asking.stack v s' asking.asks)) ∙ asking.asks
 
-  -- it comes to the same
-  pub silent_at_start : silent shapes own here cells code p k' (v ∷ s') ≡ Work (Starts v) p k' s'
-  silent_at_start =
-      ap (λ l. walk shapes own here cells code l 0 p k' (v ∷ s')) asking.there
-      ∙ ap (λ a. on_act cells a (walk shapes own here cells code asking.rest) p k') starts_so
+  -- it comes to the same, whatever objects are known
+  pub silent_at_start : (known : ℕ → Option Made) → silent tables.procedures tables.types known own here cells code p k' (v ∷ s') ≡ Work (Starts v) p k' s'
+  silent_at_start known =
+      ap (λ l. walk tables.procedures tables.types known own here cells code l 0 p k' (v ∷ s')) asking.there
+      ∙ ap (λ a. on_act tables.types known cells a (walk tables.procedures tables.types known own here cells code asking.rest) p k') starts_so
 
   -- and the code goes on behind it
-  pub run_at_start : run shapes own here code p k' (v ∷ s') ≡ Asks (Starts v) (λ x. run shapes own here code (p + 1) k' s')
+  pub run_at_start : run tables own here code p k' (v ∷ s') ≡ Asks (Starts v) (λ x. run tables own here code (p + 1) k' s')
   run_at_start =
-      ap (λ l. runs shapes own here code l 0 p k' (v ∷ s')) asking.there
-      ∙ ap (λ a. on_run shapes a (runs shapes own here code asking.rest) p k') starts_so
-      ∙ ap (λ l. Asks (Starts v) (λ x. runs shapes own here code l 0 (p + 1) k' s')) (sym (drop_next p code asking.instruction asking.rest asking.there))
+      ap (λ l. runs tables own here code l 0 p k' (v ∷ s')) asking.there
+      ∙ ap (λ a. on_run tables a (runs tables own here code asking.rest) p k') starts_so
+      ∙ ap (λ l. Asks (Starts v) (λ x. runs tables own here code l 0 (p + 1) k' s')) (sym (drop_next p code asking.instruction asking.rest asking.there))

@@ -1,6 +1,6 @@
 -- The store and the memory that shows it, and an activity's frames on both sides.
-use Rattle.std.proofs.Common.{◌≡◌, Bool, true, false, ℕ, suc, pos, ◌<◌, ◌^◌, List, [], ◌∷◌, ◌++◌, length, map, Option, Some, None, if◌then◌else◌, refl, sym, ap, ◌∙◌, subst, arith}
-use Rattle.std.specs.Prelude.{slice_get, option_map, nat_eq}
+use Rattle.std.proofs.Common.{◌≡◌, Bool, true, false, ℕ, zero, suc, pos, ◌<◌, ◌^◌, List, [], ◌∷◌, ◌++◌, length, map, Option, Some, None, if◌then◌else◌, refl, sym, ap, ◌∙◌, subst, arith}
+use Rattle.std.specs.Prelude.{All, slice_get, option_map, nat_eq}
 use Rattle.std.proofs.lemmas.Bool.{eq-eqb}
 use Rattle.std.proofs.lemmas.List.{length-map}
 use Rattle.aos_base.specs.declared.text.Pos.{Pos}
@@ -20,7 +20,7 @@ use Rattle.aos_typed.specs.Typing.{Is, IsPlain}
 use Rattle.aos_typed.specs.Store.{Store}
 use Rattle.aos_typed.specs.Meaning.{Item, After, Into, Returns, Exits, items_of, item_of}
 use Rattle.aos_typed.specs.Source as S
-use Rattle.aos_typed.specs.Source.{first_value}
+use Rattle.aos_typed.specs.Source.{made_shape, first_value}
 use Rattle.aos_code.specs.declared.instr.Cell.{Cell}
 use Rattle.aos_code.specs.declared.instr.Cell.TheVariants.{Num}
 use Rattle.aos_code.specs.declared.image.Image.{Image}
@@ -33,10 +33,10 @@ use Rattle.aos_places.proofs.Grow.{grows_same, grows_twice, frame_grows, objects
 use Rattle.aos_places.proofs.Makes.{frames_shown_grow}
 use Rattle.aos_sim.specs.Cells.{cell_of}
 use Rattle.aos_sim.proofs.Kept.{values_kept}
-use Rattle.aos_sim.proofs.Runs.{Run, run, calm}
-use Rattle.aos_sim.proofs.Does.{scheme, HasTypes, IsFrameOf, IsAnswer, IsResult, AreReached, Does, calmly_grows, calm_does}
+use Rattle.aos_sim.proofs.Runs.{Run, tables_of, run}
+use Rattle.aos_sim.proofs.Does.{scheme, HasTypes, HasShapes, IsFrameOf, IsAnswer, IsResult, AreReached, IsWhole, Does, does_last, lasts_grow}
 use Rattle.aos_sim.proofs.Carries.{GoesOn, Remains, Behind}
-use Rattle.aos_sim.proofs.First.{zero_cell, first_is, first_same}
+use Rattle.aos_sim.proofs.First.{all_get, zero_cell, first_is, first_same}
 
 -- the world of the topmost of these frames
 abbrev pub world_of : Program → List Made → List (Shape Sort) → World Sort
@@ -45,9 +45,18 @@ world_of p made shapes = world (scheme p) made shapes
 abbrev pub shapes_of : List S.Frame → List (Shape Sort)
 shapes_of fs = map (λ f. f.shape) fs
 
+-- objects that are made as these have cells with numbers of 32 bits
+abbrev pub AreFew : Program → List Made → Type 0
+AreFew program made = All (λ m. size (made_shape program.types m) < 2 ^ 32) made
+
+number_get : {X : Type 0} (P : X → Type 0) (o : ℕ) (xs : List X) (x : X) → All P xs → by_number o xs ≡ Some x → P x
+number_get P zero xs x h e = absurd (cc)
+number_get P (suc o) xs x h e = all_get P xs o x h e
+
 -- the same objects were made on both sides, and the cells of modules and objects show what they hold
 pub record SameStore (program : Program) (s : Store) (mem : Memory) : Type 0 where
   pub made : mem.made ≡ s.made
+  pub few : AreFew program s.made
   pub of_modules : AllShown (Is program.types) cell_of (world_of program s.made []) (scheme program).modules s.modules mem.modules
   pub of_objects : AllShown (Is program.types) cell_of (world_of program s.made []) (map (scheme program).made s.made) s.objects mem.objects
 
@@ -93,12 +102,12 @@ module _ (program : Program) (image : Image) where
   Went own number here w (Some t) [] next k s = ⊥
   Went own number here w (Some t) (i ∷ is) next k s =
       let code = code_of image number in
-      Does program here (Behind program own image.shapes.items number here code is) w (run image.shapes.items number here code next k s) (feed t (item_of program here i))
+      Does program here (Behind program own (tables_of image) number here code is) w (run (tables_of image) number here code next k s) (feed t (item_of program here i))
 
   -- a frame above so many others, in a world; what remains of its items is what its code goes on with
   pub record SameFrame (w : World Sort) (here : ℕ) (f : S.Frame) (g : I.Frame) : Type 0 where
     pub place : Placed f g
-    pub remains : Remains program place.routine.own image.shapes.items g.procedure here (code_of image g.procedure) f.variables g.cells w f.answers f.items g.next g.keeps g.stack
+    pub remains : Remains program place.routine.own (tables_of image) g.procedure here (code_of image g.procedure) f.variables g.cells w f.answers f.items g.next g.keeps g.stack
 
   -- one that has had an answer
   pub record WentFrame (w : World Sort) (here : ℕ) (f : S.Frame) (g : I.Frame) : Type 0 where
@@ -137,7 +146,7 @@ module _ (program : Program) (image : Image) where
   -- the code of each routine carries out its statements
   abbrev pub RoutinesRun : Type 0
   RoutinesRun =
-      (p : ℕ) (r : Routine) → by_number p (routines program) ≡ Some r → (here : ℕ) → GoesOn program r.own image.shapes.items p here (code_of image p) (items_of r.body) (run image.shapes.items p here (code_of image p) 0 (λ c. Num (pos 0)) [])
+      (p : ℕ) (r : Routine) → by_number p (routines program) ≡ Some r → (here : ℕ) → GoesOn program r.own (tables_of image) p here (code_of image p) (items_of r.body) (run (tables_of image) p here (code_of image p) 0 (λ c. Num (pos 0)) [])
 
   -- the bodies of modules that are to follow, and the procedures that they are
   abbrev pub Follows : List ℕ → List ℕ → Type 0
@@ -205,6 +214,29 @@ module _ (program : Program) (image : Image) where
   ends_shown made ms ps v (Some c) (f ∷ fs) [] h = h
   ends_shown made ms ps v (Some c) (f ∷ fs) (g ∷ gs) h = h
 
+  -- What follows a statement stays so as the world grows.
+
+  result_grows : (w w' : World Sort) → Grows w w' → (t : Option TType) (r : Option Value) → IsResult program w t r → IsResult program w' t r × (option_map (cell_of w) r ≡ option_map (cell_of w') r)
+  result_grows w w' g None None h = (h, refl)
+  result_grows w w' g None (Some v) h = absurd h
+  result_grows w w' g (Some t) None h = absurd h
+  result_grows w w' g (Some t) (Some v) h =
+      ((values_kept program.types).is w w' g (Plain (id_of t)) v h, ap (λ c. Some c) ((values_kept program.types).cells w w' g (Plain (id_of t)) v h))
+
+  pub behind_grows : (w w' : World Sort) → Grows w w' → (own : Option Procedure) (number here : ℕ) (is : List Item) (a : After) (m : Run) → Behind program own (tables_of image) number here (code_of image number) is w a m → Behind program own (tables_of image) number here (code_of image number) is w' a m
+  behind_grows w w' g own number here is (Into new) m h = h
+  behind_grows w w' g own number here is Exits m h = h
+  behind_grows w w' g own number here is (Returns r) m h =
+      let k = result_grows w w' g (result_of own) r h.2 in
+      (h.0, h.1 ∙ ap (λ o. Asks (Ends o) h.0) k.1, k.0)
+
+  remains_grows : (w w' : World Sort) → Grows w w' → (own : Option Procedure) (number here : ℕ) (c : Content Value) (cells : List Cell) (answers : Option (List Value)) (is : List Item) (next : ℕ) (k : Keeps) (st : Stack) → Remains program own (tables_of image) number here (code_of image number) c cells w answers is next k st → Remains program own (tables_of image) number here (code_of image number) c cells w' answers is next k st
+  remains_grows w w' g own number here c cells None is next k st h = h
+  remains_grows w w' g own number here c cells (Some t) [] next k st h = absurd h
+  remains_grows w w' g own number here c cells (Some t) (i ∷ is) next k st h =
+      let code = code_of image number in
+      lasts_grow program here w w' g (Behind program own (tables_of image) number here code is) image.types.items c cells (run (tables_of image) number here code next k st) (feed t (item_of program here i)) h
+
   -- Behind an answer.
 
   -- what stands below a root of frames that have so few scalars has cells with numbers of 32 bits
@@ -219,32 +251,41 @@ module _ (program : Program) (image : Image) where
     waiting_few made result (f ∷ fs) (g ∷ gs) h d s e =
         frame_few f.shape (nat_eq d (length (shapes_of fs))) d s h.0.place.frame.few (shapes_of fs) (λ e'. waiting_few made (result_of h.0.place.routine.own) fs gs h.1 d s e') e
 
-    pub all_reached : (made : List Made) (z : Shape Sort) (result : Option TType) (fs : List S.Frame) (gs : List I.Frame) → size z < 2 ^ 32 → Waiting made result fs gs → AreReached (world_of program made (z ∷ shapes_of fs))
-    all_reached made z result fs gs few h (FrameRoot d) s e =
+    all_reached : (made : List Made) (z : Shape Sort) (result : Option TType) (fs : List S.Frame) (gs : List I.Frame) → AreFew program made → size z < 2 ^ 32 → Waiting made result fs gs → AreReached (world_of program made (z ∷ shapes_of fs))
+    all_reached made z result fs gs objects few h (FrameRoot d) s e =
         frame_few z (nat_eq d (length (shapes_of fs))) d s few (shapes_of fs) (waiting_few made result fs gs h d s) e
-    all_reached made z result fs gs few h (ModuleRoot m) s e = typed.few m s e
-    all_reached made z result fs gs few h (ObjectRoot o) s e = by (by_number o made) e
+    all_reached made z result fs gs objects few h (ModuleRoot m) s e = typed.few m s e
+    all_reached made z result fs gs objects few h (ObjectRoot o) s e = by (by_number o made) refl e
       where
-        by : (m : Option Made) → option_map (scheme program).made m ≡ Some s → size s < 2 ^ 32
-        by None e' = absurd (cc)
-        by (Some m) e' = let q : Nothing ≡ s = cc in subst (λ x. size x < 2 ^ 32) q (omega arith)
+        by : (m : Option Made) → by_number o made ≡ m → option_map (scheme program).made m ≡ Some s → size s < 2 ^ 32
+        by None f e' = absurd (cc)
+        by (Some m) f e' = let q : made_shape program.types m ≡ s = cc in subst (λ x. size x < 2 ^ 32) q (number_get (λ m. size (made_shape program.types m) < 2 ^ 32) o made m objects f)
+
+    -- and so all objects have the shapes that they are made as
+    pub all_whole : (made : List Made) (z : Shape Sort) (result : Option TType) (fs : List S.Frame) (gs : List I.Frame) → AreFew program made → size z < 2 ^ 32 → Waiting made result fs gs → IsWhole program (world_of program made (z ∷ shapes_of fs))
+    all_whole made z result fs gs objects few h =
+        record { reached = all_reached made z result fs gs objects few h; objects = λ o m e. ap (option_map (made_shape program.types)) e }
 
     -- with an answer the topmost frame's silent questions are answered
-    pub went_same : (made : List Made) (fs : List S.Frame) (gs : List I.Frame) → WentFrames made fs gs → SameVariables program made fs gs → SameFrames made fs gs
-    went_same made [] [] h shown = tt
-    went_same made [] (g ∷ gs) h shown = absurd h
-    went_same made (f ∷ fs) [] h shown = absurd h
-    went_same made (f ∷ fs) (g ∷ gs) h shown =
+    pub went_same : HasShapes program (tables_of image) → (made : List Made) (fs : List S.Frame) (gs : List I.Frame) → AreFew program made → WentFrames made fs gs → SameVariables program made fs gs → SameFrames made fs gs
+    went_same shaped made [] [] few h shown = tt
+    went_same shaped made [] (g ∷ gs) few h shown = absurd h
+    went_same shaped made (f ∷ fs) [] few h shown = absurd h
+    went_same shaped made (f ∷ fs) (g ∷ gs) few h shown =
         let place = h.0.place in
-        let reached = all_reached made f.shape (result_of place.routine.own) fs gs place.frame.few h.1 in
-        (record { place = place; remains = calmed place.routine.own f.answers f.items h.0.went reached }, h.1)
+        let whole = all_whole made f.shape (result_of place.routine.own) fs gs few place.frame.few h.1 in
+        (record { place = place; remains = calmed place.routine.own f.answers f.items h.0.went whole }, h.1)
       where
-        calmed : (own : Option Procedure) (answers : Option (List Value)) (items : List Item) → Went own g.procedure (length fs) (world_of program made (shapes_of (f ∷ fs))) answers items g.next g.keeps g.stack → AreReached (world_of program made (shapes_of (f ∷ fs))) → Remains program own image.shapes.items g.procedure (length fs) (code_of image g.procedure) f.variables g.cells (world_of program made (shapes_of (f ∷ fs))) answers items g.next g.keeps g.stack
-        calmed own None items h' reached = absurd h'
-        calmed own (Some t) [] h' reached = absurd h'
-        calmed own (Some t) (i ∷ is) h' reached =
+        now : World Sort
+        now = world_of program made (shapes_of (f ∷ fs))
+
+        calmed : (own : Option Procedure) (answers : Option (List Value)) (items : List Item) → Went own g.procedure (length fs) now answers items g.next g.keeps g.stack → IsWhole program now → Remains program own (tables_of image) g.procedure (length fs) (code_of image g.procedure) f.variables g.cells now answers items g.next g.keeps g.stack
+        calmed own None items h' whole = absurd h'
+        calmed own (Some t) [] h' whole = absurd h'
+        calmed own (Some t) (i ∷ is) h' whole =
             let code = code_of image g.procedure in
-            calm_does program (length fs) (world_of program made (shapes_of (f ∷ fs))) f.shape f.variables g.cells (top_shape program made f fs) shown.0 reached (Behind program own image.shapes.items g.procedure (length fs) code is) (run image.shapes.items g.procedure (length fs) code g.next g.keeps g.stack) (feed t (item_of program (length fs) i)) h'
+            does_last program (length fs) (Behind program own (tables_of image) g.procedure (length fs) code is) now f.shape f.variables g.cells (tables_of image) (run (tables_of image) g.procedure (length fs) code g.next g.keeps g.stack) (feed t (item_of program (length fs) i))
+            (λ w' up. behind_grows now w' up own g.procedure (length fs) is) (top_shape program made f fs) shown.0 whole shaped h'
 
   -- The next body.
 
@@ -277,27 +318,6 @@ module _ (program : Program) (image : Image) where
   opened_same runs made x y h = opened_by_same runs made x.frames y.frames x.following y.following h.follows h.frames h.shown
 
   -- As objects are made.
-
-  result_grows : (w w' : World Sort) → Grows w w' → (t : Option TType) (r : Option Value) → IsResult program w t r → IsResult program w' t r × (option_map (cell_of w) r ≡ option_map (cell_of w') r)
-  result_grows w w' g None None h = (h, refl)
-  result_grows w w' g None (Some v) h = absurd h
-  result_grows w w' g (Some t) None h = absurd h
-  result_grows w w' g (Some t) (Some v) h =
-      ((values_kept program.types).is w w' g (Plain (id_of t)) v h, ap (λ c. Some c) ((values_kept program.types).cells w w' g (Plain (id_of t)) v h))
-
-  behind_grows : (w w' : World Sort) → Grows w w' → (own : Option Procedure) (number here : ℕ) (is : List Item) (a : After) (m : Run) → Behind program own image.shapes.items number here (code_of image number) is w a m → Behind program own image.shapes.items number here (code_of image number) is w' a m
-  behind_grows w w' g own number here is (Into new) m h = h
-  behind_grows w w' g own number here is Exits m h = h
-  behind_grows w w' g own number here is (Returns r) m h =
-      let k = result_grows w w' g (result_of own) r h.2 in
-      (h.0, h.1 ∙ ap (λ o. Asks (Ends o) h.0) k.1, k.0)
-
-  remains_grows : (w w' : World Sort) → Grows w w' → (own : Option Procedure) (number here : ℕ) (c : Content Value) (cells : List Cell) (answers : Option (List Value)) (is : List Item) (next : ℕ) (k : Keeps) (st : Stack) → Remains program own image.shapes.items number here (code_of image number) c cells w answers is next k st → Remains program own image.shapes.items number here (code_of image number) c cells w' answers is next k st
-  remains_grows w w' g own number here c cells None is next k st h = h
-  remains_grows w w' g own number here c cells (Some t) [] next k st h = absurd h
-  remains_grows w w' g own number here c cells (Some t) (i ∷ is) next k st h =
-      let code = code_of image number in
-      calmly_grows program here w w' g (Behind program own image.shapes.items number here code is) (behind_grows w w' g own number here is) cells (calm cells (run image.shapes.items number here code next k st)) (S.calm c (feed t (item_of program here i))) h
 
   module _ (made more : List Made) where
     abbrev up : (shapes : List (Shape Sort)) → Grows (world_of program made shapes) (world_of program (made ++ more) shapes)

@@ -4,89 +4,62 @@ use Rattle.std.proofs.Common.{◌≡◌, ℕ, ℤ, suc, pos, ◌+◌, ◌<◌, �
 use Rattle.std.specs.Prelude.{option_map, is_some}
 use Rattle.std.proofs.lemmas.Bool.{le-ltb, lt-ltb}
 use Rattle.std.proofs.lemmas.List.{drop-drop}
-use Rattle.aos_base.specs.declared.number.Width.TheVariants.{W8, W16, W32, W64}
+use Rattle.aos_base.specs.declared.number.Width.TheVariants.{W64}
 use Rattle.aos_base.specs.declared.text.Pos.{Pos}
 use Rattle.aos_base.specs.Operators.{flag}
-use Rattle.aos_base.specs.Question.{Val, Asks, Traps, bind, ask, Stores, Copies, PutsText, Calls, Ends, Makes, Starts, PutsInt, PutsChar, PutsString, PutsNothing, PutsLn}
-use Rattle.aos_types.specs.declared.row.TypeRow.TheVariants as row
-use Rattle.aos_types.specs.Table.{row_of, is_object}
+use Rattle.aos_base.specs.Question.{Val, Asks, Traps, bind, ask, Stores, Copies, PutsText, Calls, Ends, PutsInt, PutsChar, PutsString, PutsNothing, PutsLn}
+use Rattle.aos_types.specs.Table.{row_of}
 use Rattle.aos_types.specs.World.{World}
 use Rattle.aos_typed.specs.declared.tree.TType.{TType}
 use Rattle.aos_typed.specs.declared.tree.TType.TheVariants as type
-use Rattle.aos_typed.specs.Program.{Place, Rows, Arguments, Expr, Call, Open as OutOpen, Char as OutChar, Int as OutInt, String as OutString, Ln as OutLn, Stat, Assign, Copy, PutText, If, Case, While, Repeat, Loop, Exit, For, Block, Assert, Halt, Change, Perform, Return, New, Out, Stats, Procedure, Program}
+use Rattle.aos_typed.specs.Program.{Place, Rows, Arguments, Expr, Call, Open as OutOpen, Char as OutChar, Int as OutInt, String as OutString, Ln as OutLn, Stat, Assign, Copy, PutText, If, Case, While, Repeat, Loop, Exit, For, Block, Assert, Halt, Change, Perform, Return, New, Make, With, WithRecord, Out, Stats, Procedure, Program}
 use Rattle.aos_typed.specs.Numbers.{id_of, procedure_number}
 use Rattle.aos_typed.specs.Routines.{result_of}
-use Rattle.aos_typed.specs.Sort.{Sort, Plain}
+use Rattle.aos_typed.specs.Sort.{Sort, Plain, variable_shape}
 use Rattle.aos_typed.specs.Spot.{Spot}
-use Rattle.aos_typed.specs.Value.{Value, Int, Flag, Object, number_of, is_true}
+use Rattle.aos_typed.specs.Value.{Value, Int, Flag, is_true}
 use Rattle.aos_typed.specs.Meaning as source
 use Rattle.aos_typed.specs.Meaning.{Doing, Found, text_length, Item, After, Into, Returns, leave, items_of, place_of, rows_of, arguments_of, value_of, stat_of, out_of, pos_of}
-use Rattle.aos_typed.specs.WellTyped.{is_basic, IsReturn, AreStatements}
-use Rattle.aos_layout.specs.Layout.{kind_in, kind_of as cell_kind}
-use Rattle.aos_code.specs.declared.image.ProcShape.{ProcShape}
+use Rattle.aos_types.specs.Shape.{Shape, join}
+use Rattle.aos_types.specs.Content.{EachSort}
+use Rattle.aos_typed.specs.Typing.{Is, IsPlain}
+use Rattle.aos_sim.proofs.Parts.{each_rest}
+use Rattle.aos_typed.specs.WellTyped.{is_value, NamesType, IsReturn, AreStatements}
+use Rattle.aos_layout.specs.Layout.{kind_of as cell_kind}
 use Rattle.aos_code.specs.declared.instr.Cell.{Cell}
-use Rattle.aos_code.specs.declared.instr.Cell.TheVariants as cell
 use Rattle.aos_code.specs.declared.instr.Cell.TheVariants.{Num}
 use Rattle.aos_code.specs.declared.instr.Instr.{Instr}
 use Rattle.aos_code.specs.declared.instr.Instr.TheVariants as i
-use Rattle.aos_code.specs.declared.instr.Kind.TheVariants.{N, R}
+use Rattle.aos_code.specs.declared.instr.Kind.{Kind}
+use Rattle.aos_code.specs.declared.instr.Kind.TheVariants.{N}
 use Rattle.aos_code.specs.Numbered.{numbered}
 use Rattle.aos_code.specs.Silent.{Stack, Keeps, keeps_in, kept, is_of, jumps, lands}
 use Rattle.aos_sim.specs.Cells.{place_in, cell_of}
 use Rattle.aos_sim.specs.Code.{begin, kind_of, cells_of, place_code, rows_code, arguments_code, operands_code, value_code, stat_code, stats_code, end_code, body_code}
 use Rattle.aos_sim.specs.Need.{keeps_of}
-use Rattle.aos_sim.proofs.Runs.{Run, Onward, AtBegin, gives_result, on_run, runs, run, drop_next, drop_past, get_at}
-use Rattle.aos_sim.proofs.Types.{IsValueOf, basic_of, number_cell, is_integer, is_character}
-use Rattle.aos_sim.proofs.Does.{HasPredeclared, HasTypes, HasShapes, Knows, addr_of, placed, Given, IsResult, Valid, Does, knows_grows, along}
-use Rattle.aos_sim.proofs.Variables.{basic_row, basic_is_one, object_variable, value_to, made_value}
-use Rattle.aos_sim.proofs.Evaluates.{OfType, number_in, pushed, Brings, ComesTo, Remain, Stays, front_does, piece_does, two_do, values_stay, operand_does}
-use Rattle.aos_sim.proofs.Designators.{IsFound, IsText, IsRoom, text_cells, places_stay, texts_remain}
-use Rattle.aos_sim.proofs.Exprs.{place_does, arguments_do, value_does, text_found, room_found}
-use Rattle.aos_sim.proofs.Called.{call_asks, call_valid, call_gives}
+use Rattle.aos_sim.proofs.Runs.{Run, Onward, Tables, AtBegin, gives_result, on_run, runs, run, drop_next, drop_past, get_at}
+use Rattle.aos_sim.proofs.Types.{number_cell, is_integer, is_character}
+use Rattle.aos_sim.proofs.Does.{HasTypes, HasShapes, Knows, addr_of, placed, Given, IsResult, Valid, Does, along}
+use Rattle.aos_sim.proofs.References.{stored_kind}
+use Rattle.aos_sim.proofs.Evaluates.{OfType, number_in, OfSort, pushed, Brings, ComesTo, Remain, Stays, front_does, piece_does, two_do, values_stay, operand_does}
+use Rattle.aos_sim.proofs.Designators.{IsFound, holds_whole, holds_extension, IsText, IsRoom, text_cells, places_stay, texts_remain}
+use Rattle.aos_sim.proofs.Exprs.{scalar_found, place_does, arguments_do, yields_do, value_does, text_found, room_found}
+use Rattle.aos_sim.proofs.Called.{kind_of_value, call_asks, call_valid, call_gives}
 use Rattle.aos_sim.proofs.Shortcuts.{by_flag}
 use Rattle.aos_sim.proofs.Sizes.{stats_length}
 use Rattle.aos_sim.proofs.Carries.{Stands, IsOwn, AtEnd, HasStatements, Carries, bound, GoesOn, Behind, outside, carries_all, StatementDoes}
 
-pub basic_kind : (t : TType) → is_basic t ≡ true → kind_of t ≡ N
-basic_kind (type.Integer w) e = refl
-basic_kind type.Boolean e = refl
-basic_kind type.Char e = refl
-basic_kind type.Set e = refl
-basic_kind (type.Named t) e = absurd (cc)
-
--- values that an expression has are of basic types
-pub basic_value : (t : TType) (v : Value) → IsValueOf t v → is_basic t ≡ true
-basic_value (type.Integer w) v h = refl
-basic_value type.Boolean v h = refl
-basic_value type.Char v h = refl
-basic_value type.Set v h = refl
-basic_value (type.Named t) v h = absurd h
-
--- whose cells have numbers
-pub basic_cell : (program : Program) → HasPredeclared program → (t : TType) → is_basic t ≡ true → cell_kind program.types (id_of t) ≡ N
-basic_cell program p t e = ap kind_in (basic_row program p t e) ∙ by t e
-  where
-    by : (t : TType) → is_basic t ≡ true → kind_in (Some (row.Basic (basic_of t))) ≡ N
-    by (type.Integer W8) e = refl
-    by (type.Integer W16) e = refl
-    by (type.Integer W32) e = refl
-    by (type.Integer W64) e = refl
-    by type.Boolean e = refl
-    by type.Char e = refl
-    by type.Set e = refl
-    by (type.Named t) e = absurd (cc)
-
-module _ (program : Program) (own : Option Procedure) (shapes : List ProcShape) (number here : ℕ) (code : List Instr) where
+module _ (program : Program) (own : Option Procedure) (tables : Tables) (number here : ℕ) (code : List Instr) where
   abbrev onward : List Instr → Onward
-  onward = runs shapes number here code
+  onward = runs tables number here code
 
   abbrev from : ℕ → Keeps → Stack → Run
-  from = run shapes number here code
+  from = run tables number here code
 
   abbrev Leaves : List Item → World Sort → After → Run → Type 0
-  Leaves = Behind program own shapes number here code
+  Leaves = Behind program own tables number here code
 
-  pub from_here : (at : ℕ) (xs : List Instr) (k : Keeps) (s : Stack) → drop at code ≡ xs → run shapes number here code at k s ≡ runs shapes number here code xs 0 at k s
+  pub from_here : (at : ℕ) (xs : List Instr) (k : Keeps) (s : Stack) → drop at code ≡ xs → run tables number here code at k s ≡ runs tables number here code xs 0 at k s
   from_here at xs k s e = ap (λ l. onward l 0 at k s) e
 
   -- passing over instructions
@@ -98,26 +71,26 @@ module _ (program : Program) (own : Option Procedure) (shapes : List ProcShape) 
       skips n (p + 1) rest k s (drop_next p code x rest e) ∙ ap (λ m. from m k s) z
 
   -- a jump forward, or back to a Begin, goes on there
-  pub jumps_on : (rest : List Instr) (to at : ℕ) (k : Keeps) (s : Stack) → at < to → drop (at + 1) code ≡ rest → on_run shapes (jumps code to at s) (runs shapes number here code rest) at k ≡ run shapes number here code to k s
+  pub jumps_on : (rest : List Instr) (to at : ℕ) (k : Keeps) (s : Stack) → at < to → drop (at + 1) code ≡ rest → on_run tables (jumps code to at s) (runs tables number here code rest) at k ≡ run tables number here code to k s
   jumps_on rest to at k s lt e =
       let n = to - (at + 1) in
       let z : at + 1 + n ≡ to = omega (arith, lt) in
       rw (lt-ltb at to lt) (skips n (at + 1) rest k s e ∙ ap (λ m. from m k s) z)
 
-  pub jumps_back : (to p : ℕ) (there : Pos) (rest xs : List Instr) (k : Keeps) (s : Stack) → to ≤ p → drop to code ≡ begin there ∷ xs → on_run shapes (jumps code to p s) (runs shapes number here code rest) p k ≡ run shapes number here code to k s
+  pub jumps_back : (to p : ℕ) (there : Pos) (rest xs : List Instr) (k : Keeps) (s : Stack) → to ≤ p → drop to code ≡ begin there ∷ xs → on_run tables (jumps code to p s) (runs tables number here code rest) p k ≡ run tables number here code to k s
   jumps_back to p there rest xs k s le e =
-      rw (le-ltb p to le) (ap (λ o. on_run shapes (lands o to s) (onward rest) p k) (get_at to code (begin there) xs e) ∙ sym (from_here to (begin there ∷ xs) k s e))
+      rw (le-ltb p to le) (ap (λ o. on_run tables (lands o to s) (onward rest) p k) (get_at to code (begin there) xs e) ∙ sym (from_here to (begin there ∷ xs) k s e))
 
   -- a number is kept, and taken
-  pub keeps_number : (c : ℕ) (z : ℤ) (rest : List Instr) (p : ℕ) (k : Keeps) (s : Stack) → c < keeps_in (numbered shapes number) → runs shapes number here code (i.Keep c N ∷ rest) 0 p k (Num z ∷ s) ≡ runs shapes number here code rest 0 (p + 1) (kept c (Num z) k) s
-  keeps_number c z rest p k s lt = rw (lt-ltb c (keeps_in (numbered shapes number)) lt) refl
+  pub keeps_number : (c : ℕ) (z : ℤ) (rest : List Instr) (p : ℕ) (k : Keeps) (s : Stack) → c < keeps_in (numbered tables.procedures number) → runs tables number here code (i.Keep c N ∷ rest) 0 p k (Num z ∷ s) ≡ runs tables number here code rest 0 (p + 1) (kept c (Num z) k) s
+  keeps_number c z rest p k s lt = rw (lt-ltb c (keeps_in (numbered tables.procedures number)) lt) refl
 
-  pub takes_number : (c : ℕ) (z : ℤ) (rest : List Instr) (p : ℕ) (k : Keeps) (s : Stack) → c < keeps_in (numbered shapes number) → k c ≡ Num z → runs shapes number here code (i.Kept c N ∷ rest) 0 p k s ≡ runs shapes number here code rest 0 (p + 1) k (Num z ∷ s)
+  pub takes_number : (c : ℕ) (z : ℤ) (rest : List Instr) (p : ℕ) (k : Keeps) (s : Stack) → c < keeps_in (numbered tables.procedures number) → k c ≡ Num z → runs tables number here code (i.Kept c N ∷ rest) 0 p k s ≡ runs tables number here code rest 0 (p + 1) k (Num z ∷ s)
   takes_number c z rest p k s lt e =
-      rw (lt-ltb c (keeps_in (numbered shapes number)) lt) (ap (λ v. if is_of N v then onward rest 0 (p + 1) k (v ∷ s) else Traps 16 0) e)
+      rw (lt-ltb c (keeps_in (numbered tables.procedures number)) lt) (ap (λ v. if is_of N v then onward rest 0 (p + 1) k (v ∷ s) else Traps 16 0) e)
 
   -- what the code comes to where no item is left
-  pub ends : IsOwn program own shapes number → (m : Run) → GoesOn program own shapes number here code [] m → AtEnd (result_of own) m
+  pub ends : IsOwn program own tables number → (m : Run) → GoesOn program own tables number here code [] m → AtEnd (result_of own) m
   ends is m o =
       let c = o.carries in
       by (result_of own) refl (o.runs ∙ c.2 o.keeps [] ∙ from_here c.0 (end_code program own ++ c.3.rest) o.keeps [] c.3.here)
@@ -129,20 +102,20 @@ module _ (program : Program) (own : Option Procedure) (shapes : List ProcShape) 
       by (Some t) e h = h ∙ rw e refl
 
   -- a body, to whose end an EXIT leads that stands in no LOOP
-  pub body_goes : (ss : Stats) (k : Keeps) → AreStatements program own ss → keeps_of ss ≤ keeps_in (numbered shapes number) → code ≡ body_code program own ss → GoesOn program own shapes number here code (items_of ss) (run shapes number here code 0 k [])
+  pub body_goes : (ss : Stats) (k : Keeps) → AreStatements program own ss → keeps_of ss ≤ keeps_in (numbered tables.procedures number) → code ≡ body_code program own ss → GoesOn program own tables number here code (items_of ss) (run tables number here code 0 k [])
   body_goes ss k ok holds is =
       let x = length (stats_code program own ss 0 0 0) in
       let cs = stats_code program own ss 0 x 0 in
       let last = end_code program own in
-      let has : HasStatements program own shapes number here code ss 0 x 0 = record { stands = record { rest = last; here = is }; typed = ok; holds = holds } in
+      let has : HasStatements program own tables number here code ss 0 x 0 = record { stands = record { rest = last; here = is }; typed = ok; holds = holds } in
       let end : Stands code (0 + length cs) last = record { rest = []; here = drop_past cs 0 code last is ∙ sym (append-nil last) } in
       let len : length (stats_code program own ss 0 0 0) ≡ 0 + length cs = omega (arith, stats_length program own ss 0 0 x 0) in
       let exit : Stands code x last = subst (λ n. Stands code n last) (sym len) end in
-      let all = carries_all program own shapes number here code ss 0 x 0 k [] has (0 + length cs, omega (arith, len), (λ k s. refl), end, exit) in
-      record { at = 0; exit = x; level = 0; keeps = k; runs = refl; carries = subst (λ is. Carries program own shapes number here code is 0 x 0 k) (append-nil (items_of ss)) all }
+      let all = carries_all program own tables number here code ss 0 x 0 k [] has (0 + length cs, omega (arith, len), (λ k s. refl), end, exit) in
+      record { at = 0; exit = x; level = 0; keeps = k; runs = refl; carries = subst (λ is. Carries program own tables number here code is 0 x 0 k) (append-nil (items_of ss)) all }
 
   -- a statement's code begins with its Begin
-  pub begins_with : (s : Stat) (at x d : ℕ) (k : Keeps) → Stands code at (stat_code program own s at x d) → run shapes number here code at k [] ≡ Val (AtBegin at (pos_of s) k [])
+  pub begins_with : (s : Stat) (at x d : ℕ) (k : Keeps) → Stands code at (stat_code program own s at x d) → run tables number here code at k [] ≡ Val (AtBegin at (pos_of s) k [])
   begins_with (Assign there t p e) at x d k st = ap (λ l. onward l 0 at k []) st.here
   begins_with (Copy there t p q) at x d k st = ap (λ l. onward l 0 at k []) st.here
   begins_with (PutText there strict a b) at x d k st = ap (λ l. onward l 0 at k []) st.here
@@ -160,29 +133,30 @@ module _ (program : Program) (own : Option Procedure) (shapes : List ProcShape) 
   begins_with (Perform there m n more) at x d k st = ap (λ l. onward l 0 at k []) st.here
   begins_with (Return there None) at x d k st = ap (λ l. onward l 0 at k []) st.here
   begins_with (Return there (Some e)) at x d k st = ap (λ l. onward l 0 at k []) st.here
+  begins_with (Make there p t ns) at x d k st = ap (λ l. onward l 0 at k []) st.here
+  begins_with (With there e b) at x d k st = ap (λ l. onward l 0 at k []) st.here
+  begins_with (WithRecord there p b) at x d k st = ap (λ l. onward l 0 at k []) st.here
   begins_with (New there p t) at x d k st = ap (λ l. onward l 0 at k []) st.here
   begins_with (Out there call) at x d k st = ap (λ l. onward l 0 at k []) st.here
 
   module _ (x d : ℕ) (k : Keeps) (after : List Item) where
     abbrev Carried : ℕ → Type 0
-    Carried p = Carries program own shapes number here code after p x d k
+    Carried p = Carries program own tables number here code after p x d k
 
     -- a statement that is done, at a place
-    pub goes_on : (p : ℕ) (rest : List Instr) → drop p code ≡ rest → Carries program own shapes number here code after p x d k → GoesOn program own shapes number here code after (runs shapes number here code rest 0 p k [])
+    pub goes_on : (p : ℕ) (rest : List Instr) → drop p code ≡ rest → Carries program own tables number here code after p x d k → GoesOn program own tables number here code after (runs tables number here code rest 0 p k [])
     goes_on p rest e c = record { at = p; exit = x; level = d; keeps = k; runs = sym (from_here p rest k [] e); carries = c }
 
     -- the statement's last instruction asks, and with the answer the statement is done
-    pub last_asks : (q : source.Question) (w : World Sort) (m : Run) (p : ℕ) (rest : List Instr) → m ≡ Asks (placed program w q) (λ x. runs shapes number here code rest 0 (p + 1) k []) → Valid program here w q → drop (p + 1) code ≡ rest → Carries program own shapes number here code after (p + 1) x d k → Does program here (Behind program own shapes number here code after) w m (bind (ask q) (λ _. Val (Into [])))
+    pub last_asks : (q : source.Question) (w : World Sort) (m : Run) (p : ℕ) (rest : List Instr) → m ≡ Asks (placed program w q) (λ x. runs tables number here code rest 0 (p + 1) k []) → Valid program here w q → drop (p + 1) code ≡ rest → Carries program own tables number here code after (p + 1) x d k → Does program here (Behind program own tables number here code after) w m (bind (ask q) (λ _. Val (Into [])))
     last_asks q w m p rest e ok there c = ((λ x. onward rest 0 (p + 1) k []), e, ok, λ w' up v a. goes_on (p + 1) rest there c)
 
-    -- a value of a basic type above the place that it's stored at
-    pub store_asks : (t : TType) (w : World Sort) (a : Spot) (rest : List Instr) (p : ℕ) (v : Value) → is_basic t ≡ true → IsValueOf t v → onward (i.Store (kind_of t) ∷ rest) 0 p k (Num (number_of v) ∷ (place_in w a ∷ [])) ≡ Asks (placed program w (Stores a v)) (λ x. onward rest 0 (p + 1) k [])
-    store_asks t w a rest p v b is =
-        ap (λ kind. onward (i.Store kind ∷ rest) 0 p k (Num (number_of v) ∷ (place_in w a ∷ []))) (basic_kind t b)
-        ∙ ap (λ c. Asks (Stores (addr_of w a) c) (λ x. onward rest 0 (p + 1) k [])) (sym (number_cell w t v is))
+    -- a value above the place that it's stored at
+    pub store_asks : HasTypes program → (t : TType) (w : World Sort) (a : Spot) (rest : List Instr) (p : ℕ) (v : Value) → is_value program.types t ≡ true → Is program.types w (Plain (id_of t)) v → runs tables number here code (i.Store (kind_of t) ∷ rest) 0 p k (cell_of w v ∷ (place_in w a ∷ [])) ≡ Asks (placed program w (Stores a v)) (λ x. runs tables number here code rest 0 (p + 1) k [])
+    store_asks typed t w a rest p v value is = rw (stored_kind program typed.predeclared t value w v is) refl
 
     -- a statement whose code comes to two operands and does its work with its last instruction, which asks
-    two_ask : {A B : Type 0} (P : World Sort → A → Type 0) (c : World Sort → A → List Cell) (G : World Sort → B → Type 0) (d : World Sort → B → List Cell) (x : Instr) (q : A → B → source.Question) (ca cb : List Instr) (ra : Doing A) (rb : Doing B) (there : Pos) (w : World Sort) (at : ℕ) → Remain program own shapes number here code P c → Knows program own here w → Stands code at (begin there ∷ operands_code ca cb x) → Carried (at + suc (length (operands_code ca cb x))) → Brings program own shapes number here code P c ca ra (at + 1) → Brings program own shapes number here code G d cb rb (at + 1 + length ca) → ((w' : World Sort) (a : A) (b : B) → P w' a → G w' b → Valid program here w' (q a b) × ((rest : List Instr) (p : ℕ) → onward (x ∷ rest) 0 p k (pushed (d w' b) (pushed (c w' a) [])) ≡ Asks (placed program w' (q a b)) (λ y. onward rest 0 (p + 1) k []))) → Does program here (Leaves after) w (from (at + 1) k []) (bind ra (λ a. bind rb (λ b. bind (ask (q a b)) (λ _. Val (Into [])))))
+    two_ask : {A B : Type 0} (P : World Sort → A → Type 0) (c : World Sort → A → List Cell) (G : World Sort → B → Type 0) (d : World Sort → B → List Cell) (x : Instr) (q : A → B → source.Question) (ca cb : List Instr) (ra : Doing A) (rb : Doing B) (there : Pos) (w : World Sort) (at : ℕ) → Remain program own tables number here code P c → Knows program own here w → Stands code at (begin there ∷ operands_code ca cb x) → Carried (at + suc (length (operands_code ca cb x))) → Brings program own tables number here code P c ca ra (at + 1) → Brings program own tables number here code G d cb rb (at + 1 + length ca) → ((w' : World Sort) (a : A) (b : B) → P w' a → G w' b → Valid program here w' (q a b) × ((rest : List Instr) (p : ℕ) → onward (x ∷ rest) 0 p k (pushed (d w' b) (pushed (c w' a) [])) ≡ Asks (placed program w' (q a b)) (λ y. onward rest 0 (p + 1) k []))) → Does program here (Leaves after) w (from (at + 1) k []) (bind ra (λ a. bind rb (λ b. bind (ask (q a b)) (λ _. Val (Into [])))))
     two_ask {A = A} {B = B} P c G d x q ca cb ra rb there w at stays known st cont ha hb asks =
         let xs = operands_code ca cb x in
         let p = at + 1 + length ca + length cb in
@@ -192,79 +166,94 @@ module _ (program : Program) (own : Option Procedure) (shapes : List ProcShape) 
         let len : at + suc (length xs) ≡ p + 1 = omega (arith, length-append ca (cb ++ x ∷ []), length-append cb (x ∷ [])) in
         let does : A → B → Doing After = λ a b. bind (ask (q a b)) (λ _. Val (Into [])) in
         along program here (Leaves after) w _ _ (bind ra (λ a. bind rb (λ b. does a b))) (from_here (at + 1) (xs ++ st.rest) k [] h1)
-        (two_do program own shapes number here code P c G d (Leaves after) x does ca cb ra rb (at + 1) st.rest k [] stays ha hb w known
+        (two_do program own tables number here code P c G d (Leaves after) x does ca cb ra rb (at + 1) st.rest k [] stays ha hb w known
         (λ w' a b m ia ib e. let h = asks w' a b ia ib in
         last_asks (q a b) w' m p st.rest (e ∙ h.1 st.rest p) h.0 (drop_next p code x st.rest h2) (subst Carried len cont)))
 
     -- where each operand has one cell
-    pair_asks : {A B : Type 0} (P : World Sort → A → Type 0) (c : World Sort → A → Cell) (G : World Sort → B → Type 0) (d : World Sort → B → Cell) (x : Instr) (q : A → B → source.Question) (ca cb : List Instr) (ra : Doing A) (rb : Doing B) (there : Pos) (w : World Sort) (at : ℕ) → Stays program own shapes number here code P c → Knows program own here w → Stands code at (begin there ∷ operands_code ca cb x) → Carried (at + suc (length (operands_code ca cb x))) → ComesTo program own shapes number here code P c ca ra (at + 1) → ComesTo program own shapes number here code G d cb rb (at + 1 + length ca) → ((w' : World Sort) (a : A) (b : B) → P w' a → G w' b → Valid program here w' (q a b) × ((rest : List Instr) (p : ℕ) → onward (x ∷ rest) 0 p k (d w' b ∷ (c w' a ∷ [])) ≡ Asks (placed program w' (q a b)) (λ y. onward rest 0 (p + 1) k []))) → Does program here (Leaves after) w (from (at + 1) k []) (bind ra (λ a. bind rb (λ b. bind (ask (q a b)) (λ _. Val (Into [])))))
+    pair_asks : {A B : Type 0} (P : World Sort → A → Type 0) (c : World Sort → A → Cell) (G : World Sort → B → Type 0) (d : World Sort → B → Cell) (x : Instr) (q : A → B → source.Question) (ca cb : List Instr) (ra : Doing A) (rb : Doing B) (there : Pos) (w : World Sort) (at : ℕ) → Stays program own tables number here code P c → Knows program own here w → Stands code at (begin there ∷ operands_code ca cb x) → Carried (at + suc (length (operands_code ca cb x))) → ComesTo program own tables number here code P c ca ra (at + 1) → ComesTo program own tables number here code G d cb rb (at + 1 + length ca) → ((w' : World Sort) (a : A) (b : B) → P w' a → G w' b → Valid program here w' (q a b) × ((rest : List Instr) (p : ℕ) → onward (x ∷ rest) 0 p k (d w' b ∷ (c w' a ∷ [])) ≡ Asks (placed program w' (q a b)) (λ y. onward rest 0 (p + 1) k []))) → Does program here (Leaves after) w (from (at + 1) k []) (bind ra (λ a. bind rb (λ b. bind (ask (q a b)) (λ _. Val (Into [])))))
     pair_asks P c G d x q ca cb ra rb there w at stays known st cont ha hb asks =
         two_ask P (λ w a. c w a ∷ []) G (λ w b. d w b ∷ []) x q ca cb ra rb there w at
         (λ w w' g a p. let h = stays w w' g a p in (h.0, ap (λ y. y ∷ []) h.1)) known st cont ha hb asks
 
     -- EXIT leads behind the innermost LOOP
-    pub exit_does : (there : Pos) → StatementDoes program own shapes number here code x d k after (Exit there)
+    pub exit_does : (there : Pos) → StatementDoes program own tables number here code x d k after (Exit there)
     exit_does there w at known has c =
         let rest = has.stands.rest in
         let h1 : drop (at + 1) code ≡ i.Jump x ∷ rest = drop_next at code (begin there) (i.Jump x ∷ rest) has.stands.here in
         let h2 : drop (at + 1 + 1) code ≡ rest = drop_next (at + 1) code (i.Jump x) rest h1 in
-        let le : at + 2 ≤ x = bound program own shapes number here code after (at + 2) x d k c in
+        let le : at + 2 ≤ x = bound program own tables number here code after (at + 2) x d k c in
         let jump : from (at + 1) k [] ≡ from x k [] = from_here (at + 1) (i.Jump x ∷ rest) k [] h1 ∙ jumps_on rest x (at + 1) k [] (omega (arith, le)) h2 in
-        subst (λ m. GoesOn program own shapes number here code (leave after) m) (sym jump) (outside program own shapes number here code after (at + 2) x d k c)
+        subst (λ m. GoesOn program own tables number here code (leave after) m) (sym jump) (outside program own tables number here code after (at + 2) x d k c)
 
-    pub block_does : (there : Pos) (b : Stats) → StatementDoes program own shapes number here code x d k after (Block there b)
+    pub block_does : (there : Pos) (b : Stats) → StatementDoes program own tables number here code x d k after (Block there b)
     block_does there b w at known has c =
         let cs = stats_code program own b (at + 1) x d in
         let rest = has.stands.rest in
-        let inner : HasStatements program own shapes number here code b (at + 1) x d = record { stands = record { rest = rest; here = drop_next at code (begin there) (cs ++ rest) has.stands.here }; typed = has.typed; holds = has.holds } in
+        let inner : HasStatements program own tables number here code b (at + 1) x d = record { stands = record { rest = rest; here = drop_next at code (begin there) (cs ++ rest) has.stands.here }; typed = has.typed; holds = has.holds } in
         let len : at + suc (length cs) ≡ at + 1 + length cs = omega arith in
-        record { at = at + 1; exit = x; level = d; keeps = k; runs = refl; carries = carries_all program own shapes number here code b (at + 1) x d k after inner (subst Carried len c) }
+        record { at = at + 1; exit = x; level = d; keeps = k; runs = refl; carries = carries_all program own tables number here code b (at + 1) x d k after inner (subst Carried len c) }
 
-    pub halt_does : (there : Pos) (n : ℕ) → StatementDoes program own shapes number here code x d k after (Halt there n)
+    pub halt_does : (there : Pos) (n : ℕ) → StatementDoes program own tables number here code x d k after (Halt there n)
     halt_does there n w at known has c =
         let rest = has.stands.rest in
         (from_here (at + 1) (i.Halt n ∷ rest) k [] (drop_next at code (begin there) (i.Halt n ∷ rest) has.stands.here), omega arith)
 
-    module _ (typed : HasTypes program) (shaped : HasShapes program shapes) where
-      pub assign_does : (there : Pos) (t : TType) (pl : Place) (e : Expr) → StatementDoes program own shapes number here code x d k after (Assign there t pl e)
+    module _ (typed : HasTypes program) (shaped : HasShapes program tables) where
+      pub assign_does : (there : Pos) (t : TType) (pl : Place) (e : Expr) → StatementDoes program own tables number here code x d k after (Assign there t pl e)
       assign_does there t pl e w at known has c =
           let cp = place_code program own pl (at + 1) in
           let pe = at + 1 + length cp in
-          let scalar = Plain (id_of t) in
-          pair_asks (IsFound program t) place_in (OfType t) number_in (i.Store (kind_of t)) (λ a v. Stores a v) cp (value_code program own e pe) (place_of program here pl) (value_of program here e) there w at
-          (places_stay program own shapes number here code t) known has.stands c
-          (place_does program own shapes number here code typed shaped pl t has.typed.0 (at + 1)) (value_does program own shapes number here code typed shaped e t has.typed.2 pe)
+          let named = NamesType program own pl t in
+          pair_asks (IsFound program named t) place_in (OfSort program own tables number here code t) cell_of (i.Store (kind_of t)) (λ a v. Stores a v) cp (value_code program own e pe) (place_of program here pl) (value_of program here e) there w at
+          (places_stay program own tables number here code named t) known has.stands c
+          (place_does program own tables number here code typed shaped pl t has.typed.0 (at + 1)) (yields_do program own tables number here code typed shaped e t has.typed.2 pe)
           (λ w' a v found is. (
-            (scalar, tt, found.there ∙ ap (λ z. Some z) (basic_is_one program typed.predeclared t has.typed.1), value_to program typed.predeclared t w' v has.typed.1 is),
-            λ rest p. store_asks t w' a rest p v has.typed.1 is,
+            (Plain (id_of t), tt, scalar_found program own tables number here code typed t has.typed.1 w' a named found, is),
+            λ rest p. store_asks typed t w' a rest p v has.typed.1 is,
           ))
 
       -- a whole record or array
-      pub copy_does : (there : Pos) (t : TType) (to first : Place) → StatementDoes program own shapes number here code x d k after (Copy there t to first)
+      pub copy_does : (there : Pos) (t : TType) (to first : Place) → StatementDoes program own tables number here code x d k after (Copy there t to first)
       copy_does there t to first w at known has c =
           let cp = place_code program own to (at + 1) in
           let pe = at + 1 + length cp in
-          pair_asks (IsFound program t) place_in (IsFound program t) place_in (i.Copy (cells_of program own t)) (λ a b. Copies t b a) cp (place_code program own first pe) (place_of program here to) (place_of program here first) there w at
-          (places_stay program own shapes number here code t) known has.stands c
-          (place_does program own shapes number here code typed shaped to t has.typed.0 (at + 1)) (place_does program own shapes number here code typed shaped first t has.typed.1 pe)
-          (λ w' a b found_to found_from. ((found_from.there, found_to.there, has.typed.2), λ rest p. refl))
+          let u = has.typed.1.0 in
+          let named = NamesType program own to t in
+          let named' = NamesType program own first u in
+          pair_asks (IsFound program named t) place_in (IsFound program named' u) place_in (i.Copy (cells_of program own t)) (λ a b. Copies t b a) cp (place_code program own first pe) (place_of program here to) (place_of program here first) there w at
+          (places_stay program own tables number here code named t) known has.stands c
+          (place_does program own tables number here code typed shaped to t has.typed.0 (at + 1)) (place_does program own tables number here code typed shaped first u has.typed.1.1 pe)
+          (λ w' a b found_to found_from.
+          let to_is = holds_whole program typed (id_of t) found_to.shape has.typed.2 found_to.holds in
+          let from_is = holds_extension program typed (id_of u) (id_of t) found_from.shape has.typed.2 has.typed.1.2 found_from.holds in (
+            (
+              (from_is.0, found_from.there ∙ ap (λ z. Some z) from_is.1, rest_plain from_is.0 found_from.shape from_is.1 found_from.plain),
+              (to_is.0, found_to.there ∙ ap (λ z. Some z) to_is.1, rest_plain to_is.0 found_to.shape to_is.1 found_to.plain),
+              has.typed.2,
+            ),
+            λ rest p. refl,
+          ))
+        where
+          rest_plain : (more s : Shape Sort) → s ≡ join (variable_shape program.types (id_of t)) more → EachSort IsPlain s → EachSort IsPlain more
+          rest_plain more s e plain = each_rest IsPlain (variable_shape program.types (id_of t)) more (subst (EachSort IsPlain) e plain)
 
       -- a text that is put in an array of characters
-      pub put_text_does : (there : Pos) (strict : Bool) (first to : Rows) → StatementDoes program own shapes number here code x d k after (PutText there strict first to)
+      pub put_text_does : (there : Pos) (strict : Bool) (first to : Rows) → StatementDoes program own tables number here code x d k after (PutText there strict first to)
       put_text_does there strict first to w at known has c =
           let ca = rows_code program own first (at + 1) in
           let pb = at + 1 + length ca in
           two_ask IsText text_cells IsRoom text_cells (i.PutText strict) (λ a b. PutsText strict a.place (text_length a) b.place (text_length b))
           ca (rows_code program own to pb) (rows_of program here first) (rows_of program here to) there w at
-          (texts_remain program own shapes number here code) known has.stands c
-          (text_found program own shapes number here code typed shaped first has.typed.0 (at + 1))
-          (room_found program own shapes number here code typed shaped to has.typed.1 has.typed.2 pb)
+          (texts_remain program own tables number here code) known has.stands c
+          (text_found program own tables number here code typed shaped first has.typed.0 (at + 1))
+          (room_found program own tables number here code typed shaped to has.typed.1 has.typed.2 pb)
           (λ w' a b ia ib. ((ia, ib), λ rest p. puts w' a.place b.place (text_length a) (text_length b) ia.0 ib.0 ia.1 ib.1 strict rest p))
         where
           puts : (w' : World Sort) (a b : Spot) (v u : Value) (n m : ℕ) → v ≡ Int (pos n) → u ≡ Int (pos m) → (strict : Bool) (rest : List Instr) (p : ℕ) → onward (i.PutText strict ∷ rest) 0 p k (cell_of w' u ∷ (place_in w' b ∷ (cell_of w' v ∷ (place_in w' a ∷ [])))) ≡ Asks (PutsText strict (addr_of w' a) (cell_of w' v) (addr_of w' b) (cell_of w' u)) (λ y. onward rest 0 (p + 1) k [])
           puts w' a b v u n m e f strict rest p = rw (e, f) refl
 
-      pub out_does : (there : Pos) (call : Call) → StatementDoes program own shapes number here code x d k after (Out there call)
+      pub out_does : (there : Pos) (call : Call) → StatementDoes program own tables number here code x d k after (Out there call)
       out_does there OutLn w at known has c =
           let h1 : drop (at + 1) code ≡ i.OutLn ∷ has.stands.rest = drop_next at code (begin there) (i.OutLn ∷ has.stands.rest) has.stands.here in
           let len : at + 2 ≡ at + 1 + 1 = omega arith in
@@ -280,8 +269,8 @@ module _ (program : Program) (own : Option Procedure) (shapes : List ProcShape) 
           let h2 : drop p code ≡ i.OutChar ∷ has.stands.rest = drop_past ce (at + 1) code (i.OutChar ∷ has.stands.rest) (h1 ∙ append_assoc ce (i.OutChar ∷ []) has.stands.rest) in
           let len : at + suc (length (ce ++ i.OutChar ∷ [])) ≡ p + 1 = omega (arith, length-append ce (i.OutChar ∷ [])) in
           along program here (Leaves after) w _ _ (out_of program here (OutChar e)) (from_here (at + 1) ((ce ++ i.OutChar ∷ []) ++ has.stands.rest) k [] h1)
-          (operand_does program own shapes number here code (Leaves after) type.Char (λ x. bind (ask (PutsChar x)) (λ _. Val (Into []))) ce (i.OutChar ∷ []) (value_of program here e) (at + 1) has.stands.rest k []
-          (value_does program own shapes number here code typed shaped e type.Char has.typed (at + 1)) w known
+          (operand_does program own tables number here code (Leaves after) type.Char (λ x. bind (ask (PutsChar x)) (λ _. Val (Into []))) ce (i.OutChar ∷ []) (value_of program here e) (at + 1) has.stands.rest k []
+          (value_does program own tables number here code typed shaped e type.Char refl has.typed (at + 1)) w known
           (λ w' up v m is e'. last_asks (PutsChar v) w' m p has.stands.rest
           (e' ∙ ap (λ y. Asks (PutsChar y) (λ x. onward has.stands.rest 0 (p + 1) k [])) (sym (number_cell w' type.Char v is)))
           (is_character v is) (drop_next p code i.OutChar has.stands.rest h2) (subst Carried len c)))
@@ -290,8 +279,8 @@ module _ (program : Program) (own : Option Procedure) (shapes : List ProcShape) 
           let pn = at + 1 + length ca in
           let wide = type.Integer W64 in
           pair_asks (OfType wide) number_in (OfType wide) number_in i.OutInt (λ x y. PutsInt x y) ca (value_code program own n pn) (value_of program here e) (value_of program here n) there w at
-          (values_stay program own shapes number here code wide) known has.stands c
-          (value_does program own shapes number here code typed shaped e wide has.typed.0 (at + 1)) (value_does program own shapes number here code typed shaped n wide has.typed.1 pn)
+          (values_stay program own tables number here code wide) known has.stands c
+          (value_does program own tables number here code typed shaped e wide refl has.typed.0 (at + 1)) (value_does program own tables number here code typed shaped n wide refl has.typed.1 pn)
           (λ w' a b ia ib. (
             (is_integer W64 a ia, is_integer W64 b ib),
             λ rest p. sym (λ j. Asks (PutsInt (number_cell w' wide a ia j) (number_cell w' wide b ib j)) (λ x. onward rest 0 (p + 1) k [])),
@@ -306,53 +295,15 @@ module _ (program : Program) (own : Option Procedure) (shapes : List ProcShape) 
           let len : at + suc (length (xs ++ last)) ≡ p + 1 = omega (arith, length-append xs last) in
           let does : Found → Doing After = λ a. bind (ask (PutsString a.place (text_length a))) (λ _. Val (Into [])) in
           along program here (Leaves after) w _ _ (out_of program here (OutString r)) (from_here (at + 1) ((xs ++ last) ++ rest) k [] h1)
-          (front_does program own shapes number here code IsText text_cells (Leaves after) does xs last (rows_of program here r) (at + 1) rest k []
-          (text_found program own shapes number here code typed shaped r has.typed (at + 1)) w known
+          (front_does program own tables number here code IsText text_cells (Leaves after) does xs last (rows_of program here r) (at + 1) rest k []
+          (text_found program own tables number here code typed shaped r has.typed (at + 1)) w known
           (λ w' up a m is e. last_asks (PutsString a.place (text_length a)) w' m p rest (e ∙ puts_string w' a.place (text_length a) is.0 is.1 rest p) is (drop_next p code i.OutString rest h2) (subst Carried len c)))
         where
           puts_string : (w' : World Sort) (a : Spot) (v : Value) (n : ℕ) → v ≡ Int (pos n) → (rest : List Instr) (p : ℕ) → onward (i.OutString ∷ rest) 0 p k (cell_of w' v ∷ (place_in w' a ∷ [])) ≡ Asks (PutsString (addr_of w' a) (cell_of w' v)) (λ y. onward rest 0 (p + 1) k [])
           puts_string w' a v n e rest p = rw e refl
 
-      -- the object stays below the place while it's stored, and is started then
-      pub new_does : (there : Pos) (pl : Place) (t : ℕ) → StatementDoes program own shapes number here code x d k after (New there pl t)
-      new_does there pl t w at known has c =
-          let named = type.Named t in
-          let cp = place_code program own pl (at + 1 + 2) in
-          let p = at + 1 + 2 + length cp in
-          let rest = has.stands.rest in
-          let last = i.Swap ∷ (i.Store R ∷ (i.Start ∷ [])) in
-          let xs = i.NewObject (t + 1) ∷ (i.Dup ∷ (cp ++ last)) in
-          let h1 : drop (at + 1) code ≡ xs ++ rest = drop_next at code (begin there) (xs ++ rest) has.stands.here in
-          let h2 : drop (at + 1 + 1 + 1) code ≡ (cp ++ last) ++ rest = drop_next (at + 1 + 1) code i.Dup ((cp ++ last) ++ rest) (drop_next (at + 1) code (i.NewObject (t + 1)) (i.Dup ∷ ((cp ++ last) ++ rest)) h1) in
-          let two : at + 1 + 1 + 1 ≡ at + 1 + 2 = omega arith in
-          let h3 : drop p code ≡ last ++ rest = drop_past cp (at + 1 + 2) code (last ++ rest) (ap (λ n. drop n code) (sym two) ∙ h2 ∙ append_assoc cp last rest) in
-          let h4 : drop (p + 1 + 1 + 1) code ≡ rest = drop_next (p + 1 + 1) code i.Start rest (drop_next (p + 1) code (i.Store R) (i.Start ∷ rest) (drop_next p code i.Swap (i.Store R ∷ (i.Start ∷ rest)) h3)) in
-          let len : at + suc (length xs) ≡ p + 1 + 1 + 1 = omega (arith, length-append cp last) in
-          let number_is : t + 1 ≡ suc t = omega arith in (
-            (λ x. onward (i.Dup ∷ ((cp ++ last) ++ rest)) 0 (at + 1 + 1) k (x ∷ [])),
-            from_here (at + 1) (xs ++ rest) k [] h1 ∙ ap (λ n. Asks (Makes n) (λ x. onward (i.Dup ∷ ((cp ++ last) ++ rest)) 0 (at + 1 + 1) k (x ∷ []))) number_is,
-            tt,
-            λ w1 up v made. along program here (Leaves after) w1 _ _ (bind (place_of program here pl) (stored v)) (ap (λ n. onward ((cp ++ last) ++ rest) 0 n k (cell_of w1 v ∷ (cell_of w1 v ∷ []))) two)
-                (piece_does program own shapes number here code (IsFound program named) place_in (Leaves after) (stored v) cp last (place_of program here pl) (at + 1 + 2) rest k (cell_of w1 v ∷ (cell_of w1 v ∷ []))
-                (place_does program own shapes number here code typed shaped pl named has.typed.1 (at + 1 + 2)) w1 (knows_grows program own here w w1 up known)
-                (λ w2 up2 a m is e. stores w2 t a is has.typed.2 made.0 v made.1 (up2.made (suc made.0) (record { type = suc t; lengths = [] }) made.2) m rest p
-                (e ∙ ap (λ y. onward (last ++ rest) 0 p k (place_in w2 a ∷ (y ∷ (y ∷ [])))) (ap (cell_of w1) made.1)) h4 (subst Carried len c))),
-          )
-        where
-          stored : Value → Spot → Doing After
-          stored v s = bind (ask (Stores s v)) (λ _. bind (ask (Starts v)) (λ _. Val (Into [])))
-
-          stores : (w2 : World Sort) (t : ℕ) (a : Spot) → IsFound program (type.Named t) w2 a → is_object (row_of program.types (id_of (type.Named t))) ≡ true → (o : ℕ) (v : Value) → v ≡ Object (suc o) → w2.made (suc o) ≡ Some (record { type = suc t; lengths = [] }) → (m : Run) (rest : List Instr) (p : ℕ) → m ≡ onward (i.Swap ∷ (i.Store R ∷ (i.Start ∷ rest))) 0 p k (place_in w2 a ∷ (cell.Ref (suc o) ∷ (cell.Ref (suc o) ∷ []))) → drop (p + 1 + 1 + 1) code ≡ rest → Carried (p + 1 + 1 + 1) → Does program here (Leaves after) w2 m (bind (ask (Stores a v)) (λ _. bind (ask (Starts v)) (λ _. Val (Into []))))
-          stores w2 t a is object o v e made m rest p run there_after cont =
-              subst (λ v. Does program here (Leaves after) w2 m (bind (ask (Stores a v)) (λ _. bind (ask (Starts v)) (λ _. Val (Into []))))) (sym e) (
-                (λ x. onward (i.Start ∷ rest) 0 (p + 1 + 1) k (cell.Ref (suc o) ∷ [])),
-                run,
-                (Plain (id_of (type.Named t)), tt, is.there ∙ ap (λ s. Some s) (object_variable program.types (id_of (type.Named t)) object), made_value program w2 t o object made),
-                λ w3 up3 u y. last_asks (Starts (Object (suc o))) w3 _ (p + 1 + 1) rest refl (o, refl) there_after cont,
-              )
-
       -- a condition that is FALSE is a trap
-      pub assert_does : (there : Pos) (e : Expr) (n : ℕ) → StatementDoes program own shapes number here code x d k after (Assert there e n)
+      pub assert_does : (there : Pos) (e : Expr) (n : ℕ) → StatementDoes program own tables number here code x d k after (Assert there e n)
       assert_does there e n w at known has c =
           let ce = value_code program own e (at + 1) in
           let p = at + 1 + length ce in
@@ -364,16 +315,16 @@ module _ (program : Program) (own : Option Procedure) (shapes : List ProcShape) 
           let len : at + suc (length (ce ++ last)) ≡ p + 1 = omega (arith, length-append ce last) in
           let next = goes_on (p + 1) rest (drop_next p code (i.Assert n) rest h2) (subst Carried len c) in
           along program here (Leaves after) w _ _ (bind (value_of program here e) goes) (from_here (at + 1) ((ce ++ last) ++ rest) k [] h1)
-          (operand_does program own shapes number here code (Leaves after) type.Boolean goes ce last (value_of program here e) (at + 1) rest k []
-          (value_does program own shapes number here code typed shaped e type.Boolean has.typed.0 (at + 1)) w known
-          (λ w' up. by_flag program own shapes number here code (Leaves after) goes (i.Assert n ∷ rest) p k [] w' (told n p rest next w')))
+          (operand_does program own tables number here code (Leaves after) type.Boolean goes ce last (value_of program here e) (at + 1) rest k []
+          (value_does program own tables number here code typed shaped e type.Boolean refl has.typed.0 (at + 1)) w known
+          (λ w' up. by_flag program own tables number here code (Leaves after) goes (i.Assert n ∷ rest) p k [] w' (told n p rest next w')))
         where
-          told : (n p : ℕ) (rest : List Instr) → GoesOn program own shapes number here code after (onward rest 0 (p + 1) k []) → (w' : World Sort) (b : Bool) (m : Run) → m ≡ onward (i.Assert n ∷ rest) 0 p k (Num (flag b) ∷ []) → Does program here (Leaves after) w' m (if is_true (Flag b) then Val (Into []) else Traps 7 n)
-          told n p rest next w' true m e' = subst (GoesOn program own shapes number here code after) (sym e') next
+          told : (n p : ℕ) (rest : List Instr) → GoesOn program own tables number here code after (onward rest 0 (p + 1) k []) → (w' : World Sort) (b : Bool) (m : Run) → m ≡ onward (i.Assert n ∷ rest) 0 p k (Num (flag b) ∷ []) → Does program here (Leaves after) w' m (if is_true (Flag b) then Val (Into []) else Traps 7 n)
+          told n p rest next w' true m e' = subst (GoesOn program own tables number here code after) (sym e') next
           told n p rest next w' false m e' = (e', omega arith)
 
       -- a call, whose answer no code takes
-      pub perform_does : (there : Pos) (m n : ℕ) (more : Arguments) → StatementDoes program own shapes number here code x d k after (Perform there m n more)
+      pub perform_does : (there : Pos) (m n : ℕ) (more : Arguments) → StatementDoes program own tables number here code x d k after (Perform there m n more)
       perform_does there m n more w at known has c =
           let q = has.typed.0 in
           let number_is = procedure_number program m n in
@@ -386,17 +337,17 @@ module _ (program : Program) (own : Option Procedure) (shapes : List ProcShape) 
           let len : at + suc (length (ca ++ last)) ≡ p + 1 = omega (arith, length-append ca last) in
           let does : List Value → Doing After = λ vs. bind (ask (Calls number_is vs)) (λ _. Val (Into [])) in
           along program here (Leaves after) w _ _ (bind (arguments_of program here more) does) (from_here (at + 1) ((ca ++ last) ++ rest) k [] h1)
-          (front_does program own shapes number here code (λ w vs. Given program w q.parameters vs) (λ w vs. map (cell_of w) vs) (Leaves after) does ca last (arguments_of program here more) (at + 1) rest k []
-          (arguments_do program own shapes number here code typed shaped more q.parameters has.typed.3 (at + 1)) w known
+          (front_does program own tables number here code (λ w vs. Given program w q.parameters vs) (λ w vs. map (cell_of w) vs) (Leaves after) does ca last (arguments_of program here more) (at + 1) rest k []
+          (arguments_do program own tables number here code typed shaped more q.parameters has.typed.3 (at + 1)) w known
           (λ w' up vs m' is e.
-          let none : gives_result (numbered shapes number_is) ≡ false = call_gives program shapes shaped here w' m n q has.typed.1 vs is ∙ ap is_some has.typed.2 in
+          let none : gives_result (numbered tables.procedures number_is) ≡ false = call_gives program tables shaped here w' m n q has.typed.1 vs is ∙ ap is_some has.typed.2 in
           last_asks (Calls number_is vs) w' m' p rest
-          (e ∙ call_asks program shapes shaped here w' m n q has.typed.1 vs is number code rest p k []
+          (e ∙ call_asks program tables shaped here w' m n q has.typed.1 vs is number code rest p k []
           ∙ ap (λ b. Asks (Calls number_is (map (cell_of w') vs)) (λ y. onward rest 0 (p + 1) k (if b then y ∷ [] else []))) none)
-          (call_valid program shapes shaped here w' m n q has.typed.1 vs is) (drop_next p code (i.Call number_is) rest h2) (subst Carried len c)))
+          (call_valid program tables shaped here w' m n q has.typed.1 vs is) (drop_next p code (i.Call number_is) rest h2) (subst Carried len c)))
 
       -- the end of the procedure, with the result of a function
-      pub return_does : IsOwn program own shapes number → (there : Pos) (e : Option Expr) → StatementDoes program own shapes number here code x d k after (Return there e)
+      pub return_does : IsOwn program own tables number → (there : Pos) (e : Option Expr) → StatementDoes program own tables number here code x d k after (Return there e)
       return_does is there None w at known has c = by (result_of own) is.2 has.typed
         where
           by : (r : Option TType) → is.0.result ≡ option_map (λ t. cell_kind program.types (id_of t)) r → IsReturn program own None r → (g : Cell → Run) × (from (at + 1) k [] ≡ Asks (Ends None) g) × IsResult program w r None
@@ -408,8 +359,8 @@ module _ (program : Program) (own : Option Procedure) (shapes : List ProcShape) 
           by (Some t) some ok = absurd ok
       return_does is there (Some e) w at known has c = by (result_of own) refl has.typed
         where
-          returns : (z : ℤ) (rest : List Instr) (p : ℕ) → is.0.result ≡ Some N → onward (i.Return ∷ rest) 0 p k (Num z ∷ []) ≡ Asks (Ends (Some (Num z))) (λ y. Traps 0 0)
-          returns z rest p result = rw (is.1, result) refl
+          returns : (kind : Kind) (v : Cell) (rest : List Instr) (p : ℕ) → is.0.result ≡ Some kind → is_of kind v ≡ true → onward (i.Return ∷ rest) 0 p k (v ∷ []) ≡ Asks (Ends (Some v)) (λ y. Traps 0 0)
+          returns kind v rest p result of = rw (is.1, result, of) refl
 
           by : (r : Option TType) → result_of own ≡ r → IsReturn program own (Some e) r → Does program here (Leaves after) w (from (at + 1) k []) (stat_of program here (Return there (Some e)))
           by None own_is ok = absurd ok
@@ -421,12 +372,10 @@ module _ (program : Program) (own : Option Procedure) (shapes : List ProcShape) 
               let some : is.0.result ≡ Some (cell_kind program.types (id_of t)) = is.2 ∙ ap (option_map (λ t. cell_kind program.types (id_of t))) own_is in
               let does : Value → Doing After = λ v. Val (Returns (Some v)) in
               along program here (Leaves after) w _ _ (bind (value_of program here e) does) (from_here (at + 1) ((ce ++ last) ++ rest) k [] (drop_next at code (begin there) ((ce ++ last) ++ rest) has.stands.here))
-              (operand_does program own shapes number here code (Leaves after) t does ce last (value_of program here e) (at + 1) rest k []
-              (value_does program own shapes number here code typed shaped e t ok (at + 1)) w known
-              (λ w' up v m of e'.
-              let basic = basic_value t v of in
-              let result : is.0.result ≡ Some N = some ∙ ap (λ z. Some z) (basic_cell program typed.predeclared t basic) in (
+              (piece_does program own tables number here code (OfSort program own tables number here code t) cell_of (Leaves after) does ce last (value_of program here e) (at + 1) rest k []
+              (yields_do program own tables number here code typed shaped e t ok (at + 1)) w known
+              (λ w' up v m of e'. (
                 (λ y. Traps 0 0),
-                e' ∙ returns (number_of v) rest p result ∙ ap (λ y. Asks (Ends (Some y)) (λ z. Traps 0 0)) (sym (number_cell w' t v of)),
-                subst (λ r. IsResult program w' r (Some v)) (sym own_is) (value_to program typed.predeclared t w' v basic of),
+                e' ∙ returns (cell_kind program.types (id_of t)) (cell_of w' v) rest p some (kind_of_value program.types w' (id_of t) (row_of program.types (id_of t)) v of),
+                subst (λ r. IsResult program w' r (Some v)) (sym own_is) of,
               )))

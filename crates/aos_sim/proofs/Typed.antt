@@ -48,4 +48,4 @@ module _ (p : Program) where
 
   pub has_types : (bs : List Body) (ss : List ProcShape) (ds : List ModuleDesc) (ts : List TypeDesc) → IsWellTyped p → IsCode p bs ss ds ts → HasTypes p
   has_types bs ss ds ts well code =
-      record { predeclared = well.predeclared; ranked = ranked p.types well.types.none_contains_itself; few = few_of bs ss ds ts code }
+      record { predeclared = well.predeclared; ranked = ranked p.types well.types.none_contains_itself; bases = well.types.bases; record_bases = well.types.record_bases; beside = well.beside; few = few_of bs ss ds ts code }

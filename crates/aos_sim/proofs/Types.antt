@@ -24,6 +24,7 @@ IsValueOf (type.Integer w) v = (z : ℤ) × (v ≡ Int z) × IsWithin w z
 IsValueOf type.Boolean v = (b : Bool) × (v ≡ Flag b)
 IsValueOf type.Char v = (c : ℕ) × (v ≡ Char c) × (c < 256)
 IsValueOf type.Set v = (s : ℕ) × (v ≡ Set s) × (s < 2 ^ 32)
+IsValueOf type.Any v = ⊥
 IsValueOf (type.Named t) v = ⊥
 
 -- and is in a cell as the number that it is given as
@@ -32,6 +33,7 @@ number_cell w (type.Integer x) v h = subst (λ v. cell_of w v ≡ Num (number_of
 number_cell w type.Boolean v h = subst (λ v. cell_of w v ≡ Num (number_of v)) (sym h.1) refl
 number_cell w type.Char v h = subst (λ v. cell_of w v ≡ Num (number_of v)) (sym h.1) refl
 number_cell w type.Set v h = subst (λ v. cell_of w v ≡ Num (number_of v)) (sym h.1) refl
+number_cell w type.Any v h = absurd h
 number_cell w (type.Named t) v h = absurd h
 
 -- The values of the rows of basic types.
@@ -48,6 +50,7 @@ basic_of (type.Integer w) = basic_integer w
 basic_of type.Boolean = basic.Boolean
 basic_of type.Char = basic.Char
 basic_of type.Set = basic.Set
+basic_of type.Any = basic.Nil
 basic_of (type.Named t) = basic.Nil
 
 pub integer_is : (w : Width) (v : Value) → IsInteger w v → IsValueOf (type.Integer w) v
@@ -100,6 +103,7 @@ from_basic (type.Integer W64) v e h = integer_is W64 v h
 from_basic type.Boolean v e h = flag_is v h
 from_basic type.Char v e h = character_is v h
 from_basic type.Set v e h = set_is v h
+from_basic type.Any v e h = absurd (cc)
 from_basic (type.Named t) v e h = absurd (cc)
 
 pub to_basic : (t : TType) (v : Value) → IsValueOf t v → IsBasic (basic_of t) v
@@ -110,6 +114,7 @@ to_basic (type.Integer W64) v h = is_integer W64 v h
 to_basic type.Boolean v h = subst IsFlag (sym h.1) tt
 to_basic type.Char v h = is_character v h
 to_basic type.Set v h = subst IsSet (sym h.1) h.2
+to_basic type.Any v h = absurd h
 to_basic (type.Named t) v h = absurd h
 
 -- Types that include others.
@@ -144,26 +149,32 @@ included (type.Integer x) (type.Integer y) v e h = (h.0, h.1, within_wider x y h
 included (type.Integer x) type.Boolean v e h = absurd (cc)
 included (type.Integer x) type.Char v e h = absurd (cc)
 included (type.Integer x) type.Set v e h = absurd (cc)
+included (type.Integer x) type.Any v e h = absurd (cc)
 included (type.Integer x) (type.Named u) v e h = absurd (cc)
 included type.Boolean (type.Integer y) v e h = absurd (cc)
 included type.Boolean type.Boolean v e h = h
 included type.Boolean type.Char v e h = absurd (cc)
 included type.Boolean type.Set v e h = absurd (cc)
+included type.Boolean type.Any v e h = absurd (cc)
 included type.Boolean (type.Named u) v e h = absurd (cc)
 included type.Char (type.Integer y) v e h = absurd (cc)
 included type.Char type.Boolean v e h = absurd (cc)
 included type.Char type.Char v e h = h
 included type.Char type.Set v e h = absurd (cc)
+included type.Char type.Any v e h = absurd (cc)
 included type.Char (type.Named u) v e h = absurd (cc)
 included type.Set (type.Integer y) v e h = absurd (cc)
 included type.Set type.Boolean v e h = absurd (cc)
 included type.Set type.Char v e h = absurd (cc)
 included type.Set type.Set v e h = h
+included type.Set type.Any v e h = absurd (cc)
 included type.Set (type.Named u) v e h = absurd (cc)
+included type.Any u v e h = absurd (cc)
 included (type.Named t) (type.Integer y) v e h = absurd (cc)
 included (type.Named t) type.Boolean v e h = absurd (cc)
 included (type.Named t) type.Char v e h = absurd (cc)
 included (type.Named t) type.Set v e h = absurd (cc)
+included (type.Named t) type.Any v e h = absurd (cc)
 included (type.Named t) (type.Named u) v e h = h
 
 pub literal_is : (l : Literal) (t : TType) → IsLiteral l t → IsValueOf t (literal_value l)
@@ -171,24 +182,30 @@ literal_is (literal.Int n) (type.Integer w) h = (n, refl, h)
 literal_is (literal.Int n) type.Boolean h = absurd h
 literal_is (literal.Int n) type.Char h = absurd h
 literal_is (literal.Int n) type.Set h = absurd h
+literal_is (literal.Int n) type.Any h = absurd h
 literal_is (literal.Int n) (type.Named t) h = absurd h
 literal_is (literal.Bool b) (type.Integer w) h = absurd h
 literal_is (literal.Bool b) type.Boolean h = (b, refl)
 literal_is (literal.Bool b) type.Char h = absurd h
 literal_is (literal.Bool b) type.Set h = absurd h
+literal_is (literal.Bool b) type.Any h = absurd h
 literal_is (literal.Bool b) (type.Named t) h = absurd h
 literal_is (literal.Char c) (type.Integer w) h = absurd h
 literal_is (literal.Char c) type.Boolean h = absurd h
 literal_is (literal.Char c) type.Char h = (c, refl, h)
 literal_is (literal.Char c) type.Set h = absurd h
+literal_is (literal.Char c) type.Any h = absurd h
 literal_is (literal.Char c) (type.Named t) h = absurd h
 literal_is (literal.Set s) (type.Integer w) h = absurd h
 literal_is (literal.Set s) type.Boolean h = absurd h
 literal_is (literal.Set s) type.Char h = absurd h
 literal_is (literal.Set s) type.Set h = (s, refl, h)
+literal_is (literal.Set s) type.Any h = absurd h
 literal_is (literal.Set s) (type.Named t) h = absurd h
 literal_is (literal.Text c) (type.Integer w) h = absurd h
 literal_is (literal.Text c) type.Boolean h = absurd h
 literal_is (literal.Text c) type.Char h = (c.first, refl, h.1)
 literal_is (literal.Text c) type.Set h = absurd h
+literal_is (literal.Text c) type.Any h = absurd h
 literal_is (literal.Text c) (type.Named t) h = absurd h
+literal_is literal.Nil t h = absurd h

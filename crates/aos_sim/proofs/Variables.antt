@@ -1,9 +1,8 @@
 -- The variables and string constants of modules, and the parameters and locals of a frame: each stands at the cell that its code
 -- names, and a variable of a basic type or of an object type is one scalar.
-use Rattle.std.proofs.Common.{◌≡◌, ℕ, zero, suc, ◌+◌, ◌<◌, ◌^◌, List, [], ◌∷◌, ◌++◌, length, map, Option, Some, None, Bool, true, false, if◌then◌else◌, refl, sym, ap, ◌∙◌, subst, arith}
+use Rattle.std.proofs.Common.{◌≡◌, ℕ, ◌+◌, ◌<◌, ◌^◌, List, [], ◌∷◌, ◌++◌, length, map, Option, Some, None, Bool, true, false, if◌then◌else◌, refl, sym, ap, ◌∙◌, subst, arith}
 use Rattle.std.proofs.Common.{◌⊎◌, inl, inr}
 use Rattle.std.specs.Prelude.{All, slice_get, option_map, option_and_then}
-use Rattle.std.proofs.lemmas.Bool.{eq-eqb}
 use Rattle.std.proofs.lemmas.List.{length-map}
 use Rattle.std.proofs.lemmas.Option.{slice_get-map}
 use Rattle.aos_base.specs.declared.number.Width.TheVariants.{W8, W16, W32, W64}
@@ -15,28 +14,22 @@ use Rattle.aos_types.specs.Table.{row_of, is_object, is_open}
 use Rattle.aos_types.specs.Shape.{Shape, One, Pair, size, part, inside, offset, number_of, shaped, row as row_of_shapes}
 use Rattle.aos_types.specs.Contents.{contents, with_parts, unfolded}
 use Rattle.aos_types.specs.World.{World, shape_at, cell_at}
-use Rattle.aos_types.specs.Extension.{comes_by}
 use Rattle.aos_typed.specs.declared.tree.TType.{TType}
 use Rattle.aos_typed.specs.declared.tree.TType.TheVariants as type
 use Rattle.aos_typed.specs.Program.{ModuleVar, Variable, Parameter, Procedure, Module, Program}
 use Rattle.aos_typed.specs.Open.{open_dimensions, open_element}
 use Rattle.aos_typed.specs.Numbers.{id_of}
-use Rattle.aos_typed.specs.Sort.{Sort, Plain, Alias, Elements, Length, variable_shape}
+use Rattle.aos_typed.specs.Sort.{Sort, Plain, Elements, Length, variable_shape}
 use Rattle.aos_typed.specs.Text.{text_shape}
-use Rattle.aos_typed.specs.Value.{Value, Object}
-use Rattle.aos_typed.specs.Typing.{Is, IsPlainly, IsReference}
+use Rattle.aos_typed.specs.Value.{Value}
+use Rattle.aos_typed.specs.Typing.{Is, IsPlainly}
 use Rattle.aos_typed.specs.Source.{module_shape}
 use Rattle.aos_typed.specs.WellTyped.{is_basic, variable_type, IsConstantText, IsLength, IsParameter, IsLocal, IsByReference, IsByValue}
 use Rattle.aos_sim.specs.Code.{variable_cell, own_cell}
 use Rattle.aos_sim.proofs.Types.{IsValueOf, basic_of, from_basic, to_basic}
 use Rattle.aos_sim.proofs.Parts.{part_of_row, within_root}
-use Rattle.aos_sim.proofs.Does.{HasPredeclared, HasTypes, IsPart, IsStood, KnowsModules, KnowsFrame, characters}
+use Rattle.aos_sim.proofs.Does.{HasPredeclared, HasTypes, alias_sort, IsPart, IsStood, KnowsModules, KnowsFrame, characters}
 use Rattle.aos_sim.proofs.First.{get_left, get_right}
-
--- each type comes to itself
-comes_same : (rows : List TypeRow) (n : ℕ) (t : TypeId) → comes_by n rows t t ≡ true
-comes_same rows zero t = eq-eqb t.0 t.0 refl
-comes_same rows (suc n) t = rw (eq-eqb t.0 t.0 refl) refl
 
 module _ (rows : List TypeRow) (t : TypeId) where
   -- a variable of a basic type is one scalar
@@ -44,32 +37,17 @@ module _ (rows : List TypeRow) (t : TypeId) where
   basic_variable b e =
       ap (λ o. shaped Plain (if is_object o then One t else with_parts (unfolded (length rows) rows) rows t o)) e
 
-  -- so is one of an object type
+  -- so is one of a type whose values are objects, or NIL
+  pub pointer_variable : (u : TypeId) → row_of rows t ≡ Some (row.Pointer u) → variable_shape rows t ≡ One (Plain t)
+  pointer_variable u e = ap (λ o. shaped Plain (if is_object o then One t else with_parts (unfolded (length rows) rows) rows t o)) e
+
+  pub any_variable : row_of rows t ≡ Some row.Any → variable_shape rows t ≡ One (Plain t)
+  any_variable e = ap (λ o. shaped Plain (if is_object o then One t else with_parts (unfolded (length rows) rows) rows t o)) e
+
   pub object_variable : is_object (row_of rows t) ≡ true → variable_shape rows t ≡ One (Plain t)
   object_variable e = ap (λ b. shaped Plain (if b then One t else contents rows t)) e
 
-  -- a value of an object type is a reference
-  pub reference_value : (w : World Sort) (v : Value) → is_object (row_of rows t) ≡ true → IsReference rows w t v → Is rows w (Plain t) v
-  reference_value w v e h = by_row (row_of rows t) e
-    where
-      by_row : (o : Option TypeRow) → is_object o ≡ true → IsPlainly rows w t o v
-      by_row None e' = absurd (cc)
-      by_row (Some (row.Basic b)) e' = absurd (cc)
-      by_row (Some (row.Array n of)) e' = absurd (cc)
-      by_row (Some (row.Open of)) e' = absurd (cc)
-      by_row (Some (row.Record base fields)) e' = absurd (cc)
-      by_row (Some (row.Pointer to)) e' = absurd (cc)
-      by_row (Some (row.Object base fields)) e' = h
-      by_row (Some (row.Procedure formals r)) e' = absurd (cc)
-      by_row (Some row.Any) e' = absurd (cc)
-
 module _ (program : Program) where
-  -- an object is of the type that it's made as
-  pub made_value : (w : World Sort) (t o : ℕ) → is_object (row_of program.types (id_of (type.Named t))) ≡ true → w.made (suc o) ≡ Some (record { type = suc t; lengths = [] }) → Is program.types w (Plain (id_of (type.Named t))) (Object (suc o))
-  made_value w t o e made =
-      let id = id_of (type.Named t) in
-      reference_value program.types id w (Object (suc o)) e (record { type = suc t; lengths = [] }, made, refl, comes_same program.types (length program.types) id)
-
   -- the predeclared types stand first in the table
   pub basic_row : HasPredeclared program → (t : TType) → is_basic t ≡ true → row_of program.types (id_of t) ≡ Some (row.Basic (basic_of t))
   basic_row p (type.Integer W8) e = p 0 (omega arith)
@@ -79,6 +57,7 @@ module _ (program : Program) where
   basic_row p type.Boolean e = p 4 (omega arith)
   basic_row p type.Char e = p 5 (omega arith)
   basic_row p type.Set e = p 6 (omega arith)
+  basic_row p type.Any e = absurd (cc)
   basic_row p (type.Named t) e = absurd (cc)
 
   -- a variable's type has one scalar
@@ -193,7 +172,7 @@ part_by_value p true b t m e f h = absurd (cc)
 part_by_value p false true t m e f h = absurd (cc)
 part_by_value p false false t m e f h = h
 
-part_by_reference : (p : Program) (o b : Bool) (t : TypeId) (m : Shape Sort) → o ≡ false → b ≡ true → IsPart p o b t m → m ≡ One (Alias t)
+part_by_reference : (p : Program) (o b : Bool) (t : TypeId) (m : Shape Sort) → o ≡ false → b ≡ true → IsPart p o b t m → m ≡ One (alias_sort p.types t)
 part_by_reference p true b t m e f h = absurd (cc)
 part_by_reference p false true t m e f h = h
 part_by_reference p false false t m e f h = absurd (cc)
@@ -233,10 +212,10 @@ module _ (program : Program) (own : Option Procedure) (here : ℕ) (w : World So
       subst (OwnThere k) e (own_there k q.0 q.1)
 
   -- what a VAR parameter stands for has the parameter's type
-  pub alias_there : (k : ℕ) (t : TType) (a : Parameter) → IsParameter program own k a → IsByReference program a t → OwnThere k (One (Alias (id_of t)))
+  pub alias_there : (k : ℕ) (t : TType) (a : Parameter) → IsParameter program own k a → IsByReference program a t → OwnThere k (One (alias_sort program.types (id_of t)))
   alias_there k t a is h =
       let q = known.2.parameters k a is in
-      let e : q.0 ≡ One (Alias (id_of t)) = part_by_reference program (is_open (row_of program.types (id_of a.of))) a.by_reference (id_of a.of) q.0 h.0 h.1 q.2 ∙ ap (λ u. One (Alias (id_of u))) h.2 in
+      let e : q.0 ≡ One (alias_sort program.types (id_of t)) = part_by_reference program (is_open (row_of program.types (id_of a.of))) a.by_reference (id_of a.of) q.0 h.0 h.1 q.2 ∙ ap (λ u. One (alias_sort program.types (id_of u))) h.2 in
       subst (OwnThere k) e (own_there k q.0 q.1)
 
   pub record OpenThere (k : ℕ) (t : TypeId) : Type 0 where

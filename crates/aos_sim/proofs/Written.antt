@@ -20,8 +20,9 @@ use Rattle.aos_code.specs.Memory.{Memory}
 use Rattle.aos_code.specs.Machine as I
 use Rattle.aos_places.specs.Shows.{FramesShown, Shows}
 use Rattle.aos_sim.specs.Cells.{cell_of}
-use Rattle.aos_sim.proofs.Does.{scheme, HasTypes}
-use Rattle.aos_sim.proofs.States.{world_of, shapes_of, with_answer, Went, WaitingFrame, WentFrame, Waiting, WentFrames, SameVariables, Follows, SameState, waiting_length, went_same}
+use Rattle.aos_sim.proofs.Does.{scheme, HasTypes, HasShapes}
+use Rattle.aos_sim.proofs.Runs.{tables_of}
+use Rattle.aos_sim.proofs.States.{AreFew, world_of, shapes_of, with_answer, Went, WaitingFrame, WentFrame, Waiting, WentFrames, SameVariables, Follows, SameState, waiting_length, went_same}
 
 module _ {X : Type 0} (F : X → X) (d : ℕ) where
   -- an element is changed before or behind a look at it
@@ -115,22 +116,22 @@ module _ (program : Program) (image : Image) where
         (subst (λ ys. FramesShown (Is program.types) cell_of (scheme program) made (shapes_of fs) (change_from_last d a (map (λ f. f.variables) fs)) ys) (sym (change_map G d (λ g. g.cells) b (λ g. refl) gs)) h))
 
   -- where the changed memory shows the changed store, all is the same but for the change
-  pub written : HasTypes program → (r : Root) (a : Content Value → Content Value) (b : List Cell → List Cell) (s : Store) (mem : Memory) (ms ps : List ℕ) (fs : List S.Frame) (gs : List I.Frame) → mem.made ≡ s.made → Follows program image ms ps → WentFrames program image s.made fs gs →
+  pub written : HasTypes program → HasShapes program (tables_of image) → (r : Root) (a : Content Value → Content Value) (b : List Cell → List Cell) (s : Store) (mem : Memory) (ms ps : List ℕ) (fs : List S.Frame) (gs : List I.Frame) → mem.made ≡ s.made → AreFew program s.made → Follows program image ms ps → WentFrames program image s.made fs gs →
       Shows (Is program.types) cell_of (scheme program) s.made (shapes_of fs) (change_root r a (S.all_rooted fs s)) (change_root r b (I.rooted gs mem)) →
       SameState program image (store_with r a s) (I.memory_with r b mem) (S.all_frames ms (S.frames_with r a fs)) (I.all_frames ps (I.frames_with r b gs))
-  written typed (FrameRoot d) a b s mem ms ps fs gs made follows went h =
+  written typed shaped (FrameRoot d) a b s mem ms ps fs gs made few follows went h =
       let shown = variables_written s.made d a b fs gs h.of_frames in
       record {
-        stores = record { made = made; of_modules = h.of_modules; of_objects = h.of_objects };
-        same = record { follows = follows; frames = went_same program image typed s.made (change_from_last d (F s.made d a b) fs) (change_from_last d (G s.made d a b) gs) (went_written s.made d a b fs gs went) shown; shown = shown };
+        stores = record { made = made; few = few; of_modules = h.of_modules; of_objects = h.of_objects };
+        same = record { follows = follows; frames = went_same program image typed shaped s.made (change_from_last d (F s.made d a b) fs) (change_from_last d (G s.made d a b) gs) few (went_written s.made d a b fs gs went) shown; shown = shown };
       }
-  written typed (ModuleRoot m) a b s mem ms ps fs gs made follows went h =
+  written typed shaped (ModuleRoot m) a b s mem ms ps fs gs made few follows went h =
       record {
-        stores = record { made = made; of_modules = h.of_modules; of_objects = h.of_objects };
-        same = record { follows = follows; frames = went_same program image typed s.made fs gs went h.of_frames; shown = h.of_frames };
+        stores = record { made = made; few = few; of_modules = h.of_modules; of_objects = h.of_objects };
+        same = record { follows = follows; frames = went_same program image typed shaped s.made fs gs few went h.of_frames; shown = h.of_frames };
       }
-  written typed (ObjectRoot o) a b s mem ms ps fs gs made follows went h =
+  written typed shaped (ObjectRoot o) a b s mem ms ps fs gs made few follows went h =
       record {
-        stores = record { made = made; of_modules = h.of_modules; of_objects = h.of_objects };
-        same = record { follows = follows; frames = went_same program image typed s.made fs gs went h.of_frames; shown = h.of_frames };
+        stores = record { made = made; few = few; of_modules = h.of_modules; of_objects = h.of_objects };
+        same = record { follows = follows; frames = went_same program image typed shaped s.made fs gs few went h.of_frames; shown = h.of_frames };
       }

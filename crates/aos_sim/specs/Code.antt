@@ -16,7 +16,7 @@ use Rattle.aos_typed.specs.Meaning.{until}
 use Rattle.aos_typed.specs.Numbers.{id_of, procedure_number}
 use Rattle.aos_typed.specs.Routines.{result_of}
 use Rattle.aos_layout.specs.Frame.{frame}
-use Rattle.aos_typed.specs.Program.{Place, ModuleVar, Local, Passed, Field, Index, Of, Rows, Known, Opened, Row, Longer, Arguments, NoMore, Scalar, Whole, Opening, Expr, Lit, Read, Unary, Binary, And, Or, Element, Ord, Chr, CompareTexts, Len, LenBehind, Function, Call, Open, Char, Int, String, Ln, Stat, Assign, Copy, PutText, If, Case, While, Repeat, Loop, Exit, For, Block, Assert, Halt, Change, Perform, Return, New, Out, Stats, Nothing, Then, Arms, Otherwise, Arm, Cases, NoElse, Else, OfLabels, Procedure, Program}
+use Rattle.aos_typed.specs.Program.{Place, ModuleVar, Local, Passed, Field, Index, Of, Deref, Typed, Guarded, Rows, Known, Opened, Row, Spread, Longer, Arguments, NoMore, Scalar, Whole, Opening, Expr, Lit, Read, Unary, Binary, And, Or, Element, Ord, Chr, CompareTexts, Len, LenBehind, Function, Same, Is, IsRecord, Guard, Had, Call, Open, Char, Int, String, Ln, Stat, Assign, Copy, PutText, If, Case, While, Repeat, Loop, Exit, For, Block, Assert, Halt, Change, Perform, Return, New, Make, With, WithRecord, Out, Stats, Nothing, Then, Arms, Otherwise, Arm, Cases, NoElse, Else, OfLabels, Procedure, Program}
 use Rattle.aos_typed.specs.Source.{module_shape}
 use Rattle.aos_sim.specs.Search.{arms_in, search_of, search_size, search_code}
 use Rattle.aos_typed.specs.declared.tree.TType.{TType}
@@ -25,7 +25,7 @@ use Rattle.aos_typed.specs.declared.tree.TType.TheVariants.{Integer}
 use Rattle.aos_code.specs.declared.instr.Kind.{Kind}
 use Rattle.aos_code.specs.declared.instr.Kind.TheVariants.{N, R}
 use Rattle.aos_code.specs.declared.instr.Instr.{Instr}
-use Rattle.aos_code.specs.declared.instr.Instr.TheVariants.{Num, Dup, Drop, Swap, Frame as FrameOf, Param, Length, IndexOpen, PickLen, Call as CallOf, Keep, Kept, Fail, Assert as AssertOf, Halt as HaltOf, Module, Offset, Index as IndexOf, Unary as OnOne, Binary as OnTwo, Jump, JumpFalse, Begin, Load, Store, Copy as CopyOf, PutText as PutTextOf, CmpText, NewObject, Start, Return as ReturnOf, OutChar, OutInt, OutString, OutLn, OutOpen}
+use Rattle.aos_code.specs.declared.instr.Instr.TheVariants.{Num, Nil, Deref as DerefOf, OpenRef, EqRef, Is as IsOf, IsPlace, Guard as GuardOf, GuardPlace, NewArray, Dup, Drop, Swap, Frame as FrameOf, Param, Length, IndexOpen, PickLen, Call as CallOf, Keep, Kept, Fail, Assert as AssertOf, Halt as HaltOf, Module, Offset, Index as IndexOf, Unary as OnOne, Binary as OnTwo, Jump, JumpFalse, Begin, Load, Store, Copy as CopyOf, PutText as PutTextOf, CmpText, NewObject, Start, Return as ReturnOf, OutChar, OutInt, OutString, OutLn, OutOpen}
 
 abbrev pub begin : Pos → Instr
 begin at = Begin at.line at.col
@@ -37,6 +37,7 @@ literal_code (literal.Bool b) = Num (flag b)
 literal_code (literal.Char c) = Num (pos c)
 literal_code (literal.Set s) = Num (pos s)
 literal_code (literal.Text t) = Num (pos t.first)
+literal_code literal.Nil = Nil
 
 -- an object variable's cell has a reference, each other one's a number
 abbrev pub kind_of : TType → Kind
@@ -44,6 +45,7 @@ kind_of (type.Integer w) = N
 kind_of type.Boolean = N
 kind_of type.Char = N
 kind_of type.Set = N
+kind_of type.Any = R
 kind_of (type.Named t) = R
 
 -- two operands and their operator
@@ -99,6 +101,7 @@ abbrev pub dimensions : Rows → ℕ
 dimensions (Known p ns) = length ns
 dimensions (Opened k j) = j
 dimensions (Row r t e) = dimensions r - 1
+dimensions (Spread e j) = j
 dimensions (Longer r ns) = dimensions r + length ns
 
 -- so many lengths of an open array parameter, in cells of the frame from this one on
@@ -109,6 +112,11 @@ lengths_code c (suc n) = Length c ∷ lengths_code (suc c) n
 abbrev pub drops : ℕ → List Instr
 drops zero = []
 drops (suc n) = Drop ∷ drops n
+
+-- a record, or an array, of a type; an open one is made with its lengths
+abbrev pub make_instr : ℕ → (lengths : ℕ) → Instr
+make_instr t zero = NewObject (t + 1)
+make_instr t (suc n) = NewArray (t + 1) (suc n)
 
 -- in a program, whose variables have their cells, in the body of this procedure or of none
 module _ (program : Program) (own : Option Procedure) where
@@ -133,6 +141,9 @@ module _ (program : Program) (own : Option Procedure) where
     place_code (Local k) at = FrameOf (own_cell k) ∷ []
     place_code (Passed k) at = Param (own_cell k) ∷ []
     place_code (Of r) at = rows_code r at
+    place_code (Deref e t) at = value_code e at ++ DerefOf 0 ∷ []
+    place_code (Typed q t) at = place_code q at ++ Offset 0 (t + 1) ∷ []
+    place_code (Guarded q t) at = place_code q at ++ GuardPlace (t + 1) ∷ []
     place_code (Field p t k) at = place_code p at ++ Offset (field_cell t k) 0 ∷ []
     place_code (Index p n t e) at =
         operands_code (place_code p at) (value_code e (at + length (place_code p at))) (IndexOf n (cells_of t))
@@ -143,6 +154,7 @@ module _ (program : Program) (own : Option Procedure) where
     rows_code (Opened k j) at = Param (own_cell k) ∷ lengths_code (suc (own_cell k)) j
     rows_code (Row r t e) at =
         operands_code (rows_code r at) (value_code e (at + length (rows_code r at))) (IndexOpen (dimensions r) (cells_of t))
+    rows_code (Spread e j) at = value_code e at ++ OpenRef j ∷ []
     rows_code (Longer r ns) at = rows_code r at ++ map (λ n. Num (pos n)) ns
 
     pub arguments_code : Arguments → ℕ → List Instr
@@ -167,6 +179,22 @@ module _ (program : Program) (own : Option Procedure) where
     value_code (Len r d) at = rows_code r at ++ PickLen d (dimensions r) ∷ []
     value_code (LenBehind r n) at = rows_code r at ++ (drops (suc (dimensions r)) ++ Num (pos n) ∷ [])
     value_code (Function m k more) at = arguments_code more at ++ CallOf (procedure_number program m k) ∷ []
+    value_code (Same a b) at = operands_code (value_code a at) (value_code b (at + length (value_code a at))) EqRef
+    value_code (Is a t) at = value_code a at ++ IsOf (t + 1) ∷ []
+    value_code (IsRecord q t) at = place_code q at ++ IsPlace (t + 1) ∷ []
+    value_code (Guard a t) at = value_code a at ++ GuardOf (t + 1) ∷ []
+    value_code (Had v) at = []
+
+  -- values one above the other
+  abbrev pub values_code : List Expr → ℕ → List Instr
+  values_code [] at = []
+  values_code (e ∷ es) at = value_code e at ++ values_code es (at + length (value_code e at))
+
+  -- the place that it is stored at lies below it
+  abbrev pub make_code : Place → ℕ → List Expr → ℕ → List Instr
+  make_code p t ns at =
+      let place = place_code p at in
+      place ++ (values_code ns (at + length place) ++ (make_instr t (length ns) ∷ (Store R ∷ [])))
 
   abbrev pub out_code : Call → ℕ → List Instr
   out_code Open at = OutOpen ∷ []
@@ -250,6 +278,11 @@ module _ (program : Program) (own : Option Procedure) where
     stat_code (Return here None) at exit level = begin here ∷ (ReturnOf ∷ [])
     stat_code (Return here (Some e)) at exit level = begin here ∷ (value_code e (at + 1) ++ ReturnOf ∷ [])
     stat_code (New here p t) at exit level = begin here ∷ new_code p t (at + 1)
+    stat_code (Make here p t ns) at exit level = begin here ∷ make_code p t ns (at + 1)
+    stat_code (With here e body) at exit level =
+        let c = value_code e (at + 1) in begin here ∷ (c ++ (Drop ∷ stats_code body (at + 1 + length c + 1) exit level))
+    stat_code (WithRecord here p body) at exit level =
+        let c = place_code p (at + 1) in begin here ∷ (c ++ (Drop ∷ stats_code body (at + 1 + length c + 1) exit level))
     stat_code (Out here call) at exit level = begin here ∷ out_code call (at + 1)
 
     pub stats_code : Stats → (at exit level : ℕ) → List Instr

@@ -1,7 +1,7 @@
 -- How many operands code has at most, beyond those that are there where it begins.
-use Rattle.std.specs.Prelude.{◌≡◌, ℕ, suc, ◌+◌, map, max, length, Some, None}
+use Rattle.std.specs.Prelude.{◌≡◌, ℕ, suc, ◌+◌, List, [], ◌∷◌, map, max, length, Some, None}
 use Rattle.aos_sim.specs.Code.{dimensions}
-use Rattle.aos_typed.specs.Program.{Place, ModuleVar, Local, Passed, Field, Index, Of, Rows, Known, Opened, Row, Longer, Arguments, NoMore, Scalar, Whole, Opening, Expr, Lit, Read, Unary, Binary, And, Or, Element, Ord, Chr, CompareTexts, Len, LenBehind, Function, Call, Open, Char, Int, String, Ln, Stat, Assign, Copy, PutText, If, Case, While, Repeat, Loop, Exit, For, Block, Assert, Halt, Change, Perform, Return, New, Out, Stats, Nothing, Then, Arms, Otherwise, Arm, Cases, NoElse, Else, OfLabels, Program}
+use Rattle.aos_typed.specs.Program.{Place, ModuleVar, Local, Passed, Field, Index, Of, Deref, Typed, Guarded, Rows, Known, Opened, Row, Spread, Longer, Arguments, NoMore, Scalar, Whole, Opening, Expr, Lit, Read, Unary, Binary, And, Or, Element, Ord, Chr, CompareTexts, Len, LenBehind, Function, Same, Is, IsRecord, Guard, Had, Call, Open, Char, Int, String, Ln, Stat, Assign, Copy, PutText, If, Case, While, Repeat, Loop, Exit, For, Block, Assert, Halt, Change, Perform, Return, New, Make, With, WithRecord, Out, Stats, Nothing, Then, Arms, Otherwise, Arm, Cases, NoElse, Else, OfLabels, Program}
 use Rattle.aos_typed.specs.declared.tree.Change.{Change as Changing}
 use Rattle.aos_typed.specs.declared.tree.Change.TheVariants as change
 use Rattle.aos_typed.specs.Routines.{routines}
@@ -18,6 +18,9 @@ abbrev mutual
   place_need (Local k) = 1
   place_need (Passed k) = 1
   place_need (Of r) = rows_need r
+  place_need (Deref e t) = value_need e
+  place_need (Typed q t) = place_need q
+  place_need (Guarded q t) = place_need q
   place_need (Field p t k) = place_need p
   place_need (Index p n t e) = max (place_need p) (1 + value_need e)
 
@@ -26,6 +29,7 @@ abbrev mutual
   rows_need (Known p ns) = max (place_need p) (1 + length ns)
   rows_need (Opened k j) = 1 + j
   rows_need (Row r t e) = max (rows_need r) (1 + dimensions r + value_need e)
+  rows_need (Spread e j) = max (value_need e) (1 + j)
   rows_need (Longer r ns) = max (rows_need r) (1 + dimensions r + length ns)
 
   -- what is handed over: all that was before lies below
@@ -50,6 +54,16 @@ abbrev mutual
   value_need (Len r d) = rows_need r
   value_need (LenBehind r n) = rows_need r
   value_need (Function m k more) = max 1 (arguments_need more)
+  value_need (Same a b) = max (value_need a) (1 + value_need b)
+  value_need (Is a t) = value_need a
+  value_need (IsRecord q t) = place_need q
+  value_need (Guard a t) = value_need a
+  value_need (Had v) = 1
+
+-- values one above the other
+abbrev pub values_need : List Expr → ℕ
+values_need [] = 0
+values_need (e ∷ es) = max (value_need e) (1 + values_need es)
 
 -- a call of a procedure of module Out
 abbrev pub out_need : Call → ℕ
@@ -93,6 +107,9 @@ abbrev mutual
   stat_need (Return here None) = 0
   stat_need (Return here (Some e)) = value_need e
   stat_need (New here p t) = 2 + place_need p
+  stat_need (Make here p t ns) = max (place_need p) (1 + max 1 (values_need ns))
+  stat_need (With here e body) = max (value_need e) (stats_need body)
+  stat_need (WithRecord here p body) = max (place_need p) (stats_need body)
   stat_need (Out here call) = out_need call
 
   pub stats_need : Stats → ℕ
@@ -129,6 +146,9 @@ abbrev mutual
   stat_level (Perform here m k more) d = d
   stat_level (Return here e) d = d
   stat_level (New here p t) d = d
+  stat_level (Make here p t ns) d = d
+  stat_level (With here e body) d = stats_level body d
+  stat_level (WithRecord here p body) d = stats_level body d
   stat_level (Out here call) d = d
 
   pub stats_level : Stats → ℕ → ℕ

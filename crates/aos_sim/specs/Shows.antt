@@ -1,12 +1,14 @@
 -- When an image has a program's code, and when it shows the program.
-use Rattle.std.specs.Prelude.{◌≡◌, ◌<◌, ◌^◌, ℕ, suc, pos, false, Option, Some, None, All, List, [], ◌∷◌, ◌++◌, map, length}
-use Rattle.std.specs.List.{flat_map}
+use Rattle.std.specs.Prelude.{◌≡◌, ◌<◌, ◌^◌, ℕ, suc, pos, false, Option, Some, None, All, List, [], ◌∷◌, ◌++◌, map, length, drop}
+use Rattle.std.specs.List.{flat_map, range_with_len}
 use Rattle.std.specs.String.{string_bytes}
 use Rattle.aos_base.specs.Machine.{Choice, execution}
 use Rattle.aos_base.specs.Observation.{observation}
 use Rattle.aos_types.specs.declared.row.TypeRow.{TypeRow}
+use Rattle.aos_types.specs.Table.{base_of}
 use Rattle.aos_types.specs.Shape.{leaves, row, size}
 use Rattle.aos_typed.specs.Program.{Procedure, Module, Program}
+use Rattle.aos_typed.specs.Numbers.{predeclared_types}
 use Rattle.aos_typed.specs.Routines.{Routine, routines}
 use Rattle.aos_typed.specs.Source.{source, first_state}
 use Rattle.aos_code.specs.declared.instr.Cell.{Cell}
@@ -18,6 +20,7 @@ use Rattle.aos_code.specs.declared.image.TypeDesc.{TypeDesc}
 use Rattle.aos_code.specs.declared.image.Image.{Image}
 use Rattle.aos_code.specs.Machine.{machine, first_cell, first_state as first_of}
 use Rattle.aos_layout.specs.Layout.{variable_cells, block}
+pub use Rattle.aos_layout.specs.Layout.{type_kinds, base_number}
 use Rattle.aos_layout.specs.Frame.{Known, known}
 use Rattle.aos_layout.specs.Seen.{seen_shape}
 use Rattle.aos_sim.specs.Code.{body_code}
@@ -61,6 +64,8 @@ pub record IsCode (p : Program) (bs : List Body) (ss : List ProcShape) (ds : Lis
   pub shapes : map seen_shape ss ≡ map (shape_of p.types) (routines p)
   pub starts : map (λ d. d.body) ds ≡ numbers_from 1 p.modules
   pub types : map (λ t. t.body) ts ≡ numbers_from (suc (length p.modules)) p.objects
+  pub bases : map (λ t. t.base) ts ≡ map (λ r. base_number (base_of (Some r))) (drop predeclared_types p.types)
+  pub kinds : map (λ t. t.kinds.items) ts ≡ map (λ k. type_kinds p.types (record { 0 = k })) (range_with_len predeclared_types (length p.objects))
   pub cells : map (λ d. d.cells.items) ds ≡ map (first_cells p.types) p.modules
   pub names : map (λ d. string_bytes d.name) ds ≡ map (λ m. m.name) p.modules
   pub few : All (λ m. size (block p.types m) < 2 ^ 32) p.modules

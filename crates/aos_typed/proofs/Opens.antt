@@ -7,7 +7,7 @@ use Rattle.aos_types.specs.Sameness.{element_of}
 use Rattle.aos_typed.specs.Open.{open_by, behind}
 
 module _ (rows : List TypeRow) (t of : TypeId) (e : element_of (row_of rows t) ≡ Some of) where
-  open_more : (n : ℕ) → open_by (suc n) rows t ≡ suc (open_by n rows of)
+  pub open_more : (n : ℕ) → open_by (suc n) rows t ≡ suc (open_by n rows of)
   open_more n = rw e refl
 
   behind_more : (n : ℕ) → behind (suc n) rows t ≡ behind n rows of

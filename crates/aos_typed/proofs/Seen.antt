@@ -15,7 +15,7 @@ use Rattle.aos_typed.specs.declared.tree.TElse.{TElse}
 use Rattle.aos_typed.specs.declared.tree.TElse.TheViews as view
 use Rattle.aos_typed.specs.declared.tree.TElse.TheBlock.{items_hidden-the_row-TStat-0, hidden-the_row-TStat-0, items-the_row-TStat, items_shown-the_row-TStat-0, items_hidden-the_row-TArm-1, hidden-the_row-TArm-1, items-the_row-TArm, items_hidden-the_row-TCase-2, hidden-the_row-TCase-2, items-the_row-TCase}
 use Rattle.aos_typed.specs.declared.tree.TStat.{TStat, Row_of-TStat, end_of-TStat, more_of-TStat, Row_of-TArm, end_of-TArm, more_of-TArm, Row_of-TCase, end_of-TCase, more_of-TCase}
-use Rattle.aos_typed.specs.Program.{Function, Stats, If, Case, While, Repeat, Loop, For, Block, Then, Arm, Cases, Else, OfLabels}
+use Rattle.aos_typed.specs.Program.{Function, Stats, If, Case, While, Repeat, Loop, For, Block, With, WithRecord, Then, Arm, Cases, Else, OfLabels}
 use Rattle.aos_typed.specs.Seen.{seen_place, seen_argument, seen_arguments, seen_list, seen_expr, seen_stat, seen_row, seen_arms, seen_cases, seen_else, seen_stats, arms_of, cases_of}
 
 row_seen : {m : _} (row : Row_of-TStat m) → seen_row row ≡ seen_stats (items-the_row-TStat m row)
@@ -61,6 +61,12 @@ for_seen at w p from to step body = ap (λ l. For at w (seen_place p) (seen_expr
 
 pub block_seen : (at : Pos) (body : Vec TStat Global) → seen_stat (view.Block at body) ≡ Block at (seen_stats body.items)
 block_seen at body = ap (λ l. Block at l) (body_seen body)
+
+pub with_seen : (at : Pos) (e : TExpr) (body : Vec TStat Global) → seen_stat (view.With at e body) ≡ With at (seen_expr e) (seen_stats body.items)
+with_seen at e body = ap (λ l. With at (seen_expr e) l) (body_seen body)
+
+pub with_record_seen : (at : Pos) (p : TPlace) (body : Vec TStat Global) → seen_stat (view.WithRecord at p body) ≡ WithRecord at (seen_place p) (seen_stats body.items)
+with_record_seen at p body = ap (λ l. WithRecord at (seen_place p) l) (body_seen body)
 
 arguments_seen : {m : _} (row : Row_of-TArgument m) → seen_arguments row ≡ seen_list (items-the_row-TArgument m row)
 arguments_seen end_of-TArgument = refl

@@ -5,14 +5,14 @@ use Rattle.aos_base.specs.declared.place.Root.TheVariants.{Frame as FrameRoot}
 use Rattle.aos_base.specs.Rooted.{Rooted}
 use Rattle.aos_types.specs.declared.row.TypeId.{TypeId}
 use Rattle.aos_types.specs.declared.row.TypeRow.{TypeRow}
-use Rattle.aos_types.specs.Table.{row_of, is_open, is_scalar}
+use Rattle.aos_types.specs.Table.{row_of, is_open, is_record, is_scalar}
 use Rattle.aos_types.specs.Shape.{Shape, One, Pair, repeated, row}
-use Rattle.aos_types.specs.Content.{Content, Scalar, Empty, Row}
+use Rattle.aos_types.specs.Content.{Content, Scalar, Empty, Row, cut}
 use Rattle.aos_types.specs.World.{read}
 use Rattle.aos_typed.specs.Program.{Parameter}
 use Rattle.aos_typed.specs.Numbers.{id_of}
 use Rattle.aos_typed.specs.Open.{open_dimensions, open_element}
-use Rattle.aos_typed.specs.Sort.{Sort, Plain, Alias, Elements, Length, variable_shape}
+use Rattle.aos_typed.specs.Sort.{Sort, Plain, Variable, Alias, Elements, Length, variable_shape}
 use Rattle.aos_typed.specs.Spot.{InFrame}
 use Rattle.aos_typed.specs.Value.{Value, Int, Place, number_of}
 use Rattle.aos_typed.specs.Meaning.{place_in}
@@ -69,7 +69,7 @@ module _ (rows : List TypeRow) (here : ℕ) (x : Rooted (Content Value)) where
   content_at v = let s = place_in v in or_empty (read s.root s.path x)
 
   abbrev pub whole : TypeId → Value → Part
-  whole t v = record { content = content_at v; shape = variable_shape rows t }
+  whole t v = let s = variable_shape rows t in record { content = cut s (content_at v); shape = s }
 
   -- the part with this number of the frame itself
   abbrev pub own_part : ℕ → Value
@@ -91,6 +91,6 @@ module _ (rows : List TypeRow) (here : ℕ) (x : Rooted (Content Value)) where
       then (if a.by_reference
       then hand (open_part of v lengths) [] (handed as' (drop (suc j) vs) copy)
       else hand (open_part of (own_part copy) lengths) (copied of v lengths ∷ []) (handed as' (drop (suc j) vs) (suc copy)))
-      else if a.by_reference then hand (scalar (Alias t) v) [] (handed as' (drop 1 vs) copy)
+      else if a.by_reference then hand (scalar (if is_record (row_of rows t) then Variable t else Alias t) v) [] (handed as' (drop 1 vs) copy)
       else if is_scalar (row_of rows t) then hand (scalar (Plain t) v) [] (handed as' (drop 1 vs) copy)
       else hand (whole t v) [] (handed as' (drop 1 vs) copy)

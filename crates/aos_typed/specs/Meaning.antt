@@ -1,5 +1,5 @@
 -- What expressions and statements do, as trees of questions.
-use Rattle.std.specs.Prelude.{ℕ, zero, suc, ℤ, pos, negsuc, int_le, List, [], ◌∷◌, ◌++◌, Bool, true, false, ◌&&◌, Option, Some, None, if◌then◌else◌, map, slice_get, unsigned_abs}
+use Rattle.std.specs.Prelude.{ℕ, zero, suc, ℤ, pos, negsuc, int_le, List, [], ◌∷◌, ◌++◌, Bool, true, false, ◌&&◌, ◌==◌, Option, Some, None, if◌then◌else◌, map, slice_get, unsigned_abs}
 use Rattle.aos_base.specs.declared.text.Pos.{Pos}
 use Rattle.std.specs.List.{list_any}
 use Rattle.std.specs.Option.{unwrap_or}
@@ -14,13 +14,15 @@ use Rattle.aos_typed.specs.declared.tree.Change.{Change as Changing}
 use Rattle.aos_typed.specs.declared.tree.Change.TheVariants as change
 use Rattle.aos_typed.specs.declared.tree.LabelRange.{LabelRange}
 use Rattle.aos_typed.specs.declared.tree.TType.TheVariants.{Integer, Set}
-use Rattle.aos_base.specs.Question.{Tree, Val, Traps, bind, ask, Ask, Reads, Stores, Copies, PutsText, ComparesTexts, Calls, Places, Lengths, Makes, Starts, PutsInt, PutsChar, PutsString, PutsLn, PutsNothing}
-use Rattle.aos_typed.specs.Program.{Place, ModuleVar, Local, Passed, Field, Index, Of, Rows, Known, Opened, Row, Longer, Arguments, NoMore, Scalar, Whole, Opening, Expr, Lit, Read, Unary, Binary, And, Or, Element, Ord, Chr, CompareTexts, Len, LenBehind, Function, Call, Open as OutOpen, Char as OutChar, Int as OutInt, String as OutString, Ln as OutLn, Stat, Assign, Copy, PutText, If, Case, While, Repeat, Loop, Exit, For, Block, Assert, Halt, Change, Perform, Return, New, Out, Stats, Nothing, Then, Arms, Otherwise, Arm, Cases, NoElse, Else, OfLabels, Program}
-use Rattle.aos_typed.specs.Value.{Value, Int, Flag, Place as PlaceValue, number_of, literal_value, unary, binary, element, ord, chr, is_true}
+use Rattle.aos_base.specs.Question.{Tree, Val, Traps, bind, ask, Ask, Reads, Stores, Copies, PutsText, ComparesTexts, Calls, Places, Lengths, Opens, Sizes, Tests, Makes, Starts, PutsInt, PutsChar, PutsString, PutsLn, PutsNothing}
+use Rattle.aos_typed.specs.Program.{Place, ModuleVar, Local, Passed, Field, Index, Of, Deref, Typed, Guarded, Rows, Known, Opened, Row, Spread, Longer, Arguments, NoMore, Scalar, Whole, Opening, Expr, Lit, Read, Unary, Binary, And, Or, Element, Ord, Chr, CompareTexts, Len, LenBehind, Function, Same, Is, IsRecord, Guard, Had, Call, Open as OutOpen, Char as OutChar, Int as OutInt, String as OutString, Ln as OutLn, Stat, Assign, Copy, PutText, If, Case, While, Repeat, Loop, Exit, For, Block, Assert, Halt, Change, Perform, Return, New, Make, With, WithRecord, Out, Stats, Nothing, Then, Arms, Otherwise, Arm, Cases, NoElse, Else, OfLabels, Program}
+use Rattle.aos_types.specs.declared.row.TypeRow.{TypeRow}
+use Rattle.aos_types.specs.Extension.{comes_to}
+use Rattle.aos_typed.specs.Value.{Value, Int, Flag, Object, Place as PlaceValue, number_of, literal_value, unary, binary, element, ord, chr, is_true}
 use Rattle.aos_base.specs.declared.place.Root.TheVariants.{Frame as FrameRoot, Module as ModuleRoot}
 use Rattle.aos_typed.specs.declared.tree.TType.{TType}
 use Rattle.aos_typed.specs.Spot.{Spot, InFrame, OfModule}
-use Rattle.aos_typed.specs.Numbers.{procedure_number}
+use Rattle.aos_typed.specs.Numbers.{procedure_number, id_of_made}
 
 -- a scalar is known by its type, and so is what is copied
 abbrev pub Question : Type 0
@@ -72,6 +74,47 @@ length_at d x = unwrap_or (slice_get x.lengths d) (Int (pos 0))
 abbrev pub text_length : Found → Value
 text_length x = length_at 0 x
 
+-- Objects.
+
+-- the number of an object, 0 for NIL; no well-typed program takes another value for one
+abbrev pub object_in : Value → ℕ
+object_in (Object o) = o
+object_in v = 0
+
+abbrev pub by_number : {A : Type 0} → ℕ → (at_nil otherwise : Doing A) → Doing A
+by_number zero a b = a
+by_number (suc o) a b = b
+
+abbrev pub unless_nil : {A : Type 0} → Value → (at_nil otherwise : Doing A) → Doing A
+unless_nil v a b = by_number (object_in v) a b
+
+-- where what an object holds stands is known at once, and so are its lengths and its type, which never change
+abbrev pub dereferenced : Value → Doing Spot
+dereferenced v = unless_nil v (Traps 1 0) (bind (ask (Opens v)) (λ x. Val (place_in x)))
+
+abbrev pub sizes_from : Value → (dimension many : ℕ) → Doing (List Value)
+sizes_from v d zero = Val []
+sizes_from v d (suc n) = bind (ask (Sizes v d)) (λ x. bind (sizes_from v (suc d) n) (λ xs. Val (x ∷ xs)))
+
+abbrev pub spread : Value → (dimensions : ℕ) → Doing Found
+spread v j =
+    unless_nil v (Traps 1 0)
+    (bind (ask (Opens v)) (λ x. bind (sizes_from v 0 j) (λ ns. found (record (place_in x) { type = 0 }) ns)))
+
+-- whether its type extends this one
+abbrev pub is_instance : Value → ℕ → Doing Value
+is_instance v t = unless_nil v (Val (Flag false)) (ask (Tests v (suc t)))
+
+abbrev pub guarded : Value → ℕ → Doing Value
+guarded v t = unless_nil v (Traps 3 0) (bind (ask (Tests v (suc t))) (λ b. if is_true b then Val v else Traps 3 0))
+
+-- whether the type of a record, which its place names, extends this one
+abbrev pub has_type : List TypeRow → Spot → ℕ → Bool
+has_type rows s t = comes_to rows (id_of_made s.type) (id_of_made (suc t))
+
+abbrev pub record_guarded : List TypeRow → Spot → ℕ → Doing Spot
+record_guarded rows s t = if has_type rows s t then Val s else Traps 3 0
+
 -- In a procedure's frame, below which there are so many frames of its activity, in a program.
 module _ (p : Program) (here : ℕ) where
   -- a parameter or a local of the frame
@@ -103,11 +146,15 @@ module _ (p : Program) (here : ℕ) where
     place_of (Field q t k) = bind (place_of q) (λ s. Val (part_of k s))
     place_of (Index q n t e) = bind (place_of q) (λ s. bind (value_of e) (λ v. element_of n v s))
     place_of (Of r) = bind (rows_of r) (λ x. Val x.place)
+    place_of (Deref e t) = bind (value_of e) (λ v. dereferenced v)
+    place_of (Typed q t) = bind (place_of q) (λ s. Val (record s { type = suc t }))
+    place_of (Guarded q t) = bind (place_of q) (λ s. record_guarded p.types s t)
 
     pub rows_of : Rows → Doing Found
     rows_of (Known q ns) = bind (place_of q) (λ s. found s (map (λ n. Int (pos n)) ns))
     rows_of (Opened k j) = opened k j
     rows_of (Row r t e) = bind (rows_of r) (λ x. bind (value_of e) (λ v. row_at x v))
+    rows_of (Spread e j) = bind (value_of e) (λ v. spread v j)
     rows_of (Longer r ns) = bind (rows_of r) (λ x. found x.place (x.lengths ++ map (λ n. Int (pos n)) ns))
 
     -- what is handed over, in order: a value, a place, or a place and its lengths
@@ -133,6 +180,15 @@ module _ (p : Program) (here : ℕ) where
     value_of (Len r d) = bind (rows_of r) (λ x. Val (length_at d x))
     value_of (LenBehind r n) = bind (rows_of r) (λ x. Val (Int (pos n)))
     value_of (Function m k as') = bind (arguments_of as') (λ vs. ask (Calls (procedure_number p m k) vs))
+    value_of (Same a b) = bind (value_of a) (λ x. bind (value_of b) (λ y. Val (Flag (object_in x == object_in y))))
+    value_of (Is a t) = bind (value_of a) (λ v. is_instance v t)
+    value_of (IsRecord q t) = bind (place_of q) (λ s. Val (Flag (has_type p.types s t)))
+    value_of (Guard a t) = bind (value_of a) (λ v. guarded v t)
+    value_of (Had v) = Val v
+
+  abbrev pub values_of : List Expr → Doing (List Value)
+  values_of [] = Val []
+  values_of (e ∷ es) = bind (value_of e) (λ v. bind (values_of es) (λ vs. Val (v ∷ vs)))
 
 -- What remains of a frame's statements: one that is to begin; the rounds of a FOR, with its last value and its step, each of which
 -- begins; a LOOP, which begins again; or what follows the statements of a REPEAT, which doesn't begin.
@@ -208,6 +264,9 @@ pos_of (Change at c p e) = at
 pos_of (Perform at m k as') = at
 pos_of (Return at e) = at
 pos_of (New at p t) = at
+pos_of (Make at p t ns) = at
+pos_of (With at e body) = at
+pos_of (WithRecord at p body) = at
 pos_of (Out at call) = at
 
 -- In a procedure's frame, below which there are so many frames of its activity, in a program.
@@ -268,7 +327,12 @@ module _ (p : Program) (here : ℕ) where
   stat_of (Return at (Some e)) = bind (value e) (λ v. Val (Returns (Some v)))
   -- the object is made, then stored in a variable that is no part of another, and then its activity is started
   stat_of (New at q t) =
-      bind (ask (Makes (suc t))) (λ o. bind (place q) (λ s. bind (ask (Stores s o)) (λ _. bind (ask (Starts o)) (λ _. Val (Into [])))))
+      bind (ask (Makes (suc t) [])) (λ o. bind (place q) (λ s. bind (ask (Stores s o)) (λ _. bind (ask (Starts o)) (λ _. Val (Into [])))))
+  -- a pointer is found, then the lengths are evaluated, and the record or the array is made and stored there
+  stat_of (Make at q t ns) =
+      bind (place q) (λ s. bind (values_of p here ns) (λ vs. bind (ask (Makes (suc t) vs)) (λ o. bind (ask (Stores s o)) (λ _. Val (Into [])))))
+  stat_of (With at e body) = bind (value e) (λ _. Val (Into (items_of body)))
+  stat_of (WithRecord at q body) = bind (place q) (λ _. Val (Into (items_of body)))
   stat_of (Out at call) = out_of call
 
   abbrev pub item_of : Item → Doing After

@@ -1,7 +1,7 @@
 -- Numbers of what a program declares. Modules are numbered from 0 in load order, types from 0 in the table, a module's variables
 -- and procedures, and a procedure's parameters and behind them its locals, from 0 in the order of the text, a record's fields
 -- from 0, its base's first. Procedures that run are numbered from 1 over the whole program.
-use Rattle.std.specs.Prelude.{ℕ, suc, ◌+◌, List, [], ◌∷◌, length, sum_by, take}
+use Rattle.std.specs.Prelude.{ℕ, zero, suc, ◌+◌, List, [], ◌∷◌, length, sum_by, take}
 use Rattle.aos_base.specs.declared.number.Width.{Width}
 use Rattle.aos_base.specs.declared.number.Width.TheVariants.{W8, W16, W32, W64}
 use Rattle.aos_types.specs.declared.row.Basic.TheVariants as basic
@@ -9,7 +9,7 @@ use Rattle.aos_types.specs.declared.row.TypeId.{TypeId}
 use Rattle.aos_types.specs.declared.row.TypeRow.{TypeRow}
 use Rattle.aos_types.specs.declared.row.TypeRow.TheVariants as row
 use Rattle.aos_typed.specs.declared.tree.TType.{TType}
-use Rattle.aos_typed.specs.declared.tree.TType.TheVariants.{Integer, Boolean, Char, Set, Named}
+use Rattle.aos_typed.specs.declared.tree.TType.TheVariants.{Integer, Boolean, Char, Set, Any, Named}
 use Rattle.aos_typed.specs.Program.{Program}
 
 -- how many types are predeclared; they stand first in the table. The last one is that of all string constants but those of one
@@ -35,7 +35,13 @@ id_of (Integer w) = record { 0 = integer_id w }
 id_of Boolean = record { 0 = 4 }
 id_of Char = record { 0 = 5 }
 id_of Set = record { 0 = 6 }
+id_of Any = record { 0 = 8 }
 id_of (Named k) = record { 0 = k + predeclared_types }
+
+-- the number in the table of the type that is numbered from 1 in the program
+abbrev pub id_of_made : ℕ → TypeId
+id_of_made zero = record { 0 = 0 }
+id_of_made (suc k) = record { 0 = k + predeclared_types }
 
 -- first come the bodies of the modules, then those beside the types, then the procedures of each module
 abbrev pub procedures_before : Program → ℕ → ℕ

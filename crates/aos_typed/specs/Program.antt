@@ -11,6 +11,7 @@ use Rattle.aos_typed.specs.declared.tree.Literal.{Literal}
 use Rattle.aos_typed.specs.declared.tree.Change.{Change as Changing}
 use Rattle.aos_typed.specs.declared.tree.LabelRange.{LabelRange}
 use Rattle.aos_typed.specs.declared.tree.TType.{TType}
+use Rattle.aos_typed.specs.Value.{Value}
 
 mutual
   -- a designator: a variable of a module, by the module's number in load order and the variable's number, on from which its string
@@ -23,6 +24,9 @@ mutual
     Field : (whole : Place) → (of : TType) → (number : ℕ) → Place
     Index : (whole : Place) → (elements : ℕ) → (of : TType) → Expr → Place
     Of : Rows → Place  -- an element of an open array, behind all its dimensions
+    Deref : Expr → (of : TType) → Place  -- the record or the array of this type that an object is
+    Typed : Place → (type : ℕ) → Place  -- a record with its type, by the type's number
+    Guarded : Place → (type : ℕ) → Place  -- what a VAR parameter stands for, where that is a record whose type extends this one
 
   -- an array with the lengths of some of its dimensions, the first ones: one whose lengths are known, an open array parameter, which
   -- has so many open dimensions, or an element of an array with open dimensions, by its index. The elements behind all dimensions
@@ -31,6 +35,7 @@ mutual
     Known : Place → List ℕ → Rows
     Opened : (number dimensions : ℕ) → Rows
     Row : Rows → (of : TType) → Expr → Rows
+    Spread : Expr → (dimensions : ℕ) → Rows  -- the open array that an object is, with so many open dimensions
     Longer : Rows → List ℕ → Rows  -- with the known lengths of dimensions behind
 
   -- what a call hands over: a value; the place of a record or an array by value, which is copied, or of a variable for a VAR parameter;
@@ -57,6 +62,11 @@ mutual
     Len : Rows → (dimension : ℕ) → Expr
     LenBehind : Rows → (length : ℕ) → Expr
     Function : (home number : ℕ) → Arguments → Expr
+    Same : Expr → Expr → Expr  -- whether both are one object, or NIL
+    Is : Expr → (type : ℕ) → Expr  -- whether an object's type extends this one
+    IsRecord : Place → (type : ℕ) → Expr  -- whether the type of the record that a VAR parameter stands for does
+    Guard : Expr → (type : ℕ) → Expr  -- an object whose type does
+    Had : Value → Expr  -- a value that stands for what was read before; no text has one
 
 -- a call of a procedure of module Out: the number, and in how many places it stands; a text, by its place and the number of elements
 -- there
@@ -88,6 +98,9 @@ mutual
     Perform : Pos → (home number : ℕ) → Arguments → Stat
     Return : Pos → Option Expr → Stat
     New : Pos → Place → ℕ → Stat
+    Make : Pos → Place → (type : ℕ) → (lengths : List Expr) → Stat
+    With : Pos → Expr → Stats → Stat
+    WithRecord : Pos → Place → Stats → Stat
     Out : Pos → Call → Stat
 
   pub data Stats : Type 0 where

@@ -23,7 +23,7 @@ use Rattle.aos_typed.specs.declared.tree.TProcedure.{TProcedure}
 use Rattle.aos_typed.specs.declared.tree.TObject.{TObject}
 use Rattle.aos_typed.specs.declared.tree.TModule.{TModule}
 use Rattle.aos_typed.specs.declared.tree.Program.{Program as TProgram}
-use Rattle.aos_typed.specs.Program.{Place, ModuleVar, Local, Passed, Field, Index, Of, Rows, Known, Opened, Row, Longer, Arguments, NoMore, Scalar, Whole, Opening, Expr, Lit, Read, Unary, Binary, And, Or, Element, Ord, Chr, CompareTexts, Len, LenBehind, Function, Call, Open, Char, Int, String, Ln, Stat, Assign, Copy, PutText, If, Case, While, Repeat, Loop, Exit, For, Block, Assert, Halt, Change, Perform, Return, New, Out, Stats, Nothing, Then, Arms, Otherwise, Arm, Cases, NoElse, Else, OfLabels, Variable, Parameter, Procedure, ObjectType, Module, Program}
+use Rattle.aos_typed.specs.Program.{Place, ModuleVar, Local, Passed, Field, Index, Of, Deref, Typed, Guarded, Rows, Known, Opened, Row, Spread, Longer, Arguments, NoMore, Scalar, Whole, Opening, Expr, Lit, Read, Unary, Binary, And, Or, Element, Ord, Chr, CompareTexts, Len, LenBehind, Function, Same, Is, IsRecord, Guard, Call, Open, Char, Int, String, Ln, Stat, Assign, Copy, PutText, If, Case, While, Repeat, Loop, Exit, For, Block, Assert, Halt, Change, Perform, Return, New, Make, With, WithRecord, Out, Stats, Nothing, Then, Arms, Otherwise, Arm, Cases, NoElse, Else, OfLabels, Variable, Parameter, Procedure, ObjectType, Module, Program}
 
 abbrev mutual
   pub seen_place : TPlace → Place
@@ -31,6 +31,9 @@ abbrev mutual
   seen_place (place.Local k) = Local k
   seen_place (place.Passed k) = Passed k
   seen_place (place.Of' p r) = Of (seen_rows r)
+  seen_place (place.Deref' p e t) = Deref (seen_expr e) t
+  seen_place (place.Typed' p q t) = Typed (seen_place q) t
+  seen_place (place.Guarded' p q t) = Guarded (seen_place q) t
   seen_place (place.Field' p whole t k) = Field (seen_place whole) t k
   seen_place (place.Index' p whole n t q e) = Index (seen_place whole) n t (seen_expr e)
 
@@ -38,6 +41,7 @@ abbrev mutual
   seen_rows (rows.Known' p q ns) = Known (seen_place q) ns.items
   seen_rows (rows.Opened k j) = Opened k j
   seen_rows (rows.Row' p r t q e) = Row (seen_rows r) t (seen_expr e)
+  seen_rows (rows.Spread' p e j) = Spread (seen_expr e) j
   seen_rows (rows.Longer' p r ns) = Longer (seen_rows r) ns.items
 
   pub seen_arguments : {m : _} → Row_of-TArgument m → Arguments
@@ -63,6 +67,10 @@ abbrev mutual
   seen_expr (expr.Len r d) = Len (seen_rows r) d
   seen_expr (expr.LenBehind r n) = LenBehind (seen_rows r) n
   seen_expr (expr.Function' m k shape row) = Function m k (seen_arguments row)
+  seen_expr (expr.Same' p a q b) = Same (seen_expr a) (seen_expr b)
+  seen_expr (expr.Is' p a t) = Is (seen_expr a) t
+  seen_expr (expr.IsRecord' p q t) = IsRecord (seen_place q) t
+  seen_expr (expr.Guard' p a t) = Guard (seen_expr a) t
 
 abbrev pub seen_list : List TArgument → Arguments
 seen_list [] = NoMore
@@ -94,6 +102,9 @@ abbrev mutual
   seen_stat (stat.Perform at m k as') = Perform at m k (seen_list as'.items)
   seen_stat (stat.Return at e) = Return at (option_map seen_expr e)
   seen_stat (stat.New at p t) = New at (seen_place p) t
+  seen_stat (stat.Make at p t ns) = Make at (seen_place p) t (map seen_expr ns.items)
+  seen_stat (stat.With' at e shape body) = With at (seen_expr e) (seen_row body)
+  seen_stat (stat.WithRecord' at p shape body) = WithRecord at (seen_place p) (seen_row body)
   seen_stat (stat.Out at c) = Out at (seen_call c)
 
   pub seen_row : {m : _} → Row_of-TStat m → Stats

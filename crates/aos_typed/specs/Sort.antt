@@ -16,6 +16,6 @@ pub data Sort : Type 0 where
 abbrev pub variable_shape : List TypeRow → TypeId → Shape Sort
 variable_shape rows t = shaped Plain (of_variable (contents rows) rows t)
 
--- what an object of a type has
+-- what an object of a type has, a record or a fixed array among these
 abbrev pub object_shape : List TypeRow → TypeId → Shape Sort
 object_shape rows t = shaped Plain (contents rows t)

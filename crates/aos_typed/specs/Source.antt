@@ -1,37 +1,40 @@
 -- A program as a machine: its store, its frames, and the turns of an activity.
 use Rattle.std.specs.Prelude.{ℕ, suc, ◌+◌, nat_lt, sum_by, ◌++◌, List, [], ◌∷◌, length, Bool, true, false, Option, Some, None, if◌then◌else◌, map, pos, unsigned_abs, slice_get, option_and_then}
 use Rattle.std.specs.List.{range_with_len}
+use Rattle.std.specs.Option.{unwrap_or}
 use Rattle.aos_base.specs.declared.text.Pos.{Pos}
 use Rattle.aos_base.specs.declared.place.Root.{Root}
 use Rattle.aos_base.specs.declared.place.Root.TheVariants.{Frame as FrameRoot, Module as ModuleRoot, Object as ObjectRoot}
 use Rattle.aos_base.specs.declared.kernel.Did.{Did}
 use Rattle.aos_base.specs.declared.kernel.Did.TheVariants.{Went, Ended, Start, Trapped}
 use Rattle.aos_base.specs.declared.kernel.Verdict.TheVariants.{Fails}
-use Rattle.aos_base.specs.Number.{places_of, justified, holds}
+use Rattle.aos_base.specs.Number.{places_of, justified, holds, array_lengths}
 use Rattle.aos_base.specs.Text.{order}
 use Rattle.aos_base.specs.Book.{Where}
 use Rattle.aos_base.specs.Machine.{Turn, Machine, State, start_of}
-use Rattle.aos_base.specs.Rooted.{Rooted, by_number, change_from_last}
-use Rattle.aos_base.specs.Question.{Val, Asks, Traps, feed, Reads, Stores, Copies, PutsText, ComparesTexts, Calls, Ends, Makes, Starts, PutsInt, PutsChar, PutsString, PutsNothing, PutsLn, Places, Lengths}
+use Rattle.aos_base.specs.Rooted.{Made, Rooted, by_number, change_from_last}
+use Rattle.aos_base.specs.Question.{Val, Asks, Traps, feed, Reads, Stores, Copies, PutsText, ComparesTexts, Calls, Ends, Makes, Starts, PutsInt, PutsChar, PutsString, PutsNothing, PutsLn, Places, Lengths, Opens, Sizes, Tests}
 use Rattle.aos_types.specs.declared.row.Basic.{Basic}
 use Rattle.aos_types.specs.declared.row.Basic.TheVariants as basic
 use Rattle.aos_types.specs.declared.row.TypeRow.{TypeRow}
 use Rattle.aos_types.specs.declared.row.TypeRow.TheVariants as row
 use Rattle.aos_types.specs.Table.{row_of as type_row}
+use Rattle.aos_types.specs.Extension.{comes_to}
 use Rattle.aos_types.specs.Shape.{Shape, Nothing, size}
 use Rattle.aos_types.specs.Shape as shape
 use Rattle.aos_types.specs.Content.{Content, Scalar, Empty, Row, found, placed, overlay, first_content}
 use Rattle.aos_types.specs.World.{read}
 use Rattle.aos_typed.specs.Program.{Stats, Repeat, Variable as TypedVariable, ObjectType, Module, Program}
-use Rattle.aos_typed.specs.Handed.{Part, handed}
-use Rattle.aos_typed.specs.Numbers.{id_of}
+use Rattle.aos_typed.specs.Handed.{Part, nested, handed}
+use Rattle.aos_typed.specs.Numbers.{id_of, id_of_made}
+use Rattle.aos_typed.specs.Open.{open_element}
 use Rattle.aos_typed.specs.Routines.{Routine, parameters_of, locals_of, gives, routines}
-use Rattle.aos_typed.specs.Sort.{Sort, Plain, Variable, Alias, Elements, Length, variable_shape}
-use Rattle.aos_typed.specs.Spot.{Spot}
+use Rattle.aos_typed.specs.Sort.{Sort, Plain, Variable, Alias, Elements, Length, variable_shape, object_shape}
+use Rattle.aos_typed.specs.Spot.{Spot, OnHeap}
 use Rattle.aos_typed.specs.Text.{text_in, with_text, fitted, text_content, text_shape}
-use Rattle.aos_typed.specs.Value.{Value, Int, Flag, Char, Set, Object, Callable, number_of, is_true}
-use Rattle.aos_typed.specs.Store.{Store, scalar_in, rooted, value_at, store_with, type_of_object, with_object, new_number, has_room}
-use Rattle.aos_typed.specs.Meaning.{Question, Doing, Item, Do, Rounds, Round, Until, After, Into, Exits, Returns, leave, items_of, item_of, pos_of, value_of}
+use Rattle.aos_typed.specs.Value.{Value, Int, Flag, Char, Set, Object, Callable, Place, number_of, is_true}
+use Rattle.aos_typed.specs.Store.{Store, scalar_in, rooted, value_at, store_with, type_of_object, with_object, new_number, has_room, made_in}
+use Rattle.aos_typed.specs.Meaning.{Question, Doing, Item, Do, Rounds, Round, Until, After, Into, Exits, Returns, leave, items_of, item_of, pos_of, value_of, object_in}
 
 -- a frame: the module of its text, the object whose method or body it is, 0 for none, whether it is a function's, the shape of its
 -- variables and what they hold, how many scalars count, the statement last begun, the items that remain, and the answers that the
@@ -109,6 +112,14 @@ abbrev pub row_of : List (Content Value) → Content Value
 row_of [] = Empty
 row_of (c ∷ cs) = Row c (row_of cs)
 
+-- what an object holds that is made as this: a record, a fixed array, an object's fields, or an open array of its lengths
+abbrev pub shape_made : List TypeRow → Made → Option TypeRow → Shape Sort
+shape_made rows m (Some (row.Open of)) = nested m.lengths (variable_shape rows (open_element rows (id_of_made m.type)))
+shape_made rows m r = object_shape rows (id_of_made m.type)
+
+abbrev pub made_shape : List TypeRow → Made → Shape Sort
+made_shape rows m = shape_made rows m (type_row rows (id_of_made m.type))
+
 module _ (p : Program) where
   abbrev pub first_value : Sort → Value
   first_value (Plain t) = first_in (type_row p.types t)
@@ -160,9 +171,9 @@ module _ (following : List ℕ) where
   prints (Some bytes) f fs s = puts bytes (answered done f ∷ fs) s
 
   -- an object is made, where the heap has room for it
-  abbrev pub makes : Bool → ℕ → Frame → List Frame → Store → Turned
-  makes true t f fs s = goes_on (answered (Object (new_number s)) f ∷ fs) (with_object t s)
-  makes false t f fs s = leaves (Trapped 12 0) (f ∷ fs) s
+  abbrev pub makes : Bool → Made → Content Value → Frame → List Frame → Store → Turned
+  makes true m c f fs s = goes_on (answered (Object (new_number s)) f ∷ fs) (with_object m c s)
+  makes false m c f fs s = leaves (Trapped 12 0) (f ∷ fs) s
 
   -- an object's activity is left to the kernel; nothing is where there is no object, to which no well-typed program comes
   abbrev pub starts : Value → Frame → List Frame → Store → Turned
@@ -189,25 +200,49 @@ module _ (following : List ℕ) where
   enters true g fs s = leaves (Trapped 11 0) fs s
   enters false g fs s = goes_on (g ∷ fs) s
 
--- What a parameter stands for is known at once: it stands in the frame's own variables and is no visible work.
+-- What a parameter stands for, and what an object tells by what it was made as, is known at once and no visible work: the one stands
+-- in the frame's own variables, the other never changes.
 
--- what is left of a tree behind such questions, and what they were answered
 abbrev pub known : Content Value → Spot → Value
 known c s = scalar_in (found s.path c)
 
-abbrev pub calm : {A : Type 0} → Content Value → Doing A → Doing A
-calm c (Val a) = Val a
-calm c (Traps n code) = Traps n code
-calm c (Asks (Places s) k) = calm c (k (known c s))
-calm c (Asks (Lengths s) k) = calm c (k (known c s))
-calm c (Asks q k) = Asks q k
+-- of an object that isn't there some value is known, and no well-typed program comes to it
+abbrev pub type_in : Option Made → ℕ
+type_in None = 0
+type_in (Some m) = m.type
 
-abbrev pub noted : {A : Type 0} → Content Value → Doing A → List Value
-noted c (Val a) = []
-noted c (Traps n code) = []
-noted c (Asks (Places s) k) = known c s ∷ noted c (k (known c s))
-noted c (Asks (Lengths s) k) = known c s ∷ noted c (k (known c s))
-noted c (Asks q k) = []
+abbrev pub length_in : ℕ → Option Made → Value
+length_in d None = Int (pos 0)
+length_in d (Some m) = Int (pos (unwrap_or (slice_get m.lengths d) 0))
+
+abbrev pub object_place : ℕ → Option Made → Value
+object_place o m = Place (record { root = ObjectRoot o; path = []; type = type_in m; of = OnHeap })
+
+-- with a table of types, what objects were made as, and a frame's variables: what is left of a tree behind such questions, and what
+-- they were answered
+module _ (rows : List TypeRow) (made : ℕ → Option Made) (c : Content Value) where
+  abbrev pub has_type_in : ℕ → Option Made → Value
+  has_type_in t m = Flag (comes_to rows (id_of_made (type_in m)) (id_of_made t))
+
+  abbrev pub calm : {A : Type 0} → Doing A → Doing A
+  calm (Val a) = Val a
+  calm (Traps n code) = Traps n code
+  calm (Asks (Places s) k) = calm (k (known c s))
+  calm (Asks (Lengths s) k) = calm (k (known c s))
+  calm (Asks (Opens v) k) = calm (k (object_place (object_in v) (made (object_in v))))
+  calm (Asks (Sizes v d) k) = calm (k (length_in d (made (object_in v))))
+  calm (Asks (Tests v t) k) = calm (k (has_type_in t (made (object_in v))))
+  calm (Asks q k) = Asks q k
+
+  abbrev pub noted : {A : Type 0} → Doing A → List Value
+  noted (Val a) = []
+  noted (Traps n code) = []
+  noted (Asks (Places s) k) = known c s ∷ noted (k (known c s))
+  noted (Asks (Lengths s) k) = known c s ∷ noted (k (known c s))
+  noted (Asks (Opens v) k) = let x = object_place (object_in v) (made (object_in v)) in x ∷ noted (k x)
+  noted (Asks (Sizes v d) k) = let x = length_in d (made (object_in v)) in x ∷ noted (k x)
+  noted (Asks (Tests v t) k) = let x = has_type_in t (made (object_in v)) in x ∷ noted (k x)
+  noted (Asks q k) = []
 
 -- and the program, which knows what is copied and called
 module _ (p : Program) (following : List ℕ) where
@@ -241,12 +276,19 @@ module _ (p : Program) (following : List ℕ) where
   calls (Some r) vs f fs s =
       let g = called_frame r vs (f ∷ fs) s in enters following (is_deep following g (f ∷ fs)) g (f ∷ fs) s
 
+  -- none of the lengths of an open array is below 1
+  abbrev pub makes_with : Option (List ℕ) → ℕ → Frame → List Frame → Store → Turned
+  makes_with None t f fs s = leaves following (Trapped 15 0) (f ∷ fs) s
+  makes_with (Some ns) t f fs s =
+      let m : Made = record { type = t; lengths = ns } in
+      let c = first_content (first_value p) (made_shape p.types m) in makes following (has_room m c s) m c f fs s
+
   -- a question is answered
   abbrev pub answer : Question → Frame → List Frame → Store → Turned
   answer (Reads t q) f fs s = goes_on following (answered (value_at q (all_rooted (f ∷ fs) s)) f ∷ fs) s
   answer (Stores q v) f fs s = writes following q.root (placed q.path (Scalar v)) (answered done f ∷ fs) s
   answer (Ends result) f fs s = ends following result fs s
-  answer (Makes t) f fs s = makes following (has_room s) t f fs s
+  answer (Makes t vs) f fs s = makes_with (array_lengths (map number_of vs)) t f fs s
   answer (Starts v) f fs s = starts following v f fs s
   answer (PutsInt v n) f fs s = prints following (written v n) f fs s
   answer (PutsChar v) f fs s = puts following (unsigned_abs (number_of v) ∷ []) (answered done f ∷ fs) s
@@ -269,6 +311,9 @@ module _ (p : Program) (following : List ℕ) where
   -- known at once, before a turn comes here
   answer (Places a) f fs s = goes_on following (answered done f ∷ fs) s
   answer (Lengths a) f fs s = goes_on following (answered done f ∷ fs) s
+  answer (Opens v) f fs s = goes_on following (answered done f ∷ fs) s
+  answer (Sizes v d) f fs s = goes_on following (answered done f ∷ fs) s
+  answer (Tests v t) f fs s = goes_on following (answered done f ∷ fs) s
 
   -- the first of these items goes on without a beginning: what follows where its value is TRUE, and where it's FALSE
   abbrev pub tests : Doing Value → (if_true if_false : Turned) → Frame → List Frame → Store → Turned
@@ -289,8 +334,8 @@ module _ (p : Program) (following : List ℕ) where
   settles (Round st ∷ is) f fs s = begins following (pos_of st) (Do st ∷ is) f fs s
   settles (Until at b e ∷ is) f fs s =
       let test = value_of p (length fs) e in
-      tests (calm f.variables test) (settles is f fs s) (begins following at (Do (Repeat at b e) ∷ is) f fs s)
-      (record f { items = Until at b e ∷ is; answers = Some (noted f.variables test) }) fs s
+      tests (calm p.types (made_in s) f.variables test) (settles is f fs s) (begins following at (Do (Repeat at b e) ∷ is) f fs s)
+      (record f { items = Until at b e ∷ is; answers = Some (noted p.types (made_in s) f.variables test) }) fs s
 
   abbrev pub goes : Doing After → List Item → Frame → List Frame → Store → Turned
   goes (Val (Into is)) rest f fs s = settles (is ++ rest) f fs s
@@ -305,7 +350,8 @@ module _ (p : Program) (following : List ℕ) where
   item_turn (Some vs) [] f fs s = ends following None fs s
   item_turn (Some vs) (i ∷ is) f fs s =
       let left = feed vs (item_of p (length fs) i) in
-      goes (calm f.variables left) is (record f { answers = Some (vs ++ noted f.variables left) }) fs s
+      goes (calm p.types (made_in s) f.variables left) is
+      (record f { answers = Some (vs ++ noted p.types (made_in s) f.variables left) }) fs s
 
   abbrev pub turn_at : List Frame → Store → Turned
   turn_at [] s = leaves following Ended [] s

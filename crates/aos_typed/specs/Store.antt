@@ -1,9 +1,10 @@
 -- The store: below each root stand contents, which a way reads and writes.
-use Rattle.std.specs.Prelude.{ℕ, suc, List, [], ◌∷◌, ◌++◌, length, nat_lt, Bool, Option, Some, None, pos, option_map}
+use Rattle.std.specs.Prelude.{ℕ, suc, ◌+◌, List, [], ◌∷◌, ◌++◌, length, max, sum_by, nat_le, Bool, ◌&&◌, Option, Some, None, pos, option_map}
+use Rattle.std.specs.List.{list_all}
 use Rattle.aos_base.specs.declared.place.Root.{Root}
 use Rattle.aos_base.specs.declared.place.Root.TheVariants.{Frame as FrameRoot, Module as ModuleRoot, Object as ObjectRoot}
 use Rattle.aos_base.specs.Rooted.{Made, Rooted, by_number, change_at, change_by_number}
-use Rattle.aos_types.specs.Content.{Content, Scalar, Empty, Row}
+use Rattle.aos_types.specs.Content.{Content, Scalar, Empty, Row, flatten}
 use Rattle.aos_types.specs.World.{read}
 use Rattle.aos_typed.specs.Value.{Value, Int}
 use Rattle.aos_typed.specs.Spot.{Spot}
@@ -18,16 +19,23 @@ pub record Store : Type 0 where
 abbrev pub type_of_object : ℕ → Store → Option ℕ
 type_of_object o s = option_map (λ m. m.type) (by_number o s.made)
 
--- a new object of this type, which has no fields, and its number
-abbrev pub with_object : ℕ → Store → Store
-with_object t s = record s { objects = s.objects ++ Empty ∷ []; made = s.made ++ (record { type = t; lengths = [] }) ∷ [] }
+-- a new object that is made as this and holds this, and its number
+abbrev pub with_object : Made → Content Value → Store → Store
+with_object m c s = record s { objects = s.objects ++ c ∷ []; made = s.made ++ m ∷ [] }
 
 abbrev pub new_number : Store → ℕ
 new_number s = suc (length s.made)
 
--- the heap has room for so many scalars; an object without fields counts as one
-abbrev pub has_room : Store → Bool
-has_room s = nat_lt (length s.made) 16777216
+-- how many scalars an object counts as: one that has none counts as one
+abbrev pub counted : Content Value → ℕ
+counted c = max 1 (length (flatten c))
+
+-- the heap has room for so many scalars, and for no array that is longer
+abbrev pub has_room : Made → Content Value → Store → Bool
+has_room m c s = list_all (λ n. nat_le n 16777216) m.lengths && nat_le (counted c + sum_by counted s.objects) 16777216
+
+abbrev pub made_in : Store → ℕ → Option Made
+made_in s o = by_number o s.made
 
 -- what a scalar place holds; a place that isn't there, or is no scalar's, holds some value, and no well-typed program comes to it
 abbrev pub scalar_in : Option (Content Value) → Value

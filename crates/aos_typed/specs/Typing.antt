@@ -1,5 +1,5 @@
 -- Which values are of which sorts, in a world that knows the shape of what stands below each root and what objects were made as.
-use Rattle.std.specs.Prelude.{◌≡◌, ℕ, zero, suc, pos, ◌+◌, ◌<◌, ◌^◌, List, [], true, Option, Some}
+use Rattle.std.specs.Prelude.{◌≡◌, ℕ, zero, suc, pos, ◌≤◌, ◌<◌, ◌^◌, List, [], length, All, true, Option, Some}
 use Rattle.aos_base.specs.declared.number.Width.{Width}
 use Rattle.aos_base.specs.declared.number.Width.TheVariants.{W8, W16, W32, W64}
 use Rattle.aos_base.specs.Number.{IsWithin}
@@ -11,18 +11,16 @@ use Rattle.aos_types.specs.declared.row.TypeRow.{TypeRow}
 use Rattle.aos_types.specs.declared.row.TypeRow.TheVariants as row
 use Rattle.aos_types.specs.Table.{row_of}
 use Rattle.aos_types.specs.Extension.{comes_to}
+use Rattle.aos_types.specs.Shape.{Shape, join}
+use Rattle.aos_types.specs.Content.{EachSort}
 use Rattle.aos_types.specs.World.{World, shape_at}
-use Rattle.aos_typed.specs.Numbers.{predeclared_types}
+pub use Rattle.aos_typed.specs.Numbers.{id_of_made}
+use Rattle.aos_typed.specs.Open.{open_dimensions, first_same}
 use Rattle.aos_typed.specs.Spot.{Spot}
 use Rattle.aos_typed.specs.Value.{Value, Int, Flag, Char, Set, Object, Place}
 use Rattle.aos_typed.specs.Source.{first_in}
 pub use Rattle.aos_typed.specs.Handed.{nested}
 use Rattle.aos_typed.specs.Sort.{Sort, Plain, Variable, Alias, Elements, Length, variable_shape, object_shape}
-
--- an object's type by its number from 1 among those of modules, and its number in the table
-abbrev pub id_of_made : ℕ → TypeId
-id_of_made zero = record { 0 = 0 }
-id_of_made (suc k) = record { 0 = k + predeclared_types }
 
 abbrev pub IsInteger : Width → Value → Type 0
 IsInteger w (Int z) = IsWithin w z
@@ -56,35 +54,55 @@ abbrev pub OnPlace : (Spot → Type 0) → Value → Type 0
 OnPlace P (Place p) = P p
 OnPlace P v = ⊥
 
-module _ (rows : List TypeRow) where
-  -- NIL, or an object whose type extends this one
-  abbrev pub Refers : World Sort → TypeId → ℕ → Type 0
-  Refers w t zero = Unit {0}
-  Refers w t (suc o) = (m : Made) × (w.made (suc o) ≡ Some m) × (m.lengths ≡ []) × (comes_to rows (id_of_made m.type) t ≡ true)
+-- a sort whose values are no places: all that a way to a variable's parts leads to
+abbrev pub IsPlain : Sort → Type 0
+IsPlain (Plain t) = Unit {0}
+IsPlain (Variable t) = ⊥
+IsPlain (Alias t) = ⊥
+IsPlain (Elements t ns) = ⊥
+IsPlain (Length n) = ⊥
 
-  abbrev pub IsReference : World Sort → TypeId → Value → Type 0
-  IsReference w t (Object o) = Refers w t o
-  IsReference w t v = ⊥
+module _ (rows : List TypeRow) where
+  -- an object has lengths where it is an open array, one for each open dimension, and none else
+  abbrev pub HasLengths : Option TypeRow → Made → Type 0
+  HasLengths (Some (row.Open t)) m =
+      (length m.lengths ≡ open_dimensions rows (id_of_made m.type)) × All (λ n. (1 ≤ n) × IsWithin W32 (pos n)) m.lengths
+  HasLengths r m = m.lengths ≡ []
+
+  -- NIL, or an object that is made so
+  abbrev pub Refers : World Sort → (Made → Type 0) → ℕ → Type 0
+  Refers w P zero = Unit {0}
+  Refers w P (suc o) = (m : Made) × (w.made (suc o) ≡ Some m) × HasLengths (row_of rows (id_of_made m.type)) m × P m
+
+  abbrev pub IsReference : World Sort → (Made → Type 0) → Value → Type 0
+  IsReference w P (Object o) = Refers w P o
+  IsReference w P v = ⊥
+
+  -- its type extends this one
+  abbrev pub Extends : TypeId → Made → Type 0
+  Extends t m = comes_to rows (id_of_made m.type) t ≡ true
 
   -- a value of a type, by the type's row; what is of a type that has no values of its own, or of which none are made so far, is what
   -- it begins with
   abbrev pub IsPlainly : World Sort → TypeId → Option TypeRow → Value → Type 0
   IsPlainly w t (Some (row.Basic b)) v = IsBasic b v
-  IsPlainly w t (Some (row.Object base fields)) v = IsReference w t v
+  IsPlainly w t (Some (row.Object base fields)) v = IsReference w (Extends t) v
+  IsPlainly w t (Some (row.Pointer u)) v = IsReference w (Extends (first_same rows u)) v
+  IsPlainly w t (Some row.Any) v = IsReference w (λ m. Unit {0}) v
   IsPlainly w t r v = v ≡ first_in r
 
-  -- the place of a record whose type, which the place names, extends this one
+  -- the place of a record whose type, which the place names, extends this one; more may stand behind its fields
   pub record Names (w : World Sort) (t : TypeId) (p : Spot) : Type 0 where
-    pub dynamic : ℕ
-    pub named : p.type ≡ suc dynamic
     pub extends : comes_to rows (id_of_made p.type) t ≡ true
-    pub there : shape_at w p.root p.path ≡ Some (object_shape rows (id_of_made p.type))
+    pub more : Shape Sort
+    pub plain : EachSort IsPlain more
+    pub there : shape_at w p.root p.path ≡ Some (join (object_shape rows (id_of_made p.type)) more)
 
   abbrev pub IsPlace : World Sort → Sort → Spot → Type 0
   IsPlace w (Plain t) p = ⊥
   IsPlace w (Variable t) p = Names w t p
-  IsPlace w (Alias t) p = (shape_at w p.root p.path ≡ Some (variable_shape rows t)) × (p.type ≡ 0)
-  IsPlace w (Elements t ns) p = (shape_at w p.root p.path ≡ Some (nested ns (variable_shape rows t))) × (p.type ≡ 0)
+  IsPlace w (Alias t) p = shape_at w p.root p.path ≡ Some (variable_shape rows t)
+  IsPlace w (Elements t ns) p = shape_at w p.root p.path ≡ Some (nested ns (variable_shape rows t))
   IsPlace w (Length n) p = ⊥
 
   -- a value is of a sort
@@ -94,11 +112,3 @@ module _ (rows : List TypeRow) where
   Is w (Alias t) v = OnPlace (IsPlace w (Alias t)) v
   Is w (Elements t ns) v = OnPlace (IsPlace w (Elements t ns)) v
   Is w (Length n) v = (v ≡ Int (pos n)) × IsWithin W32 (pos n)
-
--- a sort whose values are no places: all that a way to a variable's parts leads to
-abbrev pub IsPlain : Sort → Type 0
-IsPlain (Plain t) = Unit {0}
-IsPlain (Variable t) = ⊥
-IsPlain (Alias t) = ⊥
-IsPlain (Elements t ns) = ⊥
-IsPlain (Length n) = ⊥

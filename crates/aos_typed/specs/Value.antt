@@ -29,6 +29,7 @@ literal_value (literal.Bool b) = Flag b
 literal_value (literal.Char c) = Char c
 literal_value (literal.Set s) = Set s
 literal_value (literal.Text t) = Char t.first  -- of one character
+literal_value literal.Nil = Object 0
 
 -- the number that a value is given as; what is no number is given as none, here as 0
 abbrev pub number_of : Value → ℤ

@@ -4,7 +4,7 @@
 -- tests is a truth value, and NEW makes an object of its variable's type. No type
 -- contains itself, and none has more scalars than a type may have (Oberon-2 report, 6.2 and 6.3), nor have the variables of a module; only parameters are of open
 -- arrays, and a function gives a scalar (Oberon-2 report, 10.1). The predeclared types stand first in the table.
-use Rattle.std.specs.Prelude.{◌≡◌, ◌≢◌, ◌⊎◌, ℕ, zero, suc, ℤ, pos, ◌≤◌, ◌<◌, ◌+◌, ◌==◌, ◌^◌, nat_le, int_le, List, [], ◌∷◌, ◌++◌, length, All, Bool, true, false, ◌&&◌, ◌||◌, Option, Some, None, slice_get, sum_by, option_map, option_and_then}
+use Rattle.std.specs.Prelude.{◌≡◌, ◌≢◌, ◌⊎◌, ℕ, zero, suc, ℤ, pos, ◌≤◌, ◌<◌, ◌+◌, ◌==◌, ◌^◌, nat_le, int_le, List, [], ◌∷◌, ◌++◌, length, All, Bool, true, false, ◌&&◌, ◌||◌, Option, Some, None, slice_get, sum_by, is_some, option_map, option_and_then}
 use Rattle.std.specs.List.{AllPairs, list_all, list_any}
 use Rattle.std.specs.Char.{is_ascii_digit, is_ascii_alphabetic}
 use Rattle.aos_base.specs.declared.number.Width.{Width}
@@ -20,19 +20,20 @@ use Rattle.aos_types.specs.declared.TheConstants.{MOST_SCALARS}
 use Rattle.aos_types.specs.declared.row.TypeId.{TypeId}
 use Rattle.aos_types.specs.declared.row.TypeRow.{TypeRow}
 use Rattle.aos_types.specs.declared.row.TypeRow.TheVariants as row
-use Rattle.aos_types.specs.Table.{row_of, is_open, is_scalar, is_object}
+use Rattle.aos_types.specs.Table.{row_of, base_of, has_fields, is_open, is_record, is_scalar, is_object}
+use Rattle.aos_types.specs.Extension.{comes_to}
 use Rattle.aos_types.specs.Contents.{scalars, variable_scalars}
 use Rattle.aos_types.specs.Chain.{NoneContainsItself}
 use Rattle.aos_typed.specs.declared.tree.Literal.{Literal}
 use Rattle.aos_typed.specs.declared.tree.Literal.TheVariants as literal
 use Rattle.aos_typed.specs.declared.tree.TType.{TType}
-use Rattle.aos_typed.specs.declared.tree.TType.TheVariants.{Integer, Boolean, Char, Set, Named}
-use Rattle.aos_typed.specs.Program.{Place, ModuleVar, Local, Passed, Field, Index, Of, Rows, Known, Opened, Row, Longer, Arguments, NoMore, Scalar, Whole, Opening, Expr, Lit, Read, Unary, Binary, And, Or, Element, Ord, Chr, CompareTexts, Len, LenBehind, Function, Call, Open as OutOpen, Char as OutChar, Int as OutInt, String as OutString, Ln as OutLn, Stat, Assign, Copy, PutText, If, Case, While, Repeat, Loop, Exit, For, Block, Assert, Halt, Change, Perform, Return, New, Out, Stats, Nothing, Then, Arms, Otherwise, Arm, Cases, NoElse, Else, OfLabels, Parameter, Procedure, Module, Program}
+use Rattle.aos_typed.specs.declared.tree.TType.TheVariants.{Integer, Boolean, Char, Set, Any, Named}
+use Rattle.aos_typed.specs.Program.{Place, ModuleVar, Local, Passed, Field, Index, Of, Deref, Typed, Guarded, Rows, Known, Opened, Row, Spread, Longer, Arguments, NoMore, Scalar, Whole, Opening, Expr, Lit, Read, Unary, Binary, And, Or, Element, Ord, Chr, CompareTexts, Len, LenBehind, Function, Same, Is, IsRecord, Guard, Had, Call, Open as OutOpen, Char as OutChar, Int as OutInt, String as OutString, Ln as OutLn, Stat, Assign, Copy, PutText, If, Case, While, Repeat, Loop, Exit, For, Block, Assert, Halt, Change, Perform, Return, New, Make, With, WithRecord, Out, Stats, Nothing, Then, Arms, Otherwise, Arm, Cases, NoElse, Else, OfLabels, Parameter, Procedure, Module, Program}
 use Rattle.aos_typed.specs.declared.tree.Change.{Change as Changing}
 use Rattle.aos_typed.specs.declared.tree.Change.TheVariants as change
 use Rattle.aos_typed.specs.declared.tree.LabelRange.{LabelRange}
 use Rattle.aos_typed.specs.Meaning.{changed_type}
-use Rattle.aos_typed.specs.Open.{open_dimensions, open_element}
+use Rattle.aos_typed.specs.Open.{open_dimensions, open_element, first_same}
 use Rattle.aos_typed.specs.Routines.{result_of}
 use Rattle.aos_typed.specs.Numbers.{id_of, predeclared_types, predeclared_rows}
 
@@ -55,6 +56,34 @@ includes _ _ = false
 
 abbrev pub Includes : TType → TType → Type 0
 Includes t u = includes t u ≡ true
+
+-- Types whose values are objects, or NIL.
+
+-- the type that these are made as, or that theirs extends: where a pointer leads, or the object type itself
+abbrev pub target_in : List TypeRow → TypeId → Option TypeRow → Option TypeId
+target_in rows t (Some (row.Pointer u)) = Some (first_same rows u)
+target_in rows t (Some (row.Object base fields)) = Some t
+target_in rows t r = None
+
+abbrev pub target : List TypeRow → TType → Option TypeId
+target rows t = let k = id_of t in target_in rows k (row_of rows k)
+
+abbrev pub is_any : TType → Bool
+is_any Any = true
+is_any t = false
+
+abbrev pub is_reference : List TypeRow → TType → Bool
+is_reference rows t = is_any t || is_some (target rows t)
+
+-- a value of the second type, which is an object, fits a variable of the first: one of any object, or of one whose type the value's
+-- extends
+abbrev pub FitsObject : List TypeRow → TType → TType → Type 0
+FitsObject rows t u =
+    (is_reference rows u ≡ true)
+    × ((t ≡ Any) ⊎ ((a : TypeId) × (b : TypeId) × (target rows t ≡ Some a) × (target rows u ≡ Some b) × (comes_to rows b a ≡ true)))
+
+abbrev pub Fits : List TypeRow → TType → TType → Type 0
+Fits rows t u = Includes t u ⊎ FitsObject rows t u
 
 -- a literal is of a type
 abbrev pub IsLiteral : Literal → TType → Type 0
@@ -98,6 +127,7 @@ is_ordered _ = false
 
 abbrev pub is_basic : TType → Bool
 is_basic (Named t) = false
+is_basic Any = false
 is_basic _ = true
 
 abbrev pub is_compared : Relation → TType → Bool
@@ -138,10 +168,21 @@ GivesOfTwo In t = t ≡ Boolean
 
 -- Designators.
 
--- the type of a record's field, by its number; a record with a base isn't built
-abbrev pub field_type : Option TypeRow → ℕ → Option TypeId
-field_type (Some (row.Record None fields)) k = slice_get fields k
-field_type _ k = None
+-- the types of the fields of a record, its base's first; it has fewer bases than there are types
+abbrev pub with_base : (TypeId → List TypeId) → Option TypeId → List TypeId → List TypeId
+with_base f None fields = fields
+with_base f (Some b) fields = f b ++ fields
+
+abbrev pub fields_in : (TypeId → List TypeId) → Option TypeRow → List TypeId
+fields_in f (Some (row.Record base fields)) = with_base f base fields
+fields_in f r = []
+
+abbrev pub fields_by : ℕ → List TypeRow → TypeId → List TypeId
+fields_by zero rows t = fields_in (λ b. []) (row_of rows t)
+fields_by (suc n) rows t = fields_in (λ b. fields_by n rows b) (row_of rows t)
+
+abbrev pub field_type : List TypeRow → TypeId → ℕ → Option TypeId
+field_type rows t k = slice_get (fields_by (length rows) rows t) k
 
 -- an array of so many elements of this type
 abbrev pub IsArray : ℕ → TypeId → Option TypeRow → Type 0
@@ -159,12 +200,19 @@ is_whole (Some (row.Array n t)) = true
 is_whole (Some (row.Record base fields)) = true
 is_whole _ = false
 
+-- values of the type are scalars that are built: of a basic type, or objects
+abbrev pub is_value : List TypeRow → TType → Bool
+is_value rows t = is_basic t || is_reference rows t
+
 -- a variable that is no part of another
 abbrev pub is_variable : Place → Bool
 is_variable (ModuleVar m k) = true
 is_variable (Local k) = true
 is_variable (Passed k) = true
 is_variable (Of r) = false
+is_variable (Deref e t) = false
+is_variable (Typed place t) = false
+is_variable (Guarded place t) = false
 is_variable (Field place t k) = false
 is_variable (Index place n t e) = false
 
@@ -211,6 +259,7 @@ abbrev pub HaveLengths : Rows → Type 0
 HaveLengths (Known place ns) = All IsLength ns
 HaveLengths (Opened k j) = Unit {0}
 HaveLengths (Row r t e) = HaveLengths r
+HaveLengths (Spread e j) = Unit {0}
 HaveLengths (Longer r ns) = HaveLengths r × All IsLength ns
 
 -- Programs.
@@ -257,15 +306,41 @@ module _ (p : Program) where
     abbrev pub IsLocal : ℕ → TType → Type 0
     IsLocal k t = (q : Procedure) × (i : ℕ) × (own ≡ Some q) × (k ≡ length q.parameters + i) × (option_map (λ v. v.of) (slice_get q.locals i) ≡ Some t)
 
+    -- the place of a record of this type that names the record's own type: what a pointer leads to, what a VAR parameter stands
+    -- for, or one that is given its type
+    abbrev pub NamesType : Place → TType → Type 0
+    NamesType (ModuleVar m k) t = ⊥
+    NamesType (Local k) t = ⊥
+    NamesType (Passed k) t = is_record (row_of p.types (id_of t)) ≡ true
+    NamesType (Field place of k) t = ⊥
+    NamesType (Index place n of e) t = ⊥
+    NamesType (Of r) t = ⊥
+    NamesType (Deref e u) t = is_record (row_of p.types (id_of t)) ≡ true
+    NamesType (Typed place k) t = is_record (row_of p.types (id_of t)) ≡ true
+    NamesType (Guarded place k) t = is_record (row_of p.types (id_of t)) ≡ true
+
+    -- a VAR parameter gets a variable of its type, or a record of a type that extends it, whose place names the record's own type;
+    -- by value a record or an array is copied, of a record with more fields those of the parameter's type
+    abbrev pub IsGiven : Parameter → Place → TType → Type 0
+    IsGiven a place u =
+        (IsByReference a u × (is_record (row_of p.types (id_of u)) ≡ false))
+        ⊎ (((is_open_parameter a ≡ false) × (a.by_reference ≡ true) × NamesType place u × (comes_to p.types (id_of u) (id_of a.of) ≡ true))
+        ⊎ (IsByValue a a.of × (is_whole (row_of p.types (id_of a.of)) ≡ true) × (comes_to p.types (id_of u) (id_of a.of) ≡ true)))
+
     abbrev mutual
       -- a designator is of a type
       pub IsPlaceOf : Place → TType → Type 0
       IsPlaceOf (ModuleVar m k) t = variable_type m k ≡ Some t
       IsPlaceOf (Local k) t = IsLocal k t ⊎ ((a : Parameter) × IsParameter k a × IsByValue a t)
       IsPlaceOf (Passed k) t = (a : Parameter) × IsParameter k a × IsByReference a t
-      IsPlaceOf (Field place of k) t = IsPlaceOf place of × (field_type (row_of p.types (id_of of)) k ≡ Some (id_of t))
+      IsPlaceOf (Field place of k) t = IsPlaceOf place of × (field_type p.types (id_of of) k ≡ Some (id_of t))
       IsPlaceOf (Index place n of e) t = (u : TType) × IsPlaceOf place u × IsArray n (id_of of) (row_of p.types (id_of u)) × IsOf e (Integer W64) × (t ≡ of)
       IsPlaceOf (Of r) t = AreRows r 0 t
+      IsPlaceOf (Deref e u) t =
+          (v : TType) × IsOf e v × (target p.types v ≡ Some (id_of u)) × (is_whole (row_of p.types (id_of u)) ≡ true) × (t ≡ u)
+      IsPlaceOf (Typed place k) t = IsPlaceOf place (Named k) × (is_record (row_of p.types (id_of (Named k))) ≡ true) × (t ≡ Named k)
+      IsPlaceOf (Guarded place k) t =
+          (u : TType) × IsPlaceOf place u × NamesType place u × (is_record (row_of p.types (id_of (Named k))) ≡ true) × (t ≡ Named k)
 
       -- an array with so many dimensions whose lengths are given, and elements of a type behind them
       pub AreRows : Rows → ℕ → TType → Type 0
@@ -275,6 +350,10 @@ module _ (p : Program) where
           ⊎ ((m : ℕ) × (ns ≡ m ∷ []) × IsConstantText place m × (t ≡ Char)))
       AreRows (Opened k j) n t = (n ≡ j) × ((a : Parameter) × IsParameter k a × IsOpening a j t)
       AreRows (Row r of e) n t = AreRows r (suc n) t × IsOf e (Integer W64) × (t ≡ of)
+      AreRows (Spread e j) n t =
+          (n ≡ j)
+          × ((v : TType) × (u : TypeId) × IsOf e v × (target p.types v ≡ Some u) × (is_open (row_of p.types u) ≡ true)
+          × (j ≡ open_dimensions p.types u) × (open_element p.types u ≡ id_of t))
       AreRows (Longer r ns) n t =
           (m : ℕ) × (u : TType) × (n ≡ m + length ns) × AreRows r m u × IsArrayOf p.types ns (id_of u) (id_of t)
 
@@ -282,20 +361,19 @@ module _ (p : Program) where
       pub AreArguments : Arguments → List Parameter → Type 0
       AreArguments NoMore as' = as' ≡ []
       AreArguments (Scalar e more) as' =
-          (a : Parameter) × (rest : List Parameter) × (as' ≡ a ∷ rest) × IsByValue a a.of × (is_basic a.of ≡ true) × IsOf e a.of
+          (a : Parameter) × (rest : List Parameter) × (as' ≡ a ∷ rest) × IsByValue a a.of × (is_value p.types a.of ≡ true) × IsOf e a.of
           × AreArguments more rest
       AreArguments (Whole place more) as' =
           (a : Parameter) × (rest : List Parameter) × (as' ≡ a ∷ rest)
-          × (IsByReference a a.of ⊎ (IsByValue a a.of × (is_whole (row_of p.types (id_of a.of)) ≡ true)))
-          × IsPlaceOf place a.of × AreArguments more rest
+          × ((u : TType) × IsPlaceOf place u × IsGiven a place u) × AreArguments more rest
       AreArguments (Opening r more) as' =
           (a : Parameter) × (rest : List Parameter) × (n : ℕ) × (t : TType) × (as' ≡ a ∷ rest) × IsOpening a n t × AreRows r n t
           × HaveLengths r × AreArguments more rest
 
       -- each value of an expression is of a type
       pub IsOf : Expr → TType → Type 0
-      IsOf (Lit l) t = IsLiteral l t
-      IsOf (Read u place) t = IsPlaceOf place u × (is_basic u ≡ true) × Includes t u
+      IsOf (Lit l) t = IsLiteral l t ⊎ ((l ≡ literal.Nil) × (is_reference p.types t ≡ true))
+      IsOf (Read u place) t = IsPlaceOf place u × (is_value p.types u ≡ true) × Fits p.types t u
       IsOf (Unary op a) t = IsOf a (taken op) × Gives op t
       IsOf (Binary op a b) t = Takes op (IsOf a) (IsOf b) × GivesOfTwo op t
       IsOf (And a b) t = IsOf a Boolean × IsOf b Boolean × (t ≡ Boolean)
@@ -307,8 +385,25 @@ module _ (p : Program) where
       IsOf (Len r d) t = (n : ℕ) × (u : TType) × AreRows r n u × HaveLengths r × (d < n) × Includes t (Integer W32)
       IsOf (LenBehind r n) t = (m : ℕ) × (u : TType) × AreRows r m u × IsWithin W32 (pos n) × Includes t (Integer W32)
       IsOf (Function m k more) t =
-          (q : Procedure) × (u : TType) × (procedure_in m k ≡ Some q) × (q.result ≡ Some u) × (is_basic u ≡ true) × Includes t u
-          × AreArguments more q.parameters
+          (q : Procedure) × (u : TType) × (procedure_in m k ≡ Some q) × (q.result ≡ Some u) × (is_value p.types u ≡ true)
+          × Fits p.types t u × AreArguments more q.parameters
+      IsOf (Same a b) t =
+          ((u : TType) × IsOf a u × (is_reference p.types u ≡ true)) × ((u : TType) × IsOf b u × (is_reference p.types u ≡ true)) × (t ≡ Boolean)
+      IsOf (Is a k) t = ((u : TType) × IsOf a u × (is_reference p.types u ≡ true)) × (k < length p.objects) × (t ≡ Boolean)
+      IsOf (IsRecord place k) t =
+          (u : TType) × IsPlaceOf place u × NamesType place u × (is_record (row_of p.types (id_of (Named k))) ≡ true) × (t ≡ Boolean)
+      IsOf (Guard a k) t =
+          ((u : TType) × IsOf a u × (is_reference p.types u ≡ true)) × (k < length p.objects)
+          × ((t ≡ Any) ⊎ ((b : TypeId) × (target p.types t ≡ Some b) × (comes_to p.types (id_of (Named k)) b ≡ true)))
+      IsOf (Had v) t = ⊥
+
+    -- values that are objects
+    abbrev pub AreObjects : Expr → Type 0
+    AreObjects e = (u : TType) × IsOf e u × (is_reference p.types u ≡ true)
+
+    abbrev pub AreLengthsOf : List Expr → Type 0
+    AreLengthsOf [] = Unit {0}
+    AreLengthsOf (e ∷ es) = IsOf e (Integer W64) × AreLengthsOf es
 
     abbrev pub IsCall : Call → Type 0
     IsCall OutOpen = Unit {0}
@@ -327,8 +422,10 @@ module _ (p : Program) where
     -- a statement is well typed, and so is each of a sequence
     abbrev mutual
       pub IsStatement : Stat → Type 0
-      IsStatement (Assign at t place e) = IsPlaceOf place t × (is_basic t ≡ true) × IsOf e t
-      IsStatement (Copy at t to from) = IsPlaceOf to t × IsPlaceOf from t × (is_whole (row_of p.types (id_of t)) ≡ true)
+      IsStatement (Assign at t place e) = IsPlaceOf place t × (is_value p.types t ≡ true) × IsOf e t
+      IsStatement (Copy at t to from) =
+          IsPlaceOf to t × ((u : TType) × IsPlaceOf from u × (comes_to p.types (id_of u) (id_of t) ≡ true))
+          × (is_whole (row_of p.types (id_of t)) ≡ true)
       IsStatement (PutText at strict from to) = AreRows from 1 Char × AreRows to 1 Char × HaveLengths to
       IsStatement (If at arms) = AreArms arms
       IsStatement (Case at e cases) = (IsOf e (Integer W64) ⊎ IsOf e Char) × AreApart (labels_of cases) × AreCases cases
@@ -347,6 +444,12 @@ module _ (p : Program) where
           (q : Procedure) × (procedure_in m k ≡ Some q) × (q.result ≡ None) × AreArguments more q.parameters
       IsStatement (Return at e) = IsReturn e (result_of own)
       IsStatement (New at place t) = (is_variable place ≡ true) × IsPlaceOf place (Named t) × (is_object (row_of p.types (id_of (Named t))) ≡ true) × (t < length p.objects)
+      IsStatement (Make at place t ns) =
+          ((u : TType) × IsPlaceOf place u × (target p.types u ≡ Some (id_of (Named t)))) × (is_object (row_of p.types (id_of (Named t))) ≡ false)
+          × (t < length p.objects) × AreLengthsOf ns
+          × (length ns ≡ open_dimensions p.types (id_of (Named t)))
+      IsStatement (With at e body) = AreObjects e × AreStatements body
+      IsStatement (WithRecord at place body) = ((u : TType) × IsPlaceOf place u × NamesType place u) × AreStatements body
       IsStatement (Out at call) = IsCall call
 
       pub AreStatements : Stats → Type 0
@@ -372,8 +475,12 @@ is_ident (c ∷ cs) = is_ascii_alphabetic c && list_all is_in_name cs
 
 -- Declarations.
 
+-- No type contains itself, the base of a record is a record and that of an object type is one, and no type has more scalars than a type
+-- may have.
 pub record AreTypes (rows : List TypeRow) : Type 0 where
   pub none_contains_itself : NoneContainsItself rows
+  pub bases : (t b : TypeId) → base_of (row_of rows t) ≡ Some b → has_fields (row_of rows b) ≡ true
+  pub record_bases : (t b : TypeId) → base_of (row_of rows t) ≡ Some b → is_record (row_of rows b) ≡ is_record (row_of rows t)
   pub sizes : (t : TypeId) → scalars rows t ≤ MOST_SCALARS
 
 -- a type that is there

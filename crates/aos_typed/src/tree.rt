@@ -24,6 +24,8 @@ pub enum Literal {
     Set(u32),
     /// A string constant. One of one character is also a value, that character (Oberon-2 report, 3).
     Text(TextConstant),
+    /// No object.
+    Nil,
 }
 
 /// A designator. The string constants of a module are numbered on from its variables.
@@ -42,6 +44,12 @@ pub enum TPlace {
     Index(Box<TPlace>, u32, TType, Box<TExpr>),
     /// An element of an open array, behind all its dimensions.
     Of(Box<TRows>),
+    /// The record or the array of this type that an object is; trap 1 at NIL.
+    Deref(Box<TExpr>, TType),
+    /// A record with its type, by the type's number in the program.
+    Typed(Box<TPlace>, u32),
+    /// The record that a VAR parameter stands for, where its type extends this one; else trap 3.
+    Guarded(Box<TPlace>, u32),
 }
 
 /// An array with the lengths of some of its dimensions, the first ones.
@@ -55,6 +63,8 @@ pub enum TRows {
     /// An element of an array with open dimensions, which has one less, by its index; trap 2 where there is none. The elements behind
     /// all dimensions are of this type.
     Row(Box<TRows>, TType, Box<TExpr>),
+    /// The open array that an object is, with so many open dimensions; trap 1 at NIL.
+    Spread(Box<TExpr>, u32),
     /// An array with open dimensions, with the known lengths of dimensions behind these.
     Longer(Box<TRows>, Vec<u32>),
 }
@@ -81,6 +91,9 @@ impl Drop for TPlace {
                 TPlace::Local(_) => return,
                 TPlace::Passed(_) => return,
                 TPlace::Of(_) => return,
+                TPlace::Deref(_, _) => return,
+                TPlace::Typed(place, _) => self = Box::into_inner(place),
+                TPlace::Guarded(place, _) => self = Box::into_inner(place),
                 TPlace::Field(whole, _, _) => self = Box::into_inner(whole),
                 TPlace::Index(whole, _, _, index) => {
                     drop(index);
@@ -118,6 +131,14 @@ pub enum TExpr {
     LenBehind(TRows, u32),
     /// The result of a function, by the numbers of its module and its own among the procedures there, each from 0.
     Function(u32, u32, Vec<TArgument>),
+    /// Whether two operands are one object, or both NIL.
+    Same(Box<TExpr>, Box<TExpr>),
+    /// Whether an object's type extends this one, by its number in the program; FALSE of NIL.
+    Is(Box<TExpr>, u32),
+    /// Whether the type of the record that a VAR parameter stands for extends this one.
+    IsRecord(Box<TPlace>, u32),
+    /// An object whose type extends this one; else, and at NIL, trap 3.
+    Guard(Box<TExpr>, u32),
 }
 
 // A long sum has as many left operands, one in another: it is dropped by a loop, which takes no stack.
@@ -132,6 +153,13 @@ impl Drop for TExpr {
                 TExpr::Len(_, _) => return,
                 TExpr::LenBehind(_, _) => return,
                 TExpr::Function(_, _, _) => return,
+                TExpr::IsRecord(_, _) => return,
+                TExpr::Is(operand, _) => self = Box::into_inner(operand),
+                TExpr::Guard(operand, _) => self = Box::into_inner(operand),
+                TExpr::Same(left, right) => {
+                    drop(right);
+                    self = Box::into_inner(left);
+                }
                 TExpr::Unary(_, operand) => self = Box::into_inner(operand),
                 TExpr::Element(operand) => self = Box::into_inner(operand),
                 TExpr::Ord(operand) => self = Box::into_inner(operand),
@@ -249,6 +277,12 @@ pub enum TStat {
     Return(Pos, Option<TExpr>),
     /// NEW of a variable: an object of this type, by the type's number in the program, whose activity is started.
     New(Pos, TPlace, u32),
+    /// NEW of a pointer: a record or an array of this type, by its number in the program, and the lengths of an open array.
+    Make(Pos, TPlace, u32, Vec<TExpr>),
+    /// WITH: an object that is guarded first, and statements.
+    With(Pos, TExpr, Vec<TStat>),
+    /// WITH of a VAR parameter that stands for a record, which is guarded first.
+    WithRecord(Pos, TPlace, Vec<TStat>),
     Out(Pos, OutCall),
 }
 
@@ -260,6 +294,8 @@ pub enum TType {
     Boolean,
     Char,
     Set,
+    /// Any object.
+    Any,
     Named(u32),
 }
 

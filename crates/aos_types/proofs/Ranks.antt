@@ -39,7 +39,7 @@ abbrev pub IsNumber : ℕ → List ℕ → Type 0
 IsNumber n [] = ⊥
 IsNumber n (x ∷ xs) = (x ≡ n) ⊎ IsNumber n xs
 
-all_differ : (n : ℕ) (hs : List ℕ) → (IsNumber n hs → ⊥) → AllByRecursion (λ y. eqb n y ≡ false) hs
+pub all_differ : (n : ℕ) (hs : List ℕ) → (IsNumber n hs → ⊥) → AllByRecursion (λ y. eqb n y ≡ false) hs
 all_differ n [] no_one = tt
 all_differ n (x ∷ hs) no_one = (at_test (cases_Bool (eqb n x)), all_differ n hs (λ h. no_one (inr h)))
   where

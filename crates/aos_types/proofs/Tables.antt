@@ -88,7 +88,7 @@ fields_end rows f t (Some (row.Object b fs)) h =
 fields_end rows f t (Some (row.Procedure fs r)) h = absurd (cc)
 fields_end rows f t (Some row.Any) h = absurd (cc)
 
-join_assoc : (a b c : Shape TypeId) → join (join a b) c ≡ join a (join b c)
+pub join_assoc : (a b c : Shape TypeId) → join (join a b) c ≡ join a (join b c)
 join_assoc (shape.One k) b c = refl
 join_assoc shape.Nothing b c = refl
 join_assoc (shape.Pair x y) b c = ap (shape.Pair x) (join_assoc y b c)
@@ -107,7 +107,7 @@ bases_of rows (suc n) a b e = at_test (λ c k. bases_of rows n c b k) (a.0 == b.
     at_test up false q (Some c) w k = let r = up c k in record { bases = c ∷ r.bases; are = (w, r.are) }
 
 -- so many bases come where as many lead
-comes_of : (rows : List TypeRow) (bs : List TypeId) (n : ℕ) (a b : TypeId) → AreBases rows a bs b → length bs ≤ n → comes_by n rows a b ≡ true
+pub comes_of : (rows : List TypeRow) (bs : List TypeId) (n : ℕ) (a b : TypeId) → AreBases rows a bs b → length bs ≤ n → comes_by n rows a b ≡ true
 comes_of rows [] zero a b e l = eq-eqb a.0 b.0 (ap (λ t. t.0) e)
 comes_of rows [] (suc n) a b e l = ap (λ x. x || on_base (λ c. comes_by n rows c b) (base_of (row_of rows a))) (eq-eqb a.0 b.0 (ap (λ t. t.0) e))
 comes_of rows (x ∷ bs) zero a b e l = absurd (omega arith)
@@ -122,7 +122,7 @@ both_chains : (rows : List TypeRow) (bs cs : List TypeId) (a b c : TypeId) → A
 both_chains rows [] cs a b c e h = subst (λ z. AreBases rows z cs c) (sym e) h
 both_chains rows (x ∷ bs) cs a b c e h = (e.0, both_chains rows bs cs x b c e.1 h)
 
-base_part : (rows : List TypeRow) (o : Option TypeRow) (b : TypeId) → base_of o ≡ Some b → IsOneOf b (parts_of rows o)
+pub base_part : (rows : List TypeRow) (o : Option TypeRow) (b : TypeId) → base_of o ≡ Some b → IsOneOf b (parts_of rows o)
 base_part rows None b e = absurd (cc)
 base_part rows (Some (row.Basic k)) b e = absurd (cc)
 base_part rows (Some (row.Array n of)) b e = absurd (cc)

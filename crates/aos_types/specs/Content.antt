@@ -58,6 +58,14 @@ module _ {V : Type 0} where
   overlay (Pair a b) (Scalar v) to = to
   overlay (Pair a b) Empty to = to
 
+  -- the first parts of contents, as many as this shape has
+  abbrev pub cut : {S : Type 0} → Shape S → Content V → Content V
+  cut (One k) c = c
+  cut Nothing c = Empty
+  cut (Pair a b) (Row f fs) = Row f (cut b fs)
+  cut (Pair a b) (Scalar v) = Scalar v
+  cut (Pair a b) Empty = Empty
+
 -- what a variable of a shape begins with, where a scalar of each sort begins as this value
 abbrev pub first_content : {S V : Type 0} → (S → V) → Shape S → Content V
 first_content first (One k) = Scalar (first k)
