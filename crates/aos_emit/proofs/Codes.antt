@@ -1,4 +1,4 @@
--- The code of one more routine, and what describes one more module or object type.
+-- The code of one more routine, and what describes one more module.
 use Rattle.std.proofs.Common.{◌≡◌, ℕ, suc, ◌+◌, List, [], ◌∷◌, ◌++◌, ◌<◌, ◌≤◌, Some, get_or, take, length, map, refl, sym, ap, ◌∙◌, subst, arith, append-nil, append_assoc}
 use Rattle.std.specs.String.{string_bytes}
 use Rattle.std.specs.List.{flat_map}
@@ -19,11 +19,10 @@ use Rattle.aos_code.specs.Machine.{first_cell}
 use Rattle.aos_code.specs.declared.image.Body.{Body}
 use Rattle.aos_code.specs.declared.image.ProcShape.{ProcShape}
 use Rattle.aos_code.specs.declared.image.ModuleDesc.{ModuleDesc}
-use Rattle.aos_code.specs.declared.image.TypeDesc.{TypeDesc}
 use Rattle.aos_sim.specs.Code.{body_code}
 use Rattle.aos_sim.specs.Need.{body_need}
 use Rattle.aos_sim.specs.Shows.{numbers_from, text_cells, first_cells, shape_of}
-use Rattle.aos_emit.specs.Made.{body_of, bodies_of_objects, procedures_of, AreMade, Adds, AreModules, AreTypesOf}
+use Rattle.aos_emit.specs.Made.{body_of, bodies_of_objects, procedures_of, AreMade, Adds, AreModules}
 
 numbers-append : {A : Type 0} (k : ℕ) (xs : List A) (x : A) → numbers_from k (xs ++ x ∷ []) ≡ numbers_from k xs ++ (k + length xs) ∷ []
 numbers-append k [] x = let e : k ≡ k + 0 = omega arith in ap (λ n. n ∷ []) e
@@ -32,7 +31,7 @@ numbers-append k (y ∷ ys) x =
     ap (λ l. k ∷ l) (numbers-append (suc k) ys x) ∙ ap (λ n. k ∷ (numbers_from (suc k) ys ++ n ∷ [])) e
 
 -- a list of which each element gives the other's, with one more of each
-more : {A B : Type 0} (f : A → B) (xs : List A) (ys : List B) (x : A) (y : B) → map f xs ≡ ys → f x ≡ y → map f (xs ++ x ∷ []) ≡ ys ++ y ∷ []
+pub more : {A B : Type 0} (f : A → B) (xs : List A) (ys : List B) (x : A) (y : B) → map f xs ≡ ys → f x ≡ y → map f (xs ++ x ∷ []) ≡ ys ++ y ∷ []
 more f xs ys x y e h = map-append f xs (x ∷ []) ∙ ap (λ l. l ++ f x ∷ []) e ∙ ap (λ z. ys ++ z ∷ []) h
 
 -- the same, where the other's are those of a third
@@ -138,12 +137,3 @@ adds_all p ms os b0 b1 b2 b3 s0 s1 s2 s3 em eo eb es f g h =
     let made : AreMade p (xs ++ (ys ++ zs)) b3 s3 = adds_both p xs (ys ++ zs) b0 b1 b3 s0 s1 s3 f (adds_both p ys zs b1 b2 b3 s1 s2 s3 g h) [] none in
     let all : xs ++ (ys ++ zs) ≡ routines p = sym (λ i. bodies_from 0 (em i) ++ (bodies_of_objects (eo i) ++ procedures_from 0 (em i))) in
     subst (λ l. AreMade p l b3 s3) all made
-
--- one more object type
-pub type_more : (modules : ℕ) (os : List TObject) (k n : ℕ) (o : TObject) (ts ts' : List TypeDesc) (t : TypeDesc) → k < length os → o ≡ get_or os k o → n ≡ modules + k → ts' ≡ ts ++ t ∷ [] → t.body ≡ n + 1 → AreTypesOf modules (map seen_object (take k os)) ts → AreTypesOf modules (map seen_object (take (k + 1) os)) ts'
-type_more modules os k n o ts ts' t lt at is et start h =
-    let xs = map seen_object (take k os) in
-    let there : t.body ≡ suc modules + length xs = omega (arith, count_of seen_object os k lt, is, start) in
-    ap (λ l. map (λ x. x.body) l) et
-    ∙ more (λ (x : TypeDesc). x.body) ts _ t (suc modules + length xs) h there
-    ∙ sym (ap (numbers_from (suc modules)) (next_of seen_object os k o lt at) ∙ numbers-append (suc modules) xs (seen_object o))

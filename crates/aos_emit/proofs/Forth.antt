@@ -7,9 +7,9 @@ use Rattle.aos_base.specs.declared.operator.Binary.TheVariants.{SetSpan}
 use Rattle.aos_typed.specs.Numbers.{procedure_number}
 use Rattle.aos_typed.specs.declared.tree.Literal.{Literal}
 use Rattle.aos_typed.specs.declared.tree.Literal.TheVariants as literal
-use Rattle.aos_typed.specs.Program.{Place, ModuleVar, Local, Passed, Field, Index, Of, Rows, Known, Opened, Row, Longer, Arguments, NoMore, Scalar, Whole, Opening, Expr, Lit, Read, Unary, Binary, And, Or, Element, Ord, Chr, CompareTexts, Len, LenBehind, Function, Procedure, Program}
+use Rattle.aos_typed.specs.Program.{Place, ModuleVar, Local, Passed, Field, Index, Of, Deref, Typed, Guarded, Rows, Known, Opened, Row, Spread, Longer, Arguments, NoMore, Scalar, Whole, Opening, Expr, Lit, Read, Unary, Binary, And, Or, Element, Ord, Chr, CompareTexts, Len, LenBehind, Function, Same, Is, IsRecord, Guard, Had, Procedure, Program}
 use Rattle.aos_code.specs.declared.instr.Instr.{Instr}
-use Rattle.aos_code.specs.declared.instr.Instr.TheVariants.{Num, Dup, Drop, Frame as FrameOf, Param, Length, Module, Offset, Index as IndexOf, IndexOpen, PickLen, Call as CallOf, Unary as OnOne, Binary as OnTwo, Jump, JumpFalse, Load, CmpText}
+use Rattle.aos_code.specs.declared.instr.Instr.TheVariants.{Num, Deref as DerefOf, OpenRef, EqRef, Is as IsOf, IsPlace, Guard as GuardOf, GuardPlace, Dup, Drop, Frame as FrameOf, Param, Length, Module, Offset, Index as IndexOf, IndexOpen, PickLen, Call as CallOf, Unary as OnOne, Binary as OnTwo, Jump, JumpFalse, Load, CmpText}
 use Rattle.aos_sim.specs.Code.{literal_code, kind_of, variable_cell, own_cell, field_cell, cells_of, dimensions, lengths_code, drops, place_code, rows_code, arguments_code, value_code}
 use Rattle.aos_emit.specs.Back.{back_place, back_rows, back_arguments, back_code, placed}
 use Rattle.aos_emit.specs.Forwards.{forwards}
@@ -38,6 +38,7 @@ literal_placed end (literal.Bool b) = refl
 literal_placed end (literal.Char c) = refl
 literal_placed end (literal.Set s) = refl
 literal_placed end (literal.Text t) = refl
+literal_placed end literal.Nil = refl
 
 -- where code ends at a place, so it is placed from its last instruction to its first
 abbrev pub IsPlaced : (ℕ → List Instr) → (List Instr → List Instr) → Type 0
@@ -95,6 +96,14 @@ module _ (p : Program) (own : Option Procedure) where
     place_forth (Local k) at behind end ends = last_first end behind (FrameOf (own_cell p own k))
     place_forth (Passed k) at behind end ends = last_first end behind (Param (own_cell p own k))
     place_forth (Of r) at behind end ends = rows_forth r at behind end ends
+    place_forth (Deref e t) at behind end ends =
+        operand (value_code p own e) (back_code p own e) at end (DerefOf 0 ∷ []) (behind ++ DerefOf 0 ∷ []) behind (forth e) (last_first end behind (DerefOf 0)) ends
+    place_forth (Typed x t) at behind end ends =
+        let type = Offset 0 (t + 1) in
+        operand (place_code p own x) (back_place p own x) at end (type ∷ []) (behind ++ type ∷ []) behind (place_forth x) (last_first end behind type) ends
+    place_forth (Guarded x t) at behind end ends =
+        let guard = GuardPlace (t + 1) in
+        operand (place_code p own x) (back_place p own x) at end (guard ∷ []) (behind ++ guard ∷ []) behind (place_forth x) (last_first end behind guard) ends
     place_forth (Field x t k) at behind end ends =
         let offset = Offset (field_cell p own t k) 0 in
         operand (place_code p own x) (back_place p own x) at end (offset ∷ []) (behind ++ offset ∷ []) behind (place_forth x) (last_first end behind offset) ends
@@ -120,6 +129,8 @@ module _ (p : Program) (own : Option Procedure) where
         let both = length-append cr (ce ++ index ∷ []) in
         let second = operand (value_code p own e) (back_code p own e) (at + length cr) end (index ∷ []) (behind ++ index ∷ []) behind (forth e) (last_first end behind index) (omega arith) in
         operand (rows_code p own r) (back_rows p own r) at end (ce ++ index ∷ []) (back_code p own e (behind ++ index ∷ [])) behind (rows_forth r) second ends
+    rows_forth (Spread e j) at behind end ends =
+        operand (value_code p own e) (back_code p own e) at end (OpenRef j ∷ []) (behind ++ OpenRef j ∷ []) behind (forth e) (last_first end behind (OpenRef j)) ends
     rows_forth (Longer r ns) at behind end ends =
         let lengths = map (λ n. Num (pos n)) ns in
         operand (rows_code p own r) (back_rows p own r) at end lengths (behind ++ reverse lengths) behind (rows_forth r) (turned end behind lengths (numbers_placed end ns)) ends
@@ -206,3 +217,16 @@ module _ (p : Program) (own : Option Procedure) where
     forth (Function m k more) at behind end ends =
         let call = CallOf (procedure_number p m k) in
         operand (arguments_code p own more) (back_arguments p own more) at end (call ∷ []) (behind ++ call ∷ []) behind (arguments_forth more) (last_first end behind call) ends
+    forth (Same a b) at behind end ends =
+        let ca = value_code p own a at in
+        let cb = value_code p own b (at + length ca) in
+        let both = length-append ca (cb ++ EqRef ∷ []) in
+        let second = operand (value_code p own b) (back_code p own b) (at + length ca) end (EqRef ∷ []) (behind ++ EqRef ∷ []) behind (forth b) (last_first end behind EqRef) (omega arith) in
+        operand (value_code p own a) (back_code p own a) at end (cb ++ EqRef ∷ []) (back_code p own b (behind ++ EqRef ∷ [])) behind (forth a) second ends
+    forth (Is a t) at behind end ends =
+        operand (value_code p own a) (back_code p own a) at end (IsOf (t + 1) ∷ []) (behind ++ IsOf (t + 1) ∷ []) behind (forth a) (last_first end behind (IsOf (t + 1))) ends
+    forth (IsRecord x t) at behind end ends =
+        operand (place_code p own x) (back_place p own x) at end (IsPlace (t + 1) ∷ []) (behind ++ IsPlace (t + 1) ∷ []) behind (place_forth x) (last_first end behind (IsPlace (t + 1))) ends
+    forth (Guard a t) at behind end ends =
+        operand (value_code p own a) (back_code p own a) at end (GuardOf (t + 1) ∷ []) (behind ++ GuardOf (t + 1) ∷ []) behind (forth a) (last_first end behind (GuardOf (t + 1))) ends
+    forth (Had v) at behind end ends = refl

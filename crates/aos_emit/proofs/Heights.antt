@@ -4,7 +4,7 @@ use Rattle.aos_base.specs.declared.text.Pos.{Pos}
 use Rattle.aos_typed.specs.declared.tree.TArm.{TArm, out-TArm}
 use Rattle.aos_typed.specs.declared.tree.TCase.{TCase, out-TCase}
 use Rattle.aos_typed.specs.declared.tree.TStat.{TStat}
-use Rattle.aos_typed.specs.Program.{Expr, Stat, Assign, Copy, PutText, If, Case, While, Repeat, Loop, Exit, For, Block, Assert, Halt, Change, Perform, Return, New, Out, Stats, Nothing, Then, Arms, Otherwise, Arm, Cases, NoElse, Else, OfLabels}
+use Rattle.aos_typed.specs.Program.{Expr, Stat, Assign, Copy, PutText, If, Case, While, Repeat, Loop, Exit, For, Block, Assert, Halt, Change, Perform, Return, New, Make, With, WithRecord, Out, Stats, Nothing, Then, Arms, Otherwise, Arm, Cases, NoElse, Else, OfLabels}
 use Rattle.aos_typed.specs.Seen.{seen_stat, seen_stats, arms_of, cases_of}
 
 abbrev mutual
@@ -26,6 +26,9 @@ abbrev mutual
   height (Perform at m k more) = 0
   height (Return at e) = 0
   height (New at p t) = 0
+  height (Make at p t ns) = 0
+  height (With at e body) = suc (heights body)
+  height (WithRecord at p body) = suc (heights body)
   height (Out at call) = 0
 
   pub heights : Stats → ℕ

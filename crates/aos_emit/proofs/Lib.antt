@@ -1,6 +1,7 @@
 pub mod Patch
 pub mod Pending
 pub mod Codes
+pub mod Described
 pub mod Turned
 pub mod Forth
 pub mod Heights
@@ -8,5 +9,6 @@ pub mod Parts
 pub mod Ends
 pub mod Found
 pub mod Fields
+pub mod Made
 pub mod Sorts
 pub mod Searches

@@ -3,7 +3,7 @@ use Rattle.std.proofs.Common.{◌≡◌, ℕ, zero, suc, ◌+◌, ◌<◌, ◌�
 use Rattle.aos_typed.specs.declared.tree.TArgument.{TArgument}
 use Rattle.aos_typed.specs.declared.tree.TArgument.TheVariants as argument
 use Rattle.aos_typed.specs.declared.tree.TExpr.{TExpr}
-use Rattle.aos_typed.specs.Program.{Place, ModuleVar, Local, Passed, Field, Index, Of, Rows, Known, Opened, Row, Longer, Arguments, NoMore, Scalar, Whole, Opening, Expr, Lit, Read, Unary, Binary, And, Or, Element, Ord, Chr, CompareTexts, Len, LenBehind, Function}
+use Rattle.aos_typed.specs.Program.{Place, ModuleVar, Local, Passed, Field, Index, Of, Deref, Typed, Guarded, Rows, Known, Opened, Row, Spread, Longer, Arguments, NoMore, Scalar, Whole, Opening, Expr, Lit, Read, Unary, Binary, And, Or, Element, Ord, Chr, CompareTexts, Len, LenBehind, Function, Same, Is, IsRecord, Guard, Had}
 use Rattle.aos_typed.specs.Seen.{seen_argument, seen_list, seen_expr}
 
 abbrev mutual
@@ -14,11 +14,15 @@ abbrev mutual
   place_size (Field p t k) = suc (place_size p)
   place_size (Index p n t e) = suc (place_size p + value_size e)
   place_size (Of r) = suc (rows_size r)
+  place_size (Deref e t) = suc (value_size e)
+  place_size (Typed p t) = suc (place_size p)
+  place_size (Guarded p t) = suc (place_size p)
 
   pub rows_size : Rows → ℕ
   rows_size (Known p ns) = suc (place_size p)
   rows_size (Opened k j) = 0
   rows_size (Row r t e) = suc (rows_size r + value_size e)
+  rows_size (Spread e j) = suc (value_size e)
   rows_size (Longer r ns) = suc (rows_size r)
 
   pub arguments_size : Arguments → ℕ
@@ -41,6 +45,11 @@ abbrev mutual
   value_size (Len r d) = suc (rows_size r)
   value_size (LenBehind r n) = suc (rows_size r)
   value_size (Function m k more) = suc (arguments_size more)
+  value_size (Same a b) = suc (value_size a + value_size b)
+  value_size (Is a t) = suc (value_size a)
+  value_size (IsRecord p t) = suc (place_size p)
+  value_size (Guard a t) = suc (value_size a)
+  value_size (Had v) = 0
 
 -- an argument alone is no more than it is before others, and what is behind it is less
 split : (a : TArgument) (more : Arguments) → arguments_size (seen_argument a more) ≡ arguments_size (seen_argument a NoMore) + arguments_size more

@@ -25,6 +25,15 @@ followed base c1 c2 front back e f =
     let n = ap length e ∙ length-append base front in
     f ∙ ap (λ m. c1 ++ back m) n ∙ ap (λ l. l ++ back (length base + length front)) e ∙ append_assoc base front (back (length base + length front))
 
+-- code behind what is guarded, which lies between two instructions
+pub guarded : (base c1 c2 : List Instr) (first : Instr) (guard : List Instr) (last : Instr) (back : ℕ → List Instr) → c1 ≡ base ++ first ∷ (guard ++ last ∷ []) → c2 ≡ c1 ++ back (length c1) → c2 ≡ base ++ first ∷ (guard ++ (last ∷ back (length base + 1 + length guard + 1)))
+guarded base c1 c2 first guard last back e f =
+    let front = first ∷ (guard ++ last ∷ []) in
+    let there : length base + length front ≡ length base + 1 + length guard + 1 = omega (arith, length-append guard (last ∷ [])) in
+    followed base c1 c2 front back e f
+    ∙ ap (λ l. base ++ first ∷ l) (append_assoc guard (last ∷ []) (back (length base + length front)))
+    ∙ ap (λ n. base ++ first ∷ (guard ++ (last ∷ back n))) there
+
 -- an instruction between front and back that is written when the code behind it is there, and the last one, behind that code
 pub patched : (base front : List Instr) (inside : ℕ → List Instr) (c1 c2 c3 c4 : List Instr) (x last : Instr) (over : ℕ → Instr) (n1 n2 : ℕ) → c1 ≡ base ++ front → n1 ≡ length c1 → c2 ≡ c1 ++ x ∷ [] → c3 ≡ c2 ++ inside (length c2) → c4 ≡ c3 ++ last ∷ [] → n2 ≡ length c4 → let first = length base + length front + 1 in slice_set c4 n1 (over n2) ≡ base ++ (front ++ (over (first + length (inside first) + 1) ∷ (inside first ++ (last ∷ []))))
 patched base front inside c1 c2 c3 c4 x last over n1 n2 e1 m1 e2 e3 e4 m2 =

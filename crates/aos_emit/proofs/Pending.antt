@@ -15,11 +15,11 @@ use Rattle.aos_typed.specs.declared.tree.Change.TheVariants as change
 use Rattle.aos_typed.specs.declared.tree.TType.{TType}
 use Rattle.aos_typed.specs.declared.tree.TType.TheVariants.{Integer}
 use Rattle.aos_typed.specs.Meaning.{until}
-use Rattle.aos_typed.specs.Program.{Place, ModuleVar, Local, Passed, Field, Index, Of, Rows, Known, Opened, Row, Longer, Arguments, NoMore, Scalar, Whole, Opening, Expr, Lit, Read, Unary, Binary, And, Or, Element, Ord, Chr, CompareTexts, Len, LenBehind, Function, Call, Open, Char, Int, String, Ln, Stat, Assign, Copy, PutText, If, Case, While, Repeat, Loop, Exit, For, Block, Assert, Halt, Change, Perform, Return, New, Out, Stats, Nothing, Then, Arms, Otherwise, Arm, Cases, NoElse, Else, OfLabels, Procedure, Program}
+use Rattle.aos_typed.specs.Program.{Place, ModuleVar, Local, Passed, Field, Index, Of, Deref, Typed, Guarded, Rows, Known, Opened, Row, Spread, Longer, Arguments, NoMore, Scalar, Whole, Opening, Expr, Lit, Read, Unary, Binary, And, Or, Element, Ord, Chr, CompareTexts, Len, LenBehind, Function, Same, Is, IsRecord, Guard, Had, Call, Open, Char, Int, String, Ln, Stat, Assign, Copy, PutText, If, Case, While, Repeat, Loop, Exit, For, Block, Assert, Halt, Change, Perform, Return, New, Make, With, WithRecord, Out, Stats, Nothing, Then, Arms, Otherwise, Arm, Cases, NoElse, Else, OfLabels, Procedure, Program}
 use Rattle.aos_code.specs.declared.instr.Instr.{Instr}
 use Rattle.aos_code.specs.declared.instr.Instr.TheVariants as i
 use Rattle.aos_code.specs.declared.instr.Kind.TheVariants.{N}
-use Rattle.aos_sim.specs.Code.{begin, literal_code, lengths_code, drops, dimensions, own_cell, place_code, rows_code, arguments_code, value_code, out_code, new_code, change_code, changed_code, assign_code, for_head, step_code, body_place, rounds_with, stat_code, stats_code, arms_code, cases_code, arm_place}
+use Rattle.aos_sim.specs.Code.{begin, literal_code, lengths_code, drops, dimensions, make_instr, own_cell, place_code, rows_code, arguments_code, value_code, values_code, make_code, out_code, new_code, change_code, changed_code, assign_code, for_head, step_code, body_place, rounds_with, stat_code, stats_code, arms_code, cases_code, arm_place}
 use Rattle.aos_sim.specs.Search.{Search, Nowhere, At, Split, arms_in, search_of, search_size, search_code}
 use Rattle.aos_sim.proofs.Sizes.{search_length, stat_length, stats_length, arms_length, cases_length}
 use Rattle.aos_emit.specs.Redirect.{redirected, redirect}
@@ -79,6 +79,7 @@ module _ (p x : ℕ) where
   literal_same (literal.Char c) = refl
   literal_same (literal.Set s) = refl
   literal_same (literal.Text t) = refl
+  literal_same literal.Nil = refl
 
   numbers_same : (ns : List ℕ) → map (redirect p x) (map (λ n. i.Num (pos n)) ns) ≡ map (λ n. i.Num (pos n)) ns
   numbers_same [] = refl
@@ -92,6 +93,10 @@ module _ (p x : ℕ) where
   drops_same zero n = refl
   drops_same (suc k) n = ap (λ l. i.Drop ∷ l) (drops_same k n)
 
+  made_same : (t n : ℕ) → redirect p x (make_instr t n) ≡ make_instr t n
+  made_same t zero = refl
+  made_same t (suc n) = refl
+
   module _ (program : Program) (own : Option Procedure) where
     mutual
       place_turns : (q : Place) (at : ℕ) → Turns at (place_code program own q at) (place_code program own q at)
@@ -99,6 +104,9 @@ module _ (p x : ℕ) where
       place_turns (Local k) at = turn refl nothing
       place_turns (Passed k) at = turn refl nothing
       place_turns (Of r) at = rows_turn r at
+      place_turns (Deref e t) at = behind (value_turns e at) refl
+      place_turns (Typed q t) at = behind (place_turns q at) refl
+      place_turns (Guarded q t) at = behind (place_turns q at) refl
       place_turns (Field q t k) at = behind (place_turns q at) refl
       place_turns (Index q n t e) at = both (place_turns q at) (behind (value_turns e (at + length (place_code program own q at))) refl)
 
@@ -106,6 +114,7 @@ module _ (p x : ℕ) where
       rows_turn (Known q ns) at = behind (place_turns q at) (numbers_same ns)
       rows_turn (Opened k j) at = turn refl (lengths_turn (suc (own_cell program own k)) j)
       rows_turn (Row r t e) at = both (rows_turn r at) (behind (value_turns e (at + length (rows_code program own r at))) refl)
+      rows_turn (Spread e j) at = behind (value_turns e at) refl
       rows_turn (Longer r ns) at = behind (rows_turn r at) (numbers_same ns)
 
       arguments_turn : (as' : Arguments) (at : ℕ) → Turns at (arguments_code program own as' at) (arguments_code program own as' at)
@@ -141,6 +150,19 @@ module _ (p x : ℕ) where
       value_turns (Len r d) at = behind (rows_turn r at) refl
       value_turns (LenBehind r n) at = behind (rows_turn r at) (drops_same (suc (dimensions r)) n)
       value_turns (Function m k more) at = behind (arguments_turn more at) refl
+      value_turns (Same a b) at = both (value_turns a at) (behind (value_turns b (at + length (value_code program own a at))) refl)
+      value_turns (Is a t) at = behind (value_turns a at) refl
+      value_turns (IsRecord q t) at = behind (place_turns q at) refl
+      value_turns (Guard a t) at = behind (value_turns a at) refl
+      value_turns (Had v) at = nothing
+
+    values_turn : (es : List Expr) (at : ℕ) → Turns at (values_code program own es at) (values_code program own es at)
+    values_turn [] at = nothing
+    values_turn (e ∷ es) at = both (value_turns e at) (values_turn es (at + length (value_code program own e at)))
+
+    make_turns : (q : Place) (t : ℕ) (es : List Expr) (at : ℕ) → Turns at (make_code program own q t es at) (make_code program own q t es at)
+    make_turns q t es at =
+        both (place_turns q at) (both (values_turn es (at + length (place_code program own q at))) (turn (made_same t (length es)) (turn refl nothing)))
 
     out_turns : (call : Call) (at : ℕ) → Turns at (out_code program own call at) (out_code program own call at)
     out_turns Open at = turn refl nothing
@@ -267,6 +289,11 @@ module _ (p x : ℕ) where
       stat_turns (Return here None) at y d = turn refl (turn refl nothing)
       stat_turns (Return here (Some e)) at y d = turn refl (behind (value_turns e (at + 1)) refl)
       stat_turns (New here q t) at y d = turn refl (new_turns q t (at + 1))
+      stat_turns (Make here q t es) at y d = turn refl (make_turns q t es (at + 1))
+      stat_turns (With here e body) at y d =
+          turn refl (both (value_turns e (at + 1)) (turn refl (stats_turn body (at + 1 + length (value_code program own e (at + 1)) + 1) y d)))
+      stat_turns (WithRecord here q body) at y d =
+          turn refl (both (place_turns q (at + 1)) (turn refl (stats_turn body (at + 1 + length (place_code program own q (at + 1)) + 1) y d)))
       stat_turns (Out here call) at y d = turn refl (out_turns call (at + 1))
 
       stats_turn : (ss : Stats) (at y d : ℕ) → Turns at (stats_code program own ss at y d) (stats_code program own ss at (redirected p x y) d)

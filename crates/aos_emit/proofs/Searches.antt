@@ -1,11 +1,10 @@
 -- The code of a search, half by half, and its jumps, which are told where the arms begin.
-use Rattle.std.proofs.Common.{◌≡◌, Option, ℕ, zero, suc, ℤ, ◌+◌, ◌-◌, ◌/◌, ◌<◌, ◌≤◌, int_le, Bool, true, false, if◌then◌else◌, List, [], ◌∷◌, ◌++◌, length, get_or, map, take, drop, refl, sym, ap, ◌∙◌, arith, append_assoc, length-append}
+use Rattle.std.proofs.Common.{◌≡◌, Option, ℕ, zero, suc, ◌+◌, ◌-◌, ◌/◌, ◌<◌, ◌≤◌, List, [], ◌∷◌, ◌++◌, length, get_or, map, take, drop, refl, sym, ap, ◌∙◌, arith, append_assoc, length-append}
 use Rattle.std.specs.Prelude.{slice_set}
 use Rattle.std.proofs.Math.Seq.{set-append_seam}
 use Rattle.std.proofs.lemmas.List.{map-append, drop_more, take_at, drop_at}
 use Rattle.aos_base.specs.declared.number.Relation.TheVariants.{Less}
 use Rattle.aos_base.specs.declared.operator.Binary.TheVariants.{Cmp}
-use Rattle.aos_typed.specs.declared.tree.LabelRange.{LabelRange}
 use Rattle.aos_typed.specs.declared.tree.LabelRow.{LabelRow}
 use Rattle.aos_typed.specs.declared.tree.TCase.{TCase, out-TCase}
 use Rattle.aos_typed.specs.declared.tree.TElse.{TElse}

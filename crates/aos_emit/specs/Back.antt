@@ -3,9 +3,9 @@ use Rattle.std.specs.Prelude.{ℕ, suc, pos, ◌+◌, ◌-◌, Option, List, [],
 use Rattle.aos_base.specs.declared.operator.Unary.TheVariants.{Range}
 use Rattle.aos_base.specs.declared.operator.Binary.TheVariants.{SetSpan}
 use Rattle.aos_typed.specs.Numbers.{procedure_number}
-use Rattle.aos_typed.specs.Program.{Place, ModuleVar, Local, Passed, Field, Index, Of, Rows, Known, Opened, Row, Longer, Arguments, NoMore, Scalar, Whole, Opening, Expr, Lit, Read, Unary, Binary, And, Or, Element, Ord, Chr, CompareTexts, Len, LenBehind, Function, Procedure, Program}
+use Rattle.aos_typed.specs.Program.{Place, ModuleVar, Local, Passed, Field, Index, Of, Deref, Typed, Guarded, Rows, Known, Opened, Row, Spread, Longer, Arguments, NoMore, Scalar, Whole, Opening, Expr, Lit, Read, Unary, Binary, And, Or, Element, Ord, Chr, CompareTexts, Len, LenBehind, Function, Same, Is, IsRecord, Guard, Had, Procedure, Program}
 use Rattle.aos_code.specs.declared.instr.Instr.{Instr}
-use Rattle.aos_code.specs.declared.instr.Instr.TheVariants.{Num, Dup, Frame as FrameOf, Param, Module, Offset, Index as IndexOf, IndexOpen, PickLen, Call as CallOf, Unary as OnOne, Binary as OnTwo, Jump, JumpFalse, Load, CmpText}
+use Rattle.aos_code.specs.declared.instr.Instr.TheVariants.{Num, Deref as DerefOf, OpenRef, EqRef, Is as IsOf, IsPlace, Guard as GuardOf, GuardPlace, Dup, Frame as FrameOf, Param, Module, Offset, Index as IndexOf, IndexOpen, PickLen, Call as CallOf, Unary as OnOne, Binary as OnTwo, Jump, JumpFalse, Load, CmpText}
 use Rattle.aos_sim.specs.Code.{literal_code, kind_of, variable_cell, own_cell, field_cell, cells_of, dimensions, lengths_code, drops}
 
 -- in a program, whose variables have their cells, in the body of this procedure or of none
@@ -18,6 +18,9 @@ module _ (program : Program) (own : Option Procedure) where
     back_place (Local k) behind = behind ++ FrameOf (own_cell program own k) ∷ []
     back_place (Passed k) behind = behind ++ Param (own_cell program own k) ∷ []
     back_place (Of r) behind = back_rows r behind
+    back_place (Deref e t) behind = back_code e (behind ++ DerefOf 0 ∷ [])
+    back_place (Typed p t) behind = back_place p (behind ++ Offset 0 (t + 1) ∷ [])
+    back_place (Guarded p t) behind = back_place p (behind ++ GuardPlace (t + 1) ∷ [])
     back_place (Field p t k) behind = back_place p (behind ++ Offset (field_cell program own t k) 0 ∷ [])
     back_place (Index p n t e) behind = back_place p (back_code e (behind ++ IndexOf n (cells_of program own t) ∷ []))
 
@@ -26,6 +29,7 @@ module _ (program : Program) (own : Option Procedure) where
     back_rows (Opened k j) behind =
         behind ++ reverse (Param (own_cell program own k) ∷ lengths_code (suc (own_cell program own k)) j)
     back_rows (Row r t e) behind = back_rows r (back_code e (behind ++ IndexOpen (dimensions r) (cells_of program own t) ∷ []))
+    back_rows (Spread e j) behind = back_code e (behind ++ OpenRef j ∷ [])
     back_rows (Longer r ns) behind = back_rows r (behind ++ reverse (map (λ n. Num (pos n)) ns))
 
     -- the last argument comes first
@@ -53,6 +57,11 @@ module _ (program : Program) (own : Option Procedure) where
     back_code (Len r d) behind = back_rows r (behind ++ PickLen d (dimensions r) ∷ [])
     back_code (LenBehind r n) behind = back_rows r (behind ++ Num (pos n) ∷ drops (suc (dimensions r)))
     back_code (Function m k more) behind = back_arguments more (behind ++ CallOf (procedure_number program m k) ∷ [])
+    back_code (Same a b) behind = back_code a (back_code b (behind ++ EqRef ∷ []))
+    back_code (Is a t) behind = back_code a (behind ++ IsOf (t + 1) ∷ [])
+    back_code (IsRecord p t) behind = back_place p (behind ++ IsPlace (t + 1) ∷ [])
+    back_code (Guard a t) behind = back_code a (behind ++ GuardOf (t + 1) ∷ [])
+    back_code (Had v) behind = behind
 
 -- the same instruction, where the code ends at this place: a jump has its target's place
 abbrev pub placed : ℕ → Instr → Instr

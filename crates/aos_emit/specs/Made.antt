@@ -1,8 +1,12 @@
 -- The code of some of a program's routines, and what describes some of its modules and object types.
-use Rattle.std.specs.Prelude.{◌≡◌, ℕ, suc, Some, None, List, ◌++◌, map}
+use Rattle.std.specs.Prelude.{◌≡◌, ℕ, suc, Some, None, List, ◌++◌, length, map}
+use Rattle.std.specs.List.{range_with_len}
 use Rattle.std.specs.String.{string_bytes}
+use Rattle.aos_types.specs.Table.{row_of, base_of}
+use Rattle.aos_typed.specs.Numbers.{predeclared_types}
 use Rattle.aos_typed.specs.Program.{Stats, Procedure, Module, ObjectType, Program}
 use Rattle.aos_typed.specs.Routines.{Routine}
+use Rattle.aos_code.specs.declared.instr.Kind.{Kind}
 use Rattle.aos_code.specs.declared.image.Body.{Body}
 use Rattle.aos_code.specs.declared.image.ProcShape.{ProcShape}
 use Rattle.aos_code.specs.declared.image.ModuleDesc.{ModuleDesc}
@@ -10,7 +14,7 @@ use Rattle.aos_code.specs.declared.image.TypeDesc.{TypeDesc}
 use Rattle.aos_layout.specs.Seen.{seen_shape}
 use Rattle.aos_sim.specs.Code.{body_code}
 use Rattle.aos_sim.specs.Need.{body_need}
-use Rattle.aos_sim.specs.Shows.{numbers_from, first_cells, shape_of}
+use Rattle.aos_sim.specs.Shows.{numbers_from, first_cells, shape_of, type_kinds, base_number}
 
 -- a body that is no procedure's
 abbrev pub body_of : (home : ℕ) → Stats → Routine
@@ -39,6 +43,15 @@ pub record AreModules (p : Program) (ms : List Module) (ds : List ModuleDesc) : 
   pub cells : map (λ d. d.cells.items) ds ≡ map (first_cells p.types) ms
   pub names : map (λ d. string_bytes d.name) ds ≡ map (λ m. m.name) ms
 
--- and these these object types, behind so many modules
-abbrev pub AreTypesOf : ℕ → List ObjectType → List TypeDesc → Type 0
-AreTypesOf modules os ts = map (λ t. t.body) ts ≡ numbers_from (suc modules) os
+-- the base and the cells of the type with this number in the table
+abbrev pub base_at : Program → ℕ → ℕ
+base_at p k = base_number (base_of (row_of p.types (record { 0 = k })))
+
+abbrev pub kinds_at : Program → ℕ → List Kind
+kinds_at p k = type_kinds p.types (record { 0 = k })
+
+-- these describe the first types that a program names, so many of them, whose bodies are numbered behind those of the modules
+pub record AreTypesOf (p : Program) (count : ℕ) (ts : List TypeDesc) : Type 0 where
+  pub bodies : map (λ t. t.body) ts ≡ range_with_len (suc (length p.modules)) count
+  pub bases : map (λ t. t.base) ts ≡ map (base_at p) (range_with_len predeclared_types count)
+  pub kinds : map (λ t. t.kinds.items) ts ≡ map (kinds_at p) (range_with_len predeclared_types count)

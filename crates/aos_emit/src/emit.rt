@@ -13,7 +13,7 @@ ghost use Rattle.aos_sim.specs.Code as codes;
 ghost use Rattle.aos_sim.specs.Code.{literal_code, kind_of, own_cell, lengths_code, drops, place_code, rows_code, arguments_code, value_code};
 
 use crate::scope::Scope;
-use aos_base::{Binary, Relation, Unary, truth};
+use aos_base::{Binary, Pos, Relation, Unary, truth};
 use aos_code::{Instr, Kind};
 use aos_typed::{Literal, TArgument, TExpr, TPlace, TRows, TType};
 use std::alloc::{AllocError, Global};
@@ -27,6 +27,13 @@ pub fn put(code: &mut Vec<Instr>, instr: Instr) -> Result<(), AllocError>
 {
     code.push(instr)?;
     Ok(())
+}
+
+/// The beginning of a statement.
+pub fn emit_begin(code: &mut Vec<Instr>, at: Pos) -> Result<(), AllocError>
+    ensures { OnOk result (code.new.items ≡ code.old.items ++ codes.begin at ∷ []) }
+{
+    put(code, Instr::Begin(at.line, at.col))
 }
 
 /// The number of an instruction. Code of 2^32 - 2 instructions and more is want of memory.
@@ -48,6 +55,17 @@ pub fn next_place(code: &[Instr]) -> Result<u32, AllocError>
     number_of(code.len())
 }
 
+/// The number of the description of a type, from 1, by the type's number in the program from 0. A type whose number doesn't fit is
+/// in no program: there is no memory for it.
+pub fn described(of: u32) -> Result<u32, AllocError>
+    ensures { IfOk result (λ n. n ≡ of + 1) }
+{
+    match of.checked_add(1) {
+        Some(number) => Ok(number),
+        None => Err(AllocError),
+    }
+}
+
 /// The kind of what a variable of this type holds.
 pub fn cell_kind(of: TType) -> Kind
     ensures { result ≡ kind_of of }
@@ -57,6 +75,7 @@ pub fn cell_kind(of: TType) -> Kind
         TType::Boolean => Kind::N,
         TType::Char => Kind::N,
         TType::Set => Kind::N,
+        TType::Any => Kind::R,
         TType::Named(_) => Kind::R,
     }
 }
@@ -70,6 +89,7 @@ fn literal_instr(literal: Literal) -> Instr
         Literal::Char(c) => Instr::Num(i64::from(c)),
         Literal::Set(s) => Instr::Num(i64::from(s)),
         Literal::Text(text) => Instr::Num(i64::from(text.first)),
+        Literal::Nil => Instr::Nil,
     }
 }
 
@@ -93,6 +113,17 @@ fn emit_place_back(
             TPlace::Local(number) => return put(code, Instr::Frame(scope.own_cell(*number))),
             TPlace::Passed(number) => return put(code, Instr::Param(scope.own_cell(*number))),
             TPlace::Of(rows) => return emit_rows_back(scope, code, rows),
+            TPlace::Deref(object, _) => {
+                return emit_object_back(scope, code, Instr::Deref(0), object);
+            }
+            TPlace::Typed(whole, of) => {
+                put(code, Instr::Offset(0, described(*of)?))?;
+                rest = whole;
+            }
+            TPlace::Guarded(whole, of) => {
+                put(code, Instr::GuardPlace(described(*of)?))?;
+                rest = whole;
+            }
             TPlace::Field(whole, of, number) => {
                 let before = scope.field(*of, *number)?;
                 put(code, Instr::Offset(before, 0))?;
@@ -106,6 +137,21 @@ fn emit_place_back(
             }
         }
     }
+}
+
+// What is found by an object, from the last instruction to the first.
+#[cycle(emit_back)]
+fn emit_object_back(
+    scope: &Scope<'_>,
+    code: &mut Vec<Instr>,
+    last: Instr,
+    object: &TExpr,
+) -> Result<(), AllocError>
+    ensures { OnOk result (code.new.items ≡ back_code (program_of scope.now) (own_of scope.now) (seen_expr object.now)
+        (code.old.items ++ last ∷ [])) }
+{
+    put(code, last)?;
+    emit_back(scope, code, object)
 }
 
 #[cycle(emit_back)]
@@ -130,6 +176,7 @@ pub fn dimensions(rows: &TRows) -> Result<u32, AllocError>
         TRows::Known(_, lengths) => number_of(lengths.len()),
         TRows::Opened(_, count) => Ok(*count),
         TRows::Row(whole, _, _) => Ok(dimensions(whole)?.saturating_sub(1)),
+        TRows::Spread(_, count) => Ok(*count),
         TRows::Longer(whole, lengths) => {
             match dimensions(whole)?.checked_add(number_of(lengths.len())?) {
                 Some(count) => Ok(count),
@@ -188,6 +235,9 @@ fn emit_rows_back(scope: &Scope<'_>, code: &mut Vec<Instr>, rows: &TRows) -> Res
                 put(code, instr)?;
                 emit_back(scope, code, index)?;
                 rest = whole;
+            }
+            TRows::Spread(object, count) => {
+                return emit_object_back(scope, code, Instr::OpenRef(*count), object);
             }
             TRows::Longer(whole, lengths) => {
                 put_lengths(code, lengths)?;
@@ -394,6 +444,23 @@ fn emit_back(scope: &Scope<'_>, code: &mut Vec<Instr>, value: &TExpr) -> Result<
             TExpr::Ord(operand) => rest = operand,
             TExpr::Chr(operand) => {
                 put(code, Instr::Unary(Unary::Range(0, 255)))?;
+                rest = operand;
+            }
+            TExpr::Same(left, right) => {
+                put(code, Instr::EqRef)?;
+                emit_back(scope, code, right)?;
+                rest = left;
+            }
+            TExpr::Is(operand, of) => {
+                put(code, Instr::Is(described(*of)?))?;
+                rest = operand;
+            }
+            TExpr::IsRecord(place, of) => {
+                put(code, Instr::IsPlace(described(*of)?))?;
+                return emit_place_back(scope, code, place);
+            }
+            TExpr::Guard(operand, of) => {
+                put(code, Instr::Guard(described(*of)?))?;
                 rest = operand;
             }
         }

@@ -1,28 +1,31 @@
 // The image of a program.
 
-ghost use Rattle.std.specs.Prelude.{◌≡◌, ◌≤◌, ◌^◌, All, List, [], ◌∷◌, ◌++◌, length, map, None, Some, IfOk, OnOk};
+ghost use Rattle.std.specs.Prelude.{◌≡◌, ◌≤◌, ◌^◌, All, List, [], ◌∷◌, ◌++◌, length, map, None, IfOk, OnOk};
 ghost use Rattle.std.specs.List.{flat_map};
 ghost use Rattle.std.specs.String.{string_bytes};
 ghost use Rattle.aos_typed.specs.Routines.{bodies_from, procedures_from, routines};
 ghost use Rattle.aos_typed.specs.Seen.{seen_program, seen_module, seen_object, seen_procedure, seen_stats};
 ghost use Rattle.aos_typed.specs.WellTyped.{IsProcedure, IsWellTyped};
+ghost use Rattle.aos_types.specs.Chain.{NoneContainsItself};
+ghost use Rattle.aos_types.specs.Table.{row_of, base_of};
 ghost use Rattle.aos_types.specs.declared.row.TypeRow.{TypeRow};
 ghost use Rattle.aos_code.specs.Machine as machine;
 ghost use Rattle.aos_layout.specs.Seen.{seen_shape};
 ghost use Rattle.aos_emit.specs.Made.{AreModules, AreTypesOf, AreMade, Adds, body_of, bodies_of_objects, procedures_of};
 ghost use Rattle.aos_sim.specs.Need.{HasDepthsOf};
-ghost use Rattle.aos_sim.specs.Shows.{text_cells, numbers_from, shape_of, IsCodeOf, Shows};
+ghost use Rattle.aos_sim.specs.Shows.{text_cells, shape_of, type_kinds, base_number, IsCodeOf, Shows};
 
 use crate::emit::number_of;
-use crate::laid::Laid;
+use crate::laid::{Laid, PREDECLARED_TYPES};
 use crate::level::stats_level;
 use crate::scope::Scope;
 use crate::stats::emit_body;
 use aos_base::NoMemory;
 use aos_code::{Body, Cell, Image, Kind, ModuleDesc, ProcShape, TypeDesc};
-use aos_layout::FrameShape;
+use aos_layout::{FrameShape, base_number, object_kinds};
 use aos_sim::image_shows_program;
 use aos_typed::{Program, TModule, TObject, TProcedure, TStat};
+use aos_types::{TypeId, Types};
 use std::alloc::{AllocError, Global};
 
 // What a cell of this kind holds at first: 0, or NIL.
@@ -106,18 +109,45 @@ fn modules_of(
     Ok(modules)
 }
 
-// The object types of a program: their bodies are numbered on from those of so many modules.
-#[tactic(auto, using(crate::proofs::Codes::type_more))]
-fn types_of(alloc: Global, objects: &[TObject], modules: usize) -> Result<Vec<TypeDesc>, AllocError>
-    requires few { modules ≤ 64 }
-    requires few_types { length objects.now ≤ 2 ^ 26 }
-    ensures { IfOk result (λ types. AreTypesOf modules (map seen_object objects.now) types.items) }
+// The description of a type, whose objects' body is the procedure of this number.
+fn describe_type(alloc: Global, types: &Types, of: TypeId, body: u32) -> Result<TypeDesc, NoMemory>
+    requires { NoneContainsItself types.now }
+    ensures base { IfOk result (λ d. d.base ≡ base_number (base_of (row_of types.now of))) }
+    ensures kinds { IfOk result (λ d. d.kinds.items ≡ type_kinds types.now of) }
+    ensures start { IfOk result (λ d. d.body ≡ body) }
+{
+    let kinds = object_kinds(alloc, types, of)?;
+    Ok(TypeDesc {
+        base: base_number(types, of),
+        kinds,
+        body,
+    })
+}
+
+// One more type.
+fn put_type(types: &mut Vec<TypeDesc>, one: TypeDesc) -> Result<(), AllocError>
+    ensures { OnOk result (types.new.items ≡ types.old.items ++ one ∷ []) }
+{
+    types.push(one)?;
+    Ok(())
+}
+
+// The types that a program names: their bodies are numbered on from those of its modules.
+fn types_of(alloc: Global, program: &Program) -> Result<Vec<TypeDesc>, NoMemory>
+    requires few { length program.now.modules.items ≤ 64 }
+    requires few_types { length program.now.objects.items ≤ 2 ^ 26 }
+    requires typed { IsWellTyped (seen_program program.now) }
+    ensures { IfOk result (λ types.
+        AreTypesOf (seen_program program.now) (length program.now.objects.items) types.items) }
 {
     let mut types = Vec::new(alloc);
-    let mut number = modules as u32;
-    for _object in objects {
+    let mut body = program.modules.len() as u32;
+    let mut number = PREDECLARED_TYPES;
+    for _object in &program.objects {
+        body += 1;
+        let one = describe_type(alloc, &program.types, TypeId(number), body)?;
+        put_type(&mut types, one)?;
         number += 1;
-        types.push(TypeDesc { body: number })?;
     }
     Ok(types)
 }
@@ -303,7 +333,7 @@ pub fn image_of(alloc: Global, program: &Program) -> Result<Image, NoMemory>
     image_shows_program();
     let laid = Laid::new(alloc, program)?;
     let modules = modules_of(alloc, &laid, program)?;
-    let types = types_of(alloc, &program.objects, program.modules.len())?;
+    let types = types_of(alloc, program)?;
     let Made { shapes, bodies } = routines_of(alloc, &laid, program)?;
     Ok(Image {
         modules,

@@ -1,11 +1,12 @@
 // A program whose variables and string constants have their cells.
 
-ghost use Rattle.std.specs.Prelude.{◌≡◌, ◌≤◌, ◌<◌, ◌^◌, ◌+◌, suc, [], ◌∷◌, ◌++◌, length, map, take, slice_get, Some, None, option_map, IfOk, OnOk};
+ghost use Rattle.std.specs.Prelude.{◌≡◌, true, ◌≤◌, ◌<◌, ◌^◌, ◌+◌, suc, [], ◌∷◌, ◌++◌, length, map, take, slice_get, Some, None, option_map, IfOk, OnOk};
 ghost use Rattle.std.specs.Option.{unwrap_or};
 ghost use Rattle.aos_typed.specs.Seen.{seen_program, seen_module, seen_procedure};
 ghost use Rattle.aos_typed.specs.WellTyped.{AreTypes, IsProcedure, IsWellTyped};
 ghost use Rattle.aos_layout.specs.Frame as frame;
 ghost use Rattle.aos_layout.specs.Seen.{seen_block, seen_frame};
+ghost use Rattle.aos_layout.specs.Part as parts;
 ghost use Rattle.aos_types.specs.Shape as shape;
 ghost use Rattle.aos_types.specs.Contents.{contents, variable_scalars};
 ghost use Rattle.aos_typed.specs.Numbers.{id_of, procedure_number};
@@ -88,8 +89,8 @@ fn first_of(kinds: &[Kind], count: u32) -> &[Kind]
     }
 }
 
-// How many types are predeclared, before those that a program names.
-const PREDECLARED_TYPES: u64 = 10;
+/// How many types are predeclared, before those that a program names.
+pub const PREDECLARED_TYPES: u32 = 10;
 
 // The number of a type.
 fn type_number(of: TType) -> u64
@@ -103,7 +104,8 @@ fn type_number(of: TType) -> u64
         TType::Boolean => 4,
         TType::Char => 5,
         TType::Set => 6,
-        TType::Named(number) => u64::from(number) + PREDECLARED_TYPES,
+        TType::Any => 8,
+        TType::Named(number) => u64::from(number) + u64::from(PREDECLARED_TYPES),
     }
 }
 
@@ -132,8 +134,35 @@ fn variable_cells(types: &Types, of: TType) -> u32
     }
 }
 
-// How many cells stand before a field in its record. One that a record doesn't have, or that is of a record with a base, is in
-// no well-typed program: there is no memory for it.
+// Whether a record has a field of this number, its base's first: fields are counted from its own to those of the first base.
+fn has_field(types: &Types, t: TypeId, number: u32) -> bool
+    requires typed { AreTypes types.now }
+    ensures { result ≡ true → number < parts.width (contents types.now t) }
+{
+    let mut at = t;
+    let mut left = number as usize;
+    for _step in 0..types.len() {
+        if at.0 as usize >= types.len() {
+            return false;
+        }
+        let TypeRow::Record(base, fields) = types.row(at) else {
+            return false;
+        };
+        let own = fields.as_slice().len();
+        if left < own {
+            return true;
+        }
+        let Some(next) = base else {
+            return false;
+        };
+        left -= own;
+        at = *next;
+    }
+    false
+}
+
+// How many cells stand before a field in its record. One that a record doesn't have is in no well-typed program: there is no
+// memory for it.
 fn cells_before(types: &Types, of: TType, number: u32) -> Result<u32, AllocError>
     requires few { length types.now ≤ 2 ^ 32 }
     requires typed { AreTypes types.now }
@@ -142,13 +171,13 @@ fn cells_before(types: &Types, of: TType, number: u32) -> Result<u32, AllocError
     let Some(t) = type_in(types, of) else {
         return Err(AllocError);
     };
-    let TypeRow::Record(base, fields) = types.row(t) else {
+    let TypeRow::Record(_, _) = types.row(t) else {
         return Err(AllocError);
     };
-    if base.is_some() || number as usize >= fields.as_slice().len() {
-        return Err(AllocError);
+    if has_field(types, t, number) {
+        return Ok(offset(types, t, &[number]));
     }
-    Ok(offset(types, t, &[number]))
+    Err(AllocError)
 }
 
 // The number of the first procedure, behind the bodies of so many modules and object types.

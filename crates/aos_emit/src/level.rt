@@ -80,6 +80,9 @@ fn stat_level(statement: &TStat, around: u32) -> Result<u32, AllocError>
         TStat::Perform(_, _, _, _) => Ok(around),
         TStat::Return(_, _) => Ok(around),
         TStat::New(_, _, _) => Ok(around),
+        TStat::Make(_, _, _, _) => Ok(around),
+        TStat::With(_, _, body) => stats_level(body, around),
+        TStat::WithRecord(_, _, body) => stats_level(body, around),
         TStat::Out(_, _) => Ok(around),
     }
 }

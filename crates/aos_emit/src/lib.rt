@@ -6,6 +6,7 @@ mod image;
 mod laid;
 mod level;
 mod need;
+mod objects;
 mod scope;
 mod search;
 mod stats;

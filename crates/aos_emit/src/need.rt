@@ -1,6 +1,6 @@
 // How many operands code has at most.
 
-ghost use Rattle.std.specs.Prelude.{◌≡◌, ◌+◌, max, IfOk};
+ghost use Rattle.std.specs.Prelude.{◌≡◌, ◌+◌, map, max, IfOk};
 ghost use Rattle.aos_typed.specs.Seen.{seen_place, seen_rows, seen_argument, seen_list, seen_expr, seen_call, seen_stat, seen_stats, seen_else, arms_of, cases_of};
 ghost use Rattle.aos_typed.specs.Program.{Arguments};
 ghost use Rattle.aos_sim.specs.Need as need_of;
@@ -32,6 +32,9 @@ fn place_need(place: &TPlace) -> Result<u32, AllocError>
             TPlace::Local(_) => return Ok(need.max(1)),
             TPlace::Passed(_) => return Ok(need.max(1)),
             TPlace::Of(rows) => return Ok(need.max(rows_need(rows)?)),
+            TPlace::Deref(object, _) => return Ok(need.max(value_need(object)?)),
+            TPlace::Typed(whole, _) => rest = whole,
+            TPlace::Guarded(whole, _) => rest = whole,
             TPlace::Field(whole, _, _) => rest = whole,
             TPlace::Index(whole, _, _, index) => {
                 need = need.max(above(1, value_need(index)?)?);
@@ -59,6 +62,10 @@ fn rows_need(rows: &TRows) -> Result<u32, AllocError>
                 let below = above(1, dimensions(whole)?)?;
                 need = need.max(above(below, value_need(index)?)?);
                 rest = whole;
+            }
+            TRows::Spread(object, count) => {
+                need = need.max(above(1, *count)?);
+                return Ok(need.max(value_need(object)?));
             }
             TRows::Longer(whole, lengths) => {
                 let below = above(1, dimensions(whole)?)?;
@@ -146,6 +153,13 @@ fn value_need(value: &TExpr) -> Result<u32, AllocError>
             }
             TExpr::Ord(operand) => rest = operand,
             TExpr::Chr(operand) => rest = operand,
+            TExpr::Same(left, right) => {
+                need = need.max(above(1, value_need(right)?)?);
+                rest = left;
+            }
+            TExpr::Is(operand, _) => rest = operand,
+            TExpr::IsRecord(place, _) => return Ok(need.max(place_need(place)?)),
+            TExpr::Guard(operand, _) => rest = operand,
         }
     }
 }
@@ -194,6 +208,30 @@ fn changed_need(change: Change, place: &TPlace, value: &TExpr) -> Result<u32, Al
         Change::Include => Ok(need.max(4)),
         Change::Exclude => Ok(need.max(4)),
     }
+}
+
+// Values one above the other.
+#[tactic(auto, using(crate::proofs::Made::values_more))]
+fn values_need(values: &[TExpr]) -> Result<u32, AllocError>
+    ensures { IfOk result (λ n. n ≡ need_of.values_need (map seen_expr values.now)) }
+{
+    let mut need = 0;
+    let mut left = values.len();
+    while left > 0 {
+        left -= 1;
+        let value = value_need(&values[left])?;
+        need = value.max(above(1, need)?);
+    }
+    Ok(need)
+}
+
+// The place that an object is stored at lies below its lengths, and below the object.
+fn make_need(place: &TPlace, lengths: &[TExpr]) -> Result<u32, AllocError>
+    ensures { IfOk result (λ n. n ≡
+        max (need_of.place_need (seen_place place.now)) (1 + max 1 (need_of.values_need (map seen_expr lengths.now)))) }
+{
+    let made = above(1, values_need(lengths)?.max(1))?;
+    Ok(made.max(place_need(place)?))
 }
 
 // FOR without its statements: its last value, its first one, the test and the step.
@@ -279,6 +317,15 @@ fn stat_need(statement: &TStat) -> Result<u32, AllocError>
         TStat::Return(_, None) => Ok(0),
         TStat::Return(_, Some(value)) => value_need(value),
         TStat::New(_, place, _) => above(2, place_need(place)?),
+        TStat::Make(_, place, _, lengths) => make_need(place, lengths),
+        TStat::With(_, object, body) => {
+            let guarded = value_need(object)?;
+            Ok(guarded.max(stats_need(body)?))
+        }
+        TStat::WithRecord(_, place, body) => {
+            let guarded = place_need(place)?;
+            Ok(guarded.max(stats_need(body)?))
+        }
         TStat::Out(_, call) => out_need(call),
     }
 }

@@ -3,21 +3,22 @@
 
 ghost use Rattle.std.specs.Prelude.{◌≡◌, ◌+◌, ◌≤◌, [], ◌∷◌, ◌++◌, length, option_map, OnOk, IfOk};
 ghost use Rattle.aos_typed.specs.Meaning as meaning;
-ghost use Rattle.aos_typed.specs.Program.{Read, Copy, PutText, Perform, Return, If, Case, While, Repeat, Loop, Block, Assert};
+ghost use Rattle.aos_typed.specs.Program.{Read, Copy, PutText, Perform, Return, If, Case, While, Repeat, Loop, Block, With, WithRecord, Assert};
 ghost use Rattle.aos_typed.specs.Seen.{seen_place, seen_rows, seen_list, seen_expr, seen_call, seen_stat, seen_stats, seen_else, arms_of, cases_of};
 ghost use Rattle.aos_emit.specs.Redirect.{pending_exit, pending_end, redirect_behind, redirect as redirection};
 ghost use Rattle.aos_emit.specs.Scope.{program_of, own_of};
 ghost use Rattle.aos_emit.specs.Places.{places_from};
 ghost use Rattle.aos_sim.specs.Need.{body_need};
 ghost use Rattle.aos_sim.specs.Search.{arms_in, search_of, search_size, search_code};
-ghost use Rattle.aos_sim.specs.Code.{begin, value_code, out_code, new_code, assign_code, change_code, changed_code, for_head, step_code, rounds_code, arm_code, stat_code, stats_code, arms_code, cases_code, arm_place, end_code, body_code};
+ghost use Rattle.aos_sim.specs.Code.{begin, value_code, out_code, assign_code, change_code, changed_code, for_head, step_code, rounds_code, arm_code, stat_code, stats_code, arms_code, cases_code, arm_place, end_code, body_code};
 
 use crate::emit::{
-    PENDING_END, cell_kind, emit_arguments, emit_place, emit_rows, emit_value, next_place,
-    number_of, put,
+    PENDING_END, cell_kind, emit_arguments, emit_begin, emit_place, emit_rows, emit_value,
+    next_place, number_of, put,
 };
 use crate::level::deeper;
 use crate::need::stats_need;
+use crate::objects::{emit_make, emit_new, emit_object, emit_record};
 use crate::scope::Scope;
 use crate::search::{put_search, rows_of, set_places};
 use aos_base::{Binary, Pos, Relation, Width};
@@ -50,12 +51,6 @@ fn redirect(code: &mut Vec<Instr>, from: usize, pending: u32, to: u32)
         code[at] = redirect_one(code[at], pending, to);
         at += 1;
     }
-}
-
-fn emit_begin(code: &mut Vec<Instr>, at: Pos) -> Result<(), AllocError>
-    ensures { OnOk result (code.new.items ≡ code.old.items ++ begin at ∷ []) }
-{
-    put(code, Instr::Begin(at.line, at.col))
 }
 
 // A call of a procedure of module Out.
@@ -99,30 +94,6 @@ fn emit_out(
 {
     emit_begin(code, at)?;
     put_out(alloc, scope, code, call)
-}
-
-// The object is stored before its activity is started. One whose number doesn't fit is in no program: there is no memory for it.
-fn emit_new(
-    alloc: Global,
-    scope: &Scope<'_>,
-    code: &mut Vec<Instr>,
-    at: Pos,
-    place: &TPlace,
-    object: u32,
-) -> Result<(), AllocError>
-    ensures { OnOk result (code.new.items ≡ code.old.items ++
-        begin at ∷ new_code (program_of scope.now) (own_of scope.now) (seen_place place.now) object (length code.old.items + 1)) }
-{
-    let Some(number) = object.checked_add(1) else {
-        return Err(AllocError);
-    };
-    emit_begin(code, at)?;
-    put(code, Instr::NewObject(number))?;
-    put(code, Instr::Dup)?;
-    emit_place(alloc, scope, code, place)?;
-    put(code, Instr::Swap)?;
-    put(code, Instr::Store(Kind::R))?;
-    put(code, Instr::Start)
 }
 
 fn emit_assign(
@@ -445,6 +416,44 @@ fn emit_block(
     emit_stats(alloc, scope, code, body, level)
 }
 
+// WITH of an object, which is guarded first.
+#[cycle(emit_stat)]
+fn emit_with(
+    alloc: Global,
+    scope: &Scope<'_>,
+    code: &mut Vec<Instr>,
+    at: Pos,
+    object: &TExpr,
+    body: &[TStat],
+    level: u32,
+) -> Result<(), AllocError>
+    ensures { OnOk result (code.new.items ≡ code.old.items ++
+        stat_code (program_of scope.now) (own_of scope.now) (With at (seen_expr object.now) (seen_stats body.now))
+        (length code.old.items) pending_exit level) }
+{
+    emit_object(alloc, scope, code, at, object)?;
+    emit_stats(alloc, scope, code, body, level)
+}
+
+// WITH of a record, which is guarded first.
+#[cycle(emit_stat)]
+fn emit_with_record(
+    alloc: Global,
+    scope: &Scope<'_>,
+    code: &mut Vec<Instr>,
+    at: Pos,
+    place: &TPlace,
+    body: &[TStat],
+    level: u32,
+) -> Result<(), AllocError>
+    ensures { OnOk result (code.new.items ≡ code.old.items ++
+        stat_code (program_of scope.now) (own_of scope.now) (WithRecord at (seen_place place.now) (seen_stats body.now))
+        (length code.old.items) pending_exit level) }
+{
+    emit_record(alloc, scope, code, at, place)?;
+    emit_stats(alloc, scope, code, body, level)
+}
+
 #[cycle(emit_stat)]
 fn emit_repeat(
     alloc: Global,
@@ -720,6 +729,13 @@ fn emit_stat(
         }
         TStat::Return(at, value) => emit_return(alloc, scope, code, *at, value),
         TStat::New(at, place, object) => emit_new(alloc, scope, code, *at, place, *object),
+        TStat::Make(at, place, of, lengths) => {
+            emit_make(alloc, scope, code, *at, place, *of, lengths)
+        }
+        TStat::With(at, object, body) => emit_with(alloc, scope, code, *at, object, body, level),
+        TStat::WithRecord(at, place, body) => {
+            emit_with_record(alloc, scope, code, *at, place, body, level)
+        }
         TStat::Out(at, call) => emit_out(alloc, scope, code, *at, call),
     }
 }

@@ -33,6 +33,9 @@ decreases-emit_place_back l = 8 * place_size (seen_place l.place.now)
 abbrev pub decreases-emit_rows_back : goal.decreases-emit_rows_back
 decreases-emit_rows_back l = 8 * rows_size (seen_rows l.rows.now)
 
+abbrev pub decreases-emit_object_back : goal.decreases-emit_object_back
+decreases-emit_object_back l = 8 * value_size (seen_expr l.object.now) + 1
+
 abbrev pub decreases-emit_read_back : goal.decreases-emit_read_back
 decreases-emit_read_back l = 8 * place_size (seen_place l.place.now) + 1
 

@@ -1,17 +1,28 @@
-use Rattle.std.proofs.Common.{suc, map, sym, ap, ◌∙◌}
+use Rattle.std.proofs.Common.{sym, subst}
 use Rattle.std.proofs.lemmas.List.{length-map}
-use Rattle.aos_typed.specs.Seen.{seen_program, seen_module, seen_object}
-use Rattle.aos_sim.specs.Shows.{numbers_from}
+use Rattle.aos_typed.specs.Seen.{seen_program, seen_object}
+use Rattle.aos_emit.specs.Made.{AreTypesOf}
+use Rattle.aos_emit.proofs.Described.{bodies_are, bases_are}
 use Rattle.aos_emit.proofs.image.image_of.Goals as goal
 
 pub returns-clause-code : goal.returns-clause-code
 returns-clause-code c =
     let p = seen_program c.args.program.now in
-    let ms = c.args.program.now.modules.items in
     let modules = c.in_ok-modules.ensures in
     let made = c.in_ok-shapes.ensures in
-    let types = c.in_ok-types.ensures ∙ (λ i. numbers_from (suc ((c.len.ensures ∙ c.args.program.now.modules.ok.0) i)) (map seen_object (c.deref.ensures.value i))) ∙ ap (λ n. numbers_from (suc n) p.objects) (sym (length-map ms seen_module)) in
-    record { bodies = made.bodies; shapes = made.shapes; starts = modules.starts; types = types; cells = modules.cells; names = modules.names; few = c.in_ok-laid.ensures.narrow }
+    let ts = c.in_ok-types.types.items in
+    let types = subst (λ n. AreTypesOf p n ts) (sym (length-map c.args.program.now.objects.items seen_object)) c.in_ok-types.ensures in
+    record {
+      bodies = made.bodies;
+      shapes = made.shapes;
+      starts = modules.starts;
+      types = bodies_are p ts types;
+      bases = bases_are p ts types c.requires.typed.beside;
+      kinds = types.kinds;
+      cells = modules.cells;
+      names = modules.names;
+      few = c.in_ok-laid.ensures.narrow;
+    }
 
 pub returns-clause-depths : goal.returns-clause-depths
 returns-clause-depths c = c.in_ok-shapes.ensures.depths

@@ -1,7 +1,7 @@
 use Rattle.std.proofs.Common.{suc, max, refl, sym, ap, ◌∙◌, subst, rules}
 use Rattle.std.specs.Prelude.{◌≡◌, IfOk}
 use Rattle.aos_typed.specs.Seen.{seen_stat, seen_stats, seen_else, arms_of, cases_of}
-use Rattle.aos_typed.proofs.Seen.{if_seen, case_seen, while_seen, repeat_seen, loop_seen, for_seen, block_seen}
+use Rattle.aos_typed.proofs.Seen.{if_seen, case_seen, while_seen, repeat_seen, loop_seen, for_seen, block_seen, with_seen, with_record_seen}
 use Rattle.aos_sim.specs.Need.{stat_level, stats_level, arms_level, cases_level}
 use Rattle.aos_emit.proofs.Heights.{within, arms_within, cases_within}
 use Rattle.aos_emit.proofs.level.+stat_level.Goals as goal
@@ -46,6 +46,18 @@ pub stat_level-stats_level-requires-in-Block : goal.stat_level-stats_level-requi
 stat_level-stats_level-requires-in-Block t c =
     let x = c.in-Block in
     let less = within _ _ _ _ (ap seen_stat x.is ∙ block_seen x.field-0 x.body) refl c.deref-in-Block.ensures.value in
+    search (rules, less)
+
+pub stat_level-stats_level-requires-in-With : goal.stat_level-stats_level-requires-in-With
+stat_level-stats_level-requires-in-With t c =
+    let x = c.in-With in
+    let less = within _ _ _ _ (ap seen_stat x.is ∙ with_seen x.field-0 x.field-1 x.body) refl c.deref-in-With.ensures.value in
+    search (rules, less)
+
+pub stat_level-stats_level-requires-in-WithRecord : goal.stat_level-stats_level-requires-in-WithRecord
+stat_level-stats_level-requires-in-WithRecord t c =
+    let x = c.in-WithRecord in
+    let less = within _ _ _ _ (ap seen_stat x.is ∙ with_record_seen x.field-0 x.field-1 x.body) refl c.deref-in-WithRecord.ensures.value in
     search (rules, less)
 
 pub stat_level-returns-in-If : goal.stat_level-returns-in-If
@@ -99,3 +111,17 @@ stat_level-returns-in-Block t c =
     let d = c.args.around in
     let all = ap (λ l. stats_level (seen_stats l) d) c.deref-in-Block.ensures.value ∙ sym (ap (λ s. stat_level s d) (ap seen_stat x.is ∙ block_seen x.field-0 x.body)) in
     subst (λ m. IfOk c.stats_level-in-Block.result (λ n. n ≡ m)) all c.stats_level-in-Block.ensures
+
+pub stat_level-returns-in-With : goal.stat_level-returns-in-With
+stat_level-returns-in-With t c =
+    let x = c.in-With in
+    let d = c.args.around in
+    let all = ap (λ l. stats_level (seen_stats l) d) c.deref-in-With.ensures.value ∙ sym (ap (λ s. stat_level s d) (ap seen_stat x.is ∙ with_seen x.field-0 x.field-1 x.body)) in
+    subst (λ m. IfOk c.stats_level-in-With.result (λ n. n ≡ m)) all c.stats_level-in-With.ensures
+
+pub stat_level-returns-in-WithRecord : goal.stat_level-returns-in-WithRecord
+stat_level-returns-in-WithRecord t c =
+    let x = c.in-WithRecord in
+    let d = c.args.around in
+    let all = ap (λ l. stats_level (seen_stats l) d) c.deref-in-WithRecord.ensures.value ∙ sym (ap (λ s. stat_level s d) (ap seen_stat x.is ∙ with_record_seen x.field-0 x.field-1 x.body)) in
+    subst (λ m. IfOk c.stats_level-in-WithRecord.result (λ n. n ≡ m)) all c.stats_level-in-WithRecord.ensures

@@ -1,7 +1,7 @@
 use Rattle.std.proofs.Common.{max, refl, sym, ap, ◌∙◌, subst, arith, rules}
 use Rattle.std.specs.Prelude.{◌≡◌, IfOk}
 use Rattle.aos_typed.specs.Seen.{seen_expr, seen_stat, seen_stats, seen_else, arms_of, cases_of}
-use Rattle.aos_typed.proofs.Seen.{if_seen, case_seen, while_seen, repeat_seen, loop_seen, for_seen, block_seen}
+use Rattle.aos_typed.proofs.Seen.{if_seen, case_seen, while_seen, repeat_seen, loop_seen, for_seen, block_seen, with_seen, with_record_seen}
 use Rattle.aos_sim.specs.Need.{value_need, stat_need, stats_need, arms_need, cases_need}
 use Rattle.aos_emit.proofs.Heights.{within, arms_within, cases_within}
 use Rattle.aos_emit.proofs.need.+stat_need.Goals as goal
@@ -46,6 +46,18 @@ pub stat_need-stats_need-requires-in-Block : goal.stat_need-stats_need-requires-
 stat_need-stats_need-requires-in-Block t c =
     let x = c.in-Block in
     let less = within _ _ _ _ (ap seen_stat x.is ∙ block_seen x.field-0 x.body) refl c.deref-in-Block.ensures.value in
+    search (rules, less)
+
+pub stat_need-stats_need-requires-in-With : goal.stat_need-stats_need-requires-in-With
+stat_need-stats_need-requires-in-With t c =
+    let x = c.in-With in
+    let less = within _ _ _ _ (ap seen_stat x.is ∙ with_seen x.field-0 x.object x.body) refl c.deref-in-With.ensures.value in
+    search (rules, less)
+
+pub stat_need-stats_need-requires-in-WithRecord : goal.stat_need-stats_need-requires-in-WithRecord
+stat_need-stats_need-requires-in-WithRecord t c =
+    let x = c.in-WithRecord in
+    let less = within _ _ _ _ (ap seen_stat x.is ∙ with_record_seen x.field-0 x.place x.body) refl c.deref-in-WithRecord.ensures.value in
     search (rules, less)
 
 pub stat_need-returns-in-If : goal.stat_need-returns-in-If
@@ -95,3 +107,17 @@ stat_need-returns-in-Block t c =
     let x = c.in-Block in
     let all = ap (λ l. stats_need (seen_stats l)) c.deref-in-Block.ensures.value ∙ sym (ap stat_need (ap seen_stat x.is ∙ block_seen x.field-0 x.body)) in
     subst (λ m. IfOk c.stats_need-in-Block.result (λ n. n ≡ m)) all c.stats_need-in-Block.ensures
+
+pub stat_need-returns-in_ok-stats_need-in-With : goal.stat_need-returns-in_ok-stats_need-in-With
+stat_need-returns-in_ok-stats_need-in-With t c =
+    let x = c.in-With in
+    let whole = sym (ap stat_need (ap seen_stat x.is ∙ with_seen x.field-0 x.object x.body)) in
+    let body = c.in_ok-stats_need-in-With.ensures ∙ ap (λ l. stats_need (seen_stats l)) c.deref-in-With.ensures.value in
+    omega (arith, c.max-in-With.ensures, c.in_ok-guarded-in-With.ensures, body, whole)
+
+pub stat_need-returns-in_ok-stats_need-in-WithRecord : goal.stat_need-returns-in_ok-stats_need-in-WithRecord
+stat_need-returns-in_ok-stats_need-in-WithRecord t c =
+    let x = c.in-WithRecord in
+    let whole = sym (ap stat_need (ap seen_stat x.is ∙ with_record_seen x.field-0 x.place x.body)) in
+    let body = c.in_ok-stats_need-in-WithRecord.ensures ∙ ap (λ l. stats_need (seen_stats l)) c.deref-in-WithRecord.ensures.value in
+    omega (arith, c.max-in-WithRecord.ensures, c.in_ok-guarded-in-WithRecord.ensures, body, whole)

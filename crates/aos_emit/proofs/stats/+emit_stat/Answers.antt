@@ -1,4 +1,4 @@
-use Rattle.std.proofs.Common.{◌≡◌, ℕ, suc, ◌+◌, ◌*◌, ◌<◌, ◌-◌, List, [], ◌∷◌, ◌++◌, length, map, take, drop, refl, sym, ap, ◌∙◌, rules, arith, append_assoc, length-append}
+use Rattle.std.proofs.Common.{◌≡◌, ℕ, suc, ◌+◌, ◌<◌, ◌-◌, List, [], ◌∷◌, ◌++◌, length, map, take, drop, refl, sym, ap, ◌∙◌, rules, arith, append_assoc, length-append}
 use Rattle.std.proofs.lemmas.Result.{on_ok_weaker}
 use Rattle.std.proofs.lemmas.List.{drop_more, drop_all}
 use Rattle.aos_base.specs.declared.operator.Binary.TheVariants.{Cmp}
@@ -7,18 +7,18 @@ use Rattle.aos_code.specs.declared.instr.Instr.TheVariants as i
 use Rattle.aos_code.specs.declared.instr.Kind.TheVariants.{N}
 use Rattle.aos_typed.specs.declared.tree.TType.TheVariants.{Integer}
 use Rattle.aos_typed.specs.Meaning.{until}
-use Rattle.aos_typed.specs.Program.{OfLabels, Read, If, Case, While, Repeat, Loop, For, Block}
+use Rattle.aos_typed.specs.Program.{OfLabels, Read, If, Case, While, Repeat, Loop, For, Block, With, WithRecord}
 use Rattle.aos_typed.specs.declared.tree.TCase.{out-TCase}
 use Rattle.aos_typed.specs.Seen.{seen_place, seen_expr, seen_stat, seen_stats, seen_else, arms_of, cases_of}
-use Rattle.aos_typed.proofs.Seen.{if_seen, case_seen, while_seen, repeat_seen, loop_seen, for_seen, block_seen}
+use Rattle.aos_typed.proofs.Seen.{if_seen, case_seen, while_seen, repeat_seen, loop_seen, for_seen, block_seen, with_seen, with_record_seen}
 use Rattle.aos_sim.specs.Search.{arms_in, in_order, search_of, search_size, search_code}
-use Rattle.aos_sim.specs.Code.{begin, value_code, arm_code, step_code, for_head, rounds_code, stats_code, arms_code, cases_code, arm_place}
+use Rattle.aos_sim.specs.Code.{begin, place_code, value_code, arm_code, step_code, for_head, rounds_code, stats_code, arms_code, cases_code, arm_place}
 use Rattle.aos_sim.proofs.Sizes.{stats_length, arms_length}
 use Rattle.aos_emit.specs.Scope.{program_of, own_of}
 use Rattle.aos_emit.specs.Places.{places_from, place_in, led}
 use Rattle.aos_emit.specs.Redirect.{pending_exit, pending_end}
 use Rattle.aos_emit.proofs.Heights.{within, arms_within, cases_within}
-use Rattle.aos_emit.proofs.Patch.{followed, choice_more, place_more, patched, ended, round_is, emitted}
+use Rattle.aos_emit.proofs.Patch.{followed, guarded, choice_more, place_more, patched, ended, round_is, emitted}
 use Rattle.aos_emit.proofs.Pending.{exit_known, arms_known}
 use Rattle.aos_emit.proofs.Searches.{else_rows, else_arms, else_place, searched}
 use Rattle.aos_emit.proofs.stats.+emit_stat.Goals as goal
@@ -65,6 +65,18 @@ emit_stat-emit_block-requires t c =
     let less = within _ _ _ _ (ap seen_stat x.is ∙ block_seen x.at x.body) refl c.deref-in-Block.ensures.value in
     search (rules, less)
 
+pub emit_stat-emit_with-requires : goal.emit_stat-emit_with-requires
+emit_stat-emit_with-requires t c =
+    let x = c.in-With in
+    let less = within _ _ _ _ (ap seen_stat x.is ∙ with_seen x.at x.object x.body) refl c.deref-in-With.ensures.value in
+    search (rules, less)
+
+pub emit_stat-emit_with_record-requires : goal.emit_stat-emit_with_record-requires
+emit_stat-emit_with_record-requires t c =
+    let x = c.in-WithRecord in
+    let less = within _ _ _ _ (ap seen_stat x.is ∙ with_record_seen x.at x.place x.body) refl c.deref-in-WithRecord.ensures.value in
+    search (rules, less)
+
 pub emit_stat-returns-in-If : goal.emit_stat-returns-in-If
 emit_stat-returns-in-If t c =
     let x = c.in-If in
@@ -94,6 +106,16 @@ pub emit_stat-returns-in-Block : goal.emit_stat-returns-in-Block
 emit_stat-returns-in-Block t c =
     let x = c.in-Block in
     on_ok_weaker c.emit_block.result (emitted (program_of c.args.scope.now) (own_of c.args.scope.now) c.args.code.now.items _ c.args.level _ _ _ (ap (λ l. Block x.at (seen_stats l)) c.deref-in-Block.ensures.value) (ap seen_stat x.is ∙ block_seen x.at x.body)) c.emit_block.ensures
+
+pub emit_stat-returns-in-With : goal.emit_stat-returns-in-With
+emit_stat-returns-in-With t c =
+    let x = c.in-With in
+    on_ok_weaker c.emit_with.result (emitted (program_of c.args.scope.now) (own_of c.args.scope.now) c.args.code.now.items _ c.args.level _ _ _ (ap (λ l. With x.at (seen_expr x.object) (seen_stats l)) c.deref-in-With.ensures.value) (ap seen_stat x.is ∙ with_seen x.at x.object x.body)) c.emit_with.ensures
+
+pub emit_stat-returns-in-WithRecord : goal.emit_stat-returns-in-WithRecord
+emit_stat-returns-in-WithRecord t c =
+    let x = c.in-WithRecord in
+    on_ok_weaker c.emit_with_record.result (emitted (program_of c.args.scope.now) (own_of c.args.scope.now) c.args.code.now.items _ c.args.level _ _ _ (ap (λ l. WithRecord x.at (seen_place x.place) (seen_stats l)) c.deref-in-WithRecord.ensures.value) (ap seen_stat x.is ∙ with_record_seen x.at x.place x.body)) c.emit_with_record.ensures
 
 pub emit_stat-returns-in_ok-emit_head-in-For : goal.emit_stat-returns-in_ok-emit_head-in-For
 emit_stat-returns-in_ok-emit_head-in-For t c =
@@ -136,6 +158,22 @@ emit_while-returns t c =
 pub emit_block-returns : goal.emit_block-returns
 emit_block-returns t c =
     on_ok_weaker c.emit_stats.result (followed c.args.code.now.items _ _ (begin c.args.at ∷ []) (λ n. stats_code (program_of c.args.scope.now) (own_of c.args.scope.now) (seen_stats c.args.body.now) n pending_exit c.args.level) c.in_ok-emit_begin.ensures) c.emit_stats.ensures
+
+pub emit_with-returns : goal.emit_with-returns
+emit_with-returns t c =
+    let base = c.args.code.now.items in
+    let p = program_of c.args.scope.now in
+    let own = own_of c.args.scope.now in
+    let guard = value_code p own (seen_expr c.args.object.now) (length base + 1) in
+    on_ok_weaker c.emit_stats.result (guarded base _ _ (begin c.args.at) guard i.Drop (λ n. stats_code p own (seen_stats c.args.body.now) n pending_exit c.args.level) c.in_ok-emit_object.ensures) c.emit_stats.ensures
+
+pub emit_with_record-returns : goal.emit_with_record-returns
+emit_with_record-returns t c =
+    let base = c.args.code.now.items in
+    let p = program_of c.args.scope.now in
+    let own = own_of c.args.scope.now in
+    let guard = place_code p own (seen_place c.args.place.now) (length base + 1) in
+    on_ok_weaker c.emit_stats.result (guarded base _ _ (begin c.args.at) guard i.Drop (λ n. stats_code p own (seen_stats c.args.body.now) n pending_exit c.args.level) c.in_ok-emit_record.ensures) c.emit_stats.ensures
 
 pub emit_repeat-returns : goal.emit_repeat-returns
 emit_repeat-returns t c =

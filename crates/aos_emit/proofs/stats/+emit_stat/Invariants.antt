@@ -35,6 +35,12 @@ decreases-emit_while l = 5 * heights (seen_stats l.body.now) + 3
 abbrev pub decreases-emit_block : goal.decreases-emit_block
 decreases-emit_block l = 5 * heights (seen_stats l.body.now) + 2
 
+abbrev pub decreases-emit_with : goal.decreases-emit_with
+decreases-emit_with l = 5 * heights (seen_stats l.body.now) + 2
+
+abbrev pub decreases-emit_with_record : goal.decreases-emit_with_record
+decreases-emit_with_record l = 5 * heights (seen_stats l.body.now) + 2
+
 abbrev pub decreases-emit_repeat : goal.decreases-emit_repeat
 decreases-emit_repeat l = 5 * heights (seen_stats l.body.now) + 2
 
