@@ -1,5 +1,6 @@
 -- Types and fields as they are written, form by form.
-use Rattle.std.proofs.Common.{◌≡◌, List, [], ◌∷◌, ◌++◌, length, Option, Some, None, is_some, false, ◌==◌, refl, ap, ◌∙◌, append-nil}
+use Rattle.std.proofs.Common.{◌≡◌, suc, List, [], ◌∷◌, ◌++◌, length, Option, Some, None, Bool, true, false, ◌&&◌, ◌==◌, refl, ap, ◌∙◌, arith, append-nil}
+use Rattle.std.proofs.lemmas.Bool.Decides.{nat_tests}
 use denote.Hole.Carrier.{hidden}
 use Rattle.aos_base.specs.declared.text.Pos.{Pos}
 use Rattle.aos_tree.specs.declared.name.Qualident.{Qualident}
@@ -9,12 +10,11 @@ use Rattle.aos_tree.specs.declared.decl.Decl.TheBlock.{hidden-the_row-TypeExpr-3
 use Rattle.aos_tree.specs.declared.decl.TypeExpr.{TypeExpr, Row_of-Fields, end_of-Fields, more_of-Fields, items-the_row-Fields, items_hidden-the_row-Fields-4}
 use Rattle.aos_tree.specs.declared.decl.TypeExpr.TheVariants as type
 use Rattle.aos_types.specs.declared.row.TypeId.{TypeId}
-use Rattle.aos_types.specs.declared.row.TypeRow.TheVariants as row
 use Rattle.aos_symbols.specs.declared.breach.Breach.{Breach}
 use Rattle.aos_symbols.specs.declared.env.Env.{Env}
 use Rattle.aos_symbols.specs.Scope.{empty}
-use Rattle.aos_symbols.specs.Judged.{Judged, judged, walk}
-use Rattle.aos_check_decl.specs.Types.{Met, FieldsMet, fields_met, placed, with_record, arrays, lengths_of, type_in, held_in, fields_in, field_in, array_in, record_in}
+use Rattle.aos_symbols.specs.Judged.{Judged, judged, kept, bind, walk}
+use Rattle.aos_check_decl.specs.Types.{FieldsMet, fields_met, is_empty, arrays, lengths_of, open_of, open_in, type_in, held_in, pointer_in, target_breaches, pointer_to, fields_in, field_in, field_names, array_in, record_in, record_of}
 
 -- the fields of a record, as a row and as a list
 fields_row : (n : _) (f : FieldsMet) (r : Row_of-Fields n) → fields_in f r ≡ walk field_in f (items-the_row-Fields n r)
@@ -22,42 +22,55 @@ fields_row _ f end_of-Fields = refl
 fields_row _ f (more_of-Fields x xs) =
     ap (λ (w : Judged FieldsMet). judged ((field_in f x).breaches ++ w.breaches) w.answer) (fields_row _ (field_in f x).answer xs)
 
--- the type within an array
-held : (e : Env) (t : TypeExpr) → held_in e (hidden-the_row-TypeExpr-3 t) ≡ type_in None e t
+-- the type within an array, and that to which a pointer leads
+held : (may_be_open : Bool) (e : Env) (t : TypeExpr) → held_in may_be_open e (hidden-the_row-TypeExpr-3 t) ≡ type_in may_be_open None e t
 unfolding hidden-the_row-TypeExpr-3 shape-the_row-TypeExpr-3 hidden
-held e t = refl
+held may_be_open e t = refl
+
+led : (slot : Option TypeId) (e : Env) (p : Pos) (t : TypeExpr) → pointer_in slot e p (hidden-the_row-TypeExpr-3 t)
+    ≡ bind (bind (judged (target_breaches t) e) (λ e. type_in true None e t)) (λ m. kept (pointer_to slot p t m))
+unfolding hidden-the_row-TypeExpr-3 shape-the_row-TypeExpr-3 hidden
+led slot e p t = refl
 
 -- an array with at least one length
-pub array_met : (slot : Option TypeId) (e : Env) (t : TypeExpr) (p : Pos) (ls : List Expr) (element : TypeExpr) → t ≡ type.Array p ls element → (length ls == 0) ≡ false →
-    type_in slot e t
-    ≡ judged ((lengths_of e ls).breaches ++ (type_in None e element).breaches) (arrays slot p (lengths_of e ls).answer (type_in None e element).answer)
-array_met slot e t p ls element is some = ap (type_in slot e) is ∙ ap (λ j. array_in slot e p ls j) (held e element) ∙ by ls some
+pub array_met : (may_be_open : Bool) (slot : Option TypeId) (e : Env) (t : TypeExpr) (p : Pos) (ls : List Expr) (element : TypeExpr) → t ≡ type.Array p ls element → (length ls == 0) ≡ false →
+    type_in may_be_open slot e t
+    ≡ judged ((lengths_of e ls).breaches ++ (type_in false None e element).breaches) (arrays slot p (lengths_of e ls).answer (type_in false None e element).answer)
+array_met may_be_open slot e t p ls element is some = ap (type_in may_be_open slot e) is ∙ ap (λ j. array_in may_be_open slot e p ls j) (held (may_be_open && is_empty ls) e element) ∙ by may_be_open ls some
   where
-    by : (ls : List Expr) → (length ls == 0) ≡ false → array_in slot e p ls (type_in None e element)
-        ≡ judged ((lengths_of e ls).breaches ++ (type_in None e element).breaches) (arrays slot p (lengths_of e ls).answer (type_in None e element).answer)
-    by [] none = absurd (cc)
-    by (l ∷ ls) some =
-        ap (λ (bs : List Breach). judged ((lengths_of e (l ∷ ls)).breaches ++ bs) (arrays slot p (lengths_of e (l ∷ ls)).answer (type_in None e element).answer))
-        (append-nil (type_in None e element).breaches)
+    lengths : (may_be_open : Bool) (l : Expr) (ls : List Expr) → array_in may_be_open slot e p (l ∷ ls) (type_in false None e element)
+        ≡ judged ((lengths_of e (l ∷ ls)).breaches ++ (type_in false None e element).breaches) (arrays slot p (lengths_of e (l ∷ ls)).answer (type_in false None e element).answer)
+    lengths may_be_open l ls =
+        ap (λ (bs : List Breach). judged ((lengths_of e (l ∷ ls)).breaches ++ bs) (arrays slot p (lengths_of e (l ∷ ls)).answer (type_in false None e element).answer))
+        (append-nil (type_in false None e element).breaches)
 
--- a record of these fields
-abbrev pub record_of : Option TypeId → Pos → FieldsMet → Met
-record_of slot p f = with_record f.scope (placed slot p (row.Record None f.types) f.env)
+    by : (may_be_open : Bool) (ls : List Expr) → (length ls == 0) ≡ false → array_in may_be_open slot e p ls (type_in (may_be_open && is_empty ls) None e element)
+        ≡ judged ((lengths_of e ls).breaches ++ (type_in false None e element).breaches) (arrays slot p (lengths_of e ls).answer (type_in false None e element).answer)
+    by may_be_open [] none = absurd (cc)
+    by true (l ∷ ls) some = lengths true l ls
+    by false (l ∷ ls) some = lengths false l ls
 
--- a record without a base
-pub record_met : (slot : Option TypeId) (e : Env) (t : TypeExpr) (p : Pos) (base : Option Qualident) (fs : List Fields) → t ≡ type.Record p base fs → is_some base ≡ false →
-    type_in slot e t
-    ≡ judged (walk field_in (fields_met e [] empty) fs).breaches
-    (record_of slot p (walk field_in (fields_met e [] empty) fs).answer)
-record_met slot e t p base fs is none =
-    ap (type_in slot e) is
-    ∙ ap (λ j. record_in slot e p base j) (fields_row _ (fields_met e [] empty) (hidden-the_row-Fields-4 fs) ∙ ap (λ xs. walk field_in (fields_met e [] empty) xs) (items_hidden-the_row-Fields-4 fs))
-    ∙ by base none
+-- an open array, where one may stand
+pub open_met : (slot : Option TypeId) (e : Env) (t : TypeExpr) (p : Pos) (ls : List Expr) (element : TypeExpr) → t ≡ type.Array p ls element → (length ls == 0) ≡ true →
+    type_in true slot e t ≡ judged (type_in true None e element).breaches (open_of slot p (type_in true None e element).answer)
+open_met slot e t p ls element is none = ap (type_in true slot e) is ∙ ap (λ j. array_in true slot e p ls j) (held (is_empty ls) e element) ∙ by ls none
   where
-    by : (base : Option Qualident) → is_some base ≡ false → record_in slot e p base (walk field_in (fields_met e [] empty) fs)
-        ≡ judged (walk field_in (fields_met e [] empty) fs).breaches
-        (record_of slot p (walk field_in (fields_met e [] empty) fs).answer)
-    by None none =
-        ap (λ (bs : List Breach). judged bs (record_of slot p (walk field_in (fields_met e [] empty) fs).answer))
-        (append-nil (walk field_in (fields_met e [] empty) fs).breaches)
-    by (Some b) none = absurd (cc)
+    by : (ls : List Expr) → (length ls == 0) ≡ true → array_in true slot e p ls (type_in (is_empty ls) None e element)
+        ≡ judged (type_in true None e element).breaches (open_of slot p (type_in true None e element).answer)
+    by [] none = ap (λ (bs : List Breach). judged bs (open_of slot p (type_in true None e element).answer)) (append-nil (type_in true None e element).breaches)
+    by (l ∷ ls) none = let e : (suc (length ls) == 0) ≡ true = none in absurd (grind (arith, nat_tests))
+
+-- a record, whose fields are a list
+pub record_met : (may_be_open : Bool) (slot : Option TypeId) (e : Env) (t : TypeExpr) (p : Pos) (base : Option Qualident) (fs : List Fields) → t ≡ type.Record p base fs →
+    type_in may_be_open slot e t ≡ record_of slot e p base fs
+record_met may_be_open slot e t p base fs is =
+    ap (type_in may_be_open slot e) is
+    ∙ ap (λ j. record_in slot e p base (field_names (items-the_row-Fields _ (hidden-the_row-Fields-4 fs))) j) (fields_row _ (fields_met e [] empty) (hidden-the_row-Fields-4 fs))
+    ∙ ap (λ xs. record_in slot e p base (field_names xs) (walk field_in (fields_met e [] empty) xs)) (items_hidden-the_row-Fields-4 fs)
+
+-- a pointer, which is met behind what it leads to
+pub pointer_met : (may_be_open : Bool) (slot : Option TypeId) (e : Env) (t : TypeExpr) (p : Pos) (to : TypeExpr) → t ≡ type.Pointer p to →
+    type_in may_be_open slot e t ≡ judged (target_breaches to ++ (type_in true None e to).breaches) (pointer_to slot p to (type_in true None e to).answer)
+pointer_met may_be_open slot e t p to is =
+    ap (type_in may_be_open slot e) is ∙ led slot e p to
+    ∙ ap (λ (bs : List Breach). judged bs (pointer_to slot p to (type_in true None e to).answer)) (append-nil (target_breaches to ++ (type_in true None e to).breaches))

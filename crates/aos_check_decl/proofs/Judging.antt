@@ -20,7 +20,7 @@ use Rattle.aos_symbols.specs.Declarations.{Procedure, whole_procedures_in, proce
 use Rattle.aos_symbols.specs.Scope.{Scope}
 use Rattle.aos_symbols.proofs.Keeping.{after_more, after_three}
 use Rattle.aos_symbols.proofs.Paths.{past}
-use Rattle.aos_check_decl.specs.Limits.{Written, written, type_breaches, types_from, result_of, result_breaches, results_from, counted, variables_of, scalars_of, variables_past, limits}
+use Rattle.aos_check_decl.specs.Limits.{Written, written, type_breaches, types_from, result_of, result_breaches, results_from, counted, variables_of, scalars_of, variables_past, cut_off}
 
 module _ (flags : List Bool) (rows : List TypeRow) where
   -- the rules of one type, and of those behind it
@@ -155,7 +155,7 @@ pub limits_noted : (e : Env) (first : ℕ) (ds : List Decl) (m0 : Option Breach)
     flags ≡ circles e.types → flags' ≡ circles e.types → rows ≡ cut (circles e.types) e.types → ws ≡ written e ds →
     m1 ≡ first_after m0 (types_from flags rows first ws) → m2 ≡ first_after m1 (results_from flags' rows (procedures ds) e.here.signatures) →
     m3 ≡ first_after m2 (variables_past [] rows (sum_by (scalars_of [] rows) e.before) (zip (single_variables ds) (variables_of [] rows (slice_get e.here.scopes 0)))) →
-    m3 ≡ first_after m0 (limits e first ds).breaches
+    m3 ≡ first_after m0 (cut_off e first ds).breaches
 limits_noted e first ds m0 {flags = flags} {flags' = flags'} {rows = rows} {ws = ws} {m1 = m1} {m2 = m2} flags_are flags_are' rows_are ws_are n1 n2 n3 =
     let marks = circles e.types in
     let rest = cut marks e.types in

@@ -3,6 +3,7 @@ pub mod Rows
 pub mod TypingLists
 pub mod TypingScopes
 pub mod TypingNames
+pub mod TypingClaims
 pub mod TypingFields
 pub mod TypingTypes
 pub mod TypingHeadings

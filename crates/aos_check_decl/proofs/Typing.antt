@@ -2,6 +2,8 @@
 -- value that is good, no type contains itself or is past the limit, and the headings of its procedures are whole.
 use Rattle.std.proofs.Common.{◌≡◌, ℕ, suc, ◌+◌, ◌<◌, ◌≤◌, List, [], ◌∷◌, ◌++◌, length, map, take, drop, true, Option, Some, None, slice_get, option_map, refl, sym, ap, ◌∙◌, subst, arith, length-append}
 use Rattle.std.specs.Prelude.{sum_by, zip}
+use Rattle.std.specs.List.{flat_map}
+use Rattle.std.proofs.lemmas.Bool.{cases_lt}
 use Rattle.std.proofs.lemmas.List.{length-map}
 use Rattle.std.proofs.lemmas.Option.{same_Some, slice_get_within}
 use Rattle.std.proofs.Math.Seq.{take-append_seam, drop-append_seam}
@@ -33,7 +35,8 @@ use Rattle.aos_symbols.specs.Env as env
 use Rattle.aos_symbols.proofs.Each.{Each, implied}
 use Rattle.aos_symbols.proofs.Holds.{Holds, none_left, none_right}
 use Rattle.aos_symbols.proofs.Told.{IsTold, IsKnown, GoOn, known_on, told_behind, PartsAreTold, FieldsAgree}
-use Rattle.aos_check_expr.proofs.Opens.{OpensStand}
+use Rattle.aos_check_expr.proofs.Opens.{IsVariableNumber, OpensStand}
+use Rattle.aos_check_expr.proofs.Whole.{IsWritten}
 use Rattle.aos_check_decl.specs.declared.aliases.Target.{Target}
 use Rattle.aos_check_decl.specs.Aliases.{first_rows, targets}
 use Rattle.aos_check_decl.specs.Headings.{headings}
@@ -45,19 +48,21 @@ use Rattle.aos_check_decl.proofs.TypingEntries.{scope_fresh, procedure_there}
 use Rattle.aos_check_decl.proofs.TypingLimits.{result_scalar, result_kept, variables_kept, few_from}
 use Rattle.aos_check_decl.proofs.TypingProcedures.{types_of, HasResult, HasMade, IsHeaded}
 use Rattle.aos_check_decl.proofs.TypingTargets.{AreLed, targets_sound}
+use Rattle.aos_check_decl.proofs.TypingClaims.{base_fits}
 use Rattle.aos_check_decl.proofs.TypingWalks.{MayBeOpen, told_below}
 use Rattle.aos_check_decl.proofs.TypingWhole as whole
 use Rattle.aos_check_decl.proofs.TypingWhole.{AreOld}
 pub use Rattle.aos_check_decl.proofs.TypingScopes.{AreGood}
 pub use Rattle.aos_check_decl.proofs.TypingLimits.{variable_cells}
 
--- The table of types behind whole modules: the basic types come first, rows name types that are there, and types are as those of
--- a program are to be.
+-- The table of types behind whole modules: the basic types come first, all others are written, rows name types that are there, and types are
+-- as those of a program are to be.
 pub record AreReady (types : List TypeRow) : Type 0 where
   pub basic : (k : ℕ) → k < 10 → slice_get types k ≡ slice_get env.basic_rows k
   pub closed : (k : ℕ) (r : TypeRow) → slice_get types k ≡ Some r → AreBelow (length types) r
   pub sound : AreTypes types
   pub parts : PartsAreTold types
+  pub written : (k : ℕ) (r : TypeRow) → 10 ≤ k → slice_get types k ≡ Some r → IsWritten r
   pub opens : OpensStand types
 
 -- what is known of the modules before, and of the types so far
@@ -68,10 +73,10 @@ pub record IsReady (before : List Home) (types : List TypeRow) : Type 0 where
   pub fields : (m : ℕ) (h : Home) → slice_get before m ≡ Some h → FieldsAgree types h
   pub table : AreReady types
 
--- a type that is there, which may be an open array; no variable or parameter is of NIL's type or of ANY
+-- a type that is there, which may be an open array; no variable or parameter is of NIL's type or of string constants'
 abbrev pub IsThere : List TypeRow → Option TypeId → Type 0
 IsThere types None = ⊥
-IsThere types (Some t) = (t.0 < length types) × ((t.0 < 7) ⊎ (10 ≤ t.0))
+IsThere types (Some t) = (t.0 < length types) × IsVariableNumber t.0
 
 -- a scalar's type
 pub record IsResult (types : List TypeRow) (of : Option TypeId) : Type 0 where
@@ -102,6 +107,7 @@ pub record IsDeclared (number : ℕ) (before : List Home) (types : List TypeRow)
   pub number_is : e.number ≡ number
   pub before_is : e.before ≡ before
   pub path_is : e.path ≡ env.own number ∷ []
+  pub narrowed_is : e.narrowed ≡ []
   pub text_is : e.here.text ≡ text
   pub first_is : e.here.first ≡ suc (length (type_defs m.decls))
   pub name_is : e.here.name ≡ word text m.name
@@ -132,6 +138,7 @@ table_ten before types ready = slice_get_within types 9 (row.Basic (basic.Text 0
 table_old : (before : List Home) (types : List TypeRow) → IsReady before types → AreOld types
 table_old before types ready = record {
   ten = table_ten before types ready;
+  basic = ready.table.basic;
   closed = ready.table.closed;
   free = ready.table.sound.none_contains_itself;
   sizes = ready.table.sound.sizes;
@@ -160,24 +167,41 @@ module _ (number : ℕ) (before : List Home) (types : List TypeRow) (text : List
     stays : (k : ℕ) → k < length types → slice_get e.types k ≡ slice_get types k
     stays = whole.stays number before types text m ts ready.names ready.constants old led once none
 
-    basics : (k : ℕ) → k < 10 → slice_get e.types k ≡ slice_get env.basic_rows k
-    basics k low = stays k (let l = old.ten in omega (arith, l, low)) ∙ ready.table.basic k low
+    abbrev based : List TypeRow
+    based = whole.based number before types text m ts ready.names ready.constants old led once none
 
-    module _ (fine : limits.all_breaches (circles e.types) (cut (circles e.types) e.types) e (length types) m.decls ≡ []) where
-      headed : IsHeaded (whole.second_walk number before types text m ts ready.names ready.constants old led once none fine)
+    module _ (asked : flat_map (limits.claim_breaches e) e.claims ≡ [])
+        (fine : limits.all_breaches (circles based) (cut (circles based) based) (limits.with_bases e) (length types) m.decls ≡ []) where
+      basics : (k : ℕ) → k < 10 → slice_get e.types k ≡ slice_get env.basic_rows k
+      basics = whole.basics number before types text m ts ready.names ready.constants old led once none asked fine
+
+      headed : IsHeaded (whole.second_walk number before types text m ts ready.names ready.constants old led once none asked fine)
           (whole.path number before types text m ts ready.names ready.constants old led once)
-          (whole.second_searched number before types text m ts ready.names ready.constants old led once none fine) m.decls start e
-      headed = whole.headed number before types text m ts ready.names ready.constants old led once none fine
+          (whole.second_searched number before types text m ts ready.names ready.constants old led once none asked fine) m.decls start e
+      headed = whole.headed number before types text m ts ready.names ready.constants old led once none asked fine
+
+      parts : PartsAreTold e.types
+      parts = whole.parts number before types text m ts ready.names ready.constants old led once none asked fine
+
+      written : (k : ℕ) (r : TypeRow) → 10 ≤ k → slice_get e.types k ≡ Some r → IsWritten r
+      written k r high is = by (cases_lt k (length types))
+        where
+          by : (k < length types) ⊎ (length types ≤ k) → IsWritten r
+          by (inl below) = ready.table.written k r high (sym (stays k below) ∙ is)
+          by (inr behind) = whole.written number before types text m ts ready.names ready.constants old led once none asked fine k r behind is
 
       table : AreReady e.types
       table = record {
         basic = basics;
         closed = whole.closed number before types text m ts ready.names ready.constants old led once none;
         sound = record {
-          none_contains_itself = whole.free number before types text m ts ready.names ready.constants old led once none fine;
-          sizes = whole.sizes number before types text m ts ready.names ready.constants old led once none fine;
+          none_contains_itself = whole.free number before types text m ts ready.names ready.constants old led once none asked fine;
+          bases = λ t b is. (base_fits e.types parts t b is).0;
+          record_bases = λ t b is. (base_fits e.types parts t b is).1;
+          sizes = whole.sizes number before types text m ts ready.names ready.constants old led once none asked fine;
         };
-        parts = headed.fit.agrees.parts;
+        parts = parts;
+        written = written;
         opens = headed.fit.agrees.opens;
       }
 
@@ -198,14 +222,14 @@ module _ (number : ℕ) (before : List Home) (types : List TypeRow) (text : List
       own_names : (w : List ℕ) (x : Entry) (of : Option TypeId) → find own_there.0 w ≡ Some x → x.means ≡ means.Type of → IsKnown e.types of
       own_names w x of found means =
           known_on (types ++ first_rows (length types) ts) e.types headed.goes.on of
-          ((whole.second_walk number before types text m ts ready.names ready.constants old led once none fine).own 0 (entries.own_scope text before numbers m) w x of (inl refl) refl
+          ((whole.second_walk number before types text m ts ready.names ready.constants old led once none asked fine).own 0 (entries.own_scope text before numbers m) w x of (inl refl) refl
           (ap (λ ns. find (record own_there.0 { entries = ns }) w) (sym own_entries) ∙ found) means)
 
       own_few : sum_by (variable_cells e.types) own_there.0.variables ≤ MOST_SCALARS
       own_few =
           let flags = circles e.types in
           let ds = single_variables m.decls in
-          let kept = variables_kept flags e.types e (length types) m.decls (whole.kept_whole number before types text m ts ready.names ready.constants old led once none fine) in
+          let kept = variables_kept flags e.types e (length types) m.decls (whole.kept_whole number before types text m ts ready.names ready.constants old led once none asked fine) in
           few_from flags e.types table.sound.sizes ds own_there.0.variables 0 (sum_by (limits.scalars_of flags e.types) e.before)
           (ap length own_there.2 ∙ headed.count) (omega arith) (omega arith)
           (ap (λ o. limits.variables_past flags e.types (sum_by (limits.scalars_of flags e.types) e.before) (zip ds (limits.variables_of flags e.types o))) (sym own_there.1) ∙ kept)
@@ -220,8 +244,9 @@ module _ (number : ℕ) (before : List Home) (types : List TypeRow) (text : List
 
       is_there : (of : Option TypeId) → MayBeOpen number before types text m ts ready.names ready.constants old.ten led e.types of → IsThere e.types of
       is_there None may = may
-      is_there (Some t) (inl low) = (omega (arith, low, e_ten), inl low)
-      is_there (Some t) (inr r) = (r.1, inr r.0)
+      is_there (Some t) (inl (inl low)) = (omega (arith, low, e_ten), inl low)
+      is_there (Some t) (inl (inr any)) = (omega (arith, any, e_ten), inr (inl any))
+      is_there (Some t) (inr r) = (r.1, inr (inr r.0))
 
       result_of_some : (formals : Option Formals) (r : HasResult formals) → limits.result_of (circles e.types) e.types formals ≡ Some r.name
       result_of_some formals r = ap (limits.result_of (circles e.types) e.types) r.is ∙ r.result
@@ -232,7 +257,7 @@ module _ (number : ℕ) (before : List Home) (types : List TypeRow) (text : List
       result_is j p s is there (Some t) value told r =
           let l = told_below e.types e_ten t told in
           let right = result_kept (circles e.types) e.types e (length types) m.decls
-          (whole.kept_whole number before types text m ts ready.names ready.constants old led once none fine) j p s is there in
+          (whole.kept_whole number before types text m ts ready.names ready.constants old led once none asked fine) j p s is there in
           let rule : limits.result_breaches (circles e.types) e.types (Some r.name) (gives.Value (Some t)) ≡ [] =
           (λ i. limits.result_breaches (circles e.types) e.types (sym (result_of_some p.formals r) i) (sym value i)) ∙ right in
           record {
@@ -240,16 +265,16 @@ module _ (number : ℕ) (before : List Home) (types : List TypeRow) (text : List
             is = refl;
             told = told;
             scalar = result_scalar (circles e.types) e.types basics r.name t told
-                (whole.not_circular number before types text m ts ready.names ready.constants old led once none fine t l) (table.sound.sizes t) rule;
+                (whole.not_circular number before types text m ts ready.names ready.constants old led once none asked fine t l) (table.sound.sizes t) rule;
           }
 
       module _ (j : ℕ) (p : Procedure) (is : slice_get (procedures m.decls) j ≡ Some p) where
         abbrev place : ℕ
         place = suc (length (type_defs m.decls)) + j
 
-        made : HasMade (whole.second_walk number before types text m ts ready.names ready.constants old led once none fine)
+        made : HasMade (whole.second_walk number before types text m ts ready.names ready.constants old led once none asked fine)
             (whole.path number before types text m ts ready.names ready.constants old led once)
-            (whole.second_searched number before types text m ts ready.names ready.constants old led once none fine) (suc (length (type_defs m.decls))) start e j p
+            (whole.second_searched number before types text m ts ready.names ready.constants old led once none asked fine) (suc (length (type_defs m.decls))) start e j p
         made = headed.made j p is
 
         all_variables : List (Option TypeId)
@@ -297,6 +322,7 @@ module _ (number : ℕ) (before : List Home) (types : List TypeRow) (text : List
         number_is = headed.fit.number_is;
         before_is = headed.fit.before_is;
         path_is = headed.fit.path_is;
+        narrowed_is = headed.fit.narrowed_is;
         text_is = headed.fit.text_is;
         first_is = headed.fit.first_is;
         name_is = headed.fit.name_is;
@@ -319,9 +345,9 @@ module _ (number : ℕ) (before : List Home) (types : List TypeRow) (text : List
         procedures = has_heading;
       }
 
-      declared_cut : IsDeclared number before types text m (record e { types = cut (circles e.types) e.types })
+      declared_cut : IsDeclared number before types text m (record e { types = cut (circles based) based })
       declared_cut =
-          subst (λ rows. IsDeclared number before types text m (record e { types = rows })) (sym (whole.cut_is number before types text m ts ready.names ready.constants old led once none fine)) declared
+          subst (λ rows. IsDeclared number before types text m (record e { types = rows })) (sym (whole.cut_is number before types text m ts ready.names ready.constants old led once none asked fine)) declared
 
 -- What is declared where names are declared once and no rule is broken.
 pub declare_sound : (number : ℕ) (before : List Home) (types : List TypeRow) (text : List ℕ) (m : Module) → IsReady before types →
@@ -333,6 +359,10 @@ declare_sound number before types text m ready once none =
     let begin = begun number before types text m in
     let e = headings begin.answer m.decls in
     let f = limits.limits e.answer (length types) m.decls in
+    let based = limits.with_bases e.answer in
+    let claims = flat_map (limits.claim_breaches e.answer) e.answer.claims in
+    let judged = limits.all_breaches (circles based.types) (cut (circles based.types) based.types) based (length types) m.decls in
     let led = targets_sound number before types text m ready.names (none_left j.breaches [] (none_left begin.breaches (e.breaches ++ f.breaches) none)) in
     let behind = none_right begin.breaches (e.breaches ++ f.breaches) none in
-    declared_cut number before types text m ready ts led once (none_left e.breaches f.breaches behind) (none_right e.breaches f.breaches behind)
+    let limited = none_right e.breaches f.breaches behind in
+    declared_cut number before types text m ready ts led once (none_left e.breaches f.breaches behind) (none_left claims judged limited) (none_right claims judged limited)

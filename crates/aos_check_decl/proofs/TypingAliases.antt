@@ -13,7 +13,7 @@ use Rattle.aos_types.specs.declared.row.TypeRow.TheVariants as row
 use Rattle.aos_types.specs.Table.{row_of, is_object, is_open}
 use Rattle.aos_types.specs.Chain.{parts_of, IsOneOf, IsPartOf, IsRanked, NoneContainsItself}
 use Rattle.aos_types.proofs.Ranks.{IsNumber, is_number, ranked}
-use Rattle.aos_symbols.proofs.Told.{IsTold, basic, defined, told_behind}
+use Rattle.aos_symbols.proofs.Told.{IsTold, basic, of_any, defined, told_behind}
 use Rattle.aos_check_decl.specs.declared.aliases.Target.{Target}
 use Rattle.aos_check_decl.specs.declared.aliases.Target.TheVariants.{Own, Of, Nothing}
 use Rattle.aos_check_decl.specs.Aliases.{nil, target_at, step, follow, proper, stands_for, first_row, first_rows}
@@ -129,6 +129,7 @@ module _ (types : List TypeRow) (ts : List Target) (ten : 10 ≤ length types) (
 
   not_nil : (t : TypeId) → Meant t → t.0 ≡ 7 → ⊥
   not_nil t (inl (basic low)) is = omega (arith, low, is)
+  not_nil t (inl (of_any any)) is = omega (arith, any, is)
   not_nil t (inl (defined r high there closed)) is = omega (arith, high, is)
   not_nil t (inr own) is = let l = own.0 in omega (arith, ten, l, is)
 

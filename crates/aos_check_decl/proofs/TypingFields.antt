@@ -1,24 +1,31 @@
--- Fields of record types: they agree with the rows of the types, and the parts that rows name are told.
+-- Fields of record types: they agree with the rows of the types, and the parts that rows name are told or asked for.
 use Rattle.std.proofs.Common.{◌≡◌, ℕ, zero, suc, ◌+◌, ◌<◌, ◌≤◌, nat_eq, List, [], ◌∷◌, ◌++◌, length, map, fold, replicate, Bool, true, false, if◌then◌else◌, Option, Some, None, slice_get, slice_set, refl, sym, ap, ◌∙◌, subst, arith, append_assoc, append-nil, length-append, length-set}
 use Rattle.std.specs.Map.{lookup}
 use Rattle.std.proofs.lemmas.Bool.{cases_order}
 use Rattle.std.proofs.lemmas.List.{map-append}
 use Rattle.std.proofs.lemmas.Option.{same_Some, slice_get_within}
 use mathlib.Core.Logic.{◌⊎◌, inl, inr}
+use Rattle.aos_base.specs.declared.text.Pos.{Pos}
 use Rattle.aos_tree.specs.declared.decl.Def.{Def}
 use Rattle.aos_types.specs.declared.row.TypeId.{TypeId}
 use Rattle.aos_types.specs.declared.row.TypeRow.{TypeRow}
 use Rattle.aos_types.specs.declared.row.TypeRow.TheVariants as row
-use Rattle.aos_types.specs.Table.{is_open}
-use Rattle.aos_types.specs.Chain.{IsOneOf}
+use Rattle.aos_types.specs.Table.{row_of, is_open}
+use Rattle.aos_types.specs.Chain.{base_list, IsOneOf}
 use Rattle.aos_types.specs.Count.{named_in}
+use Rattle.aos_types.proofs.Reached.{one_of_left, one_of_right}
+use Rattle.aos_symbols.specs.declared.env.Claim.{Claim}
+use Rattle.aos_symbols.specs.declared.env.Claim.TheVariants as claim
 use Rattle.aos_symbols.specs.Scope.{Named, Scope, has, with_name}
 use Rattle.aos_symbols.specs.Home.{Home, add_record, fields_of as fields_known}
 use Rattle.aos_symbols.proofs.Each.{Each, implied}
 use Rattle.aos_symbols.proofs.Records.{fields_here, fields_other}
-use Rattle.aos_symbols.proofs.Told.{IsTold, basic, defined, GoOn, told_behind, get_end, IsLength, AreToldParts, PartsAreTold}
-use Rattle.aos_check_expr.proofs.Opens.{IsOpenAt, OpensStand, some_there}
+use Rattle.aos_symbols.proofs.Told.{IsTold, basic, of_any, defined, GoOn, told_behind, get_front, get_end, IsLength}
+use Rattle.aos_check_expr.proofs.Opens.{IsVariableNumber, IsOpenAt, OpensStand, some_there}
+use Rattle.aos_check_expr.proofs.Whole.{IsWritten}
 use Rattle.aos_check_decl.specs.Types.{fields_of, with_field}
+use Rattle.aos_check_decl.specs.Limits.{may_be_target}
+use Rattle.aos_check_decl.proofs.TypingClaims.{IsAskedBase, IsAskedTarget, AllBases, more_bases, target_bases, base_more, base_behind, target_more, AreOfBase}
 use Rattle.aos_check_decl.proofs.TypingLists.{set_here, set_other, set_gives, push_gives, get_below}
 
 -- The variables of a scope behind fields of one type.
@@ -45,10 +52,11 @@ pub more_some : (vs : List (Option TypeId)) (us : List TypeId) (n : ℕ) (t : Ty
     vs ++ replicate n (Some t) ≡ map (λ t. Some t) (us ++ fields_of n (Some t))
 more_some vs us n t is = (λ i. is i ++ replicate_some n t i) ∙ sym (map-append (λ (t : TypeId). Some t) us (replicate n t))
 
--- What is told of the parts of rows.
+-- What is told of the parts of rows at once: a base and what a pointer leads to may be named, and so they are asked for.
 
 pub set_on : (us : List TypeRow) (t : TypeId) (r : TypeRow) → is_open (Some r) ≡ false → GoOn us (slice_set us t.0 r)
 set_on us t r closed u (basic low) = basic low
+set_on us t r closed u (of_any any) = of_any any
 set_on us t r closed u (defined q high there whole) = by (cases_order u.0 t.0)
   where
     here : u.0 ≡ t.0 → IsTold (slice_set us t.0 r) u
@@ -70,40 +78,114 @@ all_told : (types : List TypeRow) (ts : List TypeId) → ((p : TypeId) → IsOne
 all_told types [] each = tt
 all_told types (t ∷ ts) each = (each t (inl refl), all_told types ts (λ p one. each p (inr one)))
 
--- where it is an array, it has one of the lengths that arrays have
-abbrev pub HasLength : TypeRow → Type 0
-HasLength (row.Array n t) = IsLength n
-HasLength r = Unit {0}
+-- the rows from a number on stay
+abbrev pub AreKept : ℕ → List TypeRow → List TypeRow → Type 0
+AreKept n us vs = (k : ℕ) (r : TypeRow) → n ≤ k → slice_get us k ≡ Some r → slice_get vs k ≡ Some r
 
-told_parts : (types : List TypeRow) (r : TypeRow) → HasLength r → AreToldIn types r → AreToldParts types r
-told_parts types (row.Basic b) long each = tt
-told_parts types (row.Array n t) long each = (long, each t (inl refl))
-told_parts types (row.Open t) long each = tt
-told_parts types (row.Record None ts) long each = all_told types ts each
-told_parts types (row.Record (Some b) ts) long each = tt
-told_parts types (row.Pointer t) long each = tt
-told_parts types (row.Object b ts) long each = tt
-told_parts types (row.Procedure ts r) long each = tt
-told_parts types row.Any long each = tt
+pub set_keeps : (n : ℕ) (us : List TypeRow) (t : TypeId) (r : TypeRow) → t.0 < n → AreKept n us (slice_set us t.0 r)
+set_keeps n us t r below k x high is = set_other us t.0 k r (λ same. omega (arith, below, high, same)) ∙ is
 
-pub parts_on : (ts us : List TypeRow) → GoOn ts us → (r : TypeRow) → AreToldParts ts r → AreToldParts us r
-parts_on ts us on (row.Basic b) told = tt
-parts_on ts us on (row.Array n t) told = (told.0, on t told.1)
-parts_on ts us on (row.Open t) told = tt
-parts_on ts us on (row.Record None fs) told = implied (IsTold ts) (IsTold us) on fs told
-parts_on ts us on (row.Record (Some b) fs) told = tt
-parts_on ts us on (row.Pointer t) told = tt
-parts_on ts us on (row.Object b fs) told = tt
-parts_on ts us on (row.Procedure fs r) told = tt
-parts_on ts us on row.Any told = tt
+pub push_keeps : (n : ℕ) (us more : List TypeRow) → AreKept n us (us ++ more)
+push_keeps n us more k x high is = get_front us more k x is
 
-parts_set : (us : List TypeRow) (t : TypeId) (r : TypeRow) → is_open (Some r) ≡ false → AreToldParts us r → PartsAreTold us → PartsAreTold (slice_set us t.0 r)
-parts_set us t r closed told all k x is =
-    parts_on us (slice_set us t.0 r) (set_on us t r closed) x (set_gives (AreToldParts us) us t.0 k x r is told (λ old. all k x old))
+-- a record or an array, whose number is one of those from n on
+abbrev pub Stands : ℕ → List TypeRow → TypeId → Type 0
+Stands n types t = (n ≤ t.0) × (may_be_target (row_of types t) ≡ true)
 
-parts_push : (us : List TypeRow) (r : TypeRow) → AreToldParts us r → PartsAreTold us → PartsAreTold (us ++ r ∷ [])
-parts_push us r told all k x is =
-    parts_on us (us ++ r ∷ []) (told_behind us (r ∷ [])) x (push_gives (AreToldParts us) us k x r is told (λ old. all k x old))
+stands_on : (n : ℕ) (us vs : List TypeRow) → AreKept n us vs → (t : TypeId) → Stands n us t → Stands n vs t
+stands_on n us vs kept t stands = (stands.0, by (row_of us t) refl stands.1)
+  where
+    by : (o : Option TypeRow) → row_of us t ≡ o → may_be_target o ≡ true → may_be_target (row_of vs t) ≡ true
+    by None is may = absurd (cc)
+    by (Some r) is may = ap may_be_target (kept t.0 r stands.0 is) ∙ may
+
+-- what a pointer leads to
+abbrev pub Leads : (TypeId → Type 0) → List Claim → TypeId → Type 0
+Leads S cs t = IsAskedTarget cs t ⊎ S t
+
+-- what is no record
+abbrev pub IsNoRecord : TypeRow → Type 0
+IsNoRecord r = (base : Option TypeId) (ts : List TypeId) → r ≡ row.Record base ts → ⊥
+
+-- a row but a record's: an array has one of the lengths that arrays have, a pointer leads to a type like these, an object type has no base
+abbrev pub IsRow : (TypeId → Type 0) → TypeRow → Type 0
+IsRow L (row.Basic b) = ⊥
+IsRow L row.Any = ⊥
+IsRow L (row.Array n t) = IsLength n
+IsRow L (row.Pointer t) = L t
+IsRow L (row.Object b ts) = b ≡ None
+IsRow L r = Unit {0}
+
+abbrev pub IsBaseAsked : List Claim → Option TypeId → Type 0
+IsBaseAsked cs None = Unit {0}
+IsBaseAsked cs (Some b) = IsAskedBase cs b
+
+module _ (n : ℕ) where
+  -- a row that the module writes
+  abbrev pub AreAskedParts : List TypeRow → List Claim → TypeRow → Type 0
+  AreAskedParts types cs (row.Basic b) = ⊥
+  AreAskedParts types cs row.Any = ⊥
+  AreAskedParts types cs (row.Array k t) = IsLength k × IsTold types t
+  AreAskedParts types cs (row.Record base ts) = IsBaseAsked cs base × Each (IsTold types) ts
+  AreAskedParts types cs (row.Pointer t) = Leads (Stands n types) cs t
+  AreAskedParts types cs (row.Object base ts) = base ≡ None
+  AreAskedParts types cs r = Unit {0}
+
+  pub asked_written : (types : List TypeRow) (cs : List Claim) (r : TypeRow) → AreAskedParts types cs r → IsWritten r
+  asked_written types cs (row.Basic b) asked = asked
+  asked_written types cs row.Any asked = asked
+  asked_written types cs (row.Array k t) asked = tt
+  asked_written types cs (row.Open t) asked = tt
+  asked_written types cs (row.Record base ts) asked = tt
+  asked_written types cs (row.Pointer t) asked = tt
+  asked_written types cs (row.Object base ts) asked = tt
+  asked_written types cs (row.Procedure ts r) asked = tt
+
+  asked_parts : (types : List TypeRow) (cs : List Claim) (r : TypeRow) → IsNoRecord r → IsRow (Leads (Stands n types) cs) r → AreToldIn types r → AreAskedParts types cs r
+  asked_parts types cs (row.Basic b) other ok each = ok
+  asked_parts types cs row.Any other ok each = ok
+  asked_parts types cs (row.Array k t) other ok each = (ok, each t (inl refl))
+  asked_parts types cs (row.Open t) other ok each = tt
+  asked_parts types cs (row.Record b ts) other ok each = absurd (other b ts refl)
+  asked_parts types cs (row.Pointer t) other ok each = ok
+  asked_parts types cs (row.Object b ts) other ok each = ok
+  asked_parts types cs (row.Procedure ts r) other ok each = tt
+
+  leads_on : (us vs : List TypeRow) (cs ds : List Claim) → AreKept n us vs → (t : TypeId) → Leads (Stands n us) cs t → Leads (Stands n vs) (cs ++ ds) t
+  leads_on us vs cs ds kept t (inl asked) = inl (target_more cs ds t asked)
+  leads_on us vs cs ds kept t (inr stands) = inr (stands_on n us vs kept t stands)
+
+  base_on : (cs ds : List Claim) (base : Option TypeId) → IsBaseAsked cs base → IsBaseAsked (cs ++ ds) base
+  base_on cs ds None asked = tt
+  base_on cs ds (Some b) asked = base_more cs ds b asked
+
+  parts_on : (us vs : List TypeRow) (cs ds : List Claim) → GoOn us vs → AreKept n us vs → (r : TypeRow) → AreAskedParts us cs r → AreAskedParts vs (cs ++ ds) r
+  parts_on us vs cs ds on kept (row.Basic b) told = told
+  parts_on us vs cs ds on kept row.Any told = told
+  parts_on us vs cs ds on kept (row.Array k t) told = (told.0, on t told.1)
+  parts_on us vs cs ds on kept (row.Open t) told = tt
+  parts_on us vs cs ds on kept (row.Record base ts) told = (base_on cs ds base told.0, implied (IsTold us) (IsTold vs) on ts told.1)
+  parts_on us vs cs ds on kept (row.Pointer t) told = leads_on us vs cs ds kept t told
+  parts_on us vs cs ds on kept (row.Object base ts) told = told
+  parts_on us vs cs ds on kept (row.Procedure ts r) told = tt
+
+  -- of all rows from a number on
+  abbrev pub PartsAreAsked : ℕ → List TypeRow → List Claim → Type 0
+  PartsAreAsked m types cs = (k : ℕ) (r : TypeRow) → m ≤ k → slice_get types k ≡ Some r → AreAskedParts types cs r
+
+  parts_set : (m : ℕ) (us : List TypeRow) (cs : List Claim) (t : TypeId) (r : TypeRow) (ds : List Claim) → t.0 < n → is_open (Some r) ≡ false →
+      AreAskedParts (slice_set us t.0 r) (cs ++ ds) r → PartsAreAsked m us cs → PartsAreAsked m (slice_set us t.0 r) (cs ++ ds)
+  parts_set m us cs t r ds below closed told all k x high is =
+      let vs = slice_set us t.0 r in
+      set_gives (AreAskedParts vs (cs ++ ds)) us t.0 k x r is told
+      (λ old. parts_on us vs cs ds (set_on us t r closed) (set_keeps n us t r below) x (all k x high old))
+
+  parts_push : (m : ℕ) (us : List TypeRow) (cs : List Claim) (r : TypeRow) (ds : List Claim) →
+      AreAskedParts (us ++ r ∷ []) (cs ++ ds) r → PartsAreAsked m us cs → PartsAreAsked m (us ++ r ∷ []) (cs ++ ds)
+  parts_push m us cs r ds told all k x high is =
+      let vs = us ++ r ∷ [] in
+      push_gives (AreAskedParts vs (cs ++ ds)) us k x r is told
+      (λ old. parts_on us vs cs ds (told_behind us (r ∷ [])) (push_keeps n us (r ∷ [])) x (all k x high old))
 
 -- Open arrays.
 
@@ -137,119 +219,164 @@ opens_push us r one all k x is = by (cases_order k (length us))
 
 -- a scope has the fields of a row
 abbrev IsOfRow : Scope → TypeRow → Type 0
-IsOfRow s r = (ts : List TypeId) → r ≡ row.Record None ts → s.variables ≡ map (λ t. Some t) ts
+IsOfRow s r = (base : Option TypeId) (ts : List TypeId) → r ≡ row.Record base ts → s.variables ≡ map (λ t. Some t) ts
 
 -- a type is there, and the scope has the fields of its row
 abbrev pub AreFieldsOf : List TypeRow → TypeId → Scope → Type 0
-AreFieldsOf types t s = (t.0 < length types) × ((ts : List TypeId) → slice_get types t.0 ≡ Some (row.Record None ts) → s.variables ≡ map (λ t. Some t) ts)
+AreFieldsOf types t s = (t.0 < length types) × ((base : Option TypeId) (ts : List TypeId) → slice_get types t.0 ≡ Some (row.Record base ts) → s.variables ≡ map (λ t. Some t) ts)
 
 abbrev pub RecordsAgree : List TypeRow → List (ℕ × Scope) → Type 0
 RecordsAgree types rs = (t : TypeId) (s : Scope) → lookup (λ k. nat_eq t.0 k) rs ≡ Some s → AreFieldsOf types t s
 
-abbrev pub IsNoRecord : TypeRow → Type 0
-IsNoRecord r = (ts : List TypeId) → r ≡ row.Record None ts → ⊥
+same_fields : (a b : Option TypeId) (ts us : List TypeId) → row.Record a ts ≡ row.Record b us → ts ≡ us
+same_fields a b ts us e = cc
 
-same_fields : (ts us : List TypeId) → row.Record None ts ≡ row.Record None us → ts ≡ us
-same_fields ts us e = cc
-
-of_row : (types : List TypeRow) (k : ℕ) (s : Scope) → ((ts : List TypeId) → slice_get types k ≡ Some (row.Record None ts) → s.variables ≡ map (λ t. Some t) ts) →
+of_row : (types : List TypeRow) (k : ℕ) (s : Scope) → ((base : Option TypeId) (ts : List TypeId) → slice_get types k ≡ Some (row.Record base ts) → s.variables ≡ map (λ t. Some t) ts) →
     (r : TypeRow) → slice_get types k ≡ Some r → IsOfRow s r
-of_row types k s agree r is ts same = agree ts (is ∙ ap (λ z. Some z) same)
+of_row types k s agree r is base ts same = agree base ts (is ∙ ap (λ z. Some z) same)
 
 records_set : (us : List TypeRow) (rs : List (ℕ × Scope)) (k : ℕ) (r : TypeRow) → IsNoRecord r → RecordsAgree us rs → RecordsAgree (slice_set us k r) rs
 records_set us rs k r other agree t s found = (
   let l = (agree t s found).0 in omega (arith, l, length-set us k r),
-  λ ts is. set_gives (IsOfRow s) us k t.0 (row.Record None ts) r is (λ ts same. absurd (other ts same))
-      (λ old. of_row us t.0 s (agree t s found).1 (row.Record None ts) old) ts refl,
+  λ base ts is. set_gives (IsOfRow s) us k t.0 (row.Record base ts) r is (λ base ts same. absurd (other base ts same))
+      (λ old. of_row us t.0 s (agree t s found).1 (row.Record base ts) old) base ts refl,
 )
 
 records_push : (us : List TypeRow) (rs : List (ℕ × Scope)) (r : TypeRow) → IsNoRecord r → RecordsAgree us rs → RecordsAgree (us ++ r ∷ []) rs
 records_push us rs r other agree t s found = (
   let l = (agree t s found).0 in omega (arith, l, length-append us (r ∷ [])),
-  λ ts is. push_gives (IsOfRow s) us t.0 (row.Record None ts) r is (λ ts same. absurd (other ts same))
-      (λ old. of_row us t.0 s (agree t s found).1 (row.Record None ts) old) ts refl,
+  λ base ts is. push_gives (IsOfRow s) us t.0 (row.Record base ts) r is (λ base ts same. absurd (other base ts same))
+      (λ old. of_row us t.0 s (agree t s found).1 (row.Record base ts) old) base ts refl,
 )
 
 -- with the fields of a row that stands in a table, whose other rows are those of another table
-added : (us vs : List TypeRow) (h : Home) (of : TypeId) (fs : List TypeId) (s : Scope) → length us ≤ length vs → of.0 < length vs →
-    slice_get vs of.0 ≡ Some (row.Record None fs) → ((j : ℕ) → j < length us → (j ≡ of.0 → ⊥) → slice_get vs j ≡ slice_get us j) →
+added : (us vs : List TypeRow) (h : Home) (of : TypeId) (own : Option TypeId) (fs : List TypeId) (s : Scope) → length us ≤ length vs → of.0 < length vs →
+    slice_get vs of.0 ≡ Some (row.Record own fs) → ((j : ℕ) → j < length us → (j ≡ of.0 → ⊥) → slice_get vs j ≡ slice_get us j) →
     s.variables ≡ map (λ t. Some t) fs → RecordsAgree us h.records → RecordsAgree vs (add_record h of s).records
-added us vs h of fs s longer below there others same agree t x found = by (cases_order t.0 of.0)
+added us vs h of own fs s longer below there others same agree t x found = by (cases_order t.0 of.0)
   where
     here : t.0 ≡ of.0 → AreFieldsOf vs t x
     here is =
         let scope : s ≡ x = same_Some s x (sym (fields_here h of s) ∙ ap (λ n. fields_known (add_record h of s) (record { 0 = n })) (sym is) ∙ found) in (
           omega (arith, below, is),
-          λ ts row_is. ap (λ (z : Scope). z.variables) (sym scope) ∙ same
+          λ base ts row_is. ap (λ (z : Scope). z.variables) (sym scope) ∙ same
               ∙ ap (λ (us : List TypeId). map (λ (t : TypeId). Some t) us)
-              (same_fields fs ts (same_Some (row.Record None fs) (row.Record None ts) (sym there ∙ ap (slice_get vs) (sym is) ∙ row_is))),
+              (same_fields own base fs ts (same_Some (row.Record own fs) (row.Record base ts) (sym there ∙ ap (slice_get vs) (sym is) ∙ row_is))),
         )
 
     elsewhere : (t.0 ≡ of.0 → ⊥) → AreFieldsOf vs t x
     elsewhere other =
         let a = agree t x (sym (fields_other h of t s other) ∙ found) in
         let l = a.0 in
-        (omega (arith, l, longer), λ ts row_is. a.1 ts (sym (others t.0 l other) ∙ row_is))
+        (omega (arith, l, longer), λ base ts row_is. a.1 base ts (sym (others t.0 l other) ∙ row_is))
 
     by : (t.0 ≡ of.0) ⊎ ((t.0 < of.0) ⊎ (of.0 < t.0)) → AreFieldsOf vs t x
     by (inl is) = here is
     by (inr (inl l)) = elsewhere (λ is. omega (arith, l, is))
     by (inr (inr l)) = elsewhere (λ is. omega (arith, l, is))
 
--- Both of a table and what a module knows of it.
-pub record Agree (types : List TypeRow) (rs : List (ℕ × Scope)) : Type 0 where
-  pub parts : PartsAreTold types
-  pub opens : OpensStand types
-  pub fields : RecordsAgree types rs
+-- All that is told of a table, whose rows from m on the module writes, of which those from n on have no names; of what the module knows
+-- of the fields of records; and of what it asks.
+module _ (m n : ℕ) where
+  pub record Agree (types : List TypeRow) (rs : List (ℕ × Scope)) (cs : List Claim) : Type 0 where
+    pub parts : PartsAreAsked n m types cs
+    pub bases : AllBases (λ b t. IsTold types b) cs
+    pub opens : OpensStand types
+    pub fields : RecordsAgree types rs
 
-pub agree_set : (us : List TypeRow) (rs : List (ℕ × Scope)) (t : TypeId) (r : TypeRow) → is_open (Some r) ≡ false → IsNoRecord r → HasLength r → AreToldIn us r →
-    Agree us rs → Agree (slice_set us t.0 r) rs
-agree_set us rs t r closed other long told agree = record {
-  parts = parts_set us t r closed (told_parts us r long told) agree.parts;
-  opens = opens_set us t r closed agree.opens;
-  fields = records_set us rs t.0 r other agree.fields;
-}
+  bases_on : (us vs : List TypeRow) → GoOn us vs → (cs : List Claim) → AllBases (λ b t. IsTold us b) cs → AllBases (λ b t. IsTold vs b) cs
+  bases_on us vs on cs all k at b t is = on b (all k at b t is)
 
-pub agree_push : (us : List TypeRow) (rs : List (ℕ × Scope)) (r : TypeRow) → is_open (Some r) ≡ false → IsNoRecord r → HasLength r → AreToldIn us r → Agree us rs →
-    Agree (us ++ r ∷ []) rs
-agree_push us rs r closed other long told agree = record {
-  parts = parts_push us r (told_parts us r long told) agree.parts;
-  opens = opens_push us r (closed_at (length us) r closed) agree.opens;
-  fields = records_push us rs r other agree.fields;
-}
+  -- the base of a record is told
+  base_told : (us : List TypeRow) (base : Option TypeId) (fs : List TypeId) → AreToldIn us (row.Record base fs) → (b : TypeId) → base ≡ Some b → IsTold us b
+  base_told us base fs each b is = each b (one_of_left b (base_list base) fs (subst (λ o. IsOneOf b (base_list o)) (sym is) (inl refl)))
 
-pub agree_open : (us : List TypeRow) (rs : List (ℕ × Scope)) (t : TypeId) → 10 ≤ length us → (t.0 < 7) ⊎ ((10 ≤ t.0) × (t.0 < length us)) → Agree us rs →
-    Agree (us ++ row.Open t ∷ []) rs
-agree_open us rs t ten there agree = record {
-  parts = parts_push us (row.Open t) tt agree.parts;
-  opens = opens_push us (row.Open t) (by there) agree.opens;
-  fields = records_push us rs (row.Open t) (λ ts e. cc) agree.fields;
-}
-  where
-    by : (t.0 < 7) ⊎ ((10 ≤ t.0) × (t.0 < length us)) → IsOpenAt (length us) (row.Open t)
-    by (inl low) = (omega (arith, low, ten), ten, inl low)
-    by (inr r) = (r.1, ten, inr r.0)
+  record_parts : (us vs : List TypeRow) → GoOn us vs → (cs ds : List Claim) (base : Option TypeId) (fs : List TypeId) (t : TypeId) → AreOfBase ds base t →
+      AreToldIn us (row.Record base fs) → AreAskedParts n vs (cs ++ ds) (row.Record base fs)
+  record_parts us vs on cs ds base fs t claims each = (by base claims.asked, implied (IsTold us) (IsTold vs) on fs (all_told us fs (λ p one. each p (one_of_right p (base_list base) fs one))))
+    where
+      by : (o : Option TypeId) → ((b : TypeId) → o ≡ Some b → IsAskedBase ds b) → IsBaseAsked (cs ++ ds) o
+      by None asked = tt
+      by (Some b) asked = base_behind cs ds b (asked b refl)
 
-pub agree_record_set : (us : List TypeRow) (h : Home) (t : TypeId) (fs : List TypeId) (s : Scope) → t.0 < length us →
-    AreToldIn us (row.Record None fs) → s.variables ≡ map (λ t. Some t) fs → Agree us h.records →
-    Agree (slice_set us t.0 (row.Record None fs)) (add_record h t s).records
-agree_record_set us h t fs s below told same agree =
-    let r = row.Record None fs in
-    let x = some_there us t.0 below in
-    record {
-      parts = parts_set us t r refl (told_parts us r tt told) agree.parts;
-      opens = opens_set us t r refl agree.opens;
-      fields = added us (slice_set us t.0 r) h t fs s (omega (arith, length-set us t.0 r)) (omega (arith, below, length-set us t.0 r)) (set_here us t.0 x.0 r x.1)
-          (λ j l other. set_other us t.0 j r other) same agree.fields;
-    }
+  record_bases : (us vs : List TypeRow) → GoOn us vs → (cs ds : List Claim) (base : Option TypeId) (fs : List TypeId) (t : TypeId) → AreOfBase ds base t →
+      AreToldIn us (row.Record base fs) → AllBases (λ b t. IsTold us b) cs → AllBases (λ b t. IsTold vs b) (cs ++ ds)
+  record_bases us vs on cs ds base fs t claims each all =
+      more_bases (λ b t. IsTold vs b) cs ds (bases_on us vs on cs all) (λ k at b u is. on b (base_told us base fs each b (claims.alone k at b u is).1))
 
-pub agree_record_push : (us : List TypeRow) (h : Home) (fs : List TypeId) (s : Scope) → AreToldIn us (row.Record None fs) →
-    s.variables ≡ map (λ t. Some t) fs → Agree us h.records → Agree (us ++ row.Record None fs ∷ []) (add_record h (record { 0 = length us }) s).records
-agree_record_push us h fs s told same agree =
-    let r = row.Record None fs in
-    record {
-      parts = parts_push us r (told_parts us r tt told) agree.parts;
-      opens = opens_push us r tt agree.opens;
-      fields = added us (us ++ r ∷ []) h (record { 0 = length us }) fs s (omega (arith, length-append us (r ∷ []))) (omega (arith, length-append us (r ∷ []))) (get_end us r)
-          (λ j l other. get_below us (r ∷ []) j l) same agree.fields;
-    }
+  pub agree_set : (us : List TypeRow) (rs : List (ℕ × Scope)) (cs : List Claim) (t : TypeId) (r : TypeRow) → t.0 < n → is_open (Some r) ≡ false → IsNoRecord r →
+      IsRow (Leads (Stands n us) cs) r → AreToldIn us r → Agree us rs cs → Agree (slice_set us t.0 r) rs cs
+  agree_set us rs cs t r below closed other ok told agree =
+      let vs = slice_set us t.0 r in
+      let on = set_on us t r closed in
+      let own = parts_on n us vs cs [] on (set_keeps n us t r below) r (asked_parts n us cs r other ok told) in
+      record {
+        parts = subst (PartsAreAsked n m vs) (append-nil cs) (parts_set n m us cs t r [] below closed own agree.parts);
+        bases = bases_on us vs on cs agree.bases;
+        opens = opens_set us t r closed agree.opens;
+        fields = records_set us rs t.0 r other agree.fields;
+      }
+
+  pub agree_push : (us : List TypeRow) (rs : List (ℕ × Scope)) (cs : List Claim) (r : TypeRow) → is_open (Some r) ≡ false → IsNoRecord r →
+      IsRow (Leads (Stands n us) cs) r → AreToldIn us r → Agree us rs cs → Agree (us ++ r ∷ []) rs cs
+  agree_push us rs cs r closed other ok told agree =
+      let vs = us ++ r ∷ [] in
+      let on = told_behind us (r ∷ []) in
+      let own = parts_on n us vs cs [] on (push_keeps n us (r ∷ [])) r (asked_parts n us cs r other ok told) in
+      record {
+        parts = subst (PartsAreAsked n m vs) (append-nil cs) (parts_push n m us cs r [] own agree.parts);
+        bases = bases_on us vs on cs agree.bases;
+        opens = opens_push us r (closed_at (length us) r closed) agree.opens;
+        fields = records_push us rs r other agree.fields;
+      }
+
+  pub agree_open : (us : List TypeRow) (rs : List (ℕ × Scope)) (cs : List Claim) (t : TypeId) → 10 ≤ length us → t.0 < length us → IsVariableNumber t.0 →
+      Agree us rs cs → Agree (us ++ row.Open t ∷ []) rs cs
+  agree_open us rs cs t ten below number agree =
+      let vs = us ++ row.Open t ∷ [] in
+      record {
+        parts = subst (PartsAreAsked n m vs) (append-nil cs) (parts_push n m us cs (row.Open t) [] tt agree.parts);
+        bases = bases_on us vs (told_behind us (row.Open t ∷ [])) cs agree.bases;
+        opens = opens_push us (row.Open t) (below, ten, number) agree.opens;
+        fields = records_push us rs (row.Open t) (λ base ts e. cc) agree.fields;
+      }
+
+  pub agree_target : (us : List TypeRow) (rs : List (ℕ × Scope)) (cs : List Claim) (at : Pos) (t : TypeId) → Agree us rs cs → Agree us rs (cs ++ claim.Target at t ∷ [])
+  agree_target us rs cs at t agree = record {
+    parts = λ k r high is. parts_on n us us cs (claim.Target at t ∷ []) (λ t told. told) (λ k r high is. is) r (agree.parts k r high is);
+    bases = more_bases (λ b t. IsTold us b) cs (claim.Target at t ∷ []) agree.bases (target_bases (λ b t. IsTold us b) at t);
+    opens = agree.opens;
+    fields = agree.fields;
+  }
+
+  pub agree_record_set : (us : List TypeRow) (h : Home) (cs : List Claim) (t : TypeId) (base : Option TypeId) (fs : List TypeId) (s : Scope) (ds : List Claim) →
+      t.0 < n → t.0 < length us → AreOfBase ds base t → AreToldIn us (row.Record base fs) → s.variables ≡ map (λ t. Some t) fs → Agree us h.records cs →
+      Agree (slice_set us t.0 (row.Record base fs)) (add_record h t s).records (cs ++ ds)
+  agree_record_set us h cs t base fs s ds low below claims told same agree =
+      let r = row.Record base fs in
+      let vs = slice_set us t.0 r in
+      let on = set_on us t r refl in
+      let x = some_there us t.0 below in
+      record {
+        parts = parts_set n m us cs t r ds low refl (record_parts us vs on cs ds base fs t claims told) agree.parts;
+        bases = record_bases us vs on cs ds base fs t claims told agree.bases;
+        opens = opens_set us t r refl agree.opens;
+        fields = added us vs h t base fs s (omega (arith, length-set us t.0 r)) (omega (arith, below, length-set us t.0 r)) (set_here us t.0 x.0 r x.1)
+            (λ j l other. set_other us t.0 j r other) same agree.fields;
+      }
+
+  pub agree_record_push : (us : List TypeRow) (h : Home) (cs : List Claim) (base : Option TypeId) (fs : List TypeId) (s : Scope) (ds : List Claim) →
+      AreOfBase ds base (record { 0 = length us }) → AreToldIn us (row.Record base fs) → s.variables ≡ map (λ t. Some t) fs → Agree us h.records cs →
+      Agree (us ++ row.Record base fs ∷ []) (add_record h (record { 0 = length us }) s).records (cs ++ ds)
+  agree_record_push us h cs base fs s ds claims told same agree =
+      let r = row.Record base fs in
+      let t : TypeId = record { 0 = length us } in
+      let vs = us ++ r ∷ [] in
+      let on = told_behind us (r ∷ []) in
+      record {
+        parts = parts_push n m us cs r ds (record_parts us vs on cs ds base fs t claims told) agree.parts;
+        bases = record_bases us vs on cs ds base fs t claims told agree.bases;
+        opens = opens_push us r tt agree.opens;
+        fields = added us vs h t base fs s (omega (arith, length-append us (r ∷ []))) (omega (arith, length-append us (r ∷ []))) (get_end us r)
+            (λ j l other. get_below us (r ∷ []) j l) same agree.fields;
+      }

@@ -30,7 +30,7 @@ use Rattle.aos_check_decl.specs.Types.{met, type_in}
 use Rattle.aos_check_decl.specs.Aliases.{nil}
 use Rattle.aos_check_decl.specs.Headings as judge
 use Rattle.aos_check_decl.proofs.TypingScopes.{AllGood, IsMore, no_more, same_more, more_and_more, variable_more, variable_good, variable_records, constant_more, constant_good, constant_records}
-use Rattle.aos_check_decl.proofs.TypingTypes.{Telling, IsSearched, IsSlotted, IsFit, IsBeyond, beyond_on, fit_beyond, IsMet, type_sound, good_constants}
+use Rattle.aos_check_decl.proofs.TypingTypes.{Telling, IsSearched, IsSlotted, IsFit, IsBeyond, beyond_on, fit_beyond, IsMet, is_written, type_sound, good_constants}
 
 abbrev pub is_name : TypeExpr → Bool
 is_name (type.Named q) = true
@@ -122,9 +122,10 @@ module _ (c : Telling) (path : List Open) (searched : Each (IsSearched c) path) 
       first_is = here.first ∙ fit.first_is;
       names_are = λ j. here.names j ∙ fit.names_are j;
       path_is = fit.path_is;
+      narrowed_is = fit.narrowed_is;
       good = good;
       table = fit.table;
-      agrees = subst (c.Agrees e.types) (sym records) fit.agrees;
+      agrees = subst (λ rs. c.Agrees e.types rs e.claims) (sym records) fit.agrees;
     };
     goes = c.stays e.types;
     long = refl;
@@ -153,13 +154,13 @@ module _ (c : Telling) (path : List Open) (searched : Each (IsSearched c) path) 
 
   variable_sound : (e : Env) → IsFit c path e → (v : VarDef) → Holds (IsBehind (length v.defs) e) (judge.variable_def e v)
   variable_sound e fit v =
-      holds_bind (IsMet c path searched e None) (IsBehind (length v.defs) e) (type_in None e v.of) (λ m. kept (judge.with_variables m.env (length v.defs) m.of))
-      (type_sound c path searched e fit None tt v.of)
+      holds_bind (IsMet c path searched false (is_written c path searched v.of) e None) (IsBehind (length v.defs) e) (type_in false None e v.of) (λ m. kept (judge.with_variables m.env (length v.defs) m.of))
+      (type_sound c path searched false e fit None tt tt v.of)
       (λ m is h. let f = fit_beyond c path e m.env fit is.beyond in
       let n = length v.defs in
       let same : 0 + n ≡ n = omega arith in
       subst (λ n. IsBehind n e (judge.with_variables m.env (length v.defs) m.of)) same
-      (behind_on 0 n e m.env (judge.with_variables m.env n m.of) (later e m.env fit is.beyond) (variables_behind n m.env f m.of is.of)))
+      (behind_on 0 n e m.env (judge.with_variables m.env n m.of) (later e m.env fit is.beyond) (variables_behind n m.env f m.of (is.of.known refl))))
 
   -- Constants.
 
@@ -176,9 +177,10 @@ module _ (c : Telling) (path : List Open) (searched : Each (IsSearched c) path) 
 
   -- Types that are defined.
 
-  settled_beyond : (e : Env) → IsFit c path e → (slot : Option TypeId) → IsSlotted c slot → (f : Env) (of : Option TypeId) → IsMet c path searched e slot (met f of) →
+  settled_beyond : (whole : Bool) (e : Env) → IsFit c path e → (slot : Option TypeId) → IsSlotted c slot → (f : Env) (of : Option TypeId) →
+      IsMet c path searched false whole e slot (met f of) →
       IsBeyond c e (judge.settled slot (met f of))
-  settled_beyond e fit (Some t) ok f None is =
+  settled_beyond whole e fit (Some t) ok f None is =
       let g = judge.settled (Some t) (met f None) in
       beyond_on c e f g is.beyond (
       record {
@@ -190,18 +192,20 @@ module _ (c : Telling) (path : List Open) (searched : Each (IsSearched c) path) 
         scopes = refl;
         signatures = refl;
         path = refl;
-        agree = c.agree_unsettled f.types f.here.records t is.of;
+        narrowed = refl;
+        agree = c.agree_unsettled f.types f.here.records f.claims t is.of;
         goes = c.unsettled f.types t (fit_beyond c path e f fit is.beyond).table ok is.of;
         long = ap (λ n. n + length f.places) (length-set f.types t.0 (row.Open nil));
       }
       )
-  settled_beyond e fit (Some t) ok f (Some u) is = is.beyond
-  settled_beyond e fit None ok f of is = is.beyond
+  settled_beyond whole e fit (Some t) ok f (Some u) is = is.beyond
+  settled_beyond whole e fit None ok f of is = is.beyond
 
   defined_sound : (e : Env) → IsFit c path e → (slot : Option TypeId) → IsSlotted c slot → (of : TypeExpr) → Holds (IsBehind 0 e) (judge.defined e slot of)
   defined_sound e fit slot ok of =
-      holds_bind (IsMet c path searched e slot) (IsBehind 0 e) (type_in slot e of) (λ m. kept (judge.settled slot m)) (type_sound c path searched e fit slot ok of)
-      (λ m is h. later e (judge.settled slot m) fit (settled_beyond e fit slot ok m.env m.of is))
+      holds_bind (IsMet c path searched false (is_written c path searched of) e slot) (IsBehind 0 e) (type_in false slot e of) (λ m. kept (judge.settled slot m))
+      (type_sound c path searched false e fit slot ok tt of)
+      (λ m is h. later e (judge.settled slot m) fit (settled_beyond (is_written c path searched of) e fit slot ok m.env m.of is))
 
   type_by : (e : Env) → IsFit c path e → (def : Def) (of : TypeExpr) → Slotted (record { def = def; value = of }) →
       Holds (IsBehind 0 e) (judge.type_def e (record { def = def; value = of }))

@@ -31,7 +31,7 @@ use Rattle.aos_symbols.specs.Breaches.{breach_unless}
 use Rattle.aos_symbols.specs.Declarations.{Procedure, procedures, all_type_defs, single_variables}
 use Rattle.aos_symbols.specs.Env as env
 use Rattle.aos_symbols.proofs.Holds.{none_left, none_right, test_is}
-use Rattle.aos_symbols.proofs.Told.{IsTold, basic, defined}
+use Rattle.aos_symbols.proofs.Told.{IsTold, basic, of_any, defined}
 use Rattle.aos_check_decl.specs.Limits as judge
 use Rattle.aos_check_decl.specs.Limits.{Written, written, defined_at, unnamed_at}
 use Rattle.aos_check_decl.proofs.TypingTables.{AllBelow, circle_stays}
@@ -189,6 +189,7 @@ module _ (flags : List Bool) (rows : List TypeRow) (begins : (k : ℕ) → k < 1
   pub result_scalar : (q : Qualident) (t : TypeId) → IsTold rows t → judge.is_circular flags rows t ≡ false → scalars rows t ≤ MOST_SCALARS →
       judge.result_breaches flags rows (Some q) (gives.Value (Some t)) ≡ [] → is_scalar (row_of rows t) ≡ true
   result_scalar q t (basic low) whole small none = ap is_scalar (begins t.0 (omega (arith, low))) ∙ basic_scalar t.0 low
+  result_scalar q t (of_any any) whole small none = ap is_scalar (begins t.0 (omega (arith, any))) ∙ ap (λ k. is_scalar (slice_get env.basic_rows k)) any
   result_scalar q t (defined r high there closed) whole small none =
       let wrong = judge.is_wrong_result flags rows t in
       let right = not_true wrong (test_is (not wrong) 25 q.first.pos none) in

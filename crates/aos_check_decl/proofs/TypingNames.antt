@@ -1,6 +1,6 @@
 -- The type that a name stands for: what holds of the types of all entries that are searched, and of the basic types, holds of it.
 use Rattle.std.proofs.Common.{◌≡◌, ℕ, ◌<◌, ◌≤◌, ◌==◌, List, [], Bool, true, false, Option, Some, None, option_map, option_and_then, slice_get, eq-eqb, refl, sym, ap, ◌∙◌, subst, arith, if◌then◌else◌}
-use Rattle.std.proofs.lemmas.Bool.{eqb-false}
+use Rattle.std.proofs.lemmas.Bool.{cases_lt}
 use Rattle.std.proofs.lemmas.Option.{none-some}
 use mathlib.Core.Logic.{◌⊎◌, inl, inr}
 use Rattle.aos_base.specs.declared.text.Pos.{Pos}
@@ -15,7 +15,6 @@ use Rattle.aos_symbols.specs.declared.env.Symbol.{Symbol}
 use Rattle.aos_symbols.specs.declared.env.Lookup.{Lookup}
 use Rattle.aos_symbols.specs.declared.env.Lookup.TheVariants.{Unknown, NotExported, Found}
 use Rattle.aos_symbols.specs.declared.env.Env.{Env}
-use Rattle.aos_symbols.specs.Judged.{kept}
 use Rattle.aos_symbols.specs.Scope.{Scope, find}
 use Rattle.aos_symbols.specs.Home.{Home}
 use Rattle.aos_symbols.specs.Env as env
@@ -26,29 +25,37 @@ use Rattle.aos_check_decl.specs.Types as judge
 use Rattle.aos_check_decl.specs.Headings.{slot_meant, slot_in}
 use Rattle.aos_check_decl.proofs.TypingScopes.{names_at, scope_at}
 
-basic_below : (n : ℕ) → n ≤ 8 → (n ≡ 7 → ⊥) → (n ≡ 8 → ⊥) → n < 7
-basic_below n le not_nil not_any = omega (arith, not_nil, not_any)
+-- the numbers of the predeclared types that names stand for
+abbrev pub IsBasicNumber : ℕ → Type 0
+IsBasicNumber n = (n < 7) ⊎ (n ≡ 8)
 
--- a predeclared type but ANY is a basic one
-predeclared_basic : (P : Option TypeId → Type 0) → ((t : TypeId) → t.0 < 7 → P (Some t)) → (m : Meaning) → IsPredeclared m →
-    (of : Option TypeId) → m ≡ means.Type of → judge.is_any of ≡ false → P of
-predeclared_basic P basic m (a_type t le other) of e not_any = subst P (same of e) (basic t (basic_below t.0 le other (eqb-false t.0 8 (ap judge.is_any (same of e) ∙ not_any))))
+basic_below : (n : ℕ) → n ≤ 8 → (n ≡ 7 → ⊥) → IsBasicNumber n
+basic_below n le not_nil = by (cases_lt n 7)
+  where
+    by : (n < 7) ⊎ (7 ≤ n) → IsBasicNumber n
+    by (inl low) = inl low
+    by (inr high) = inr (omega (arith, le, high, not_nil))
+
+-- a predeclared type is a basic one or ANY
+predeclared_basic : (P : Option TypeId → Type 0) → ((t : TypeId) → IsBasicNumber t.0 → P (Some t)) → (m : Meaning) → IsPredeclared m →
+    (of : Option TypeId) → m ≡ means.Type of → P of
+predeclared_basic P basic m (a_type t le other) of e = subst P (same of e) (basic t (basic_below t.0 le other))
   where
     same : (of : Option TypeId) → means.Type (Some t) ≡ means.Type of → Some t ≡ of
     same of e = cc
-predeclared_basic P basic m (a_truth b) of e not_any = absurd (no_truth of e)
+predeclared_basic P basic m (a_truth b) of e = absurd (no_truth of e)
   where
     no_truth : (of : Option TypeId) → means.Truth b ≡ means.Type of → ⊥
     no_truth of e = cc
-predeclared_basic P basic m (a_function f) of e not_any = absurd (no_function of e)
+predeclared_basic P basic m (a_function f) of e = absurd (no_function of e)
   where
     no_function : (of : Option TypeId) → means.Function f ≡ means.Type of → ⊥
     no_function of e = cc
-predeclared_basic P basic m (a_routine r) of e not_any = absurd (no_routine of e)
+predeclared_basic P basic m (a_routine r) of e = absurd (no_routine of e)
   where
     no_routine : (of : Option TypeId) → means.Routine r ≡ means.Type of → ⊥
     no_routine of e = cc
-predeclared_basic P basic m another of e not_any = absurd (no_other of e)
+predeclared_basic P basic m another of e = absurd (no_other of e)
   where
     no_other : (of : Option TypeId) → means.Other ≡ means.Type of → ⊥
     no_other of e = cc
@@ -60,15 +67,15 @@ AreNamed e Searched P = (o : Open) (s : Scope) (w : List ℕ) (x : Entry) → Se
 
 -- The types that names stand for.
 
-module _ (e : Env) (Searched : Open → Type 0) (P : Option TypeId → Type 0) (named : AreNamed e Searched P) (basic : (t : TypeId) → t.0 < 7 → P (Some t))
+module _ (e : Env) (Searched : Open → Type 0) (P : Option TypeId → Type 0) (named : AreNamed e Searched P) (basic : (t : TypeId) → IsBasicNumber t.0 → P (Some t))
     (path : Each Searched e.path) (own : (m : ℕ) → Searched (env.own m)) where
   abbrev Names : Symbol → Type 0
-  Names x = (of : Option TypeId) → x.means ≡ means.Type of → judge.is_any of ≡ false → P of
+  Names x = (of : Option TypeId) → x.means ≡ means.Type of → P of
 
   all_named : IsOfAll e Searched Names
   all_named = record {
-    entries = λ o s w x searched there is of means not_any. named o s w x searched there is of means;
-    others = λ m is of means not_any. predeclared_basic P basic m is of means not_any;
+    entries = λ o s w x searched there is of means. named o s w x searched there is of means;
+    others = λ m is of means. predeclared_basic P basic m is of means;
   }
 
   abbrev MayName : Lookup → Type 0
@@ -80,12 +87,8 @@ module _ (e : Env) (Searched : Open → Type 0) (P : Option TypeId → Type 0) (
   member_named : (m : ℕ) (n : Name) → MayName (env.member e m n)
   member_named m n = member_is e Searched Names all_named m (own m) n
 
-  type_meant_sound : (m : Meaning) → ((of : Option TypeId) → m ≡ means.Type of → judge.is_any of ≡ false → P of) → (at : Pos) → Holds P (judge.type_meant m at)
-  type_meant_sound (means.Type of) is at = by (judge.is_any of) refl
-    where
-      by : (b : Bool) → judge.is_any of ≡ b → Holds P (if b then judge.no_type 99 at else kept of)
-      by true any = broken P _ [] _
-      by false not_any = λ h. is of refl not_any
+  type_meant_sound : (m : Meaning) → ((of : Option TypeId) → m ≡ means.Type of → P of) → (at : Pos) → Holds P (judge.type_meant m at)
+  type_meant_sound (means.Type of) is at = λ h. is of refl
   type_meant_sound (means.Constant k) is at = broken P _ [] _
   type_meant_sound (means.Variable k) is at = broken P _ [] _
   type_meant_sound (means.Procedure k) is at = broken P _ [] _
@@ -100,7 +103,7 @@ module _ (e : Env) (Searched : Open → Type 0) (P : Option TypeId → Type 0) (
   type_found_sound : (l : Lookup) → MayName l → (at : Pos) → Holds P (judge.type_found l at)
   type_found_sound Unknown may at = broken P _ [] _
   type_found_sound NotExported may at = broken P _ [] _
-  type_found_sound (Found x) may at = type_meant_sound x.means (λ of is not_any. may x refl of is not_any) at
+  type_found_sound (Found x) may at = type_meant_sound x.means (λ of is. may x refl of is) at
 
   in_module_sound : (m : Meaning) (at : Pos) (n : Name) → Holds P (judge.type_in_module e m at n)
   in_module_sound (means.Module m) at n = type_found_sound (env.member e m n) (member_named m n) n.pos

@@ -3,7 +3,7 @@ use Rattle.std.proofs.Common.{◌≡◌, ℕ, zero, suc, ◌+◌, ◌<◌, List,
 use Rattle.std.specs.List.{flat_map}
 use Rattle.std.proofs.lemmas.List.{length-replicate}
 use Rattle.std.proofs.lemmas.Option.{none-some, same_Some}
-use mathlib.Core.Logic.{◌⊎◌, inl, inr}
+use mathlib.Core.Logic.{inr}
 use Rattle.aos_base.specs.declared.text.Pos.{Pos}
 use Rattle.aos_tree.specs.declared.name.Qualident.{Qualident}
 use Rattle.aos_tree.specs.declared.decl.Decl.{Decl}
@@ -11,7 +11,6 @@ use Rattle.aos_tree.specs.declared.decl.Formals.{Formals}
 use Rattle.aos_tree.specs.declared.decl.Section.{Section}
 use Rattle.aos_types.specs.declared.row.TypeId.{TypeId}
 use Rattle.aos_types.specs.declared.row.TypeRow.{TypeRow}
-use Rattle.aos_types.specs.declared.row.TypeRow.TheVariants as row
 use Rattle.aos_symbols.specs.declared.home.Gives.{Gives}
 use Rattle.aos_symbols.specs.declared.home.Gives.TheVariants as gives
 use Rattle.aos_symbols.specs.declared.home.Parameter.{Parameter}
@@ -29,7 +28,7 @@ use Rattle.aos_check_decl.specs.Headings as judge
 use Rattle.aos_check_decl.specs.Headings.{FormalsMet, formals_met, HeadingMet, heading_met}
 use Rattle.aos_check_decl.proofs.TypingLists.{get_below, get_behind}
 use Rattle.aos_check_decl.proofs.TypingScopes.{behind, variables_at}
-use Rattle.aos_check_decl.proofs.TypingTypes.{Telling, IsSearched, IsFit, IsBeyond, beyond_same, beyond_on, fit_beyond, named}
+use Rattle.aos_check_decl.proofs.TypingTypes.{Telling, IsSearched, IsFit, IsBeyond, beyond_same, beyond_on, fit_beyond, named, open_placed}
 use Rattle.aos_check_decl.proofs.TypingHeadings.{HasSlot, IsGrown, IsBehind, grown_on, grown_same, one_variable, declarations_sound}
 
 abbrev pub types_of : List Parameter → List (Option TypeId)
@@ -56,27 +55,9 @@ module _ (c : Telling) (path : List Open) (searched : Each (IsSearched c) path) 
   open_sound e fit at f (Some t) is =
       let g = (judge.opened (at ∷ []) (met f (Some t))).env in
       record {
-        beyond = beyond_on c e f g is.beyond (
-            record {
-              number = refl;
-              before = refl;
-              name = refl;
-              text = refl;
-              first = refl;
-              scopes = refl;
-              signatures = refl;
-              path = refl;
-              agree = c.agree_open f.types f.here.records t (fit_beyond c path e f fit is.beyond).table is.there;
-              goes = c.push f.types (row.Open t) (λ p one. element p one);
-              long = omega (arith, length-append f.types (row.Open t ∷ []), length-append f.places (at ∷ []));
-            }
-            );
+        beyond = beyond_on c e f g is.beyond (open_placed c path searched f (fit_beyond c path e f fit is.beyond) at t is.there);
         there = c.pushed_open f.types t (fit_beyond c path e f fit is.beyond).table;
       }
-    where
-      element : (p : TypeId) → (t ≡ p) ⊎ ⊥ → There f.types (Some p)
-      element p (inl e) = subst (λ (q : TypeId). There f.types (Some q)) e is.there
-      element p (inr h) = absurd h
 
   opened_sound : (e : Env) → IsFit c path e → (ats : List Pos) (m : Met) → IsOpened e m → IsOpened e (judge.opened ats m)
   opened_sound e fit [] m is = is
@@ -228,6 +209,7 @@ module _ (c : Telling) (path : List Open) (searched : Each (IsSearched c) path) 
           first_is = grown.fit.first_is;
           names_are = grown.fit.names_are;
           path_is = head.beyond.path ∙ fit.path_is;
+          narrowed_is = grown.fit.narrowed_is;
           good = grown.fit.good;
           table = grown.fit.table;
           agrees = grown.fit.agrees;
@@ -252,6 +234,7 @@ module _ (c : Telling) (path : List Open) (searched : Each (IsSearched c) path) 
         first_is = out.first_is;
         names_are = out.names_are;
         path_is = (λ i. record { home = out.number_is i; scope = k } ∷ out.path_is i);
+        narrowed_is = out.narrowed_is;
         good = out.good;
         table = out.table;
         agrees = out.agrees;

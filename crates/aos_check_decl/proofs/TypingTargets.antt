@@ -20,13 +20,13 @@ use Rattle.aos_symbols.specs.Entries.{number_at, scopes}
 use Rattle.aos_symbols.specs.Env as env
 use Rattle.aos_symbols.proofs.Each.{Each}
 use Rattle.aos_symbols.proofs.Holds.{Holds, holds_bind}
-use Rattle.aos_symbols.proofs.Told.{IsTold, basic, IsKnown}
+use Rattle.aos_symbols.proofs.Told.{IsTold, basic, of_any, IsKnown}
 use Rattle.aos_check_decl.specs.declared.aliases.Target.{Target}
 use Rattle.aos_check_decl.specs.declared.aliases.Target.TheVariants.{Own, Of, Nothing}
 use Rattle.aos_check_decl.specs.Types.{named_type}
 use Rattle.aos_check_decl.specs.Aliases.{target_of, led_by, with_target, local_targets, targets}
 use Rattle.aos_check_decl.specs.Pass.{own_numbers, entered}
-use Rattle.aos_check_decl.proofs.TypingNames.{IsSearchedIn, AreOthersNamed, all_named_in, named_sound}
+use Rattle.aos_check_decl.proofs.TypingNames.{IsBasicNumber, IsSearchedIn, AreOthersNamed, all_named_in, named_sound}
 use Rattle.aos_check_decl.proofs.TypingEntries.{scopes_typed}
 use Rattle.aos_check_decl.proofs.TypingHeadings.{is_name}
 
@@ -34,6 +34,10 @@ use Rattle.aos_check_decl.proofs.TypingHeadings.{is_name}
 pub number_of : (f : ℕ → Option TypeId) (n k : ℕ) → k < n → number_at (map f (range_with_len 0 n)) k ≡ f k
 number_of f n k below =
     unwrap_or-slice_get (map f (range_with_len 0 n)) k None ∙ get_or-map-range_with_len f 0 n k k None below (omega arith)
+
+pub basic_told : (types : List TypeRow) (t : TypeId) → IsBasicNumber t.0 → IsTold types t
+basic_told types t (inl low) = basic low
+basic_told types t (inr any) = of_any any
 
 -- a type that is told, or one of so many that the module defines behind these
 abbrev pub IsMeant : List TypeRow → ℕ → TypeId → Type 0
@@ -106,7 +110,7 @@ module _ (number : ℕ) (before : List Home) (types : List TypeRow) (text : List
       named_sound (env.back_at path first) (IsSearchedIn number inner) Means
       (all_named_in number before (scopes text before own m) inner Means (scopes_typed text before own m Means own_meant)
       (λ j h s w x of at there found is. known_meant of (others j h s w x of at there found is)) (env.back_at path first) refl refl (λ j. refl))
-      (λ t low. inl (basic low)) searched (λ j. inl refl) q
+      (λ t low. inl (basic_told types t low)) searched (λ j. inl refl) q
 
   led_sound : (path : List Open) → Each (IsSearchedIn number inner) path → (of : TypeExpr) → Holds (IsLed types count of) (led_by (env.back_at path first) of)
   led_sound path searched (type.Named q) =

@@ -1,12 +1,13 @@
 -- A walk over declarations in a module's environment, and what is told of types on it: the types that are written break no rule,
 -- and so their numbers are known.
-use Rattle.std.proofs.Common.{◌≡◌, ℕ, suc, ◌+◌, ◌<◌, ◌==◌, List, [], ◌∷◌, ◌++◌, length, replicate, ℤ, pos, negsuc, int_le, Bool, true, false, ◌&&◌, Option, Some, None, option_and_then, slice_get, slice_set, if◌then◌else◌, refl, sym, ap, ◌∙◌, subst, arith, length-append, length-set}
+use Rattle.std.proofs.Common.{◌≡◌, append-nil, ℕ, suc, ◌+◌, ◌==◌, List, [], ◌∷◌, ◌++◌, length, replicate, ℤ, pos, negsuc, int_le, Bool, true, false, ◌&&◌, Option, Some, None, option_and_then, slice_get, slice_set, if◌then◌else◌, refl, sym, ap, ◌∙◌, subst, arith, length-append, length-set}
 use Rattle.std.specs.Prelude.{unsigned_abs}
 use Rattle.std.proofs.lemmas.Bool.{and_parts}
 use Rattle.std.proofs.lemmas.Int.{ints}
 use Rattle.std.proofs.lemmas.Option.{none-some}
-use mathlib.Core.Logic.{inl, inr}
+use mathlib.Core.Logic.{◌⊎◌, inl, inr}
 use Rattle.aos_base.specs.declared.text.Pos.{Pos}
+use Rattle.aos_tree.specs.declared.name.Name.{Name}
 use Rattle.aos_tree.specs.declared.name.Qualident.{Qualident}
 use Rattle.aos_tree.specs.declared.expr.Expr.{Expr, out-Expr}
 use Rattle.aos_tree.specs.declared.stat.Block.{Block}
@@ -14,40 +15,46 @@ use Rattle.aos_tree.specs.declared.decl.Def.{Def}
 use Rattle.aos_tree.specs.declared.decl.Decl.{Decl, items-the_row-Decl}
 use Rattle.aos_tree.specs.declared.decl.Fields.{Fields}
 use Rattle.aos_tree.specs.declared.decl.Fields.TheVariants as fields
-use Rattle.aos_tree.specs.declared.decl.TypeExpr.{TypeExpr, Row_of-TypeExpr, end_of-TypeExpr, more_of-TypeExpr, Row_of-Fields, end_of-Fields, more_of-Fields}
+use Rattle.aos_tree.specs.declared.decl.TypeExpr.{TypeExpr, Row_of-TypeExpr, end_of-TypeExpr, more_of-TypeExpr, Row_of-Fields, end_of-Fields, more_of-Fields, items-the_row-Fields}
 use Rattle.aos_tree.specs.declared.decl.TypeExpr.TheVariants as type
 use Rattle.aos_types.specs.declared.TheConstants.{MOST_SCALARS}
 use Rattle.aos_types.specs.declared.row.TypeId.{TypeId}
 use Rattle.aos_types.specs.declared.row.TypeRow.{TypeRow}
 use Rattle.aos_types.specs.declared.row.TypeRow.TheVariants as row
 use Rattle.aos_types.specs.Table.{is_open}
-use Rattle.aos_types.specs.Chain.{IsOneOf}
+use Rattle.aos_types.specs.Chain.{base_list, IsOneOf}
 use Rattle.aos_types.specs.Count.{named_in}
+use Rattle.aos_types.proofs.Reached.{one_of_both}
 use Rattle.aos_typed.specs.declared.tree.Literal.{Literal}
 use Rattle.aos_typed.specs.declared.tree.Literal.TheVariants as literal
 use Rattle.aos_symbols.specs.declared.env.Open.{Open}
+use Rattle.aos_symbols.specs.declared.env.Claim.{Claim}
+use Rattle.aos_symbols.specs.declared.env.Claim.TheVariants as claim
 use Rattle.aos_symbols.specs.declared.env.Env.{Env}
 use Rattle.aos_symbols.specs.Judged.{Judged, judged, kept, bind, walk}
 use Rattle.aos_symbols.specs.Scope.{Scope, empty}
 use Rattle.aos_symbols.specs.Home.{Home, add_record}
 use Rattle.aos_symbols.specs.Env as env
 use Rattle.aos_symbols.proofs.Each.{Each, joined, implied, repeated}
-use Rattle.aos_symbols.proofs.Told.{IsLength}
-use Rattle.aos_symbols.proofs.Holds.{Holds, holds_bind, holds_walk, broken}
+use Rattle.aos_symbols.proofs.Told.{get_end, IsLength}
+use Rattle.aos_symbols.proofs.Holds.{Holds, holds_bind, holds_walk, broken, none_left, none_right}
 use Rattle.aos_check_expr.specs.Expressions.{constant}
 use Rattle.aos_check_expr.proofs.Typing.{HasGood, GoodConstants}
 use Rattle.aos_check_expr.proofs.Typing.{constant_good as good_value}
 use Rattle.aos_check_decl.specs.Types as judge
 use Rattle.aos_check_decl.specs.Types.{Met, met, FieldsMet, fields_met}
 use Rattle.aos_check_decl.specs.Aliases.{nil}
-use Rattle.aos_check_decl.proofs.TypingNames.{IsSearchedIn, AreOwnNamed, AreOthersNamed, all_named_in, named_sound}
+use Rattle.aos_check_decl.specs.Limits.{may_be_target}
+use Rattle.aos_check_decl.proofs.TypingNames.{IsBasicNumber, IsSearchedIn, AreOwnNamed, AreOthersNamed, all_named_in, named_sound}
 use Rattle.aos_check_decl.proofs.TypingScopes.{AreGood, AllGood, names_at}
-use Rattle.aos_check_decl.proofs.TypingFields.{IsNoRecord, HasLength, field_variables}
+use Rattle.aos_check_decl.proofs.TypingClaims.{AreOfBase, IsBaseMet, claims_of_base, base_met}
+use Rattle.aos_check_decl.proofs.TypingFields.{IsNoRecord, IsRow, Leads, field_variables}
 
 -- A walk: the module's number, the modules before it, its name and text, its scopes as its names make them, how many of them are those of
--- types, and the first table of types; and what is told of types. `Known` is told of the types of variables, elements and fields,
--- `There` of those of parameters, `IsSlot` of the numbers of definitions, `GoesTo` of two tables, one before the other, `Agrees` of a
--- table and the fields of record types that the module knows, and `AreAll` of a record's variables and the types in its row.
+-- types, and the first table of types; and what is told of types. `Known` is told of the types of variables, elements, fields and bases,
+-- `There` of those of parameters and of what pointers lead to, `Stands` of records and arrays behind pointers that have no names, `IsSlot`
+-- of the numbers of definitions, `GoesTo` of two tables, one before the other, `Agrees` of a table, the fields of record types that the
+-- module knows and what it asks, and `AreAll` of a record's variables and the types in its row.
 pub record Telling : Type 1 where
   pub number : ℕ
   pub before : List Home
@@ -58,6 +65,7 @@ pub record Telling : Type 1 where
   pub first : List TypeRow
   pub Known : List TypeRow → Option TypeId → Type 0
   pub There : List TypeRow → Option TypeId → Type 0
+  pub Stands : List TypeRow → TypeId → Type 0
   pub GoesTo : List TypeRow → List TypeRow → Type 0
   pub IsSlot : TypeId → Type 0
   pub stays : (ts : List TypeRow) → GoesTo ts ts
@@ -65,30 +73,35 @@ pub record Telling : Type 1 where
   pub known_on : (ts us : List TypeRow) → GoesTo ts us → (of : Option TypeId) → Known ts of → Known us of
   pub there_on : (ts us : List TypeRow) → GoesTo ts us → (of : Option TypeId) → There ts of → There us of
   pub known_there : (ts : List TypeRow) (of : Option TypeId) → Known ts of → There ts of
-  pub basic : (ts : List TypeRow) → GoesTo first ts → (t : TypeId) → t.0 < 7 → Known ts (Some t)
+  pub none_there : (ts : List TypeRow) → There ts None → Known ts None
+  pub basic : (ts : List TypeRow) → GoesTo first ts → (t : TypeId) → IsBasicNumber t.0 → Known ts (Some t)
   pub set : (ts : List TypeRow) (t : TypeId) (r : TypeRow) → GoesTo first ts → IsSlot t → is_open (Some r) ≡ false →
       ((p : TypeId) → IsOneOf p (named_in r) → There ts (Some p)) → GoesTo ts (slice_set ts t.0 r)
   pub unsettled : (ts : List TypeRow) (t : TypeId) → GoesTo first ts → IsSlot t → Known ts None → GoesTo ts (slice_set ts t.0 (row.Open nil))
   pub push : (ts : List TypeRow) (r : TypeRow) → ((p : TypeId) → IsOneOf p (named_in r) → There ts (Some p)) → GoesTo ts (ts ++ r ∷ [])
   pub pushed : (ts : List TypeRow) (r : TypeRow) → GoesTo first ts → is_open (Some r) ≡ false → Known (ts ++ r ∷ []) (Some (record { 0 = length ts }))
   pub pushed_open : (ts : List TypeRow) (t : TypeId) → GoesTo first ts → There (ts ++ row.Open t ∷ []) (Some (record { 0 = length ts }))
-  pub Agrees : List TypeRow → List (ℕ × Scope) → Type 0
+  pub pushed_stands : (ts : List TypeRow) (r : TypeRow) → GoesTo first ts → may_be_target (Some r) ≡ true → Stands (ts ++ r ∷ []) (record { 0 = length ts })
+  pub Agrees : List TypeRow → List (ℕ × Scope) → List Claim → Type 0
   pub AreAll : List (Option TypeId) → List TypeId → Type 0
   pub none_all : AreAll [] []
   pub more_all : (ts : List TypeRow) (vs : List (Option TypeId)) (us : List TypeId) (n : ℕ) (of : Option TypeId) → Known ts of → AreAll vs us →
       AreAll (vs ++ replicate n of) (us ++ judge.fields_of n of)
-  pub agree_set : (ts : List TypeRow) (rs : List (ℕ × Scope)) (t : TypeId) (r : TypeRow) → is_open (Some r) ≡ false → IsNoRecord r → HasLength r →
-      ((p : TypeId) → IsOneOf p (named_in r) → Known ts (Some p)) → Agrees ts rs → Agrees (slice_set ts t.0 r) rs
-  pub agree_push : (ts : List TypeRow) (rs : List (ℕ × Scope)) (r : TypeRow) → is_open (Some r) ≡ false → IsNoRecord r → HasLength r →
-      ((p : TypeId) → IsOneOf p (named_in r) → Known ts (Some p)) → Agrees ts rs → Agrees (ts ++ r ∷ []) rs
-  pub agree_open : (ts : List TypeRow) (rs : List (ℕ × Scope)) (t : TypeId) → GoesTo first ts → There ts (Some t) → Agrees ts rs → Agrees (ts ++ row.Open t ∷ []) rs
-  pub agree_unsettled : (ts : List TypeRow) (rs : List (ℕ × Scope)) (t : TypeId) → Known ts None → Agrees ts rs → Agrees (slice_set ts t.0 (row.Open nil)) rs
-  pub agree_record_set : (ts : List TypeRow) (h : Home) (t : TypeId) (us : List TypeId) (s : Scope) → GoesTo first ts → IsSlot t →
-      ((p : TypeId) → IsOneOf p us → Known ts (Some p)) → AreAll s.variables us → Agrees ts h.records →
-      Agrees (slice_set ts t.0 (row.Record None us)) (add_record h t s).records
-  pub agree_record_push : (ts : List TypeRow) (h : Home) (us : List TypeId) (s : Scope) →
-      ((p : TypeId) → IsOneOf p us → Known ts (Some p)) → AreAll s.variables us → Agrees ts h.records →
-      Agrees (ts ++ row.Record None us ∷ []) (add_record h (record { 0 = length ts }) s).records
+  pub agree_set : (ts : List TypeRow) (rs : List (ℕ × Scope)) (cs : List Claim) (t : TypeId) (r : TypeRow) → IsSlot t → is_open (Some r) ≡ false → IsNoRecord r →
+      IsRow (Leads (Stands ts) cs) r → ((p : TypeId) → IsOneOf p (named_in r) → Known ts (Some p)) → Agrees ts rs cs → Agrees (slice_set ts t.0 r) rs cs
+  pub agree_push : (ts : List TypeRow) (rs : List (ℕ × Scope)) (cs : List Claim) (r : TypeRow) → is_open (Some r) ≡ false → IsNoRecord r →
+      IsRow (Leads (Stands ts) cs) r → ((p : TypeId) → IsOneOf p (named_in r) → Known ts (Some p)) → Agrees ts rs cs → Agrees (ts ++ r ∷ []) rs cs
+  pub agree_open : (ts : List TypeRow) (rs : List (ℕ × Scope)) (cs : List Claim) (t : TypeId) → GoesTo first ts → There ts (Some t) → Agrees ts rs cs →
+      Agrees (ts ++ row.Open t ∷ []) rs cs
+  pub agree_target : (ts : List TypeRow) (rs : List (ℕ × Scope)) (cs : List Claim) (at : Pos) (t : TypeId) → Agrees ts rs cs → Agrees ts rs (cs ++ claim.Target at t ∷ [])
+  pub agree_unsettled : (ts : List TypeRow) (rs : List (ℕ × Scope)) (cs : List Claim) (t : TypeId) → Known ts None → Agrees ts rs cs →
+      Agrees (slice_set ts t.0 (row.Open nil)) rs cs
+  pub agree_record_set : (ts : List TypeRow) (h : Home) (cs : List Claim) (t : TypeId) (base : Option TypeId) (us : List TypeId) (s : Scope) (ds : List Claim) →
+      GoesTo first ts → IsSlot t → AreOfBase ds base t → ((p : TypeId) → IsOneOf p (base_list base ++ us) → Known ts (Some p)) → AreAll s.variables us →
+      Agrees ts h.records cs → Agrees (slice_set ts t.0 (row.Record base us)) (add_record h t s).records (cs ++ ds)
+  pub agree_record_push : (ts : List TypeRow) (h : Home) (cs : List Claim) (base : Option TypeId) (us : List TypeId) (s : Scope) (ds : List Claim) →
+      GoesTo first ts → AreOfBase ds base (record { 0 = length ts }) → ((p : TypeId) → IsOneOf p (base_list base ++ us) → Known ts (Some p)) → AreAll s.variables us →
+      Agrees ts h.records cs → Agrees (ts ++ row.Record base us ∷ []) (add_record h (record { 0 = length ts }) s).records (cs ++ ds)
   pub own : AreOwnNamed inner scopes (Known first)
   pub others : AreOthersNamed before (Known first)
   pub constants : (m : ℕ) (h : Home) (k : ℕ) (s : Scope) → slice_get before m ≡ Some h → slice_get h.scopes k ≡ Some s → AreGood s.constants
@@ -142,9 +155,10 @@ module _ (c : Telling) where
     pub first_is : e.here.first ≡ suc c.inner
     pub names_are : (j : ℕ) → names_at e.here.scopes j ≡ names_at c.scopes j
     pub path_is : e.path ≡ path
+    pub narrowed_is : e.narrowed ≡ []
     pub good : AllGood e.here
     pub table : GoesTo c.first e.types
-    pub agrees : c.Agrees e.types e.here.records
+    pub agrees : c.Agrees e.types e.here.records e.claims
 
   -- the same environment with a later table, and with more fields
   pub record IsBeyond (e e' : Env) : Type 0 where
@@ -156,7 +170,8 @@ module _ (c : Telling) where
     pub scopes : e'.here.scopes ≡ e.here.scopes
     pub signatures : e'.here.signatures ≡ e.here.signatures
     pub path : e'.path ≡ e.path
-    pub agree : c.Agrees e.types e.here.records → c.Agrees e'.types e'.here.records
+    pub narrowed : e'.narrowed ≡ e.narrowed
+    pub agree : c.Agrees e.types e.here.records e.claims → c.Agrees e'.types e'.here.records e'.claims
     pub goes : GoesTo e.types e'.types
     pub long : length e'.types + length e.places ≡ length e.types + length e'.places
 
@@ -170,6 +185,7 @@ module _ (c : Telling) where
     scopes = refl;
     signatures = refl;
     path = refl;
+    narrowed = refl;
     agree = λ a. a;
     goes = c.stays e.types;
     long = refl;
@@ -188,6 +204,7 @@ module _ (c : Telling) where
         scopes = two.scopes ∙ one.scopes;
         signatures = two.signatures ∙ one.signatures;
         path = two.path ∙ one.path;
+        narrowed = two.narrowed ∙ one.narrowed;
         agree = λ a. two.agree (one.agree a);
         goes = c.on e.types f.types g.types one.goes two.goes;
         long = omega (arith, m, n);
@@ -202,6 +219,7 @@ module _ (c : Telling) where
     first_is = one.first ∙ fit.first_is;
     names_are = λ j. ap (λ (ss : List Scope). names_at ss j) one.scopes ∙ fit.names_are j;
     path_is = one.path ∙ fit.path_is;
+    narrowed_is = one.narrowed ∙ fit.narrowed_is;
     good = λ k s there. fit.good k s (ap (λ (ss : List Scope). slice_get ss k) (sym one.scopes) ∙ there);
     table = c.on c.first e.types f.types fit.table one.goes;
     agrees = one.agree fit.agrees;
@@ -239,6 +257,7 @@ module _ (c : Telling) where
     length_given_sound (literal.Char x) at = broken HasNumber _ [] _
     length_given_sound (literal.Set s) at = broken HasNumber _ [] _
     length_given_sound (literal.Text t) at = broken HasNumber _ [] _
+    length_given_sound literal.Nil at = broken HasNumber _ [] _
 
     length_sound : (e : Env) → IsFit path e → (x : Expr) → Holds HasNumber (judge.length_of e x)
     length_sound e fit x =
@@ -266,31 +285,58 @@ module _ (c : Telling) where
         holds_bind HasLengths HasLengths (judge.with_length e (Some []) x) (λ ns. walk (judge.with_length e) ns xs) (first_length e fit x)
         (λ ns are. holds_walk HasLengths (judge.with_length e) (λ ns y are. more_lengths e fit ns y are) xs ns are)
 
-    -- What is met of a type: nothing is asked of the number of a definition's type but that there is one.
+    -- What is met of a type: it is known, where no open array may stand, or there; it is a record or an array where one is written. Nothing
+    -- is asked of the number of a definition's type but that there is one.
 
-    abbrev pub IsOf : Option TypeId → List TypeRow → Option TypeId → Type 0
-    IsOf None ts of = Known ts of
-    IsOf (Some s) ts None = Known ts None
-    IsOf (Some s) ts (Some t) = Unit {0}
+    abbrev StandsOf : List TypeRow → Option TypeId → Type 0
+    StandsOf ts None = Unit {0}
+    StandsOf ts (Some t) = c.Stands ts t
 
-    pub record IsMet (e : Env) (slot : Option TypeId) (m : Met) : Type 0 where
+    pub record IsType (may_be_open whole : Bool) (ts : List TypeRow) (of : Option TypeId) : Type 0 where
+      pub known : may_be_open ≡ false → Known ts of
+      pub there : There ts of
+      pub stands : whole ≡ true → StandsOf ts of
+
+    abbrev pub IsOf : (may_be_open whole : Bool) → Option TypeId → List TypeRow → Option TypeId → Type 0
+    IsOf may_be_open whole None ts of = IsType may_be_open whole ts of
+    IsOf may_be_open whole (Some s) ts None = Known ts None
+    IsOf may_be_open whole (Some s) ts (Some t) = Unit {0}
+
+    pub record IsMet (may_be_open whole : Bool) (e : Env) (slot : Option TypeId) (m : Met) : Type 0 where
       pub beyond : IsBeyond e m.env
-      pub of : IsOf slot m.env.types m.of
+      pub of : IsOf may_be_open whole slot m.env.types m.of
 
-    of_slot : (slot : Option TypeId) (ts : List TypeRow) (of : Option TypeId) → Known ts of → IsOf slot ts of
-    of_slot None ts of known = known
-    of_slot (Some s) ts None known = known
-    of_slot (Some s) ts (Some t) known = tt
+    -- an open array is the type of no definition
+    abbrev pub IsAsked : Bool → Option TypeId → Type 0
+    IsAsked true (Some s) = ⊥
+    IsAsked may_be_open slot = Unit {0}
 
-    met_on : (e f : Env) (slot : Option TypeId) (m : Met) → IsBeyond e f → IsMet f slot m → IsMet e slot m
-    met_on e f slot m one two = record { beyond = beyond_on e f m.env one two.beyond; of = two.of }
+    asked_none : (may_be_open : Bool) → IsAsked may_be_open None
+    asked_none true = tt
+    asked_none false = tt
+
+    of_slot : (may_be_open whole : Bool) (slot : Option TypeId) (ts : List TypeRow) (of : Option TypeId) → Known ts of → (whole ≡ true → StandsOf ts of) →
+        IsOf may_be_open whole slot ts of
+    of_slot may_be_open whole None ts of known stands = record { known = λ closed. known; there = c.known_there ts of known; stands = stands }
+    of_slot may_be_open whole (Some s) ts None known stands = known
+    of_slot may_be_open whole (Some s) ts (Some t) known stands = tt
+
+    met_on : (may_be_open whole : Bool) (e f : Env) (slot : Option TypeId) (m : Met) → IsBeyond e f → IsMet may_be_open whole f slot m → IsMet may_be_open whole e slot m
+    met_on may_be_open whole e f slot m one two = record { beyond = beyond_on e f m.env one two.beyond; of = two.of }
+
+    never : {A : Type 0} → false ≡ true → A
+    never e = absurd (cc)
+
+    -- whatever is written
+    plain : (may_be_open whole : Bool) (e : Env) (m : Met) → IsMet may_be_open whole e None m → IsMet may_be_open false e None m
+    plain may_be_open whole e m is = record { beyond = is.beyond; of = record { known = is.of.known; there = is.of.there; stands = λ h. never h } }
 
     abbrev AreKnown : List TypeRow → TypeRow → Type 0
     AreKnown ts r = (p : TypeId) → IsOneOf p (named_in r) → c.Known ts (Some p)
 
-    placed_sound : (e : Env) → IsFit path e → (slot : Option TypeId) → IsSlotted slot → (at : Pos) (r : TypeRow) → is_open (Some r) ≡ false →
-        IsNoRecord r → HasLength r → AreKnown e.types r → IsMet e slot (judge.placed slot at r e)
-    placed_sound e fit (Some t) ok at r closed other long known = record {
+    placed_sound : (may_be_open : Bool) (e : Env) → IsFit path e → (slot : Option TypeId) → IsSlotted slot → (at : Pos) (r : TypeRow) → is_open (Some r) ≡ false →
+        IsNoRecord r → IsRow (Leads (c.Stands e.types) e.claims) r → AreKnown e.types r → IsMet may_be_open (may_be_target (Some r)) e slot (judge.placed slot at r e)
+    placed_sound may_be_open e fit (Some t) ok at r closed other whole known = record {
       beyond = record {
         number = refl;
         before = refl;
@@ -300,13 +346,14 @@ module _ (c : Telling) where
         scopes = refl;
         signatures = refl;
         path = refl;
-        agree = c.agree_set e.types e.here.records t r closed other long known;
+        narrowed = refl;
+        agree = c.agree_set e.types e.here.records e.claims t r ok closed other whole known;
         goes = c.set e.types t r fit.table ok closed (λ p one. c.known_there e.types (Some p) (known p one));
         long = ap (λ n. n + length e.places) (length-set e.types t.0 r);
       };
       of = tt;
     }
-    placed_sound e fit None ok at r closed other long known = record {
+    placed_sound may_be_open e fit None ok at r closed other whole known = record {
       beyond = record {
         number = refl;
         before = refl;
@@ -316,44 +363,93 @@ module _ (c : Telling) where
         scopes = refl;
         signatures = refl;
         path = refl;
-        agree = c.agree_push e.types e.here.records r closed other long known;
+        narrowed = refl;
+        agree = c.agree_push e.types e.here.records e.claims r closed other whole known;
         goes = c.push e.types r (λ p one. c.known_there e.types (Some p) (known p one));
         long = omega (arith, length-append e.types (r ∷ []), length-append e.places (at ∷ []));
       };
-      of = c.pushed e.types r fit.table closed;
+      of = of_slot may_be_open (may_be_target (Some r)) None (e.types ++ r ∷ []) (Some (record { 0 = length e.types })) (c.pushed e.types r fit.table closed)
+          (λ h. c.pushed_stands e.types r fit.table h);
     }
 
     -- an array of what is met
-    array_sound : (e : Env) → IsFit path e → (slot : Option TypeId) → IsSlotted slot → (at : Pos) (n : ℕ) → IsLength n → (f : Env) (of : Option TypeId) →
-        IsMet e None (met f of) → IsMet e slot (judge.array_of slot at n (met f of))
-    array_sound e fit slot ok at n long f None is = record { beyond = is.beyond; of = of_slot slot f.types None is.of }
-    array_sound e fit slot ok at n long f (Some t) is =
-        met_on e f slot (judge.placed slot at (row.Array n t) f) is.beyond
-        (placed_sound f (fit_beyond path e f fit is.beyond) slot ok at (row.Array n t) refl (λ ts e. cc) long (λ p one. element p one))
+    array_sound : (may_be_open : Bool) (e : Env) → IsFit path e → (slot : Option TypeId) → IsSlotted slot → (at : Pos) (n : ℕ) → IsLength n → (f : Env) (of : Option TypeId) →
+        IsMet false false e None (met f of) → IsMet may_be_open true e slot (judge.array_of slot at n (met f of))
+    array_sound may_be_open e fit slot ok at n long f None is = record { beyond = is.beyond; of = of_slot may_be_open true slot f.types None (is.of.known refl) (λ h. tt) }
+    array_sound may_be_open e fit slot ok at n long f (Some t) is =
+        met_on may_be_open true e f slot (judge.placed slot at (row.Array n t) f) is.beyond
+        (placed_sound may_be_open f (fit_beyond path e f fit is.beyond) slot ok at (row.Array n t) refl (λ base ts e. cc) long (λ p one. element p one))
       where
         element : (p : TypeId) → IsOneOf p (t ∷ []) → c.Known f.types (Some p)
-        element p (inl e) = subst (λ (q : TypeId). c.Known f.types (Some q)) e is.of
+        element p (inl e) = subst (λ (q : TypeId). c.Known f.types (Some q)) e (is.of.known refl)
         element p (inr h) = absurd h
 
-    inner_sound : (e : Env) → IsFit path e → (at : Pos) (ns : List ℕ) → Each IsLength ns → (m : Met) → IsMet e None m → IsMet e None (judge.inner_arrays at ns m)
+    inner_sound : (e : Env) → IsFit path e → (at : Pos) (ns : List ℕ) → Each IsLength ns → (m : Met) → IsMet false false e None m → IsMet false false e None (judge.inner_arrays at ns m)
     inner_sound e fit at [] long m is = is
     inner_sound e fit at (n ∷ ns) long m is =
         let i = judge.inner_arrays at ns m in
-        array_sound e fit None tt at n long.0 i.env i.of (inner_sound e fit at ns long.1 m is)
+        plain false true e (judge.array_of None at n i) (array_sound false e fit None tt at n long.0 i.env i.of (inner_sound e fit at ns long.1 m is))
 
-    arrays_sound : (e : Env) → IsFit path e → (slot : Option TypeId) → IsSlotted slot → (at : Pos) (ns : Option (List ℕ)) → HasLengths ns → (m : Met) →
-        IsMet e None m → IsMet e slot (judge.arrays slot at ns m)
-    arrays_sound e fit slot ok at ns are m is =
+    arrays_sound : (may_be_open : Bool) (e : Env) → IsFit path e → (slot : Option TypeId) → IsSlotted slot → (at : Pos) (ns : Option (List ℕ)) → HasLengths ns → (m : Met) →
+        IsMet false false e None m → IsMet may_be_open true e slot (judge.arrays slot at ns m)
+    arrays_sound may_be_open e fit slot ok at ns are m is =
         let i = judge.inner_arrays at are.more m in
-        subst (λ (ns : Option (List ℕ)). IsMet e slot (judge.arrays slot at ns m)) (sym are.is)
-        (array_sound e fit slot ok at are.first are.long i.env i.of (inner_sound e fit at are.more are.all_long m is))
+        subst (λ (ns : Option (List ℕ)). IsMet may_be_open true e slot (judge.arrays slot at ns m)) (sym are.is)
+        (array_sound may_be_open e fit slot ok at are.first are.long i.env i.of (inner_sound e fit at are.more are.all_long m is))
 
-    array_in_sound : (e : Env) → IsFit path e → (slot : Option TypeId) → IsSlotted slot → (at : Pos) (xs : List Expr) (element : Judged Met) →
-        Holds (IsMet e None) element → Holds (IsMet e slot) (judge.array_in slot e at xs element)
-    array_in_sound e fit slot ok at [] element is = broken (IsMet e slot) _ [] _
-    array_in_sound e fit slot ok at (x ∷ xs) element is =
-        holds_bind HasLengths (IsMet e slot) (judge.lengths_of e (x ∷ xs)) (λ ns. bind element (λ m. kept (judge.arrays slot at ns m))) (lengths_sound e fit x xs)
-        (λ ns are. holds_bind (IsMet e None) (IsMet e slot) element (λ m. kept (judge.arrays slot at ns m)) is (λ m met h. arrays_sound e fit slot ok at ns are m met))
+    -- an open array of what is there
+    pub open_placed : (e : Env) → IsFit path e → (at : Pos) (t : TypeId) → There e.types (Some t) → IsBeyond e (judge.placed None at (row.Open t) e).env
+    open_placed e fit at t there = record {
+      number = refl;
+      before = refl;
+      name = refl;
+      text = refl;
+      first = refl;
+      scopes = refl;
+      signatures = refl;
+      path = refl;
+      narrowed = refl;
+      agree = c.agree_open e.types e.here.records e.claims t fit.table there;
+      goes = c.push e.types (row.Open t) (λ p one. element p one);
+      long = omega (arith, length-append e.types (row.Open t ∷ []), length-append e.places (at ∷ []));
+    }
+      where
+        element : (p : TypeId) → IsOneOf p (t ∷ []) → There e.types (Some p)
+        element p (inl e') = subst (λ (q : TypeId). There e.types (Some q)) e' there
+        element p (inr h) = absurd h
+
+    open_sound : (whole : Bool) (e : Env) → IsFit path e → (at : Pos) (f : Env) (of : Option TypeId) → IsMet true whole e None (met f of) →
+        IsMet true true e None (judge.open_of None at (met f of))
+    open_sound whole e fit at f None is = record { beyond = is.beyond; of = record { known = is.of.known; there = is.of.there; stands = λ h. tt } }
+    open_sound whole e fit at f (Some t) is =
+        let here = fit_beyond path e f fit is.beyond in
+        let g = (judge.placed None at (row.Open t) f).env in
+        record {
+          beyond = beyond_on e f g is.beyond (open_placed f here at t is.of.there);
+          of = record {
+            known = λ h. never (sym h);
+            there = c.pushed_open f.types t here.table;
+            stands = λ h. c.pushed_stands f.types (row.Open t) here.table refl;
+          };
+        }
+
+    lengths_in_sound : (may_be_open : Bool) (e : Env) → IsFit path e → (slot : Option TypeId) → IsSlotted slot → (at : Pos) (x : Expr) (xs : List Expr) (whole : Bool)
+        (element : Judged Met) → Holds (IsMet false whole e None) element →
+        Holds (IsMet may_be_open true e slot) (bind (judge.lengths_of e (x ∷ xs)) (λ ns. bind element (λ m. kept (judge.arrays slot at ns m))))
+    lengths_in_sound may_be_open e fit slot ok at x xs whole element is =
+        holds_bind HasLengths (IsMet may_be_open true e slot) (judge.lengths_of e (x ∷ xs)) (λ ns. bind element (λ m. kept (judge.arrays slot at ns m))) (lengths_sound e fit x xs)
+        (λ ns are. holds_bind (IsMet false whole e None) (IsMet may_be_open true e slot) element (λ m. kept (judge.arrays slot at ns m)) is
+        (λ m met h. arrays_sound may_be_open e fit slot ok at ns are m (plain false whole e m met)))
+
+    array_in_sound : (may_be_open : Bool) (e : Env) → IsFit path e → (slot : Option TypeId) → IsSlotted slot → IsAsked may_be_open slot → (at : Pos) (xs : List Expr) (whole : Bool)
+        (element : Judged Met) → Holds (IsMet (may_be_open && judge.is_empty xs) whole e None) element → Holds (IsMet may_be_open true e slot) (judge.array_in may_be_open slot e at xs element)
+    array_in_sound false e fit slot ok asked at [] whole element is = broken (IsMet false true e slot) _ [] _
+    array_in_sound true e fit (Some s) ok asked at [] whole element is = absurd asked
+    array_in_sound true e fit None ok asked at [] whole element is =
+        holds_bind (IsMet true whole e None) (IsMet true true e None) element (λ m. kept (judge.open_of None at m)) is
+        (λ m met h. open_sound whole e fit at m.env m.of met)
+    array_in_sound false e fit slot ok asked at (x ∷ xs) whole element is = lengths_in_sound false e fit slot ok at x xs whole element is
+    array_in_sound true e fit slot ok asked at (x ∷ xs) whole element is = lengths_in_sound true e fit slot ok at x xs whole element is
 
     -- Records.
 
@@ -362,93 +458,206 @@ module _ (c : Telling) where
       pub parts : Each (λ t. c.Known f.env.types (Some t)) f.types
       pub all : c.AreAll f.scope.variables f.types
 
-    more_fields : (e : Env) (f : FieldsMet) → AreFields e f → (ds : List Def) (g : Env) (of : Option TypeId) → IsMet f.env None (met g of) →
+    more_fields : (e : Env) (f : FieldsMet) → AreFields e f → (ds : List Def) (g : Env) (of : Option TypeId) → IsMet false false f.env None (met g of) →
         AreFields e (judge.with_fields f ds (met g of))
     more_fields e f are ds g of is = record {
       beyond = beyond_on e f.env g are.beyond is.beyond;
       parts =
           joined (λ t. c.Known g.types (Some t)) f.types (judge.fields_of (length ds) of)
           (implied (λ t. c.Known f.env.types (Some t)) (λ t. c.Known g.types (Some t)) (λ t known. c.known_on f.env.types g.types is.beyond.goes (Some t) known) f.types are.parts)
-          (new of is.of);
+          (new of (is.of.known refl));
       all = subst (λ vs. c.AreAll vs (f.types ++ judge.fields_of (length ds) of)) (sym (field_variables g.here.text of ds f.scope))
-          (c.more_all g.types f.scope.variables f.types (length ds) of is.of are.all);
+          (c.more_all g.types f.scope.variables f.types (length ds) of (is.of.known refl) are.all);
     }
       where
         new : (of : Option TypeId) → Known g.types of → Each (λ t. c.Known g.types (Some t)) (judge.fields_of (length ds) of)
         new None known = tt
         new (Some t) known = repeated (λ t. c.Known g.types (Some t)) (length ds) t known
 
-    -- a record's row, and what the module knows of its fields
-    record_placed : (e : Env) → IsFit path e → (slot : Option TypeId) → IsSlotted slot → (at : Pos) (us : List TypeId) (s : Scope) →
-        ((p : TypeId) → IsOneOf p us → c.Known e.types (Some p)) → c.AreAll s.variables us → IsMet e slot (judge.with_record s (judge.placed slot at (row.Record None us) e))
-    record_placed e fit (Some t) ok at us s known all = record {
-      beyond = record {
-        number = refl;
-        before = refl;
-        name = refl;
-        text = refl;
-        first = refl;
-        scopes = refl;
-        signatures = refl;
-        path = refl;
-        agree = c.agree_record_set e.types e.here t us s fit.table ok known all;
-        goes = c.set e.types t (row.Record None us) fit.table ok refl (λ p one. c.known_there e.types (Some p) (known p one));
-        long = ap (λ n. n + length e.places) (length-set e.types t.0 (row.Record None us));
-      };
-      of = tt;
-    }
-    record_placed e fit None ok at us s known all = record {
-      beyond = record {
-        number = refl;
-        before = refl;
-        name = refl;
-        text = refl;
-        first = refl;
-        scopes = refl;
-        signatures = refl;
-        path = refl;
-        agree = c.agree_record_push e.types e.here us s known all;
-        goes = c.push e.types (row.Record None us) (λ p one. c.known_there e.types (Some p) (known p one));
-        long = omega (arith, length-append e.types (row.Record None us ∷ []), length-append e.places (at ∷ []));
-      };
-      of = c.pushed e.types (row.Record None us) fit.table refl;
-    }
+    -- a record's row, what the module knows of its fields, and what it asks
+    record_placed : (may_be_open : Bool) (e : Env) → IsFit path e → (slot : Option TypeId) → IsSlotted slot → (at : Pos) (q : Option Qualident) (names : List Name)
+        (base : Option TypeId) (us : List TypeId) (s : Scope) → IsBaseMet (Known e.types) q base → ((p : TypeId) → IsOneOf p us → c.Known e.types (Some p)) →
+        c.AreAll s.variables us → IsMet may_be_open true e slot (judge.based q names base (judge.with_record s (judge.placed slot at (row.Record base us) e)))
+    record_placed may_be_open e fit slot ok at q names base us s met known all = by slot ok
+      where
+        each : (p : TypeId) → IsOneOf p (base_list base ++ us) → c.Known e.types (Some p)
+        each p one = either (one_of_both p (base_list base) us one)
+          where
+            either : IsOneOf p (base_list base) ⊎ IsOneOf p us → c.Known e.types (Some p)
+            either (inl b) = base_met (Known e.types) q base met p b
+            either (inr f) = known p f
 
-    record_sound : (e : Env) → IsFit path e → (slot : Option TypeId) → IsSlotted slot → (at : Pos) (base : Option Qualident) (fs : Judged FieldsMet) →
-        Holds (AreFields e) fs → Holds (IsMet e slot) (judge.record_in slot e at base fs)
-    record_sound e fit slot ok at None fs are =
-        holds_bind (AreFields e) (IsMet e slot) fs (λ f. kept (judge.with_record f.scope (judge.placed slot at (row.Record None f.types) f.env))) are
-        (λ f is h. met_on e f.env slot (judge.with_record f.scope (judge.placed slot at (row.Record None f.types) f.env)) is.beyond
-        (record_placed f.env (fit_beyond path e f.env fit is.beyond) slot ok at f.types f.scope (each_of (λ t. c.Known f.env.types (Some t)) f.types is.parts) is.all))
-    record_sound e fit slot ok at (Some base) fs are = broken (IsMet e slot) _ [] _
+        by : (slot : Option TypeId) → IsSlotted slot → IsMet may_be_open true e slot (judge.based q names base (judge.with_record s (judge.placed slot at (row.Record base us) e)))
+        by (Some t) ok = record {
+          beyond = record {
+            number = refl;
+            before = refl;
+            name = refl;
+            text = refl;
+            first = refl;
+            scopes = refl;
+            signatures = refl;
+            path = refl;
+            narrowed = refl;
+            agree = c.agree_record_set e.types e.here e.claims t base us s (judge.base_claims q names base (Some t)) fit.table ok
+                (claims_of_base (Known e.types) q names base t met) each all;
+            goes = c.set e.types t (row.Record base us) fit.table ok refl (λ p one. c.known_there e.types (Some p) (each p one));
+            long = ap (λ n. n + length e.places) (length-set e.types t.0 (row.Record base us));
+          };
+          of = tt;
+        }
+        by None ok =
+            let t : TypeId = record { 0 = length e.types } in
+            record {
+              beyond = record {
+                number = refl;
+                before = refl;
+                name = refl;
+                text = refl;
+                first = refl;
+                scopes = refl;
+                signatures = refl;
+                path = refl;
+                narrowed = refl;
+                agree = c.agree_record_push e.types e.here e.claims base us s (judge.base_claims q names base (Some t)) fit.table
+                    (claims_of_base (Known e.types) q names base t met) each all;
+                goes = c.push e.types (row.Record base us) (λ p one. c.known_there e.types (Some p) (each p one));
+                long = omega (arith, length-append e.types (row.Record base us ∷ []), length-append e.places (at ∷ []));
+              };
+              of = of_slot may_be_open true None (e.types ++ row.Record base us ∷ []) (Some t) (c.pushed e.types (row.Record base us) fit.table refl)
+                  (λ h. c.pushed_stands e.types (row.Record base us) fit.table refl);
+            }
 
-    object_sound : (e : Env) → IsFit path e → (slot : Option TypeId) → IsSlotted slot → (at : Pos) (base : Option Qualident) (decls : List Decl) (body : Option Block) →
-        Holds (IsMet e slot) (judge.object_in slot e at base decls body)
-    object_sound e fit None ok at base decls body =
-        chosen (IsMet e None) (env.innermost e.path == 0) (judge.refused_type 99 at e) (judge.refused_type 26 at e) (broken (IsMet e None) _ [] _) (broken (IsMet e None) _ [] _)
-    object_sound e fit (Some t) ok at base decls body =
+    base_sound : (e : Env) → IsFit path e → (q : Option Qualident) → Holds (IsBaseMet (Known e.types) q) (judge.base_in e q)
+    base_sound e fit None = λ h. refl
+    base_sound e fit (Some q) = named e fit q
+
+    base_on : (e f : Env) → IsBeyond e f → (q : Option Qualident) (base : Option TypeId) → IsBaseMet (Known e.types) q base → IsBaseMet (Known f.types) q base
+    base_on e f one None base met = met
+    base_on e f one (Some q) base met = c.known_on e.types f.types one.goes base met
+
+    record_sound : (may_be_open : Bool) (e : Env) → IsFit path e → (slot : Option TypeId) → IsSlotted slot → (at : Pos) (q : Option Qualident) (names : List Name) (fs : Judged FieldsMet) →
+        Holds (AreFields e) fs → Holds (IsMet may_be_open true e slot) (judge.record_in slot e at q names fs)
+    record_sound may_be_open e fit slot ok at q names fs are =
+        let made = λ (b : Option TypeId) (f : FieldsMet). judge.based q names b (judge.with_record f.scope (judge.placed slot at (row.Record b f.types) f.env)) in
+        holds_bind (IsBaseMet (Known e.types) q) (IsMet may_be_open true e slot) (judge.base_in e q) (λ b. bind fs (λ f. kept (made b f))) (base_sound e fit q)
+        (λ b base. holds_bind (AreFields e) (IsMet may_be_open true e slot) fs (λ f. kept (made b f)) are
+        (λ f is h. met_on may_be_open true e f.env slot (made b f) is.beyond
+        (record_placed may_be_open f.env (fit_beyond path e f.env fit is.beyond) slot ok at q names b f.types f.scope (base_on e f.env is.beyond q b base)
+        (each_of (λ t. c.Known f.env.types (Some t)) f.types is.parts) is.all)))
+
+    object_sound : (may_be_open : Bool) (e : Env) → IsFit path e → (slot : Option TypeId) → IsSlotted slot → (at : Pos) (base : Option Qualident) (decls : List Decl) (body : Option Block) →
+        Holds (IsMet may_be_open false e slot) (judge.object_in slot e at base decls body)
+    object_sound may_be_open e fit None ok at base decls body =
+        chosen (IsMet may_be_open false e None) (env.innermost e.path == 0) (judge.refused_type 99 at e) (judge.refused_type 26 at e)
+        (broken (IsMet may_be_open false e None) _ [] _) (broken (IsMet may_be_open false e None) _ [] _)
+    object_sound may_be_open e fit (Some t) ok at base decls body =
         let object = judge.placed (Some t) at (row.Object None []) e in
-        chosen (IsMet e (Some t)) (env.innermost e.path == 0) (judged (judge.object_breaches e at base decls body) object) (judge.refused_type 26 at e)
-        (λ h. placed_sound e fit (Some t) ok at (row.Object None []) refl (λ ts e. cc) tt (λ p none. absurd none)) (broken (IsMet e (Some t)) _ [] _)
+        chosen (IsMet may_be_open false e (Some t)) (env.innermost e.path == 0) (judged (judge.object_breaches e at base decls body) object) (judge.refused_type 26 at e)
+        (λ h. placed_sound may_be_open e fit (Some t) ok at (row.Object None []) refl (λ base ts e. cc) refl (λ p none. absurd none)) (broken (IsMet may_be_open false e (Some t)) _ [] _)
+
+    -- Pointers: what is written behind one is a record or an array, and of what is named it is asked.
+
+    claimed : (e : Env) (cs : List Claim) → (c.Agrees e.types e.here.records e.claims → c.Agrees e.types e.here.records (e.claims ++ cs)) → IsBeyond e (judge.claiming cs e)
+    claimed e cs agree = record {
+      number = refl;
+      before = refl;
+      name = refl;
+      text = refl;
+      first = refl;
+      scopes = refl;
+      signatures = refl;
+      path = refl;
+      narrowed = refl;
+      agree = agree;
+      goes = c.stays e.types;
+      long = refl;
+    }
+
+    abbrev pub is_written : TypeExpr → Bool
+    is_written (type.Array' p lengths shape row) = true
+    is_written (type.Record' p base shape row) = true
+    is_written x = false
+
+    -- so it is asked that the pointer's type leads to a record or an array
+    record IsTargetMet (e : Env) (cs : List Claim) (t : TypeId) : Type 0 where
+      beyond : IsBeyond e (judge.claiming cs e)
+      leads : Leads (c.Stands e.types) (e.claims ++ cs) t
+
+    nothing_asked : (e : Env) (t : TypeId) → c.Stands e.types t → IsTargetMet e [] t
+    nothing_asked e t stands = record {
+      beyond = claimed e [] (λ a. subst (c.Agrees e.types e.here.records) (sym (append-nil e.claims)) a);
+      leads = inr stands;
+    }
+
+    target_sound : (e : Env) (x : TypeExpr) (t : TypeId) → judge.target_breaches x ≡ [] → IsType true (is_written x) e.types (Some t) → IsTargetMet e (judge.target_claims x t) t
+    target_sound e (type.Named q) t none is = record {
+      beyond = claimed e (claim.Target q.first.pos t ∷ []) (λ a. c.agree_target e.types e.here.records e.claims q.first.pos t a);
+      leads = inl (record { place = length e.claims; at = q.first.pos; is = get_end e.claims (claim.Target q.first.pos t) });
+    }
+    target_sound e (type.Array' p lengths shape row) t none is = nothing_asked e t (is.stands refl)
+    target_sound e (type.Record' p base shape row) t none is = nothing_asked e t (is.stands refl)
+    target_sound e (type.Pointer' p shape row) t none is = absurd (cc)
+    target_sound e (type.Proc p flag formals) t none is = absurd (cc)
+    target_sound e (type.Object' p base shape row body end) t none is = absurd (cc)
+
+    pointer_sound : (may_be_open : Bool) (e : Env) → IsFit path e → (slot : Option TypeId) → IsSlotted slot → (at : Pos) (x : TypeExpr) → judge.target_breaches x ≡ [] →
+        (f : Env) (of : Option TypeId) → IsMet true (is_written x) e None (met f of) → IsMet may_be_open false e slot (judge.pointer_to slot at x (met f of))
+    pointer_sound may_be_open e fit slot ok at x none f None is =
+        record { beyond = is.beyond; of = of_slot may_be_open false slot f.types None (c.none_there f.types is.of.there) (λ h. tt) }
+    pointer_sound may_be_open e fit slot ok at x none f (Some t) is =
+        let target = target_sound f x t none is.of in
+        let g = judge.claiming (judge.target_claims x t) f in
+        let beyond = beyond_on e f g is.beyond target.beyond in
+        met_on may_be_open false e g slot (judge.placed slot at (row.Pointer t) g) beyond
+        (placed_sound may_be_open g (fit_beyond path e g fit beyond) slot ok at (row.Pointer t) refl (λ base ts e. cc) target.leads (λ p none. absurd none))
+
+    -- what is written behind a pointer, and what it breaks
+    abbrev IsBehind : Env → TypeExpr → Met → Type 0
+    IsBehind e x m = (judge.target_breaches x ≡ []) × IsMet true (is_written x) e None m
+
+    pointer_in_sound : (may_be_open : Bool) (e : Env) → IsFit path e → (slot : Option TypeId) → IsSlotted slot → (at : Pos) (x : TypeExpr) →
+        Holds (IsMet true (is_written x) e None) (judge.type_in true None e x) →
+        Holds (IsMet may_be_open false e slot)
+        (bind (bind (judged (judge.target_breaches x) e) (λ e. judge.type_in true None e x)) (λ m. kept (judge.pointer_to slot at x m)))
+    pointer_in_sound may_be_open e fit slot ok at x is =
+        holds_bind (IsBehind e x) (IsMet may_be_open false e slot) (bind (judged (judge.target_breaches x) e) (λ e. judge.type_in true None e x))
+        (λ m. kept (judge.pointer_to slot at x m))
+        (λ h. (none_left (judge.target_breaches x) (judge.type_in true None e x).breaches h, is (none_right (judge.target_breaches x) (judge.type_in true None e x).breaches h)))
+        (λ m behind h. pointer_sound may_be_open e fit slot ok at x behind.0 m.env m.of behind.1)
 
     -- Types.
 
-    mutual
-      pub type_sound : (e : Env) → IsFit path e → (slot : Option TypeId) → IsSlotted slot → (of : TypeExpr) → Holds (IsMet e slot) (judge.type_in slot e of)
-      type_sound e fit slot ok (type.Named q) =
-          holds_bind (Known e.types) (IsMet e slot) (judge.named_type e q) (λ of. kept (met e of)) (named e fit q)
-          (λ of known h. record { beyond = beyond_same e; of = of_slot slot e.types of known })
-      type_sound e fit slot ok (type.Array' p lengths shape row) = array_in_sound e fit slot ok p lengths (judge.held_in e row) (held_sound e fit row)
-      type_sound e fit slot ok (type.Record' p base shape row) =
-          record_sound e fit slot ok p base (judge.fields_in (fields_met e [] empty) row)
-          (fields_sound e fit (fields_met e [] empty) (record { beyond = beyond_same e; parts = tt; all = c.none_all }) row)
-      type_sound e fit slot ok (type.Pointer' p shape row) = broken (IsMet e slot) _ [] _
-      type_sound e fit slot ok (type.Proc p flag formals) = broken (IsMet e slot) _ [] _
-      type_sound e fit slot ok (type.Object' p base shape row body end) = object_sound e fit slot ok p base (items-the_row-Decl _ row) body
+    -- an open array's elements may be of one
+    abbrev held_written : {m : _} → Row_of-TypeExpr m → Bool
+    held_written end_of-TypeExpr = false
+    held_written (more_of-TypeExpr t ts) = is_written t
 
-      held_sound : {m : _} (e : Env) → IsFit path e → (r : Row_of-TypeExpr m) → Holds (IsMet e None) (judge.held_in e r)
-      held_sound e fit end_of-TypeExpr = broken (IsMet e None) _ [] _
-      held_sound e fit (more_of-TypeExpr t ts) = type_sound e fit None tt t
+    mutual
+      pub type_sound : (may_be_open : Bool) (e : Env) → IsFit path e → (slot : Option TypeId) → IsSlotted slot → IsAsked may_be_open slot → (of : TypeExpr) →
+          Holds (IsMet may_be_open (is_written of) e slot) (judge.type_in may_be_open slot e of)
+      type_sound may_be_open e fit slot ok asked (type.Named q) =
+          holds_bind (Known e.types) (IsMet may_be_open false e slot) (judge.named_type e q) (λ of. kept (met e of)) (named e fit q)
+          (λ of known h. record { beyond = beyond_same e; of = of_slot may_be_open false slot e.types of known (λ h. never h) })
+      type_sound may_be_open e fit slot ok asked (type.Array' p lengths shape row) =
+          array_in_sound may_be_open e fit slot ok asked p lengths (held_written row) (judge.held_in (may_be_open && judge.is_empty lengths) e row)
+          (held_sound (may_be_open && judge.is_empty lengths) e fit row)
+      type_sound may_be_open e fit slot ok asked (type.Record' p base shape row) =
+          record_sound may_be_open e fit slot ok p base (judge.field_names (items-the_row-Fields _ row)) (judge.fields_in (fields_met e [] empty) row)
+          (fields_sound e fit (fields_met e [] empty) (record { beyond = beyond_same e; parts = tt; all = c.none_all }) row)
+      type_sound may_be_open e fit slot ok asked (type.Pointer' p shape row) = pointed_sound may_be_open e fit slot ok p row
+      type_sound may_be_open e fit slot ok asked (type.Proc p flag formals) = broken (IsMet may_be_open false e slot) _ [] _
+      type_sound may_be_open e fit slot ok asked (type.Object' p base shape row body end) =
+          object_sound may_be_open e fit slot ok p base (items-the_row-Decl _ row) body
+
+      held_sound : {m : _} (may_be_open : Bool) (e : Env) → IsFit path e → (r : Row_of-TypeExpr m) → Holds (IsMet may_be_open (held_written r) e None) (judge.held_in may_be_open e r)
+      held_sound may_be_open e fit end_of-TypeExpr = broken (IsMet may_be_open false e None) _ [] _
+      held_sound may_be_open e fit (more_of-TypeExpr t ts) = type_sound may_be_open e fit None tt (asked_none may_be_open) t
+
+      pointed_sound : {m : _} (may_be_open : Bool) (e : Env) → IsFit path e → (slot : Option TypeId) → IsSlotted slot → (at : Pos) (r : Row_of-TypeExpr m) →
+          Holds (IsMet may_be_open false e slot) (judge.pointer_in slot e at r)
+      pointed_sound may_be_open e fit slot ok at end_of-TypeExpr = broken (IsMet may_be_open false e slot) _ [] _
+      pointed_sound may_be_open e fit slot ok at (more_of-TypeExpr t ts) = pointer_in_sound may_be_open e fit slot ok at t (type_sound true e fit None tt tt t)
 
       fields_sound : {m : _} (e : Env) → IsFit path e → (f : FieldsMet) → AreFields e f → (r : Row_of-Fields m) → Holds (AreFields e) (judge.fields_in f r)
       fields_sound e fit f are end_of-Fields = λ h. are
@@ -458,6 +667,6 @@ module _ (c : Telling) where
       field_sound : (e : Env) → IsFit path e → (f : FieldsMet) → AreFields e f → (x : Fields) → Holds (AreFields e) (judge.field_in f x)
       field_sound e fit f are fields.Empty = λ h. are
       field_sound e fit f are (fields.Of' defs of) =
-          holds_bind (IsMet f.env None) (AreFields e) (judge.type_in None f.env of) (λ m. kept (judge.with_fields f defs m))
-          (type_sound f.env (fit_beyond path e f.env fit are.beyond) None tt of)
-          (λ m is h. more_fields e f are defs m.env m.of is)
+          holds_bind (IsMet false (is_written of) f.env None) (AreFields e) (judge.type_in false None f.env of) (λ m. kept (judge.with_fields f defs m))
+          (type_sound false f.env (fit_beyond path e f.env fit are.beyond) None tt tt of)
+          (λ m is h. more_fields e f are defs m.env m.of (plain false (is_written of) f.env m is))

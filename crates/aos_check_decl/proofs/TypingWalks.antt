@@ -11,26 +11,31 @@ use Rattle.aos_types.specs.declared.row.TypeRow.TheVariants as row
 use Rattle.aos_types.specs.Table.{is_open}
 use Rattle.aos_types.specs.Chain.{IsOneOf}
 use Rattle.aos_types.specs.Count.{named_in, AreBelow}
+use Rattle.aos_symbols.specs.declared.env.Claim.{Claim}
+use Rattle.aos_symbols.specs.declared.env.Claim.TheVariants as claim
 use Rattle.aos_symbols.specs.Spelling.{word}
 use Rattle.aos_symbols.specs.Declarations.{type_defs, all_type_defs}
 use Rattle.aos_symbols.specs.Scope.{Scope}
 use Rattle.aos_symbols.specs.Home.{Home}
 use Rattle.aos_symbols.specs.Entries.{number_at, scopes}
-use Rattle.aos_symbols.proofs.Told.{IsTold, basic, defined, IsKnown, GoOn, known_on, told_behind, get_end}
+use Rattle.aos_symbols.proofs.Told.{IsTold, basic, of_any, defined, IsKnown, GoOn, known_on, told_behind, get_end}
 use Rattle.aos_check_decl.specs.declared.aliases.Target.{Target}
 use Rattle.aos_check_decl.specs.declared.aliases.Target.TheVariants.{Own, Of, Nothing}
 use Rattle.aos_check_decl.specs.Aliases.{nil, follow, stands_for, first_rows, numbers}
+use Rattle.aos_check_expr.proofs.Opens.{IsVariableNumber}
 use Rattle.aos_check_decl.specs.Types.{fields_of}
+use Rattle.aos_check_decl.specs.Limits.{may_be_target}
 use Rattle.aos_check_decl.proofs.TypingLists.{set_other, set_gives, push_gives, get_below}
 use Rattle.aos_check_decl.proofs.TypingScopes.{AreGood}
-use Rattle.aos_check_decl.proofs.TypingNames.{AreOthersNamed}
+use Rattle.aos_check_decl.proofs.TypingNames.{IsBasicNumber, AreOthersNamed}
+use Rattle.aos_check_decl.proofs.TypingClaims.{AllBases, more_bases, target_bases, AreOfBase}
 use Rattle.aos_check_decl.proofs.TypingTables.{AllBelow}
 use Rattle.aos_check_decl.proofs.TypingEntries.{scopes_typed}
 use Rattle.aos_check_decl.proofs.TypingTypes.{Telling}
-use Rattle.aos_check_decl.proofs.TypingFields.{Agree, set_on, more_some, agree_set, agree_push, agree_open, agree_record_set, agree_record_push}
+use Rattle.aos_check_decl.proofs.TypingFields.{Stands, AreKept, set_keeps, push_keeps, Agree, set_on, more_some, agree_set, agree_push, agree_open, agree_target, agree_record_set, agree_record_push}
 use Rattle.aos_check_decl.proofs.TypingHeadings.{is_name}
 use Rattle.aos_check_decl.proofs.TypingSlots.{AreNumbers}
-use Rattle.aos_check_decl.proofs.TypingTargets.{number_of, IsMeant, IsLed, AreLed, led_long, led_at}
+use Rattle.aos_check_decl.proofs.TypingTargets.{basic_told, number_of, IsMeant, IsLed, AreLed, led_long, led_at}
 use Rattle.aos_check_decl.proofs.TypingAliases.{own_of, IsSound, IsProper, proper_says, own_follows, own_target, follow_meant, stands}
 
 first_long : (k : ℕ) (ts : List Target) → length (first_rows k ts) ≡ length ts
@@ -39,6 +44,7 @@ first_long k (t ∷ ts) = ap suc (first_long (suc k) ts)
 
 pub told_below : (types : List TypeRow) → 10 ≤ length types → (t : TypeId) → IsTold types t → t.0 < length types
 told_below types ten t (basic low) = omega (arith, ten, low)
+told_below types ten t (of_any any) = omega (arith, ten, any)
 told_below types ten t (defined r high there closed) = slice_get_within types t.0 r there
 
 module _ (number : ℕ) (before : List Home) (types : List TypeRow) (text : List ℕ) (m : Module) (ts : List Target)
@@ -159,9 +165,29 @@ module _ (number : ℕ) (before : List Home) (types : List TypeRow) (text : List
       let l = goes.long in
       subst (λ (t : TypeId). t.0 < length us) (same_Some t u e) (omega (arith, l, low, first_ten))
 
+  pub basic_low : (n : ℕ) → IsBasicNumber n → n ≤ 8
+  basic_low n (inl low) = omega (arith, low)
+  basic_low n (inr any) = omega (arith, any)
+
+  -- what is pushed is no row that stays
+  pub pushed_slot : (us : List TypeRow) → GoesTo first us → IsSlot (record { 0 = length us })
+  pushed_slot us goes (inl old) = let l = goes.long in omega (arith, old, l, table_long)
+  pushed_slot us goes (inr alias) =
+      let l = goes.long in
+      let below = slice_get_within ts alias.0 (Of alias.1) alias.2 in
+      let at = alias.3 in
+      omega (arith, below, at, l, table_long)
+
   pub open_nil : (us : List TypeRow) → GoesTo first us → (p : TypeId) → IsOneOf p (nil ∷ []) → IsBelow us (Some p)
   open_nil us goes p (inl e) = subst (λ (p : TypeId). IsBelow us (Some p)) e (low_below us goes nil (omega arith))
   open_nil us goes p (inr h) = absurd h
+
+  -- of each type that has a base
+  abbrev pub HasSlot : TypeId → TypeId → Type 0
+  HasSlot b t = IsSlot t
+
+  pub own_bases : (ds : List Claim) (base : Option TypeId) (t : TypeId) → AreOfBase ds base t → IsSlot t → AllBases HasSlot ds
+  own_bases ds base t claims slot k at b u is = subst IsSlot (sym (claims.alone k at b u is).0) slot
 
   abbrev pub outline : Telling
   outline = record {
@@ -174,6 +200,7 @@ module _ (number : ℕ) (before : List Home) (types : List TypeRow) (text : List
     first = first;
     Known = IsBelow;
     There = IsBelow;
+    Stands = λ us t. Unit {0};
     GoesTo = GoesTo;
     IsSlot = IsSlot;
     stays = λ us. record { long = omega arith; kept = λ k below kept. refl; closed = λ all. all };
@@ -181,22 +208,26 @@ module _ (number : ℕ) (before : List Home) (types : List TypeRow) (text : List
     known_on = below_on;
     there_on = below_on;
     known_there = λ us of below. below;
-    basic = λ us goes t low. low_below us goes t (omega (arith, low));
+    none_there = λ us below. below;
+    basic = λ us goes t low. low_below us goes t (basic_low t.0 low);
     set = λ us t r goes slot closed there. set_goes us t r slot there;
     unsettled = λ us t goes slot known. set_goes us t (row.Open nil) slot (open_nil us goes);
     push = push_goes;
     pushed = λ us r goes closed. last_below us r;
     pushed_open = λ us t goes. last_below us (row.Open t);
-    Agrees = λ us rs. Unit {0};
+    pushed_stands = λ us r goes may. tt;
+    Agrees = λ us rs cs. AllBases HasSlot cs;
     AreAll = λ vs us. Unit {0};
     none_all = tt;
     more_all = λ ts vs us n of known all. tt;
-    agree_set = λ ts rs t r closed other long known a. tt;
-    agree_push = λ ts rs r closed other long known a. tt;
-    agree_open = λ ts rs t goes there a. tt;
-    agree_unsettled = λ ts rs t known a. tt;
-    agree_record_set = λ ts h t us s goes slot known all a. tt;
-    agree_record_push = λ ts h us s known all a. tt;
+    agree_set = λ us rs cs t r slot closed other ok known a. a;
+    agree_push = λ us rs cs r closed other ok known a. a;
+    agree_open = λ us rs cs t goes there a. a;
+    agree_target = λ us rs cs at t a. more_bases HasSlot cs (claim.Target at t ∷ []) a (target_bases HasSlot at t);
+    agree_unsettled = λ us rs cs t known a. a;
+    agree_record_set = λ us h cs t base fs s ds goes slot claims known all a. more_bases HasSlot cs ds a (own_bases ds base t claims slot);
+    agree_record_push = λ us h cs base fs s ds goes claims known all a.
+        more_bases HasSlot cs ds a (own_bases ds base (record { 0 = length us }) claims (pushed_slot us goes));
     own = scopes_typed text before standing m (IsBelow first) number_below;
     others = λ j h s w x of there own found means t e.
         let known = subst (IsKnown types) e (others j h s w x of there own found means) in
@@ -247,15 +278,17 @@ module _ (number : ℕ) (before : List Home) (types : List TypeRow) (text : List
   -- a parameter's type, which may be an open array
   abbrev pub MayBeOpen : List TypeRow → Option TypeId → Type 0
   MayBeOpen us None = ⊥
-  MayBeOpen us (Some t) = (t.0 < 7) ⊎ ((10 ≤ t.0) × (t.0 < length us))
+  MayBeOpen us (Some t) = IsBasicNumber t.0 ⊎ ((10 ≤ t.0) × (t.0 < length us))
 
   pub record GoesOn (us vs : List TypeRow) : Type 0 where
     pub long : length us ≤ length vs
     pub on : GoOn us vs
+    pub kept : AreKept (length first) us vs
 
   pub known_open : (us : List TypeRow) (of : Option TypeId) → IsKnown us of → MayBeOpen us of
   known_open us None known = known
-  known_open us (Some t) (basic low) = inl low
+  known_open us (Some t) (basic low) = inl (inl low)
+  known_open us (Some t) (of_any any) = inl (inr any)
   known_open us (Some t) (defined r high there closed) = inr (high, slice_get_within us t.0 r there)
 
   pub open_on : (us vs : List TypeRow) → GoesOn us vs → (of : Option TypeId) → MayBeOpen us of → MayBeOpen vs of
@@ -264,13 +297,28 @@ module _ (number : ℕ) (before : List Home) (types : List TypeRow) (text : List
   open_on us vs goes (Some t) (inr r) = let l = goes.long in let b = r.1 in inr (r.0, omega (arith, l, b))
 
   pub push_on : (us : List TypeRow) (r : TypeRow) → GoesOn us (us ++ r ∷ [])
-  push_on us r = record { long = omega (arith, length-append us (r ∷ [])); on = told_behind us (r ∷ []) }
+  push_on us r = record { long = omega (arith, length-append us (r ∷ [])); on = told_behind us (r ∷ []); kept = push_keeps (length first) us (r ∷ []) }
 
   pub last_told : (us : List TypeRow) (r : TypeRow) → GoesOn first us → is_open (Some r) ≡ false → IsTold (us ++ r ∷ []) (record { 0 = length us })
   last_told us r goes closed = let l = goes.long in defined r (omega (arith, l, first_ten)) (get_end us r) closed
 
   pub last_open : (us : List TypeRow) (r : TypeRow) → GoesOn first us → MayBeOpen (us ++ r ∷ []) (Some (record { 0 = length us }))
   last_open us r goes = let l = goes.long in inr (omega (arith, l, first_ten), omega (arith, length-append us (r ∷ [])))
+
+  pub open_agrees : (us : List TypeRow) (rs : List (ℕ × Scope)) (cs : List Claim) (t : TypeId) → GoesOn first us → MayBeOpen us (Some t) →
+      Agree (length types) (length first) us rs cs → Agree (length types) (length first) (us ++ row.Open t ∷ []) rs cs
+  open_agrees us rs cs t goes there a =
+      let l = goes.long in
+      agree_open (length types) (length first) us rs cs t (omega (arith, l, first_ten)) (below there) (variable there) a
+    where
+      below : MayBeOpen us (Some t) → t.0 < length us
+      below (inl low) = let l = goes.long in let b = basic_low t.0 low in omega (arith, l, b, first_ten)
+      below (inr r) = r.1
+
+      variable : MayBeOpen us (Some t) → IsVariableNumber t.0
+      variable (inl (inl low)) = inl low
+      variable (inl (inr any)) = inr (inl any)
+      variable (inr r) = inr (inr r.0)
 
   -- the variables of a record are the types in its row
   abbrev pub AreSome : List (Option TypeId) → List TypeId → Type 0
@@ -299,29 +347,38 @@ module _ (number : ℕ) (before : List Home) (types : List TypeRow) (text : List
       first = first;
       Known = IsKnown;
       There = MayBeOpen;
+      Stands = Stands (length first);
       GoesTo = GoesOn;
       IsSlot = λ t. t.0 < length first;
-      stays = λ us. record { long = omega arith; on = λ t told. told };
-      on = λ us vs ws one two. (let a = one.long in let b = two.long in record { long = omega (arith, a, b); on = λ t told. two.on t (one.on t told) });
+      stays = λ us. record { long = omega arith; on = λ t told. told; kept = λ k r high is. is };
+      on = λ us vs ws one two. (let a = one.long in let b = two.long in record {
+        long = omega (arith, a, b);
+        on = λ t told. two.on t (one.on t told);
+        kept = λ k r high is. two.kept k r high (one.kept k r high is);
+      });
       known_on = λ us vs goes of known. known_on us vs goes.on of known;
       there_on = open_on;
       known_there = known_open;
-      basic = λ us goes t low. basic low;
-      set = λ us t r goes slot closed there. record { long = omega (arith, length-set us t.0 r); on = set_on us t r closed };
+      none_there = λ us may. may;
+      basic = λ us goes t low. basic_told us t low;
+      set = λ us t r goes slot closed there. record { long = omega (arith, length-set us t.0 r); on = set_on us t r closed; kept = set_keeps (length first) us t r slot };
       unsettled = λ us t goes slot known. absurd known;
       push = λ us r there. push_on us r;
       pushed = λ us r goes closed. last_told us r goes closed;
       pushed_open = λ us t goes. last_open us (row.Open t) goes;
-      Agrees = Agree;
+      pushed_stands = λ us r goes may. (goes.long, ap may_be_target (get_end us r) ∙ may);
+      Agrees = Agree (length types) (length first);
       AreAll = AreSome;
       none_all = refl;
       more_all = λ us vs fs n of. more_fields us vs fs n of;
-      agree_set = λ us rs t r closed other long known a. agree_set us rs t r closed other long known a;
-      agree_push = λ us rs r closed other long known a. agree_push us rs r closed other long known a;
-      agree_open = λ us rs t goes there a. (let l = goes.long in agree_open us rs t (omega (arith, l, first_ten)) there a);
-      agree_unsettled = λ us rs t known a. absurd known;
-      agree_record_set = λ us h t fs s goes slot known all a. (let l = goes.long in agree_record_set us h t fs s (omega (arith, slot, l)) known all a);
-      agree_record_push = λ us h fs s known all a. agree_record_push us h fs s known all a;
+      agree_set = λ us rs cs t r slot closed other ok known a. agree_set (length types) (length first) us rs cs t r slot closed other ok known a;
+      agree_push = λ us rs cs r closed other ok known a. agree_push (length types) (length first) us rs cs r closed other ok known a;
+      agree_open = λ us rs cs t goes there a. open_agrees us rs cs t goes there a;
+      agree_target = λ us rs cs at t a. agree_target (length types) (length first) us rs cs at t a;
+      agree_unsettled = λ us rs cs t known a. absurd known;
+      agree_record_set = λ us h cs t base fs s ds goes slot claims known all a.
+          (let l = goes.long in agree_record_set (length types) (length first) us h cs t base fs s ds slot (omega (arith, slot, l)) claims known all a);
+      agree_record_push = λ us h cs base fs s ds goes claims known all a. agree_record_push (length types) (length first) us h cs base fs s ds claims known all a;
       own = scopes_typed text before standing m (IsKnown first) number_known;
       others = λ j h s w x of there own found means. known_on types first (told_behind types (first_rows (length types) ts)) of (others j h s w x of there own found means);
       constants = constants;

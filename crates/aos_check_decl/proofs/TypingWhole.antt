@@ -1,6 +1,7 @@
 -- A module's environment behind its declarations, where none of them breaks a rule, and what is judged of all its types breaks
 -- none: no type contains itself, so that each name for a type leads to one, and all types are told.
-use Rattle.std.proofs.Common.{◌≡◌, ℕ, ◌+◌, ◌-◌, ◌<◌, ◌≤◌, List, [], ◌∷◌, length, true, false, Option, Some, slice_get, refl, sym, ap, ◌∙◌, subst, arith}
+use Rattle.std.proofs.Common.{◌≡◌, ℕ, ◌+◌, ◌-◌, ◌<◌, ◌≤◌, List, [], ◌∷◌, length, true, false, Option, Some, None, slice_get, refl, sym, ap, ◌∙◌, subst, arith}
+use Rattle.std.specs.List.{flat_map}
 use Rattle.std.proofs.lemmas.Bool.{cases_Bool, cases_lt}
 use Rattle.std.proofs.lemmas.Option.{none-some, slice_get_within}
 use mathlib.Core.Logic.{◌⊎◌, inl, inr}
@@ -9,6 +10,7 @@ use Rattle.aos_types.specs.declared.TheConstants.{MOST_SCALARS}
 use Rattle.aos_types.specs.declared.row.TypeId.{TypeId}
 use Rattle.aos_types.specs.declared.row.TypeRow.{TypeRow}
 use Rattle.aos_types.specs.declared.row.TypeRow.TheVariants as row
+use Rattle.aos_types.specs.Table.{row_of, is_record}
 use Rattle.aos_types.specs.Contents.{scalars}
 use Rattle.aos_types.specs.Chain.{NoneContainsItself, contains_itself, circles, cut}
 use Rattle.aos_types.specs.Count.{AreBelow}
@@ -23,19 +25,22 @@ use Rattle.aos_symbols.specs.Home.{Home}
 use Rattle.aos_symbols.specs.Names.{name_breaches}
 use Rattle.aos_symbols.specs.Env as env
 use Rattle.aos_symbols.proofs.Each.{Each}
-use Rattle.aos_symbols.proofs.Told.{IsKnown, GoOn, told_behind, IsLength, AreToldParts, PartsAreTold}
+use Rattle.aos_symbols.proofs.Told.{IsTold, IsKnown, GoOn, told_behind, IsLength, IsBase, IsObjectBase, AreToldParts, PartsAreTold}
 use Rattle.aos_check_expr.proofs.Opens.{IsOpenAt, OpensStand}
+use Rattle.aos_check_expr.proofs.Whole.{IsWritten}
 use Rattle.aos_check_decl.specs.declared.aliases.Target.{Target}
 use Rattle.aos_check_decl.specs.declared.aliases.Target.TheVariants.{Own, Of, Nothing}
 use Rattle.aos_check_decl.specs.Aliases.{first_row, first_rows, follow}
 use Rattle.aos_check_decl.specs.Headings.{headings}
 use Rattle.aos_check_decl.specs.Limits as limits
+use Rattle.aos_check_decl.specs.Limits.{may_be_target}
 use Rattle.aos_check_decl.specs.Pass.{entered}
 use Rattle.aos_check_decl.proofs.TypingLists.{get_below, get_behind, mapped_at}
 use Rattle.aos_check_decl.proofs.TypingScopes.{AreGood, AllGood}
 use Rattle.aos_check_decl.proofs.TypingNames.{AreOthersNamed}
 use Rattle.aos_check_decl.proofs.TypingTypes.{Telling, IsSearched, IsFit}
-use Rattle.aos_check_decl.proofs.TypingFields.{parts_on}
+use Rattle.aos_check_decl.proofs.TypingClaims.{AllBases, no_bases, base_kept, target_kept, bases_same, bases_other, bases_long, target_high, told_closed, told_on}
+use Rattle.aos_check_decl.proofs.TypingFields.{Stands, Leads, IsBaseAsked, AreAskedParts, PartsAreAsked, asked_written}
 use Rattle.aos_check_decl.proofs.TypingProcedures.{IsHeaded, headings_sound}
 use Rattle.aos_check_decl.proofs.TypingEntries.{scope_fresh}
 use Rattle.aos_check_decl.proofs.TypingTargets.{AreLed}
@@ -44,11 +49,12 @@ use Rattle.aos_check_decl.proofs.TypingTables.{AllBelow, all_within}
 use Rattle.aos_check_decl.proofs.TypingLimits.{type_kept, flag_is, none_circular}
 use Rattle.aos_check_decl.proofs.TypingOnce.{module_alike, procedures_alike}
 use Rattle.aos_check_decl.proofs.TypingSlots.{own_slots, procedures_slots}
-use Rattle.aos_check_decl.proofs.TypingWalks.{GoesTo, first, standing, count, table_long, sound, meant_below, place_meant, outline, told, all_numbers, told_numbers}
+use Rattle.aos_check_decl.proofs.TypingWalks.{GoesTo, IsKept, HasSlot, first, standing, count, table_long, sound, meant_below, place_meant, outline, told, all_numbers, told_numbers}
 
 -- what is known of the types before
 pub record AreOld (types : List TypeRow) : Type 0 where
   pub ten : 10 ≤ length types
+  pub basic : (k : ℕ) → k < 10 → slice_get types k ≡ slice_get env.basic_rows k
   pub closed : AllBelow (length types) types
   pub free : NoneContainsItself types
   pub sizes : (t : TypeId) → scalars types t ≤ MOST_SCALARS
@@ -74,7 +80,7 @@ module _ (number : ℕ) (before : List Home) (types : List TypeRow) (text : List
   pub begun_good : AllGood begun.here
   begun_good k s there = subst AreGood (sym (scope_fresh text before own m k s there).0) tt
 
-  -- The parts of rows are told before any declaration is met.
+  -- The parts of the rows that the module writes are told before any declaration is met.
 
   on_table : GoOn types table
   on_table = told_behind types (first_rows (length types) ts)
@@ -85,7 +91,7 @@ module _ (number : ℕ) (before : List Home) (types : List TypeRow) (text : List
   length_one : IsLength 1
   length_one = (omega arith, omega arith)
 
-  first_parts : (k : ℕ) (x : Target) → k < length ts → slice_get ts k ≡ Some x → AreToldParts table (first_row (length types + k) x)
+  first_parts : (k : ℕ) (x : Target) → k < length ts → slice_get ts k ≡ Some x → AreAskedParts (length table) table [] (first_row (length types + k) x)
   first_parts k Own l is = (
     length_one,
     told_first types ts old.ten is_sound (record { 0 = length types + k })
@@ -94,17 +100,25 @@ module _ (number : ℕ) (before : List Home) (types : List TypeRow) (text : List
   first_parts k (Of u) l is = (length_one, told_first types ts old.ten is_sound u (is_sound k (Of u) is))
   first_parts k Nothing l is = tt
 
-  table_parts : PartsAreTold table
-  table_parts k r is = by (cases_lt k (length types))
-    where
-      by : (k < length types) ⊎ (length types ≤ k) → AreToldParts table r
-      by (inl below) = parts_on types table on_table r (old.parts k r (sym (get_below types (first_rows (length types) ts) k below) ∙ is))
-      by (inr behind) =
-          let j = k - length types in
-          let place : length types + j ≡ k = omega (arith, behind) in
-          let at = sym (rows_at (length types) ts j) ∙ sym (get_behind types (first_rows (length types) ts) j) ∙ ap (slice_get table) place ∙ is in
-          let x = mapped_at (first_row (length types + j)) (slice_get ts j) r at in
-          subst (AreToldParts table) x.2 (first_parts j x.0 (slice_get_within ts j x.0 x.1) x.1)
+  -- a row behind those of the modules before
+  record IsFirstRow (k : ℕ) (r : TypeRow) : Type 0 where
+    place : ℕ
+    target : Target
+    is : slice_get ts place ≡ Some target
+    row_is : first_row (length types + place) target ≡ r
+
+  first_row_is : (k : ℕ) (r : TypeRow) → length types ≤ k → slice_get table k ≡ Some r → IsFirstRow k r
+  first_row_is k r behind is =
+      let j = k - length types in
+      let place : length types + j ≡ k = omega (arith, behind) in
+      let at = sym (rows_at (length types) ts j) ∙ sym (get_behind types (first_rows (length types) ts) j) ∙ ap (slice_get table) place ∙ is in
+      let x = mapped_at (first_row (length types + j)) (slice_get ts j) r at in
+      record { place = j; target = x.0; is = x.1; row_is = x.2 }
+
+  table_parts : PartsAreAsked (length table) (length types) table []
+  table_parts k r behind is =
+      let x = first_row_is k r behind is in
+      subst (AreAskedParts (length table) table []) x.row_is (first_parts x.place x.target (slice_get_within ts x.place x.target x.is) x.is)
 
   first_opens : (k : ℕ) (x : Target) → slice_get ts k ≡ Some x → (j : ℕ) → IsOpenAt j (first_row (length types + k) x)
   first_opens k Own is j = tt
@@ -116,12 +130,7 @@ module _ (number : ℕ) (before : List Home) (types : List TypeRow) (text : List
     where
       by : (k < length types) ⊎ (length types ≤ k) → IsOpenAt k r
       by (inl below) = old.opens k r (sym (get_below types (first_rows (length types) ts) k below) ∙ is)
-      by (inr behind) =
-          let j = k - length types in
-          let place : length types + j ≡ k = omega (arith, behind) in
-          let at = sym (rows_at (length types) ts j) ∙ sym (get_behind types (first_rows (length types) ts) j) ∙ ap (slice_get table) place ∙ is in
-          let x = mapped_at (first_row (length types + j)) (slice_get ts j) r at in
-          subst (IsOpenAt k) x.2 (first_opens j x.0 x.1 k)
+      by (inr behind) = let x = first_row_is k r behind is in subst (IsOpenAt k) x.row_is (first_opens x.place x.target x.is k)
 
   -- The first walk.
 
@@ -140,9 +149,10 @@ module _ (number : ℕ) (before : List Home) (types : List TypeRow) (text : List
     first_is = refl;
     names_are = λ j. refl;
     path_is = refl;
+    narrowed_is = refl;
     good = begun_good;
     table = first_walk.stays table;
-    agrees = tt;
+    agrees = no_bases (HasSlot number before types text m ts others constants old.ten led);
   }
 
   first_searched : Each (IsSearched first_walk) path
@@ -196,50 +206,47 @@ module _ (number : ℕ) (before : List Home) (types : List TypeRow) (text : List
         by : (k < length types) ⊎ (length types ≤ k) → AreBelow (length table) r
         by (inl below) = λ p one. let l = old.closed k r (sym (get_below types (first_rows (length types) ts) k below) ∙ is) p one in omega (arith, l, long_table)
         by (inr behind) =
-            let j = k - length types in
-            let place : length types + j ≡ k = omega (arith, behind) in
-            let at = sym (rows_at (length types) ts j) ∙ sym (get_behind types (first_rows (length types) ts) j) ∙ ap (slice_get table) place ∙ is in
-            let x = mapped_at (first_row (length types + j)) (slice_get ts j) r at in
-            subst (AreBelow (length table)) x.2 (row_below j x.0 (slice_get_within ts j x.0 x.1) x.1)
+            let x = first_row_is k r behind is in
+            subst (AreBelow (length table)) x.row_is (row_below x.place x.target (slice_get_within ts x.place x.target x.is) x.is)
 
     pub closed : AllBelow (length ended.types) ended.types
     closed = goes.closed table_closed
 
+    -- Records whose bases are none lose their contents; rows of the modules before and of names for other types stay.
+
+    abbrev pub based : List TypeRow
+    based = (limits.with_bases ended).types
+
+    based_long : length based ≡ length ended.types
+    based_long = bases_long ended.claims ended.types
+
+    based_kept : (k : ℕ) → IsKept number before types text m ts others constants old.ten led k → slice_get based k ≡ slice_get ended.types k
+    based_kept k kept = bases_other ended.claims k (λ j at b t is same. outlined.fit.agrees j at b t is (subst (IsKept number before types text m ts others constants old.ten led) (sym same) kept)) ended.types
+
+    based_stays : (k : ℕ) → k < length types → slice_get based k ≡ slice_get types k
+    based_stays k below = based_kept k (inl below) ∙ stays k below
+
+    based_aliases : (k : ℕ) (u : TypeId) → slice_get ts k ≡ Some (Of u) → slice_get based (length types + k) ≡ Some (row.Array 1 u)
+    based_aliases k u is = based_kept (length types + k) (inr (k, u, is, refl)) ∙ alias_rows k u is
+
     -- What is judged of all types.
 
-    module _ (kept : limits.all_breaches (circles ended.types) (cut (circles ended.types) ended.types) ended (length types) m.decls ≡ []) where
-      own_free : (t : TypeId) → length types ≤ t.0 → t.0 < length ended.types → contains_itself ended.types t ≡ false
-      own_free t from to =
-          let flags = circles ended.types in
-          let rows = cut flags ended.types in
-          sym (flag_is ended.types rows t to) ∙ (type_kept flags rows ended (length types) m.decls kept t from (omega (arith, to, long))).0
-
-      pub free : NoneContainsItself ended.types
-      free = none_circular types ended.types old.closed stays old.free own_free
-
-      pub cut_is : cut (circles ended.types) ended.types ≡ ended.types
-      cut_is = nothing_cut ended.types free
-
-      pub kept_whole : limits.all_breaches (circles ended.types) ended.types ended (length types) m.decls ≡ []
-      kept_whole = subst (λ rows. limits.all_breaches (circles ended.types) rows ended (length types) m.decls ≡ []) cut_is kept
-
-      pub not_circular : (t : TypeId) → t.0 < length ended.types → limits.is_circular (circles ended.types) ended.types t ≡ false
-      not_circular t l = flag_is ended.types ended.types t l ∙ by (cases_Bool (contains_itself ended.types t))
+    module _ (asked : flat_map (limits.claim_breaches ended) ended.claims ≡ [])
+        (judged : limits.all_breaches (circles based) (cut (circles based) based) (limits.with_bases ended) (length types) m.decls ≡ []) where
+      based_free : NoneContainsItself based
+      based_free = none_circular types based old.closed based_stays old.free free_from
         where
-          by : (contains_itself ended.types t ≡ true) ⊎ (contains_itself ended.types t ≡ false) → contains_itself ended.types t ≡ false
-          by (inl e) = absurd (free t ((circle_test ended.types t).0 e))
-          by (inr e) = e
-
-      new_within : (t : TypeId) → length types ≤ t.0 → t.0 < length ended.types → is_first_past ended.types t ≡ false
-      new_within t from to = (type_kept (circles ended.types) ended.types ended (length types) m.decls kept_whole t from (omega (arith, to, long))).1
-
-      pub sizes : (t : TypeId) → scalars ended.types t ≤ MOST_SCALARS
-      sizes = all_within types ended.types old.closed stays old.free free old.sizes new_within
+          free_from : (t : TypeId) → length types ≤ t.0 → t.0 < length based → contains_itself based t ≡ false
+          free_from t from to =
+              let flags = circles based in
+              let rows = cut flags based in
+              let within : t.0 < length types + (length (all_type_defs m.decls) + length ended.places) = omega (arith, to, long, based_long) in
+              sym (flag_is based rows t to) ∙ (type_kept flags rows (limits.with_bases ended) (length types) m.decls judged t from within).0
 
       -- The second walk.
 
       pub all_end : (t : TypeId) → IsProper (length types) ts (follow (length types) ts (length ts) t)
-      all_end = ends types ts old.ten (sound number before types text m ts others constants old.ten led) ended.types free alias_rows
+      all_end = ends types ts old.ten (sound number before types text m ts others constants old.ten led) based based_free based_aliases
 
       abbrev pub second_walk : Telling
       second_walk = told number before types text m ts others constants old.ten led all_end
@@ -259,7 +266,83 @@ module _ (number : ℕ) (before : List Home) (types : List TypeRow) (text : List
             first_is = refl;
             names_are = λ j. refl;
             path_is = refl;
+            narrowed_is = refl;
             good = begun_good;
             table = second_walk.stays table;
-            agrees = record { parts = table_parts; opens = table_opens; fields = λ t s found. absurd (none-some s found) };
+            agrees = record { parts = table_parts; bases = no_bases (λ b t. IsTold table b); opens = table_opens; fields = λ t s found. absurd (none-some s found) };
           }) none
+
+      -- All bases are records, and what pointers lead to is whole.
+
+      pub basics : (k : ℕ) → k < 10 → slice_get ended.types k ≡ slice_get env.basic_rows k
+      basics k low = stays k (let l = old.ten in omega (arith, l, low)) ∙ old.basic k low
+
+      base_record : AllBases (λ b t. is_record (row_of ended.types b) ≡ true) ended.claims
+      base_record k at b t is = base_kept ended ended.claims asked k at b t is (told_closed ended.types basics b (headed.fit.agrees.bases k at b t is))
+
+      pub bases_are : based ≡ ended.types
+      bases_are = bases_same ended.types ended.claims base_record
+
+      base_of_row : (base : Option TypeId) → IsBaseAsked ended.claims base → IsBase ended.types base
+      base_of_row None asked = tt
+      base_of_row (Some b) asked = base_record asked.place asked.at b asked.of asked.is
+
+      target_of_row : (t : TypeId) → Leads (Stands (length table) ended.types) ended.claims t → may_be_target (row_of ended.types t) ≡ true
+      target_of_row t (inl claimed) = target_kept ended ended.claims asked t claimed
+      target_of_row t (inr stands) = stands.1
+
+      told_row : (r : TypeRow) → AreAskedParts (length table) ended.types ended.claims r → AreToldParts ended.types r
+      told_row (row.Basic b) parts = tt
+      told_row row.Any parts = tt
+      told_row (row.Array n t) parts = parts
+      told_row (row.Open t) parts = tt
+      told_row (row.Record base fs) parts = (base_of_row base parts.0, parts.1)
+      told_row (row.Pointer t) parts = let may = target_of_row t parts in (target_high ended.types basics t may, may)
+      told_row (row.Object base fs) parts = subst (IsObjectBase ended.types) (sym parts) tt
+      told_row (row.Procedure fs r) parts = tt
+
+      goes_on : GoOn types ended.types
+      goes_on t told = headed.goes.on t (on_table t told)
+
+      old_kept : (k : ℕ) (r : TypeRow) → slice_get types k ≡ Some r → slice_get ended.types k ≡ Some r
+      old_kept k r is = stays k (slice_get_within types k r is) ∙ is
+
+      pub parts : PartsAreTold ended.types
+      parts k r is = by (cases_lt k (length types))
+        where
+          by : (k < length types) ⊎ (length types ≤ k) → AreToldParts ended.types r
+          by (inl below) = told_on types ended.types goes_on old_kept r (old.parts k r (sym (stays k below) ∙ is))
+          by (inr behind) = told_row r (headed.fit.agrees.parts k r behind is)
+
+      pub written : (k : ℕ) (r : TypeRow) → length types ≤ k → slice_get ended.types k ≡ Some r → IsWritten r
+      written k r behind is = asked_written (length table) ended.types ended.claims r (headed.fit.agrees.parts k r behind is)
+
+      -- So nothing is lost, and no type contains itself or is past the limit.
+
+      kept : limits.all_breaches (circles ended.types) (cut (circles ended.types) ended.types) ended (length types) m.decls ≡ []
+      kept = subst (λ rows. limits.all_breaches (circles rows) (cut (circles rows) rows) ended (length types) m.decls ≡ []) bases_are judged
+
+      pub free : NoneContainsItself ended.types
+      free = subst NoneContainsItself bases_are based_free
+
+      cut_same : cut (circles ended.types) ended.types ≡ ended.types
+      cut_same = nothing_cut ended.types free
+
+      pub cut_is : cut (circles based) based ≡ ended.types
+      cut_is = ap (λ rows. cut (circles rows) rows) bases_are ∙ cut_same
+
+      pub kept_whole : limits.all_breaches (circles ended.types) ended.types ended (length types) m.decls ≡ []
+      kept_whole = subst (λ rows. limits.all_breaches (circles ended.types) rows ended (length types) m.decls ≡ []) cut_same kept
+
+      pub not_circular : (t : TypeId) → t.0 < length ended.types → limits.is_circular (circles ended.types) ended.types t ≡ false
+      not_circular t l = flag_is ended.types ended.types t l ∙ by (cases_Bool (contains_itself ended.types t))
+        where
+          by : (contains_itself ended.types t ≡ true) ⊎ (contains_itself ended.types t ≡ false) → contains_itself ended.types t ≡ false
+          by (inl e) = absurd (free t ((circle_test ended.types t).0 e))
+          by (inr e) = e
+
+      new_within : (t : TypeId) → length types ≤ t.0 → t.0 < length ended.types → is_first_past ended.types t ≡ false
+      new_within t from to = (type_kept (circles ended.types) ended.types ended (length types) m.decls kept_whole t from (omega (arith, to, long))).1
+
+      pub sizes : (t : TypeId) → scalars ended.types t ≤ MOST_SCALARS
+      sizes = all_within types ended.types old.closed stays old.free free old.sizes new_within

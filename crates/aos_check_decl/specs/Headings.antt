@@ -1,6 +1,6 @@
 -- The second pass: constants, types and headings, and the environment behind them. First come the module's own declarations,
 -- then those of its procedures.
-use Rattle.std.specs.Prelude.{ℕ, zero, suc, List, [], ◌∷◌, ◌++◌, length, replicate, Option, Some, None, slice_set}
+use Rattle.std.specs.Prelude.{ℕ, zero, suc, List, [], ◌∷◌, ◌++◌, length, replicate, false, Option, Some, None, slice_set}
 use Rattle.aos_base.specs.declared.text.Pos.{Pos}
 use Rattle.aos_tree.specs.declared.name.Qualident.{Qualident}
 use Rattle.aos_tree.specs.declared.decl.Decl.{Decl, items-the_row-TypeDef, items-the_row-VarDef}
@@ -65,7 +65,7 @@ settled slot m = by slot m.of
     by None of = m.env
 
 abbrev pub defined : Env → Option TypeId → TypeExpr → Judged Env
-defined e slot of = bind (type_in slot e of) (λ m. kept (settled slot m))
+defined e slot of = bind (type_in false slot e of) (λ m. kept (settled slot m))
 
 -- names for other types were told before
 abbrev pub type_def : Env → TypeDef → Judged Env
@@ -86,7 +86,7 @@ with_variables e zero of = e
 with_variables e (suc n) of = with_variables (with_variable e of) n of
 
 abbrev pub variable_def : Env → VarDef → Judged Env
-variable_def e v = bind (type_in None e v.of) (λ m. kept (with_variables m.env (length v.defs) m.of))
+variable_def e v = bind (type_in false None e v.of) (λ m. kept (with_variables m.env (length v.defs) m.of))
 
 abbrev pub declared : Env → Decl → Judged Env
 declared e (decl.Consts p cs) = walk constant_def e cs

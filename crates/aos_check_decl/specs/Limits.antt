@@ -1,7 +1,9 @@
--- What is judged of all types of a module together, once they are met: types that contain themselves, 18, and then numbers of
--- scalars, 19, and results, 25. A type that breaks a rule counts no scalars, and keeps all rules of what is made of it.
-use Rattle.std.specs.Prelude.{ℕ, suc, ◌+◌, nat_le, List, [], ◌∷◌, ◌++◌, map, sum_by, Bool, true, false, not, ◌&&◌, Option, Some, None, slice_get, unwrap_or}
-use Rattle.std.specs.List.{zip}
+-- What is judged of all types of a module together, once they are met: what is asked of those that are named, 17, 23 and 25, types
+-- that contain themselves, 18, and then numbers of scalars, 19, and results, 25. A type that breaks a rule counts no scalars, and
+-- keeps all rules of what is made of it.
+use Rattle.std.specs.Prelude.{ℕ, suc, ◌+◌, nat_le, List, [], ◌∷◌, ◌++◌, map, sum_by, Bool, true, false, not, ◌&&◌, ◌||◌, Option, Some, None, slice_get, slice_set, unwrap_or, fold, if◌then◌else◌}
+use Rattle.std.specs.List.{zip, flat_map}
+use Rattle.std.specs.Option.{is_none}
 use Rattle.aos_base.specs.declared.text.Pos.{Pos}
 use Rattle.aos_tree.specs.declared.name.Qualident.{Qualident}
 use Rattle.aos_tree.specs.declared.decl.Def.{Def}
@@ -14,20 +16,24 @@ use Rattle.aos_types.specs.declared.TheConstants.{MOST_SCALARS}
 use Rattle.aos_types.specs.declared.row.TypeId.{TypeId}
 use Rattle.aos_types.specs.declared.row.TypeRow.{TypeRow}
 use Rattle.aos_types.specs.declared.row.TypeRow.TheVariants as row
-use Rattle.aos_types.specs.Table.{row_of}
+use Rattle.aos_types.specs.Table.{row_of, is_record, is_open}
 use Rattle.aos_types.specs.Contents.{at_most, variable_scalars}
+use Rattle.aos_typed.specs.WellTyped.{is_whole}
 use Rattle.aos_types.specs.Chain.{circles, cut}
 use Rattle.aos_types.specs.Limit.{is_past, is_first_past}
 use Rattle.aos_symbols.specs.declared.breach.Breach.{Breach}
 use Rattle.aos_symbols.specs.declared.home.Gives.{Gives}
 use Rattle.aos_symbols.specs.declared.home.Gives.TheVariants as gives
 use Rattle.aos_symbols.specs.declared.home.Signature.{Signature}
+use Rattle.aos_symbols.specs.declared.env.Claim.{Claim}
+use Rattle.aos_symbols.specs.declared.env.Claim.TheVariants as claim
 use Rattle.aos_symbols.specs.declared.env.Env.{Env}
 use Rattle.aos_symbols.specs.Breaches.{breach_unless}
-use Rattle.aos_symbols.specs.Judged.{Judged, judged}
+use Rattle.aos_symbols.specs.Judged.{Judged, judged, bind}
 use Rattle.aos_symbols.specs.Declarations.{Procedure, procedures, all_type_defs, single_variables}
 use Rattle.aos_symbols.specs.Scope.{Scope}
 use Rattle.aos_symbols.specs.Home.{Home}
+use Rattle.aos_symbols.specs.Env as env
 
 -- where a type's name stands in its definition, and where the type itself begins; a type without a name has one place
 pub record Written : Type 0 where
@@ -51,6 +57,27 @@ unnamed_at p = record { named = p; at = p }
 -- all types of a module, in the order of their numbers
 abbrev pub written : Env → List Decl → List Written
 written e ds = map defined_at (all_type_defs ds) ++ map unnamed_at e.places
+
+-- What is asked of types that are named: a definition that breaks a rule has given an open array.
+
+abbrev pub may_be_base : Option TypeRow → Bool
+may_be_base r = is_record r || is_open r
+
+abbrev pub may_be_target : Option TypeRow → Bool
+may_be_target r = is_whole r || is_open r
+
+abbrev pub claim_breaches : Env → Claim → List Breach
+claim_breaches e (claim.Target at t) = breach_unless (may_be_target (row_of e.types t)) 25 at
+claim_breaches e (claim.Base at b t) = breach_unless (may_be_base (row_of e.types b)) 17 at
+claim_breaches e (claim.Field n b) = breach_unless (is_none (env.field e b n)) 23 n.pos
+
+-- a record whose base is no record has no contents
+abbrev pub without_base : List TypeRow → Claim → List TypeRow
+without_base rows (claim.Base at b t) = if is_record (row_of rows b) then rows else slice_set rows t.0 (row.Record None [])
+without_base rows c = rows
+
+abbrev pub with_bases : Env → Env
+with_bases e = record e { types = fold without_base e.types e.claims }
 
 -- what is known of the table once types that contain themselves are out of it
 module _ (flags : List Bool) (rows : List TypeRow) where
@@ -117,8 +144,11 @@ module _ (flags : List Bool) (rows : List TypeRow) where
       ++ variables_past (sum_by scalars_of e.before) (zip (single_variables ds) (variables_of (slice_get e.here.scopes 0)))
 
 -- the environment without types that contain themselves
-abbrev pub limits : Env → ℕ → List Decl → Judged Env
-limits e first ds =
+abbrev pub cut_off : Env → ℕ → List Decl → Judged Env
+cut_off e first ds =
     let flags = circles e.types in
     let rows = cut flags e.types in
     judged (all_breaches flags rows e first ds) (record e { types = rows })
+
+abbrev pub limits : Env → ℕ → List Decl → Judged Env
+limits e first ds = bind (judged (flat_map (claim_breaches e) e.claims) (with_bases e)) (λ e. cut_off e first ds)

@@ -28,6 +28,8 @@ entered number before types text m numbers =
       path = env.own number ∷ [];
       types = types;
       places = [];
+      claims = [];
+      narrowed = [];
     }
 
 -- the names that stand for other types are told before any declaration is met, and all types have their numbers

@@ -1,6 +1,6 @@
--- Types that are named or written: the rules that they break, their rows in the table of types, and their numbers. What isn't
+-- Types that are written: the rules that they break, their rows in the table of types, and their numbers. What isn't
 -- built is refused by rule 99 at its first token; nothing behind that in it is looked at.
-use Rattle.std.specs.Prelude.{ℕ, pos, int_le, unsigned_abs, List, [], ◌∷◌, ◌++◌, length, replicate, fold, Bool, false, ◌==◌, ◌&&◌, Option, Some, None, slice_set, if◌then◌else◌}
+use Rattle.std.specs.Prelude.{ℕ, pos, int_le, unsigned_abs, List, [], ◌∷◌, ◌++◌, length, replicate, fold, map, Bool, true, false, ◌==◌, ◌&&◌, Option, Some, None, slice_set, if◌then◌else◌}
 use Rattle.std.specs.List.{flat_map, list_any}
 use Rattle.std.specs.Option.{is_none}
 use Rattle.aos_base.specs.declared.text.Pos.{Pos}
@@ -13,7 +13,7 @@ use Rattle.aos_tree.specs.declared.decl.Decl.{Decl, items-the_row-Decl}
 use Rattle.aos_tree.specs.declared.decl.Decl.TheVariants as decl
 use Rattle.aos_tree.specs.declared.decl.Fields.{Fields}
 use Rattle.aos_tree.specs.declared.decl.Fields.TheVariants as fields
-use Rattle.aos_tree.specs.declared.decl.TypeExpr.{TypeExpr, Row_of-TypeExpr, end_of-TypeExpr, more_of-TypeExpr, Row_of-Fields, end_of-Fields, more_of-Fields}
+use Rattle.aos_tree.specs.declared.decl.TypeExpr.{TypeExpr, Row_of-TypeExpr, end_of-TypeExpr, more_of-TypeExpr, Row_of-Fields, end_of-Fields, more_of-Fields, items-the_row-Fields}
 use Rattle.aos_tree.specs.declared.decl.TypeExpr.TheVariants as type
 use Rattle.aos_types.specs.declared.TheConstants.{MOST_SCALARS}
 use Rattle.aos_types.specs.declared.row.TypeId.{TypeId}
@@ -22,19 +22,19 @@ use Rattle.aos_types.specs.declared.row.TypeRow.TheVariants as row
 use Rattle.aos_typed.specs.declared.tree.Literal.{Literal}
 use Rattle.aos_typed.specs.declared.tree.Literal.TheVariants as literal
 use Rattle.aos_symbols.specs.declared.breach.Breach.{Breach}
-use Rattle.aos_symbols.specs.declared.scope.Meaning.{Meaning}
 use Rattle.aos_symbols.specs.declared.scope.Meaning.TheVariants as means
-use Rattle.aos_symbols.specs.declared.env.Lookup.{Lookup}
-use Rattle.aos_symbols.specs.declared.env.Lookup.TheVariants.{Unknown, NotExported, Found}
+use Rattle.aos_symbols.specs.declared.env.Claim.{Claim}
+use Rattle.aos_symbols.specs.declared.env.Claim.TheVariants as claim
 use Rattle.aos_symbols.specs.declared.env.Env.{Env}
 use Rattle.aos_symbols.specs.Breaches.{breach, breach_unless, not_built}
 use Rattle.aos_symbols.specs.Judged.{Judged, judged, kept, bind, walk}
 use Rattle.aos_symbols.specs.Scope.{Scope, empty, with_name, with_variable}
 use Rattle.aos_symbols.specs.Home.{add_record}
 use Rattle.aos_symbols.specs.Entries.{entry}
-use Rattle.aos_symbols.specs.Spelling.{word, is_among, is_active, procedures_of_out}
+use Rattle.aos_symbols.specs.Spelling.{is_active}
 use Rattle.aos_symbols.specs.Env as env
 use Rattle.aos_check_expr.specs.Expressions.{constant, no_place}
+pub use Rattle.aos_check_expr.specs.TypeNames.{no_type, type_meant, type_found, type_of_out, type_in_module, qualified_type, named_type}
 
 -- where a declaration begins
 abbrev pub decl_place : Decl → Pos
@@ -45,45 +45,6 @@ decl_place (decl.Proc' p i def formals shape row body end) = p
 
 abbrev pub refused_decl : Decl → List Breach
 refused_decl d = not_built (decl_place d)
-
--- Types that are named; ANY isn't built.
-
-abbrev pub is_any : Option TypeId → Bool
-is_any None = false
-is_any (Some t) = t.0 == env.any.0
-
-abbrev pub no_type : ℕ → Pos → Judged (Option TypeId)
-no_type rule at = judged (breach rule at) None
-
-abbrev pub type_meant : Meaning → Pos → Judged (Option TypeId)
-type_meant (means.Type of) at = if is_any of then no_type 99 at else kept of
-type_meant m at = no_type 16 at
-
-abbrev pub type_found : Lookup → Pos → Judged (Option TypeId)
-type_found Unknown at = no_type 14 at
-type_found NotExported at = no_type 15 at
-type_found (Found x) at = type_meant x.means at
-
--- Out has no types
-abbrev pub type_of_out : List ℕ → Name → Judged (Option TypeId)
-type_of_out text n = no_type (if is_among procedures_of_out (word text n) then 16 else 14) n.pos
-
-abbrev pub type_in_module : Env → Meaning → Pos → Name → Judged (Option TypeId)
-type_in_module e (means.Module m) at n = type_found (env.member e m n) n.pos
-type_in_module e means.Out at n = type_of_out e.here.text n
-type_in_module e m at n = no_type 16 at
-
-abbrev pub qualified_type : Env → Lookup → Pos → Name → Judged (Option TypeId)
-qualified_type e Unknown at n = no_type 14 at
-qualified_type e NotExported at n = no_type 15 at
-qualified_type e (Found x) at n = type_in_module e x.means at n
-
-abbrev pub named_type : Env → Qualident → Judged (Option TypeId)
-named_type e q = named q.second
-  where
-    named : Option Name → Judged (Option TypeId)
-    named None = type_found (env.lookup e q.first) q.first.pos
-    named (Some n) = qualified_type e (env.lookup e q.first) q.first.pos n
 
 -- What is met of a type: the environment behind it, and its number, none where it breaks a rule.
 pub record Met : Type 0 where
@@ -103,6 +64,10 @@ placed (Some t) at r e = met (record e { types = slice_set e.types t.0 r }) (Som
 placed None at r e =
     met (record e { types = e.types ++ r ∷ []; places = e.places ++ at ∷ [] }) (Some (record { 0 = length e.types }))
 
+abbrev pub is_empty : List Expr → Bool
+is_empty [] = true
+is_empty (x ∷ xs) = false
+
 -- Arrays. A length is a constant integer from 1 to the most scalars that a type may have.
 
 abbrev pub length_given : Option Literal → Pos → Judged (Option ℕ)
@@ -113,6 +78,7 @@ length_given (Some (literal.Bool b)) at = judged (breach 20 at) None
 length_given (Some (literal.Char c)) at = judged (breach 20 at) None
 length_given (Some (literal.Set s)) at = judged (breach 20 at) None
 length_given (Some (literal.Text t)) at = judged (breach 20 at) None
+length_given (Some literal.Nil) at = judged (breach 20 at) None
 
 abbrev pub length_of : Env → Expr → Judged (Option ℕ)
 length_of e x = bind (constant e x) (λ v. length_given v (out-Expr x).pos)
@@ -146,10 +112,22 @@ arrays slot at None m = met m.env None
 arrays slot at (Some []) m = met m.env None
 arrays slot at (Some (n ∷ ns)) m = array_of slot at n (inner_arrays at ns m)
 
--- an open array stands as a parameter's type alone
-abbrev pub array_in : Option TypeId → Env → Pos → List Expr → Judged Met → Judged Met
-array_in slot e at [] element = refused_type 21 at e
-array_in slot e at (x ∷ xs) element =
+-- an open array, whose elements are of what is met
+abbrev pub open_of : Option TypeId → Pos → Met → Met
+open_of slot at m = on_element m.of
+  where
+    on_element : Option TypeId → Met
+    on_element None = m
+    on_element (Some t) = placed slot at (row.Open t) m.env
+
+-- an open array stands where it may alone
+abbrev pub open_in : (may_be_open : Bool) → Option TypeId → Env → Pos → Judged Met → Judged Met
+open_in false slot e at element = refused_type 21 at e
+open_in true slot e at element = bind element (λ m. kept (open_of slot at m))
+
+abbrev pub array_in : (may_be_open : Bool) → Option TypeId → Env → Pos → List Expr → Judged Met → Judged Met
+array_in may_be_open slot e at [] element = open_in may_be_open slot e at element
+array_in may_be_open slot e at (x ∷ xs) element =
     bind (lengths_of e (x ∷ xs)) (λ ns. bind element (λ m. kept (arrays slot at ns m)))
 
 -- Records. A field whose type breaks a rule has no type, and the record's row leaves it out.
@@ -182,10 +160,55 @@ with_record s m = by m.of
     by None = m
     by (Some t) = met (record m.env { here = add_record m.env.here t s }) (Some t)
 
--- a record with a base isn't built
-abbrev pub record_in : Option TypeId → Env → Pos → Option Qualident → Judged FieldsMet → Judged Met
-record_in slot e at None fs = bind fs (λ f. kept (with_record f.scope (placed slot at (row.Record None f.types) f.env)))
-record_in slot e at (Some base) fs = refused_type 99 at e
+-- What is asked of the types that are named, once all are met.
+
+abbrev pub claiming : List Claim → Env → Env
+claiming cs e = record e { claims = e.claims ++ cs }
+
+abbrev pub fields_in_def : Fields → List Name
+fields_in_def fields.Empty = []
+fields_in_def (fields.Of' defs of) = map (λ d. d.name) defs
+
+abbrev pub field_names : List Fields → List Name
+field_names fs = flat_map fields_in_def fs
+
+-- the base of a record, which has fields with these names
+abbrev pub base_in : Env → Option Qualident → Judged (Option TypeId)
+base_in e None = kept None
+base_in e (Some q) = named_type e q
+
+abbrev pub base_claims : Option Qualident → List Name → Option TypeId → Option TypeId → List Claim
+base_claims (Some q) names (Some b) (Some t) = claim.Base q.first.pos b t ∷ map (λ n. claim.Field n b) names
+base_claims q names b of = []
+
+abbrev pub based : Option Qualident → List Name → Option TypeId → Met → Met
+based q names b m = met (claiming (base_claims q names b m.of) m.env) m.of
+
+abbrev pub record_in : Option TypeId → Env → Pos → Option Qualident → List Name → Judged FieldsMet → Judged Met
+record_in slot e at base names fs =
+    bind (base_in e base) (λ b. bind fs (λ f.
+    kept (based base names b (with_record f.scope (placed slot at (row.Record b f.types) f.env)))))
+
+-- Pointers: a type that is written behind one is a record or an array; of one that is named this is asked later.
+
+abbrev pub target_breaches : TypeExpr → List Breach
+target_breaches (type.Named q) = []
+target_breaches (type.Array' p lengths shape row) = []
+target_breaches (type.Record' p base shape row) = []
+target_breaches (type.Pointer' p shape row) = breach 25 p
+target_breaches (type.Proc p flag formals) = breach 25 p
+target_breaches (type.Object' p base shape row body end) = breach 25 p
+
+abbrev pub target_claims : TypeExpr → TypeId → List Claim
+target_claims (type.Named q) t = claim.Target q.first.pos t ∷ []
+target_claims x t = []
+
+abbrev pub pointer_to : Option TypeId → Pos → TypeExpr → Met → Met
+pointer_to slot at x m = to m.of
+  where
+    to : Option TypeId → Met
+    to None = m
+    to (Some t) = placed slot at (row.Pointer t) (claiming (target_claims x t) m.env)
 
 -- Object types: at module level alone; built are those that a declaration names, without base and declarations, whose body is
 -- active.
@@ -209,18 +232,26 @@ object_in slot e at base decls body =
 
 -- a type, which is that of a definition where it has a number
 abbrev mutual
-  pub type_in : Option TypeId → Env → TypeExpr → Judged Met
-  type_in slot e (type.Named q) = bind (named_type e q) (λ of. kept (met e of))
-  type_in slot e (type.Array' p lengths shape row) = array_in slot e p lengths (held_in e row)
-  type_in slot e (type.Record' p base shape row) = record_in slot e p base (fields_in (fields_met e [] empty) row)
-  type_in slot e (type.Pointer' p shape row) = refused_type 99 p e
-  type_in slot e (type.Proc p flag formals) = refused_type 99 p e
-  type_in slot e (type.Object' p base shape row body end) = object_in slot e p base (items-the_row-Decl _ row) body
+  pub type_in : (may_be_open : Bool) → Option TypeId → Env → TypeExpr → Judged Met
+  type_in may_be_open slot e (type.Named q) = bind (named_type e q) (λ of. kept (met e of))
+  type_in may_be_open slot e (type.Array' p lengths shape row) =
+      array_in may_be_open slot e p lengths (held_in (may_be_open && is_empty lengths) e row)
+  type_in may_be_open slot e (type.Record' p base shape row) =
+      record_in slot e p base (field_names (items-the_row-Fields _ row)) (fields_in (fields_met e [] empty) row)
+  type_in may_be_open slot e (type.Pointer' p shape row) = pointer_in slot e p row
+  type_in may_be_open slot e (type.Proc p flag formals) = refused_type 99 p e
+  type_in may_be_open slot e (type.Object' p base shape row body end) = object_in slot e p base (items-the_row-Decl _ row) body
 
   -- the type of an array's elements
-  pub held_in : {m : _} → Env → Row_of-TypeExpr m → Judged Met
-  held_in e end_of-TypeExpr = refused_type 99 no_place e
-  held_in e (more_of-TypeExpr t ts) = type_in None e t
+  pub held_in : {m : _} → (may_be_open : Bool) → Env → Row_of-TypeExpr m → Judged Met
+  held_in may_be_open e end_of-TypeExpr = refused_type 99 no_place e
+  held_in may_be_open e (more_of-TypeExpr t ts) = type_in may_be_open None e t
+
+  -- a pointer, by the type that it leads to
+  pub pointer_in : {m : _} → Option TypeId → Env → Pos → Row_of-TypeExpr m → Judged Met
+  pointer_in slot e at end_of-TypeExpr = refused_type 99 no_place e
+  pointer_in slot e at (more_of-TypeExpr t ts) =
+      bind (bind (judged (target_breaches t) e) (λ e. type_in true None e t)) (λ m. kept (pointer_to slot at t m))
 
   pub fields_in : {m : _} → FieldsMet → Row_of-Fields m → Judged FieldsMet
   fields_in f end_of-Fields = kept f
@@ -228,4 +259,8 @@ abbrev mutual
 
   pub field_in : FieldsMet → Fields → Judged FieldsMet
   field_in f fields.Empty = kept f
-  field_in f (fields.Of' defs of) = bind (type_in None f.env of) (λ m. kept (with_fields f defs m))
+  field_in f (fields.Of' defs of) = bind (type_in false None f.env of) (λ m. kept (with_fields f defs m))
+
+-- a record, with its fields as a list
+abbrev pub record_of : Option TypeId → Env → Pos → Option Qualident → List Fields → Judged Met
+record_of slot e at base fs = record_in slot e at base (field_names fs) (walk field_in (fields_met e [] empty) fs)

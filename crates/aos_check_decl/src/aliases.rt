@@ -10,8 +10,8 @@ ghost use Rattle.aos_check_decl.specs.Aliases as judge;
 ghost use Rattle.aos_check_decl.specs.Ahead as far;
 
 use crate::procedures::count_types;
-use crate::types::named_type;
 use aos_base::NoMemory;
+use aos_check_expr::named_type;
 use aos_symbols::{Breach, Env};
 use aos_tree::{Decl, TypeDef, TypeExpr};
 use aos_types::{TypeId, TypeRow, Types};

@@ -91,7 +91,7 @@ fn type_def(
         return Ok(());
     }
     let slot = slot_in(env.lookup(def.def.name));
-    let of = type_in(alloc, found, env, slot, &def.value)?;
+    let of = type_in(alloc, found, env, false, slot, &def.value)?;
     settle(env, slot, of);
     Ok(())
 }
@@ -143,7 +143,7 @@ fn variable_def(
         first_after found.old (judge.variable_def env.old def.now).breaches) }
     ensures env { OnOk result (env.new ≡ (judge.variable_def env.old def.now).answer) }
 {
-    let of = type_in(alloc, found, env, None, &def.of)?;
+    let of = type_in(alloc, found, env, false, None, &def.of)?;
     add_variables(env, def.defs.len(), of)?;
     Ok(())
 }

@@ -2,6 +2,7 @@
 #![tactic(auto)]
 
 mod aliases;
+mod claims;
 mod declarations;
 mod limits;
 mod pass;

@@ -10,10 +10,11 @@ ghost use Rattle.aos_symbols.specs.Breaches.{breach_unless, first_after};
 ghost use Rattle.aos_symbols.specs.Declarations.{procedures, single_variables, type_defs};
 ghost use Rattle.aos_check_decl.specs.Limits as judge;
 
+use crate::claims::{drop_bases, note_claims};
 use crate::procedures::next;
 use aos_base::{NoMemory, Pos};
 use aos_symbols::{
-    Breach, CONTAINS_ITSELF, Env, Gives, Home, Scope, TOO_MANY_SCALARS, WRONG_RESULT, note,
+    Breach, CONTAINS_ITSELF, Env, Gives, Home, Scope, TOO_MANY_SCALARS, WRONG_TYPE, note,
 };
 use aos_tree::{Decl, Def, Formals, TypeDef, TypeExpr, VarDef};
 use aos_types::{MOST_SCALARS, TypeId, TypeRow, Types};
@@ -216,7 +217,7 @@ fn note_result(
         return;
     };
     if is_wrong_result(types, flags, of) {
-        note(found, WRONG_RESULT, name.first.pos);
+        note(found, WRONG_TYPE, name.first.pos);
     }
 }
 
@@ -384,6 +385,26 @@ fn note_variables(
 
 /// Rules 18, 19 and 25 of a module, whose first type has this number: types that contain themselves, which become records
 /// without fields, numbers of scalars, and results.
+fn cut_off(
+    alloc: Global,
+    found: &mut Option<Breach>,
+    env: &mut Env<'_>,
+    first: u32,
+    decls: &[Decl],
+) -> Result<(), NoMemory>
+    ensures noted { OnOk result (found.new ≡
+        first_after found.old (judge.cut_off env.old first decls.now).breaches) }
+    ensures env { OnOk result (env.new ≡ (judge.cut_off env.old first decls.now).answer) }
+{
+    let flags = env.types.cut_circles(alloc)?;
+    let written = written_in(alloc, env, decls)?;
+    note_types(found, &env.types, &flags, first, &written)?;
+    note_results(found, env, &flags, decls)?;
+    note_variables(alloc, found, env, decls)
+}
+
+/// What is judged of a module's types together, of which the first has this number.
+#[tactic(auto, using(aos_symbols::proofs::Keeping::after_more))]
 pub(crate) fn limits(
     alloc: Global,
     found: &mut Option<Breach>,
@@ -395,9 +416,7 @@ pub(crate) fn limits(
         first_after found.old (judge.limits env.old first decls.now).breaches) }
     ensures env { OnOk result (env.new ≡ (judge.limits env.old first decls.now).answer) }
 {
-    let flags = env.types.cut_circles(alloc)?;
-    let written = written_in(alloc, env, decls)?;
-    note_types(found, &env.types, &flags, first, &written)?;
-    note_results(found, env, &flags, decls)?;
-    note_variables(alloc, found, env, decls)
+    note_claims(found, env)?;
+    drop_bases(alloc, &mut env.types, env.claims.as_slice());
+    cut_off(alloc, found, env, first, decls)
 }

@@ -77,6 +77,8 @@ fn entered<'a>(
         path,
         types,
         places: Items::new(alloc),
+        claims: Items::new(alloc),
+        narrowed: Items::new(alloc),
     })
 }
 
@@ -116,7 +118,7 @@ fn begin<'a>(
 }
 
 /// The second pass over a module behind these in load order, whose types these are: constants, types and headings, with the
-/// rules 14 to 16, 18 to 21 and 24 to 26, and the environment behind them (Oberon-2 report, 5 to 7 and 10; Reali 2002). The
+/// rules 14 to 21 and 23 to 26, and the environment behind them (Oberon-2 report, 5 to 7 and 10; Reali 2002). The
 /// first rule that is broken is taken down. Want of memory is the only error.
 #[tactic(auto, using(aos_symbols::proofs::Keeping::after_more))]
 pub fn declare<'a>(

@@ -8,8 +8,9 @@ ghost use Rattle.aos_check_decl.specs.Types as types;
 ghost use Rattle.aos_check_decl.specs.Headings as judge;
 
 use crate::declarations::{add_variable, declare_all};
-use crate::types::{named_type, place_row};
+use crate::types::place_row;
 use aos_base::{NoMemory, Pos};
+use aos_check_expr::named_type;
 use aos_symbols::{Breach, Env, Gives, Parameter, Signature, WRONG_INITIALIZER, note};
 use aos_tree::{Decl, Formals, Items, Qualident, Section};
 use aos_types::{TypeId, TypeRow};

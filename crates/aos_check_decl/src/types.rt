@@ -1,19 +1,20 @@
-// Types that are named or defined, and the rules that they break.
+// Types that are written, and the rules that they break.
 
-ghost use Rattle.std.specs.Prelude.{◌≡◌, ◌++◌, OnOk, IfOk, fold, replicate};
+ghost use Rattle.std.specs.Prelude.{◌≡◌, ◌++◌, ◌∷◌, [], OnOk, IfOk, fold, map, replicate};
 ghost use Rattle.std.specs.List.{flat_map};
 ghost use Rattle.aos_symbols.specs.Breaches.{first_after};
 ghost use Rattle.aos_symbols.specs.Judged.{walk};
 ghost use Rattle.aos_types.specs.declared.row.TypeRow.TheVariants as kind;
+ghost use Rattle.aos_symbols.specs.declared.env.Claim.TheVariants as claims;
 ghost use Rattle.aos_check_decl.specs.Types as judge;
 
 use aos_base::{NoMemory, Pos};
-use aos_check_expr::constant;
+use aos_check_expr::{constant, named_type, no_type};
 use aos_symbols::{
-    ANY, Breach, Env, Lookup, Meaning, NOT_BUILT, NOT_CONSTANT, NOT_EXPORTED, OBJECT_INSIDE,
-    OPEN_ARRAY, OTHER_KIND, Scope, UNKNOWN, declare, is_active, is_procedure_of_out, note, word,
+    Breach, Claim, Env, Meaning, NOT_BUILT, NOT_CONSTANT, OBJECT_INSIDE, OPEN_ARRAY, Scope,
+    WRONG_TYPE, declare, is_active, note,
 };
-use aos_tree::{Block, Decl, Def, Expr, Fields, Items as Parts, Name, Qualident, TypeExpr};
+use aos_tree::{Block, Decl, Def, Expr, Fields, Items as Parts, Qualident, TypeExpr};
 use aos_typed::Literal;
 use aos_types::{Items, MOST_SCALARS, TypeId, TypeRow};
 use std::alloc::{AllocError, Global};
@@ -39,117 +40,6 @@ fn refuse_decls(found: &mut Option<Breach>, decls: &[Decl])
 {
     for decl in decls {
         note(found, NOT_BUILT, decl_place(decl));
-    }
-}
-
-/// What is no type, by this rule.
-fn no_type(found: &mut Option<Breach>, rule: u16, at: Pos) -> Option<TypeId>
-    ensures noted { found.new ≡ first_after found.old (judge.no_type rule at).breaches }
-    ensures answer { result ≡ (judge.no_type rule at).answer }
-{
-    note(found, rule, at);
-    None
-}
-
-/// ANY isn't built.
-fn is_any(of: Option<TypeId>) -> bool
-    ensures { result ≡ judge.is_any of }
-{
-    match of {
-        Some(of) => of.0 == ANY.0,
-        None => false,
-    }
-}
-
-fn type_meant(found: &mut Option<Breach>, means: Meaning, at: Pos) -> Option<TypeId>
-    ensures noted { found.new ≡ first_after found.old (judge.type_meant means at).breaches }
-    ensures answer { result ≡ (judge.type_meant means at).answer }
-{
-    match means {
-        Meaning::Type(of) => {
-            if is_any(of) {
-                return no_type(found, NOT_BUILT, at);
-            }
-            of
-        }
-        _ => no_type(found, OTHER_KIND, at),
-    }
-}
-
-/// The type that a name stands for.
-fn type_found(found: &mut Option<Breach>, lookup: Lookup, at: Pos) -> Option<TypeId>
-    ensures noted { found.new ≡ first_after found.old (judge.type_found lookup at).breaches }
-    ensures answer { result ≡ (judge.type_found lookup at).answer }
-{
-    match lookup {
-        Lookup::Unknown => no_type(found, UNKNOWN, at),
-        Lookup::NotExported => no_type(found, NOT_EXPORTED, at),
-        Lookup::Found(symbol) => type_meant(found, symbol.means, at),
-    }
-}
-
-/// A name behind `Out.`, which has no types.
-fn type_of_out(found: &mut Option<Breach>, text: &[u8], name: Name) -> Option<TypeId>
-    ensures noted { found.new ≡ first_after found.old (judge.type_of_out text.now name).breaches }
-    ensures answer { result ≡ (judge.type_of_out text.now name).answer }
-{
-    if is_procedure_of_out(word(text, name)) {
-        return no_type(found, OTHER_KIND, name.pos);
-    }
-    no_type(found, UNKNOWN, name.pos)
-}
-
-/// The type that a name stands for behind a name that means this.
-fn type_in_module(
-    found: &mut Option<Breach>,
-    env: &Env<'_>,
-    means: Meaning,
-    first: Pos,
-    name: Name,
-) -> Option<TypeId>
-    ensures noted { found.new ≡
-        first_after found.old (judge.type_in_module env.now means first name).breaches }
-    ensures answer { result ≡ (judge.type_in_module env.now means first name).answer }
-{
-    match means {
-        Meaning::Module(number) => type_found(found, env.member(number, name), name.pos),
-        Meaning::Out => type_of_out(found, env.here.text(), name),
-        _ => no_type(found, OTHER_KIND, first),
-    }
-}
-
-/// The type that a name stands for in the module that the name at the first place means.
-fn qualified_type(
-    found: &mut Option<Breach>,
-    env: &Env<'_>,
-    lookup: Lookup,
-    first: Pos,
-    name: Name,
-) -> Option<TypeId>
-    ensures noted { found.new ≡
-        first_after found.old (judge.qualified_type env.now lookup first name).breaches }
-    ensures answer { result ≡ (judge.qualified_type env.now lookup first name).answer }
-{
-    match lookup {
-        Lookup::Unknown => no_type(found, UNKNOWN, first),
-        Lookup::NotExported => no_type(found, NOT_EXPORTED, first),
-        Lookup::Found(symbol) => type_in_module(found, env, symbol.means, first, name),
-    }
-}
-
-/// The type that a name, or a name of another module, stands for.
-pub(crate) fn named_type(
-    found: &mut Option<Breach>,
-    env: &Env<'_>,
-    name: Qualident,
-) -> Option<TypeId>
-    ensures noted { found.new ≡ first_after found.old (judge.named_type env.now name).breaches }
-    ensures answer { result ≡ (judge.named_type env.now name).answer }
-{
-    let lookup = env.lookup(name.first);
-    match name.second {
-        None => type_found(found, lookup, name.first.pos),
-        Some(second) => qualified_type(found, env, lookup, name.first.pos, second),
     }
 }
 
@@ -343,22 +233,145 @@ fn add_record<'a>(env: &mut Env<'a>, of: Option<TypeId>, fields: Scope<'a>) -> R
     Ok(())
 }
 
-/// A record whose fields are of these types, and are the variables of this scope.
+/// Asks something of a type that is named.
+fn claim(env: &mut Env<'_>, one: Claim) -> Result<(), AllocError>
+    ensures { OnOk result (env.new ≡ judge.claiming (one ∷ []) env.old) }
+{
+    env.claims.push(one)
+}
+
+/// Asks of a record's base that it has no field with one of these names.
+fn claim_names(env: &mut Env<'_>, base: TypeId, defs: &[Def]) -> Result<(), AllocError>
+    ensures { OnOk result (env.new ≡
+        judge.claiming (map (λ n. claims.Field n base) (map (λ d. d.name) defs.now)) env.old) }
+{
+    for def in defs {
+        claim(env, Claim::Field(def.name, base))?;
+    }
+    Ok(())
+}
+
+/// The same of the names of all fields.
+fn claim_fields(env: &mut Env<'_>, base: TypeId, fields: &[Fields]) -> Result<(), AllocError>
+    ensures { OnOk result (env.new ≡
+        judge.claiming (map (λ n. claims.Field n base) (judge.field_names fields.now)) env.old) }
+{
+    for field in fields {
+        if let Fields::Of(def) = field {
+            claim_names(env, base, def.defs.as_slice())?;
+        }
+    }
+    Ok(())
+}
+
+/// Asks of a record's base, where both are known, that it is a record, and has none of the record's fields.
+fn claim_base(
+    env: &mut Env<'_>,
+    name: Option<Qualident>,
+    fields: &[Fields],
+    base: Option<TypeId>,
+    of: Option<TypeId>,
+) -> Result<(), AllocError>
+    ensures { OnOk result (env.new ≡ judge.claiming
+        (judge.base_claims name (judge.field_names fields.now) base of) env.old) }
+{
+    let (Some(name), Some(base), Some(of)) = (name, base, of) else {
+        return Ok(());
+    };
+    claim(env, Claim::Base(name.first.pos, base, of))?;
+    claim_fields(env, base, fields)
+}
+
+/// A record with a base or none, whose fields are of these types, and are the variables of this scope.
 fn place_record<'a>(
     env: &mut Env<'a>,
     slot: Option<TypeId>,
     at: Pos,
+    base: Option<TypeId>,
     types: Items<TypeId>,
     scope: Scope<'a>,
 ) -> Result<Option<TypeId>, NoMemory>
     ensures env { OnOk result (env.new ≡ (judge.with_record scope.entry
-        (judge.placed slot at (kind.Record None types) env.old)).env) }
+        (judge.placed slot at (kind.Record base types) env.old)).env) }
     ensures of { IfOk result (λ of. of ≡ (judge.with_record scope.entry
-        (judge.placed slot at (kind.Record None types) env.old)).of) }
+        (judge.placed slot at (kind.Record base types) env.old)).of) }
 {
-    let of = place_row(env, slot, at, TypeRow::Record(None, types))?;
+    let of = place_row(env, slot, at, TypeRow::Record(base, types))?;
     add_record(env, of, scope)?;
     Ok(of)
+}
+
+/// The base of a record, where one is written.
+fn base_in(found: &mut Option<Breach>, env: &Env<'_>, base: Option<Qualident>) -> Option<TypeId>
+    ensures noted { found.new ≡ first_after found.old (judge.base_in env.now base).breaches }
+    ensures answer { result ≡ (judge.base_in env.now base).answer }
+{
+    match base {
+        Some(name) => named_type(found, env, name),
+        None => None,
+    }
+}
+
+/// What is written behind a pointer is a record, an array or a name.
+fn refuse_target(found: &mut Option<Breach>, to: &TypeExpr)
+    ensures { found.new ≡ first_after found.old (judge.target_breaches to.now) }
+{
+    match to {
+        TypeExpr::Named(_) => {}
+        TypeExpr::Array(_, _, _) => {}
+        TypeExpr::Record(_, _, _) => {}
+        TypeExpr::Pointer(at, _) => note(found, WRONG_TYPE, *at),
+        TypeExpr::Proc(at, _, _) => note(found, WRONG_TYPE, *at),
+        TypeExpr::Object(at, _, _, _, _) => note(found, WRONG_TYPE, *at),
+    }
+}
+
+/// Asks of a type that is named behind a pointer that it is a record or an array.
+fn claim_target(env: &mut Env<'_>, to: &TypeExpr, of: TypeId) -> Result<(), AllocError>
+    ensures { OnOk result (env.new ≡ judge.claiming (judge.target_claims to.now of) env.old) }
+{
+    if let TypeExpr::Named(name) = to {
+        claim(env, Claim::Target(name.first.pos, of))?;
+    }
+    Ok(())
+}
+
+/// A pointer to a type, where it is known.
+fn place_pointer(
+    env: &mut Env<'_>,
+    slot: Option<TypeId>,
+    at: Pos,
+    to: &TypeExpr,
+    of: Option<TypeId>,
+) -> Result<Option<TypeId>, NoMemory>
+    ensures env { OnOk result
+        (env.new ≡ (judge.pointer_to slot at to.now (judge.met env.old of)).env) }
+    ensures of { IfOk result
+        (λ of'. of' ≡ (judge.pointer_to slot at to.now (judge.met env.old of)).of) }
+{
+    let Some(of) = of else {
+        return Ok(None);
+    };
+    claim_target(env, to, of)?;
+    place_row(env, slot, at, TypeRow::Pointer(of))
+}
+
+/// An open array, whose elements are of this type, where it is known.
+fn place_open(
+    env: &mut Env<'_>,
+    slot: Option<TypeId>,
+    at: Pos,
+    of: Option<TypeId>,
+) -> Result<Option<TypeId>, NoMemory>
+    ensures env { OnOk result
+        (env.new ≡ (judge.open_of slot at (judge.met env.old of)).env) }
+    ensures of { IfOk result
+        (λ of'. of' ≡ (judge.open_of slot at (judge.met env.old of)).of) }
+{
+    match of {
+        Some(element) => place_row(env, slot, at, TypeRow::Open(element)),
+        None => Ok(None),
+    }
 }
 
 /// So many fields of one type behind these, where it is known.
@@ -460,7 +473,7 @@ fn fields_in<'a>(
 {
     for field in fields.as_slice() {
         if let Fields::Of(def) = field {
-            let of = type_in(alloc, found, env, None, &def.of)?;
+            let of = type_in(alloc, found, env, false, None, &def.of)?;
             add_fields(types, def.defs.len(), of)?;
             add_all_fields(scope, env.here.text(), of, def.defs.as_slice())?;
         }
@@ -468,41 +481,72 @@ fn fields_in<'a>(
     Ok(())
 }
 
-/// A type, which is that of a definition where it has a number: its number, none where it breaks a rule.
+/// A record, which is that of a definition where it has a number.
+#[cycle(types)]
+#[tactic(auto, using(aos_symbols::proofs::Keeping::after_more))]
+fn record_in<'a>(
+    alloc: Global,
+    found: &mut Option<Breach>,
+    env: &mut Env<'a>,
+    slot: Option<TypeId>,
+    at: Pos,
+    base: Option<Qualident>,
+    fields: &Parts<Fields>,
+) -> Result<Option<TypeId>, NoMemory>
+    ensures noted { OnOk result (found.new ≡ first_after found.old
+        (judge.record_of slot env.old at base fields.now).breaches) }
+    ensures env { OnOk result (env.new ≡ (judge.record_of slot env.old at base fields.now).answer.env) }
+    ensures of { IfOk result (λ t. t ≡ (judge.record_of slot env.old at base fields.now).answer.of) }
+{
+    let named = base_in(found, env, base);
+    let mut types = Items::new(alloc);
+    let mut scope = Scope::new(alloc);
+    fields_in(alloc, found, env, &mut types, &mut scope, fields)?;
+    let of = place_record(env, slot, at, named, types, scope)?;
+    claim_base(env, base, fields.as_slice(), named, of)?;
+    Ok(of)
+}
+
+/// A type, which is that of a definition where it has a number: its number, none where it breaks a rule. An open array may stand
+/// there or not.
 #[cycle(types)]
 #[tactic(auto, using(aos_symbols::proofs::Keeping::after_more))]
 pub(crate) fn type_in<'a>(
     alloc: Global,
     found: &mut Option<Breach>,
     env: &mut Env<'a>,
+    may_be_open: bool,
     slot: Option<TypeId>,
     of: &TypeExpr,
 ) -> Result<Option<TypeId>, NoMemory>
     ensures noted { OnOk result (found.new ≡ first_after found.old
-        (judge.type_in slot env.old of.now).breaches) }
-    ensures env { OnOk result (env.new ≡ (judge.type_in slot env.old of.now).answer.env) }
-    ensures of { IfOk result (λ t. t ≡ (judge.type_in slot env.old of.now).answer.of) }
+        (judge.type_in may_be_open slot env.old of.now).breaches) }
+    ensures env { OnOk result (env.new ≡ (judge.type_in may_be_open slot env.old of.now).answer.env) }
+    ensures of { IfOk result (λ t. t ≡ (judge.type_in may_be_open slot env.old of.now).answer.of) }
 {
     match of {
         TypeExpr::Named(name) => Ok(named_type(found, env, *name)),
         TypeExpr::Array(at, lengths, element) => {
-            if lengths.as_slice().is_empty() {
+            let lengths = lengths.as_slice();
+            if lengths.is_empty() && !may_be_open {
                 return Ok(refuse_type(found, OPEN_ARRAY, *at));
             }
-            let lengths = lengths_of(alloc, found, env, lengths.as_slice())?;
-            let element = type_in(alloc, found, env, None, element.get())?;
+            if lengths.is_empty() {
+                let element = type_in(alloc, found, env, true, None, element.get())?;
+                return place_open(env, slot, *at, element);
+            }
+            let lengths = lengths_of(alloc, found, env, lengths)?;
+            let element = type_in(alloc, found, env, false, None, element.get())?;
             place_arrays(env, slot, *at, lengths, element)
         },
         TypeExpr::Record(at, base, fields) => {
-            if base.is_some() {
-                return Ok(refuse_type(found, NOT_BUILT, *at));
-            }
-            let mut types = Items::new(alloc);
-            let mut scope = Scope::new(alloc);
-            fields_in(alloc, found, env, &mut types, &mut scope, fields)?;
-            place_record(env, slot, *at, types, scope)
+            record_in(alloc, found, env, slot, *at, *base, fields)
         },
-        TypeExpr::Pointer(at, _) => Ok(refuse_type(found, NOT_BUILT, *at)),
+        TypeExpr::Pointer(at, to) => {
+            refuse_target(found, to.get());
+            let target = type_in(alloc, found, env, true, None, to.get())?;
+            place_pointer(env, slot, *at, to.get(), target)
+        },
         TypeExpr::Proc(at, _, _) => Ok(refuse_type(found, NOT_BUILT, *at)),
         TypeExpr::Object(at, base, decls, body, _) => {
             object_in(alloc, found, env, slot, *at, *base, decls.as_slice(), body)

@@ -6,10 +6,11 @@ use Rattle.aos_types.specs.declared.row.TypeId.{TypeId}
 use Rattle.aos_typed.specs.declared.tree.Literal.{Literal}
 use Rattle.aos_symbols.specs.declared.scope.Meaning.{Meaning}
 use Rattle.aos_symbols.specs.declared.scope.Meaning.TheVariants as means
+use Rattle.aos_symbols.specs.declared.scope.Function.{Function}
 use Rattle.aos_symbols.specs.declared.scope.Function.TheVariants as function
+use Rattle.aos_tree.specs.declared.decl.Export.{Export}
 use Rattle.aos_symbols.specs.declared.env.Open.{Open}
 use Rattle.aos_symbols.specs.declared.env.Symbol.{Symbol}
-use Rattle.aos_tree.specs.declared.decl.Export.{Export}
 use Rattle.aos_symbols.specs.declared.env.Lookup.{Lookup}
 use Rattle.aos_symbols.specs.declared.env.Lookup.TheVariants.{Unknown as NoName, NotExported, Found}
 use Rattle.aos_symbols.specs.declared.env.Env.{Env}
@@ -19,7 +20,7 @@ use Rattle.aos_symbols.proofs.Holds.{Holds, holds_bind}
 use Rattle.aos_check_expr.proofs.Inside.{Inside}
 use Rattle.aos_check_expr.specs.declared.designators.Head.{Head}
 use Rattle.aos_check_expr.specs.declared.operations.Step.{Step}
-use Rattle.aos_check_expr.specs.Known.{Answer, Spot, is_integer}
+use Rattle.aos_check_expr.specs.Known.{Answer, is_integer}
 use Rattle.aos_check_expr.specs.Operations as op
 use Rattle.aos_check_expr.specs.Designators as desig
 use Rattle.aos_check_expr.specs.Expressions as judge
@@ -27,7 +28,7 @@ use Rattle.aos_check_expr.specs.Expressions.{Callee, Calls, Invokes, Converts, N
 use Rattle.aos_check_expr.proofs.Good.{IsGood, MayBe, greatest_good, least_good}
 use Rattle.aos_check_expr.proofs.Sound.{IsStep, TestsOne, applied_step, applied_tests, converted_step, converted_tests}
 use Rattle.aos_check_expr.proofs.Parts.{argument_part, arguments_part, limit_part}
-use Rattle.aos_check_expr.proofs.Spots.{IsWhole, Part, Valued, refused_part, guarded_part}
+use Rattle.aos_check_expr.proofs.Spots.{IsWhole, GoodConstants, MayFind, Part, Valued, Spotted, refused_part, spotted, named_spot, guarded_part}
 use Rattle.aos_check_expr.proofs.Worded.{len_alone_part, len_in_part}
 use Rattle.aos_check_expr.proofs.Passed.{invoked_part}
 
@@ -132,36 +133,48 @@ module _ (p : Inside) (e : Env) where
   length_of at (j ∷ k ∷ l ∷ js) parts xs = refused_part p e 34 at
 
   -- what can't be called
-  guard_part : (is_guard : Bool) (at first : Pos) (j : Judged Spot) → IsFine (bind j (λ a. desig.guarded e a.known.of is_guard at first))
-  guard_part is_guard at first j =
-      holds_bind (λ (a : Spot). Unit {0}) (Valued p e) j (λ a. desig.guarded e a.known.of is_guard at first) (λ none. tt) (λ a any. guarded_part p e a.known.of is_guard at first)
+  module _ (good : GoodConstants e) where
+    value_called : (h : Head) → MayFind p e h.found → (at : Pos) (xs : List Expr) → Holds (Spotted p e) (bind (desig.named e h) (λ a. desig.guarded e h.first at a (judge.guard_type e xs)))
+    value_called h may at xs =
+        holds_bind (Spotted p e) (Spotted p e) (desig.named e h) (λ a. desig.guarded e h.first at a (judge.guard_type e xs)) (named_spot p e good h may)
+        (λ a x. guarded_part p e h.first at a x (judge.guard_type e xs))
 
-  not_meant : (m : Meaning) (o : Open) (mark : Option Export) (named first at : Pos) (xs : List Expr) →
-      IsFine (judge.not_called e (record { found = Found (record { at = o; mark = mark; means = m }); at = named; first = first }) at xs)
-  not_meant (means.Type None) o mark named first at xs = refused_part p e 99 first
-  not_meant (means.Type (Some t)) o mark named first at xs = refused_part p e 36 first
-  not_meant m o mark named first at xs = guard_part (judge.is_guard e xs) at first (desig.named e (record { found = Found (record { at = o; mark = mark; means = m }); at = named; first = first }))
+    not_called_of : (l : Lookup) (place first : Pos) → MayFind p e l → (at : Pos) (xs : List Expr) → Holds (Spotted p e) (judge.not_called e (record { found = l; at = place; first = first }) at xs)
+    not_called_of NoName place first may at xs = value_called (record { found = NoName; at = place; first = first }) may at xs
+    not_called_of NotExported place first may at xs = value_called (record { found = NotExported; at = place; first = first }) may at xs
+    not_called_of (Found x) place first may at xs = by x.at x.mark x.means may
+      where
+        head : Open → Option Export → Meaning → Head
+        head o mark m = record { found = Found (record { at = o; mark = mark; means = m }); at = place; first = first }
 
-  not_found : (l : Lookup) (named first at : Pos) (xs : List Expr) → IsFine (judge.not_called e (record { found = l; at = named; first = first }) at xs)
-  not_found NoName named first at xs = guard_part (judge.is_guard e xs) at first (desig.named e (record { found = NoName; at = named; first = first }))
-  not_found NotExported named first at xs = guard_part (judge.is_guard e xs) at first (desig.named e (record { found = NotExported; at = named; first = first }))
-  not_found (Found x) named first at xs = not_meant x.means x.at x.mark named first at xs
+        by : (o : Open) (mark : Option Export) (m : Meaning) → MayFind p e (head o mark m).found → Holds (Spotted p e) (judge.not_called e (head o mark m) at xs)
+        by o mark (means.Type None) may = spotted p e first (desig.refused 99 first) (refused_part p e 99 first)
+        by o mark (means.Type (Some t)) may = spotted p e first (desig.refused 36 first) (refused_part p e 36 first)
+        by o mark m may = value_called (head o mark m) may at xs
 
-  called : (c : Callee) → IsRightCallee c → (h : Head) (at : Pos) (js : List (Judged Answer)) → Parts js → (xs : List Expr) → length js ≡ length xs → IsFine (judge.called_by e c h at js xs)
-  called (Calls function.Max) right h at js parts xs many = limit_of_type op.greatest_value greatest_good xs h.first
-  called (Calls function.Len) right h at js parts xs many = length_of h.first js parts xs
-  called (Calls function.Min) right h at js parts xs many = limit_of_type op.least_value least_good xs h.first
-  called (Calls function.Ash) right h at js parts xs many = of_two h.first js parts xs
-  called (Calls function.Abs) right h at js parts xs many = of_one (op.applied function.Abs) (applied_step p function.Abs) (applied_tests function.Abs tt) h.first js parts xs
-  called (Calls function.Odd) right h at js parts xs many = of_one (op.applied function.Odd) (applied_step p function.Odd) (applied_tests function.Odd tt) h.first js parts xs
-  called (Calls function.Cap) right h at js parts xs many = of_one (op.applied function.Cap) (applied_step p function.Cap) (applied_tests function.Cap tt) h.first js parts xs
-  called (Calls function.Ord) right h at js parts xs many = of_one (op.applied function.Ord) (applied_step p function.Ord) (applied_tests function.Ord tt) h.first js parts xs
-  called (Calls function.Chr) right h at js parts xs many = of_one (op.applied function.Chr) (applied_step p function.Chr) (applied_tests function.Chr tt) h.first js parts xs
-  called (Calls function.Long) right h at js parts xs many = of_one (op.applied function.Long) (applied_step p function.Long) (applied_tests function.Long tt) h.first js parts xs
-  called (Calls function.Short) right h at js parts xs many = of_one (op.applied function.Short) (applied_step p function.Short) (applied_tests function.Short tt) h.first js parts xs
-  called (Invokes m k) right h at js parts xs many = invoked_part p e h.first m k js parts xs many
-  called (Converts t) right h at js parts xs many = of_one (op.converted t) (converted_step p t right) (converted_tests t) h.first js parts xs
-  called Neither right h at js parts xs many = not_found h.found h.at h.first at xs
+    not_called_part : (h : Head) → MayFind p e h.found → (at : Pos) (xs : List Expr) → Holds (Spotted p e) (judge.not_called e h at xs)
+    not_called_part h may at xs = not_called_of h.found h.at h.first may at xs
 
-  pub called_part : (h : Head) (at : Pos) (js : List (Judged Answer)) → Parts js → (xs : List Expr) → length js ≡ length xs → IsFine (judge.called e h at js xs)
-  called_part h at js parts xs many = called (judge.callee h.found) (callee_right h.found) h at js parts xs many
+    function_part : (f : Function) (first : Pos) (js : List (Judged Answer)) → Parts js → (xs : List Expr) → IsFine (judge.function_called e f first js xs)
+    function_part function.Max first js parts xs = limit_of_type op.greatest_value greatest_good xs first
+    function_part function.Len first js parts xs = length_of first js parts xs
+    function_part function.Min first js parts xs = limit_of_type op.least_value least_good xs first
+    function_part function.Ash first js parts xs = of_two first js parts xs
+    function_part function.Abs first js parts xs = of_one (op.applied function.Abs) (applied_step p function.Abs) (applied_tests function.Abs tt) first js parts xs
+    function_part function.Odd first js parts xs = of_one (op.applied function.Odd) (applied_step p function.Odd) (applied_tests function.Odd tt) first js parts xs
+    function_part function.Cap first js parts xs = of_one (op.applied function.Cap) (applied_step p function.Cap) (applied_tests function.Cap tt) first js parts xs
+    function_part function.Ord first js parts xs = of_one (op.applied function.Ord) (applied_step p function.Ord) (applied_tests function.Ord tt) first js parts xs
+    function_part function.Chr first js parts xs = of_one (op.applied function.Chr) (applied_step p function.Chr) (applied_tests function.Chr tt) first js parts xs
+    function_part function.Long first js parts xs = of_one (op.applied function.Long) (applied_step p function.Long) (applied_tests function.Long tt) first js parts xs
+    function_part function.Short first js parts xs = of_one (op.applied function.Short) (applied_step p function.Short) (applied_tests function.Short tt) first js parts xs
+
+    called : (c : Callee) → IsRightCallee c → (h : Head) → MayFind p e h.found → (at : Pos) (js : List (Judged Answer)) → Parts js → (xs : List Expr) → length js ≡ length xs →
+        Holds (Spotted p e) (judge.called_by e c h at js xs)
+    called (Calls f) right h may at js parts xs many = spotted p e h.first (judge.function_called e f h.first js xs) (function_part f h.first js parts xs)
+    called (Invokes m k) right h may at js parts xs many = spotted p e h.first (judge.invoked e h.first m k js xs) (invoked_part p e h.first m k js parts xs many)
+    called (Converts t) right h may at js parts xs many =
+        spotted p e h.first (judge.one_of (λ of. op.converted t of) h.first js xs) (of_one (op.converted t) (converted_step p t right) (converted_tests t) h.first js parts xs)
+    called Neither right h may at js parts xs many = not_called_part h may at xs
+
+    pub called_part : (h : Head) → MayFind p e h.found → (at : Pos) (js : List (Judged Answer)) → Parts js → (xs : List Expr) → length js ≡ length xs → Holds (Spotted p e) (judge.called e h at js xs)
+    called_part h may at js parts xs many = called (judge.callee h.found) (callee_right h.found) h may at js parts xs many

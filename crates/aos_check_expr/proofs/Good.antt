@@ -35,6 +35,7 @@ use Rattle.aos_check_expr.proofs.Types.{within_wider, most_includes}
 -- a literal is of the type of its value; a string constant may have more characters than one, or none
 abbrev pub IsGood : Literal → Type 0
 IsGood (literal.Text t) = t.first < 256
+IsGood literal.Nil = Unit {0}
 IsGood l = IsLiteral l (type_as (type_of_literal l))
 
 -- a value that is such a literal
@@ -86,15 +87,17 @@ good_number (literal.Int z) h = at (type_as (type_of_literal (literal.Int z))) h
     at type.Boolean h = absurd h
     at type.Char h = absurd h
     at type.Set h = absurd h
+    at type.Any h = absurd h
     at (type.Named o) h = absurd h
 good_number (literal.Bool true) h = record { low = omega (arith, ints); high = omega (arith, ints) }
 good_number (literal.Bool false) h = record { low = omega (arith, ints); high = omega (arith, ints) }
 good_number (literal.Char c) h = record { low = omega (arith, ints); high = omega (arith, ints, h) }
 good_number (literal.Set s) h = record { low = omega (arith, ints); high = omega (arith, ints, h) }
 good_number (literal.Text t) h = record { low = omega (arith, ints); high = omega (arith, ints, h) }
+good_number literal.Nil h = record { low = omega (arith, ints); high = omega (arith, ints) }
 
--- a good literal is a value of a basic type, or a string constant that is no character
-pub literal_kind : (l : Literal) → IsGood l → ((is_basic (type_of_literal l) ≡ true) × IsLiteral l (type_as (type_of_literal l))) ⊎ (type_of_literal l ≡ text)
+-- a good literal is a value of a basic type, a string constant that is no character, or NIL
+pub literal_kind : (l : Literal) → IsGood l → ((is_basic (type_of_literal l) ≡ true) × IsLiteral l (type_as (type_of_literal l))) ⊎ ((type_of_literal l ≡ text) ⊎ (l ≡ literal.Nil))
 literal_kind (literal.Int z) h = inl (by (is_some (if_within W8 z)) (is_some (if_within W16 z)) (is_some (if_within W32 z)), h)
   where
     by : (a b c : Bool) → is_basic (if a then shortint else if b then integer else if c then longint else hugeint) ≡ true
@@ -108,9 +111,10 @@ literal_kind (literal.Set s) h = inl (refl, h)
 literal_kind (literal.Text t) h = by (t.length == 1) refl
   where
     by : (b : Bool) → (t.length == 1) ≡ b →
-        let of = if b then char else text in ((is_basic of ≡ true) × IsLiteral (literal.Text t) (type_as of)) ⊎ (of ≡ text)
+        let of = if b then char else text in ((is_basic of ≡ true) × IsLiteral (literal.Text t) (type_as of)) ⊎ ((of ≡ text) ⊎ (literal.Text t ≡ literal.Nil))
     by true e = inl (refl, (eqb-true t.length 1 e, h))
-    by false e = inr refl
+    by false e = inr (inl refl)
+literal_kind literal.Nil h = inr (inr refl)
 
 -- Sets.
 
@@ -123,6 +127,7 @@ set_type (literal.Bool b) h = absurd h
 set_type (literal.Char c) h = absurd h
 set_type (literal.Set s) h = refl
 set_type (literal.Text t) h = absurd h
+set_type literal.Nil h = absurd h
 
 pub set_good : (l : Literal) → IsSet l → IsGood l
 set_good (literal.Int z) h = absurd h
@@ -130,6 +135,7 @@ set_good (literal.Bool b) h = absurd h
 set_good (literal.Char c) h = absurd h
 set_good (literal.Set s) h = h
 set_good (literal.Text t) h = absurd h
+set_good literal.Nil h = absurd h
 
 -- What operators give.
 
@@ -228,6 +234,8 @@ pub joint_good : (j : Joint) (a b : Literal) → IsGood a → IsGood b → MayBe
 joint_good (joint.On op) a b g h = two_good op a b
 joint_good joint.And a b g h = tt
 joint_good joint.Or a b g h = tt
+joint_good joint.Same a b g h = tt
+joint_good joint.Differ a b g h = tt
 
 -- MAX and MIN
 

@@ -1,12 +1,14 @@
--- What is well typed in the body of a procedure of a program, or in one of none.
-use Rattle.std.proofs.Common.{ℕ, List, Option}
+-- What is well typed in the body of a procedure of a program, or in one of none. The predeclared types stand first in its table.
+use Rattle.std.proofs.Common.{◌≡◌, ◌<◌, ℕ, List, Option, slice_get}
 use Rattle.aos_typed.specs.declared.tree.TType.{TType}
 use Rattle.aos_typed.specs.Program.{Place, Rows, Arguments, Expr, Call, Stat, Stats, Arms, Cases, Parameter, Procedure, Program}
+use Rattle.aos_typed.specs.Numbers.{predeclared_types, predeclared_rows}
 use Rattle.aos_typed.specs.WellTyped as typed
 
 pub record Inside : Type 0 where
   pub program : Program
   pub own : Option Procedure
+  pub basic : (k : ℕ) → k < predeclared_types → slice_get program.types k ≡ slice_get predeclared_rows k
 
 abbrev pub IsPlaceOf : Inside → Place → TType → Type 0
 IsPlaceOf p = typed.IsPlaceOf p.program p.own

@@ -8,7 +8,12 @@ pub mod Types
 pub mod Good
 pub mod Sound
 pub mod Parts
+pub mod Whole
+pub mod Objects
+pub mod Pointed
+pub mod Compatible
 pub mod Spots
+pub mod Tested
 pub mod Worded
 pub mod Passed
 pub mod CallParts
@@ -16,3 +21,4 @@ pub mod Typing
 pub mod Order
 pub mod Dimensions
 pub mod Handed
+pub mod First

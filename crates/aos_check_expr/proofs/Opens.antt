@@ -15,14 +15,18 @@ closed_row (Some (row.Open u)) is = absurd (cc)
 closed_row None is = refl
 closed_row r is = refl
 
-open_is : (r : Option TypeRow) (u : TypeId) → element_of r ≡ Some u → r ≡ Some (row.Open u)
+pub open_is : (r : Option TypeRow) (u : TypeId) → element_of r ≡ Some u → r ≡ Some (row.Open u)
 open_is (Some (row.Open v)) u is = ap (λ w. Some (row.Open w)) (same_Some v u is)
 open_is None u is = absurd (none-some u is)
 open_is r u is = absurd (none-some u is)
 
--- an open array stands behind its elements, which aren't of NIL's type, of ANY or of string constants'
+-- the type of a variable isn't that of NIL or of string constants
+abbrev pub IsVariableNumber : ℕ → Type 0
+IsVariableNumber n = (n < 7) ⊎ ((n ≡ 8) ⊎ (10 ≤ n))
+
+-- an open array stands behind its elements
 abbrev pub IsOpenAt : ℕ → TypeRow → Type 0
-IsOpenAt k (row.Open u) = (u.0 < k) × (10 ≤ k) × ((u.0 < 7) ⊎ (10 ≤ u.0))
+IsOpenAt k (row.Open u) = (u.0 < k) × (10 ≤ k) × IsVariableNumber u.0
 IsOpenAt k r = Unit {0}
 
 abbrev pub OpensStand : List TypeRow → Type 0

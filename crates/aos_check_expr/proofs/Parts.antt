@@ -33,8 +33,8 @@ use Rattle.aos_check_expr.specs.Known.{Answer, is_number, is_lost, lost, answere
 use Rattle.aos_check_expr.specs.Operations as op
 use Rattle.aos_check_expr.specs.Expressions as judge
 use Rattle.aos_check_expr.proofs.Stored.{IsStored, IsMade, made_of_one, made_of, made_kept}
-use Rattle.aos_check_expr.proofs.Good.{IsGood, IsSet, MayBe, IsKnownClass, number_good, literal_kind, set_type, set_good, set_given, single_good, joint_good, class_of_one_known, class_of_known}
-use Rattle.aos_check_expr.proofs.Sound.{IsSound, IsPlain, plain_sound, sound_number, IsStep, IsOperation, TestsOne, TestsTwo, stepped_plain, joined_plain, signed_step, signed_tests, opposite_step, opposite_tests, added_operation, added_tests, multiplied_operation, multiplied_tests, related_operation, related_tests, shifted_operation, shifted_tests}
+use Rattle.aos_check_expr.proofs.Good.{IsGood, IsSet, MayBe, IsKnownClass, number_good, set_type, set_good, set_given, single_good, joint_good, class_of_one_known, class_of_known}
+use Rattle.aos_check_expr.proofs.Sound.{IsSound, IsPlain, literal_typed, plain_sound, sound_number, IsStep, IsOperation, TestsOne, TestsTwo, stepped_plain, joined_plain, signed_step, signed_tests, opposite_step, opposite_tests, added_operation, added_tests, multiplied_operation, multiplied_tests, related_operation, related_tests, shifted_operation, shifted_tests}
 
 -- of a part's class, that it is known, with a good value where it is constant; a variable is read; the part is sound where what W says is so
 pub record IsPart (p : Inside) (W : Type 0) (a : Answer) : Type 0 where
@@ -156,26 +156,28 @@ module _ (p : Inside) (W : Type 0) where
       as_part (judge.multiplied first at o a b)
       (operation_part (op.multiplied o) (multiplied_operation p o) (multiplied_tests o) first (breach_unless (op.multiplied o a.known.of b.known.of).is_kept 30 at) a b (test_is _ 30 at) x y)
 
-  tested_breaks : (e : Env) (of : Option TypeId) (at : Pos) → Holds Part (judge.tested e of at)
-  tested_breaks e None at = broken Part _ [] _
-  tested_breaks e (Some t) at = broken Part _ [] _
-
   -- a relation, where that of two texts is a part
   abbrev pub related_texts : Env → Pos → RelationOp → Answer → Answer → Judged Answer
   related_texts e first o a b = op.told first [] (judge.texts_related e (judge.relation_in o) a b)
 
-  pub related_part : (e : Env) (first at : Pos) (o : RelationOp) (a b : Answer) →
-      (judge.compares_texts e o a.known b.known ≡ true → Holds Part (related_texts e first o a b)) → Part a → Part b → Holds Part (judge.related_by e first at o a b)
-  related_part e first at o a b texts x y = by (judge.is_test o) refl (judge.compares_texts e o a.known b.known) refl
+  -- and one of two objects
+  abbrev pub related_objects : Env → Pos → Pos → RelationOp → Answer → Answer → Judged Answer
+  related_objects e first at o a b = op.operands first at (op.identified (judge.relation_in o) (judge.are_comparable e a.known.of b.known.of)) a b
+
+  pub related_part : (e : Env) (first at : Pos) (o : RelationOp) (a b : Answer) → judge.is_test o ≡ false →
+      (judge.compares_texts e o a.known b.known ≡ true → Holds Part (related_texts e first o a b)) →
+      (judge.compares_objects e o a.known.of b.known.of ≡ true → Holds Part (related_objects e first at o a b)) →
+      Part a → Part b → Holds Part (judge.related_by e first at o a b)
+  related_part e first at o a b i texts objects x y = by (judge.compares_texts e o a.known b.known) refl (judge.compares_objects e o a.known.of b.known.of) refl
     where
       operated : Judged Answer
       operated = op.operands first at (op.related o a.known.of b.known.of) a b
 
-      by : (w : Bool) → judge.is_test o ≡ w → (v : Bool) → judge.compares_texts e o a.known b.known ≡ v →
-          Holds Part (if w then judge.tested e a.known.of at else if v then related_texts e first o a b else operated)
-      by true i v k = tested_breaks e a.known.of at
-      by false i true k = texts k
-      by false i false k =
+      by : (v : Bool) → judge.compares_texts e o a.known b.known ≡ v → (w : Bool) → judge.compares_objects e o a.known.of b.known.of ≡ w →
+          Holds Part (if v then related_texts e first o a b else op.operands first at (if w then op.identified (judge.relation_in o) (judge.are_comparable e a.known.of b.known.of) else op.related o a.known.of b.known.of) a b)
+      by true k w l = texts k
+      by false k true l = objects l
+      by false k false l =
           as_part operated
           (operation_part (op.related o) (related_operation p o i) (related_tests o i) first (breach_unless (op.related o a.known.of b.known.of).is_kept 30 at) a b (test_is _ 30 at) x y)
 
@@ -205,7 +207,7 @@ module _ (p : Inside) (W : Type 0) where
   -- Literals.
 
   pub constant_part : (v : Literal) → IsGood v → Valued (constant_answer v)
-  constant_part v g = record { class = g; valued = refl; made = λ s. s; plain = λ w. record { of = type_of_literal v; known = refl; typed = literal_kind v g } }
+  constant_part v g = record { class = g; valued = refl; made = λ s. s; plain = λ w. record { of = type_of_literal v; known = refl; typed = literal_typed p v g } }
 
   pub number_part : (o : Option ℤ) → MayBe (IsWithin W64) o → (at : Pos) → Holds Part (judge.number o at)
   number_part None h at = broken Part _ [] _
@@ -229,7 +231,7 @@ module _ (p : Inside) (W : Type 0) where
   Elements = AreElements p W
 
   set_answered : (c : Class) (x : Expr) → IsKnownClass IsSet c → IsMade c → (W → IsOf p x type.Set) → Elements (answered c (Some set) x)
-  set_answered (Constant (Some v)) x g m h = record { class = g; made = m; known = ap (λ t. Some t) (set_type v g); typed = λ w. g }
+  set_answered (Constant (Some v)) x g m h = record { class = g; made = m; known = ap (λ t. Some t) (set_type v g); typed = λ w. inl g }
   set_answered (Constant None) x g m h = record { class = g; made = m; known = refl; typed = h }
   set_answered Unknown x g m h = absurd g
   set_answered Variable x g m h = record { class = g; made = m; known = refl; typed = h }
@@ -237,7 +239,7 @@ module _ (p : Inside) (W : Type 0) where
   set_answered Computed x g m h = record { class = g; made = m; known = refl; typed = h }
 
   pub no_elements : Elements op.no_elements
-  no_elements = record { class = omega arith; made = λ s. s; known = refl; typed = λ w. omega arith }
+  no_elements = record { class = omega arith; made = λ s. s; known = refl; typed = λ w. inl (omega arith) }
 
   -- one element, and those from one to another
   element_of : (x : Answer) → Part x → (op.one_element x.known.of).is_kept ≡ true → Elements (op.stepped (op.one_element x.known.of) x)

@@ -1,5 +1,5 @@
 -- Arguments that break no rule are those of the procedure's parameters, and a function's call is sound.
-use Rattle.std.proofs.Common.{◌≡◌, ℕ, zero, suc, ◌-◌, ◌==◌, List, [], ◌∷◌, ◌++◌, length, Bool, true, false, not, ◌&&◌, ◌||◌, ◌⊎◌, inl, inr, nat_le, nat_lt, Option, Some, None, is_some, option_and_then, if◌then◌else◌, refl, sym, ap, ◌∙◌, subst, append_assoc, append-nil, eqb-true, arith}
+use Rattle.std.proofs.Common.{◌≡◌, ℕ, zero, suc, ◌-◌, ◌==◌, List, [], ◌∷◌, ◌++◌, length, Bool, true, false, not, ◌&&◌, ◌||◌, ◌⊎◌, inl, inr, nat_le, nat_lt, Option, Some, None, is_some, option_and_then, if◌then◌else◌, refl, sym, ap, ◌∙◌, subst, append_assoc, append-nil, eqb-true, arith, ◌≤◌, eq-eqb, le-ltb}
 use Rattle.std.specs.Option.{is_none}
 use Rattle.std.proofs.lemmas.Bool.{and_parts}
 use Rattle.std.proofs.lemmas.Option.{none-some, same_Some}
@@ -9,14 +9,18 @@ use Rattle.aos_types.specs.declared.row.TypeId.{TypeId}
 use Rattle.aos_types.specs.declared.row.TypeRow.{TypeRow}
 use Rattle.aos_types.specs.declared.row.TypeRow.TheVariants as row
 use Rattle.aos_types.specs.declared.TheConstants.{MOST_SCALARS}
-use Rattle.aos_types.specs.Table.{row_of, is_open}
+use Rattle.aos_types.specs.Table.{row_of, is_open, is_record, is_pointer}
+use Rattle.aos_types.specs.Extension.{comes_to, extends, extends_pointer}
+use Rattle.aos_types.specs.Fit.{fits as fits_of}
+use Rattle.aos_types.proofs.Steps.{comes_here}
 use Rattle.aos_types.specs.Sameness.{element_of}
 use Rattle.aos_typed.specs.declared.tree.TextConstant.{TextConstant}
 use Rattle.aos_typed.specs.declared.tree.TType.{TType}
+use Rattle.aos_typed.specs.declared.tree.TType.TheVariants as type
 use Rattle.aos_typed.specs.Numbers.{id_of}
 use Rattle.aos_typed.specs.Open.{open_dimensions, open_element}
-use Rattle.aos_typed.specs.Program.{Place, Rows, Known as KnownRows, Longer, Arguments, Read, Parameter}
-use Rattle.aos_typed.specs.WellTyped.{HaveLengths, IsArrayOf, IsByValue, IsOpening, is_whole, is_basic as is_basic_type}
+use Rattle.aos_typed.specs.Program.{Place, Rows, Known as KnownRows, Longer, Arguments, Expr as TypedExpr, Read, Parameter, Passed, Deref, Typed, Guarded, Function as Invoked, Procedure}
+use Rattle.aos_typed.specs.WellTyped.{HaveLengths, IsArrayOf, IsByValue, IsOpening, is_whole, is_basic as is_basic_type, FitsObject, IsGiven, NamesType, procedure_in, is_reference as is_reference_type, is_value as is_value_type}
 use Rattle.aos_symbols.specs.declared.home.Parameter.{Parameter as Formal}
 use Rattle.aos_symbols.specs.declared.home.Gives.{Gives}
 use Rattle.aos_symbols.specs.declared.home.Gives.TheVariants as gives
@@ -25,26 +29,30 @@ use Rattle.aos_symbols.specs.declared.env.Env.{Env}
 use Rattle.aos_symbols.specs.Judged.{Judged, judged, bind}
 use Rattle.aos_symbols.specs.Breaches.{breach}
 use Rattle.aos_symbols.specs.Env as env
-use Rattle.aos_symbols.specs.Env.{char, text}
+use Rattle.aos_symbols.specs.Env.{char, nil, text}
 use Rattle.aos_symbols.proofs.Each.{Each}
-use Rattle.aos_symbols.proofs.Told.{IsTold, basic as basic_told, defined}
+use Rattle.aos_symbols.proofs.Told.{basic as basic_told, of_any, defined}
 use Rattle.aos_symbols.proofs.Holds.{Holds, holds_bind, broken, test_is}
 use Rattle.aos_check_expr.specs.declared.known.Class.{Class}
 use Rattle.aos_check_expr.specs.declared.known.Class.TheVariants.{Unknown, Constant, Variable, ReadOnly, Computed}
-use Rattle.aos_check_expr.specs.Known.{Answer, is_basic, is_integer, is, passes, fits, fits_type, type_as, type_of}
-use Rattle.aos_check_expr.specs.Designators.{has_parts, is_opened, place_in, rows_of}
+use Rattle.aos_check_expr.specs.Known.{Answer, is_basic, is_integer, is_long_text, is, passes, fits_type, object_number, type_as, type_of}
+use Rattle.aos_check_expr.specs.Designators.{has_parts, is_opened, is_record_type, is_reference, is_value, is_compatible, names_type, with_type, place_in}
 use Rattle.aos_check_expr.specs.Arrays as arrays
 use Rattle.aos_check_expr.specs.Arguments as judge
 use Rattle.aos_check_expr.specs.Arguments.{Given, Scalar, Whole, Opening, Handing, given_as, listed}
 use Rattle.aos_check_expr.specs.Expressions as calls
 use Rattle.aos_check_expr.proofs.Inside.{Inside, IsPlaceOf, AreRows, AreArguments, IsOf}
-use Rattle.aos_check_expr.proofs.Types.{same_type, id_as, id_above, as_basic, fits_includes, wider, includes_itself, integer_basic}
-use Rattle.aos_check_expr.proofs.Opens.{closed_row, all_behind, closed_dimensions, closed_element, next_dimensions, next_element, behind_all}
+use Rattle.aos_check_expr.proofs.Types.{same_type, id_as, id_above, as_named, as_basic, fits_includes, wider, includes_itself, integer_basic}
+use Rattle.aos_check_expr.proofs.Opens.{closed_row, all_behind, closed_dimensions, closed_element, next_dimensions, next_element}
 use Rattle.aos_check_expr.proofs.Good.{IsGood, IsKnownClass}
 use Rattle.aos_check_expr.proofs.Stored.{IsStored}
-use Rattle.aos_check_expr.proofs.Sound.{not_both, IsScalar, IsClosedPlace, IsOpenPlace, IsWholeRead, IsSound, scalar_of}
-use Rattle.aos_check_expr.proofs.Spots.{IsWhole, IsParameterType, AreParameters, IsResultOf, told_element, opened_row, Part, Valued, refused_value_part}
-use Rattle.aos_check_expr.proofs.Worded.{string_rows_are, string_kept, lengths_read, has_in, array_row, no_text, characters_row, char_row}
+use Rattle.aos_check_expr.proofs.Sound.{not_both, IsScalar, IsClosedPlace, IsOpenPlace, IsWholeRead, IsOther, IsSound, scalar_of}
+use Rattle.aos_check_expr.proofs.Whole.{IsWritten}
+use Rattle.aos_check_expr.proofs.Objects.{either_is, IsPartsRow, row_high, high_row, reference_kind, reference_typed, of_any_type, object_of, parts_no_reference}
+use Rattle.aos_check_expr.proofs.Pointed.{comes_record, comes_whole}
+use Rattle.aos_check_expr.proofs.Compatible.{by_table, object_fits, whole_fits}
+use Rattle.aos_check_expr.proofs.Spots.{IsWhole, IsParameterType, elements_told, elements_id, AreParameters, IsResultOf, told_element, opened_row, Part, Valued, refused_value_part}
+use Rattle.aos_check_expr.proofs.Worded.{string_rows_are, string_kept, lengths_read, has_in, array_row, no_text, no_object, characters_row, char_row}
 
 some_not : (n : ℕ) → Some n ≡ None → ⊥
 some_not n e = none-some n (sym e)
@@ -81,14 +89,6 @@ basic_fit u t low fit = by (is_integer u) refl fit
     by true i fit = integer_basic u i
     by false i fit = subst (λ v. is_basic v ≡ true) (sym (same_type u t fit)) low
 
-pub whole_fit : (u t : TypeId) → is_basic t ≡ false → fits_type u t ≡ true → is u t ≡ true
-whole_fit u t other fit = by (is_integer t) refl (is_integer u) fit
-  where
-    by : (b : Bool) → is_integer t ≡ b → (a : Bool) → (if a && b then nat_le u.0 t.0 else is u t) ≡ true → is u t ≡ true
-    by true i a fit = absurd (not_both (sym (integer_basic t i) ∙ other))
-    by false i true fit = fit
-    by false i false fit = fit
-
 -- the type of a parameter is a number of the table
 parameter_id : (p : Inside) (e : Env) → IsWhole p e → (t : TypeId) → IsParameterType e t → id_of (type_as t) ≡ t
 parameter_id p e whole t (inl told) = id_as e.types t told
@@ -120,24 +120,9 @@ module _ (p : Inside) (e : Env) (whole : IsWhole p e) where
       where
         by : IsParameterType e t → ⊥
         by (inl (basic_told below)) = let n : t.0 ≡ 9 = ap (λ (u : TypeId). u.0) is in omega (arith, below, n)
+        by (inl (of_any any)) = let n : t.0 ≡ 9 = ap (λ (u : TypeId). u.0) is in omega (arith, any, n)
         by (inl (defined r from there closed)) = let n : t.0 ≡ 9 = ap (λ (u : TypeId). u.0) is in omega (arith, from, n)
         by (inr opening) = not_both (sym opening ∙ isnt)
-
-  -- what is behind the open dimensions of a type is told
-  elements_told : (t : TypeId) → is_opened e t ≡ true → IsTold e.types (open_element e.types t)
-  elements_told t opening =
-      let u = opened_row e t opening in
-      behind_all e.types whole.opens.falls (IsTold e.types) each t.0 t u.0 (omega arith) u.2
-    where
-      each : (t u : TypeId) → row_of e.types t ≡ Some (row.Open u) → element_of (row_of e.types u) ≡ None → IsTold e.types u
-      each t u is none = by (whole.opens.elements t u is)
-        where
-          by : IsParameterType e u → IsTold e.types u
-          by (inl told) = told
-          by (inr opening) = let v = opened_row e u opening in absurd (none-some v.0 (sym none ∙ ap element_of v.2))
-
-  pub elements_id : (t : TypeId) → is_opened e t ≡ true → id_of (type_as (open_element e.types t)) ≡ open_element e.types t
-  elements_id t opening = id_as e.types (open_element e.types t) (elements_told t opening)
 
   -- Arrays that are handed over.
 
@@ -204,7 +189,7 @@ module _ (p : Inside) (e : Env) (whole : IsWhole p e) where
         fixed c =
             let none = closed_row (row_of e.types u) (ap (λ rows. is_open (row_of rows u)) (sym whole.rows) ∙ c.2) in
             let ns = fixed_lengths (open_dimensions e.types t) u (open_element e.types t) none two.1 in
-            (ns.0, inl (type_as u, c.0, in_program (arrays.lengths_from e.types (open_dimensions e.types t) (row_of e.types u)) u (open_element e.types t) ns.1 c.1 (elements_id t opening)))
+            (ns.0, inl (type_as u, c.0, in_program (arrays.lengths_from e.types (open_dimensions e.types t) (row_of e.types u)) u (open_element e.types t) ns.1 c.1 (elements_id e whole.opens t opening)))
 
         -- the lengths of the parameter's dimensions that aren't open in it are known
         longer : is_opened e u ≡ true → (r : Rows) → AreRows p r (open_dimensions e.types u) (type_as (open_element e.types u)) →
@@ -212,14 +197,14 @@ module _ (p : Inside) (e : Env) (whole : IsWhole p e) where
         longer is r rows =
             let left = open_dimensions e.types t - open_dimensions e.types u in
             let inner = open_element e.types u in
-            let closed : (v : TypeId) → is_opened e v ≡ true → element_of (row_of e.types (open_element e.types v)) ≡ None = λ v o. told_element e whole.opens (open_element e.types v) (elements_told v o) in
+            let closed : (v : TypeId) → is_opened e v ≡ true → element_of (row_of e.types (open_element e.types v)) ≡ None = λ v o. told_element e whole.opens (open_element e.types v) (elements_told e whole.opens v o) in
             let split = all_behind e.types whole.opens.falls (open_dimensions e.types t) u (open_element e.types t) (closed t opening) two.1 in
             let ns = fixed_lengths left inner (open_element e.types t) (closed u is) split.1 in (
               open_dimensions e.types u,
               type_as inner,
               omega (arith, split.0, ns.0),
               rows,
-              in_program (arrays.lengths_from e.types left (row_of e.types inner)) inner (open_element e.types t) ns.1 (elements_id u is) (elements_id t opening),
+              in_program (arrays.lengths_from e.types left (row_of e.types inner)) inner (open_element e.types t) ns.1 (elements_id e whole.opens u is) (elements_id e whole.opens t opening),
             )
 
         by : IsClosedPlace p u place ⊎ IsOpenPlace p u place → Are (at (is_opened e u))
@@ -253,13 +238,14 @@ module _ (p : Inside) (e : Env) (whole : IsWhole p e) where
         sound : IsSound p v
         sound = x.sound whole
 
-        typed : (u : TypeId) → judge.agrees e t u ≡ true → IsScalar p u v.typed ⊎ (IsWholeRead p u v.typed ⊎ (u ≡ text)) →
+        typed : (u : TypeId) → judge.agrees e t u ≡ true → IsScalar p u v.typed ⊎ (IsWholeRead p u v.typed ⊎ IsOther p u v.typed) →
             AreRows p (arrays.array_rows e (open_dimensions e.types t) (Some u) (place_in v.typed)) (open_dimensions e.types t) (type_as (open_element e.types t))
         typed u does (inl s) = absurd (not_both (sym s.0 ∙ (array_row p e whole u (agreeing t u does).0).1))
         typed u does (inr (inl w)) =
             subst (λ y. AreRows p (arrays.array_rows e (open_dimensions e.types t) (Some u) (place_in y)) (open_dimensions e.types t) (type_as (open_element e.types t))) (sym w.2)
             (rows_passed u w.1 w.0 does w.3)
-        typed u does (inr (inr q)) = absurd (no_text p e whole u q (array_row p e whole u (agreeing t u does).0))
+        typed u does (inr (inr (inl q))) = absurd (no_text p e whole u q (array_row p e whole u (agreeing t u does).0))
+        typed u does (inr (inr (inr o))) = absurd (no_object p e whole u v.typed (array_row p e whole u (agreeing t u does).0) o)
 
         array : judge.array_rule e t v.known.of ≡ None →
             AreRows p (arrays.array_rows e (open_dimensions e.types t) v.known.of (place_in v.typed)) (open_dimensions e.types t) (type_as (open_element e.types t))
@@ -297,17 +283,83 @@ module _ (p : Inside) (e : Env) (whole : IsWhole p e) where
   open_here : (u : TypeId) → is_basic u ≡ false → is_open (row_of p.program.types u) ≡ true → is_opened e u ≡ true
   open_here u low is = ap (λ b. not b && is_open (row_of e.types u)) low ∙ ap (λ rows. is_open (row_of rows u)) (sym whole.rows) ∙ is
 
-  -- by reference: a variable of the same type
+  -- What has parts is a whole variable.
+
+  parts_there : (o : Option TypeRow) → is_whole o ≡ true → (r : TypeRow) × (o ≡ Some r) × IsPartsRow r × IsWritten r
+  parts_there (Some (row.Array n u)) is = (row.Array n u, refl, tt, tt)
+  parts_there (Some (row.Record base fs)) is = (row.Record base fs, refl, tt, tt)
+  parts_there o is = absurd (not_both (sym is))
+
+  parts_high : (u : TypeId) → is_whole (row_of e.types u) ≡ true → 10 ≤ u.0
+  parts_high u parts = let r = parts_there (row_of e.types u) parts in row_high p e whole u r.0 r.1 r.3
+
+  parts_closed : (u : TypeId) → is_whole (row_of e.types u) ≡ true → is_opened e u ≡ true → ⊥
+  parts_closed u parts is = let o = opened_row e u is in not_both (sym parts ∙ ap is_whole o.2)
+
+  placed_whole : (u : TypeId) (x : TypedExpr) → is_whole (row_of e.types u) ≡ true → IsScalar p u x ⊎ (IsWholeRead p u x ⊎ IsOther p u x) → IsPlaceOf p (place_in x) (type_as u)
+  placed_whole u x parts (inl s) = let high = parts_high u parts in absurd (not_both (sym s.0 ∙ le-ltb u.0 7 (omega (arith, high))))
+  placed_whole u x parts (inr (inl w)) = subst (λ y. IsPlaceOf p (place_in y) (type_as u)) (sym w.2) (held w.3)
+    where
+      held : IsClosedPlace p u w.1 ⊎ IsOpenPlace p u w.1 → IsPlaceOf p w.1 (type_as u)
+      held (inl c) = c.0
+      held (inr o) = absurd (parts_closed u parts (open_here u w.0 o.2))
+  placed_whole u x parts (inr (inr (inl q))) =
+      let high = parts_high u parts in let n : u.0 ≡ 9 = ap (λ (v : TypeId). v.0) q in absurd (omega (arith, high, n))
+  placed_whole u x parts (inr (inr (inr o))) =
+      let r = parts_there (row_of e.types u) parts in absurd (not_both (sym o.1 ∙ (parts_no_reference p e whole u r.0 r.1 r.2).1))
+
+  -- bases lead to the parameter's type in the program, too
+  comes_there : (a : Parameter) (t u : TypeId) → a.of ≡ type_as t → IsParameterType e t → 10 ≤ u.0 → comes_to e.types u t ≡ true →
+      comes_to p.program.types (id_of (type_as u)) (id_of a.of) ≡ true
+  comes_there a t u of kind high comes =
+      ap (λ rows. comes_to rows (id_of (type_as u)) (id_of a.of)) whole.rows
+      ∙ ap (λ v. comes_to e.types v (id_of a.of)) (id_above u high)
+      ∙ ap (comes_to e.types u) (ap id_of of ∙ parameter_id p e whole t kind)
+      ∙ comes
+
+  names_named : (place : Place) (u : TType) → names_type place ≡ true → is_record (row_of p.program.types (id_of u)) ≡ true → NamesType p.program p.own place u
+  names_named (Passed k) u is of_record = of_record
+  names_named (Deref x v) u is of_record = of_record
+  names_named (Typed q k) u is of_record = of_record
+  names_named (Guarded q k) u is of_record = of_record
+  names_named place u is of_record = absurd (not_both (sym is))
+
+  record_parts : (o : Option TypeRow) → is_record o ≡ true → is_whole o ≡ true
+  record_parts (Some (row.Record base fs)) is = refl
+  record_parts o is = absurd (not_both (sym is))
+
+  -- by reference: a variable of the same type, or a record of one that extends it, whose place names its type
+  abbrev GivenAs : Parameter → Place → Type 0
+  GivenAs a place = (u : TType) × IsPlaceOf p place u × IsGiven p.program p.own a place u
+
+  record_passed : (a : Parameter) (t : TypeId) → a.of ≡ type_as t → a.by_reference ≡ true → IsParameterType e t → is_opened e t ≡ false → (u : TypeId) (place : Place) →
+      is_record_type e u ≡ true → is_record (row_of e.types u) ≡ true → comes_to e.types u t ≡ true → IsPlaceOf p place (type_as u) → GivenAs a (with_type e (Some u) place)
+  record_passed a t of reference kind isnt u place of_record own comes typed = rw of_record (by (names_type place) refl)
+    where
+      high : 10 ≤ u.0
+      high = parts_high u (record_parts (row_of e.types u) own)
+
+      there : is_record (row_of p.program.types (id_of (type_as u))) ≡ true
+      there = ap is_record (high_row p e whole u high) ∙ own
+
+      named : type_as u ≡ type.Named (object_number u)
+      named = as_named u (omega (arith, high))
+
+      by : (b : Bool) → names_type place ≡ b → GivenAs a (if not b then Typed place (object_number u) else place)
+      by true is = (type_as u, typed, inr (inl (shut a t of kind isnt, reference, names_named place (type_as u) is there, comes_there a t u of kind high comes)))
+      by false is = (
+        type_as u,
+        (subst (IsPlaceOf p place) named typed, subst (λ T. is_record (row_of p.program.types (id_of T)) ≡ true) named there, named),
+        inr (inl (shut a t of kind isnt, reference, there, comes_there a t u of kind high comes)),
+      )
+
   variable_passed : (a : Parameter) (t : TypeId) → a.of ≡ type_as t → a.by_reference ≡ true → IsParameterType e t → is_opened e t ≡ false → (d : Bool) (v : Answer) → Part p e v →
-      judge.variable_rule d v.known.class ≡ None → judge.is_same t v.known.of ≡ true → IsGivenFor a (Whole (place_in v.typed))
-  variable_passed a t of reference kind isnt d v x writes same more rest is =
-      (a, rest, refl, inl (shut a t of kind isnt, reference, refl), subst (IsPlaceOf p (place_in v.typed)) (sym of) placed, is)
+      judge.variable_rule d v.known.class ≡ None → judge.is_referable e t v.known.of ≡ true → IsGivenFor a (Whole (with_type e v.known.of (place_in v.typed)))
+  variable_passed a t of reference kind isnt d v x writes refers more rest others =
+      (a, rest, refl, subst (λ o. GivenAs a (with_type e o (place_in v.typed))) (sym sound.known) (by (is_record_type e sound.of) refl), others)
     where
       sound : IsSound p v
       sound = x.sound whole
-
-      one : t ≡ sound.of
-      one = same_type t sound.of (sym (ap (judge.is_same t) sound.known) ∙ same)
 
       kept_class : (d : Bool) (c : Class) → IsKnownClass IsGood c → judge.variable_rule d c ≡ None → IsStored c
       kept_class true Variable g e = tt
@@ -320,107 +372,195 @@ module _ (p : Inside) (e : Env) (whole : IsWhole p e) where
       read : (place : Place) × (v.typed ≡ Read (type_of v.known.of) place)
       read = x.read (kept_class d v.known.class x.class writes)
 
-      by : IsScalar p sound.of v.typed ⊎ (IsWholeRead p sound.of v.typed ⊎ (sound.of ≡ text)) → IsPlaceOf p (place_in v.typed) (type_as sound.of)
-      by (inl s) =
+      same_or : (is t sound.of ≡ true) ⊎ ((is_record_type e t && extends e.types sound.of t) ≡ true)
+      same_or = either_is (is t sound.of) _ (sym (ap (judge.is_referable e t) sound.known) ∙ refers)
+
+      -- a record that extends another one
+      longer : (is_record_type e t && extends e.types sound.of t) ≡ true → (is_record (row_of e.types sound.of) ≡ true) × (comes_to e.types sound.of t ≡ true)
+      longer is =
+          let two = and_parts (is_record_type e t) (extends e.types sound.of t) is in
+          let own = (and_parts (not (is_basic t)) _ two.0).1 in
+          let comes = sym (ap (λ b. if b then extends_pointer e.types sound.of t else comes_to e.types sound.of t) (no_pointer (row_of e.types t) own)) ∙ two.1 in
+          (comes_record p e whole (length e.types) sound.of t comes own, comes)
+        where
+          no_pointer : (o : Option TypeRow) → is_record o ≡ true → is_pointer o ≡ false
+          no_pointer (Some (row.Record base fs)) is = refl
+          no_pointer o is = absurd (not_both (sym is))
+
+      -- what is read is a place of its own type
+      read_of : (T : TType) → IsOf p v.typed T → IsPlaceOf p (place_in v.typed) (type_as sound.of)
+      read_of T typed =
           let is : v.typed ≡ Read (type_as sound.of) read.0 = read.1 ∙ ap (λ o. Read (type_of o) read.0) sound.known in
-          subst (λ y. IsPlaceOf p (place_in y) (type_as sound.of)) (sym is) (subst (λ y. IsOf p y (type_as sound.of)) is s.1).0
-      by (inr (inl w)) = subst (λ y. IsPlaceOf p (place_in y) (type_as sound.of)) (sym w.2) (held w.3)
+          subst (λ y. IsPlaceOf p (place_in y) (type_as sound.of)) (sym is) (subst (λ y. IsOf p y T) is typed).0
+
+      own_place : t ≡ sound.of → IsScalar p sound.of v.typed ⊎ (IsWholeRead p sound.of v.typed ⊎ IsOther p sound.of v.typed) → IsPlaceOf p (place_in v.typed) (type_as sound.of)
+      own_place one (inl s) = read_of (type_as sound.of) s.1
+      own_place one (inr (inl w)) = subst (λ y. IsPlaceOf p (place_in y) (type_as sound.of)) (sym w.2) (held w.3)
         where
           held : IsClosedPlace p sound.of w.1 ⊎ IsOpenPlace p sound.of w.1 → IsPlaceOf p w.1 (type_as sound.of)
           held (inl c) = c.0
           held (inr o) = absurd (not_both (sym (open_here sound.of w.0 o.2) ∙ subst (λ u. is_opened e u ≡ false) one isnt))
-      by (inr (inr q)) = absurd (no_low a t of kind isnt (one ∙ q))
+      own_place one (inr (inr (inl q))) = absurd (no_low a t of kind isnt (one ∙ q))
+      own_place one (inr (inr (inr o))) = read_of type.Any (of_any_type p e whole sound.of v.typed o)
 
-      placed : IsPlaceOf p (place_in v.typed) (type_as t)
-      placed = subst (λ u. IsPlaceOf p (place_in v.typed) (type_as u)) (sym one) (by sound.typed)
+      by : (b : Bool) → is_record_type e sound.of ≡ b → GivenAs a (with_type e (Some sound.of) (place_in v.typed))
+      by true of_record =
+          let own = (and_parts (not (is_basic sound.of)) _ of_record).1 in
+          record_passed a t of reference kind isnt sound.of (place_in v.typed) of_record own (comes same_or)
+          (placed_whole sound.of v.typed (record_parts (row_of e.types sound.of) own) sound.typed)
+        where
+          comes : (is t sound.of ≡ true) ⊎ ((is_record_type e t && extends e.types sound.of t) ≡ true) → comes_to e.types sound.of t ≡ true
+          comes (inl one) = comes_here (length e.types) e.types sound.of t (ap (λ u. u.0 == t.0) (sym (same_type t sound.of one)) ∙ eq-eqb t.0 t.0 refl)
+          comes (inr more) = (longer more).1
+      by false other = rw other (at same_or)
+        where
+          high_low : (o : Option TypeRow) → row_of e.types sound.of ≡ o → is_record o ≡ true → is_basic sound.of ≡ false
+          high_low o there own = let high = parts_high sound.of (record_parts (row_of e.types sound.of) (ap is_record there ∙ own)) in le-ltb sound.of.0 7 (omega (arith, high))
 
-  -- by value: a value that fits
+          no_record : is_record (row_of e.types sound.of) ≡ true → ⊥
+          no_record own = not_both (sym own ∙ sym (ap (λ b. not b && is_record (row_of e.types sound.of)) (high_low (row_of e.types sound.of) refl own)) ∙ other)
+
+          plain : (u : TypeId) → t ≡ u → is_record_type e u ≡ false → is_record (row_of p.program.types (id_of (type_as u))) ≡ false
+          plain u one other = at (is_record (row_of p.program.types (id_of (type_as u)))) refl
+            where
+              here : row_of p.program.types (id_of (type_as u)) ≡ row_of e.types u
+              here = ap (λ v. row_of p.program.types (id_of (type_as v))) (sym one) ∙ ap (λ T. row_of p.program.types (id_of T)) (sym of) ∙ row_is a t of kind ∙ ap (row_of e.types) one
+
+              at : (b : Bool) → is_record (row_of p.program.types (id_of (type_as u))) ≡ b → b ≡ false
+              at false is = refl
+              at true is =
+                  let own : is_record (row_of e.types u) ≡ true = sym (ap is_record here) ∙ is in
+                  let high = parts_high u (record_parts (row_of e.types u) own) in
+                  absurd (not_both (sym own ∙ sym (ap (λ b. not b && is_record (row_of e.types u)) (le-ltb u.0 7 (omega (arith, high)))) ∙ other))
+
+          at : (is t sound.of ≡ true) ⊎ ((is_record_type e t && extends e.types sound.of t) ≡ true) → GivenAs a (place_in v.typed)
+          at (inl same) =
+              let one = same_type t sound.of same in (
+                type_as sound.of,
+                own_place one sound.typed,
+                inl ((shut a t of kind isnt, reference, of ∙ ap type_as one), plain sound.of one other),
+              )
+          at (inr more) = absurd (no_record (longer more).0)
+
+  -- Values that fit.
+
+  or_right : (a b : Bool) → b ≡ true → (a || b) ≡ true
+  or_right true b is = refl
+  or_right false b is = is
+
+  -- a scalar
+  pub scalar_fits : (t : TypeId) → (t ≡ nil → ⊥) → is_value e t ≡ true → (v : Answer) → IsSound p v → is_compatible e v.known.of (Some t) ≡ true →
+      (is_value_type p.program.types (type_as t) ≡ true) × IsOf p v.typed (type_as t)
+  scalar_fits t not_nil value v sound fits = by (is_basic t) refl value
+    where
+      fit : is_compatible e (Some sound.of) (Some t) ≡ true
+      fit = sym (ap (λ o. is_compatible e o (Some t)) sound.known) ∙ fits
+
+      low : is_basic t ≡ true → (is_value_type p.program.types (type_as t) ≡ true) × IsOf p v.typed (type_as t)
+      low basic =
+          let fitting : fits_type sound.of t ≡ true = sym (ap (λ b. if b then fits_type sound.of t else not (is_long_text sound.of) && fits_of e.types sound.of t) (or_right (is_basic sound.of) (is_basic t) basic)) ∙ fit in
+          let own = basic_fit sound.of t basic fitting in (
+            ap (λ b. b || is_reference_type p.program.types (type_as t)) (as_basic t basic),
+            wider p v.typed (type_as sound.of) (type_as t) (scalar_of p sound.of v.typed sound.typed own) (fits_includes sound.of t own fitting),
+          )
+
+      object : is_basic t ≡ false → is_reference e t ≡ true → (is_value_type p.program.types (type_as t) ≡ true) × IsOf p v.typed (type_as t)
+      object high ref =
+          let taken = object_fits p e whole sound.of t ref high not_nil fit in
+          let own = object_of p e whole v sound (by_table p e whole sound.of t high fit).0 taken.0 in
+          (or_right (is_basic_type (type_as t)) _ (reference_typed p e whole t (reference_kind p e whole t ref)), own.2 (type_as t) taken.1)
+
+      by : (b : Bool) → is_basic t ≡ b → (b || is_reference e t) ≡ true → (is_value_type p.program.types (type_as t) ≡ true) × IsOf p v.typed (type_as t)
+      by true basic is = low basic
+      by false high is = object high is
+
+  -- a record or an array, which begins with one of the type
+  pub whole_place : (t : TypeId) → has_parts e t ≡ true → (v : Answer) (s : IsSound p v) → is_compatible e v.known.of (Some t) ≡ true →
+      (10 ≤ s.of.0) × IsPlaceOf p (place_in v.typed) (type_as s.of) × (comes_to e.types s.of t ≡ true)
+  whole_place t parts v sound fits =
+      let fit : is_compatible e (Some sound.of) (Some t) ≡ true = sym (ap (λ o. is_compatible e o (Some t)) sound.known) ∙ fits in
+      let there = (and_parts (not (is_basic t)) _ parts).1 in
+      let comes = whole_fits p e whole sound.of t parts fit in
+      let own = comes_whole p e whole (length e.types) sound.of t comes there in
+      (parts_high sound.of own, placed_whole sound.of v.typed own sound.typed, comes)
+
+  -- by value: a value that fits; a record or an array is cut to the parameter's type
   value_passed : (a : Parameter) (t : TypeId) → a.of ≡ type_as t → a.by_reference ≡ false → IsParameterType e t → is_opened e t ≡ false → (v : Answer) → Part p e v →
-      judge.value_rule e t v.known ≡ None → IsGivenFor a (judge.given_unopened false t v)
-  value_passed a t of value kind isnt v x none = by (is_basic t) refl
+      judge.value_rule e t v.known ≡ None → IsGivenFor a (judge.given_unopened e false t v)
+  value_passed a t of value kind isnt v x none = by (has_parts e t) refl
     where
       sound : IsSound p v
       sound = x.sound whole
 
-      rules : (fits v.known.of (Some t) ≡ true) × ((is_basic t || has_parts e t) ≡ true)
+      rules : (is_compatible e v.known.of (Some t) ≡ true) × ((is_value e t || has_parts e t) ≡ true)
       rules = without (arrays.text_for e (judge.variable_of t) v.known.class) refl none
         where
           without : (o : Option TextConstant) → arrays.text_for e (judge.variable_of t) v.known.class ≡ o → judge.value_rule e t v.known ≡ None →
-              (fits v.known.of (Some t) ≡ true) × ((is_basic t || has_parts e t) ≡ true)
+              (is_compatible e v.known.of (Some t) ≡ true) × ((is_value e t || has_parts e t) ≡ true)
           without (Some s) at = rw at (λ none. absurd (some_not _ none))
           without None at = rw at (λ none.
-              let two = or_none (judge.broken_unless 35 (fits v.known.of (Some t))) (judge.broken_unless 99 (is_basic t || has_parts e t)) none in
-              (unless_none 35 (fits v.known.of (Some t)) two.0, unless_none 99 (is_basic t || has_parts e t) two.1))
-
-      fitting : fits_type sound.of t ≡ true
-      fitting = sym (ap (λ o. fits o (Some t)) sound.known) ∙ rules.0
+              let two = or_none (judge.broken_unless 35 (is_compatible e v.known.of (Some t))) (judge.broken_unless 99 (is_value e t || has_parts e t)) none in
+              (unless_none 35 (is_compatible e v.known.of (Some t)) two.0, unless_none 99 (is_value e t || has_parts e t) two.1))
 
       as_value : IsByValue p.program a a.of
       as_value = (shut a t of kind isnt, value, refl)
 
-      scalar : is_basic t ≡ true → IsGivenFor a (Scalar v.typed)
-      scalar low more rest is = (
-        a,
-        rest,
-        refl,
-        as_value,
-        subst (λ T. is_basic_type T ≡ true) (sym of) (as_basic t low),
-        subst (IsOf p v.typed) (sym of) (wider p v.typed (type_as sound.of) (type_as t)
-            (scalar_of p sound.of v.typed sound.typed (basic_fit sound.of t low fitting)) (fits_includes sound.of t fitting)),
-        is,
-      )
-
-      same : is_basic t ≡ false → sound.of ≡ t
-      same other = same_type sound.of t (whole_fit sound.of t other fitting)
-
-      whole_row : is_basic t ≡ false → is_whole (row_of p.program.types (id_of a.of)) ≡ true
-      whole_row other =
-          ap is_whole (row_is a t of kind) ∙ sym (ap (λ b. not b && is_whole (row_of e.types t)) other)
-          ∙ sym (ap (λ b. b || has_parts e t) other) ∙ rules.1
-
-      placed : is_basic t ≡ false → IsScalar p sound.of v.typed ⊎ (IsWholeRead p sound.of v.typed ⊎ (sound.of ≡ text)) → IsPlaceOf p (place_in v.typed) (type_as sound.of)
-      placed other (inl s) = absurd (not_both (sym s.0 ∙ ap is_basic (same other) ∙ other))
-      placed other (inr (inl w)) = subst (λ y. IsPlaceOf p (place_in y) (type_as sound.of)) (sym w.2) (held w.3)
+      not_nil : t ≡ nil → ⊥
+      not_nil is = at kind
         where
-          held : IsClosedPlace p sound.of w.1 ⊎ IsOpenPlace p sound.of w.1 → IsPlaceOf p w.1 (type_as sound.of)
-          held (inl c) = c.0
-          held (inr o) = absurd (not_both (sym (open_here sound.of w.0 o.2) ∙ subst (λ u. is_opened e u ≡ false) (sym (same other)) isnt))
-      placed other (inr (inr q)) = absurd (no_low a t of kind isnt (sym (same other) ∙ q))
+          n : t.0 ≡ 7
+          n = ap (λ (u : TypeId). u.0) is
 
-      copied : is_basic t ≡ false → IsGivenFor a (Whole (place_in v.typed))
-      copied other more rest is = (
-        a,
-        rest,
-        refl,
-        inr (as_value, whole_row other),
-        subst (IsPlaceOf p (place_in v.typed)) (sym of) (subst (λ u. IsPlaceOf p (place_in v.typed) (type_as u)) (same other) (placed other sound.typed)),
-        is,
-      )
+          at : IsParameterType e t → ⊥
+          at (inl (basic_told below)) = let m = n in omega (arith, below, m)
+          at (inl (of_any any)) = let m = n in omega (arith, any, m)
+          at (inl (defined r from there closed)) = let m = n in omega (arith, from, m)
+          at (inr opening) = not_both (sym opening ∙ isnt)
 
-      by : (b : Bool) → is_basic t ≡ b → IsGivenFor a (if false || not b then Whole (place_in v.typed) else Scalar v.typed)
-      by true low = scalar low
-      by false other = copied other
+      scalar : has_parts e t ≡ false → IsGivenFor a (Scalar v.typed)
+      scalar other more rest is =
+          let fine = scalar_fits t not_nil (left (is_value e t) (has_parts e t) other rules.1) v sound rules.0 in
+          (a, rest, refl, as_value, subst (λ T. is_value_type p.program.types T ≡ true) (sym of) fine.0, subst (IsOf p v.typed) (sym of) fine.1, is)
+        where
+          left : (a b : Bool) → b ≡ false → (a || b) ≡ true → a ≡ true
+          left true b none is = refl
+          left false b none is = absurd (not_both (sym is ∙ none))
+
+      copied : has_parts e t ≡ true → IsGivenFor a (Whole (place_in v.typed))
+      copied parts more rest is =
+          let there = (and_parts (not (is_basic t)) _ parts).1 in
+          let fine = whole_place t parts v sound rules.0 in (
+            a,
+            rest,
+            refl,
+            (type_as sound.of, fine.1, inr (inr (as_value, ap is_whole (row_is a t of kind) ∙ there, comes_there a t sound.of of kind fine.0 fine.2))),
+            is,
+          )
+
+      by : (b : Bool) → has_parts e t ≡ b → IsGivenFor a (if b then Whole (place_in v.typed) else Scalar v.typed)
+      by true parts = copied parts
+      by false other = scalar other
 
   given_for : (a : Parameter) (b : Bool) (t : TypeId) → a.of ≡ type_as t → a.by_reference ≡ b → IsParameterType e t → (d : Bool) (v : Answer) → Part p e v →
       judge.argument_rule e (record { by_reference = b; of = Some t }) d v.known ≡ None → IsGivenFor a (judge.given e (record { by_reference = b; of = Some t }) v)
   given_for a b t of same kind d v x none = by (is_opened e t) refl b same none
     where
       types : Bool → Bool → Option ℕ
-      types opening b = if opening then judge.open_rule e t v.known else if b then judge.broken_unless 35 (judge.is_same t v.known.of) else judge.value_rule e t v.known
+      types opening b = if opening then judge.open_rule e t v.known else if b then judge.broken_unless 35 (judge.is_referable e t v.known.of) else judge.value_rule e t v.known
 
       writes : Bool → Option ℕ
       writes b = if b then judge.variable_rule d v.known.class else None
 
       at : Bool → Bool → Given
-      at opening b = if opening then Opening (arrays.rows_in e (open_dimensions e.types t) v) else judge.given_unopened b t v
+      at opening b = if opening then Opening (arrays.rows_in e (open_dimensions e.types t) v) else judge.given_unopened e b t v
 
       by : (opening : Bool) → is_opened e t ≡ opening → (b : Bool) → a.by_reference ≡ b → judge.or_else (writes b) (types opening b) ≡ None → IsGivenFor a (at opening b)
       by true opening b same none = λ more rest is.
-          let own = is_opening a t of kind opening (open_dimensions e.types t) (type_as (open_element e.types t)) refl (elements_id t opening) in
+          let own = is_opening a t of kind opening (open_dimensions e.types t) (type_as (open_element e.types t)) refl (elements_id e whole.opens t opening) in
           (a, rest, open_dimensions e.types t, type_as (open_element e.types t), refl, own, rows_given t opening v x (or_none (writes b) (types true b) none).1, lengths_given t opening v x (or_none (writes b) (types true b) none).1, is)
       by false isnt true same none =
           let two = or_none (writes true) (types false true) none in
-          variable_passed a t of same kind isnt d v x two.0 (unless_none 35 (judge.is_same t v.known.of) two.1)
+          variable_passed a t of same kind isnt d v x two.0 (unless_none 35 (judge.is_referable e t v.known.of) two.1)
       by false isnt false same none = value_passed a t of same kind isnt v x none
 
 module _ (p : Inside) (e : Env) where
@@ -498,10 +638,27 @@ module _ (p : Inside) (e : Env) where
       Each (Holds (Part p e)) js → (xs : List Expr) → length js ≡ length xs → Holds (Valued p e) (calls.function_value e first m k s of js xs)
   function_part first m k s of is value js parts xs same =
       holds_bind (λ (g : Handing). (g.are_kept ≡ true) × (IsWhole p e → (as' : List Parameter) → AreParameters e s.parameters as' → AreArguments p (listed g.given) as')) (Valued p e)
-      (calls.arguments_for e first s.parameters js xs) (calls.function_told first m k of) (arguments_part first s.parameters js parts xs same) told
+      (calls.arguments_for e first s.parameters js xs) (calls.function_told e first m k of) (arguments_part first s.parameters js parts xs same) told
     where
+      given : IsWhole p e → (m k : ℕ) (gs : List Given) (q : Procedure) → procedure_in p.program m k ≡ Some q → (t : TypeId) → q.result ≡ Some (type_as t) → (t ≡ nil → ⊥) →
+          AreArguments p (listed gs) q.parameters → (b : Bool) → is_basic t ≡ b → (b || is_reference e t) ≡ true → IsScalar p t (Invoked m k (listed gs)) ⊎ IsOther p t (Invoked m k (listed gs))
+      given whole m k gs q there t result not_nil are true low is =
+          inl (low, (q, type_as t, there, result, ap (λ b. b || is_reference_type p.program.types (type_as t)) (as_basic t low), inl (includes_itself (type_as t) (as_basic t low)), are))
+      given whole m k gs q there t result not_nil are false high ref =
+          let kind = reference_kind p e whole t ref in
+          let typed = reference_typed p e whole t kind in
+          inr (inr (high, typed, λ u takes. (q, type_as t, there, result, or_right (is_basic_type (type_as t)) _ typed, inr (fits takes.1), are)))
+        where
+          fits : {u : TType} → (t ≡ nil) ⊎ FitsObject p.program.types u (type_as t) → FitsObject p.program.types u (type_as t)
+          fits (inl none) = absurd (not_nil none)
+          fits (inr f) = f
+
+          or_right : (a b : Bool) → b ≡ true → (a || b) ≡ true
+          or_right true b is = refl
+          or_right false b is = is
+
       told : (g : Handing) → (g.are_kept ≡ true) × (IsWhole p e → (as' : List Parameter) → AreParameters e s.parameters as' → AreArguments p (listed g.given) as') →
-          Holds (Valued p e) (calls.function_told first m k of g)
+          Holds (Valued p e) (calls.function_told e first m k of g)
       told g arguments none = rw arguments.0 (record {
         class = tt;
         valued = refl;
@@ -509,11 +666,11 @@ module _ (p : Inside) (e : Env) where
         plain = λ whole.
             let signed = whole.signatures m k s is in
             let result = subst (λ r. IsResultOf r signed.0.result) value signed.2.result in
-            let low : is_basic result.0 ≡ true = sym (ap (passes is_basic) result.1) ∙ test_is (passes is_basic of) 99 first none in
+            let held : is_value e result.0 ≡ true = sym (ap (passes (is_value e)) result.1) ∙ test_is (passes (is_value e) of) 99 first none in
             record {
               of = result.0;
               known = result.1;
-              typed = inl (low, (signed.0, type_as result.0, signed.1, result.2, as_basic result.0 low, includes_itself (type_as result.0), arguments.1 whole signed.0.parameters signed.2.parameters));
+              typed = given whole m k g.given signed.0 signed.1 result.0 result.2 result.3 (arguments.1 whole signed.0.parameters signed.2.parameters) (is_basic result.0) refl held;
             };
       })
 

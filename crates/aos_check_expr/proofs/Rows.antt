@@ -1,5 +1,5 @@
 -- The parts of a tree, read as lists and as records.
-use Rattle.std.proofs.Common.{◌≡◌, ◌≤◌, ◌<◌, List, [], ◌∷◌, map, length, get_or, Option, Some, None, refl, ap, ◌∙◌, sym, arith}
+use Rattle.std.proofs.Common.{◌≡◌, ◌≤◌, ◌<◌, List, [], ◌∷◌, map, length, get_or, true, false, Option, Some, None, refl, ap, ◌∙◌, sym, arith}
 use denote.Hole.Carrier.{hidden, out, roll}
 use Rattle.aos_base.specs.declared.text.Pos.{Pos}
 use Rattle.aos_tree.specs.declared.expr.Sign.{Sign}
@@ -21,7 +21,7 @@ use Rattle.aos_symbols.specs.Judged.{Judged, bind, walk}
 use Rattle.aos_check_expr.specs.Known.{Answer, Spot}
 use Rattle.aos_check_expr.specs.Operations.{no_elements}
 use Rattle.aos_check_expr.specs.Designators.{plain, read}
-use Rattle.aos_check_expr.specs.Expressions.{expr, relation, relation_if, simple, addition, additions, term, product, products, factor, elements, element, Part, Begun, spot_of_part, as_part, designator, selectors, selector, indices, index, indexed, arguments, bracketed, added, related_by, signed, opposite, whole_set, with_element, with_span}
+use Rattle.aos_check_expr.specs.Expressions.{expr, relation, relation_if, simple, addition, additions, term, product, products, factor, elements, element, Part, Begun, spot_of_part, as_part, designator, selectors, selector, indices, index, indexed, arguments, bracketed, added, is_test, tested, qualident_in, related_by, signed, opposite, whole_set, with_element, with_span}
 
 -- a list of two
 pub two_items : {X : Type 0} (xs : List X) (x y d d' : X) → 2 ≤ length xs → length xs < 3 → x ≡ get_or xs 0 d → y ≡ get_or xs 1 d' → xs ≡ x ∷ y ∷ []
@@ -62,10 +62,15 @@ module _ (e : Env) where
   expr_is (Expr' at left Expr-right-None') = refl
   expr_is (Expr' at left (Expr-right-Some' r)) = refl
 
-  pub relation_is : (first : Pos) (a : Answer) (r : Relation) → relation e first a r
+  pub relation_is : (first : Pos) (a : Answer) (r : Relation) → is_test (out-Relation r).op ≡ false → relation e first a r
       ≡ bind (simple e (out-Relation r).right) (λ b. related_by e first (out-Relation r).pos (out-Relation r).op a b)
   unfolding out-Relation out
-  relation_is first a (Relation' at op right) = refl
+  relation_is first a (Relation' at op right) isnt = rw isnt refl
+
+  pub relation_test : (first : Pos) (a : Answer) (r : Relation) → is_test (out-Relation r).op ≡ true → relation e first a r
+      ≡ tested e (out-Relation r).pos a (qualident_in (out-Relation r).right)
+  unfolding out-Relation out
+  relation_test first a (Relation' at op right) is = rw is refl
 
   simple_rolled : (at : Pos) (sign : Option Sign) (first : Term) (rest : List Addition) → simple e (roll-Simple (record { pos = at; sign = sign; first = first; rest = rest }))
       ≡ bind (bind (term e first) (λ a. signed sign at a)) (λ a. walk (addition e at) a rest)

@@ -17,15 +17,17 @@ use Rattle.aos_tree.specs.declared.expr.MulOp.TheVariants as mul
 use Rattle.aos_tree.specs.declared.expr.Sign.{Sign}
 use Rattle.aos_tree.specs.declared.expr.Sign.TheVariants as sign
 use Rattle.aos_types.specs.declared.row.TypeId.{TypeId}
+use Rattle.aos_typed.specs.declared.tree.Literal.{Literal}
+use Rattle.aos_typed.specs.declared.tree.Literal.TheVariants as literal
 use Rattle.aos_typed.specs.declared.tree.TType.{TType}
 use Rattle.aos_typed.specs.declared.tree.TType.TheVariants as type
 use Rattle.aos_typed.specs.Numbers.{id_of}
 use Rattle.aos_typed.specs.Open.{open_dimensions, open_element}
-use Rattle.aos_typed.specs.Program.{Place, Of, Rows, Expr, Read, Binary}
-use Rattle.aos_typed.specs.WellTyped.{HaveLengths, Includes, HasRange, is_ordered, is_basic as is_basic_type, is_compared}
+use Rattle.aos_typed.specs.Program.{Place, Of, Rows, Expr, Lit, Read, Binary}
+use Rattle.aos_typed.specs.WellTyped.{HaveLengths, Includes, FitsObject, IsLiteral, HasRange, is_ordered, is_reference as is_reference_type, is_basic as is_basic_type, is_compared}
 use Rattle.aos_symbols.specs.declared.scope.Function.{Function}
 use Rattle.aos_symbols.specs.declared.scope.Function.TheVariants as function
-use Rattle.aos_symbols.specs.Env.{shortint, integer, longint, hugeint, boolean, char, set, text}
+use Rattle.aos_symbols.specs.Env.{shortint, integer, longint, hugeint, boolean, char, set, nil, text}
 use Rattle.aos_types.specs.Table.{row_of, is_open}
 use Rattle.aos_check_expr.proofs.Inside.{Inside, IsPlaceOf, AreRows, IsOf}
 use Rattle.aos_check_expr.specs.declared.known.Class.{Class}
@@ -36,7 +38,8 @@ use Rattle.aos_check_expr.specs.declared.operations.Operation.{Operation}
 use Rattle.aos_check_expr.specs.Known.{Answer, is_basic, is_integer, is, is_number, is_boolean, is_char, is_set, larger, width_of_type, width_of, least_of, greatest_of, type_of_literal, type_as, answered}
 use Rattle.aos_check_expr.specs.Operations as op
 use Rattle.aos_check_expr.specs.Expressions.{is_test}
-use Rattle.aos_check_expr.proofs.Types.{most_includes, includes_itself, wider, same_type, integer_cases, basic_cases, integer_basic, as_integer, order_includes}
+pub use Rattle.aos_check_expr.proofs.Types.{not_both}
+use Rattle.aos_check_expr.proofs.Types.{most_includes, includes_itself, integer_itself, as_basic, wider, same_type, integer_cases, basic_cases, integer_basic, as_integer, order_includes}
 use Rattle.aos_check_expr.proofs.Good.{IsGood, IsKnownClass, literal_kind, single_good, joint_good, class_of_one_known, class_of_known}
 
 both_true : (a b : Bool) → (a && b) ≡ true → (a ≡ true) × (b ≡ true)
@@ -52,9 +55,6 @@ range_of W8 = omega (arith, ints)
 range_of W16 = omega (arith, ints)
 range_of W32 = omega (arith, ints)
 range_of W64 = omega (arith, ints)
-
-pub not_both : true ≡ false → ⊥
-not_both e = cc
 
 -- Operators take operands of basic types alone.
 
@@ -155,7 +155,7 @@ pub shifted_tests : TestsTwo op.shifted
 shifted_tests t u k = numbers_basic t u k
 
 module _ (p : Inside) where
-  -- a value of a basic type, or a whole variable that is read; or else a string constant that is no character
+  -- a value of a basic type
   abbrev pub IsScalar : TypeId → Expr → Type 0
   IsScalar t x = (is_basic t ≡ true) × IsOf p x (type_as t)
 
@@ -171,30 +171,55 @@ module _ (p : Inside) where
   abbrev pub IsWholeRead : TypeId → Expr → Type 0
   IsWholeRead t x = (is_basic t ≡ false) × (place : Place) × (x ≡ Read (type_as t) place) × (IsClosedPlace t place ⊎ IsOpenPlace t place)
 
+  -- an object, or NIL, which is of each type that its own type fits
+  abbrev pub TakesObject : TType → TypeId → Type 0
+  TakesObject u t = (is_reference_type p.program.types u ≡ true) × ((t ≡ nil) ⊎ FitsObject p.program.types u (type_as t))
+
+  abbrev pub IsObject : TypeId → Expr → Type 0
+  IsObject t x = (is_basic t ≡ false) × (is_reference_type p.program.types (type_as t) ≡ true) × ((u : TType) → TakesObject u t → IsOf p x u)
+
+  -- a string constant that is no character, or an object
+  abbrev pub IsOther : TypeId → Expr → Type 0
+  IsOther t x = (t ≡ text) ⊎ IsObject t x
+
   -- an expression whose type is known, and which is of it
   pub record IsSound (a : Answer) : Type 0 where
     pub of : TypeId
     pub known : a.known.of ≡ Some of
-    pub typed : IsScalar of a.typed ⊎ (IsWholeRead of a.typed ⊎ (of ≡ text))
+    pub typed : IsScalar of a.typed ⊎ (IsWholeRead of a.typed ⊎ IsOther of a.typed)
 
   -- one that is no variable
   pub record IsPlain (a : Answer) : Type 0 where
     pub of : TypeId
     pub known : a.known.of ≡ Some of
-    pub typed : IsScalar of a.typed ⊎ (of ≡ text)
+    pub typed : IsScalar of a.typed ⊎ IsOther of a.typed
 
   pub plain_sound : (a : Answer) → IsPlain a → IsSound a
   plain_sound a x = record { of = x.of; known = x.known; typed = by x.typed }
     where
-      by : IsScalar x.of a.typed ⊎ (x.of ≡ text) → IsScalar x.of a.typed ⊎ (IsWholeRead x.of a.typed ⊎ (x.of ≡ text))
+      by : IsScalar x.of a.typed ⊎ IsOther x.of a.typed → IsScalar x.of a.typed ⊎ (IsWholeRead x.of a.typed ⊎ IsOther x.of a.typed)
       by (inl s) = inl s
       by (inr t) = inr (inr t)
 
   -- whose type is a basic one is a value of it
-  pub scalar_of : (t : TypeId) (x : Expr) → IsScalar t x ⊎ (IsWholeRead t x ⊎ (t ≡ text)) → is_basic t ≡ true → IsOf p x (type_as t)
+  pub scalar_of : (t : TypeId) (x : Expr) → IsScalar t x ⊎ (IsWholeRead t x ⊎ IsOther t x) → is_basic t ≡ true → IsOf p x (type_as t)
   scalar_of t x (inl s) b = s.1
   scalar_of t x (inr (inl w)) b = absurd (not_both (sym b ∙ w.0))
-  scalar_of t x (inr (inr e)) b = absurd (not_both (sym b ∙ ap is_basic e))
+  scalar_of t x (inr (inr (inl e))) b = absurd (not_both (sym b ∙ ap is_basic e))
+  scalar_of t x (inr (inr (inr o))) b = absurd (not_both (sym b ∙ o.0))
+
+  -- a good literal is of the type of its value
+  pub literal_typed : (v : Literal) → IsGood v → IsScalar (type_of_literal v) (Lit v) ⊎ IsOther (type_of_literal v) (Lit v)
+  literal_typed v g = by (literal_kind v g)
+    where
+      nothing : IsObject nil (Lit literal.Nil)
+      nothing = (refl, refl, λ u takes. inr (refl, takes.0))
+
+      by : ((is_basic (type_of_literal v) ≡ true) × IsLiteral v (type_as (type_of_literal v))) ⊎ ((type_of_literal v ≡ text) ⊎ (v ≡ literal.Nil)) →
+          IsScalar (type_of_literal v) (Lit v) ⊎ IsOther (type_of_literal v) (Lit v)
+      by (inl s) = inl (s.0, inl s.1)
+      by (inr (inl t)) = inr (inl t)
+      by (inr (inr e)) = subst (λ v. IsScalar (type_of_literal v) (Lit v) ⊎ IsOther (type_of_literal v) (Lit v)) (sym e) (inr (inr nothing))
 
   -- Operands, by the types that they are tested to have.
 
@@ -267,7 +292,7 @@ module _ (p : Inside) where
       (λ x h k. (integer, refl, refl, into_type integer x refl h)) (λ x h k. (longint, refl, refl, into_type longint x refl h))
 
   abs_step : IsStep (op.applied function.Abs)
-  abs_step t x b h k = (t, refl, b, (as_width t x h k, subst (λ u. Includes u (type.Integer (width_of_type t))) (sym (as_integer t k)) (includes_itself (type.Integer (width_of_type t)))))
+  abs_step t x b h k = (t, refl, b, (as_width t x h k, subst (λ u. Includes u (type.Integer (width_of_type t))) (sym (as_integer t k)) (integer_itself (width_of_type t))))
 
   pub applied_step : (f : Function) → IsStep (op.applied f)
   applied_step function.Abs t x b h k = abs_step t x b h k
@@ -299,8 +324,8 @@ module _ (p : Inside) where
   larger_type t u i j = by (nat_lt t.0 u.0) refl
     where
       by : (b : Bool) → nat_lt t.0 u.0 ≡ b → (r : TypeId) × (((if b then Some u else Some t) ≡ Some r) × (is_integer r ≡ true) × Includes (type_as r) (type_as t) × Includes (type_as r) (type_as u))
-      by true e = let less : t.0 < u.0 = ltb-true t.0 u.0 e in (u, (refl, j, order_includes t u i j (omega arith), includes_itself (type_as u)))
-      by false e = let le : u.0 ≤ t.0 = ltb-false t.0 u.0 e in (t, (refl, i, includes_itself (type_as t), order_includes u t j i le))
+      by true e = let less : t.0 < u.0 = ltb-true t.0 u.0 e in (u, (refl, j, order_includes t u i j (omega arith), includes_itself (type_as u) (as_basic u (integer_basic u j))))
+      by false e = let le : u.0 ≤ t.0 = ltb-false t.0 u.0 e in (t, (refl, i, includes_itself (type_as t) (as_basic t (integer_basic t i)), order_includes u t j i le))
 
   -- an operator on numbers of one width, and one on sets
   abbrev IsArithmetic : (Width → BinaryOperator) → Type 0
@@ -360,15 +385,15 @@ module _ (p : Inside) where
       by (inr e) = let i = both_true (is_set (Some t)) (is_set (Some u)) e in of_sets i.0 i.1
 
   pub added_operation : (o : AddOp) → IsOperation (op.added o)
-  added_operation add.Plus = sum_operation (λ w. two.Add w) two.Union (λ w x y h k. ((h, k), includes_itself (type.Integer w))) (λ x y h k. ((h, k), refl))
-  added_operation add.Minus = sum_operation (λ w. two.Sub w) two.Minus (λ w x y h k. ((h, k), includes_itself (type.Integer w))) (λ x y h k. ((h, k), refl))
+  added_operation add.Plus = sum_operation (λ w. two.Add w) two.Union (λ w x y h k. ((h, k), integer_itself w)) (λ x y h k. ((h, k), refl))
+  added_operation add.Minus = sum_operation (λ w. two.Sub w) two.Minus (λ w x y h k. ((h, k), integer_itself w)) (λ x y h k. ((h, k), refl))
   added_operation add.Or = λ t u x y b c h k kept. let i = both_true (is_boolean (Some t)) (is_boolean (Some u)) kept in (boolean, refl, refl, (as_boolean t x h i.0, as_boolean u y k i.1, refl))
 
   pub multiplied_operation : (o : MulOp) → IsOperation (op.multiplied o)
-  multiplied_operation mul.Times = sum_operation (λ w. two.Mul w) two.Meet (λ w x y h k. ((h, k), includes_itself (type.Integer w))) (λ x y h k. ((h, k), refl))
+  multiplied_operation mul.Times = sum_operation (λ w. two.Mul w) two.Meet (λ w x y h k. ((h, k), integer_itself w)) (λ x y h k. ((h, k), refl))
   multiplied_operation mul.Divide = λ t u x y b c h k kept. let i = both_true (is_set (Some t)) (is_set (Some u)) kept in (set, refl, refl, ((as_set t x h i.0, as_set u y k i.1), refl))
-  multiplied_operation mul.Div = number_operation (λ w. two.Div w) (λ w x y h k. ((h, k), includes_itself (type.Integer w)))
-  multiplied_operation mul.Mod = number_operation (λ w. two.Mod w) (λ w x y h k. ((h, k), includes_itself (type.Integer w)))
+  multiplied_operation mul.Div = number_operation (λ w. two.Div w) (λ w x y h k. ((h, k), integer_itself w))
+  multiplied_operation mul.Mod = number_operation (λ w. two.Mod w) (λ w x y h k. ((h, k), integer_itself w))
   multiplied_operation mul.And = λ t u x y b c h k kept. let i = both_true (is_boolean (Some t)) (is_boolean (Some u)) kept in (boolean, refl, refl, (as_boolean t x h i.0, as_boolean u y k i.1, refl))
 
   -- Relations.
@@ -405,6 +430,7 @@ module _ (p : Inside) where
       ordered_basic type.Boolean e = refl
       ordered_basic type.Char e = refl
       ordered_basic type.Set e = refl
+      ordered_basic type.Any e = e
       ordered_basic (type.Named o) e = e
 
       by_others : (op.are_booleans (Some t) (Some u) ≡ true) ⊎ (op.are_sets (Some t) (Some u) ≡ true) → AreCompared r x y
@@ -439,7 +465,7 @@ module _ (p : Inside) where
   -- Parts.
 
   pub answered_plain : (c : Class) (t : TypeId) (x : Expr) → IsKnownClass IsGood c → is_basic t ≡ true → IsOf p x (type_as t) → IsPlain (answered c (Some t) x)
-  answered_plain (Constant (Some v)) t x g b h = record { of = type_of_literal v; known = refl; typed = literal_kind v g }
+  answered_plain (Constant (Some v)) t x g b h = record { of = type_of_literal v; known = refl; typed = literal_typed v g }
   answered_plain (Constant None) t x g b h = record { of = t; known = refl; typed = inl (b, h) }
   answered_plain Unknown t x g b h = absurd g
   answered_plain Variable t x g b h = record { of = t; known = refl; typed = inl (b, h) }

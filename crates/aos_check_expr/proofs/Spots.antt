@@ -1,17 +1,16 @@
 -- Designators that break no rule: variables of their types, and sound values.
-use Rattle.std.proofs.Common.{◌≡◌, ℕ, suc, ◌+◌, ◌≤◌, ◌<◌, ◌==◌, List, [], ◌∷◌, length, Bool, true, false, ◌&&◌, ◌||◌, ◌⊎◌, inl, inr, not, Option, Some, None, is_some, slice_get, option_and_then, if◌then◌else◌, refl, sym, ap, ap₂, ◌∙◌, subst, eqb-true, eq-eqb, lt-ltb, le-ltb, arith}
-use Rattle.std.proofs.lemmas.Option.{none-some, same_Some, option_and_then_some, slice_get_within}
+use Rattle.std.proofs.Common.{◌≡◌, ℕ, suc, ◌==◌, List, [], ◌∷◌, Bool, true, false, ◌&&◌, ◌||◌, ◌⊎◌, inl, inr, not, Option, Some, None, is_some, slice_get, option_and_then, fold, if◌then◌else◌, refl, sym, ap, ap₂, ◌∙◌, subst, eqb-true, eq-eqb}
+use Rattle.std.proofs.lemmas.Option.{none-some, same_Some, option_and_then_some}
 use Rattle.std.proofs.lemmas.Bool.{and_parts}
 use Rattle.aos_base.specs.declared.number.Width.TheVariants.{W64}
 use Rattle.aos_base.specs.declared.text.Pos.{Pos}
 use Rattle.aos_tree.specs.declared.name.Name.{Name}
 use Rattle.aos_tree.specs.declared.decl.Export.{Export}
 use Rattle.aos_tree.specs.declared.decl.Export.TheVariants.{ReadWrite, ReadOnly as OnlyRead}
-use Rattle.aos_types.specs.declared.row.Basic.TheVariants as basic
 use Rattle.aos_types.specs.declared.row.TypeId.{TypeId}
 use Rattle.aos_types.specs.declared.row.TypeRow.{TypeRow}
 use Rattle.aos_types.specs.declared.row.TypeRow.TheVariants as row
-use Rattle.aos_types.specs.Table.{row_of, is_open}
+use Rattle.aos_types.specs.Table.{row_of, is_open, is_record}
 use Rattle.aos_types.specs.Sameness.{element_of}
 use Rattle.aos_typed.specs.declared.tree.Literal.{Literal}
 use Rattle.aos_typed.specs.declared.tree.Literal.TheVariants as literal
@@ -19,13 +18,9 @@ use Rattle.aos_typed.specs.Numbers.{id_of}
 use Rattle.aos_typed.specs.Open.{open_dimensions, open_element}
 use Rattle.aos_typed.specs.declared.tree.TType.{TType}
 use Rattle.aos_typed.specs.declared.tree.TType.TheVariants as type
-use Rattle.aos_typed.specs.Program.{Place, ModuleVar, Of, Index, Rows, Row, Expr, Read, Parameter, Procedure, Module}
+use Rattle.aos_typed.specs.Program.{Place, ModuleVar, Of, Index, Guarded, Row, Expr, Read, Guard}
 use Rattle.aos_typed.specs.Program.{Field as FieldOf}
-use Rattle.aos_typed.specs.WellTyped.{HaveLengths, field_type, procedure_in}
-use Rattle.aos_symbols.specs.declared.home.Parameter.{Parameter as Formal}
-use Rattle.aos_symbols.specs.declared.home.Gives.{Gives}
-use Rattle.aos_symbols.specs.declared.home.Gives.TheVariants as gives
-use Rattle.aos_symbols.specs.declared.home.Signature.{Signature}
+use Rattle.aos_typed.specs.WellTyped.{field_type, is_reference as is_reference_type}
 use Rattle.aos_symbols.specs.declared.scope.Entry.{Entry}
 use Rattle.aos_symbols.specs.declared.scope.Constant.{Constant as Declared}
 use Rattle.aos_symbols.specs.declared.scope.Meaning.{Meaning}
@@ -33,171 +28,35 @@ use Rattle.aos_symbols.specs.declared.scope.Meaning.TheVariants as means
 use Rattle.aos_symbols.specs.declared.env.Open.{Open}
 use Rattle.aos_symbols.specs.declared.env.Symbol.{Symbol}
 use Rattle.aos_symbols.specs.declared.env.Field.{Field}
+use Rattle.aos_symbols.specs.declared.env.Narrowed.{Narrowed}
 use Rattle.aos_symbols.specs.declared.env.Lookup.{Lookup}
 use Rattle.aos_symbols.specs.declared.env.Lookup.TheVariants.{Unknown as NoName, NotExported, Found}
 use Rattle.aos_symbols.specs.declared.env.Env.{Env}
 use Rattle.aos_symbols.specs.Judged.{Judged, kept}
 use Rattle.aos_symbols.specs.Spelling.{word, is_among, procedures_of_out}
 use Rattle.aos_symbols.specs.Scope.{Scope, find}
-use Rattle.aos_symbols.specs.Home.{Home, texts_of}
 use Rattle.aos_symbols.specs.Env as env
 use Rattle.aos_symbols.specs.Env.{text}
-use Rattle.aos_symbols.proofs.Each.{Each, each_at}
+use Rattle.aos_symbols.proofs.Each.{each_at}
 use Rattle.aos_symbols.proofs.Holds.{Holds, holds_bind, broken}
 use Rattle.aos_symbols.proofs.Lookups.{IsPredeclared, another, IsOfAll, lookup_is, member_is}
-use Rattle.aos_symbols.proofs.Told.{IsTold, basic as basic_told, defined, IsKnown, PartsAreTold}
+use Rattle.aos_symbols.proofs.Told.{IsTold}
 use Rattle.aos_check_expr.proofs.Inside.{Inside, IsPlaceOf, AreRows, IsOf}
 use Rattle.aos_check_expr.specs.declared.known.Class.{Class}
 use Rattle.aos_check_expr.specs.declared.known.Class.TheVariants.{Unknown, Constant, Variable, ReadOnly, Computed}
 use Rattle.aos_check_expr.specs.declared.known.Known.{Known}
 use Rattle.aos_check_expr.specs.declared.designators.Head.{Head}
-use Rattle.aos_check_expr.specs.Known.{Answer, Spot, Held, Stands, Value, is_basic, is_number, is_lost, type_as, type_of, read_from, known_as, spot_of, answered, constant_answer, nothing}
+use Rattle.aos_check_expr.specs.Known.{Answer, Spot, Held, Stands, Value, is_basic, is_number, is_lost, object_number, value_class, type_as, type_of, read_from, known_as, spot_of, answered, constant_answer, nothing}
 use Rattle.aos_check_expr.specs.Designators as desig
 use Rattle.aos_check_expr.proofs.Types.{includes_itself, as_basic, id_as}
-use Rattle.aos_check_expr.proofs.Opens.{OpensFall, OpensStand, some_there, closed_dimensions, closed_element, next_dimensions, next_element}
+pub use Rattle.aos_check_expr.proofs.Whole.{IsTyped, closed, opened, GoodConstants, IsParameterType, AreParameters, IsResultOf, IsSigned, IsSearched, AreOpensTold, parameter_type, opens_told, told_element, IsWhole, NarrowsWell, text_row, no_array, array_open, no_open, opened_row, told_closed, row_opened, elements_told, elements_id}
+use Rattle.aos_check_expr.proofs.Objects.{sound_object, parts_no_reference, record_no_reference, IsPartsRow}
+use Rattle.aos_check_expr.proofs.Pointed.{pointed_kind, followed_typed, guard_object, guard_record}
+use Rattle.aos_check_expr.proofs.Opens.{closed_dimensions, closed_element, next_dimensions, next_element}
 use Rattle.aos_check_expr.proofs.Stored.{IsStored, IsMade}
 use Rattle.aos_check_expr.proofs.Good.{IsGood, HasGood, IsKnownClass}
-use Rattle.aos_check_expr.proofs.Sound.{not_both, IsScalar, IsClosedPlace, IsOpenPlace, IsWholeRead, IsSound, IsPlain, plain_sound, sound_number}
+use Rattle.aos_check_expr.proofs.Sound.{not_both, IsScalar, IsClosedPlace, IsOpenPlace, IsWholeRead, IsOther, IsObject, IsSound, IsPlain, plain_sound, sound_number}
 use Rattle.aos_check_expr.proofs.Parts.{IsPart, IsValue, constant_part}
-
--- a variable has the type that is known of it, or is an open array, with its rows
-pub data IsTyped (p : Inside) (e : Env) (place : Place) (of : Option TypeId) : Type 0 where
-  closed : IsPlaceOf p place (type_of of) → IsKnown e.types of → IsTyped p e place of
-  opened : (t : TypeId) (r : Rows) → of ≡ Some t → place ≡ Of r → desig.is_opened e t ≡ true →
-      AreRows p r (open_dimensions e.types t) (type_as (open_element e.types t)) → HaveLengths r → IsTyped p e place of
-
--- in each scope that the environment has, each constant has a value that is good
-abbrev pub GoodConstants : Env → Type 0
-GoodConstants e = (o : Open) (s : Scope) → env.scope e o ≡ Some s → Each (λ (c : Declared). HasGood c.value) s.constants
-
--- a parameter's type: one that is told, or an open array
-abbrev pub IsParameterType : Env → TypeId → Type 0
-IsParameterType e t = IsTold e.types t ⊎ (desig.is_opened e t ≡ true)
-
--- the parameters of the typed program are those of a signature
-abbrev pub AreParameters : Env → List Formal → List Parameter → Type 0
-AreParameters e [] as' = as' ≡ []
-AreParameters e (x ∷ xs) as' =
-    (a : Parameter) × (rest : List Parameter) × (t : TypeId) × (as' ≡ a ∷ rest) × (x.of ≡ Some t) × (a.of ≡ type_as t)
-    × (a.by_reference ≡ x.by_reference) × IsParameterType e t × AreParameters e xs rest
-
-abbrev pub IsResultOf : Gives → Option TType → Type 0
-IsResultOf gives.Nothing r = r ≡ None
-IsResultOf (gives.Value of) r = (t : TypeId) × (of ≡ Some t) × (r ≡ Some (type_as t))
-
-pub record IsSigned (e : Env) (s : Signature) (q : Procedure) : Type 0 where
-  pub parameters : AreParameters e s.parameters q.parameters
-  pub result : IsResultOf s.gives q.result
-
--- a scope that is searched is a module's own, or that of the procedure
-abbrev pub IsSearched : Env → Open → Type 0
-IsSearched e o = (o.scope ≡ 0) ⊎ ((o.home ≡ e.number) × (o.scope ≡ env.innermost e.path))
-
--- each open array of the table stands behind its elements, whose type is told or an open array
-pub record AreOpensTold (e : Env) : Type 0 where
-  pub falls : OpensFall e.types
-  pub above : (t u : TypeId) → row_of e.types t ≡ Some (row.Open u) → 10 ≤ t.0
-  pub elements : (t u : TypeId) → row_of e.types t ≡ Some (row.Open u) → IsParameterType e u
-
--- the type of a parameter that is there
-pub parameter_type : (e : Env) (t : TypeId) → t.0 < length e.types → (t.0 < 7) ⊎ (10 ≤ t.0) → IsParameterType e t
-parameter_type e t below (inl low) = inl (basic_told low)
-parameter_type e t below (inr high) = let r = some_there e.types t.0 below in by r.0 r.1 (is_open (Some r.0)) refl
-  where
-    no_low : is_basic t ≡ false
-    no_low = le-ltb t.0 7 (omega (arith, high))
-
-    by : (r : TypeRow) → slice_get e.types t.0 ≡ Some r → (b : Bool) → is_open (Some r) ≡ b → IsParameterType e t
-    by r there false shut = inl (defined r high there shut)
-    by r there true opening = inr (ap (λ b. not b && is_open (row_of e.types t)) no_low ∙ ap is_open there ∙ opening)
-
-pub opens_told : (e : Env) → OpensStand e.types → AreOpensTold e
-opens_told e stand = record {
-  falls = λ t u is. (stand t.0 (row.Open u) is).0;
-  above = λ t u is. (stand t.0 (row.Open u) is).1;
-  elements = λ t u is.
-      let one = stand t.0 (row.Open u) is in
-      let below = slice_get_within e.types t.0 (row.Open u) is in
-      let less = one.0 in
-      parameter_type e u (omega (arith, below, less)) one.2;
-}
-
--- what is told has no open dimension
-pub told_element : (e : Env) → AreOpensTold e → (t : TypeId) → IsTold e.types t → element_of (row_of e.types t) ≡ None
-told_element e opens t told = by (row_of e.types t) refl
-  where
-    not_open : (u : TypeId) → row_of e.types t ≡ Some (row.Open u) → IsTold e.types t → ⊥
-    not_open u is (basic_told below) = let above = opens.above t u is in omega (arith, above, below)
-    not_open u is (defined r from there shut) = not_both (ap is_open (sym is ∙ there) ∙ shut)
-
-    by : (r : Option TypeRow) → row_of e.types t ≡ r → element_of r ≡ None
-    by (Some (row.Open u)) is = absurd (not_open u is told)
-    by None is = refl
-    by r is = refl
-
--- The environment is that of bodies: each variable in the scope of a module or of the procedure has its type, the table is the program's
--- and begins with what is predeclared, the types behind the first ten are its object types, each procedure is as its signature says, and
--- each module's string constants are those of its text.
-pub record IsWhole (p : Inside) (e : Env) : Type 0 where
-  pub variables : (o : Open) (s : Scope) (w : List ℕ) (x : Entry) (k : ℕ) → o.scope ≡ 0 → env.scope e o ≡ Some s → find s w ≡ Some x →
-      x.means ≡ means.Variable k → IsTyped p e (ModuleVar o.home k) (env.variable_type e o k)
-  pub constants : GoodConstants e
-  pub parts : PartsAreTold e.types
-  pub fields : (t : TypeId) (n : Name) (f : Field) (ts : List TypeId) → env.field e t n ≡ Some f → env.row_of e (Some t) ≡ Some (row.Record None ts) →
-      (u : TypeId) × (f.of ≡ Some u) × (slice_get ts f.number ≡ Some u)
-  pub rows : p.program.types ≡ e.types
-  pub objects : length e.types ≡ 10 + length p.program.objects
-  pub basic : (k : ℕ) → k < 10 → slice_get e.types k ≡ slice_get env.basic_rows k
-  pub opens : AreOpensTold e
-  pub path : Each (IsSearched e) e.path
-  pub locals : (s : Scope) (w : List ℕ) (x : Entry) (k : ℕ) → is_some (env.own_signature e) ≡ true →
-      let o : Open = record { home = e.number; scope = env.innermost e.path } in
-      env.scope e o ≡ Some s → find s w ≡ Some x → x.means ≡ means.Variable k → IsTyped p e (desig.own_place e k) (env.variable_type e o k)
-  pub own : (s : Signature) → env.own_signature e ≡ Some s → (q : Procedure) × (p.own ≡ Some q) × IsSigned e s q
-  pub own_body : env.own_signature e ≡ None → p.own ≡ None
-  pub signatures : (m k : ℕ) (s : Signature) → env.signature e m k ≡ Some s → (q : Procedure) × (procedure_in p.program m k ≡ Some q) × IsSigned e s q
-  pub strings : (m : ℕ) (h : Home) → env.home e m ≡ Some h →
-      (x : Module) × (slice_get p.program.modules m ≡ Some x) × (length x.variables ≡ env.variable_count e m) × (x.texts ≡ texts_of h)
-
--- the type of string constants has no parts
-pub text_row : (p : Inside) (e : Env) → IsWhole p e → (t : TypeId) (r : TypeRow) → t ≡ text → env.row_of e (Some t) ≡ Some r → row.Basic (basic.Text 0) ≡ r
-text_row p e whole t r is there =
-    same_Some (row.Basic (basic.Text 0)) r (sym (whole.basic 9 (omega arith)) ∙ ap (λ (u : TypeId). slice_get e.types u.0) (sym is) ∙ there)
-
-no_record : (ts : List TypeId) → row.Basic (basic.Text 0) ≡ row.Record None ts → ⊥
-no_record ts is = cc
-
-pub no_array : (m : ℕ) (u : TypeId) → row.Basic (basic.Text 0) ≡ row.Array m u → ⊥
-no_array m u is = cc
-
-record_open : (ts : List TypeId) → is_open (Some (row.Record None ts)) ≡ true → ⊥
-record_open ts is = cc
-
-array_open : (m : ℕ) (u : TypeId) → is_open (Some (row.Array m u)) ≡ true → ⊥
-array_open m u is = cc
-
-pub no_open : (u : TypeId) → row.Basic (basic.Text 0) ≡ row.Open u → ⊥
-no_open u is = cc
-
--- what is told is no open array
-pub told_closed : (e : Env) (t : TypeId) → IsTold e.types t → desig.is_opened e t ≡ true → ⊥
-told_closed e t (basic_told below) is = not_both (sym (and_parts (not (is_basic t)) _ is).0 ∙ ap not (lt-ltb t.0 7 below))
-told_closed e t (defined r from there shut) is = not_both (sym (and_parts (not (is_basic t)) _ is).1 ∙ ap is_open there ∙ shut)
-
--- the row of an open array
-pub opened_row : (e : Env) (t : TypeId) → desig.is_opened e t ≡ true → (u : TypeId) × (is_basic t ≡ false) × (row_of e.types t ≡ Some (row.Open u))
-opened_row e t is = by (row_of e.types t) refl (and_parts (not (is_basic t)) _ is).1
-  where
-    low : (b : Bool) → not b ≡ true → b ≡ false
-    low true h = absurd (not_both (sym h))
-    low false h = refl
-
-    by : (r : Option TypeRow) → row_of e.types t ≡ r → is_open r ≡ true → (u : TypeId) × (is_basic t ≡ false) × (row_of e.types t ≡ Some (row.Open u))
-    by (Some (row.Open u)) at h = (u, low (is_basic t) (and_parts (not (is_basic t)) _ is).0, at)
-    by r at h = absurd (not_both (sym h))
-
-pub row_opened : (e : Env) (t u : TypeId) → is_basic t ≡ false → row_of e.types t ≡ Some (row.Open u) → desig.is_opened e t ≡ true
-row_opened e t u low is = rw (low, is) refl
 
 -- a designator is a variable of its type, or a sound value
 abbrev IsSoundHeld : Inside → Env → Known → Held → Type 0
@@ -351,11 +210,6 @@ module _ (p : Inside) (e : Env) where
   pub refused_value_part : (rule : ℕ) (at : Pos) → Holds Valued (desig.refused_value rule at)
   refused_value_part rule at = broken Valued _ [] _
 
-  pub guarded_part : (of : Option TypeId) (is_guard : Bool) (at first : Pos) → Holds Valued (desig.guarded e of is_guard at first)
-  guarded_part None is_guard at first = refused_part 99 at
-  guarded_part (Some t) true at first = refused_part (if desig.is_built e t then 41 else 99) at
-  guarded_part (Some t) false at first = refused_part 36 first
-
   value_part : (later : Bool) (v : Option Literal) → HasGood v → (at : Pos) → Holds Valued (desig.constant_of (if later then None else Some v) at)
   value_part true v h at = broken Valued _ [] _
   value_part false None h at = absurd (none-some h.0 h.1)
@@ -385,241 +239,17 @@ module _ (p : Inside) (e : Env) where
   stored Unknown of place at s h = absurd s
   stored Computed of place at s h = absurd s
 
-  otherwise_spot : (m : Meaning) (h : Head) → Holds Spotted (desig.meant_otherwise m h)
-  otherwise_spot (means.Type of) h = spotted h.at (desig.refused 16 h.at) (refused_part 16 h.at)
-  otherwise_spot (means.Module m) h = spotted h.at (desig.refused 16 h.at) (refused_part 16 h.at)
-  otherwise_spot means.Out h = spotted h.at (desig.refused 16 h.at) (refused_part 16 h.at)
-  otherwise_spot (means.Truth b) h = spotted h.at (kept (constant_answer (literal.Bool b))) (λ none. constant_part p (IsWhole p e) (literal.Bool b) tt)
-  otherwise_spot (means.Function f) h = spotted h.at (desig.refused_value 36 h.first) (refused_value_part 36 h.first)
-  otherwise_spot (means.Routine r) h = spotted h.at (desig.refused_value 36 h.first) (refused_value_part 36 h.first)
-  otherwise_spot means.Proper h = spotted h.at (desig.refused_value 36 h.first) (refused_value_part 36 h.first)
-  otherwise_spot (means.Procedure k) h = spotted h.at (desig.refused_value 99 h.first) (refused_value_part 99 h.first)
-  otherwise_spot (means.Variable k) h = spotted h.at (desig.refused_value 99 h.first) (refused_value_part 99 h.first)
-  otherwise_spot (means.Constant k) h = spotted h.at (desig.refused_value 99 h.first) (refused_value_part 99 h.first)
-  otherwise_spot means.Other h = spotted h.at (desig.refused_value 99 h.first) (refused_value_part 99 h.first)
-
-  meant_spot : GoodConstants e → (x : Symbol) → (IsWhole p e → IsVariable x) → (m : Meaning) → x.means ≡ m → (h : Head) → Holds Spotted (desig.meant e x m h)
-  meant_spot good x sound (means.Variable k) is h = by (desig.is_reached e x) refl
-    where
-      by : (b : Bool) → desig.is_reached e x ≡ b → Holds Spotted (if b then kept (desig.variable e x k h.at) else desig.spotted h.at (desig.refused 99 h.at))
-      by true own = λ none. stored (desig.access (x.at.home == e.number) x.mark) (env.variable_type e x.at k) (desig.place_of_variable e x k) h.at (access_stored (x.at.home == e.number) x.mark) (λ whole. sound whole k is own)
-      by false own = spotted h.at (desig.refused 99 h.at) (refused_part 99 h.at)
-  meant_spot good x sound (means.Constant k) is h = spotted h.at (desig.constant_of (env.constant e x.at k h.first) h.at) (constant_there good x.at k h.first h.at)
-  meant_spot good x sound m is h = otherwise_spot m h
-
-  found_spot : GoodConstants e → (l : Lookup) → MayFind l → (h : Head) → Holds Spotted (desig.found e l h)
-  found_spot good NoName may h = spotted h.at (desig.refused 14 h.at) (refused_part 14 h.at)
-  found_spot good NotExported may h = spotted h.at (desig.refused 15 h.at) (refused_part 15 h.at)
-  found_spot good (Found x) may h = meant_spot good x (λ whole. may whole x refl) x.means refl h
-
-  pub named_spot : GoodConstants e → (h : Head) → MayFind h.found → Holds Spotted (desig.named e h)
-  named_spot good h may = found_spot good h.found may h
-
-  -- Parts of variables.
-
-  -- a part whose type isn't known is none where all types are
-  no_type : (k : Known) (h : Held) → k.of ≡ None → IsSoundHeld p e k h → ⊥
-  no_type k (Stands place) is s = by k.of is s
-    where
-      by : (of : Option TypeId) → of ≡ None → IsTyped p e place of → ⊥
-      by None is (closed typed known) = known
-      by None is (opened t r same at opening rows lengths) = none-some t same
-      by (Some t) is s = none-some t (sym is)
-  no_type k (Value x) is s = none-some s.of (sym is ∙ s.known)
-
-  unknown_fine : (a : Spot) → Spotted a → a.known.of ≡ None → (at : Pos) → Spotted (desig.unknown_part at a)
-  unknown_fine a x is at = record {
-    class = class_as (IsKnownClass IsGood) a.known.class None x.class;
-    valued = class_as (λ c. not (is_lost c) ≡ true) a.known.class None x.valued;
-    stored = class_as (IsStoredHeld a.held) a.known.class None x.stored;
-    sound = λ whole. absurd (no_type a.known a.held is (x.sound whole));
-  }
-
-  -- what is told of the places of a part, and that a value has none
-  abbrev IsPartOf : Option TypeId → Option TypeId → (Place → Place) → Type 0
-  IsPartOf whole of part = (place : Place) → IsTyped p e place whole → IsTyped p e (part place) of
-
-  class_typed : (may : Bool) (c : Class) (of : Option TypeId) (place : Place) → IsStored c → IsTyped p e place of → IsTyped p e place (known_as (desig.part_class may c) of).of
-  class_typed true Variable of place s h = h
-  class_typed false Variable of place s h = h
-  class_typed may ReadOnly of place s h = h
-  class_typed may (Constant v) of place s h = absurd s
-  class_typed may Unknown of place s h = absurd s
-  class_typed may Computed of place s h = absurd s
-
-  -- a type that has parts is none of a value's
-  abbrev HasParts : TypeId → Type 0
-  HasParts t = (is_basic t ≡ false) × (IsWhole p e → t ≡ text → ⊥)
-
-  held_part : IsWhole p e → (k : Known) (h : Held) (may : Bool) (of : Option TypeId) (part : Place → Place) (t : TypeId) → k.of ≡ Some t → HasParts t →
-      IsPartOf k.of of part → IsStoredHeld h k.class → IsSoundHeld p e k h → IsSoundHeld p e (known_as (desig.part_class may k.class) of) (desig.part_held part h)
-  held_part whole k (Stands place) may of part t is other typed stored s = class_typed may k.class of (part place) stored (typed place s)
-  held_part whole k (Value x) may of part t is other typed stored s = absurd (by s.typed)
-    where
-      same : t ≡ s.of
-      same = same_Some t s.of (sym is ∙ s.known)
-
-      by : IsScalar p s.of x ⊎ (s.of ≡ text) → ⊥
-      by (inl scalar) = not_both (sym scalar.0 ∙ ap is_basic (sym same) ∙ other.0)
-      by (inr is_text) = other.1 whole (same ∙ is_text)
-
-  part_fine : (may : Bool) (of : Option TypeId) (part : Place → Place) (at : Pos) (a : Spot) → Spotted a → (t : TypeId) → a.known.of ≡ Some t → HasParts t →
-      (IsWhole p e → IsPartOf a.known.of of part) → Spotted (desig.part_spot may of part at a)
-  part_fine may of part at a x t is other typed = record {
-    class = class_as (IsKnownClass IsGood) (desig.part_class may a.known.class) of (part_known may a.known.class x.class);
-    valued = class_as (λ c. not (is_lost c) ≡ true) (desig.part_class may a.known.class) of (part_valued may a.known.class x.valued);
-    stored = class_as (IsStoredHeld (desig.part_held part a.held)) (desig.part_class may a.known.class) of (part_stored may a.known.class part a.held x.stored);
-    sound = λ whole. held_part whole a.known a.held may of part t is other (typed whole) x.stored (x.sound whole);
-  }
-
-  lacking_fine : (t : TypeId) (at : Pos) → Holds Spotted (desig.lacking e t at)
-  lacking_fine t at = spotted at (desig.refused (if desig.is_built e t then 42 else 99) at) (refused_part (if desig.is_built e t then 42 else 99) at)
-
-  -- a field of a record
-  field_typed : IsWhole p e → (t : TypeId) (n : Name) (f : Field) (ts : List TypeId) → env.field e t n ≡ Some f → env.row_of e (Some t) ≡ Some (row.Record None ts) →
-      IsPartOf (Some t) f.of (λ place. FieldOf place (type_as t) f.number)
-  field_typed whole t n f ts is r place (closed typed known) =
-      let g = whole.fields t n f ts is r in
-      let u = g.0 in
-      let told : IsTold e.types u = each_at (IsTold e.types) ts f.number u (whole.parts t.0 (row.Record None ts) r) g.2 in
-      let there : field_type (row_of p.program.types (id_of (type_as t))) f.number ≡ Some (id_of (type_as u)) =
-      ap (λ i. field_type (row_of p.program.types i) f.number) (id_as e.types t known) ∙ ap (λ rows. field_type (row_of rows t) f.number) whole.rows
-      ∙ ap (λ w. field_type w f.number) r ∙ g.2 ∙ ap (λ i. Some i) (sym (id_as e.types u told)) in
-      subst (λ o. IsTyped p e (FieldOf place (type_as t) f.number) o) (sym g.1) (closed (typed, there) told)
-  field_typed whole t n f ts is r place (opened u q same at opening rows lengths) =
-      absurd (record_open ts (sym (ap (λ w. is_open w) (subst (λ v. env.row_of e (Some v) ≡ Some (row.Record None ts)) (same_Some t u same) r)) ∙ (and_parts (not (is_basic u)) _ opening).1))
-
-  field_in : (t : TypeId) (c : Class) (held : Held) (at : Pos) → Spotted (record { known = record { of = Some t; class = c }; held = held; at = at }) → (q : Pos) (n : Name) →
-      Holds Spotted (desig.field e (record { known = record { of = Some t; class = c }; held = held; at = at }) q n)
-  field_in t c held at x q n = by (is_basic t) refl
-    where
-      a : Spot
-      a = record { known = record { of = Some t; class = c }; held = held; at = at }
-
-      seen : (f : Field) (b : Bool) → Spotted (desig.field_spot t f n.pos a) →
-          Holds Spotted (if b then kept (desig.field_spot t f n.pos a) else desig.spotted n.pos (desig.refused 15 n.pos))
-      seen f true s = λ none. s
-      seen f false s = spotted n.pos (desig.refused 15 n.pos) (refused_part 15 n.pos)
-
-      there : is_basic t ≡ false → (ts : List TypeId) → env.row_of e (Some t) ≡ Some (row.Record None ts) → (o : Option Field) → env.field e t n ≡ o →
-          Holds Spotted (desig.field_found e a q n t o)
-      there other ts r None is = lacking_fine t q
-      there other ts r (Some f) is =
-          seen f (f.is_own || is_some f.mark)
-          (part_fine (desig.may_write f) f.of (λ place. FieldOf place (type_as t) f.number) n.pos a x t refl (other, λ whole is_text. no_record ts (text_row p e whole t (row.Record None ts) is_text r)) (λ whole. field_typed whole t n f ts is r))
-
-      in_row : is_basic t ≡ false → (r : Option TypeRow) → env.row_of e (Some t) ≡ r → Holds Spotted (desig.field_in_row e a q n t r)
-      in_row other (Some (row.Record None ts)) r = there other ts r (env.field e t n) refl
-      in_row other w r = lacking_fine t q
-
-      by : (b : Bool) → is_basic t ≡ b → Holds Spotted (if b then desig.lacking e t q else desig.field_in_row e a q n t (env.row_of e (Some t)))
-      by true low = lacking_fine t q
-      by false other = in_row other (env.row_of e (Some t)) refl
-
-  field_of : (of : Option TypeId) (c : Class) (held : Held) (at : Pos) → Spotted (record { known = record { of = of; class = c }; held = held; at = at }) → (q : Pos) (n : Name) →
-      Holds Spotted (desig.field e (record { known = record { of = of; class = c }; held = held; at = at }) q n)
-  field_of None c held at x q n = λ none. unknown_fine (record { known = record { of = None; class = c }; held = held; at = at }) x refl n.pos
-  field_of (Some t) c held at x q n = field_in t c held at x q n
-
-  pub field_part : (a : Spot) → Spotted a → (q : Pos) (n : Name) → Holds Spotted (desig.field e a q n)
-  field_part a x q n = field_of a.known.of a.known.class a.held a.at x q n
-
-  -- an element of an array
-  element_typed : IsWhole p e → (t u : TypeId) (m : ℕ) (i : Answer) → env.row_of e (Some t) ≡ Some (row.Array m u) → IsSound p i → is_number i.known.of ≡ true →
-      IsPartOf (Some t) (Some u) (λ place. Index place m (type_as u) i.typed)
-  element_typed whole t u m i r s k place (closed typed known) =
-      let told : IsTold e.types u = (whole.parts t.0 (row.Array m u) r).1 in
-      let there : row_of p.program.types (id_of (type_as t)) ≡ Some (row.Array m (id_of (type_as u))) =
-      ap (λ i. row_of p.program.types i) (id_as e.types t known) ∙ ap (λ rows. row_of rows t) whole.rows
-      ∙ r ∙ ap (λ v. Some (row.Array m v)) (sym (id_as e.types u told)) in
-      closed (type_as t, typed, there, sound_number p i s k, refl) told
-  element_typed whole t u m i r s k place (opened v q same at opening rows lengths) =
-      absurd (array_open m u (sym (ap (λ w. is_open w) (subst (λ v. env.row_of e (Some v) ≡ Some (row.Array m u)) (same_Some t v same) r)) ∙ (and_parts (not (is_basic v)) _ opening).1))
-
-  -- an element of an open array, which is an open array or has a type that is told
-  row_typed : IsWhole p e → (t u : TypeId) (i : Answer) → is_basic t ≡ false → env.row_of e (Some t) ≡ Some (row.Open u) → IsSound p i → is_number i.known.of ≡ true →
-      IsPartOf (Some t) (Some u) (λ place. Of (Row (desig.rows_of place) (type_as (open_element e.types t)) i.typed))
-  row_typed whole t u i low r s k place (closed typed known) = absurd (told_closed e t known (row_opened e t u low r))
-  row_typed whole t u i low r s k place (opened v q same at opening rows lengths) =
-      subst (λ place. IsTyped p e (Of (Row (desig.rows_of place) E i.typed)) (Some u)) (sym at) (by (whole.opens.elements t u r))
-    where
-      E : TType
-      E = type_as (open_element e.types t)
-
-      deep : AreRows p q (suc (open_dimensions e.types u)) E
-      deep =
-          subst (λ n. AreRows p q n E) (next_dimensions e.types whole.opens.falls t u r)
-          (subst (λ v. AreRows p q (open_dimensions e.types v) (type_as (open_element e.types v))) (sym (same_Some t v same)) rows)
-
-      elements : type_as (open_element e.types u) ≡ E
-      elements = ap type_as (sym (next_element e.types whole.opens.falls t u r))
-
-      index : IsOf p i.typed (type.Integer W64)
-      index = sound_number p i s k
-
-      by : IsParameterType e u → IsTyped p e (Of (Row q E i.typed)) (Some u)
-      by (inl told) =
-          let none = told_element e whole.opens u told in
-          let is : type_as u ≡ E = ap type_as (sym (closed_element e.types u none)) ∙ elements in
-          closed (subst (λ T. AreRows p q 1 T) (sym is) (subst (λ n. AreRows p q (suc n) E) (closed_dimensions e.types u none) deep), index, is) told
-      by (inr more) = opened u (Row q E i.typed) refl refl more (subst (λ T. AreRows p q (suc (open_dimensions e.types u)) T) (sym elements) deep, index, elements) lengths
-
-  element_in : (t : TypeId) (c : Class) (held : Held) (at : Pos) → Spotted (record { known = record { of = Some t; class = c }; held = held; at = at }) → (q : Pos) (i : Answer) → Part i →
-      Holds Spotted (desig.element e q (record { known = record { of = Some t; class = c }; held = held; at = at }) i)
-  element_in t c held at x q i y = by (is_basic t) refl
-    where
-      a : Spot
-      a = record { known = record { of = Some t; class = c }; held = held; at = at }
-
-      tested : is_basic t ≡ false → (m : ℕ) (u : TypeId) → env.row_of e (Some t) ≡ Some (row.Array m u) → (b : Bool) → is_number i.known.of ≡ b →
-          Holds Spotted (if b then kept (desig.element_spot m u i a) else desig.spotted q (desig.refused 42 q))
-      tested other m u r true k =
-          λ none. part_fine true (Some u) (λ place. Index place m (type_as u) i.typed) at a x t refl (other, λ whole is_text. no_array m u (text_row p e whole t (row.Array m u) is_text r)) (λ whole. element_typed whole t u m i r (y.sound whole) k)
-      tested other m u r false k = spotted q (desig.refused 42 q) (refused_part 42 q)
-
-      row_tested : is_basic t ≡ false → (u : TypeId) → env.row_of e (Some t) ≡ Some (row.Open u) → (b : Bool) → is_number i.known.of ≡ b →
-          Holds Spotted (if b then kept (desig.row_spot (open_element e.types t) u i a) else desig.spotted q (desig.refused 42 q))
-      row_tested other u r true k =
-          λ none. part_fine true (Some u) (λ place. Of (Row (desig.rows_of place) (type_as (open_element e.types t)) i.typed)) at a x t refl (other, λ whole is_text. no_open u (text_row p e whole t (row.Open u) is_text r))
-          (λ whole. row_typed whole t u i other r (y.sound whole) k)
-      row_tested other u r false k = spotted q (desig.refused 42 q) (refused_part 42 q)
-
-      in_row : is_basic t ≡ false → (r : Option TypeRow) → env.row_of e (Some t) ≡ r → Holds Spotted (desig.element_in_row e q a i t r)
-      in_row other (Some (row.Array m u)) r = tested other m u r (is_number i.known.of) refl
-      in_row other (Some (row.Open u)) r = row_tested other u r (is_number i.known.of) refl
-      in_row other w r = lacking_fine t q
-
-      by : (b : Bool) → is_basic t ≡ b → Holds Spotted (if b then desig.lacking e t q else desig.element_in_row e q a i t (env.row_of e (Some t)))
-      by true low = lacking_fine t q
-      by false other = in_row other (env.row_of e (Some t)) refl
-
-  element_typed_of : (of : Option TypeId) (c : Class) (held : Held) (at : Pos) → Spotted (record { known = record { of = of; class = c }; held = held; at = at }) → (q : Pos) (i : Answer) → Part i →
-      Holds Spotted (desig.element e q (record { known = record { of = of; class = c }; held = held; at = at }) i)
-  element_typed_of None c held at x q i y = λ none. unknown_fine (record { known = record { of = None; class = c }; held = held; at = at }) x refl at
-  element_typed_of (Some t) c held at x q i y = element_in t c held at x q i y
-
-  pub element_part : (a : Spot) → Spotted a → (q : Pos) (i : Answer) → Part i → Holds Spotted (desig.element e q a i)
-  element_part a x q i y = element_typed_of a.known.of a.known.class a.held a.at x q i y
-
-  followed_of : (of : Option TypeId) (c : Class) (held : Held) (at : Pos) → Spotted (record { known = record { of = of; class = c }; held = held; at = at }) → (q : Pos) →
-      Holds Spotted (desig.followed e (record { known = record { of = of; class = c }; held = held; at = at }) q)
-  followed_of None c held at x q = λ none. unknown_fine (record { known = record { of = None; class = c }; held = held; at = at }) x refl at
-  followed_of (Some t) c held at x q = lacking_fine t q
-
-  pub followed_part : (a : Spot) → Spotted a → (q : Pos) → Holds Spotted (desig.followed e a q)
-  followed_part a x q = followed_of a.known.of a.known.class a.held a.at x q
-
   -- What is read.
 
   abbrev IsScalarOrWhole : TypeId → Expr → Type 0
-  IsScalarOrWhole t x = IsScalar p t x ⊎ (IsWholeRead p t x ⊎ (t ≡ text))
+  IsScalarOrWhole t x = IsScalar p t x ⊎ (IsWholeRead p t x ⊎ IsOther p t x)
 
   -- a variable that isn't of a basic type is a whole one, or an open array
   pub held_place : IsWhole p e → (place : Place) (t : TypeId) → is_basic t ≡ false → IsTyped p e place (Some t) → IsClosedPlace p t place ⊎ IsOpenPlace p t place
   held_place whole place t other (closed typed known) = inl (typed, id_as e.types t known, shut)
     where
       isnt : (b : Bool) → desig.is_opened e t ≡ b → b ≡ false
-      isnt true is = absurd (told_closed e t known is)
+      isnt true is = absurd (told_closed e whole.opens t known is)
       isnt false is = refl
 
       shut : is_open (row_of p.program.types t) ≡ false
@@ -645,7 +275,7 @@ module _ (p : Inside) (e : Env) where
   place_read whole place t h = by (is_basic t) refl
     where
       by : (b : Bool) → is_basic t ≡ b → IsScalarOrWhole t (Read (type_as t) place)
-      by true low = inl (low, (low_typed place t low h, as_basic t low, includes_itself (type_as t)))
+      by true low = inl (low, (low_typed place t low h, ap (λ b. b || is_reference_type p.program.types (type_as t)) (as_basic t low), inl (includes_itself (type_as t) (as_basic t low))))
       by false other = inr (inl (other, place, refl, held_place whole place t other h))
 
   stands_sound : IsWhole p e → (place : Place) (of : Option TypeId) → IsTyped p e place of → (t : TypeId) × (of ≡ Some t) × IsScalarOrWhole t (Read (type_of of) place)
@@ -653,9 +283,393 @@ module _ (p : Inside) (e : Env) where
   stands_sound whole place None (opened t r same at opening rows lengths) = absurd (none-some t same)
   stands_sound whole place (Some t) h = (t, refl, place_read whole place t h)
 
-  read_sound : IsWhole p e → (k : Known) (x : Held) → IsSoundHeld p e k x → IsSound p (record { known = k; typed = read_from k.of x })
+  pub read_sound : IsWhole p e → (k : Known) (x : Held) → IsSoundHeld p e k x → IsSound p (record { known = k; typed = read_from k.of x })
   read_sound whole k (Stands place) h = let r = stands_sound whole place k.of h in record { of = r.0; known = r.1; typed = r.2 }
   read_sound whole k (Value x) h = plain_sound p (record { known = k; typed = x }) h
+
+  -- a part whose type isn't known is none where all types are
+  pub no_type : (k : Known) (h : Held) → k.of ≡ None → IsSoundHeld p e k h → ⊥
+  no_type k (Stands place) is s = by k.of is s
+    where
+      by : (of : Option TypeId) → of ≡ None → IsTyped p e place of → ⊥
+      by None is (closed typed known) = known
+      by None is (opened t r same at opening rows lengths) = none-some t same
+      by (Some t) is s = none-some t (sym is)
+  no_type k (Value x) is s = none-some s.of (sym is ∙ s.known)
+
+  unknown_fine : (a : Spot) → Spotted a → a.known.of ≡ None → (at : Pos) → Spotted (desig.unknown_part at a)
+  unknown_fine a x is at = record {
+    class = class_as (IsKnownClass IsGood) a.known.class None x.class;
+    valued = class_as (λ c. not (is_lost c) ≡ true) a.known.class None x.valued;
+    stored = class_as (IsStoredHeld a.held) a.known.class None x.stored;
+    sound = λ whole. absurd (no_type a.known a.held is (x.sound whole));
+  }
+
+  -- Guards.
+
+  guarded_class : (c : Class) → IsKnownClass IsGood c → value_class c ≡ Computed
+  guarded_class Unknown known = absurd known
+  guarded_class c known = refl
+
+  -- of what is tested
+  abbrev MayTest : Spot → TypeId → Type 0
+  MayTest a t = desig.may_test e (desig.is_passed (desig.place_of a.held)) a.known.of (Some t) ≡ true
+
+  guarded_by : (a : Spot) → Spotted a → (of t : TypeId) → a.known.of ≡ Some of → (IsWhole p e → MayTest a t) → (b : Bool) → desig.is_record_type e of ≡ b →
+      Spotted (if b then desig.guarded_record t a else desig.guarded_object e t a)
+  guarded_by a x of t known may true of_record = record_guard a.known.class a.held refl refl x.class x.valued x.stored
+    where
+      test : IsWhole p e → (desig.has_dynamic_type e (desig.is_passed (desig.place_of a.held)) of ≡ true) × (desig.is_extension e of t ≡ true)
+      test whole = and_parts _ _ (sym (ap (λ o. desig.may_test e (desig.is_passed (desig.place_of a.held)) o (Some t)) known) ∙ may whole)
+
+      record_guard : (c : Class) (h : Held) → a.known.class ≡ c → a.held ≡ h → IsKnownClass IsGood a.known.class → not (is_lost a.known.class) ≡ true → IsStoredHeld a.held a.known.class →
+          Spotted (desig.guarded_record t a)
+      record_guard c (Stands place) ic ih class valued st =
+          rw ih (stored a.known.class (Some t) (Guarded place (object_number t)) a.at (subst (λ h. IsStoredHeld h a.known.class) ih st) (λ whole. typed whole))
+        where
+          typed : IsWhole p e → IsTyped p e (Guarded place (object_number t)) (Some t)
+          typed whole =
+              let two = test whole in
+              let sound : IsTyped p e place a.known.of = subst (λ h. IsSoundHeld p e a.known h) ih (x.sound whole) in
+              guard_record p e whole of t place (subst (IsTyped p e place) known sound)
+              (passed_record (desig.is_passed place) (ap (λ h. desig.is_passed (desig.place_of h)) (sym ih)) two.0) of_record two.1
+            where
+              no_reference : desig.is_reference e of ≡ false
+              no_reference = record_no_reference p e whole of of_record
+
+              passed_record : (b : Bool) → b ≡ desig.is_passed (desig.place_of a.held) → desig.has_dynamic_type e (desig.is_passed (desig.place_of a.held)) of ≡ true → desig.is_passed place ≡ true
+              passed_record b same has = ap (λ h. desig.is_passed (desig.place_of h)) (sym ih) ∙ last (desig.is_passed (desig.place_of a.held)) (sym (ap (λ r. r || (desig.is_record_type e of && desig.is_passed (desig.place_of a.held))) no_reference) ∙ has)
+                where
+                  last : (b : Bool) → (desig.is_record_type e of && b) ≡ true → b ≡ true
+                  last b is = (and_parts (desig.is_record_type e of) b is).1
+      record_guard c (Value y) ic ih class valued st = rw ih (record {
+        class = class_as (IsKnownClass IsGood) a.known.class (Some t) class;
+        valued = class_as (λ c. not (is_lost c) ≡ true) a.known.class (Some t) valued;
+        stored = class_as (IsStoredHeld (Value y)) a.known.class (Some t) (subst (λ h. IsStoredHeld h a.known.class) ih st);
+        sound = λ whole. absurd (no_value whole);
+      })
+        where
+          no_value : IsWhole p e → ⊥
+          no_value whole =
+              let two = test whole in
+              not_both (sym (sym (ap (λ h. desig.has_dynamic_type e (desig.is_passed (desig.place_of h)) of) ih) ∙ two.0) ∙ none)
+            where
+              and_none : (b : Bool) → (b && false) ≡ false
+              and_none true = refl
+              and_none false = refl
+
+              none : desig.has_dynamic_type e false of ≡ false
+              none = rw (record_no_reference p e whole of of_record) (and_none (desig.is_record_type e of))
+  guarded_by a x of t known may false other =
+      subst (λ c. Spotted (record { known = known_as c (Some t); held = Value (Guard (read_from a.known.of a.held) (desig.made_number e t)); at = a.at }))
+      (sym (guarded_class a.known.class x.class))
+      (record {
+        class = tt;
+        valued = refl;
+        stored = λ w. w;
+        sound = λ whole.
+            let two = and_parts _ _ (sym (ap (λ o. desig.may_test e (desig.is_passed (desig.place_of a.held)) o (Some t)) known) ∙ may whole) in
+            let sound = read_sound whole a.known a.held (x.sound whole) in
+            let same : of ≡ sound.of = same_Some of sound.of (sym known ∙ sound.known) in
+            let ref : desig.is_reference e of ≡ true = first (desig.is_reference e of) (sym (ap (λ r. desig.is_reference e of || (r && desig.is_passed (desig.place_of a.held))) other) ∙ two.0) in
+            let object = subst (λ v. IsObject p v (read_from a.known.of a.held)) (sym same)
+            (sound_object p e whole (record { known = a.known; typed = read_from a.known.of a.held }) sound (ap (desig.is_reference e) (sym same) ∙ ref)) in
+            record { of = t; known = refl; typed = inr (inr (guard_object p e whole of t (read_from a.known.of a.held) object ref two.1)) };
+      })
+    where
+      first : (b : Bool) → (b || false) ≡ true → b ≡ true
+      first true is = refl
+      first false is = is
+
+  -- a spot, by its parts
+  abbrev spot : Option TypeId → Class → Held → Pos → Spot
+  spot of c h at = record { known = record { of = of; class = c }; held = h; at = at }
+
+  guarded_of : (of : Option TypeId) (c : Class) (h : Held) (at : Pos) → Spotted (spot of c h at) → (t : TypeId) → (IsWhole p e → MayTest (spot of c h at) t) →
+      Spotted (desig.guarded_spot e t (spot of c h at))
+  guarded_of None c h at x t may = unknown_fine (spot None c h at) x refl at
+  guarded_of (Some of) c h at x t may = guarded_by (spot (Some of) c h at) x of t refl may (desig.is_record_type e of) refl
+
+  guarded_fine : (a : Spot) → Spotted a → (t : TypeId) → (IsWhole p e → MayTest a t) → Spotted (desig.guarded_spot e t a)
+  guarded_fine a x t may = guarded_of a.known.of a.known.class a.held a.at x t may
+
+  pub guard_part : (at : Pos) (a : Spot) → Spotted a → (t : TypeId) → Holds Spotted (desig.guard e at a (Some t))
+  guard_part at a x t = by (desig.may_test e (desig.is_passed (desig.place_of a.held)) a.known.of (Some t)) refl
+    where
+      by : (b : Bool) → desig.may_test e (desig.is_passed (desig.place_of a.held)) a.known.of (Some t) ≡ b →
+          Holds Spotted (if b then kept (desig.guarded_spot e t a) else desig.spotted a.at (desig.refused 41 at))
+      by true is = λ none. guarded_fine a x t (λ whole. is)
+      by false is = spotted a.at (desig.refused 41 at) (refused_part 41 at)
+
+  bracketed_of : (of : Option TypeId) (c : Class) (h : Held) (own : Pos) → Spotted (spot of c h own) → (first at : Pos) (t : Option (Option TypeId)) →
+      Holds Spotted (desig.guarded e first at (spot of c h own) t)
+  bracketed_of None c h own x first at t = λ none. unknown_fine (spot None c h own) x refl own
+  bracketed_of (Some of) c h own x first at None = spotted own (desig.refused 36 first) (refused_part 36 first)
+  bracketed_of (Some of) c h own x first at (Some None) = spotted own (desig.refused 99 at) (refused_part 99 at)
+  bracketed_of (Some of) c h own x first at (Some (Some t)) = guard_part at (spot (Some of) c h own) x t
+
+  pub guarded_part : (first at : Pos) (a : Spot) → Spotted a → (t : Option (Option TypeId)) → Holds Spotted (desig.guarded e first at a t)
+  guarded_part first at a x t = bracketed_of a.known.of a.known.class a.held a.at x first at t
+
+  -- Names.
+
+  narrowed_fine : (x : Symbol) (k : ℕ) (vs : List Narrowed) (a : Spot) → Spotted a → (IsWhole p e → NarrowsWell e x k a vs) → Spotted (fold (desig.narrowed_by e x k) a vs)
+  narrowed_fine x k [] a s well = s
+  narrowed_fine x k (v ∷ vs) a s well = narrowed_fine x k vs (desig.narrowed_by e x k a v) (one (desig.is_narrowed x k v) refl) (λ whole. (well whole).1)
+    where
+      one : (b : Bool) → desig.is_narrowed x k v ≡ b → Spotted (if b then desig.guarded_spot e v.of a else a)
+      one true is = guarded_fine a s v.of (λ whole. (well whole).0 is)
+      one false is = s
+
+  otherwise_spot : (m : Meaning) (h : Head) → Holds Spotted (desig.meant_otherwise m h)
+  otherwise_spot (means.Type of) h = spotted h.at (desig.refused 16 h.at) (refused_part 16 h.at)
+  otherwise_spot (means.Module m) h = spotted h.at (desig.refused 16 h.at) (refused_part 16 h.at)
+  otherwise_spot means.Out h = spotted h.at (desig.refused 16 h.at) (refused_part 16 h.at)
+  otherwise_spot (means.Truth b) h = spotted h.at (kept (constant_answer (literal.Bool b))) (λ none. constant_part p (IsWhole p e) (literal.Bool b) tt)
+  otherwise_spot (means.Function f) h = spotted h.at (desig.refused_value 36 h.first) (refused_value_part 36 h.first)
+  otherwise_spot (means.Routine r) h = spotted h.at (desig.refused_value 36 h.first) (refused_value_part 36 h.first)
+  otherwise_spot means.Proper h = spotted h.at (desig.refused_value 36 h.first) (refused_value_part 36 h.first)
+  otherwise_spot (means.Procedure k) h = spotted h.at (desig.refused_value 99 h.first) (refused_value_part 99 h.first)
+  otherwise_spot (means.Variable k) h = spotted h.at (desig.refused_value 99 h.first) (refused_value_part 99 h.first)
+  otherwise_spot (means.Constant k) h = spotted h.at (desig.refused_value 99 h.first) (refused_value_part 99 h.first)
+  otherwise_spot means.Other h = spotted h.at (desig.refused_value 99 h.first) (refused_value_part 99 h.first)
+
+  meant_spot : GoodConstants e → (x : Symbol) → (IsWhole p e → IsVariable x) → (m : Meaning) → x.means ≡ m → (h : Head) → Holds Spotted (desig.meant e x m h)
+  meant_spot good x sound (means.Variable k) is h = by (desig.is_reached e x) refl
+    where
+      by : (b : Bool) → desig.is_reached e x ≡ b → Holds Spotted (if b then kept (desig.narrowed e x k (desig.variable e x k h.at)) else desig.spotted h.at (desig.refused 99 h.at))
+      by true own = λ none. narrowed_fine x k e.narrowed (desig.variable e x k h.at) (stored (desig.access (x.at.home == e.number) x.mark) (env.variable_type e x.at k) (desig.place_of_variable e x k) h.at (access_stored (x.at.home == e.number) x.mark) (λ whole. sound whole k is own)) (λ whole. whole.narrows x k h.at)
+      by false own = spotted h.at (desig.refused 99 h.at) (refused_part 99 h.at)
+  meant_spot good x sound (means.Constant k) is h = spotted h.at (desig.constant_of (env.constant e x.at k h.first) h.at) (constant_there good x.at k h.first h.at)
+  meant_spot good x sound m is h = otherwise_spot m h
+
+  found_spot : GoodConstants e → (l : Lookup) → MayFind l → (h : Head) → Holds Spotted (desig.found e l h)
+  found_spot good NoName may h = spotted h.at (desig.refused 14 h.at) (refused_part 14 h.at)
+  found_spot good NotExported may h = spotted h.at (desig.refused 15 h.at) (refused_part 15 h.at)
+  found_spot good (Found x) may h = meant_spot good x (λ whole. may whole x refl) x.means refl h
+
+  pub named_spot : GoodConstants e → (h : Head) → MayFind h.found → Holds Spotted (desig.named e h)
+  named_spot good h may = found_spot good h.found may h
+
+  -- Parts of variables.
+
+  -- what is told of the places of a part, and that a value has none
+  abbrev IsPartOf : Option TypeId → Option TypeId → (Place → Place) → Type 0
+  IsPartOf whole of part = (place : Place) → IsTyped p e place whole → IsTyped p e (part place) of
+
+  class_typed : (may : Bool) (c : Class) (of : Option TypeId) (place : Place) → IsStored c → IsTyped p e place of → IsTyped p e place (known_as (desig.part_class may c) of).of
+  class_typed true Variable of place s h = h
+  class_typed false Variable of place s h = h
+  class_typed may ReadOnly of place s h = h
+  class_typed may (Constant v) of place s h = absurd s
+  class_typed may Unknown of place s h = absurd s
+  class_typed may Computed of place s h = absurd s
+
+  -- a type that has parts is none of a value's
+  abbrev HasParts : TypeId → Type 0
+  HasParts t = (is_basic t ≡ false) × (IsWhole p e → (r : TypeRow) × (row_of e.types t ≡ Some r) × IsPartsRow r)
+
+  held_part : IsWhole p e → (k : Known) (h : Held) (may : Bool) (of : Option TypeId) (part : Place → Place) (t : TypeId) → k.of ≡ Some t → HasParts t →
+      IsPartOf k.of of part → IsStoredHeld h k.class → IsSoundHeld p e k h → IsSoundHeld p e (known_as (desig.part_class may k.class) of) (desig.part_held part h)
+  held_part whole k (Stands place) may of part t is other typed stored s = class_typed may k.class of (part place) stored (typed place s)
+  held_part whole k (Value x) may of part t is other typed stored s = absurd (by s.typed)
+    where
+      same : t ≡ s.of
+      same = same_Some t s.of (sym is ∙ s.known)
+
+      none : (t ≡ text → ⊥) × (is_reference_type p.program.types (type_as t) ≡ false)
+      none = let r = other.1 whole in parts_no_reference p e whole t r.0 r.1 r.2
+
+      by : IsScalar p s.of x ⊎ IsOther p s.of x → ⊥
+      by (inl scalar) = not_both (sym scalar.0 ∙ ap is_basic (sym same) ∙ other.0)
+      by (inr (inl is_text)) = none.0 (same ∙ is_text)
+      by (inr (inr o)) = not_both (sym o.1 ∙ ap (λ t. is_reference_type p.program.types (type_as t)) (sym same) ∙ none.1)
+
+  part_fine : (may : Bool) (of : Option TypeId) (part : Place → Place) (at : Pos) (a : Spot) → Spotted a → (t : TypeId) → a.known.of ≡ Some t → HasParts t →
+      (IsWhole p e → IsPartOf a.known.of of part) → Spotted (desig.part_spot may of part at a)
+  part_fine may of part at a x t is other typed = record {
+    class = class_as (IsKnownClass IsGood) (desig.part_class may a.known.class) of (part_known may a.known.class x.class);
+    valued = class_as (λ c. not (is_lost c) ≡ true) (desig.part_class may a.known.class) of (part_valued may a.known.class x.valued);
+    stored = class_as (IsStoredHeld (desig.part_held part a.held)) (desig.part_class may a.known.class) of (part_stored may a.known.class part a.held x.stored);
+    sound = λ whole. held_part whole a.known a.held may of part t is other (typed whole) x.stored (x.sound whole);
+  }
+
+  lacking_fine : (t : TypeId) (at : Pos) → Holds Spotted (desig.lacking e t at)
+  lacking_fine t at = spotted at (desig.refused (if desig.is_built e t then 42 else 99) at) (refused_part (if desig.is_built e t then 42 else 99) at)
+
+  -- What pointers lead to.
+
+  followed_variable : (c : Class) → IsKnownClass IsGood c → desig.followed_class c ≡ Variable
+  followed_variable Unknown known = absurd known
+  followed_variable c known = refl
+
+  followed_fine : (a : Spot) → Spotted a → (t u : TypeId) → a.known.of ≡ Some t → desig.pointed e t ≡ Some u → Spotted (desig.followed_spot e u a)
+  followed_fine a x t u known is =
+      subst (λ c. Spotted (record { known = known_as c (Some u); held = Stands (desig.followed_place e u (read_from a.known.of a.held)); at = a.at }))
+      (sym (followed_variable a.known.class x.class))
+      (stored Variable (Some u) (desig.followed_place e u (read_from a.known.of a.held)) a.at tt (λ whole.
+      let sound = read_sound whole a.known a.held (x.sound whole) in
+      let same : t ≡ sound.of = same_Some t sound.of (sym known ∙ sound.known) in
+      let ref = (pointed_kind p e whole t u is).0 in
+      followed_typed p e whole t u (read_from a.known.of a.held) is
+      (subst (λ v. IsObject p v (read_from a.known.of a.held)) (sym same)
+      (sound_object p e whole (record { known = a.known; typed = read_from a.known.of a.held }) sound (ap (desig.is_reference e) (sym same) ∙ ref)))))
+
+  through_of : (of : Option TypeId) (c : Class) (h : Held) (at : Pos) → Spotted (spot of c h at) → Spotted (desig.through e (spot of c h at))
+  through_of None c h at x = x
+  through_of (Some t) c h at x = by (desig.pointed e t) refl
+    where
+      by : (o : Option TypeId) → desig.pointed e t ≡ o → Spotted (desig.through e (spot (Some t) c h at))
+      by None is = rw is x
+      by (Some u) is = rw is (followed_fine (spot (Some t) c h at) x t u refl is)
+
+  through_fine : (a : Spot) → Spotted a → Spotted (desig.through e a)
+  through_fine a x = through_of a.known.of a.known.class a.held a.at x
+
+  -- a field of a record
+  field_typed : IsWhole p e → (t : TypeId) (n : Name) (f : Field) → env.field e t n ≡ Some f → is_record (row_of e.types t) ≡ true →
+      IsPartOf (Some t) f.of (λ place. FieldOf place (type_as t) f.number)
+  field_typed whole t n f is r place (closed typed known) =
+      let g = whole.fields t n f is r in
+      let u = g.0 in
+      let there : field_type p.program.types (id_of (type_as t)) f.number ≡ Some (id_of (type_as u)) =
+      ap (λ i. field_type p.program.types i f.number) (id_as e.types t known) ∙ ap (λ rows. field_type rows t f.number) whole.rows
+      ∙ g.2 ∙ ap (λ i. Some i) (sym (id_as e.types u g.3)) in
+      subst (λ o. IsTyped p e (FieldOf place (type_as t) f.number) o) (sym g.1) (closed (typed, there) g.3)
+  field_typed whole t n f is r place (opened u q same at opening rows lengths) =
+      absurd (no_open_record (row_of e.types t) r (ap (λ v. is_open (row_of e.types v)) (same_Some t u same) ∙ ap is_open (opened_row e u opening).2))
+    where
+      no_open_record : (o : Option TypeRow) → is_record o ≡ true → is_open o ≡ true → ⊥
+      no_open_record (Some (row.Record base fs)) i j = not_both (sym j)
+      no_open_record o i j = not_both (sym i)
+
+  record_parts : (t : TypeId) → is_record (row_of e.types t) ≡ true → (r : TypeRow) × (row_of e.types t ≡ Some r) × IsPartsRow r
+  record_parts t = by (row_of e.types t) refl
+    where
+      by : (o : Option TypeRow) → row_of e.types t ≡ o → is_record o ≡ true → (r : TypeRow) × (o ≡ Some r) × IsPartsRow r
+      by (Some (row.Record base fs)) is r = (row.Record base fs, refl, tt)
+      by o is r = absurd (not_both (sym r))
+
+  field_in : (t : TypeId) (a : Spot) → Spotted a → a.known.of ≡ Some t → (q : Pos) (n : Name) →
+      Holds Spotted (if desig.is_record_type e t then desig.field_found e a q n t (env.field e t n) else desig.lacking e t q)
+  field_in t a x known q n = by (desig.is_record_type e t) refl
+    where
+      seen : (f : Field) (b : Bool) → Spotted (desig.field_spot t f n.pos a) →
+          Holds Spotted (if b then kept (desig.field_spot t f n.pos a) else desig.spotted n.pos (desig.refused 15 n.pos))
+      seen f true s = λ none. s
+      seen f false s = spotted n.pos (desig.refused 15 n.pos) (refused_part 15 n.pos)
+
+      low : (b : Bool) → not b ≡ true → b ≡ false
+      low true h = absurd (not_both (sym h))
+      low false h = refl
+
+      there : desig.is_record_type e t ≡ true → (o : Option Field) → env.field e t n ≡ o → Holds Spotted (desig.field_found e a q n t o)
+      there of_record None is = lacking_fine t q
+      there of_record (Some f) is =
+          let two = and_parts (not (is_basic t)) _ of_record in
+          seen f (f.is_own || is_some f.mark)
+          (part_fine (desig.may_write f) f.of (λ place. FieldOf place (type_as t) f.number) n.pos a x t known (low (is_basic t) two.0, λ whole. record_parts t two.1)
+          (λ whole. subst (λ of. IsPartOf of f.of (λ place. FieldOf place (type_as t) f.number)) (sym known) (field_typed whole t n f is two.1)))
+
+      by : (b : Bool) → desig.is_record_type e t ≡ b → Holds Spotted (if b then desig.field_found e a q n t (env.field e t n) else desig.lacking e t q)
+      by true of_record = there of_record (env.field e t n) refl
+      by false other = lacking_fine t q
+
+  field_of : (of : Option TypeId) (c : Class) (h : Held) (at : Pos) → Spotted (spot of c h at) → (q : Pos) (n : Name) → Holds Spotted (desig.field_of e (spot of c h at) q n)
+  field_of None c h at x q n = λ none. unknown_fine (spot None c h at) x refl n.pos
+  field_of (Some t) c h at x q n = field_in t (spot (Some t) c h at) x refl q n
+
+  pub field_part : (a : Spot) → Spotted a → (q : Pos) (n : Name) → Holds Spotted (desig.field e a q n)
+  field_part a x q n = let b = desig.through e a in field_of b.known.of b.known.class b.held b.at (through_fine a x) q n
+
+  -- an element of an array
+  element_typed : IsWhole p e → (t u : TypeId) (m : ℕ) (i : Answer) → env.row_of e (Some t) ≡ Some (row.Array m u) → IsSound p i → is_number i.known.of ≡ true →
+      IsPartOf (Some t) (Some u) (λ place. Index place m (type_as u) i.typed)
+  element_typed whole t u m i r s k place (closed typed known) =
+      let told : IsTold e.types u = (whole.parts t.0 (row.Array m u) r).1 in
+      let there : row_of p.program.types (id_of (type_as t)) ≡ Some (row.Array m (id_of (type_as u))) =
+      ap (λ i. row_of p.program.types i) (id_as e.types t known) ∙ ap (λ rows. row_of rows t) whole.rows
+      ∙ r ∙ ap (λ v. Some (row.Array m v)) (sym (id_as e.types u told)) in
+      closed (type_as t, typed, there, sound_number p i s k, refl) told
+  element_typed whole t u m i r s k place (opened v q same at opening rows lengths) =
+      absurd (array_open m u (sym (ap (λ w. is_open w) (subst (λ v. env.row_of e (Some v) ≡ Some (row.Array m u)) (same_Some t v same) r)) ∙ (and_parts (not (is_basic v)) _ opening).1))
+
+  -- an element of an open array, which is an open array or has a type that is told
+  row_typed : IsWhole p e → (t u : TypeId) (i : Answer) → is_basic t ≡ false → env.row_of e (Some t) ≡ Some (row.Open u) → IsSound p i → is_number i.known.of ≡ true →
+      IsPartOf (Some t) (Some u) (λ place. Of (Row (desig.rows_of place) (type_as (open_element e.types t)) i.typed))
+  row_typed whole t u i low r s k place (closed typed known) = absurd (told_closed e whole.opens t known (row_opened e t u low r))
+  row_typed whole t u i low r s k place (opened v q same at opening rows lengths) =
+      subst (λ place. IsTyped p e (Of (Row (desig.rows_of place) E i.typed)) (Some u)) (sym at) (by (whole.opens.elements t u r))
+    where
+      E : TType
+      E = type_as (open_element e.types t)
+
+      deep : AreRows p q (suc (open_dimensions e.types u)) E
+      deep =
+          subst (λ n. AreRows p q n E) (next_dimensions e.types whole.opens.falls t u r)
+          (subst (λ v. AreRows p q (open_dimensions e.types v) (type_as (open_element e.types v))) (sym (same_Some t v same)) rows)
+
+      elements : type_as (open_element e.types u) ≡ E
+      elements = ap type_as (sym (next_element e.types whole.opens.falls t u r))
+
+      index : IsOf p i.typed (type.Integer W64)
+      index = sound_number p i s k
+
+      by : IsParameterType e u → IsTyped p e (Of (Row q E i.typed)) (Some u)
+      by (inl told) =
+          let none = told_element e whole.opens u told in
+          let is : type_as u ≡ E = ap type_as (sym (closed_element e.types u none)) ∙ elements in
+          closed (subst (λ T. AreRows p q 1 T) (sym is) (subst (λ n. AreRows p q (suc n) E) (closed_dimensions e.types u none) deep), index, is) told
+      by (inr more) = opened u (Row q E i.typed) refl refl more (subst (λ T. AreRows p q (suc (open_dimensions e.types u)) T) (sym elements) deep, index, elements) lengths
+
+  element_in : (t : TypeId) (c : Class) (held : Held) (at : Pos) → Spotted (record { known = record { of = Some t; class = c }; held = held; at = at }) → (q : Pos) (i : Answer) → Part i →
+      Holds Spotted (desig.element_of e q (record { known = record { of = Some t; class = c }; held = held; at = at }) i)
+  element_in t c held at x q i y = by (is_basic t) refl
+    where
+      a : Spot
+      a = record { known = record { of = Some t; class = c }; held = held; at = at }
+
+      tested : is_basic t ≡ false → (m : ℕ) (u : TypeId) → env.row_of e (Some t) ≡ Some (row.Array m u) → (b : Bool) → is_number i.known.of ≡ b →
+          Holds Spotted (if b then kept (desig.element_spot m u i a) else desig.spotted q (desig.refused 42 q))
+      tested other m u r true k =
+          λ none. part_fine true (Some u) (λ place. Index place m (type_as u) i.typed) at a x t refl (other, λ whole. (row.Array m u, r, tt)) (λ whole. element_typed whole t u m i r (y.sound whole) k)
+      tested other m u r false k = spotted q (desig.refused 42 q) (refused_part 42 q)
+
+      row_tested : is_basic t ≡ false → (u : TypeId) → env.row_of e (Some t) ≡ Some (row.Open u) → (b : Bool) → is_number i.known.of ≡ b →
+          Holds Spotted (if b then kept (desig.row_spot (open_element e.types t) u i a) else desig.spotted q (desig.refused 42 q))
+      row_tested other u r true k =
+          λ none. part_fine true (Some u) (λ place. Of (Row (desig.rows_of place) (type_as (open_element e.types t)) i.typed)) at a x t refl (other, λ whole. (row.Open u, r, tt))
+          (λ whole. row_typed whole t u i other r (y.sound whole) k)
+      row_tested other u r false k = spotted q (desig.refused 42 q) (refused_part 42 q)
+
+      in_row : is_basic t ≡ false → (r : Option TypeRow) → env.row_of e (Some t) ≡ r → Holds Spotted (desig.element_in_row e q a i t r)
+      in_row other (Some (row.Array m u)) r = tested other m u r (is_number i.known.of) refl
+      in_row other (Some (row.Open u)) r = row_tested other u r (is_number i.known.of) refl
+      in_row other w r = lacking_fine t q
+
+      by : (b : Bool) → is_basic t ≡ b → Holds Spotted (if b then desig.lacking e t q else desig.element_in_row e q a i t (env.row_of e (Some t)))
+      by true low = lacking_fine t q
+      by false other = in_row other (env.row_of e (Some t)) refl
+
+  element_typed_of : (of : Option TypeId) (c : Class) (held : Held) (at : Pos) → Spotted (record { known = record { of = of; class = c }; held = held; at = at }) → (q : Pos) (i : Answer) → Part i →
+      Holds Spotted (desig.element_of e q (record { known = record { of = of; class = c }; held = held; at = at }) i)
+  element_typed_of None c held at x q i y = λ none. unknown_fine (record { known = record { of = None; class = c }; held = held; at = at }) x refl at
+  element_typed_of (Some t) c held at x q i y = element_in t c held at x q i y
+
+  pub element_part : (a : Spot) → Spotted a → (q : Pos) (i : Answer) → Part i → Holds Spotted (desig.element e q a i)
+  element_part a x q i y =
+      let b = desig.through e a in element_typed_of b.known.of b.known.class b.held b.at (through_fine a x) q i y
+
+  followed_of : (of : Option TypeId) (c : Class) (h : Held) (at : Pos) → Spotted (spot of c h at) → (q : Pos) → Holds Spotted (desig.followed e (spot of c h at) q)
+  followed_of None c h at x q = λ none. unknown_fine (spot None c h at) x refl at
+  followed_of (Some t) c h at x q = by (desig.pointed e t) refl
+    where
+      by : (o : Option TypeId) → desig.pointed e t ≡ o → Holds Spotted (desig.followed_type e (spot (Some t) c h at) q t o)
+      by None is = lacking_fine t q
+      by (Some u) is = λ none. followed_fine (spot (Some t) c h at) x t u refl is
+
+  pub followed_part : (a : Spot) → Spotted a → (q : Pos) → Holds Spotted (desig.followed e a q)
+  followed_part a x q = followed_of a.known.of a.known.class a.held a.at x q
 
   is_read : (c : Class) (of : Option TypeId) (x : Held) → IsStoredHeld x c → IsStored c → (place : Place) × (read_from of x ≡ Read (type_of of) place)
   is_read c of (Stands place) stored s = (place, refl)

@@ -5,6 +5,7 @@ use Rattle.aos_base.specs.declared.number.Width.TheVariants.{W64}
 use Rattle.aos_tree.specs.declared.name.Name.{Name}
 use Rattle.aos_tree.specs.declared.expr.Expr.{Expr, Expr', Held-Expr-right, Expr-right-None', Expr-right-Some', out-Expr}
 use Rattle.aos_tree.specs.declared.expr.Relation.{Relation, Relation'}
+use Rattle.aos_tree.specs.declared.expr.RelationOp.{RelationOp}
 use Rattle.aos_tree.specs.declared.expr.Simple.{Simple, Simple', Row_of-Addition, end_of-Addition, more_of-Addition}
 use Rattle.aos_tree.specs.declared.expr.Addition.{Addition, Addition'}
 use Rattle.aos_tree.specs.declared.expr.Term.{Term, Term', Row_of-Product, end_of-Product, more_of-Product}
@@ -14,7 +15,9 @@ use Rattle.aos_tree.specs.declared.expr.Elem.{Elem, Elem', Elem-last-None', Elem
 use Rattle.aos_tree.specs.declared.expr.Desig.{Desig, Row_of-Selector, end_of-Selector, more_of-Selector}
 use Rattle.aos_tree.specs.declared.expr.Selector.{Selector, items-the_row-Expr}
 use Rattle.aos_tree.specs.declared.expr.Selector.TheVariants as s
+use Rattle.aos_typed.specs.declared.tree.Literal.TheVariants as literal
 use Rattle.aos_typed.specs.declared.tree.TType.TheVariants as type
+use Rattle.aos_typed.specs.Numbers.{predeclared_rows}
 use Rattle.aos_symbols.specs.declared.env.Env.{Env}
 use Rattle.aos_symbols.specs.Breaches.{breach_unless}
 use Rattle.aos_symbols.specs.Judged.{Judged, judged, kept, bind, walk}
@@ -25,13 +28,14 @@ use Rattle.aos_base.specs.Operators.{natural}
 use Rattle.aos_check_expr.proofs.Inside.{IsOf, AreRows}
 use Rattle.aos_check_expr.specs.declared.known.Class.{Class}
 use Rattle.aos_check_expr.specs.declared.known.Class.TheVariants.{Unknown, Constant, Variable, ReadOnly, Computed}
-use Rattle.aos_check_expr.specs.Known.{Answer, Spot, is_number, is_boolean, is_char, is_lost}
+use Rattle.aos_check_expr.specs.Known.{Answer, Spot, is_number, is_boolean, is_char, is_lost, constant_answer}
 use Rattle.aos_check_expr.specs.Operations as op
 use Rattle.aos_check_expr.specs.Designators as desig
 use Rattle.aos_check_expr.specs.Expressions as judge
 use Rattle.aos_check_expr.proofs.Good.{IsKnownClass, within_if, natural_below}
-use Rattle.aos_check_expr.proofs.Parts.{Elements, added_part, multiplied_part, related_part, signed_part, opposite_part, number_part, character_part, string_part, no_elements, with_element_part, with_span_part, whole_part}
-use Rattle.aos_check_expr.proofs.Spots.{MayFind, IsStoredHeld, Part, Spotted, guarded_part, plain_head, behind_head, spotted, named_spot, field_part, element_part, followed_part, read_part}
+use Rattle.aos_check_expr.proofs.Parts.{Elements, as_part, constant_part, added_part, multiplied_part, related_part, signed_part, opposite_part, number_part, character_part, string_part, no_elements, with_element_part, with_span_part, whole_part}
+use Rattle.aos_check_expr.proofs.Spots.{MayFind, IsStoredHeld, Part, Spotted, guarded_part, plain_head, behind_head, named_spot, field_part, element_part, followed_part, read_part}
+use Rattle.aos_check_expr.proofs.Tested.{objects_part, tested_part}
 use Rattle.aos_check_expr.proofs.CallParts.{Parts, called_part}
 use Rattle.aos_check_expr.proofs.Worded.{first_below, texts_part}
 pub use Rattle.aos_check_expr.proofs.Types.{wider}
@@ -88,12 +92,11 @@ module _ (p : Inside) (e : Env) (good : GoodConstants e) where
   bracketed_fine : (first : Pos) (a : judge.Part) → Parted a → (q : Pos) (js : List (Judged Answer)) → Parts p e js → (xs : List Expr) → length js ≡ length xs → IsFinePart (judge.bracketed e first a q js xs)
   bracketed_fine first (judge.Begun h) may q js parts xs many = by (desig.is_module h.found)
     where
-      by : (b : Bool) → IsFinePart (if b then judge.as_part (desig.named e h) else judge.as_part (desig.spotted h.first (judge.called e h q js xs)))
+      by : (b : Bool) → IsFinePart (if b then judge.as_part (desig.named e h) else judge.as_part (judge.called e h q js xs))
       by true = part_of (desig.named e h) (named_spot p e good h may)
-      by false = part_of (desig.spotted h.first (judge.called e h q js xs)) (spotted p e h.first (judge.called e h q js xs) (called_part p e h q js parts xs many))
+      by false = part_of (judge.called e h q js xs) (called_part p e good h may q js parts xs many)
   bracketed_fine first (judge.Meant a) x q js parts xs many =
-      let j = desig.guarded e a.known.of (judge.is_guard e xs) q first in
-      part_of (desig.spotted a.at j) (spotted p e a.at j (guarded_part p e a.known.of (judge.is_guard e xs) q first))
+      part_of (desig.guarded e first q a (judge.guard_type e xs)) (guarded_part p e first q a x (judge.guard_type e xs))
 
   -- there are as many arguments as expressions
   as_many : {m : _} (r : Row_of-Expr m) → length (judge.arguments e r) ≡ length (items-the_row-Expr _ r)
@@ -102,6 +105,13 @@ module _ (p : Inside) (e : Env) (good : GoodConstants e) where
 
   refused_answer : (rule : ℕ) (at : Pos) → IsFine (desig.refused rule at)
   refused_answer rule at = broken (Part p e) _ [] _
+
+  relation_by : (first at : Pos) (o : RelationOp) (a : Answer) → Part p e a → (right : Simple) → IsFine (judge.simple e right) → (b : Bool) → judge.is_test o ≡ b →
+      IsFine (if b then judge.tested e at a (judge.qualident_in right) else bind (judge.simple e right) (λ b. judge.related_by e first at o a b))
+  relation_by first at o a h right fine true is = tested_part p e at a h (judge.qualident_in right)
+  relation_by first at o a h right fine false isnt =
+      after (judge.simple e right) (λ b. judge.related_by e first at o a b) fine
+      (λ b k. related_part p (IsWhole p e) e first at o a b isnt (texts_part p e first o a b h k) (λ are. objects_part p e first at o a b h k) h k)
 
   mutual
     expr_fine : (x : Expr) → IsFine (judge.expr e x)
@@ -112,7 +122,7 @@ module _ (p : Inside) (e : Env) (good : GoodConstants e) where
     relation_of_fine first a h (Expr-right-Some' r) = relation_fine first a h r
 
     relation_fine : (first : Pos) (a : Answer) → Part p e a → (r : Relation) → IsFine (judge.relation e first a r)
-    relation_fine first a h (Relation' at o right) = after (judge.simple e right) (λ b. judge.related_by e first at o a b) (simple_fine right) (λ b k. related_part p (IsWhole p e) e first at o a b (texts_part p e first o a b h k) h k)
+    relation_fine first a h (Relation' at o right) = relation_by first at o a h right (simple_fine right) (judge.is_test o) refl
 
     simple_fine : (x : Simple) → IsFine (judge.simple e x)
     simple_fine (Simple' at sign first shape rest) =
@@ -147,7 +157,7 @@ module _ (p : Inside) (e : Env) (good : GoodConstants e) where
     factor_fine (f.Number q n) = number_part p (IsWhole p e) (if_within W64 n) (within_if W64 n) q
     factor_fine (f.Char q n) = character_part p (IsWhole p e) (natural 256 n) (natural_below 256 n) q
     factor_fine (f.Text t) = string_part p (IsWhole p e) (text_constant e t.start) (first_below e t.start) t.pos
-    factor_fine (f.Nil q) = refused_answer 99 q
+    factor_fine (f.Nil q) = as_part p (IsWhole p e) (kept (constant_answer literal.Nil)) (λ none. constant_part p (IsWhole p e) literal.Nil tt)
     factor_fine (f.Set' q shape row) =
         holds_bind (Elements p (IsWhole p e)) (Part p e) (judge.elements e q op.no_elements row) (λ a. judge.whole_set q a)
         (elements_fine q op.no_elements (no_elements p (IsWhole p e)) row) (λ a h. whole_part p (IsWhole p e) q a h)
@@ -257,7 +267,7 @@ text_argument p e whole x =
 
 -- a constant expression reads no variable, so that the program may be any
 no_program : Inside
-no_program = record { program = record { modules = []; types = []; objects = [] }; own = None }
+no_program = record { program = record { modules = []; types = predeclared_rows; objects = [] }; own = None; basic = λ k below. refl }
 
 pub constant_good : (e : Env) → GoodConstants e → (x : Expr) → Holds HasGood (judge.constant e x)
 constant_good e good x =

@@ -24,7 +24,7 @@ use Rattle.aos_typed.specs.declared.tree.TType.TheVariants as type
 use Rattle.aos_typed.specs.Numbers.{id_of}
 use Rattle.aos_typed.specs.declared.tree.TType.{TType}
 use Rattle.aos_typed.specs.Open.{open_dimensions, open_element}
-use Rattle.aos_typed.specs.Program.{Place, ModuleVar, Local, Passed, Field, Index, Of, Rows, Known as KnownRows, Longer, Expr, CompareTexts, Len, LenBehind}
+use Rattle.aos_typed.specs.Program.{Place, ModuleVar, Local, Passed, Field, Index, Of, Rows, Known as KnownRows, Longer, Expr, CompareTexts, Len, LenBehind, Deref, Typed, Guarded}
 use Rattle.aos_typed.specs.WellTyped.{HaveLengths, IsLength as IsArrayLength, dimension, IsConstantText}
 use Rattle.aos_symbols.specs.declared.env.Env.{Env}
 use Rattle.aos_symbols.specs.Home.{Home, character, between_quotes, string_number, string_in}
@@ -39,7 +39,7 @@ use Rattle.aos_check_expr.specs.declared.known.Class.{Class}
 use Rattle.aos_check_expr.specs.declared.known.Class.TheVariants.{Unknown, Constant, Computed}
 use Rattle.aos_check_expr.specs.declared.known.Known.{Known}
 use Rattle.aos_check_expr.specs.declared.operations.Joint.TheVariants as joint
-use Rattle.aos_check_expr.specs.Known.{Answer, is_basic, is_lost, type_as}
+use Rattle.aos_check_expr.specs.Known.{Answer, is_basic, is_lost, value_class, type_as}
 use Rattle.aos_check_expr.specs.Operations as op
 use Rattle.aos_check_expr.specs.Designators.{place_in, is_opened, rows_of}
 use Rattle.aos_check_expr.specs.Expressions as judge
@@ -47,8 +47,9 @@ use Rattle.aos_check_expr.proofs.Types.{same_type}
 use Rattle.aos_check_expr.proofs.Good.{IsGood, MayBe, IsKnownClass, natural_below, joint_good, class_of_known}
 use Rattle.aos_check_expr.proofs.Opens.{closed_row, closed_dimensions, closed_element, next_dimensions, next_element}
 use Rattle.aos_check_expr.proofs.Stored.{IsMade, made_of}
-use Rattle.aos_check_expr.proofs.Sound.{not_both, IsScalar, IsClosedPlace, IsOpenPlace, IsWholeRead, IsSound, plain_sound, answered_plain}
+use Rattle.aos_check_expr.proofs.Sound.{not_both, IsScalar, IsClosedPlace, IsOpenPlace, IsWholeRead, IsOther, IsObject, IsSound, plain_sound, answered_plain}
 use Rattle.aos_check_expr.proofs.Parts.{class_answered, related_texts}
+use Rattle.aos_check_expr.proofs.Objects.{IsPartsRow, parts_no_reference}
 use Rattle.aos_check_expr.proofs.Spots.{IsTyped, IsWhole, text_row, no_array, no_open, opened_row, held_place, Part, Valued}
 
 -- The first character of a string constant.
@@ -102,6 +103,17 @@ module _ (p : Inside) (e : Env) (whole : IsWhole p e) where
       by : IsArrayRow t has.0 (row_of e.types t) → ⊥
       by (inl n) = no_array n.0 has.0 (text_row p e whole t (row.Array n.0 has.0) is n.1)
       by (inr at) = no_open has.0 (text_row p e whole t (row.Open has.0) is at)
+
+  -- an array is no object
+  pub no_object : (t : TypeId) (x : Expr) → HasArray t → IsObject p t x → ⊥
+  no_object t x has o = by has.2
+    where
+      none : (r : TypeRow) → row_of e.types t ≡ Some r → IsPartsRow r → ⊥
+      none r there parts = not_both (sym o.1 ∙ (parts_no_reference p e whole t r there parts).1)
+
+      by : IsArrayRow t has.0 (row_of e.types t) → ⊥
+      by (inl n) = none (row.Array n.0 has.0) n.1 tt
+      by (inr at) = none (row.Open has.0) at tt
 
   -- Arrays of characters.
 
@@ -198,10 +210,11 @@ module _ (p : Inside) (e : Env) (whole : IsWhole p e) where
       by (inr o) opening = subst (λ place. HaveLengths (rows_of place)) (sym o.1) o.4
 
   -- of what is sound
-  pub lengths_read : (n : ℕ) (t : TypeId) (x : Expr) → IsScalar p t x ⊎ (IsWholeRead p t x ⊎ (t ≡ text)) → HaveLengths (judge.array_rows e n (Some t) (place_in x))
+  pub lengths_read : (n : ℕ) (t : TypeId) (x : Expr) → IsScalar p t x ⊎ (IsWholeRead p t x ⊎ IsOther p t x) → HaveLengths (judge.array_rows e n (Some t) (place_in x))
   lengths_read n t x (inl s) = lengths_by n t (place_in x) (λ opening. absurd (not_both (sym s.0 ∙ (opened_row e t opening).1)))
   lengths_read n t x (inr (inl w)) = subst (λ y. HaveLengths (judge.array_rows e n (Some t) (place_in y))) (sym w.2) (lengths_held n t w.1 w.3)
-  lengths_read n t x (inr (inr q)) = lengths_by n t (place_in x) (λ opening. let u = opened_row e t opening in absurd (no_open u.0 (text_row p e whole t (row.Open u.0) q u.2)))
+  lengths_read n t x (inr (inr (inr o))) = lengths_by n t (place_in x) (λ opening. let u = opened_row e t opening in absurd (no_object t x (u.0, u.1, inr u.2) o))
+  lengths_read n t x (inr (inr (inl q))) = lengths_by n t (place_in x) (λ opening. let u = opened_row e t opening in absurd (no_open u.0 (text_row p e whole t (row.Open u.0) q u.2)))
 
   -- an array of characters that is a variable has the length of its first dimension
   pub room_kept : (n : ℕ) (place : Place) (k : Known) → IsTyped p e place k.of → judge.is_characters e k ≡ true → HaveLengths (judge.array_rows e n k.of place)
@@ -287,12 +300,13 @@ module _ (p : Inside) (e : Env) (whole : IsWhole p e) where
       Is : Type 0
       Is = judge.is_characters e (record { of = Some sound.of; class = a.known.class }) ≡ true
 
-      by : IsScalar p sound.of a.typed ⊎ (IsWholeRead p sound.of a.typed ⊎ (sound.of ≡ text)) → Is → Array
+      by : IsScalar p sound.of a.typed ⊎ (IsWholeRead p sound.of a.typed ⊎ IsOther p sound.of a.typed) → Is → Array
       by (inl s) is = absurd (not_both (sym s.0 ∙ (characters_row sound.of a.known.class is).0.1))
       by (inr (inl w)) is =
           subst (λ x. AreRows p (judge.array_rows e 1 (Some sound.of) (place_in x)) 1 type.Char) (sym w.2)
           (rows_read sound.of a.known.class w.1 w.3 is)
-      by (inr (inr t)) is = absurd (no_text sound.of t (characters_row sound.of a.known.class is).0)
+      by (inr (inr (inl t))) is = absurd (no_text sound.of t (characters_row sound.of a.known.class is).0)
+      by (inr (inr (inr o))) is = absurd (no_object sound.of a.typed (characters_row sound.of a.known.class is).0 o)
 
   pub text_rows_are : (a : Answer) → IsSound p a → judge.may_be_text e a.known ≡ true → AreRows p (judge.text_rows e a) 1 type.Char
   text_rows_are a sound may = by (judge.string_in e a.known.class) refl
@@ -336,6 +350,9 @@ module _ (p : Inside) (e : Env) (whole : IsWhole p e) where
       by (Passed k) typed = known (Passed k) typed
       by (Field q u k) typed = known (Field q u k) typed
       by (Index q n u i) typed = known (Index q n u i) typed
+      by (Deref x u) typed = known (Deref x u) typed
+      by (Typed q k) typed = known (Typed q k) typed
+      by (Guarded q k) typed = known (Guarded q k) typed
   rows_held t place (inr o) =
       subst (λ place. HasRows t (rows_of place)) (sym o.1) (
         open_dimensions e.types t,
@@ -363,12 +380,13 @@ module _ (p : Inside) (e : Env) (whole : IsWhole p e) where
       of_rows r h true is = let within = h.3 d (ltb-true d (open_dimensions e.types t) is) in (h.0, h.1, h.2, within.1, within.0, refl)
       of_rows r h false is = behind r h (judge.length_behind e t d) refl there is
 
-      by : IsScalar p t a.typed ⊎ (IsWholeRead p t a.typed ⊎ (t ≡ text)) → IsOf p (judge.len_typed e (Some t) (rows_of (place_in a.typed)) d) (type.Integer W32)
+      by : IsScalar p t a.typed ⊎ (IsWholeRead p t a.typed ⊎ IsOther p t a.typed) → IsOf p (judge.len_typed e (Some t) (rows_of (place_in a.typed)) d) (type.Integer W32)
       by (inl s) = absurd (not_both (sym s.0 ∙ (array_row t array).1))
       by (inr (inl w)) =
           of_rows (rows_of (place_in a.typed)) (subst (λ x. HasRows t (rows_of (place_in x))) (sym w.2) (rows_held t w.1 w.3))
           (nat_lt d (open_dimensions e.types t)) refl
-      by (inr (inr q)) = absurd (no_text t q (array_row t array))
+      by (inr (inr (inl q))) = absurd (no_text t q (array_row t array))
+      by (inr (inr (inr o))) = absurd (no_object t a.typed (array_row t array) o)
 
 module _ (p : Inside) (e : Env) where
   -- Texts compared.
@@ -424,7 +442,7 @@ module _ (p : Inside) (e : Env) where
 
   -- LEN.
 
-  len_computed : (c : Class) → IsKnownClass IsGood c → judge.len_class c ≡ Computed
+  len_computed : (c : Class) → IsKnownClass IsGood c → value_class c ≡ Computed
   len_computed Unknown known = absurd known
   len_computed c known = refl
 

@@ -1,9 +1,9 @@
 -- The arguments of a call: one for each parameter of the procedure (Oberon-2 report, 10.1 and appendix A).
-use Rattle.std.specs.Prelude.{ℕ, zero, suc, List, [], ◌∷◌, ◌++◌, length, Bool, true, false, not, ◌&&◌, ◌||◌, ◌==◌, nat_lt, Option, Some, None, is_some, option_and_then, if◌then◌else◌}
+use Rattle.std.specs.Prelude.{ℕ, zero, suc, List, [], ◌∷◌, ◌++◌, length, Bool, true, false, ◌&&◌, ◌||◌, ◌==◌, nat_lt, Option, Some, None, is_some, option_and_then, if◌then◌else◌}
 use Rattle.std.specs.Option.{is_none}
 use Rattle.aos_base.specs.declared.text.Pos.{Pos}
 use Rattle.aos_tree.specs.declared.expr.Expr.{Expr, out-Expr}
-use Rattle.aos_tree.specs.declared.expr.Simple.{out-Simple}
+use Rattle.aos_tree.specs.declared.expr.Simple.{Simple, out-Simple}
 use Rattle.aos_tree.specs.declared.expr.Term.{out-Term}
 use Rattle.aos_tree.specs.declared.expr.Factor.{Factor}
 use Rattle.aos_tree.specs.declared.expr.Factor.TheVariants as f
@@ -13,6 +13,7 @@ use Rattle.aos_types.specs.declared.row.TypeRow.{TypeRow}
 use Rattle.aos_types.specs.declared.row.TypeRow.TheVariants as row
 use Rattle.aos_types.specs.declared.TheConstants.{MOST_SCALARS}
 use Rattle.aos_types.specs.Table.{row_of}
+use Rattle.aos_types.specs.Extension.{extends}
 use Rattle.aos_typed.specs.declared.tree.TextConstant.{TextConstant}
 use Rattle.aos_typed.specs.Open.{open_dimensions, open_element}
 use Rattle.aos_typed.specs.Program.{Place, Rows, Arguments, NoMore, Scalar as ScalarFor, Whole as WholeFor, Opening as OpeningFor}
@@ -26,24 +27,29 @@ use Rattle.aos_symbols.specs.Env as env
 use Rattle.aos_check_expr.specs.declared.known.Class.{Class}
 use Rattle.aos_check_expr.specs.declared.known.Class.TheVariants.{Unknown, Constant, Variable, ReadOnly, Computed}
 use Rattle.aos_check_expr.specs.declared.known.Known.{Known}
-use Rattle.aos_check_expr.specs.Known.{Answer, is_basic, is, passes, fits}
-use Rattle.aos_check_expr.specs.Designators.{has_parts, is_opened, place_in}
+use Rattle.aos_check_expr.specs.Known.{Answer, is, passes}
+use Rattle.aos_check_expr.specs.Designators.{has_parts, is_opened, is_record_type, is_value, is_compatible, with_type, place_in}
 use Rattle.aos_check_expr.specs.Arrays.{is_array, is_characters, string_in, text_for, has_room, rows_in}
 
 -- An expression that is a designator.
 
--- an expression is its first factor
-abbrev pub is_factor : Expr → Bool
-is_factor x =
-    let a = out-Simple (out-Expr x).left in
-    (is_none (out-Expr x).right && is_none a.sign) && (is_nothing a.rest && is_nothing (out-Term a.first).rest)
+-- a sum is its first factor, and so is an expression
+abbrev pub is_factor_of : Simple → Bool
+is_factor_of x =
+    let a = out-Simple x in is_none a.sign && (is_nothing a.rest && is_nothing (out-Term a.first).rest)
   where
     is_nothing : {A : Type 0} → List A → Bool
     is_nothing [] = true
     is_nothing (x ∷ xs) = false
 
+abbrev pub first_factor_of : Simple → Factor
+first_factor_of x = (out-Term (out-Simple x).first).first
+
+abbrev pub is_factor : Expr → Bool
+is_factor x = is_none (out-Expr x).right && is_factor_of (out-Expr x).left
+
 abbrev pub first_factor : Expr → Factor
-first_factor x = (out-Term (out-Simple (out-Expr x).left).first).first
+first_factor x = first_factor_of (out-Expr x).left
 
 abbrev pub desig_in : Factor → Option Desig
 desig_in (f.Desig' n shape row) = Some (record { name = n; selectors = items-the_row-Selector _ row })
@@ -123,12 +129,12 @@ value_rule e t k = by (text_for e (variable_of t) k.class)
   where
     by : Option TextConstant → Option ℕ
     by (Some s) = Some (if has_room e (Some t) s then 99 else 35)
-    by None = or_else (broken_unless 35 (fits k.of (Some t))) (broken_unless 99 (is_basic t || has_parts e t))
+    by None = or_else (broken_unless 35 (is_compatible e k.of (Some t))) (broken_unless 99 (is_value e t || has_parts e t))
 
-abbrev pub is_same : TypeId → Option TypeId → Bool
-is_same t of = passes (is t) of
+-- by reference the types are the same, or are records of which the argument's extends the parameter's
+abbrev pub is_referable : Env → TypeId → Option TypeId → Bool
+is_referable e t of = passes (λ u. is t u || (is_record_type e t && extends e.types u t)) of
 
--- by reference the types are the same
 abbrev pub type_rule : Env → Parameter → Known → Option ℕ
 type_rule e p k = by p.of
   where
@@ -136,7 +142,7 @@ type_rule e p k = by p.of
     by None = None
     by (Some t) =
         if is_opened e t then open_rule e t k
-        else if p.by_reference then broken_unless 35 (is_same t k.of)
+        else if p.by_reference then broken_unless 35 (is_referable e t k.of)
         else value_rule e t k
 
 abbrev pub reference_rule : Parameter → (is_designator : Bool) → Class → Option ℕ
@@ -161,9 +167,11 @@ abbrev pub listed : List Given → Arguments
 listed [] = NoMore
 listed (g ∷ gs) = given_as g (listed gs)
 
--- a scalar by value is evaluated; a record or an array is found, and so is a variable by reference
-abbrev pub given_unopened : (by_reference : Bool) → TypeId → Answer → Given
-given_unopened by_reference t a = if by_reference || not (is_basic t) then Whole (place_in a.typed) else Scalar a.typed
+-- a scalar by value is evaluated; a record or an array is found, and so is a variable by reference, the place of a record with the
+-- record's own type
+abbrev pub given_unopened : Env → (by_reference : Bool) → TypeId → Answer → Given
+given_unopened e true t a = Whole (with_type e a.known.of (place_in a.typed))
+given_unopened e false t a = if has_parts e t then Whole (place_in a.typed) else Scalar a.typed
 
 abbrev pub given : Env → Parameter → Answer → Given
 given e p a = by p.of
@@ -171,7 +179,7 @@ given e p a = by p.of
     by : Option TypeId → Given
     by None = Scalar a.typed
     by (Some t) =
-        if is_opened e t then Opening (rows_in e (open_dimensions e.types t) a) else given_unopened p.by_reference t a
+        if is_opened e t then Opening (rows_in e (open_dimensions e.types t) a) else given_unopened e p.by_reference t a
 
 -- arguments so far, and whether each keeps the rules of the call
 pub record Handing : Type 0 where

@@ -18,9 +18,9 @@ use Rattle.aos_symbols.specs.Breaches.{breach_unless}
 use Rattle.aos_symbols.specs.Judged.{Judged, judged}
 use Rattle.aos_symbols.specs.Env as env
 use Rattle.aos_check_expr.specs.declared.known.Class.{Class}
-use Rattle.aos_check_expr.specs.declared.known.Class.TheVariants.{Unknown, Constant, Computed}
+use Rattle.aos_check_expr.specs.declared.known.Class.TheVariants.{Unknown, Constant}
 use Rattle.aos_check_expr.specs.declared.known.Known.{Known}
-use Rattle.aos_check_expr.specs.Known.{Answer, is_basic, is_char, answered}
+use Rattle.aos_check_expr.specs.Known.{Answer, is_basic, is_char, value_class, answered}
 use Rattle.aos_check_expr.specs.Operations as op
 use Rattle.aos_check_expr.specs.Designators.{is_opened, place_in, rows_of}
 
@@ -68,11 +68,6 @@ array_rows e n (Some t) place =
 
 -- LEN of an array, and of one of its dimensions, which a constant integer tells. Its value is no constant.
 
--- what is made of an array is no constant
-abbrev pub len_class : Class → Class
-len_class Unknown = Unknown
-len_class c = Computed
-
 -- the length of a dimension behind the open ones of a type
 abbrev pub length_behind : Env → TypeId → ℕ → Option ℕ
 length_behind e t d = length_of e (Some (open_element e.types t)) (d - open_dimensions e.types t)
@@ -84,7 +79,7 @@ len_typed e (Some t) r d = if nat_lt d (open_dimensions e.types t) then Len r d 
 abbrev pub len_answer : Env → Answer → (dimension : ℕ) → Answer
 len_answer e a d =
     let takes = is_array e a.known.of in
-    answered (op.kept_class takes (len_class a.known.class)) (op.kept_type takes (Some env.longint))
+    answered (op.kept_class takes (value_class a.known.class)) (op.kept_type takes (Some env.longint))
     (len_typed e a.known.of (rows_of (place_in a.typed)) d)
 
 -- the number of a dimension

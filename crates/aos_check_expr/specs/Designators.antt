@@ -1,5 +1,5 @@
 -- Designators: what a name, or a name behind that of a module, stands for, and what is known of it.
-use Rattle.std.specs.Prelude.{ℕ, List, [], ◌++◌, Bool, true, false, not, ◌==◌, ◌&&◌, ◌||◌, Option, Some, None, is_some, option_and_then, if◌then◌else◌, slice_get}
+use Rattle.std.specs.Prelude.{ℕ, List, [], ◌++◌, Bool, true, false, not, ◌==◌, ◌&&◌, ◌||◌, Option, Some, None, is_some, option_and_then, if◌then◌else◌, slice_get, fold}
 use Rattle.aos_base.specs.declared.text.Pos.{Pos}
 use Rattle.aos_tree.specs.declared.name.Name.{Name}
 use Rattle.aos_tree.specs.declared.decl.Export.{Export}
@@ -9,17 +9,20 @@ use Rattle.aos_types.specs.declared.row.TypeRow.{TypeRow}
 use Rattle.aos_types.specs.declared.row.TypeRow.TheVariants as row
 use Rattle.aos_typed.specs.declared.tree.Literal.{Literal}
 use Rattle.aos_typed.specs.declared.tree.Literal.TheVariants as literal
-use Rattle.aos_types.specs.Table.{is_open}
-use Rattle.aos_typed.specs.Program.{Place, ModuleVar, Local, Passed, Index, Of, Rows, Known, Opened, Row, Expr, Read}
+use Rattle.aos_types.specs.Table.{is_open, is_record, is_pointer, is_object}
+use Rattle.aos_types.specs.Extension.{extends}
+use Rattle.aos_types.specs.Fit.{fits as fits_of}
+use Rattle.aos_typed.specs.Program.{Place, ModuleVar, Local, Passed, Index, Of, Deref, Typed, Guarded, Rows, Known, Opened, Row, Spread, Expr, Read, Guard}
 use Rattle.aos_typed.specs.Program.{Field as FieldOf}
 use Rattle.aos_typed.specs.WellTyped.{is_whole}
-use Rattle.aos_typed.specs.Open.{open_dimensions, open_element}
+use Rattle.aos_typed.specs.Open.{open_dimensions, open_element, first_same}
 use Rattle.aos_symbols.specs.declared.breach.Breach.{Breach}
 use Rattle.aos_symbols.specs.declared.home.Parameter.{Parameter}
 use Rattle.aos_symbols.specs.declared.scope.Meaning.{Meaning}
 use Rattle.aos_symbols.specs.declared.scope.Meaning.TheVariants as means
 use Rattle.aos_symbols.specs.declared.env.Symbol.{Symbol}
 use Rattle.aos_symbols.specs.declared.env.Field.{Field}
+use Rattle.aos_symbols.specs.declared.env.Narrowed.{Narrowed}
 use Rattle.aos_symbols.specs.declared.env.Lookup.{Lookup}
 use Rattle.aos_symbols.specs.declared.env.Lookup.TheVariants.{Unknown as NoName, NotExported, Found}
 use Rattle.aos_symbols.specs.declared.env.Env.{Env}
@@ -30,7 +33,7 @@ use Rattle.aos_symbols.specs.Env as env
 use Rattle.aos_check_expr.specs.declared.known.Class.{Class}
 use Rattle.aos_check_expr.specs.declared.known.Class.TheVariants.{Unknown, Constant, Variable, ReadOnly, Computed}
 use Rattle.aos_check_expr.specs.declared.designators.Head.{Head}
-use Rattle.aos_check_expr.specs.Known.{Answer, Spot, Held, Stands, Value, passes, is_basic, is_long_text, is_number, type_as, unknown, some_value, constant_answer, answered, nothing, spot_of, read_from, known_as, lost}
+use Rattle.aos_check_expr.specs.Known.{Answer, Spot, Held, Stands, Value, passes, is_basic, is_of_any, is_long_text, is_number, fits_type, object_number, type_as, unknown, some_value, constant_answer, answered, nothing, spot_of, read_from, known_as, value_class, lost}
 
 -- A head is what is found of a name, where the name stands, and where the designator begins.
 
@@ -102,8 +105,8 @@ constant_of None at = judged (lost (Constant None) at) (answered (Constant None)
 constant_of (Some None) at = kept unknown
 constant_of (Some (Some v)) at = kept (constant_answer v)
 
--- Types: a basic type, that of string constants, one of records or arrays, which have parts, or an open array. What is of the others
--- isn't built.
+-- Types: a basic type, that of string constants, one of records or arrays, which have parts, an open array, or one whose values are
+-- objects: a pointer, an object type, ANY and that of NIL. What is of the others isn't built.
 
 abbrev pub has_parts : Env → TypeId → Bool
 has_parts e t = not (is_basic t) && is_whole (env.row_of e (Some t))
@@ -111,8 +114,200 @@ has_parts e t = not (is_basic t) && is_whole (env.row_of e (Some t))
 abbrev pub is_opened : Env → TypeId → Bool
 is_opened e t = not (is_basic t) && is_open (env.row_of e (Some t))
 
+abbrev pub is_record_type : Env → TypeId → Bool
+is_record_type e t = not (is_basic t) && is_record (env.row_of e (Some t))
+
+abbrev pub is_pointer_type : Env → TypeId → Bool
+is_pointer_type e t = not (is_basic t) && is_pointer (env.row_of e (Some t))
+
+abbrev pub is_object_type : Env → TypeId → Bool
+is_object_type e t = not (is_basic t) && is_object (env.row_of e (Some t))
+
+abbrev pub is_reference : Env → TypeId → Bool
+is_reference e t = is_of_any t || (is_pointer_type e t || is_object_type e t)
+
+-- values of the type are scalars
+abbrev pub is_value : Env → TypeId → Bool
+is_value e t = is_basic t || is_reference e t
+
 abbrev pub is_built : Env → TypeId → Bool
-is_built e t = ((is_basic t || is_long_text t) || has_parts e t) || is_opened e t
+is_built e t = (is_value e t || is_long_text t) || (has_parts e t || is_opened e t)
+
+-- what a pointer leads to
+abbrev pub pointed_in : Option TypeRow → Option TypeId
+pointed_in (Some (row.Pointer u)) = Some u
+pointed_in r = None
+
+abbrev pub pointed : Env → TypeId → Option TypeId
+pointed e t = if is_basic t then None else pointed_in (env.row_of e (Some t))
+
+-- the type as which the objects of a pointer type or an object type are made, and its number in the program
+abbrev pub made_as : Env → TypeId → TypeId
+made_as e t = by (pointed e t)
+  where
+    by : Option TypeId → TypeId
+    by None = t
+    by (Some u) = first_same e.types u
+
+abbrev pub made_number : Env → TypeId → ℕ
+made_number e t = object_number (made_as e t)
+
+-- a value of one type may be assigned to a variable of another (Oberon-2 report, appendix A); of string constants it is told
+-- otherwise
+abbrev pub is_compatible : Env → Option TypeId → Option TypeId → Bool
+is_compatible e (Some from) (Some to) =
+    if is_basic from || is_basic to then fits_type from to else not (is_long_text from) && fits_of e.types from to
+is_compatible e _ _ = true
+
+-- the place of a variable, and that which an expression reads
+abbrev pub place_of : Held → Place
+place_of (Stands p) = p
+place_of (Value e) = ModuleVar 0 0
+
+abbrev pub place_in : Expr → Place
+place_in (Read t p) = p
+place_in e = ModuleVar 0 0
+
+-- Parts of variables.
+
+-- a selector that a type hasn't; what types that aren't built have isn't built either
+abbrev pub lacking : Env → TypeId → Pos → Judged Spot
+lacking e t at = spotted at (refused (if is_built e t then 42 else 99) at)
+
+-- a part of a variable is one, and may be written where that may
+abbrev pub part_class : Bool → Class → Class
+part_class may Variable = if may then Variable else ReadOnly
+part_class may Unknown = Unknown
+part_class may (Constant v) = Constant v
+part_class may ReadOnly = ReadOnly
+part_class may Computed = Computed
+
+abbrev pub part_held : (Place → Place) → Held → Held
+part_held part (Stands p) = Stands (part p)
+part_held part (Value x) = Value x
+
+abbrev pub part_spot : Bool → Option TypeId → (Place → Place) → Pos → Spot → Spot
+part_spot may of part at a = record { known = known_as (part_class may a.known.class) of; held = part_held part a.held; at = at }
+
+-- a part of what may be anything may be anything, as a variable where the whole is one, and breaks no rule of its own
+abbrev pub unknown_part : Pos → Spot → Spot
+unknown_part at a = record { known = known_as a.known.class None; held = a.held; at = at }
+
+-- What a pointer leads to is a variable, whatever the pointer is.
+
+abbrev pub followed_class : Class → Class
+followed_class Unknown = Unknown
+followed_class c = Variable
+
+abbrev pub followed_place : Env → TypeId → Expr → Place
+followed_place e u x = if is_opened e u then Of (Spread x (open_dimensions e.types u)) else Deref x (type_as u)
+
+abbrev pub followed_spot : Env → TypeId → Spot → Spot
+followed_spot e u a =
+    record {
+      known = known_as (followed_class a.known.class) (Some u);
+      held = Stands (followed_place e u (read_from a.known.of a.held));
+      at = a.at;
+    }
+
+-- `x^`
+abbrev pub followed_type : Env → Spot → Pos → TypeId → Option TypeId → Judged Spot
+followed_type e a p t None = lacking e t p
+followed_type e a p t (Some u) = kept (followed_spot e u a)
+
+abbrev pub followed : Env → Spot → Pos → Judged Spot
+followed e a p = by a.known.of
+  where
+    by : Option TypeId → Judged Spot
+    by None = kept (unknown_part a.at a)
+    by (Some t) = followed_type e a p t (pointed e t)
+
+-- `.f` and `[i]` behind a pointer are those of what it leads to
+abbrev pub through : Env → Spot → Spot
+through e a = by a.known.of
+  where
+    lead : Option TypeId → Spot
+    lead None = a
+    lead (Some u) = followed_spot e u a
+
+    by : Option TypeId → Spot
+    by None = a
+    by (Some t) = lead (pointed e t)
+
+-- Type tests and guards, of an object, or of the record that a VAR parameter stands for.
+
+-- a place that a VAR parameter stands for, guarded or not
+abbrev pub is_passed : Place → Bool
+is_passed (Passed k) = true
+is_passed (Guarded q t) = is_passed q
+is_passed p = false
+
+abbrev pub has_dynamic_type : Env → (is_parameter : Bool) → TypeId → Bool
+has_dynamic_type e is_parameter t = is_reference e t || (is_record_type e t && is_parameter)
+
+-- each pointer type and each object type extends ANY
+abbrev pub is_extension : Env → (of t : TypeId) → Bool
+is_extension e of t =
+    if is_of_any of then is_pointer_type e t || is_object_type e t else extends e.types t of
+
+-- what is of a type may be tested for another one; a type that isn't known may be any
+abbrev pub may_test : Env → (is_parameter : Bool) → (of t : Option TypeId) → Bool
+may_test e is_parameter None t = true
+may_test e is_parameter (Some of) t = has_dynamic_type e is_parameter of && passes (is_extension e of) t
+
+-- a guarded object is no variable; a guarded record is one where the record was
+abbrev pub guarded_object : Env → TypeId → Spot → Spot
+guarded_object e t a =
+    record {
+      known = known_as (value_class a.known.class) (Some t);
+      held = Value (Guard (read_from a.known.of a.held) (made_number e t));
+      at = a.at;
+    }
+
+abbrev pub guarded_record : TypeId → Spot → Spot
+guarded_record t a =
+    record {
+      known = known_as a.known.class (Some t);
+      held = part_held (λ p. Guarded p (object_number t)) a.held;
+      at = a.at;
+    }
+
+abbrev pub guarded_spot : Env → TypeId → Spot → Spot
+guarded_spot e t a = by a.known.of
+  where
+    by : Option TypeId → Spot
+    by None = unknown_part a.at a
+    by (Some of) = if is_record_type e of then guarded_record t a else guarded_object e t a
+
+-- a guard with a type, of what isn't known where the type isn't
+abbrev pub guarded_with : Env → Option TypeId → Spot → Spot
+guarded_with e None a = unknown_part a.at a
+guarded_with e (Some t) a = guarded_spot e t a
+
+-- where the guard stands at a place
+abbrev pub guard : Env → Pos → Spot → Option TypeId → Judged Spot
+guard e at a t =
+    if may_test e (is_passed (place_of a.held)) a.known.of t then kept (guarded_with e t a) else spotted a.at (refused 41 at)
+
+-- a bracket behind what can't be called, in a designator that begins at a place: a guard where the name of a type stands in it
+abbrev pub guarded : Env → (first at : Pos) → Spot → Option (Option TypeId) → Judged Spot
+guarded e first at a t = by a.known.of t
+  where
+    by : Option TypeId → Option (Option TypeId) → Judged Spot
+    by None t = kept (unknown_part a.at a)
+    by (Some of) None = spotted a.at (refused 36 first)
+    by (Some of) (Some None) = spotted a.at (refused 99 at)
+    by (Some of) (Some (Some t)) = guard e at a (Some t)
+
+-- within WITHs a variable that they narrow is guarded with their types, that of the outermost first
+abbrev pub is_narrowed : Symbol → ℕ → Narrowed → Bool
+is_narrowed x k v = (v.at.home == x.at.home && v.at.scope == x.at.scope) && v.number == k
+
+abbrev pub narrowed_by : Env → Symbol → ℕ → Spot → Narrowed → Spot
+narrowed_by e x k a v = if is_narrowed x k v then guarded_spot e v.of a else a
+
+abbrev pub narrowed : Env → Symbol → ℕ → Spot → Spot
+narrowed e x k a = fold (narrowed_by e x k) a e.narrowed
 
 -- Variables. Those of a procedure are numbered in its scope: its parameters come first. An open array is found with the lengths of its
 -- open dimensions, and stands for the array of these rows.
@@ -168,7 +363,7 @@ meant_otherwise means.Proper h = spotted h.at (refused_value 36 h.first)
 meant_otherwise m h = spotted h.at (refused_value 99 h.first)
 
 abbrev pub meant : Env → Symbol → Meaning → Head → Judged Spot
-meant e x (means.Variable k) h = if is_reached e x then kept (variable e x k h.at) else spotted h.at (refused 99 h.at)
+meant e x (means.Variable k) h = if is_reached e x then kept (narrowed e x k (variable e x k h.at)) else spotted h.at (refused 99 h.at)
 meant e x (means.Constant k) h = spotted h.at (constant_of (env.constant e x.at k h.first) h.at)
 meant e x m h = meant_otherwise m h
 
@@ -179,31 +374,6 @@ found e (Found x) h = meant e x x.means h
 
 abbrev pub named : Env → Head → Judged Spot
 named e h = found e h.found h
-
--- Parts of variables.
-
--- a selector that a type hasn't; what types that aren't built have isn't built either
-abbrev pub lacking : Env → TypeId → Pos → Judged Spot
-lacking e t at = spotted at (refused (if is_built e t then 42 else 99) at)
-
--- a part of a variable is one, and may be written where that may
-abbrev pub part_class : Bool → Class → Class
-part_class may Variable = if may then Variable else ReadOnly
-part_class may Unknown = Unknown
-part_class may (Constant v) = Constant v
-part_class may ReadOnly = ReadOnly
-part_class may Computed = Computed
-
-abbrev pub part_held : (Place → Place) → Held → Held
-part_held part (Stands p) = Stands (part p)
-part_held part (Value x) = Value x
-
-abbrev pub part_spot : Bool → Option TypeId → (Place → Place) → Pos → Spot → Spot
-part_spot may of part at a = record { known = known_as (part_class may a.known.class) of; held = part_held part a.held; at = at }
-
--- a part of what may be anything may be anything, as a variable where the whole is one, and breaks no rule of its own
-abbrev pub unknown_part : Pos → Spot → Spot
-unknown_part at a = record { known = known_as a.known.class None; held = a.held; at = at }
 
 -- a field of a record; one marked `-` may only be read in other modules
 abbrev pub may_write : Field → Bool
@@ -222,16 +392,15 @@ field_found e a p n t None = lacking e t p
 field_found e a p n t (Some f) =
     if f.is_own || is_some f.mark then kept (field_spot t f n.pos a) else spotted n.pos (refused 15 n.pos)
 
-abbrev pub field_in_row : Env → Spot → Pos → Name → TypeId → Option TypeRow → Judged Spot
-field_in_row e a p n t (Some (row.Record None fields)) = field_found e a p n t (env.field e t n)
-field_in_row e a p n t r = lacking e t p
-
-abbrev pub field : Env → Spot → Pos → Name → Judged Spot
-field e a p n = by a.known.of
+abbrev pub field_of : Env → Spot → Pos → Name → Judged Spot
+field_of e a p n = by a.known.of
   where
     by : Option TypeId → Judged Spot
     by None = kept (unknown_part n.pos a)
-    by (Some t) = if is_basic t then lacking e t p else field_in_row e a p n t (env.row_of e (Some t))
+    by (Some t) = if is_record_type e t then field_found e a p n t (env.field e t n) else lacking e t p
+
+abbrev pub field : Env → Spot → Pos → Name → Judged Spot
+field e a p n = field_of e (through e a) p n
 
 -- an element of an array, by an index of an integer type, with the bracket at a place
 abbrev pub element_spot : ℕ → TypeId → Answer → Spot → Spot
@@ -257,27 +426,15 @@ element_in_row e p a i t (Some (row.Array m u)) = element_found m u p a i
 element_in_row e p a i t (Some (row.Open u)) = row_found (open_element e.types t) u p a i
 element_in_row e p a i t r = lacking e t p
 
-abbrev pub element : Env → Pos → Spot → Answer → Judged Spot
-element e p a i = by a.known.of
+abbrev pub element_of : Env → Pos → Spot → Answer → Judged Spot
+element_of e p a i = by a.known.of
   where
     by : Option TypeId → Judged Spot
     by None = kept (unknown_part a.at a)
     by (Some t) = if is_basic t then lacking e t p else element_in_row e p a i t (env.row_of e (Some t))
 
--- `x^`: no type that is built has it
-abbrev pub followed : Env → Spot → Pos → Judged Spot
-followed e a p = by a.known.of
-  where
-    by : Option TypeId → Judged Spot
-    by None = kept (unknown_part a.at a)
-    by (Some t) = lacking e t p
-
--- whether an argument is the name of a type: then `x(T)` is a guard, which no basic type has and no variable that is a record or an
--- array, and else x can't be called
-abbrev pub guarded : Env → Option TypeId → Bool → Pos → Pos → Judged Answer
-guarded e None is_guard at first = refused 99 at
-guarded e (Some t) true at first = refused (if is_built e t then 41 else 99) at
-guarded e (Some t) false at first = refused 36 first
+abbrev pub element : Env → Pos → Spot → Answer → Judged Spot
+element e p a i = element_of e p (through e a) i
 
 -- a variable of a type that isn't built yet can't be read
 abbrev pub read : Env → Spot → Judged Answer
@@ -296,11 +453,15 @@ written Computed first = breach 32 first
 abbrev pub assigned : Env → Pos → Spot → Judged Spot
 assigned e first a = judged (written a.known.class first ++ breach_unless (passes (is_built e) a.known.of) 99 a.at) a
 
--- the place of a variable, and that which an expression reads
-abbrev pub place_of : Held → Place
-place_of (Stands p) = p
-place_of (Value e) = ModuleVar 0 0
+-- A record for a VAR parameter: its place names the record's own type.
 
-abbrev pub place_in : Expr → Place
-place_in (Read t p) = p
-place_in e = ModuleVar 0 0
+abbrev pub names_type : Place → Bool
+names_type (Passed k) = true
+names_type (Deref x t) = true
+names_type (Typed q t) = true
+names_type (Guarded q t) = true
+names_type p = false
+
+abbrev pub with_type : Env → Option TypeId → Place → Place
+with_type e None p = p
+with_type e (Some t) p = if is_record_type e t && not (names_type p) then Typed p (object_number t) else p

@@ -1,6 +1,6 @@
 -- Expressions: which rules they break, what is known of them and what they are in the typed program (Oberon-2 report, section
--- 8). A type test and NIL aren't built.
-use Rattle.std.specs.Prelude.{ℕ, ℤ, pos, List, [], ◌∷◌, ◌++◌, Bool, true, false, Option, Some, None, option_and_then, if◌then◌else◌}
+-- 8).
+use Rattle.std.specs.Prelude.{ℕ, ℤ, pos, List, [], ◌∷◌, ◌++◌, Bool, true, false, ◌&&◌, ◌||◌, Option, Some, None, option_and_then, if◌then◌else◌}
 use Rattle.aos_base.specs.declared.text.Pos.{Pos}
 use Rattle.aos_base.specs.declared.number.Width.TheVariants.{W64}
 use Rattle.aos_base.specs.declared.number.Relation.{Relation}
@@ -9,6 +9,7 @@ use Rattle.aos_base.specs.Number.{if_within, holds}
 use Rattle.aos_base.specs.Text.{order}
 use Rattle.aos_base.specs.Operators.{natural}
 use Rattle.aos_tree.specs.declared.name.Name.{Name}
+use Rattle.aos_tree.specs.declared.name.Qualident.{Qualident}
 use Rattle.aos_tree.specs.declared.expr.RelationOp.{RelationOp}
 use Rattle.aos_tree.specs.declared.expr.RelationOp.TheVariants as relation_op
 use Rattle.aos_tree.specs.declared.expr.Sign.{Sign}
@@ -30,7 +31,7 @@ use Rattle.aos_types.specs.declared.row.TypeId.{TypeId}
 use Rattle.aos_typed.specs.declared.tree.Literal.{Literal}
 use Rattle.aos_typed.specs.declared.tree.Literal.TheVariants as literal
 use Rattle.aos_typed.specs.declared.tree.TextConstant.{TextConstant}
-use Rattle.aos_typed.specs.Program.{Expr as Typed, CompareTexts, Function as Invoked}
+use Rattle.aos_typed.specs.Program.{Expr as Typed, CompareTexts, Function as Invoked, Is, IsRecord}
 use Rattle.aos_symbols.specs.declared.home.Gives.{Gives}
 use Rattle.aos_symbols.specs.declared.home.Gives.TheVariants as gives
 use Rattle.aos_symbols.specs.declared.home.Signature.{Signature}
@@ -42,7 +43,7 @@ use Rattle.aos_symbols.specs.declared.env.Symbol.{Symbol}
 use Rattle.aos_symbols.specs.declared.env.Lookup.{Lookup}
 use Rattle.aos_symbols.specs.declared.env.Lookup.TheVariants.{Unknown as NoName, NotExported, Found}
 use Rattle.aos_symbols.specs.declared.env.Env.{Env}
-use Rattle.aos_symbols.specs.Breaches.{breach, breach_unless, not_built}
+use Rattle.aos_symbols.specs.Breaches.{breach, breach_unless}
 use Rattle.aos_symbols.specs.Judged.{Judged, judged, kept, bind, walk}
 use Rattle.aos_symbols.specs.Env as env
 use Rattle.aos_check_expr.specs.declared.known.Class.{Class}
@@ -51,13 +52,15 @@ use Rattle.aos_check_expr.specs.declared.known.Known.{Known}
 use Rattle.aos_check_expr.specs.declared.designators.Head.{Head}
 use Rattle.aos_check_expr.specs.declared.operations.Joint.TheVariants as joint
 use Rattle.aos_check_expr.specs.declared.operations.Step.{Step}
+use Rattle.aos_check_expr.specs.declared.operations.Operation.{Operation}
 use Rattle.aos_check_expr.specs.declared.calls.Limit.{Limit}
 use Rattle.aos_check_expr.specs.declared.calls.Limit.TheVariants as which
-use Rattle.aos_check_expr.specs.Known.{Answer, Spot, passes, is_basic, is_number, is_boolean, is_integer, constant_answer, answered, nothing}
+use Rattle.aos_check_expr.specs.Known.{Answer, Spot, passes, is_of_any, is_number, is_boolean, is_integer, object_number, value_class, constant_answer, answered, nothing}
 use Rattle.aos_check_expr.specs.Operations as op
 use Rattle.aos_check_expr.specs.Designators as desig
-pub use Rattle.aos_check_expr.specs.Arrays.{is_array, length_of, is_opening, array_in, lengths_from, open_rows, array_rows, len_class, length_behind, len_typed, len_answer, number_in, has_dimension, is_dimension, len_alone, len_in, is_characters, string_in, is_text, is_only_text, may_be_text, are_texts, string_rows, rows_in, text_rows, has_room, text_for}
-pub use Rattle.aos_check_expr.specs.Arguments.{is_factor, first_factor, desig_in, desig_alone, Handing, nothing_handed, listed, handed_from, arguments_for}
+pub use Rattle.aos_check_expr.specs.Arrays.{is_array, length_of, is_opening, array_in, lengths_from, open_rows, array_rows, length_behind, len_typed, len_answer, number_in, has_dimension, is_dimension, len_alone, len_in, is_characters, string_in, is_text, is_only_text, may_be_text, are_texts, string_rows, rows_in, text_rows, has_room, text_for}
+pub use Rattle.aos_check_expr.specs.Arguments.{is_factor, first_factor, desig_in, desig_alone, Handing, nothing_handed, listed, handed_from, arguments_for, is_factor_of, first_factor_of}
+pub use Rattle.aos_check_expr.specs.TypeNames.{named_type, known_type}
 
 -- Forms without parts.
 
@@ -93,23 +96,20 @@ head_of e n _ = None
 abbrev pub name_alone : Env → Expr → Option Head
 name_alone e x = option_and_then (λ d. head_of e d.name d.selectors) (desig_alone x)
 
-abbrev pub is_type_meaning : Meaning → Bool
-is_type_meaning (means.Type of) = true
-is_type_meaning m = false
+-- the type that a name stands for, where it stands for one
+abbrev pub type_meant_by : Meaning → Option (Option TypeId)
+type_meant_by (means.Type of) = Some of
+type_meant_by m = None
 
-abbrev pub is_type : Option Head → Bool
-is_type None = false
-is_type (Some h) = found h.found
-  where
-    found : Lookup → Bool
-    found NoName = false
-    found NotExported = false
-    found (Found x) = is_type_meaning x.means
+abbrev pub type_found_by : Lookup → Option (Option TypeId)
+type_found_by NoName = None
+type_found_by NotExported = None
+type_found_by (Found x) = type_meant_by x.means
 
--- `x(T)`, where T is the name of a type
-abbrev pub is_guard : Env → List Expr → Bool
-is_guard e (x ∷ []) = is_type (name_alone e x)
-is_guard e xs = false
+-- the type in `x(T)`, where T is the name of one
+abbrev pub guard_type : Env → List Expr → Option (Option TypeId)
+guard_type e (x ∷ []) = option_and_then (λ h. type_found_by h.found) (name_alone e x)
+guard_type e xs = None
 
 -- MAX and MIN of a type.
 
@@ -164,19 +164,20 @@ callee NoName = Neither
 callee NotExported = Neither
 callee (Found x) = callee_meant x x.means
 
--- a call of what can't be called: of a type that has no conversion, or of a variable or value
-abbrev pub not_called : Env → Head → Pos → List Expr → Judged Answer
+-- a bracket behind what can't be called: behind a type that has no conversion, or behind a variable or a value, of which it may be a
+-- guard
+abbrev pub not_called : Env → Head → Pos → List Expr → Judged Spot
 not_called e h at args = by_lookup h.found
   where
-    by_value : Judged Spot → Judged Answer
-    by_value j = bind j (λ a. desig.guarded e a.known.of (is_guard e args) at h.first)
+    by_value : Judged Spot → Judged Spot
+    by_value j = bind j (λ a. desig.guarded e h.first at a (guard_type e args))
 
-    by_meaning : Meaning → Judged Answer
-    by_meaning (means.Type None) = desig.refused 99 h.first
-    by_meaning (means.Type (Some t)) = desig.refused 36 h.first
+    by_meaning : Meaning → Judged Spot
+    by_meaning (means.Type None) = desig.spotted h.first (desig.refused 99 h.first)
+    by_meaning (means.Type (Some t)) = desig.spotted h.first (desig.refused 36 h.first)
     by_meaning m = by_value (desig.named e h)
 
-    by_lookup : Lookup → Judged Answer
+    by_lookup : Lookup → Judged Spot
     by_lookup NoName = by_value (desig.named e h)
     by_lookup NotExported = by_value (desig.named e h)
     by_lookup (Found x) = by_meaning x.means
@@ -205,19 +206,19 @@ len_of e at (j ∷ k ∷ []) (x ∷ y ∷ []) =
     bind j (λ a. bind k (λ d. len_in e (out-Expr x).pos (out-Expr y).pos a d))
 len_of e at js xs = desig.refused 34 at
 
--- A procedure's value: that of a function, whose result is of a basic type.
+-- A procedure's value: that of a function, whose result is a scalar.
 
 -- the result of a function with these arguments, which has no type where a rule of the call is broken
 abbrev pub function_answer : (home number : ℕ) → Option TypeId → Handing → Answer
 function_answer m k of h =
     answered (op.kept_class h.are_kept Computed) (op.kept_type h.are_kept of) (Invoked m k (listed h.given))
 
--- a result that isn't of a basic type isn't built
-abbrev pub function_told : (first : Pos) → (home number : ℕ) → Option TypeId → Handing → Judged Answer
-function_told first m k of h = judged (breach_unless (passes is_basic of) 99 first) (function_answer m k of h)
+-- a result that isn't of a basic type and no object isn't built
+abbrev pub function_told : Env → (first : Pos) → (home number : ℕ) → Option TypeId → Handing → Judged Answer
+function_told e first m k of h = judged (breach_unless (passes (desig.is_value e) of) 99 first) (function_answer m k of h)
 
 abbrev pub function_value : Env → (first : Pos) → (home number : ℕ) → Signature → Option TypeId → List (Judged Answer) → List Expr → Judged Answer
-function_value e first m k s of js xs = bind (arguments_for e first s.parameters js xs) (function_told first m k of)
+function_value e first m k s of js xs = bind (arguments_for e first s.parameters js xs) (function_told e first m k of)
 
 abbrev pub value_of_procedure : Env → (first : Pos) → (home number : ℕ) → Signature → List (Judged Answer) → List Expr → Judged Answer
 value_of_procedure e first m k s js xs = by s.gives
@@ -234,17 +235,21 @@ invoked e first m k js xs = by (env.signature e m k)
     by None = desig.refused_value 20 first
     by (Some s) = value_of_procedure e first m k s js xs
 
-abbrev pub called_by : Env → Callee → Head → Pos → List (Judged Answer) → List Expr → Judged Answer
-called_by e (Calls function.Max) h at js xs = limit e op.greatest_value xs h.first
-called_by e (Calls function.Min) h at js xs = limit e op.least_value xs h.first
-called_by e (Calls function.Len) h at js xs = len_of e h.first js xs
-called_by e (Calls function.Ash) h at js xs = two_of h.first js xs
-called_by e (Calls f) h at js xs = one_of (λ of. op.applied f of) h.first js xs
-called_by e (Invokes m k) h at js xs = invoked e h.first m k js xs
-called_by e (Converts t) h at js xs = one_of (λ of. op.converted t of) h.first js xs
+-- a predeclared function's value
+abbrev pub function_called : Env → Function → (first : Pos) → List (Judged Answer) → List Expr → Judged Answer
+function_called e function.Max first js xs = limit e op.greatest_value xs first
+function_called e function.Min first js xs = limit e op.least_value xs first
+function_called e function.Len first js xs = len_of e first js xs
+function_called e function.Ash first js xs = two_of first js xs
+function_called e f first js xs = one_of (λ of. op.applied f of) first js xs
+
+abbrev pub called_by : Env → Callee → Head → Pos → List (Judged Answer) → List Expr → Judged Spot
+called_by e (Calls f) h at js xs = desig.spotted h.first (function_called e f h.first js xs)
+called_by e (Invokes m k) h at js xs = desig.spotted h.first (invoked e h.first m k js xs)
+called_by e (Converts t) h at js xs = desig.spotted h.first (one_of (λ of. op.converted t of) h.first js xs)
 called_by e Neither h at js xs = not_called e h at xs
 
-abbrev pub called : Env → Head → Pos → List (Judged Answer) → List Expr → Judged Answer
+abbrev pub called : Env → Head → Pos → List (Judged Answer) → List Expr → Judged Spot
 called e h at js xs = called_by e (callee h.found) h at js xs
 
 -- what a designator is so far: a name, which a bracket may call, or a variable or a value
@@ -278,11 +283,11 @@ abbrev pub bracketed_name : Env → Head → Pos → List (Judged Answer) → Li
 bracketed_name e h p js xs =
     if desig.is_module h.found
     then as_part (desig.named e h)
-    else as_part (desig.spotted h.first (called e h p js xs))
+    else as_part (called e h p js xs)
 
 abbrev pub bracketed : Env → Pos → Part → Pos → List (Judged Answer) → List Expr → Judged Part
 bracketed e first (Begun h) p js xs = bracketed_name e h p js xs
-bracketed e first (Meant a) p js xs = as_part (desig.spotted a.at (desig.guarded e a.known.of (is_guard e xs) p first))
+bracketed e first (Meant a) p js xs = as_part (desig.guarded e first p a (guard_type e xs))
 
 -- The tables at a place.
 
@@ -292,10 +297,39 @@ added first at o a b = op.operands first at (op.added o a.known.of b.known.of) a
 abbrev pub multiplied : Pos → Pos → MulOp → Answer → Answer → Judged Answer
 multiplied first at o a b = op.operands first at (op.multiplied o a.known.of b.known.of) a b
 
--- a value of a basic type has no type test, nor has a variable that is a record or an array
-abbrev pub tested : Env → Option TypeId → Pos → Judged Answer
-tested e None at = judged (not_built at) (answered Unknown (Some env.boolean) nothing)
-tested e (Some t) at = judged (breach (if desig.is_built e t then 41 else 99) at) (answered Unknown (Some env.boolean) nothing)
+-- Type tests: the right operand is the name of a type.
+
+abbrev pub test_typed : Env → Answer → Option TypeId → Typed
+test_typed e a t = by a.known.of t
+  where
+    by : Option TypeId → Option TypeId → Typed
+    by (Some of) (Some t) =
+        if desig.is_record_type e of then IsRecord (desig.place_in a.typed) (object_number t) else Is a.typed (desig.made_number e t)
+    by _ _ = nothing
+
+abbrev pub may_test : Env → Answer → Option TypeId → Bool
+may_test e a t = desig.may_test e (desig.is_passed (desig.place_in a.typed)) a.known.of t
+
+-- with this type
+abbrev pub tested_with : Env → Pos → Answer → Option TypeId → Judged Answer
+tested_with e at a t =
+    let takes = may_test e a t in
+    judged (breach_unless takes 41 at)
+    (answered (op.kept_class takes (value_class a.known.class)) (op.kept_type takes (Some env.boolean)) (test_typed e a t))
+
+abbrev pub tested : Env → Pos → Answer → Option Qualident → Judged Answer
+tested e at a None = desig.refused 41 at
+tested e at a (Some q) = bind (known_type e q) (λ t. tested_with e at a t)
+
+-- a name, or a name behind a point
+abbrev pub qualident_of : Name → List Selector → Option Qualident
+qualident_of n [] = Some (record { first = n; second = None })
+qualident_of n (s.Field p m ∷ []) = Some (record { first = n; second = Some m })
+qualident_of n _ = None
+
+abbrev pub qualident_in : Simple → Option Qualident
+qualident_in x =
+    if is_factor_of x then option_and_then (λ d. qualident_of d.name d.selectors) (desig_in (first_factor_of x)) else None
 
 abbrev pub is_test : RelationOp → Bool
 is_test relation_op.Is = true
@@ -306,7 +340,7 @@ compares_texts e relation_op.In a b = false
 compares_texts e relation_op.Is a b = false
 compares_texts e o a b = are_texts e a b
 
--- the relation of an operator; a type test has none, and no texts are tested
+-- the relation of an operator; a type test has none, and isn't asked for it
 abbrev pub relation_in : RelationOp → Relation
 relation_in relation_op.Equal = rel.Equal
 relation_in relation_op.NotEqual = rel.NotEqual
@@ -332,11 +366,37 @@ abbrev pub texts_related : Env → Relation → Answer → Answer → Answer
 texts_related e r a b =
     answered (texts_class e r a.known.class b.known.class) (Some env.boolean) (CompareTexts r (text_rows e a) (text_rows e b))
 
+-- Objects are the same or differ: those of two pointers, or of two object types.
+
+abbrev pub may_be_pointer : Env → Option TypeId → Bool
+may_be_pointer e = passes (λ t. is_of_any t || desig.is_pointer_type e t)
+
+abbrev pub may_be_object : Env → Option TypeId → Bool
+may_be_object e = passes (λ t. is_of_any t || desig.is_object_type e t)
+
+abbrev pub are_comparable : Env → Option TypeId → Option TypeId → Bool
+are_comparable e a b = (may_be_pointer e a && may_be_pointer e b) || (may_be_object e a && may_be_object e b)
+
+abbrev pub is_the_reference : Env → Option TypeId → Bool
+is_the_reference e None = false
+is_the_reference e (Some t) = desig.is_reference e t
+
+abbrev pub is_equality : RelationOp → Bool
+is_equality relation_op.Equal = true
+is_equality relation_op.NotEqual = true
+is_equality o = false
+
+abbrev pub compares_objects : Env → RelationOp → Option TypeId → Option TypeId → Bool
+compares_objects e o a b = is_equality o && (is_the_reference e a || is_the_reference e b)
+
+abbrev pub operation_of : Env → RelationOp → Option TypeId → Option TypeId → Operation
+operation_of e o a b =
+    if compares_objects e o a b then op.identified (relation_in o) (are_comparable e a b) else op.related o a b
+
 abbrev pub related_by : Env → Pos → Pos → RelationOp → Answer → Answer → Judged Answer
 related_by e first at o a b =
-    if is_test o then tested e a.known.of at
-    else if compares_texts e o a.known b.known then op.told first [] (texts_related e (relation_in o) a b)
-    else op.operands first at (op.related o a.known.of b.known.of) a b
+    if compares_texts e o a.known b.known then op.told first [] (texts_related e (relation_in o) a b)
+    else op.operands first at (operation_of e o a.known.of b.known.of) a b
 
 abbrev pub signed : Option Sign → Pos → Answer → Judged Answer
 signed None at a = kept a
@@ -381,7 +441,8 @@ module _ (e : Env) where
     relation_of first a (Expr-right-Some' r) = relation first a r
 
     pub relation : Pos → Answer → TreeRelation → Judged Answer
-    relation first a (Relation' at o right) = bind (simple right) (λ b. related_by e first at o a b)
+    relation first a (Relation' at o right) =
+        if is_test o then tested e at a (qualident_in right) else bind (simple right) (λ b. related_by e first at o a b)
 
     pub simple : Simple → Judged Answer
     simple (Simple' at sign first shape rest) = bind (bind (term first) (λ a. signed sign at a)) (λ a. additions at a rest)
@@ -406,7 +467,7 @@ module _ (e : Env) where
     factor (f.Number p n) = number (if_within W64 n) p
     factor (f.Char p n) = character (natural 256 n) p
     factor (f.Text t) = string (env.text_constant e t.start) t.pos
-    factor (f.Nil p) = not_yet p
+    factor (f.Nil p) = kept (constant_answer literal.Nil)
     factor (f.Set' p shape row) = bind (elements p op.no_elements row) (λ a. whole_set p a)
     factor (f.Paren' p shape row) = held row
     factor (f.Not' p shape row) = bind (held_factor row) (λ a. opposite p a)

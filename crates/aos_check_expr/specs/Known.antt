@@ -1,6 +1,6 @@
 -- What is known of a part of an expression: its type, and whether it is a constant, a variable or something else. A part that
 -- breaks a rule may be anything, so that no further rule is broken by it.
-use Rattle.std.specs.Prelude.{ℕ, ◌-◌, ℤ, pos, negsuc, List, length, Bool, true, false, not, ◌&&◌, ◌==◌, nat_lt, nat_le, Option, Some, None, is_some, if◌then◌else◌}
+use Rattle.std.specs.Prelude.{ℕ, ◌-◌, ℤ, pos, negsuc, List, length, Bool, true, false, not, ◌&&◌, ◌||◌, ◌==◌, nat_lt, nat_le, Option, Some, None, is_some, if◌then◌else◌}
 use Rattle.aos_base.specs.declared.text.Pos.{Pos}
 use Rattle.aos_base.specs.declared.number.Width.{Width}
 use Rattle.aos_base.specs.declared.number.Width.TheVariants.{W8, W16, W32, W64}
@@ -13,7 +13,7 @@ use Rattle.aos_typed.specs.declared.tree.TType.TheVariants as type
 use Rattle.aos_typed.specs.Program.{Place, Expr, Lit, Read}
 use Rattle.aos_symbols.specs.declared.breach.Breach.{Breach}
 use Rattle.aos_symbols.specs.Breaches.{breach_unless}
-use Rattle.aos_symbols.specs.Env.{shortint, integer, longint, hugeint, boolean, char, set, text, basic_rows}
+use Rattle.aos_symbols.specs.Env.{shortint, integer, longint, hugeint, boolean, char, set, nil, any, text, basic_rows}
 use Rattle.aos_check_expr.specs.declared.known.Class.{Class}
 use Rattle.aos_check_expr.specs.declared.known.Class.TheVariants.{Unknown, Constant, Variable, ReadOnly, Computed}
 use Rattle.aos_check_expr.specs.declared.known.Known.{Known}
@@ -67,6 +67,10 @@ is_set = passes (is set)
 abbrev pub is_long_text : TypeId → Bool
 is_long_text = is text
 
+-- NIL, and what ANY holds, are objects of no type that is known
+abbrev pub is_of_any : TypeId → Bool
+is_of_any t = is nil t || is any t
+
 -- a value of one basic type may be assigned to a variable of another: of an integer type that includes it, or of the same type
 abbrev pub fits_type : TypeId → TypeId → Bool
 fits_type from to = if is_integer from && is_integer to then nat_le from.0 to.0 else is from to
@@ -117,18 +121,20 @@ type_of_literal (literal.Bool b) = boolean
 type_of_literal (literal.Char c) = char
 type_of_literal (literal.Set s) = set
 type_of_literal (literal.Text t) = if t.length == 1 then char else text
+type_of_literal literal.Nil = nil
 
 -- the number of an object type among those of the program
 abbrev pub object_number : TypeId → ℕ
 object_number t = t.0 - length basic_rows
 
--- a type in the typed program
+-- a type in the typed program; NIL is of each type whose values are objects
 abbrev pub type_as : TypeId → TType
 type_as t =
     if is_integer t then type.Integer (width_of_type t)
     else if is boolean t then type.Boolean
     else if is char t then type.Char
     else if is set t then type.Set
+    else if is_of_any t then type.Any
     else type.Named (object_number t)
 
 abbrev pub type_of : Option TypeId → TType
@@ -152,6 +158,11 @@ is_lost Unknown = false
 is_lost Variable = false
 is_lost ReadOnly = false
 is_lost Computed = false
+
+-- what is made of a part, and is no constant; of what may be anything it may be anything
+abbrev pub value_class : Class → Class
+value_class Unknown = Unknown
+value_class c = Computed
 
 -- it is refused at its first token
 abbrev pub lost : Class → Pos → List Breach

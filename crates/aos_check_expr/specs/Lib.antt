@@ -5,3 +5,4 @@ pub mod Expressions
 pub mod Seen
 pub mod Arrays
 pub mod Arguments
+pub mod TypeNames

@@ -1,4 +1,4 @@
--- The operators and predeclared functions on basic values (Oberon-2 report, 8.2 and 10.3; Reali 2002): which types they take, of
+-- The operators and predeclared functions on values (Oberon-2 report, 8.2 and 10.3; Reali 2002): which types they take, of
 -- which type their result is, and what they are in the typed program. Constants are computed by the same operators, on 64 bits.
 use Rattle.std.specs.Prelude.{◌^◌, ℤ, pos, List, ◌++◌, Bool, true, false, not, ◌&&◌, ◌||◌, Option, Some, None, if◌then◌else◌}
 use Rattle.std.specs.Option.{option_map}
@@ -26,7 +26,7 @@ use Rattle.aos_tree.specs.declared.expr.Sign.TheVariants as sign
 use Rattle.aos_types.specs.declared.row.TypeId.{TypeId}
 use Rattle.aos_typed.specs.declared.tree.Literal.{Literal}
 use Rattle.aos_typed.specs.declared.tree.Literal.TheVariants as literal
-use Rattle.aos_typed.specs.Program.{Expr, Unary, Binary, And, Or, Element, Ord, Chr}
+use Rattle.aos_typed.specs.Program.{Expr, Unary, Binary, And, Or, Same, Element, Ord, Chr}
 use Rattle.aos_typed.specs.Value.{Sort, Integer, Boolean, Character, Elements, unary_sort, binary_sort, number_of, literal_value}
 use Rattle.aos_symbols.specs.declared.breach.Breach.{Breach}
 use Rattle.aos_symbols.specs.declared.scope.Function.{Function}
@@ -121,11 +121,15 @@ abbrev pub joint_value : Joint → Literal → Literal → Option Literal
 joint_value (joint.On op) a b = computed op a b
 joint_value joint.And a b = Some (literal.Bool (is_true a && is_true b))
 joint_value joint.Or a b = Some (literal.Bool (is_true a || is_true b))
+joint_value joint.Same a b = Some (literal.Bool true)  -- NIL is the one constant that is an object's, or none's
+joint_value joint.Differ a b = Some (literal.Bool false)
 
 abbrev pub joint_typed : Joint → Expr → Expr → Expr
 joint_typed (joint.On op) e f = Binary op e f
 joint_typed joint.And e f = And e f
 joint_typed joint.Or e f = Or e f
+joint_typed joint.Same e f = Same e f
+joint_typed joint.Differ e f = Unary one.Not (Same e f)
 
 -- what is made of constants is constant, of what is known computed
 abbrev pub class_of_one : Single → Class → Class
@@ -237,7 +241,7 @@ abbrev pub compared : Relation → Option TypeId → Option TypeId → Operation
 compared r a b =
     operation ((are_numbers a b || are_chars a b) || (are_booleans a b || are_sets a b)) (Some boolean) (joint.On (two.Cmp r))
 
--- a type test isn't built: its operation is never looked at
+-- a type test has no operation: this one is never looked at
 abbrev pub related : RelationOp → Option TypeId → Option TypeId → Operation
 related relation.Equal a b = compared rel.Equal a b
 related relation.NotEqual a b = compared rel.NotEqual a b
@@ -247,6 +251,11 @@ related relation.Greater a b = ordered rel.Greater a b
 related relation.GreaterEqual a b = ordered rel.GreaterEqual a b
 related relation.In a b = operation (is_number a && is_set b) (Some boolean) (joint.On two.In)
 related relation.Is a b = operation true (Some boolean) joint.And
+
+-- whether two operands are one object, or both NIL
+abbrev pub identified : Relation → (takes : Bool) → Operation
+identified rel.NotEqual takes = operation takes (Some boolean) joint.Differ
+identified r takes = operation takes (Some boolean) joint.Same
 
 abbrev pub signed : Sign → Option TypeId → Step
 signed sign.Plus a = step (is_number a) a single.Same

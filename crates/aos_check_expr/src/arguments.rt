@@ -7,8 +7,9 @@ ghost use Rattle.aos_check_expr.specs.Arguments as judge;
 ghost use Rattle.aos_check_expr.specs.Seen.{seen_answer, seen_given, seen_handing};
 
 use crate::designators::{has_parts, place_in};
-use crate::known::{Answer, Class, Known, fits, is_basic};
+use crate::known::{Answer, Class, Known};
 use crate::lengths::is_array;
+use crate::references::{is_compatible, is_record_type, is_value, with_type};
 use crate::texts::{has_room, is_characters, rows_in, string_in, text_for};
 use crate::variables::{is_opened, open_dimensions};
 use aos_base::Pos;
@@ -141,8 +142,8 @@ fn value_rule(env: &Env<'_>, of: TypeId, known: Known) -> Option<u16>
             }
         }
         None => {
-            if fits(known.of, Some(of)) {
-                broken_unless(NOT_BUILT, is_basic(of) || has_parts(env, of))
+            if is_compatible(env, known.of, Some(of)) {
+                broken_unless(NOT_BUILT, is_value(env, of) || has_parts(env, of))
             } else {
                 Some(ARGUMENT_TYPE)
             }
@@ -150,12 +151,16 @@ fn value_rule(env: &Env<'_>, of: TypeId, known: Known) -> Option<u16>
     }
 }
 
-/// Whether a type is the same as that of a parameter, or may be.
-fn is_same(parameter: TypeId, of: Option<TypeId>) -> bool
-    ensures { result ≡ judge.is_same parameter of }
+/// Whether a variable of a type may be given for a VAR parameter of another: the types are the same, or the variable's is an extension
+/// of the parameter's, which is that of records.
+fn is_referable(env: &Env<'_>, parameter: TypeId, of: Option<TypeId>) -> bool
+    ensures { result ≡ judge.is_referable env.now parameter of }
 {
     match of {
-        Some(of) => parameter.0 == of.0,
+        Some(of) => {
+            parameter.0 == of.0
+                || is_record_type(env, parameter) && env.types.extends(of, parameter)
+        }
         None => true,
     }
 }
@@ -171,7 +176,7 @@ fn type_rule(env: &Env<'_>, parameter: Parameter, known: Known) -> Result<Option
         return open_rule(env, of, known);
     }
     if parameter.by_reference {
-        return Ok(broken_unless(ARGUMENT_TYPE, is_same(of, known.of)));
+        return Ok(broken_unless(ARGUMENT_TYPE, is_referable(env, of, known.of)));
     }
     Ok(value_rule(env, of, known))
 }
@@ -195,14 +200,25 @@ fn argument_rule(
 }
 
 /// An argument for a parameter of this type that is no open array.
-fn given_unopened(by_reference: bool, of: TypeId, argument: Answer) -> TArgument
-    ensures { seen_given result ≡ judge.given_unopened by_reference of (seen_answer argument) }
+fn given_unopened(
+    alloc: Global,
+    env: &Env<'_>,
+    by_reference: bool,
+    of: TypeId,
+    argument: Answer,
+) -> Result<TArgument, AllocError>
+    ensures { IfOk result (λ r. seen_given r ≡
+        judge.given_unopened env.now by_reference of (seen_answer argument)) }
 {
-    if by_reference || !is_basic(of) {
-        TArgument::Whole(place_in(argument.typed))
-    } else {
-        TArgument::Scalar(argument.typed)
+    let own = argument.known.of;
+    if by_reference {
+        let place = with_type(alloc, env, own, place_in(argument.typed))?;
+        return Ok(TArgument::Whole(place));
     }
+    if has_parts(env, of) {
+        return Ok(TArgument::Whole(place_in(argument.typed)));
+    }
+    Ok(TArgument::Scalar(argument.typed))
 }
 
 /// What an argument is in the typed program.
@@ -222,7 +238,7 @@ fn given(
         let dimensions = open_dimensions(env, of)?;
         return Ok(TArgument::Opening(rows_in(alloc, env, dimensions, argument)?));
     }
-    Ok(given_unopened(parameter.by_reference, of, argument))
+    given_unopened(alloc, env, parameter.by_reference, of, argument)
 }
 
 /// Arguments so far, and whether each keeps the rules of the call.

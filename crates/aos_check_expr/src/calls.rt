@@ -6,19 +6,20 @@ ghost use Rattle.aos_symbols.specs.Breaches.{first_after};
 ghost use Rattle.aos_symbols.specs.Judged.{bind};
 ghost use Rattle.aos_check_expr.specs.Designators as designators;
 ghost use Rattle.aos_check_expr.specs.Expressions as judge;
-ghost use Rattle.aos_check_expr.specs.Known.{passes, is_basic as is_basic_type};
-ghost use Rattle.aos_check_expr.specs.Seen.{seen_answer, seen_handing};
+ghost use Rattle.aos_check_expr.specs.Known.{passes};
+ghost use Rattle.aos_check_expr.specs.Seen.{seen_answer, seen_handing, seen_spot};
 
 use crate::arguments::Handing;
-use crate::designators::{Head, guarded, is_module, member, named, plain, refused};
-use crate::known::{Answer, Class, answered, constant_answer, is_basic, is_number};
+use crate::designators::{Head, is_module, member, named, plain, refused, refused_at};
+use crate::known::{Answer, Class, Spot, answered, constant_answer, is_number};
 use crate::operations::{self, Step};
+use crate::references::{guarded, is_value};
 use aos_base::Pos;
 use aos_symbols::{
     ARGUMENT_COUNT, ARGUMENT_TYPE, Breach, Env, Lookup, Meaning, NOT_BUILT, NOT_EXPORTED,
     OTHER_KIND, UNKNOWN, WRONG_CALL, note,
 };
-use aos_tree::{Desig, Expr, Factor, Name, Selector};
+use aos_tree::{Desig, Expr, Factor, Name, Qualident, Selector, Simple};
 use aos_typed::{Literal, TExpr};
 use aos_types::TypeId;
 use std::alloc::{AllocError, Global};
@@ -30,13 +31,17 @@ pub enum Limit {
     Least,
 }
 
+/// Whether a sum is its first factor.
+fn is_factor_of(part: &Simple) -> bool
+    ensures { result ≡ judge.is_factor_of part.now }
+{
+    part.sign.is_none() && part.rest.as_slice().is_empty() && part.first.rest.as_slice().is_empty()
+}
+
 fn is_factor(part: &Expr) -> bool
     ensures { result ≡ judge.is_factor part.now }
 {
-    part.right.is_none()
-        && part.left.sign.is_none()
-        && part.left.rest.as_slice().is_empty()
-        && part.left.first.rest.as_slice().is_empty()
+    part.right.is_none() && is_factor_of(&part.left)
 }
 
 fn desig_in(part: &Factor) -> Option<&Desig>
@@ -83,26 +88,54 @@ fn name_alone(env: &Env<'_>, part: &Expr) -> Option<Head>
     head_of(env, desig.name, desig.selectors.as_slice())
 }
 
-fn is_type(head: Option<Head>) -> bool
-    ensures { result ≡ judge.is_type head }
+fn type_found_by(lookup: Lookup) -> Option<Option<TypeId>>
+    ensures { result ≡ judge.type_found_by lookup }
 {
-    match head {
-        Some(head) => match head.found {
-            Lookup::Found(symbol) => matches!(symbol.means, Meaning::Type(_)),
-            _ => false,
+    match lookup {
+        Lookup::Found(symbol) => match symbol.means {
+            Meaning::Type(of) => Some(of),
+            _ => None,
         },
-        None => false,
+        _ => None,
     }
 }
 
-/// Whether the arguments are one, which is the name of a type.
-pub fn is_guard(env: &Env<'_>, arguments: &[Expr]) -> bool
-    ensures { result ≡ judge.is_guard env.now arguments.now }
+/// The type that the one argument is the name of, where it is one.
+pub fn guard_type(env: &Env<'_>, arguments: &[Expr]) -> Option<Option<TypeId>>
+    ensures { result ≡ judge.guard_type env.now arguments.now }
 {
     match arguments {
-        [argument] => is_type(name_alone(env, argument)),
-        _ => false,
+        [argument] => type_found_by(name_alone(env, argument)?.found),
+        _ => None,
     }
+}
+
+/// A name, or a name behind a point.
+fn qualident_of(name: Name, selectors: &[Selector]) -> Option<Qualident>
+    ensures { result ≡ judge.qualident_of name selectors.now }
+{
+    match selectors {
+        [] => Some(Qualident {
+            first: name,
+            second: None,
+        }),
+        [Selector::Field(_, own)] => Some(Qualident {
+            first: name,
+            second: Some(*own),
+        }),
+        _ => None,
+    }
+}
+
+/// The same of a sum, where it is one.
+pub fn qualident_in(part: &Simple) -> Option<Qualident>
+    ensures { result ≡ judge.qualident_in part.now }
+{
+    if !is_factor_of(part) {
+        return None;
+    }
+    let desig = desig_in(&part.first.first)?;
+    qualident_of(desig.name, desig.selectors.as_slice())
 }
 
 fn limit_of(limit: Limit, of: TypeId) -> Option<Literal>
@@ -178,7 +211,7 @@ pub fn limit_called(
     }
 }
 
-/// A call of a name that is no type, which has a value that can't be called.
+/// A bracket behind a name that is no type, which has a value that can't be called.
 #[tactic(auto, using(aos_symbols::proofs::Keeping::after_more))]
 fn value_called(
     alloc: Global,
@@ -187,20 +220,20 @@ fn value_called(
     head: Head,
     at: Pos,
     arguments: &[Expr],
-) -> Result<Answer, AllocError>
+) -> Result<Spot, AllocError>
     ensures noted { OnOk result (found.new ≡ first_after found.old
         (bind (designators.named env.now head)
-        (λ a. designators.guarded env.now a.known.of (judge.is_guard env.now arguments.now) at head.first)).breaches) }
-    ensures answer { IfOk result (λ r. seen_answer r ≡
+        (λ a. designators.guarded env.now head.first at a (judge.guard_type env.now arguments.now))).breaches) }
+    ensures answer { IfOk result (λ r. seen_spot r ≡
         (bind (designators.named env.now head)
-        (λ a. designators.guarded env.now a.known.of (judge.is_guard env.now arguments.now) at head.first)).answer) }
+        (λ a. designators.guarded env.now head.first at a (judge.guard_type env.now arguments.now))).answer) }
 {
-    let of = named(alloc, found, env, head)?.known.of;
-    let is_guard = is_guard(env, arguments);
-    Ok(guarded(found, env, of, is_guard, at, head.first))
+    let whole = named(alloc, found, env, head)?;
+    let of = guard_type(env, arguments);
+    guarded(alloc, found, env, head.first, at, whole, of)
 }
 
-/// A call of what can't be called.
+/// A bracket behind what can't be called.
 pub fn not_called(
     alloc: Global,
     found: &mut Option<Breach>,
@@ -208,28 +241,29 @@ pub fn not_called(
     head: Head,
     at: Pos,
     arguments: &[Expr],
-) -> Result<Answer, AllocError>
+) -> Result<Spot, AllocError>
     ensures noted { OnOk result (found.new ≡ first_after found.old
         (judge.not_called env.now head at arguments.now).breaches) }
-    ensures answer { IfOk result (λ r. seen_answer r ≡
+    ensures answer { IfOk result (λ r. seen_spot r ≡
         (judge.not_called env.now head at arguments.now).answer) }
 {
+    let first = head.first;
     match head.found {
         Lookup::Found(symbol) => match symbol.means {
-            Meaning::Type(Some(_)) => Ok(refused(found, WRONG_CALL, head.first)),
-            Meaning::Type(None) => Ok(refused(found, NOT_BUILT, head.first)),
+            Meaning::Type(Some(_)) => Ok(refused_at(found, WRONG_CALL, first, first)),
+            Meaning::Type(None) => Ok(refused_at(found, NOT_BUILT, first, first)),
             _ => value_called(alloc, found, env, head, at, arguments),
         },
         _ => value_called(alloc, found, env, head, at, arguments),
     }
 }
 
-/// Whether a type is a basic one, or may be.
-fn may_be_basic(of: Option<TypeId>) -> bool
-    ensures { result ≡ passes is_basic_type of }
+/// Whether the values of a type are scalars that are built, or may be.
+pub fn may_be_value(env: &Env<'_>, of: Option<TypeId>) -> bool
+    ensures { result ≡ passes (designators.is_value env.now) of }
 {
     match of {
-        Some(of) => is_basic(of),
+        Some(of) => is_value(env, of),
         None => true,
     }
 }
@@ -249,6 +283,7 @@ fn function_answer(home: u32, number: u32, of: Option<TypeId>, handing: Handing)
 /// The value of a function of this result with these arguments, in a call that begins here.
 pub fn function_value(
     found: &mut Option<Breach>,
+    env: &Env<'_>,
     first: Pos,
     home: u32,
     number: u32,
@@ -256,11 +291,11 @@ pub fn function_value(
     handing: Handing,
 ) -> Answer
     ensures noted { found.new ≡ first_after found.old
-        (judge.function_told first home number of (seen_handing handing)).breaches }
+        (judge.function_told env.now first home number of (seen_handing handing)).breaches }
     ensures answer { seen_answer result ≡
-        (judge.function_told first home number of (seen_handing handing)).answer }
+        (judge.function_told env.now first home number of (seen_handing handing)).answer }
 {
-    if !may_be_basic(of) {
+    if !may_be_value(env, of) {
         note(found, NOT_BUILT, first);
     }
     function_answer(home, number, of, handing)

@@ -11,11 +11,12 @@ use crate::known::{
     Answer, Class, Held, Known, Spot, answered, constant_answer, is_basic, is_long_text, nothing,
     read_from, some_value, spot_of, unknown,
 };
+use crate::references::{guarded_spot, is_value};
 use crate::variables::{is_opened, is_reached, place_of_variable};
 use aos_base::Pos;
 use aos_symbols::{
-    Breach, Env, Lookup, Meaning, NO_VARIABLE, NOT_BUILT, NOT_CONSTANT, NOT_EXPORTED, OTHER_KIND,
-    Open, READ_ONLY, Symbol, UNKNOWN, WRONG_CALL, WRONG_TEST, is_procedure_of_out, note, word,
+    Breach, Env, Lookup, Meaning, NO_VARIABLE, NOT_BUILT, NOT_CONSTANT, NOT_EXPORTED, Narrowed,
+    OTHER_KIND, Open, READ_ONLY, Symbol, UNKNOWN, WRONG_CALL, is_procedure_of_out, note, word,
 };
 use aos_tree::{Export, Name};
 use aos_typed::{Literal, TExpr, TPlace};
@@ -176,13 +177,59 @@ fn variable(
     })
 }
 
-/// A name that breaks a rule.
-pub fn refused_at(found: &mut Option<Breach>, rule: u16, at: Pos) -> Spot
+/// A designator whose name stands at a place, and which breaks a rule here.
+pub fn refused_at(found: &mut Option<Breach>, rule: u16, at: Pos, here: Pos) -> Spot
     ensures noted { found.new ≡
-        first_after found.old (judge.spotted at (judge.refused rule at)).breaches }
-    ensures answer { seen_spot result ≡ (judge.spotted at (judge.refused rule at)).answer }
+        first_after found.old (judge.spotted at (judge.refused rule here)).breaches }
+    ensures answer { seen_spot result ≡ (judge.spotted at (judge.refused rule here)).answer }
 {
-    spot_of(at, refused(found, rule, at))
+    spot_of(at, refused(found, rule, here))
+}
+
+fn is_narrowed(symbol: Symbol, number: u32, variable: Narrowed) -> bool
+    ensures { result ≡ judge.is_narrowed symbol number variable }
+{
+    variable.at.home == symbol.at.home
+        && variable.at.scope == symbol.at.scope
+        && variable.number == number
+}
+
+/// A variable, guarded with the type of a WITH that narrows it.
+fn narrowed_by(
+    alloc: Global,
+    env: &Env<'_>,
+    symbol: Symbol,
+    number: u32,
+    whole: Spot,
+    variable: Narrowed,
+) -> Result<Spot, AllocError>
+    ensures { IfOk result (λ r. seen_spot r ≡
+        judge.narrowed_by env.now symbol number (seen_spot whole) variable) }
+{
+    if is_narrowed(symbol, number, variable) {
+        guarded_spot(alloc, env, variable.of, whole)
+    } else {
+        Ok(whole)
+    }
+}
+
+/// A variable, guarded with the types of the WITHs that narrow it.
+#[tactic(auto, using(crate::proofs::First::fold_later, crate::proofs::First::fold_done))]
+fn narrowed(
+    alloc: Global,
+    env: &Env<'_>,
+    symbol: Symbol,
+    number: u32,
+    whole: Spot,
+) -> Result<Spot, AllocError>
+    ensures { IfOk result (λ r. seen_spot r ≡
+        judge.narrowed env.now symbol number (seen_spot whole)) }
+{
+    let mut guarded = whole;
+    for variable in env.narrowed.as_slice() {
+        guarded = narrowed_by(alloc, env, symbol, number, guarded, *variable)?;
+    }
+    Ok(guarded)
 }
 
 fn refused_value_at(found: &mut Option<Breach>, rule: u16, first: Pos, at: Pos) -> Spot
@@ -210,11 +257,11 @@ fn meant(
     let at = head.at;
     match means {
         Meaning::Variable(number) => {
-            if is_reached(env, symbol) {
-                variable(alloc, env, symbol, number, at)
-            } else {
-                Ok(refused_at(found, NOT_BUILT, at))
+            if !is_reached(env, symbol) {
+                return Ok(refused_at(found, NOT_BUILT, at, at));
             }
+            let whole = variable(alloc, env, symbol, number, at)?;
+            narrowed(alloc, env, symbol, number, whole)
         }
         Meaning::Constant(number) => {
             let value = env.constant(symbol.at, number, head.first);
@@ -233,9 +280,9 @@ fn meant_otherwise(found: &mut Option<Breach>, means: Meaning, head: Head) -> Sp
     let at = head.at;
     match means {
         Meaning::Truth(value) => spot_of(at, constant_answer(Literal::Bool(value))),
-        Meaning::Type(_) => refused_at(found, OTHER_KIND, at),
-        Meaning::Module(_) => refused_at(found, OTHER_KIND, at),
-        Meaning::Out => refused_at(found, OTHER_KIND, at),
+        Meaning::Type(_) => refused_at(found, OTHER_KIND, at, at),
+        Meaning::Module(_) => refused_at(found, OTHER_KIND, at, at),
+        Meaning::Out => refused_at(found, OTHER_KIND, at, at),
         Meaning::Function(_) => refused_value_at(found, WRONG_CALL, head.first, at),
         Meaning::Routine(_) => refused_value_at(found, WRONG_CALL, head.first, at),
         Meaning::Proper => refused_value_at(found, WRONG_CALL, head.first, at),
@@ -255,8 +302,8 @@ pub fn named(
     ensures answer { IfOk result (λ r. seen_spot r ≡ (judge.named env.now head).answer) }
 {
     match head.found {
-        Lookup::Unknown => Ok(refused_at(found, UNKNOWN, head.at)),
-        Lookup::NotExported => Ok(refused_at(found, NOT_EXPORTED, head.at)),
+        Lookup::Unknown => Ok(refused_at(found, UNKNOWN, head.at, head.at)),
+        Lookup::NotExported => Ok(refused_at(found, NOT_EXPORTED, head.at, head.at)),
         Lookup::Found(symbol) => meant(alloc, found, env, symbol, symbol.means, head),
     }
 }
@@ -274,38 +321,11 @@ pub fn has_parts(env: &Env<'_>, of: TypeId) -> bool
     )
 }
 
-/// Whether a type is built: a basic type, that of string constants, one that has parts, or an open array.
+/// Whether a type is built: a basic type, that of string constants, one that has parts, an open array, or one of objects.
 pub fn is_built(env: &Env<'_>, of: TypeId) -> bool
     ensures { result ≡ judge.is_built env.now of }
 {
-    is_basic(of) || is_long_text(of) || has_parts(env, of) || is_opened(env, of)
-}
-
-/// A call of what is of this type, or a guard, where the argument is the name of a type.
-pub fn guarded(
-    found: &mut Option<Breach>,
-    env: &Env<'_>,
-    of: Option<TypeId>,
-    is_guard: bool,
-    at: Pos,
-    first: Pos,
-) -> Answer
-    ensures noted { found.new ≡
-        first_after found.old (judge.guarded env.now of is_guard at first).breaches }
-    ensures answer { seen_answer result ≡ (judge.guarded env.now of is_guard at first).answer }
-{
-    match of {
-        None => refused(found, NOT_BUILT, at),
-        Some(of) => {
-            if !is_guard {
-                refused(found, WRONG_CALL, first)
-            } else if is_built(env, of) {
-                refused(found, WRONG_TEST, at)
-            } else {
-                refused(found, NOT_BUILT, at)
-            }
-        }
-    }
+    is_value(env, of) || is_long_text(of) || has_parts(env, of) || is_opened(env, of)
 }
 
 fn refuse_others(found: &mut Option<Breach>, env: &Env<'_>, of: Option<TypeId>, at: Pos)

@@ -9,17 +9,18 @@ ghost use Rattle.aos_check_expr.specs.Seen.{seen_answer, seen_handing, seen_part
 
 use crate::arguments::{Handing, hand, nothing_handed};
 use crate::calls::{
-    Limit, desig_alone, function_value, is_guard, limit_called, not_called, value_of_one,
-    value_of_two,
+    Limit, desig_alone, function_value, guard_type, limit_called, not_called, qualident_in,
+    value_of_one, value_of_two,
 };
-use crate::designators::{Head, guarded, is_module, named, plain, read, refused, refused_value};
+use crate::designators::{Head, is_module, named, plain, read, refused, refused_value};
 use crate::forms::{
-    added, byte_of, character, multiplied, not_yet, number, opposite, related, signed, string,
-    whole_set, with_element, with_span,
+    added, byte_of, character, is_test, multiplied, number, opposite, related, signed, string,
+    tested, whole_set, with_element, with_span,
 };
-use crate::known::{Answer, Spot, is_integer, spot_of};
+use crate::known::{Answer, Spot, constant_answer, is_integer, spot_of};
 use crate::lengths::{len_alone, len_in};
 use crate::operations;
+use crate::references::guarded;
 use crate::selectors::{self, Part, followed_part, pointed, spot_of_part};
 use crate::variables::is_of_module;
 use aos_base::Pos;
@@ -28,6 +29,7 @@ use aos_symbols::{
     WRONG_CALL, note,
 };
 use aos_tree::{Addition, Desig, Elem, Expr, Factor, Product, Relation, Selector, Simple, Term};
+use aos_typed::Literal;
 use aos_types::TypeId;
 use std::alloc::{AllocError, Global};
 
@@ -52,7 +54,7 @@ pub fn expr(
 }
 
 #[cycle(exprs)]
-#[tactic(auto, using(aos_symbols::proofs::Keeping::after_more, crate::proofs::Rows::relation_is))]
+#[tactic(auto, using(aos_symbols::proofs::Keeping::after_more, crate::proofs::Rows::relation_is, crate::proofs::Rows::relation_test))]
 fn relation(
     alloc: Global,
     found: &mut Option<Breach>,
@@ -66,6 +68,9 @@ fn relation(
     ensures answer { IfOk result (λ r. seen_answer r ≡
         (judge.relation env.now first (seen_answer left) part.now).answer) }
 {
+    if is_test(part.op) {
+        return tested(alloc, found, env, part.pos, left, qualident_in(&part.right));
+    }
     let right = simple(alloc, found, env, &part.right)?;
     related(alloc, found, env, first, part.pos, part.op, left, right)
 }
@@ -205,7 +210,7 @@ fn factor(
         Factor::Number(_, n) => Ok(number(*n)),
         Factor::Char(at, n) => Ok(character(found, byte_of(*n), *at)),
         Factor::Text(text) => Ok(string(found, env.text_constant(text.start), text.pos)),
-        Factor::Nil(at) => Ok(not_yet(found, *at)),
+        Factor::Nil(_) => Ok(constant_answer(Literal::Nil)),
         Factor::Set(at, all) => {
             let set = elements(alloc, found, env, *at, all.as_slice())?;
             Ok(whole_set(found, *at, set))
@@ -419,9 +424,9 @@ fn bracketed(
     match whole {
         Part::Begun(head) => bracketed_name(alloc, found, env, head, at, arguments),
         Part::Meant(spot) => {
-            let is_guard = is_guard(env, arguments);
-            let value = guarded(found, env, spot.known.of, is_guard, at, first);
-            Ok(Part::Meant(spot_of(spot.at, value)))
+            let of = guard_type(env, arguments);
+            let whole = guarded(alloc, found, env, first, at, spot, of)?;
+            Ok(Part::Meant(whole))
         }
     }
 }
@@ -447,8 +452,7 @@ fn bracketed_name(
     if is_module(head.found) {
         return Ok(Part::Meant(named(alloc, found, env, head)?));
     }
-    let value = called(alloc, found, env, head, at, arguments)?;
-    Ok(Part::Meant(spot_of(head.first, value)))
+    Ok(Part::Meant(called(alloc, found, env, head, at, arguments)?))
 }
 
 /// A call, whose bracket stands here.
@@ -461,11 +465,11 @@ fn called(
     head: Head,
     at: Pos,
     arguments: &[Expr],
-) -> Result<Answer, AllocError>
+) -> Result<Spot, AllocError>
     ensures noted { OnOk result (found.new ≡ first_after found.old
         (judge.called env.now head at
         (map (judge.expr env.now) arguments.now) arguments.now).breaches) }
-    ensures answer { IfOk result (λ r. seen_answer r ≡
+    ensures answer { IfOk result (λ r. seen_spot r ≡
         (judge.called env.now head at
         (map (judge.expr env.now) arguments.now) arguments.now).answer) }
 {
@@ -486,41 +490,56 @@ fn called_as(
     head: Head,
     at: Pos,
     arguments: &[Expr],
-) -> Result<Answer, AllocError>
+) -> Result<Spot, AllocError>
     ensures noted { OnOk result (found.new ≡ first_after found.old
         (judge.called_by env.now (judge.callee_meant symbol symbol.means) head at
         (map (judge.expr env.now) arguments.now) arguments.now).breaches) }
-    ensures answer { IfOk result (λ r. seen_answer r ≡
+    ensures answer { IfOk result (λ r. seen_spot r ≡
         (judge.called_by env.now (judge.callee_meant symbol symbol.means) head at
         (map (judge.expr env.now) arguments.now) arguments.now).answer) }
 {
+    let first = head.first;
     match symbol.means {
-        Meaning::Function(Function::Max) => {
-            Ok(limit_called(found, env, Limit::Greatest, arguments, head.first))
-        }
-        Meaning::Function(Function::Min) => {
-            Ok(limit_called(found, env, Limit::Least, arguments, head.first))
-        }
-        Meaning::Function(Function::Len) => measured(alloc, found, env, head.first, arguments),
-        Meaning::Function(Function::Ash) => shifted(alloc, found, env, head.first, arguments),
         Meaning::Function(function) => {
-            applied(alloc, found, env, function, head.first, arguments)
+            let value = called_function(alloc, found, env, function, first, arguments)?;
+            Ok(spot_of(first, value))
         }
         Meaning::Procedure(number) if is_of_module(symbol) => {
-            invoked(
-                alloc,
-                found,
-                env,
-                head.first,
-                symbol.at.home,
-                number,
-                arguments,
-            )
+            let value = invoked(alloc, found, env, first, symbol.at.home, number, arguments)?;
+            Ok(spot_of(first, value))
         }
         Meaning::Type(Some(of)) if is_integer(of) => {
-            converted(alloc, found, env, of, head.first, arguments)
+            let value = converted(alloc, found, env, of, first, arguments)?;
+            Ok(spot_of(first, value))
         }
         _ => not_called(alloc, found, env, head, at, arguments),
+    }
+}
+
+/// A call of a predeclared function, which begins here.
+#[cycle(exprs)]
+#[tactic(auto, using(aos_symbols::proofs::Keeping::after_more))]
+fn called_function(
+    alloc: Global,
+    found: &mut Option<Breach>,
+    env: &Env<'_>,
+    function: Function,
+    first: Pos,
+    arguments: &[Expr],
+) -> Result<Answer, AllocError>
+    ensures noted { OnOk result (found.new ≡ first_after found.old
+        (judge.function_called env.now function first
+        (map (judge.expr env.now) arguments.now) arguments.now).breaches) }
+    ensures answer { IfOk result (λ r. seen_answer r ≡
+        (judge.function_called env.now function first
+        (map (judge.expr env.now) arguments.now) arguments.now).answer) }
+{
+    match function {
+        Function::Max => Ok(limit_called(found, env, Limit::Greatest, arguments, first)),
+        Function::Min => Ok(limit_called(found, env, Limit::Least, arguments, first)),
+        Function::Len => measured(alloc, found, env, first, arguments),
+        Function::Ash => shifted(alloc, found, env, first, arguments),
+        _ => applied(alloc, found, env, function, first, arguments),
     }
 }
 
@@ -551,7 +570,7 @@ fn invoked(
     };
     let parameters = signature.parameters.as_slice();
     let handing = arguments_for(alloc, found, env, first, parameters, arguments)?;
-    Ok(function_value(found, first, home, number, of, handing))
+    Ok(function_value(found, env, first, home, number, of, handing))
 }
 
 /// The arguments of a call that begins here: there is one for each parameter.

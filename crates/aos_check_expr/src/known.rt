@@ -9,8 +9,8 @@ ghost use Rattle.aos_check_expr.specs.Seen.{seen_answer, seen_held, seen_spot};
 
 use aos_base::{Pos, Width};
 use aos_symbols::{
-    BASIC_TYPES, BOOLEAN, Breach, CHAR, HUGEINT, INTEGER, LONGINT, NOT_CONSTANT, SET, SHORTINT,
-    TEXT, note,
+    ANY, BASIC_TYPES, BOOLEAN, Breach, CHAR, HUGEINT, INTEGER, LONGINT, NIL, NOT_CONSTANT, SET,
+    SHORTINT, TEXT, note,
 };
 use aos_typed::{Literal, TExpr, TPlace, TType};
 use aos_types::TypeId;
@@ -122,18 +122,30 @@ pub fn is_long_text(of: TypeId) -> bool
     TEXT.0 == of.0
 }
 
-/// Whether a value of one basic type may be assigned to a variable of another, each of which may not be known.
+/// Whether a type is that of NIL, or ANY.
+pub fn is_of_any(of: TypeId) -> bool
+    ensures { result ≡ known.is_of_any of }
+{
+    NIL.0 == of.0 || ANY.0 == of.0
+}
+
+/// Whether a value of one basic type may be assigned to a variable of another.
+pub fn fits_type(from: TypeId, to: TypeId) -> bool
+    ensures { result ≡ known.fits_type from to }
+{
+    if from.0 < 4 && to.0 < 4 {
+        from.0 <= to.0
+    } else {
+        from.0 == to.0
+    }
+}
+
+/// The same of types that may not be known.
 pub fn fits(from: Option<TypeId>, to: Option<TypeId>) -> bool
     ensures { result ≡ known.fits from to }
 {
     match (from, to) {
-        (Some(from), Some(to)) => {
-            if from.0 < 4 && to.0 < 4 {
-                from.0 <= to.0
-            } else {
-                from.0 == to.0
-            }
-        }
+        (Some(from), Some(to)) => fits_type(from, to),
         _ => true,
     }
 }
@@ -263,6 +275,7 @@ pub fn type_of_literal(value: Literal) -> TypeId
         Literal::Char(_) => CHAR,
         Literal::Set(_) => SET,
         Literal::Text(text) => { if text.length == 1 { CHAR } else { TEXT } }
+        Literal::Nil => NIL,
     }
 }
 
@@ -278,6 +291,8 @@ pub fn type_as(of: TypeId) -> TType
         TType::Char
     } else if SET.0 == of.0 {
         TType::Set
+    } else if is_of_any(of) {
+        TType::Any
     } else {
         TType::Named(object_number(of))
     }
@@ -298,6 +313,16 @@ pub fn is_unknown(class: Class) -> bool
     ensures { result ≡ known.is_unknown class }
 {
     matches!(class, Class::Unknown)
+}
+
+/// The class of what is made of a part, and is no constant.
+pub fn value_class(class: Class) -> Class
+    ensures { result ≡ known.value_class class }
+{
+    match class {
+        Class::Unknown => Class::Unknown,
+        _ => Class::Computed,
+    }
 }
 
 /// Whether a part is a constant whose computation has no value.

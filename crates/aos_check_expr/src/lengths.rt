@@ -8,7 +8,7 @@ ghost use Rattle.aos_check_expr.specs.Arrays as judge;
 ghost use Rattle.aos_check_expr.specs.Seen.{seen_answer};
 
 use crate::designators::place_in;
-use crate::known::{Answer, Class, answered, is_basic, is_unknown};
+use crate::known::{Answer, Class, answered, is_basic, is_unknown, value_class};
 use crate::operations::{argument, kept_class, kept_type};
 use crate::variables::{is_opened, open_dimensions, rows_of};
 use aos_base::Pos;
@@ -48,16 +48,6 @@ pub fn length_of(env: &Env<'_>, of: Option<TypeId>, dimension: u32) -> Option<u3
         of = Some(*element);
     }
     None
-}
-
-/// What is made of an array is no constant.
-fn len_class(class: Class) -> Class
-    ensures { result ≡ judge.len_class class }
-{
-    match class {
-        Class::Unknown => Class::Unknown,
-        _ => Class::Computed,
-    }
 }
 
 /// Whether a type is that of an open array, and is known.
@@ -186,7 +176,7 @@ fn len_answer(
     let takes = is_array(env, known.of);
     let rows = rows_of(alloc, place_in(array.typed))?;
     Ok(answered(
-        kept_class(takes, len_class(known.class)),
+        kept_class(takes, value_class(known.class)),
         kept_type(takes, Some(LONGINT)),
         len_typed(env, known.of, rows, dimension)?,
     ))

@@ -1,4 +1,4 @@
-// The operators and predeclared functions on basic values: which types they take, of which type their result is, and what they
+// The operators and predeclared functions on values: which types they take, of which type their result is, and what they
 // are in the typed program. Constants are computed by the same operators, on 64 bits.
 
 ghost use Rattle.std.specs.Prelude.{◌≡◌, ◌^◌, ◌||◌, IfOk, OnOk};
@@ -44,6 +44,10 @@ pub enum Joint {
     On(Binary),
     And,
     Or,
+    /// Whether both are one object, or NIL.
+    Same,
+    /// Whether they aren't.
+    Differ,
 }
 
 /// What an operator or function does to an operand of a type: whether it takes that, the type that it gives, and how.
@@ -92,6 +96,7 @@ pub fn number(literal: Literal) -> i64
         Literal::Char(code) => i64::from(code),
         Literal::Set(elements) => i64::from(elements),
         Literal::Text(text) => i64::from(text.first),
+        Literal::Nil => 0,
     }
 }
 
@@ -254,6 +259,8 @@ fn joint_value(joint: Joint, a: Literal, b: Literal) -> Option<Literal>
         Joint::On(operator) => computed(operator, a, b),
         Joint::And => Some(Literal::Bool(is_true(a) && is_true(b))),
         Joint::Or => Some(Literal::Bool(is_true(a) || is_true(b))),
+        Joint::Same => Some(Literal::Bool(true)),
+        Joint::Differ => Some(Literal::Bool(false)),
     }
 }
 
@@ -279,6 +286,11 @@ fn joint_typed(alloc: Global, joint: Joint, left: TExpr, right: TExpr) -> Result
         Joint::On(operator) => Ok(TExpr::Binary(operator, left, right)),
         Joint::And => Ok(TExpr::And(left, right)),
         Joint::Or => Ok(TExpr::Or(left, right)),
+        Joint::Same => Ok(TExpr::Same(left, right)),
+        Joint::Differ => {
+            let same = Box::new(alloc, TExpr::Same(left, right))?;
+            Ok(TExpr::Unary(Unary::Not, same))
+        }
     }
 }
 
@@ -553,7 +565,7 @@ fn contained(a: Option<TypeId>, b: Option<TypeId>) -> Operation
     )
 }
 
-/// `=`, `#`, `<`, `<=`, `>`, `>=`, `IN` and `IS`; the last isn't built, and its operation is never looked at.
+/// `=`, `#`, `<`, `<=`, `>`, `>=`, `IN` and `IS`; the last has no operation, and this one is never looked at.
 pub fn related(op: RelationOp, a: Option<TypeId>, b: Option<TypeId>) -> Operation
     ensures { result ≡ judge.related op a b }
 {
@@ -579,6 +591,16 @@ fn negated(a: Option<TypeId>) -> Step
         Unary::Neg(width_of(a))
     };
     Step::new(is_number(a) || is_set(a), a, Single::On(operator))
+}
+
+/// Whether two operands are one object, or both NIL, or for `#` whether they aren't.
+pub fn identified(relation: Relation, takes: bool) -> Operation
+    ensures { result ≡ judge.identified relation takes }
+{
+    match relation {
+        Relation::NotEqual => Operation::new(takes, Some(BOOLEAN), Joint::Differ),
+        _ => Operation::new(takes, Some(BOOLEAN), Joint::Same),
+    }
 }
 
 /// `+` and `-` before a sum.

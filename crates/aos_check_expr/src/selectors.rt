@@ -12,6 +12,7 @@ ghost use Rattle.aos_check_expr.specs.Seen.{seen_answer, seen_held, seen_part, s
 
 use crate::designators::{Head, is_built, is_module, member_behind, named, refused_at};
 use crate::known::{Answer, Class, Held, Spot, is_basic, is_number, known_as, type_as};
+use crate::references::{followed_spot, is_record_type, target_of, through, unknown_part};
 use crate::variables::rows_of;
 use aos_base::Pos;
 use aos_symbols::{Breach, Env, Field, NOT_BUILT, NOT_EXPORTED, WRONG_SELECTOR};
@@ -26,9 +27,9 @@ pub fn lacking(found: &mut Option<Breach>, env: &Env<'_>, of: TypeId, at: Pos) -
     ensures answer { seen_spot result ≡ (judge.lacking env.now of at).answer }
 {
     if is_built(env, of) {
-        refused_at(found, WRONG_SELECTOR, at)
+        refused_at(found, WRONG_SELECTOR, at, at)
     } else {
-        refused_at(found, NOT_BUILT, at)
+        refused_at(found, NOT_BUILT, at, at)
     }
 }
 
@@ -45,17 +46,6 @@ fn part_class(may_write: bool, class: Class) -> Class
             }
         }
         _ => class,
-    }
-}
-
-/// A part whose type isn't known.
-fn unknown_part(at: Pos, whole: Spot) -> Spot
-    ensures { seen_spot result ≡ judge.unknown_part at (seen_spot whole) }
-{
-    Spot {
-        known: known_as(whole.known.class, None),
-        held: whole.held,
-        at,
     }
 }
 
@@ -118,13 +108,13 @@ fn found_field(
             if field.is_own || field.mark.is_some() {
                 field_spot(alloc, of, field, name.pos, whole)
             } else {
-                Ok(refused_at(found, NOT_EXPORTED, name.pos))
+                Ok(refused_at(found, NOT_EXPORTED, name.pos, name.pos))
             }
         }
     }
 }
 
-/// A field, behind a point that stands here.
+/// A field of a variable, or of what a pointer leads to, behind a point that stands here.
 pub fn field(
     alloc: Global,
     found: &mut Option<Breach>,
@@ -138,19 +128,15 @@ pub fn field(
     ensures answer { IfOk result (λ r. seen_spot r ≡
         (judge.field env.now (seen_spot whole) at name).answer) }
 {
+    let whole = through(alloc, env, whole)?;
     let Some(of) = whole.known.of else {
         return Ok(unknown_part(name.pos, whole));
     };
-    if is_basic(of) {
+    if !is_record_type(env, of) {
         return Ok(lacking(found, env, of, at));
     }
-    match env.row(Some(of)) {
-        Some(TypeRow::Record(None, _)) => {
-            let field = env.field(of, name);
-            found_field(alloc, found, env, of, field, whole, at, name)
-        }
-        _ => Ok(lacking(found, env, of, at)),
-    }
+    let field = env.field(of, name)?;
+    found_field(alloc, found, env, of, field, whole, at, name)
 }
 
 fn element_held(
@@ -210,7 +196,7 @@ fn found_element(
     if is_number(index.known.of) {
         element_spot(alloc, elements, of, index, whole)
     } else {
-        Ok(refused_at(found, WRONG_SELECTOR, at))
+        Ok(refused_at(found, WRONG_SELECTOR, at, at))
     }
 }
 
@@ -264,12 +250,12 @@ fn found_row(
         (judge.row_found behind of at (seen_spot whole) (seen_answer index)).answer) }
 {
     if !is_number(index.known.of) {
-        return Ok(refused_at(found, WRONG_SELECTOR, at));
+        return Ok(refused_at(found, WRONG_SELECTOR, at, at));
     }
     row_spot(alloc, behind, of, index, whole)
 }
 
-/// An element, in a bracket that stands here.
+/// An element of a variable, or of what a pointer leads to, in a bracket that stands here.
 pub fn element(
     alloc: Global,
     found: &mut Option<Breach>,
@@ -283,6 +269,7 @@ pub fn element(
     ensures answer { IfOk result (λ r. seen_spot r ≡
         (judge.element env.now at (seen_spot whole) (seen_answer index)).answer) }
 {
+    let whole = through(alloc, env, whole)?;
     let Some(of) = whole.known.of else {
         return Ok(unknown_part(whole.at, whole));
     };
@@ -301,15 +288,25 @@ pub fn element(
     }
 }
 
-/// `^`, which stands here: no type that is built has it.
-fn followed(found: &mut Option<Breach>, env: &Env<'_>, whole: Spot, at: Pos) -> Spot
-    ensures noted { found.new ≡
-        first_after found.old (judge.followed env.now (seen_spot whole) at).breaches }
-    ensures answer { seen_spot result ≡ (judge.followed env.now (seen_spot whole) at).answer }
+/// What a pointer leads to, by `^`, which stands here.
+fn followed(
+    alloc: Global,
+    found: &mut Option<Breach>,
+    env: &Env<'_>,
+    whole: Spot,
+    at: Pos,
+) -> Result<Spot, AllocError>
+    ensures noted { OnOk result (found.new ≡
+        first_after found.old (judge.followed env.now (seen_spot whole) at).breaches) }
+    ensures answer { IfOk result (λ r. seen_spot r ≡
+        (judge.followed env.now (seen_spot whole) at).answer) }
 {
-    match whole.known.of {
-        None => unknown_part(whole.at, whole),
-        Some(of) => lacking(found, env, of, at),
+    let Some(of) = whole.known.of else {
+        return Ok(unknown_part(whole.at, whole));
+    };
+    match target_of(env, of) {
+        Some(to) => followed_spot(alloc, env, to, whole),
+        None => Ok(lacking(found, env, of, at)),
     }
 }
 
@@ -402,5 +399,5 @@ pub fn followed_part(
         (expressions.followed_part env.now (seen_part part) at).answer) }
 {
     let whole = spot_of_part(alloc, found, env, part)?;
-    Ok(Part::Meant(followed(found, env, whole, at)))
+    Ok(Part::Meant(followed(alloc, found, env, whole, at)?))
 }

@@ -1,5 +1,5 @@
 -- The predeclared procedures that change a variable or trap are well typed.
-use Rattle.std.proofs.Common.{◌≡◌, ◌<◌, pos, negsuc, List, [], ◌∷◌, Bool, true, false, ◌&&◌, Option, Some, None, nat_lt, refl, sym, ap, ◌∙◌, subst, ltb-true, arith, if◌then◌else◌}
+use Rattle.std.proofs.Common.{◌≡◌, ◌<◌, inl, pos, negsuc, List, [], ◌∷◌, Bool, true, false, ◌&&◌, Option, Some, None, nat_lt, refl, sym, ap, ◌∙◌, subst, ltb-true, arith, if◌then◌else◌}
 use Rattle.std.specs.Option.{unwrap_or}
 use Rattle.std.proofs.lemmas.Bool.{and_parts}
 use Rattle.std.proofs.lemmas.Int.{ints}
@@ -65,10 +65,10 @@ one_within W64 = record { low = omega (arith, ints); high = omega (arith, ints) 
 
 module _ (p : Inside) (e : Env) (whole : IsWhole p e) where
   one_of : (c : Change) → IsOf p (Lit (literal.Int (pos 1))) (amount_type c)
-  one_of (change.Add w) = one_within w
-  one_of (change.Subtract w) = one_within w
-  one_of change.Include = one_within W64
-  one_of change.Exclude = one_within W64
+  one_of (change.Add w) = inl (one_within w)
+  one_of (change.Subtract w) = inl (one_within w)
+  one_of change.Include = inl (one_within W64)
+  one_of change.Exclude = inl (one_within W64)
 
   -- a variable that is changed
   abbrev IsChanged : Routine → Spot → Type 0

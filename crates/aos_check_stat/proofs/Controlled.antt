@@ -7,6 +7,7 @@ use Rattle.std.specs.Ordering.{int_eq}
 use Rattle.std.proofs.lemmas.Bool.{and_parts}
 use Rattle.std.proofs.lemmas.List.Elements.{All-push}
 use Rattle.aos_base.specs.declared.text.Pos.{Pos}
+use Rattle.aos_base.specs.declared.number.Width.{Width}
 use Rattle.aos_base.specs.declared.number.Width.TheVariants.{W64}
 use Rattle.aos_base.specs.Number.{IsWithin}
 use Rattle.aos_tree.specs.declared.name.Name.{Name}
@@ -41,6 +42,7 @@ use Rattle.aos_check_expr.specs.Expressions.{constant_class, expr}
 use Rattle.aos_check_expr.proofs.Good.{IsGood, HasGood, good_number}
 use Rattle.aos_check_expr.proofs.Inside.{Inside, IsOf}
 use Rattle.aos_check_expr.proofs.Opens.{next_dimensions}
+use Rattle.aos_check_expr.proofs.Passed.{basic_fit}
 use Rattle.aos_check_expr.proofs.Spots.{IsTyped, closed, opened, opened_row, plain_head}
 use Rattle.aos_check_expr.proofs.Types.{as_integer, integer_basic, wider, fits_includes}
 use Rattle.aos_check_expr.proofs.Sound.{not_both, IsSound, sound_number, sound_char}
@@ -156,14 +158,22 @@ module _ (p : Inside) (e : Env) (whole : IsWhole p e) where
       by : (j : Judged (Option Literal)) → j ≡ kept (Some l) → ((expr e x).breaches ++ j.breaches ≡ [] → HasGood j.answer) → IsGood l
       by j same good = of_good j.answer (good (none_more j same)) (ap (λ i. i.answer) same)
 
+  not_nil : (n : ℤ) → literal.Int n ≡ literal.Nil → ⊥
+  not_nil n e = cc
+
+  literal_within : (n : ℤ) (w : Width) → IsOf p (Lit (literal.Int n)) (type.Integer w) → IsWithin w n
+  literal_within n w (inl h) = h
+  literal_within n w (inr h) = absurd (not_nil n h.0)
+
   -- a step is of the variable's width
   step_within : (t : TypeId) → is_number (Some t) ≡ true → (c : Class) → ((l : Literal) → c ≡ Constant (Some l) → IsGood l) → is_step (Some t) c ≡ true →
       IsWithin (width_of (Some t)) (step_in c)
   step_within t is (Constant (Some (literal.Int n))) good h =
       let small = type_of_literal (literal.Int n) in
       let fit = (and_parts (not (int_eq n (pos 0))) (fits (Some small) (Some t)) h).1 in
-      subst (IsOf p (Lit (literal.Int n))) (as_integer t is)
-      (wider p (Lit (literal.Int n)) (type_as small) (type_as t) (good (literal.Int n) refl) (fits_includes small t fit))
+      literal_within n (width_of (Some t))
+      (subst (IsOf p (Lit (literal.Int n))) (as_integer t is)
+      (wider p (Lit (literal.Int n)) (type_as small) (type_as t) (inl (good (literal.Int n) refl)) (fits_includes small t (basic_fit small t (integer_basic t is) fit) fit)))
   step_within t is c good h = one_within (width_of (Some t))
 
   pub step_sound : (place : Place) (of : Option TypeId) → IsTyped p e place of → is_number of ≡ true → (at : Pos) (x : Option TreeExpr) →

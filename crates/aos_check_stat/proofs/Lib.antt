@@ -3,4 +3,5 @@ pub mod Places
 pub mod Apart
 pub mod Changed
 pub mod Controlled
+pub mod Narrowed
 pub mod Typing

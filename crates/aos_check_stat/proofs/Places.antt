@@ -1,43 +1,48 @@
 -- Variables that are assigned, those in which COPY puts a text, and those of which NEW makes an object, have the types that their
 -- statements ask for.
-use Rattle.std.proofs.Common.{◌≡◌, ℕ, ◌+◌, ◌-◌, ◌<◌, ◌≤◌, ◌⊎◌, inl, inr, List, [], ◌∷◌, ◌++◌, length, Bool, true, false, not, ◌&&◌, ◌||◌, Option, Some, None, is_some, slice_get, refl, sym, ap, ◌∙◌, subst, lt-ltb, ne_eqb, arith, if◌then◌else◌}
+use Rattle.std.proofs.Common.{◌≡◌, ℕ, ◌<◌, ◌==◌, ◌⊎◌, inl, inr, List, [], ◌∷◌, ◌++◌, length, Bool, true, false, not, ◌&&◌, ◌||◌, Option, Some, None, is_some, refl, sym, ap, ◌∙◌, subst, eqb-true, ne_eqb, arith, if◌then◌else◌}
 use Rattle.std.proofs.lemmas.Bool.{and_parts}
 use Rattle.std.specs.Option.{is_none}
-use Rattle.std.proofs.lemmas.Option.{none-some, same_Some, slice_get_within}
+use Rattle.std.proofs.lemmas.Option.{none-some, same_Some}
 use Rattle.aos_base.specs.declared.text.Pos.{Pos}
 use Rattle.aos_tree.specs.declared.expr.Desig.{Desig}
 use Rattle.aos_types.specs.declared.row.TypeId.{TypeId}
 use Rattle.aos_types.specs.declared.row.TypeRow.{TypeRow}
 use Rattle.aos_types.specs.declared.row.TypeRow.TheVariants as row
-use Rattle.aos_types.specs.Table.{row_of, is_open, is_object as is_object_row}
+use Rattle.aos_types.specs.Table.{row_of, is_pointer as is_pointer_row, is_object as is_object_row}
+use Rattle.aos_types.specs.Extension.{comes_to}
 use Rattle.aos_typed.specs.declared.tree.TextConstant.{TextConstant}
+use Rattle.aos_typed.specs.declared.tree.TType.{TType}
 use Rattle.aos_typed.specs.declared.tree.TType.TheVariants as type
+use Rattle.aos_typed.specs.Open.{open_dimensions}
 use Rattle.aos_typed.specs.Numbers.{id_of}
 use Rattle.aos_typed.specs.Program.{Place, Stat}
-use Rattle.aos_typed.specs.WellTyped.{is_whole, is_variable}
+use Rattle.aos_typed.specs.WellTyped.{is_whole, is_variable, target}
 use Rattle.aos_symbols.specs.declared.env.Env.{Env}
-use Rattle.aos_symbols.specs.Env.{text}
+use Rattle.aos_symbols.specs.Env.{text, nil}
 use Rattle.aos_symbols.specs.declared.breach.Breach.{Breach}
-use Rattle.aos_symbols.specs.Breaches.{breach, breach_unless}
-use Rattle.aos_symbols.specs.Env as env
+use Rattle.aos_symbols.specs.Breaches.{breach_unless}
 use Rattle.aos_symbols.proofs.Holds.{Holds, none_left, none_right, test_is}
-use Rattle.aos_symbols.proofs.Told.{IsTold, IsKnown, basic, defined}
+use Rattle.aos_symbols.proofs.Told.{IsTold, basic, of_any, defined}
 use Rattle.aos_check_expr.specs.declared.known.Class.{Class}
 use Rattle.aos_check_expr.specs.declared.known.Class.TheVariants.{Unknown, Constant, Variable, ReadOnly, Computed}
 use Rattle.aos_check_expr.specs.declared.known.Known.{Known}
-use Rattle.aos_check_expr.specs.Known.{Answer, Spot, Held, Stands, Value, passes, is, is_basic, is_long_text, fits, fits_type, type_as, type_of}
-use Rattle.aos_check_expr.specs.Designators.{has_parts, is_opened, is_built, assigned, written, place_of, place_in}
+use Rattle.aos_check_expr.specs.Known.{Answer, Spot, Held, Stands, Value, passes, is_basic, is_long_text, fits, fits_type, object_number, type_as}
+use Rattle.aos_check_expr.specs.Designators as desig
+use Rattle.aos_check_expr.specs.Designators.{has_parts, is_opened, is_built, is_pointer_type, is_object_type, is_compatible, assigned, written, place_of, place_in}
 use Rattle.aos_check_expr.specs.Expressions.{is_characters, string_in, designator}
 use Rattle.aos_check_expr.proofs.Inside.{Inside, IsPlaceOf, IsOf, IsStatement}
 use Rattle.aos_check_expr.proofs.Good.{IsGood, IsKnownClass}
 use Rattle.aos_check_expr.proofs.Stored.{IsMade as IsMadeClass}
-use Rattle.aos_check_expr.proofs.Types.{same_type, as_named, wider, fits_includes}
-use Rattle.aos_check_expr.proofs.Sound.{IsScalar, IsClosedPlace, IsOpenPlace, IsWholeRead, IsSound, scalar_of}
-use Rattle.aos_check_expr.proofs.Passed.{basic_fit, whole_fit}
-use Rattle.aos_check_expr.proofs.Spots.{IsTyped, closed, opened, IsStoredHeld, told_closed, opened_row}
+use Rattle.aos_check_expr.proofs.Types.{id_as, id_above, as_named, wider, fits_includes}
+use Rattle.aos_check_expr.proofs.Sound.{IsSound, scalar_of}
+use Rattle.aos_check_expr.proofs.Objects.{IsMadeAs, pointer_kind, object_kind}
+use Rattle.aos_check_expr.proofs.Pointed.{made_there, made_pointed, number_back}
+use Rattle.aos_check_expr.proofs.Passed.{basic_fit, whole_place}
+use Rattle.aos_check_expr.proofs.Spots.{IsTyped, closed, opened, IsStoredHeld, opened_row}
 use Rattle.aos_check_expr.proofs.Worded.{room_kept}
 use Rattle.aos_check_expr.proofs.Typing.{IsWhole, IsSoundSpot, IsTextAt, characters_are, text_rows_are, designator_sound, designator_known, designator_stored}
-use Rattle.aos_check_stat.specs.Bodies.{is_object, object_of, new_breaches, put_text}
+use Rattle.aos_check_stat.specs.Bodies.{is_made, is_built_there, makes_object, made_type, lengths_wanted, new_breaches, count_breaches, put_text}
 use Rattle.aos_check_stat.specs.Bodies as judge
 
 not_both : false ≡ true → ⊥
@@ -46,21 +51,26 @@ not_both e = cc
 pub some_breach : {b : Breach} {bs : List Breach} → b ∷ bs ≡ [] → ⊥
 some_breach e = cc
 
--- what has parts is no basic type
-not_low : (e : Env) (t : TypeId) → has_parts e t ≡ true → is_basic t ≡ false
-not_low e t parts = by (is_basic t) refl
-  where
-    by : (b : Bool) → is_basic t ≡ b → is_basic t ≡ false
-    by true low = absurd (not_both (ap (λ b. not b && is_whole (env.row_of e (Some t))) (sym low) ∙ parts))
-    by false other = other
-
 -- no variable is told to be of the type of string constants
 pub not_long : (types : List TypeRow) (t : TypeId) → IsTold types t → is_long_text t ≡ false
 not_long types t told = ne_eqb 9 t.0 (by told)
   where
     by : IsTold types t → 9 ≡ t.0 → ⊥
     by (basic below) h = omega (arith, h)
+    by (of_any any) h = omega (arith, any, h)
     by (defined r from there shut) h = omega (arith, h)
+
+-- nor of that of NIL
+pub not_nil : (types : List TypeRow) (t : TypeId) → IsTold types t → t ≡ nil → ⊥
+not_nil types t told is = by told
+  where
+    n : t.0 ≡ 7
+    n = ap (λ (u : TypeId). u.0) is
+
+    by : IsTold types t → ⊥
+    by (basic below) = let m = n in omega (arith, below, m)
+    by (of_any any) = let m = n in omega (arith, any, m)
+    by (defined r from there shut) = let m = n in omega (arith, from, m)
 
 -- a value is nothing that is assigned
 no_value : (c : Class) (first : Pos) → IsKnownClass IsGood c → IsMadeClass c → written c first ≡ [] → ⊥
@@ -123,7 +133,7 @@ module _ (p : Inside) (e : Env) (whole : IsWhole p e) where
   pub fits_basic : (t : TypeId) (v : Answer) → is_basic t ≡ true → IsSound p v → fits v.known.of (Some t) ≡ true → IsOf p v.typed (type_as t)
   fits_basic t v low sound h =
       let fit : fits_type sound.of t ≡ true = ap (λ o. fits o (Some t)) (sym sound.known) ∙ h in
-      wider p v.typed (type_as sound.of) (type_as t) (scalar_of p sound.of v.typed sound.typed (basic_fit sound.of t low fit)) (fits_includes sound.of t fit)
+      wider p v.typed (type_as sound.of) (type_as t) (scalar_of p sound.of v.typed sound.typed (basic_fit sound.of t low fit)) (fits_includes sound.of t (basic_fit sound.of t low fit) fit)
 
   -- of a variable of a basic type
   pub fitting : (a : Spot) (v : Answer) (is : IsAssigned a) → is_basic is.of ≡ true → IsSound p v → fits v.known.of a.known.of ≡ true → IsOf p v.typed (type_as is.of)
@@ -131,40 +141,27 @@ module _ (p : Inside) (e : Env) (whole : IsWhole p e) where
 
   -- of one that has parts
   pub record IsCopied (a : Spot) (v : Answer) (t : TypeId) : Type 0 where
-    pub from : IsPlaceOf p (place_in v.typed) (type_as t)
+    pub from : (u : TType) × IsPlaceOf p (place_in v.typed) u × (comes_to p.program.types (id_of u) (id_of (type_as t)) ≡ true)
     pub row : is_whole (row_of p.program.types (id_of (type_as t))) ≡ true
 
   has_row : (t : TypeId) → IsTold e.types t → has_parts e t ≡ true → is_whole (row_of p.program.types (id_of (type_as t))) ≡ true
-  has_row t (basic below) parts = absurd (not_both (ap (λ b. not b && is_whole (env.row_of e (Some t))) (sym (lt-ltb t.0 7 below)) ∙ parts))
-  has_row t (defined r from there shut) parts =
-      ap (λ x. is_whole (row_of p.program.types (id_of x))) (as_named t (omega arith))
-      ∙ ap (λ n. is_whole (slice_get p.program.types n)) (back t.0 from)
-      ∙ ap (λ rows. is_whole (row_of rows t)) whole.rows
-      ∙ (and_parts _ _ parts).1
-    where
-      back : (n : ℕ) → 10 ≤ n → (n - 10) + 10 ≡ n
-      back n from = omega arith
+  has_row t told parts =
+      ap (λ u. is_whole (row_of p.program.types u)) (id_as e.types t told) ∙ ap (λ rows. is_whole (row_of rows t)) whole.rows ∙ (and_parts _ _ parts).1
 
-  pub copying : (a : Spot) (v : Answer) (is : IsAssigned a) → IsTold e.types is.of → has_parts e is.of ≡ true → IsSound p v → fits v.known.of a.known.of ≡ true → IsCopied a v is.of
-  copying a v is told parts sound h = record { from = by sound.typed; row = has_row is.of told parts }
-    where
-      same : sound.of ≡ is.of
-      same =
-          same_type sound.of is.of
-          (whole_fit sound.of is.of (not_low e is.of parts) (ap (λ o. fits o (Some is.of)) (sym sound.known) ∙ ap (fits v.known.of) (sym is.known) ∙ h))
-
-      by : IsScalar p sound.of v.typed ⊎ (IsWholeRead p sound.of v.typed ⊎ (sound.of ≡ text)) → IsPlaceOf p (place_in v.typed) (type_as is.of)
-      by (inl x) = absurd (not_both (sym (not_low e is.of parts) ∙ ap is_basic (sym same) ∙ x.0))
-      by (inr (inl x)) =
-          subst (λ y. IsPlaceOf p (place_in y) (type_as is.of)) (sym x.2) (subst (λ t. IsPlaceOf p x.1 (type_as t)) same (held x.3))
-        where
-          held : IsClosedPlace p sound.of x.1 ⊎ IsOpenPlace p sound.of x.1 → IsPlaceOf p x.1 (type_as sound.of)
-          held (inl c) = c.0
-          held (inr o) =
-              absurd (told_closed e is.of told
-              (ap (λ b. not b && is_open (row_of e.types is.of)) (not_low e is.of parts) ∙ ap (λ t. is_open (row_of e.types t)) (sym same)
-              ∙ ap (λ rows. is_open (row_of rows sound.of)) (sym whole.rows) ∙ o.2))
-      by (inr (inr x)) = absurd (not_both (sym (not_long e.types is.of told) ∙ ap is_long_text (sym same ∙ x)))
+  pub copying : (a : Spot) (v : Answer) (is : IsAssigned a) → IsTold e.types is.of → has_parts e is.of ≡ true → IsSound p v → is_compatible e v.known.of a.known.of ≡ true → IsCopied a v is.of
+  copying a v is told parts sound h =
+      let place = whole_place p e whole is.of parts v sound (ap (is_compatible e v.known.of) (sym is.known) ∙ h) in
+      record {
+        from = (
+          type_as sound.of,
+          place.1,
+          ap (λ rows. comes_to rows (id_of (type_as sound.of)) (id_of (type_as is.of))) whole.rows
+              ∙ ap (λ u. comes_to e.types u (id_of (type_as is.of))) (id_above sound.of place.0)
+              ∙ ap (comes_to e.types sound.of) (id_as e.types is.of told)
+              ∙ place.2,
+        );
+        row = has_row is.of told parts;
+      }
 
   -- Texts.
 
@@ -204,59 +201,160 @@ module _ (p : Inside) (e : Env) (whole : IsWhole p e) where
       let are = characters_of (place_of a.held) a.known typed (test_is test 35 second (none_right (written a.known.class second) (breach_unless test 35 second) h)) in
       (text, characters_are p e whole (place_of a.held) a.known typed are, room_kept p e whole 1 (place_of a.held) a.known typed are)
 
-  -- an object that NEW makes
-  abbrev pub IsMade : Spot → Type 0
-  IsMade a =
-      (is_variable (place_of a.held) ≡ true) × IsPlaceOf p (place_of a.held) (type.Named (object_of a.known.of))
-      × (is_object_row (row_of p.program.types (id_of (type.Named (object_of a.known.of)))) ≡ true) × (object_of a.known.of < length p.program.objects)
+  -- NEW: what it makes for a variable.
 
-  object_type : (of : Option TypeId) → IsKnown e.types of → is_object e of ≡ true →
-      (type_of of ≡ type.Named (object_of of)) × (is_object_row (row_of p.program.types (id_of (type.Named (object_of of)))) ≡ true) × (object_of of < length p.program.objects)
-  object_type None known test = absurd known
-  object_type (Some t) (basic below) test =
-      absurd (not_both (ap (λ b. not b && is_object_row (slice_get e.types t.0)) (sym (lt-ltb t.0 7 below)) ∙ test))
-  object_type (Some t) (defined r from there shut) test =
-      let within : t.0 < length e.types = slice_get_within e.types t.0 r there in
-      let row = ap (λ n. is_object_row (slice_get p.program.types n)) (back t.0 from) ∙ ap (λ rows. is_object_row (row_of rows t)) whole.rows ∙ (and_parts _ _ test).1 in
-      (as_named t (omega arith), row, below t.0 (length p.program.objects) from (subst (λ n. t.0 < n) whole.objects within))
+  abbrev Made : Option TypeId → TypeId
+  Made of = id_of (type.Named (made_type e of))
+
+  -- an object of an object type
+  abbrev pub IsMade : Option TypeId → Place → Type 0
+  IsMade of place =
+      (is_variable place ≡ true) × IsPlaceOf p place (type.Named (made_type e of)) × (is_object_row (row_of p.program.types (Made of)) ≡ true)
+      × (made_type e of < length p.program.objects)
+
+  -- what a pointer leads to, an array with so many lengths
+  abbrev pub IsLed : Option TypeId → Place → ℕ → Type 0
+  IsLed of place n =
+      ((u : TType) × IsPlaceOf p place u × (target p.program.types u ≡ Some (Made of))) × (is_object_row (row_of p.program.types (Made of)) ≡ false)
+      × (made_type e of < length p.program.objects) × (n ≡ open_dimensions p.program.types (Made of))
+
+  abbrev pub Makes : Option TypeId → Place → ℕ → Type 0
+  Makes of place n = ((makes_object e of ≡ true) × IsMade of place) ⊎ ((makes_object e of ≡ false) × IsLed of place n)
+
+  -- by the number of the type as which objects are made
+  made_number_few : (t : TypeId) → IsMadeAs p e whole t →
+      (id_of (type.Named (desig.made_number e t)) ≡ desig.made_as e t) × (desig.made_number e t < length p.program.objects)
+  made_number_few t made =
+      let at = made_there p e whole t made in
+      let objects = whole.objects in
+      let low = at.0 in
+      let high = at.1 in
+      (number_back p e whole (desig.made_as e t) low, omega (arith, objects, low, high))
+
+  object_made : (t : TypeId) (place : Place) → is_object_type e t ≡ true → is_variable place ≡ true → IsPlaceOf p place (type_as t) →
+      (is_variable place ≡ true) × IsPlaceOf p place (type.Named (desig.made_number e t))
+      × (is_object_row (row_of p.program.types (id_of (type.Named (desig.made_number e t)))) ≡ true) × (desig.made_number e t < length p.program.objects)
+  object_made t place is part typed = by (row_of e.types t) refl two.1
     where
-      back : (n : ℕ) → 10 ≤ n → (n - 10) + 10 ≡ n
-      back n from = omega arith
+      two : (not (is_basic t) ≡ true) × (is_object_row (row_of e.types t) ≡ true)
+      two = and_parts (not (is_basic t)) _ is
 
-      below : (t n : ℕ) → 10 ≤ t → t < 10 + n → t - 10 < n
-      below t n from h = omega arith
+      low : (b : Bool) → not b ≡ true → b ≡ false
+      low true h = absurd (not_both h)
+      low false h = refl
 
-  -- a value isn't one
-  no_class : (of : Option TypeId) (h : Held) (at : Pos) →
-      breach_unless (is_object e of) 47 at ++ (breach 47 at) ++ breach_unless (is_variable (place_of h)) 99 at ≡ [] → ⊥
-  no_class of h at none =
-      let object = breach_unless (is_object e of) 47 at in
-      some_breach (none_right object (breach 47 at) (none_left (object ++ breach 47 at) (breach_unless (is_variable (place_of h)) 99 at) none))
+      by : (o : Option TypeRow) → row_of e.types t ≡ o → is_object_row o ≡ true → (is_variable place ≡ true) × IsPlaceOf p place (type.Named (desig.made_number e t))
+          × (is_object_row (row_of p.program.types (id_of (type.Named (desig.made_number e t)))) ≡ true) × (desig.made_number e t < length p.program.objects)
+      by (Some (row.Object base fs)) there object =
+          let high = low (is_basic t) two.0 in
+          let made = object_kind p e whole t base fs high there in
+          let itself : desig.made_as e t ≡ t = rw (high, there) refl in
+          let few = made_number_few t made in
+          let above = made.0 in (
+            part,
+            subst (IsPlaceOf p place) (as_named t (omega (arith, above)) ∙ ap (λ u. type.Named (object_number u)) (sym itself)) typed,
+            ap (λ u. is_object_row (row_of p.program.types u)) (few.0 ∙ itself) ∙ ap (λ rows. is_object_row (row_of rows t)) whole.rows ∙ ap is_object_row there,
+            few.1,
+          )
+      by o there object = absurd (not_both object)
+
+  pointer_made : (t : TypeId) (place : Place) (n : ℕ) → is_pointer_type e t ≡ true → IsPlaceOf p place (type_as t) → (lengths_wanted e t == n) ≡ true →
+      ((u : TType) × IsPlaceOf p place u × (target p.program.types u ≡ Some (id_of (type.Named (desig.made_number e t)))))
+      × (is_object_row (row_of p.program.types (id_of (type.Named (desig.made_number e t)))) ≡ false) × (desig.made_number e t < length p.program.objects)
+      × (n ≡ open_dimensions p.program.types (id_of (type.Named (desig.made_number e t))))
+  pointer_made t place n is typed many = by (row_of e.types t) refl two.1
+    where
+      two : (not (is_basic t) ≡ true) × (is_pointer_row (row_of e.types t) ≡ true)
+      two = and_parts (not (is_basic t)) _ is
+
+      low : (b : Bool) → not b ≡ true → b ≡ false
+      low true h = absurd (not_both h)
+      low false h = refl
+
+      by : (o : Option TypeRow) → row_of e.types t ≡ o → is_pointer_row o ≡ true →
+          ((u : TType) × IsPlaceOf p place u × (target p.program.types u ≡ Some (id_of (type.Named (desig.made_number e t)))))
+          × (is_object_row (row_of p.program.types (id_of (type.Named (desig.made_number e t)))) ≡ false) × (desig.made_number e t < length p.program.objects)
+          × (n ≡ open_dimensions p.program.types (id_of (type.Named (desig.made_number e t))))
+      by (Some (row.Pointer u)) there pointer =
+          let high = low (is_basic t) two.0 in
+          let made = pointer_kind p e whole t u high there in
+          let led : desig.pointed e t ≡ Some u = rw (high, there) refl in
+          let few = made_number_few t made in
+          let own = made_pointed p e whole t u led in
+          let wanted : lengths_wanted e t ≡ open_dimensions e.types u = rw led refl in (
+            (type_as t, typed, made.1 ∙ ap (λ v. Some v) (sym few.0)),
+            ap (λ v. is_object_row (row_of p.program.types v)) few.0 ∙ ap (λ rows. is_object_row (row_of rows (desig.made_as e t))) whole.rows ∙ own.0,
+            few.1,
+            sym (eqb-true (lengths_wanted e t) n many) ∙ wanted ∙ sym own.1 ∙ ap (λ rows. open_dimensions rows (desig.made_as e t)) (sym whole.rows)
+                ∙ ap (open_dimensions p.program.types) (sym few.0),
+          )
+      by o there pointer = absurd (not_both pointer)
+
+  -- a value isn't made
+  no_class : (a b c : List Breach) (x : Breach) → (a ++ (x ∷ b)) ++ c ≡ [] → ⊥
+  no_class a b c x none = some_breach (none_right a (x ∷ b) (none_left (a ++ (x ∷ b)) c none))
 
   no_object : (c : Class) (of : Option TypeId) (h : Held) (there at first : Pos) → IsKnownClass IsGood c → IsMadeClass c →
       new_breaches e at first (record { known = record { of = of; class = c }; held = h; at = there }) ≡ [] → ⊥
-  no_object (Constant v) of h there at first known value none = no_class of h at none
-  no_object Computed of h there at first known value none = no_class of h at none
+  no_object (Constant v) of h there at first known value none = no_class (breach_unless (is_made e of) 47 at) [] _ _ none
+  no_object Computed of h there at first known value none = no_class (breach_unless (is_made e of) 47 at) [] _ _ none
   no_object Unknown of h there at first known value none = known
   no_object Variable of h there at first known value none = value tt
   no_object ReadOnly of h there at first known value none = value tt
 
-  made_is : (a : Spot) (at first : Pos) (h : Held) → h ≡ a.held → IsKnownClass IsGood a.known.class → IsStoredHeld h a.known.class → IsSoundSpot p e (record { known = a.known; held = h; at = a.at }) →
-      new_breaches e at first a ≡ [] → is_object e a.known.of ≡ true → is_variable (place_of a.held) ≡ true → IsMade a
-  made_is a at first (Stands place) is class held (closed typed known) none test part =
-      let o = object_type a.known.of known test in
-      (part, subst (λ t. IsPlaceOf p (place_of a.held) t) o.0 (subst (λ h. IsPlaceOf p (place_of h) (type_of a.known.of)) is typed), o.1, o.2)
-  made_is a at first (Stands place) is class held (opened t r same at' opening rows lengths) none test part =
-      let u = opened_row e t opening in
-      absurd (open_object u.0 (sym (ap is_object_row u.2) ∙ (and_parts _ _ (subst (λ o. is_object e o ≡ true) same test)).1))
+  typed_made : (a : Spot) (at first : Pos) → IsRead a → new_breaches e at first a ≡ [] → IsTyped p e (place_of a.held) a.known.of
+  typed_made a at first is none = by a.held refl is.held is.sound
     where
-      open_object : (u : TypeId) → is_object_row (Some (row.Open u)) ≡ true → ⊥
-      open_object u h = cc
-  made_is a at first (Value x) is class held sound none test part = absurd (no_object a.known.class a.known.of a.held a.at at first class held none)
+      by : (h : Held) → h ≡ a.held → IsStoredHeld h a.known.class → IsSoundSpot p e (record { known = a.known; held = h; at = a.at }) → IsTyped p e (place_of a.held) a.known.of
+      by (Stands place) same held sound = subst (λ h. IsTyped p e (place_of h) a.known.of) same sound
+      by (Value x) same held sound = absurd (no_object a.known.class a.known.of a.held a.at at first is.class held none)
 
-  pub made_sound : (at first : Pos) (a : Spot) → IsRead a → new_breaches e at first a ≡ [] → IsMade a
-  made_sound at first a is h =
-      let object = breach_unless (is_object e a.known.of) 47 at in
-      let part = breach_unless (is_variable (place_of a.held)) 99 at in
-      made_is a at first a.held refl is.class is.held is.sound h (test_is (is_object e a.known.of) 47 at (none_left object _ (none_left (object ++ _) part h)))
-      (test_is (is_variable (place_of a.held)) 99 at (none_right (object ++ _) part h))
+  pub made_sound : (at first : Pos) (a : Spot) (n : ℕ) → IsRead a → new_breaches e at first a ++ count_breaches e at a.known.of n ≡ [] →
+      Makes a.known.of (place_of a.held) n
+  made_sound at first a n is none = by a.known.of refl (typed_made a at first is own)
+    where
+      own : new_breaches e at first a ≡ []
+      own = none_left (new_breaches e at first a) (count_breaches e at a.known.of n) none
+
+      kind : is_made e a.known.of ≡ true
+      kind = test_is (is_made e a.known.of) 47 at (none_left (breach_unless (is_made e a.known.of) 47 at) _ (none_left (breach_unless (is_made e a.known.of) 47 at ++ _) _ own))
+
+      there : is_built_there e a.known.of (place_of a.held) ≡ true
+      there = test_is (is_built_there e a.known.of (place_of a.held)) 99 at (none_right (breach_unless (is_made e a.known.of) 47 at ++ _) _ own)
+
+      counted : count_breaches e at a.known.of n ≡ []
+      counted = none_right (new_breaches e at first a) (count_breaches e at a.known.of n) none
+
+      not_open : (t : TypeId) → (is_pointer_type e t || is_object_type e t) ≡ true → is_opened e t ≡ true → ⊥
+      not_open t kind opening =
+          let u = opened_row e t opening in not_both (sym (ap (λ b. (not b && is_pointer_row (row_of e.types t)) || (not b && is_object_row (row_of e.types t))) u.1 ∙ ap (λ o. is_pointer_row o || is_object_row o) u.2) ∙ kind)
+
+      object_or : (b c : Bool) → (b || c) ≡ true → c ≡ false → b ≡ true
+      object_or true c is other = refl
+      object_or false c is other = sym other ∙ is
+
+      typed : (t : TypeId) → a.known.of ≡ Some t → (is_pointer_type e t || is_object_type e t) ≡ true → IsPlaceOf p (place_of a.held) (type_as t) → (b : Bool) → is_object_type e t ≡ b →
+          Makes (Some t) (place_of a.held) n
+      typed t known kind held true object =
+          let part : is_variable (place_of a.held) ≡ true = sym (ap (λ c. not c || is_variable (place_of a.held)) object) ∙ sym (ap (λ o. is_built_there e o (place_of a.held)) known) ∙ there in
+          inl (object, object_made t (place_of a.held) object part held)
+      typed t known kind held false other =
+          let pointer = object_or (is_pointer_type e t) (is_object_type e t) kind other in
+          let test = not (is_pointer_type e t || is_object_type e t) || lengths_wanted e t == n in
+          let many : test ≡ true = test_is test 34 at (sym (ap (λ o. count_breaches e at o n) known) ∙ counted) in
+          inr (other, pointer_made t (place_of a.held) n pointer held (sym (ap (λ c. not c || lengths_wanted e t == n) kind) ∙ many))
+
+      by : (of : Option TypeId) → a.known.of ≡ of → IsTyped p e (place_of a.held) a.known.of → Makes of (place_of a.held) n
+      by None known held = absurd (none_typed a.known.of known held)
+        where
+          none_typed : (of : Option TypeId) → of ≡ None → IsTyped p e (place_of a.held) of → ⊥
+          none_typed None is (closed typed known) = known
+          none_typed None is (opened t r same also opening rows lengths) = none-some t same
+          none_typed (Some t) is held = none-some t (sym is)
+      by (Some t) known held =
+          let one = sym (ap (is_made e) known) ∙ kind in
+          typed t known one (told_typed (place_of a.held) t (shut (is_opened e t) refl one) (subst (IsTyped p e (place_of a.held)) known held)).1 (is_object_type e t) refl
+        where
+          shut : (b : Bool) → is_opened e t ≡ b → (is_pointer_type e t || is_object_type e t) ≡ true → is_opened e t ≡ false
+          shut true opening one = absurd (not_open t one opening)
+          shut false other one = other

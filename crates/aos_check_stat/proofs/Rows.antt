@@ -3,6 +3,7 @@ use Rattle.std.proofs.Common.{◌≡◌, ℕ, ◌+◌, ◌<◌, ◌≤◌, List,
 use Rattle.std.proofs.lemmas.List.{drop_all}
 use Rattle.aos_base.specs.declared.text.Pos.{Pos}
 use Rattle.aos_tree.specs.declared.name.Name.{Name}
+use Rattle.aos_tree.specs.declared.name.Qualident.{Qualident}
 use Rattle.aos_tree.specs.declared.expr.Expr.{Expr as TreeExpr}
 use Rattle.aos_tree.specs.declared.expr.Selector.{Selector}
 use Rattle.aos_tree.specs.declared.expr.Selector.TheVariants as s
@@ -33,8 +34,9 @@ use Rattle.aos_symbols.specs.Breaches.{breach, first_after}
 use Rattle.aos_symbols.specs.Judged.{Judged, judged, kept, bind, walk}
 use Rattle.aos_symbols.proofs.Keeping.{after_more}
 use Rattle.aos_check_expr.specs.Known.{width_of}
-use Rattle.aos_check_expr.specs.Expressions.{condition}
-use Rattle.aos_check_stat.specs.Bodies.{listed, modifier_breaches, ended, Labels, label_in, selector, control, fitting, step_of, stat_of, stat_in, stats_in, else_in, case_else_in, elsifs_in, cases_in}
+use Rattle.aos_check_expr.specs.Designators.{guard}
+use Rattle.aos_check_expr.specs.Expressions.{condition, known_type}
+use Rattle.aos_check_stat.specs.Bodies.{listed, modifier_breaches, ended, Labels, label_in, selector, control, fitting, step_of, with_variable, narrowed_by, with_stat, stat_of, stat_in, stats_in, else_in, case_else_in, elsifs_in, cases_in}
 use Rattle.aos_check_stat.specs.Listed as parts
 use Rattle.aos_check_stat.specs.Listed.{onto}
 
@@ -120,6 +122,13 @@ module _ (e : Env) (in_loop : Bool) where
       ap (λ z. stat_of e in_loop z) is
       ∙ ap (λ j. bind (selector e c) (λ v. bind (cases_in e in_loop v.known.of [] (hidden-the_row-Case-2 xs) j) (λ cs. kept (Some (CaseOf p v.typed cs))))) (case_else_is o)
       ∙ ap (λ j. bind (selector e c) (λ v. bind j (λ cs. kept (Some (CaseOf p v.typed cs))))) (cases_are (selector e c).answer.known.of [] xs (parts.else_of_case e in_loop o))
+
+pub stat_with : (e : Env) (in_loop : Bool) (x : TreeStat) (p : Pos) (a : Qualident) (q : Pos) (b : Qualident) (body : StatSeq) → x ≡ stat.With p a q b body →
+    stat_of e in_loop x ≡ parts.with_of e in_loop p a q b body.stats
+stat_with e in_loop x p a q b body is =
+    ap (λ z. stat_of e in_loop z) is
+    ∙ ap (λ j. bind (with_variable e a) (λ v. bind (known_type e b) (λ t. bind (guard e q v t) (λ g. bind j (λ us. kept (Some (with_stat p g.held (listed us))))))))
+    (stats_are (narrowed_by e a (known_type e b).answer) in_loop body.stats)
 
 pub stat_loop : (e : Env) (in_loop : Bool) (x : TreeStat) (p : Pos) (body : StatSeq) → x ≡ stat.Loop p body → stat_of e in_loop x ≡ parts.loop_of e p body.stats
 stat_loop e in_loop x p body is = ap (λ z. stat_of e in_loop z) is ∙ ap (λ j. bind j (λ us. kept (Some (Loop p (listed us))))) (stats_are e true body.stats)

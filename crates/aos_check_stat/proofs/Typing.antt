@@ -1,5 +1,5 @@
 -- Statements that break no rule are well typed, where the types of all variables are known.
-use Rattle.std.proofs.Common.{◌≡◌, ℤ, ◌⊎◌, List, [], ◌∷◌, ◌++◌, drop, length, Bool, true, false, ◌||◌, codes, map, ℕ, not, ◌==◌, Option, Some, None, is_some, refl, sym, ap, ◌∙◌, subst, if◌then◌else◌}
+use Rattle.std.proofs.Common.{◌≡◌, ℤ, ◌⊎◌, inl, inr, arith, length-append, ◌+◌, List, [], ◌∷◌, ◌++◌, drop, length, Bool, true, false, ◌||◌, codes, map, ℕ, not, ◌==◌, Option, Some, None, is_some, refl, sym, ap, ◌∙◌, subst, if◌then◌else◌}
 use Rattle.aos_base.specs.declared.text.Pos.{Pos}
 use Rattle.std.specs.Prelude.{All}
 use Rattle.std.proofs.lemmas.Bool.{and_parts}
@@ -8,6 +8,7 @@ use Rattle.std.proofs.lemmas.List.Elements.{All-nil, All-drop}
 use Rattle.aos_base.specs.declared.number.Width.TheVariants.{W64}
 use Rattle.aos_base.specs.Number.{IsWithin}
 use Rattle.aos_tree.specs.declared.name.Name.{Name}
+use Rattle.aos_tree.specs.declared.name.Qualident.{Qualident}
 use Rattle.aos_tree.specs.declared.expr.Expr.{Expr as TreeExpr, out-Expr}
 use Rattle.aos_tree.specs.declared.expr.Desig.{Desig}
 use Rattle.aos_tree.specs.declared.expr.Selector.{Selector}
@@ -34,30 +35,34 @@ use Rattle.aos_symbols.specs.declared.env.Open.{Open}
 use Rattle.aos_symbols.specs.declared.env.Symbol.{Symbol}
 use Rattle.aos_symbols.specs.declared.env.Lookup.{Lookup}
 use Rattle.aos_symbols.specs.declared.env.Lookup.TheVariants.{Unknown as NoName, NotExported, Found}
+use Rattle.aos_symbols.specs.declared.env.Narrowed.{Narrowed}
 use Rattle.aos_symbols.specs.declared.env.Env.{Env}
 use Rattle.aos_symbols.specs.Breaches.{breach, breach_unless}
 use Rattle.aos_symbols.specs.Judged.{Judged, judged, kept, bind, walk}
 use Rattle.aos_symbols.specs.Spelling.{is_word}
 use Rattle.aos_symbols.specs.Env as env
 use Rattle.aos_symbols.proofs.Each.{Each}
-use Rattle.aos_symbols.proofs.Holds.{Holds, holds_bind, holds_walk, none_left, none_right, test_is}
+use Rattle.aos_symbols.proofs.Holds.{Holds, holds_bind, holds_walk, none_left, none_right, test_is, broken}
 use Rattle.aos_check_expr.specs.declared.known.Class.{Class}
 use Rattle.aos_check_expr.specs.declared.known.Class.TheVariants.{Unknown, Constant, Variable, ReadOnly, Computed}
 use Rattle.aos_check_expr.specs.declared.designators.Head.{Head}
-use Rattle.aos_check_expr.specs.Known.{Answer, Spot, fits, passes, type_as, is_basic as is_basic_type, is_long_text, is_number, is_char, width_of}
+use Rattle.aos_check_expr.specs.Known.{Answer, Spot, passes, type_as, is_long_text, is_number, is_char, width_of}
 use Rattle.aos_check_expr.specs.Designators as desig
 use Rattle.aos_check_expr.specs.Designators.{has_parts, is_opened, assigned, place_of, place_in}
 use Rattle.aos_check_expr.specs.Arguments.{Handing, arguments_for, listed as listed_arguments}
-use Rattle.aos_check_expr.specs.Expressions.{is_opening, text_rows, expr, condition, argument, designator, desig_alone}
+use Rattle.aos_check_expr.specs.Expressions.{is_opening, text_rows, known_type, expr, condition, argument, designator, desig_alone}
 use Rattle.aos_check_expr.proofs.Inside.{Inside, IsOf, AreArguments, IsCall, IsStatement, AreStatements, AreArms, AreCases}
-use Rattle.aos_check_expr.proofs.Types.{as_basic}
-use Rattle.aos_check_expr.proofs.Spots.{AreParameters, IsResultOf, Part}
+use Rattle.aos_check_expr.proofs.Sound.{sound_number}
+use Rattle.aos_check_expr.proofs.Passed.{scalar_fits}
+use Rattle.aos_check_expr.proofs.Tested.{known_some}
+use Rattle.aos_check_expr.proofs.Spots.{AreParameters, IsResultOf, IsSpot, Part, MayFind, plain_head, behind_head, named_spot, spotted, refused_part}
 use Rattle.aos_check_expr.proofs.Typing.{IsWhole, IsSound, IsTextAt, expr_sound, expr_part, condition_sound, argument_sound, text_argument, arguments_part}
 use Rattle.aos_check_stat.specs.Bodies as judge
-use Rattle.aos_check_stat.specs.Bodies.{listed, put, made, new_breaches, outs, ended, arguments, behind_arguments, modifier_breaches}
-use Rattle.aos_check_stat.proofs.Places.{MayBe as MayBeOf, not_long, IsRead, read_sound, IsAssigned, assigned_sound, told_typed, fits_basic, fitting, copying, putting, copied_text, made_sound}
+use Rattle.aos_check_stat.specs.Bodies.{listed, put, made, new_breaches, count_breaches, outs, ended, arguments, behind_arguments, modifier_breaches}
+use Rattle.aos_check_stat.proofs.Places.{MayBe as MayBeOf, some_breach, not_long, not_nil, IsRead, read_sound, IsAssigned, assigned_sound, told_typed, copying, putting, copied_text, Makes, made_sound}
 use Rattle.aos_check_stat.proofs.Changed.{place_changed, change_call_sound, assert_sound, halt_sound}
 use Rattle.aos_check_stat.proofs.Apart.{between}
+use Rattle.aos_check_stat.proofs.Narrowed.{whole_within, narrows_on, with_typed}
 use Rattle.aos_check_stat.proofs.Controlled.{IsControl, AreMore, control_sound, fitting_sound, step_sound, selector_sound, labels_sound}
 
 module _ (p : Inside) (e : Env) (whole : IsWhole p e) where
@@ -101,26 +106,27 @@ module _ (p : Inside) (e : Env) (whole : IsWhole p e) where
       not_true true e = absurd (cc)
       not_true false e = refl
 
-      fitted : judge.text_to e a v ≡ None → (fits v.known.of a.known.of ≡ true) × (is_opened e is.of ≡ false)
+      fitted : judge.text_to e a v ≡ None → (desig.is_compatible e v.known.of a.known.of ≡ true) × (is_opened e is.of ≡ false)
       fitted none =
-          let two = and_parts (fits v.known.of a.known.of) (not (is_opening e a.known.of)) (ap (judge.value_fits e a v) (sym none) ∙ h) in
+          let two = and_parts (desig.is_compatible e v.known.of a.known.of) (not (is_opening e a.known.of)) (ap (judge.value_fits e a v) (sym none) ∙ h) in
           (two.0, not_true (is_opened e is.of) (ap (λ o. not (is_opening e o)) (sym is.known) ∙ two.1))
 
       without : (b c : Bool) → (b || c) ≡ true → c ≡ false → b ≡ true
       without true c e n = refl
       without false c e n = sym n ∙ e
 
-      by : fits v.known.of a.known.of ≡ true → is_opened e is.of ≡ false → (parts : Bool) → has_parts e is.of ≡ parts →
+      by : desig.is_compatible e v.known.of a.known.of ≡ true → is_opened e is.of ≡ false → (parts : Bool) → has_parts e is.of ≡ parts →
           IsStatement p (if parts then Copy first (type_as is.of) (place_of a.held) (place_in v.typed) else Assign first (type_as is.of) (place_of a.held) v.typed)
       by h isnt true parts =
           let held = told_typed p e whole (place_of a.held) is.of isnt is.typed in
           let c = copying p e whole a v is held.0 parts sound h in (held.1, c.from, c.row)
       by h isnt false parts =
           let held = told_typed p e whole (place_of a.held) is.of isnt is.typed in
-          let built = without ((is_basic_type is.of || is_long_text is.of) || has_parts e is.of) (is_opened e is.of) is.built isnt in
-          let short = without (is_basic_type is.of || is_long_text is.of) (has_parts e is.of) built parts in
-          let low : is_basic_type is.of ≡ true = without (is_basic_type is.of) (is_long_text is.of) short (not_long e.types is.of held.0) in
-          (held.1, as_basic is.of low, fitting p e whole a v is low sound h)
+          let none : (has_parts e is.of || is_opened e is.of) ≡ false = rw (parts, isnt) refl in
+          let short = without (desig.is_value e is.of || is_long_text is.of) (has_parts e is.of || is_opened e is.of) is.built none in
+          let value = without (desig.is_value e is.of) (is_long_text is.of) short (not_long e.types is.of held.0) in
+          let fit = scalar_fits p e whole is.of (not_nil e.types is.of held.0) value v sound (ap (desig.is_compatible e v.known.of) (sym is.known) ∙ h) in
+          (held.1, fit.0, fit.1)
 
   assign_sound : (d : Desig) (at : Pos) (x : TreeExpr) → Holds MayBe (judge.assign e d at x)
   assign_sound d at x =
@@ -192,16 +198,49 @@ module _ (p : Inside) (e : Env) (whole : IsWhole p e) where
 
   -- NEW.
 
-  new_of_sound : (at first : Pos) (o : Option Desig) → Holds MayBe (judge.new_of e at first o)
-  new_of_sound at first None = λ h. tt
-  new_of_sound at first (Some d) =
-      holds_bind (IsRead p e whole) MayBe (designator e d) (λ a. judged (new_breaches e at first a) (made at a)) (read_sound p e whole d)
-      (λ a is h. made_sound p e whole at first a is h)
+  behind_lengths : (ns : List Expr) (x : Expr) → typed.AreLengthsOf p.program p.own ns → IsOf p x (type.Integer W64) → typed.AreLengthsOf p.program p.own (ns ++ x ∷ [])
+  behind_lengths [] x are is = (is, tt)
+  behind_lengths (n ∷ ns) x are is = (are.0, behind_lengths ns x are.1 is)
+
+  length_sound : (at : Pos) (ns : List Expr) (x : TreeExpr) → typed.AreLengthsOf p.program p.own ns → Holds (typed.AreLengthsOf p.program p.own) (judge.with_length e at ns x)
+  length_sound at ns x are =
+      holds_bind (IsSound p) (typed.AreLengthsOf p.program p.own) (expr e x) (λ v. judged (breach_unless (is_number v.known.of) 47 at) (ns ++ v.typed ∷ [])) (expr_sound p e whole x)
+      (λ v sound h. behind_lengths ns v.typed are (sound_number p v sound (test_is (is_number v.known.of) 47 at h)))
+
+  many_lengths : (at : Pos) (xs : List TreeExpr) (ns : List Expr) → length (walk (judge.with_length e at) ns xs).answer ≡ length ns + length xs
+  many_lengths at [] ns = omega arith
+  many_lengths at (x ∷ xs) ns =
+      let v = (expr e x).answer.typed in
+      let more = many_lengths at xs (ns ++ v ∷ []) in
+      let one = length-append ns (v ∷ []) in
+      omega (arith, more, one)
+
+  lengths_sound : (at : Pos) (xs : List TreeExpr) → Holds (λ ns. typed.AreLengthsOf p.program p.own ns × (length ns ≡ length xs)) (walk (judge.with_length e at) [] xs)
+  lengths_sound at xs none = (
+    holds_walk (typed.AreLengthsOf p.program p.own) (judge.with_length e at) (λ ns x are. length_sound at ns x are) xs [] tt none,
+    many_lengths at xs [] ∙ (let same : 0 + length xs ≡ length xs = omega arith in same),
+  )
+
+  made_statement : (at : Pos) (a : Spot) (ns : List Expr) → Makes p e whole a.known.of (place_of a.held) (length ns) → typed.AreLengthsOf p.program p.own ns → MayBe (judge.made e at a ns)
+  made_statement at a ns (inl is) are = rw is.0 is.1
+  made_statement at a ns (inr is) are = rw is.0 (is.1.0, is.1.1, is.1.2, are, is.1.3)
+
+  new_with_sound : (at first : Pos) (a : Spot) → IsRead p e whole a → (xs : List TreeExpr) → Holds MayBe (judge.new_with e at first a xs)
+  new_with_sound at first a is xs =
+      holds_bind (λ b. Makes p e whole b.known.of (place_of b.held) (length xs)) MayBe (judged (new_breaches e at first a ++ count_breaches e at a.known.of (length xs)) a)
+      (λ b. bind (walk (judge.with_length e at) [] xs) (λ ns. kept (made e at b ns)))
+      (λ h. made_sound p e whole at first a (length xs) is h)
+      (λ b makes. holds_bind (λ ns. typed.AreLengthsOf p.program p.own ns × (length ns ≡ length xs)) MayBe (walk (judge.with_length e at) [] xs) (λ ns. kept (made e at b ns)) (lengths_sound at xs)
+      (λ ns are h. made_statement at b ns (subst (Makes p e whole b.known.of (place_of b.held)) (sym are.1) makes) are.0))
+
+  new_of_sound : (at first : Pos) (o : Option Desig) (xs : List TreeExpr) → Holds MayBe (judge.new_of e at first o xs)
+  new_of_sound at first None xs = λ h. tt
+  new_of_sound at first (Some d) xs =
+      holds_bind (IsRead p e whole) MayBe (designator e d) (λ a. judge.new_with e at first a xs) (read_sound p e whole d) (λ a is. new_with_sound at first a is xs)
 
   new_sound : (at : Pos) (xs : List TreeExpr) → Holds MayBe (judge.new_call e at xs)
   new_sound at [] = λ h. tt
-  new_sound at (a ∷ []) = new_of_sound at (out-Expr a).pos (desig_alone a)
-  new_sound at (a ∷ b ∷ xs) = λ h. tt
+  new_sound at (a ∷ xs) = new_of_sound at (out-Expr a).pos (desig_alone a) xs
 
   -- COPY.
 
@@ -328,16 +367,125 @@ module _ (p : Inside) (e : Env) (whole : IsWhole p e) where
   return_sound at (gives.Value of) is None = λ h. tt
   return_sound at (gives.Value of) is (Some x) =
       holds_bind (IsSound p) MayBe (expr e x)
-      (λ v. judged (breach_unless (fits v.known.of of) 40 at ++ breach_unless (passes is_basic_type of) 99 at) (Some (Return at (Some v.typed)))) (expr_sound p e whole x)
-      (λ v sound h. let fit = breach_unless (fits v.known.of of) 40 at in
-      let low = breach_unless (passes is_basic_type of) 99 at in
+      (λ v. judged (breach_unless (desig.is_compatible e v.known.of of) 40 at ++ breach_unless (passes (desig.is_value e) of) 99 at) (Some (Return at (Some v.typed)))) (expr_sound p e whole x)
+      (λ v sound h. let fit = breach_unless (desig.is_compatible e v.known.of of) 40 at in
+      let low = breach_unless (passes (desig.is_value e) of) 99 at in
       subst (λ r. typed.IsReturn p.program p.own (Some v.typed) r) (sym is.2)
-      (fits_basic p e whole is.0 v (subst (λ o. passes is_basic_type o ≡ true) is.1 (test_is (passes is_basic_type of) 99 at (none_right fit low h))) sound
-      (subst (λ o. fits v.known.of o ≡ true) is.1 (test_is (fits v.known.of of) 40 at (none_left fit low h)))))
+      (scalar_fits p e whole is.0 is.3 (subst (λ o. passes (desig.is_value e) o ≡ true) is.1 (test_is (passes (desig.is_value e) of) 99 at (none_right fit low h))) v sound
+      (subst (λ o. desig.is_compatible e v.known.of o ≡ true) is.1 (test_is (desig.is_compatible e v.known.of of) 40 at (none_left fit low h)))).1)
 
   exit_sound : (in_loop : Bool) (at : Pos) → Holds MayBe (judge.exit_of in_loop at)
   exit_sound true at = λ h. tt
   exit_sound false at = λ h. tt
+
+  -- WITH.
+
+  -- what a WITH names is a designator, that of its variable, which breaks no rule
+  abbrev pub IsWithVariable : Qualident → Spot → Type 0
+  IsWithVariable q v = (v ≡ (judge.with_variable e q).answer) × ((judge.with_variable e q).breaches ≡ []) × IsSpot p e v
+
+  with_name_sound : (h : Head) → MayFind p e h.found → Holds (IsSpot p e) (judge.with_name e h)
+  with_name_sound h may = by (judge.may_be_variable h.found)
+    where
+      by : (b : Bool) → Holds (IsSpot p e) (if b then desig.named e h else desig.spotted h.first (desig.refused 49 h.first))
+      by true = named_spot p e whole.constants h may
+      by false = spotted p e h.first (desig.refused 49 h.first) (refused_part p e 49 h.first)
+
+  with_part_sound : (h : Head) → MayFind p e h.found → Holds (IsSpot p e) (judge.with_part e h)
+  with_part_sound h may = by (judge.is_missing h.found)
+    where
+      by : (b : Bool) → Holds (IsSpot p e) (if b then desig.named e h else desig.spotted h.first (desig.refused 49 h.first))
+      by true = named_spot p e whole.constants h may
+      by false = spotted p e h.first (desig.refused 49 h.first) (refused_part p e 49 h.first)
+
+  pub with_variable_sound : (q : Qualident) → Holds (IsWithVariable q) (judge.with_variable e q)
+  with_variable_sound q none = (refl, none, by q.second none)
+    where
+      behind : (n : Name) (b : Bool) → Holds (IsSpot p e) (if b then judge.with_name e (desig.member e q.first n) else judge.with_part e (desig.plain e q.first))
+      behind n true = with_name_sound (desig.member e q.first n) (behind_head p e (env.lookup e q.first) n)
+      behind n false = with_part_sound (desig.plain e q.first) (plain_head p e q.first)
+
+      by : (o : Option Name) → Holds (IsSpot p e) (judge.with_variable e (record { first = q.first; second = o }))
+      by None = with_name_sound (desig.plain e q.first) (plain_head p e q.first)
+      by (Some n) = behind n (desig.is_module (env.lookup e q.first))
+
+  abbrev pub MayBeNarrowed : TypeId → Spot → Type 0
+  MayBeNarrowed u v = desig.may_test e (desig.is_passed (place_of v.held)) v.known.of (Some u) ≡ true
+
+  abbrev pub IsGuarded : Spot → TypeId → Spot → Type 0
+  IsGuarded v u g = MayBeNarrowed u v × (g ≡ desig.guarded_spot e u v)
+
+  pub guard_sound : (at : Pos) (v : Spot) → IsSpot p e v → (u : TypeId) → Holds (IsGuarded v u) (desig.guard e at v (Some u))
+  guard_sound at v is u = by (desig.may_test e (desig.is_passed (place_of v.held)) v.known.of (Some u)) refl
+    where
+      by : (b : Bool) → desig.may_test e (desig.is_passed (place_of v.held)) v.known.of (Some u) ≡ b →
+          Holds (IsGuarded v u) (if b then kept (desig.guarded_spot e u v) else desig.spotted v.at (desig.refused 41 at))
+      by true may = λ none. (may, refl)
+      by false may = broken (IsGuarded v u) _ [] _
+
+  -- its statements stand in the environment of bodies
+
+  abbrev Ends : Option Narrowed → Type 0
+  Ends None = IsWhole p e
+  Ends (Some n) = IsWhole p (env.narrowing e n)
+
+  meant_ends : (u : TypeId) (x : Symbol) (m : Meaning) (h : Head) → (desig.meant e x m h).breaches ≡ [] → MayBeNarrowed u (desig.meant e x m h).answer → Ends (judge.narrowed_meaning x m u)
+  meant_ends u x (means.Variable k) h = by (desig.is_reached e x)
+    where
+      by : (b : Bool) → let j = if b then kept (desig.narrowed e x k (desig.variable e x k h.at)) else desig.spotted h.at (desig.refused 99 h.at) in
+          j.breaches ≡ [] → MayBeNarrowed u j.answer → IsWhole p (env.narrowing e (record { at = x.at; number = k; of = u }))
+      by true none may = whole_within e (e.narrowed ++ record { at = x.at; number = k; of = u } ∷ []) p whole (narrows_on e p whole x k h.at u may)
+      by false none may = absurd (some_breach none)
+  meant_ends u x m h = λ none may. whole
+
+  name_ends : (u : TypeId) (l : Lookup) (h : Head) → h.found ≡ l → (judge.with_name e h).breaches ≡ [] → MayBeNarrowed u (judge.with_name e h).answer → Ends (judge.narrowed_found l u)
+  name_ends u NoName h is none may = whole
+  name_ends u NotExported h is none may = whole
+  name_ends u (Found x) h is none may = by x.means refl
+    where
+      other : Judged Spot
+      other = desig.spotted h.first (desig.refused 49 h.first)
+
+      by : (m : Meaning) → x.means ≡ m → Ends (judge.narrowed_meaning x m u)
+      by (means.Variable k) same =
+          let one : judge.with_name e h ≡ desig.meant e x (means.Variable k) h =
+          ap (λ l. if judge.may_be_variable l then desig.found e l h else other) is
+          ∙ ap (λ m. if judge.is_variable_meaning m then desig.meant e x m h else other) same in
+          meant_ends u x (means.Variable k) h (ap (λ j. j.breaches) (sym one) ∙ none) (subst (λ j. MayBeNarrowed u j.answer) one may)
+      by m same = whole
+
+  part_breaks : (l : Lookup) (h : Head) → h.found ≡ l → (judge.with_part e h).breaches ≡ [] → ⊥
+  part_breaks l h is none = by l (sym (ap (λ l. (if judge.is_missing l then desig.found e l h else desig.spotted h.first (desig.refused 49 h.first)).breaches) is) ∙ none)
+    where
+      by : (l : Lookup) → (if judge.is_missing l then desig.found e l h else desig.spotted h.first (desig.refused 49 h.first)).breaches ≡ [] → ⊥
+      by NoName none = some_breach none
+      by NotExported none = some_breach none
+      by (Found x) none = some_breach none
+
+  pub narrowed_whole : (q : Qualident) (u : TypeId) → (judge.with_variable e q).breaches ≡ [] → MayBeNarrowed u (judge.with_variable e q).answer → IsWhole p (judge.narrowed_by e q (Some u))
+  narrowed_whole q u none may = end (judge.narrowed_variable e q (Some u)) refl (by q.second none may)
+    where
+      behind : (n : Name) (b : Bool) → let j = if b then judge.with_name e (desig.member e q.first n) else judge.with_part e (desig.plain e q.first) in
+          j.breaches ≡ [] → MayBeNarrowed u j.answer → Ends (judge.narrowed_found (desig.member e q.first n).found u)
+      behind n true none may = name_ends u (desig.member e q.first n).found (desig.member e q.first n) refl none may
+      behind n false none may = absurd (part_breaks (env.lookup e q.first) (desig.plain e q.first) refl none)
+
+      by : (o : Option Name) → let j = judge.with_variable e (record { first = q.first; second = o }) in
+          j.breaches ≡ [] → MayBeNarrowed u j.answer → Ends (judge.narrowed_variable e (record { first = q.first; second = o }) (Some u))
+      by None none may = name_ends u (env.lookup e q.first) (desig.plain e q.first) refl none may
+      by (Some n) none may = behind n (desig.is_module (env.lookup e q.first)) none may
+
+      end : (o : Option Narrowed) → judge.narrowed_variable e q (Some u) ≡ o → Ends o → IsWhole p (judge.narrowed_by e q (Some u))
+      end None is w = rw is w
+      end (Some n) is w = rw is w
+
+module _ (p : Inside) where
+  -- what breaks a rule is no statement
+  abbrev Fine : Option Stat → Type 0
+  Fine o = MayBeOf p o
+
+  abbrev AreFine : List Stat → Type 0
+  AreFine ts = AreStatements p (listed ts)
 
   -- arms of CASE behind labels: no two of all of them have a value together
   record AreCasesBehind (ls : judge.Labels) (cases : Cases) : Type 0 where
@@ -353,110 +501,118 @@ module _ (p : Inside) (e : Env) (whole : IsWhole p e) where
   IsTest x = IsOf p x type.Boolean
 
   mutual
-    stat_sound : (in_loop : Bool) (x : TreeStat) → Holds MayBe (judge.stat_of e in_loop x)
-    stat_sound in_loop stat.Empty = λ h. tt
-    stat_sound in_loop (stat.Assign d at x) = assign_sound d at x
-    stat_sound in_loop (stat.Call d) = called_sound (env.lookup e d.name) d
-    stat_sound in_loop (stat.While' q c shape row) =
-        holds_bind IsTest MayBe (condition e c) (λ test. bind (judge.stats_in e in_loop [] row) (λ body. kept (Some (While q test (listed body)))))
+    stat_sound : (e : Env) (whole : IsWhole p e) (in_loop : Bool) (x : TreeStat) → Holds Fine (judge.stat_of e in_loop x)
+    stat_sound e whole in_loop stat.Empty = λ h. tt
+    stat_sound e whole in_loop (stat.Assign d at x) = assign_sound p e whole d at x
+    stat_sound e whole in_loop (stat.Call d) = called_sound p e whole (env.lookup e d.name) d
+    stat_sound e whole in_loop (stat.While' q c shape row) =
+        holds_bind IsTest Fine (condition e c) (λ test. bind (judge.stats_in e in_loop [] row) (λ body. kept (Some (While q test (listed body)))))
         (condition_sound p e whole c)
-        (λ test is. holds_bind Are MayBe (judge.stats_in e in_loop [] row) (λ body. kept (Some (While q test (listed body)))) (stats_sound in_loop [] tt row) (λ body are h. (is, are)))
-    stat_sound in_loop (stat.Block' q ms shape row) =
-        holds_bind Are MayBe (judged (modifier_breaches e.here.text false ms) []) (λ none. bind (judge.stats_in e in_loop none row) (λ body. kept (Some (BlockOf q (listed body)))))
+        (λ test is. holds_bind AreFine Fine (judge.stats_in e in_loop [] row) (λ body. kept (Some (While q test (listed body)))) (stats_sound e whole in_loop [] tt row) (λ body are h. (is, are)))
+    stat_sound e whole in_loop (stat.Block' q ms shape row) =
+        holds_bind AreFine Fine (judged (modifier_breaches e.here.text false ms) []) (λ none. bind (judge.stats_in e in_loop none row) (λ body. kept (Some (BlockOf q (listed body)))))
         (λ h. tt)
-        (λ none are. holds_bind Are MayBe (judge.stats_in e in_loop none row) (λ body. kept (Some (BlockOf q (listed body)))) (stats_sound in_loop none are row) (λ body all h. all))
-    stat_sound in_loop (stat.Exit q) = exit_sound in_loop q
-    stat_sound in_loop (stat.Return q x) = return_sound q (judge.gives_here e) own_result x
-    stat_sound in_loop (stat.Await q x) = λ h. tt
-    stat_sound in_loop (stat.If' q c shape row shapes rows otherwise) =
+        (λ none are. holds_bind AreFine Fine (judge.stats_in e in_loop none row) (λ body. kept (Some (BlockOf q (listed body)))) (stats_sound e whole in_loop none are row) (λ body all h. all))
+    stat_sound e whole in_loop (stat.Exit q) = exit_sound p e whole in_loop q
+    stat_sound e whole in_loop (stat.Return q x) = return_sound p e whole q (judge.gives_here e) (own_result p e whole) x
+    stat_sound e whole in_loop (stat.Await q x) = λ h. tt
+    stat_sound e whole in_loop (stat.If' q c shape row shapes rows otherwise) =
         let last = bind (judge.else_in e in_loop otherwise) (λ ss. kept (Otherwise (listed ss))) in
         let whole_if = λ (test : Expr) (body : List Stat) (arms : Arms). kept (Some (If q (Arm test (listed body) arms))) in
-        holds_bind IsTest MayBe (condition e c) (λ test. bind (judge.stats_in e in_loop [] row) (λ body. bind (judge.elsifs_in e in_loop rows last) (λ arms. whole_if test body arms)))
+        holds_bind IsTest Fine (condition e c) (λ test. bind (judge.stats_in e in_loop [] row) (λ body. bind (judge.elsifs_in e in_loop rows last) (λ arms. whole_if test body arms)))
         (condition_sound p e whole c)
-        (λ test is. holds_bind Are MayBe (judge.stats_in e in_loop [] row) (λ body. bind (judge.elsifs_in e in_loop rows last) (λ arms. whole_if test body arms)) (stats_sound in_loop [] tt row)
-        (λ body are. holds_bind (AreArms p) MayBe (judge.elsifs_in e in_loop rows last) (λ arms. whole_if test body arms)
-        (elsifs_sound in_loop rows last (holds_bind Are (AreArms p) (judge.else_in e in_loop otherwise) (λ ss. kept (Otherwise (listed ss))) (else_sound in_loop otherwise) (λ ss all h. all)))
+        (λ test is. holds_bind AreFine Fine (judge.stats_in e in_loop [] row) (λ body. bind (judge.elsifs_in e in_loop rows last) (λ arms. whole_if test body arms)) (stats_sound e whole in_loop [] tt row)
+        (λ body are. holds_bind (AreArms p) Fine (judge.elsifs_in e in_loop rows last) (λ arms. whole_if test body arms)
+        (elsifs_sound e whole in_loop rows last (holds_bind AreFine (AreArms p) (judge.else_in e in_loop otherwise) (λ ss. kept (Otherwise (listed ss))) (else_sound e whole in_loop otherwise) (λ ss all h. all)))
         (λ arms all h. (is, are, all))))
-    stat_sound in_loop (stat.Case' q c shape row otherwise) =
+    stat_sound e whole in_loop (stat.Case' q c shape row otherwise) =
         let last = judge.case_else_in e in_loop otherwise in
         let IsSelector = λ (v : Answer). IsOf p v.typed (type.Integer W64) ⊎ IsOf p v.typed type.Char in
-        holds_bind IsSelector MayBe (judge.selector e c) (λ v. bind (judge.cases_in e in_loop v.known.of [] row last) (λ cases. kept (Some (CaseOf q v.typed cases))))
+        holds_bind IsSelector Fine (judge.selector e c) (λ v. bind (judge.cases_in e in_loop v.known.of [] row last) (λ cases. kept (Some (CaseOf q v.typed cases))))
         (selector_sound p e whole c)
-        (λ v is. holds_bind (AreCasesBehind []) MayBe (judge.cases_in e in_loop v.known.of [] row last) (λ cases. kept (Some (CaseOf q v.typed cases)))
-        (cases_sound in_loop v.known.of [] (All-nil AreLabels) tt row last (case_else_sound in_loop otherwise)) (λ cases all h. (is, all.apart, all.arms)))
-    stat_sound in_loop (stat.Repeat' q shape row c) =
-        holds_bind Are MayBe (judge.stats_in e in_loop [] row) (λ body. bind (condition e c) (λ test. kept (Some (Repeat q (listed body) test))))
-        (stats_sound in_loop [] tt row)
-        (λ body are. holds_bind IsTest MayBe (condition e c) (λ test. kept (Some (Repeat q (listed body) test))) (condition_sound p e whole c) (λ test is h. (are, is)))
-    stat_sound in_loop (stat.Loop' q shape row) =
-        holds_bind Are MayBe (judge.stats_in e true [] row) (λ body. kept (Some (Loop q (listed body)))) (stats_sound true [] tt row) (λ body are h. are)
-    stat_sound in_loop (stat.For' q n r from to by shape row) =
+        (λ v is. holds_bind (AreCasesBehind []) Fine (judge.cases_in e in_loop v.known.of [] row last) (λ cases. kept (Some (CaseOf q v.typed cases)))
+        (cases_sound e whole in_loop v.known.of [] (All-nil AreLabels) tt row last (case_else_sound e whole in_loop otherwise)) (λ cases all h. (is, all.apart, all.arms)))
+    stat_sound e whole in_loop (stat.Repeat' q shape row c) =
+        holds_bind AreFine Fine (judge.stats_in e in_loop [] row) (λ body. bind (condition e c) (λ test. kept (Some (Repeat q (listed body) test))))
+        (stats_sound e whole in_loop [] tt row)
+        (λ body are. holds_bind IsTest Fine (condition e c) (λ test. kept (Some (Repeat q (listed body) test))) (condition_sound p e whole c) (λ test is h. (are, is)))
+    stat_sound e whole in_loop (stat.Loop' q shape row) =
+        holds_bind AreFine Fine (judge.stats_in e true [] row) (λ body. kept (Some (Loop q (listed body)))) (stats_sound e whole true [] tt row) (λ body are h. are)
+    stat_sound e whole in_loop (stat.For' q n r from to by shape row) =
         let whole_for = λ (c : judge.Control) (a b : Expr) (step : ℤ) (body : List Stat). kept (Some (For q (width_of c.1) c.0 a b step (listed body))) in
-        holds_bind (IsControl p e whole) MayBe (judge.control e n)
+        holds_bind (IsControl p e whole) Fine (judge.control e n)
         (λ c. bind (judge.fitting e c.1 31 r from) (λ a. bind (judge.fitting e c.1 48 n.pos to) (λ b. bind (judge.step_of e n.pos c.1 by) (λ step. bind (judge.stats_in e in_loop [] row) (whole_for c a b step)))))
         (control_sound p e whole n)
         (λ c is. let IsValue = λ (x : Expr). IsOf p x (type.Integer (width_of c.1)) in
-        holds_bind IsValue MayBe (judge.fitting e c.1 31 r from) (λ a. bind (judge.fitting e c.1 48 n.pos to) (λ b. bind (judge.step_of e n.pos c.1 by) (λ step. bind (judge.stats_in e in_loop [] row) (whole_for c a b step))))
+        holds_bind IsValue Fine (judge.fitting e c.1 31 r from) (λ a. bind (judge.fitting e c.1 48 n.pos to) (λ b. bind (judge.step_of e n.pos c.1 by) (λ step. bind (judge.stats_in e in_loop [] row) (whole_for c a b step))))
         (fitting_sound p e whole c.0 c.1 is.typed is.number 31 r from)
-        (λ a x. holds_bind IsValue MayBe (judge.fitting e c.1 48 n.pos to) (λ b. bind (judge.step_of e n.pos c.1 by) (λ step. bind (judge.stats_in e in_loop [] row) (whole_for c a b step)))
+        (λ a x. holds_bind IsValue Fine (judge.fitting e c.1 48 n.pos to) (λ b. bind (judge.step_of e n.pos c.1 by) (λ step. bind (judge.stats_in e in_loop [] row) (whole_for c a b step)))
         (fitting_sound p e whole c.0 c.1 is.typed is.number 48 n.pos to)
-        (λ b y. holds_bind (λ z. IsWithin (width_of c.1) z) MayBe (judge.step_of e n.pos c.1 by) (λ step. bind (judge.stats_in e in_loop [] row) (whole_for c a b step))
+        (λ b y. holds_bind (λ z. IsWithin (width_of c.1) z) Fine (judge.step_of e n.pos c.1 by) (λ step. bind (judge.stats_in e in_loop [] row) (whole_for c a b step))
         (step_sound p e whole c.0 c.1 is.typed is.number n.pos by)
-        (λ step z. holds_bind Are MayBe (judge.stats_in e in_loop [] row) (whole_for c a b step) (stats_sound in_loop [] tt row)
+        (λ step z. holds_bind AreFine Fine (judge.stats_in e in_loop [] row) (whole_for c a b step) (stats_sound e whole in_loop [] tt row)
         (λ body are h. (is.variable, place_changed p e whole routine.Inc c.0 c.1 is.typed is.number, x, y, z, are))))))
-    stat_sound in_loop (stat.With' q a r b shape row) = λ h. tt
+    stat_sound e whole in_loop (stat.With' q a r b shape row) =
+        let rest = λ (v : Spot) (t : Option TypeId) (g : Spot). bind (judge.stats_in (judge.narrowed_by e a t) in_loop [] row) (λ body. kept (Some (judge.with_stat q g.held (listed body)))) in
+        holds_bind (IsWithVariable p e whole a) Fine (judge.with_variable e a) (λ v. bind (known_type e b) (λ t. bind (desig.guard e r v t) (λ g. rest v t g))) (with_variable_sound p e whole a)
+        (λ v is. holds_bind (λ (t : Option TypeId). (u : TypeId) × (t ≡ Some u)) Fine (known_type e b) (λ t. bind (desig.guard e r v t) (λ g. rest v t g)) (known_some p e b)
+        (λ t u. subst (λ t. Holds Fine (bind (desig.guard e r v t) (λ g. rest v t g))) (sym u.1)
+        (holds_bind (IsGuarded p e whole v u.0) Fine (desig.guard e r v (Some u.0)) (λ g. rest v (Some u.0) g) (guard_sound p e whole r v is.2 u.0)
+        (λ g guarded. holds_bind AreFine Fine (judge.stats_in (judge.narrowed_by e a (Some u.0)) in_loop [] row) (λ body. kept (Some (judge.with_stat q g.held (listed body))))
+        (stats_sound (judge.narrowed_by e a (Some u.0)) (narrowed_whole p e whole a u.0 is.1 (subst (λ v. MayBeNarrowed p e whole u.0 v) is.0 guarded.0)) in_loop [] tt row)
+        (λ body are h. subst (λ (g : Spot). IsStatement p (judge.with_stat q g.held (listed body))) (sym guarded.1) (with_typed p e whole q v is.2 u.0 guarded.0 (listed body) are))))))
 
-    stats_sound : {m : _} (in_loop : Bool) (ts : List Stat) → Are ts → (r : Row_of-Stat m) → Holds Are (judge.stats_in e in_loop ts r)
-    stats_sound in_loop ts are end_of-Stat = λ h. are
-    stats_sound in_loop ts are (more_of-Stat x xs) =
-        holds_bind Are Are (bind (judge.stat_of e in_loop x) (λ o. kept (put ts o))) (λ us. judge.stats_in e in_loop us xs)
-        (holds_bind MayBe Are (judge.stat_of e in_loop x) (λ o. kept (put ts o)) (stat_sound in_loop x) (λ o is h. put_sound ts o are is))
-        (λ us now. stats_sound in_loop us now xs)
+    stats_sound : {m : _} (e : Env) (whole : IsWhole p e) (in_loop : Bool) (ts : List Stat) → AreFine ts → (r : Row_of-Stat m) → Holds AreFine (judge.stats_in e in_loop ts r)
+    stats_sound e whole in_loop ts are end_of-Stat = λ h. are
+    stats_sound e whole in_loop ts are (more_of-Stat x xs) =
+        holds_bind AreFine AreFine (bind (judge.stat_of e in_loop x) (λ o. kept (put ts o))) (λ us. judge.stats_in e in_loop us xs)
+        (holds_bind Fine AreFine (judge.stat_of e in_loop x) (λ o. kept (put ts o)) (stat_sound e whole in_loop x) (λ o is h. put_sound p e whole ts o are is))
+        (λ us now. stats_sound e whole in_loop us now xs)
 
-    else_sound : (in_loop : Bool) (o : Held-Stat-If-4) → Holds Are (judge.else_in e in_loop o)
-    else_sound in_loop None' = λ h. tt
-    else_sound in_loop (Some' shape row) = stats_sound in_loop [] tt row
+    else_sound : (e : Env) (whole : IsWhole p e) (in_loop : Bool) (o : Held-Stat-If-4) → Holds AreFine (judge.else_in e in_loop o)
+    else_sound e whole in_loop None' = λ h. tt
+    else_sound e whole in_loop (Some' shape row) = stats_sound e whole in_loop [] tt row
 
-    case_else_sound : (in_loop : Bool) (o : Held-Stat-If-4) → Holds IsEnd (judge.case_else_in e in_loop o)
-    case_else_sound in_loop None' = λ h. record { arms = tt; none = refl }
-    case_else_sound in_loop (Some' shape row) =
-        holds_bind Are IsEnd (judge.stats_in e in_loop [] row) (λ body. kept (Else (listed body))) (stats_sound in_loop [] tt row)
+    case_else_sound : (e : Env) (whole : IsWhole p e) (in_loop : Bool) (o : Held-Stat-If-4) → Holds IsEnd (judge.case_else_in e in_loop o)
+    case_else_sound e whole in_loop None' = λ h. record { arms = tt; none = refl }
+    case_else_sound e whole in_loop (Some' shape row) =
+        holds_bind AreFine IsEnd (judge.stats_in e in_loop [] row) (λ body. kept (Else (listed body))) (stats_sound e whole in_loop [] tt row)
         (λ body are h. record { arms = are; none = refl })
 
-    elsifs_sound : {m : _} (in_loop : Bool) (r : Row_of-Elsif m) (last : Judged Arms) → Holds (AreArms p) last → Holds (AreArms p) (judge.elsifs_in e in_loop r last)
-    elsifs_sound in_loop end_of-Elsif last fine = fine
-    elsifs_sound in_loop (more_of-Elsif q c shape row more) last fine =
+    elsifs_sound : {m : _} (e : Env) (whole : IsWhole p e) (in_loop : Bool) (r : Row_of-Elsif m) (last : Judged Arms) → Holds (AreArms p) last → Holds (AreArms p) (judge.elsifs_in e in_loop r last)
+    elsifs_sound e whole in_loop end_of-Elsif last fine = fine
+    elsifs_sound e whole in_loop (more_of-Elsif q c shape row more) last fine =
         holds_bind IsTest (AreArms p) (condition e c) (λ test. bind (judge.stats_in e in_loop [] row) (λ body. bind (judge.elsifs_in e in_loop more last) (λ arms. kept (Arm test (listed body) arms))))
         (condition_sound p e whole c)
-        (λ test is. holds_bind Are (AreArms p) (judge.stats_in e in_loop [] row) (λ body. bind (judge.elsifs_in e in_loop more last) (λ arms. kept (Arm test (listed body) arms)))
-        (stats_sound in_loop [] tt row)
-        (λ body are. holds_bind (AreArms p) (AreArms p) (judge.elsifs_in e in_loop more last) (λ arms. kept (Arm test (listed body) arms)) (elsifs_sound in_loop more last fine)
+        (λ test is. holds_bind AreFine (AreArms p) (judge.stats_in e in_loop [] row) (λ body. bind (judge.elsifs_in e in_loop more last) (λ arms. kept (Arm test (listed body) arms)))
+        (stats_sound e whole in_loop [] tt row)
+        (λ body are. holds_bind (AreArms p) (AreArms p) (judge.elsifs_in e in_loop more last) (λ arms. kept (Arm test (listed body) arms)) (elsifs_sound e whole in_loop more last fine)
         (λ arms all h. (is, are, all))))
 
-    cases_sound : {m : _} (in_loop : Bool) (of : Option TypeId) (ls : judge.Labels) → All AreLabels ls → AreApart ls → (r : Row_of-Case m) (last : Judged Cases) →
+    cases_sound : {m : _} (e : Env) (whole : IsWhole p e) (in_loop : Bool) (of : Option TypeId) (ls : judge.Labels) → All AreLabels ls → AreApart ls → (r : Row_of-Case m) (last : Judged Cases) →
         Holds IsEnd last → Holds (AreCasesBehind ls) (judge.cases_in e in_loop of ls r last)
-    cases_sound in_loop of ls known apart end_of-Case last fine = λ h. let end = fine h in record {
+    cases_sound e whole in_loop of ls known apart end_of-Case last fine = λ h. let end = fine h in record {
       arms = end.arms;
       apart = subst (λ xs. AreApart (ls ++ xs)) (sym end.none) (subst AreApart (sym (append-nil ls)) apart);
     }
-    cases_sound in_loop of ls known apart (more_of-Case case.Empty more) last fine = cases_sound in_loop of ls known apart more last fine
-    cases_sound in_loop of ls known apart (more_of-Case (case.Arm' labels shape row) more) last fine =
+    cases_sound e whole in_loop of ls known apart (more_of-Case case.Empty more) last fine = cases_sound e whole in_loop of ls known apart more last fine
+    cases_sound e whole in_loop of ls known apart (more_of-Case (case.Arm' labels shape row) more) last fine =
         let arm = λ (all : judge.Labels) (body : List Stat) (cases : Cases). kept (OfLabels (drop (length ls) all) (listed body) cases) in
         let IsThis = AreCasesBehind ls in
         holds_bind (AreMore ls) IsThis (walk (judge.label_in e of) ls labels) (λ all. bind (judge.stats_in e in_loop [] row) (λ body. bind (judge.cases_in e in_loop of all more last) (arm all body)))
         (labels_sound p e whole of ls known apart labels)
-        (λ all are. holds_bind Are IsThis (judge.stats_in e in_loop [] row) (λ body. bind (judge.cases_in e in_loop of all more last) (arm all body)) (stats_sound in_loop [] tt row)
-        (λ body built. holds_bind (AreCasesBehind all) IsThis (judge.cases_in e in_loop of all more last) (arm all body) (cases_sound in_loop of all are.within are.apart more last fine)
+        (λ all are. holds_bind AreFine IsThis (judge.stats_in e in_loop [] row) (λ body. bind (judge.cases_in e in_loop of all more last) (arm all body)) (stats_sound e whole in_loop [] tt row)
+        (λ body built. holds_bind (AreCasesBehind all) IsThis (judge.cases_in e in_loop of all more last) (arm all body) (cases_sound e whole in_loop of all are.within are.apart more last fine)
         (λ cases others h. record {
           arms = (All-drop AreLabels (length ls) all are.within, built, others.arms);
           apart = between ls all (labels_of cases) are.behind others.apart;
         })))
 
-  stat_in_sound : (ts : List Stat) (x : TreeStat) → Are ts → Holds Are (judge.stat_in e false ts x)
-  stat_in_sound ts x are = holds_bind MayBe Are (judge.stat_of e false x) (λ o. kept (put ts o)) (stat_sound false x) (λ o is h. put_sound ts o are is)
+  stat_in_sound : (e : Env) (whole : IsWhole p e) (ts : List Stat) (x : TreeStat) → AreFine ts → Holds AreFine (judge.stat_in e false ts x)
+  stat_in_sound e whole ts x are = holds_bind Fine AreFine (judge.stat_of e false x) (λ o. kept (put ts o)) (stat_sound e whole false x) (λ o is h. put_sound p e whole ts o are is)
 
-  pub body_sound : (may_be_active : Bool) (b : Option Block) → Holds Are (judge.body_of e may_be_active b)
-  body_sound may_be_active None = λ h. tt
-  body_sound may_be_active (Some b) =
-      holds_bind Are Are (judged (modifier_breaches e.here.text may_be_active b.modifiers) []) (λ none. walk (judge.stat_in e false) none b.body.stats)
-      (λ h. tt) (λ none are. holds_walk Are (judge.stat_in e false) stat_in_sound b.body.stats none are)
+  pub body_sound : (e : Env) (whole : IsWhole p e) (may_be_active : Bool) (b : Option Block) → Holds AreFine (judge.body_of e may_be_active b)
+  body_sound e whole may_be_active None = λ h. tt
+  body_sound e whole may_be_active (Some b) =
+      holds_bind AreFine AreFine (judged (modifier_breaches e.here.text may_be_active b.modifiers) []) (λ none. walk (judge.stat_in e false) none b.body.stats)
+      (λ h. tt) (λ none are. holds_walk AreFine (judge.stat_in e false) (stat_in_sound e whole) b.body.stats none are)

@@ -1,14 +1,15 @@
--- The third pass: bodies. Built are assignments to variables of basic types and of whole records and arrays, those of string
--- constants to arrays of characters, calls of procedures, all other statements but AWAIT and WITH, the predeclared procedures, of which
--- NEW takes an object variable that is no part of another, the calls of Out, and of the modifiers ACTIVE on an object's body.
+-- The third pass: bodies. Built are assignments, calls of procedures, all other statements but AWAIT, the predeclared procedures, of
+-- which NEW takes a pointer, or an object variable that is no part of another, the calls of Out, and of the modifiers ACTIVE on an
+-- object's body.
 -- A statement that isn't built is refused at its first token, a modifier at itself.
-use Rattle.std.specs.Prelude.{ℕ, ℤ, pos, ◌||◌, drop, List, [], ◌∷◌, ◌++◌, length, codes, map, Bool, true, false, not, ◌&&◌, Option, Some, None, is_some, if◌then◌else◌}
+use Rattle.std.specs.Prelude.{ℕ, ℤ, pos, ◌||◌, drop, List, [], ◌∷◌, ◌++◌, length, codes, map, Bool, true, false, not, ◌&&◌, Option, Some, None, is_some, if◌then◌else◌, ◌==◌}
 use Rattle.std.specs.Option.{is_none, unwrap_or, option_map}
 use Rattle.std.specs.List.{list_any}
 use Rattle.std.specs.Ordering.{int_eq}
 use Rattle.aos_base.specs.Operators.{natural}
 use Rattle.aos_base.specs.declared.text.Pos.{Pos}
 use Rattle.aos_tree.specs.declared.name.Name.{Name}
+use Rattle.aos_tree.specs.declared.name.Qualident.{Qualident}
 use Rattle.aos_tree.specs.declared.expr.Expr.{Expr as TreeExpr, out-Expr}
 use Rattle.aos_tree.specs.declared.expr.Desig.{Desig}
 use Rattle.aos_tree.specs.declared.expr.Selector.{Selector, items-the_row-Expr}
@@ -19,7 +20,7 @@ use Rattle.aos_tree.specs.declared.stat.Label.{Label}
 use Rattle.aos_tree.specs.declared.stat.Case.TheVariants as case
 use Rattle.aos_tree.specs.declared.stat.Stat.{Stat as TreeStat, Row_of-Stat, end_of-Stat, more_of-Stat, Row_of-Elsif, end_of-Elsif, more_of-Elsif, Row_of-Case, end_of-Case, more_of-Case, Held-Stat-If-4, None', Some'}
 use Rattle.aos_tree.specs.declared.stat.Stat.TheVariants as stat
-use Rattle.aos_typed.specs.Program.{Call, Open, Char, Int, String, Ln, Place, ModuleVar, Expr as Typed, Lit, Stat, Assign, Copy, PutText, If, Case, While, Repeat, Loop, Exit, For, Block, Assert, Halt, Change, Perform, Return, New, Out, Stats, Nothing, Then, Arms, Otherwise, Arm, Cases, NoElse, Else, OfLabels}
+use Rattle.aos_typed.specs.Program.{Call, Open, Char, Int, String, Ln, Place, ModuleVar, Expr as Typed, Lit, Stat, Assign, Copy, PutText, If, Case, While, Repeat, Loop, Exit, For, Block, Assert, Halt, Change, Perform, Return, New, Make, With, WithRecord, Out, Stats, Nothing, Then, Arms, Otherwise, Arm, Cases, NoElse, Else, OfLabels}
 use Rattle.aos_typed.specs.declared.tree.TextConstant.{TextConstant}
 use Rattle.aos_typed.specs.declared.tree.Literal.{Literal}
 use Rattle.aos_typed.specs.declared.tree.Literal.TheVariants as literal
@@ -38,22 +39,23 @@ use Rattle.aos_symbols.specs.declared.home.Signature.{Signature}
 use Rattle.aos_symbols.specs.declared.env.Symbol.{Symbol}
 use Rattle.aos_symbols.specs.declared.env.Lookup.{Lookup}
 use Rattle.aos_symbols.specs.declared.env.Lookup.TheVariants.{Unknown as NoName, NotExported, Found}
+use Rattle.aos_symbols.specs.declared.env.Narrowed.{Narrowed}
 use Rattle.aos_symbols.specs.declared.env.Env.{Env}
 use Rattle.aos_symbols.specs.Breaches.{breach, breach_unless}
 use Rattle.aos_symbols.specs.Judged.{Judged, judged, kept, bind, walk}
 use Rattle.aos_symbols.specs.Spelling.{is_word, is_active}
 use Rattle.aos_symbols.specs.Env as env
 use Rattle.aos_types.specs.declared.row.TypeId.{TypeId}
-use Rattle.aos_types.specs.Table.{is_object as is_object_row}
+use Rattle.aos_typed.specs.Open.{open_dimensions}
 use Rattle.aos_check_expr.specs.declared.known.Class.{Class}
 use Rattle.aos_check_expr.specs.declared.known.Class.TheVariants.{Unknown, Constant, Variable, ReadOnly, Computed}
-use Rattle.aos_check_expr.specs.Known.{Answer, Spot, passes, is_number, is_char, is_set, is_basic, fits, width_of, type_of, type_of_literal, object_number}
+use Rattle.aos_check_expr.specs.Known.{Answer, Spot, Held, Stands, Value, passes, is_number, is_char, is_set, fits, width_of, type_of, type_of_literal}
 use Rattle.aos_check_expr.specs.Operations.{number}
 use Rattle.aos_check_expr.specs.declared.designators.Head.{Head}
 use Rattle.aos_check_expr.specs.Designators as desig
 use Rattle.aos_check_expr.specs.Designators.{has_parts, assigned, written, place_of, place_in}
 use Rattle.aos_check_expr.specs.Arguments.{arguments_for, listed as listed_arguments}
-use Rattle.aos_check_expr.specs.Expressions.{constant_class, is_characters, is_opening, may_be_text, text_rows, array_rows, text_for, has_room, expr, condition, argument, designator, desig_alone}
+use Rattle.aos_check_expr.specs.Expressions.{constant_class, is_characters, is_opening, may_be_text, text_rows, array_rows, text_for, has_room, known_type, expr, condition, argument, designator, desig_alone}
 
 -- statements as a sequence of the typed program
 abbrev pub listed : List Stat → Stats
@@ -100,15 +102,20 @@ abbrev pub behind_arguments : List Selector → List Selector
 behind_arguments (s.Paren' p shape row ∷ more) = more
 behind_arguments xs = xs
 
--- the type of an object variable; the basic types stand first in the table
-abbrev pub is_object : Env → Option TypeId → Bool
-is_object e None = true
-is_object e (Some t) = not (is_basic t) && is_object_row (env.row_of e (Some t))
+-- NEW stands at the first place, its argument, a pointer or an object variable, at the second.
 
--- NEW stands at the first place, its argument at the second; an object that is a part of another variable isn't built
+abbrev pub is_made : Env → Option TypeId → Bool
+is_made e = passes (λ t. desig.is_pointer_type e t || desig.is_object_type e t)
+
+-- an object that is a part of another variable isn't built
+abbrev pub is_built_there : Env → Option TypeId → Place → Bool
+is_built_there e None p = true
+is_built_there e (Some t) p = not (desig.is_object_type e t) || is_variable p
+
 abbrev pub new_breaches : Env → Pos → Pos → Spot → List Breach
 new_breaches e at first a =
-    breach_unless (is_object e a.known.of) 47 at ++ new_class_at a.known.class ++ breach_unless (is_variable (place_of a.held)) 99 at
+    breach_unless (is_made e a.known.of) 47 at ++ new_class_at a.known.class
+    ++ breach_unless (is_built_there e a.known.of (place_of a.held)) 99 at
   where
     new_class_at : Class → List Breach
     new_class_at ReadOnly = breach 33 first
@@ -117,12 +124,32 @@ new_breaches e at first a =
     new_class_at (Constant v) = breach 47 at
     new_class_at Computed = breach 47 at
 
-abbrev pub object_of : Option TypeId → ℕ
-object_of None = 0
-object_of (Some t) = object_number t
+-- there is a length for each open dimension of the array that a pointer leads to, and none elsewhere
+abbrev pub lengths_wanted : Env → TypeId → ℕ
+lengths_wanted e t = by (desig.pointed e t)
+  where
+    by : Option TypeId → ℕ
+    by None = 0
+    by (Some u) = open_dimensions e.types u
 
-abbrev pub made : Pos → Spot → Option Stat
-made at a = Some (New at (place_of a.held) (object_of a.known.of))
+abbrev pub count_breaches : Env → Pos → Option TypeId → ℕ → List Breach
+count_breaches e at None n = []
+count_breaches e at (Some t) n = breach_unless (not (is_made e (Some t)) || lengths_wanted e t == n) 34 at
+
+abbrev pub made_type : Env → Option TypeId → ℕ
+made_type e None = 0
+made_type e (Some t) = desig.made_number e t
+
+abbrev pub makes_object : Env → Option TypeId → Bool
+makes_object e None = false
+makes_object e (Some t) = desig.is_object_type e t
+
+abbrev pub made : Env → Pos → Spot → List Typed → Option Stat
+made e at a ns =
+    Some (
+    if makes_object e a.known.of
+    then New at (place_of a.held) (made_type e a.known.of)
+    else Make at (place_of a.held) (made_type e a.known.of) ns)
 
 -- what is no procedure isn't called
 abbrev pub no_call : Pos → Class → Judged (Option Stat)
@@ -222,6 +249,34 @@ abbrev pub step_in : Class → ℤ
 step_in (Constant (Some (literal.Int n))) = n
 step_in c = pos 1
 
+-- WITH: what is named is a variable of a module or the procedure's own.
+
+abbrev pub is_variable_meaning : Meaning → Bool
+is_variable_meaning (means.Variable k) = true
+is_variable_meaning m = false
+
+-- what isn't found is refused as such
+abbrev pub may_be_variable : Lookup → Bool
+may_be_variable NoName = true
+may_be_variable NotExported = true
+may_be_variable (Found x) = is_variable_meaning x.means
+
+-- whether nothing of a name is found
+abbrev pub is_missing : Lookup → Bool
+is_missing NoName = true
+is_missing NotExported = true
+is_missing (Found x) = false
+
+-- what a WITH narrows, where its variable is found
+abbrev pub narrowed_meaning : Symbol → Meaning → TypeId → Option Narrowed
+narrowed_meaning x (means.Variable k) t = Some (record { at = x.at; number = k; of = t })
+narrowed_meaning x m t = None
+
+abbrev pub narrowed_found : Lookup → TypeId → Option Narrowed
+narrowed_found NoName t = None
+narrowed_found NotExported t = None
+narrowed_found (Found x) t = narrowed_meaning x x.means t
+
 module _ (e : Env) where
   -- the string constant that is stored in an array of characters
   abbrev pub text_to : Spot → Answer → Option TextConstant
@@ -230,7 +285,7 @@ module _ (e : Env) where
   -- a string constant fits where there is room for its 0X; no other value fits an open array
   abbrev pub value_fits : Spot → Answer → Option TextConstant → Bool
   value_fits a v (Some t) = has_room e a.known.of t
-  value_fits a v None = fits v.known.of a.known.of && not (is_opening e a.known.of)
+  value_fits a v None = desig.is_compatible e v.known.of a.known.of && not (is_opening e a.known.of)
 
   -- the value must fit the variable, or else `:=` is refused
   abbrev pub assign_breaches : Pos → Spot → Answer → List Breach
@@ -290,13 +345,22 @@ module _ (e : Env) where
   out_selectors at (s.Field p n ∷ more) = ended at (behind_arguments more) (out_call at n (arguments more))
   out_selectors at more = refused 16 at
 
-  abbrev pub new_of : Pos → Pos → Option Desig → Judged (Option Stat)
-  new_of at first None = refused 47 at
-  new_of at first (Some d) = bind (designator e d) (λ a. judged (new_breaches e at first a) (made at a))
+  -- one more length, which is an integer
+  abbrev pub with_length : Pos → List Typed → TreeExpr → Judged (List Typed)
+  with_length at ns x = bind (expr e x) (λ v. judged (breach_unless (is_number v.known.of) 47 at) (ns ++ v.typed ∷ []))
+
+  abbrev pub new_with : Pos → Pos → Spot → List TreeExpr → Judged (Option Stat)
+  new_with at first a xs =
+      bind (judged (new_breaches e at first a ++ count_breaches e at a.known.of (length xs)) a) (λ b.
+      bind (walk (with_length at) [] xs) (λ ns. kept (made e at b ns)))
+
+  abbrev pub new_of : Pos → Pos → Option Desig → List TreeExpr → Judged (Option Stat)
+  new_of at first None xs = refused 47 at
+  new_of at first (Some d) xs = bind (designator e d) (λ a. new_with at first a xs)
 
   abbrev pub new_call : Pos → List TreeExpr → Judged (Option Stat)
-  new_call at (a ∷ []) = new_of at (out-Expr a).pos (desig_alone a)
-  new_call at xs = refused 34 at
+  new_call at [] = refused 34 at
+  new_call at (a ∷ xs) = new_of at (out-Expr a).pos (desig_alone a) xs
 
   -- COPY, whose second argument is an array of characters that is a variable
   abbrev pub copied : Pos → Answer → Pos → Spot → Judged (Option Stat)
@@ -420,11 +484,12 @@ module _ (e : Env) where
       by None = gives.Nothing
       by (Some s) = s.gives
 
-  -- a function gives a value that fits its result; a result that isn't of a basic type isn't built
+  -- a function gives a value that fits its result; a result that isn't of a basic type and no object isn't built
   abbrev pub return_value : Pos → Option TypeId → TreeExpr → Judged (Option Stat)
   return_value at of x =
       bind (expr e x) (λ v.
-      judged (breach_unless (fits v.known.of of) 40 at ++ breach_unless (passes is_basic of) 99 at) (Some (Return at (Some v.typed))))
+      judged (breach_unless (desig.is_compatible e v.known.of of) 40 at ++ breach_unless (passes (desig.is_value e) of) 99 at)
+      (Some (Return at (Some v.typed))))
 
   abbrev pub return_of : Pos → Gives → Option TreeExpr → Judged (Option Stat)
   return_of at gives.Nothing None = kept (Some (Return at None))
@@ -475,68 +540,117 @@ module _ (e : Env) where
   step_of at of None = kept (pos 1)
   step_of at of (Some x) = bind (expr e x) (λ v. judged (breach_unless (is_step of v.known.class) 48 at) (step_in v.known.class))
 
-  abbrev mutual
-    -- a statement, in a LOOP or in none
-    pub stat_of : (in_loop : Bool) → TreeStat → Judged (Option Stat)
-    stat_of in_loop stat.Empty = kept None
-    stat_of in_loop (stat.Assign d p x) = assign d p x
-    stat_of in_loop (stat.Call d) = called (env.lookup e d.name) d
-    stat_of in_loop (stat.While' p c shape row) =
-        bind (condition e c) (λ test. bind (stats_in in_loop [] row) (λ body. kept (Some (While p test (listed body)))))
-    stat_of in_loop (stat.Block' p ms shape row) =
-        bind (judged (modifier_breaches e.here.text false ms) []) (λ none. bind (stats_in in_loop none row) (λ body.
-        kept (Some (Block p (listed body)))))
-    stat_of in_loop (stat.Exit p) = exit_of in_loop p
-    stat_of in_loop (stat.Return p x) = return_of p gives_here x
-    stat_of in_loop (stat.Await p x) = not_yet p
-    stat_of in_loop (stat.If' p c shape row shapes rows otherwise) =
-        bind (condition e c) (λ test. bind (stats_in in_loop [] row) (λ body.
-        bind (elsifs_in in_loop rows (bind (else_in in_loop otherwise) (λ last. kept (Otherwise (listed last))))) (λ arms.
-        kept (Some (If p (Arm test (listed body) arms))))))
-    stat_of in_loop (stat.Case' p c shape row otherwise) =
-        bind (selector c) (λ v. bind (cases_in in_loop v.known.of [] row (case_else_in in_loop otherwise)) (λ cases.
-        kept (Some (Case p v.typed cases))))
-    stat_of in_loop (stat.Repeat' p shape row c) =
-        bind (stats_in in_loop [] row) (λ body. bind (condition e c) (λ test. kept (Some (Repeat p (listed body) test))))
-    stat_of in_loop (stat.Loop' p shape row) = bind (stats_in true [] row) (λ body. kept (Some (Loop p (listed body))))
-    stat_of in_loop (stat.For' p n q from to by shape row) =
-        bind (control n) (λ c. bind (fitting c.1 31 q from) (λ a. bind (fitting c.1 48 n.pos to) (λ b.
-        bind (step_of n.pos c.1 by) (λ step. bind (stats_in in_loop [] row) (λ body.
-        kept (Some (For p (width_of c.1) c.0 a b step (listed body))))))))
-    stat_of in_loop (stat.With' p a q b shape row) = not_yet p
+  -- WITH
 
-    -- statements behind those before them
-    pub stats_in : {m : _} → (in_loop : Bool) → List Stat → Row_of-Stat m → Judged (List Stat)
-    stats_in in_loop ts end_of-Stat = kept ts
-    stats_in in_loop ts (more_of-Stat x xs) =
-        bind (bind (stat_of in_loop x) (λ o. kept (put ts o))) (λ us. stats_in in_loop us xs)
+  abbrev pub with_name : Head → Judged Spot
+  with_name h = if may_be_variable h.found then desig.named e h else desig.spotted h.first (desig.refused 49 h.first)
 
-    -- the statements behind ELSE; there are none without it
-    pub else_in : Bool → Held-Stat-If-4 → Judged (List Stat)
-    else_in in_loop None' = kept []
-    else_in in_loop (Some' shape row) = stats_in in_loop [] row
+  -- a name behind what is no module
+  abbrev pub with_part : Head → Judged Spot
+  with_part h = if is_missing h.found then desig.named e h else desig.spotted h.first (desig.refused 49 h.first)
 
-    pub case_else_in : Bool → Held-Stat-If-4 → Judged Cases
-    case_else_in in_loop None' = kept NoElse
-    case_else_in in_loop (Some' shape row) = bind (stats_in in_loop [] row) (λ body. kept (Else (listed body)))
+  abbrev pub with_variable : Qualident → Judged Spot
+  with_variable q = by q.second
+    where
+      by : Option Name → Judged Spot
+      by None = with_name (desig.plain e q.first)
+      by (Some n) =
+          if desig.is_module (env.lookup e q.first) then with_name (desig.member e q.first n) else with_part (desig.plain e q.first)
 
-    -- arms of IF before the last one
-    pub elsifs_in : {m : _} → Bool → Row_of-Elsif m → Judged Arms → Judged Arms
-    elsifs_in in_loop end_of-Elsif last = last
-    elsifs_in in_loop (more_of-Elsif p c shape row more) last =
-        bind (condition e c) (λ test. bind (stats_in in_loop [] row) (λ body. bind (elsifs_in in_loop more last) (λ arms.
-        kept (Arm test (listed body) arms))))
+  -- its statements: in these the variable is of the type
+  abbrev pub head_of_with : Qualident → Head
+  head_of_with q = by q.second
+    where
+      by : Option Name → Head
+      by None = desig.plain e q.first
+      by (Some n) = desig.member e q.first n
 
-    -- the arms of CASE behind others, which have these labels, before the last one
-    pub cases_in : {m : _} → Bool → Option TypeId → Labels → Row_of-Case m → Judged Cases → Judged Cases
-    cases_in in_loop of ls end_of-Case last = last
-    cases_in in_loop of ls (more_of-Case case.Empty more) last = cases_in in_loop of ls more last
-    cases_in in_loop of ls (more_of-Case (case.Arm' labels shape row) more) last =
-        bind (walk (label_in of) ls labels) (λ all. bind (stats_in in_loop [] row) (λ body.
-        bind (cases_in in_loop of all more last) (λ cases. kept (OfLabels (drop (length ls) all) (listed body) cases))))
+  abbrev pub narrowed_variable : Qualident → Option TypeId → Option Narrowed
+  narrowed_variable q None = None
+  narrowed_variable q (Some t) = narrowed_found (head_of_with q).found t
 
+  abbrev pub narrowed_by : Qualident → Option TypeId → Env
+  narrowed_by q t = by (narrowed_variable q t)
+    where
+      by : Option Narrowed → Env
+      by None = e
+      by (Some v) = env.narrowing e v
+
+-- behind a WITH around which these variables were narrowed, where others are within
+abbrev pub behind_with : Option (List Narrowed) → Env → Env
+behind_with None e = e
+behind_with (Some vs) e = record e { narrowed = vs }
+
+-- WITH of a guarded object, or of a guarded record
+abbrev pub with_stat : Pos → Held → Stats → Stat
+with_stat at (Stands p) body = WithRecord at p body
+with_stat at (Value x) body = With at x body
+
+abbrev mutual
+  -- a statement, in a LOOP or in none
+  pub stat_of : Env → (in_loop : Bool) → TreeStat → Judged (Option Stat)
+  stat_of e in_loop stat.Empty = kept None
+  stat_of e in_loop (stat.Assign d p x) = assign e d p x
+  stat_of e in_loop (stat.Call d) = called e (env.lookup e d.name) d
+  stat_of e in_loop (stat.While' p c shape row) =
+      bind (condition e c) (λ test. bind (stats_in e in_loop [] row) (λ body. kept (Some (While p test (listed body)))))
+  stat_of e in_loop (stat.Block' p ms shape row) =
+      bind (judged (modifier_breaches e.here.text false ms) []) (λ none. bind (stats_in e in_loop none row) (λ body.
+      kept (Some (Block p (listed body)))))
+  stat_of e in_loop (stat.Exit p) = exit_of in_loop p
+  stat_of e in_loop (stat.Return p x) = return_of e p (gives_here e) x
+  stat_of e in_loop (stat.Await p x) = not_yet p
+  stat_of e in_loop (stat.If' p c shape row shapes rows otherwise) =
+      bind (condition e c) (λ test. bind (stats_in e in_loop [] row) (λ body.
+      bind (elsifs_in e in_loop rows (bind (else_in e in_loop otherwise) (λ last. kept (Otherwise (listed last))))) (λ arms.
+      kept (Some (If p (Arm test (listed body) arms))))))
+  stat_of e in_loop (stat.Case' p c shape row otherwise) =
+      bind (selector e c) (λ v. bind (cases_in e in_loop v.known.of [] row (case_else_in e in_loop otherwise)) (λ cases.
+      kept (Some (Case p v.typed cases))))
+  stat_of e in_loop (stat.Repeat' p shape row c) =
+      bind (stats_in e in_loop [] row) (λ body. bind (condition e c) (λ test. kept (Some (Repeat p (listed body) test))))
+  stat_of e in_loop (stat.Loop' p shape row) = bind (stats_in e true [] row) (λ body. kept (Some (Loop p (listed body))))
+  stat_of e in_loop (stat.For' p n q from to by shape row) =
+      bind (control e n) (λ c. bind (fitting e c.1 31 q from) (λ a. bind (fitting e c.1 48 n.pos to) (λ b.
+      bind (step_of e n.pos c.1 by) (λ step. bind (stats_in e in_loop [] row) (λ body.
+      kept (Some (For p (width_of c.1) c.0 a b step (listed body))))))))
+  stat_of e in_loop (stat.With' p a q b shape row) =
+      bind (with_variable e a) (λ v. bind (known_type e b) (λ t. bind (desig.guard e q v t) (λ g.
+      bind (stats_in (narrowed_by e a t) in_loop [] row) (λ body. kept (Some (with_stat p g.held (listed body)))))))
+
+  -- statements behind those before them
+  pub stats_in : {m : _} → Env → (in_loop : Bool) → List Stat → Row_of-Stat m → Judged (List Stat)
+  stats_in e in_loop ts end_of-Stat = kept ts
+  stats_in e in_loop ts (more_of-Stat x xs) =
+      bind (bind (stat_of e in_loop x) (λ o. kept (put ts o))) (λ us. stats_in e in_loop us xs)
+
+  -- the statements behind ELSE; there are none without it
+  pub else_in : Env → Bool → Held-Stat-If-4 → Judged (List Stat)
+  else_in e in_loop None' = kept []
+  else_in e in_loop (Some' shape row) = stats_in e in_loop [] row
+
+  pub case_else_in : Env → Bool → Held-Stat-If-4 → Judged Cases
+  case_else_in e in_loop None' = kept NoElse
+  case_else_in e in_loop (Some' shape row) = bind (stats_in e in_loop [] row) (λ body. kept (Else (listed body)))
+
+  -- arms of IF before the last one
+  pub elsifs_in : {m : _} → Env → Bool → Row_of-Elsif m → Judged Arms → Judged Arms
+  elsifs_in e in_loop end_of-Elsif last = last
+  elsifs_in e in_loop (more_of-Elsif p c shape row more) last =
+      bind (condition e c) (λ test. bind (stats_in e in_loop [] row) (λ body. bind (elsifs_in e in_loop more last) (λ arms.
+      kept (Arm test (listed body) arms))))
+
+  -- the arms of CASE behind others, which have these labels, before the last one
+  pub cases_in : {m : _} → Env → Bool → Option TypeId → Labels → Row_of-Case m → Judged Cases → Judged Cases
+  cases_in e in_loop of ls end_of-Case last = last
+  cases_in e in_loop of ls (more_of-Case case.Empty more) last = cases_in e in_loop of ls more last
+  cases_in e in_loop of ls (more_of-Case (case.Arm' labels shape row) more) last =
+      bind (walk (label_in e of) ls labels) (λ all. bind (stats_in e in_loop [] row) (λ body.
+      bind (cases_in e in_loop of all more last) (λ cases. kept (OfLabels (drop (length ls) all) (listed body) cases))))
+
+module _ (e : Env) where
   abbrev pub stat_in : Bool → List Stat → TreeStat → Judged (List Stat)
-  stat_in in_loop ts x = bind (stat_of in_loop x) (λ o. kept (put ts o))
+  stat_in in_loop ts x = bind (stat_of e in_loop x) (λ o. kept (put ts o))
 
   -- a body that is END alone has no statements
   abbrev pub body_of : Bool → Option TreeBlock → Judged (List Stat)

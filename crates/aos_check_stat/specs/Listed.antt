@@ -2,6 +2,7 @@
 use Rattle.std.specs.Prelude.{List, [], ◌∷◌, drop, length, Bool, true, false, Option, Some, None}
 use Rattle.aos_base.specs.declared.text.Pos.{Pos}
 use Rattle.aos_tree.specs.declared.name.Name.{Name}
+use Rattle.aos_tree.specs.declared.name.Qualident.{Qualident}
 use Rattle.aos_tree.specs.declared.expr.Expr.{Expr as TreeExpr}
 use Rattle.aos_tree.specs.declared.stat.Block.{Block as TreeBlock}
 use Rattle.aos_tree.specs.declared.stat.Elsif.{Elsif}
@@ -16,8 +17,9 @@ use Rattle.aos_typed.specs.Seen.{seen_expr, seen_stats}
 use Rattle.aos_symbols.specs.declared.env.Env.{Env}
 use Rattle.aos_symbols.specs.Judged.{Judged, judged, kept, bind, walk}
 use Rattle.aos_check_expr.specs.Known.{width_of}
-use Rattle.aos_check_expr.specs.Expressions.{condition}
-use Rattle.aos_check_stat.specs.Bodies.{listed, modifier_breaches, Labels, label_in, selector, control, fitting, step_of, stat_in}
+use Rattle.aos_check_expr.specs.Designators.{guard}
+use Rattle.aos_check_expr.specs.Expressions.{condition, known_type}
+use Rattle.aos_check_stat.specs.Bodies.{listed, modifier_breaches, Labels, label_in, selector, control, fitting, step_of, with_variable, narrowed_by, with_stat, stat_in}
 
 -- the code's arms before others
 abbrev pub onto : List TArm → Arms → Arms
@@ -51,6 +53,11 @@ module _ (e : Env) where
       bind (control e n) (λ c. bind (fitting e c.1 31 q from) (λ a. bind (fitting e c.1 48 n.pos to) (λ b.
       bind (step_of e n.pos c.1 by) (λ step. bind (listed_in in_loop ss) (λ body.
       kept (Some (For p (width_of c.1) c.0 a b step (listed body))))))))
+
+  abbrev pub with_of : Bool → Pos → Qualident → Pos → Qualident → List TreeStat → Judged (Option Stat)
+  with_of in_loop p a q b ss =
+      bind (with_variable e a) (λ v. bind (known_type e b) (λ t. bind (guard e q v t) (λ g.
+      bind (walk (stat_in (narrowed_by e a t) in_loop) [] ss) (λ body. kept (Some (with_stat p g.held (listed body)))))))
 
   -- a test, and the statements behind it
   abbrev pub tested : Bool → TreeExpr → List TreeStat → Judged (List Stat)

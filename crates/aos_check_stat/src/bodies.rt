@@ -17,16 +17,17 @@ use std::alloc::{AllocError, Global};
 pub fn body_of(
     alloc: Global,
     found: &mut Option<Breach>,
-    env: &Env<'_>,
+    env: &mut Env<'_>,
     may_be_active: bool,
     body: &Option<Block>,
 ) -> Result<Vec<TStat>, AllocError>
+    ensures env { OnOk result (env.new ≡ env.old) }
     ensures noted { OnOk result (found.new ≡
-        first_after found.old (judge.body_of env.now may_be_active body.now).breaches) }
+        first_after found.old (judge.body_of env.old may_be_active body.now).breaches) }
     ensures answer { IfOk result (λ ss.
-        map seen_stat ss.items ≡ (judge.body_of env.now may_be_active body.now).answer) }
+        map seen_stat ss.items ≡ (judge.body_of env.old may_be_active body.now).answer) }
     ensures listed { IfOk result (λ ss.
-        seen_stats ss.items ≡ judge.listed (judge.body_of env.now may_be_active body.now).answer) }
+        seen_stats ss.items ≡ judge.listed (judge.body_of env.old may_be_active body.now).answer) }
 {
     match body {
         None => Ok(Vec::new(alloc)),

@@ -5,11 +5,13 @@ pub mod bodies;
 mod calls;
 mod labels;
 mod loops;
+mod news;
 mod out;
 mod procedures;
 mod refusals;
 mod routines;
 mod statements;
 mod texts;
+mod withs;
 
 pub use bodies::body_of;

@@ -3,13 +3,13 @@
 ghost use Rattle.std.specs.Prelude.{◌≡◌, OnOk, IfOk, option_map};
 ghost use Rattle.aos_typed.specs.Seen.{seen_stat};
 ghost use Rattle.aos_symbols.specs.Breaches.{first_after};
-ghost use Rattle.aos_check_expr.specs.Known.{passes, is_basic as is_basic_type};
 ghost use Rattle.aos_check_stat.specs.Bodies as judge;
 
 use crate::refusals::{arguments, behind_arguments, not_yet, refuse_behind, refused};
 use aos_base::Pos;
 use aos_check_expr::{
-    Class, Head, arguments_for, designator, expr, fits, is_basic, is_of_module, member_behind,
+    Class, Head, arguments_for, designator, expr, is_compatible, is_of_module, may_be_value,
+    member_behind,
 };
 use aos_symbols::{
     Breach, Env, Gives, Lookup, Meaning, NOT_BUILT, Signature, Symbol, WRONG_CALL, WRONG_RETURN,
@@ -219,23 +219,13 @@ fn return_value(
         (judge.return_value env.now at of value.now).answer) }
 {
     let value = expr(alloc, found, env, value)?;
-    if !fits(value.known.of, of) {
+    if !is_compatible(env, value.known.of, of) {
         note(found, WRONG_RETURN, at);
     }
-    if !may_be_basic(of) {
+    if !may_be_value(env, of) {
         note(found, NOT_BUILT, at);
     }
     Ok(Some(TStat::Return(at, Some(value.typed))))
-}
-
-/// Whether a type is a basic one, or may be.
-fn may_be_basic(of: Option<TypeId>) -> bool
-    ensures { result ≡ passes is_basic_type of }
-{
-    match of {
-        Some(of) => is_basic(of),
-        None => true,
-    }
 }
 
 /// RETURN at a place, with a value or without.

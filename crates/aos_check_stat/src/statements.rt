@@ -18,13 +18,14 @@ use crate::loops::{control, fitting, step_of};
 use crate::procedures::return_of;
 use crate::refusals::{not_yet, refuse_modifiers, refused};
 use crate::texts::{put_text, text_to, value_fits};
+use crate::withs::{enter_with, leave_with, with_stat, with_variable};
 use aos_base::Pos;
 use aos_check_expr::{
-    Answer, Spot, condition, designator, expr, has_parts, place_in, place_of, refuse_assigned,
-    type_of, width_of,
+    Answer, Spot, condition, designator, expr, guard, has_parts, known_type, place_in, place_of,
+    refuse_assigned, type_of, width_of,
 };
 use aos_symbols::{Breach, EXIT_OUTSIDE, Env, UNFIT, WRONG_FOR, note};
-use aos_tree::{Block, Case, Desig, Elsif, Expr, Name, Stat, StatSeq};
+use aos_tree::{Block, Case, Desig, Elsif, Expr, Name, Qualident, Stat, StatSeq};
 use aos_typed::{TArm, TCase, TElse, TStat};
 use aos_types::TypeId;
 use std::alloc::{AllocError, Global};
@@ -111,18 +112,19 @@ fn exit_of(found: &mut Option<Breach>, in_loop: bool, at: Pos) -> Option<TStat>
 
 /// The statement of the typed program that a statement is, in a LOOP or in none; the empty one is none.
 #[cycle(statements)]
-#[tactic(auto, using(crate::proofs::Rows::stat_while, crate::proofs::Rows::stat_repeat, crate::proofs::Rows::stat_loop, crate::proofs::Rows::stat_block, crate::proofs::Rows::stat_for))]
+#[tactic(auto, using(crate::proofs::Rows::stat_while, crate::proofs::Rows::stat_repeat, crate::proofs::Rows::stat_loop, crate::proofs::Rows::stat_block, crate::proofs::Rows::stat_for, crate::proofs::Rows::stat_with))]
 fn stat_of(
     alloc: Global,
     found: &mut Option<Breach>,
-    env: &Env<'_>,
+    env: &mut Env<'_>,
     in_loop: bool,
     stat: &Stat,
 ) -> Result<Option<TStat>, AllocError>
+    ensures env { OnOk result (env.new ≡ env.old) }
     ensures noted { OnOk result (found.new ≡
-        first_after found.old (judge.stat_of env.now in_loop stat.now).breaches) }
+        first_after found.old (judge.stat_of env.old in_loop stat.now).breaches) }
     ensures answer { IfOk result
-        (λ s. option_map seen_stat s ≡ (judge.stat_of env.now in_loop stat.now).answer) }
+        (λ s. option_map seen_stat s ≡ (judge.stat_of env.old in_loop stat.now).answer) }
 {
     match stat {
         Stat::Empty => Ok(None),
@@ -155,7 +157,9 @@ fn stat_of(
                 alloc, found, env, in_loop, *at, *name, *assigned, body, from, to, by,
             )
         }
-        Stat::With(at, _, _, _, _) => Ok(not_yet(found, *at)),
+        Stat::With(at, name, colon, of, body) => {
+            with_of(alloc, found, env, in_loop, *at, *name, *colon, *of, body)
+        }
     }
 }
 
@@ -165,16 +169,17 @@ fn stat_of(
 fn arm_of(
     alloc: Global,
     found: &mut Option<Breach>,
-    env: &Env<'_>,
+    env: &mut Env<'_>,
     in_loop: bool,
     body: &StatSeq,
     test: &Expr,
 ) -> Result<TArm, AllocError>
+    ensures env { OnOk result (env.new ≡ env.old) }
     ensures noted { OnOk result (found.new ≡ first_after found.old
-        (listed.tested env.now in_loop test.now body.now.stats).breaches) }
-    ensures test { IfOk result (λ a. seen_expr (out-TArm a).test ≡ (expressions.condition env.now test.now).answer) }
+        (listed.tested env.old in_loop test.now body.now.stats).breaches) }
+    ensures test { IfOk result (λ a. seen_expr (out-TArm a).test ≡ (expressions.condition env.old test.now).answer) }
     ensures body { IfOk result (λ a. map seen_stat (out-TArm a).body.items ≡
-        (listed.listed_in env.now in_loop body.now.stats).answer) }
+        (listed.listed_in env.old in_loop body.now.stats).answer) }
 {
     let test = condition(alloc, found, env, test)?;
     let body = stats_in(alloc, found, env, in_loop, body.stats.as_slice())?;
@@ -186,15 +191,16 @@ fn arm_of(
 fn put_arms(
     alloc: Global,
     found: &mut Option<Breach>,
-    env: &Env<'_>,
+    env: &mut Env<'_>,
     in_loop: bool,
     elsifs: &[Elsif],
     arms: &mut Vec<TArm>,
 ) -> Result<(), AllocError>
+    ensures env { OnOk result (env.new ≡ env.old) }
     ensures noted { OnOk result ((last : Judged Arms) → first_after found.new last.breaches ≡
-        first_after found.old (listed.arms_in env.now in_loop elsifs.now last).breaches) }
+        first_after found.old (listed.arms_in env.old in_loop elsifs.now last).breaches) }
     ensures answer { OnOk result ((last : Judged Arms) → onto arms.new.items last.answer ≡
-        onto arms.old.items (listed.arms_in env.now in_loop elsifs.now last).answer) }
+        onto arms.old.items (listed.arms_in env.old in_loop elsifs.now last).answer) }
 {
     for elsif in elsifs {
         let arm = arm_of(alloc, found, env, in_loop, &elsif.body, &elsif.condition)?;
@@ -208,14 +214,15 @@ fn put_arms(
 fn else_of(
     alloc: Global,
     found: &mut Option<Breach>,
-    env: &Env<'_>,
+    env: &mut Env<'_>,
     in_loop: bool,
     otherwise: &Option<StatSeq>,
 ) -> Result<Vec<TStat>, AllocError>
+    ensures env { OnOk result (env.new ≡ env.old) }
     ensures noted { OnOk result (found.new ≡
-        first_after found.old (listed.behind_else env.now in_loop otherwise.now).breaches) }
+        first_after found.old (listed.behind_else env.old in_loop otherwise.now).breaches) }
     ensures answer { IfOk result (λ ss.
-        map seen_stat ss.items ≡ (listed.behind_else env.now in_loop otherwise.now).answer) }
+        map seen_stat ss.items ≡ (listed.behind_else env.old in_loop otherwise.now).answer) }
 {
     match otherwise {
         None => Ok(Vec::new(alloc)),
@@ -228,15 +235,16 @@ fn else_of(
 fn cases_in(
     alloc: Global,
     found: &mut Option<Breach>,
-    env: &Env<'_>,
+    env: &mut Env<'_>,
     in_loop: bool,
     arms: &[Case],
     of: Option<TypeId>,
 ) -> Result<Vec<TCase>, AllocError>
+    ensures env { OnOk result (env.new ≡ env.old) }
     ensures noted { OnOk result ((last : Judged Cases) → first_after found.new last.breaches ≡
-        first_after found.old (listed.cases_of env.now in_loop of [] arms.now last).breaches) }
+        first_after found.old (listed.cases_of env.old in_loop of [] arms.now last).breaches) }
     ensures answer { IfOk result (λ all. (last : Judged Cases) → cases_of all.items last.answer ≡
-        (listed.cases_of env.now in_loop of [] arms.now last).answer) }
+        (listed.cases_of env.old in_loop of [] arms.now last).answer) }
 {
     let mut labels = Labels::new(alloc);
     let mut all = Vec::new(alloc);
@@ -257,14 +265,15 @@ fn cases_in(
 fn case_else(
     alloc: Global,
     found: &mut Option<Breach>,
-    env: &Env<'_>,
+    env: &mut Env<'_>,
     in_loop: bool,
     otherwise: &Option<StatSeq>,
 ) -> Result<TElse, AllocError>
+    ensures env { OnOk result (env.new ≡ env.old) }
     ensures noted { OnOk result (found.new ≡
-        first_after found.old (listed.else_of_case env.now in_loop otherwise.now).breaches) }
+        first_after found.old (listed.else_of_case env.old in_loop otherwise.now).breaches) }
     ensures answer { IfOk result (λ o.
-        seen_else o ≡ (listed.else_of_case env.now in_loop otherwise.now).answer) }
+        seen_else o ≡ (listed.else_of_case env.old in_loop otherwise.now).answer) }
 {
     match otherwise {
         None => Ok(TElse::Missing),
@@ -281,16 +290,17 @@ fn case_else(
 fn while_of(
     alloc: Global,
     found: &mut Option<Breach>,
-    env: &Env<'_>,
+    env: &mut Env<'_>,
     in_loop: bool,
     at: Pos,
     body: &StatSeq,
     test: &Expr,
 ) -> Result<Option<TStat>, AllocError>
+    ensures env { OnOk result (env.new ≡ env.old) }
     ensures noted { OnOk result (found.new ≡ first_after found.old
-        (listed.while_of env.now in_loop at test.now body.now.stats).breaches) }
+        (listed.while_of env.old in_loop at test.now body.now.stats).breaches) }
     ensures answer { IfOk result (λ s. option_map seen_stat s ≡
-        (listed.while_of env.now in_loop at test.now body.now.stats).answer) }
+        (listed.while_of env.old in_loop at test.now body.now.stats).answer) }
 {
     let test = condition(alloc, found, env, test)?;
     let body = stats_in(alloc, found, env, in_loop, body.stats.as_slice())?;
@@ -303,16 +313,17 @@ fn while_of(
 fn repeat_of(
     alloc: Global,
     found: &mut Option<Breach>,
-    env: &Env<'_>,
+    env: &mut Env<'_>,
     in_loop: bool,
     at: Pos,
     body: &StatSeq,
     test: &Expr,
 ) -> Result<Option<TStat>, AllocError>
+    ensures env { OnOk result (env.new ≡ env.old) }
     ensures noted { OnOk result (found.new ≡ first_after found.old
-        (listed.repeat_of env.now in_loop at body.now.stats test.now).breaches) }
+        (listed.repeat_of env.old in_loop at body.now.stats test.now).breaches) }
     ensures answer { IfOk result (λ s. option_map seen_stat s ≡
-        (listed.repeat_of env.now in_loop at body.now.stats test.now).answer) }
+        (listed.repeat_of env.old in_loop at body.now.stats test.now).answer) }
 {
     let body = stats_in(alloc, found, env, in_loop, body.stats.as_slice())?;
     let test = condition(alloc, found, env, test)?;
@@ -325,14 +336,15 @@ fn repeat_of(
 fn loop_of(
     alloc: Global,
     found: &mut Option<Breach>,
-    env: &Env<'_>,
+    env: &mut Env<'_>,
     at: Pos,
     body: &StatSeq,
 ) -> Result<Option<TStat>, AllocError>
+    ensures env { OnOk result (env.new ≡ env.old) }
     ensures noted { OnOk result (found.new ≡ first_after found.old
-        (listed.loop_of env.now at body.now.stats).breaches) }
+        (listed.loop_of env.old at body.now.stats).breaches) }
     ensures answer { IfOk result (λ s. option_map seen_stat s ≡
-        (listed.loop_of env.now at body.now.stats).answer) }
+        (listed.loop_of env.old at body.now.stats).answer) }
 {
     let body = stats_in(alloc, found, env, true, body.stats.as_slice())?;
     Ok(Some(TStat::Loop(at, body)))
@@ -344,7 +356,7 @@ fn loop_of(
 fn for_of(
     alloc: Global,
     found: &mut Option<Breach>,
-    env: &Env<'_>,
+    env: &mut Env<'_>,
     in_loop: bool,
     at: Pos,
     name: Name,
@@ -354,10 +366,11 @@ fn for_of(
     to: &Expr,
     by: &Option<Expr>,
 ) -> Result<Option<TStat>, AllocError>
+    ensures env { OnOk result (env.new ≡ env.old) }
     ensures noted { OnOk result (found.new ≡ first_after found.old
-        (listed.for_of env.now in_loop at name assigned from.now to.now by.now body.now.stats).breaches) }
+        (listed.for_of env.old in_loop at name assigned from.now to.now by.now body.now.stats).breaches) }
     ensures answer { IfOk result (λ s. option_map seen_stat s ≡
-        (listed.for_of env.now in_loop at name assigned from.now to.now by.now body.now.stats).answer) }
+        (listed.for_of env.old in_loop at name assigned from.now to.now by.now body.now.stats).answer) }
 {
     let (place, of) = control(alloc, found, env, name)?;
     let from = fitting(alloc, found, env, of, UNFIT, assigned, from)?;
@@ -367,20 +380,50 @@ fn for_of(
     Ok(Some(TStat::For(at, width_of(of), place, from, to, step, body)))
 }
 
+/// WITH, whose `:` stands at the second place.
+#[cycle(statements)]
+#[tactic(auto, using(aos_symbols::proofs::Keeping::after_more, crate::proofs::Rows::stats_seen))]
+fn with_of(
+    alloc: Global,
+    found: &mut Option<Breach>,
+    env: &mut Env<'_>,
+    in_loop: bool,
+    at: Pos,
+    variable: Qualident,
+    colon: Pos,
+    of: Qualident,
+    body: &StatSeq,
+) -> Result<Option<TStat>, AllocError>
+    ensures env { OnOk result (env.new ≡ env.old) }
+    ensures noted { OnOk result (found.new ≡ first_after found.old
+        (listed.with_of env.old in_loop at variable colon of body.now.stats).breaches) }
+    ensures answer { IfOk result (λ s. option_map seen_stat s ≡
+        (listed.with_of env.old in_loop at variable colon of body.now.stats).answer) }
+{
+    let whole = with_variable(alloc, found, env, variable)?;
+    let t = known_type(found, env, of);
+    let guarded = guard(alloc, found, env, colon, whole, t)?;
+    let around = enter_with(alloc, env, variable, t)?;
+    let body = stats_in(alloc, found, env, in_loop, body.stats.as_slice())?;
+    leave_with(env, around);
+    Ok(Some(with_stat(at, guarded.held, body)))
+}
+
 /// A block of statements.
 #[cycle(statements)]
 #[tactic(auto, using(aos_symbols::proofs::Keeping::after_more, crate::proofs::Rows::stats_seen, aos_typed::proofs::Seen::block_seen))]
 fn block_of(
     alloc: Global,
     found: &mut Option<Breach>,
-    env: &Env<'_>,
+    env: &mut Env<'_>,
     in_loop: bool,
     block: &Block,
 ) -> Result<Option<TStat>, AllocError>
+    ensures env { OnOk result (env.new ≡ env.old) }
     ensures noted { OnOk result (found.new ≡ first_after found.old
-        (listed.block_of env.now in_loop block.now).breaches) }
+        (listed.block_of env.old in_loop block.now).breaches) }
     ensures answer { IfOk result (λ s. option_map seen_stat s ≡
-        (listed.block_of env.now in_loop block.now).answer) }
+        (listed.block_of env.old in_loop block.now).answer) }
 {
     refuse_modifiers(found, env.here.text(), false, block.modifiers.as_slice());
     let body = stats_in(alloc, found, env, in_loop, block.body.stats.as_slice())?;
@@ -393,14 +436,15 @@ fn block_of(
 pub fn stats_in(
     alloc: Global,
     found: &mut Option<Breach>,
-    env: &Env<'_>,
+    env: &mut Env<'_>,
     in_loop: bool,
     stats: &[Stat],
 ) -> Result<Vec<TStat>, AllocError>
+    ensures env { OnOk result (env.new ≡ env.old) }
     ensures noted { OnOk result (found.new ≡
-        first_after found.old (listed.listed_in env.now in_loop stats.now).breaches) }
+        first_after found.old (listed.listed_in env.old in_loop stats.now).breaches) }
     ensures answer { IfOk result (λ ss.
-        map seen_stat ss.items ≡ (listed.listed_in env.now in_loop stats.now).answer) }
+        map seen_stat ss.items ≡ (listed.listed_in env.old in_loop stats.now).answer) }
 {
     let mut all = Vec::new(alloc);
     for stat in stats {

@@ -12,8 +12,8 @@ ghost use Rattle.aos_check_stat.specs.Bodies as judge;
 use crate::refusals::refused;
 use aos_base::Pos;
 use aos_check_expr::{
-    Answer, Known, Spot, array_rows, desig_alone, designator, expr, fits, has_room, is_characters,
-    is_opening, may_be_text, place_of, refuse_written, text_for, text_rows,
+    Answer, Known, Spot, array_rows, desig_alone, designator, expr, has_room, is_characters,
+    is_compatible, is_opening, may_be_text, place_of, refuse_written, text_for, text_rows,
 };
 use aos_symbols::{ARGUMENT_COUNT, ARGUMENT_TYPE, Breach, Env, NO_VARIABLE, note};
 use aos_tree::{Desig, Expr};
@@ -34,7 +34,9 @@ pub fn value_fits(env: &Env<'_>, spot: &Spot, value: &Answer) -> bool
 {
     match text_to(env, spot, value) {
         Some(text) => has_room(env, spot.known.of, text),
-        None => fits(value.known.of, spot.known.of) && !is_opening(env, spot.known.of),
+        None => {
+            is_compatible(env, value.known.of, spot.known.of) && !is_opening(env, spot.known.of)
+        },
     }
 }
 

@@ -1,6 +1,7 @@
 -- Declarations leave the module's number, the modules before it and its text alone, in which the names of a module lie.
-use Rattle.std.proofs.Common.{◌≡◌, ℕ, zero, suc, List, [], ◌∷◌, Bool, true, false, ◌==◌, length, slice_get, Option, Some, None, refl, ap, ◌∙◌}
+use Rattle.std.proofs.Common.{◌≡◌, ℕ, zero, suc, List, [], ◌∷◌, Bool, true, false, ◌==◌, ◌&&◌, length, slice_get, Option, Some, None, refl, ap, ◌∙◌}
 use Rattle.aos_base.specs.declared.text.Pos.{Pos}
+use Rattle.aos_tree.specs.declared.name.Name.{Name}
 use Rattle.aos_tree.specs.declared.name.Qualident.{Qualident}
 use Rattle.aos_tree.specs.declared.expr.Expr.{Expr}
 use Rattle.aos_tree.specs.declared.stat.Block.{Block}
@@ -13,7 +14,7 @@ use Rattle.aos_tree.specs.declared.decl.Formals.{Formals}
 use Rattle.aos_tree.specs.declared.decl.Section.{Section}
 use Rattle.aos_tree.specs.declared.decl.Fields.{Fields}
 use Rattle.aos_tree.specs.declared.decl.Fields.TheVariants as fields
-use Rattle.aos_tree.specs.declared.decl.TypeExpr.{TypeExpr, Row_of-TypeExpr, end_of-TypeExpr, more_of-TypeExpr, Row_of-Fields, end_of-Fields, more_of-Fields}
+use Rattle.aos_tree.specs.declared.decl.TypeExpr.{TypeExpr, Row_of-TypeExpr, end_of-TypeExpr, more_of-TypeExpr, Row_of-Fields, end_of-Fields, more_of-Fields, items-the_row-Fields}
 use Rattle.aos_tree.specs.declared.decl.TypeExpr.TheVariants as type
 use Rattle.aos_tree.specs.declared.module.Module.{Module}
 use Rattle.aos_types.specs.declared.row.TypeId.{TypeId}
@@ -27,7 +28,7 @@ use Rattle.aos_symbols.specs.Declarations.{Procedure, procedures, type_defs}
 use Rattle.aos_symbols.specs.Scope.{Scope, empty, with_constant as with_value, with_variable as with_type}
 use Rattle.aos_symbols.specs.Home.{Home, changed}
 use Rattle.aos_check_expr.specs.Expressions.{constant}
-use Rattle.aos_check_decl.specs.Types.{Met, met, FieldsMet, fields_met, placed, array_of, inner_arrays, arrays, lengths_of, array_in, with_record, record_in, object_in, named_type, type_in, held_in, fields_in, field_in}
+use Rattle.aos_check_decl.specs.Types.{Met, met, FieldsMet, fields_met, placed, array_of, inner_arrays, arrays, lengths_of, open_of, array_in, is_empty, with_record, base_in, field_names, record_in, claiming, target_claims, pointer_to, object_in, named_type, type_in, held_in, pointer_in, fields_in, field_in}
 use Rattle.aos_check_decl.specs.Headings.{with_variable, with_variables, constant_def, type_def, variable_def, settled, declared, opened, FormalsMet, formals_met, with_section, HeadingMet, formals_in, with_parameters, with_signature, locals_in, procedure, procedures_from, headings, slot_in}
 use Rattle.aos_check_decl.specs.Pass.{begun, declare}
 
@@ -60,20 +61,30 @@ arrays_fixed slot at None m = refl
 arrays_fixed slot at (Some []) m = refl
 arrays_fixed slot at (Some (n ∷ ns)) m = array_fixed slot at n (inner_arrays at ns m).env (inner_arrays at ns m).of ∙ inner_fixed at ns m
 
-array_in_fixed : (slot : Option TypeId) (e : Env) (at : Pos) (xs : List Expr) (j : Judged Met) → fixed j.answer.env ≡ fixed e → fixed (array_in slot e at xs j).answer.env ≡ fixed e
-array_in_fixed slot e at [] j kept = refl
-array_in_fixed slot e at (x ∷ xs) j kept = arrays_fixed slot at (lengths_of e (x ∷ xs)).answer j.answer ∙ kept
+open_fixed : (slot : Option TypeId) (at : Pos) (e : Env) (of : Option TypeId) → fixed (open_of slot at (met e of)).env ≡ fixed e
+open_fixed slot at e None = refl
+open_fixed slot at e (Some t) = placed_fixed slot at (row.Open t) e
+
+array_in_fixed : (may_be_open : Bool) (slot : Option TypeId) (e : Env) (at : Pos) (xs : List Expr) (j : Judged Met) → fixed j.answer.env ≡ fixed e →
+    fixed (array_in may_be_open slot e at xs j).answer.env ≡ fixed e
+array_in_fixed false slot e at [] j kept = refl
+array_in_fixed true slot e at [] j kept = open_fixed slot at j.answer.env j.answer.of ∙ kept
+array_in_fixed may_be_open slot e at (x ∷ xs) j kept = arrays_fixed slot at (lengths_of e (x ∷ xs)).answer j.answer ∙ kept
 
 record_fixed : (s : Scope) (e : Env) (of : Option TypeId) → fixed (with_record s (met e of)).env ≡ fixed e
 record_fixed s e None = refl
 record_fixed s e (Some t) = refl
 
-record_in_fixed : (slot : Option TypeId) (e : Env) (at : Pos) (base : Option Qualident) (j : Judged FieldsMet) → fixed j.answer.env ≡ fixed e →
-    fixed (record_in slot e at base j).answer.env ≡ fixed e
-record_in_fixed slot e at None j kept =
-    let m = placed slot at (row.Record None j.answer.types) j.answer.env in
-    record_fixed j.answer.scope m.env m.of ∙ placed_fixed slot at (row.Record None j.answer.types) j.answer.env ∙ kept
-record_in_fixed slot e at (Some base) j kept = refl
+record_in_fixed : (slot : Option TypeId) (e : Env) (at : Pos) (base : Option Qualident) (names : List Name) (j : Judged FieldsMet) → fixed j.answer.env ≡ fixed e →
+    fixed (record_in slot e at base names j).answer.env ≡ fixed e
+record_in_fixed slot e at base names j kept =
+    let r = row.Record (base_in e base).answer j.answer.types in
+    let m = placed slot at r j.answer.env in
+    record_fixed j.answer.scope m.env m.of ∙ placed_fixed slot at r j.answer.env ∙ kept
+
+pointer_fixed : (slot : Option TypeId) (at : Pos) (x : TypeExpr) (e : Env) (of : Option TypeId) → fixed (pointer_to slot at x (met e of)).env ≡ fixed e
+pointer_fixed slot at x e None = refl
+pointer_fixed slot at x e (Some t) = placed_fixed slot at (row.Pointer t) (claiming (target_claims x t) e)
 
 object_in_fixed : (slot : Option TypeId) (e : Env) (at : Pos) (base : Option Qualident) (ds : List Decl) (body : Option Block) →
     fixed (object_in slot e at base ds body).answer.env ≡ fixed e
@@ -85,17 +96,24 @@ object_in_fixed slot e at base ds body = by (env.innermost e.path == 0) refl slo
     by false is slot = rw is refl
 
 mutual
-  type_fixed : (slot : Option TypeId) (e : Env) (t : TypeExpr) → fixed (type_in slot e t).answer.env ≡ fixed e
-  type_fixed slot e (type.Named q) = refl
-  type_fixed slot e (type.Array' p lengths shape row) = array_in_fixed slot e p lengths (held_in e row) (held_fixed e row)
-  type_fixed slot e (type.Record' p base shape row) = record_in_fixed slot e p base (fields_in (fields_met e [] empty) row) (fields_fixed (fields_met e [] empty) row)
-  type_fixed slot e (type.Pointer' p shape row) = refl
-  type_fixed slot e (type.Proc p flag formals) = refl
-  type_fixed slot e (type.Object' p base shape row body end) = object_in_fixed slot e p base (items-the_row-Decl _ row) body
+  type_fixed : (may_be_open : Bool) (slot : Option TypeId) (e : Env) (t : TypeExpr) → fixed (type_in may_be_open slot e t).answer.env ≡ fixed e
+  type_fixed may_be_open slot e (type.Named q) = refl
+  type_fixed may_be_open slot e (type.Array' p lengths shape row) =
+      array_in_fixed may_be_open slot e p lengths (held_in (may_be_open && is_empty lengths) e row) (held_fixed (may_be_open && is_empty lengths) e row)
+  type_fixed may_be_open slot e (type.Record' p base shape row) =
+      record_in_fixed slot e p base (field_names (items-the_row-Fields _ row)) (fields_in (fields_met e [] empty) row) (fields_fixed (fields_met e [] empty) row)
+  type_fixed may_be_open slot e (type.Pointer' p shape row) = pointed_fixed slot e p row
+  type_fixed may_be_open slot e (type.Proc p flag formals) = refl
+  type_fixed may_be_open slot e (type.Object' p base shape row body end) = object_in_fixed slot e p base (items-the_row-Decl _ row) body
 
-  held_fixed : {m : _} (e : Env) (r : Row_of-TypeExpr m) → fixed (held_in e r).answer.env ≡ fixed e
-  held_fixed e end_of-TypeExpr = refl
-  held_fixed e (more_of-TypeExpr t ts) = type_fixed None e t
+  held_fixed : {m : _} (may_be_open : Bool) (e : Env) (r : Row_of-TypeExpr m) → fixed (held_in may_be_open e r).answer.env ≡ fixed e
+  held_fixed may_be_open e end_of-TypeExpr = refl
+  held_fixed may_be_open e (more_of-TypeExpr t ts) = type_fixed may_be_open None e t
+
+  pointed_fixed : {m : _} (slot : Option TypeId) (e : Env) (at : Pos) (r : Row_of-TypeExpr m) → fixed (pointer_in slot e at r).answer.env ≡ fixed e
+  pointed_fixed slot e at end_of-TypeExpr = refl
+  pointed_fixed slot e at (more_of-TypeExpr t ts) =
+      let m = (type_in true None e t).answer in pointer_fixed slot at t m.env m.of ∙ type_fixed true None e t
 
   fields_fixed : {m : _} (f : FieldsMet) (r : Row_of-Fields m) → fixed (fields_in f r).answer.env ≡ fixed f.env
   fields_fixed f end_of-Fields = refl
@@ -103,7 +121,7 @@ mutual
 
   field_fixed : (f : FieldsMet) (x : Fields) → fixed (field_in f x).answer.env ≡ fixed f.env
   field_fixed f fields.Empty = refl
-  field_fixed f (fields.Of' defs of) = type_fixed None f.env of
+  field_fixed f (fields.Of' defs of) = type_fixed false None f.env of
 
 -- Constants, types and variables.
 
@@ -123,8 +141,8 @@ settled_fixed (Some t) e (Some u) = refl
 settled_fixed None e None = refl
 settled_fixed None e (Some u) = refl
 
-defined_fixed : (slot : Option TypeId) (e : Env) (t : TypeExpr) → fixed (settled slot (type_in slot e t).answer) ≡ fixed e
-defined_fixed slot e t = settled_fixed slot (type_in slot e t).answer.env (type_in slot e t).answer.of ∙ type_fixed slot e t
+defined_fixed : (slot : Option TypeId) (e : Env) (t : TypeExpr) → fixed (settled slot (type_in false slot e t).answer) ≡ fixed e
+defined_fixed slot e t = let m = (type_in false slot e t).answer in settled_fixed slot m.env m.of ∙ type_fixed false slot e t
 
 type_def_fixed : (e : Env) (def : Def) (t : TypeExpr) → fixed (type_def e (record { def = def; value = t })).answer ≡ fixed e
 type_def_fixed e def (type.Named q) = refl
@@ -139,7 +157,7 @@ variables_fixed e zero of = refl
 variables_fixed e (suc n) of = variables_fixed (with_variable e of) n of ∙ changed_fixed (λ s. with_type s of) e (env.innermost e.path)
 
 variable_fixed : (e : Env) (v : VarDef) → fixed (variable_def e v).answer ≡ fixed e
-variable_fixed e v = let m = (type_in None e v.of).answer in variables_fixed m.env (length v.defs) m.of ∙ type_fixed None e v.of
+variable_fixed e v = let m = (type_in false None e v.of).answer in variables_fixed m.env (length v.defs) m.of ∙ type_fixed false None e v.of
 
 declared_fixed : (e : Env) (d : Decl) → fixed (declared e d).answer ≡ fixed e
 declared_fixed e (decl.Consts p cs) = walk_keeps fixed constant_def constant_fixed e cs

@@ -6,6 +6,7 @@ pub mod Loads
 pub mod Composed
 pub mod TypingPrograms
 pub mod TypingScopes
+pub mod TypingTables
 pub mod TypingTypes
 pub mod TypingProcedures
 pub mod TypingLocals

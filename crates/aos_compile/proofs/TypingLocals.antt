@@ -12,6 +12,7 @@ use Rattle.aos_symbols.specs.declared.env.Env.{Env}
 use Rattle.aos_symbols.specs.Declarations.{Procedure, single_variables, formal_names}
 use Rattle.aos_symbols.specs.Scope.{Scope}
 use Rattle.aos_symbols.specs.Env as env
+use Rattle.aos_symbols.specs.Env.{basic_rows}
 use Rattle.aos_symbols.proofs.Each.{each_at}
 use Rattle.aos_symbols.proofs.Told.{IsTold, IsKnown}
 use Rattle.aos_check_expr.specs.Known.{type_as, type_of}
@@ -20,10 +21,11 @@ use Rattle.aos_check_expr.specs.Designators.{is_opened}
 use Rattle.aos_check_expr.proofs.Inside.{Inside, IsPlaceOf}
 use Rattle.aos_check_expr.proofs.Sound.{not_both}
 use Rattle.aos_check_expr.proofs.Opens.{some_there}
-use Rattle.aos_check_expr.proofs.Spots.{IsTyped, closed, opened, IsWhole, IsParameterType, parameter_type}
-use Rattle.aos_check_expr.proofs.Passed.{is_opening, shut, elements_id}
+use Rattle.aos_check_expr.proofs.Spots.{IsTyped, closed, opened, IsWhole, IsParameterType, parameter_type, elements_id}
+use Rattle.aos_check_expr.proofs.Passed.{is_opening, shut}
 use Rattle.aos_check_decl.proofs.Typing.{IsHeading}
 use Rattle.aos_compile.specs.Modules.{variable_of, procedure_of}
+use Rattle.aos_compile.proofs.TypingTypes.{RowsStay}
 use Rattle.aos_compile.proofs.TypingProcedures.{IsSignature, heading_signature, formal_at, signature_long}
 
 -- Lists.
@@ -54,19 +56,19 @@ types_beside text (d ∷ ds) [] e = absurd (omega arith)
 types_beside text (d ∷ ds) (of ∷ ofs) e = ap (λ z. type_of of ∷ z) (types_beside text ds ofs (omega arith))
 
 -- A procedure of a module, with a signature and the variables of its scope, which has the number k.
-module _ (program : Program) (e : Env) (base : IsWhole (record { program = program; own = None }) e) (q : Procedure) (s : Signature) (scope : Scope)
+module _ (program : Program) (begins : RowsStay basic_rows program.types) (e : Env) (base : IsWhole (record { program = program; own = None; basic = begins }) e) (q : Procedure) (s : Signature) (scope : Scope)
     (heading : IsHeading e.types q s scope) (b : Stats) (k : ℕ) (here : env.own_signature (env.within e k) ≡ Some s) where
   abbrev pub own : TypedProcedure
   own = procedure_of e.here.text q s scope.variables b
 
   abbrev pub body : Inside
-  body = record { program = program; own = Some own }
+  body = record { program = program; own = Some own; basic = begins }
 
   abbrev pub place : Env
   place = env.within e k
 
   abbrev outside : Inside
-  outside = record { program = program; own = None }
+  outside = record { program = program; own = None; basic = begins }
 
   signature : IsSignature e.types s own
   signature = heading_signature e.types e.here.text q s scope scope.variables b heading
@@ -87,7 +89,7 @@ module _ (program : Program) (e : Env) (base : IsWhole (record { program = progr
 
       by : (o : Bool) → is_opened e t ≡ o → IsTyped body place (if o then Of (Opened i (open_dimensions e.types t)) else (if r then Passed i else Local i)) (Some t)
       by true opening =
-          let passed = is_opening outside e base a t of kind opening (open_dimensions e.types t) (type_as (open_element e.types t)) refl (elements_id outside e base t opening) in
+          let passed = is_opening outside e base a t of kind opening (open_dimensions e.types t) (type_as (open_element e.types t)) refl (elements_id e base.opens t opening) in
           opened t (Opened i (open_dimensions e.types t)) refl refl opening (refl, (a, at, passed)) tt
       by false isnt = closed (unopened isnt r same) (told isnt kind)
 

@@ -13,6 +13,7 @@ use Rattle.aos_types.specs.declared.TheConstants.{MOST_SCALARS}
 use Rattle.aos_types.specs.declared.row.Basic.TheVariants.{Text}
 use Rattle.aos_types.specs.declared.row.TypeRow.{TypeRow}
 use Rattle.aos_types.specs.declared.row.TypeRow.TheVariants as row
+use Rattle.aos_types.proofs.Ranks.{ranked}
 use Rattle.aos_typed.specs.Program.{ModuleVar, Stat, Stats, Procedure as TypedProcedure, ObjectType, Module, Program}
 use Rattle.aos_typed.specs.WellTyped.{procedure_in, AreStatements, IsProcedure}
 use Rattle.aos_symbols.specs.declared.scope.Entry.{Entry}
@@ -31,13 +32,13 @@ use Rattle.aos_symbols.specs.Names.{name_breaches}
 use Rattle.aos_symbols.specs.Env as env
 use Rattle.aos_symbols.proofs.Each.{Each, all_of, joined, implied, each_at}
 use Rattle.aos_symbols.proofs.Holds.{Holds, holds_bind, passed_went, then_went, same_went}
-use Rattle.aos_symbols.proofs.Told.{IsKnown, GoOn, known_on, get_front, get_end, PartsAreTold, FieldsAgree}
+use Rattle.aos_symbols.proofs.Told.{IsKnown, GoOn, known_on, get_front, get_end, FieldsAgree}
 use Rattle.aos_check_expr.specs.Known.{type_of}
 use Rattle.aos_check_expr.specs.Designators as desig
 use Rattle.aos_check_expr.proofs.Inside.{Inside}
-use Rattle.aos_check_expr.proofs.Opens.{OpensStand, some_there, stand_fall}
+use Rattle.aos_check_expr.proofs.Opens.{some_there}
 use Rattle.aos_check_expr.proofs.Sound.{not_both}
-use Rattle.aos_check_expr.proofs.Spots.{IsTyped, closed, IsSigned, IsSearched, IsWhole, opens_told}
+use Rattle.aos_check_expr.proofs.Spots.{IsTyped, closed, IsSigned, IsSearched, IsWhole, NarrowsWell, opens_told}
 use Rattle.aos_check_decl.specs.Pass.{declare}
 use Rattle.aos_check_decl.proofs.Typing.{AreGood, AreReady, IsReady, variable_cells, IsHeading, HasHeading, IsDeclared, declare_sound}
 use Rattle.aos_check_stat.specs.Bodies.{listed, body_of}
@@ -45,7 +46,7 @@ use Rattle.aos_check_stat.proofs.Typing.{body_sound}
 use Rattle.aos_compile.specs.Modules.{World, no_modules, program_of, object_body, object_in, local_type, unnamed_type, other_types, bodies_from, first_scope, Bodies, bodies, variables_of, variable_of, procedure_of, module_of, extended, elaborated, spelling}
 use Rattle.aos_compile.proofs.TypingPrograms.{HaveTypes, Grows, grown, body_grows}
 use Rattle.aos_compile.proofs.TypingScopes.{variables_are, locals_are, procedure_at}
-use Rattle.aos_compile.proofs.TypingTypes.{RowsStay, longer as more_rows, basic_ready}
+use Rattle.aos_compile.proofs.TypingTypes.{RowsStay, longer as more_rows, bases_there, basic_ready}
 use Rattle.aos_compile.proofs.TypingScalars.{sum_stays}
 use Rattle.aos_compile.proofs.TypingFields.{fields_told, fields_on}
 use Rattle.aos_compile.proofs.TypingProcedures.{HaveHeadings, AreBodies as AreProcedureBodies, procedures_typed, procedure_grows, IsSignature, heading_signature, signed, signature_on, signatures_are}
@@ -164,17 +165,19 @@ pub record IsPlaced (p : Inside) (e : Env) : Type 0 where
   pub own_body : env.own_signature e ≡ None → p.own ≡ None
 
 whole : (p : Inside) (e : Env) (hs : List Home) → AreHomes e.types hs p.program.modules → ((m : ℕ) (h : Home) → env.home e m ≡ Some h → slice_get hs m ≡ Some h) →
-    PartsAreTold e.types → OpensStand e.types → FieldsAgree e.types e.here → ((m : ℕ) (h : Home) → slice_get e.before m ≡ Some h → FieldsAgree e.types h) →
-    p.program.types ≡ e.types → length e.types ≡ 10 + length p.program.objects → ((k : ℕ) → k < 10 → slice_get e.types k ≡ slice_get env.basic_rows k) → IsPlaced p e → IsWhole p e
-whole p e hs are at parts stand here before rows count basic placed = record {
+    AreReady e.types → FieldsAgree e.types e.here → ((m : ℕ) (h : Home) → slice_get e.before m ≡ Some h → FieldsAgree e.types h) → e.narrowed ≡ [] →
+    p.program.types ≡ e.types → length e.types ≡ 10 + length p.program.objects → IsPlaced p e → IsWhole p e
+whole p e hs are at table here before none rows count placed = record {
   variables = λ o s w x k first there found means. by_home o s w x k first found means there (env.home e o.home) refl there;
   constants = λ o s there. by_scope o s (env.home e o.home) refl there;
-  parts = parts;
-  fields = fields_told e here before;
+  parts = table.parts;
+  fields = fields_told e here before (ranked e.types table.sound.none_contains_itself) table.parts (bases_there e.types table);
   rows = rows;
   objects = count;
-  basic = basic;
-  opens = opens_told e stand;
+  basic = table.basic;
+  written = table.written;
+  opens = opens_told e table.opens;
+  narrows = λ x k at. subst (NarrowsWell e x k (desig.variable e x k at)) (sym none) tt;
   path = placed.path;
   locals = placed.locals;
   own = placed.own;
@@ -223,14 +226,14 @@ whole p e hs are at parts stand here before rows count basic placed = record {
 -- Bodies.
 
 module _ (program : Program) (e : Env) (m : Tree) (begins : RowsStay env.basic_rows program.types)
-    (everywhere : (own : Option TypedProcedure) (path : List Open) → IsPlaced (record { program = program; own = own }) (env.back_at path e) →
-    IsWhole (record { program = program; own = own }) (env.back_at path e))
+    (everywhere : (own : Option TypedProcedure) (path : List Open) → IsPlaced (record { program = program; own = own; basic = begins }) (env.back_at path e) →
+    IsWhole (record { program = program; own = own; basic = begins }) (env.back_at path e))
     (path_is : e.path ≡ env.own e.number ∷ []) (first_is : e.here.first ≡ first_scope m)
     (headings : (j : ℕ) (q : Procedure) → slice_get (procedures m.decls) j ≡ Some q → HasHeading m e j q)
     (below : (j : ℕ) (q : Procedure) → slice_get (procedures m.decls) j ≡ Some q → (s : Scope) → slice_get e.here.scopes (first_scope m + j) ≡ Some s →
     (w : List ℕ) (x : Entry) (k : ℕ) → find s w ≡ Some x → x.means ≡ means.Variable k → k < length s.variables) where
   abbrev outside : Inside
-  outside = record { program = program; own = None }
+  outside = record { program = program; own = None; basic = begins }
 
   -- the module's body, and those of its objects, are no procedure's
   none_placed : (path : List Open) → Each (IsSearched (env.back_at path e)) path → env.own_signature (env.back_at path e) ≡ None → IsPlaced outside (env.back_at path e)
@@ -330,7 +333,7 @@ module _ (program : Program) (e : Env) (m : Tree) (begins : RowsStay env.basic_r
         ap (λ c. option_and_then (λ h. slice_get h.scopes scope_number) (if c then Some e.here else slice_get e.before e.number)) (eq-eqb e.number e.number refl)
         ∙ head.scope_is
 
-    placed : IsPlaced (record { program = program; own = Some own_procedure }) place
+    placed : IsPlaced (record { program = program; own = Some own_procedure; basic = begins }) place
     placed = record {
       path = deeper_searched scope_number;
       locals = λ s w x k some there found means. local s w x k there found means;
@@ -345,15 +348,15 @@ module _ (program : Program) (e : Env) (m : Tree) (begins : RowsStay env.basic_r
     }
       where
         local : (s : Scope) (w : List ℕ) (x : Entry) (k : ℕ) → env.scope place (record { home = e.number; scope = scope_number }) ≡ Some s → find s w ≡ Some x → x.means ≡ means.Variable k →
-            IsTyped (record { program = program; own = Some own_procedure }) place (desig.own_place place k) (env.variable_type place (record { home = e.number; scope = scope_number }) k)
+            IsTyped (record { program = program; own = Some own_procedure; basic = begins }) place (desig.own_place place k) (env.variable_type place (record { home = e.number; scope = scope_number }) k)
         local s w x k there found means =
             let same : s ≡ head.scope = same_Some s head.scope (sym there ∙ scope_here) in
             let less : k < length head.scope.variables = below j q at head.scope head.scope_is w x k (ap (λ (z : Scope). find z w) (sym same) ∙ found) means in
-            subst (IsTyped (record { program = program; own = Some own_procedure }) place (desig.own_place place k))
+            subst (IsTyped (record { program = program; own = Some own_procedure; basic = begins }) place (desig.own_place place k))
             (sym (ap (λ z. env.joined (option_and_then (λ (y : Scope). slice_get y.variables k) z)) scope_here))
-            (own_typed program e base q head.signature head.scope head.heading b scope_number signed_here k less)
+            (own_typed program begins e base q head.signature head.scope head.heading b scope_number signed_here k less)
 
-    body_whole : IsWhole (record { program = program; own = Some own_procedure }) place
+    body_whole : IsWhole (record { program = program; own = Some own_procedure; basic = begins }) place
     body_whole = everywhere (Some own_procedure) (deeper scope_number) placed
 
   -- a body of the procedure with a signature and a scope
@@ -368,7 +371,7 @@ module _ (program : Program) (e : Env) (m : Tree) (begins : RowsStay env.basic_r
       let h = headings j q at in
       subst (λ (o : Option Scope). AreStatements program (Some (procedure_of e.here.text q s (variables_of o) b)) b) (sym h.scope_is)
       (subst (λ (z : Signature). AreStatements program (Some (procedure_of e.here.text q z h.scope.variables b)) b) (same_Some h.signature s (sym h.signature_is ∙ there))
-      (body_sound (record { program = program; own = Some (own_procedure j q at b) }) (env.within e (first_scope m + j)) (body_whole j q at b) false q.body none)))
+      (body_sound (record { program = program; own = Some (own_procedure j q at b); basic = begins }) (env.within e (first_scope m + j)) (body_whole j q at b) false q.body none)))
 
   abbrev AreMore : ℕ → List Procedure → List Signature → List Stats → List Stats → Type 0
   AreMore k qs ss done bs = (rest : List Stats) × (bs ≡ done ++ rest) × AreProcedureBodies program begins e.here.text e.here.scopes k qs ss rest
@@ -528,11 +531,10 @@ module _ (w : World) (sound : IsWorld w) (text : List ℕ) (m : Tree) where
       count_objects : length e.types ≡ 10 + length world.objects
       count_objects = omega (arith, is.long, sound.count, count, length-append w.objects b.objects)
 
-      everywhere : (own : Option TypedProcedure) (path : List Open) → IsPlaced (record { program = program_of world; own = own }) (env.back_at path e) →
-          IsWhole (record { program = program_of world; own = own }) (env.back_at path e)
+      everywhere : (own : Option TypedProcedure) (path : List Open) → IsPlaced (record { program = program_of world; own = own; basic = is.table.basic }) (env.back_at path e) →
+          IsWhole (record { program = program_of world; own = own; basic = is.table.basic }) (env.back_at path e)
       everywhere own path placed =
-          whole (record { program = program_of world; own = own }) (env.back_at path e) world.before homes_more at_home is.table.parts is.table.opens is.fields fields_before refl count_objects
-          is.table.basic placed
+          whole (record { program = program_of world; own = own; basic = is.table.basic }) (env.back_at path e) world.before homes_more at_home is.table is.fields fields_before is.narrowed_is refl count_objects placed
 
       own_path : e.path ≡ env.own e.number ∷ []
       own_path = is.path_is ∙ ap (λ n. env.own n ∷ []) (sym is.number_is)
@@ -564,7 +566,7 @@ module _ (w : World) (sound : IsWorld w) (text : List ℕ) (m : Tree) where
 
       grows : Grows (program_of w) (program_of world)
       grows =
-          grown w.modules (module_of e m b ∷ []) w.types e.types w.objects b.objects is.stays (stand_fall w.types sound.table.opens) (stand_fall e.types is.table.opens) parameters_there
+          grown w.modules (module_of e m b ∷ []) w.types e.types w.objects b.objects is.stays sound.table is.table parameters_there
 
       longer : length world.modules ≡ length w.modules + 1
       longer = length-append w.modules (module_of e m b ∷ [])

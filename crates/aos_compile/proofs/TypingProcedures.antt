@@ -26,7 +26,7 @@ use Rattle.aos_check_expr.proofs.Spots.{AreParameters, IsResultOf, IsSigned, par
 use Rattle.aos_check_decl.proofs.Typing.{IsThere, IsResult as IsScalarType, IsHeading}
 use Rattle.aos_compile.specs.Modules.{variables_of, variable_of, parameter_of, result_of, procedure_of, procedures_of}
 use Rattle.aos_compile.proofs.TypingPrograms.{Grows, statements_grow}
-use Rattle.aos_compile.proofs.TypingTypes.{RowsStay, there_stays, closed_stays, fact_stays, number_is, told_number, there, known_type}
+use Rattle.aos_compile.proofs.TypingTypes.{RowsStay, there_stays, closed_stays, fact_stays, number_is, told_number, told_no_nil, there, known_type}
 
 module _ (p : Program) (begins : RowsStay basic_rows p.types) (text : List ℕ) where
   parameters : (names : List Name) (ps : List Formal) → Each (λ a. IsThere p.types a.of) ps → Each (λ a. IsType p a.of) (map (parameter_of text) (zip names ps))
@@ -142,7 +142,7 @@ formals_are types text (n ∷ names) (a ∷ ps) few each = by a.of refl each.0 (
 
 result_is : (types : List TypeRow) (g : Gives) → ((of : Option TypeId) → g ≡ gives.Value of → IsScalarType types of) → IsResultOf g (result_of g)
 result_is types gives.Nothing h = refl
-result_is types (gives.Value of) h = let one = h of refl in (one.type, one.is, ap (λ o. Some (type_of o)) one.is)
+result_is types (gives.Value of) h = let one = h of refl in (one.type, one.is, ap (λ o. Some (type_of o)) one.is, told_no_nil types one.type one.told)
 
 pub heading_signature : (types : List TypeRow) (text : List ℕ) (q : Procedure) (s : Signature) (scope : Scope) (variables : List (Option TypeId)) (b : Stats) → IsHeading types q s scope →
     IsSignature types s (procedure_of text q s variables b)

@@ -8,30 +8,34 @@ use Rattle.aos_base.specs.declared.number.Width.TheVariants.{W64}
 use Rattle.aos_types.specs.declared.row.TypeId.{TypeId}
 use Rattle.aos_types.specs.declared.row.TypeRow.{TypeRow}
 use Rattle.aos_types.specs.declared.row.TypeRow.TheVariants as row
-use Rattle.aos_types.specs.Table.{row_of, is_object, is_open}
+use Rattle.aos_types.specs.Table.{row_of, is_object, is_open, is_record}
+use Rattle.aos_types.specs.Extension.{comes_to}
 use Rattle.aos_typed.specs.declared.tree.TType.{TType}
-use Rattle.aos_typed.specs.declared.tree.TType.TheVariants.{Integer, Named, Char as TChar}
+use Rattle.aos_typed.specs.declared.tree.TType.TheVariants.{Integer, Named, Any, Char as TChar}
 use Rattle.aos_typed.specs.Numbers.{id_of}
 use Rattle.aos_typed.specs.Meaning.{changed_type}
 use Rattle.aos_typed.specs.Routines.{result_of}
-use Rattle.aos_typed.specs.Program.{Place, ModuleVar, Local, Passed, Field, Index, Of, Rows, Known, Opened, Row, Longer, Arguments, NoMore, Scalar, Whole, Opening, Expr, Lit, Read, Unary, Binary, And, Or, Element, Ord, Chr, CompareTexts, Len, LenBehind, Function, Call, Open, Char, Int, String, Ln, Stat, Assign, Copy, PutText, If, Case, While, Repeat, Loop, Exit, For, Block, Assert, Halt, Change, Perform, Return, New, Out, Stats, Nothing, Then, Arms, Otherwise, Arm, Cases, NoElse, Else, OfLabels, Parameter, Procedure, Module, ObjectType, Program}
-use Rattle.aos_typed.specs.WellTyped.{variable_type, procedure_in, field_type, is_whole, amount_type, Takes, IsArrayOf, IsConstantText, IsOpening, IsByReference, IsByValue, IsParameter, IsPlaceOf, AreRows, AreArguments, IsOf, IsCall, IsReturn, IsStatement, AreStatements, AreArms, AreCases, IsType}
+use Rattle.aos_typed.specs.Program.{Place, ModuleVar, Local, Passed, Field, Index, Of, Deref, Typed, Guarded, Rows, Known, Opened, Row, Spread, Longer, Arguments, NoMore, Scalar, Whole, Opening, Expr, Lit, Read, Unary, Binary, And, Or, Element, Ord, Chr, CompareTexts, Len, LenBehind, Function, Same, Is, IsRecord, Guard, Had, Call, Open, Char, Int, String, Ln, Stat, Assign, Copy, PutText, If, Case, While, Repeat, Loop, Exit, For, Block, Assert, Halt, Change, Perform, Return, New, Make, With, WithRecord, Out, Stats, Nothing, Then, Arms, Otherwise, Arm, Cases, NoElse, Else, OfLabels, Parameter, Procedure, Module, ObjectType, Program}
+use Rattle.aos_typed.specs.Open.{open_dimensions, open_element}
+use Rattle.aos_typed.specs.WellTyped.{variable_type, procedure_in, field_type, target, is_reference, is_value, is_whole, Fits, amount_type, Takes, IsArrayOf, IsConstantText, IsOpening, IsByReference, IsByValue, IsParameter, NamesType, IsGiven, IsPlaceOf, AreRows, AreArguments, IsOf, AreObjects, AreLengthsOf, IsCall, IsReturn, IsStatement, AreStatements, AreArms, AreCases, IsType}
 use Rattle.aos_symbols.proofs.Told.{get_front}
-use Rattle.aos_check_expr.proofs.Opens.{OpensFall, dimensions_stay, element_stays}
+use Rattle.aos_check_expr.proofs.Opens.{OpensFall, stand_fall, dimensions_stay, element_stays}
+use Rattle.aos_check_decl.proofs.Typing.{AreReady}
+use Rattle.aos_compile.proofs.TypingTables.{TargetsThere, targets_there, comes_stays, field_stays, target_stays, target_there, reference_stays, value_stays, fits_stays}
 use Rattle.aos_compile.proofs.TypingTypes.{RowsStay, fact_stays, closed_stays}
 
 -- the types of a procedure's parameters are there
 abbrev pub HaveTypes : Program → List Parameter → Type 0
 HaveTypes p as' = All (λ a. IsType p a.of) as'
 
--- each module, each row and each object type has its number; the open arrays of both tables stand behind their elements
+-- each module, each row and each object type has its number, and both tables are those of modules that break no rule
 pub record Grows (p q : Program) : Type 0 where
   pub modules : (m : ℕ) (x : Module) → slice_get p.modules m ≡ Some x → slice_get q.modules m ≡ Some x
   pub rows : RowsStay p.types q.types
   pub objects : length p.objects ≤ length q.objects
   pub parameters : (m k : ℕ) (x : Procedure) → procedure_in p m k ≡ Some x → HaveTypes p x.parameters
-  pub falls : OpensFall p.types
-  pub falls_on : OpensFall q.types
+  pub old : AreReady p.types
+  pub new : AreReady q.types
 
 no_type : {A : Type 0} {x : A} → None ≡ Some x → ⊥
 no_type e = cc
@@ -53,16 +57,56 @@ takes_more SetSpan A B C D f g h = (f _ h.0, g _ h.1)
 takes_more In A B C D f g h = (f _ h.0, g _ h.1)
 
 module _ (p q : Program) (grows : Grows p q) where
+  falls : OpensFall p.types
+  falls = stand_fall p.types grows.old.opens
+
+  falls_on : OpensFall q.types
+  falls_on = stand_fall q.types grows.new.opens
+
+  targets : TargetsThere p.types
+  targets = targets_there p.types grows.old.parts
+
   -- rows
   row_grows : (k : ℕ) (r : TypeRow) → slice_get p.types k ≡ Some r → slice_get q.types k ≡ Some r
   row_grows k r is = grows.rows k (slice_get_within p.types k r is) ∙ is
 
-  field_grows : (i k : ℕ) (t : TypeId) → field_type (slice_get p.types i) k ≡ Some t → field_type (slice_get q.types i) k ≡ Some t
-  field_grows i k t h = by (slice_get p.types i) refl h
-    where
-      by : (o : Option TypeRow) → slice_get p.types i ≡ o → field_type o k ≡ Some t → field_type (slice_get q.types i) k ≡ Some t
-      by None is h = absurd (no_type h)
-      by (Some r) is h = ap (λ o. field_type o k) (row_grows i r is) ∙ h
+  field_grows : (of : TypeId) (k : ℕ) (t : TypeId) → field_type p.types of k ≡ Some t → field_type q.types of k ≡ Some t
+  field_grows of k t h = field_stays p.types q.types grows.rows grows.old of k t h
+
+  record_grows : (t : TType) → is_record (row_of p.types (id_of t)) ≡ true → is_record (row_of q.types (id_of t)) ≡ true
+  record_grows t h = fact_stays p.types q.types grows.rows is_record refl (id_of t).0 h
+
+  whole_grows : (t : TType) → is_whole (row_of p.types (id_of t)) ≡ true → is_whole (row_of q.types (id_of t)) ≡ true
+  whole_grows t h = fact_stays p.types q.types grows.rows is_whole refl (id_of t).0 h
+
+  comes_grow : (a b : TypeId) → comes_to p.types a b ≡ true → comes_to q.types a b ≡ true
+  comes_grow a b h = comes_stays p.types q.types grows.rows a b h
+
+  target_grows : (t : TType) (u : TypeId) → target p.types t ≡ Some u → target q.types t ≡ Some u
+  target_grows t u h = target_stays p.types q.types grows.rows falls targets t u h
+
+  reference_grows : (t : TType) → is_reference p.types t ≡ true → is_reference q.types t ≡ true
+  reference_grows t h = reference_stays p.types q.types grows.rows falls targets t h
+
+  scalar_grows : (t : TType) → is_value p.types t ≡ true → is_value q.types t ≡ true
+  scalar_grows t h = value_stays p.types q.types grows.rows falls targets t h
+
+  fits_grow : (t u : TType) → Fits p.types t u → Fits q.types t u
+  fits_grow t u h = fits_stays p.types q.types grows.rows falls targets t u h
+
+  guard_grows : (k : ℕ) (t : TType) → (t ≡ Any) ⊎ ((b : TypeId) × (target p.types t ≡ Some b) × (comes_to p.types (id_of (Named k)) b ≡ true)) →
+      (t ≡ Any) ⊎ ((b : TypeId) × (target q.types t ≡ Some b) × (comes_to q.types (id_of (Named k)) b ≡ true))
+  guard_grows k t (inl is) = inl is
+  guard_grows k t (inr h) = inr (h.0, target_grows t h.0 h.1, comes_grow (id_of (Named k)) h.0 h.2)
+
+  dimensions_grow : (t : TypeId) → t.0 < length p.types → open_dimensions q.types t ≡ open_dimensions p.types t
+  dimensions_grow t there = dimensions_stay p.types q.types falls falls_on grows.rows t.0 t (omega arith) there
+
+  element_grows : (t : TypeId) → t.0 < length p.types → open_element q.types t ≡ open_element p.types t
+  element_grows t there = element_stays p.types q.types falls falls_on grows.rows t.0 t (omega arith) there
+
+  fewer : (k : ℕ) → k < length p.objects → k < length q.objects
+  fewer k h = let more = grows.objects in omega (arith, h, more)
 
   -- each variable has its type, and each procedure its number
   in_module : {A : Type 0} (f : Module → Option A) (m : ℕ) (x : A) → option_and_then f (slice_get p.modules m) ≡ Some x → option_and_then f (slice_get q.modules m) ≡ Some x
@@ -91,6 +135,9 @@ module _ (p q : Program) (grows : Grows p q) where
   constant_grows (Of r) n h = h
   constant_grows (Field x of k) n h = h
   constant_grows (Index x l of e) n h = h
+  constant_grows (Deref e u) n h = h
+  constant_grows (Typed x k) n h = h
+  constant_grows (Guarded x k) n h = h
 
   -- parameters
   value_parameter : (a : Parameter) (t : TType) → IsType p a.of → IsByValue p a t → IsByValue q a t
@@ -103,16 +150,9 @@ module _ (p q : Program) (grows : Grows p q) where
   opening_grows a n t there h =
       let of = id_of a.of in (
         fact_stays p.types q.types grows.rows is_open refl of.0 h.0,
-        h.1 ∙ sym (dimensions_stay p.types q.types grows.falls grows.falls_on grows.rows of.0 of (omega arith) there),
-        element_stays p.types q.types grows.falls grows.falls_on grows.rows of.0 of (omega arith) there ∙ h.2,
+        h.1 ∙ sym (dimensions_grow of there),
+        element_grows of there ∙ h.2,
       )
-
-  abbrev IsWholeFor : Program → Parameter → Type 0
-  IsWholeFor r a = IsByReference r a a.of ⊎ (IsByValue r a a.of × (is_whole (row_of r.types (id_of a.of)) ≡ true))
-
-  whole_parameter : (a : Parameter) → IsType p a.of → IsWholeFor p a → IsWholeFor q a
-  whole_parameter a there (inl h) = inl (reference_parameter a a.of there h)
-  whole_parameter a there (inr h) = inr (value_parameter a a.of there h.0, fact_stays p.types q.types grows.rows is_whole refl (id_of a.of).0 h.1)
 
   parameter_there : (as' : List Parameter) (k : ℕ) (a : Parameter) → HaveTypes p as' → slice_get as' k ≡ Some a → IsType p a.of
   parameter_there [] k a all is = absurd (none-some a is)
@@ -140,19 +180,55 @@ module _ (p q : Program) (grows : Grows p q) where
         by None same is = absurd (no_type is)
         by (Some x) same is = parameter_there x.parameters k a (own_types x same) is
 
+    names_grow : (x : Place) (t : TType) → NamesType p own x t → NamesType q own x t
+    names_grow (ModuleVar m k) t h = h
+    names_grow (Local k) t h = h
+    names_grow (Passed k) t h = record_grows t h
+    names_grow (Field x of k) t h = h
+    names_grow (Index x n of e) t h = h
+    names_grow (Of r) t h = h
+    names_grow (Deref e u) t h = record_grows t h
+    names_grow (Typed x k) t h = record_grows t h
+    names_grow (Guarded x k) t h = record_grows t h
+
+    given_grows : (a : Parameter) (x : Place) (u : TType) → IsType p a.of → IsGiven p own a x u → IsGiven q own a x u
+    given_grows a x u there (inl h) =
+        let of : (id_of u).0 < length p.types = subst (IsType p) h.0.2 there in
+        inl (reference_parameter a u there h.0, ap is_record (grows.rows (id_of u).0 of) ∙ h.1)
+    given_grows a x u there (inr (inl h)) =
+        inr (inl (closed_stays p.types q.types grows.rows (id_of a.of).0 there h.0, h.1, names_grow x u h.2, comes_grow (id_of u) (id_of a.of) h.3))
+    given_grows a x u there (inr (inr h)) = inr (inr (value_parameter a a.of there h.0, whole_grows a.of h.1, comes_grow (id_of u) (id_of a.of) h.2))
+
     mutual
       place_grows : (x : Place) (t : TType) → IsPlaceOf p own x t → IsPlaceOf q own x t
       place_grows (ModuleVar m k) t h = variable_grows m k t h
       place_grows (Local k) t (inl h) = inl h
       place_grows (Local k) t (inr h) = inr (h.0, h.1, value_parameter h.0 t (own_there k h.0 h.1) h.2)
       place_grows (Passed k) t h = (h.0, h.1, reference_parameter h.0 t (own_there k h.0 h.1) h.2)
-      place_grows (Field x of k) t h = (place_grows x of h.0, field_grows (id_of of).0 k (id_of t) h.1)
+      place_grows (Field x of k) t h = (place_grows x of h.0, field_grows (id_of of) k (id_of t) h.1)
       place_grows (Index x n of e) t h = (h.0, place_grows x h.0 h.1, row_grows (id_of h.0).0 (row.Array n (id_of of)) h.2, value_grows e (Integer W64) h.3, h.4)
       place_grows (Of r) t h = rows_grow r 0 t h
+      place_grows (Deref e u) t h = (h.0, value_grows e h.0 h.1, target_grows h.0 (id_of u) h.2, whole_grows u h.3, h.4)
+      place_grows (Typed x k) t h = (place_grows x (Named k) h.0, record_grows (Named k) h.1, h.2)
+      place_grows (Guarded x k) t h = (h.0, place_grows x h.0 h.1, names_grow x h.0 h.2, record_grows (Named k) h.3, h.4)
 
       rows_grow : (r : Rows) (n : ℕ) (t : TType) → AreRows p own r n t → AreRows q own r n t
       rows_grow (Known x ns) n t h = (h.0, known_grows (IsPlaceOf p own x) (IsPlaceOf q own x) (place_grows x) x ns t h.1)
       rows_grow (Opened k j) n t h = let a = h.1 in (h.0, (a.0, a.1, opening_grows a.0 j t (own_there k a.0 a.1) a.2))
+      rows_grow (Spread e j) n t h =
+          let a = h.1 in
+          let there = target_there p.types q.types grows.rows falls targets a.0 a.1 a.3 in (
+            h.0,
+            (
+              a.0,
+              a.1,
+              value_grows e a.0 a.2,
+              target_grows a.0 a.1 a.3,
+              fact_stays p.types q.types grows.rows is_open refl a.1.0 a.4,
+              a.5 ∙ sym (dimensions_grow a.1 there),
+              element_grows a.1 there ∙ a.6,
+            ),
+          )
       rows_grow (Row r of e) n t h = (rows_grow r (suc n) t h.0, value_grows e (Integer W64) h.1, h.2)
       rows_grow (Longer r ns) n t h = (h.0, h.1, h.2, rows_grow r h.0 h.1 h.3, arrays_grow ns (id_of h.1) (id_of t) h.4)
 
@@ -160,17 +236,18 @@ module _ (p q : Program) (grows : Grows p q) where
       arguments_grow NoMore as' all h = h
       arguments_grow (Scalar e more) as' all h =
           let one = first_there as' h.0 h.1 h.2 all in
-          (h.0, h.1, h.2, value_parameter h.0 h.0.of one.0 h.3, h.4, value_grows e h.0.of h.5, arguments_grow more h.1 one.1 h.6)
+          (h.0, h.1, h.2, value_parameter h.0 h.0.of one.0 h.3, scalar_grows h.0.of h.4, value_grows e h.0.of h.5, arguments_grow more h.1 one.1 h.6)
       arguments_grow (Whole x more) as' all h =
           let one = first_there as' h.0 h.1 h.2 all in
-          (h.0, h.1, h.2, whole_parameter h.0 one.0 h.3, place_grows x h.0.of h.4, arguments_grow more h.1 one.1 h.5)
+          (h.0, h.1, h.2, (h.3.0, place_grows x h.3.0 h.3.1, given_grows h.0 x h.3.0 one.0 h.3.2), arguments_grow more h.1 one.1 h.4)
       arguments_grow (Opening r more) as' all h =
           let one = first_there as' h.0 h.1 h.4 all in
           (h.0, h.1, h.2, h.3, h.4, opening_grows h.0 h.2 h.3 one.0 h.5, rows_grow r h.2 h.3 h.6, h.7, arguments_grow more h.1 one.1 h.8)
 
       value_grows : (e : Expr) (t : TType) → IsOf p own e t → IsOf q own e t
-      value_grows (Lit l) t h = h
-      value_grows (Read u x) t h = (place_grows x u h.0, h.1, h.2)
+      value_grows (Lit l) t (inl h) = inl h
+      value_grows (Lit l) t (inr h) = inr (h.0, reference_grows t h.1)
+      value_grows (Read u x) t h = (place_grows x u h.0, scalar_grows u h.1, fits_grow t u h.2)
       value_grows (Unary op a) t h = (value_grows a _ h.0, h.1)
       value_grows (Binary op a b) t h = (takes_more op (IsOf p own a) (IsOf p own b) (IsOf q own a) (IsOf q own b) (value_grows a) (value_grows b) h.0, h.1)
       value_grows (And a b) t h = (value_grows a _ h.0, value_grows b _ h.1, h.2)
@@ -182,7 +259,16 @@ module _ (p q : Program) (grows : Grows p q) where
       value_grows (Len r d) t h = (h.0, h.1, rows_grow r h.0 h.1 h.2, h.3, h.4, h.5)
       value_grows (LenBehind r n) t h = (h.0, h.1, rows_grow r h.0 h.1 h.2, h.3, h.4)
       value_grows (Function m k more) t h =
-          (h.0, h.1, procedure_grows m k h.0 h.2, h.3, h.4, h.5, arguments_grow more h.0.parameters (grows.parameters m k h.0 h.2) h.6)
+          (h.0, h.1, procedure_grows m k h.0 h.2, h.3, scalar_grows h.1 h.4, fits_grow t h.1 h.5, arguments_grow more h.0.parameters (grows.parameters m k h.0 h.2) h.6)
+      value_grows (Same a b) t h = (
+        (h.0.0, value_grows a h.0.0 h.0.1, reference_grows h.0.0 h.0.2),
+        (h.1.0, value_grows b h.1.0 h.1.1, reference_grows h.1.0 h.1.2),
+        h.2,
+      )
+      value_grows (Is a k) t h = ((h.0.0, value_grows a h.0.0 h.0.1, reference_grows h.0.0 h.0.2), fewer k h.1, h.2)
+      value_grows (IsRecord x k) t h = (h.0, place_grows x h.0 h.1, names_grow x h.0 h.2, record_grows (Named k) h.3, h.4)
+      value_grows (Guard a k) t h = ((h.0.0, value_grows a h.0.0 h.0.1, reference_grows h.0.0 h.0.2), fewer k h.1, guard_grows k t h.2)
+      value_grows (Had v) t h = absurd h
 
     call_grows : (c : Call) → IsCall p own c → IsCall q own c
     call_grows Open h = tt
@@ -201,10 +287,17 @@ module _ (p q : Program) (grows : Grows p q) where
     return_grows (Some e) None h = h
     return_grows (Some e) (Some t) h = value_grows e t h
 
+    objects_grow : (e : Expr) → AreObjects p own e → AreObjects q own e
+    objects_grow e h = (h.0, value_grows e h.0 h.1, reference_grows h.0 h.2)
+
+    lengths_grow : (ns : List Expr) → AreLengthsOf p own ns → AreLengthsOf q own ns
+    lengths_grow [] h = tt
+    lengths_grow (n ∷ ns) h = (value_grows n (Integer W64) h.0, lengths_grow ns h.1)
+
     mutual
       statement_grows : (s : Stat) → IsStatement p own s → IsStatement q own s
-      statement_grows (Assign at t x e) h = (place_grows x t h.0, h.1, value_grows e t h.2)
-      statement_grows (Copy at t x y) h = (place_grows x t h.0, place_grows y t h.1, fact_stays p.types q.types grows.rows is_whole refl (id_of t).0 h.2)
+      statement_grows (Assign at t x e) h = (place_grows x t h.0, scalar_grows t h.1, value_grows e t h.2)
+      statement_grows (Copy at t x y) h = (place_grows x t h.0, (h.1.0, place_grows y h.1.0 h.1.1, comes_grow (id_of h.1.0) (id_of t) h.1.2), whole_grows t h.2)
       statement_grows (PutText at strict x y) h = (rows_grow x 1 TChar h.0, rows_grow y 1 TChar h.1, h.2)
       statement_grows (If at arms) h = arms_grow arms h
       statement_grows (Case at e cases) h = (selector_grows e h.0, h.1, cases_grow cases h.2)
@@ -220,10 +313,17 @@ module _ (p q : Program) (grows : Grows p q) where
       statement_grows (Perform at m k more) h = (h.0, procedure_grows m k h.0 h.1, h.2, arguments_grow more h.0.parameters (grows.parameters m k h.0 h.1) h.3)
       statement_grows (Return at e) h = return_grows e (result_of own) h
       statement_grows (New at x t) h =
-          (h.0, place_grows x (Named t) h.1, fact_stays p.types q.types grows.rows is_object refl (id_of (Named t)).0 h.2, fewer t (length p.objects) (length q.objects) h.3 grows.objects)
-        where
-          fewer : (t m n : ℕ) → t < m → m ≤ n → t < n
-          fewer t m n a b = omega arith
+          (h.0, place_grows x (Named t) h.1, fact_stays p.types q.types grows.rows is_object refl (id_of (Named t)).0 h.2, fewer t h.3)
+      statement_grows (Make at x t ns) h =
+          let there = target_there p.types q.types grows.rows falls targets h.0.0 (id_of (Named t)) h.0.2 in (
+            (h.0.0, place_grows x h.0.0 h.0.1, target_grows h.0.0 (id_of (Named t)) h.0.2),
+            ap is_object (grows.rows (id_of (Named t)).0 there) ∙ h.1,
+            fewer t h.2,
+            lengths_grow ns h.3,
+            h.4 ∙ sym (dimensions_grow (id_of (Named t)) there),
+          )
+      statement_grows (With at e body) h = (objects_grow e h.0, statements_grow body h.1)
+      statement_grows (WithRecord at x body) h = ((h.0.0, place_grows x h.0.0 h.0.1, names_grow x h.0.0 h.0.2), statements_grow body h.1)
       statement_grows (Out at c) h = call_grows c h
 
       pub statements_grow : (ss : Stats) → AreStatements p own ss → AreStatements q own ss
@@ -244,14 +344,14 @@ module _ (p q : Program) (grows : Grows p q) where
   body_grows ss h = statements_grow None (λ x is. absurd (no_type is)) ss h
 
 -- more modules, more rows and more objects behind those of a program
-pub grown : (ms ns : List Module) (ts us : List TypeRow) (os qs : List ObjectType) → RowsStay ts us → OpensFall ts → OpensFall us →
+pub grown : (ms ns : List Module) (ts us : List TypeRow) (os qs : List ObjectType) → RowsStay ts us → AreReady ts → AreReady us →
     ((m k : ℕ) (x : Procedure) → procedure_in (record { modules = ms; types = ts; objects = os }) m k ≡ Some x → HaveTypes (record { modules = ms; types = ts; objects = os }) x.parameters) →
     Grows (record { modules = ms; types = ts; objects = os }) (record { modules = ms ++ ns; types = us; objects = os ++ qs })
-grown ms ns ts us os qs stay falls falls_on parameters = record {
+grown ms ns ts us os qs stay old new parameters = record {
   modules = get_front ms ns;
   rows = stay;
   objects = omega (arith, length-append os qs);
   parameters = parameters;
-  falls = falls;
-  falls_on = falls_on;
+  old = old;
+  new = new;
 }

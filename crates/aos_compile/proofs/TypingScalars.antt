@@ -12,7 +12,7 @@ use Rattle.aos_types.specs.Count.{AreBelow}
 use Rattle.aos_typed.specs.Numbers.{id_of}
 use Rattle.aos_typed.specs.Program.{Variable}
 use Rattle.aos_symbols.proofs.Each.{Each}
-use Rattle.aos_symbols.proofs.Told.{IsTold, basic, defined, IsKnown}
+use Rattle.aos_symbols.proofs.Told.{IsTold, basic, of_any, defined, IsKnown}
 use Rattle.aos_check_expr.specs.Known.{type_of}
 use Rattle.aos_check_decl.proofs.TypingTables.{scalars_stay}
 use Rattle.aos_check_decl.proofs.Typing.{variable_cells}
@@ -30,7 +30,8 @@ module _ (rows rows' : List TypeRow) (ten : 10 ≤ length rows) (below : (k : �
       by false = scalars_stay rows rows' below stays free free' t within
 
   told_within : (t : TypeId) → IsTold rows t → t.0 < length rows
-  told_within t (basic low) = omega arith
+  told_within t (basic low) = omega (arith, low, ten)
+  told_within t (of_any is) = omega (arith, is, ten)
   told_within t (defined r from is closed) = slice_get_within rows t.0 r is
 
   cells_stay : (of : Option TypeId) → IsKnown rows of → variable_cells rows' of ≡ variable_cells rows of

@@ -1,11 +1,11 @@
 -- Types of variables and parameters, by their numbers in the table. What is known of a type stays where its row does.
-use Rattle.std.proofs.Common.{◌≡◌, ℕ, zero, suc, ◌+◌, ◌<◌, ◌≤◌, ◌⊎◌, inl, inr, List, [], ◌∷◌, ◌++◌, length, map, Bool, true, false, Option, Some, None, slice_get, refl, sym, ap, ◌∙◌, subst, lt-ltb, arith}
-use Rattle.std.proofs.lemmas.Option.{slice_get_within}
+use Rattle.std.proofs.Common.{◌≡◌, ℕ, zero, suc, ◌<◌, ◌≤◌, inl, inr, List, [], ◌∷◌, ◌++◌, length, map, Bool, true, false, Option, Some, None, slice_get, refl, sym, ap, ◌∙◌, subst, lt-ltb, eq-eqb, arith}
+use Rattle.std.proofs.lemmas.Option.{none-some, slice_get_within}
 use Rattle.aos_types.specs.declared.TheConstants.{MOST_SCALARS}
 use Rattle.aos_types.specs.declared.row.TypeId.{TypeId}
 use Rattle.aos_types.specs.declared.row.TypeRow.{TypeRow}
 use Rattle.aos_types.specs.declared.row.TypeRow.TheVariants as row
-use Rattle.aos_types.specs.Table.{row_of, is_open}
+use Rattle.aos_types.specs.Table.{row_of, has_fields, is_open, base_of}
 use Rattle.aos_types.specs.Shape.{Shape, size}
 use Rattle.aos_types.specs.Contents.{with_parts, unfolded, scalars}
 use Rattle.aos_types.specs.Chain.{parts_of, IsOneOf, IsChain}
@@ -13,23 +13,37 @@ use Rattle.aos_types.specs.Count.{named_in}
 use Rattle.aos_typed.specs.Numbers.{id_of}
 use Rattle.aos_typed.specs.Program.{Variable, Program}
 use Rattle.aos_typed.specs.WellTyped.{IsType, IsVariableType}
-use Rattle.aos_symbols.specs.Env.{basic_rows}
+use Rattle.aos_symbols.specs.Env.{any, nil, basic_rows}
 use Rattle.aos_symbols.proofs.Each.{Each}
-use Rattle.aos_symbols.proofs.Told.{IsTold, basic, defined, IsKnown, AreToldParts}
+use Rattle.aos_symbols.proofs.Told.{IsTold, basic, of_any, defined, IsKnown, AreToldParts}
 use Rattle.aos_check_expr.specs.Known.{type_as, type_of}
-use Rattle.aos_check_expr.proofs.Types.{integer_cases, basic_cases, id_above}
-use Rattle.aos_check_expr.proofs.Opens.{IsOpenAt, some_there}
+use Rattle.aos_check_expr.proofs.Types.{same_type, integer_cases, basic_cases, id_above}
+use Rattle.aos_check_expr.proofs.Opens.{IsVariableNumber, IsOpenAt, some_there}
 use Rattle.aos_check_decl.proofs.Typing.{AreReady, IsThere}
 
 -- the number of a type in the typed program is that in the table
-pub number_is : (t : TypeId) → (t.0 < 7) ⊎ (10 ≤ t.0) → id_of (type_as t) ≡ t
+pub number_is : (t : TypeId) → IsVariableNumber t.0 → id_of (type_as t) ≡ t
 number_is t (inl below) =
     basic_cases (λ t. id_of (type_as t) ≡ t) (integer_cases (λ t. id_of (type_as t) ≡ t) refl refl refl refl) refl refl refl t (lt-ltb t.0 7 below)
-number_is t (inr from) = id_above t from
+number_is t (inr (inl is)) = subst (λ t. id_of (type_as t) ≡ t) (same_type any t (eq-eqb 8 t.0 (sym is))) refl
+number_is t (inr (inr from)) = id_above t from
 
-pub told_number : (rows : List TypeRow) (t : TypeId) → IsTold rows t → (t.0 < 7) ⊎ (10 ≤ t.0)
+pub told_number : (rows : List TypeRow) (t : TypeId) → IsTold rows t → IsVariableNumber t.0
 told_number rows t (basic below) = inl below
-told_number rows t (defined r from is closed) = inr from
+told_number rows t (of_any is) = inr (inl is)
+told_number rows t (defined r from is closed) = inr (inr from)
+
+-- what is told isn't NIL's type
+pub told_no_nil : (rows : List TypeRow) (t : TypeId) → IsTold rows t → t ≡ nil → ⊥
+told_no_nil rows t told is = by (told_number rows t told)
+  where
+    n : t.0 ≡ 7
+    n = ap (λ (u : TypeId). u.0) is
+
+    by : IsVariableNumber t.0 → ⊥
+    by (inl below) = let m = n in omega (arith, m, below)
+    by (inr (inl eight)) = let m = n in omega (arith, m, eight)
+    by (inr (inr from)) = let m = n in omega (arith, m, from)
 
 -- Rows that stay.
 
@@ -57,6 +71,14 @@ module _ (ts us : List TypeRow) (stay : RowsStay ts us) where
       by : (o : Option TypeRow) → slice_get ts k ≡ o → has o ≡ true → has (slice_get us k) ≡ true
       by None is h = absurd (cc)
       by (Some r) is h = ap has (stay k (slice_get_within ts k r is) ∙ is) ∙ h
+
+-- the base of a type is there
+pub bases_there : (types : List TypeRow) → AreReady types → (t b : TypeId) → base_of (row_of types t) ≡ Some b → b.0 < length types
+bases_there types table t b is = by (row_of types b) refl (table.sound.bases t b is)
+  where
+    by : (o : Option TypeRow) → row_of types b ≡ o → has_fields o ≡ true → b.0 < length types
+    by None there has = absurd (cc)
+    by (Some r) there has = slice_get_within types b.0 r there
 
 -- The predeclared types.
 
@@ -122,6 +144,17 @@ flat_told rows (row.Pointer t) h = absurd h
 flat_told rows (row.Object b fs) h = absurd h
 flat_told rows (row.Procedure fs r) h = absurd h
 
+flat_base : (o : Option TypeRow) → IsFlat o → base_of o ≡ None
+flat_base None h = refl
+flat_base (Some (row.Basic b)) h = refl
+flat_base (Some row.Any) h = refl
+flat_base (Some (row.Array n t)) h = absurd h
+flat_base (Some (row.Open t)) h = absurd h
+flat_base (Some (row.Record b fs)) h = absurd h
+flat_base (Some (row.Pointer t)) h = absurd h
+flat_base (Some (row.Object b fs)) h = absurd h
+flat_base (Some (row.Procedure fs r)) h = absurd h
+
 flat_open : (k : ℕ) (r : TypeRow) → IsFlat (Some r) → IsOpenAt k r
 flat_open k (row.Basic b) h = tt
 flat_open k row.Any h = tt
@@ -149,11 +182,23 @@ pub basic_ready : AreReady basic_rows
 basic_ready = record {
   basic = λ k h. refl;
   closed = λ k r is p e. absurd (flat_names r (subst IsFlat is (basic_flat k)) p e);
-  sound = record { none_contains_itself = λ t e. by t e.between e.chain; sizes = λ t. few t };
+  sound = record {
+    none_contains_itself = λ t e. by t e.between e.chain;
+    bases = λ t b is. absurd (no_base t b is);
+    record_bases = λ t b is. absurd (no_base t b is);
+    sizes = λ t. few t;
+  };
   parts = λ k r is. flat_told basic_rows r (subst IsFlat is (basic_flat k));
   opens = λ k r is. flat_open k r (subst IsFlat is (basic_flat k));
+  written = λ k r high is. absurd (past k r high is);
 }
   where
+    past : (k : ℕ) (r : TypeRow) → 10 ≤ k → slice_get basic_rows k ≡ Some r → ⊥
+    past k r high is = let below = slice_get_within basic_rows k r is in omega (arith, high, below)
+
+    no_base : (t b : TypeId) → base_of (row_of basic_rows t) ≡ Some b → ⊥
+    no_base t b is = none-some b (sym (flat_base (row_of basic_rows t) (basic_flat t.0)) ∙ is)
+
     by : (t : TypeId) (between : List TypeId) → IsChain basic_rows t (between ++ t ∷ []) → ⊥
     by t [] e = flat_parts basic_rows (row_of basic_rows t) (basic_flat t.0) t e.0
     by t (p ∷ ps) e = flat_parts basic_rows (row_of basic_rows t) (basic_flat t.0) p e.0
@@ -168,18 +213,21 @@ module _ (p : Program) (begins : RowsStay basic_rows p.types) where
   there None h = absurd h
   there (Some t) h = subst (λ (u : TypeId). u.0 < length p.types) (sym (number_is t h.1)) h.0
 
-  numbered : (t : TypeId) → (t.0 < 7) ⊎ (10 ≤ t.0) → t.0 < length p.types → is_open (row_of p.types t) ≡ false → IsVariableType p (type_as t)
+  numbered : (t : TypeId) → IsVariableNumber t.0 → t.0 < length p.types → is_open (row_of p.types t) ≡ false → IsVariableType p (type_as t)
   numbered t number within closed = record {
     there = subst (λ (u : TypeId). u.0 < length p.types) (sym (number_is t number)) within;
     closed = subst (λ (u : TypeId). is_open (row_of p.types u) ≡ false) (sym (number_is t number)) closed;
   }
 
-  told : (t : TypeId) → IsTold p.types t → IsVariableType p (type_as t)
-  told t (basic below) =
-      let here : t.0 < length basic_rows = omega arith in
-      numbered t (inl below) (there_stays basic_rows p.types begins t.0 here)
+  predeclared : (t : TypeId) → IsVariableNumber t.0 → t.0 < length basic_rows → IsVariableType p (type_as t)
+  predeclared t number here =
+      numbered t number (there_stays basic_rows p.types begins t.0 here)
       (closed_stays basic_rows p.types begins t.0 here (flat_closed (slice_get basic_rows t.0) (basic_flat t.0)))
-  told t (defined r from is closed) = numbered t (inr from) (slice_get_within p.types t.0 r is) (ap is_open is ∙ closed)
+
+  told : (t : TypeId) → IsTold p.types t → IsVariableType p (type_as t)
+  told t (basic below) = predeclared t (inl below) (omega (arith, below))
+  told t (of_any is) = predeclared t (inr (inl is)) (omega (arith, is))
+  told t (defined r from is closed) = numbered t (inr (inr from)) (slice_get_within p.types t.0 r is) (ap is_open is ∙ closed)
 
   pub known_type : (of : Option TypeId) → IsKnown p.types of → IsVariableType p (type_of of)
   known_type None known = absurd known

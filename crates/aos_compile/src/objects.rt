@@ -39,13 +39,14 @@ pub fn spelling_of(alloc: Global, text: &[u8], name: Name) -> Result<String, All
 fn statements_of(
     alloc: Global,
     found: &mut Option<Breach>,
-    env: &Env<'_>,
+    env: &mut Env<'_>,
     of: &TypeExpr,
 ) -> Result<Vec<TStat>, AllocError>
     ensures noted { OnOk result (found.new ≡
-        first_after found.old (body_of_env env.now true (judge.object_body of.now)).breaches) }
+        first_after found.old (body_of_env env.old true (judge.object_body of.now)).breaches) }
     ensures answer { IfOk result (λ ss.
-        map seen_stat ss.items ≡ (body_of_env env.now true (judge.object_body of.now)).answer) }
+        map seen_stat ss.items ≡ (body_of_env env.old true (judge.object_body of.now)).answer) }
+    ensures env { OnOk result (env.new ≡ env.old) }
 {
     match of {
         TypeExpr::Object(_, _, _, body, _) => body_of(alloc, found, env, true, body),

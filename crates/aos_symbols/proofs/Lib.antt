@@ -12,3 +12,4 @@ pub mod Told
 pub mod Lookups
 pub mod Steps
 pub mod Records
+pub mod Bases

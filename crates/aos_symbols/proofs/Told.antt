@@ -1,18 +1,20 @@
--- Types that are told: the basic types of values, which each table begins with, and types that modules define, whose rows stand
+-- Types that are told: the basic types of values, which each table begins with, ANY, and types that modules define, whose rows stand
 -- in the table and are no open arrays. What is told stays told where the table goes on.
-use Rattle.std.proofs.Common.{◌≡◌, ℕ, zero, suc, ◌<◌, ◌≤◌, List, [], ◌∷◌, ◌++◌, length, map, false, Option, Some, None, slice_get, refl}
+use Rattle.std.proofs.Common.{◌≡◌, ℕ, zero, suc, ◌<◌, ◌≤◌, List, [], ◌∷◌, ◌++◌, length, map, Bool, true, false, ◌||◌, Option, Some, None, slice_get, refl}
 use Rattle.std.proofs.lemmas.Option.{none-some}
 use Rattle.aos_types.specs.declared.row.TypeId.{TypeId}
 use Rattle.aos_types.specs.declared.row.TypeRow.{TypeRow}
 use Rattle.aos_types.specs.declared.row.TypeRow.TheVariants as row
 use Rattle.aos_types.specs.declared.TheConstants.{MOST_SCALARS}
-use Rattle.aos_types.specs.Table.{is_open}
+use Rattle.aos_types.specs.Table.{row_of, is_open, is_record, is_object}
+use Rattle.aos_typed.specs.WellTyped.{is_whole}
 use Rattle.aos_symbols.specs.Scope.{Scope}
 use Rattle.aos_symbols.specs.Home.{Home, fields_of}
 use Rattle.aos_symbols.proofs.Each.{Each}
 
 pub data IsTold (types : List TypeRow) (t : TypeId) : Type 0 where
   basic : t.0 < 7 → IsTold types t
+  of_any : t.0 ≡ 8 → IsTold types t
   defined : (r : TypeRow) → 10 ≤ t.0 → slice_get types t.0 ≡ Some r → is_open (Some r) ≡ false → IsTold types t
 
 -- a type that is known, and told
@@ -39,16 +41,31 @@ get_end (a ∷ xs) x = get_end xs x
 
 pub told_behind : (ts us : List TypeRow) → GoOn ts (ts ++ us)
 told_behind ts us t (basic first) = basic first
+told_behind ts us t (of_any is) = of_any is
 told_behind ts us t (defined r from e closed) = defined r from (get_front ts us t.0 r e) closed
 
 -- the lengths that arrays have
 abbrev pub IsLength : ℕ → Type 0
 IsLength n = (1 ≤ n) × (n ≤ MOST_SCALARS)
 
+-- a base is a record, and what a pointer leads to is one, or an array
+abbrev pub IsBase : List TypeRow → Option TypeId → Type 0
+IsBase types None = Unit {0}
+IsBase types (Some b) = is_record (row_of types b) ≡ true
+
+abbrev pub IsObjectBase : List TypeRow → Option TypeId → Type 0
+IsObjectBase types None = Unit {0}
+IsObjectBase types (Some b) = is_object (row_of types b) ≡ true
+
+abbrev pub IsTarget : List TypeRow → TypeId → Type 0
+IsTarget types t = (10 ≤ t.0) × ((is_whole (row_of types t) || is_open (row_of types t)) ≡ true)
+
 -- the elements of an array, which has one of these lengths, and the fields of a record are told
 abbrev pub AreToldParts : List TypeRow → TypeRow → Type 0
 AreToldParts types (row.Array n t) = IsLength n × IsTold types t
-AreToldParts types (row.Record None ts) = Each (IsTold types) ts
+AreToldParts types (row.Record base ts) = IsBase types base × Each (IsTold types) ts
+AreToldParts types (row.Pointer t) = IsTarget types t
+AreToldParts types (row.Object base ts) = IsObjectBase types base
 AreToldParts types r = Unit {0}
 
 abbrev pub PartsAreTold : List TypeRow → Type 0
@@ -58,4 +75,4 @@ PartsAreTold types = (k : ℕ) (r : TypeRow) → slice_get types k ≡ Some r �
 abbrev pub FieldsAgree : List TypeRow → Home → Type 0
 FieldsAgree types h =
     (t : TypeId) (s : Scope) → fields_of h t ≡ Some s →
-    (t.0 < length types) × ((ts : List TypeId) → slice_get types t.0 ≡ Some (row.Record None ts) → s.variables ≡ map (λ t. Some t) ts)
+    (t.0 < length types) × ((base : Option TypeId) (ts : List TypeId) → slice_get types t.0 ≡ Some (row.Record base ts) → s.variables ≡ map (λ t. Some t) ts)

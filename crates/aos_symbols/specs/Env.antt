@@ -1,7 +1,7 @@
 -- What a name stands for at a place of a module (Active Oberon Language Report, Reali 2002, section on declarations and scope
 -- rules): the scopes of the place's path are searched, the innermost first, then what is predeclared. A name of another module
 -- is seen where it has an export mark.
-use Rattle.std.specs.Prelude.{ℕ, ◌+◌, List, [], ◌∷◌, length, Bool, true, false, ◌==◌, ◌||◌, ◌&&◌, nat_lt, codes, Option, Some, None, is_some, option_map, option_and_then, if◌then◌else◌, slice_get}
+use Rattle.std.specs.Prelude.{ℕ, zero, suc, ◌+◌, List, [], ◌∷◌, ◌++◌, length, Bool, true, false, ◌==◌, ◌||◌, ◌&&◌, nat_lt, codes, Option, Some, None, is_some, option_map, option_and_then, if◌then◌else◌, slice_get}
 use Rattle.std.specs.Option.{option_or}
 use Rattle.std.specs.Str.{bytes_eq}
 use Rattle.std.specs.Map.{lookup as lookup_in}
@@ -9,6 +9,8 @@ use Rattle.aos_base.specs.declared.text.Pos.{Pos}
 use Rattle.aos_tree.specs.declared.name.Name.{Name}
 use Rattle.aos_types.specs.declared.row.TypeId.{TypeId}
 use Rattle.aos_types.specs.declared.row.TypeRow.{TypeRow}
+use Rattle.aos_types.specs.declared.row.TypeRow.TheVariants as row
+use Rattle.aos_types.specs.Table.{row_of as row_in, base_of}
 use Rattle.aos_typed.specs.declared.tree.Literal.{Literal}
 use Rattle.aos_typed.specs.declared.tree.TextConstant.{TextConstant}
 use Rattle.aos_typed.specs.Numbers.{predeclared_rows}
@@ -21,6 +23,7 @@ use Rattle.aos_symbols.specs.declared.scope.Routine.TheVariants as routine
 use Rattle.aos_symbols.specs.declared.env.Open.{Open}
 use Rattle.aos_symbols.specs.declared.env.Symbol.{Symbol}
 use Rattle.aos_symbols.specs.declared.env.Field.{Field}
+use Rattle.aos_symbols.specs.declared.env.Narrowed.{Narrowed}
 use Rattle.aos_symbols.specs.declared.env.Lookup.{Lookup}
 use Rattle.aos_symbols.specs.declared.env.Lookup.TheVariants.{Unknown, NotExported, Found}
 use Rattle.aos_symbols.specs.declared.env.Env.{Env}
@@ -53,6 +56,10 @@ char = record { 0 = 5 }
 
 abbrev pub set : TypeId
 set = record { 0 = 6 }
+
+-- the type of NIL, which no name stands for
+abbrev pub nil : TypeId
+nil = record { 0 = 7 }
 
 abbrev pub any : TypeId
 any = record { 0 = 8 }
@@ -173,9 +180,38 @@ abbrev pub field_among : List Home → TypeId → List ℕ → Option Field
 field_among [] t w = None
 field_among (h ∷ hs) t w = field_or false w (field_among hs t w) (fields_of h t)
 
--- the field of a record type that has a name
+-- the own field of a record type that has a name
+abbrev pub own_field : Env → TypeId → Name → Option Field
+own_field e t n = let w = word e.here.text n in field_or true w (field_among e.before t w) (fields_of e.here t)
+
+-- A record has its base's fields before its own, by whose number they are counted on.
+
+abbrev pub field_count : Option TypeRow → ℕ
+field_count (Some (row.Record base fields)) = length fields
+field_count r = 0
+
+abbrev pub of_base : (TypeId → ℕ) → Option TypeId → ℕ
+of_base f None = 0
+of_base f (Some b) = f b
+
+-- how many fields a type has of its bases, of which it has at most so many
+abbrev pub fields_before : ℕ → List TypeRow → TypeId → ℕ
+fields_before zero rows t = 0
+fields_before (suc n) rows t =
+    of_base (λ b. fields_before n rows b + field_count (row_in rows b)) (base_of (row_in rows t))
+
+abbrev pub counted_on : List TypeRow → TypeId → Field → Field
+counted_on rows t f = record f { number = fields_before (length rows) rows t + f.number }
+
+-- the field with a name of a type or of one of its bases, of which it has at most so many
+abbrev pub field_by : ℕ → Env → TypeId → Name → Option Field
+field_by zero e t n = option_map (counted_on e.types t) (own_field e t n)
+field_by (suc k) e t n =
+    option_or (option_map (counted_on e.types t) (own_field e t n))
+    (option_and_then (λ b. field_by k e b n) (base_of (row_in e.types t)))
+
 abbrev pub field : Env → TypeId → Name → Option Field
-field e t n = let w = word e.here.text n in field_or true w (field_among e.before t w) (fields_of e.here t)
+field e t n = field_by (length e.types) e t n
 
 -- a place of a text is before another
 abbrev pub precedes : Pos → Pos → Bool
@@ -253,3 +289,7 @@ within e k = record e { path = record { home = e.number; scope = k } ∷ e.path 
 -- and back at a place with this path
 abbrev pub back_at : List Open → Env → Env
 back_at path e = record e { path = path }
+
+-- within a WITH that narrows a variable
+abbrev pub narrowing : Env → Narrowed → Env
+narrowing e v = record e { narrowed = e.narrowed ++ v ∷ [] }

@@ -24,6 +24,8 @@ pub const UNKNOWN: u16 = 14;
 pub const NOT_EXPORTED: u16 = 15;
 /// A type, a constant, a variable or a module is needed, and the name stands for something else.
 pub const OTHER_KIND: u16 = 16;
+/// A record's base that is no record.
+pub const WRONG_BASE: u16 = 17;
 /// A type that contains itself.
 pub const CONTAINS_ITSELF: u16 = 18;
 /// A type, or all variables of all modules, with too many scalars.
@@ -32,10 +34,12 @@ pub const TOO_MANY_SCALARS: u16 = 19;
 pub const NOT_CONSTANT: u16 = 20;
 /// An open array elsewhere than as a parameter's type or behind POINTER.
 pub const OPEN_ARRAY: u16 = 21;
+/// A field with the name of one of the base.
+pub const IN_BASE: u16 = 23;
 /// An initializer that may not stand here.
 pub const WRONG_INITIALIZER: u16 = 24;
-/// A result that isn't one scalar.
-pub const WRONG_RESULT: u16 = 25;
+/// A result that isn't one scalar, or a pointer to what is no record and no array.
+pub const WRONG_TYPE: u16 = 25;
 /// An object type elsewhere than at module level.
 pub const OBJECT_INSIDE: u16 = 26;
 /// An operator doesn't take its operands.
@@ -60,14 +64,16 @@ pub const WRONG_LABEL: u16 = 38;
 pub const EXIT_OUTSIDE: u16 = 39;
 /// A RETURN without the value of a function, or with one that isn't allowed or doesn't fit.
 pub const WRONG_RETURN: u16 = 40;
-/// A type test or guard of what has no dynamic type.
+/// A type test or guard of what is no object and no record for VAR, or with a type that is no extension.
 pub const WRONG_TEST: u16 = 41;
 /// A selector that the type hasn't.
 pub const WRONG_SELECTOR: u16 = 42;
-/// NEW of what is no object variable.
+/// NEW of what is no pointer and no object variable, or with lengths that are no integers.
 pub const WRONG_NEW: u16 = 47;
 /// A variable, a last value or a step that FOR doesn't take.
 pub const WRONG_FOR: u16 = 48;
+/// WITH of what is no variable by its name.
+pub const WRONG_WITH: u16 = 49;
 /// A construct that isn't built yet.
 pub const NOT_BUILT: u16 = 99;
 

@@ -1,9 +1,10 @@
 // What names stand for at a place of a module.
 
-ghost use Rattle.std.specs.Prelude.{◌≡◌, map, OnOk, IfOk, OnErr};
+ghost use Rattle.std.specs.Prelude.{◌≡◌, ◌+◌, Some, length, map, OnOk, IfOk, OnErr};
 ghost use Rattle.std.specs.Map.{lookup};
 ghost use Rattle.std.specs.Option.{option_copied};
 ghost use Rattle.std.specs.Str.{bytes_eq};
+ghost use Rattle.aos_types.specs.Table.{base_of, row_of as row_in};
 ghost use Rattle.aos_symbols.specs.Env as env;
 
 use crate::home::{Home, Signature};
@@ -30,6 +31,8 @@ pub const BOOLEAN: TypeId = TypeId(4);
 pub const CHAR: TypeId = TypeId(5);
 /// The type SET.
 pub const SET: TypeId = TypeId(6);
+/// The type of NIL, which no name stands for.
+pub const NIL: TypeId = TypeId(7);
 /// The type ANY.
 pub const ANY: TypeId = TypeId(8);
 /// The type of the string constants but those of one character, whose lengths stand beside them.
@@ -62,14 +65,33 @@ pub enum Lookup {
     Found(Symbol),
 }
 
-/// A field of a record type: whether this module writes the type, the field's mark, its number in the record, and its type,
-/// which is none where it breaks a rule.
+/// A field of a record type: whether this module writes the type that declares it, the field's mark, its number in the record,
+/// and its type, which is none where it breaks a rule.
 #[derive(Clone, Copy, PartialEq, Eq, Debug)]
 pub struct Field {
     pub is_own: bool,
     pub mark: Option<Export>,
     pub number: u32,
     pub of: Option<TypeId>,
+}
+
+/// A variable that a WITH narrows: its scope, its number there, and the type that it has within.
+#[derive(Clone, Copy, PartialEq, Eq, Debug)]
+pub struct Narrowed {
+    pub at: Open,
+    pub number: u32,
+    pub of: TypeId,
+}
+
+/// What is asked of a type that a name stands for, which may be met later.
+#[derive(Clone, Copy, PartialEq, Eq, Debug)]
+pub enum Claim {
+    /// Rule 25: a pointer leads to what is named here, so it is a record or an array.
+    Target(Pos, TypeId),
+    /// Rule 17: what is named here is the base of a record, whose type stands behind, so it is a record.
+    Base(Pos, TypeId, TypeId),
+    /// Rule 23: a record of which it is the base has a field with this name, so it has none.
+    Field(Name, TypeId),
 }
 
 /// What names stand for at a place of a module.
@@ -87,6 +109,10 @@ pub struct Env<'a> {
     pub types: Types,
     /// Where the types stand that this module writes elsewhere than in a type's definition, in the order of their numbers.
     pub places: Items<Pos>,
+    /// What is asked of types that this module names, in the order of the text.
+    pub claims: Items<Claim>,
+    /// The variables that are narrowed by the WITHs around the place, the outermost first.
+    pub narrowed: Items<Narrowed>,
 }
 
 /// The predeclared names (Reali 2002, predeclared identifiers); SELF isn't built yet.
@@ -207,6 +233,19 @@ fn field_among(homes: &[Home<'_>], of: TypeId, word: &[u8]) -> Option<Field>
     None
 }
 
+/// So many fields and as many more. 2^32 and more are want of memory.
+fn more_fields(count: u32, more: usize) -> Result<u32, AllocError>
+    ensures { IfOk result (λ n. n ≡ count + more) }
+{
+    let Ok(more) = u32::try_from(more) else {
+        return Err(AllocError);
+    };
+    match count.checked_add(more) {
+        Some(count) => Ok(count),
+        None => Err(AllocError),
+    }
+}
+
 impl<'a> Env<'a> {
     /// What a module has declared, by its number: this one, or one before it.
     pub fn home(&self, number: u32) -> Option<&Home<'a>>
@@ -314,14 +353,88 @@ impl<'a> Env<'a> {
         }
     }
 
-    /// The field of a record type that has a name; none where it hasn't one.
-    pub fn field(&self, of: TypeId, name: Name) -> Option<Field>
-        ensures { result ≡ env.field self.now of name }
+    /// The own field of a record type that has a name; none where it hasn't one.
+    fn own_field(&self, of: TypeId, name: Name) -> Option<Field>
+        ensures { result ≡ env.own_field self.now of name }
     {
         let word = word(self.here.text(), name);
         match self.here.fields(of) {
             Some(fields) => field_in(true, fields, word),
             None => field_among(self.before.as_slice(), of, word),
+        }
+    }
+
+    /// The base of a record or an object type.
+    fn base(&self, of: TypeId) -> Option<TypeId>
+        ensures { result ≡ base_of (row_in self.now.types of) }
+    {
+        match self.row(Some(of)) {
+            Some(TypeRow::Record(base, _)) => *base,
+            Some(TypeRow::Object(base, _)) => *base,
+            _ => None,
+        }
+    }
+
+    /// How many own fields a record has.
+    fn field_count(&self, of: TypeId) -> usize
+        ensures { result ≡ env.field_count (row_in self.now.types of) }
+    {
+        match self.row(Some(of)) {
+            Some(TypeRow::Record(_, fields)) => fields.as_slice().len(),
+            _ => 0,
+        }
+    }
+
+    /// How many fields a type has of its bases. 2^32 and more are want of memory.
+    #[tactic(auto, using(crate::proofs::Bases::before_base, crate::proofs::Bases::before_none, crate::proofs::Bases::before_end))]
+    fn fields_before(&self, of: TypeId) -> Result<u32, AllocError>
+        ensures { IfOk result (λ n. n ≡
+            env.fields_before (length self.now.types) self.now.types of) }
+    {
+        let mut at = of;
+        let mut count: u32 = 0;
+        let mut left = self.types.len();
+        while left > 0 {
+            let Some(base) = self.base(at) else {
+                return Ok(count);
+            };
+            count = more_fields(count, self.field_count(base))?;
+            at = base;
+            left -= 1;
+        }
+        Ok(count)
+    }
+
+    /// An own field of a type, with its number counted on from the fields of the type's bases.
+    fn counted_on(&self, of: TypeId, field: Field) -> Result<Option<Field>, AllocError>
+        ensures { IfOk result (λ f. f ≡ Some (env.counted_on self.now.types of field)) }
+    {
+        match self.fields_before(of)?.checked_add(field.number) {
+            Some(number) => Ok(Some(Field { number, ..field })),
+            None => Err(AllocError),
+        }
+    }
+
+    /// The field of a record type, or of one of its bases, that has a name; none where there isn't one.
+    #[tactic(auto, using(crate::proofs::Bases::found_own, crate::proofs::Bases::searched_base, crate::proofs::Bases::found_none, crate::proofs::Bases::found_end))]
+    pub fn field(&self, of: TypeId, name: Name) -> Result<Option<Field>, AllocError>
+        ensures { IfOk result (λ f. f ≡ env.field self.now of name) }
+    {
+        let mut at = of;
+        let mut left = self.types.len();
+        while left > 0 {
+            if let Some(field) = self.own_field(at, name) {
+                return self.counted_on(at, field);
+            }
+            let Some(base) = self.base(at) else {
+                return Ok(None);
+            };
+            at = base;
+            left -= 1;
+        }
+        match self.own_field(at, name) {
+            Some(field) => self.counted_on(at, field),
+            None => Ok(None),
         }
     }
 
@@ -448,5 +561,20 @@ impl<'a> Env<'a> {
             path.push(*open)?;
         }
         Ok(mem::replace(&mut self.path, path))
+    }
+
+    /// Goes into a WITH that narrows a variable, and gives the variables that were narrowed around it. Without memory all stays as
+    /// it was.
+    pub fn narrow(&mut self, alloc: Global, one: Narrowed) -> Result<Items<Narrowed>, AllocError>
+        ensures ok { OnOk result (self.new ≡ env.narrowing self.old one) }
+        ensures around { IfOk result (λ narrowed. narrowed ≡ self.old.narrowed) }
+        ensures err { OnErr result (self.new ≡ self.old) }
+    {
+        let mut narrowed = Items::new(alloc);
+        for around in self.narrowed.as_slice() {
+            narrowed.push(*around)?;
+        }
+        narrowed.push(one)?;
+        Ok(mem::replace(&mut self.narrowed, narrowed))
     }
 }

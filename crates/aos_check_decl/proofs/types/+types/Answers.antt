@@ -1,61 +1,97 @@
--- Arrays and records, whose parts are met before they are.
-use Rattle.std.proofs.Common.{◌≡◌, List, [], length, ◌==◌, None, OnOk, IfOk, sym, ap, ◌∙◌, subst}
+-- Arrays, records and pointers, whose parts are met before they are.
+use Rattle.std.proofs.Common.{◌≡◌, length, ◌==◌, Bool, true, false, None, OnOk, IfOk, sym, ap, ◌∙◌, subst}
 use Rattle.std.proofs.Math.Path.{ap₂}
 use Rattle.std.proofs.lemmas.Result.{on_ok_weaker}
 use Rattle.aos_tree.specs.declared.decl.TypeExpr.{TypeExpr}
-use Rattle.aos_types.specs.declared.row.TypeId.{TypeId}
 use Rattle.aos_symbols.specs.Breaches.{first_after}
-use Rattle.aos_symbols.specs.Judged.{walk}
-use Rattle.aos_symbols.specs.Scope.{Scope, empty}
+use Rattle.aos_symbols.specs.Judged.{Judged}
 use Rattle.aos_symbols.proofs.Keeping.{after_two}
 use Rattle.aos_check_decl.specs.Types as judge
 use Rattle.aos_check_decl.specs.Types.{Met}
-use Rattle.aos_check_decl.proofs.Forms.{array_met, record_of, record_met}
+use Rattle.aos_check_decl.proofs.Forms.{array_met, open_met, record_met, pointer_met}
 use Rattle.aos_check_decl.proofs.types.+types.Goals as goal
+use Rattle.aos_check_decl.proofs.types.+types.Goals.{type_in-else-is_empty-via-then-is_empty+else-not-may_be_open, type_in-else-is_empty-via-else-is_empty}
 
-pub type_in-returns-in_ok-element-in-Array : goal.type_in-returns-in_ok-element-in-Array
-type_in-returns-in_ok-element-in-Array t c =
+pub type_in-returns-then-is_empty-2 : goal.type_in-returns-then-is_empty-2
+type_in-returns-then-is_empty-2 t c =
+    let slot = c.args.slot in
+    let e = c.args.env.now in
+    let at = c.in-Array.at in
+    let ls = c.in-Array.lengths in
+    let element = judge.type_in true None e c.in-Array.element in
+    let none : (length ls == 0) ≡ true = ap (λ xs. length xs == 0) (sym c.as_slice-lengths.ensures) ∙ sym c.is_empty-in-Array.ensures ∙ c.if-is_empty-2.true in
+    let may : c.args.may_be_open ≡ true = elim c.else-is_empty.branch [
+      | type_in-else-is_empty-via-then-is_empty+else-not-may_be_open w ↦ w.if-not-may_be_open.false
+      | type_in-else-is_empty-via-else-is_empty w ↦ let never : true ≡ false = sym c.if-is_empty-2.true ∙ c.is_empty-in-Array.ensures ∙ sym c.is_empty.ensures ∙ w.if-is_empty.false in absurd (cc never)
+    ] in
+    let is = ap (λ (may : Bool). judge.type_in may slot e c.args.of.now) may ∙ open_met slot e c.args.of.now at ls c.in-Array.element c.in-Array.is none in
+    let noted : c.type_in.new.found ≡ first_after c.args.found.now (judge.type_in c.args.may_be_open slot e c.args.of.now).breaches =
+    c.in_ok-element-in-Array.ensures.noted ∙ ap (λ (x : TypeExpr). first_after c.args.found.now (judge.type_in true None e x).breaches) c.get.ensures
+    ∙ ap (λ (j : Judged Met). first_after c.args.found.now j.breaches) (sym is) in
+    let met : judge.met c.type_in.new.env c.in_ok-element-in-Array.element ≡ element.answer =
+    ap₂ judge.met c.in_ok-element-in-Array.ensures.env c.in_ok-element-in-Array.ensures.of ∙ ap (λ (x : TypeExpr). (judge.type_in true None e x).answer) c.get.ensures in
+    let same : judge.open_of slot at (judge.met c.type_in.new.env c.in_ok-element-in-Array.element) ≡ (judge.type_in c.args.may_be_open slot e c.args.of.now).answer =
+    ap (judge.open_of slot at) met ∙ ap (λ (j : Judged Met). j.answer) (sym is) in
+    record {
+      noted = on_ok_weaker c.place_open.result (λ _. noted) c.place_open.ensures.env;
+      env = subst (λ (m : Met). OnOk c.place_open.result (c.place_open.new.env ≡ m.env)) same c.place_open.ensures.env;
+      of = subst (λ (m : Met). IfOk c.place_open.result (λ t. t ≡ m.of)) same c.place_open.ensures.of;
+    }
+
+pub type_in-returns-in_ok-element-in-Array-2 : goal.type_in-returns-in_ok-element-in-Array-2
+type_in-returns-in_ok-element-in-Array-2 t c =
     let slot = c.args.slot in
     let e = c.args.env.now in
     let at = c.in-Array.at in
     let ls = c.in-Array.lengths in
     let lengths = judge.lengths_of e ls in
-    let element = judge.type_in None e c.in-Array.element in
-    let is = array_met slot e c.args.of.now at ls c.in-Array.element c.in-Array.is (ap (λ xs. length xs == 0) (sym c.as_slice.ensures) ∙ sym c.is_empty.ensures ∙ c.if-is_empty.false) in
-    let noted : c.type_in.new.found ≡ first_after c.args.found.now (judge.type_in slot e c.args.of.now).breaches =
+    let element = judge.type_in false None e c.in-Array.element in
+    let is = array_met c.args.may_be_open slot e c.args.of.now at ls c.in-Array.element c.in-Array.is (ap (λ xs. length xs == 0) (sym c.as_slice-lengths.ensures) ∙ sym c.is_empty-in-Array.ensures ∙ c.if-is_empty-2.false) in
+    let noted : c.type_in-in-Array.new.found ≡ first_after c.args.found.now (judge.type_in c.args.may_be_open slot e c.args.of.now).breaches =
     after_two c.args.found.now lengths.breaches element.breaches
-    (c.in_ok-lengths-in-Array.ensures.noted ∙ ap (λ xs. first_after c.args.found.now (judge.lengths_of e xs).breaches) c.as_slice-in-Array.ensures)
-    (c.in_ok-element-in-Array.ensures.noted ∙ ap (λ (x : TypeExpr). first_after c.lengths_of.new.found (judge.type_in None e x).breaches) c.get.ensures)
-    ∙ ap (λ j. first_after c.args.found.now j.breaches) (sym is) in
-    let met : judge.met c.type_in.new.env c.in_ok-element-in-Array.element ≡ element.answer =
-    ap₂ judge.met c.in_ok-element-in-Array.ensures.env c.in_ok-element-in-Array.ensures.of ∙ ap (λ (x : TypeExpr). (judge.type_in None e x).answer) c.get.ensures in
-    let same : judge.arrays slot at c.in_ok-lengths-in-Array.lengths (judge.met c.type_in.new.env c.in_ok-element-in-Array.element) ≡ (judge.type_in slot e c.args.of.now).answer =
-    ap₂ (λ ns m. judge.arrays slot at ns m) (c.in_ok-lengths-in-Array.ensures.answer ∙ ap (λ xs. (judge.lengths_of e xs).answer) c.as_slice-in-Array.ensures) met
-    ∙ ap (λ j. j.answer) (sym is) in
+    (c.in_ok-lengths-in-Array.ensures.noted ∙ ap (λ xs. first_after c.args.found.now (judge.lengths_of e xs).breaches) c.as_slice-lengths.ensures)
+    (c.in_ok-element-in-Array-2.ensures.noted ∙ ap (λ (x : TypeExpr). first_after c.lengths_of.new.found (judge.type_in false None e x).breaches) c.get-in-Array.ensures)
+    ∙ ap (λ (j : Judged Met). first_after c.args.found.now j.breaches) (sym is) in
+    let met : judge.met c.type_in-in-Array.new.env c.in_ok-element-in-Array-2.element ≡ element.answer =
+    ap₂ judge.met c.in_ok-element-in-Array-2.ensures.env c.in_ok-element-in-Array-2.ensures.of ∙ ap (λ (x : TypeExpr). (judge.type_in false None e x).answer) c.get-in-Array.ensures in
+    let same : judge.arrays slot at c.in_ok-lengths-in-Array.lengths (judge.met c.type_in-in-Array.new.env c.in_ok-element-in-Array-2.element) ≡ (judge.type_in c.args.may_be_open slot e c.args.of.now).answer =
+    ap₂ (λ ns m. judge.arrays slot at ns m) (c.in_ok-lengths-in-Array.ensures.answer ∙ ap (λ xs. (judge.lengths_of e xs).answer) c.as_slice-lengths.ensures) met
+    ∙ ap (λ (j : Judged Met). j.answer) (sym is) in
     record {
       noted = on_ok_weaker c.place_arrays.result (λ _. noted) c.place_arrays.ensures.env;
       env = subst (λ (m : Met). OnOk c.place_arrays.result (c.place_arrays.new.env ≡ m.env)) same c.place_arrays.ensures.env;
       of = subst (λ (m : Met). IfOk c.place_arrays.result (λ t. t ≡ m.of)) same c.place_arrays.ensures.of;
     }
 
-pub type_in-returns-in_ok-fields_in-in-Record : goal.type_in-returns-in_ok-fields_in-in-Record
-type_in-returns-in_ok-fields_in-in-Record t c =
+pub type_in-returns-in-Record : goal.type_in-returns-in-Record
+type_in-returns-in-Record t c =
+    let is = sym (record_met c.args.may_be_open c.args.slot c.args.env.now c.args.of.now c.in-Record.at c.in-Record.base c.in-Record.fields c.in-Record.is) in
+    record {
+      noted = subst (λ (j : Judged Met). OnOk c.record_in.result (c.record_in.new.found ≡ first_after c.args.found.now j.breaches)) is c.record_in.ensures.noted;
+      env = subst (λ (j : Judged Met). OnOk c.record_in.result (c.record_in.new.env ≡ j.answer.env)) is c.record_in.ensures.env;
+      of = subst (λ (j : Judged Met). IfOk c.record_in.result (λ t. t ≡ j.answer.of)) is c.record_in.ensures.of;
+    }
+
+pub type_in-returns-in_ok-target-in-Pointer : goal.type_in-returns-in_ok-target-in-Pointer
+type_in-returns-in_ok-target-in-Pointer t c =
     let slot = c.args.slot in
     let e = c.args.env.now in
-    let at = c.in-Record.at in
-    let fs = c.in-Record.fields in
-    let is = record_met slot e c.args.of.now at c.in-Record.base fs c.in-Record.is (sym c.is_some.ensures ∙ c.if-is_some.false) in
-    let walked = λ (ts : List TypeId) (s : Scope). walk judge.field_in (judge.fields_met e ts s) fs in
-    let noted : c.fields_in.new.found ≡ first_after c.args.found.now (judge.type_in slot e c.args.of.now).breaches =
-    c.in_ok-fields_in-in-Record.ensures.noted ∙ ap₂ (λ ts s. first_after c.args.found.now (walked ts s).breaches) c.new-types.ensures c.new-scope.ensures
-    ∙ ap (λ j. first_after c.args.found.now j.breaches) (sym is) in
-    let met : judge.fields_met c.fields_in.new.env c.fields_in.new.types c.fields_in.new.scope ≡ (walked [] empty).answer =
-    (λ i. judge.fields_met (c.in_ok-fields_in-in-Record.ensures.env i) (c.in_ok-fields_in-in-Record.ensures.types i) (c.in_ok-fields_in-in-Record.ensures.scope i))
-    ∙ ap₂ (λ ts s. (walked ts s).answer) c.new-types.ensures c.new-scope.ensures in
-    let same : record_of slot at (judge.fields_met c.fields_in.new.env c.fields_in.new.types c.fields_in.new.scope) ≡ (judge.type_in slot e c.args.of.now).answer =
-    ap (record_of slot at) met ∙ ap (λ j. j.answer) (sym is) in
+    let at = c.in-Pointer.at in
+    let to = c.in-Pointer.to in
+    let target = judge.type_in true None e to in
+    let is = pointer_met c.args.may_be_open slot e c.args.of.now at to c.in-Pointer.is in
+    let noted : c.type_in-in-Pointer.new.found ≡ first_after c.args.found.now (judge.type_in c.args.may_be_open slot e c.args.of.now).breaches =
+    after_two c.args.found.now (judge.target_breaches to) target.breaches
+    (c.refuse_target.ensures ∙ ap (λ (x : TypeExpr). first_after c.args.found.now (judge.target_breaches x)) c.get-in-Pointer.ensures)
+    (c.in_ok-target-in-Pointer.ensures.noted ∙ ap (λ (x : TypeExpr). first_after c.refuse_target.new.found (judge.type_in true None e x).breaches) c.get-in-Pointer-2.ensures)
+    ∙ ap (λ (j : Judged Met). first_after c.args.found.now j.breaches) (sym is) in
+    let met : judge.met c.type_in-in-Pointer.new.env c.in_ok-target-in-Pointer.target ≡ target.answer =
+    ap₂ judge.met c.in_ok-target-in-Pointer.ensures.env c.in_ok-target-in-Pointer.ensures.of ∙ ap (λ (x : TypeExpr). (judge.type_in true None e x).answer) c.get-in-Pointer-2.ensures in
+    let same : judge.pointer_to slot at c.get-in-Pointer-3.result.now (judge.met c.type_in-in-Pointer.new.env c.in_ok-target-in-Pointer.target) ≡ (judge.type_in c.args.may_be_open slot e c.args.of.now).answer =
+    ap₂ (λ (x : TypeExpr) (m : Met). judge.pointer_to slot at x m) c.get-in-Pointer-3.ensures met
+    ∙ ap (λ (j : Judged Met). j.answer) (sym is) in
     record {
-      noted = on_ok_weaker c.place_record.result (λ _. noted) c.place_record.ensures.env;
-      env = subst (λ (m : Met). OnOk c.place_record.result (c.place_record.new.env ≡ m.env)) same c.place_record.ensures.env;
-      of = subst (λ (m : Met). IfOk c.place_record.result (λ t. t ≡ m.of)) same c.place_record.ensures.of;
+      noted = on_ok_weaker c.place_pointer.result (λ _. noted) c.place_pointer.ensures.env;
+      env = subst (λ (m : Met). OnOk c.place_pointer.result (c.place_pointer.new.env ≡ m.env)) same c.place_pointer.ensures.env;
+      of = subst (λ (m : Met). IfOk c.place_pointer.result (λ t. t ≡ m.of)) same c.place_pointer.ensures.of;
     }

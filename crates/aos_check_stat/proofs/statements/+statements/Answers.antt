@@ -1,4 +1,4 @@
-use Rattle.std.proofs.Common.{◌≡◌, ◌+◌, [], ◌∷◌, ◌++◌, drop, length, true, Some, sym, ap, ◌∙◌, subst, rules, OnOk, IfOk, option_map}
+use Rattle.std.proofs.Common.{◌≡◌, ◌+◌, [], ◌∷◌, ◌++◌, append-nil, drop, length, true, Some, sym, ap, ◌∙◌, subst, rules, OnOk, IfOk, option_map}
 use Rattle.aos_symbols.specs.Judged.{walk}
 use Rattle.std.proofs.lemmas.Int.{to_z-of_z}
 use Rattle.std.specs.Int.{w64, cast_unsigned as of_z, cast_signed as to_z}
@@ -7,13 +7,15 @@ use Rattle.aos_typed.specs.Program.{While, Repeat, Loop, For, Block}
 use Rattle.aos_typed.specs.Seen.{seen_stat, cases_of}
 use Rattle.aos_typed.proofs.Seen.{while_seen, repeat_seen, loop_seen, for_seen, block_seen}
 use Rattle.aos_symbols.specs.Breaches.{first_after}
+use Rattle.aos_symbols.proofs.Keeping.{after_more}
 use Rattle.aos_check_expr.specs.Known.{width_of}
-use Rattle.aos_check_expr.specs.Expressions.{condition}
+use Rattle.aos_check_expr.specs.Designators.{guard}
+use Rattle.aos_check_expr.specs.Expressions.{condition, known_type}
 use Rattle.aos_check_stat.specs.Bodies as judge
 use Rattle.aos_check_stat.specs.Bodies.{listed}
 use Rattle.aos_check_stat.specs.Listed as parts
 use Rattle.aos_check_stat.specs.Listed.{onto}
-use Rattle.aos_check_stat.proofs.Rows.{stats_seen, stat_loop, stat_for, arms_noted, arms_put, if_noted, if_answer, cases_noted, cases_put, case_noted, case_answer}
+use Rattle.aos_check_stat.proofs.Rows.{stats_seen, stat_loop, stat_for, stat_with, arms_noted, arms_put, if_noted, if_answer, cases_noted, cases_put, case_noted, case_answer}
 use Rattle.aos_check_stat.proofs.statements.+statements.Goals as goal
 
 pub block_of-returns-clause-answer : goal.block_of-returns-clause-answer
@@ -28,16 +30,18 @@ cases_in-loop-arm-preserved t c =
     let l = c.loop-arm in
     let ls = l.labels.all.items in
     let a = c.in-Arm in
-    let all = c.in_ok-own.ensures.all ∙ ap (λ z. (walk (judge.label_in e c.args.of) ls z).answer) c.as_slice.ensures in
-    let own = c.in_ok-own.ensures.behind ∙ ap (λ z. drop (length ls) (walk (judge.label_in e c.args.of) ls z).answer) c.as_slice.ensures in
-    let one = c.in_ok-own.ensures.noted ∙ ap (λ z. first_after l.found (walk (judge.label_in e c.args.of) ls z).breaches) c.as_slice.ensures in
-    let two = c.in_ok-body.ensures.noted ∙ ap (λ z. first_after c.labels_in.new.found (parts.listed_in e c.args.in_loop z).breaches) c.as_slice-in-loop-arm.ensures in
-    let body = c.in_ok-body.ensures.answer ∙ ap (λ z. (parts.listed_in e c.args.in_loop z).answer) c.as_slice-in-loop-arm.ensures in
+    let same = l.invariant.env in
+    let all = c.in_ok-own.ensures.all ∙ ap (λ n. (walk (judge.label_in n c.args.of) ls c.as_slice.result.now).answer) same ∙ ap (λ z. (walk (judge.label_in e c.args.of) ls z).answer) c.as_slice.ensures in
+    let own = c.in_ok-own.ensures.behind ∙ ap (λ n. drop (length ls) (walk (judge.label_in n c.args.of) ls c.as_slice.result.now).answer) same ∙ ap (λ z. drop (length ls) (walk (judge.label_in e c.args.of) ls z).answer) c.as_slice.ensures in
+    let one = c.in_ok-own.ensures.noted ∙ ap (λ n. first_after l.found (walk (judge.label_in n c.args.of) ls c.as_slice.result.now).breaches) same ∙ ap (λ z. first_after l.found (walk (judge.label_in e c.args.of) ls z).breaches) c.as_slice.ensures in
+    let two = c.in_ok-body.ensures.noted ∙ ap (λ n. first_after c.labels_in.new.found (parts.listed_in n c.args.in_loop c.as_slice-in-loop-arm.result.now).breaches) same ∙ ap (λ z. first_after c.labels_in.new.found (parts.listed_in e c.args.in_loop z).breaches) c.as_slice-in-loop-arm.ensures in
+    let body = c.in_ok-body.ensures.answer ∙ ap (λ n. (parts.listed_in n c.args.in_loop c.as_slice-in-loop-arm.result.now).answer) same ∙ ap (λ z. (parts.listed_in e c.args.in_loop z).answer) c.as_slice-in-loop-arm.ensures in
     let is = sym c.arm-item.is ∙ a.is in
     record {
       taken = c.in_ok-own.ensures.taken;
       noted = λ last. cases_noted e c.args.in_loop c.args.of ls c.args.arms.now l.arm-index c.arm-item.result c.loop-arm-test.true a.own a.body is last c.labels_in.new.labels.all.items all l.found c.labels_in.new.found c.stats_in.new.found one two ∙ l.invariant.noted last;
       answer = λ last. ap (λ z. cases_of z (parts.cases_of e c.args.in_loop c.args.of c.labels_in.new.labels.all.items (drop (l.arm-index + 1) c.args.arms.now) last).answer) c.in_ok-push.ensures.items ∙ cases_put e c.args.in_loop c.args.of ls c.args.arms.now l.arm-index c.arm-item.result c.loop-arm-test.true a.own a.body is last c.labels_in.new.labels.all.items all l.all.items _ own body ∙ l.invariant.answer last;
+      env = c.in_ok-body.ensures.env ∙ same;
     }
 
 pub for_of-returns-clause-answer : goal.for_of-returns-clause-answer
@@ -69,27 +73,43 @@ put_arms-loop-elsif-preserved t c =
     let x = c.elsif-item.result in
     let xs = c.args.elsifs.now in
     let there = c.elsif-item.is in
-    let one = c.in_ok-arm.ensures.noted ∙ ap (λ z. first_after l.found (parts.tested e c.args.in_loop z.condition z.body.stats).breaches) there in
-    let test = c.in_ok-arm.ensures.test ∙ ap (λ z. (condition e z.condition).answer) there in
-    let body = c.in_ok-arm.ensures.body ∙ ap (λ z. (parts.listed_in e c.args.in_loop z.body.stats).answer) there in
+    let same = l.invariant.env in
+    let one = c.in_ok-arm.ensures.noted ∙ ap (λ n. first_after l.found (parts.tested n c.args.in_loop x.condition x.body.stats).breaches) same ∙ ap (λ z. first_after l.found (parts.tested e c.args.in_loop z.condition z.body.stats).breaches) there in
+    let test = c.in_ok-arm.ensures.test ∙ ap (λ n. (condition n x.condition).answer) same ∙ ap (λ z. (condition e z.condition).answer) there in
+    let body = c.in_ok-arm.ensures.body ∙ ap (λ n. (parts.listed_in n c.args.in_loop x.body.stats).answer) same ∙ ap (λ z. (parts.listed_in e c.args.in_loop z.body.stats).answer) there in
     record {
       noted = λ last. arms_noted e c.args.in_loop xs l.elsif-index x c.loop-elsif-test.true last l.found c.arm_of.new.found one ∙ l.invariant.noted last;
       answer = λ last. ap (λ z. onto z (parts.arms_in e c.args.in_loop (drop (l.elsif-index + 1) xs) last).answer) c.in_ok-push.ensures.items ∙ arms_put e c.args.in_loop xs l.elsif-index x c.loop-elsif-test.true last l.arms.items _ test body ∙ l.invariant.answer last;
+      env = c.in_ok-arm.ensures.env ∙ same;
     }
+
+pub repeat_of-returns-clause-noted : goal.repeat_of-returns-clause-noted
+repeat_of-returns-clause-noted t c =
+    let e = c.args.env.now in
+    let met = c.args.found.now in
+    let ss = parts.listed_in e c.args.in_loop c.args.body.now.stats in
+    let test = condition e c.args.test.now in
+    let first = c.in_ok-body.ensures.noted ∙ ap (λ l. first_after met (parts.listed_in e c.args.in_loop l).breaches) c.as_slice.ensures in
+    let second = c.in_ok-test.ensures.noted ∙ ap (λ n. first_after c.stats_in.new.found (condition n c.args.test.now).breaches) c.in_ok-body.ensures.env in
+    second
+    ∙ ap (λ m. first_after m test.breaches) first
+    ∙ sym (after_more met ss.breaches test.breaches)
+    ∙ ap (λ l. first_after met (ss.breaches ++ l)) (sym (append-nil test.breaches))
 
 pub repeat_of-returns-clause-answer : goal.repeat_of-returns-clause-answer
 repeat_of-returns-clause-answer t c =
     let b = c.in_ok-body.body in
     let body = c.in_ok-body.ensures.answer ∙ ap (λ l. (parts.listed_in c.args.env.now c.args.in_loop l).answer) c.as_slice.ensures in
-    ap (λ s. Some s) (repeat_seen c.args.at b c.in_ok-test.test ∙ (λ i. Repeat c.args.at ((stats_seen b.items ∙ ap listed body) i) (c.in_ok-test.ensures.answer i)))
+    let test = c.in_ok-test.ensures.answer ∙ ap (λ n. (condition n c.args.test.now).answer) c.in_ok-body.ensures.env in
+    ap (λ s. Some s) (repeat_seen c.args.at b c.in_ok-test.test ∙ (λ i. Repeat c.args.at ((stats_seen b.items ∙ ap listed body) i) (test i)))
 
 pub stat_of-returns-in_ok-last-in-If-clause-noted : goal.stat_of-returns-in_ok-last-in-If-clause-noted
 stat_of-returns-in_ok-last-in-If-clause-noted t c =
     let e = c.args.env.now in
     let x = c.in-If in
     if_noted e c.args.in_loop c.args.stat.now x.at x.test x.body x.arms x.last x.is c.args.found.now c.arm_of.new.found c.put_arms.new.found c.else_of.new.found c.in_ok-first-in-If.ensures.noted
-    (λ last. c.in_ok-put_arms-in-If.ensures.noted last ∙ ap (λ z. first_after c.arm_of.new.found (parts.arms_in e c.args.in_loop z last).breaches) c.as_slice.ensures)
-    c.in_ok-last-in-If.ensures.noted
+    (λ last. c.in_ok-put_arms-in-If.ensures.noted last ∙ ap (λ n. first_after c.arm_of.new.found (parts.arms_in n c.args.in_loop c.as_slice.result.now last).breaches) c.in_ok-first-in-If.ensures.env ∙ ap (λ z. first_after c.arm_of.new.found (parts.arms_in e c.args.in_loop z last).breaches) c.as_slice.ensures)
+    (c.in_ok-last-in-If.ensures.noted ∙ ap (λ n. first_after c.put_arms.new.found (parts.behind_else n c.args.in_loop x.last).breaches) (c.in_ok-put_arms-in-If.ensures.env ∙ c.in_ok-first-in-If.ensures.env))
 
 pub stat_of-returns-in_ok-last-in-If-clause-answer : goal.stat_of-returns-in_ok-last-in-If-clause-answer
 stat_of-returns-in_ok-last-in-If-clause-answer t c =
@@ -97,8 +117,8 @@ stat_of-returns-in_ok-last-in-If-clause-answer t c =
     let x = c.in-If in
     let alone = c.in_ok-push-in-If.ensures.items ∙ ap (λ z. z ++ c.in_ok-first-in-If.first ∷ []) c.new-all.ensures.items in
     if_answer e c.args.in_loop c.args.stat.now x.at x.test x.body x.arms x.last x.is c.in_ok-first-in-If.first c.put_arms.new.arms c.in_ok-last-in-If.last c.in_ok-first-in-If.ensures.test c.in_ok-first-in-If.ensures.body
-    (λ last. c.in_ok-put_arms-in-If.ensures.answer last ∙ ap (λ z. onto z (parts.arms_in e c.args.in_loop c.as_slice.result.now last).answer) alone ∙ ap (λ z. onto (c.in_ok-first-in-If.first ∷ []) (parts.arms_in e c.args.in_loop z last).answer) c.as_slice.ensures)
-    c.in_ok-last-in-If.ensures.answer
+    (λ last. c.in_ok-put_arms-in-If.ensures.answer last ∙ ap (λ n. onto c.push.new.self.items (parts.arms_in n c.args.in_loop c.as_slice.result.now last).answer) c.in_ok-first-in-If.ensures.env ∙ ap (λ z. onto z (parts.arms_in e c.args.in_loop c.as_slice.result.now last).answer) alone ∙ ap (λ z. onto (c.in_ok-first-in-If.first ∷ []) (parts.arms_in e c.args.in_loop z last).answer) c.as_slice.ensures)
+    (c.in_ok-last-in-If.ensures.answer ∙ ap (λ n. (parts.behind_else n c.args.in_loop x.last).answer) (c.in_ok-put_arms-in-If.ensures.env ∙ c.in_ok-first-in-If.ensures.env))
 
 pub stat_of-returns-in_ok-last-in-Case-clause-noted : goal.stat_of-returns-in_ok-last-in-Case-clause-noted
 stat_of-returns-in_ok-last-in-Case-clause-noted t c =
@@ -108,7 +128,7 @@ stat_of-returns-in_ok-last-in-Case-clause-noted t c =
     let of = ap (λ z. z.known.of) v.ensures.answer in
     case_noted e c.args.in_loop c.args.stat.now x.at x.value x.arms x.last x.is v.value.known.of of c.args.found.now c.selector.new.found c.cases_in.new.found c.case_else.new.found v.ensures.noted
     (λ last. c.in_ok-all-in-Case.ensures.noted last ∙ ap (λ z. first_after c.selector.new.found (parts.cases_of e c.args.in_loop v.value.known.of [] z last).breaches) c.as_slice-in-Case.ensures)
-    c.in_ok-last-in-Case.ensures.noted
+    (c.in_ok-last-in-Case.ensures.noted ∙ ap (λ n. first_after c.cases_in.new.found (parts.else_of_case n c.args.in_loop x.last).breaches) c.in_ok-all-in-Case.ensures.env)
 
 pub stat_of-returns-in_ok-last-in-Case-clause-answer : goal.stat_of-returns-in_ok-last-in-Case-clause-answer
 stat_of-returns-in_ok-last-in-Case-clause-answer t c =
@@ -119,7 +139,7 @@ stat_of-returns-in_ok-last-in-Case-clause-answer t c =
     let typed = ap (λ z. z.typed) v.ensures.answer in
     case_answer e c.args.in_loop c.args.stat.now x.at x.value x.arms x.last x.is v.value.known.of of v.value.typed c.in_ok-all-in-Case.all c.in_ok-last-in-Case.last typed
     (λ last. c.in_ok-all-in-Case.ensures.answer last ∙ ap (λ z. (parts.cases_of e c.args.in_loop v.value.known.of [] z last).answer) c.as_slice-in-Case.ensures)
-    c.in_ok-last-in-Case.ensures.answer
+    (c.in_ok-last-in-Case.ensures.answer ∙ ap (λ n. (parts.else_of_case n c.args.in_loop x.last).answer) c.in_ok-all-in-Case.ensures.env)
 
 pub stat_of-returns-in-Loop-clause-noted : goal.stat_of-returns-in-Loop-clause-noted
 stat_of-returns-in-Loop-clause-noted t c =
@@ -142,3 +162,26 @@ while_of-returns-clause-answer t c =
     let b = c.in_ok-body.body in
     let body = c.in_ok-body.ensures.answer ∙ ap (λ l. (parts.listed_in c.args.env.now c.args.in_loop l).answer) c.as_slice.ensures in
     ap (λ s. Some s) (while_seen c.args.at c.in_ok-test.test b ∙ (λ i. While c.args.at (c.in_ok-test.ensures.answer i) ((stats_seen b.items ∙ ap listed body) i)))
+
+pub with_of-returns-clause-answer : goal.with_of-returns-clause-answer
+with_of-returns-clause-answer t c =
+    let e = c.args.env.now in
+    let q = c.args.variable in
+    let b = c.in_ok-body.body in
+    let v = c.in_ok-whole.ensures.answer in
+    let k = c.known_type-t.ensures.answer in
+    let g = c.in_ok-guarded.ensures.answer ∙ ap (λ z. (guard e c.args.colon z c.known_type-t.result).answer) v ∙ ap (λ z. (guard e c.args.colon (judge.with_variable e q).answer z).answer) k in
+    let inside = c.in_ok-around.ensures.env ∙ ap (λ z. judge.narrowed_by e q z) k in
+    let body = c.in_ok-body.ensures.answer ∙ ap (λ n. (parts.listed_in n c.args.in_loop c.as_slice.result.now).answer) inside
+    ∙ ap (λ l. (parts.listed_in (judge.narrowed_by e q (known_type e c.args.of).answer) c.args.in_loop l).answer) c.as_slice.ensures in
+    ap (λ s. Some s) (c.with_stat.ensures ∙ (λ i. judge.with_stat c.args.at (g i).held ((stats_seen b.items ∙ ap listed body) i)))
+
+pub stat_of-returns-in-With-clause-noted : goal.stat_of-returns-in-With-clause-noted
+stat_of-returns-in-With-clause-noted t c =
+    let x = c.in-With in
+    subst (λ j. OnOk c.with_of.result (c.with_of.new.found ≡ first_after c.args.found.now j.breaches)) (sym (stat_with c.args.env.now c.args.in_loop c.args.stat.now x.at x.name x.colon x.of x.body x.is)) c.with_of.ensures.noted
+
+pub stat_of-returns-in-With-clause-answer : goal.stat_of-returns-in-With-clause-answer
+stat_of-returns-in-With-clause-answer t c =
+    let x = c.in-With in
+    subst (λ j. IfOk c.with_of.result (λ s. option_map seen_stat s ≡ j.answer)) (sym (stat_with c.args.env.now c.args.in_loop c.args.stat.now x.at x.name x.colon x.of x.body x.is)) c.with_of.ensures.answer

@@ -2,7 +2,7 @@
 use Rattle.std.proofs.Common.{◌∙◌}
 use Rattle.std.proofs.lemmas.Result.{on_ok_weaker}
 use Rattle.aos_check_decl.proofs.Judging.{limits_noted}
-use Rattle.aos_check_decl.proofs.limits.limits.Goals as goal
+use Rattle.aos_check_decl.proofs.limits.cut_off.Goals as goal
 
 pub returns-clause-noted : goal.returns-clause-noted
 returns-clause-noted c =

@@ -1,0 +1,116 @@
+// What is asked of the types that a module names, once all are met: rules 17, 23 and 25.
+
+ghost use Rattle.std.specs.Prelude.{◌≡◌, fold, OnOk, IfOk, OnErr};
+ghost use Rattle.std.specs.List.{flat_map};
+ghost use Rattle.aos_types.specs.Table as table;
+ghost use Rattle.aos_symbols.specs.Breaches.{first_after};
+ghost use Rattle.aos_check_decl.specs.Limits as judge;
+
+use aos_base::{NoMemory, Pos};
+use aos_symbols::{Breach, Claim, Env, IN_BASE, WRONG_BASE, WRONG_TYPE, note};
+use aos_tree::Name;
+use aos_types::{Items, TypeId, TypeRow, Types};
+use std::alloc::{AllocError, Global};
+
+/// Whether a type is that of records or of arrays, to which pointers lead.
+fn may_be_target(env: &Env<'_>, of: TypeId) -> bool
+    ensures { result ≡ judge.may_be_target (table.row_of env.now.types of) }
+{
+    matches!(
+        env.row(Some(of)),
+        Some(TypeRow::Array(_, _) | TypeRow::Record(_, _) | TypeRow::Open(_))
+    )
+}
+
+/// Whether a type is that of records, or its definition breaks a rule.
+fn may_be_base(env: &Env<'_>, of: TypeId) -> bool
+    ensures { result ≡ judge.may_be_base (table.row_of env.now.types of) }
+{
+    matches!(
+        env.row(Some(of)),
+        Some(TypeRow::Record(_, _) | TypeRow::Open(_))
+    )
+}
+
+fn note_target(found: &mut Option<Breach>, env: &Env<'_>, at: Pos, of: TypeId)
+    ensures { found.new ≡ first_after found.old
+        (judge.claim_breaches env.now (Claim.Target at of)) }
+{
+    if !may_be_target(env, of) {
+        note(found, WRONG_TYPE, at);
+    }
+}
+
+fn note_base(found: &mut Option<Breach>, env: &Env<'_>, at: Pos, base: TypeId, of: TypeId)
+    ensures { found.new ≡ first_after found.old
+        (judge.claim_breaches env.now (Claim.Base at base of)) }
+{
+    if !may_be_base(env, base) {
+        note(found, WRONG_BASE, at);
+    }
+}
+
+fn note_field(
+    found: &mut Option<Breach>,
+    env: &Env<'_>,
+    name: Name,
+    base: TypeId,
+) -> Result<(), AllocError>
+    ensures { OnOk result (found.new ≡ first_after found.old
+        (judge.claim_breaches env.now (Claim.Field name base))) }
+{
+    if env.field(base, name)?.is_some() {
+        note(found, IN_BASE, name.pos);
+    }
+    Ok(())
+}
+
+/// What is asked of one type.
+fn note_claim(found: &mut Option<Breach>, env: &Env<'_>, claim: Claim) -> Result<(), AllocError>
+    ensures { OnOk result (found.new ≡ first_after found.old (judge.claim_breaches env.now claim)) }
+{
+    match claim {
+        Claim::Target(at, of) => note_target(found, env, at, of),
+        Claim::Base(at, base, of) => note_base(found, env, at, base, of),
+        Claim::Field(name, base) => note_field(found, env, name, base)?,
+    }
+    Ok(())
+}
+
+/// What is asked of all types that a module names.
+#[tactic(auto, using(aos_symbols::proofs::Keeping::after_more))]
+pub(crate) fn note_claims(found: &mut Option<Breach>, env: &Env<'_>) -> Result<(), NoMemory>
+    ensures { OnOk result (found.new ≡ first_after found.old
+        (flat_map (judge.claim_breaches env.now) env.now.claims)) }
+{
+    for claim in env.claims.as_slice() {
+        note_claim(found, env, *claim)?;
+    }
+    Ok(())
+}
+
+fn is_record(types: &Types, t: TypeId) -> bool
+    ensures { result ≡ table.is_record (table.row_of types.now t) }
+{
+    (t.0 as usize) < types.len() && matches!(types.row(t), TypeRow::Record(_, _))
+}
+
+/// A record whose base is no record has no contents.
+fn drop_base(alloc: Global, types: &mut Types, claim: Claim)
+    ensures { types.new ≡ judge.without_base types.old claim }
+{
+    if let Claim::Base(_, base, of) = claim {
+        if !is_record(types, base) && (of.0 as usize) < types.len() {
+            types.set(of, TypeRow::Record(None, Items::new(alloc)));
+        }
+    }
+}
+
+/// The same of all records.
+pub(crate) fn drop_bases(alloc: Global, types: &mut Types, claims: &[Claim])
+    ensures { types.new ≡ fold judge.without_base types.old claims.now }
+{
+    for claim in claims {
+        drop_base(alloc, types, *claim);
+    }
+}

@@ -1,0 +1,207 @@
+-- Environments of bodies, in which each variable has its type: what is known of its table of types.
+use Rattle.std.proofs.Common.{◌≡◌, ℕ, ◌+◌, ◌≤◌, ◌<◌, List, [], ◌∷◌, length, Bool, true, false, ◌&&◌, ◌⊎◌, inl, inr, not, Option, Some, None, is_some, slice_get, refl, sym, ap, ◌∙◌, le-ltb, arith}
+use Rattle.std.proofs.lemmas.Option.{none-some, same_Some, slice_get_within}
+use Rattle.std.proofs.lemmas.Bool.{and_parts}
+use Rattle.aos_base.specs.declared.text.Pos.{Pos}
+use Rattle.aos_tree.specs.declared.name.Name.{Name}
+use Rattle.aos_types.specs.declared.row.Basic.TheVariants as basic
+use Rattle.aos_types.specs.declared.row.TypeId.{TypeId}
+use Rattle.aos_types.specs.declared.row.TypeRow.{TypeRow}
+use Rattle.aos_types.specs.declared.row.TypeRow.TheVariants as row
+use Rattle.aos_types.specs.Table.{row_of, is_open, is_record}
+use Rattle.aos_types.specs.Sameness.{element_of}
+use Rattle.aos_typed.specs.Numbers.{id_of}
+use Rattle.aos_typed.specs.Open.{open_dimensions, open_element}
+use Rattle.aos_typed.specs.declared.tree.TType.{TType}
+use Rattle.aos_typed.specs.Program.{Place, ModuleVar, Of, Rows, Parameter, Procedure, Module}
+use Rattle.aos_typed.specs.WellTyped.{HaveLengths, field_type, procedure_in}
+use Rattle.aos_symbols.specs.declared.home.Parameter.{Parameter as Formal}
+use Rattle.aos_symbols.specs.declared.home.Gives.{Gives}
+use Rattle.aos_symbols.specs.declared.home.Gives.TheVariants as gives
+use Rattle.aos_symbols.specs.declared.home.Signature.{Signature}
+use Rattle.aos_symbols.specs.declared.scope.Entry.{Entry}
+use Rattle.aos_symbols.specs.declared.scope.Constant.{Constant as Declared}
+use Rattle.aos_symbols.specs.declared.scope.Meaning.TheVariants as means
+use Rattle.aos_symbols.specs.declared.env.Open.{Open}
+use Rattle.aos_symbols.specs.declared.env.Symbol.{Symbol}
+use Rattle.aos_symbols.specs.declared.env.Field.{Field}
+use Rattle.aos_symbols.specs.declared.env.Narrowed.{Narrowed}
+use Rattle.aos_symbols.specs.declared.env.Env.{Env}
+use Rattle.aos_symbols.specs.Scope.{Scope, find}
+use Rattle.aos_symbols.specs.Home.{Home, texts_of}
+use Rattle.aos_symbols.specs.Env as env
+use Rattle.aos_symbols.specs.Env.{nil, text}
+use Rattle.aos_symbols.proofs.Each.{Each}
+use Rattle.aos_symbols.proofs.Told.{IsTold, basic as basic_told, of_any, defined, IsKnown, PartsAreTold}
+use Rattle.aos_check_expr.proofs.Inside.{Inside, IsPlaceOf, AreRows}
+use Rattle.aos_check_expr.specs.Known.{Spot, is_basic, type_as, type_of}
+use Rattle.aos_check_expr.specs.Designators as desig
+use Rattle.aos_check_expr.proofs.Opens.{OpensFall, OpensStand, IsVariableNumber, some_there, behind_all}
+use Rattle.aos_check_expr.proofs.Good.{HasGood}
+use Rattle.aos_check_expr.proofs.Types.{not_both, id_as}
+
+-- a variable has the type that is known of it, or is an open array, with its rows
+pub data IsTyped (p : Inside) (e : Env) (place : Place) (of : Option TypeId) : Type 0 where
+  closed : IsPlaceOf p place (type_of of) → IsKnown e.types of → IsTyped p e place of
+  opened : (t : TypeId) (r : Rows) → of ≡ Some t → place ≡ Of r → desig.is_opened e t ≡ true →
+      AreRows p r (open_dimensions e.types t) (type_as (open_element e.types t)) → HaveLengths r → IsTyped p e place of
+
+-- a row that modules write
+abbrev pub IsWritten : TypeRow → Type 0
+IsWritten (row.Basic b) = ⊥
+IsWritten row.Any = ⊥
+IsWritten r = Unit {0}
+
+-- in each scope that the environment has, each constant has a value that is good
+abbrev pub GoodConstants : Env → Type 0
+GoodConstants e = (o : Open) (s : Scope) → env.scope e o ≡ Some s → Each (λ (c : Declared). HasGood c.value) s.constants
+
+-- a parameter's type: one that is told, or an open array
+abbrev pub IsParameterType : Env → TypeId → Type 0
+IsParameterType e t = IsTold e.types t ⊎ (desig.is_opened e t ≡ true)
+
+-- the parameters of the typed program are those of a signature
+abbrev pub AreParameters : Env → List Formal → List Parameter → Type 0
+AreParameters e [] as' = as' ≡ []
+AreParameters e (x ∷ xs) as' =
+    (a : Parameter) × (rest : List Parameter) × (t : TypeId) × (as' ≡ a ∷ rest) × (x.of ≡ Some t) × (a.of ≡ type_as t)
+    × (a.by_reference ≡ x.by_reference) × IsParameterType e t × AreParameters e xs rest
+
+abbrev pub IsResultOf : Gives → Option TType → Type 0
+IsResultOf gives.Nothing r = r ≡ None
+IsResultOf (gives.Value of) r = (t : TypeId) × (of ≡ Some t) × (r ≡ Some (type_as t)) × (t ≡ nil → ⊥)
+
+pub record IsSigned (e : Env) (s : Signature) (q : Procedure) : Type 0 where
+  pub parameters : AreParameters e s.parameters q.parameters
+  pub result : IsResultOf s.gives q.result
+
+-- a scope that is searched is a module's own, or that of the procedure
+abbrev pub IsSearched : Env → Open → Type 0
+IsSearched e o = (o.scope ≡ 0) ⊎ ((o.home ≡ e.number) × (o.scope ≡ env.innermost e.path))
+
+-- each open array of the table stands behind its elements, whose type is told or an open array
+pub record AreOpensTold (e : Env) : Type 0 where
+  pub falls : OpensFall e.types
+  pub above : (t u : TypeId) → row_of e.types t ≡ Some (row.Open u) → 10 ≤ t.0
+  pub elements : (t u : TypeId) → row_of e.types t ≡ Some (row.Open u) → IsParameterType e u
+
+-- the type of a parameter that is there
+pub parameter_type : (e : Env) (t : TypeId) → t.0 < length e.types → IsVariableNumber t.0 → IsParameterType e t
+parameter_type e t below (inl low) = inl (basic_told low)
+parameter_type e t below (inr (inl is)) = inl (of_any is)
+parameter_type e t below (inr (inr high)) = let r = some_there e.types t.0 below in by r.0 r.1 (is_open (Some r.0)) refl
+  where
+    no_low : is_basic t ≡ false
+    no_low = le-ltb t.0 7 (omega (arith, high))
+
+    by : (r : TypeRow) → slice_get e.types t.0 ≡ Some r → (b : Bool) → is_open (Some r) ≡ b → IsParameterType e t
+    by r there false shut = inl (defined r high there shut)
+    by r there true opening = inr (ap (λ b. not b && is_open (row_of e.types t)) no_low ∙ ap is_open there ∙ opening)
+
+pub opens_told : (e : Env) → OpensStand e.types → AreOpensTold e
+opens_told e stand = record {
+  falls = λ t u is. (stand t.0 (row.Open u) is).0;
+  above = λ t u is. (stand t.0 (row.Open u) is).1;
+  elements = λ t u is.
+      let one = stand t.0 (row.Open u) is in
+      let below = slice_get_within e.types t.0 (row.Open u) is in
+      let less = one.0 in
+      parameter_type e u (omega (arith, below, less)) one.2;
+}
+
+-- what is told has no open dimension
+pub told_element : (e : Env) → AreOpensTold e → (t : TypeId) → IsTold e.types t → element_of (row_of e.types t) ≡ None
+told_element e opens t told = by (row_of e.types t) refl
+  where
+    not_open : (u : TypeId) → row_of e.types t ≡ Some (row.Open u) → IsTold e.types t → ⊥
+    not_open u is (basic_told below) = let above = opens.above t u is in omega (arith, above, below)
+    not_open u is (of_any e) = let above = opens.above t u is in omega (arith, above, e)
+    not_open u is (defined r from there shut) = not_both (ap is_open (sym is ∙ there) ∙ shut)
+
+    by : (r : Option TypeRow) → row_of e.types t ≡ r → element_of r ≡ None
+    by (Some (row.Open u)) is = absurd (not_open u is told)
+    by None is = refl
+    by r is = refl
+
+-- each WITH around a place guards its variable with a type that this may be guarded with
+abbrev pub NarrowsWell : Env → Symbol → ℕ → Spot → List Narrowed → Type 0
+NarrowsWell e x k a [] = Unit {0}
+NarrowsWell e x k a (v ∷ vs) =
+    (desig.is_narrowed x k v ≡ true → desig.may_test e (desig.is_passed (desig.place_of a.held)) a.known.of (Some v.of) ≡ true)
+    × NarrowsWell e x k (desig.narrowed_by e x k a v) vs
+
+-- The environment is that of bodies: each variable in the scope of a module or of the procedure has its type, the table is the program's
+-- and begins with what is predeclared, the types behind the first ten are its object types, each procedure is as its signature says, and
+-- each module's string constants are those of its text.
+pub record IsWhole (p : Inside) (e : Env) : Type 0 where
+  pub variables : (o : Open) (s : Scope) (w : List ℕ) (x : Entry) (k : ℕ) → o.scope ≡ 0 → env.scope e o ≡ Some s → find s w ≡ Some x →
+      x.means ≡ means.Variable k → IsTyped p e (ModuleVar o.home k) (env.variable_type e o k)
+  pub constants : GoodConstants e
+  pub parts : PartsAreTold e.types
+  pub fields : (t : TypeId) (n : Name) (f : Field) → env.field e t n ≡ Some f → is_record (row_of e.types t) ≡ true →
+      (u : TypeId) × (f.of ≡ Some u) × (field_type e.types t f.number ≡ Some u) × IsTold e.types u
+  pub rows : p.program.types ≡ e.types
+  pub objects : length e.types ≡ 10 + length p.program.objects
+  pub basic : (k : ℕ) → k < 10 → slice_get e.types k ≡ slice_get env.basic_rows k
+  pub written : (k : ℕ) (r : TypeRow) → 10 ≤ k → slice_get e.types k ≡ Some r → IsWritten r
+  pub opens : AreOpensTold e
+  pub narrows : (x : Symbol) (k : ℕ) (at : Pos) → NarrowsWell e x k (desig.variable e x k at) e.narrowed
+  pub path : Each (IsSearched e) e.path
+  pub locals : (s : Scope) (w : List ℕ) (x : Entry) (k : ℕ) → is_some (env.own_signature e) ≡ true →
+      let o : Open = record { home = e.number; scope = env.innermost e.path } in
+      env.scope e o ≡ Some s → find s w ≡ Some x → x.means ≡ means.Variable k → IsTyped p e (desig.own_place e k) (env.variable_type e o k)
+  pub own : (s : Signature) → env.own_signature e ≡ Some s → (q : Procedure) × (p.own ≡ Some q) × IsSigned e s q
+  pub own_body : env.own_signature e ≡ None → p.own ≡ None
+  pub signatures : (m k : ℕ) (s : Signature) → env.signature e m k ≡ Some s → (q : Procedure) × (procedure_in p.program m k ≡ Some q) × IsSigned e s q
+  pub strings : (m : ℕ) (h : Home) → env.home e m ≡ Some h →
+      (x : Module) × (slice_get p.program.modules m ≡ Some x) × (length x.variables ≡ env.variable_count e m) × (x.texts ≡ texts_of h)
+
+-- the type of string constants has no parts
+pub text_row : (p : Inside) (e : Env) → IsWhole p e → (t : TypeId) (r : TypeRow) → t ≡ text → env.row_of e (Some t) ≡ Some r → row.Basic (basic.Text 0) ≡ r
+text_row p e whole t r is there =
+    same_Some (row.Basic (basic.Text 0)) r (sym (whole.basic 9 (omega arith)) ∙ ap (λ (u : TypeId). slice_get e.types u.0) (sym is) ∙ there)
+
+pub no_array : (m : ℕ) (u : TypeId) → row.Basic (basic.Text 0) ≡ row.Array m u → ⊥
+no_array m u is = cc
+
+pub array_open : (m : ℕ) (u : TypeId) → is_open (Some (row.Array m u)) ≡ true → ⊥
+array_open m u is = cc
+
+pub no_open : (u : TypeId) → row.Basic (basic.Text 0) ≡ row.Open u → ⊥
+no_open u is = cc
+
+-- the row of an open array
+pub opened_row : (e : Env) (t : TypeId) → desig.is_opened e t ≡ true → (u : TypeId) × (is_basic t ≡ false) × (row_of e.types t ≡ Some (row.Open u))
+opened_row e t is = by (row_of e.types t) refl (and_parts (not (is_basic t)) _ is).1
+  where
+    low : (b : Bool) → not b ≡ true → b ≡ false
+    low true h = absurd (not_both (sym h))
+    low false h = refl
+
+    by : (r : Option TypeRow) → row_of e.types t ≡ r → is_open r ≡ true → (u : TypeId) × (is_basic t ≡ false) × (row_of e.types t ≡ Some (row.Open u))
+    by (Some (row.Open u)) at h = (u, low (is_basic t) (and_parts (not (is_basic t)) _ is).0, at)
+    by r at h = absurd (not_both (sym h))
+
+-- what is told is no open array
+pub told_closed : (e : Env) → AreOpensTold e → (t : TypeId) → IsTold e.types t → desig.is_opened e t ≡ true → ⊥
+told_closed e opens t told is =
+    let u = opened_row e t is in none-some u.0 (sym (told_element e opens t told) ∙ ap element_of u.2)
+
+pub row_opened : (e : Env) (t u : TypeId) → is_basic t ≡ false → row_of e.types t ≡ Some (row.Open u) → desig.is_opened e t ≡ true
+row_opened e t u low is = rw (low, is) refl
+
+-- what is behind the open dimensions of a type is told
+pub elements_told : (e : Env) → AreOpensTold e → (t : TypeId) → desig.is_opened e t ≡ true → IsTold e.types (open_element e.types t)
+elements_told e opens t opening =
+    let u = opened_row e t opening in
+    behind_all e.types opens.falls (IsTold e.types) each t.0 t u.0 (omega arith) u.2
+  where
+    each : (t u : TypeId) → row_of e.types t ≡ Some (row.Open u) → element_of (row_of e.types u) ≡ None → IsTold e.types u
+    each t u is none = by (opens.elements t u is)
+      where
+        by : IsParameterType e u → IsTold e.types u
+        by (inl told) = told
+        by (inr opening) = let v = opened_row e u opening in absurd (none-some v.0 (sym none ∙ ap element_of v.2))
+
+pub elements_id : (e : Env) → AreOpensTold e → (t : TypeId) → desig.is_opened e t ≡ true → id_of (type_as (open_element e.types t)) ≡ open_element e.types t
+elements_id e opens t opening = id_as e.types (open_element e.types t) (elements_told e opens t opening)

@@ -1,0 +1,142 @@
+// WITH: its variable, and what its statements have it as.
+
+ghost use Rattle.std.specs.Prelude.{◌≡◌, OnOk, IfOk};
+ghost use Rattle.aos_typed.specs.Seen.{seen_stat, seen_stats};
+ghost use Rattle.aos_symbols.specs.Breaches.{first_after};
+ghost use Rattle.aos_check_expr.specs.Seen.{seen_held, seen_spot};
+ghost use Rattle.aos_check_stat.specs.Bodies as judge;
+
+use aos_base::Pos;
+use aos_check_expr::{Head, Held, Spot, is_module, member, named, plain, refused_at};
+use aos_symbols::{Breach, Env, Lookup, Meaning, Narrowed, WRONG_WITH};
+use aos_tree::{Items, Qualident};
+use aos_typed::TStat;
+use aos_types::TypeId;
+use std::alloc::{AllocError, Global};
+
+fn may_be_variable(lookup: Lookup) -> bool
+    ensures { result ≡ judge.may_be_variable lookup }
+{
+    match lookup {
+        Lookup::Found(symbol) => matches!(symbol.means, Meaning::Variable(_)),
+        _ => true,
+    }
+}
+
+/// The variable of a name.
+fn with_name(
+    alloc: Global,
+    found: &mut Option<Breach>,
+    env: &Env<'_>,
+    head: Head,
+) -> Result<Spot, AllocError>
+    ensures noted { OnOk result (found.new ≡
+        first_after found.old (judge.with_name env.now head).breaches) }
+    ensures answer { IfOk result (λ r. seen_spot r ≡ (judge.with_name env.now head).answer) }
+{
+    if may_be_variable(head.found) {
+        named(alloc, found, env, head)
+    } else {
+        Ok(refused_at(found, WRONG_WITH, head.first, head.first))
+    }
+}
+
+/// A name behind what is no module.
+fn with_part(
+    alloc: Global,
+    found: &mut Option<Breach>,
+    env: &Env<'_>,
+    head: Head,
+) -> Result<Spot, AllocError>
+    ensures noted { OnOk result (found.new ≡
+        first_after found.old (judge.with_part env.now head).breaches) }
+    ensures answer { IfOk result (λ r. seen_spot r ≡ (judge.with_part env.now head).answer) }
+{
+    match head.found {
+        Lookup::Found(_) => Ok(refused_at(found, WRONG_WITH, head.first, head.first)),
+        _ => named(alloc, found, env, head),
+    }
+}
+
+/// The variable of a WITH.
+pub fn with_variable(
+    alloc: Global,
+    found: &mut Option<Breach>,
+    env: &Env<'_>,
+    name: Qualident,
+) -> Result<Spot, AllocError>
+    ensures noted { OnOk result (found.new ≡
+        first_after found.old (judge.with_variable env.now name).breaches) }
+    ensures answer { IfOk result (λ r. seen_spot r ≡ (judge.with_variable env.now name).answer) }
+{
+    let Some(own) = name.second else {
+        return with_name(alloc, found, env, plain(env, name.first));
+    };
+    if is_module(env.lookup(name.first)) {
+        with_name(alloc, found, env, member(env, name.first, own))
+    } else {
+        with_part(alloc, found, env, plain(env, name.first))
+    }
+}
+
+fn head_of_with(env: &Env<'_>, name: Qualident) -> Head
+    ensures { result ≡ judge.head_of_with env.now name }
+{
+    match name.second {
+        Some(own) => member(env, name.first, own),
+        None => plain(env, name.first),
+    }
+}
+
+/// What a WITH narrows, where its variable and its type are known.
+fn narrowed(env: &Env<'_>, name: Qualident, t: Option<TypeId>) -> Option<Narrowed>
+    ensures { result ≡ judge.narrowed_variable env.now name t }
+{
+    let of = t?;
+    let Lookup::Found(symbol) = head_of_with(env, name).found else {
+        return None;
+    };
+    let Meaning::Variable(number) = symbol.means else {
+        return None;
+    };
+    Some(Narrowed {
+        at: symbol.at,
+        number,
+        of,
+    })
+}
+
+/// Goes into a WITH, and gives the variables that were narrowed around it, where others are now.
+pub fn enter_with(
+    alloc: Global,
+    env: &mut Env<'_>,
+    name: Qualident,
+    t: Option<TypeId>,
+) -> Result<Option<Items<Narrowed>>, AllocError>
+    ensures env { OnOk result (env.new ≡ judge.narrowed_by env.old name t) }
+    ensures around { IfOk result (λ around. judge.behind_with around env.new ≡ env.old) }
+{
+    match narrowed(env, name, t) {
+        Some(one) => Ok(Some(env.narrow(alloc, one)?)),
+        None => Ok(None),
+    }
+}
+
+/// Goes out of a WITH around which these variables were narrowed.
+pub fn leave_with(env: &mut Env<'_>, around: Option<Items<Narrowed>>)
+    ensures { env.new ≡ judge.behind_with around env.old }
+{
+    if let Some(around) = around {
+        env.narrowed = around;
+    }
+}
+
+/// WITH of a guarded object, or of a guarded record.
+pub fn with_stat(at: Pos, held: Held, body: Vec<TStat>) -> TStat
+    ensures { seen_stat result ≡ judge.with_stat at (seen_held held) (seen_stats body.items) }
+{
+    match held {
+        Held::Stands(record) => TStat::WithRecord(at, record, body),
+        Held::Value(object) => TStat::With(at, object, body),
+    }
+}
