@@ -122,33 +122,6 @@ M
 deep 1
 deep 510
 
-# The most memory that a command's process had at a time, in KiB. A small program starts it, since what a process had before it
-# began the command counts too.
-cat >"$folder/memory.c" <<'M'
-#include <stdio.h>
-#include <sys/resource.h>
-#include <sys/wait.h>
-#include <unistd.h>
-
-int main(int count, char **words) {
-    struct rusage usage;
-    int status;
-    pid_t child = fork();
-    if (child == 0) {
-        freopen("/dev/null", "w", stdout);
-        execvp(words[1], words + 1);
-        _exit(127);
-    }
-    if (count < 2 || child < 0 || wait4(child, &status, 0, &usage) < 0 || status != 0) return 1;
-    printf("%ld\n", usage.ru_maxrss);
-    return 0;
-}
-M
-cc -O2 -o "$folder/memory" "$folder/memory.c"
-most_memory() {
-    "$folder/memory" "$@"
-}
-
 machine
 
 # A module with the number of its statements and of its calls: it ends in that budget and not in one statement less.

@@ -1,5 +1,5 @@
 # What the scripts beside it share, which source it: the built program, which may be their first word, a folder for files, times of
-# commands, and scripts for `replay`.
+# commands, their memory, and scripts for `replay`.
 top=$(cd "$(dirname "${BASH_SOURCE[0]}")/.." && pwd)
 program=${1:-$top/crates/aos_main/out/aos_main}
 folder=$(mktemp -d)
@@ -44,4 +44,33 @@ begins_as_many() {
     [ "$status" = 5 ]
     python3 "$other" >"$folder/python.out"
     cmp "$folder/program.out" "$folder/python.out"
+}
+
+# The most memory that a command's process had at a time, in KiB. A small program starts it, since what a process had before it
+# began the command counts too.
+most_memory() {
+    if ! [ -x "$folder/memory" ]; then
+        cat >"$folder/memory.c" <<'M'
+#include <stdio.h>
+#include <sys/resource.h>
+#include <sys/wait.h>
+#include <unistd.h>
+
+int main(int count, char **words) {
+    struct rusage usage;
+    int status;
+    pid_t child = fork();
+    if (child == 0) {
+        freopen("/dev/null", "w", stdout);
+        execvp(words[1], words + 1);
+        _exit(127);
+    }
+    if (count < 2 || child < 0 || wait4(child, &status, 0, &usage) < 0 || status != 0) return 1;
+    printf("%ld\n", usage.ru_maxrss);
+    return 0;
+}
+M
+        cc -O2 -o "$folder/memory" "$folder/memory.c"
+    fi
+    "$folder/memory" "$@"
 }

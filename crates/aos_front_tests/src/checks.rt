@@ -37,7 +37,7 @@ const MODULES: [(&str, &str); 9] = [
     (
         "MODULE M; TYPE T = OBJECT BEGIN {ACTIVE} END T; VAR p: T; BEGIN NEW(p); p \
          := 1 END M.",
-        "kept, kept, 99 at 73: [New(Pos { line: 1, col: 65 }, ModuleVar(0, 0), 0), \
+        "kept, kept, 31 at 75: [New(Pos { line: 1, col: 65 }, ModuleVar(0, 0), 0), \
          Assign(Pos { line: 1, col: 73 }, Named(0), ModuleVar(0, 0), Lit(Int(1)))]",
     ),
     (
@@ -94,10 +94,10 @@ fn shown(rt: &impl Abort, alloc: Global, text: &[u8]) -> Result<String, Fail> {
     let names = told(alloc, check_names(alloc, text, &tree)?)?;
     let mut found = None;
     let before = Items::new(alloc);
-    let env = declare(alloc, &mut found, before, basic_types(alloc)?, text, &tree)?;
+    let mut env = declare(alloc, &mut found, before, basic_types(alloc)?, text, &tree)?;
     let declared = told(alloc, found)?;
     let mut found = None;
-    let body = body_of(alloc, &mut found, &env, false, &tree.body)?;
+    let body = body_of(alloc, &mut found, &mut env, false, &tree.body)?;
     let bodies = told(alloc, found)?;
     Ok(format!(in alloc; "{names}, {declared}, {bodies}: {body:?}")?)
 }

@@ -139,8 +139,6 @@ NEW(r) => 1: rule 47: wrong NEW
 NEW(a) => 1: rule 47: wrong NEW
 NEW(a[0]) => 1: rule 47: wrong NEW
 NEW(os[0]) => 1: rule 99: not built yet
-o := o => 1: rule 99: not built yet
-os[0] := o => 1: rule 99: not built yet
 i := o => 3: rule 31: value doesn't fit";
 
 // What another module declares.

@@ -307,9 +307,9 @@ h := ASH(1, 63) => 6: rule 20: constant expression refused
 NEW(l) => 1: rule 47: wrong NEW
 NEW(5) => 1: rule 47: wrong NEW
 NEW => 1: rule 34: number of arguments
-NEW(l, l) => 1: rule 34: number of arguments
+NEW(l, l) => 1: rule 47: wrong NEW
 l := LEN(l) => 10: rule 35: argument type
-l := NIL => 6: rule 99: not built yet
+l := NIL => 3: rule 31: value doesn't fit
 x := \"ab\" => 3: rule 31: value doesn't fit
 x := \"\" => 3: rule 31: value doesn't fit
 l := SELF => 6: rule 99: not built yet";
@@ -324,7 +324,7 @@ CONST c = 1 + c; => 11: rule 20: constant expression refused
 CONST c = LONGINT; => 11: rule 16: name of another kind
 CONST c = \"ab\" + 1; => 16: rule 30: operand types
 CONST c = 1; c = 2; => 14: rule 13: name declared twice
-VAR a: ANY; => 8: rule 99: not built yet
+CONST c = NIL; d = c + 1; => 22: rule 30: operand types
 CONST c = ORD; => 11: rule 20: constant expression refused
 CONST c = 1 + TRUE; => 13: rule 30: operand types
 TYPE O = OBJECT BEGIN {ACTIVE} Out.Int(n, 0) END O; CONST n = 5; => 40: rule 20: constant expression refused
@@ -342,7 +342,7 @@ VAR a: INTEGER; BEGIN a := 32767; Out.Int(a, 0); a := -32768; Out.Int(a, 12) => 
 VAR a: LONGINT; BEGIN a := 2147483647; Out.Int(a, 0); a := -2147483648; Out.Int(a, 12) => 2147483647 -2147483648";
 
 // A row's two parts.
-fn parted(row: &str) -> (&str, &str) {
+pub fn parted(row: &str) -> (&str, &str) {
     row.split_once(" => ").unwrap_or((row, ""))
 }
 

@@ -65,7 +65,7 @@ fn refuses_texts(rt: HostRuntime) -> Result<(), Fail> {
             "M.Mod:1:34: rule 42: wrong selector\n",
         ),
         (
-            "MODULE M;\nVAR a: ANY;\nEND M.",
+            "MODULE M;\nVAR a: PROCEDURE;\nEND M.",
             "M.Mod:2:8: rule 99: not built yet\n",
         ),
         (
