@@ -66,6 +66,6 @@ returns-clause-answer c =
     let told = map (λ (ss : Vec TStat Global). seen_stats ss.items) c.in_ok-procedures.procedures.items in
     let own = map seen_stat c.in_ok-own.own.items in
     ap (λ l. record { objects = l; procedures = told; own = own })
-    (c.in_ok-add_others.ensures ∙ ap (λ (v : Env). map seen_object c.in_ok-objects.objects.items ++ judge.other_types v tree) (same c) ∙ ap (λ l. l ++ judge.other_types e tree) (objects c))
+    (c.in_ok-add_others.ensures ∙ ap (λ (v : Env). map seen_object c.in_ok-objects.objects.items ++ judge.other_types v tree) (c.in_ok-own.ensures.env ∙ same c) ∙ ap (λ l. l ++ judge.other_types e tree) (objects c))
     ∙ ap (λ l. record { objects = os; procedures = l; own = own }) (c.in_ok-procedures.ensures.answer ∙ ap (λ (j : Judged (List Stats)). j.answer) (bodies c))
     ∙ ap (λ l. record { objects = os; procedures = ps; own = l }) (c.in_ok-own.ensures.answer ∙ ap (λ (v : Env). (body_of v false tree.body).answer) (same c))
