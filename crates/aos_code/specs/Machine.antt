@@ -28,7 +28,7 @@ use Rattle.aos_code.specs.declared.image.TypeDesc.{TypeDesc}
 use Rattle.aos_code.specs.declared.image.Image.{Image}
 use Rattle.aos_code.specs.Numbered.{numbered}
 use Rattle.aos_code.specs.Memory.{Addr, Memory, type_of_object, with_object, new_number, has_room}
-use Rattle.aos_code.specs.Silent.{Stack, Keeps, Question, Begins, Fails, Stop, Work, Ended, is_of, cells_of, silent}
+use Rattle.aos_code.specs.Silent.{Here, Stack, Keeps, Question, Begins, Fails, Stop, Work, Ended, is_of, cells_of, silent}
 
 -- a frame: its procedure, the object whose method or body it is, 0 for none, the place of the next instruction, the statement last
 -- begun, its cells and how many of them count as scalars, what it keeps, and its operands
@@ -46,6 +46,10 @@ pub record Frame : Type 0 where
 pub record Frames : Type 0 where
   pub following : List ℕ
   pub frames : List Frame
+
+-- where the instructions of a frame above these stand
+abbrev pub here_of : Frame → List Frame → Here
+here_of f fs = record { below = length fs; self = f.object }
 
 abbrev pub Turned : Type 0
 Turned = Turn Memory Frames
@@ -82,6 +86,15 @@ written _ _ = None
 
 abbrev pub cells_at : ℕ → Addr → Rooted (List Cell) → Option (List Cell)
 cells_at n a x = option_and_then (if_all n) (load_all n a.root a.cell x)
+
+-- the object that a method is called on comes before its arguments
+abbrev pub object_of : (method : Bool) → List Cell → ℕ
+object_of true (Ref o ∷ vs) = o
+object_of _ vs = 0
+
+abbrev pub arguments_of : (method : Bool) → List Cell → List Cell
+arguments_of true vs = drop 1 vs
+arguments_of false vs = vs
 
 -- an activity's frames, of which the topmost runs
 module _ (following : List ℕ) where
@@ -275,11 +288,11 @@ module _ (following : List ℕ) where
         (lengths_in (take d vs))
 
   -- the cells behind the parameters begin as their kinds say
-  abbrev pub called_frame : ℕ → ProcShape → Handed → Frame
-  called_frame p f h =
+  abbrev pub called_frame : (procedure object : ℕ) → ProcShape → Handed → Frame
+  called_frame p o f h =
       record {
         procedure = p;
-        object = 0;
+        object = o;
         next = 0;
         at = None;
         cells = h.cells ++ (map first_cell (drop (length h.cells) f.kinds.items) ++ h.copies);
@@ -296,15 +309,16 @@ module _ (following : List ℕ) where
   enters true g at k s f fs mem = leaves (Trapped 11 0) (f ∷ fs) mem
   enters false g at k s f fs mem = goes_on (g ∷ behind at k s f ∷ fs) mem
 
-  abbrev pub calls_with : ℕ → ProcShape → Option Handed → ℕ → Keeps → Stack → Frame → List Frame → Memory → Turned
-  calls_with p shape None at k s f fs mem = leaves (Trapped 16 0) (f ∷ fs) mem
-  calls_with p shape (Some h) at k s f fs mem =
-      let g = called_frame p shape h in enters (is_deep g (f ∷ fs)) g at k s f fs mem
+  abbrev pub calls_with : (procedure object : ℕ) → ProcShape → Option Handed → ℕ → Keeps → Stack → Frame → List Frame → Memory → Turned
+  calls_with p o shape None at k s f fs mem = leaves (Trapped 16 0) (f ∷ fs) mem
+  calls_with p o shape (Some h) at k s f fs mem =
+      let g = called_frame p o shape h in enters (is_deep g (f ∷ fs)) g at k s f fs mem
 
   abbrev pub calls : Option ProcShape → ℕ → List Cell → ℕ → Keeps → Stack → Frame → List Frame → Memory → Turned
   calls None p vs at k s f fs mem = leaves (Trapped 16 0) (f ∷ fs) mem
   calls (Some shape) p vs at k s f fs mem =
-      calls_with p shape (handed (suc (length fs)) (rooted (f ∷ fs) mem) shape.params.items vs (length shape.kinds.items)) at k s f fs mem
+      let h = handed (suc (length fs)) (rooted (f ∷ fs) mem) shape.params.items (arguments_of shape.method vs) (length shape.kinds.items) in
+      calls_with p (object_of shape.method vs) shape h at k s f fs mem
 
   -- the question of the instruction at this place is answered; s has the operands below its own
   module _ (shapes : List ProcShape) (types : List TypeDesc) where
@@ -401,7 +415,7 @@ module _ (image : Image) where
   -- the silent work of a frame, where objects are known to be made as this
   abbrev pub stop_of : (ℕ → Option Made) → Frame → List Frame → Stop
   stop_of made f fs =
-      silent image.shapes.items image.types.items made f.procedure (length fs) f.cells (code_of f.procedure) f.next f.keeps f.stack
+      silent image.shapes.items image.types.items made f.procedure (here_of f fs) f.cells (code_of f.procedure) f.next f.keeps f.stack
 
   abbrev pub made_in : Memory → ℕ → Option Made
   made_in mem o = by_number o mem.made

@@ -1,5 +1,5 @@
 -- What each instruction does, and the silent work up to the next visible instruction.
-use Rattle.std.specs.Prelude.{ℕ, zero, suc, ℤ, pos, negsuc, ◌+◌, ◌-◌, ◌*◌, ◌^◌, List, [], ◌∷◌, ◌++◌, length, map, reverse, Bool, true, false, Option, Some, None, option_and_then, nat_eq, nat_le, nat_lt, if◌then◌else◌, slice_get, take, drop, replicate}
+use Rattle.std.specs.Prelude.{ℕ, zero, suc, ℤ, pos, negsuc, ◌+◌, ◌-◌, ◌*◌, ◌^◌, List, [], ◌∷◌, ◌++◌, length, map, reverse, Bool, true, false, ◌&&◌, Option, Some, None, option_and_then, nat_eq, nat_le, nat_lt, if◌then◌else◌, slice_get, take, drop, replicate}
 use Rattle.std.specs.List.{flat_map}
 use Rattle.aos_base.specs.declared.text.Pos.{Pos}
 use Rattle.aos_base.specs.declared.number.Relation.{Relation}
@@ -46,12 +46,20 @@ pub data Stop : Type 0 where
   Ended : End → Keeps → Stop
 
 -- What an instruction asks an object for: the place of a cell; the place of its elements and so many lengths; whether its type
--- extends this one; or itself, where that is so.
+-- extends this one; itself, where that is so; or its method in a slot, for which this procedure stands, which it then calls with
+-- these arguments.
 pub data Look : Type 0 where
   AtCell : (cell : ℕ) → Look
   AtElements : (dimensions : ℕ) → Look
   IsType : (type : ℕ) → Look
   AsType : (type : ℕ) → Look
+  AtSlot : (slot procedure : ℕ) → (arguments : List Cell) → Look
+
+-- where an instruction stands: how many frames of the activity are below its frame, and the object on which that frame's procedure is
+-- called, 0 for none
+pub record Here : Type 0 where
+  pub below : ℕ
+  pub self : ℕ
 
 -- What one instruction does: silent work after which so many instructions are passed over, a value that is kept or one that was
 -- kept of this kind, what an object tells by what it was made as, a question, or an end.
@@ -237,9 +245,29 @@ abbrev pub on_kinds : List Kind → List Cell → (List Cell → Stack → Act) 
 on_kinds [] vs k s = k vs s
 on_kinds (kind ∷ kinds) vs k s = on_kind kind (λ v s'. on_kinds kinds (v ∷ vs) k s') s
 
+-- the object on which a method is called lies below its arguments, and comes before them in the call
+abbrev pub on_receiver : (ℕ → Stack → Act) → Stack → Act
+on_receiver k s = on_object (λ o s'. unless_nil o (Stops (Fails 1 0)) (k o s')) s
+
+abbrev pub called : (method : Bool) → ℕ → List Cell → Stack → Act
+called true p vs s = on_receiver (λ o s'. Sees (Calls p (Ref o ∷ vs)) s') s
+called false p vs s = Sees (Calls p vs) s
+
+abbrev pub on_arguments : ProcShape → (List Cell → Stack → Act) → Stack → Act
+on_arguments f k s = on_kinds (reverse (kinds_of f.params.items)) [] k s
+
 abbrev pub calls : Option ProcShape → ℕ → Stack → Act
 calls None p s = Stops lost
-calls (Some f) p s = on_kinds (reverse (kinds_of f.params.items)) [] (λ vs s'. Sees (Calls p vs) s') s
+calls (Some f) p s = on_arguments f (λ vs s'. called f.method p vs s') s
+
+abbrev pub sends : Option ProcShape → (slot procedure : ℕ) → Stack → Act
+sends None slot p s = Stops lost
+sends (Some f) slot p s = on_arguments f (λ vs s'. on_receiver (λ o s''. Looks (AtSlot slot p vs) o s'') s') s
+
+-- the object on which the frame's procedure is called
+abbrev pub gives_self : ℕ → Stack → Act
+gives_self zero s = Stops lost
+gives_self (suc o) s = gives (Ref (suc o)) s
 
 abbrev pub ends : Option ProcShape → Stack → Act
 ends None s = Stops lost
@@ -272,18 +300,19 @@ abbrev pub if_kept : ℕ → Option ProcShape → Act → Act
 if_kept c shape k = if nat_lt c (keeps_in shape) then k else Stops lost
 
 -- in a frame of procedure `own`, above so many others of its activity
-module _ (shapes : List ProcShape) (types : List TypeDesc) (own here : ℕ) where
+module _ (shapes : List ProcShape) (types : List TypeDesc) (own : ℕ) (here : Here) where
   abbrev pub own_place : ℕ → Addr
-  own_place c = record { root = FrameRoot here; cell = c }
+  own_place c = record { root = FrameRoot here.below; cell = c }
 
   -- the instruction at this place of the code
   abbrev pub act : Instr → List Instr → ℕ → Stack → Act
   act (instr.Num n) code at s = gives (Num n) s
   act instr.Nil code at s = gives (Ref 0) s
+  act instr.SelfRef code at s = gives_self here.self s
   act instr.Dup code at s = duplicates s
   act instr.Drop code at s = on_any (λ v s'. Goes 0 s') s
   act instr.Swap code at s = swaps s
-  act (instr.Frame c) code at s = gives (Place (FrameRoot here) c 0) s
+  act (instr.Frame c) code at s = gives (Place (FrameRoot here.below) c 0) s
   act (instr.Module m c) code at s = gives (Place (ModuleRoot m) c 0) s
   act (instr.Param c) code at s = Sees (Places (own_place c)) s
   act (instr.Length c) code at s = Sees (Lengths (own_place c)) s
@@ -315,6 +344,7 @@ module _ (shapes : List ProcShape) (types : List TypeDesc) (own here : ℕ) wher
   act (instr.PutText strict) code at s = on_text (λ to room s1. on_text (λ from n s2. Sees (PutsText strict from n to room) s2) s1) s
   act (instr.CmpText r) code at s = on_text (λ b m s1. on_text (λ a n s2. Sees (ComparesTexts r a n b m) s2) s1) s
   act (instr.Call p) code at s = calls (numbered shapes p) p s
+  act (instr.Virtual k p) code at s = sends (numbered shapes p) k p s
   act (instr.NewObject t) code at s = Sees (Makes t []) s
   act (instr.NewArray t j) code at s = counted_on j [] (λ zs s'. Sees (Makes t (map (λ z. Num z) zs)) s') s
   act instr.Start code at s = on_kind R (λ o s'. Sees (Starts o) s') s
@@ -346,24 +376,66 @@ on_noted Visible q next at k s = Work q at k s
 on_noted (Answered v) q next at k s = next 0 (at + 1) k (v ∷ s)
 on_noted Unknown q next at k s = Ended lost k
 
--- What an object tells is answered at once, by what it was made as: these operands, a trap, or nothing, where there is no such object
--- or it has fewer lengths.
+-- What an object tells is answered at once, by what it was made as: these operands, a trap, a call, or nothing, where there is no such
+-- object, it has fewer lengths, or its type has another method in the slot than it should.
 pub data Told : Type 0 where
   Tells : List Cell → Told
   Refuses : (number : ℕ) → Told
+  Invokes : (procedure : ℕ) → (arguments : List Cell) → Told
   Unheard : Told
 
-abbrev pub told_by : List TypeDesc → Look → (object : ℕ) → Option Made → Told
-told_by types l o None = Unheard
-told_by types (AtCell c) o (Some m) = Tells (Place (ObjectRoot o) c m.type ∷ [])
-told_by types (AtElements j) o (Some m) =
+-- parameters and results that are the same
+abbrev pub same_kind : Kind → Kind → Bool
+same_kind N N = true
+same_kind R R = true
+same_kind C C = true
+same_kind A A = true
+same_kind _ _ = false
+
+abbrev pub same_param : ParamKind → ParamKind → Bool
+same_param (param.Scalar k) (param.Scalar l) = same_kind k l
+same_param (param.Whole n) (param.Whole m) = nat_eq n m
+same_param param.Place param.Place = true
+same_param (param.Open d true n) (param.Open e true m) = nat_eq d e && nat_eq n m
+same_param (param.Open d false n) (param.Open e false m) = nat_eq d e && nat_eq n m
+same_param _ _ = false
+
+abbrev pub same_params : List ParamKind → List ParamKind → Bool
+same_params [] [] = true
+same_params (p ∷ ps) (q ∷ qs) = same_param p q && same_params ps qs
+same_params _ _ = false
+
+abbrev pub same_result : Option Kind → Option Kind → Bool
+same_result None None = true
+same_result (Some k) (Some l) = same_kind k l
+same_result _ _ = false
+
+-- a method that may be called where the other one is named
+abbrev pub stands_for : Option ProcShape → Option ProcShape → Bool
+stands_for (Some f) (Some g) = f.method && (same_params f.params.items g.params.items && same_result f.result g.result)
+stands_for _ _ = false
+
+abbrev pub invoked : List ProcShape → (procedure : ℕ) → Option ℕ → (object : ℕ) → List Cell → Told
+invoked shapes p None o vs = Unheard
+invoked shapes p (Some q) o vs =
+    if stands_for (numbered shapes q) (numbered shapes p) then Invokes q (Ref o ∷ vs) else Unheard
+
+abbrev pub method_at : List TypeDesc → (type slot : ℕ) → Option ℕ
+method_at types t k = option_and_then (λ d. slice_get d.methods.items k) (numbered types t)
+
+abbrev pub told_by : List ProcShape → List TypeDesc → Look → (object : ℕ) → Option Made → Told
+told_by shapes types l o None = Unheard
+told_by shapes types (AtCell c) o (Some m) = Tells (Place (ObjectRoot o) c m.type ∷ [])
+told_by shapes types (AtElements j) o (Some m) =
     if nat_le j (length m.lengths) then Tells (length_cells (take j m.lengths) ++ Place (ObjectRoot o) 0 0 ∷ []) else Unheard
-told_by types (IsType t) o (Some m) = Tells (Num (flag (extends types m.type t)) ∷ [])
-told_by types (AsType t) o (Some m) = if extends types m.type t then Tells (Ref o ∷ []) else Refuses 3
+told_by shapes types (IsType t) o (Some m) = Tells (Num (flag (extends types m.type t)) ∷ [])
+told_by shapes types (AsType t) o (Some m) = if extends types m.type t then Tells (Ref o ∷ []) else Refuses 3
+told_by shapes types (AtSlot k p vs) o (Some m) = invoked shapes p (method_at types m.type k) o vs
 
 abbrev pub on_told : Told → (ℕ → ℕ → Keeps → Stack → Stop) → ℕ → Keeps → Stack → Stop
 on_told (Tells vs) next at k s = next 0 (at + 1) k (vs ++ s)
 on_told (Refuses n) next at k s = Ended (Fails n 0) k
+on_told (Invokes q vs) next at k s = Work (Calls q vs) at k s
 on_told Unheard next at k s = Ended lost k
 
 -- the value kept under a number
@@ -371,20 +443,20 @@ abbrev pub kept : ℕ → Cell → Keeps → Keeps
 kept c v k = λ x. if nat_eq x c then v else k x
 
 -- beside a frame's cells stands what objects are known to be made as
-module _ (types : List TypeDesc) (made : ℕ → Option Made) (cells : List Cell) where
+module _ (shapes : List ProcShape) (types : List TypeDesc) (made : ℕ → Option Made) (cells : List Cell) where
   abbrev pub on_act : Act → (ℕ → ℕ → Keeps → Stack → Stop) → ℕ → Keeps → Stop
   on_act (Goes over s) next at k = next over (at + 1) k s
   on_act (Puts c v s) next at k = next 0 (at + 1) (kept c v k) s
   on_act (Takes c kind s) next at k = if is_of kind (k c) then next 0 (at + 1) k (k c ∷ s) else Ended lost k
-  on_act (Looks l o s) next at k = on_told (told_by types l o (made o)) next at k s
+  on_act (Looks l o s) next at k = on_told (told_by shapes types l o (made o)) next at k s
   on_act (Sees q s) next at k = on_noted (noted cells q) q next at k s
   on_act (Stops end) next at k = Ended end k
 
-module _ (shapes : List ProcShape) (types : List TypeDesc) (made : ℕ → Option Made) (own here : ℕ) (cells : List Cell) where
+module _ (shapes : List ProcShape) (types : List TypeDesc) (made : ℕ → Option Made) (own : ℕ) (here : Here) (cells : List Cell) where
   -- silent work over the instructions from `at` on, of which the first `over` are passed over
   abbrev pub walk : List Instr → List Instr → (over at : ℕ) → Keeps → Stack → Stop
   walk code [] over at k s = Ended lost k
-  walk code (i ∷ rest) zero at k s = on_act types made cells (act shapes types own here i code at s) (walk code rest) at k
+  walk code (i ∷ rest) zero at k s = on_act shapes types made cells (act shapes types own here i code at s) (walk code rest) at k
   walk code (i ∷ rest) (suc n) at k s = walk code rest n (at + 1) k s
 
   -- silent work from a place of the code

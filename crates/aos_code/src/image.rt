@@ -37,7 +37,7 @@ pub struct ProcShape {
     pub keeps: u32,
     /// The kind of what a function gives.
     pub result: Option<Kind>,
-    /// It is called on an object.
+    /// It is called on an object, or is an object's body.
     pub method: bool,
     /// The kinds of its cells, in their order.
     pub kinds: Vec<Kind>,
@@ -58,6 +58,8 @@ pub struct TypeDesc {
     pub base: u32,
     /// The kinds of an object's cells, in their order; of an open array those of one element.
     pub kinds: Vec<Kind>,
+    /// The numbers of the procedures that are its methods, by their slots.
+    pub methods: Vec<u32>,
     /// The number of the procedure that is its objects' body, 0 for none.
     pub body: u32,
 }

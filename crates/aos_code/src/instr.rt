@@ -34,6 +34,8 @@ pub enum Instr {
     Num(i64),
     /// Gives NIL.
     Nil,
+    /// Gives the object on which the frame's procedure is called; trap 16 where it is called on none.
+    SelfRef,
     /// Gives the topmost operand once more.
     Dup,
     /// Takes an operand.
@@ -103,8 +105,12 @@ pub enum Instr {
     PutText(bool),
     /// Takes the places and lengths of two texts and gives whether they are so related.
     CmpText(Relation),
-    /// Takes its arguments, the last one from the top, and calls the procedure of this number; trap 11 where it is too deep.
+    /// Takes its arguments, the last one from the top, and below them the object on which it is called where it is a method, and calls
+    /// the procedure of this number; trap 1 at NIL, trap 11 where it is too deep.
     Call(u32),
+    /// Takes the arguments of the method of the second number, and below them an object, and calls on it the method that its type has
+    /// in the slot of the first number, from 0, which takes and gives the same; trap 1 at NIL, trap 11 where it is too deep.
+    Virtual(u32, u32),
     /// Makes an object of the type of this number, from 1, and gives it; trap 12 where the heap is full.
     NewObject(u32),
     /// Takes so many lengths, and makes an open array of them of the type of the first number, from 1, and gives it; trap 15 where

@@ -4,7 +4,7 @@ use Rattle.std.specs.Prelude.{Option, Some, None, Bool, true, false, nat_lt, sli
 use Rattle.aos_base.specs.declared.place.Root.{Root}
 use Rattle.aos_base.specs.declared.operator.Given.{Given}
 use Rattle.aos_base.specs.declared.operator.Given.TheVariants.{Number, Trap, Undefined}
-use Rattle.aos_base.specs.Question.{Reads, Stores, Copies, PutsText, ComparesTexts, Starts, PutsString}
+use Rattle.aos_base.specs.Question.{Reads, Stores, Copies, PutsText, ComparesTexts, Calls, Starts, PutsString}
 use Rattle.aos_base.specs.Rooted.{Made}
 use Rattle.aos_base.specs.Operators.{unary, binary, natural, flag}
 use Rattle.aos_code.specs.declared.instr.Cell.{Cell}
@@ -18,11 +18,11 @@ use Rattle.aos_code.specs.declared.image.TypeDesc.{TypeDesc}
 use Rattle.aos_code.specs.Memory.{Addr}
 use Rattle.aos_code.specs.Numbered.{numbered}
 use Rattle.aos_silent.proofs.Walks.{drop_next}
-use Rattle.aos_code.specs.Silent.{Stack, Keeps, Question, Stop, Work, Ended, Act, Goes, Puts, Takes, Looks, Look, AtCell, AtElements, IsType, AsType, Sees, Stops, Fails, lost, is_of, gives, on_any, on_kind, on_number, number_then, place_then, object_then, on_object, unless_nil, looks, extends, Told, Tells, Refuses, Unheard, told_by, on_told, on_place, on_text, length_then, lengths_on, counted_on, given, asserts, gives_place, element, cells_of, length_cells, in_rows, gives_picked, on_kinds, kinds_of, calls, ends, lands, jumps, jumps_on_false, act, Noted, Visible, Answered, Unknown, noted, on_noted, on_act, walk, silent}
+use Rattle.aos_code.specs.Silent.{Here, Stack, Keeps, Question, Stop, Work, Ended, Act, Goes, Puts, Takes, Looks, Look, AtCell, AtElements, IsType, AsType, Sees, Stops, Fails, lost, is_of, gives, on_any, on_kind, on_number, number_then, place_then, object_then, on_object, unless_nil, looks, extends, Told, Tells, Refuses, Invokes, Unheard, told_by, on_told, on_place, on_text, length_then, lengths_on, counted_on, given, asserts, gives_place, element, cells_of, length_cells, in_rows, gives_picked, on_kinds, kinds_of, on_receiver, called, calls, sends, gives_self, ends, lands, jumps, jumps_on_false, act, Noted, Visible, Answered, Unknown, noted, on_noted, on_act, walk, silent}
 
 -- Where silent work ends.
 
-module _ (types : List TypeDesc) (made : ℕ → Option Made) (cells : List Cell) (q : Question) (place : ℕ) (k' : Keeps) (s' : Stack) where
+module _ (shapes : List ProcShape) (types : List TypeDesc) (made : ℕ → Option Made) (cells : List Cell) (q : Question) (place : ℕ) (k' : Keeps) (s' : Stack) where
   if_later : (b : Bool) (at : ℕ) (t : Stop) (k : Keeps) → (t ≡ Work q place k' s' → at ≤ place) → (if b then t else Ended lost k) ≡ Work q place k' s' → at ≤ place
   if_later true at t k h e = h e
   if_later false at t k h e = absurd (cc e)
@@ -36,14 +36,15 @@ module _ (types : List TypeDesc) (made : ℕ → Option Made) (cells : List Cell
   told_later : (r : Told) (next : ℕ → ℕ → Keeps → Stack → Stop) (at : ℕ) (k : Keeps) (s : Stack) → ((over : ℕ) (k : Keeps) (s : Stack) → next over (at + 1) k s ≡ Work q place k' s' → at + 1 ≤ place) → on_told r next at k s ≡ Work q place k' s' → at ≤ place
   told_later (Tells vs) next at k s h e = (let z = h 0 k (vs ++ s) e in omega arith)
   told_later (Refuses n) next at k s h e = absurd (cc e)
+  told_later (Invokes p vs) next at k s h e = (let z : at ≡ place = cc e in omega arith)
   told_later Unheard next at k s h e = absurd (cc e)
 
   act_later : (a : Act) (next : ℕ → ℕ → Keeps → Stack → Stop) (at : ℕ) (k : Keeps) → ((over : ℕ) (k : Keeps) (s : Stack) → next over (at + 1) k s ≡ Work q place k' s' → at + 1 ≤ place) →
-      on_act types made cells a next at k ≡ Work q place k' s' → at ≤ place
+      on_act shapes types made cells a next at k ≡ Work q place k' s' → at ≤ place
   act_later (Goes over s) next at k h e = (let z = h over k s e in omega arith)
   act_later (Puts c v s) next at k h e = (let z = h 0 _ s e in omega arith)
   act_later (Takes c kind s) next at k h e = if_later (is_of kind (k c)) at (next 0 (at + 1) k (k c ∷ s)) k (λ x. (let z = h 0 k (k c ∷ s) x in omega arith)) e
-  act_later (Looks l o s) next at k h e = told_later (told_by types l o (made o)) next at k s h e
+  act_later (Looks l o s) next at k h e = told_later (told_by shapes types l o (made o)) next at k s h e
   act_later (Sees asked s) next at k h e = noted_later (noted cells asked) asked next at k s h e
   act_later (Stops end) next at k h e = absurd (cc e)
 
@@ -57,31 +58,32 @@ module _ (types : List TypeDesc) (made : ℕ → Option Made) (cells : List Cell
   noted_here (Answered v) asked next k s h e = absurd (h 0 k (v ∷ s) e)
   noted_here Unknown asked next k s h e = absurd (cc e)
 
-  told_here : (r : Told) (next : ℕ → ℕ → Keeps → Stack → Stop) (k : Keeps) (s : Stack) → ((over : ℕ) (k : Keeps) (s : Stack) → next over (place + 1) k s ≡ Work q place k' s' → ⊥) → on_told r next place k s ≡ Work q place k' s' → ⊥
-  told_here (Tells vs) next k s h e = h 0 k (vs ++ s) e
-  told_here (Refuses n) next k s h e = cc e
-  told_here Unheard next k s h e = cc e
+  told_here : (r : Told) (next : ℕ → ℕ → Keeps → Stack → Stop) (k : Keeps) (s : Stack) → ((over : ℕ) (k : Keeps) (s : Stack) → next over (place + 1) k s ≡ Work q place k' s' → ⊥) → ((p : ℕ) (vs : List Cell) → Calls p vs ≡ q → ⊥) → on_told r next place k s ≡ Work q place k' s' → ⊥
+  told_here (Tells vs) next k s h other e = h 0 k (vs ++ s) e
+  told_here (Refuses n) next k s h other e = cc e
+  told_here (Invokes p vs) next k s h other e = other p vs (cc e)
+  told_here Unheard next k s h other e = cc e
 
   act_here : (a : Act) (next : ℕ → ℕ → Keeps → Stack → Stop) (k : Keeps) → ((over : ℕ) (k : Keeps) (s : Stack) → next over (place + 1) k s ≡ Work q place k' s' → ⊥) →
-      on_act types made cells a next place k ≡ Work q place k' s' → a ≡ Sees q s'
-  act_here (Goes over s) next k h e = absurd (h over k s e)
-  act_here (Puts c v s) next k h e = absurd (h 0 _ s e)
-  act_here (Takes c kind s) next k h e = absurd (if_here (is_of kind (k c)) (next 0 (place + 1) k (k c ∷ s)) k (λ x. h 0 k (k c ∷ s) x) e)
-  act_here (Looks l o s) next k h e = absurd (told_here (told_by types l o (made o)) next k s h e)
-  act_here (Sees asked s) next k h e = noted_here (noted cells asked) asked next k s h e
-  act_here (Stops end) next k h e = absurd (cc e)
+      ((p : ℕ) (vs : List Cell) → Calls p vs ≡ q → ⊥) → on_act shapes types made cells a next place k ≡ Work q place k' s' → a ≡ Sees q s'
+  act_here (Goes over s) next k h other e = absurd (h over k s e)
+  act_here (Puts c v s) next k h other e = absurd (h 0 _ s e)
+  act_here (Takes c kind s) next k h other e = absurd (if_here (is_of kind (k c)) (next 0 (place + 1) k (k c ∷ s)) k (λ x. h 0 k (k c ∷ s) x) e)
+  act_here (Looks l o s) next k h other e = absurd (told_here (told_by shapes types l o (made o)) next k s h other e)
+  act_here (Sees asked s) next k h other e = noted_here (noted cells asked) asked next k s h e
+  act_here (Stops end) next k h other e = absurd (cc e)
 
-  module _ (shapes : List ProcShape) (own here : ℕ) (code : List Instr) where
+  module _ (own : ℕ) (here : Here) (code : List Instr) where
     walk_later : (rest : List Instr) (over at : ℕ) (k : Keeps) (s : Stack) → walk shapes types made own here cells code rest over at k s ≡ Work q place k' s' → at ≤ place
     walk_later [] over at k s e = absurd (cc e)
     walk_later (i ∷ rest) zero at k s e =
         act_later (act shapes types own here i code at s) (walk shapes types made own here cells code rest) at k (λ over k1 s1. walk_later rest over (at + 1) k1 s1) e
     walk_later (i ∷ rest) (suc n) at k s e = (let z = walk_later rest n (at + 1) k s e in omega arith)
 
-    asked_at : (rest : List Instr) (k : Keeps) (s : Stack) → walk shapes types made own here cells code rest 0 place k s ≡ Work q place k' s' → (i : Instr) × (act shapes types own here i code place s ≡ Sees q s')
-    asked_at [] k s e = absurd (cc e)
-    asked_at (i ∷ rest) k s e =
-        (i, act_here (act shapes types own here i code place s) (walk shapes types made own here cells code rest) k (λ over k1 s1 x. (let z = walk_later rest over (place + 1) k1 s1 x in absurd (omega arith))) e)
+    asked_at : ((p : ℕ) (vs : List Cell) → Calls p vs ≡ q → ⊥) → (rest : List Instr) (k : Keeps) (s : Stack) → walk shapes types made own here cells code rest 0 place k s ≡ Work q place k' s' → (i : Instr) × (act shapes types own here i code place s ≡ Sees q s')
+    asked_at other [] k s e = absurd (cc e)
+    asked_at other (i ∷ rest) k s e =
+        (i, act_here (act shapes types own here i code place s) (walk shapes types made own here cells code rest) k (λ over k1 s1 x. (let z = walk_later rest over (place + 1) k1 s1 x in absurd (omega arith))) other e)
 
 -- What isn't a start.
 
@@ -163,9 +165,37 @@ calm_kinds : (kinds : List Kind) (vs : List Cell) (k : List Cell → Stack → A
 calm_kinds [] vs k s h = h vs s
 calm_kinds (kind ∷ kinds) vs k s h = calm_kind kind _ s (λ v s'. calm_kinds kinds (v ∷ vs) k s' h)
 
+calm_object_then : (k : ℕ → Act) (v : Cell) → ((o : ℕ) → mark (k o) ≡ 0) → mark (object_then k v) ≡ 0
+calm_object_then k (Num a) h = refl
+calm_object_then k (Ref o) h = h o
+calm_object_then k (CallCell p o) h = refl
+calm_object_then k (Place root cell type) h = refl
+
+calm_object : (k : ℕ → Stack → Act) (s : Stack) → ((o : ℕ) (s' : Stack) → mark (k o s') ≡ 0) → mark (on_object k s) ≡ 0
+calm_object k s h = calm_any _ s (λ v s'. calm_object_then (λ o. k o s') v (λ o. h o s'))
+
+calm_unless : (o : ℕ) (a b : Act) → mark a ≡ 0 → mark b ≡ 0 → mark (unless_nil o a b) ≡ 0
+calm_unless zero a b g h = g
+calm_unless (suc o) a b g h = h
+
+calm_receiver : (k : ℕ → Stack → Act) (s : Stack) → ((o : ℕ) (s' : Stack) → mark (k o s') ≡ 0) → mark (on_receiver k s) ≡ 0
+calm_receiver k s h = calm_object _ s (λ o s'. calm_unless o (Stops (Fails 1 0)) (k o s') refl (h o s'))
+
+calm_called : (method : Bool) (p : ℕ) (vs : List Cell) (s : Stack) → mark (called method p vs s) ≡ 0
+calm_called true p vs s = calm_receiver _ s (λ o s'. refl)
+calm_called false p vs s = refl
+
 calm_calls : (f : Option ProcShape) (p : ℕ) (s : Stack) → mark (calls f p s) ≡ 0
 calm_calls None p s = refl
-calm_calls (Some f) p s = calm_kinds (reverse (kinds_of f.params.items)) [] _ s (λ ws s'. refl)
+calm_calls (Some f) p s = calm_kinds (reverse (kinds_of f.params.items)) [] _ s (λ ws s'. calm_called f.method p ws s')
+
+calm_sends : (f : Option ProcShape) (k p : ℕ) (s : Stack) → mark (sends f k p s) ≡ 0
+calm_sends None k p s = refl
+calm_sends (Some f) k p s = calm_kinds (reverse (kinds_of f.params.items)) [] _ s (λ ws s'. calm_receiver _ s' (λ o r. refl))
+
+calm_self : (o : ℕ) (s : Stack) → mark (gives_self o s) ≡ 0
+calm_self zero s = refl
+calm_self (suc o) s = refl
 
 calm_result : (f : ProcShape) (r : Option Kind) (s : Stack) → mark (ends (Some (record f { result = r })) s) ≡ 0
 calm_result f None s = refl
@@ -203,19 +233,6 @@ start_on_top : (s : Stack) (v : Cell) (s' : Stack) → on_kind R (λ o s1. Sees 
 start_on_top [] v s' e = absurd (cc e)
 start_on_top (w ∷ s) v s' e = start_if (is_of R w) w v s s' e
 
-calm_object_then : (k : ℕ → Act) (v : Cell) → ((o : ℕ) → mark (k o) ≡ 0) → mark (object_then k v) ≡ 0
-calm_object_then k (Num a) h = refl
-calm_object_then k (Ref o) h = h o
-calm_object_then k (CallCell p o) h = refl
-calm_object_then k (Place root cell type) h = refl
-
-calm_object : (k : ℕ → Stack → Act) (s : Stack) → ((o : ℕ) (s' : Stack) → mark (k o s') ≡ 0) → mark (on_object k s) ≡ 0
-calm_object k s h = calm_any _ s (λ v s'. calm_object_then (λ o. k o s') v (λ o. h o s'))
-
-calm_unless : (o : ℕ) (a b : Act) → mark a ≡ 0 → mark b ≡ 0 → mark (unless_nil o a b) ≡ 0
-calm_unless zero a b g h = g
-calm_unless (suc o) a b g h = h
-
 calm_looks : (l : Look) (nil : Stack → Act) (s : Stack) → ((s' : Stack) → mark (nil s') ≡ 0) → mark (looks l nil s) ≡ 0
 calm_looks l nil s h = calm_object _ s (λ o s'. calm_unless o (nil s') (Looks l o s') (h s') refl)
 
@@ -224,9 +241,10 @@ calm_either true x y g h = g
 calm_either false x y g h = h
 
 -- whose activity is started lies on top
-act_starts : (shapes : List ProcShape) (types : List TypeDesc) (own here : ℕ) (i : Instr) (code : List Instr) (at : ℕ) (s : Stack) (v : Cell) (s' : Stack) → act shapes types own here i code at s ≡ Sees (Starts v) s' → s ≡ v ∷ s'
+act_starts : (shapes : List ProcShape) (types : List TypeDesc) (own : ℕ) (here : Here) (i : Instr) (code : List Instr) (at : ℕ) (s : Stack) (v : Cell) (s' : Stack) → act shapes types own here i code at s ≡ Sees (Starts v) s' → s ≡ v ∷ s'
 act_starts shapes types own here (instr.Num n) code at s v s' e = marked _ v s s' refl e
 act_starts shapes types own here instr.Nil code at s v s' e = marked _ v s s' refl e
+act_starts shapes types own here instr.SelfRef code at s v s' e = marked _ v s s' (calm_self here.self s) e
 act_starts shapes types own here instr.Dup code at s v s' e = marked _ v s s' (calm_any _ s (λ w r. refl)) e
 act_starts shapes types own here instr.Drop code at s v s' e = marked _ v s s' (calm_any _ s (λ w r. refl)) e
 act_starts shapes types own here instr.Swap code at s v s' e = marked _ v s s' (calm_any _ s (λ w r. calm_any _ r (λ x y. refl))) e
@@ -261,6 +279,7 @@ act_starts shapes types own here (instr.Copy n) code at s v s' e = marked _ v s 
 act_starts shapes types own here (instr.PutText strict) code at s v s' e = marked _ v s s' (calm_text (λ a n r. on_text (λ b m x. Sees (PutsText strict b m a n) x) r) s (λ a n r. calm_text (λ b m x. Sees (PutsText strict b m a n) x) r (λ b m x. refl))) e
 act_starts shapes types own here (instr.CmpText o) code at s v s' e = marked _ v s s' (calm_text (λ b m r. on_text (λ a n x. Sees (ComparesTexts o a n b m) x) r) s (λ b m r. calm_text (λ a n x. Sees (ComparesTexts o a n b m) x) r (λ a n x. refl))) e
 act_starts shapes types own here (instr.Call p) code at s v s' e = marked _ v s s' (calm_calls (numbered shapes p) p s) e
+act_starts shapes types own here (instr.Virtual k p) code at s v s' e = marked _ v s s' (calm_sends (numbered shapes p) k p s) e
 act_starts shapes types own here (instr.NewObject t) code at s v s' e = marked _ v s s' refl e
 act_starts shapes types own here (instr.NewArray t j) code at s v s' e = marked _ v s s' (calm_counted j [] _ s (λ zs r. refl)) e
 act_starts shapes types own here instr.Start code at s v s' e = start_on_top s v s' e
@@ -271,14 +290,14 @@ act_starts shapes types own here instr.OutString code at s v s' e = marked _ v s
 act_starts shapes types own here instr.OutLn code at s v s' e = marked _ v s s' refl e
 act_starts shapes types own here instr.OutOpen code at s v s' e = marked _ v s s' refl e
 
-pub started_on_top : (shapes : List ProcShape) (types : List TypeDesc) (made : ℕ → Option Made) (own here : ℕ) (cells : List Cell) (code : List Instr) (at : ℕ) (k : Keeps) (s : Stack) (v : Cell) (k' : Keeps) (s' : Stack) →
+pub started_on_top : (shapes : List ProcShape) (types : List TypeDesc) (made : ℕ → Option Made) (own : ℕ) (here : Here) (cells : List Cell) (code : List Instr) (at : ℕ) (k : Keeps) (s : Stack) (v : Cell) (k' : Keeps) (s' : Stack) →
     silent shapes types made own here cells code at k s ≡ Work (Starts v) at k' s' → s ≡ v ∷ s'
 started_on_top shapes types made own here cells code at k s v k' s' e =
-    let asked = asked_at types made cells (Starts v) at k' s' shapes own here code (drop at code) k s e in
+    let asked = asked_at shapes types made cells (Starts v) at k' s' own here code (λ p vs x. cc x) (drop at code) k s e in
     act_starts shapes types own here asked.0 code at s v s' asked.1
 
 -- it does so whatever objects were made as
-pub started_again : (shapes : List ProcShape) (types : List TypeDesc) (made all : ℕ → Option Made) (own here : ℕ) (cells : List Cell) (code : List Instr) (at : ℕ) (k : Keeps) (s : Stack) (v : Cell) (k' : Keeps) (s' : Stack) →
+pub started_again : (shapes : List ProcShape) (types : List TypeDesc) (made all : ℕ → Option Made) (own : ℕ) (here : Here) (cells : List Cell) (code : List Instr) (at : ℕ) (k : Keeps) (s : Stack) (v : Cell) (k' : Keeps) (s' : Stack) →
     silent shapes types made own here cells code at k s ≡ Work (Starts v) at k' s' → silent shapes types all own here cells code at k s ≡ Work (Starts v) at k s'
 started_again shapes types made all own here cells code at k s v k' s' e = by (drop at code) e
   where
@@ -286,12 +305,12 @@ started_again shapes types made all own here cells code at k s v k' s' e = by (d
     by [] f = absurd (cc f)
     by (i ∷ rest) f =
         let a : act shapes types own here i code at s ≡ Sees (Starts v) s' =
-        act_here types made cells (Starts v) at k' s' (act shapes types own here i code at s) (walk shapes types made own here cells code rest) k
-        (λ over k1 s1 x. (let z = walk_later types made cells (Starts v) at k' s' shapes own here code rest over (at + 1) k1 s1 x in absurd (omega arith))) f in
-        ap (λ b. on_act types all cells b (walk shapes types all own here cells code rest) at k) a
+        act_here shapes types made cells (Starts v) at k' s' (act shapes types own here i code at s) (walk shapes types made own here cells code rest) k
+        (λ over k1 s1 x. (let z = walk_later shapes types made cells (Starts v) at k' s' own here code rest over (at + 1) k1 s1 x in absurd (omega arith))) (λ p vs x. cc x) f in
+        ap (λ b. on_act shapes types all cells b (walk shapes types all own here cells code rest) at k) a
 
 -- Where it comes to a start on its way, it does so from there with what is on top.
-module _ (shapes : List ProcShape) (types : List TypeDesc) (made : ℕ → Option Made) (own here : ℕ) (cells : List Cell) (code : List Instr) (v : Cell) (place : ℕ) (k' : Keeps) (s' : Stack) where
+module _ (shapes : List ProcShape) (types : List TypeDesc) (made : ℕ → Option Made) (own : ℕ) (here : Here) (cells : List Cell) (code : List Instr) (v : Cell) (place : ℕ) (k' : Keeps) (s' : Stack) where
   abbrev Starting : Type 0
   Starting = silent shapes types made own here cells code place k' (v ∷ s') ≡ Work (Starts v) place k' s'
 
@@ -303,7 +322,7 @@ module _ (shapes : List ProcShape) (types : List TypeDesc) (made : ℕ → Optio
       let top : s ≡ v ∷ s' = act_starts shapes types own here i code at s v s' e in
       let a : act shapes types own here i code place (v ∷ s') ≡ Sees (Starts v) s' = (λ j. act shapes types own here i code (sym is j) (sym top j)) ∙ e in
       ap (λ l. walk shapes types made own here cells code l 0 place k' (v ∷ s')) (ap (λ n. drop n code) (sym is) ∙ d)
-      ∙ ap (λ b. on_act types made cells b (walk shapes types made own here cells code rest) place k') a
+      ∙ ap (λ b. on_act shapes types made cells b (walk shapes types made own here cells code rest) place k') a
 
   if_start : (b : Bool) (t : Stop) (k : Keeps) → (t ≡ Work (Starts v) place k' s' → Starting) → (if b then t else Ended lost k) ≡ Work (Starts v) place k' s' → Starting
   if_start true t k h e = h e
@@ -318,14 +337,15 @@ module _ (shapes : List ProcShape) (types : List TypeDesc) (made : ℕ → Optio
   told_start : (r : Told) (next : Next) (at : ℕ) (k : Keeps) (s : Stack) → ((over : ℕ) (k : Keeps) (s : Stack) → next over (at + 1) k s ≡ Work (Starts v) place k' s' → Starting) → on_told r next at k s ≡ Work (Starts v) place k' s' → Starting
   told_start (Tells vs) next at k s h e = h 0 k (vs ++ s) e
   told_start (Refuses n) next at k s h e = absurd (cc e)
+  told_start (Invokes p vs) next at k s h e = absurd (cc e)
   told_start Unheard next at k s h e = absurd (cc e)
 
   act_start : (a : Act) (next : Next) (at : ℕ) (k : Keeps) → ((over : ℕ) (k : Keeps) (s : Stack) → next over (at + 1) k s ≡ Work (Starts v) place k' s' → Starting) →
-      (a ≡ Sees (Starts v) s' → at ≡ place → Starting) → on_act types made cells a next at k ≡ Work (Starts v) place k' s' → Starting
+      (a ≡ Sees (Starts v) s' → at ≡ place → Starting) → on_act shapes types made cells a next at k ≡ Work (Starts v) place k' s' → Starting
   act_start (Goes over s) next at k h g e = h over k s e
   act_start (Puts c w s) next at k h g e = h 0 _ s e
   act_start (Takes c kind s) next at k h g e = if_start (is_of kind (k c)) (next 0 (at + 1) k (k c ∷ s)) k (λ x. h 0 k (k c ∷ s) x) e
-  act_start (Looks l o s) next at k h g e = told_start (told_by types l o (made o)) next at k s h e
+  act_start (Looks l o s) next at k h g e = told_start (told_by shapes types l o (made o)) next at k s h e
   act_start (Sees q s) next at k h g e = noted_start (noted cells q) q next at k s h g e
   act_start (Stops end) next at k h g e = absurd (cc e)
 

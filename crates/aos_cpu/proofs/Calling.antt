@@ -8,7 +8,7 @@ use Rattle.aos_base.specs.declared.kernel.Did.TheVariants.{Went, Trapped}
 use Rattle.aos_code.specs.declared.instr.Cell.{Cell}
 use Rattle.aos_code.specs.declared.image.ProcShape.{ProcShape}
 use Rattle.aos_code.specs.Memory.{Memory}
-use Rattle.aos_code.specs.Machine.{Frame, Frames, rooted, behind, handed, called_frame, enters, calls_with}
+use Rattle.aos_code.specs.Machine.{object_of, arguments_of, Frame, Frames, rooted, behind, handed, called_frame, enters, calls_with}
 use Rattle.aos_store.specs.declared.frames.Frames.{Frames as KeptFrames}
 use Rattle.aos_store.specs.Store.{list_in, frames_in, deep}
 use Rattle.aos_cpu.specs.Answers.{Made}
@@ -47,38 +47,40 @@ module _ (c n m k : ℕ) (em : m ≡ min n (2 ^ 64 - 1)) (ek : k ≡ min (c + m)
   counted_all fs e = within (sum_by (λ (f : Frame). f.counted) fs) (nat_lt (length fs) 512) e
 
 module _ (shape : ProcShape) (p count at : ℕ) (old : KeptFrames) (mem : Memory) (out : List ℕ) (args : List Cell) (same : (f : Frame) (fs : List Frame) → list_in old.list.items ≡ f ∷ fs → args ≡ reverse (take count f.stack)) where
-  handed_is : (f : Frame) (fs : List Frame) (o : Option (List Gift)) → list_in old.list.items ≡ f ∷ fs → gifts (rooted (list_in old.list.items) mem) shape.params.items args ≡ o →
-      handed (reverse old.following.items) (suc (length fs)) (rooted (f ∷ fs) mem) shape.params.items (reverse (take count f.stack)) (length shape.kinds.items)
+  handed_is : (f : Frame) (fs : List Frame) (o : Option (List Gift)) → list_in old.list.items ≡ f ∷ fs → gifts (rooted (list_in old.list.items) mem) shape.params.items (arguments_of shape.method args) ≡ o →
+      handed (reverse old.following.items) (suc (length fs)) (rooted (f ∷ fs) mem) shape.params.items (arguments_of shape.method (reverse (take count f.stack))) (length shape.kinds.items)
       ≡ option_map (put_as (reverse old.following.items) (suc (length fs)) (rooted (f ∷ fs) mem) (length shape.kinds.items)) o
   handed_is f fs o is e =
       let fol = reverse old.following.items in
       let x = rooted (f ∷ fs) mem in
-      handed_gifts fol (suc (length fs)) x shape.params.items (reverse (take count f.stack)) (length shape.kinds.items)
-      ∙ ap (option_map (put_as fol (suc (length fs)) x (length shape.kinds.items))) ((λ i. gifts (rooted (sym is i) mem) shape.params.items (sym (same f fs is) i)) ∙ e)
+      handed_gifts fol (suc (length fs)) x shape.params.items (arguments_of shape.method (reverse (take count f.stack))) (length shape.kinds.items)
+      ∙ ap (option_map (put_as fol (suc (length fs)) x (length shape.kinds.items))) ((λ i. gifts (rooted (sym is i) mem) shape.params.items (arguments_of shape.method (sym (same f fs is) i))) ∙ e)
 
-  pub call_lost : gifts (rooted (list_in old.list.items) mem) shape.params.items args ≡ None → IsCalled (Some shape) p count at old old mem (Trapped 16 0) out
+  pub call_lost : gifts (rooted (list_in old.list.items) mem) shape.params.items (arguments_of shape.method args) ≡ None → IsCalled (Some shape) p count at old old mem (Trapped 16 0) out
   call_lost e f fs is =
-      subst (λ h. Made (calls_with (reverse old.following.items) p shape h at f.keeps (drop count f.stack) f fs mem) false (Trapped 16 0) (frames_in old) mem out out) (sym (handed_is f fs None is e)) (lost_made old f fs mem 16 0 out is)
+      subst (λ h. Made (calls_with (reverse old.following.items) p (object_of shape.method (reverse (take count f.stack))) shape h at f.keeps (drop count f.stack) f fs mem) false (Trapped 16 0) (frames_in old) mem out out) (sym (handed_is f fs None is e)) (lost_made old f fs mem 16 0 out is)
 
-  pub call_deep : (gs : List Gift) → gifts (rooted (list_in old.list.items) mem) shape.params.items args ≡ Some gs → deep (shape.counted + length (all_copied gs)) (list_in old.list.items) ≡ true →
+  pub call_deep : (gs : List Gift) → gifts (rooted (list_in old.list.items) mem) shape.params.items (arguments_of shape.method args) ≡ Some gs → deep (shape.counted + length (all_copied gs)) (list_in old.list.items) ≡ true →
       IsCalled (Some shape) p count at old old mem (Trapped 11 0) out
   call_deep gs e d f fs is =
       let fol = reverse old.following.items in
+      let o = object_of shape.method (reverse (take count f.stack)) in
       let h = put_as fol (suc (length fs)) (rooted (f ∷ fs) mem) (length shape.kinds.items) gs in
       let over : deep (shape.counted + length (all_copied gs)) (f ∷ fs) ≡ true = ap (deep (shape.counted + length (all_copied gs))) (sym is) ∙ d in
-      subst (λ h. Made (calls_with fol p shape h at f.keeps (drop count f.stack) f fs mem) false (Trapped 11 0) (frames_in old) mem out out) (sym (handed_is f fs (Some gs) is e))
-      (subst (λ b. Made (enters fol b (called_frame fol p shape h) at f.keeps (drop count f.stack) f fs mem) false (Trapped 11 0) (frames_in old) mem out out) (sym over) (lost_made old f fs mem 11 0 out is))
+      subst (λ h. Made (calls_with fol p o shape h at f.keeps (drop count f.stack) f fs mem) false (Trapped 11 0) (frames_in old) mem out out) (sym (handed_is f fs (Some gs) is e))
+      (subst (λ b. Made (enters fol b (called_frame fol p o shape h) at f.keeps (drop count f.stack) f fs mem) false (Trapped 11 0) (frames_in old) mem out out) (sym over) (lost_made old f fs mem 11 0 out is))
 
-  pub call_made : (gs : List Gift) (new : KeptFrames) (g : Frame) → gifts (rooted (list_in old.list.items) mem) shape.params.items args ≡ Some gs → deep (shape.counted + length (all_copied gs)) (list_in old.list.items) ≡ false →
-      g ≡ called p (shape.counted + length (all_copied gs)) (called_cells (length (list_in old.list.items)) shape.kinds.items gs) → IsEntered at count g old new → IsCalled (Some shape) p count at old new mem Went out
+  pub call_made : (gs : List Gift) (new : KeptFrames) (g : Frame) → gifts (rooted (list_in old.list.items) mem) shape.params.items (arguments_of shape.method args) ≡ Some gs → deep (shape.counted + length (all_copied gs)) (list_in old.list.items) ≡ false →
+      g ≡ called p (object_of shape.method args) (shape.counted + length (all_copied gs)) (called_cells (length (list_in old.list.items)) shape.kinds.items gs) → IsEntered at count g old new → IsCalled (Some shape) p count at old new mem Went out
   call_made gs new g e d is_frame entered f fs is =
       let fol = reverse old.following.items in
+      let o = object_of shape.method (reverse (take count f.stack)) in
       let h = put_as fol (suc (length fs)) (rooted (f ∷ fs) mem) (length shape.kinds.items) gs in
       let n = shape.counted + length (all_copied gs) in
       let over : deep n (f ∷ fs) ≡ false = ap (deep n) (sym is) ∙ d in
-      let frame : called_frame fol p shape h ≡ g = ap (λ (l : List Frame). called p n (called_cells (length l) shape.kinds.items gs)) (sym is) ∙ sym is_frame in
-      let frames : record { following = fol; frames = called_frame fol p shape h ∷ behind [] at f.keeps (drop count f.stack) f ∷ fs } ≡ frames_in new =
+      let frame : called_frame fol p o shape h ≡ g = (λ i. called p (object_of shape.method (sym (same f fs is) i)) n (called_cells (length (sym is i)) shape.kinds.items gs)) ∙ sym is_frame in
+      let frames : record { following = fol; frames = called_frame fol p o shape h ∷ behind [] at f.keeps (drop count f.stack) f ∷ fs } ≡ frames_in new =
       ap (λ (g : Frame). let y : Frames = record { following = fol; frames = g ∷ behind [] at f.keeps (drop count f.stack) f ∷ fs } in y) frame ∙ sym (entered f fs is) in
-      subst (λ h. Made (calls_with fol p shape h at f.keeps (drop count f.stack) f fs mem) false Went (frames_in new) mem out out) (sym (handed_is f fs (Some gs) is e))
-      (subst (λ b. Made (enters fol b (called_frame fol p shape h) at f.keeps (drop count f.stack) f fs mem) false Went (frames_in new) mem out out) (sym over)
+      subst (λ h. Made (calls_with fol p o shape h at f.keeps (drop count f.stack) f fs mem) false Went (frames_in new) mem out out) (sym (handed_is f fs (Some gs) is e))
+      (subst (λ b. Made (enters fol b (called_frame fol p o shape h) at f.keeps (drop count f.stack) f fs mem) false Went (frames_in new) mem out out) (sym over)
       (record { store = refl; frames = frames; output = sym (append-nil out); begun = refl; left = refl }))

@@ -17,7 +17,7 @@ use Rattle.aos_code.specs.declared.image.Image.{Image}
 use Rattle.aos_code.specs.Numbered.{numbered}
 use Rattle.aos_code.specs.Memory.{Addr, Memory, has_room}
 use Rattle.aos_code.specs.Silent.{Stack, Keeps, Question, Begins, Fails, Stop, Work, Ended, is_of}
-use Rattle.aos_code.specs.Machine.{Frame, Frames, Turned, Handed, first_cell, rooted, cells_at, memory_with, made_in, leaves, goes_on, behind, written, writes, reads, copies, prints, writes_out, makes, makes_with, makes_of, numbers_in, in_rows, starts, stores_text, fitted, puts_text, compares, called_frame, is_deep, enters, calls_with, calls, handed, text_at, length_in, code_in, character_cells, answer, goes, opened, stop_of, turn_at, turn}
+use Rattle.aos_code.specs.Machine.{object_of, arguments_of, Frame, Frames, Turned, Handed, first_cell, rooted, cells_at, memory_with, made_in, leaves, goes_on, behind, written, writes, reads, copies, prints, writes_out, makes, makes_with, makes_of, numbers_in, in_rows, starts, stores_text, fitted, puts_text, compares, called_frame, is_deep, enters, calls_with, calls, handed, text_at, length_in, code_in, character_cells, answer, goes, opened, stop_of, turn_at, turn}
 use Rattle.aos_silent.specs.Known.{Knows}
 
 read_still : {A : Type 0} (xs ys : List A) (k : ℕ) (x : A) → slice_get xs k ≡ Some x → slice_get (xs ++ ys) k ≡ Some x
@@ -107,13 +107,13 @@ module _ (image : Image) (following : List ℕ) (f : Frame) (fs : List Frame) (m
     enter_grows true g = stays
     enter_grows false g = stays
 
-    call_with_grows : (p : ℕ) (shape : ProcShape) (x : Option (Handed following)) → Grows (calls_with following p shape x at k s f fs mem)
-    call_with_grows p shape None = stays
-    call_with_grows p shape (Some x) = enter_grows (is_deep following (called_frame following p shape x) (f ∷ fs)) (called_frame following p shape x)
+    call_with_grows : (p o : ℕ) (shape : ProcShape) (x : Option (Handed following)) → Grows (calls_with following p o shape x at k s f fs mem)
+    call_with_grows p o shape None = stays
+    call_with_grows p o shape (Some x) = enter_grows (is_deep following (called_frame following p o shape x) (f ∷ fs)) (called_frame following p o shape x)
 
     call_grows : (shape : Option ProcShape) (p : ℕ) (vs : List Cell) → Grows (calls following shape p vs at k s f fs mem)
     call_grows None p vs = stays
-    call_grows (Some shape) p vs = call_with_grows p shape (handed following (suc (length fs)) (rooted (f ∷ fs) mem) shape.params.items vs (length shape.kinds.items))
+    call_grows (Some shape) p vs = call_with_grows p (object_of shape.method vs) shape (handed following (suc (length fs)) (rooted (f ∷ fs) mem) shape.params.items (arguments_of shape.method vs) (length shape.kinds.items))
 
     answer_grows : (q : Question) → Grows (answer following image.shapes.items image.types.items q at k s f fs mem)
     answer_grows (Reads kind a) = read_grows kind (load a.root a.cell (rooted (f ∷ fs) mem))

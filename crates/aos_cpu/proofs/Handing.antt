@@ -77,9 +77,9 @@ module _ {A : Type 0} (x : Rooted (List Cell)) (ps : List ParamKind) (i : ℕ) (
 
 -- The frame of a call.
 
-pub frame_called : (p counted keeps : ℕ) (own : List Cell) (cells operands : Vec Cell Global) → cells.items ≡ own ++ replicate keeps (Num (pos 0)) → operands.items ≡ [] →
-    frame_in (record { procedure = p; object = 0; next = 0; at = None; cells = cells; keeps = keeps; counted = counted; operands = operands }) ≡ called p counted own
-frame_called p counted keeps own cells operands e r =
+pub frame_called : (p o counted keeps : ℕ) (own : List Cell) (cells operands : Vec Cell Global) → cells.items ≡ own ++ replicate keeps (Num (pos 0)) → operands.items ≡ [] →
+    frame_in (record { procedure = p; object = o; next = 0; at = None; cells = cells; keeps = keeps; counted = counted; operands = operands }) ≡ called p o counted own
+frame_called p o counted keeps own cells operands e r =
     let back = replicate keeps (Num (pos 0)) in
     let long : length (own ++ back) - keeps ≡ length own = omega (arith, length-append own back, length-replicate keeps (Num (pos 0))) in
     let front : take (length cells.items - keeps) cells.items ≡ own = ap (λ xs. take (length xs - keeps) xs) e ∙ ap (λ n. take n (own ++ back)) long ∙ take-append_seam own back in
@@ -88,7 +88,7 @@ frame_called p counted keeps own cells operands e r =
     let f : Frame =
     record {
       procedure = p;
-      object = 0;
+      object = o;
       next = 0;
       at = None;
       cells = front i;

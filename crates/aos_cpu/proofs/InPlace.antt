@@ -32,7 +32,7 @@ use Rattle.aos_silent.specs.declared.act.Spot.{Spot}
 use Rattle.aos_silent.specs.Acts.{spot_in, kind_in, addr_in, WhereStays}
 use Rattle.aos_silent.specs.Known.{Knows}
 use Rattle.aos_silent.specs.Steps.{IsStepOf, after}
-use Rattle.aos_silent.specs.Silent.{Seen, silent_at, seen_at}
+use Rattle.aos_silent.specs.Silent.{Seen, here_at, silent_at, seen_at}
 use Rattle.aos_silent.proofs.Walks.{acts, seen_on}
 use Rattle.aos_cpu.specs.Turns.{SeenFrames, Alike, seen_frames, counted, Shown, IsTurned, Rests, WhereLeft}
 use Rattle.aos_cpu.specs.Private.{no_memory, made_by, is_of_frame, is_own_stop, alone, IsPrivate, after_turns, begun_after, IsMadePrivately, turns_since}
@@ -199,9 +199,9 @@ module _ (image : Image) (made : ℕ → Option MadeAs) (here : ℕ) (f : Frame)
 
   -- where silent work ends that stands before a question
   stands_at : (i : Instr) (stop : Stop) → slice_get code f.next ≡ Some i →
-      on_act image.types.items made f.cells (act image.shapes.items image.types.items f.procedure here i code f.next f.stack) (walk image.shapes.items image.types.items made f.procedure here f.cells code (drop (f.next + 1) code)) f.next f.keeps ≡ stop →
+      on_act image.shapes.items image.types.items made f.cells (act image.shapes.items image.types.items f.procedure (here_at here f) i code f.next f.stack) (walk image.shapes.items image.types.items made f.procedure (here_at here f) f.cells code (drop (f.next + 1) code)) f.next f.keeps ≡ stop →
       silent_at image made here f ≡ stop
-  stands_at i stop is e = acts image.shapes.items image.types.items made f.procedure here f.cells code f.next i f.keeps f.stack is ∙ e
+  stands_at i stop is e = acts image.shapes.items image.types.items made f.procedure (here_at here f) f.cells code f.next i f.keeps f.stack is ∙ e
 
 module _ (image : Image) (here : ℕ) (f : Frame) where
   abbrev own_code : List Instr
@@ -211,9 +211,9 @@ module _ (image : Image) (here : ℕ) (f : Frame) where
       ((rest : List Frame) → length rest ≡ here → load p.root p.cell (rooted (f ∷ rest) mem) ≡ Some v) → is_of kind v ≡ true →
       HasTurnedTop image here false mem mem f (record f { next = f.next + 1; stack = v ∷ drop 1 f.stack })
   read_top mem kind p v is place holds of =
-      let next = walk image.shapes.items image.types.items (made_in image mem) f.procedure here f.cells own_code (drop (f.next + 1) own_code) in
+      let next = walk image.shapes.items image.types.items (made_in image mem) f.procedure (here_at here f) f.cells own_code (drop (f.next + 1) own_code) in
       turned_top image here mem mem f _ false (Work (Reads kind (addr_in p)) f.next f.keeps (drop 1 f.stack)) refl
-      (stands_at image (made_in image mem) here f (Load kind) _ is (ap (λ a. on_act image.types.items (made_in image mem) f.cells a next f.next f.keeps) (read_asks kind f.stack p place)))
+      (stands_at image (made_in image mem) here f (Load kind) _ is (ap (λ a. on_act image.shapes.items image.types.items (made_in image mem) f.cells a next f.next f.keeps) (read_asks kind f.stack p place)))
       (λ rest len none. in_frames p.root p.cell f rest mem (ap is_some (holds rest len)) none)
       (λ following rest len.
       ap (λ o. reads following kind o f.next f.keeps (drop 1 f.stack) f rest mem) (holds rest len)
@@ -223,9 +223,9 @@ module _ (image : Image) (here : ℕ) (f : Frame) where
       spot_in (slice_get f.stack 1) ≡ Some p → IsSet here p.root p.cell v mem now f h →
       HasTurnedTop image here false mem now f (record h { next = f.next + 1; stack = drop 2 f.stack })
   store_top mem now kind p v h is value place set =
-      let next = walk image.shapes.items image.types.items (made_in image mem) f.procedure here f.cells own_code (drop (f.next + 1) own_code) in
+      let next = walk image.shapes.items image.types.items (made_in image mem) f.procedure (here_at here f) f.cells own_code (drop (f.next + 1) own_code) in
       turned_top image here mem now f _ false (Work (Stores (addr_in p) v) f.next f.keeps (drop 2 f.stack)) (ap (λ (x : Frame). x.procedure) set.others)
-      (stands_at image (made_in image mem) here f (Store kind) _ is (ap (λ a. on_act image.types.items (made_in image mem) f.cells a next f.next f.keeps) (store_asks kind f.stack v p value place)))
+      (stands_at image (made_in image mem) here f (Store kind) _ is (ap (λ a. on_act image.shapes.items image.types.items (made_in image mem) f.cells a next f.next f.keeps) (store_asks kind f.stack v p value place)))
       (λ rest len none. in_frames p.root p.cell f rest mem (set.there rest len) none)
       (λ following rest len.
       ap (λ b. writes following b (addr_in p) (v ∷ []) f.next f.keeps (drop 2 f.stack) f rest mem) (set.there rest len)
@@ -233,10 +233,10 @@ module _ (image : Image) (here : ℕ) (f : Frame) where
 
 -- An act that has been done.
 module _ (image : Image) (here : ℕ) (mem : Memory) (f g : Frame) (code : List Instr) (at : ℕ) (did : KeptAct) (code_is : code ≡ code_of image f.procedure) (at_is : at ≡ f.next) (within : at < length code)
-    (step : IsStepOf image.types.items (made_in image mem) (act image.shapes.items image.types.items f.procedure here (get_or code at (Num (pos 0))) code at f.stack) did f g) where
+    (step : IsStepOf image.shapes.items image.types.items (made_in image mem) (act image.shapes.items image.types.items f.procedure (here_at here f) (get_or code at (Num (pos 0))) code at f.stack) did f g) where
   pub silent_top : (over m : ℕ) → did ≡ GoesOn over → m ≡ min (at + 1 + over) (2 ^ 64 - 1) → length code < 2 ^ 64 → HasWorked image here mem mem f (record g { next = m })
   silent_top over m e is small =
-      let there = subst (λ n. IsStepOf image.types.items (made_in image mem) (act image.shapes.items image.types.items f.procedure here (get_or code n (Num (pos 0))) code n f.stack) did f g) at_is step in
+      let there = subst (λ n. IsStepOf image.shapes.items image.types.items (made_in image mem) (act image.shapes.items image.types.items f.procedure (here_at here f) (get_or code n (Num (pos 0))) code n f.stack) did f g) at_is step in
       record {
         seen = λ all knows.
             seen_on image all here f g code did code_is (subst (λ n. n < length code) at_is within) (there.more all knows) there.same over m e
@@ -247,10 +247,10 @@ module _ (image : Image) (here : ℕ) (mem : Memory) (f g : Frame) (code : List 
   pub begun_top : (to : ℕ) (p : Pos) → did ≡ BeginsAt to p → HasTurnedTop image here true mem mem f (record g { next = to + 1; at = Some p })
   begun_top to p e =
       let made = made_in image mem in
-      let next = walk image.shapes.items image.types.items made f.procedure here f.cells code (drop (at + 1) code) in
+      let next = walk image.shapes.items image.types.items made f.procedure (here_at here f) f.cells code (drop (at + 1) code) in
       let stop : silent_at image made here f ≡ Ended (Begins to p g.stack) g.keeps =
-      (λ j. silent image.shapes.items image.types.items made f.procedure here f.cells (sym code_is j) (sym at_is j) f.keeps f.stack)
-      ∙ acts image.shapes.items image.types.items made f.procedure here f.cells code at (get_or code at (Num (pos 0))) f.keeps f.stack (slice_get-get_or code at (Num (pos 0)) within)
+      (λ j. silent image.shapes.items image.types.items made f.procedure (here_at here f) f.cells (sym code_is j) (sym at_is j) f.keeps f.stack)
+      ∙ acts image.shapes.items image.types.items made f.procedure (here_at here f) f.cells code at (get_or code at (Num (pos 0))) f.keeps f.stack (slice_get-get_or code at (Num (pos 0)) within)
       ∙ step.goes next at ∙ ap (λ d. after d next at g.keeps g.stack) e in
       turned_top image here mem mem f (record g { next = to + 1; at = Some p }) true (Ended (Begins to p g.stack) g.keeps) (ap (λ (x : Frame). x.procedure) step.same) stop
       (λ rest len none. refl)

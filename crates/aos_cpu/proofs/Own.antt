@@ -21,7 +21,7 @@ use Rattle.aos_code.specs.declared.image.ParamKind.TheVariants as param
 use Rattle.aos_code.specs.Memory.{Memory}
 use Rattle.aos_code.specs.Numbered.{numbered}
 use Rattle.aos_code.specs.Silent.{Stack, Keeps, Question, Begins, Fails, Stop, Work, Ended, is_of, cells_of}
-use Rattle.aos_code.specs.Machine.{Frame, Frames, Turned, Handed, hand, rooted, if_all, cells_at, leaves, goes_on, behind, reads, writes, copies, stores_text, fitted, puts_text, compares, is_deep, enters, calls_with, calls, lengths_in, whole_at, copied_open, handed, called_frame, text_in, text_at, length_in, character_cells, answer, goes, opened, code_of, made_in, stop_of, turn, turn_at}
+use Rattle.aos_code.specs.Machine.{here_of, object_of, arguments_of, Frame, Frames, Turned, Handed, hand, rooted, if_all, cells_at, leaves, goes_on, behind, reads, writes, copies, stores_text, fitted, puts_text, compares, is_deep, enters, calls_with, calls, lengths_in, whole_at, copied_open, handed, called_frame, text_in, text_at, length_in, character_cells, answer, goes, opened, code_of, made_in, stop_of, turn, turn_at}
 use Rattle.aos_store.specs.declared.frames.Frames.{Frames as KeptFrames}
 use Rattle.aos_store.specs.declared.memory.Store.{Store}
 use Rattle.aos_store.specs.Store.{frames_in, memory_in, SameCounts}
@@ -155,15 +155,17 @@ module _ (following : List ℕ) (f : Frame) (fs : List Frame) (mem : Memory) whe
   enter_own true g at k s = refl
   enter_own false g at k s = refl
 
-  call_with_own : (p : ℕ) (shape : ProcShape) (h : Option (Handed following)) (at : ℕ) (k : Keeps) (s : Stack) → calls_with following p shape h at k s f fs mem ≡ over mem (calls_with following p shape h at k s f fs no_memory)
-  call_with_own p shape None at k s = refl
-  call_with_own p shape (Some h) at k s = enter_own (is_deep following (called_frame following p shape h) (f ∷ fs)) (called_frame following p shape h) at k s
+  call_with_own : (p o : ℕ) (shape : ProcShape) (h : Option (Handed following)) (at : ℕ) (k : Keeps) (s : Stack) → calls_with following p o shape h at k s f fs mem ≡ over mem (calls_with following p o shape h at k s f fs no_memory)
+  call_with_own p o shape None at k s = refl
+  call_with_own p o shape (Some h) at k s = enter_own (is_deep following (called_frame following p o shape h) (f ∷ fs)) (called_frame following p o shape h) at k s
 
   call_own : (shape : Option ProcShape) (p : ℕ) (vs : List Cell) (at : ℕ) (k : Keeps) (s : Stack) → calls_own shape vs ≡ true → calls following shape p vs at k s f fs mem ≡ over mem (calls following shape p vs at k s f fs no_memory)
   call_own None p vs at k s e = refl
   call_own (Some shape) p vs at k s e =
-      ap (λ h. calls_with following p shape h at k s f fs mem) (handed_own following (suc (length fs)) (f ∷ fs) mem shape.params.items vs (length shape.kinds.items) e)
-      ∙ call_with_own p shape (handed following (suc (length fs)) (rooted (f ∷ fs) no_memory) shape.params.items vs (length shape.kinds.items)) at k s
+      let o = object_of shape.method vs in
+      let ws = arguments_of shape.method vs in
+      ap (λ h. calls_with following p o shape h at k s f fs mem) (handed_own following (suc (length fs)) (f ∷ fs) mem shape.params.items ws (length shape.kinds.items) e)
+      ∙ call_with_own p o shape (handed following (suc (length fs)) (rooted (f ∷ fs) no_memory) shape.params.items ws (length shape.kinds.items)) at k s
 
   text_own : (r : Root) (c : ℕ) (n : Cell) → is_of_frame r ≡ true → text_at following (record { root = r; cell = c }) n (rooted (f ∷ fs) mem) ≡ text_at following (record { root = r; cell = c }) n (rooted (f ∷ fs) no_memory)
   text_own r c n e =
@@ -237,7 +239,7 @@ own_found shapes (Ended (Fails n c) k) e l f = cc e
 -- so it ends where it does, whatever objects were made as
 own_stop : (image : Image) (all : ℕ → Option MadeAs) (f : Frame) (fs : List Frame) → is_own_top image (f ∷ fs) ≡ true → stop_of image all f fs ≡ stop_of image (made_by []) f fs
 own_stop image all f fs e =
-    silent_more image.types.items (made_by []) all (nothing_made all) f.cells image.shapes.items f.procedure (length fs) (code_of image f.procedure) f.next f.keeps f.stack (own_found image.shapes.items (stop_of image (made_by []) f fs) e)
+    silent_more image.shapes.items image.types.items (made_by []) all (nothing_made all) f.cells f.procedure (here_of f fs) (code_of image f.procedure) f.next f.keeps f.stack (own_found image.shapes.items (stop_of image (made_by []) f fs) e)
 
 turn_at_own : (image : Image) (ps : List ℕ) (l : List Frame) (mem : Memory) → is_own_top image l ≡ true → turn_at image ps l mem ≡ over mem (turn_at image ps l no_memory)
 turn_at_own image ps [] mem e = absurd (cc e)

@@ -19,7 +19,7 @@ use Rattle.aos_code.specs.declared.image.TypeDesc.{TypeDesc}
 use Rattle.aos_code.specs.Memory.{Memory, Addr, has_room}
 use Rattle.aos_code.specs.Numbered.{numbered}
 use Rattle.aos_code.specs.Silent.{Stack, Keeps, Question, Begins, Fails, Stop, Work, Ended, is_of}
-use Rattle.aos_code.specs.Machine.{Frame, Frames, Turned, Handed, rooted, cells_at, written, leaves, goes_on, reads, writes, copies, ends, prints, writes_out, makes, makes_with, makes_of, numbers_in, in_rows, first_cell, made_in, starts, stores_text, fitted, puts_text, compares, is_deep, enters, calls_with, calls, handed, called_frame, answer, goes, text_at, length_in, code_in, opened, opened_by, past, past_all, past_stop, code_of, stop_of, turn, turn_at, behind, home_of, position, position_in, position_or, or_below}
+use Rattle.aos_code.specs.Machine.{here_of, object_of, arguments_of, Frame, Frames, Turned, Handed, rooted, cells_at, written, leaves, goes_on, reads, writes, copies, ends, prints, writes_out, makes, makes_with, makes_of, numbers_in, in_rows, first_cell, made_in, starts, stores_text, fitted, puts_text, compares, is_deep, enters, calls_with, calls, handed, called_frame, answer, goes, text_at, length_in, code_in, opened, opened_by, past, past_all, past_stop, code_of, stop_of, turn, turn_at, behind, home_of, position, position_in, position_or, or_below}
 use Rattle.aos_store.specs.declared.frames.Frame.{Frame as KeptFrame}
 use Rattle.aos_store.specs.declared.frames.Frames.{Frames as KeptFrames}
 use Rattle.aos_store.specs.Store.{frame_in, list_in, frames_in}
@@ -220,14 +220,14 @@ module _ (image : Image) (following : List ℕ) (g : Frame) (n : ℕ) (k' : Keep
   enter_both q true x at k s = lost q 11 0
   enter_both q false x at k s = same q _ refl
 
-  call_with_both : (q : Question) (p : ℕ) (shape : ProcShape) (x : Option (Handed following)) (at : ℕ) (k : Keeps) (s : Stack) → Both image q (calls_with following p shape x at k s f' fs mem) (calls_with following p shape x at k s g fs mem)
-  call_with_both q p shape None at k s = lost q 16 0
-  call_with_both q p shape (Some x) at k s = enter_both q (is_deep following (called_frame following p shape x) (g ∷ fs)) (called_frame following p shape x) at k s
+  call_with_both : (q : Question) (p o : ℕ) (shape : ProcShape) (x : Option (Handed following)) (at : ℕ) (k : Keeps) (s : Stack) → Both image q (calls_with following p o shape x at k s f' fs mem) (calls_with following p o shape x at k s g fs mem)
+  call_with_both q p o shape None at k s = lost q 16 0
+  call_with_both q p o shape (Some x) at k s = enter_both q (is_deep following (called_frame following p o shape x) (g ∷ fs)) (called_frame following p o shape x) at k s
 
   call_both : (q : Question) (shape : Option ProcShape) (p : ℕ) (vs : List Cell) (at : ℕ) (k : Keeps) (s : Stack) → Both image q (calls following shape p vs at k s f' fs mem) (calls following shape p vs at k s g fs mem)
   call_both q None p vs at k s = lost q 16 0
   call_both q (Some shape) p vs at k s =
-      call_with_both q p shape (handed following (suc (length fs)) (rooted (g ∷ fs) mem) shape.params.items vs (length shape.kinds.items)) at k s
+      call_with_both q p (object_of shape.method vs) shape (handed following (suc (length fs)) (rooted (g ∷ fs) mem) shape.params.items (arguments_of shape.method vs) (length shape.kinds.items)) at k s
 
   pub answer_both : (q : Question) (at : ℕ) (k : Keeps) (s : Stack) → Both image q (answer following image.shapes.items image.types.items q at k s f' fs mem) (answer following image.shapes.items image.types.items q at k s g fs mem)
   answer_both (Reads kind a) at k s = read_both (Reads kind a) kind (load a.root a.cell (rooted (g ∷ fs) mem)) at k s
@@ -336,7 +336,7 @@ at_stop image made q at l f fs x is = subst (StandsAtStop image made (AtWork q a
 pub stands_at : (image : Image) (made : ℕ → Option Made) (q : KeptQuestion) (at : ℕ) (old : KeptFrames) → StandsAtStop image made (AtWork q at) (list_in old.list.items) → Stands q at old
 stands_at image made (AsksStart o) at old x f fs is =
     let y = at_stop image made (AsksStart o) at (list_in old.list.items) f fs x is in
-    (y.1.0, started_on_top image.shapes.items image.types.items made f.procedure (length fs) f.cells (code_of image f.procedure) f.next f.keeps f.stack (Ref o) f.keeps (drop 1 f.stack) (y.0 ∙ ap (λ m. Work (Starts (Ref o)) m f.keeps (drop 1 f.stack)) y.1.0))
+    (y.1.0, started_on_top image.shapes.items image.types.items made f.procedure (here_of f fs) f.cells (code_of image f.procedure) f.next f.keeps f.stack (Ref o) f.keeps (drop 1 f.stack) (y.0 ∙ ap (λ m. Work (Starts (Ref o)) m f.keeps (drop 1 f.stack)) y.1.0))
 stands_at image made q at old x f fs is = ((at_stop image made q at (list_in old.list.items) f fs x is).1.0, tt)
 
 -- a question has been answered
@@ -380,7 +380,7 @@ stands_before image q at old new mem mem' did before after stands answered left 
         x.0 ∙ asked_start q f.stack asks at f.keeps ∙ ap (λ n. Work (Starts (Ref o)) n f.keeps (drop 1 f.stack)) x.1.0 in
         subst (IsBeforeStart image o) (sym (ap (λ (x : Frames). x.frames) same ∙ is)) (
           subst (λ n. n + 1 < 2 ^ 64) x.1.0 x.1.1,
-          started_again image.shapes.items image.types.items (made_in image mem) (λ p. None) f.procedure (length fs) f.cells (code_of image f.procedure) f.next f.keeps f.stack (Ref o) f.keeps (drop 1 f.stack) stops,
+          started_again image.shapes.items image.types.items (made_in image mem) (λ p. None) f.procedure (here_of f fs) f.cells (code_of image f.procedure) f.next f.keeps f.stack (Ref o) f.keeps (drop 1 f.stack) stops,
         )
       where
         asked_start : (q : KeptQuestion) (s : Stack) → question_in q s ≡ Starts (Ref o) → (at : ℕ) (k : Keeps) → Work (question_in q s) at k (drop (operands_of q) s) ≡ Work (Starts (Ref o)) at k (drop 1 s)
@@ -401,8 +401,8 @@ start_left image following f fs mem (Work q at k s) o is e =
         StandsAtStart image o (answer following image.shapes.items image.types.items (Starts (Ref o)) at k s f fs mem).frames.frames
     by zero e stops = absurd (cc e)
     by (suc o) e stops =
-        started_again image.shapes.items image.types.items (made_in image mem) (λ p. None) f.procedure (length fs) f.cells (code_of image f.procedure) at k (Ref (suc o) ∷ s) (Ref (suc o)) k s
-        (starts_there image.shapes.items image.types.items (made_in image mem) f.procedure (length fs) f.cells (code_of image f.procedure) (Ref (suc o)) at k s f.next f.keeps f.stack stops)
+        started_again image.shapes.items image.types.items (made_in image mem) (λ p. None) f.procedure (here_of f fs) f.cells (code_of image f.procedure) at k (Ref (suc o) ∷ s) (Ref (suc o)) k s
+        (starts_there image.shapes.items image.types.items (made_in image mem) f.procedure (here_of f fs) f.cells (code_of image f.procedure) (Ref (suc o)) at k s f.next f.keeps f.stack stops)
 start_left image following f fs mem (Ended (Begins at p s) k) o is e = absurd (cc e)
 start_left image following f fs mem (Ended (Fails n c) k) o is e = absurd (cc e)
 
@@ -421,9 +421,9 @@ past_at image made ps ps' (x ∷ xs) f rest o h stands e =
     let same : seen image made x xs ≡ seen image made f rest = some_same _ _ (ap (λ (y : SeenFrames). y.top) h) in
     let is = is_ahead image made x f xs rest same in
     let again : stop_of image made x xs ≡ Work (Starts (Ref o)) x.next x.keeps (drop 1 x.stack) =
-    started_again image.shapes.items image.types.items (λ p. None) made x.procedure (length xs) x.cells (code_of image x.procedure) x.next x.keeps x.stack (Ref o) x.keeps (drop 1 x.stack) stands in
+    started_again image.shapes.items image.types.items (λ p. None) made x.procedure (here_of x xs) x.cells (code_of image x.procedure) x.next x.keeps x.stack (Ref o) x.keeps (drop 1 x.stack) stands in
     let there : stop_of image made f rest ≡ Work (Starts (Ref o)) f.next f.keeps (drop 1 f.stack) =
-    started_again image.shapes.items image.types.items (λ p. None) made f.procedure (length rest) f.cells (code_of image f.procedure) f.next f.keeps f.stack (Ref o) f.keeps (drop 1 f.stack) e in
+    started_again image.shapes.items image.types.items (λ p. None) made f.procedure (here_of f rest) f.cells (code_of image f.procedure) f.next f.keeps f.stack (Ref o) f.keeps (drop 1 f.stack) e in
     let stops : stop_of image (λ p. None) x xs ≡ Work (Starts (Ref o)) f.next f.keeps (drop 1 f.stack) = stands ∙ sym again ∙ ap (λ (y : Seen). y.stop) same ∙ there in
     λ i. (let y : Frames = record { following = (h i).following; frames = past_stop (stops i) (is i) ∷ (h i).below } in y)
 

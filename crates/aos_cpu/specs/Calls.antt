@@ -73,10 +73,10 @@ abbrev pub sized : ℕ → Option (List ℕ) → Option (Option ℕ)
 sized k None = None
 sized k (Some ns) = Some (if nat_lt (cells_of ns k) (2 ^ 64) then Some (cells_of ns k) else None)
 
--- the frame of a procedure that begins with these cells
-abbrev pub called : (procedure counted : ℕ) → List Cell → Frame
-called p counted cells =
-    record { procedure = p; object = 0; next = 0; at = None; cells = cells; counted = counted; keeps = λ c. Num (pos 0); stack = [] }
+-- the frame of a procedure that is called on this object, 0 for none, and begins with these cells
+abbrev pub called : (procedure object counted : ℕ) → List Cell → Frame
+called p o counted cells =
+    record { procedure = p; object = o; next = 0; at = None; cells = cells; counted = counted; keeps = λ c. Num (pos 0); stack = [] }
 
 -- a frame has been put above the topmost one, which goes on behind the instruction at this place without so many operands
 abbrev pub IsEntered : (at taken : ℕ) → Frame → (old new : KeptFrames) → Type 0

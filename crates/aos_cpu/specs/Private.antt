@@ -15,7 +15,7 @@ use Rattle.aos_code.specs.declared.image.Image.{Image}
 use Rattle.aos_code.specs.Memory.{Memory}
 use Rattle.aos_code.specs.Numbered.{numbered}
 use Rattle.aos_code.specs.Silent.{Question, Stop, Work, Ended as StopsAt, Begins, Fails}
-use Rattle.aos_code.specs.Machine.{Frame, Frames, Turned, opened, made_in, stop_of, turn}
+use Rattle.aos_code.specs.Machine.{Frame, Frames, Turned, arguments_of, opened, made_in, stop_of, turn}
 use Rattle.aos_store.specs.declared.frames.Frames.{Frames as KeptFrames}
 use Rattle.aos_store.specs.Store.{frames_in, SameCounts}
 use Rattle.aos_cpu.specs.declared.alone.PrivateStop.{PrivateStop}
@@ -59,7 +59,7 @@ copies_own (param.Open d true n ∷ ps) (v ∷ vs) = is_own_value v && copies_ow
 
 abbrev pub calls_own : Option ProcShape → List Cell → Bool
 calls_own None vs = true
-calls_own (Some f) vs = copies_own f.params.items vs
+calls_own (Some f) vs = copies_own f.params.items (arguments_of f.method vs)
 
 -- the answer reads and changes no memory, and writes nothing
 abbrev pub is_own : List ProcShape → Question → Bool

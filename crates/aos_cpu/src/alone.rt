@@ -5,6 +5,7 @@ ghost use Rattle.aos_silent.specs.Acts.{question_in};
 ghost use Rattle.aos_cpu.specs.Turns.{Alike, StandsAtStop};
 ghost use Rattle.aos_cpu.specs.Private.{no_memory, made_by, is_of_frame as is_of_frame_root, is_own_value as is_own_cell, copies_own as copies_own_for, is_own as is_own_question, is_own_turn, is_private, HasTried, IsMadePrivately, turns_since, stop_after, WhereShared};
 
+use crate::calls::arguments_of;
 use crate::in_place::make_in_place;
 use crate::turn::{come_to_stop, finish};
 use aos_base::{Did, NoMemory, Root};
@@ -99,7 +100,10 @@ fn is_own(image: &Image, question: Question, operands: &[Cell]) -> bool
             None => true,
             Some(shape) => copies_own(
                 &shape.params,
-                behind(operands, operands.len().saturating_sub(count)),
+                arguments_of(
+                    shape.method,
+                    behind(operands, operands.len().saturating_sub(count)),
+                ),
             ),
         },
         Question::Ends(_) => true,

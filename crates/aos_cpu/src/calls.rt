@@ -3,7 +3,7 @@ ghost use Rattle.std.specs.Prelude.{◌≡◌, ◌<◌, ◌+◌, ◌-◌, ◌*�
 ghost use Rattle.std.specs.Option.{option_copied, option_map, option_and_then};
 ghost use Rattle.aos_code.specs.declared.instr.Cell.{Cell as CellOf};
 ghost use Rattle.aos_code.specs.declared.instr.Cell.TheVariants.{Num};
-ghost use Rattle.aos_code.specs.Machine.{Frame as FrameOf, if_all, whole_at, lengths_in, length_in, first_cell as first_cell_of};
+ghost use Rattle.aos_code.specs.Machine.{Frame as FrameOf, if_all, whole_at, lengths_in, length_in, object_of as object_of_call, arguments_of as arguments_of_call, first_cell as first_cell_of};
 ghost use Rattle.aos_store.specs.Store.{frame_in, list_in, frames_in, memory_in, rooted_in, SameCounts};
 ghost use Rattle.aos_silent.specs.declared.act.Question.TheVariants.{Calls};
 ghost use Rattle.aos_cpu.specs.Turns.{HasAnswered, Same, WhereLeft};
@@ -186,6 +186,26 @@ fn past(args: &[Cell], taken: usize) -> &[Cell]
     &args[taken.min(args.len())..]
 }
 
+/// The object on which a procedure is called, which comes before its arguments where it is a method; 0 for none.
+fn object_of(method: bool, args: &[Cell]) -> u32
+    ensures { result ≡ object_of_call method args.now }
+{
+    if !method {
+        return 0;
+    }
+    match args.first().copied() {
+        Some(Cell::Ref(object)) => object,
+        _ => 0,
+    }
+}
+
+/// The arguments without the object.
+pub fn arguments_of(method: bool, args: &[Cell]) -> &[Cell]
+    ensures { result.now ≡ arguments_of_call method args.now }
+{
+    if method { past(args, 1) } else { args }
+}
+
 /// How many cells are copied for parameters, as far as a number goes; none where an argument can't be handed over.
 pub fn count_copied(
     frames: &Frames,
@@ -363,7 +383,7 @@ fn last_of(stack: &[Cell], count: usize) -> &[Cell]
     &stack[stack.len().saturating_sub(count)..]
 }
 
-/// The arguments of a call: so many of the topmost frame's topmost operands, in their order.
+/// The arguments of a call, with the object: so many of the topmost frame's topmost operands, in their order.
 pub fn arguments(frames: &Frames, count: usize) -> &[Cell]
     ensures { (f : FrameOf) (fs : List FrameOf) → list_in frames.now.list.items ≡ f ∷ fs → result.now ≡ reverse (take count f.stack) }
 {
@@ -383,12 +403,13 @@ pub fn count_with(counted: u32, copied: usize) -> u32
     }
 }
 
-/// The frame of a procedure that is called with these arguments.
+/// The frame of a procedure that is called on this object, 0 for none, with these arguments.
 fn make_frame(
     alloc: Global,
     frames: &Frames,
     store: &Store,
     procedure: u32,
+    object: u32,
     depth: u32,
     shape: &ProcShape,
     args: &[Cell],
@@ -396,13 +417,13 @@ fn make_frame(
     counted: u32,
 ) -> Result<Frame, NoMemory>
     ensures { (gs : List GiftOf) → gifts (rooted_in frames.now store.now) shape.now.params.items args.now ≡ Option.Some gs →
-        IfOk result (λ frame. frame_in frame ≡ called procedure counted (called_cells (length (list_in frames.now.list.items)) shape.now.kinds.items gs)) }
+        IfOk result (λ frame. frame_in frame ≡ called procedure object counted (called_cells (length (list_in frames.now.list.items)) shape.now.kinds.items gs)) }
 {
     let cells = called_frame_cells(alloc, frames, store, shape, args, copied)?;
     let operands = Vec::with_capacity(alloc, depth as usize)?;
     Ok(Frame {
         procedure,
-        object: 0,
+        object,
         next: 0,
         at: None,
         cells,
@@ -425,7 +446,7 @@ fn enter(frames: &mut Frames, frame: Frame, at: usize, taken: usize) -> Result<(
     Ok(())
 }
 
-/// A procedure of this shape is called, whose arguments are so many operands.
+/// A procedure of this shape is called, whose arguments are so many operands, with the object as the first.
 fn call_shape(
     alloc: Global,
     depth: u32,
@@ -442,7 +463,9 @@ fn call_shape(
     ensures err { (out : List ℕ) → OnErr result (Same frames.old frames.new (memory_in store.now) (memory_in store.now) out out) }
     ensures counts { SameCounts frames.old frames.new }
 {
-    let args = arguments(frames, count);
+    let all = arguments(frames, count);
+    let object = object_of(shape.method, all);
+    let args = arguments_of(shape.method, all);
     match count_copied(frames, store, &shape.params, args) {
         None => Ok(Did::Trapped(16, 0)),
         Some(copied) => {
@@ -451,7 +474,7 @@ fn call_shape(
                 return Ok(Did::Trapped(11, 0));
             }
             let frame = make_frame(
-                alloc, frames, store, procedure, depth, shape, args, copied, counted,
+                alloc, frames, store, procedure, object, depth, shape, args, copied, counted,
             )?;
             enter(frames, frame, at, count)?;
             Ok(Did::Went)
@@ -459,7 +482,7 @@ fn call_shape(
     }
 }
 
-/// A procedure is called, whose arguments are so many operands.
+/// A procedure is called, whose arguments are so many operands, with the object on which it is called as the first.
 pub fn call(
     alloc: Global,
     image: &Image,

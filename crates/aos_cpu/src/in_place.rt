@@ -8,6 +8,7 @@ ghost use Rattle.aos_code.specs.Silent.{act, gives, keeps_in};
 ghost use Rattle.aos_code.specs.Machine.{Frame as FrameOf, rooted, made_in, code_of as code_at};
 ghost use Rattle.aos_store.specs.Store.{frame_in, frames_in, memory_in, SameCounts};
 ghost use Rattle.aos_silent.specs.Acts.{IsBeginOf, WhereStays};
+ghost use Rattle.aos_silent.specs.Silent.{here_at};
 ghost use Rattle.aos_silent.specs.Steps.{IsStepOf};
 ghost use Rattle.aos_cpu.specs.Turns.{counted};
 ghost use Rattle.aos_cpu.specs.Private.{no_memory, IsMadePrivately};
@@ -38,7 +39,7 @@ fn go_after(code: &[Instr], at: usize, frame: &mut Frame, did: Act) -> Done
     requires within { at < length code.now }
     requires begins { IsBeginOf code.now did }
     ensures done { (image : Image) (here : ℕ) (mem : Memory) (f : FrameOf) → code.now ≡ code_at image f.procedure → at ≡ f.next →
-        IsStepOf image.types.items (made_in image mem) (act image.shapes.items image.types.items f.procedure here (get_or code.now at (Num (pos 0))) code.now at f.stack) did f (frame_in frame.old) →
+        IsStepOf image.shapes.items image.types.items (made_in image mem) (act image.shapes.items image.types.items f.procedure (here_at here f) (get_or code.now at (Num (pos 0))) code.now at f.stack) did f (frame_in frame.old) →
         WhereStays did (frame_in frame.old ≡ f) → IsDone image here result mem mem f (frame_in frame.new) }
     ensures ahead { IsAhead result at frame.new.next }
 {
@@ -61,7 +62,7 @@ fn go_after(code: &[Instr], at: usize, frame: &mut Frame, did: Act) -> Done
 fn give_top(code: &[Instr], at: usize, frame: &mut Frame, value: Cell) -> Done
     requires within { at < length code.now }
     ensures done { (image : Image) (here : ℕ) (mem : Memory) → code.now ≡ code_at image frame.old.procedure → at ≡ frame.old.next →
-        act image.shapes.items image.types.items frame.old.procedure here (get_or code.now at (Num (pos 0))) code.now at (frame_in frame.old).stack ≡ gives value (frame_in frame.old).stack →
+        act image.shapes.items image.types.items frame.old.procedure (here_at here (frame_in frame.old)) (get_or code.now at (Num (pos 0))) code.now at (frame_in frame.old).stack ≡ gives value (frame_in frame.old).stack →
         IsDone image here result mem mem (frame_in frame.old) (frame_in frame.new) }
     ensures ahead { IsAhead result at frame.new.next }
 {

@@ -81,13 +81,13 @@ module _ (ps : List ℕ) (shapes : List ProcShape) (types : List TypeDesc) (at :
   entered true g = tt
   entered false g = tt
 
-  called_with : (p : ℕ) (shape : ProcShape) (h : Option (Handed ps)) → Serves (calls_with ps p shape h at k s f fs mem)
-  called_with p shape None = tt
-  called_with p shape (Some h) = entered (is_deep ps (called_frame ps p shape h) (f ∷ fs)) (called_frame ps p shape h)
+  called_with : (p o : ℕ) (shape : ProcShape) (h : Option (Handed ps)) → Serves (calls_with ps p o shape h at k s f fs mem)
+  called_with p o shape None = tt
+  called_with p o shape (Some h) = entered (is_deep ps (called_frame ps p o shape h) (f ∷ fs)) (called_frame ps p o shape h)
 
   called : (shape : Option ProcShape) (p : ℕ) (vs : List Cell) → Serves (calls ps shape p vs at k s f fs mem)
   called None p vs = tt
-  called (Some shape) p vs = called_with p shape _
+  called (Some shape) p vs = called_with p _ shape _
 
   answered : (q : Question) → Serves (answer ps shapes types q at k s f fs mem)
   answered (Reads kind a) = has_read kind _

@@ -59,6 +59,7 @@ fn plain_operator(name: &str) -> Option<Instr> {
 fn plain(name: &str) -> Option<Instr> {
     match name {
         "nil" => Some(Instr::Nil),
+        "self" => Some(Instr::SelfRef),
         "eq_ref" => Some(Instr::EqRef),
         "dup" => Some(Instr::Dup),
         "drop" => Some(Instr::Drop),
@@ -181,6 +182,7 @@ fn of_two_numbers(name: &str, first: i64, second: i64) -> Option<Instr> {
         "pick_len" => Some(Instr::PickLen(first, second)),
         "new_array" => Some(Instr::NewArray(first, second)),
         "begin" => Some(Instr::Begin(first, second)),
+        "virtual" => Some(Instr::Virtual(first, second)),
         _ => None,
     }
 }

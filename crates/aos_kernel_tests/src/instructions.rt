@@ -67,8 +67,50 @@ static PROCEDURES: [Procedure<'static>; 9] = [
     // two that count as many scalars as there may be, and one more
     (&[], &[], 65_536, None, "begin 10 1; return"),
     (&[], &[], 65_537, None, "begin 10 1; return"),
-    // the body of an object
-    (&[], &[], 0, None, "begin 10 1; num 111; out_char; return"),
+    // the body of an object of type 1
+    (
+        &[],
+        &[],
+        0,
+        None,
+        "begin 10 1; self; is 1; num 110; add 64; out_char; return",
+    ),
+];
+
+/// Procedures 11 to 15, which are methods.
+static METHODS: [Procedure<'static>; 5] = [
+    // the object's first cell and a number, and the number taken from it
+    (
+        &[ParamKind::Scalar(Kind::N)],
+        &[Kind::N],
+        1,
+        Some(Kind::N),
+        "begin 10 1; self; deref 0; load n; frame 0; load n; add 64; return",
+    ),
+    (
+        &[ParamKind::Scalar(Kind::N)],
+        &[Kind::N],
+        1,
+        Some(Kind::N),
+        "begin 10 1; self; deref 0; load n; frame 0; load n; sub 64; return",
+    ),
+    (&[], &[], 0, Some(Kind::N), "begin 10 1; num 5; return"),
+    // the object's first cell and the second one of a copy
+    (
+        &[ParamKind::Whole(2)],
+        &[Kind::N, Kind::N],
+        2,
+        Some(Kind::N),
+        "begin 10 1; self; deref 0; load n; frame 0; offset 1 0; load n; add 64; return",
+    ),
+    // what the object's own method in slot 0 gives
+    (
+        &[ParamKind::Scalar(Kind::N)],
+        &[Kind::N],
+        1,
+        Some(Kind::N),
+        "begin 10 1; self; frame 0; load n; virtual 0 11; return",
+    ),
 ];
 
 /// The characters `Hi`, 0X, 0X, `xy`, 0X and 5.
@@ -87,6 +129,7 @@ fn add_procedure(
     rt: &impl Abort,
     alloc: Global,
     image: &mut Image,
+    method: bool,
     procedure: &Procedure<'_>,
 ) -> Result<(), Fail> {
     let (params, kinds, counted, gives, code) = *procedure;
@@ -96,27 +139,30 @@ fn add_procedure(
     shape.params = Vec::from_slice(alloc, params)?;
     shape.kinds = Vec::from_slice(alloc, kinds)?;
     shape.result = gives;
+    shape.method = method;
     image.shapes.push(shape)?;
     let code = code_of(rt, alloc, code)?;
     image.bodies.push(Body { code, depth: 6 })?;
     Ok(())
 }
 
-/// The types of objects: one with a body; a record of a number and an object, and one that extends it by a number; and the element of
-/// an open array.
-static TYPES: [(u32, &[Kind], u32); 4] = [
-    (0, &[], 10),
-    (0, &[Kind::N, Kind::R], 0),
-    (2, &[Kind::N, Kind::R, Kind::N], 0),
-    (0, &[Kind::N], 0),
+/// The types of objects: one with a body; one of a number and an object, and one that extends it by a number and has another method in
+/// slot 0; the element of an open array; and one that has another shape of method in slot 0, and in slot 1 what is no method.
+static TYPES: [(u32, &[Kind], &[u32], u32); 5] = [
+    (0, &[], &[], 10),
+    (0, &[Kind::N, Kind::R], &[11, 13], 0),
+    (2, &[Kind::N, Kind::R, Kind::N], &[12, 13], 0),
+    (0, &[Kind::N], &[], 0),
+    (2, &[Kind::N, Kind::R], &[13, 2], 0),
 ];
 
 fn types_of(alloc: Global) -> Result<Vec<TypeDesc>, Fail> {
     let mut types = Vec::new(alloc);
-    for (base, kinds, body) in &TYPES {
+    for (base, kinds, methods, body) in &TYPES {
         types.push(TypeDesc {
             base: *base,
             kinds: Vec::from_slice(alloc, kinds)?,
+            methods: Vec::from_slice(alloc, methods)?,
             body: *body,
         })?;
     }
@@ -140,9 +186,12 @@ fn image_of(rt: &impl Abort, alloc: Global, cells: &[Cell], code: &str) -> Resul
         bodies: Vec::new(alloc),
     };
     image.modules.push(module_of(alloc, cells)?)?;
-    add_procedure(rt, alloc, &mut image, &(&[], &[], 0, None, code))?;
+    add_procedure(rt, alloc, &mut image, false, &(&[], &[], 0, None, code))?;
     for procedure in &PROCEDURES {
-        add_procedure(rt, alloc, &mut image, procedure)?;
+        add_procedure(rt, alloc, &mut image, false, procedure)?;
+    }
+    for method in &METHODS {
+        add_procedure(rt, alloc, &mut image, true, method)?;
     }
     if let Some(own) = image.shapes.first_mut() {
         own.keeps = 2;
@@ -385,6 +434,48 @@ fn calls(rt: HostRuntime) -> Result<(), Fail> {
     expect_all(&rt, rt.alloc(), &CALLS)
 }
 
+/// What comes of calls of methods on an object of this type, whose first cell holds 7, as a number, or the trap.
+static SENT: [(u32, &str, &str); 9] = [
+    (2, "num 3; virtual 0 11", "Ended 10"),
+    // the method of the object's own type, and that of its base
+    (3, "num 3; virtual 0 11", "Ended 4"),
+    (3, "num 3; call 11", "Ended 10"),
+    (3, "virtual 1 13", "Ended 5"),
+    // a method's own object, and what is copied for its parameter
+    (3, "num 3; call 15", "Ended 4"),
+    (2, "module 0 4; call 14", "Ended 128"),
+    // another shape in the slot, what is no method there, and no such slot
+    (5, "num 3; virtual 0 11", "Ended  trap 16 0"),
+    (5, "num 3; virtual 1 11", "Ended  trap 16 0"),
+    (2, "num 3; virtual 2 11", "Ended  trap 16 0"),
+];
+
+/// What comes of them on NIL, behind the arguments, and where there is no object.
+static SENT_TO_NONE: [(&str, &str); 7] = [
+    ("nil; num 3; virtual 0 11", "Ended  trap 1 0"),
+    ("nil; num 3; call 11", "Ended  trap 1 0"),
+    ("nil; num 3; num 0; div 64; virtual 0 11", "Ended  trap 6 0"),
+    ("nil; nil; virtual 0 11", "Ended  trap 16 0"),
+    ("num 1; num 3; virtual 0 11", "Ended  trap 16 0"),
+    ("num 3; call 11", "Ended  trap 16 0"),
+    ("self; is 1", "Ended  trap 16 0"),
+];
+
+#[test]
+fn methods(rt: HostRuntime) -> Result<(), Fail> {
+    let alloc = rt.alloc();
+    for (of_type, code, want) in &SENT {
+        let object = format!(in alloc; "new_object {of_type}; dup; deref 0; num 7; store n")?;
+        let written = format!(in alloc; "{object}; {code}; num 0; out_int")?;
+        expect(&rt, alloc, &written, want)?;
+    }
+    for (code, want) in &SENT_TO_NONE {
+        let written = format!(in alloc; "{code}; num 0; out_int")?;
+        expect(&rt, alloc, &written, want)?;
+    }
+    Ok(())
+}
+
 #[test]
 fn goes_back(rt: HostRuntime) -> Result<(), Fail> {
     let code = "module 0 7; load n; num 0; cmp #; jump_false 15; \
@@ -453,7 +544,7 @@ static UNSOUND: [&str; 37] = [
     "module 0 0; module 0 7; copy 2",
     "module 0 7; module 0 0; copy 2",
     "param 0",
-    "call 11",
+    "call 16",
     // another kind, or nothing, where an instruction takes its operand
     "module 0 0; load r",
     "num 1; load n",
@@ -476,8 +567,8 @@ static UNSOUND: [&str; 37] = [
     "module 0 4294967295; num 1; index 2 1",
     "module 0 4294967295; num 2; num 1; index_open 1 1",
     // no such type, an object that has fewer cells and lengths, a number for an object
-    "new_object 5; drop",
-    "num 1; new_array 5 1; drop",
+    "new_object 6; drop",
+    "num 1; new_array 6 1; drop",
     "new_object 2; deref 2; load n",
     "num 2; new_array 4 1; open_ref 2; drop",
     "num 1; deref 0; load n",

@@ -2,13 +2,25 @@
 
 use crate::assembly::code_of;
 use crate::images::body_shape;
-use aos_code::{Body, Cell, Image, Kind, ModuleDesc, ParamKind, TypeDesc};
+use aos_code::{Body, Cell, Image, Kind, ModuleDesc, ParamKind, ProcShape, TypeDesc};
 use aos_sound::{is_sound, is_sound_cond};
 use std::alloc::{AllocError, Global};
 use std::process::Abort;
 use std::test::Fail;
 
-/// A module of two cells, and one type, of a number. Procedure 1 gives nothing, and has a cell and keeps one value; procedure 2 gives a number;
+/// A method that takes a number and gives one.
+fn method(alloc: Global) -> Result<ProcShape, AllocError> {
+    let mut shape = body_shape(alloc);
+    shape.params = vec![in alloc; ParamKind::Scalar(Kind::N)]?;
+    shape.cells = 1;
+    shape.kinds = vec![in alloc; Kind::N]?;
+    shape.result = Some(Kind::N);
+    shape.method = true;
+    Ok(shape)
+}
+
+/// A module of two cells, and two types, of a number; the second one has a method, procedure 4, which takes and gives a number, in
+/// slot 0. Procedure 1 gives nothing, and has a cell and keeps one value; procedure 2 gives a number;
 /// procedure 3 takes a number and an open array, and gives a number.
 fn image(alloc: Global) -> Result<Image, AllocError> {
     let module = ModuleDesc {
@@ -30,12 +42,19 @@ fn image(alloc: Global) -> Result<Image, AllocError> {
     let record = TypeDesc {
         base: 0,
         kinds: vec![in alloc; Kind::N]?,
+        methods: Vec::new(alloc),
+        body: 0,
+    };
+    let object = TypeDesc {
+        base: 0,
+        kinds: vec![in alloc; Kind::N]?,
+        methods: vec![in alloc; 4]?,
         body: 0,
     };
     Ok(Image {
         modules: vec![in alloc; module]?,
-        types: vec![in alloc; record]?,
-        shapes: vec![in alloc; nothing, number, called]?,
+        types: vec![in alloc; record, object]?,
+        shapes: vec![in alloc; nothing, number, called, method(alloc)?]?,
         bodies: Vec::new(alloc),
     })
 }
@@ -83,7 +102,7 @@ static UNSOUND: [&str; 12] = [
     // no such place, module, type
     "module 0 3; load n; out_char; return",
     "module 1 0; load n; out_char; return",
-    "new_object 2; start; return",
+    "new_object 3; start; return",
     // a result that isn't due
     "num 1; return",
     // past the end
@@ -132,10 +151,10 @@ static UNSOUND_CALLS: [&str; 10] = [
     "module 0 1; num 1; num 1; call 3; out_char; return",
     "num 1; module 0 1; call 3; out_char; return",
     // no such procedure, cell, keep, type
-    "call 4; return",
+    "call 5; return",
     "frame 2; load n; out_char; return",
     "num 1; keep 1 n; return",
-    "module 0 1; offset 0 2; load n; out_char; return",
+    "module 0 1; offset 0 3; load n; out_char; return",
     // more lengths than there are, and one that isn't among them
     "module 0 1; num 1; pick_len 0 4294967295; out_char; return",
     "module 0 1; num 1; index_open 4294967295 1; load n; out_char; return",
@@ -154,15 +173,37 @@ static OBJECTS: [&str; 5] = [
 
 static UNSOUND_OBJECTS: [&str; 8] = [
     // no such type
-    "nil; is 2; out_char; return",
-    "nil; guard 2; drop; return",
-    "module 0 1; is_place 2; out_char; return",
-    "num 1; new_array 2 1; drop; return",
+    "nil; is 3; out_char; return",
+    "nil; guard 3; drop; return",
+    "module 0 1; is_place 3; out_char; return",
+    "num 1; new_array 3 1; drop; return",
     // a number for an object, an object for a place, one length too few, and one too many
     "num 1; deref 0; drop; return",
     "new_object 1; is_place 1; out_char; return",
     "num 1; new_array 1 2; drop; return",
     "nil; open_ref 1; drop; return",
+];
+
+static METHODS: [&str; 3] = [
+    // the object lies below the arguments
+    "new_object 2; num 1; call 4; out_char; return",
+    "new_object 2; num 1; virtual 0 4; out_char; return",
+    // whatever object it is
+    "nil; num 1; virtual 0 4; out_char; return",
+];
+
+static UNSOUND_METHODS: [&str; 8] = [
+    // without the object, with the object above the argument, and with a number for it
+    "num 1; call 4; out_char; return",
+    "num 1; virtual 0 4; out_char; return",
+    "num 1; new_object 2; virtual 0 4; out_char; return",
+    "num 1; num 1; call 4; out_char; return",
+    // a slot that no type has, and what is no method
+    "new_object 2; num 1; virtual 1 4; out_char; return",
+    "new_object 2; virtual 0 2; out_char; return",
+    "new_object 2; num 1; virtual 0 5; out_char; return",
+    // no object on which the procedure is called
+    "self; drop; return",
 ];
 
 static CONDITIONS: [&str; 4] = [
@@ -186,5 +227,17 @@ fn soundness_of_objects(rt: HostRuntime) -> Result<(), Fail> {
     let alloc = rt.alloc();
     expect(&rt, alloc, &OBJECTS, (true, false))?;
     expect(&rt, alloc, &UNSOUND_OBJECTS, (false, false))?;
+    Ok(())
+}
+
+#[test]
+fn soundness_of_methods(rt: HostRuntime) -> Result<(), Fail> {
+    let alloc = rt.alloc();
+    expect(&rt, alloc, &METHODS, (true, false))?;
+    expect(&rt, alloc, &UNSOUND_METHODS, (false, false))?;
+    let given = "self; deref 0; load n; return";
+    assert_eq!(rt; sound(&rt, alloc, given, 4)?, (true, false));
+    let asked = "self; is 2; jump_false 3; fail 7";
+    assert_eq!(rt; sound(&rt, alloc, asked, 4)?, (true, true));
     Ok(())
 }

@@ -11,7 +11,7 @@ use Rattle.aos_code.specs.declared.image.Image.{Image}
 use Rattle.aos_code.specs.declared.image.ProcShape.{ProcShape}
 use Rattle.aos_code.specs.Memory.{Memory, Addr}
 use Rattle.aos_code.specs.Silent.{Stack, Keeps, is_of}
-use Rattle.aos_code.specs.Machine.{Frame, Frames, rooted, cells_at, leaves, goes_on, behind, reads, writes, copies, stores_text, fitted, puts_text, compares, enters, called_frame, calls_with, calls, goes, stop_of, handed, text_in, code_in, character_then, character_cells}
+use Rattle.aos_code.specs.Machine.{object_of, arguments_of, Frame, Frames, rooted, cells_at, leaves, goes_on, behind, reads, writes, copies, stores_text, fitted, puts_text, compares, enters, called_frame, calls_with, calls, goes, stop_of, handed, text_in, code_in, character_then, character_cells}
 use Rattle.aos_store.specs.declared.frames.Frames.{Frames as KeptFrames}
 use Rattle.aos_store.specs.Store.{list_in, frames_in, has_all, deep}
 use Rattle.aos_silent.specs.declared.silent.Stop.{Stop as KeptStop}
@@ -83,16 +83,16 @@ module _ (following : List ℕ) (at : ℕ) (k : Keeps) (s : Stack) (f : Frame) (
       ∙ ap (option_map (put_as following (suc (length fs)) (rooted (f ∷ fs) mem) (length shape.kinds.items))) e
 
   -- a call whose arguments can't be handed over
-  pub call_lost : (shape : ProcShape) (p : ℕ) (vs : List Cell) → gifts (rooted (f ∷ fs) mem) shape.params.items vs ≡ None → false ≡ has_gone (calls following (Some shape) p vs at k s f fs mem).left
-  call_lost shape p vs e = ap (λ h. has_gone (calls_with following p shape h at k s f fs mem).left) (sym (handed_is shape vs None e))
+  pub call_lost : (shape : ProcShape) (p : ℕ) (vs : List Cell) → gifts (rooted (f ∷ fs) mem) shape.params.items (arguments_of shape.method vs) ≡ None → false ≡ has_gone (calls following (Some shape) p vs at k s f fs mem).left
+  call_lost shape p vs e = ap (λ h. has_gone (calls_with following p (object_of shape.method vs) shape h at k s f fs mem).left) (sym (handed_is shape (arguments_of shape.method vs) None e))
 
   -- one whose arguments can be, where the frame isn't one too many
-  pub call_gone : (shape : ProcShape) (p : ℕ) (vs : List Cell) (gs : List Gift) (is : Bool) → gifts (rooted (f ∷ fs) mem) shape.params.items vs ≡ Some gs →
+  pub call_gone : (shape : ProcShape) (p : ℕ) (vs : List Cell) (gs : List Gift) (is : Bool) → gifts (rooted (f ∷ fs) mem) shape.params.items (arguments_of shape.method vs) ≡ Some gs →
       is ≡ not (deep (shape.counted + length (all_copied gs)) (f ∷ fs)) → is ≡ has_gone (calls following (Some shape) p vs at k s f fs mem).left
   call_gone shape p vs gs is e h =
       let given = put_as following (suc (length fs)) (rooted (f ∷ fs) mem) (length shape.kinds.items) gs in
-      enter_gone (deep (shape.counted + length (all_copied gs)) (f ∷ fs)) is (called_frame following p shape given) h
-      ∙ ap (λ x. has_gone (calls_with following p shape x at k s f fs mem).left) (sym (handed_is shape vs (Some gs) e))
+      enter_gone (deep (shape.counted + length (all_copied gs)) (f ∷ fs)) is (called_frame following p (object_of shape.method vs) shape given) h
+      ∙ ap (λ x. has_gone (calls_with following p (object_of shape.method vs) shape x at k s f fs mem).left) (sym (handed_is shape (arguments_of shape.method vs) (Some gs) e))
 
 -- turns of frames that are alike are private alike
 pub private_alike : (image : Image) (fs gs : Frames) → Alike image (made_by []) fs gs → is_private image fs ≡ is_private image gs

@@ -9,7 +9,7 @@ ghost use Rattle.aos_silent.specs.Acts.{addr_in};
 ghost use Rattle.aos_private.specs.Goes.{holds as holds_kind, stored_len as stored_length, takes_text as takes, TellsCall, TellsOwn};
 
 use aos_code::{Cell, Image, Kind, ProcShape};
-use aos_cpu::calls::{arguments, count_copied, count_with};
+use aos_cpu::calls::{arguments, arguments_of, count_copied, count_with};
 use aos_cpu::texts::{array_at, code, compare_at, length_of};
 use aos_silent::{Question, Spot, is_of, numbered};
 use aos_store::{Frames, Store, has_cells_at, load_at};
@@ -89,11 +89,13 @@ fn takes_text(
     }
 }
 
-/// Whether a procedure of this shape is called, whose arguments are so many operands: they can be handed over, and it isn't too deep.
+/// Whether a procedure of this shape is called, whose arguments are so many operands, with the object as the first: they can be handed over, and it isn't too deep.
 fn enters(frames: &Frames, store: &Store, shape: &ProcShape, count: usize) -> bool
     ensures { TellsCall result (Option.Some shape.now) count frames.now (memory_in store.now) }
 {
-    match count_copied(frames, store, &shape.params, arguments(frames, count)) {
+    let all = arguments(frames, count);
+    let args = arguments_of(shape.method, all);
+    match count_copied(frames, store, &shape.params, args) {
         None => false,
         Some(copied) => !frames.is_deep(count_with(shape.counted, copied)),
     }

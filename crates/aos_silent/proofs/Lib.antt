@@ -8,3 +8,4 @@ pub mod Roomy
 pub mod Knowing
 pub mod Telling
 pub mod Extending
+mod Receivers

@@ -18,6 +18,7 @@ use Rattle.aos_store.specs.declared.frames.Frame.{Frame as KeptFrame}
 use Rattle.aos_store.specs.Store.{frame_in, kept_cells}
 use Rattle.aos_silent.specs.declared.act.Act.{Act as KeptAct}
 use Rattle.aos_silent.specs.declared.act.Act.TheVariants.{Goes as GoesOn, Begins as BeginsAt}
+use Rattle.aos_silent.specs.Silent.{here_at}
 use Rattle.aos_silent.specs.Steps.{IsStepOf, after}
 use Rattle.aos_silent.specs.Room.{IsFull, HasNoRow, IsRefused, StandsInRoom}
 
@@ -34,7 +35,7 @@ never_refused image depth keeps code f paths room len i is = by_instr i is
     -- where an object is on top, code has room for the place and the lengths that it tells
     no_row : (j : ℕ) → slice_get code f.next ≡ Some (instr.OpenRef j) → HasNoRow j f → ⊥
     no_row j is r =
-        let st = subst (λ s. StandsAfter image f.procedure code f.next (act image.shapes.items image.types.items f.procedure 0 (instr.OpenRef j) code f.next s)) r.2 (paths.step 0 f.next (instr.OpenRef j) (frame_in f).stack is room.stands) in
+        let st = subst (λ s. StandsAfter image f.procedure code f.next (act image.shapes.items image.types.items f.procedure (here_at 0 (frame_in f)) (instr.OpenRef j) code f.next s)) r.2 (paths.step (here_at 0 (frame_in f)) f.next (instr.OpenRef j) (frame_in f).stack is room.stands) in
         let l = paths.told (f.next + 1) (row j) r.1 st in
         let long : length (row j) ≡ j + 1 = length-append (replicate j N) (A ∷ []) ∙ ap (λ n. n + 1) (length-replicate j N) in
         omega (arith, l, long, r.3, room.operands)
@@ -42,6 +43,7 @@ never_refused image depth keeps code f paths room len i is = by_instr i is
     by_instr : (i : Instr) → slice_get code f.next ≡ Some i → IsRefused keeps i f → ⊥
     by_instr (instr.Num n) is r = has_more (instr.Num n) is refl r
     by_instr instr.Nil is r = has_more instr.Nil is refl r
+    by_instr instr.SelfRef is r = has_more instr.SelfRef is refl r
     by_instr (instr.OpenRef j) is r = no_row j is r
     by_instr instr.Dup is r = has_more instr.Dup is refl r
     by_instr (instr.Frame c) is r = has_more (instr.Frame c) is refl r
@@ -64,7 +66,7 @@ still_room image depth keeps code f g room more kept own n stands =
 
 -- The first instruction of a frame has been done, which stands on a path with room.
 module _ (image : Image) (made : ℕ → Option Made) (here depth keeps : ℕ) (code : List Instr) (f g : KeptFrame) (did : KeptAct) (within : f.next < length code)
-    (step : IsStepOf image.types.items made (act image.shapes.items image.types.items f.procedure here (get_or code f.next (Num (pos 0))) code f.next (frame_in f).stack) did (frame_in f) (frame_in g))
+    (step : IsStepOf image.shapes.items image.types.items made (act image.shapes.items image.types.items f.procedure (here_at here (frame_in f)) (get_or code f.next (Num (pos 0))) code f.next (frame_in f).stack) did (frame_in f) (frame_in g))
     (more : vec_capacity f.operands ≤ vec_capacity g.operands) (kept : length (kept_cells f) ≤ length (kept_cells g)) (paths : KeepsToPaths image f.procedure code depth) (room : StandsInRoom image depth keeps code f) where
   abbrev i : Instr
   i = get_or code f.next (Num (pos 0))
@@ -74,7 +76,7 @@ module _ (image : Image) (made : ℕ → Option Made) (here depth keeps : ℕ) (
 
   -- where silent work goes on after it
   comes : (d : KeptAct) → did ≡ d → (next : ℕ → ℕ → Keeps → Stack → Stop) →
-      on_act image.types.items made (frame_in f).cells (act image.shapes.items image.types.items f.procedure here i code f.next (frame_in f).stack) next f.next (frame_in f).keeps ≡ after d next f.next (frame_in g).keeps (frame_in g).stack
+      on_act image.shapes.items image.types.items made (frame_in f).cells (act image.shapes.items image.types.items f.procedure (here_at here (frame_in f)) i code f.next (frame_in f).stack) next f.next (frame_in f).keeps ≡ after d next f.next (frame_in g).keeps (frame_in g).stack
   comes d e next =
       step.goes next f.next
       ∙ ap (λ x. after x next f.next (frame_in g).keeps (frame_in g).stack) e
@@ -87,7 +89,7 @@ module _ (image : Image) (made : ℕ → Option Made) (here depth keeps : ℕ) (
   room_on over n e at small =
       let stack = (frame_in g).stack in
       let stands : StandsOn image f.procedure code (f.next + 1 + over) stack =
-      paths.goes here made (frame_in f).cells f.next i (frame_in f).keeps (frame_in f).stack is room.stands over (frame_in g).keeps stack (comes (GoesOn over) e) in
+      paths.goes (here_at here (frame_in f)) made (frame_in f).cells f.next i (frame_in f).keeps (frame_in f).stack is room.stands over (frame_in g).keeps stack (comes (GoesOn over) e) in
       let lt = paths.within (f.next + 1 + over) stack stands in
       let there : n ≡ f.next + 1 + over = omega (arith, at, lt, small) in
       still_room image depth keeps code f g room more kept own n (subst (λ m. StandsOn image f.procedure code m stack) (sym there) stands)
@@ -96,7 +98,7 @@ module _ (image : Image) (made : ℕ → Option Made) (here depth keeps : ℕ) (
   pub room_begin : (to : ℕ) (p : Pos) → did ≡ BeginsAt to p → StandsInRoom image depth keeps code (record g { next = to })
   room_begin to p e =
       let stack = (frame_in g).stack in
-      let begun = paths.begun here made (frame_in f).cells f.next i (frame_in f).keeps (frame_in f).stack is room.stands to p (frame_in g).keeps stack (comes (BeginsAt to p) e) in
+      let begun = paths.begun (here_at here (frame_in f)) made (frame_in f).cells f.next i (frame_in f).keeps (frame_in f).stack is room.stands to p (frame_in g).keeps stack (comes (BeginsAt to p) e) in
       still_room image depth keeps code f g room more kept own to begun.1
 
   -- and where it stays

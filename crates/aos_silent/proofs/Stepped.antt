@@ -1,19 +1,20 @@
 -- An act that has been done on a frame's operands is a step.
-use Rattle.std.proofs.Common.{◌≡◌, ℕ, suc, ◌+◌, refl, sym, ap, ◌∙◌, List, [], ◌∷◌, ◌++◌, drop}
-use Rattle.std.specs.Prelude.{Option, Some, None, Bool, slice_get}
+use Rattle.std.proofs.Common.{◌≡◌, ℕ, suc, ◌+◌, refl, sym, ap, ◌∙◌, List, [], ◌∷◌, ◌++◌, reverse, take, drop}
+use Rattle.std.specs.Prelude.{Option, Some, None, slice_get}
+use Rattle.aos_base.specs.Question.{Calls}
 use Rattle.aos_base.specs.Rooted.{Made}
 use Rattle.aos_code.specs.declared.instr.Cell.{Cell}
 use Rattle.aos_code.specs.declared.instr.Cell.TheVariants.{Num, Ref, Call as CallCell, Place}
+use Rattle.aos_code.specs.declared.image.ProcShape.{ProcShape}
 use Rattle.aos_code.specs.declared.image.TypeDesc.{TypeDesc}
-use Rattle.aos_code.specs.Silent.{Stack, Keeps, Stop, Look, Act, Goes, Looks, Stops, Fails, lost, Visible, noted, looks, Told, Tells, Refuses, Unheard, told_by, on_told, on_act, on_noted}
+use Rattle.aos_code.specs.Silent.{Stack, Keeps, Work, Look, Act, Looks, Stops, lost, Visible, noted, looks, Tells, Refuses, Invokes, Unheard, told_by, on_told, on_act, on_noted}
 use Rattle.aos_code.specs.Machine.{Frame}
 use Rattle.aos_silent.specs.declared.act.Act.{Act as KeptAct}
 use Rattle.aos_silent.specs.declared.act.Act.TheVariants.{Goes as GoesOn, Sees as Asks, Begins as BeginsAt, Fails as FailsWith}
 use Rattle.aos_silent.specs.declared.act.Question.{Question as KeptQuestion}
 use Rattle.aos_silent.specs.declared.act.Question.TheVariants.{Reads as AsksRead, Stores as AsksStore, Copies as AsksCopy, PutsText as AsksPutText, ComparesTexts as AsksCompare, Calls as AsksCall, Ends as AsksEnd, Makes as AsksNew, Starts as AsksStart, PutsInt as AsksInt, PutsChar as AsksChar, PutsString as AsksString, PutsNothing as AsksNothing, PutsLn as AsksLn}
 use Rattle.aos_silent.specs.Acts.{question_in, operands_of, act_in, object_in}
-use Rattle.aos_silent.specs.Known.{Knows}
-use Rattle.aos_silent.specs.Steps.{after, WhereMoves, DoesSo, IsStep, IsStepOf, IsTold}
+use Rattle.aos_silent.specs.Steps.{WhereMoves, DoesSo, IsStep, IsStepOf, IsTold}
 
 -- no question of the code is silent
 visible : (cells : List Cell) (q : KeptQuestion) (s : Stack) → noted cells (question_in q s) ≡ Visible
@@ -32,16 +33,16 @@ visible cells (AsksString p n) s = refl
 visible cells AsksNothing s = refl
 visible cells AsksLn s = refl
 
-done : (did : KeptAct) (types : List TypeDesc) (made : ℕ → Option Made) (cells : List Cell) (k : Keeps) (s : Stack) → DoesSo types made cells (act_in did s) did k k s
-done (GoesOn over) types made cells k s next at = refl
-done (Asks q) types made cells k s next at = ap (λ n. on_noted n (question_in q s) next at k (drop (operands_of q) s)) (visible cells q s)
-done (BeginsAt to p) types made cells k s next at = refl
-done (FailsWith n c) types made cells k s next at = refl
+done : (did : KeptAct) (shapes : List ProcShape) (types : List TypeDesc) (made : ℕ → Option Made) (cells : List Cell) (k : Keeps) (s : Stack) → DoesSo shapes types made cells (act_in did s) did k k s
+done (GoesOn over) shapes types made cells k s next at = refl
+done (Asks q) shapes types made cells k s next at = ap (λ n. on_noted n (question_in q s) next at k (drop (operands_of q) s)) (visible cells q s)
+done (BeginsAt to p) shapes types made cells k s next at = refl
+done (FailsWith n c) shapes types made cells k s next at = refl
 
 -- the frame's operands after it are s
 pub stepped : (did : KeptAct) (a : Act) (f : Frame) (s : Stack) → act_in did s ≡ a → IsStep a did f (record f { stack = s })
 stepped did a f s e =
-    record { goes = λ types made next at. ap (λ b. on_act types made f.cells b next at f.keeps) (sym e) ∙ done did types made f.cells f.keeps s next at; same = refl }
+    record { goes = λ shapes types made next at. ap (λ b. on_act shapes types made f.cells b next at f.keeps) (sym e) ∙ done did shapes types made f.cells f.keeps s next at; same = refl }
 
 where_moves : (did : KeptAct) (P : Type 0) → P → WhereMoves did P
 where_moves (GoesOn over) P p = p
@@ -49,47 +50,58 @@ where_moves (Asks q) P p = tt
 where_moves (BeginsAt to pos) P p = p
 where_moves (FailsWith n c) P p = tt
 
-module _ (types : List TypeDesc) (made : ℕ → Option Made) where
+module _ (shapes : List ProcShape) (types : List TypeDesc) (made : ℕ → Option Made) where
   -- what is done whatever objects were made as
-  pub of_any : (a : Act) (did : KeptAct) (f g : Frame) → IsStep a did f g → IsStepOf types made a did f g
+  pub of_any : (a : Act) (did : KeptAct) (f g : Frame) → IsStep a did f g → IsStepOf shapes types made a did f g
   of_any a did f g step =
       record {
-        goes = step.goes types made;
-        more = λ all k. where_moves did (DoesSo types all f.cells a did f.keeps g.keeps g.stack) (step.goes types all);
+        goes = step.goes shapes types made;
+        more = λ all k. where_moves did (DoesSo shapes types all f.cells a did f.keeps g.keeps g.stack) (step.goes shapes types all);
         same = step.same;
       }
 
-  pub stepped_of : (did : KeptAct) (a : Act) (f : Frame) (s : Stack) → act_in did s ≡ a → IsStepOf types made a did f (record f { stack = s })
+  pub stepped_of : (did : KeptAct) (a : Act) (f : Frame) (s : Stack) → act_in did s ≡ a → IsStepOf shapes types made a did f (record f { stack = s })
   stepped_of did a f s e = of_any a did f (record f { stack = s }) (stepped did a f s e)
 
   -- what is told of an object, on a frame
-  pub told_step : (a : Act) (did : KeptAct) (f : Frame) (s : Stack) → IsTold types made a did s → IsStepOf types made a did f (record f { stack = s })
+  pub told_step : (a : Act) (did : KeptAct) (f : Frame) (s : Stack) → IsTold shapes types made a did s → IsStepOf shapes types made a did f (record f { stack = s })
   told_step a did f s told = record { goes = told.goes f.cells f.keeps; more = λ all k. told.more all k f.cells f.keeps; same = refl }
 
   -- What is told where the act is known.
 
-  pub told_any : (did : KeptAct) (a : Act) (s : Stack) → act_in did s ≡ a → IsTold types made a did s
+  pub told_any : (did : KeptAct) (a : Act) (s : Stack) → act_in did s ≡ a → IsTold shapes types made a did s
   told_any did a s e =
-      let so : (all : ℕ → Option Made) (cells : List Cell) (k : Keeps) → DoesSo types all cells a did k k s = λ all cells k next at. ap (λ b. on_act types all cells b next at k) (sym e) ∙ done did types all cells k s next at in
-      record { goes = λ cells k. so made cells k; more = λ all h cells k. where_moves did (DoesSo types all cells a did k k s) (so all cells k) }
+      let so : (all : ℕ → Option Made) (cells : List Cell) (k : Keeps) → DoesSo shapes types all cells a did k k s = λ all cells k next at. ap (λ b. on_act shapes types all cells b next at k) (sym e) ∙ done did shapes types all cells k s next at in
+      record { goes = λ cells k. so made cells k; more = λ all h cells k. where_moves did (DoesSo shapes types all cells a did k k s) (so all cells k) }
 
-  pub told_tells : (l : Look) (o : ℕ) (a : Act) (m : Made) (vs : List Cell) (s t : Stack) → a ≡ Looks l o t → made o ≡ Some m → told_by types l o (Some m) ≡ Tells vs → s ≡ vs ++ t → IsTold types made a (GoesOn 0) s
+  pub told_tells : (l : Look) (o : ℕ) (a : Act) (m : Made) (vs : List Cell) (s t : Stack) → a ≡ Looks l o t → made o ≡ Some m → told_by shapes types l o (Some m) ≡ Tells vs → s ≡ vs ++ t → IsTold shapes types made a (GoesOn 0) s
   told_tells l o a m vs s t is known tells e =
-      let so : (all : ℕ → Option Made) → all o ≡ Some m → (cells : List Cell) (k : Keeps) → DoesSo types all cells a (GoesOn 0) k k s =
+      let so : (all : ℕ → Option Made) → all o ≡ Some m → (cells : List Cell) (k : Keeps) → DoesSo shapes types all cells a (GoesOn 0) k k s =
       λ all h cells k next at.
-      ap (λ b. on_act types all cells b next at k) is ∙ ap (λ r. on_told (told_by types l o r) next at k t) h ∙ ap (λ r. on_told r next at k t) tells ∙ ap (next 0 (at + 1) k) (sym e) in
+      ap (λ b. on_act shapes types all cells b next at k) is ∙ ap (λ r. on_told (told_by shapes types l o r) next at k t) h ∙ ap (λ r. on_told r next at k t) tells ∙ ap (next 0 (at + 1) k) (sym e) in
       record { goes = λ cells k. so made known cells k; more = λ all h cells k. so all (h o m known) cells k }
 
-  pub told_refuses : (l : Look) (o : ℕ) (a : Act) (m : Made) (n : ℕ) (s t : Stack) → a ≡ Looks l o t → made o ≡ Some m → told_by types l o (Some m) ≡ Refuses n → IsTold types made a (FailsWith n 0) s
+  pub told_refuses : (l : Look) (o : ℕ) (a : Act) (m : Made) (n : ℕ) (s t : Stack) → a ≡ Looks l o t → made o ≡ Some m → told_by shapes types l o (Some m) ≡ Refuses n → IsTold shapes types made a (FailsWith n 0) s
   told_refuses l o a m n s t is known refuses =
       record {
-        goes = λ cells k next at. ap (λ b. on_act types made cells b next at k) is ∙ ap (λ r. on_told (told_by types l o r) next at k t) known ∙ ap (λ r. on_told r next at k t) refuses;
+        goes = λ cells k next at. ap (λ b. on_act shapes types made cells b next at k) is ∙ ap (λ r. on_told (told_by shapes types l o r) next at k t) known ∙ ap (λ r. on_told r next at k t) refuses;
         more = λ all h cells k. tt;
       }
 
-  pub told_unheard : (l : Look) (o : ℕ) (a : Act) (s t : Stack) → a ≡ Looks l o t → told_by types l o (made o) ≡ Unheard → IsTold types made a (FailsWith 16 0) s
+  -- a method that is called with these arguments, which lie on the stack
+  pub told_invokes : (l : Look) (o : ℕ) (a : Act) (m : Made) (q count : ℕ) (vs : List Cell) (s t : Stack) → a ≡ Looks l o t → made o ≡ Some m → told_by shapes types l o (Some m) ≡ Invokes q vs →
+      reverse (take count s) ≡ vs → drop count s ≡ t → IsTold shapes types made a (Asks (AsksCall q count)) s
+  told_invokes l o a m q count vs s t is known invokes args rest =
+      record {
+        goes = λ cells k next at.
+            ap (λ b. on_act shapes types made cells b next at k) is ∙ ap (λ r. on_told (told_by shapes types l o r) next at k t) known ∙ ap (λ r. on_told r next at k t) invokes
+            ∙ sym (λ i. Work (Calls q (args i)) at k (rest i));
+        more = λ all h cells k. tt;
+      }
+
+  pub told_unheard : (l : Look) (o : ℕ) (a : Act) (s t : Stack) → a ≡ Looks l o t → told_by shapes types l o (made o) ≡ Unheard → IsTold shapes types made a (FailsWith 16 0) s
   told_unheard l o a s t is unheard =
-      record { goes = λ cells k next at. ap (λ b. on_act types made cells b next at k) is ∙ ap (λ r. on_told r next at k t) unheard; more = λ all h cells k. tt }
+      record { goes = λ cells k next at. ap (λ b. on_act shapes types made cells b next at k) is ∙ ap (λ r. on_told r next at k t) unheard; more = λ all h cells k. tt }
 
 -- What is on top where an object is asked.
 

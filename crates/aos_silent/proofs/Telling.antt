@@ -1,14 +1,13 @@
 -- What the topmost object tells, by whether it is one, NIL, and known.
-use Rattle.std.proofs.Common.{◌≡◌, ◌<◌, ◌≤◌, ◌-◌, ◌+◌, ℕ, zero, suc, List, [], ◌∷◌, ◌++◌, length, map, take, drop, reverse, refl, sym, ap, ◌∙◌, arith}
-use Rattle.std.specs.Prelude.{Option, Some, None, Bool, true, false, nat_le, slice_get, if◌then◌else◌}
+use Rattle.std.proofs.Common.{◌≡◌, ◌<◌, ℕ, zero, suc, List, [], ◌∷◌, ◌++◌, drop, refl, sym, ap, ◌∙◌, arith}
+use Rattle.std.specs.Prelude.{Some, None, slice_get}
 use Rattle.std.specs.Option.{option_map}
 use Rattle.std.proofs.lemmas.Option.{slice_get-map}
-use Rattle.std.proofs.lemmas.Bool.{le-leb, lt-ltb}
-use Rattle.aos_base.specs.Rooted.{Made, by_number}
+use Rattle.aos_base.specs.Rooted.{by_number}
 use Rattle.aos_code.specs.declared.instr.Cell.{Cell}
-use Rattle.aos_code.specs.declared.instr.Cell.TheVariants.{Num, Ref, Call as CallCell, Place}
+use Rattle.aos_code.specs.declared.image.ProcShape.{ProcShape}
 use Rattle.aos_code.specs.declared.image.TypeDesc.{TypeDesc}
-use Rattle.aos_code.specs.Silent.{Stack, Look, Act, Goes, Looks, Stops, Fails, lost, looks, gives, Told, Tells, Refuses, Unheard, told_by}
+use Rattle.aos_code.specs.Silent.{Stack, Look, Act, Goes, Looks, Stops, Fails, looks, gives, Tells, Refuses, Unheard, told_by}
 use Rattle.aos_store.specs.declared.heap.Object.{Object}
 use Rattle.aos_store.specs.Objects.{made_in}
 use Rattle.aos_silent.specs.declared.act.Act.TheVariants.{Goes as GoesOn, Fails as FailsWith}
@@ -31,28 +30,28 @@ looks_at : (l : Look) (nil : Stack → Act) (s : Stack) (n : ℕ) → 0 < n → 
 looks_at l nil s zero lt e = absurd (omega (arith, lt))
 looks_at l nil s (suc o) lt e = looks_one l nil s o e
 
-module _ (types : List TypeDesc) (os : List Object) (l : Look) (s s' : Stack) where
-  pub told_lost : (nil : Stack → Act) → None ≡ object_in (slice_get s 0) → IsTold types (known os) (looks l nil s) (FailsWith 16 0) s'
-  told_lost nil e = told_any types (known os) (FailsWith 16 0) (looks l nil s) s' (sym (looks_lost l nil s e))
+module _ (shapes : List ProcShape) (types : List TypeDesc) (os : List Object) (l : Look) (s s' : Stack) where
+  pub told_lost : (nil : Stack → Act) → None ≡ object_in (slice_get s 0) → IsTold shapes types (known os) (looks l nil s) (FailsWith 16 0) s'
+  told_lost nil e = told_any shapes types (known os) (FailsWith 16 0) (looks l nil s) s' (sym (looks_lost l nil s e))
 
-  pub told_nil_fails : (n : ℕ) → Some 0 ≡ object_in (slice_get s 0) → IsTold types (known os) (looks l (λ r. Stops (Fails n 0)) s) (FailsWith n 0) s'
-  told_nil_fails n e = told_any types (known os) (FailsWith n 0) (looks l (λ r. Stops (Fails n 0)) s) s' (sym (looks_nil l (λ r. Stops (Fails n 0)) s e))
+  pub told_nil_fails : (n : ℕ) → Some 0 ≡ object_in (slice_get s 0) → IsTold shapes types (known os) (looks l (λ r. Stops (Fails n 0)) s) (FailsWith n 0) s'
+  told_nil_fails n e = told_any shapes types (known os) (FailsWith n 0) (looks l (λ r. Stops (Fails n 0)) s) s' (sym (looks_nil l (λ r. Stops (Fails n 0)) s e))
 
-  pub told_nil_gives : (v : Cell) → Some 0 ≡ object_in (slice_get s 0) → s' ≡ v ∷ drop 1 s → IsTold types (known os) (looks l (λ r. gives v r) s) (GoesOn 0) s'
-  told_nil_gives v e put = told_any types (known os) (GoesOn 0) (looks l (λ r. gives v r) s) s' (ap (λ r. Goes 0 r) put ∙ sym (looks_nil l (λ r. gives v r) s e))
+  pub told_nil_gives : (v : Cell) → Some 0 ≡ object_in (slice_get s 0) → s' ≡ v ∷ drop 1 s → IsTold shapes types (known os) (looks l (λ r. gives v r) s) (GoesOn 0) s'
+  told_nil_gives v e put = told_any shapes types (known os) (GoesOn 0) (looks l (λ r. gives v r) s) s' (ap (λ r. Goes 0 r) put ∙ sym (looks_nil l (λ r. gives v r) s e))
 
   module _ (nil : Stack → Act) (n : ℕ) (some : 0 < n) (top : Some n ≡ object_in (slice_get s 0)) where
-    pub told_unknown : None ≡ by_number n os → IsTold types (known os) (looks l nil s) (FailsWith 16 0) s'
-    told_unknown e = told_unheard types (known os) l n (looks l nil s) s' (drop 1 s) (looks_at l nil s n some top) (ap (told_by types l n) (known_none os n e))
+    pub told_unknown : None ≡ by_number n os → IsTold shapes types (known os) (looks l nil s) (FailsWith 16 0) s'
+    told_unknown e = told_unheard shapes types (known os) l n (looks l nil s) s' (drop 1 s) (looks_at l nil s n some top) (ap (told_by shapes types l n) (known_none os n e))
 
-    pub told_one : (x : Object) (vs : List Cell) → Some x ≡ by_number n os → told_by types l n (Some (made_in x)) ≡ Tells vs → s' ≡ vs ++ drop 1 s → IsTold types (known os) (looks l nil s) (GoesOn 0) s'
-    told_one x vs e tells put = told_tells types (known os) l n (looks l nil s) (made_in x) vs s' (drop 1 s) (looks_at l nil s n some top) (known_one os n x e) tells put
+    pub told_one : (x : Object) (vs : List Cell) → Some x ≡ by_number n os → told_by shapes types l n (Some (made_in x)) ≡ Tells vs → s' ≡ vs ++ drop 1 s → IsTold shapes types (known os) (looks l nil s) (GoesOn 0) s'
+    told_one x vs e tells put = told_tells shapes types (known os) l n (looks l nil s) (made_in x) vs s' (drop 1 s) (looks_at l nil s n some top) (known_one os n x e) tells put
 
-    pub told_refused : (x : Object) (k : ℕ) → Some x ≡ by_number n os → told_by types l n (Some (made_in x)) ≡ Refuses k → IsTold types (known os) (looks l nil s) (FailsWith k 0) s'
-    told_refused x k e refuses = told_refuses types (known os) l n (looks l nil s) (made_in x) k s' (drop 1 s) (looks_at l nil s n some top) (known_one os n x e) refuses
+    pub told_refused : (x : Object) (k : ℕ) → Some x ≡ by_number n os → told_by shapes types l n (Some (made_in x)) ≡ Refuses k → IsTold shapes types (known os) (looks l nil s) (FailsWith k 0) s'
+    told_refused x k e refuses = told_refuses shapes types (known os) l n (looks l nil s) (made_in x) k s' (drop 1 s) (looks_at l nil s n some top) (known_one os n x e) refuses
 
-    pub told_few : (x : Object) → Some x ≡ by_number n os → told_by types l n (Some (made_in x)) ≡ Unheard → IsTold types (known os) (looks l nil s) (FailsWith 16 0) s'
-    told_few x e few = told_unheard types (known os) l n (looks l nil s) s' (drop 1 s) (looks_at l nil s n some top) (ap (told_by types l n) (known_one os n x e) ∙ few)
+    pub told_few : (x : Object) → Some x ≡ by_number n os → told_by shapes types l n (Some (made_in x)) ≡ Unheard → IsTold shapes types (known os) (looks l nil s) (FailsWith 16 0) s'
+    told_few x e few = told_unheard shapes types (known os) l n (looks l nil s) s' (drop 1 s) (looks_at l nil s n some top) (ap (told_by shapes types l n) (known_one os n x e) ∙ few)
 
 -- the place on top, and the operands below
 pub place_top : (s : Stack) (v : Cell) → Some v ≡ slice_get s 0 → s ≡ v ∷ drop 1 s

@@ -12,13 +12,13 @@ use Rattle.aos_code.specs.declared.instr.Instr.{Instr}
 use Rattle.aos_code.specs.declared.instr.Instr.TheVariants.{Begin, Num}
 use Rattle.aos_code.specs.declared.image.ProcShape.{ProcShape}
 use Rattle.aos_code.specs.declared.image.TypeDesc.{TypeDesc}
-use Rattle.aos_code.specs.Silent.{Stack, Keeps, Stop, Act, Begins, Ended, lost, act, on_act, walk, silent}
+use Rattle.aos_code.specs.Silent.{Here, Stack, Keeps, Stop, Act, Begins, Ended, lost, act, on_act, walk, silent}
 use Rattle.aos_code.specs.Machine.{Frame, code_of}
 use Rattle.aos_silent.specs.declared.act.Act.{Act as KeptAct}
 use Rattle.aos_silent.specs.declared.act.Act.TheVariants.{Goes as GoesOn, Begins as BeginsAt}
 use Rattle.aos_silent.specs.Acts.{IsBeginOf}
 use Rattle.aos_silent.specs.Steps.{after, WhereMoves, DoesSo}
-use Rattle.aos_silent.specs.Silent.{Seen, seen_at}
+use Rattle.aos_silent.specs.Silent.{Seen, here_at, seen_at}
 use Rattle.aos_silent.proofs.Arguments.{at_and_behind}
 
 pub drop_next : {X : Type 0} (at : ℕ) (xs : List X) (x : X) (rest : List X) → drop at xs ≡ x ∷ rest → drop (at + 1) xs ≡ rest
@@ -29,7 +29,7 @@ drop_next (suc at) (y ∷ xs) x rest e =
     let n : suc at + 1 ≡ suc (at + 1) = omega arith in
     ap (λ m. drop m (y ∷ xs)) n ∙ drop_next at xs x rest e
 
-module _ (shapes : List ProcShape) (types : List TypeDesc) (made : ℕ → Option Made) (own here : ℕ) (cells : List Cell) (code : List Instr) where
+module _ (shapes : List ProcShape) (types : List TypeDesc) (made : ℕ → Option Made) (own : ℕ) (here : Here) (cells : List Cell) (code : List Instr) where
   abbrev going : ℕ → Keeps → Stack → Stop
   going at k s = silent shapes types made own here cells code at k s
 
@@ -42,7 +42,7 @@ module _ (shapes : List ProcShape) (types : List TypeDesc) (made : ℕ → Optio
 
   -- the first instruction
   pub acts : (at : ℕ) (i : Instr) (k : Keeps) (s : Stack) → slice_get code at ≡ Some i →
-      going at k s ≡ on_act types made cells (act shapes types own here i code at s) (walk shapes types made own here cells code (drop (at + 1) code)) at k
+      going at k s ≡ on_act shapes types made cells (act shapes types own here i code at s) (walk shapes types made own here cells code (drop (at + 1) code)) at k
   acts at i k s here_is = ap (λ l. walk shapes types made own here cells code l 0 at k s) (at_and_behind code at i here_is)
 
   past_end : (at : ℕ) (k : Keeps) (s : Stack) → length code ≤ at → going at k s ≡ Ended lost k
@@ -68,24 +68,24 @@ module _ (shapes : List ProcShape) (types : List TypeDesc) (made : ℕ → Optio
 
 -- The first instruction of a frame has been done, whose code is that of the image, where silent work goes on or comes to a Begin.
 module _ (image : Image) (all : ℕ → Option Made) (here : ℕ) (f g : Frame) (code : List Instr) (did : KeptAct) (code_is : code ≡ code_of image f.procedure) (within : f.next < length code)
-    (moves : WhereMoves did (DoesSo image.types.items all f.cells (act image.shapes.items image.types.items f.procedure here (get_or code f.next (Num (pos 0))) code f.next f.stack) did f.keeps g.keeps g.stack))
+    (moves : WhereMoves did (DoesSo image.shapes.items image.types.items all f.cells (act image.shapes.items image.types.items f.procedure (here_at here f) (get_or code f.next (Num (pos 0))) code f.next f.stack) did f.keeps g.keeps g.stack))
     (same : g ≡ record f { keeps = g.keeps; stack = g.stack }) where
   abbrev from : ℕ → Keeps → Stack → Stop
-  from at k s = silent image.shapes.items image.types.items all f.procedure here f.cells code at k s
+  from at k s = silent image.shapes.items image.types.items all f.procedure (here_at here f) f.cells code at k s
 
   -- it is the image's silent work
-  from_is : (at : ℕ) (k : Keeps) (s : Stack) → from at k s ≡ silent image.shapes.items image.types.items all f.procedure here f.cells (code_of image f.procedure) at k s
-  from_is at k s = λ j. silent image.shapes.items image.types.items all f.procedure here f.cells (code_is j) at k s
+  from_is : (at : ℕ) (k : Keeps) (s : Stack) → from at k s ≡ silent image.shapes.items image.types.items all f.procedure (here_at here f) f.cells (code_of image f.procedure) at k s
+  from_is at k s = λ j. silent image.shapes.items image.types.items all f.procedure (here_at here f) f.cells (code_is j) at k s
 
   abbrev first : Act
-  first = act image.shapes.items image.types.items f.procedure here (get_or code f.next (Num (pos 0))) code f.next f.stack
+  first = act image.shapes.items image.types.items f.procedure (here_at here f) (get_or code f.next (Num (pos 0))) code f.next f.stack
 
   -- where silent work goes on after it
-  comes : (d : KeptAct) → did ≡ d → DoesSo image.types.items all f.cells first did f.keeps g.keeps g.stack →
-      from f.next f.keeps f.stack ≡ after d (walk image.shapes.items image.types.items all f.procedure here f.cells code (drop (f.next + 1) code)) f.next g.keeps g.stack
+  comes : (d : KeptAct) → did ≡ d → DoesSo image.shapes.items image.types.items all f.cells first did f.keeps g.keeps g.stack →
+      from f.next f.keeps f.stack ≡ after d (walk image.shapes.items image.types.items all f.procedure (here_at here f) f.cells code (drop (f.next + 1) code)) f.next g.keeps g.stack
   comes d e does =
-      let rest = walk image.shapes.items image.types.items all f.procedure here f.cells code (drop (f.next + 1) code) in
-      acts image.shapes.items image.types.items all f.procedure here f.cells code f.next (get_or code f.next (Num (pos 0))) f.keeps f.stack (slice_get-get_or code f.next (Num (pos 0)) within)
+      let rest = walk image.shapes.items image.types.items all f.procedure (here_at here f) f.cells code (drop (f.next + 1) code) in
+      acts image.shapes.items image.types.items all f.procedure (here_at here f) f.cells code f.next (get_or code f.next (Num (pos 0))) f.keeps f.stack (slice_get-get_or code f.next (Num (pos 0)) within)
       ∙ does rest f.next ∙ ap (λ x. after x rest f.next g.keeps g.stack) e
 
   -- a frame that stands elsewhere, with the operands that it left, is seen as before
@@ -97,12 +97,12 @@ module _ (image : Image) (all : ℕ → Option Made) (here : ℕ) (f g : Frame) 
 
   pub seen_on : (over m : ℕ) → did ≡ GoesOn over → m ≡ min (f.next + 1 + over) (2 ^ 64 - 1) → length code < 2 ^ 64 → seen_at image all here (record g { next = m }) ≡ seen_at image all here f
   seen_on over m e is small =
-      let does = subst (λ d. WhereMoves d (DoesSo image.types.items all f.cells first did f.keeps g.keeps g.stack)) e moves in
+      let does = subst (λ d. WhereMoves d (DoesSo image.shapes.items image.types.items all f.cells first did f.keeps g.keeps g.stack)) e moves in
       seen_so m
-      (sym (jumped image.shapes.items image.types.items all f.procedure here f.cells code f.next over m g.keeps g.stack is small)
-      ∙ sym (skips image.shapes.items image.types.items all f.procedure here f.cells code over (f.next + 1) (drop (f.next + 1) code) g.keeps g.stack refl) ∙ sym (comes (GoesOn over) e does))
+      (sym (jumped image.shapes.items image.types.items all f.procedure (here_at here f) f.cells code f.next over m g.keeps g.stack is small)
+      ∙ sym (skips image.shapes.items image.types.items all f.procedure (here_at here f) f.cells code over (f.next + 1) (drop (f.next + 1) code) g.keeps g.stack refl) ∙ sym (comes (GoesOn over) e does))
 
   pub seen_begin : (to : ℕ) (p : Pos) → did ≡ BeginsAt to p → IsBeginOf code did → seen_at image all here (record g { next = to }) ≡ seen_at image all here f
   seen_begin to p e begins =
-      let does = subst (λ d. WhereMoves d (DoesSo image.types.items all f.cells first did f.keeps g.keeps g.stack)) e moves in
-      seen_so to (at_begin image.shapes.items image.types.items all f.procedure here f.cells code to p g.keeps g.stack (subst (IsBeginOf code) e begins) ∙ sym (comes (BeginsAt to p) e does))
+      let does = subst (λ d. WhereMoves d (DoesSo image.shapes.items image.types.items all f.cells first did f.keeps g.keeps g.stack)) e moves in
+      seen_so to (at_begin image.shapes.items image.types.items all f.procedure (here_at here f) f.cells code to p g.keeps g.stack (subst (IsBeginOf code) e begins) ∙ sym (comes (BeginsAt to p) e does))

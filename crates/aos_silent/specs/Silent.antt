@@ -4,7 +4,7 @@ use Rattle.aos_base.specs.declared.text.Pos.{Pos}
 use Rattle.aos_base.specs.Rooted.{Made}
 use Rattle.aos_code.specs.declared.instr.Cell.{Cell}
 use Rattle.aos_code.specs.declared.image.Image.{Image}
-use Rattle.aos_code.specs.Silent.{Stop, Work, Ended as StopsAt, Begins, Fails, silent}
+use Rattle.aos_code.specs.Silent.{Here, Stop, Work, Ended as StopsAt, Begins, Fails, silent}
 use Rattle.aos_code.specs.Machine.{Frame, code_of}
 use Rattle.aos_silent.specs.declared.silent.Stop.{Stop as KeptStop}
 use Rattle.aos_silent.specs.declared.silent.Stop.TheVariants.{Work as AtWork, Begins as AtBegin, Fails as AtFault}
@@ -31,11 +31,15 @@ IsStopOf (AtWork q at) f = (at ≡ f.next) × (at + 1 < 2 ^ 64)
 IsStopOf (AtBegin at pos) f = at + 1 < 2 ^ 64
 IsStopOf (AtFault n c) f = Unit {0}
 
+-- where the instructions of a frame above so many others stand
+abbrev pub here_at : (below : ℕ) → Frame → Here
+here_at below f = record { below = below; self = f.object }
+
 module _ (image : Image) where
   -- the silent work of a frame above so many others, where objects are known to be made as this
   abbrev pub silent_at : (ℕ → Option Made) → ℕ → Frame → Stop
-  silent_at made here f = silent image.shapes.items image.types.items made f.procedure here f.cells (code_of image f.procedure) f.next f.keeps f.stack
+  silent_at made below f = silent image.shapes.items image.types.items made f.procedure (here_at below f) f.cells (code_of image f.procedure) f.next f.keeps f.stack
 
   abbrev pub seen_at : (ℕ → Option Made) → ℕ → Frame → Seen
-  seen_at made here f =
-      record { procedure = f.procedure; object = f.object; at = f.at; cells = f.cells; counted = f.counted; stop = silent_at made here f }
+  seen_at made below f =
+      record { procedure = f.procedure; object = f.object; at = f.at; cells = f.cells; counted = f.counted; stop = silent_at made below f }

@@ -4,6 +4,7 @@ use Rattle.aos_base.specs.Rooted.{Made}
 use Rattle.aos_code.specs.declared.instr.Cell.{Cell}
 use Rattle.aos_code.specs.declared.instr.Instr.{Instr}
 use Rattle.aos_code.specs.declared.instr.Instr.TheVariants as instr
+use Rattle.aos_code.specs.declared.image.ProcShape.{ProcShape}
 use Rattle.aos_code.specs.declared.image.TypeDesc.{TypeDesc}
 use Rattle.aos_code.specs.Silent.{Stack, Keeps, Begins, Fails, Stop, Work, Ended, Act, on_act}
 use Rattle.aos_code.specs.Machine.{Frame}
@@ -27,32 +28,32 @@ WhereMoves (BeginsAt at pos) P = P
 WhereMoves (FailsWith n c) P = Unit {0}
 
 -- beside these cells an act does this to what is kept and leaves these operands, where objects are known to be made as this
-abbrev pub DoesSo : List TypeDesc → (ℕ → Option Made) → List Cell → Act → KeptAct → (old new : Keeps) → Stack → Type 0
-DoesSo types made cells a did old new s = (next : ℕ → ℕ → Keeps → Stack → Stop) (at : ℕ) → on_act types made cells a next at old ≡ after did next at new s
+abbrev pub DoesSo : List ProcShape → List TypeDesc → (ℕ → Option Made) → List Cell → Act → KeptAct → (old new : Keeps) → Stack → Type 0
+DoesSo shapes types made cells a did old new s = (next : ℕ → ℕ → Keeps → Stack → Stop) (at : ℕ) → on_act shapes types made cells a next at old ≡ after did next at new s
 
 -- an act of a frame has been done, in which only operands and what is kept have changed, whatever objects were made as
 pub record IsStep (a : Act) (did : KeptAct) (old new : Frame) : Type 0 where
-  pub goes : (types : List TypeDesc) (made : ℕ → Option Made) → DoesSo types made old.cells a did old.keeps new.keeps new.stack
+  pub goes : (shapes : List ProcShape) (types : List TypeDesc) (made : ℕ → Option Made) → DoesSo shapes types made old.cells a did old.keeps new.keeps new.stack
   pub same : new ≡ record old { keeps = new.keeps; stack = new.stack }
 
 -- An act of a frame has been done, where objects are known to be made as this. Where it goes on, it would have gone on so if more were
 -- known.
-pub record IsStepOf (types : List TypeDesc) (made : ℕ → Option Made) (a : Act) (did : KeptAct) (old new : Frame) : Type 0 where
-  pub goes : DoesSo types made old.cells a did old.keeps new.keeps new.stack
-  pub more : (all : ℕ → Option Made) → Knows all made → WhereMoves did (DoesSo types all old.cells a did old.keeps new.keeps new.stack)
+pub record IsStepOf (shapes : List ProcShape) (types : List TypeDesc) (made : ℕ → Option Made) (a : Act) (did : KeptAct) (old new : Frame) : Type 0 where
+  pub goes : DoesSo shapes types made old.cells a did old.keeps new.keeps new.stack
+  pub more : (all : ℕ → Option Made) → Knows all made → WhereMoves did (DoesSo shapes types all old.cells a did old.keeps new.keeps new.stack)
   pub same : new ≡ record old { keeps = new.keeps; stack = new.stack }
 
 -- the same of operands alone, whatever is kept
-pub record IsTold (types : List TypeDesc) (made : ℕ → Option Made) (a : Act) (did : KeptAct) (s : Stack) : Type 0 where
-  pub goes : (cells : List Cell) (k : Keeps) → DoesSo types made cells a did k k s
-  pub more : (all : ℕ → Option Made) → Knows all made → (cells : List Cell) (k : Keeps) → WhereMoves did (DoesSo types all cells a did k k s)
+pub record IsTold (shapes : List ProcShape) (types : List TypeDesc) (made : ℕ → Option Made) (a : Act) (did : KeptAct) (s : Stack) : Type 0 where
+  pub goes : (cells : List Cell) (k : Keeps) → DoesSo shapes types made cells a did k k s
+  pub more : (all : ℕ → Option Made) → Knows all made → (cells : List Cell) (k : Keeps) → WhereMoves did (DoesSo shapes types all cells a did k k s)
 
 -- a frame with an operand more
 abbrev pub given_more : Cell → Frame → Frame
 given_more v f = record f { stack = v ∷ f.stack }
 
 -- what an instruction does: it gives an operand more or keeps one, works on the operands that there are, tests the type of a record,
--- asks an object, says where silent work goes on, or asks for memory and procedures, or for texts and output
+-- asks an object, or calls a method by what it was made as, says where silent work goes on, or asks for memory and procedures, or for texts and output
 pub data Group : Type 0 where
   OnFrame : Group
   Operands : Group
@@ -65,6 +66,7 @@ pub data Group : Type 0 where
 abbrev pub group_of : Instr → Group
 group_of (instr.Num n) = OnFrame
 group_of instr.Nil = OnFrame
+group_of instr.SelfRef = OnFrame
 group_of instr.Dup = OnFrame
 group_of instr.Drop = Operands
 group_of instr.Swap = Operands
@@ -99,6 +101,7 @@ group_of (instr.Copy n) = Asked
 group_of (instr.PutText strict) = Written
 group_of (instr.CmpText r) = Written
 group_of (instr.Call p) = Asked
+group_of (instr.Virtual k p) = Told
 group_of (instr.NewObject t) = Asked
 group_of (instr.NewArray t j) = Asked
 group_of instr.Start = Asked

@@ -1,9 +1,9 @@
 -- Operands of which an instruction takes many.
-use Rattle.std.specs.Prelude.{ℕ, ℤ, pos, negsuc, List, map, Option, Some, None, reverse, take, drop}
+use Rattle.std.specs.Prelude.{ℕ, ℤ, pos, negsuc, List, ◌∷◌, map, Option, Some, None, reverse, take, drop}
 use Rattle.aos_code.specs.declared.instr.Cell.{Cell}
 use Rattle.aos_code.specs.declared.instr.Cell.TheVariants.{Num, Ref, Call as CallCell, Place}
 use Rattle.aos_code.specs.declared.instr.Kind.{Kind}
-use Rattle.aos_code.specs.Silent.{Stack, Act, on_kinds}
+use Rattle.aos_code.specs.Silent.{Stack, Act, Told, Invokes, Unheard, on_kinds}
 use Rattle.aos_silent.specs.Acts.{number_in}
 
 -- a length, where a number is none below 0
@@ -36,3 +36,8 @@ rows_of s = reverse (map (λ v. length_or (number_or v)) s)
 -- operands of these kinds from one on that lies so deep
 abbrev pub kinds_from : List Kind → ℕ → (List Cell → Stack → Act) → Stack → Act
 kinds_from kinds depth k s = on_kinds kinds (reverse (take depth s)) k (drop depth s)
+
+-- this method, if any, is called on the object with these arguments
+abbrev pub invoking : Option ℕ → (object : ℕ) → List Cell → Told
+invoking None o vs = Unheard
+invoking (Some q) o vs = Invokes q (Ref o ∷ vs)

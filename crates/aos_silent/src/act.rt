@@ -21,7 +21,7 @@ pub enum Question {
     PutsText(bool, Spot, i64, Spot, i64),
     /// The places and lengths of two texts that are compared.
     ComparesTexts(Relation, Spot, i64, Spot, i64),
-    /// A procedure is called, whose arguments are so many operands.
+    /// A procedure is called, whose arguments are so many operands, with the object on which it is called as the first.
     Calls(u32, usize),
     /// The end of the frame, with the result where there is one.
     Ends(Option<Cell>),

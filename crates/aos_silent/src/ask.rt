@@ -5,7 +5,7 @@ ghost use Rattle.aos_code.specs.declared.instr.Cell.{Cell as CellOf};
 ghost use Rattle.aos_code.specs.declared.instr.Cell.TheVariants.{Num};
 ghost use Rattle.aos_code.specs.declared.instr.Kind.{Kind as KindOf};
 ghost use Rattle.aos_code.specs.Numbered.{numbered as numbered_of};
-ghost use Rattle.aos_code.specs.Silent.{Stack, Act as ActOf, Sees, counted_on, on_kind, on_kinds, on_place, on_text, stores, ends, kinds_of, calls};
+ghost use Rattle.aos_code.specs.Silent.{Stack, Act as ActOf, Sees, counted_on, on_kind, on_kinds, on_place, on_text, stores, ends, kinds_of, called, calls};
 ghost use Rattle.aos_silent.specs.Acts.{act_in, IsStay, or_lost};
 ghost use Rattle.aos_silent.specs.Taken.{kinds_from};
 
@@ -223,7 +223,7 @@ fn past_param(stack: &[Cell], depth: usize, param: ParamKind) -> Option<usize>
 }
 
 /// How many operands are handed over for these parameters, where they are of their kinds.
-fn arguments(stack: &[Cell], params: &[ParamKind]) -> Option<usize>
+pub fn arguments(stack: &[Cell], params: &[ParamKind]) -> Option<usize>
     ensures { (k : List CellOf → Stack → ActOf) → on_kinds (reverse (kinds_of params.now)) [] k (reverse stack.now) ≡
         or_lost result (λ d. k (reverse (take d (reverse stack.now))) (drop d (reverse stack.now))) }
 {
@@ -236,6 +236,22 @@ fn arguments(stack: &[Cell], params: &[ParamKind]) -> Option<usize>
     Some(depth)
 }
 
+/// A procedure is called, whose arguments are so many operands, and where it is a method the object on which it is called lies below
+/// them; trap 1 at NIL.
+fn ask_called(method: bool, procedure: u32, count: usize, stack: &[Cell]) -> Act
+    ensures act { act_in result (reverse stack.now) ≡ called method procedure (reverse (take count (reverse stack.now))) (drop count (reverse stack.now)) }
+    ensures stays { IsStay result }
+{
+    if !method {
+        return Act::Sees(Question::Calls(procedure, count));
+    }
+    match object(stack, count) {
+        None => LOST,
+        Some(0) => Act::Fails(1, 0),
+        Some(_) => Act::Sees(Question::Calls(procedure, count + 1)),
+    }
+}
+
 /// A procedure of these is called.
 pub fn ask_call(shapes: &[ProcShape], procedure: u32, stack: &[Cell]) -> Act
     ensures act { act_in result (reverse stack.now) ≡ calls (numbered_of shapes.now procedure) procedure (reverse stack.now) }
@@ -245,7 +261,7 @@ pub fn ask_call(shapes: &[ProcShape], procedure: u32, stack: &[Cell]) -> Act
         None => LOST,
         Some(shape) => match arguments(stack, &shape.params) {
             None => LOST,
-            Some(count) => Act::Sees(Question::Calls(procedure, count)),
+            Some(count) => ask_called(shape.method, procedure, count, stack),
         },
     }
 }

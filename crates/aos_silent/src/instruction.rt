@@ -4,10 +4,11 @@ ghost use Rattle.aos_code.specs.declared.instr.Instr.{Instr as InstrOf};
 ghost use Rattle.aos_code.specs.declared.image.ProcShape.{ProcShape as ShapeOf};
 ghost use Rattle.aos_code.specs.declared.image.TypeDesc.{TypeDesc as TypeOf};
 ghost use Rattle.aos_code.specs.Numbered.{numbered as numbered_of};
-ghost use Rattle.aos_code.specs.Silent.{act, keeps_in};
+ghost use Rattle.aos_code.specs.Silent.{Here, act, keeps_in};
 ghost use Rattle.aos_store.specs.Store.{frame_in, kept_cells};
 ghost use Rattle.aos_silent.specs.Acts.{operands_in, act_in, IsStay, IsBeginOf, WhereStays};
 ghost use Rattle.aos_silent.specs.Known.{known};
+ghost use Rattle.aos_silent.specs.Silent.{here_at};
 ghost use Rattle.aos_silent.specs.Steps.{IsStep, IsStepOf, Group, group_of};
 ghost use Rattle.aos_silent.specs.Room.{IsRefused};
 
@@ -17,11 +18,14 @@ use crate::ask::{
     ask_start, ask_store, ask_string,
 };
 use crate::image::numbered;
+use crate::methods::tell_method;
 use crate::objects::{
     compare_objects, guard_place, tell_array, tell_as, tell_cell, tell_is, test_place,
 };
 use crate::rows::{index_open, pick_length};
-use crate::step::{give_again, give_value, keep_value, kept_value, length_value, param_value};
+use crate::step::{
+    give_again, give_value, keep_value, kept_value, length_value, param_value, self_value,
+};
 use crate::values::{
     assert_true, drop_one, index, jump, jump_on_false, offset, operate_on_one, operate_on_two, swap,
 };
@@ -34,7 +38,7 @@ fn do_operands(instr: Instr, stack: &mut Vec<Cell>) -> Act
     requires { group_of instr ≡ Group.Operands }
     ensures kept { WhereStays result (stack.new ≡ stack.old) }
     ensures room { vec_capacity stack.new ≡ vec_capacity stack.old }
-    ensures act { (shapes : List ShapeOf) (types : List TypeOf) (own here at : ℕ) (code : List InstrOf) → act_in result (operands_in stack.new) ≡ act shapes types own here instr code at (operands_in stack.old) }
+    ensures act { (shapes : List ShapeOf) (types : List TypeOf) (own : ℕ) (here : Here) (at : ℕ) (code : List InstrOf) → act_in result (operands_in stack.new) ≡ act shapes types own here instr code at (operands_in stack.old) }
     ensures begins { (code : List InstrOf) → IsBeginOf code result }
 {
     match instr {
@@ -56,7 +60,7 @@ fn do_tests(instr: Instr, types: &[TypeDesc], stack: &mut Vec<Cell>) -> Act
     requires { group_of instr ≡ Group.Tested }
     ensures kept { WhereStays result (stack.new ≡ stack.old) }
     ensures room { vec_capacity stack.new ≡ vec_capacity stack.old }
-    ensures act { (shapes : List ShapeOf) (own here at : ℕ) (code : List InstrOf) → act_in result (operands_in stack.new) ≡ act shapes types.now own here instr code at (operands_in stack.old) }
+    ensures act { (shapes : List ShapeOf) (own : ℕ) (here : Here) (at : ℕ) (code : List InstrOf) → act_in result (operands_in stack.new) ≡ act shapes types.now own here instr code at (operands_in stack.old) }
     ensures begins { (code : List InstrOf) → IsBeginOf code result }
 {
     match instr {
@@ -66,16 +70,17 @@ fn do_tests(instr: Instr, types: &[TypeDesc], stack: &mut Vec<Cell>) -> Act
     }
 }
 
-/// An instruction that asks the topmost object, by what it was made as.
+/// An instruction that asks an object, or calls its method, by what it was made as.
 fn do_told(
     instr: Instr,
+    shapes: &[ProcShape],
     types: &[TypeDesc],
     heap: &Heap,
     frame: &mut Frame,
 ) -> Result<Act, NoMemory>
     requires { group_of instr ≡ Group.Told }
-    ensures ok { IfOk result (λ did. (shapes : List ShapeOf) (own here at : ℕ) (code : List InstrOf) →
-        IsStepOf types.now (known heap.now) (act shapes types.now own here instr code at (frame_in frame.old).stack) did (frame_in frame.old) (frame_in frame.new)) }
+    ensures ok { IfOk result (λ did. (own : ℕ) (here : Here) (at : ℕ) (code : List InstrOf) →
+        IsStepOf shapes.now types.now (known heap.now) (act shapes.now types.now own here instr code at (frame_in frame.old).stack) did (frame_in frame.old) (frame_in frame.new)) }
     ensures stays { IfOk result (λ did. WhereStays did (frame_in frame.new ≡ frame_in frame.old)) }
     ensures begins { (code : List InstrOf) → IfOk result (λ did. IsBeginOf code did) }
     ensures err { OnErr result (frame_in frame.new ≡ frame_in frame.old) }
@@ -88,6 +93,14 @@ fn do_told(
         Instr::Is(other) => Ok(tell_is(&mut frame.operands, types, heap, other)),
         Instr::Guard(other) => Ok(tell_as(&frame.operands, types, heap, other)),
         Instr::OpenRef(count) => tell_array(frame, heap, count),
+        Instr::Virtual(slot, procedure) => Ok(tell_method(
+            &frame.operands,
+            shapes,
+            types,
+            heap,
+            slot,
+            procedure,
+        )),
         _ => Ok(LOST),
     }
 }
@@ -99,7 +112,7 @@ fn do_jumps(instr: Instr, code: &[Instr], at: usize, stack: &mut Vec<Cell>) -> A
     requires group { group_of instr ≡ Group.Jumps }
     ensures kept { WhereStays result (stack.new ≡ stack.old) }
     ensures room { vec_capacity stack.new ≡ vec_capacity stack.old }
-    ensures act { (shapes : List ShapeOf) (types : List TypeOf) (own here : ℕ) → act_in result (operands_in stack.new) ≡ act shapes types own here instr code.now at (operands_in stack.old) }
+    ensures act { (shapes : List ShapeOf) (types : List TypeOf) (own : ℕ) (here : Here) → act_in result (operands_in stack.new) ≡ act shapes types own here instr code.now at (operands_in stack.old) }
     ensures begins { IsBeginOf code.now result }
 {
     match instr {
@@ -116,7 +129,7 @@ fn do_jumps(instr: Instr, code: &[Instr], at: usize, stack: &mut Vec<Cell>) -> A
 /// An instruction that asks for memory, or for a procedure.
 fn ask(instr: Instr, shapes: &[ProcShape], own: u32, stack: &[Cell]) -> Act
     requires { group_of instr ≡ Group.Asked }
-    ensures act { (types : List TypeOf) (here at : ℕ) (code : List InstrOf) → act_in result (reverse stack.now) ≡ act shapes.now types own here instr code at (reverse stack.now) }
+    ensures act { (types : List TypeOf) (here : Here) (at : ℕ) (code : List InstrOf) → act_in result (reverse stack.now) ≡ act shapes.now types own here instr code at (reverse stack.now) }
     ensures stays { IsStay result }
 {
     match instr {
@@ -138,7 +151,7 @@ fn ask(instr: Instr, shapes: &[ProcShape], own: u32, stack: &[Cell]) -> Act
 /// An instruction that works on a text, or asks for output.
 fn ask_written(instr: Instr, stack: &[Cell]) -> Act
     requires { group_of instr ≡ Group.Written }
-    ensures act { (shapes : List ShapeOf) (types : List TypeOf) (own here at : ℕ) (code : List InstrOf) → act_in result (reverse stack.now) ≡ act shapes types own here instr code at (reverse stack.now) }
+    ensures act { (shapes : List ShapeOf) (types : List TypeOf) (own : ℕ) (here : Here) (at : ℕ) (code : List InstrOf) → act_in result (reverse stack.now) ≡ act shapes types own here instr code at (reverse stack.now) }
     ensures stays { IsStay result }
 {
     match instr {
@@ -157,7 +170,7 @@ fn ask_written(instr: Instr, stack: &[Cell]) -> Act
 fn do_on_frame(instr: Instr, keeps: u32, here: u32, frame: &mut Frame) -> Result<Act, NoMemory>
     requires { group_of instr ≡ Group.OnFrame }
     ensures ok { IfOk result (λ did. (shapes : List ShapeOf) (types : List TypeOf) (own at : ℕ) (code : List InstrOf) → keeps ≡ keeps_in (numbered_of shapes own) →
-        IsStep (act shapes types own here instr code at (frame_in frame.old).stack) did (frame_in frame.old) (frame_in frame.new)) }
+        IsStep (act shapes types own (here_at here (frame_in frame.old)) instr code at (frame_in frame.old).stack) did (frame_in frame.old) (frame_in frame.new)) }
     ensures stays { IfOk result (λ did. WhereStays did (frame_in frame.new ≡ frame_in frame.old)) }
     ensures begins { (code : List InstrOf) → IfOk result (λ did. IsBeginOf code did) }
     ensures err { OnErr result (frame_in frame.new ≡ frame_in frame.old) }
@@ -168,6 +181,7 @@ fn do_on_frame(instr: Instr, keeps: u32, here: u32, frame: &mut Frame) -> Result
     match instr {
         Instr::Num(n) => give_value(frame, Cell::Num(n)),
         Instr::Nil => give_value(frame, Cell::Ref(0)),
+        Instr::SelfRef => self_value(frame),
         Instr::Frame(cell) => give_value(frame, Cell::Place(Root::Frame(here), cell, 0)),
         Instr::Module(module, cell) => give_value(
             frame,
@@ -198,7 +212,7 @@ pub fn do_one(
     requires within { at < length code.now }
     requires keeps { keeps ≡ keeps_in (numbered_of image.now.shapes.items frame.old.procedure) }
     ensures ok { IfOk result (λ did.
-        IsStepOf image.now.types.items (known heap.now) (act image.now.shapes.items image.now.types.items frame.old.procedure here instr code.now at (frame_in frame.old).stack) did (frame_in frame.old) (frame_in frame.new)) }
+        IsStepOf image.now.shapes.items image.now.types.items (known heap.now) (act image.now.shapes.items image.now.types.items frame.old.procedure (here_at here (frame_in frame.old)) instr code.now at (frame_in frame.old).stack) did (frame_in frame.old) (frame_in frame.new)) }
     ensures stays { IfOk result (λ did. WhereStays did (frame_in frame.new ≡ frame_in frame.old)) }
     ensures begins { IfOk result (λ did. IsBeginOf code.now did) }
     ensures err { OnErr result (frame_in frame.new ≡ frame_in frame.old) }
@@ -211,6 +225,7 @@ pub fn do_one(
         | Instr::Frame(_)
         | Instr::Module(_, _)
         | Instr::Nil
+        | Instr::SelfRef
         | Instr::Dup
         | Instr::Keep(_, _)
         | Instr::Kept(_, _)
@@ -230,9 +245,11 @@ pub fn do_one(
             &image.types,
             &mut frame.operands,
         )),
-        Instr::Deref(_) | Instr::OpenRef(_) | Instr::Is(_) | Instr::Guard(_) => {
-            do_told(instr, &image.types, heap, frame)
-        }
+        Instr::Deref(_)
+        | Instr::OpenRef(_)
+        | Instr::Is(_)
+        | Instr::Guard(_)
+        | Instr::Virtual(_, _) => do_told(instr, &image.shapes, &image.types, heap, frame),
         Instr::Jump(_)
         | Instr::JumpFalse(_)
         | Instr::Begin(_, _)

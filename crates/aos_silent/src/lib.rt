@@ -5,6 +5,7 @@ pub mod act;
 pub mod ask;
 pub mod image;
 pub mod instruction;
+pub mod methods;
 pub mod objects;
 pub mod operands;
 pub mod rows;

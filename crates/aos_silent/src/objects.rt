@@ -3,6 +3,7 @@ ghost use Rattle.std.specs.Prelude.{◌≡◌, ℕ, pos, List, nat_eq, IfOk, OnE
 ghost use Rattle.aos_base.specs.Operators.{flag};
 ghost use Rattle.aos_code.specs.declared.instr.Cell.TheVariants.{Num, Place};
 ghost use Rattle.aos_code.specs.declared.instr.Instr.{Instr as InstrOf};
+ghost use Rattle.aos_code.specs.declared.image.ProcShape.{ProcShape as ShapeOf};
 ghost use Rattle.aos_code.specs.Silent.{Fails as FailsOf, Stops, AtCell, AtElements, IsType, AsType, looks, gives, on_objects, on_place, length_cells, extends as extends_of};
 ghost use Rattle.aos_store.specs.Store.{frame_in, kept_cells};
 ghost use Rattle.aos_silent.specs.Acts.{operands_in, act_in, IsBeginOf, WhereStays};
@@ -90,7 +91,7 @@ pub fn guard_place(stack: &[Cell], types: &[TypeDesc], other: u32) -> Act
 pub fn tell_cell(stack: &mut Vec<Cell>, heap: &Heap, cell: u32) -> Act
     ensures kept { WhereStays result (stack.new ≡ stack.old) }
     ensures room { vec_capacity stack.new ≡ vec_capacity stack.old }
-    ensures told { (types : List TypeDesc) → IsTold types (known heap.now) (looks (AtCell cell) (λ s. Stops (FailsOf 1 0)) (operands_in stack.old)) result (operands_in stack.new) }
+    ensures told { (shapes : List ShapeOf) (types : List TypeDesc) → IsTold shapes types (known heap.now) (looks (AtCell cell) (λ s. Stops (FailsOf 1 0)) (operands_in stack.old)) result (operands_in stack.new) }
     ensures begins { (code : List InstrOf) → IsBeginOf code result }
 {
     match object(stack, 0) {
@@ -114,7 +115,7 @@ pub fn tell_cell(stack: &mut Vec<Cell>, heap: &Heap, cell: u32) -> Act
 pub fn tell_is(stack: &mut Vec<Cell>, types: &[TypeDesc], heap: &Heap, other: u32) -> Act
     ensures kept { WhereStays result (stack.new ≡ stack.old) }
     ensures room { vec_capacity stack.new ≡ vec_capacity stack.old }
-    ensures told { IsTold types.now (known heap.now) (looks (IsType other) (λ s. gives (Num (pos 0)) s) (operands_in stack.old)) result (operands_in stack.new) }
+    ensures told { (shapes : List ShapeOf) → IsTold shapes types.now (known heap.now) (looks (IsType other) (λ s. gives (Num (pos 0)) s) (operands_in stack.old)) result (operands_in stack.new) }
     ensures begins { (code : List InstrOf) → IsBeginOf code result }
 {
     match object(stack, 0) {
@@ -136,7 +137,7 @@ pub fn tell_is(stack: &mut Vec<Cell>, types: &[TypeDesc], heap: &Heap, other: u3
 
 /// An object, where its type extends another one; trap 3 where it doesn't, and at NIL.
 pub fn tell_as(stack: &[Cell], types: &[TypeDesc], heap: &Heap, other: u32) -> Act
-    ensures told { IsTold types.now (known heap.now) (looks (AsType other) (λ s. Stops (FailsOf 3 0)) (reverse stack.now)) result (reverse stack.now) }
+    ensures told { (shapes : List ShapeOf) → IsTold shapes types.now (known heap.now) (looks (AsType other) (λ s. Stops (FailsOf 3 0)) (reverse stack.now)) result (reverse stack.now) }
     ensures begins { (code : List InstrOf) → IsBeginOf code result }
 {
     match object(stack, 0) {
@@ -169,7 +170,7 @@ fn put_lengths(stack: &mut Vec<Cell>, place: Cell, lengths: &[u32])
 
 /// The place of an open array that is an object, and its first lengths, so many; trap 1 at NIL.
 pub fn tell_array(frame: &mut Frame, heap: &Heap, count: u32) -> Result<Act, NoMemory>
-    ensures ok { (types : List TypeDesc) → IfOk result (λ did. IsStepOf types (known heap.now) (looks (AtElements count) (λ s. Stops (FailsOf 1 0)) (frame_in frame.old).stack) did (frame_in frame.old) (frame_in frame.new)) }
+    ensures ok { (shapes : List ShapeOf) (types : List TypeDesc) → IfOk result (λ did. IsStepOf shapes types (known heap.now) (looks (AtElements count) (λ s. Stops (FailsOf 1 0)) (frame_in frame.old).stack) did (frame_in frame.old) (frame_in frame.new)) }
     ensures stays { IfOk result (λ did. WhereStays did (frame_in frame.new ≡ frame_in frame.old)) }
     ensures begins { (code : List InstrOf) → IfOk result (λ did. IsBeginOf code did) }
     ensures err { OnErr result (frame_in frame.new ≡ frame_in frame.old) }

@@ -1,7 +1,7 @@
 // Silent steps that give a frame an operand more, and those that work on what it keeps.
 ghost use Rattle.std.specs.Prelude.{◌≡◌, ◌≤◌, ℕ, List, length, slice_get, IfOk, OnErr, vec_capacity};
 ghost use Rattle.aos_base.specs.Question.{Places, Lengths};
-ghost use Rattle.aos_code.specs.Silent.{Question as QuestionOf, Puts, Takes, Sees, gives, duplicates, on_kind, noted, noted_as};
+ghost use Rattle.aos_code.specs.Silent.{Question as QuestionOf, Puts, Takes, Sees, gives, gives_self, duplicates, on_kind, noted, noted_as};
 ghost use Rattle.aos_code.specs.declared.instr.Instr.{Instr as InstrOf};
 ghost use Rattle.aos_store.specs.Store.{frame_in, kept_cells};
 ghost use Rattle.aos_silent.specs.Acts.{IsBeginOf, WhereStays};
@@ -55,6 +55,23 @@ pub fn give_again(frame: &mut Frame) -> Result<Act, NoMemory>
         None => Ok(LOST),
         Some(value) => give_value(frame, value),
     }
+}
+
+/// The object on which the frame's procedure is called.
+pub fn self_value(frame: &mut Frame) -> Result<Act, NoMemory>
+    ensures ok { IfOk result (λ did. IsStep (gives_self frame.old.object (frame_in frame.old).stack) did (frame_in frame.old) (frame_in frame.new)) }
+    ensures stays { IfOk result (λ did. WhereStays did (frame_in frame.new ≡ frame_in frame.old)) }
+    ensures begins { (code : List InstrOf) → IfOk result (λ did. IsBeginOf code did) }
+    ensures err { OnErr result (frame_in frame.new ≡ frame_in frame.old) }
+    ensures full { OnErr result (IsFull frame.old) }
+    ensures room { vec_capacity frame.old.operands ≤ vec_capacity frame.new.operands }
+    ensures keeps { length (kept_cells frame.old) ≤ length (kept_cells frame.new) }
+{
+    if frame.object == 0 {
+        return Ok(LOST);
+    }
+    let object = frame.object;
+    give_value(frame, Cell::Ref(object))
 }
 
 /// A value of this kind is kept under a number.

@@ -34,8 +34,8 @@ spliced_longer at new xs =
     omega (arith, a, b, c, d)
 
 -- a frame of a called procedure has a cell of each kind
-called_longer : (following : List ℕ) (p : ℕ) (shape : ProcShape) (h : Handed following) → length shape.kinds.items ≤ length (called_frame following p shape h).cells
-called_longer following p shape h =
+called_longer : (following : List ℕ) (p o : ℕ) (shape : ProcShape) (h : Handed following) → length shape.kinds.items ≤ length (called_frame following p o shape h).cells
+called_longer following p o shape h =
     let ks = shape.kinds.items in
     let a = length-append h.cells (map first_cell (drop (length h.cells) ks) ++ h.copies) in
     let b = length-append (map first_cell (drop (length h.cells) ks)) h.copies in
@@ -119,21 +119,21 @@ module _ (image : Image) (laid : IsLaidOut image) where
       compares_have r (Some a) None = (have, none)
       compares_have r None p = (have, none)
 
-      enters_have : (b : Bool) (p : ℕ) (shape : ProcShape) (h : Handed following) → numbered image.shapes.items p ≡ Some shape → Have (machine.enters following b (called_frame following p shape h) at k s f fs mem)
-      enters_have true p shape h e = (have, none)
-      enters_have false p shape h e =
+      enters_have : (b : Bool) (p o : ℕ) (shape : ProcShape) (h : Handed following) → numbered image.shapes.items p ≡ Some shape → Have (machine.enters following b (called_frame following p o shape h) at k s f fs mem)
+      enters_have true p o shape h e = (have, none)
+      enters_have false p o shape h e =
           let a = laid.kinds p shape e in
-          let b = called_longer following p shape h in
+          let b = called_longer following p o shape h in
           let c : cells_named image p ≡ shape.cells = ap frame_cells e in
           ((omega (arith, a, b, c), have), none)
 
-      calls_with_have : (p : ℕ) (shape : ProcShape) (o : Option (Handed following)) → numbered image.shapes.items p ≡ Some shape → Have (machine.calls_with following p shape o at k s f fs mem)
-      calls_with_have p shape None e = (have, none)
-      calls_with_have p shape (Some h) e = enters_have (machine.is_deep following (called_frame following p shape h) (f ∷ fs)) p shape h e
+      calls_with_have : (p o : ℕ) (shape : ProcShape) (h : Option (Handed following)) → numbered image.shapes.items p ≡ Some shape → Have (machine.calls_with following p o shape h at k s f fs mem)
+      calls_with_have p o shape None e = (have, none)
+      calls_with_have p o shape (Some h) e = enters_have (machine.is_deep following (called_frame following p o shape h) (f ∷ fs)) p o shape h e
 
       calls_have : (o : Option ProcShape) (p : ℕ) (vs : List Cell) → numbered image.shapes.items p ≡ o → Have (machine.calls following o p vs at k s f fs mem)
       calls_have None p vs e = (have, none)
-      calls_have (Some shape) p vs e = calls_with_have p shape (machine.handed following (suc (length fs)) (rooted (f ∷ fs) mem) shape.params.items vs (length shape.kinds.items)) e
+      calls_have (Some shape) p vs e = calls_with_have p (machine.object_of shape.method vs) shape (machine.handed following (suc (length fs)) (rooted (f ∷ fs) mem) shape.params.items (machine.arguments_of shape.method vs) (length shape.kinds.items)) e
 
       ends_have : (result : Option Cell) (gs : List Frame) → AllHaveCells image gs → AllHaveCells image (machine.with_result following result gs)
       ends_have None gs h = h

@@ -22,9 +22,9 @@ use Rattle.aos_code.specs.declared.image.TypeDesc.{TypeDesc}
 use Rattle.aos_code.specs.declared.image.Image.{Image}
 use Rattle.aos_code.specs.Numbered.{numbered}
 use Rattle.aos_code.specs.Memory.{Addr, Memory, new_number, has_room, type_of_object}
-use Rattle.aos_code.specs.Silent.{Stack, Keeps, Question, Begins, Fails, Stop, Work, Ended, is_of, walk, silent}
+use Rattle.aos_code.specs.Silent.{Stack, Keeps, Question, Begins, Fails, Stop, Work, Ended, is_of, Here, walk, silent}
 use Rattle.aos_code.specs.Machine as machine
-use Rattle.aos_code.specs.Machine.{Frame, Frames, Turned, Handed, first_cell, made_in, rooted, called_frame, frames_with, behind, body_frame, bodies, code_in_body, code_of, stop_of, opened, opened_by, turn, turn_at, past, past_stop, body_of, object_frames, first_frames}
+use Rattle.aos_code.specs.Machine.{Frame, Frames, here_of, Turned, Handed, first_cell, made_in, rooted, called_frame, frames_with, behind, body_frame, bodies, code_in_body, code_of, stop_of, opened, opened_by, turn, turn_at, past, past_stop, body_of, object_frames, first_frames}
 use Rattle.aos_sound.specs.Sound as sound
 use Rattle.aos_sound.specs.Sound.{ArePathsSound}
 use Rattle.aos_sound.specs.Fits.{IsResult, result_of, StandsOn, StandsGiven, StandsAsked, StandsStopped}
@@ -40,7 +40,7 @@ behind_is (suc at) (y ∷ xs) x e =
     behind_is at xs x e ∙ ap (λ m. x ∷ drop m (y ∷ xs)) n
 
 -- silent work that stands before a start with the object on top
-at_start : (shapes : List ProcShape) (types : List TypeDesc) (made : ℕ → Option Made) (own here : ℕ) (cells : List Cell) (code : List Instr) (at : ℕ) (k : Keeps) (s : Stack) (o : ℕ) → slice_get code at ≡ Some instr.Start → silent shapes types made own here cells code at k (Ref o ∷ s) ≡ Work (Starts (Ref o)) at k s
+at_start : (shapes : List ProcShape) (types : List TypeDesc) (made : ℕ → Option Made) (own : ℕ) (here : Here) (cells : List Cell) (code : List Instr) (at : ℕ) (k : Keeps) (s : Stack) (o : ℕ) → slice_get code at ≡ Some instr.Start → silent shapes types made own here cells code at k (Ref o ∷ s) ≡ Work (Starts (Ref o)) at k s
 at_start shapes types made own here cells code at k s o is = ap (λ l. walk shapes types made own here cells code l 0 at k (Ref o ∷ s)) (behind_is at code instr.Start is)
 
 module _ (image : Image) (whole : IsSoundImage image) where
@@ -62,7 +62,7 @@ module _ (image : Image) (whole : IsSoundImage image) where
 
   -- silent work of a frame on a path
   pub stop_stands : (made : ℕ → Option Made) (f : Frame) (fs : List Frame) → FitFor image None (f ∷ fs) → StandsStopped image f.procedure (code_of image f.procedure) (stop_of image made f fs)
-  stop_stands made f fs h = silent_stands image f.procedure (code_of image f.procedure) (depth_of image f.procedure) (paths_of f.procedure h.0) (length fs) made f.cells f.next f.keeps f.stack h.1
+  stop_stands made f fs h = silent_stands image f.procedure (code_of image f.procedure) (depth_of image f.procedure) (paths_of f.procedure h.0) (here_of f fs) made f.cells f.next f.keeps f.stack h.1
 
   -- cells that change
   changed_fit : (d : ℕ) (g : List Cell → List Cell) (r : Option Kind) (fs : List Frame) → FitFor image r fs → FitFor image r (change_from_last d (λ f. record f { cells = g f.cells }) fs)
@@ -142,7 +142,7 @@ module _ (image : Image) (whole : IsSoundImage image) where
 
       starts_fit : (v : Cell) → slice_get (code_of image f.procedure) at ≡ Some instr.Start → On at (v ∷ s) → On (at + 1) s → Fit (machine.starts following v at k s f fs mem)
       starts_fit (Ref (suc o)) is st behind_st =
-          let z : Work (Starts (Ref (suc o))) at k s ≡ stop_of image (λ o. None) (machine.before following at k (Ref (suc o) ∷ s) f) fs = sym (at_start image.shapes.items image.types.items (λ o. None) f.procedure (length fs) f.cells (code_of image f.procedure) at k s (suc o) is) in
+          let z : Work (Starts (Ref (suc o))) at k s ≡ stop_of image (λ o. None) (machine.before following at k (Ref (suc o) ∷ s) f) fs = sym (at_start image.shapes.items image.types.items (λ o. None) f.procedure (here_of f fs) f.cells (code_of image f.procedure) at k s (suc o) is) in
           (((fit.0, st, fit.2), follow), λ p e. subst (λ x. FramesFit image (record { following = following; frames = past_stop x (machine.before following at k (Ref (suc o) ∷ s) f) ∷ fs })) z ((fit.0, behind_st, fit.2), follow))
       starts_fit v is st behind_st = ((fit, follow), λ o e. absurd (cc e))
 
@@ -160,18 +160,18 @@ module _ (image : Image) (whole : IsSoundImage image) where
       compares_fit r (Some a) None st = ((fit, follow), λ o e. absurd (cc e))
       compares_fit r None p st = ((fit, follow), λ o e. absurd (cc e))
 
-      enters_fit : (b : Bool) (p : ℕ) (shape : ProcShape) (h : Handed following) → HasBody image p → Asked (result_of (numbered image.shapes.items p)) at s → Fit (machine.enters following b (called_frame following p shape h) at k s f fs mem)
-      enters_fit true p shape h body st = ((fit, follow), λ o e. absurd (cc e))
-      enters_fit false p shape h body st = (((body, ([], sound.Begins, tt), (fit.0, st, fit.2)), follow), λ o e. absurd (cc e))
+      enters_fit : (b : Bool) (p o : ℕ) (shape : ProcShape) (h : Handed following) → HasBody image p → Asked (result_of (numbered image.shapes.items p)) at s → Fit (machine.enters following b (called_frame following p o shape h) at k s f fs mem)
+      enters_fit true p o shape h body st = ((fit, follow), λ o e. absurd (cc e))
+      enters_fit false p o shape h body st = (((body, ([], sound.Begins, tt), (fit.0, st, fit.2)), follow), λ o e. absurd (cc e))
 
-      calls_with_fit : (p : ℕ) (shape : ProcShape) (o : Option (Handed following)) → HasBody image p → Asked (result_of (numbered image.shapes.items p)) at s → Fit (machine.calls_with following p shape o at k s f fs mem)
-      calls_with_fit p shape None body st = ((fit, follow), λ o e. absurd (cc e))
-      calls_with_fit p shape (Some h) body st = enters_fit (machine.is_deep following (called_frame following p shape h) (f ∷ fs)) p shape h body st
+      calls_with_fit : (p o : ℕ) (shape : ProcShape) (h : Option (Handed following)) → HasBody image p → Asked (result_of (numbered image.shapes.items p)) at s → Fit (machine.calls_with following p o shape h at k s f fs mem)
+      calls_with_fit p o shape None body st = ((fit, follow), λ o e. absurd (cc e))
+      calls_with_fit p o shape (Some h) body st = enters_fit (machine.is_deep following (called_frame following p o shape h) (f ∷ fs)) p o shape h body st
 
       calls_fit : (o : Option ProcShape) (p : ℕ) (vs : List Cell) → numbered image.shapes.items p ≡ o → Asked (result_of (numbered image.shapes.items p)) at s → Fit (machine.calls following o p vs at k s f fs mem)
       calls_fit None p vs e st = ((fit, follow), λ o e. absurd (cc e))
       calls_fit (Some shape) p vs e st =
-          calls_with_fit p shape (machine.handed following (suc (length fs)) (rooted (f ∷ fs) mem) shape.params.items vs (length shape.kinds.items)) (whole.shapes p shape e) st
+          calls_with_fit p (machine.object_of shape.method vs) shape (machine.handed following (suc (length fs)) (rooted (f ∷ fs) mem) shape.params.items (machine.arguments_of shape.method vs) (length shape.kinds.items)) (whole.shapes p shape e) st
 
       pub answer_fits : (q : Question) → StandsAsked image f.procedure (code_of image f.procedure) q at s → Fit (machine.answer following image.shapes.items image.types.items q at k s f fs mem)
       answer_fits (Reads kind a) st = reads_fit kind (load a.root a.cell (rooted (f ∷ fs) mem)) st

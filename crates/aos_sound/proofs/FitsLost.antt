@@ -1,5 +1,5 @@
 -- Sound code finds the operands that it takes, but for what soundness doesn't decide.
-use Rattle.std.proofs.Common.{◌≡◌, ◌<◌, ℕ, zero, suc, ℤ, pos, negsuc, ◌+◌, ◌*◌, ◌-◌, ◌^◌, List, [], ◌∷◌, ◌++◌, length, map, replicate, reverse, Bool, true, false, ◌&&◌, ◌||◌, Option, Some, None, nat_eq, nat_lt, slice_get, if◌then◌else◌, refl, sym, ap, ◌∙◌, subst, arith, ltb-true, ltb-false}
+use Rattle.std.proofs.Common.{◌≡◌, ◌<◌, ℕ, zero, suc, ℤ, pos, negsuc, ◌+◌, ◌*◌, ◌-◌, ◌^◌, List, [], ◌∷◌, ◌++◌, length, map, replicate, Bool, true, false, ◌&&◌, ◌||◌, Option, Some, None, nat_eq, nat_lt, slice_get, if◌then◌else◌, refl, sym, ap, ◌∙◌, subst, arith, ltb-true, ltb-false}
 use Rattle.std.specs.Option.{option_zip}
 use Rattle.std.proofs.lemmas.Option.{slice_get-get_or}
 use Rattle.std.proofs.lemmas.List.{append-nil}
@@ -13,7 +13,7 @@ use Rattle.aos_base.specs.declared.operator.Binary.{Binary}
 use Rattle.aos_base.specs.declared.operator.Binary.TheVariants as binary_is
 use Rattle.aos_base.specs.Number as number
 use Rattle.aos_base.specs.Operators.{natural, flag, or_trap, or_divisor, or_undefined, on_width, on_widths, set_of, on_sets, unary, binary}
-use Rattle.aos_base.specs.Question.{Reads, Stores, Copies, PutsText, ComparesTexts, Calls as CallsOf, Makes, Starts, PutsInt, PutsChar, PutsString}
+use Rattle.aos_base.specs.Question.{Reads, Stores, Copies, PutsText, ComparesTexts, Makes, Starts, PutsInt, PutsChar, PutsString}
 use Rattle.aos_code.specs.declared.instr.Cell.{Cell}
 use Rattle.aos_code.specs.declared.instr.Cell.TheVariants.{Num, Place}
 use Rattle.aos_code.specs.declared.instr.Kind.{Kind}
@@ -24,12 +24,12 @@ use Rattle.aos_code.specs.declared.image.ProcShape.{ProcShape}
 use Rattle.aos_code.specs.declared.image.Image.{Image}
 use Rattle.aos_code.specs.Numbered.{numbered}
 use Rattle.aos_code.specs.Silent as silent
-use Rattle.aos_code.specs.Silent.{Stack, Fails, Act, Goes, Puts, Look, AtCell, AtElements, IsType, AsType, Sees, Stops, lost, on_kind, on_number, on_object, counted_on, gives, extends, on_place, on_text, lengths_on, in_rows, gives_picked, keeps_in, kinds_of, asserts, lands, jumps, jumps_on_false, act}
+use Rattle.aos_code.specs.Silent.{Stack, Fails, Act, Goes, Puts, Look, AtCell, AtElements, IsType, AsType, Sees, Stops, lost, on_kind, on_number, on_object, counted_on, gives, extends, on_place, on_text, lengths_on, in_rows, gives_picked, keeps_in, Here, asserts, lands, jumps, jumps_on_false, act}
 use Rattle.aos_sound.specs.declared.stand.Role.{Role}
-use Rattle.aos_sound.specs.Sound.{Kinds, without, row, given, called, returned, is_begin, is_procedure, may_jump, may_stand, after, IsSound}
+use Rattle.aos_sound.specs.Sound.{Kinds, without, row, given, taken, called, sent, returned, is_begin, is_procedure, may_jump, may_stand, after, IsSound}
 use Rattle.aos_sound.specs.Fits.{AreOf, StandsOn}
 use Rattle.aos_sound.specs.Undecided.{IsBelowOr, IsFar, IsFarElement, IsFarRow, IsNoFlag, IsUndecided}
-use Rattle.aos_sound.proofs.FitsOperands.{topped_is, all_topped_is, number_found, place_found, kind_holds, on_object_holds, looks_hold, on_place_holds, on_text_holds, counted_hold, kinds_hold, twice_holds, drop_holds, swap_holds, ends_hold}
+use Rattle.aos_sound.proofs.FitsOperands.{topped_is, all_topped_is, number_found, place_found, kind_holds, on_object_holds, looks_hold, on_place_holds, on_text_holds, counted_hold, call_holds, send_holds, twice_holds, drop_holds, swap_holds, ends_hold}
 
 -- it isn't that trap
 abbrev Keeps : Act → Type 0
@@ -171,30 +171,40 @@ guards_keep false a h = other 3 (omega arith)
     other : (n : ℕ) → n < 16 → Stops (Fails n 0) ≡ Stops lost → ⊥
     other n lt e = let z : n ≡ 16 = cc in absurd (omega (arith, lt, z))
 
+-- what lies below a result
+given_below : (r : Option Kind) (below : Option Kinds) (t : Kinds) → given r below ≡ Some t → (u : Kinds) × (below ≡ Some u)
+given_below None below t f = (t, f)
+given_below (Some k) below t f = let w = topped_is k below t f in (w.0, w.1)
+
 calls_keep : (o : Option ProcShape) (p : ℕ) (s t : Kinds) (stack : Stack) → AreOf s stack → called o s ≡ Some t → Keeps (silent.calls o p stack)
 calls_keep None p s t stack are e = absurd (cc e)
 calls_keep (Some f) p s t stack are e =
-    let w = by f.result (without (reverse (kinds_of f.params.items)) s) e in
-    kinds_hold Keeps (reverse (kinds_of f.params.items)) [] s w.0 (λ vs s1. Sees (CallsOf p vs) s1) stack are w.1 (λ vs rest are1 f. cc f)
-  where
-    by : (r : Option Kind) (below : Option Kinds) → given r below ≡ Some t → (u : Kinds) × (below ≡ Some u)
-    by None below f = (t, f)
-    by (Some k) below f = let w = topped_is k below t f in (w.0, w.1)
+    let w = given_below f.result (without (taken f.method f) s) t e in call_holds Keeps f p s w.0 stack are w.1 (λ f. cc f) (λ ws rest are1 f. cc f)
+
+sends_keep : (o : Option ProcShape) (k p : ℕ) (s t : Kinds) (stack : Stack) → AreOf s stack → sent o s ≡ Some t → Keeps (silent.sends o k p stack)
+sends_keep None k p s t stack are e = absurd (cc e)
+sends_keep (Some f) k p s t stack are e =
+    let w = given_below f.result (without (taken true f) s) t e in send_holds Keeps f k p s w.0 stack are w.1 (λ f. cc f) (λ o ws rest are1 f. cc f)
+
+no_self : (o : ℕ) (stack : Stack) → silent.gives_self o stack ≡ Stops lost → o ≡ 0
+no_self zero stack e = refl
+no_self (suc o) stack e = absurd (cc e)
 
 returns_keep : (o : Option ProcShape) (s t : Kinds) (stack : Stack) → AreOf s stack → returned o s ≡ Some t → Keeps (silent.ends o stack)
 returns_keep None s t stack are e = absurd (cc e)
 returns_keep (Some f) s t stack are e = ends_hold Keeps f f.result s t stack are e (λ v h f. cc f)
 
-module _ (image : Image) (own : ℕ) (role : Role) (code : List Instr) (here at : ℕ) where
+module _ (image : Image) (own : ℕ) (role : Role) (code : List Instr) (here : Here) (at : ℕ) where
   abbrev does : Instr → Stack → Act
   does i stack = act image.shapes.items image.types.items own here i code at stack
 
   abbrev Answer : Instr → Stack → Type 0
-  Answer i stack = does i stack ≡ Stops lost → IsUndecided i stack
+  Answer i stack = does i stack ≡ Stops lost → IsUndecided here i stack
 
   undecided : (i : Instr) (s t : Kinds) (stack : Stack) → may_stand image own role code at i ≡ true → AreOf s stack → after image own i s ≡ Some t → Answer i stack
   undecided (instr.Num n) s t stack may are e = λ f. cc f
   undecided instr.Nil s t stack may are e = λ f. cc f
+  undecided instr.SelfRef s t stack may are e = no_self here.self stack
   undecided instr.Dup s t stack may are e = twice_holds Keeps s t stack are e (λ rest are1 f. cc f)
   undecided instr.Drop s t stack may are e = drop_holds Keeps s t stack are e (λ rest are1 f. cc f)
   undecided instr.Swap s t stack may are e = swap_holds Keeps s t stack are e (λ rest are1 f. cc f)
@@ -277,6 +287,7 @@ module _ (image : Image) (own : ℕ) (role : Role) (code : List Instr) (here at 
       on_text_holds Keeps (N ∷ A ∷ []) s w.0 (λ b m s1. on_text (λ a n s2. Sees (ComparesTexts r a n b m) s2) s1) stack are w.1
       (λ b m u rest are1 e1. on_text_holds Keeps [] u w.0 (λ a n s2. Sees (ComparesTexts r a n b m) s2) rest are1 e1 (λ a n u2 rest2 are2 e2 f. cc f))
   undecided (instr.Call p) s t stack may are e = calls_keep (numbered image.shapes.items p) p s t stack are e
+  undecided (instr.Virtual k p) s t stack may are e = sends_keep (numbered image.shapes.items p) k p s t stack are e
   undecided (instr.NewObject ty) s t stack may are e = λ f. cc f
   undecided (instr.NewArray ty j) s t stack may are e =
       let w = topped_is R (without (replicate j N) s) t e in
@@ -291,7 +302,7 @@ module _ (image : Image) (own : ℕ) (role : Role) (code : List Instr) (here at 
   undecided instr.OutLn s t stack may are e = λ f. cc f
   undecided instr.OutOpen s t stack may are e = λ f. cc f
 
-  pub lost_undecided : (depth : ℕ) → IsSound image own role code depth → (i : Instr) (stack : Stack) → slice_get code at ≡ Some i → StandsOn image own code at stack → act image.shapes.items image.types.items own here i code at stack ≡ Stops lost → IsUndecided i stack
+  pub lost_undecided : (depth : ℕ) → IsSound image own role code depth → (i : Instr) (stack : Stack) → slice_get code at ≡ Some i → StandsOn image own code at stack → act image.shapes.items image.types.items own here i code at stack ≡ Stops lost → IsUndecided here i stack
   lost_undecided depth sound i stack is st =
       let f = sound.paths.find at st.0 st.1 in
       let z : Some f.instr ≡ Some i = sym f.stands ∙ is in

@@ -3,7 +3,7 @@
 use Rattle.std.proofs.Common.{◌≡◌, ℕ, zero, suc, ℤ, pos, negsuc, ◌+◌, ◌-◌, ◌*◌, ◌^◌, List, [], ◌∷◌, ◌++◌, length, map, replicate, reverse, Bool, true, false, Option, Some, None, nat_lt, if◌then◌else◌, refl, sym, ap, subst, arith, append_assoc}
 use Rattle.std.proofs.lemmas.List.{reverse-append}
 use Rattle.aos_base.specs.Operators.{natural}
-use Rattle.aos_base.specs.Question.{Ends}
+use Rattle.aos_base.specs.Question.{Calls as CallsOf, Ends}
 use Rattle.aos_base.specs.declared.place.Root.{Root}
 use Rattle.aos_base.specs.declared.operator.Given.{Given}
 use Rattle.aos_base.specs.declared.operator.Given.TheVariants.{Number, Trap, Undefined}
@@ -14,8 +14,8 @@ use Rattle.aos_code.specs.declared.instr.Kind.TheVariants.{N, R, C, A}
 use Rattle.aos_code.specs.Memory.{Addr}
 use Rattle.aos_code.specs.declared.image.ProcShape.{ProcShape}
 use Rattle.aos_code.specs.Silent as silent
-use Rattle.aos_code.specs.Silent.{Stack, Fails, Act, Goes, Looks, Look, Sees, Stops, lost, is_of, if_of, on_any, on_kind, number_then, on_number, on_numbers, object_then, on_object, unless_nil, place_then, on_place, on_text, length_then, lengths_on, counted_on, duplicates, swaps, gives_place, element, length_cells, gives_picked, on_kinds}
-use Rattle.aos_sound.specs.Sound.{Kinds, same_kind, without, topped, all_topped, row, dropped, twice, swapped, if_empty, alone}
+use Rattle.aos_code.specs.Silent.{Stack, Fails, Act, Goes, Looks, Look, AtSlot, Sees, Stops, lost, is_of, if_of, on_any, on_kind, number_then, on_number, on_numbers, object_then, on_object, unless_nil, place_then, on_place, on_text, length_then, lengths_on, counted_on, duplicates, swaps, gives_place, element, length_cells, gives_picked, on_kinds, kinds_of}
+use Rattle.aos_sound.specs.Sound.{Kinds, same_kind, without, topped, all_topped, row, dropped, twice, swapped, if_empty, alone, object_below, taken}
 use Rattle.aos_sound.specs.Fits.{AreOf, IsResult}
 use Rattle.aos_sound.proofs.Taken.{reverse_lengths}
 
@@ -190,11 +190,32 @@ module _ (P : Act → Type 0) where
       on_number_holds (replicate j N ++ ks) s t (λ z s1. counted_on j (z ∷ zs) f s1) stack are e
       (λ z u rest are1 e1. counted_hold j (z ∷ zs) ks u t f rest are1 e1 (λ ys u2 rest2 l are2 e2. h ys u2 rest2 (omega (arith, l)) are2 e2))
 
-  pub kinds_hold : (ks : List Kind) (vs : List Cell) (s t : Kinds) (f : List Cell → Stack → Act) (stack : Stack) → AreOf s stack → without ks s ≡ Some t → ((vs : List Cell) (rest : Stack) → AreOf t rest → P (f vs rest)) → P (on_kinds ks vs f stack)
-  kinds_hold [] vs s t f stack are e h = h vs stack (retyped s t stack e are)
-  kinds_hold (k ∷ ks) vs s t f stack are e h =
-      kind_holds k ks s t (λ v s1. on_kinds ks (v ∷ vs) f s1) stack are e
-      (λ v u rest o are1 e1. kinds_hold ks (v ∷ vs) u t f rest are1 e1 h)
+  kinds_hold : (ks : List Kind) (js : Kinds) (vs : List Cell) (s t : Kinds) (f : List Cell → Stack → Act) (stack : Stack) → AreOf s stack → without (ks ++ js) s ≡ Some t → ((vs : List Cell) (u : Kinds) (rest : Stack) → AreOf u rest → without js u ≡ Some t → P (f vs rest)) → P (on_kinds ks vs f stack)
+  kinds_hold [] js vs s t f stack are e h = h vs s stack are e
+  kinds_hold (k ∷ ks) js vs s t f stack are e h =
+      kind_holds k (ks ++ js) s t (λ v s1. on_kinds ks (v ∷ vs) f s1) stack are e
+      (λ v u rest o are1 e1. kinds_hold ks js (v ∷ vs) u t f rest are1 e1 h)
+
+  -- the object on which a method is called
+  receiver_holds : (s t : Kinds) (f : ℕ → Stack → Act) (stack : Stack) → AreOf s stack → without (R ∷ []) s ≡ Some t → P (Stops (Fails 1 0)) → ((o : ℕ) (rest : Stack) → AreOf t rest → P (f o rest)) → P (silent.on_receiver f stack)
+  receiver_holds s t f stack are e nil h =
+      on_object_holds [] s t (λ o s1. unless_nil o (Stops (Fails 1 0)) (f o s1)) stack are e
+      (λ o u rest are1 e1. unless_holds o (Stops (Fails 1 0)) (f o rest) nil (h o rest (retyped u t rest e1 are1)))
+
+  called_holds : (method : Bool) (p : ℕ) (vs : List Cell) (s t : Kinds) (stack : Stack) → AreOf s stack → without (object_below method) s ≡ Some t → P (Stops (Fails 1 0)) → ((ws : List Cell) (rest : Stack) → AreOf t rest → P (Sees (CallsOf p ws) rest)) → P (silent.called method p vs stack)
+  called_holds true p vs s t stack are e nil h = receiver_holds s t (λ o s1. Sees (CallsOf p (Ref o ∷ vs)) s1) stack are e nil (λ o rest are1. h (Ref o ∷ vs) rest are1)
+  called_holds false p vs s t stack are e nil h = h vs stack (retyped s t stack e are)
+
+  -- a call, and a call of a method by its slot
+  pub call_holds : (f : ProcShape) (p : ℕ) (s t : Kinds) (stack : Stack) → AreOf s stack → without (taken f.method f) s ≡ Some t → P (Stops (Fails 1 0)) → ((ws : List Cell) (rest : Stack) → AreOf t rest → P (Sees (CallsOf p ws) rest)) → P (silent.calls (Some f) p stack)
+  call_holds f p s t stack are e nil h =
+      kinds_hold (reverse (kinds_of f.params.items)) (object_below f.method) [] s t (λ vs s1. silent.called f.method p vs s1) stack are e
+      (λ vs u rest are1 e1. called_holds f.method p vs u t rest are1 e1 nil h)
+
+  pub send_holds : (f : ProcShape) (k p : ℕ) (s t : Kinds) (stack : Stack) → AreOf s stack → without (taken true f) s ≡ Some t → P (Stops (Fails 1 0)) → ((o : ℕ) (ws : List Cell) (rest : Stack) → AreOf t rest → P (Looks (AtSlot k p ws) o rest)) → P (silent.sends (Some f) k p stack)
+  send_holds f k p s t stack are e nil h =
+      kinds_hold (reverse (kinds_of f.params.items)) (R ∷ []) [] s t (λ vs s1. silent.on_receiver (λ o s2. Looks (AtSlot k p vs) o s2) s1) stack are e
+      (λ vs u rest are1 e1. receiver_holds u t (λ o s2. Looks (AtSlot k p vs) o s2) rest are1 e1 nil (λ o rest2 are2. h o vs rest2 are2))
 
   pub twice_holds : (s t : Kinds) (stack : Stack) → AreOf s stack → twice s ≡ Some t → ((rest : Stack) → AreOf t rest → P (Goes 0 rest)) → P (duplicates stack)
   twice_holds [] t stack are e h = absurd (cc e)

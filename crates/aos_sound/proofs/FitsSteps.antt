@@ -1,8 +1,8 @@
 -- What an instruction of a sound body leaves of operands that stand on a path.
-use Rattle.std.proofs.Common.{◌≡◌, inl, inr, ℕ, zero, suc, ℤ, pos, negsuc, ◌+◌, ◌-◌, ◌^◌, List, [], ◌∷◌, ◌++◌, length, map, replicate, reverse, Bool, true, false, Option, Some, None, nat_eq, nat_lt, slice_get, if◌then◌else◌, refl, sym, ap, ◌∙◌, subst, arith, ltb-true}
+use Rattle.std.proofs.Common.{◌≡◌, inl, inr, ℕ, zero, suc, ℤ, pos, negsuc, ◌+◌, ◌-◌, ◌^◌, List, [], ◌∷◌, ◌++◌, length, map, replicate, Bool, true, false, Option, Some, None, nat_eq, nat_lt, slice_get, if◌then◌else◌, refl, sym, ap, ◌∙◌, subst, arith, ltb-true}
 use Rattle.std.proofs.lemmas.List.{append-nil}
 use Rattle.aos_base.specs.declared.place.Root.TheVariants.{Frame as FrameRoot, Module as ModuleRoot}
-use Rattle.aos_base.specs.Question.{Reads, Stores, Copies, PutsText, ComparesTexts, Calls as CallsOf, Makes, Starts, PutsInt, PutsChar, PutsString}
+use Rattle.aos_base.specs.Question.{Reads, Stores, Copies, PutsText, ComparesTexts, Makes, Starts, PutsInt, PutsChar, PutsString}
 use Rattle.aos_base.specs.Operators.{unary, binary, natural, flag}
 use Rattle.aos_code.specs.declared.instr.Cell.{Cell}
 use Rattle.aos_code.specs.declared.instr.Cell.TheVariants.{Num, Ref, Place}
@@ -14,13 +14,13 @@ use Rattle.aos_code.specs.declared.image.ProcShape.{ProcShape}
 use Rattle.aos_code.specs.declared.image.Image.{Image}
 use Rattle.aos_code.specs.Numbered.{numbered}
 use Rattle.aos_code.specs.Silent as silent
-use Rattle.aos_code.specs.Silent.{Stack, Fails, Act, Goes, Puts, Takes, Look, AtCell, AtElements, IsType, AsType, Sees, Stops, is_of, on_kind, on_number, on_object, on_place, on_text, counted_on, gives, extends, gives_place, lengths_on, in_rows, gives_picked, keeps_in, kinds_of, asserts, lands, jumps, jumps_on_false, act}
-use Rattle.aos_sound.specs.Sound.{Kinds, without, row, given, called, returned, is_begin, next_of, Leads, after, Comes, Finds, ArePathsSound}
+use Rattle.aos_code.specs.Silent.{Stack, Fails, Act, Goes, Puts, Takes, Look, AtCell, AtElements, IsType, AsType, Sees, Stops, is_of, on_kind, on_number, on_object, on_place, on_text, counted_on, gives, extends, gives_place, lengths_on, in_rows, gives_picked, keeps_in, Here, asserts, lands, jumps, jumps_on_false, act}
+use Rattle.aos_sound.specs.Sound.{Kinds, without, row, given, taken, called, sent, returned, is_begin, next_of, Leads, after, Comes, Finds, ArePathsSound}
 use Rattle.aos_sound.specs.Sound as sound
-use Rattle.aos_sound.specs.Fits.{AreOf, IsResult, result_of, told_kinds, StandsOn, StandsGiven, StandsTold, StandsAfter, StandsBegun}
-use Rattle.aos_sound.proofs.FitsOperands.{first_taken, topped_is, all_topped_is, retyped, with_top, are_both, kind_holds, on_number_holds, on_object_holds, looks_hold, on_place_holds, on_text_holds, lengths_hold, counted_hold, kinds_hold, twice_holds, drop_holds, swap_holds, given_holds, if_holds, element_holds, rows_hold, picked_holds, ends_hold}
+use Rattle.aos_sound.specs.Fits.{AreOf, IsResult, result_of, told_kinds, StandsOn, StandsGiven, StandsTold, StandsLooked, StandsAfter, StandsBegun}
+use Rattle.aos_sound.proofs.FitsOperands.{first_taken, topped_is, all_topped_is, retyped, with_top, are_both, kind_holds, on_number_holds, on_object_holds, looks_hold, on_place_holds, on_text_holds, lengths_hold, counted_hold, call_holds, send_holds, twice_holds, drop_holds, swap_holds, given_holds, if_holds, element_holds, rows_hold, picked_holds, ends_hold}
 
-module _ (image : Image) (own : ℕ) (code : List Instr) (here at : ℕ) where
+module _ (image : Image) (own : ℕ) (code : List Instr) (here : Here) (at : ℕ) where
   abbrev After : Act → Type 0
   After a = StandsAfter image own code at a
 
@@ -99,8 +99,8 @@ module _ (image : Image) (own : ℕ) (code : List Instr) (here at : ℕ) where
   told_stands : (ks u t : Kinds) → ks ++ u ≡ t → On t → (rest : Stack) → AreOf u rest → StandsTold image own code ks (at + 1) rest
   told_stands ks u t e on rest are vs of = on (vs ++ rest) (subst (λ x. AreOf x (vs ++ rest)) e (are_both ks u vs rest of are))
 
-  looks_stand : (l : Look) (at_nil : Stack → Act) (s t u : Kinds) (stack : Stack) → AreOf s stack → without (R ∷ []) s ≡ Some u → told_kinds l ++ u ≡ t → On t → ((rest : Stack) → AreOf u rest → After (at_nil rest)) → After (silent.looks l at_nil stack)
-  looks_stand l at_nil s t u stack are e f on h = looks_hold After l at_nil s u stack are e h (λ o rest are1. told_stands (told_kinds l) u t f on rest are1)
+  looks_stand : (l : Look) (at_nil : Stack → Act) (s t u : Kinds) (stack : Stack) → AreOf s stack → without (R ∷ []) s ≡ Some u → told_kinds l ++ u ≡ t → ((rest : Stack) → StandsTold image own code (told_kinds l) (at + 1) rest → StandsLooked image own code l (at + 1) rest) → On t → ((rest : Stack) → AreOf u rest → After (at_nil rest)) → After (silent.looks l at_nil stack)
+  looks_stand l at_nil s t u stack are e f looked on h = looks_hold After l at_nil s u stack are e h (λ o rest are1. looked rest (told_stands (told_kinds l) u t f on rest are1))
 
   objects_stand : (s t : Kinds) (stack : Stack) → AreOf s stack → sound.topped N (without (R ∷ R ∷ []) s) ≡ Some t → On t → After (silent.on_objects (λ a b s1. gives (Num (flag (nat_eq a b))) s1) stack)
   objects_stand s t stack are e on =
@@ -168,9 +168,14 @@ module _ (image : Image) (own : ℕ) (code : List Instr) (here at : ℕ) where
   calls_stand : (o : Option ProcShape) (p : ℕ) (s t : Kinds) (stack : Stack) → numbered image.shapes.items p ≡ o → AreOf s stack → called o s ≡ Some t → On t → After (silent.calls o p stack)
   calls_stand None p s t stack is are e on = absurd (cc e)
   calls_stand (Some f) p s t stack is are e on =
-      let w = given_stands f.result (without (reverse (kinds_of f.params.items)) s) t e on in
-      kinds_hold After (reverse (kinds_of f.params.items)) [] s w.0 (λ vs s1. Sees (CallsOf p vs) s1) stack are w.1
-      (λ vs rest are1. subst (λ q. StandsGiven image own code (result_of q) (at + 1) rest) (sym is) (w.2 rest are1))
+      let w = given_stands f.result (without (taken f.method f) s) t e on in
+      call_holds After f p s w.0 stack are w.1 tt (λ ws rest are1. subst (λ q. StandsGiven image own code (result_of q) (at + 1) rest) (sym is) (w.2 rest are1))
+
+  sends_stand : (o : Option ProcShape) (k p : ℕ) (s t : Kinds) (stack : Stack) → numbered image.shapes.items p ≡ o → AreOf s stack → sent o s ≡ Some t → On t → After (silent.sends o k p stack)
+  sends_stand None k p s t stack is are e on = absurd (cc e)
+  sends_stand (Some f) k p s t stack is are e on =
+      let w = given_stands f.result (without (taken true f) s) t e on in
+      send_holds After f k p s w.0 stack are w.1 tt (λ o ws rest are1. subst (λ q. StandsGiven image own code (result_of q) (at + 1) rest) (sym is) (w.2 rest are1))
 
   returns_stand : (o : Option ProcShape) (s t : Kinds) (stack : Stack) → numbered image.shapes.items own ≡ o → AreOf s stack → returned o s ≡ Some t → After (silent.ends o stack)
   returns_stand None s t stack is are e = absurd (cc e)
@@ -188,23 +193,29 @@ module _ (image : Image) (own : ℕ) (code : List Instr) (here at : ℕ) where
   onward : (i : Instr) (s t : Kinds) → slice_get code at ≡ Some i → Comes image own code at s → after image own i s ≡ Some t → Leads (next_of i) at (at + 1) → On t
   onward i s t is c e l rest are = (t, sound.Goes c i is t e (at + 1) l, are)
 
+  -- the object on which the frame's procedure is called, where it is called on one
+  self_stands : (o : ℕ) (s t : Kinds) (stack : Stack) → AreOf s stack → Some (R ∷ s) ≡ Some t → On t → After (silent.gives_self o stack)
+  self_stands zero s t stack are e on = tt
+  self_stands (suc o) s t stack are e on = going (Ref (suc o) ∷ stack) (give R (Ref (suc o)) s t stack refl e are on)
+
   -- each instruction
   stands_after : (i : Instr) (s t : Kinds) (stack : Stack) → slice_get code at ≡ Some i → Comes image own code at s → AreOf s stack → after image own i s ≡ Some t → After (act image.shapes.items image.types.items own here i code at stack)
   stands_after (instr.Num n) s t stack is c are e = going (Num n ∷ stack) (give N (Num n) s t stack refl e are (onward (instr.Num n) s t is c e refl))
   stands_after instr.Nil s t stack is c are e = going (Ref 0 ∷ stack) (give R (Ref 0) s t stack refl e are (onward instr.Nil s t is c e refl))
+  stands_after instr.SelfRef s t stack is c are e = self_stands here.self s t stack are e (onward instr.SelfRef s t is c e refl)
   stands_after instr.Dup s t stack is c are e = twice_holds After s t stack are e (goes t (onward instr.Dup s t is c e refl))
   stands_after instr.Drop s t stack is c are e = drop_holds After s t stack are e (goes t (onward instr.Drop s t is c e refl))
   stands_after instr.Swap s t stack is c are e = swap_holds After s t stack are e (goes t (onward instr.Swap s t is c e refl))
-  stands_after (instr.Frame n) s t stack is c are e = going (Place (FrameRoot here) n 0 ∷ stack) (give A (Place (FrameRoot here) n 0) s t stack refl e are (onward (instr.Frame n) s t is c e refl))
+  stands_after (instr.Frame n) s t stack is c are e = going (Place (FrameRoot here.below) n 0 ∷ stack) (give A (Place (FrameRoot here.below) n 0) s t stack refl e are (onward (instr.Frame n) s t is c e refl))
   stands_after (instr.Module m n) s t stack is c are e = going (Place (ModuleRoot m) n 0 ∷ stack) (give A (Place (ModuleRoot m) n 0) s t stack refl e are (onward (instr.Module m n) s t is c e refl))
   stands_after (instr.Param n) s t stack is c are e = λ v o. give A v s t stack o e are (onward (instr.Param n) s t is c e refl)
   stands_after (instr.Length n) s t stack is c are e = λ v o. give N v s t stack o e are (onward (instr.Length n) s t is c e refl)
   stands_after (instr.Deref n) s t stack is c are e =
       let w = topped_is A (without (R ∷ []) s) t e in
-      looks_stand (AtCell n) (λ s1. Stops (Fails 1 0)) s t w.0 stack are w.1 w.2 (onward (instr.Deref n) s t is c e refl) (λ rest are1. tt)
+      looks_stand (AtCell n) (λ s1. Stops (Fails 1 0)) s t w.0 stack are w.1 w.2 (λ rest st. st) (onward (instr.Deref n) s t is c e refl) (λ rest are1. tt)
   stands_after (instr.OpenRef j) s t stack is c are e =
       let w = all_topped_is (row j) (without (R ∷ []) s) t e in
-      looks_stand (AtElements j) (λ s1. Stops (Fails 1 0)) s t w.0 stack are w.1 w.2 (onward (instr.OpenRef j) s t is c e refl) (λ rest are1. tt)
+      looks_stand (AtElements j) (λ s1. Stops (Fails 1 0)) s t w.0 stack are w.1 w.2 (λ rest st. st) (onward (instr.OpenRef j) s t is c e refl) (λ rest are1. tt)
   stands_after (instr.Offset n ty) s t stack is c are e = offset_stands n ty s t stack are e (onward (instr.Offset n ty) s t is c e refl)
   stands_after (instr.Index n k) s t stack is c are e = index_stands n k s t stack are e (onward (instr.Index n k) s t is c e refl)
   stands_after (instr.IndexOpen j k) s t stack is c are e = rows_stand j k s t stack are e (onward (instr.IndexOpen j k) s t is c e refl)
@@ -219,12 +230,12 @@ module _ (image : Image) (own : ℕ) (code : List Instr) (here at : ℕ) where
   stands_after (instr.Is ty) s t stack is c are e =
       let on = onward (instr.Is ty) s t is c e refl in
       let w = topped_is N (without (R ∷ []) s) t e in
-      looks_stand (IsType ty) (λ s1. gives (Num (pos 0)) s1) s t w.0 stack are w.1 w.2 on
+      looks_stand (IsType ty) (λ s1. gives (Num (pos 0)) s1) s t w.0 stack are w.1 w.2 (λ rest st. st) on
       (λ rest are1. going (Num (pos 0) ∷ rest) (top N w.0 t w.2 on w.0 rest are1 refl (Num (pos 0)) refl))
   stands_after (instr.IsPlace ty) s t stack is c are e = tests_place_stand ty s t stack are e (onward (instr.IsPlace ty) s t is c e refl)
   stands_after (instr.Guard ty) s t stack is c are e =
       let w = topped_is R (without (R ∷ []) s) t e in
-      looks_stand (AsType ty) (λ s1. Stops (Fails 3 0)) s t w.0 stack are w.1 w.2 (onward (instr.Guard ty) s t is c e refl) (λ rest are1. tt)
+      looks_stand (AsType ty) (λ s1. Stops (Fails 3 0)) s t w.0 stack are w.1 w.2 (λ rest st. st) (onward (instr.Guard ty) s t is c e refl) (λ rest are1. tt)
   stands_after (instr.GuardPlace ty) s t stack is c are e = guards_place_stand ty s t stack are e (onward (instr.GuardPlace ty) s t is c e refl)
   stands_after (instr.Keep n k) s t stack is c are e =
       let on = onward (instr.Keep n k) s t is c e refl in
@@ -272,6 +283,7 @@ module _ (image : Image) (own : ℕ) (code : List Instr) (here at : ℕ) where
       (λ b m u rest are1 e1. on_text_holds After [] u w.0 (λ a n s2. Sees (ComparesTexts r a n b m) s2) rest are1 e1
       (λ a n u2 rest2 are2 e2. w.2 rest2 (retyped u2 w.0 rest2 e2 are2)))
   stands_after (instr.Call p) s t stack is c are e = calls_stand (numbered image.shapes.items p) p s t stack refl are e (onward (instr.Call p) s t is c e refl)
+  stands_after (instr.Virtual k p) s t stack is c are e = sends_stand (numbered image.shapes.items p) k p s t stack refl are e (onward (instr.Virtual k p) s t is c e refl)
   stands_after (instr.NewObject ty) s t stack is c are e = λ v o. give R v s t stack o e are (onward (instr.NewObject ty) s t is c e refl)
   stands_after (instr.NewArray ty j) s t stack is c are e = arrays_stand ty j s t stack are e (onward (instr.NewArray ty j) s t is c e refl)
   stands_after instr.Start s t stack is c are e = starts_stand s t stack is c are e (onward instr.Start s t is c e refl)

@@ -1,10 +1,9 @@
 -- What silent work over a sound body comes to, from operands that stand on a path; and that they never are more than its depth.
-use Rattle.std.proofs.Common.{◌≡◌, ◌≤◌, ◌<◌, nat_le, ℕ, zero, suc, pos, ◌+◌, List, [], ◌∷◌, ◌++◌, length, map, take, drop, true, Option, Some, None, slice_get, Bool, if◌then◌else◌, false, refl, sym, ap, ◌∙◌, subst, arith, leb-true, length-append}
+use Rattle.std.proofs.Common.{◌≡◌, ◌≤◌, ◌<◌, nat_le, ℕ, zero, suc, pos, ◌+◌, List, [], ◌∷◌, ◌++◌, length, map, take, drop, true, Option, Some, None, slice_get, Bool, ◌&&◌, if◌then◌else◌, false, refl, sym, ap, ◌∙◌, subst, arith, leb-true, length-append}
 use Rattle.std.proofs.lemmas.List.{append-nil, length-map, length-take-le}
 use Rattle.std.proofs.lemmas.Option.{slice_get_within}
 use Rattle.aos_base.specs.declared.place.Root.TheVariants.{Frame as FrameRoot, Object as ObjectRoot}
 use Rattle.aos_base.specs.declared.text.Pos.{Pos}
-use Rattle.aos_base.specs.Operators.{flag}
 use Rattle.aos_base.specs.Question.{PutsNothing, Places, Lengths}
 use Rattle.aos_base.specs.Rooted.{Made}
 use Rattle.aos_code.specs.declared.instr.Cell.{Cell}
@@ -13,15 +12,17 @@ use Rattle.aos_code.specs.declared.instr.Kind.{Kind}
 use Rattle.aos_code.specs.declared.instr.Kind.TheVariants.{N, R, C, A}
 use Rattle.aos_code.specs.declared.instr.Instr.{Instr}
 use Rattle.aos_code.specs.declared.instr.Instr.TheVariants as instr
+use Rattle.aos_code.specs.declared.image.ProcShape.{ProcShape}
 use Rattle.aos_code.specs.declared.image.TypeDesc.{TypeDesc}
 use Rattle.aos_code.specs.declared.image.Image.{Image}
-use Rattle.aos_code.specs.Silent.{Stack, Keeps, Question, Begins, Fails, Stop, Work, Act, Goes, Puts, Takes, Looks, Look, AtCell, AtElements, IsType, AsType, Sees, Stops, Ended, lost, is_of, act, noted, noted_as, on_noted, Noted, Visible, Answered, Unknown, Told, Tells, Refuses, Unheard, told_by, on_told, length_cells, extends, on_act, kept, walk, silent}
+use Rattle.aos_code.specs.Numbered.{numbered}
+use Rattle.aos_code.specs.Silent.{Here, same_kind, same_params, same_result, stands_for, invoked, method_at, Invokes, AtSlot, Stack, Keeps, Question, Begins, Fails, Stop, Work, Act, Goes, Puts, Takes, Looks, Look, AtCell, AtElements, IsType, AsType, Sees, Stops, Ended, lost, is_of, act, noted, noted_as, on_noted, Noted, Visible, Answered, Unknown, Told, Tells, Refuses, Unheard, told_by, on_told, length_cells, extends, on_act, kept, walk, silent}
 use Rattle.aos_sound.specs.declared.effect.Effect.{Effect}
 use Rattle.aos_sound.specs.declared.effect.Effect.TheVariants.{Gives, Twice}
 use Rattle.aos_sound.specs.Sound.{Kinds, row, effect_of, next_of, left_by, Leads, after, Goes as PathGoes, ArePathsSound}
 use Rattle.aos_sound.specs.declared.effect.Next.TheVariants.{On}
 use Rattle.aos_sound.specs.Sound as sound
-use Rattle.aos_sound.specs.Fits.{AreOf, KeepsToPaths, gives_more, told_kinds, StandsOn, StandsGiven, StandsTold, StandsAfter, StandsAsked, StandsBegun, StandsStopped}
+use Rattle.aos_sound.specs.Fits.{AreOf, KeepsToPaths, gives_more, result_of, told_kinds, StandsOn, StandsGiven, StandsTold, StandsLooked, StandsAfter, StandsAsked, StandsBegun, StandsStopped}
 use Rattle.aos_sound.proofs.FitsOperands.{are_length, row_is}
 use Rattle.aos_sound.proofs.FitsSteps.{step_stands}
 
@@ -41,33 +42,73 @@ one R = Ref 0
 one C = CallCell 0 0
 one A = Place (FrameRoot 0) 0 0
 
--- what an object tells is of its kinds
-told_are : (types : List TypeDesc) (l : Look) (o : ℕ) (m : Option Made) (vs : List Cell) → told_by types l o m ≡ Tells vs → AreOf (told_kinds l) vs
-told_are types l o None vs e = absurd (cc e)
-told_are types (AtCell c) o (Some m) vs e =
-    let z : Place (ObjectRoot o) c m.type ∷ [] ≡ vs = cc in
-    subst (λ x. AreOf (A ∷ []) x) z (refl, tt)
-told_are types (AtElements j) o (Some m) vs e = by (nat_le j (length m.lengths)) refl e
-  where
-    there : (n : ℕ) → n ≡ j → AreOf (row n ++ []) vs → AreOf (row j) vs
-    there n f are = subst (λ ks. AreOf ks vs) (append-nil (row n) ∙ ap row f) are
+-- What an object tells is of its kinds, and only where it's called by a slot a method is called, which gives what the one gives for
+-- which it stands.
+abbrev HeardSo : List ProcShape → Look → Told → Type 0
+HeardSo shapes (AtSlot k p vs) (Tells ws) = ⊥
+HeardSo shapes (AtSlot k p vs) (Invokes q ws) = result_of (numbered shapes p) ≡ result_of (numbered shapes q)
+HeardSo shapes (AtSlot k p vs) told = Unit {0}
+HeardSo shapes l (Tells vs) = AreOf (told_kinds l) vs
+HeardSo shapes l (Invokes q ws) = ⊥
+HeardSo shapes l told = Unit {0}
 
-    by : (b : Bool) → nat_le j (length m.lengths) ≡ b → (if b then Tells (length_cells (take j m.lengths) ++ Place (ObjectRoot o) 0 0 ∷ []) else Unheard) ≡ Tells vs → AreOf (row j) vs
-    by true within f =
-        let ns = take j m.lengths in
-        let z : length_cells ns ++ Place (ObjectRoot o) 0 0 ∷ [] ≡ vs = cc in
-        there (length ns) (length-take-le j m.lengths (leb-true j (length m.lengths) within)) (subst (λ x. AreOf (row (length ns) ++ []) x) z (row_is ns [] (Place (ObjectRoot o) 0 0) [] refl tt))
-    by false within f = absurd (cc f)
-told_are types (IsType t) o (Some m) vs e =
-    let z : Num (flag (extends types m.type t)) ∷ [] ≡ vs = cc in
-    subst (λ x. AreOf (N ∷ []) x) z (refl, tt)
-told_are types (AsType t) o (Some m) vs e = by (extends types m.type t) e
+same_kind_is : (k l : Kind) → same_kind k l ≡ true → l ≡ k
+same_kind_is N N e = refl
+same_kind_is R R e = refl
+same_kind_is C C e = refl
+same_kind_is A A e = refl
+same_kind_is k l e = absurd (cc e)
+
+same_result_is : (r s : Option Kind) → same_result r s ≡ true → s ≡ r
+same_result_is None None e = refl
+same_result_is (Some k) (Some l) e = ap (λ x. Some x) (same_kind_is k l e)
+same_result_is r s e = absurd (cc e)
+
+second_is : (a b : Bool) → (a && b) ≡ true → b ≡ true
+second_is true b e = e
+second_is false b e = absurd (cc e)
+
+stands_result : (f g : Option ProcShape) → stands_for f g ≡ true → result_of g ≡ result_of f
+stands_result (Some f) (Some g) e =
+    let a = same_params f.params.items g.params.items in
+    let b = same_result f.result g.result in
+    same_result_is f.result g.result (second_is a b (second_is f.method (a && b) e))
+stands_result (Some f) None e = absurd (cc e)
+stands_result None g e = absurd (cc e)
+
+invoked_so : (shapes : List ProcShape) (k p : ℕ) (q : Option ℕ) (o : ℕ) (vs : List Cell) → HeardSo shapes (AtSlot k p vs) (invoked shapes p q o vs)
+invoked_so shapes k p None o vs = tt
+invoked_so shapes k p (Some q) o vs = by (stands_for (numbered shapes q) (numbered shapes p)) refl
   where
-    by : (b : Bool) → (if b then Tells (Ref o ∷ []) else Refuses 3) ≡ Tells vs → AreOf (R ∷ []) vs
-    by true f =
-        let z : Ref o ∷ [] ≡ vs = cc in
-        subst (λ x. AreOf (R ∷ []) x) z (refl, tt)
-    by false f = absurd (cc f)
+    by : (b : Bool) → stands_for (numbered shapes q) (numbered shapes p) ≡ b → HeardSo shapes (AtSlot k p vs) (if b then Invokes q (Ref o ∷ vs) else Unheard)
+    by true e = stands_result (numbered shapes q) (numbered shapes p) e
+    by false e = tt
+
+heard_so : (shapes : List ProcShape) (types : List TypeDesc) (l : Look) (o : ℕ) (m : Option Made) → HeardSo shapes l (told_by shapes types l o m)
+heard_so shapes types (AtCell c) o None = tt
+heard_so shapes types (AtElements j) o None = tt
+heard_so shapes types (IsType t) o None = tt
+heard_so shapes types (AsType t) o None = tt
+heard_so shapes types (AtSlot k p vs) o None = tt
+heard_so shapes types (AtCell c) o (Some m) = (refl, tt)
+heard_so shapes types (AtElements j) o (Some m) = by (nat_le j (length m.lengths)) refl
+  where
+    there : (n : ℕ) (vs : List Cell) → n ≡ j → AreOf (row n ++ []) vs → AreOf (row j) vs
+    there n vs f are = subst (λ ks. AreOf ks vs) (append-nil (row n) ∙ ap row f) are
+
+    by : (b : Bool) → nat_le j (length m.lengths) ≡ b → HeardSo shapes (AtElements j) (if b then Tells (length_cells (take j m.lengths) ++ Place (ObjectRoot o) 0 0 ∷ []) else Unheard)
+    by true within =
+        let ns = take j m.lengths in
+        let v : Cell = Place (ObjectRoot o) 0 0 in
+        there (length ns) (length_cells ns ++ v ∷ []) (length-take-le j m.lengths (leb-true j (length m.lengths) within)) (row_is ns [] v [] refl tt)
+    by false within = tt
+heard_so shapes types (IsType t) o (Some m) = (refl, tt)
+heard_so shapes types (AsType t) o (Some m) = by (extends types m.type t)
+  where
+    by : (b : Bool) → HeardSo shapes (AsType t) (if b then Tells (Ref o ∷ []) else Refuses 3)
+    by true = (refl, tt)
+    by false = tt
+heard_so shapes types (AtSlot k p vs) o (Some m) = invoked_so shapes k p (method_at types m.type k) o vs
 
 module _ (image : Image) (own : ℕ) (code : List Instr) (depth : ℕ) (paths : ArePathsSound image own code depth) where
   -- a path stays within the code
@@ -134,7 +175,7 @@ module _ (image : Image) (own : ℕ) (code : List Instr) (depth : ℕ) (paths : 
   pub room_given : (at : ℕ) (k : Kind) (stack : Stack) → StandsGiven image own code (Some k) at stack → suc (length stack) ≤ depth
   room_given at k stack st = room at (one k ∷ stack) (st (one k) (one_of k))
 
-  module _ (here : ℕ) (made : ℕ → Option Made) (cells : List Cell) where
+  module _ (here : Here) (made : ℕ → Option Made) (cells : List Cell) where
     -- what silent work does next
     noted_stands : (k : Kind) (o : Option Cell) (q : Question) (next : ℕ → ℕ → Keeps → Stack → Stop) (at : ℕ) (keeps : Keeps) (stack : Stack) →
         StandsGiven image own code (Some k) (at + 1) stack → ((s : Stack) → StandsOn image own code (at + 1) s → StandsStopped image own code (next 0 (at + 1) keeps s)) →
@@ -153,16 +194,19 @@ module _ (image : Image) (own : ℕ) (code : List Instr) (depth : ℕ) (paths : 
     asked_stands (Lengths a) next at keeps stack st go = noted_stands N (slice_get cells a.cell) (Lengths a) next at keeps stack st go
     asked_stands q next at keeps stack st go = st
 
-    heard_stands : (ks : Kinds) (r : Told) (next : ℕ → ℕ → Keeps → Stack → Stop) (at : ℕ) (keeps : Keeps) (stack : Stack) →
-        ((vs : List Cell) → r ≡ Tells vs → AreOf ks vs) → StandsTold image own code ks (at + 1) stack → ((s : Stack) → StandsOn image own code (at + 1) s → StandsStopped image own code (next 0 (at + 1) keeps s)) →
+    heard_stands : (l : Look) (r : Told) (next : ℕ → ℕ → Keeps → Stack → Stop) (at : ℕ) (keeps : Keeps) (stack : Stack) →
+        HeardSo image.shapes.items l r → StandsLooked image own code l (at + 1) stack → ((s : Stack) → StandsOn image own code (at + 1) s → StandsStopped image own code (next 0 (at + 1) keeps s)) →
         StandsStopped image own code (on_told r next at keeps stack)
-    heard_stands ks (Tells vs) next at keeps stack of st go = go (vs ++ stack) (st vs (of vs refl))
-    heard_stands ks (Refuses n) next at keeps stack of st go = tt
-    heard_stands ks Unheard next at keeps stack of st go = tt
+    heard_stands l (Refuses n) next at keeps stack h st go = tt
+    heard_stands l Unheard next at keeps stack h st go = tt
+    heard_stands (AtSlot k p vs) (Tells ws) next at keeps stack h st go = absurd h
+    heard_stands (AtSlot k p vs) (Invokes q ws) next at keeps stack h st go = subst (λ r. StandsGiven image own code r (at + 1) stack) h st
+    heard_stands l (Tells vs) next at keeps stack h st go = go (vs ++ stack) (st vs h)
+    heard_stands l (Invokes q ws) next at keeps stack h st go = absurd h
 
     act_stands : (a : Act) (next : ℕ → ℕ → Keeps → Stack → Stop) (at : ℕ) (keeps : Keeps) →
         StandsAfter image own code at a → ((over : ℕ) (k : Keeps) (s : Stack) → StandsOn image own code (at + 1 + over) s → StandsStopped image own code (next over (at + 1) k s)) →
-        StandsStopped image own code (on_act image.types.items made cells a next at keeps)
+        StandsStopped image own code (on_act image.shapes.items image.types.items made cells a next at keeps)
     act_stands (Goes over s) next at keeps st go = go over keeps s st
     act_stands (Puts c v s) next at keeps st go = go 0 (kept c v keeps) s (let z : at + 1 ≡ at + 1 + 0 = omega arith in subst (λ p. StandsOn image own code p s) z st)
     act_stands (Takes c k s) next at keeps st go = by (is_of k (keeps c)) refl
@@ -171,7 +215,7 @@ module _ (image : Image) (own : ℕ) (code : List Instr) (depth : ℕ) (paths : 
         by true e = go 0 keeps (keeps c ∷ s) (let z : at + 1 ≡ at + 1 + 0 = omega arith in subst (λ p. StandsOn image own code p (keeps c ∷ s)) z (st (keeps c) e))
         by false e = tt
     act_stands (Looks l o s) next at keeps st go =
-        heard_stands (told_kinds l) (told_by image.types.items l o (made o)) next at keeps s (told_are image.types.items l o (made o)) st
+        heard_stands l (told_by image.shapes.items image.types.items l o (made o)) next at keeps s (heard_so image.shapes.items image.types.items l o (made o)) st
         (λ s1 st1. go 0 keeps s1 (let z : at + 1 ≡ at + 1 + 0 = omega arith in subst (λ p. StandsOn image own code p s1) z st1))
     act_stands (Sees q s) next at keeps st go = asked_stands q next at keeps s st (λ s1 st1. go 0 keeps s1 (let z : at + 1 ≡ at + 1 + 0 = omega arith in subst (λ p. StandsOn image own code p s1) z st1))
     act_stands (Stops (Begins to p s)) next at keeps st go = st
@@ -223,14 +267,16 @@ module _ (image : Image) (own : ℕ) (code : List Instr) (depth : ℕ) (paths : 
     asked_goes (Lengths a) at over keeps l stack t st e = noted_goes N (slice_get cells a.cell) (Lengths a) at over keeps l stack t st e
     asked_goes q at over keeps l stack t st e = let x : at ≡ at + 1 + over = cc in absurd (omega (arith, x))
 
-    heard_goes : (ks : Kinds) (r : Told) (at over : ℕ) (keeps l : Keeps) (stack t : Stack) → ((vs : List Cell) → r ≡ Tells vs → AreOf ks vs) → StandsTold image own code ks (at + 1) stack →
+    heard_goes : (k : Look) (r : Told) (at over : ℕ) (keeps l : Keeps) (stack t : Stack) → HeardSo image.shapes.items k r → StandsLooked image own code k (at + 1) stack →
         on_told r told at keeps stack ≡ told over (at + 1) l t → StandsOn image own code (at + 1 + over) t
     unfolding told
-    heard_goes ks (Tells vs) at over keeps l stack t of st e = told_same at over (at + 1) keeps l (vs ++ stack) t (st vs (of vs refl)) refl e
-    heard_goes ks (Refuses n) at over keeps l stack t of st e = absurd (cc e)
-    heard_goes ks Unheard at over keeps l stack t of st e = absurd (cc e)
+    heard_goes k (Refuses n) at over keeps l stack t h st e = absurd (cc e)
+    heard_goes k Unheard at over keeps l stack t h st e = absurd (cc e)
+    heard_goes k (Invokes q ws) at over keeps l stack t h st e = absurd (cc e)
+    heard_goes (AtSlot j p vs) (Tells ws) at over keeps l stack t h st e = absurd h
+    heard_goes k (Tells vs) at over keeps l stack t h st e = told_same at over (at + 1) keeps l (vs ++ stack) t (st vs h) refl e
 
-    act_goes : (a : Act) (at over : ℕ) (keeps l : Keeps) (t : Stack) → StandsAfter image own code at a → on_act image.types.items made cells a told at keeps ≡ told over (at + 1) l t → StandsOn image own code (at + 1 + over) t
+    act_goes : (a : Act) (at over : ℕ) (keeps l : Keeps) (t : Stack) → StandsAfter image own code at a → on_act image.shapes.items image.types.items made cells a told at keeps ≡ told over (at + 1) l t → StandsOn image own code (at + 1 + over) t
     unfolding told
     act_goes (Goes o s) at over keeps l t st e =
         let x : at + 1 + o ≡ at + 1 + over = cc in
@@ -242,13 +288,13 @@ module _ (image : Image) (own : ℕ) (code : List Instr) (depth : ℕ) (paths : 
         by : (b : Bool) → is_of k (keeps c) ≡ b → (if b then told 0 (at + 1) keeps (keeps c ∷ s) else Ended lost keeps) ≡ told over (at + 1) l t → StandsOn image own code (at + 1 + over) t
         by true f g = told_same at over (at + 1) keeps l (keeps c ∷ s) t (st (keeps c) f) refl g
         by false f g = absurd (cc g)
-    act_goes (Looks k o s) at over keeps l t st e = heard_goes (told_kinds k) (told_by image.types.items k o (made o)) at over keeps l s t (told_are image.types.items k o (made o)) st e
+    act_goes (Looks k o s) at over keeps l t st e = heard_goes k (told_by image.shapes.items image.types.items k o (made o)) at over keeps l s t (heard_so image.shapes.items image.types.items k o (made o)) st e
     act_goes (Sees q s) at over keeps l t st e = asked_goes q at over keeps l s t st e
     act_goes (Stops end) at over keeps l t st e = absurd (cc e)
 
     -- where silent work goes on after an instruction, whatever follows
     pub goes_stands : (at : ℕ) (i : Instr) (keeps : Keeps) (stack : Stack) → slice_get code at ≡ Some i → StandsOn image own code at stack → (over : ℕ) (l : Keeps) (t : Stack) →
-        ((next : ℕ → ℕ → Keeps → Stack → Stop) → on_act image.types.items made cells (act image.shapes.items image.types.items own here i code at stack) next at keeps ≡ next over (at + 1) l t) → StandsOn image own code (at + 1 + over) t
+        ((next : ℕ → ℕ → Keeps → Stack → Stop) → on_act image.shapes.items image.types.items made cells (act image.shapes.items image.types.items own here i code at stack) next at keeps ≡ next over (at + 1) l t) → StandsOn image own code (at + 1 + over) t
     goes_stands at i keeps stack is st over l t h = act_goes (act image.shapes.items image.types.items own here i code at stack) at over keeps l t (step_stands image own code here at depth paths i stack is st) (h told)
 
     -- and where it ends at a Begin
@@ -262,9 +308,10 @@ module _ (image : Image) (own : ℕ) (code : List Instr) (depth : ℕ) (paths : 
     unfolding told
     heard_begins (Tells vs) at keeps l stack t to p e = cc e
     heard_begins (Refuses n) at keeps l stack t to p e = cc e
+    heard_begins (Invokes q vs) at keeps l stack t to p e = cc e
     heard_begins Unheard at keeps l stack t to p e = cc e
 
-    act_begins : (a : Act) (at : ℕ) (keeps l : Keeps) (t : Stack) (to : ℕ) (p : Pos) → StandsAfter image own code at a → on_act image.types.items made cells a told at keeps ≡ Ended (Begins to p t) l → StandsBegun image own code to t
+    act_begins : (a : Act) (at : ℕ) (keeps l : Keeps) (t : Stack) (to : ℕ) (p : Pos) → StandsAfter image own code at a → on_act image.shapes.items image.types.items made cells a told at keeps ≡ Ended (Begins to p t) l → StandsBegun image own code to t
     unfolding told
     act_begins (Goes o s) at keeps l t to p st e = absurd (cc e)
     act_begins (Puts c v s) at keeps l t to p st e = absurd (cc e)
@@ -273,7 +320,7 @@ module _ (image : Image) (own : ℕ) (code : List Instr) (depth : ℕ) (paths : 
         by : (b : Bool) → (if b then told 0 (at + 1) keeps (keeps c ∷ s) else Ended lost keeps) ≡ Ended (Begins to p t) l → StandsBegun image own code to t
         by true g = absurd (cc g)
         by false g = absurd (cc g)
-    act_begins (Looks k o s) at keeps l t to p st e = absurd (heard_begins (told_by image.types.items k o (made o)) at keeps l s t to p e)
+    act_begins (Looks k o s) at keeps l t to p st e = absurd (heard_begins (told_by image.shapes.items image.types.items k o (made o)) at keeps l s t to p e)
     act_begins (Sees q s) at keeps l t to p st e = absurd (noted_begins (noted cells q) q at keeps l s t to p e)
     act_begins (Stops (Begins x q s)) at keeps l t to p st e =
         let y : x ≡ to = cc in
@@ -282,7 +329,7 @@ module _ (image : Image) (own : ℕ) (code : List Instr) (depth : ℕ) (paths : 
     act_begins (Stops (Fails n c)) at keeps l t to p st e = absurd (cc e)
 
     pub begins_stands : (at : ℕ) (i : Instr) (keeps : Keeps) (stack : Stack) → slice_get code at ≡ Some i → StandsOn image own code at stack → (to : ℕ) (p : Pos) (l : Keeps) (t : Stack) →
-        ((next : ℕ → ℕ → Keeps → Stack → Stop) → on_act image.types.items made cells (act image.shapes.items image.types.items own here i code at stack) next at keeps ≡ Ended (Begins to p t) l) → StandsBegun image own code to t
+        ((next : ℕ → ℕ → Keeps → Stack → Stop) → on_act image.shapes.items image.types.items made cells (act image.shapes.items image.types.items own here i code at stack) next at keeps ≡ Ended (Begins to p t) l) → StandsBegun image own code to t
     begins_stands at i keeps stack is st to p l t h = act_begins (act image.shapes.items image.types.items own here i code at stack) at keeps l t to p (step_stands image own code here at depth paths i stack is st) (h told)
 
   pub keeps_to_paths : KeepsToPaths image own code depth

@@ -11,7 +11,7 @@ use Rattle.aos_code.specs.declared.instr.Instr.TheVariants.{Start}
 use Rattle.aos_code.specs.declared.image.ProcShape.{ProcShape}
 use Rattle.aos_code.specs.declared.image.Image.{Image}
 use Rattle.aos_code.specs.Numbered.{numbered}
-use Rattle.aos_code.specs.Silent.{Stack, Keeps, Question, Begins, Fails, Stop, Work, Ended, Act, Goes, Puts, Takes, Looks, Sees, Stops, Look, AtCell, AtElements, IsType, AsType, lost, is_of, act, on_act, walk, silent}
+use Rattle.aos_code.specs.Silent.{Stack, Keeps, Question, Begins, Fails, Stop, Work, Ended, Act, Goes, Puts, Takes, Looks, Sees, Stops, Look, AtCell, AtElements, IsType, AsType, AtSlot, Here, lost, is_of, act, on_act, walk, silent}
 use Rattle.aos_sound.specs.declared.effect.Effect.{Effect}
 use Rattle.aos_sound.specs.declared.effect.Effect.TheVariants.{Gives, Twice}
 use Rattle.aos_sound.specs.Sound.{Kinds, Comes, row, is_begin, effect_of}
@@ -64,12 +64,13 @@ answer_kind shapes (PutsString a n) = None
 answer_kind shapes PutsNothing = None
 answer_kind shapes PutsLn = None
 
--- the kinds of what an object tells
+-- the kinds of what an object tells, which is nothing where it is called
 abbrev pub told_kinds : Look → Kinds
 told_kinds (AtCell c) = A ∷ []
 told_kinds (AtElements j) = row j
 told_kinds (IsType t) = N ∷ []
 told_kinds (AsType t) = R ∷ []
+told_kinds (AtSlot k p vs) = []
 
 -- in an image, as the procedure of this number, which has this code
 module _ (image : Image) (own : ℕ) (code : List Instr) where
@@ -98,12 +99,18 @@ module _ (image : Image) (own : ℕ) (code : List Instr) where
   abbrev pub StandsBegun : (to : ℕ) → Stack → Type 0
   StandsBegun to stack = IsTrue (is_begin (slice_get code to)) × StandsOn to stack × StandsOn (to + 1) stack
 
+  -- behind the instruction that asks an object these stand on a path with what the object tells, or with the answer of the method that it
+  -- calls
+  abbrev pub StandsLooked : Look → (at : ℕ) → Stack → Type 0
+  StandsLooked (AtSlot k p vs) at stack = StandsGiven (result_of (numbered image.shapes.items p)) at stack
+  StandsLooked l at stack = StandsTold (told_kinds l) at stack
+
   -- what the instruction at this place leaves stands on a path where the code goes on
   abbrev pub StandsAfter : (at : ℕ) → Act → Type 0
   StandsAfter at (Goes over s) = StandsOn (at + 1 + over) s
   StandsAfter at (Puts c v s) = StandsOn (at + 1) s
   StandsAfter at (Takes c kind s) = StandsGiven (Some kind) (at + 1) s
-  StandsAfter at (Looks l o s) = StandsTold (told_kinds l) (at + 1) s
+  StandsAfter at (Looks l o s) = StandsLooked l (at + 1) s
   StandsAfter at (Sees q s) = StandsAsked q at s
   StandsAfter at (Stops (Begins to p s)) = StandsBegun to s
   StandsAfter at (Stops (Fails n c)) = Unit {0}
@@ -119,24 +126,24 @@ pub record KeepsToPaths (image : Image) (own : ℕ) (code : List Instr) (depth :
   -- a frame begins on a path
   pub begins : StandsOn image own code 0 []
   -- where a frame stands on a path, so does what each instruction leaves
-  pub step : (here at : ℕ) (i : Instr) (stack : Stack) → slice_get code at ≡ Some i → StandsOn image own code at stack → StandsAfter image own code at (act image.shapes.items image.types.items own here i code at stack)
+  pub step : (here : Here) (at : ℕ) (i : Instr) (stack : Stack) → slice_get code at ≡ Some i → StandsOn image own code at stack → StandsAfter image own code at (act image.shapes.items image.types.items own here i code at stack)
   -- and so does what silent work goes on with after the instruction, whatever follows
   pub goes :
-      (here : ℕ) (made : ℕ → Option Made) (cells : List Cell) (at : ℕ) (i : Instr) (k : Keeps) (stack : Stack) → slice_get code at ≡ Some i → StandsOn image own code at stack
+      (here : Here) (made : ℕ → Option Made) (cells : List Cell) (at : ℕ) (i : Instr) (k : Keeps) (stack : Stack) → slice_get code at ≡ Some i → StandsOn image own code at stack
       → (over : ℕ) (l : Keeps) (left : Stack)
-      → ((next : ℕ → ℕ → Keeps → Stack → Stop) → on_act image.types.items made cells (act image.shapes.items image.types.items own here i code at stack) next at k ≡ next over (at + 1) l left)
+      → ((next : ℕ → ℕ → Keeps → Stack → Stop) → on_act image.shapes.items image.types.items made cells (act image.shapes.items image.types.items own here i code at stack) next at k ≡ next over (at + 1) l left)
       → StandsOn image own code (at + 1 + over) left
   -- or what it comes to a Begin with
   pub begun :
-      (here : ℕ) (made : ℕ → Option Made) (cells : List Cell) (at : ℕ) (i : Instr) (k : Keeps) (stack : Stack) → slice_get code at ≡ Some i → StandsOn image own code at stack
+      (here : Here) (made : ℕ → Option Made) (cells : List Cell) (at : ℕ) (i : Instr) (k : Keeps) (stack : Stack) → slice_get code at ≡ Some i → StandsOn image own code at stack
       → (to : ℕ) (p : Pos) (l : Keeps) (left : Stack)
-      → ((next : ℕ → ℕ → Keeps → Stack → Stop) → on_act image.types.items made cells (act image.shapes.items image.types.items own here i code at stack) next at k ≡ Ended (Begins to p left) l)
+      → ((next : ℕ → ℕ → Keeps → Stack → Stop) → on_act image.shapes.items image.types.items made cells (act image.shapes.items image.types.items own here i code at stack) next at k ≡ Ended (Begins to p left) l)
       → StandsBegun image own code to left
   -- and what all silent work comes to
   pub walk :
-      (here : ℕ) (made : ℕ → Option Made) (cells : List Cell) (rest : List Instr) (over at : ℕ) (k : Keeps) (stack : Stack) → drop at code ≡ rest → StandsOn image own code (at + over) stack
+      (here : Here) (made : ℕ → Option Made) (cells : List Cell) (rest : List Instr) (over at : ℕ) (k : Keeps) (stack : Stack) → drop at code ≡ rest → StandsOn image own code (at + over) stack
       → StandsStopped image own code (walk image.shapes.items image.types.items made own here cells code rest over at k stack)
-  pub work : (here : ℕ) (made : ℕ → Option Made) (cells : List Cell) (at : ℕ) (k : Keeps) (stack : Stack) → StandsOn image own code at stack → StandsStopped image own code (silent image.shapes.items image.types.items made own here cells code at k stack)
+  pub work : (here : Here) (made : ℕ → Option Made) (cells : List Cell) (at : ℕ) (k : Keeps) (stack : Stack) → StandsOn image own code at stack → StandsStopped image own code (silent image.shapes.items image.types.items made own here cells code at k stack)
   -- a path stays within the code
   pub within : (at : ℕ) (stack : Stack) → StandsOn image own code at stack → at < length code
   -- there are no more operands than the depth
@@ -150,5 +157,5 @@ pub record KeepsToPaths (image : Image) (own : ℕ) (code : List Instr) (depth :
 -- what an instruction of a sound body finds is what it takes, but for what soundness doesn't decide
 abbrev pub FindsAll : (image : Image) (own : ℕ) (code : List Instr) → Type 0
 FindsAll image own code =
-    (here at : ℕ) (i : Instr) (stack : Stack) → slice_get code at ≡ Some i → StandsOn image own code at stack
-    → act image.shapes.items image.types.items own here i code at stack ≡ Stops lost → IsUndecided i stack
+    (here : Here) (at : ℕ) (i : Instr) (stack : Stack) → slice_get code at ≡ Some i → StandsOn image own code at stack
+    → act image.shapes.items image.types.items own here i code at stack ≡ Stops lost → IsUndecided here i stack

@@ -3,14 +3,15 @@ use Rattle.std.specs.Prelude.{◌≡◌, ◌≤◌, ℕ, zero, suc, ◌+◌, ◌
 use Rattle.aos_code.specs.declared.instr.Kind.{Kind}
 use Rattle.aos_code.specs.declared.instr.Kind.TheVariants.{N, R, C, A}
 use Rattle.aos_code.specs.declared.instr.Instr.{Instr}
-use Rattle.aos_code.specs.declared.instr.Instr.TheVariants.{Num, Nil, Deref, OpenRef, EqRef, Is, IsPlace, Guard, GuardPlace, NewArray, Dup, Drop, Swap, Frame, Module, Param, Length, Offset, Index, IndexOpen, PickLen, Unary, Binary, Keep, Kept, Fail, Assert, Halt, Jump, JumpFalse, Begin, Load, Store, Copy, PutText, CmpText, Call, NewObject, Start, Return, OutChar, OutInt, OutString, OutLn, OutOpen}
+use Rattle.aos_code.specs.declared.instr.Instr.TheVariants.{Num, Nil, SelfRef, Virtual, Deref, OpenRef, EqRef, Is, IsPlace, Guard, GuardPlace, NewArray, Dup, Drop, Swap, Frame, Module, Param, Length, Offset, Index, IndexOpen, PickLen, Unary, Binary, Keep, Kept, Fail, Assert, Halt, Jump, JumpFalse, Begin, Load, Store, Copy, PutText, CmpText, Call, NewObject, Start, Return, OutChar, OutInt, OutString, OutLn, OutOpen}
 use Rattle.aos_code.specs.declared.image.ModuleDesc.{ModuleDesc}
 use Rattle.aos_code.specs.declared.image.ProcShape.{ProcShape}
+use Rattle.aos_code.specs.declared.image.TypeDesc.{TypeDesc}
 use Rattle.aos_code.specs.declared.image.Image.{Image}
 use Rattle.aos_code.specs.Numbered.{numbered}
 use Rattle.aos_code.specs.Silent.{kinds_of, keeps_in}
 use Rattle.aos_sound.specs.declared.effect.Effect.{Effect}
-use Rattle.aos_sound.specs.declared.effect.Effect.TheVariants.{Pass, Gives, Takes, TakesTwo, Turns, Joins, Twice, Drops, Swaps, Rows, Picks, Spreads, Makes, Texts, Calls, Returns}
+use Rattle.aos_sound.specs.declared.effect.Effect.TheVariants.{Pass, Gives, Takes, TakesTwo, Turns, Joins, Twice, Drops, Swaps, Rows, Picks, Spreads, Makes, Texts, Calls, Sends, Returns}
 use Rattle.aos_sound.specs.declared.effect.Next.{Next}
 use Rattle.aos_sound.specs.declared.effect.Next.TheVariants.{Ends, On, To, Either}
 use Rattle.aos_sound.specs.declared.stand.Role.{Role}
@@ -24,6 +25,7 @@ Kinds = List Kind
 abbrev pub effect_of : Instr → Effect
 effect_of (Num n) = Gives N
 effect_of Nil = Gives R
+effect_of SelfRef = Gives R
 effect_of Dup = Twice
 effect_of Drop = Drops
 effect_of Swap = Swaps
@@ -58,6 +60,7 @@ effect_of (Copy n) = TakesTwo A A
 effect_of (PutText strict) = Texts None
 effect_of (CmpText r) = Texts (Some N)
 effect_of (Call p) = Calls p
+effect_of (Virtual k p) = Sends p
 effect_of (NewObject t) = Gives R
 effect_of (NewArray t j) = Makes j
 effect_of Start = Takes R
@@ -147,10 +150,24 @@ abbrev pub returned : Option ProcShape → Kinds → Option Kinds
 returned None s = None
 returned (Some f) s = alone f.result s
 
--- a call of a procedure with this shape: the arguments are taken, of which the last is the topmost, and the result is given
+-- a method is called on an object, which lies below its arguments
+abbrev pub object_below : (method : Bool) → Kinds
+object_below true = R ∷ []
+object_below false = []
+
+-- what a call of a procedure with this shape takes: the arguments, of which the last is the topmost, and the object, if it is called on one
+abbrev pub taken : (method : Bool) → ProcShape → Kinds
+taken method f = reverse (kinds_of f.params.items) ++ object_below method
+
+-- it takes these and gives its result
 abbrev pub called : Option ProcShape → Kinds → Option Kinds
 called None s = None
-called (Some f) s = given f.result (without (reverse (kinds_of f.params.items)) s)
+called (Some f) s = given f.result (without (taken f.method f) s)
+
+-- and so does a method for which one of this shape stands
+abbrev pub sent : Option ProcShape → Kinds → Option Kinds
+sent None s = None
+sent (Some f) s = given f.result (without (taken true f) s)
 
 -- a statement begins there
 abbrev pub is_begin : Option Instr → Bool
@@ -181,6 +198,16 @@ abbrev pub frame_cells : Option ProcShape → ℕ
 frame_cells None = 0
 frame_cells (Some f) = f.cells
 
+-- a procedure of this shape is called on an object
+abbrev pub is_method : Option ProcShape → Bool
+is_method None = false
+is_method (Some f) = f.method
+
+-- one of these types has a method in this slot
+abbrev pub has_slot : List TypeDesc → (slot : ℕ) → Bool
+has_slot [] k = false
+has_slot (t ∷ ts) k = nat_lt k (length t.methods.items) || has_slot ts k
+
 -- there is one
 abbrev pub is_some : {X : Type 0} → Option X → Bool
 is_some None = false
@@ -200,6 +227,7 @@ module _ (image : Image) (own : ℕ) where
   may_stand role code at (Module m c) = has_place (slice_get image.modules.items m) c
   may_stand role code at (Param c) = nat_lt c (frame_cells (numbered image.shapes.items own))
   may_stand role code at (Length c) = nat_lt c (frame_cells (numbered image.shapes.items own))
+  may_stand role code at SelfRef = is_method (numbered image.shapes.items own)
   may_stand role code at (Offset c t) = is_type_or_none image t
   may_stand role code at (IndexOpen j k) = nat_lt 0 j
   may_stand role code at (PickLen d j) = nat_lt d j
@@ -208,6 +236,7 @@ module _ (image : Image) (own : ℕ) where
   may_stand role code at (Jump to) = may_jump role code to at
   may_stand role code at (JumpFalse to) = may_jump role code to at
   may_stand role code at (Call p) = is_procedure role && is_some (numbered image.shapes.items p)
+  may_stand role code at (Virtual k p) = is_procedure role && (is_method (numbered image.shapes.items p) && has_slot image.types.items k)
   may_stand role code at (NewObject t) = is_procedure role && is_some (numbered image.types.items t)
   may_stand role code at (NewArray t j) = is_procedure role && is_some (numbered image.types.items t)
   may_stand role code at (Is t) = is_some (numbered image.types.items t)
@@ -246,6 +275,7 @@ module _ (image : Image) (own : ℕ) where
   left_by (Makes j) s = topped R (without (replicate j N) s)
   left_by (Texts r) s = given r (without (N ∷ A ∷ N ∷ A ∷ []) s)
   left_by (Calls p) s = called (numbered image.shapes.items p) s
+  left_by (Sends p) s = sent (numbered image.shapes.items p) s
   left_by Returns s = returned (numbered image.shapes.items own) s
 
   -- the operands behind an instruction, on whichever way the code goes on

@@ -5,7 +5,7 @@ ghost use Rattle.aos_code.specs.declared.instr.Kind.{Kind};
 ghost use Rattle.aos_code.specs.declared.instr.Kind.TheVariants.{N};
 ghost use Rattle.aos_code.specs.Numbered.{numbered};
 ghost use Rattle.aos_sound.specs.Sound as sound;
-ghost use Rattle.aos_sound.specs.Sound.{Kinds, without, topped, all_topped, given, row, called, twice, swapped, returned};
+ghost use Rattle.aos_sound.specs.Sound.{Kinds, without, topped, all_topped, given, row, taken, called, sent, twice, swapped, returned};
 ghost use Rattle.aos_sound.specs.Stacks.{stack_at, Extends, Means};
 
 use crate::effect::Effect;
@@ -105,6 +105,35 @@ fn give_row(below: Option<u32>, lengths: u32, stacks: &mut Stacks) -> Result<Opt
     }
 }
 
+/// What a call of a procedure of this shape takes, with the object where it is called on one.
+fn take_called(stacks: &Stacks, shape: &ProcShape, method: bool, id: u32) -> Option<u32>
+    requires { id < length stacks.now }
+    ensures { Means stacks.now result (without (taken method shape.now) (stack_at stacks.now id)) }
+{
+    match take_arguments(stacks, &shape.params, id) {
+        Some(below) => if method {
+            take(stacks, Kind::R, below)
+        } else {
+            Some(below)
+        },
+        None => None,
+    }
+}
+
+/// The method of this number is called on an object, or one that stands for it.
+fn send(shapes: &[ProcShape], p: u32, stacks: &mut Stacks, id: u32) -> Result<Option<u32>, NoMemory>
+    requires { id < length stacks.old }
+    ensures kept { IfOk result (λ r. Extends stacks.old stacks.new) }
+    ensures left { IfOk result (λ r. Means stacks.new r
+        (sent (numbered shapes.now p) (stack_at stacks.old id))) }
+{
+    if p == 0 || p as usize > shapes.len() {
+        return Ok(None);
+    }
+    let shape = &shapes[p as usize - 1];
+    give_any(take_called(stacks, shape, true, id), shape.result, stacks)
+}
+
 /// The procedure of this number is called.
 fn call(shapes: &[ProcShape], p: u32, stacks: &mut Stacks, id: u32) -> Result<Option<u32>, NoMemory>
     requires { id < length stacks.old }
@@ -117,7 +146,7 @@ fn call(shapes: &[ProcShape], p: u32, stacks: &mut Stacks, id: u32) -> Result<Op
     }
     let shape = &shapes[p as usize - 1];
     give_any(
-        take_arguments(stacks, &shape.params, id),
+        take_called(stacks, shape, shape.method, id),
         shape.result,
         stacks,
     )
@@ -217,6 +246,7 @@ pub fn left_by(
         Effect::Makes(lengths) => give(take_lengths(stacks, lengths, id), Kind::R, stacks),
         Effect::Texts(to) => give_any(take_texts(stacks, id), to, stacks),
         Effect::Calls(p) => call(&image.shapes, p, stacks, id),
+        Effect::Sends(p) => send(&image.shapes, p, stacks, id),
         Effect::Returns => Ok(ends(&image.shapes, own, stacks, id)),
     }
 }

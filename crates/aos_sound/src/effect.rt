@@ -36,8 +36,11 @@ pub enum Effect {
     Makes(u32),
     /// Takes two texts, each a place and above it a length, and gives an operand of this kind, if any.
     Texts(Option<Kind>),
-    /// Takes the arguments of the procedure of this number, the last one from the top, and gives its result, if any.
+    /// Takes the arguments of the procedure of this number, the last one from the top, and below them the object where it is a
+    /// method, and gives its result, if any.
     Calls(u32),
+    /// Takes the arguments of the method of this number, and below them an object, and gives the method's result, if any.
+    Sends(u32),
     /// Takes the result of the procedure, where nothing else is there.
     Returns,
 }
@@ -62,6 +65,7 @@ pub fn effect_of(i: &Instr) -> Effect
     match *i {
         Instr::Num(_) => Effect::Gives(Kind::N),
         Instr::Nil => Effect::Gives(Kind::R),
+        Instr::SelfRef => Effect::Gives(Kind::R),
         Instr::Dup => Effect::Twice,
         Instr::Drop => Effect::Drops,
         Instr::Swap => Effect::Swaps,
@@ -96,6 +100,7 @@ pub fn effect_of(i: &Instr) -> Effect
         Instr::PutText(_) => Effect::Texts(None),
         Instr::CmpText(_) => Effect::Texts(Some(Kind::N)),
         Instr::Call(p) => Effect::Calls(p),
+        Instr::Virtual(_, p) => Effect::Sends(p),
         Instr::NewObject(_) => Effect::Gives(Kind::R),
         Instr::NewArray(_, j) => Effect::Makes(j),
         Instr::Start => Effect::Takes(Kind::R),

@@ -76,6 +76,25 @@ fn has_procedure(shapes: &[ProcShape], p: u32) -> bool
     p > 0 && (p as usize) <= shapes.len()
 }
 
+/// Whether the procedure of this number is called on an object.
+fn is_method(shapes: &[ProcShape], p: u32) -> bool
+    ensures { result ≡ sound.is_method (numbered shapes.now p) }
+{
+    has_procedure(shapes, p) && shapes[p as usize - 1].method
+}
+
+/// Whether a type has a method in this slot.
+fn has_slot(types: &[TypeDesc], slot: u32) -> bool
+    ensures { result ≡ sound.has_slot types.now slot }
+{
+    for desc in types {
+        if (slot as usize) < desc.methods.len() {
+            return true;
+        }
+    }
+    false
+}
+
 /// Whether a frame of the procedure of this number has this place, which may be that behind its last cell.
 fn has_own_place(shapes: &[ProcShape], own: u32, c: u32) -> bool
     ensures { result ≡ sound.has_own_place (numbered shapes.now own) c }
@@ -106,6 +125,7 @@ fn may_stand(image: &Image, own: u32, role: Role, code: &[Instr], at: usize, i: 
         Instr::Module(m, c) => has_place(&image.modules, m, c),
         Instr::Param(c) => has_cell(&image.shapes, own, c),
         Instr::Length(c) => has_cell(&image.shapes, own, c),
+        Instr::SelfRef => is_method(&image.shapes, own),
         Instr::Offset(_, t) => is_type_or_none(image, t),
         Instr::IndexOpen(j, _) => 0 < j,
         Instr::PickLen(d, j) => d < j,
@@ -114,6 +134,8 @@ fn may_stand(image: &Image, own: u32, role: Role, code: &[Instr], at: usize, i: 
         Instr::Jump(to) => jumps(role, code, to as usize, at),
         Instr::JumpFalse(to) => jumps(role, code, to as usize, at),
         Instr::Call(p) => for_procedure(role) && has_procedure(&image.shapes, p),
+        Instr::Virtual(slot, p) => for_procedure(role)
+            && (is_method(&image.shapes, p) && has_slot(&image.types, slot)),
         Instr::NewObject(t) => for_procedure(role) && has_type(&image.types, t),
         Instr::NewArray(t, _) => for_procedure(role) && has_type(&image.types, t),
         Instr::Is(t) => has_type(&image.types, t),

@@ -1,4 +1,5 @@
-use Rattle.std.proofs.Common.{◌-◌, ◌^◌, List, length, min, sym, ap, ◌∙◌}
+use Rattle.std.proofs.Common.{◌≡◌, ◌-◌, ◌^◌, List, length, min, sym, ap, ◌∙◌, subst}
+use Rattle.std.specs.Prelude.{Option, Some, None}
 use Rattle.std.specs.Option.{option_map}
 use Rattle.aos_store.specs.Store.{list_in, frame_in, memory_in, rooted_in}
 use Rattle.aos_cpu.specs.Calls.{Gift, gifts, all_copied, called, called_cells}
@@ -11,10 +12,12 @@ returns-in-None-clause-ok c out =
     let shape = c.args.shape.now in
     let mem = memory_in c.args.store.now in
     let x = rooted_in old c.args.store.now in
-    let args = c.arguments-args.result.now in
+    let all = c.arguments-all.result.now in
+    let args = c.arguments_of-args.result.now in
+    let taken = λ (o : Option (List Gift)). subst (λ vs. gifts x shape.params.items vs ≡ o) c.arguments_of-args.ensures in
     let f = λ (gs : List Gift). min (length (all_copied gs)) (2 ^ 64 - 1) in
-    call_lost shape c.args.procedure c.args.count c.args.at old mem out args c.arguments-args.ensures
-    (none_of f (gifts x shape.params.items args) (c.in-None.ensures ∙ ap (λ ps. option_map f (gifts x ps args)) c.deref.ensures.value))
+    call_lost shape c.args.procedure c.args.count c.args.at old mem out all c.arguments-all.ensures
+    (taken None (none_of f (gifts x shape.params.items args) (c.in-None.ensures ∙ ap (λ ps. option_map f (gifts x ps args)) c.deref.ensures.value)))
 
 pub returns-then-is_deep-clause-ok : goal.returns-then-is_deep-clause-ok
 returns-then-is_deep-clause-ok c out =
@@ -22,13 +25,15 @@ returns-then-is_deep-clause-ok c out =
     let shape = c.args.shape.now in
     let mem = memory_in c.args.store.now in
     let x = rooted_in old c.args.store.now in
-    let args = c.arguments-args.result.now in
+    let all = c.arguments-all.result.now in
+    let args = c.arguments_of-args.result.now in
+    let taken = λ (o : Option (List Gift)). subst (λ vs. gifts x shape.params.items vs ≡ o) c.arguments_of-args.ensures in
     let f = λ (gs : List Gift). min (length (all_copied gs)) (2 ^ 64 - 1) in
     let s = some_of f (gifts x shape.params.items args) c.in-Some.copied (c.in-Some.ensures ∙ ap (λ ps. option_map f (gifts x ps args)) c.deref.ensures.value) in
     let n = length (all_copied s.0) in
     let fs = list_in old.list.items in
     let same = deep_same shape.counted n c.in-Some.copied c.count_with-counted.result s.2 c.count_with-counted.ensures fs in
-    call_deep shape c.args.procedure c.args.count c.args.at old mem out args c.arguments-args.ensures s.0 s.1 (sym same ∙ sym c.if-is_deep.ensures)
+    call_deep shape c.args.procedure c.args.count c.args.at old mem out all c.arguments-all.ensures s.0 (taken (Some s.0) s.1) (sym same ∙ sym c.if-is_deep.ensures)
 
 pub returns-in_ok-enter-in-Some-clause-ok : goal.returns-in_ok-enter-in-Some-clause-ok
 returns-in_ok-enter-in-Some-clause-ok c out =
@@ -36,12 +41,14 @@ returns-in_ok-enter-in-Some-clause-ok c out =
     let shape = c.args.shape.now in
     let mem = memory_in c.args.store.now in
     let x = rooted_in old c.args.store.now in
-    let args = c.arguments-args.result.now in
+    let all = c.arguments-all.result.now in
+    let args = c.arguments_of-args.result.now in
+    let taken = λ (o : Option (List Gift)). subst (λ vs. gifts x shape.params.items vs ≡ o) c.arguments_of-args.ensures in
     let f = λ (gs : List Gift). min (length (all_copied gs)) (2 ^ 64 - 1) in
     let s = some_of f (gifts x shape.params.items args) c.in-Some.copied (c.in-Some.ensures ∙ ap (λ ps. option_map f (gifts x ps args)) c.deref.ensures.value) in
     let n = length (all_copied s.0) in
     let fs = list_in old.list.items in
     let same = deep_same shape.counted n c.in-Some.copied c.count_with-counted.result s.2 c.count_with-counted.ensures fs in
-    let all = counted_all shape.counted n c.in-Some.copied c.count_with-counted.result s.2 c.count_with-counted.ensures fs (sym c.if-is_deep.ensures) in
-    let frame = c.in_ok-frame-in-Some.ensures s.0 s.1 ∙ ap (λ k. called c.args.procedure k (called_cells (length fs) shape.kinds.items s.0)) all in
-    call_made shape c.args.procedure c.args.count c.args.at old mem out args c.arguments-args.ensures s.0 c.enter.new.frames (frame_in c.in_ok-frame-in-Some.frame) s.1 (sym same ∙ sym c.if-is_deep.ensures) frame c.in_ok-enter-in-Some.ensures.ok
+    let count = counted_all shape.counted n c.in-Some.copied c.count_with-counted.result s.2 c.count_with-counted.ensures fs (sym c.if-is_deep.ensures) in
+    let frame = c.in_ok-frame-in-Some.ensures s.0 s.1 ∙ (λ i. called c.args.procedure (c.object_of-object.ensures i) (count i) (called_cells (length fs) shape.kinds.items s.0)) in
+    call_made shape c.args.procedure c.args.count c.args.at old mem out all c.arguments-all.ensures s.0 c.enter.new.frames (frame_in c.in_ok-frame-in-Some.frame) (taken (Some s.0) s.1) (sym same ∙ sym c.if-is_deep.ensures) frame c.in_ok-enter-in-Some.ensures.ok

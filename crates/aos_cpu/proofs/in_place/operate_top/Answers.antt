@@ -2,6 +2,7 @@ use Rattle.std.proofs.Common.{rules, w64, ◌≡◌, ◌<◌, ◌+◌, ◌-◌, 
 use Rattle.std.specs.Prelude.{pos}
 use mir.Val.{to_z, of_z}
 use Rattle.std.proofs.lemmas.List.{length-reverse}
+use Rattle.aos_silent.specs.Silent.{here_at}
 use Rattle.aos_base.specs.declared.operator.Given.{Given}
 use Rattle.aos_base.specs.Operators.{binary}
 use Rattle.aos_code.specs.declared.instr.Cell.{Cell}
@@ -37,9 +38,9 @@ returns-clause-done c image here mem code_is at_is here_is =
     let first : to_z w64 (of_z w64 c.in-Some.a) ≡ c.in-Some.a = search rules in
     let second : to_z w64 (of_z w64 c.in-Some.b) ≡ c.in-Some.b = search rules in
     let third : to_z w64 (of_z w64 value) ≡ value = search rules in
-    let goes : act image.shapes.items image.types.items f.procedure here (get_or code at (Num (pos 0))) code at f.stack ≡ Goes 0 s =
-    ap (λ (i : Instr). act image.shapes.items image.types.items f.procedure here i code at f.stack) here_is ∙ two
+    let goes : act image.shapes.items image.types.items f.procedure (here_at here f) (get_or code at (Num (pos 0))) code at f.stack ≡ Goes 0 s =
+    ap (λ (i : Instr). act image.shapes.items image.types.items f.procedure (here_at here f) i code at f.stack) here_is ∙ two
     ∙ (λ j. given (binary operator (sym first j) (sym second j)) (drop 2 f.stack)) ∙ ap (λ (g : Given). given g (drop 2 f.stack)) (sym c.in-Number.ensures) in
     let next : at + 1 ≡ min (at + 1 + 0) (2 ^ 64 - 1) = omega arith in
     subst (λ (x : Stack). HasWorked image here mem mem f (record f { next = at + 1; stack = x })) (sym (c.replace.ensures.operands ∙ ap (λ z. NumCell z ∷ drop 2 f.stack) third))
-    (silent_top image here mem f (record f { stack = s }) code at (GoesOn 0) code_is at_is c.requires.within (stepped_of image.types.items (made_in image mem) (GoesOn 0) _ f s (sym goes)) 0 (at + 1) refl next (omega arith))
+    (silent_top image here mem f (record f { stack = s }) code at (GoesOn 0) code_is at_is c.requires.within (stepped_of image.shapes.items image.types.items (made_in image mem) (GoesOn 0) _ f s (sym goes)) 0 (at + 1) refl next (omega arith))

@@ -6,6 +6,7 @@ use Rattle.aos_code.specs.declared.instr.Instr.TheVariants.{Num}
 use Rattle.aos_code.specs.Silent.{act}
 use Rattle.aos_code.specs.Machine.{made_in}
 use Rattle.aos_store.specs.Store.{frame_in, memory_in}
+use Rattle.aos_silent.specs.Silent.{here_at}
 use Rattle.aos_silent.specs.Steps.{IsStepOf}
 use Rattle.aos_cpu.proofs.Turns.{some_same}
 use Rattle.aos_cpu.proofs.in_place.rest_top.Goals as goal
@@ -19,5 +20,5 @@ returns-in-Ok-clause-done c code_is at_is =
     let at = c.args.at in
     let same : c.args.instr ≡ get_or code at (Num (pos 0)) = some_same _ _ (sym c.requires.place ∙ slice_get-get_or code at (Num (pos 0)) c.requires.within) in
     c.go_after.ensures.done image c.args.here mem f code_is at_is
-    (subst (λ (i : Instr). IsStepOf image.types.items (made_in image mem) (act image.shapes.items image.types.items f.procedure c.args.here i code at f.stack) c.in-Ok.did f (frame_in c.do_one.new.frame)) same c.in-Ok.ensures.ok)
+    (subst (λ (i : Instr). IsStepOf image.shapes.items image.types.items (made_in image mem) (act image.shapes.items image.types.items f.procedure (here_at c.args.here f) i code at f.stack) c.in-Ok.did f (frame_in c.do_one.new.frame)) same c.in-Ok.ensures.ok)
     c.in-Ok.ensures.stays

@@ -1,4 +1,4 @@
-use Rattle.std.proofs.Common.{◌≡◌, ◌<◌, ◌-◌, ◌^◌, List, [], length, reverse, refl, ap, arith, subst}
+use Rattle.std.proofs.Common.{◌≡◌, ◌<◌, ◌^◌, List, [], length, reverse, refl, ap, arith, subst}
 use Rattle.std.specs.Prelude.{Some}
 use Rattle.aos_sound.specs.FitFrames.{depth_of}
 use Rattle.aos_store.specs.Store.{list_in, frame_in}

@@ -1,5 +1,5 @@
-use Rattle.std.proofs.Common.{◌≡◌, ◌<◌, ◌≤◌, ◌+◌, ◌-◌, ◌++◌, ℕ, suc, List, ◌∷◌, [], length, take, drop, reverse, true, refl, sym, ap, ◌∙◌, subst, arith, le-leb, append_assoc}
-use Rattle.std.specs.Prelude.{Some, None, nat_le, slice_get, if◌then◌else◌}
+use Rattle.std.proofs.Common.{◌≡◌, ◌-◌, ◌++◌, ℕ, suc, List, ◌∷◌, [], length, take, drop, reverse, true, sym, ap, ◌∙◌, subst, arith, le-leb, append_assoc}
+use Rattle.std.specs.Prelude.{Some, nat_le, slice_get, if◌then◌else◌}
 use Rattle.std.proofs.lemmas.List.{length-reverse}
 use Rattle.aos_base.specs.declared.place.Root.TheVariants.{Object as ObjectRoot}
 use Rattle.aos_code.specs.declared.instr.Cell.{Cell}
@@ -26,16 +26,16 @@ returns-in_err-reserve-in-Some-get-clause-full c =
     on_err c.from_residual.result _ (k, drop 1 s, on_top, omega (arith, long, length-reverse c.args.frame.now.operands.items, c.in_err-reserve-in-Some-get.ensures.full))
 
 pub returns-in-None-get-clause-ok : goal.returns-in-None-get-clause-ok
-returns-in-None-get-clause-ok c types =
+returns-in-None-get-clause-ok c shapes types =
     let f = frame_in c.args.frame.now in
     let s = f.stack in
     let n = c.in-Some.number in
     let top : Some n ≡ object_in (slice_get s 0) = subst (λ (xs : List Cell). Some n ≡ object_in (slice_get (reverse xs) 0)) c.deref.ensures.value c.in-Some.ensures in
-    told_step types (known c.args.heap.now) (looks (AtElements c.args.count) (λ r. Stops (Fails 1 0)) s) (FailsWith 16 0) f s
-    (told_unknown types c.args.heap.now (AtElements c.args.count) s s (λ r. Stops (Fails 1 0)) n (omega arith) top c.in-None-get.ensures)
+    told_step shapes types (known c.args.heap.now) (looks (AtElements c.args.count) (λ r. Stops (Fails 1 0)) s) (FailsWith 16 0) f s
+    (told_unknown shapes types c.args.heap.now (AtElements c.args.count) s s (λ r. Stops (Fails 1 0)) n (omega arith) top c.in-None-get.ensures)
 
 pub returns-in_ok-reserve-in-Some-get-clause-ok : goal.returns-in_ok-reserve-in-Some-get-clause-ok
-returns-in_ok-reserve-in-Some-get-clause-ok c types =
+returns-in_ok-reserve-in-Some-get-clause-ok c shapes types =
     let f = frame_in c.args.frame.now in
     let s = f.stack in
     let n = c.in-Some.number in
@@ -45,8 +45,8 @@ returns-in_ok-reserve-in-Some-get-clause-ok c types =
     let top : Some n ≡ object_in (slice_get s 0) = subst (λ (xs : List Cell). Some n ≡ object_in (slice_get (reverse xs) 0)) c.deref.ensures.value c.in-Some.ensures in
     let within : nat_le c.args.count (length object.lengths.items) ≡ true = le-leb c.args.count (length object.lengths.items) (omega arith) in
     let now = reverse c.put_lengths.new.stack.items in
-    told_step types (known c.args.heap.now) (looks (AtElements c.args.count) (λ r. Stops (Fails 1 0)) s) (GoesOn 0) f now
-    (told_one types c.args.heap.now (AtElements c.args.count) s now (λ r. Stops (Fails 1 0)) n (omega arith) top object told c.in-Some-get.ensures
+    told_step shapes types (known c.args.heap.now) (looks (AtElements c.args.count) (λ r. Stops (Fails 1 0)) s) (GoesOn 0) f now
+    (told_one shapes types c.args.heap.now (AtElements c.args.count) s now (λ r. Stops (Fails 1 0)) n (omega arith) top object told c.in-Some-get.ensures
     (ap (λ b. if b then Tells told else Unheard) within)
     (c.put_lengths.ensures.operands ∙ ap (λ (xs : List ℕ). length_cells (take c.args.count xs) ++ (Place (ObjectRoot n) 0 0 ∷ drop 1 (reverse c.reserve.new.self.items))) c.deref-in-Some-get.ensures.value
     ∙ put (length_cells ns) (Place (ObjectRoot n) 0 0) _ (drop 1 s) (ap (λ xs. drop 1 (reverse xs)) c.in_ok-reserve-in-Some-get.ensures.items)))

@@ -1,4 +1,4 @@
-use Rattle.std.proofs.Common.{◌≡◌, List, ◌∷◌, [], reverse, refl, sym, ap, ◌∙◌, subst, arith}
+use Rattle.std.proofs.Common.{◌≡◌, List, ◌∷◌, [], reverse, refl, subst, arith}
 use Rattle.std.specs.Prelude.{Some, slice_get}
 use Rattle.aos_base.specs.declared.place.Root.TheVariants.{Object as ObjectRoot}
 use Rattle.aos_code.specs.declared.instr.Cell.{Cell}
@@ -9,9 +9,9 @@ use Rattle.aos_silent.proofs.Telling.{told_one}
 use Rattle.aos_silent.proofs.objects.tell_cell.Goals as goal
 
 pub returns-in-Some-get-clause-told : goal.returns-in-Some-get-clause-told
-returns-in-Some-get-clause-told c types =
+returns-in-Some-get-clause-told c shapes types =
     let s = reverse c.args.stack.now.items in
     let n = c.in-Some.number in
     let top : Some n ≡ object_in (slice_get s 0) = subst (λ (xs : List Cell). Some n ≡ object_in (slice_get (reverse xs) 0)) c.deref.ensures.value c.in-Some.ensures in
-    told_one types c.args.heap.now (AtCell c.args.cell) s (reverse c.replace.new.stack.items) (λ r. Stops (Fails 1 0)) n (omega arith) top c.in-Some-get.object.now
+    told_one shapes types c.args.heap.now (AtCell c.args.cell) s (reverse c.replace.new.stack.items) (λ r. Stops (Fails 1 0)) n (omega arith) top c.in-Some-get.object.now
     (Place (ObjectRoot n) c.args.cell c.in-Some-get.object.now.made_of ∷ []) c.in-Some-get.ensures refl c.replace.ensures.operands

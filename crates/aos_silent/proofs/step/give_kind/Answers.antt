@@ -13,9 +13,9 @@ returns-clause-ok c =
     ok_more c.give_value.result _ _
     (λ did step number e.
     record {
-      goes = λ types made next at.
+      goes = λ shapes types made next at.
           (λ i. if is_of kind (sym e i) then next 0 (at + 1) f.keeps (sym e i ∷ f.stack) else Ended lost f.keeps)
           ∙ ap (λ b. if b then next 0 (at + 1) f.keeps (v ∷ f.stack) else Ended lost f.keeps) (sym c.if-not-is_of.ensures)
-          ∙ step.goes types made next at;
+          ∙ step.goes shapes types made next at;
       same = step.same;
     }) c.give_value.ensures.ok

@@ -12,8 +12,8 @@ returns-else-not-is_of-clause-ok c =
     ok_more c.give_value.result _ _
     (λ did step q e.
     record {
-      goes = λ types made next at.
+      goes = λ shapes types made next at.
           ap (λ (n : Noted). on_noted n q next at f.keeps f.stack) (e ∙ ap (noted_as c.args.kind) (sym c.in-Some.ensures) ∙ ap (λ b. if b then Answered v else Unknown) (sym c.if-not-is_of.ensures))
-          ∙ step.goes types made next at;
+          ∙ step.goes shapes types made next at;
       same = step.same;
     }) c.give_value.ensures.ok
