@@ -4,3 +4,5 @@ pub mod Ways
 pub mod Outcomes
 pub mod Frames
 pub mod Blocks
+pub mod First
+pub mod Marks

@@ -1,7 +1,7 @@
 -- The cells of a procedure's frame: those of its parameters, and behind them those of its locals, in order of declaration. A
 -- parameter by reference has one cell for the variable's place. An open array has one for its place and one for the length of
 -- each open dimension; the elements of one that is passed by value stand behind the locals, and aren't counted here.
-use Rattle.std.specs.Prelude.{ℕ, ◌+◌, ◌<◌, All, List, [], ◌∷◌, ◌++◌, length, map, replicate, Bool, false, not, if◌then◌else◌, Option, Some, None, option_map}
+use Rattle.std.specs.Prelude.{ℕ, ◌+◌, ◌<◌, All, List, [], ◌∷◌, ◌++◌, length, map, replicate, Bool, not, if◌then◌else◌, Option, Some, None, option_map, is_some}
 use Rattle.aos_types.specs.declared.row.TypeRow.{TypeRow}
 use Rattle.aos_types.specs.Table.{row_of, is_open, is_scalar}
 use Rattle.aos_types.specs.Shape.{Shape, One, Pair, size, row as row_of_shapes}
@@ -80,7 +80,7 @@ known rows home keeps p =
       counted = size (frame rows p);
       keeps = keeps;
       result = option_map (λ t. kind_of rows (id_of t)) p.result;
-      method = false;
+      method = is_some p.of;
       kinds = leaves (frame rows p);
     }
 

@@ -1,11 +1,12 @@
 -- Where scalars lie: each has a cell, those of a type in order of declaration from 0, the base's first, and those of an array
 -- element by element.
-use Rattle.std.specs.Prelude.{ℕ, suc, ◌-◌, List, ◌++◌, length, map, Option, Some, None, if◌then◌else◌}
+use Rattle.std.specs.Prelude.{ℕ, suc, ◌-◌, List, [], ◌++◌, length, Bool, false, ◌||◌, ◌==◌, map, Option, Some, None, if◌then◌else◌}
+use Rattle.std.specs.List.{list_any}
 use Rattle.aos_types.specs.declared.row.Basic.TheVariants as basic
 use Rattle.aos_types.specs.declared.row.TypeId.{TypeId}
 use Rattle.aos_types.specs.declared.row.TypeRow.{TypeRow}
 use Rattle.aos_types.specs.declared.row.TypeRow.TheVariants as row
-use Rattle.aos_types.specs.Table.{row_of, is_open}
+use Rattle.aos_types.specs.Table.{row_of, is_open, is_object}
 use Rattle.aos_types.specs.Shape.{Shape, One, repeated, row as row_of_shapes}
 pub use Rattle.aos_types.specs.Shape.{leaves, shaped}
 use Rattle.aos_types.specs.Contents.{contents, of_variable}
@@ -13,7 +14,7 @@ use Rattle.aos_code.specs.declared.instr.Kind.{Kind}
 use Rattle.aos_code.specs.declared.instr.Kind.TheVariants.{N, R, C}
 use Rattle.aos_typed.specs.Program.{Variable, Module}
 use Rattle.aos_typed.specs.Numbers.{id_of, predeclared_types}
-use Rattle.aos_typed.specs.Open.{open_element}
+use Rattle.aos_typed.specs.Open.{open_element, first_same}
 
 -- the kind of a scalar's cell: a number's, a reference's, which NIL is, or a procedure value's
 abbrev pub kind_in : Option TypeRow → Kind
@@ -41,6 +42,19 @@ type_kinds rows t =
     if is_open (row_of rows t)
     then map (kind_of rows) (leaves (of_variable (contents rows) rows (open_element rows t)))
     else kinds rows t
+
+-- a pointer that leads to objects of this type, or of one that is the same
+abbrev pub leads_to : List TypeRow → TypeId → TypeRow → Bool
+leads_to rows t (row.Pointer u) = (first_same rows u).0 == t.0
+leads_to rows t _ = false
+
+-- objects of the type may be made: it is an object type, or a pointer leads to it
+abbrev pub is_made : List TypeRow → TypeId → Bool
+is_made rows t = is_object (row_of rows t) || list_any (leads_to rows t) rows
+
+-- what an image has of a type: the kinds of its objects' cells where there may be such objects, and else none
+abbrev pub made_kinds : List TypeRow → TypeId → List Kind
+made_kinds rows t = if is_made rows t then type_kinds rows t else []
 
 -- the number of a type's base among the types that a program names, from 1 on, and 0 for none
 abbrev pub base_number : Option TypeId → ℕ

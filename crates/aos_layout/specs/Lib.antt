@@ -5,3 +5,4 @@ pub mod Work
 pub mod Cells
 pub mod Seen
 pub mod Block
+pub mod Marks

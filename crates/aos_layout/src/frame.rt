@@ -154,7 +154,7 @@ pub fn frame_shape(
             counted: count,
             keeps,
             result: result_of,
-            method: false,
+            method: procedure.of.is_some(),
             kinds,
         },
         places,

@@ -7,6 +7,7 @@ ghost use Rattle.aos_types.specs.Contents.{contents, scalars};
 ghost use Rattle.aos_types.specs.Shape as shape_of;
 ghost use Rattle.aos_types.specs.Table as table;
 ghost use Rattle.aos_layout.specs.Layout as layout;
+ghost use Rattle.aos_layout.specs.Marks.{AreMade};
 
 use crate::cells::{PREDECLARED_TYPES, is_open, push_variable};
 use crate::part::{base_of, part_of};
@@ -62,16 +63,36 @@ fn variable_kinds(alloc: Global, types: &Types, t: TypeId) -> Result<Vec<Kind>, 
 /// The kinds of the cells of a type's objects, in their order: of a record those of its base first, and of an open array those of
 /// one element.
 #[tactic(auto, using(crate::proofs::Frames::open_kinds, crate::proofs::Frames::other_type_kinds))]
-pub fn object_kinds(alloc: Global, types: &Types, t: TypeId) -> Result<Vec<Kind>, NoMemory>
+fn type_kinds(alloc: Global, types: &Types, t: TypeId) -> Result<Vec<Kind>, AllocError>
     requires { NoneContainsItself types.now }
     ensures { IfOk result (λ kinds. kinds.items ≡ layout.type_kinds types.now t) }
 {
-    let kinds = if is_open(types, t) {
-        variable_kinds(alloc, types, open_array(types, t).element)?
+    if is_open(types, t) {
+        variable_kinds(alloc, types, open_array(types, t).element)
     } else {
-        kinds_of(alloc, types, t)?
-    };
-    Ok(kinds)
+        kinds_of(alloc, types, t)
+    }
+}
+
+/// The kinds of the cells of a type's objects, where the marks say that there may be such objects; none for other types, which may
+/// be of any size.
+#[tactic(auto, using(crate::proofs::Marks::made_there, crate::proofs::Marks::made_elsewhere))]
+pub fn made_kinds(
+    alloc: Global,
+    types: &Types,
+    made: &[bool],
+    t: TypeId,
+) -> Result<Vec<Kind>, NoMemory>
+    requires none_contains_itself { NoneContainsItself types.now }
+    requires there { t.0 < length types.now }
+    requires made { AreMade types.now made.now }
+    ensures { IfOk result (λ kinds. kinds.items ≡ layout.made_kinds types.now t) }
+{
+    if made[t.0 as usize] {
+        Ok(type_kinds(alloc, types, t)?)
+    } else {
+        Ok(Vec::new(alloc))
+    }
 }
 
 /// The number of a type's base among the types that a program names, from 1 on; 0 where it has none.

@@ -94,7 +94,7 @@ fn own_width(types: &Types, t: TypeId) -> u64
 }
 
 /// How many parts a type has, with those of its base. Fields without cells count too, so that no limit of cells bounds them.
-fn width(types: &Types, t: TypeId) -> u128
+pub fn width(types: &Types, t: TypeId) -> u128
     requires { NoneContainsItself types.now }
     ensures { result ≡ parts.width (contents.contents types.now t) }
 {

@@ -1,11 +1,13 @@
 -- The image has what the program's numbers name: the cells of each variable and each string constant, a type for each object type, a
 -- shape for each procedure, and in a frame of the routine itself the cells of its parameters and locals.
 use Rattle.std.proofs.Common.{◌≡◌, ◌<◌, ◌≤◌, subst, ℕ, zero, suc, ◌+◌, inl, inr, true, List, [], ◌∷◌, ◌++◌, map, length, Option, Some, None, refl, sym, ap, ◌∙◌, arith, length-append}
-use Rattle.std.specs.Prelude.{slice_get, option_map, option_and_then, pos}
+use Rattle.std.specs.Prelude.{slice_get, option_map, option_and_then, pos, nat_lt, ◌||◌, is_some as of_type}
 use Rattle.std.specs.List.{flat_map}
-use Rattle.std.proofs.lemmas.Bool.{le-leb}
+use Rattle.std.proofs.lemmas.Bool.{le-leb, lt-ltb}
+use Rattle.std.proofs.Math.Bool.{or-true}
+use Rattle.std.proofs.lemmas.List.FromFn.{length-map-range_with_len}
 use Rattle.std.proofs.lemmas.List.{length-map}
-use Rattle.std.proofs.lemmas.Option.{slice_get-map, slice_get_cases}
+use Rattle.std.proofs.lemmas.Option.{slice_get-map, slice_get_cases, slice_get_within}
 use Rattle.aos_types.specs.declared.row.TypeRow.{TypeRow}
 use Rattle.aos_types.specs.Table.{row_of, is_record}
 use Rattle.aos_types.specs.Shape.{Shape, One, shaped, size, part, inside, offset, number_of, leaves, repeated}
@@ -20,7 +22,7 @@ use Rattle.aos_code.specs.Machine.{first_cell}
 use Rattle.aos_code.specs.Numbered.{numbered}
 use Rattle.aos_layout.specs.Layout.{kind_of, cells as cells_for, variable_cells}
 use Rattle.aos_layout.proofs.Frames.{size_shaped, cells_counted}
-use Rattle.aos_sound.specs.Sound.{has_place, has_own_place, frame_cells, is_some}
+use Rattle.aos_sound.specs.Sound.{has_place, has_own_place, frame_cells, is_some, is_method, has_slot}
 use Rattle.aos_typed.specs.Program.{ModuleVar, Parameter, Variable, Procedure, Module, Program}
 use Rattle.aos_typed.specs.Numbers.{id_of, predeclared_types}
 use Rattle.aos_typed.specs.Sort.{Sort, Plain, variable_shape}
@@ -28,8 +30,11 @@ use Rattle.aos_typed.specs.Text.{text_shape}
 use Rattle.aos_typed.specs.Source.{module_shape}
 use Rattle.aos_typed.specs.declared.tree.TType.{TType}
 use Rattle.aos_typed.specs.declared.tree.TType.TheVariants.{Char, Named}
-use Rattle.aos_typed.specs.WellTyped.{variable_type, IsConstantText, IsParameter, IsLocal, IsWellTyped}
-use Rattle.aos_typed.specs.Routines.{Routine, routines}
+use Rattle.aos_typed.specs.WellTyped.{variable_type, procedure_in, IsConstantText, IsParameter, IsLocal, IsWellTyped}
+use Rattle.aos_typed.specs.Methods.{slots as slots_of, own_numbers}
+use Rattle.aos_typed.specs.Routines.{Routine, routines, self_type}
+use Rattle.aos_code.specs.Silent.{method_at}
+use Rattle.aos_sim.proofs.Methods.{HasMethods}
 use Rattle.aos_base.specs.Rooted.{by_number}
 use Rattle.aos_code.specs.declared.instr.Kind.{Kind}
 use Rattle.aos_code.specs.declared.image.ProcShape.{ProcShape}
@@ -39,7 +44,7 @@ use Rattle.aos_sim.proofs.Runs.{tables_of}
 use Rattle.aos_sim.proofs.Does.{HasPredeclared, HasShapes}
 use Rattle.aos_sim.proofs.Carries.{IsOwn}
 use Rattle.aos_sim.proofs.Bodies.{own_known, has_shapes}
-use Rattle.aos_sim.proofs.First.{get_left, get_right, length-numbers}
+use Rattle.aos_sim.proofs.Lists.{get_left, get_right}
 use Rattle.aos_sim.proofs.Parts.{part_of_row}
 use Rattle.aos_sim.proofs.Typed.{has_types}
 use Rattle.aos_sim.proofs.Variables.{declared}
@@ -61,6 +66,10 @@ pub record HasNumbers (p : Program) (o : Option Procedure) (image : Image) (own 
   pub records : (k : ℕ) → is_record (row_of p.types (id_of (Named k))) ≡ true → is_some (numbered image.types.items (k + 1)) ≡ true
   pub shapes : HasShapes p (tables_of image)
   pub mine : IsOwn p o (tables_of image) own
+  pub methods : HasMethods p
+  pub slots : (t k n : ℕ) → t < length p.objects → slice_get (slots_of p (own_numbers p) t) k ≡ Some n → has_slot image.types.items k ≡ true
+  pub plain : (m k : ℕ) (q : Procedure) → procedure_in p m k ≡ Some q → q.of ≡ None
+  pub selfs : (s : ℕ) → self_type o ≡ Some s → is_method (numbered image.shapes.items own) ≡ true
   pub locals : (k : ℕ) (t : TType) → IsLocal p o k t → has_own_place (numbered image.shapes.items own) (own_cell p o k) ≡ true
   pub parameters : (k : ℕ) (a : Parameter) → IsParameter p o k a → IsInFrame (numbered image.shapes.items own) (own_cell p o k) (size (parameter_cells p.types a))
 
@@ -152,9 +161,9 @@ module _ (p : Program) (o : Option Procedure) (image : Image) (ok : IsCodeOf p i
   -- there are as many types as object types
   has_type : (t : ℕ) → t < length p.objects → is_some (numbered image.types.items (t + 1)) ≡ true
   has_type t lt =
-      let a = length-map image.types.items (λ (d : TypeDesc). d.body) in
-      let b = length-numbers (suc (length p.modules)) p.objects in
-      let c = ap length ok.types in
+      let a = length-map image.types.items (λ (d : TypeDesc). d.methods.items) in
+      let b = length-map-range_with_len (λ k. slots_of p (own_numbers p) k) 0 (length p.objects) in
+      let c = ap length ok.methods in
       let within : t < length image.types.items = omega (arith, lt, a, b, c) in
       let n : suc t ≡ t + 1 = omega arith in
       ap (λ k. is_some (numbered image.types.items k)) (sym n) ∙ some_within image.types.items t within
@@ -203,10 +212,26 @@ part_in p image own r x is known k s e =
         let lies = inside_within (k ∷ []) (frame p.types q) s (ap (option_and_then (inside [])) (part_of_row k (frame_parts p.types q) ∙ e)) in
         record { place = le-leb (own_cell p (Some q) k) x.cells (omega (arith, lies, many)); cells = omega (arith, lies, many) }
 
+-- a type that has a method in a slot has it there in the image
+slot_there : (ts : List TypeDesc) (t k n : ℕ) → method_at ts (suc t) k ≡ Some n → has_slot ts k ≡ true
+slot_there [] t k n e = absurd (cc)
+slot_there (d ∷ ts) zero k n e =
+    ap (λ b. b || has_slot ts k) (lt-ltb k (length d.methods.items) (slice_get_within d.methods.items k n e))
+slot_there (d ∷ ts) (suc t) k n e = ap (λ b. nat_lt k (length d.methods.items) || b) (slot_there ts t k n e) ∙ or-true (nat_lt k (length d.methods.items))
+
+-- what has an object is called on one
+called_on : (p : Program) (image : Image) (own : ℕ) (r : Routine) (x : ProcShape) → numbered image.shapes.items own ≡ Some x → seen_shape x ≡ shape_of p.types r → (s : ℕ) → self_type r.own ≡ Some s → is_method (numbered image.shapes.items own) ≡ true
+called_on p image own r x is known s e = ap is_method is ∙ by r.own (ap (λ z. z.method) known) e
+  where
+    by : (o : Option Procedure) → x.method ≡ (shape_of p.types (record { home = r.home; own = o; body = r.body })).method → self_type o ≡ Some s → x.method ≡ true
+    by None m e = absurd (cc)
+    by (Some q) m e = m ∙ ap of_type e
+
 -- so it is where the image has the code of the program
 pub has_numbers : (p : Program) (image : Image) → IsWellTyped p → IsCodeOf p image → (own : ℕ) (r : Routine) → by_number own (routines p) ≡ Some r → HasNumbers p r.own image own
 has_numbers p image well ok own r there =
-    let shaped = has_shapes p image ok (has_types p image.bodies.items image.shapes.items image.modules.items image.types.items well ok) in
+    let types = has_types p image.bodies.items image.shapes.items image.modules.items image.types.items well ok in
+    let shaped = has_shapes p image ok types in
     let x = shaped.shapes own r there in
     record {
       cells = has_cell p r.own image ok;
@@ -215,6 +240,10 @@ has_numbers p image well ok own r there =
       predeclared = well.predeclared;
       records = has_record p r.own image ok well.beside;
       shapes = shaped;
+      methods = types.methods;
+      slots = λ t k n lt e. slot_there image.types.items t k n (shaped.methods t k n lt e);
+      plain = types.plain;
+      selfs = λ s e. called_on p image own r x.0 x.1 x.2 s e;
       mine = own_known p (tables_of image) shaped own r there;
       locals = λ k t h. (part_in p image own r x.0 x.1 x.2 k (cells_for p.types (id_of t)) (local_part p r.own k t h)).place;
       parameters = λ k a h. part_in p image own r x.0 x.1 x.2 k (parameter_cells p.types a) (parameter_part p r.own k a h);

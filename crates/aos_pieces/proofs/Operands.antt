@@ -1,6 +1,6 @@
 -- The kinds of the values of types: what an operator takes and gives are numbers, and objects are references.
 use Rattle.std.proofs.Common.{◌≡◌, ◌⊎◌, inl, inr, ℤ, true, Some, refl, sym, ap, ◌∙◌, subst}
-use Rattle.std.specs.Prelude.{◌||◌, is_some}
+use Rattle.std.specs.Prelude.{◌||◌, is_some, List, Option, None}
 use Rattle.std.proofs.lemmas.Bool.{eqb-true}
 use Rattle.std.proofs.Math.Bool.{or-true}
 use Rattle.aos_base.specs.declared.operator.Unary.{Unary as UnaryOperator}
@@ -11,7 +11,9 @@ use Rattle.aos_base.specs.declared.number.Relation.{Relation}
 use Rattle.aos_base.specs.declared.number.Relation.TheVariants as relation
 use Rattle.aos_base.specs.declared.number.Width.TheVariants.{W8, W16, W32, W64}
 use Rattle.aos_types.specs.declared.row.TypeId.{TypeId}
+use Rattle.aos_types.specs.declared.row.TypeRow.{TypeRow}
 use Rattle.aos_types.specs.declared.row.TypeRow.TheVariants as row
+use Rattle.aos_types.specs.Table.{row_of, is_object}
 use Rattle.aos_types.specs.Extension.{comes_to}
 use Rattle.aos_code.specs.declared.instr.Kind.TheVariants.{N, R}
 use Rattle.aos_layout.specs.Layout.{kind_in, kind_of as cell_kind}
@@ -21,7 +23,7 @@ use Rattle.aos_typed.specs.declared.tree.TType.{TType}
 use Rattle.aos_typed.specs.declared.tree.TType.TheVariants.{Integer, Boolean, Char, Set, Any, Named}
 use Rattle.aos_typed.specs.Numbers.{id_of}
 use Rattle.aos_typed.specs.Program.{Program}
-use Rattle.aos_typed.specs.WellTyped.{Includes, target, is_any, is_reference, Fits, IsLiteral, HasRange, taken, Gives, is_basic, is_compared, is_value, Takes, GivesOfTwo}
+use Rattle.aos_typed.specs.WellTyped.{Includes, target_in, target, is_any, is_reference, Fits, IsLiteral, HasRange, taken, Gives, is_basic, is_compared, is_value, Takes, GivesOfTwo}
 use Rattle.aos_sim.specs.Code.{kind_of}
 use Rattle.aos_sim.proofs.Types.{basic_of}
 use Rattle.aos_sim.proofs.Does.{HasPredeclared}
@@ -120,6 +122,21 @@ pub number_value : (p : Program) (t : TType) → kind_of t ≡ N → is_value p.
 number_value p Any e = absurd (cc)
 number_value p (Named k) e = absurd (cc)
 number_value p t e = refl
+
+-- an object type is one of objects
+pub object_reference : (rows : List TypeRow) (t : TType) → is_object (row_of rows (id_of t)) ≡ true → is_reference rows t ≡ true
+object_reference rows t e = ap (λ b. is_any t || b) (by (row_of rows (id_of t)) e) ∙ or-true (is_any t)
+  where
+    by : (o : Option TypeRow) → is_object o ≡ true → is_some (target_in rows (id_of t) o) ≡ true
+    by None e = absurd (cc)
+    by (Some (row.Basic b)) e = absurd (cc)
+    by (Some (row.Array n of)) e = absurd (cc)
+    by (Some (row.Open of)) e = absurd (cc)
+    by (Some (row.Record base fields)) e = absurd (cc)
+    by (Some (row.Pointer to)) e = absurd (cc)
+    by (Some (row.Object base fields)) e = refl
+    by (Some (row.Procedure formals r)) e = absurd (cc)
+    by (Some row.Any) e = absurd (cc)
 
 module _ (p : Program) where
   -- and so is a type of objects

@@ -1,6 +1,7 @@
 -- The code of each statement and each sequence is a piece that leaves the operands as they were.
 use Rattle.std.proofs.Common.{◌≡◌, ◌≤◌, ◌<◌, inl, inr, ℕ, zero, suc, ◌+◌, ℤ, List, [], ◌∷◌, ◌++◌, Some, length, Option, None, refl, sym, ap, ◌∙◌, subst, arith, append_assoc, length-append}
-use Rattle.std.specs.Prelude.{IsTrue, ◌⊎◌, option_map, max, replicate}
+use Rattle.std.specs.Prelude.{IsTrue, true, ◌⊎◌, option_map, slice_get, max, replicate}
+use Rattle.std.proofs.lemmas.Option.{slice_get_within}
 use Rattle.std.proofs.lemmas.List.{length-replicate}
 use Rattle.std.proofs.lemmas.Bool.{lt-ltb}
 use Rattle.std.proofs.Math.Nat.{le-max_left, le-max_right}
@@ -29,7 +30,7 @@ use Rattle.aos_typed.specs.Meaning.{until, changed_type}
 use Rattle.aos_typed.specs.Numbers.{id_of}
 use Rattle.aos_typed.specs.Routines.{result_of}
 use Rattle.aos_layout.specs.Layout.{kind_of as cell_kind}
-use Rattle.aos_typed.specs.Program.{Program, Procedure as Declared, Place, Expr, Lit, Read, Binary, Call, Open, Char, Int, String, Ln, Stat, Assign, Copy, PutText, If, Case, While, Repeat, Loop, Exit, For, Block, Assert, Halt, Change, Perform, Return, New, Make, With, WithRecord, Out, Stats, Nothing, Then, Arms, Otherwise, Arm, Cases, NoElse, Else, OfLabels}
+use Rattle.aos_typed.specs.Program.{Program, ObjectType, Procedure as Declared, Place, Expr, Lit, Read, Binary, Call, Open, Char, Int, String, Ln, Stat, Assign, Copy, PutText, If, Case, While, Repeat, Loop, Exit, For, Block, Assert, Halt, Change, Perform, Return, New, Make, With, WithRecord, Out, Stats, Nothing, Then, Arms, Otherwise, Arm, Cases, NoElse, Else, OfLabels}
 use Rattle.aos_typed.specs.WellTyped.{Includes, amount_type, IsPlaceOf, IsOf, AreLengthsOf, IsCall, IsReturn, IsStatement, AreStatements, AreArms, AreCases}
 use Rattle.aos_sim.specs.Code.{begin, kind_of, cells_of, place_code, value_code, values_code, make_instr, make_code, out_code, new_code, assign_code, change_code, changed_code, for_head, step_code, body_place, stat_code, stats_code, arms_code, cases_code, arm_place}
 use Rattle.aos_sim.specs.Search.{Search, Nowhere, At as Labels, Split, arms_in, search_of, label_code, search_size, search_code}
@@ -40,7 +41,7 @@ use Rattle.aos_pieces.proofs.Pieces.{At, Entries, nothing, one, followed, both, 
 use Rattle.aos_pieces.proofs.Numbers.{HasNumbers}
 use Rattle.aos_pieces.proofs.Operands.{value_kind}
 use Rattle.aos_pieces.proofs.Handed.{dimensions_are, kinds_taken}
-use Rattle.aos_pieces.proofs.Values.{some_place, some_rows, some_need, as_kind, place_piece, value_piece, lengths_of, text_piece, texts_piece, call_takes, call_piece, value_typed}
+use Rattle.aos_pieces.proofs.Values.{some_place, some_rows, some_need, as_kind, place_piece, value_piece, lengths_of, text_piece, texts_piece, call_piece, value_typed}
 
 -- an operand of any kind is stored in a place
 stored : (k : Kind) (s : Kinds) → without (k ∷ A ∷ []) (k ∷ A ∷ s) ≡ Some s
@@ -123,6 +124,14 @@ module _ (p : Program) (o : Option Declared) (image : Image) (own : ℕ) (depth 
       let k = some_rows r in
       then_one (text_piece p o image own Procedure depth has refl r h at s room) i.OutString refl refl (omega (arith, room, k, dimensions_are p o r 1 type.Char h)) (λ whole q. refl)
   out_piece Ln h at s room = one i.OutLn refl refl (omega (arith, room)) (λ whole q. refl)
+
+  -- a type whose objects have a body is there
+  type_there : (t : ℕ) → option_map (λ (x : ObjectType). x.has_body) (slice_get p.objects t) ≡ Some true → t < length p.objects
+  type_there t e = by (slice_get p.objects t) refl e
+    where
+      by : (x : Option ObjectType) → slice_get p.objects t ≡ x → option_map (λ (x : ObjectType). x.has_body) x ≡ Some true → t < length p.objects
+      by None is e = absurd (cc)
+      by (Some x) is e = slice_get_within p.objects t x is
 
   -- the making of an object
   new_piece : {Asks : Round} (x : Place) (t : ℕ) → IsPlaceOf p o x (type.Named t) → t < length p.objects → (at : ℕ) (s : Kinds) → length s + (2 + place_need x) ≤ depth → Piece image own Procedure depth Asks (new_code p o x t at) at s s
@@ -346,15 +355,14 @@ module _ (p : Program) (o : Option Declared) (image : Image) (own : ℕ) (depth 
         begins here (omega (arith, room)) (then_one (value_piece p o image own Procedure depth has refl e type.Boolean h.0 (at + 1) [] (omega (arith, room))) (i.Assert code) refl refl (omega (arith, room, k)) (λ whole q. refl))
     stat_piece (Halt here code) h at x d le kept room = begins here (omega (arith, room)) (stops (i.Halt code) [] refl refl (omega (arith, room)) (λ whole q. refl))
     stat_piece (Change here c y e) h at x d le kept room = changed_piece here c y e h.0 h.1 at [] (omega (arith, room))
-    stat_piece (Perform here m k more) h at x d le kept room =
-        let q = h.0 in
-        let gives = call_takes p o image own Procedure depth has refl m k q h.1 [] ∙ ap (λ r. given (option_map (λ t. cell_kind p.types (id_of t)) r) (Some [])) h.2 in
-        begins here (omega (arith, room)) (call_piece p o image own Procedure depth has refl m k q h.1 more h.3 (at + 1) [] gives (omega (arith, room)))
+    stat_piece (Perform here c more) h at x d le kept room =
+        let gives = ap (λ r. given (option_map (λ t. cell_kind p.types (id_of t)) r) (Some [])) h.2 in
+        begins here (omega (arith, room)) (call_piece p o image own Procedure depth has refl c h.0 h.1 more h.3 (at + 1) [] gives (omega (arith, room)) (omega (arith, room)))
     stat_piece (Return here None) h at x d le kept room =
         begins here (omega (arith, room)) (stops i.Return [] (nothing_returned (result_of o) refl h) refl (omega (arith, room)) (λ whole q. refl))
     stat_piece (Return here (Some e)) h at x d le kept room = begins here (omega (arith, room)) (return_piece e (result_of o) refl h (at + 1) room)
-    stat_piece (New here y t) h at x d le kept room = begins here (omega (arith, room)) (new_piece y t h.1 h.3 (at + 1) [] (omega (arith, room)))
-    stat_piece (Make here y t ns) h at x d le kept room = begins here (omega (arith, room)) (make_piece y h.0.0 t ns h.0.1 h.2 h.3 (at + 1) [] (omega (arith, room)))
+    stat_piece (New here y t) h at x d le kept room = begins here (omega (arith, room)) (new_piece y t h.1 (type_there t h.3) (at + 1) [] (omega (arith, room)))
+    stat_piece (Make here y t ns) h at x d le kept room = begins here (omega (arith, room)) (make_piece y h.0.0 t ns h.0.1 h.1 h.2 (at + 1) [] (omega (arith, room)))
     stat_piece (With here e body) h at x d le kept room =
         let c = value_code p o e (at + 1) in
         let b = stats_code p o body (at + 1 + length c + 1) x d in

@@ -1,7 +1,7 @@
 -- The code of each place and each expression is a piece that gives one operand more, and that of what a call hands over one that gives
 -- what the call takes.
 use Rattle.std.proofs.Common.{◌≡◌, ◌≤◌, ◌<◌, inl, inr, zero, suc, true, ℕ, ◌+◌, pos, List, [], ◌∷◌, ◌++◌, Option, Some, length, map, refl, sym, ap, ◌∙◌, arith, append_assoc, length-append}
-use Rattle.std.specs.Prelude.{IsTrue, replicate, reverse, option_map, nat_lt, ◌&&◌}
+use Rattle.std.specs.Prelude.{IsTrue, Bool, false, is_some as has_type, replicate, reverse, option_map, nat_lt, ◌&&◌}
 use Rattle.std.proofs.lemmas.Bool.{lt-ltb}
 use Rattle.std.proofs.lemmas.List.{length-replicate, length-reverse}
 use Rattle.aos_base.specs.Operators.{flag}
@@ -21,22 +21,24 @@ use Rattle.aos_types.specs.Shape.{size}
 use Rattle.aos_typed.specs.Open.{open_dimensions}
 use Rattle.aos_sound.specs.declared.effect.Next.TheVariants.{On}
 use Rattle.aos_sound.specs.declared.stand.Role.{Role}
-use Rattle.aos_sound.specs.Sound.{Kinds, row, without, topped, given, called, is_some, is_type_or_none, frame_cells, is_procedure, next_of, after, may_stand}
+use Rattle.aos_sound.specs.Sound.{Kinds, row, without, topped, given, object_below, called, sent, is_some, is_method, has_slot, is_type_or_none, frame_cells, is_procedure, next_of, after, may_stand}
+use Rattle.aos_base.specs.Rooted.{by_number}
+use Rattle.aos_typed.specs.Methods.{method_number}
 use Rattle.aos_typed.specs.Numbers.{id_of, procedure_number}
-use Rattle.aos_typed.specs.Program.{Program, Procedure, Parameter, Place, ModuleVar, Local, Passed, Field, Index, Of, Deref, Typed, Guarded, Rows, Known, Opened, Row, Spread, Longer, Arguments, NoMore, Scalar, Whole, Opening, Expr, Lit, Read, Unary, Binary, And, Or, Element, Ord, Chr, CompareTexts, Len, LenBehind, Function, Same, Is, IsRecord, Guard, Had}
+use Rattle.aos_typed.specs.Routines.{routine_of, routines}
+use Rattle.aos_typed.specs.Program.{Program, Procedure, Parameter, Place, ModuleVar, Local, Passed, Field, Index, Of, Deref, Typed, Guarded, Rows, Known, Opened, Row, Spread, Longer, Arguments, NoMore, Scalar, Whole, Opening, Callee, Plain, Dispatched, Upper, Expr, Lit, SelfRef, Read, Unary, Binary, And, Or, Element, Ord, Chr, CompareTexts, Len, LenBehind, Function, Same, Is, IsRecord, Guard, Had}
 use Rattle.aos_typed.specs.declared.tree.Literal.{Literal}
 use Rattle.aos_typed.specs.declared.tree.Literal.TheVariants as literal
 use Rattle.aos_typed.specs.declared.tree.TType.{TType}
 use Rattle.aos_typed.specs.declared.tree.TType.TheVariants.{Integer, Boolean, Char, Named}
 use Rattle.aos_types.specs.Extension.{comes_to}
-use Rattle.aos_typed.specs.WellTyped.{taken, is_value, IsLiteral, procedure_in, IsConstantText, IsParameter, IsPlaceOf, AreRows, AreArguments, IsOf, AreLengthsOf}
-use Rattle.aos_sim.specs.Code.{kind_of, literal_code, variable_cell, own_cell, field_cell, cells_of, dimensions, lengths_code, drops, operands_code, place_code, rows_code, arguments_code, value_code, values_code}
-use Rattle.aos_sim.specs.Need.{texts_need, place_need, rows_need, arguments_need, value_need, values_need}
+use Rattle.aos_typed.specs.WellTyped.{taken, is_value, IsLiteral, IsConstantText, IsParameter, IsCalled, IsObjectAt, IsPlaceOf, AreRows, AreArguments, IsOf, AreLengthsOf}
+use Rattle.aos_sim.specs.Code.{kind_of, literal_code, variable_cell, own_cell, field_cell, cells_of, dimensions, lengths_code, drops, operands_code, call_instr, place_code, rows_code, arguments_code, receiver_code, called_code, value_code, values_code}
+use Rattle.aos_sim.specs.Need.{texts_need, place_need, rows_need, arguments_need, receivers, receiver_need, value_need, values_need}
 use Rattle.aos_sim.proofs.Routines.{routine_there}
-use Rattle.aos_sim.proofs.Routines as routine
 use Rattle.aos_pieces.specs.Piece.{Round, Piece}
 use Rattle.aos_pieces.proofs.Pieces.{nothing, one, both, one_then, then_one, choose, left_with, recoded}
-use Rattle.aos_pieces.proofs.Operands.{included_kind, literal_kind, taken_kind, given_kind, given_of_two_kind, taken_kinds, number_value, reference_value, any_or_target, fitted_value, reference_kind, target_kind, value_kind, fitted_kind}
+use Rattle.aos_pieces.proofs.Operands.{included_kind, literal_kind, taken_kind, given_kind, given_of_two_kind, taken_kinds, number_value, reference_value, object_reference, any_or_target, fitted_value, reference_kind, target_kind, value_kind, fitted_kind}
 use Rattle.aos_pieces.proofs.Handed.{dimensions_are, pushed, rows_taken, opened_row, opened_longer, reversed_row, kinds_taken, handed_first, scalar_kinds, place_kinds, open_kinds, handed_room, passed_size, opened_size}
 use Rattle.aos_pieces.proofs.Numbers.{HasNumbers}
 
@@ -64,6 +66,7 @@ mutual
   -- and so does an expression
   pub some_need : (e : Expr) → 1 ≤ value_need e
   some_need (Lit l) = omega arith
+  some_need SelfRef = omega arith
   some_need (Read t x) = some_place x
   some_need (Unary op a) = some_need a
   some_need (Binary op a b) = omega arith
@@ -75,7 +78,7 @@ mutual
   some_need (CompareTexts r a b) = omega arith
   some_need (Len r d) = let h = some_rows r in omega (arith, h)
   some_need (LenBehind r n) = let h = some_rows r in omega (arith, h)
-  some_need (Function m k more) = omega arith
+  some_need (Function c more) = omega arith
   some_need (Same a b) = omega arith
   some_need (Is a t) = some_need a
   some_need (IsRecord x t) = some_place x
@@ -86,6 +89,7 @@ mutual
 pub value_typed : (p : Program) (o : Option Procedure) (e : Expr) (t : TType) → IsOf p o e t → is_value p.types t ≡ true
 value_typed p o (Lit l) t (inl h) = number_value p t (literal_kind l t h)
 value_typed p o (Lit l) t (inr h) = reference_value p t h.1
+value_typed p o SelfRef t h = fitted_value p t (Named h.0) h.3 (reference_value p (Named h.0) (object_reference p.types (Named h.0) h.2))
 value_typed p o (Read u x) t h = fitted_value p t u h.2 h.1
 value_typed p o (Unary op a) t h = number_value p t (given_kind op t h.1)
 value_typed p o (Binary op a b) t h = number_value p t (given_of_two_kind op t h.1)
@@ -97,7 +101,7 @@ value_typed p o (Chr a) t h = number_value p t (ap kind_of h.1)
 value_typed p o (CompareTexts r a b) t h = number_value p t (ap kind_of h.2)
 value_typed p o (Len r d) t h = number_value p t (included_kind t (Integer W32) h.5)
 value_typed p o (LenBehind r n) t h = number_value p t (included_kind t (Integer W32) h.4)
-value_typed p o (Function m k more) t h = fitted_value p t h.1 h.5 h.4
+value_typed p o (Function c more) t h = fitted_value p t h.1 h.5 h.4
 value_typed p o (Same a b) t h = number_value p t (ap kind_of h.2)
 value_typed p o (Is a k) t h = number_value p t (ap kind_of h.2)
 value_typed p o (IsRecord x k) t h = number_value p t (ap kind_of h.4)
@@ -166,30 +170,90 @@ module _ (p : Program) (o : Option Procedure) (image : Image) (own : ℕ) (role 
       let there = has.parameters k a h in
       one (i.Param (own_cell p o k)) refl refl room (λ whole q. may_cell (own_cell p o k) (omega (arith, there.cells, some)))
 
-  -- an instruction that takes what is handed over, and gives the kind of what a procedure gives
-  pub call_takes : (m k : ℕ) (q : Procedure) → procedure_in p m k ≡ Some q → (s : Kinds) → called (numbered image.shapes.items (procedure_number p m k)) (reverse (kinds_of (map (parameter_kind p.types) q.parameters)) ++ s) ≡ given (option_map (λ t. cell_kind p.types (id_of t)) q.result) (Some s)
-  call_takes m k q there s =
-      let x = has.shapes.shapes (procedure_number p m k) (routine.called m q) (routine_there p m k q there) in
-      let ks = reverse (kinds_of (map (parameter_kind p.types) q.parameters)) in
-      ap (λ f. called f (ks ++ s)) x.1
-      ∙ (λ j. given ((x.2 j).result) (without (reverse (kinds_of (x.2 j).params)) (ks ++ s)))
-      ∙ ap (given (option_map (λ t. cell_kind p.types (id_of t)) q.result)) (kinds_taken ks s)
+  -- what a call of a procedure takes is what is handed over and, of a method, below it the object
+  taken_all : (ks os s : Kinds) → without (ks ++ os) (ks ++ (os ++ s)) ≡ Some s
+  taken_all ks os s = ap (without (ks ++ os)) (sym (append_assoc ks os s)) ∙ kinds_taken (ks ++ os) s
 
-  call_stands : (m k : ℕ) (q : Procedure) → procedure_in p m k ≡ Some q → (whole : List Instr) (at : ℕ) → IsTrue (may_stand image own role whole at (i.Call (procedure_number p m k)))
-  call_stands m k q there whole at =
-      let x = has.shapes.shapes (procedure_number p m k) (routine.called m q) (routine_there p m k q there) in
-      ap (λ b. b && is_some (numbered image.shapes.items (procedure_number p m k))) performs ∙ ap is_some x.1
+  -- the kinds of what is handed over, and of what it gives
+  abbrev handed_for : Procedure → Kinds
+  handed_for q = reverse (kinds_of (map (parameter_kind p.types) q.parameters))
+
+  abbrev given_by : Procedure → Option Kind
+  given_by q = option_map (λ t. cell_kind p.types (id_of t)) q.result
+
+  called_takes : (n home : ℕ) (q : Procedure) (method : Bool) → by_number n (routines p) ≡ Some (routine_of home q) → has_type q.of ≡ method → (s : Kinds) → called (numbered image.shapes.items n) (handed_for q ++ (object_below method ++ s)) ≡ given (given_by q) (Some s)
+  called_takes n home q method there is s =
+      let x = has.shapes.shapes n (routine_of home q) there in
+      let ks = handed_for q in
+      ap (λ f. called f (ks ++ (object_below method ++ s))) x.1
+      ∙ (λ j. given ((x.2 j).result) (without (reverse (kinds_of (x.2 j).params) ++ object_below (x.2 j).method) (ks ++ (object_below method ++ s))))
+      ∙ ap (λ m. given (given_by q) (without (ks ++ object_below m) (ks ++ (object_below method ++ s)))) is
+      ∙ ap (given (given_by q)) (taken_all ks (object_below method) s)
+
+  sent_takes : (n home : ℕ) (q : Procedure) → by_number n (routines p) ≡ Some (routine_of home q) → (s : Kinds) → sent (numbered image.shapes.items n) (handed_for q ++ (R ∷ s)) ≡ given (given_by q) (Some s)
+  sent_takes n home q there s =
+      let x = has.shapes.shapes n (routine_of home q) there in
+      let ks = handed_for q in
+      ap (λ f. sent f (ks ++ (R ∷ s))) x.1
+      ∙ (λ j. given ((x.2 j).result) (without (reverse (kinds_of (x.2 j).params) ++ R ∷ []) (ks ++ (R ∷ s))))
+      ∙ ap (given (given_by q)) (taken_all ks (R ∷ []) s)
+
+  number_there : (n home : ℕ) (q : Procedure) → by_number n (routines p) ≡ Some (routine_of home q) → is_some (numbered image.shapes.items n) ≡ true
+  number_there n home q there = ap is_some (has.shapes.shapes n (routine_of home q) there).1
+
+  method_shape : (n home : ℕ) (q : Procedure) → by_number n (routines p) ≡ Some (routine_of home q) → has_type q.of ≡ true → is_method (numbered image.shapes.items n) ≡ true
+  method_shape n home q there is = let x = has.shapes.shapes n (routine_of home q) there in ap is_method x.1 ∙ ap (λ z. z.method) x.2 ∙ is
+
+  -- what lies below what is handed over
+  abbrev below : Callee → Kinds
+  below (Plain m k) = []
+  below (Dispatched e t k) = R ∷ []
+  below (Upper t k) = R ∷ []
+
+  below_long : (c : Callee) (s : Kinds) → length (below c ++ s) ≡ receivers c + length s
+  below_long (Plain m k) s = omega arith
+  below_long (Dispatched e t k) s = omega arith
+  below_long (Upper t k) s = omega arith
+
+  -- what is called takes what is handed over, and gives the kind of what a procedure gives
+  pub call_takes : (c : Callee) (q : Procedure) → IsCalled p o c q → (s : Kinds) → after image own (call_instr p c) (handed_for q ++ (below c ++ s)) ≡ given (given_by q) (Some s)
+  call_takes (Plain m k) q h s = called_takes (procedure_number p m k) m q false (routine_there p m k q h) (ap has_type (has.plain m k q h)) s
+  call_takes (Dispatched e t k) q h s = let f = has.methods.found t k q h.2 in sent_takes (method_number p t k) f.home q f.there s
+  call_takes (Upper t k) q h s =
+      let f = has.methods.found t k q h.3 in called_takes (method_number p t k) f.home q true f.there (ap has_type f.is) s
+
+  call_stands : (c : Callee) (q : Procedure) → IsCalled p o c q → (whole : List Instr) (at : ℕ) → IsTrue (may_stand image own role whole at (call_instr p c))
+  call_stands (Plain m k) q h whole at =
+      let n = procedure_number p m k in
+      ap (λ b. b && is_some (numbered image.shapes.items n)) performs ∙ number_there n m q (routine_there p m k q h)
+  call_stands (Dispatched e t k) q h whole at =
+      let f = has.methods.found t k q h.2 in
+      let n = method_number p t k in
+      ap (λ b. b && (is_method (numbered image.shapes.items n) && has_slot image.types.items k)) performs
+      ∙ ap (λ b. b && has_slot image.types.items k) (method_shape n f.home q f.there (ap has_type f.is))
+      ∙ has.slots t k n f.below f.number
+  call_stands (Upper t k) q h whole at =
+      let f = has.methods.found t k q h.3 in
+      let n = method_number p t k in
+      ap (λ b. b && is_some (numbered image.shapes.items n)) performs ∙ number_there n f.home q f.there
+
+  goes_on : (c : Callee) → next_of (call_instr p c) ≡ On
+  goes_on (Plain m k) = refl
+  goes_on (Dispatched e t k) = refl
+  goes_on (Upper t k) = refl
 
   -- a type that is there is one that a place may be given
   type_or_none : (t : ℕ) → is_some (numbered image.types.items (t + 1)) ≡ true → IsTrue (is_type_or_none image (t + 1))
   type_or_none t e = let n : suc t ≡ t + 1 = omega arith in ap (is_type_or_none image) (sym n) ∙ ap (λ k. is_some (numbered image.types.items k)) n ∙ e
 
-  -- what is handed over, and a call that takes it
-  called_piece : {Asks : Round} (m k : ℕ) (q : Procedure) → procedure_in p m k ≡ Some q → (more : Arguments) → AreArguments p o more q.parameters → (at : ℕ) (s : Kinds) {t : Kinds} → called (numbered image.shapes.items (procedure_number p m k)) (reverse (kinds_of (map (parameter_kind p.types) q.parameters)) ++ s) ≡ Some t → length s + arguments_need more ≤ depth → Piece image own role depth Asks (arguments_code p o more at) at s (reverse (kinds_of (map (parameter_kind p.types) q.parameters)) ++ s) → Piece image own role depth Asks (arguments_code p o more at ++ i.Call (procedure_number p m k) ∷ []) at s t
-  called_piece m k q there more h at s gives room handed =
+  -- what something is called on, what is handed over, and a call that takes both
+  called_piece : {Asks : Round} (c : Callee) (q : Procedure) → IsCalled p o c q → (more : Arguments) → AreArguments p o more q.parameters → (at : ℕ) (s : Kinds) {t : Kinds} → given (given_by q) (Some s) ≡ Some t → length s + (receivers c + arguments_need more) ≤ depth → (let receiver = receiver_code p o c at in Piece image own role depth Asks receiver at s (below c ++ s) → Piece image own role depth Asks (arguments_code p o more (at + length receiver)) (at + length receiver) (below c ++ s) (handed_for q ++ (below c ++ s)) → Piece image own role depth Asks (called_code p o c more at) at s t)
+  called_piece c q is more h at s gives room receiver handed =
       let ks = kinds_of (map (parameter_kind p.types) q.parameters) in
       let few = handed_room p o has.predeclared more q.parameters h in
-      then_one handed (i.Call (procedure_number p m k)) gives refl (omega (arith, room, few, length-append (reverse ks) s, length-reverse ks)) (call_stands m k q there)
+      both receiver
+      (then_one handed (call_instr p c) (call_takes c q is s ∙ gives) (goes_on c)
+      (omega (arith, room, few, below_long c s, length-append (reverse ks) (below c ++ s), length-reverse ks)) (call_stands c q is))
 
   -- a text, an array of one dimension
   text_of : {Asks : Round} (r : Rows) (t : TType) → AreRows p o r 1 t → (at : ℕ) (s : Kinds) → Piece image own role depth Asks (rows_code p o r at) at s (opened (dimensions r) s) → Piece image own role depth Asks (rows_code p o r at) at s (N ∷ A ∷ s)
@@ -223,13 +287,29 @@ module _ (p : Program) (o : Option Procedure) (image : Image) (own : ℕ) (role 
         then_one (place_piece x h.0 h.1 at s room) (i.GuardPlace (c + 1)) refl refl (omega (arith, room, k)) (λ whole q. has.records c h.3)
     place_piece (Field x of c) t h at s room =
         let k = some_place x in
-        then_one (place_piece x of h.0 at s room) (i.Offset (field_cell p o of c) 0) refl refl (omega (arith, room, k)) (λ whole q. refl)
+        then_one
+        (elim h.0 [ inl l ↦ place_piece x of l.0 at s room | inr b ↦ object_piece x of b at s room ])
+        (i.Offset (field_cell p o of c) 0) refl refl (omega (arith, room, k)) (λ whole q. refl)
     place_piece (Index x n of e) t h at s room =
         let k = some_need e in
         both (place_piece x h.0 h.1 at s (omega (arith, room)))
         (then_one
         (value_piece e (Integer W64) h.3 (at + length (place_code p o x at)) (A ∷ s) (omega (arith, room)))
         (i.Index n (cells_of p o of)) refl refl (omega (arith, room, k)) (λ whole q. refl))
+
+    -- the place of an object's fields
+    object_piece : {Asks : Round} (x : Place) (t : TType) → IsObjectAt p o x t → (at : ℕ) (s : Kinds) → length s + place_need x ≤ depth → Piece image own role depth Asks (place_code p o x at) at s (A ∷ s)
+    object_piece (Deref e u) t h at s room =
+        let k = some_need e in
+        then_one (as_kind (reference_kind p has.predeclared u (object_reference p.types u h.1)) (value_piece e u h.0 at s room)) (i.Deref 0) refl refl (omega (arith, room, k)) (λ whole q. refl)
+    object_piece (ModuleVar m c) t h at s room = absurd h
+    object_piece (Local k) t h at s room = absurd h
+    object_piece (Passed k) t h at s room = absurd h
+    object_piece (Field x of c) t h at s room = absurd h
+    object_piece (Index x n of e) t h at s room = absurd h
+    object_piece (Of r) t h at s room = absurd h
+    object_piece (Typed x c) t h at s room = absurd h
+    object_piece (Guarded x c) t h at s room = absurd h
 
     -- an array with the lengths of its dimensions
     pub rows_piece : {Asks : Round} (r : Rows) (n : ℕ) (t : TType) → AreRows p o r n t → (at : ℕ) (s : Kinds) → length s + rows_need r ≤ depth → Piece image own role depth Asks (rows_code p o r at) at s (opened (dimensions r) s)
@@ -280,11 +360,19 @@ module _ (p : Program) (o : Option Procedure) (image : Image) (own : ℕ) (role 
         (both (left_with (sym (reversed_row j s)) (rows_piece r h.2 h.3 h.6 at s (omega (arith, room))))
         (arguments_piece more h.1 h.8 (at + length (rows_code p o r at)) (reverse (A ∷ replicate j N) ++ s) (omega (arith, room, opened_long j s, ap length (reversed_row j s)))))
 
+    -- what something is called on
+    receiver_piece : {Asks : Round} (c : Callee) (q : Procedure) → IsCalled p o c q → (at : ℕ) (s : Kinds) → length s + receiver_need c ≤ depth → Piece image own role depth Asks (receiver_code p o c at) at s (below c ++ s)
+    receiver_piece (Plain m k) q h at s room = nothing
+    receiver_piece (Dispatched e t k) q h at s room = value_piece e (Named t) h.0 at s room
+    receiver_piece (Upper t k) q h at s room = one i.SelfRef refl refl (omega (arith, room)) (λ whole n. has.selfs h.0 h.1)
+
     -- an expression of a type gives an operand of the type's kind
     pub value_piece : {Asks : Round} (e : Expr) (t : TType) → IsOf p o e t → (at : ℕ) (s : Kinds) → length s + value_need e ≤ depth → Piece image own role depth Asks (value_code p o e at) at s (kind_of t ∷ s)
     value_piece (Lit l) t (inl h) at s room = as_kind (sym (literal_kind l t h)) (literal_piece l t h (omega (arith, room)))
     value_piece (Lit l) t (inr h) at s room =
         recoded (ap (λ x. literal_code x ∷ []) (sym h.0)) (as_kind (sym (reference_kind p has.predeclared t h.1)) (one i.Nil refl refl (omega (arith, room)) (λ whole q. refl)))
+    value_piece SelfRef t h at s room =
+        as_kind (sym (fitted_kind p has.predeclared t (Named h.0) h.3)) (one i.SelfRef refl refl (omega (arith, room)) (λ whole q. has.selfs h.0 h.1))
     value_piece (Read u x) t h at s room =
         let k = some_place x in
         as_kind (sym (fitted_kind p has.predeclared t u h.2)) (then_one (place_piece x u h.0 at s room) (i.Load (kind_of u)) refl refl (omega (arith, room, k)) (λ whole q. refl))
@@ -341,9 +429,12 @@ module _ (p : Program) (o : Option Procedure) (image : Image) (own : ℕ) (role 
         as_kind (sym (included_kind t (Integer W32) h.4))
         (both (left_with (sym (append_assoc (replicate j N) (A ∷ []) s)) (rows_piece r h.0 h.1 h.2 at s room))
         (then_one (drops_piece (suc j) (row j) (at + length (rows_code p o r at)) s long (omega (arith, room, some, long))) (i.Num (pos n)) refl refl (omega (arith, room, some)) (λ whole q. refl)))
-    value_piece (Function m k more) t h at s room =
-        let gives = call_takes m k h.0 h.2 s ∙ ap (λ r. given (option_map (λ t. cell_kind p.types (id_of t)) r) (Some s)) h.3 ∙ ap (λ k. given (Some k) (Some s)) (value_kind p has.predeclared h.1 h.4) in
-        as_kind (sym (fitted_kind p has.predeclared t h.1 h.5)) (called_piece m k h.0 h.2 more h.6 at s gives (omega (arith, room)) (arguments_piece more h.0.parameters h.6 at s (omega (arith, room))))
+    value_piece (Function c more) t h at s room =
+        let gives = ap (λ r. given (option_map (λ t. cell_kind p.types (id_of t)) r) (Some s)) h.3 ∙ ap (λ k. given (Some k) (Some s)) (value_kind p has.predeclared h.1 h.4) in
+        as_kind (sym (fitted_kind p has.predeclared t h.1 h.5))
+        (called_piece c h.0 h.2 more h.6 at s gives (omega (arith, room))
+        (receiver_piece c h.0 h.2 at s (omega (arith, room)))
+        (arguments_piece more h.0.parameters h.6 (at + length (receiver_code p o c at)) (below c ++ s) (omega (arith, room, below_long c s))))
     value_piece (Same a b) t h at s room =
         let k = some_need b in
         as_kind (ap kind_of (sym h.2)) (both
@@ -375,7 +466,7 @@ module _ (p : Program) (o : Option Procedure) (image : Image) (own : ℕ) (role 
       (value_piece e (Integer W64) h.0 at s (omega (arith, room)))
       (lengths_of es h.1 (at + length (value_code p o e at)) (N ∷ s) (omega (arith, room))))
 
-  -- a text and two texts as statements have them, and a call
+  -- a text, two texts and a call as statements have them
   pub text_piece : {Asks : Round} (r : Rows) → AreRows p o r 1 Char → (at : ℕ) (s : Kinds) → length s + rows_need r ≤ depth → Piece image own role depth Asks (rows_code p o r at) at s (N ∷ A ∷ s)
   text_piece r h at s room = text_of r Char h at s (rows_piece r 1 Char h at s room)
 
@@ -383,5 +474,7 @@ module _ (p : Program) (o : Option Procedure) (image : Image) (own : ℕ) (role 
   texts_piece a b h g take at s room e goes may =
       texts_of a b h g take at s room e goes may (rows_piece a 1 Char h at s (omega (arith, room))) (rows_piece b 1 Char g (at + length (rows_code p o a at)) (N ∷ A ∷ s) (omega (arith, room)))
 
-  pub call_piece : {Asks : Round} (m k : ℕ) (q : Procedure) → procedure_in p m k ≡ Some q → (more : Arguments) → AreArguments p o more q.parameters → (at : ℕ) (s : Kinds) {t : Kinds} → called (numbered image.shapes.items (procedure_number p m k)) (reverse (kinds_of (map (parameter_kind p.types) q.parameters)) ++ s) ≡ Some t → length s + arguments_need more ≤ depth → Piece image own role depth Asks (arguments_code p o more at ++ i.Call (procedure_number p m k) ∷ []) at s t
-  call_piece m k q there more h at s gives room = called_piece m k q there more h at s gives room (arguments_piece more q.parameters h at s room)
+  pub call_piece : {Asks : Round} (c : Callee) (q : Procedure) → IsCalled p o c q → (more : Arguments) → AreArguments p o more q.parameters → (at : ℕ) (s : Kinds) {t : Kinds} → given (given_by q) (Some s) ≡ Some t → length s + receiver_need c ≤ depth → length s + (receivers c + arguments_need more) ≤ depth → Piece image own role depth Asks (called_code p o c more at) at s t
+  call_piece c q is more h at s gives low high =
+      called_piece c q is more h at s gives high (receiver_piece c q is at s low)
+      (arguments_piece more q.parameters h (at + length (receiver_code p o c at)) (below c ++ s) (omega (arith, high, below_long c s)))

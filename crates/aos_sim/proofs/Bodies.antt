@@ -1,13 +1,14 @@
 -- What an image has of each routine of a program: its code, which carries out the routine's statements, and its shape.
 use Rattle.std.proofs.Common.{◌≡◌, ℕ, zero, suc, pos, ◌+◌, ◌<◌, length, List, [], ◌∷◌, ◌++◌, map, Option, Some, None, refl, sym, ap, ◌∙◌, arith}
-use Rattle.std.specs.Prelude.{All, slice_get, option_map}
+use Rattle.std.specs.Prelude.{All, slice_get, option_map, option_and_then}
 use Rattle.std.proofs.lemmas.List.Elements.{All-nil, All-cons, All-append, All-map, All-tail}
 use Rattle.std.proofs.lemmas.Option.{slice_get-map}
 use Rattle.aos_base.specs.Rooted.{by_number}
 use Rattle.aos_typed.specs.Numbers.{id_of}
-use Rattle.aos_typed.specs.Program.{Procedure, ObjectType, Module, Program}
-use Rattle.aos_typed.specs.Routines.{Routine, result_of, bodies_from, procedures_from, routines}
-use Rattle.aos_typed.specs.WellTyped.{AreStatements, IsProcedure, IsWellTyped}
+use Rattle.aos_typed.specs.Program.{Procedure, Method, ObjectType, Module, Program}
+use Rattle.aos_typed.specs.Methods.{slots, own_numbers}
+use Rattle.aos_typed.specs.Routines.{Routine, result_of, routine_of, bodies_from, procedures_from, methods_from, routines}
+use Rattle.aos_typed.specs.WellTyped.{AreStatements, IsProcedure, AreObjectTypes, IsWellTyped}
 use Rattle.aos_layout.specs.Layout.{kind_of}
 use Rattle.aos_layout.specs.Seen.{seen_shape}
 use Rattle.aos_code.specs.declared.image.Body.{Body}
@@ -15,11 +16,11 @@ use Rattle.aos_code.specs.declared.image.Image.{Image}
 use Rattle.aos_code.specs.declared.image.ProcShape.{ProcShape}
 use Rattle.aos_code.specs.declared.instr.Cell.TheVariants.{Num}
 use Rattle.aos_code.specs.Numbered.{numbered}
-use Rattle.aos_code.specs.Silent.{keeps_in}
+use Rattle.aos_code.specs.Silent.{keeps_in, method_at}
 use Rattle.aos_code.specs.Machine.{home_in, code_in_body, code_of}
 use Rattle.aos_sim.specs.Code.{body_code}
 use Rattle.aos_sim.specs.Need.{keeps_of}
-use Rattle.aos_sim.specs.Shows.{shape_of, type_kinds, IsCodeOf}
+use Rattle.aos_sim.specs.Shows.{shape_of, made_kinds, IsCodeOf}
 use Rattle.aos_typed.specs.Numbers.{id_of_made, predeclared_types}
 use Rattle.aos_code.specs.declared.image.TypeDesc.{TypeDesc}
 use Rattle.std.specs.List.{range_with_len}
@@ -80,36 +81,60 @@ module _ (p : Program) where
       let P : Module → Type 0 = λ x. AreStatements p None x.body in
       All-cons IsTyped (record { home = m; own = None; body = x.body }) (bodies_from (suc m) xs) (all_get P (x ∷ xs) 0 x h refl) (bodies_typed (suc m) xs (All-tail P x xs h))
 
-  procedures_typed : (m : ℕ) (xs : List Module) → All (λ x. All (IsProcedure p) x.procedures) xs → All IsTyped (procedures_from m xs)
+  abbrev IsPlainly : Procedure → Type 0
+  IsPlainly q = IsProcedure p q × (q.of ≡ None)
+
+  procedures_typed : (m : ℕ) (xs : List Module) → All (λ x. All IsPlainly x.procedures) xs → All IsTyped (procedures_from m xs)
   procedures_typed m [] h = All-nil IsTyped
   procedures_typed m (x ∷ xs) h =
-      let P : Module → Type 0 = λ x. All (IsProcedure p) x.procedures in
-      let of : Procedure → Routine = λ q. record { home = m; own = Some q; body = q.body } in
+      let P : Module → Type 0 = λ x. All IsPlainly x.procedures in
+      let of : Procedure → Routine = routine_of m in
       let first = all_get P (x ∷ xs) 0 x h refl in
       All-append IsTyped (map of x.procedures) (procedures_from (suc m) xs)
-      (All-map IsTyped of x.procedures (λ i q lt. (first i q lt).body)) (procedures_typed (suc m) xs (All-tail P x xs h))
+      (All-map IsTyped of x.procedures (λ i q lt. (first i q lt).0.body)) (procedures_typed (suc m) xs (All-tail P x xs h))
+
+  abbrev of_object : ObjectType → Routine
+  of_object o = routine_of o.home o.body
+
+  objects_typed : (t : ℕ) (os : List ObjectType) → AreObjectTypes p t os → All IsTyped (map of_object os)
+  objects_typed t [] h = All-nil IsTyped
+  objects_typed t (o ∷ os) h = All-cons IsTyped (of_object o) (map of_object os) h.0.body.body (objects_typed (suc t) os h.1)
+
+  methods_typed : (t : ℕ) (os : List ObjectType) → AreObjectTypes p t os → All IsTyped (methods_from os)
+  methods_typed t [] h = All-nil IsTyped
+  methods_typed t (o ∷ os) h =
+      let of : Method → Routine = λ m. routine_of o.home m.procedure in
+      All-append IsTyped (map of o.methods) (methods_from os) (All-map IsTyped of o.methods (λ i m lt. (h.0.methods i m lt).0.body)) (methods_typed (suc t) os h.1)
 
   pub routines_typed : IsWellTyped p → All IsTyped (routines p)
   routines_typed well =
-      let of : ObjectType → Routine = λ o. record { home = o.home; own = None; body = o.body } in
-      All-append IsTyped (bodies_from 0 p.modules) (map of p.objects ++ procedures_from 0 p.modules) (bodies_typed 0 p.modules well.bodies)
-      (All-append IsTyped (map of p.objects) (procedures_from 0 p.modules) (All-map IsTyped of p.objects well.objects) (procedures_typed 0 p.modules well.procedures))
+      let others = procedures_from 0 p.modules ++ methods_from p.objects in
+      All-append IsTyped (bodies_from 0 p.modules) (map of_object p.objects ++ others) (bodies_typed 0 p.modules well.bodies)
+      (All-append IsTyped (map of_object p.objects) others (objects_typed 0 p.objects well.objects)
+      (All-append IsTyped (procedures_from 0 p.modules) (methods_from p.objects) (procedures_typed 0 p.modules well.procedures) (methods_typed 0 p.objects well.objects)))
 
   module _ (image : Image) (ok : IsCodeOf p image) where
     routine_shapes : (q : ℕ) (r : Routine) → by_number q (routines p) ≡ Some r → (x : ProcShape) × (numbered image.shapes.items q ≡ Some x) × (seen_shape x ≡ shape_of p.types r)
     routine_shapes zero r e = absurd (cc)
     routine_shapes (suc k) r e = alike_at seen_shape (shape_of p.types) image.shapes.items (routines p) ok.shapes k r e
 
-    kinds_there : (k : ℕ) → k < length p.objects → (d : TypeDesc) × (numbered image.types.items (suc k) ≡ Some d) × (d.kinds.items ≡ type_kinds p.types (id_of_made (suc k)))
+    kinds_there : (k : ℕ) → k < length p.objects → (d : TypeDesc) × (numbered image.types.items (suc k) ≡ Some d) × (d.kinds.items ≡ made_kinds p.types (id_of_made (suc k)))
     kinds_there k l =
-        let r = alike_at (λ (t : TypeDesc). t.kinds.items) (λ k. type_kinds p.types (record { 0 = k })) image.types.items (range_with_len predeclared_types (length p.objects)) ok.kinds k (k + predeclared_types) (range_get (length p.objects) predeclared_types k l) in
+        let r = alike_at (λ (t : TypeDesc). t.kinds.items) (λ k. made_kinds p.types (record { 0 = k })) image.types.items (range_with_len predeclared_types (length p.objects)) ok.kinds k (k + predeclared_types) (range_get (length p.objects) predeclared_types k l) in
         (r.0, r.1, r.2)
+
+    methods_there : (t k n : ℕ) → t < length p.objects → slice_get (slots p (own_numbers p) t) k ≡ Some n → method_at image.types.items (suc t) k ≡ Some n
+    methods_there t k n l e =
+        let r = alike_at (λ (t : TypeDesc). t.methods.items) (λ k. slots p (own_numbers p) k) image.types.items (range_with_len 0 (length p.objects)) ok.methods t (t + 0) (range_get (length p.objects) 0 t l) in
+        let none : t + 0 ≡ t = omega arith in
+        ap (option_and_then (λ (d : TypeDesc). slice_get d.methods.items k)) r.1 ∙ ap (λ l. slice_get l k) (r.2 ∙ ap (slots p (own_numbers p)) none) ∙ e
 
     pub has_shapes : HasTypes p → HasShapes p (tables_of image)
     has_shapes typed =
         record {
           shapes = routine_shapes;
           kinds = λ k l. kinds_there k l;
+          methods = methods_there;
           extend = λ d t. extends_alike p typed image.types.items ok.bases d t;
         }
 

@@ -1,10 +1,10 @@
--- A call: the shape of the procedure says what the code takes from the stack and gives.
+-- A call: the shape of the procedure says what the code takes from the stack and gives, and a method is called on the object below.
 use Rattle.std.proofs.Common.{◌≡◌, ℕ, zero, suc, ℤ, pos, List, [], ◌∷◌, ◌++◌, length, map, Bool, true, false, Option, Some, None, if◌then◌else◌, refl, sym, ap, ◌∙◌, subst, arith, append-nil}
 use Rattle.std.specs.Prelude.{option_map, reverse, replicate, is_some, not}
 use Rattle.std.proofs.lemmas.List.{map-append}
 use Rattle.std.proofs.lemmas.Grind.{reverse_onto}
 use Rattle.aos_base.specs.declared.number.Width.TheVariants.{W8, W16, W32, W64}
-use Rattle.aos_base.specs.Question.{Calls}
+use Rattle.aos_base.specs.Question.{Asks, Traps, Calls, Opens}
 use Rattle.aos_types.specs.declared.row.Basic.{Basic}
 use Rattle.aos_types.specs.declared.row.Basic.TheVariants as basic
 use Rattle.aos_types.specs.declared.row.TypeId.{TypeId}
@@ -16,33 +16,36 @@ use Rattle.aos_types.specs.World.{World}
 use Rattle.aos_typed.specs.declared.tree.TType.{TType}
 use Rattle.aos_typed.specs.declared.tree.TType.TheVariants as type
 use Rattle.aos_typed.specs.Program.{Parameter, Procedure, Program}
-use Rattle.aos_typed.specs.Numbers.{id_of, procedure_number}
+use Rattle.aos_typed.specs.Numbers.{id_of}
 use Rattle.aos_typed.specs.Open.{open_dimensions, open_element, first_same}
 use Rattle.aos_typed.specs.Sort.{Sort, Variable, Alias}
 use Rattle.aos_typed.specs.Value.{Value, Int, Flag, Char, Set, Object, Callable, Place}
 use Rattle.aos_typed.specs.Typing.{IsBasic, IsPlainly, Extends, Is}
-use Rattle.aos_typed.specs.WellTyped.{is_basic, procedure_in}
+use Rattle.aos_typed.specs.WellTyped.{is_basic}
+use Rattle.aos_typed.specs.Meaning.{Here}
 use Rattle.aos_layout.specs.Frame.{parameter_kind}
 use Rattle.aos_layout.specs.Layout.{kind_in, kind_of, cells}
 use Rattle.aos_layout.specs.Seen.{seen_shape}
 use Rattle.aos_code.specs.declared.image.ParamKind.{ParamKind}
 use Rattle.aos_code.specs.declared.image.ParamKind.TheVariants as param
 use Rattle.aos_code.specs.declared.image.ProcShape.{ProcShape}
+use Rattle.aos_base.specs.Rooted.{by_number}
+use Rattle.aos_typed.specs.Routines.{routine_of, routines}
 use Rattle.aos_code.specs.declared.instr.Cell.{Cell}
+use Rattle.aos_code.specs.declared.instr.Cell.TheVariants.{Ref}
 use Rattle.aos_code.specs.declared.instr.Instr.{Instr}
 use Rattle.aos_code.specs.declared.instr.Instr.TheVariants as i
 use Rattle.aos_code.specs.declared.instr.Kind.{Kind}
 use Rattle.aos_code.specs.declared.instr.Kind.TheVariants.{N, R, C, A}
 use Rattle.aos_code.specs.Numbered.{numbered}
-use Rattle.aos_code.specs.Silent.{Question, Stack, Keeps, Act, Sees, Stops, lost, is_of, kinds_of, on_kind, on_kinds, calls}
+use Rattle.aos_code.specs.Silent.{Stack, Keeps, Act, Looks, AtSlot, Stops, lost, is_of, kinds_of, on_kind, on_kinds, on_arguments, on_receiver, called as called_on, calls, sends, invoked, method_at}
 use Rattle.aos_sim.specs.Cells.{cell_of}
 use Rattle.aos_sim.specs.Shows.{shape_of}
-use Rattle.aos_sim.proofs.Runs.{Tables, gives_result, on_run, at_work, runs}
+use Rattle.aos_sim.proofs.Runs.{Run, Tables, gives_result, type_at, invokes, on_run, at_work, runs}
 use Rattle.aos_sim.proofs.Types.{basic_of, number_cell, from_basic}
-use Rattle.aos_sim.proofs.Does.{HasShapes, Handles, Given, Valid}
+use Rattle.aos_sim.proofs.Does.{HasShapes, Handles, Given}
 use Rattle.aos_sim.proofs.References.{reference_kind}
 use Rattle.aos_sim.proofs.Evaluates.{pushed}
-pub use Rattle.aos_sim.proofs.Routines.{called, routine_there}
 
 -- What lies on the stack for a call.
 
@@ -169,38 +172,65 @@ module _ (program : Program) where
         subst (λ ks. AreOf ks (map (cell_of w) vs)) (sym (kinds_first a ps))
         (subst (λ us. AreOf (kinds_for o a.by_reference c t ++ kinds_of ps) us) (sym (map-append (cell_of w) h.0 h.1) ∙ ap (map (cell_of w)) (sym h.2)) both)
 
-  module _ (tables : Tables) (shaped : HasShapes program tables) (here : ℕ) (w : World Sort) (m k : ℕ) (q : Procedure) (there : procedure_in program m k ≡ Some q) (vs : List Value) (given : Given program w q.parameters vs) where
-    abbrev called_number : ℕ
-    called_number = procedure_number program m k
+  -- a routine of this number, and what it is called with
+  module _ (tables : Tables) (shaped : HasShapes program tables) (n home : ℕ) (q : Procedure) (there : by_number n (routines program) ≡ Some (routine_of home q)) where
+    abbrev pub known : (x : ProcShape) × (numbered tables.procedures n ≡ Some x) × (seen_shape x ≡ shape_of program.types (routine_of home q))
+    known = shaped.shapes n (routine_of home q) there
 
-    abbrev asked : Question
-    asked = Calls called_number (map (cell_of w) vs)
+    abbrev pub shape : ProcShape
+    shape = known.0
 
-    of_shape : (x : ProcShape) → seen_shape x ≡ shape_of program.types (called m q) → (f : Option ProcShape) → f ≡ Some x → (s : Stack) → calls f called_number (pushed (map (cell_of w) vs) s) ≡ Sees asked s
-    of_shape x is f e s =
-        let params : x.params.items ≡ map (parameter_kind program.types) q.parameters = ap (λ z. z.params) is in
-        let cells = map (cell_of w) vs in
-        ap (λ f. calls f called_number (pushed cells s)) e
-        ∙ ap (λ ps. on_kinds (reverse (kinds_of ps)) [] (λ us s'. Sees (Calls called_number us) s') (pushed cells s)) params
-        ∙ on_pushed (kinds_of (map (parameter_kind program.types) q.parameters)) cells [] (λ us s'. Sees (Calls called_number us) s') s (given_are w q.parameters vs given)
-        ∙ ap (λ us. Sees (Calls called_number us) s) (append-nil cells)
+    pub method_is : shape.method ≡ is_some q.of
+    method_is = ap (λ z. z.method) known.2
 
-    -- with what is given on the stack, the code asks for the call
-    pub call_asks : (number : ℕ) (code rest : List Instr) (p : ℕ) (ks : Keeps) (s : Stack) → runs tables number here code (i.Call called_number ∷ rest) 0 p ks (pushed (map (cell_of w) vs) s) ≡ at_work tables asked p ks s (runs tables number here code rest)
-    call_asks number code rest p ks s =
-        let x = shaped.shapes called_number (called m q) (routine_there program m k q there) in
-        ap (λ a. on_run tables a (runs tables number here code rest) p ks) (of_shape x.0 x.2 (numbered tables.procedures called_number) x.1 s)
-
-    -- which is a valid question
-    pub call_valid : Valid program here w (Calls called_number vs)
-    call_valid = (called m q, routine_there program m k q there, given)
-
-    -- and the code goes on with a function's result, and without one behind a procedure
-    pub call_gives : gives_result (numbered tables.procedures called_number) ≡ is_some q.result
-    call_gives =
-        let x = shaped.shapes called_number (called m q) (routine_there program m k q there) in
-        ap gives_result x.1 ∙ ap (λ z. is_some z.result) x.2 ∙ of_result q.result
+    -- behind a call the code goes on with a function's result, and without one behind a procedure
+    pub call_gives : gives_result (numbered tables.procedures n) ≡ is_some q.result
+    call_gives = ap gives_result known.1 ∙ ap (λ z. is_some z.result) known.2 ∙ of_result q.result
       where
         of_result : (r : Option TType) → is_some (option_map (λ t. kind_of program.types (id_of t)) r) ≡ is_some r
         of_result None = refl
         of_result (Some t) = refl
+
+    module _ (here : Here) (w : World Sort) (vs : List Value) (given : Given program w q.parameters vs) where
+      abbrev cells_given : List Cell
+      cells_given = map (cell_of w) vs
+
+      -- what is given lies on the stack
+      taken : (g : List Cell → Stack → Act) (s : Stack) → on_arguments shape g (pushed cells_given s) ≡ g cells_given s
+      taken g s =
+          let params : shape.params.items ≡ map (parameter_kind program.types) q.parameters = ap (λ z. z.params) known.2 in
+          ap (λ ps. on_kinds (reverse (kinds_of ps)) [] g (pushed cells_given s)) params
+          ∙ on_pushed (kinds_of (map (parameter_kind program.types) q.parameters)) cells_given [] g s (given_are w q.parameters vs given)
+          ∙ ap (λ us. g us s) (append-nil cells_given)
+
+      abbrev arguments_called : Bool → List Cell → Stack → Act
+      arguments_called b us s' = called_on b n us s'
+
+      module _ (number : ℕ) (code rest : List Instr) (p : ℕ) (ks : Keeps) (s : Stack) where
+        abbrev goes : Act → Run
+        goes a = on_run tables a (runs tables number here code rest) p ks
+
+        abbrev work : List Cell → Run
+        work us = at_work tables (Calls n us) p ks s (runs tables number here code rest)
+
+        -- the code asks for the call of a procedure
+        pub plain_asks : q.of ≡ None → runs tables number here code (i.Call n ∷ rest) 0 p ks (pushed cells_given s) ≡ work cells_given
+        plain_asks none =
+            ap (λ f. goes (calls f n (pushed cells_given s))) known.1 ∙ ap goes (taken (arguments_called shape.method) s)
+            ∙ ap (λ b. goes (called_on b n cells_given s)) (method_is ∙ ap is_some none)
+
+        -- of a method on an object
+        pub method_asks : (t o : ℕ) → q.of ≡ Some t → runs tables number here code (i.Call n ∷ rest) 0 p ks (pushed cells_given (Ref (suc o) ∷ s)) ≡ work (Ref (suc o) ∷ cells_given)
+        method_asks t o some =
+            ap (λ f. goes (calls f n (pushed cells_given (Ref (suc o) ∷ s)))) known.1 ∙ ap goes (taken (arguments_called shape.method) (Ref (suc o) ∷ s))
+            ∙ ap (λ b. goes (called_on b n cells_given (Ref (suc o) ∷ s))) (method_is ∙ ap is_some some)
+
+        abbrev sent : ℕ → List Cell → Stack → Act
+        sent k us s' = on_receiver (λ o s''. Looks (AtSlot k n us) o s'') s'
+
+        -- of what an object has in a slot; at NIL it is a trap
+        pub nil_fails : (k : ℕ) → runs tables number here code (i.Virtual k n ∷ rest) 0 p ks (pushed cells_given (Ref 0 ∷ s)) ≡ Traps 1 0
+        nil_fails k = ap (λ f. goes (sends f k n (pushed cells_given (Ref 0 ∷ s)))) known.1 ∙ ap goes (taken (sent k) (Ref 0 ∷ s))
+
+        pub slot_asks : (k o : ℕ) → runs tables number here code (i.Virtual k n ∷ rest) 0 p ks (pushed cells_given (Ref (suc o) ∷ s)) ≡ Asks (Opens (Ref (suc o))) (λ x. invokes (invoked tables.procedures n (method_at tables.types (type_at x) k) (suc o) cells_given) (λ z. at_work tables z p ks s (runs tables number here code rest)))
+        slot_asks k o = ap (λ f. goes (sends f k n (pushed cells_given (Ref (suc o) ∷ s)))) known.1 ∙ ap goes (taken (sent k) (Ref (suc o) ∷ s))

@@ -16,7 +16,7 @@ use Rattle.aos_typed.specs.Program.{Place, Stat, Repeat, Stats, Nothing, Then, P
 use Rattle.aos_typed.specs.Routines.{result_of}
 use Rattle.aos_typed.specs.Sort.{Sort}
 use Rattle.aos_typed.specs.Value.{Value}
-use Rattle.aos_typed.specs.Meaning.{Item, Do, Rounds, Round, Until, After, Into, Returns, Exits, leave, items_of, item_of, stat_of, pos_of}
+use Rattle.aos_typed.specs.Meaning.{Here, Item, Do, Rounds, Round, Until, After, Into, Returns, Exits, leave, items_of, item_of, stat_of, pos_of}
 use Rattle.aos_typed.specs.WellTyped.{IsPlaceOf, IsStatement, AreStatements}
 use Rattle.aos_layout.specs.Layout.{kind_of}
 use Rattle.aos_code.specs.declared.instr.Cell.{Cell}
@@ -64,7 +64,7 @@ abbrev pub AtEnd : Option TType → Run → Type 0
 AtEnd None m = (g : Cell → Run) × (m ≡ Asks (Ends None) g)
 AtEnd (Some t) m = m ≡ Traps 10 0
 
-module _ (program : Program) (own : Option Procedure) (tables : Tables) (number here : ℕ) (code : List Instr) where
+module _ (program : Program) (own : Option Procedure) (tables : Tables) (number : ℕ) (here : Here) (code : List Instr) where
   -- from both places the code does the same
   abbrev pub Same : ℕ → ℕ → Type 0
   Same p q = (k : Keeps) (s : Stack) → run tables number here code p k s ≡ run tables number here code q k s
@@ -209,5 +209,5 @@ module _ (program : Program) (own : Option Procedure) (tables : Tables) (number 
 -- each item's code does what the item does
 abbrev pub ItemsDo : Program → Type 0
 ItemsDo program =
-    (own : Option Procedure) (tables : Tables) (number here : ℕ) (code : List Instr) (w : World Sort) (is : List Item) (m : Run) → HasTypes program → HasShapes program tables → IsOwn program own tables number → Knows program own here w →
+    (own : Option Procedure) (tables : Tables) (number : ℕ) (here : Here) (code : List Instr) (w : World Sort) (is : List Item) (m : Run) → HasTypes program → HasShapes program tables → IsOwn program own tables number → Knows program own here w →
     GoesOn program own tables number here code is m → AtNext program own tables number here code is w m

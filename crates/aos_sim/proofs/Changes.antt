@@ -15,7 +15,7 @@ use Rattle.aos_typed.specs.Numbers.{id_of}
 use Rattle.aos_typed.specs.Sort.{Sort, Plain}
 use Rattle.aos_typed.specs.Spot.{Spot}
 use Rattle.aos_typed.specs.Value.{Value, number_of, binary, element}
-use Rattle.aos_typed.specs.Meaning.{Doing, Item, After, Into, place_of, value_of, changed_type, changed}
+use Rattle.aos_typed.specs.Meaning.{Here, Doing, Item, After, Into, place_of, value_of, changed_type, changed}
 use Rattle.aos_typed.specs.declared.tree.TType.{TType}
 use Rattle.aos_typed.specs.WellTyped.{is_basic, is_value, Includes, NamesType, amount_type}
 use Rattle.aos_code.specs.declared.instr.Cell.TheVariants.{Num}
@@ -69,7 +69,7 @@ includes_itself W16 = refl
 includes_itself W32 = refl
 includes_itself W64 = refl
 
-module _ (program : Program) (own : Option Procedure) (tables : Tables) (number here : ℕ) (code : List Instr) where
+module _ (program : Program) (own : Option Procedure) (tables : Tables) (number : ℕ) (here : Here) (code : List Instr) where
   abbrev onward : List Instr → Onward
   onward = runs tables number here code
 

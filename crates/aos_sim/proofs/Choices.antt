@@ -16,7 +16,7 @@ use Rattle.aos_typed.specs.declared.tree.TType.TheVariants as type
 use Rattle.aos_typed.specs.Program.{Expr, Case, Cases, NoElse, Else, OfLabels, Procedure, Program}
 use Rattle.aos_typed.specs.Sort.{Sort}
 use Rattle.aos_typed.specs.Value.{Value, number_of}
-use Rattle.aos_typed.specs.Meaning.{Doing, Item, After, Into, items_of, value_of, is_in, case_of, stat_of}
+use Rattle.aos_typed.specs.Meaning.{Here, Doing, Item, After, Into, items_of, value_of, is_in, case_of, stat_of}
 use Rattle.aos_typed.specs.WellTyped.{is_basic, IsOf, AreCases}
 use Rattle.aos_code.specs.declared.instr.Cell.TheVariants.{Num}
 use Rattle.aos_code.specs.declared.instr.Instr.{Instr}
@@ -37,7 +37,7 @@ use Rattle.aos_sim.proofs.Carries.{kept_here, kept_below, Stands, Same, Holds, H
 use Rattle.aos_sim.proofs.Stats.{from_here, jumps_on, keeps_number, takes_number}
 use Rattle.aos_sim.proofs.Loops.{jumps_if}
 
-module _ (program : Program) (own : Option Procedure) (tables : Tables) (number here : ℕ) (code : List Instr) where
+module _ (program : Program) (own : Option Procedure) (tables : Tables) (number : ℕ) (here : Here) (code : List Instr) where
   abbrev onward : List Instr → Onward
   onward = runs tables number here code
 

@@ -31,7 +31,7 @@ use Rattle.aos_typed.specs.Spot.{Spot}
 use Rattle.aos_types.specs.Content.{EachSort}
 use Rattle.aos_typed.specs.Typing.{Is, IsPlain, OnPlace, Names, nested}
 use Rattle.aos_typed.specs.Value.{Value, Int, Flag, Char, Set, Object, Callable, Place, number_of}
-use Rattle.aos_typed.specs.Meaning.{Doing, Found, found, part_of, element_of, row_at, text_length, own_place, lengths_from, place_of, rows_of}
+use Rattle.aos_typed.specs.Meaning.{Here, Doing, Found, found, part_of, field_of, element_of, row_at, text_length, own_place, lengths_from, place_of, rows_of}
 use Rattle.aos_typed.specs.Meaning as source
 use Rattle.aos_typed.specs.WellTyped.{variable_type, field_type, IsConstantText, IsArrayOf, IsLength, IsParameter, IsLocal, IsByReference, IsByValue, IsOpening, HaveLengths, is_whole}
 use Rattle.aos_code.specs.declared.instr.Cell.{Cell}
@@ -46,8 +46,8 @@ use Rattle.aos_sim.specs.Cells.{place_in, cell_of}
 use Rattle.aos_sim.specs.Code.{own_cell, field_cell, cells_of, lengths_code, place_code, rows_code, operands_code}
 use Rattle.aos_sim.proofs.Runs.{Run, Onward, Tables, numbers, pushed_reverse, on_run, runs}
 use Rattle.aos_layout.proofs.Joins.{join_assoc}
-use Rattle.aos_sim.proofs.Extended.{whole_or, is_fielded, field_part, field_offset, no_extension, record_extension, begins_with, whole_begins}
-use Rattle.aos_sim.proofs.Parts.{shape_on, cell_on, each_repeated, each_nested, each_join, variable_plain, object_plain, whole_ends, array_shape, element_part, element_offset, row_part, row_offset, variable_size, part_of_row, nested_size}
+use Rattle.aos_sim.proofs.Extended.{whole_or, field_part, field_offset, record_no_object, no_extension, record_extension, begins_with, whole_begins}
+use Rattle.aos_sim.proofs.Parts.{own_contents, shape_on, cell_on, each_repeated, each_nested, each_join, variable_plain, object_plain, whole_ends, array_shape, element_part, element_offset, row_part, row_offset, variable_size, part_of_row, nested_size}
 use Rattle.aos_sim.proofs.Does.{HasTypes, alias_sort, IsPlaceSort, lengths_are, spot_cell, HasText, HasRoom, HasPredeclared, characters, IsReached, Given, Does, bind_val, does_bind, does_more, place_grows}
 use Rattle.aos_sim.proofs.Variables.{basic_is_one, variable_there, variable_few, cell_there, constant_there, constant_few, constant_cell, local_there, alias_there, open_there}
 use Rattle.aos_sim.proofs.Evaluates.{OfType, number_in, pushed, OnTop, OnStack, Brings, ComesTo, Remain, Stays, Evaluates, pushed-append, front_does, piece_does, pieces_do, two_do}
@@ -81,6 +81,14 @@ module _ (program : Program) where
     pub holds : HoldsType (id_of t) shape
     pub plain : EachSort IsPlain shape
     pub names : named → Names program.types w (id_of t) p
+
+  -- the fields of a record or an object of this type are there, and their cells have numbers of 32 bits
+  pub record HasFields (t : TypeId) (w : World Sort) (p : Spot) : Type 0 where
+    pub shape : Shape Sort
+    pub there : shape_at w p.root p.path ≡ Some shape
+    pub few : cell_at w p.root p.path + size shape < 2 ^ 32
+    pub more : Shape Sort
+    pub begins : shape ≡ join (object_shape program.types t) more
 
   -- rows of these lengths with elements of this type behind them; where there is none, what begins with an element
   abbrev pub RowsHold : List ℕ → TypeId → Shape Sort → Type 0
@@ -276,7 +284,7 @@ nested_shape : (rows : List TypeRow) → IsRanked rows → (ns : List ℕ) (t of
 nested_shape rows ranked [] t of h = ap (variable_shape rows) h
 nested_shape rows ranked (n ∷ ns) t of h = array_shape rows ranked t h.0 n h.1 ∙ ap (repeated n) (nested_shape rows ranked ns h.0 of h.2)
 
-module _ (program : Program) (own : Option Procedure) (tables : Tables) (number here : ℕ) (code : List Instr) where
+module _ (program : Program) (own : Option Procedure) (tables : Tables) (number : ℕ) (here : Here) (code : List Instr) where
   abbrev onward : List Instr → Onward
   onward = runs tables number here code
 
@@ -348,7 +356,7 @@ module _ (program : Program) (own : Option Procedure) (tables : Tables) (number 
       let o = local_there program own here w known.frame k t of in
       record {
         is = record { shape = variable_shape program.types (id_of t); there = o.there; few = o.few; holds = variable_holds program typed (id_of t); plain = variable_plain program.types (id_of t); names = λ n. absurd n };
-        run = ap (λ n. onward rest 0 (at + 1) keeps (cell.Place (FrameRoot here) n 0 ∷ s)) (sym o.cell);
+        run = ap (λ n. onward rest 0 (at + 1) keeps (cell.Place (FrameRoot here.below) n 0 ∷ s)) (sym o.cell);
       }
 
   -- a place that names the type of its record
@@ -391,7 +399,7 @@ module _ (program : Program) (own : Option Procedure) (tables : Tables) (number 
       let q = own_place program here k in
       let sort = alias_sort program.types (id_of t) in (
         (λ x. onward rest 0 (at + 1) keeps (x ∷ s)),
-        ap (λ (n : ℕ). Asks (Places (record { root = FrameRoot here; cell = n })) (λ x. onward rest 0 (at + 1) keeps (x ∷ s))) (sym o.cell),
+        ap (λ (n : ℕ). Asks (Places (record { root = FrameRoot here.below; cell = n })) (λ x. onward rest 0 (at + 1) keeps (x ∷ s))) (sym o.cell),
         (refl, sort, alias_place (is_record (row_of program.types (id_of t))) (id_of t), o.there),
         λ w' up v c.
             let is' = c.0 sort (place_grows program here w w' up q (One sort) o.there) in
@@ -401,17 +409,24 @@ module _ (program : Program) (own : Option Procedure) (tables : Tables) (number 
 
   -- Parts
 
-  pub field_does : HasTypes program → (named : Type 0) (t u : TType) (k : ℕ) (xs : List Instr) (r : Doing Spot) (at : ℕ) → field_type program.types (id_of t) k ≡ Some (id_of u) → Finds named t xs r at → Finds ⊥ u (xs ++ i.Offset (field_cell program own t k) 0 ∷ []) (bind r (λ p. Val (part_of k p))) at
-  field_does typed named t u k xs r at of h w known rest keeps s =
+  -- a record has its fields
+  pub has_record : HasTypes program → (named : Type 0) (t : TType) → is_record (row_of program.types (id_of t)) ≡ true → (w : World Sort) (p : Spot) → IsFound program named t w p → HasFields program (id_of t) w p
+  has_record typed named t is w p found =
+      let holds = holds_record program typed (id_of t) found.shape is found.holds in
+      let same = own_contents program.types (id_of t) (record_no_object (row_of program.types (id_of t)) is) in
+      record { shape = found.shape; there = found.there; few = found.few; more = holds.0; begins = holds.1 ∙ ap (λ z. join z holds.0) same }
+
+  pub field_does : HasTypes program → (P : World Sort → Spot → Type 0) (t u : TType) → ((w : World Sort) (p : Spot) → P w p → HasFields program (id_of t) w p) → (k : ℕ) (xs : List Instr) (r : Doing Spot) (at : ℕ) → field_type program.types (id_of t) k ≡ Some (id_of u) → ComesTo program own tables number here code P place_in xs r at → Finds ⊥ u (xs ++ i.Offset (field_cell program own t k) 0 ∷ []) (bind r (λ p. Val (field_of program.types (id_of t) k p))) at
+  field_does typed P t u fields k xs r at of h w known rest keeps s =
       let x = i.Offset (field_cell program own t k) 0 in
       let q = at + length (xs ++ x ∷ []) in
       let n : at + length xs + 1 ≡ q = omega (arith, length-append xs (x ∷ [])) in
       let field = variable_shape program.types (id_of u) in
-      piece_does program own tables number here code (IsFound program named t) place_in (Named ⊥ u rest q keeps s) (λ p. Val (part_of k p)) xs (x ∷ []) r at rest keeps s h w known
-      (λ w' up p m found e.
-      let holds = holds_record program typed (id_of t) found.shape (is_fielded program typed (id_of t) (id_of u) k of) found.holds in
-      let is = ap (inside (k ∷ [])) holds.1 ∙ field_part program typed (id_of t) (id_of u) k of holds.0 in
-      let offset_is = ap (offset (k ∷ [])) holds.1 ∙ field_offset program typed (id_of t) (id_of u) k of holds.0 in
+      piece_does program own tables number here code P place_in (Named ⊥ u rest q keeps s) (λ p. Val (field_of program.types (id_of t) k p)) xs (x ∷ []) r at rest keeps s h w known
+      (λ w' up p m has e.
+      let found = fields w' p has in
+      let is = ap (inside (k ∷ [])) found.begins ∙ field_part program typed (id_of t) (id_of u) k of found.more in
+      let offset_is = ap (offset (k ∷ [])) found.begins ∙ field_offset program typed (id_of t) (id_of u) k of found.more in
       record {
         is = record {
           shape = field;
@@ -549,14 +564,14 @@ module _ (program : Program) (own : Option Procedure) (tables : Tables) (number 
   abbrev LengthsThere : World Sort → (number d : ℕ) → List ℕ → Type 0
   LengthsThere w k d [] = Unit {0}
   LengthsThere w k d (n ∷ ns) =
-      (shape_at w (FrameRoot here) (k ∷ suc d ∷ []) ≡ Some (One (Length n)))
-      × (cell_at w (FrameRoot here) (k ∷ suc d ∷ []) ≡ own_cell program own k + suc d) × LengthsThere w k (suc d) ns
+      (shape_at w (FrameRoot here.below) (k ∷ suc d ∷ []) ≡ Some (One (Length n)))
+      × (cell_at w (FrameRoot here.below) (k ∷ suc d ∷ []) ≡ own_cell program own k + suc d) × LengthsThere w k (suc d) ns
 
   lengths_there_grow : (w w' : World Sort) → Grows w w' → (k d : ℕ) (ns : List ℕ) → LengthsThere w k d ns → LengthsThere w' k d ns
   lengths_there_grow w w' g k d [] h = tt
   lengths_there_grow w w' g k d (n ∷ ns) h = (
-    shape_grows w w' g (FrameRoot here) (k ∷ suc d ∷ []) (One (Length n)) h.0,
-    sym (cell_grows w w' g (FrameRoot here) (k ∷ suc d ∷ []) (One (Length n)) h.0) ∙ h.1,
+    shape_grows w w' g (FrameRoot here.below) (k ∷ suc d ∷ []) (One (Length n)) h.0,
+    sym (cell_grows w w' g (FrameRoot here.below) (k ∷ suc d ∷ []) (One (Length n)) h.0) ∙ h.1,
     lengths_there_grow w w' g k (suc d) ns h.2,
   )
 
@@ -570,9 +585,9 @@ module _ (program : Program) (own : Option Procedure) (tables : Tables) (number 
   lengths_do k (n ∷ ns) d c at q e f w h rest ks s =
       let sp = part_of (suc d) (own_place program here k) in
       let go : Cell → Run = λ x. onward (lengths_code (suc c) (length ns) ++ rest) 0 (at + 1) ks (x ∷ s) in
-      let there : c ≡ cell_at w (FrameRoot here) (k ∷ suc d ∷ []) = e ∙ sym h.1 in (
+      let there : c ≡ cell_at w (FrameRoot here.below) (k ∷ suc d ∷ []) = e ∙ sym h.1 in (
         go,
-        ap (λ (j : ℕ). Asks (Lengths (record { root = FrameRoot here; cell = j })) go) there,
+        ap (λ (j : ℕ). Asks (Lengths (record { root = FrameRoot here.below; cell = j })) go) there,
         (refl, n, h.0),
         λ w' up v conforms.
             let is = (conforms (Length n) (place_grows program here w w' up sp (One (Length n)) h.0)).0 in
@@ -590,12 +605,12 @@ module _ (program : Program) (own : Option Procedure) (tables : Tables) (number 
   before_one (x ∷ xs) (suc d) n e = let h = before_one xs d n e in omega (arith, h)
 
   -- the lengths of a parameter that is this part of the frame
-  module _ (w : World Sort) (k : ℕ) (m : Shape Sort) (there : shape_at w (FrameRoot here) (k ∷ []) ≡ Some m) (at : cell_at w (FrameRoot here) (k ∷ []) ≡ own_cell program own k) (of : TypeId) (all : List ℕ) (is : m ≡ Pair (One (Elements of all)) (row_of_shapes (map (λ n. One (Length n)) all))) where
-    place_there : shape_at w (FrameRoot here) (k ∷ 0 ∷ []) ≡ Some (One (Elements of all))
-    place_there = shape_on w (FrameRoot here) (k ∷ []) m there (0 ∷ []) ∙ ap (inside (0 ∷ [])) is
+  module _ (w : World Sort) (k : ℕ) (m : Shape Sort) (there : shape_at w (FrameRoot here.below) (k ∷ []) ≡ Some m) (at : cell_at w (FrameRoot here.below) (k ∷ []) ≡ own_cell program own k) (of : TypeId) (all : List ℕ) (is : m ≡ Pair (One (Elements of all)) (row_of_shapes (map (λ n. One (Length n)) all))) where
+    place_there : shape_at w (FrameRoot here.below) (k ∷ 0 ∷ []) ≡ Some (One (Elements of all))
+    place_there = shape_on w (FrameRoot here.below) (k ∷ []) m there (0 ∷ []) ∙ ap (inside (0 ∷ [])) is
 
-    place_cell : cell_at w (FrameRoot here) (k ∷ 0 ∷ []) ≡ own_cell program own k
-    place_cell = let a = cell_on w (FrameRoot here) (k ∷ []) m there (0 ∷ []) in let b = ap (offset (0 ∷ [])) is in omega (arith, a, b, at)
+    place_cell : cell_at w (FrameRoot here.below) (k ∷ 0 ∷ []) ≡ own_cell program own k
+    place_cell = let a = cell_on w (FrameRoot here.below) (k ∷ []) m there (0 ∷ []) in let b = ap (offset (0 ∷ [])) is in omega (arith, a, b, at)
 
     lengths_there : (d : ℕ) (ns : List ℕ) → ((j : ℕ) → slice_get ns j ≡ slice_get all (d + j)) → LengthsThere w k d ns
     lengths_there d [] e = tt
@@ -604,11 +619,11 @@ module _ (program : Program) (own : Option Procedure) (tables : Tables) (number 
         let z : d + 0 ≡ d = omega arith in
         let get : slice_get all d ≡ Some n = ap (slice_get all) (sym z) ∙ sym (e 0) in
         let part_is : part d lengths ≡ Some (One (Length n)) = part_of_row d (map (λ n. One (Length n)) all) ∙ slice_get-map (λ n. One (Length n)) all d ∙ ap (option_map (λ n. One (Length n))) get in
-        let a = cell_on w (FrameRoot here) (k ∷ []) m there (suc d ∷ []) in
+        let a = cell_on w (FrameRoot here.below) (k ∷ []) m there (suc d ∷ []) in
         let b = ap (offset (suc d ∷ [])) is in
         let c = ap (λ o. 1 + before d lengths + number_of_shape (offset []) o) part_is in
         let g = before_one all d n get in (
-          shape_on w (FrameRoot here) (k ∷ []) m there (suc d ∷ []) ∙ ap (inside (suc d ∷ [])) is ∙ ap (option_and_then (λ y. Some y)) part_is,
+          shape_on w (FrameRoot here.below) (k ∷ []) m there (suc d ∷ []) ∙ ap (inside (suc d ∷ [])) is ∙ ap (option_and_then (λ y. Some y)) part_is,
           omega (arith, a, b, c, g, at),
           lengths_there (suc d) ns (λ j. let f : d + suc j ≡ suc d + j = omega arith in e (suc j) ∙ ap (slice_get all) f),
         )
@@ -640,7 +655,7 @@ module _ (program : Program) (own : Option Procedure) (tables : Tables) (number 
       let x = o.opened in
       subst (OpenedDoes k t at w rest ks s) (x.many ∙ sym of.1) (as_many o.part o.there.there o.there.cell x.lengths x.bound x.is)
     where
-      as_many : (m : Shape Sort) → shape_at w (FrameRoot here) (k ∷ []) ≡ Some m → cell_at w (FrameRoot here) (k ∷ []) ≡ own_cell program own k → (ns : List ℕ) → All IsLength ns → m ≡ Pair (One (Elements (open_element program.types (id_of a.of)) ns)) (row_of_shapes (map (λ n. One (Length n)) ns)) → OpenedDoes k t at w rest ks s (length ns)
+      as_many : (m : Shape Sort) → shape_at w (FrameRoot here.below) (k ∷ []) ≡ Some m → cell_at w (FrameRoot here.below) (k ∷ []) ≡ own_cell program own k → (ns : List ℕ) → All IsLength ns → m ≡ Pair (One (Elements (open_element program.types (id_of a.of)) ns)) (row_of_shapes (map (λ n. One (Length n)) ns)) → OpenedDoes k t at w rest ks s (length ns)
       as_many m there cell ns bound part_is =
           let e = open_element program.types (id_of a.of) in
           let sort = Elements e ns in
@@ -651,7 +666,7 @@ module _ (program : Program) (own : Option Procedure) (tables : Tables) (number 
           let first = place_there w k m there cell e ns part_is in
           let n : at + 1 + length ns ≡ q = let l = length-lengths (suc c) (length ns) in omega (arith, l) in (
             go,
-            ap (λ (n : ℕ). Asks (Places (record { root = FrameRoot here; cell = n })) go) (sym (place_cell w k m there cell e ns part_is)),
+            ap (λ (n : ℕ). Asks (Places (record { root = FrameRoot here.below; cell = n })) go) (sym (place_cell w k m there cell e ns part_is)),
             (refl, sort, tt, first),
             λ w' up v conforms.
                 let f = elements_found typed ns e t of.2 w' v (conforms.0 sort (place_grows program here w w' up sp (One sort) first)) conforms.1 in

@@ -1,7 +1,7 @@
 -- Code that does what the source does: it asks the same questions, of places that there are and values of the right types, and traps
 -- alike, in each world that has grown.
 use Rattle.std.proofs.Common.{◌≡◌, true, false, Bool, if◌then◌else◌, ℕ, zero, suc, ◌+◌, ◌≤◌, ◌<◌, ◌^◌, Option, Some, None, List, [], ◌∷◌, ◌++◌, length, map, refl, sym, ap, ◌∙◌, subst, arith}
-use Rattle.std.specs.Prelude.{pos, All, option_map, option_and_then, slice_get}
+use Rattle.std.specs.Prelude.{pos, All, is_some, drop, option_map, option_and_then, slice_get}
 use Rattle.std.specs.Option.{unwrap_or}
 use Rattle.std.proofs.lemmas.Option.{slice_get-map}
 use Rattle.std.proofs.lemmas.List.{map-append}
@@ -24,17 +24,18 @@ use Rattle.aos_typed.specs.declared.tree.TType.TheVariants as type
 use Rattle.aos_typed.specs.Numbers.{id_of, id_of_made, predeclared_types, predeclared_rows}
 use Rattle.aos_typed.specs.Open.{open_dimensions, open_element}
 use Rattle.aos_typed.specs.Program.{Parameter, Procedure, Program}
-use Rattle.aos_typed.specs.Routines.{Routine, parameters_of, result_of, routines}
+use Rattle.aos_typed.specs.Methods.{slots, own_numbers}
+use Rattle.aos_typed.specs.Routines.{Routine, parameters_of, self_type, has_self, result_of, routines}
 use Rattle.aos_typed.specs.Sort.{Sort, Plain, Variable, Alias, Elements, Length, variable_shape}
 use Rattle.aos_typed.specs.Spot.{Spot}
 use Rattle.aos_typed.specs.Value.{Value, Int, Flag, Object, Place, number_of as number_of_value}
-use Rattle.aos_typed.specs.Typing.{Is, IsPlace, OnPlace, IsPlain, IsInteger, IsFlag, IsCharacter, nested}
+use Rattle.aos_typed.specs.Typing.{Is, IsPlace, OnPlace, IsPlain, IsInteger, IsFlag, IsCharacter, HasLengths, nested}
 use Rattle.aos_typed.specs.Source.{module_shape, made_shape, object_place, length_in, known}
 use Rattle.aos_typed.specs.Source as S
 use Rattle.aos_typed.specs.Store.{scalar_in}
-use Rattle.aos_typed.specs.WellTyped.{is_value, is_whole, IsLength, IsParameter, IsLocal}
+use Rattle.aos_typed.specs.WellTyped.{is_value, is_whole, IsLength, procedure_in, IsParameter, IsLocal}
 use Rattle.aos_typed.specs.Meaning as source
-use Rattle.aos_typed.specs.Meaning.{Doing}
+use Rattle.aos_typed.specs.Meaning.{Here, Doing}
 use Rattle.aos_code.specs.declared.instr.Cell.{Cell}
 use Rattle.aos_code.specs.declared.instr.Cell.TheVariants as cell
 use Rattle.aos_code.specs.declared.instr.Kind.TheVariants.{N, A}
@@ -42,7 +43,8 @@ use Rattle.aos_code.specs.declared.image.ProcShape.{ProcShape}
 use Rattle.aos_code.specs.declared.image.TypeDesc.{TypeDesc}
 use Rattle.aos_code.specs.Memory.{Addr}
 use Rattle.aos_code.specs.Numbered.{numbered}
-use Rattle.aos_code.specs.Silent.{Question, Noted as Notice, Visible, Answered, extends, noted_as}
+use Rattle.aos_code.specs.Silent.{Question, Noted as Notice, Visible, Answered, extends, method_at, noted_as}
+use Rattle.aos_layout.specs.Layout.{is_made, made_kinds}
 use Rattle.aos_layout.specs.Seen.{seen_shape}
 use Rattle.aos_places.specs.Shows.{Shown}
 use Rattle.aos_places.proofs.Grow.{grows_same, grows_twice, shape_grows, cell_grows}
@@ -51,10 +53,11 @@ use Rattle.aos_places.proofs.Places.{get_behind}
 use Rattle.aos_sim.specs.Code.{kind_of, own_cell}
 use Rattle.aos_types.specs.Contents.{variable_scalars}
 use Rattle.aos_sim.specs.Cells.{cell_of}
-use Rattle.aos_sim.specs.Shows.{shape_of, type_kinds}
+use Rattle.aos_sim.specs.Shows.{shape_of}
 use Rattle.aos_places.proofs.Makes.{shown_grows}
 use Rattle.aos_sim.proofs.Runs.{Run, Tables, answered, told_as, or_unknown, calm, calm_visible, calm_answered}
 use Rattle.aos_sim.proofs.Kept.{values_kept}
+use Rattle.aos_sim.proofs.Methods.{HasMethods}
 use Rattle.aos_sim.proofs.Parts.{within_root}
 use Rattle.aos_sim.proofs.Types.{IsValueOf, number_cell, integer_is, character_is}
 
@@ -106,7 +109,8 @@ abbrev pub HasPredeclared : Program → Type 0
 HasPredeclared p = (k : ℕ) → k < predeclared_types → slice_get p.types k ≡ slice_get predeclared_rows k
 
 -- what holds of a program's types, and of its modules: the predeclared types stand first, no type contains itself, a base has
--- fields, and a module has so few scalars that their cells have numbers of 32 bits
+-- fields, a module has so few scalars that their cells have numbers of 32 bits, a module's procedure is no method, and methods override
+-- one another in their slots
 pub record HasTypes (p : Program) : Type 0 where
   pub predeclared : HasPredeclared p
   pub ranked : IsRanked p.types
@@ -114,13 +118,16 @@ pub record HasTypes (p : Program) : Type 0 where
   pub record_bases : (t b : TypeId) → base_of (row_of p.types t) ≡ Some b → is_record (row_of p.types b) ≡ is_record (row_of p.types t)
   pub beside : length p.types ≡ length p.objects + predeclared_types
   pub few : (m : ℕ) (s : Shape Sort) → slice_get (map (module_shape p) p.modules) m ≡ Some s → size s < 2 ^ 32
+  pub plain : (m k : ℕ) (q : Procedure) → procedure_in p m k ≡ Some q → q.of ≡ None
+  pub methods : HasMethods p
 
--- the shapes are those of the program's routines, in the order of their numbers, and types extend one another as the program's do and
--- have cells of the same kinds
+-- the shapes are those of the program's routines, in the order of their numbers, and types extend one another as the program's do,
+-- have cells of the same kinds, and the methods with the same numbers
 pub record HasShapes (p : Program) (tables : Tables) : Type 0 where
   pub shapes : (q : ℕ) (r : Routine) → by_number q (routines p) ≡ Some r → (x : ProcShape) × (numbered tables.procedures q ≡ Some x) × (seen_shape x ≡ shape_of p.types r)
   pub extend : (d t : ℕ) → extends tables.types d (suc t) ≡ comes_to p.types (id_of_made d) (id_of_made (suc t))
-  pub kinds : (k : ℕ) → k < length p.objects → (d : TypeDesc) × (numbered tables.types (suc k) ≡ Some d) × (d.kinds.items ≡ type_kinds p.types (id_of_made (suc k)))
+  pub kinds : (k : ℕ) → k < length p.objects → (d : TypeDesc) × (numbered tables.types (suc k) ≡ Some d) × (d.kinds.items ≡ made_kinds p.types (id_of_made (suc k)))
+  pub methods : (t k n : ℕ) → t < length p.objects → slice_get (slots p (own_numbers p) t) k ≡ Some n → method_at tables.types (suc t) k ≡ Some n
 
 -- What code knows of a world: the shapes of the program's modules, and that of its own frame.
 
@@ -151,12 +158,20 @@ pub record IsFrameOf (p : Program) (own : Option Procedure) (s : Shape Sort) : T
   pub locals : (k : ℕ) (t : TType) → IsLocal p own k t → IsStood p own s k (variable_shape p.types (id_of t))
   pub few : size s < 2 ^ 32
 
-abbrev pub KnowsFrame : Program → Option Procedure → (here : ℕ) → World Sort → Type 0
-KnowsFrame p own here w = (s : Shape Sort) × (w.shape (Frame here) ≡ Some s) × IsFrameOf p own s
+-- the object that a method is called on, or whose body it is: its type extends this one
+abbrev pub IsSelf : Program → (ℕ → Option Made) → Option ℕ → (object : ℕ) → Type 0
+IsSelf p made None o = Unit {0}
+IsSelf p made (Some t) o =
+    (k : ℕ) × (m : Made) × (o ≡ suc k) × (made (suc k) ≡ Some m) × HasLengths p.types (row_of p.types (id_of_made m.type)) m
+    × (comes_to p.types (id_of_made m.type) (id_of_made (suc t)) ≡ true)
 
-pub record Knows (p : Program) (own : Option Procedure) (here : ℕ) (w : World Sort) : Type 0 where
+abbrev pub KnowsFrame : Program → Option Procedure → (here : Here) → World Sort → Type 0
+KnowsFrame p own here w = (s : Shape Sort) × (w.shape (Frame here.below) ≡ Some s) × IsFrameOf p own s
+
+pub record Knows (p : Program) (own : Option Procedure) (here : Here) (w : World Sort) : Type 0 where
   pub modules : KnowsModules p w
   pub frame : KnowsFrame p own here w
+  pub self : IsSelf p w.made (self_type own) here.self
 
 -- Parameters' cells.
 
@@ -241,6 +256,11 @@ module _ (program : Program) where
   Given w [] vs = vs ≡ []
   Given w (a ∷ as') vs = (us rest : List Value) × (vs ≡ us ++ rest) × HandlesFor w a us × Given w as' rest
 
+  -- a method is called on its first argument
+  abbrev pub IsCalledOn : (ℕ → Option Made) → Option ℕ → List Value → Type 0
+  IsCalledOn made None vs = Unit {0}
+  IsCalledOn made (Some t) vs = (o : ℕ) × (us : List Value) × (vs ≡ Object o ∷ us) × IsSelf program made (Some t) o
+
   -- the answer of a call: a function's result, and of a procedure any value
   abbrev pub IsAnswer : World Sort → Option TType → Value → Type 0
   IsAnswer w None v = Unit {0}
@@ -269,7 +289,7 @@ module _ (program : Program) where
   Conforms w q v = Unit {0}
 
   -- in a frame above so many others
-  module _ (here : ℕ) where
+  module _ (here : Here) where
     -- a question is at places that there are, and its values are of the sorts that it takes: what is read is a scalar, whose cell
     -- is of the kind that its code takes, what is copied is a record or an array, a text is so many characters, of which one that is
     -- put somewhere has room for a 0X, what is called gets what its parameters take, and what a parameter stands for is asked of the
@@ -280,6 +300,7 @@ module _ (program : Program) where
     Valid w (Copies t p q) = HasWhole w p (id_of t) × HasWhole w q (id_of t) × (is_whole (row_of program.types (id_of t)) ≡ true)
     Valid w (Makes t vs) =
         (k : ℕ) × (t ≡ suc k) × (k < length program.objects) × (length vs ≡ open_dimensions program.types (id_of_made t)) × AreIntegers vs
+        × (is_made program.types (id_of_made t) ≡ true)
     Valid w (Starts v) = IsMade v
     Valid w (PutsInt v n) = IsInteger W64 v × IsInteger W64 n
     Valid w (PutsChar v) = IsCharacter v
@@ -287,11 +308,13 @@ module _ (program : Program) where
     Valid w PutsLn = Unit {0}
     Valid w (PutsText strict p n q m) = HasText w p n × HasRoom w q m
     Valid w (ComparesTexts r p n q m) = HasText w p n × HasText w q m
-    Valid w (Calls q vs) = (r : Routine) × (by_number q (routines program) ≡ Some r) × Given w (parameters_of r.own) vs
+    Valid w (Calls q vs) =
+        (r : Routine) × (by_number q (routines program) ≡ Some r) × Given w (parameters_of r.own) (S.arguments_in (has_self r.own) vs)
+        × IsCalledOn w.made (self_type r.own) vs
     Valid w (Ends r) = ⊥
     Valid w (PutsString p n) = HasText w p n
-    Valid w (Places p) = (p.root ≡ Frame here) × (k : Sort) × IsPlaceSort k × HasScalar w p k
-    Valid w (Lengths p) = (p.root ≡ Frame here) × (n : ℕ) × HasScalar w p (Length n)
+    Valid w (Places p) = (p.root ≡ Frame here.below) × (k : Sort) × IsPlaceSort k × HasScalar w p k
+    Valid w (Lengths p) = (p.root ≡ Frame here.below) × (n : ℕ) × HasScalar w p (Length n)
     Valid w (Opens v) = (m : Made) × IsObject w v m
     Valid w (Sizes v d) = (m : Made) × IsObject w v m × (d < length m.lengths)
     Valid w (Tests v t) = (m : Made) × IsObject w v m × (k : ℕ) × (t ≡ suc k)
@@ -317,11 +340,16 @@ module _ (program : Program) where
       pub heard : (w' : World Sort) → Grows w w' → S.calm program.types w'.made c r ≡ S.calm program.types w.made c r
       pub does : (w' : World Sort) → Grows w w' → IsWhole program w' → Calmly R types cells w' (calm types w'.made cells m) (S.calm program.types w'.made c r)
 
-pub knows_grows : (p : Program) (own : Option Procedure) (here : ℕ) (w w' : World Sort) → Grows w w' → Knows p own here w → Knows p own here w'
+pub self_grows : (p : Program) (made made' : ℕ → Option Made) → ((o : ℕ) (m : Made) → made o ≡ Some m → made' o ≡ Some m) → (t : Option ℕ) (o : ℕ) → IsSelf p made t o → IsSelf p made' t o
+self_grows p made made' up None o h = tt
+self_grows p made made' up (Some t) o h = (h.0, h.1, h.2, up (suc h.0) h.1 h.3, h.4, h.5)
+
+pub knows_grows : (p : Program) (own : Option Procedure) (here : Here) (w w' : World Sort) → Grows w w' → Knows p own here w → Knows p own here w'
 knows_grows p own here w w' g k =
     record {
       modules = λ m s e. g.shapes (Module m) s (k.modules m s e);
-      frame = (k.frame.0, g.shapes (Frame here) k.frame.0 k.frame.1, k.frame.2);
+      frame = (k.frame.0, g.shapes (Frame here.below) k.frame.0 k.frame.1, k.frame.2);
+      self = self_grows p w.made w'.made g.made (self_type own) here.self k.self;
     }
 
 -- what is at a place is at the same cell in a world that has grown
@@ -333,7 +361,7 @@ bind_val (Val a) = refl
 bind_val (Asks q f) = ap (Asks q) (λ i v. bind_val (f v) i)
 bind_val (Traps n c) = refl
 
-module _ (program : Program) (here : ℕ) where
+module _ (program : Program) (here : Here) where
   -- `Does` along equal runs
   pub along : {A : Type 0} (R : World Sort → A → Run → Type 0) (w : World Sort) (m m' : Run) (r : Doing A) → m ≡ m' → Does program here R w m' r → Does program here R w m r
   along R w m m' r e d = subst (λ x. Does program here R w x r) (sym e) d
@@ -424,6 +452,16 @@ module _ (program : Program) (here : ℕ) where
         ap (map (cell_of w)) h.2 ∙ map-append (cell_of w) h.0 h.1 ∙ (λ i. first i ++ rest i)
         ∙ sym (map-append (cell_of w') h.0 h.1) ∙ sym (ap (map (cell_of w')) h.2)
 
+    called_grows : (t : Option ℕ) (vs : List Value) → IsCalledOn program w.made t vs → IsCalledOn program w'.made t vs
+    called_grows None vs h = tt
+    called_grows (Some t) vs h = (h.0, h.1, h.2, self_grows program w.made w'.made g.made (Some t) h.0 h.3)
+
+    called_cells : (t : Option ℕ) (as' : List Parameter) (vs : List Value) → Given program w as' (S.arguments_in (is_some t) vs) → IsCalledOn program w.made t vs → map (cell_of w) vs ≡ map (cell_of w') vs
+    called_cells None as' vs given h = given_cells as' vs given
+    called_cells (Some t) as' vs given h =
+        let rest = subst (Given program w as') (ap (drop 1) h.2) given in
+        ap (map (cell_of w)) h.2 ∙ ap (λ l. cell.Ref h.0 ∷ l) (given_cells as' h.1 rest) ∙ sym (ap (map (cell_of w')) h.2)
+
     -- a valid question is the same one in a world that has grown
     pub placed_same : (q : source.Question) → Valid program here w q → placed program w q ≡ placed program w' q
     placed_same (Reads t p) h = ap (Reads (kind_of t)) (addr_grows p (One (Plain (id_of t))) h.1)
@@ -441,7 +479,7 @@ module _ (program : Program) (here : ℕ) where
         λ i. PutsText strict (addr_grows p (characters h.0.0) h.0.2 i) (length_cell n h.0.0 h.0.1 i) (addr_grows q (characters h.1.0) h.1.2 i) (length_cell m h.1.0 h.1.1 i)
     placed_same (ComparesTexts r p n q m) h =
         λ i. ComparesTexts r (addr_grows p (characters h.0.0) h.0.2 i) (length_cell n h.0.0 h.0.1 i) (addr_grows q (characters h.1.0) h.1.2 i) (length_cell m h.1.0 h.1.1 i)
-    placed_same (Calls q vs) h = ap (Calls q) (given_cells (parameters_of h.0.own) vs h.2)
+    placed_same (Calls q vs) h = ap (Calls q) (called_cells (self_type h.0.own) (parameters_of h.0.own) vs h.2 h.3)
     placed_same (Ends r) h = absurd h
     placed_same (PutsString p n) h = λ i. PutsString (addr_grows p (characters h.0) h.2 i) (length_cell n h.0 h.1 i)
     placed_same (Places p) h = ap Places (addr_grows p (One h.1) h.3)
@@ -462,7 +500,8 @@ module _ (program : Program) (here : ℕ) where
     valid_grows (Copies t p q) h = (whole_grows p (id_of t) h.0, whole_grows q (id_of t) h.1, h.2)
     valid_grows (PutsText strict p n q m) h = (text_grows p n h.0, (h.1.0, h.1.1, place_grows q (characters h.1.0) h.1.2, h.1.3))
     valid_grows (ComparesTexts r p n q m) h = (text_grows p n h.0, text_grows q m h.1)
-    valid_grows (Calls q vs) h = (h.0, h.1, given_grows (parameters_of h.0.own) vs h.2)
+    valid_grows (Calls q vs) h =
+        (h.0, h.1, given_grows (parameters_of h.0.own) (S.arguments_in (has_self h.0.own) vs) h.2, called_grows (self_type h.0.own) vs h.3)
     valid_grows (Ends r) h = absurd h
     valid_grows (PutsString p n) h = text_grows p n h
     valid_grows (Places p) h = (h.0, h.1, h.2, place_grows p (One h.1) h.3)
@@ -518,13 +557,13 @@ module _ (program : Program) (here : ℕ) where
     length_noted : (n : ℕ) (v : Value) → v ≡ Int (pos n) → noted_as N (Some (cell_of w v)) ≡ Answered (cell_of w v)
     length_noted n v e = subst (λ x. noted_as N (Some (cell_of w x)) ≡ Answered (cell_of w x)) (sym e) refl
 
-  module _ (w : World Sort) (s : Shape Sort) (c : Content Value) (cells : List Cell) (at : w.shape (Frame here) ≡ Some s) (shown : Shown (Is program.types) cell_of w s c cells) (whole : IsWhole program w) (tables : Tables) (shaped : HasShapes program tables) where
+  module _ (w : World Sort) (s : Shape Sort) (c : Content Value) (cells : List Cell) (at : w.shape (Frame here.below) ≡ Some s) (shown : Shown (Is program.types) cell_of w s c cells) (whole : IsWhole program w) (tables : Tables) (shaped : HasShapes program tables) where
     -- a scalar of the frame has a value, which is in its cell
     pub record Noticed (p : Spot) (k : Sort) : Type 0 where
       pub is : Is program.types w k (known c p)
       pub cell : slice_get cells (addr_of w p).cell ≡ Some (cell_of w (known c p))
 
-    pub noticed : (p : Spot) (k : Sort) → p.root ≡ Frame here → HasScalar program w p k → Noticed p k
+    pub noticed : (p : Spot) (k : Sort) → p.root ≡ Frame here.below → HasScalar program w p k → Noticed p k
     noticed p k root has =
         let here_is = ap w.shape root ∙ at in
         let way : inside p.path s ≡ Some (One k) = ap (option_and_then (inside p.path)) (sym here_is) ∙ has in
@@ -630,16 +669,16 @@ module _ (program : Program) (here : ℕ) where
 
     -- where code does what the source does, it does so behind their silent questions
     module _ {A : Type 0} (R : World Sort → A → Run → Type 0) where
-      abbrev Here : Run → Doing A → Type 0
-      Here m r = Calmly program here R tables.types cells w m (S.calm program.types w.made c r)
+      abbrev Quiet : Run → Doing A → Type 0
+      Quiet m r = Calmly program here R tables.types cells w m (S.calm program.types w.made c r)
 
-      noted_does : (m : Run) (q : source.Question) (f : Value → Doing A) (v : Value) → Noted q v → (d : Does program here R w m (Asks q f)) → (Does program here R w (d.0 (cell_of w v)) (f v) → Here (calm tables.types w.made cells (d.0 (cell_of w v))) (f v)) → Here (calm tables.types w.made cells m) (f v)
+      noted_does : (m : Run) (q : source.Question) (f : Value → Doing A) (v : Value) → Noted q v → (d : Does program here R w m (Asks q f)) → (Does program here R w (d.0 (cell_of w v)) (f v) → Quiet (calm tables.types w.made cells (d.0 (cell_of w v))) (f v)) → Quiet (calm tables.types w.made cells m) (f v)
       noted_does m q f v n d ih =
           let e : calm tables.types w.made cells m ≡ calm tables.types w.made cells (d.0 (cell_of w v)) = ap (calm tables.types w.made cells) d.1
           ∙ calm_answered tables.types w.made cells (placed program w q) d.0 (cell_of w v) n.cell in
-          subst (λ x. Here x (f v)) (sym e) (ih (d.3 w (grows_same w) v n.conforms))
+          subst (λ x. Quiet x (f v)) (sym e) (ih (d.3 w (grows_same w) v n.conforms))
 
-      pub calm_does : (m : Run) (r : Doing A) → Does program here R w m r → Here (calm tables.types w.made cells m) r
+      pub calm_does : (m : Run) (r : Doing A) → Does program here R w m r → Quiet (calm tables.types w.made cells m) r
       calm_does m (Val a) d = (m, refl, d)
       calm_does m (Traps n code) d = (ap (calm tables.types w.made cells) d.0, d.1)
       calm_does m (Asks (Places p) f) d = noted_does m (Places p) f (known c p) (places_noted p d.2) d (λ e. calm_does (d.0 (cell_of w (known c p))) (f (known c p)) e)
@@ -715,12 +754,12 @@ module _ (program : Program) (here : ℕ) where
         calm_heard m r d = heard_on (λ a. Val a) m r (subst (λ z. Does program here R w m z) (sym (bind_val r)) d)
 
   -- in each whole world that has grown
-  pub does_last : {A : Type 0} (R : World Sort → A → Run → Type 0) (w : World Sort) (s : Shape Sort) (c : Content Value) (cells : List Cell) (tables : Tables) (m : Run) (r : Doing A) → ((w' : World Sort) → Grows w w' → (a : A) (m : Run) → R w a m → R w' a m) → w.shape (Frame here) ≡ Some s → Shown (Is program.types) cell_of w s c cells → IsWhole program w → HasShapes program tables → Does program here R w m r → Lasts program here R tables.types c cells w m r
+  pub does_last : {A : Type 0} (R : World Sort → A → Run → Type 0) (w : World Sort) (s : Shape Sort) (c : Content Value) (cells : List Cell) (tables : Tables) (m : Run) (r : Doing A) → ((w' : World Sort) → Grows w w' → (a : A) (m : Run) → R w a m → R w' a m) → w.shape (Frame here.below) ≡ Some s → Shown (Is program.types) cell_of w s c cells → IsWhole program w → HasShapes program tables → Does program here R w m r → Lasts program here R tables.types c cells w m r
   does_last R w s c cells tables m r up at shown whole shaped d =
       record {
         heard = λ w' g. calm_heard w s c cells at shown whole tables shaped R w' g m r d;
         does = λ w' g whole'.
-            calm_does w' s c cells (g.shapes (Frame here) s at) (shown_grows (Is program.types) cell_of IsPlain (values_kept program.types) w w' g s c cells shown) whole' tables shaped R m r (does_grows w w' g R (up w' g) m r d);
+            calm_does w' s c cells (g.shapes (Frame here.below) s at) (shown_grows (Is program.types) cell_of IsPlain (values_kept program.types) w w' g s c cells shown) whole' tables shaped R m r (does_grows w w' g R (up w' g) m r d);
       }
 
 -- a question that is asked of no frame itself and of no object, and what has no other one first
@@ -896,7 +935,7 @@ module _ {A : Type 0} (rows : List TypeRow) (made : ℕ → Option Made) (c : Co
     feed_noted_bind (Asks PutsLn f) = refl
 
 -- What lasts of a tree lasts once its silent questions are answered.
-module _ {A : Type 0} (program : Program) (here : ℕ) (R : World Sort → A → Run → Type 0) (types : List TypeDesc) (c : Content Value) (cells : List Cell) (w : World Sort) (m : Run) where
+module _ {A : Type 0} (program : Program) (here : Here) (R : World Sort → A → Run → Type 0) (types : List TypeDesc) (c : Content Value) (cells : List Cell) (w : World Sort) (m : Run) where
   abbrev calmed : World Sort → Doing A → Doing A
   calmed w r = S.calm program.types w.made c r
 

@@ -16,7 +16,7 @@ use Rattle.aos_typed.specs.declared.tree.TType.{TType}
 use Rattle.aos_typed.specs.Program.{Parameter, Variable, Procedure, Stats, Program}
 use Rattle.aos_typed.specs.Numbers.{id_of}
 use Rattle.aos_typed.specs.Open.{open_dimensions}
-use Rattle.aos_typed.specs.Routines.{Routine, parameters_of, locals_of, result_of}
+use Rattle.aos_typed.specs.Routines.{Routine, parameters_of, locals_of, has_self, result_of}
 use Rattle.aos_typed.specs.Sort.{Sort, Length, variable_shape}
 use Rattle.aos_typed.specs.Value.{Value}
 use Rattle.aos_typed.specs.Typing.{Is}
@@ -230,9 +230,13 @@ module _ (program : Program) where
 
   -- A call
 
-  module _ (ranked : IsRanked program.types) (ps ms : List ℕ) (made : List Made) (fs : List S.Frame) (s : Store) (y : Rooted (List Cell)) (shows : Shows (Is program.types) cell_of (scheme program) made (shapes_of fs) (S.all_rooted fs s) y) (r : Routine) (vs : List Value) (given : Given program (world_of program made (shapes_of fs)) (parameters_of r.own) vs) (n : ℕ) (shape : ProcShape) (is : seen_shape shape ≡ shape_of program.types r) where
+  module _ (ranked : IsRanked program.types) (ps ms : List ℕ) (made : List Made) (fs : List S.Frame) (s : Store) (y : Rooted (List Cell)) (shows : Shows (Is program.types) cell_of (scheme program) made (shapes_of fs) (S.all_rooted fs s) y) (r : Routine) (vs : List Value) (given : Given program (world_of program made (shapes_of fs)) (parameters_of r.own) (S.arguments_in (has_self r.own) vs)) (n : ℕ) (shape : ProcShape) (is : seen_shape shape ≡ shape_of program.types r) where
     abbrev called : S.Frame
     called = S.called_frame program ms r vs fs s
+
+    -- what is handed over for its parameters
+    abbrev us : List Value
+    us = S.arguments_in (has_self r.own) vs
 
     abbrev now : World Sort
     now = world_of program made (shapes_of fs)
@@ -247,7 +251,7 @@ module _ (program : Program) where
     copy = length (parameters_of r.own) + length own_locals
 
     abbrev handed : Handed
-    handed = H.handed rows (length fs) (S.all_rooted fs s) (parameters_of r.own) vs copy
+    handed = H.handed rows (length fs) (S.all_rooted fs s) (parameters_of r.own) us copy
 
     abbrev front : List (Shape Sort)
     front = shapes_in handed.parameters ++ shapes_in own_locals
@@ -258,9 +262,9 @@ module _ (program : Program) where
     abbrev kinds : List Kind
     kinds = shape.kinds.items
 
-    pub alike : Alike program made (shapes_of fs) (S.all_rooted fs s) y shows above (frame_grows (scheme program) made called.shape (shapes_of fs)) (length fs) ps ranked (map (taken_as rows) (parameters_of r.own)) handed (I.handed ps (length fs) y (map (parameter_kind rows) (parameters_of r.own)) (map (cell_of now) vs) (length kinds)) copy (length kinds)
+    pub alike : Alike program made (shapes_of fs) (S.all_rooted fs s) y shows above (frame_grows (scheme program) made called.shape (shapes_of fs)) (length fs) ps ranked (map (taken_as rows) (parameters_of r.own)) handed (I.handed ps (length fs) y (map (parameter_kind rows) (parameters_of r.own)) (map (cell_of now) us) (length kinds)) copy (length kinds)
     alike =
-        handed_alike program made (shapes_of fs) (S.all_rooted fs s) y shows above (frame_grows (scheme program) made called.shape (shapes_of fs)) (length fs) ps ranked (parameters_of r.own) vs copy (length kinds) given
+        handed_alike program made (shapes_of fs) (S.all_rooted fs s) y shows above (frame_grows (scheme program) made called.shape (shapes_of fs)) (length fs) ps ranked (parameters_of r.own) us copy (length kinds) given
 
     same : SameSizes front known_parts
     same =
@@ -304,12 +308,12 @@ module _ (program : Program) where
     both = record { cells = alike.cells; copies = alike.copies }
 
     abbrev entered : I.Frame
-    entered = I.called_frame ps n shape both
+    entered = I.called_frame ps n (S.self_of (has_self r.own) vs) shape both
 
     -- what is handed over is there, and makes this frame
-    pub handed_there : I.handed ps (length fs) y shape.params.items (map (cell_of now) vs) (length kinds) ≡ Some both
+    pub handed_there : I.handed ps (length fs) y shape.params.items (map (cell_of now) us) (length kinds) ≡ Some both
     handed_there =
-        ap (λ l. I.handed ps (length fs) y l (map (cell_of now) vs) (length kinds)) (ap (λ z. z.params) is ∙ known_parameters rows r.home r.body r.own) ∙ alike.image
+        ap (λ l. I.handed ps (length fs) y l (map (cell_of now) us) (length kinds)) (ap (λ z. z.params) is ∙ known_parameters rows r.home r.body r.own) ∙ alike.image
 
     -- whose cells show the variables of the other side's
     pub called_shown : Shown (Is program.types) cell_of above called.shape called.variables entered.cells

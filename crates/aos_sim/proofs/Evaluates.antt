@@ -10,7 +10,7 @@ use Rattle.aos_typed.specs.Sort.{Sort, Plain}
 use Rattle.aos_typed.specs.Typing.{Is}
 use Rattle.aos_typed.specs.WellTyped.{is_basic}
 use Rattle.aos_typed.specs.Value.{Value, number_of}
-use Rattle.aos_typed.specs.Meaning.{Doing}
+use Rattle.aos_typed.specs.Meaning.{Here, Doing}
 use Rattle.aos_code.specs.declared.instr.Cell.{Cell}
 use Rattle.aos_code.specs.declared.instr.Cell.TheVariants.{Num}
 use Rattle.aos_code.specs.declared.instr.Instr.{Instr}
@@ -36,7 +36,7 @@ pushed-append [] ds s = refl
 pushed-append (c ∷ cs) ds s = pushed-append cs ds (c ∷ s)
 
 -- In a frame of the procedure with this number, above so many others
-module _ (tables : Tables) (number here : ℕ) (code : List Instr) where
+module _ (tables : Tables) (number : ℕ) (here : Here) (code : List Instr) where
   abbrev onward : List Instr → Onward
   onward = runs tables number here code
 
@@ -70,7 +70,7 @@ module _ (tables : Tables) (number here : ℕ) (code : List Instr) where
       let d : to - (at + 1) ≡ n = omega arith in
       rw (lt-ltb at to lt) (ap (λ m. onward rest m (at + 1) k s) d)
 
-module _ (program : Program) (own : Option Procedure) (tables : Tables) (number here : ℕ) (code : List Instr) where
+module _ (program : Program) (own : Option Procedure) (tables : Tables) (number : ℕ) (here : Here) (code : List Instr) where
   -- this piece of code, at this place, comes to what has this property, with its cells on the stack, and goes on behind itself
   abbrev pub Brings : {A : Type 0} → (World Sort → A → Type 0) → (World Sort → A → List Cell) → List Instr → Doing A → ℕ → Type 0
   Brings P cells xs r at =

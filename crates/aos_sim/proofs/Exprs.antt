@@ -1,7 +1,7 @@
 -- The code of a well-typed designator, array, row of arguments or expression does what this does, for all answers of the right types.
 use Rattle.std.proofs.Common.{◌≡◌, ℕ, zero, suc, ℤ, pos, true, false, Bool, Option, Some, None, ◌+◌, ◌<◌, List, [], ◌∷◌, ◌++◌, length, map, if◌then◌else◌, refl, sym, ap, ◌∙◌, subst, arith, append_assoc, append-nil, length-append}
 use Rattle.std.proofs.Common.{inl, inr}
-use Rattle.std.specs.Prelude.{All, is_some, slice_get, option_map}
+use Rattle.std.specs.Prelude.{All, slice_get, option_map}
 use Rattle.std.specs.Option.{unwrap_or}
 use Rattle.std.proofs.lemmas.Int.{ints}
 use Rattle.std.proofs.lemmas.List.{length-map, map-append}
@@ -17,11 +17,11 @@ use Rattle.aos_base.specs.declared.operator.Binary.TheVariants.{Add, Sub, Mul, D
 use Rattle.aos_base.specs.declared.operator.Given.{Given as Gives}
 use Rattle.aos_base.specs.declared.operator.Given.TheVariants.{Number, Trap, Undefined}
 use Rattle.aos_base.specs.Operators.{unary as unary_of, binary as binary_of}
-use Rattle.aos_base.specs.Question.{Val, Asks, bind, ask, Reads, ComparesTexts, Calls}
+use Rattle.aos_base.specs.Question.{Val, Asks, bind, ask, Reads, ComparesTexts}
 use Rattle.aos_types.specs.declared.row.TypeId.{TypeId}
 use Rattle.aos_types.specs.declared.row.TypeRow.{TypeRow}
 use Rattle.aos_types.specs.declared.row.TypeRow.TheVariants as row
-use Rattle.aos_types.specs.Table.{row_of, is_open, is_record, is_scalar}
+use Rattle.aos_types.specs.Table.{row_of, is_open, is_record, is_object, is_scalar}
 use Rattle.aos_types.specs.Shape.{Shape}
 use Rattle.aos_types.proofs.Tables.{comes_on}
 use Rattle.aos_types.specs.World.{World}
@@ -29,36 +29,36 @@ use Rattle.aos_typed.specs.declared.tree.Literal.{Literal}
 use Rattle.aos_typed.specs.declared.tree.Literal.TheVariants as literal
 use Rattle.aos_typed.specs.declared.tree.TType.{TType}
 use Rattle.aos_typed.specs.declared.tree.TType.TheVariants as type
-use Rattle.aos_typed.specs.Program.{Place as Designator, ModuleVar, Local, Passed, Field, Index, Of, Deref, Typed, Guarded, Rows, Known, Opened, Row, Spread, Longer, Arguments, NoMore, Scalar, Whole, Opening, Expr, Lit, Read, Unary, Binary, And, Or, Element, Ord, Chr, CompareTexts, Len, LenBehind, Function, Same, Is as IsOfType, IsRecord, Guard, Had, Parameter, Procedure, Program}
-use Rattle.aos_typed.specs.Numbers.{id_of, id_of_made, procedure_number}
+use Rattle.aos_typed.specs.Program.{Place as Designator, ModuleVar, Local, Passed, Field, Index, Of, Deref, Typed, Guarded, Rows, Known, Opened, Row, Spread, Longer, Arguments, NoMore, Scalar, Whole, Opening, Callee, Plain as PlainCall, Dispatched, Upper, Expr, Lit, SelfRef, Read, Unary, Binary, And, Or, Element, Ord, Chr, CompareTexts, Len, LenBehind, Function, Same, Is as IsOfType, IsRecord, Guard, Had, Parameter, Procedure, Program}
+use Rattle.aos_typed.specs.Numbers.{id_of, id_of_made}
+use Rattle.aos_typed.specs.Routines.{self_type}
 use Rattle.aos_typed.specs.Open.{open_dimensions}
 use Rattle.aos_typed.specs.Sort.{Sort, Plain, Variable, Alias, variable_shape}
 use Rattle.aos_types.specs.Content.{EachSort}
-use Rattle.aos_typed.specs.Typing.{nested, Is, IsPlain}
+use Rattle.aos_typed.specs.Typing.{nested, Is, IsPlain, Extends}
 use Rattle.aos_sim.proofs.Parts.{each_rest}
-use Rattle.aos_typed.specs.Value.{Value, Int, Place, Sort as Kind, Character, literal_value, number_of, given as given_value, unary_sort, binary_sort, binary, element, ord}
-use Rattle.aos_typed.specs.Meaning.{Doing, Found, length_at, text_length, place_of, rows_of, arguments_of, value_of}
+use Rattle.aos_typed.specs.Value.{Value, Int, Object, Place, Sort as Kind, Character, literal_value, number_of, given as given_value, unary_sort, binary_sort, binary, element, ord}
+use Rattle.aos_typed.specs.Meaning.{Here, Doing, Found, length_at, text_length, place_of, rows_of, arguments_of, value_of, called as called_of}
 use Rattle.aos_typed.specs.Spot.{Spot}
-use Rattle.aos_typed.specs.WellTyped.{is_basic, is_value, is_reference, is_whole, Includes, Fits, IsLiteral, HasRange, taken, Gives as GivenOf, GivesOfTwo, NamesType, IsGiven, procedure_in, IsConstantText, IsOpening, IsByValue, IsLength, HaveLengths, IsPlaceOf, AreRows, AreArguments, IsOf}
+use Rattle.aos_typed.specs.WellTyped.{is_basic, is_value, is_reference, is_whole, Includes, Fits, IsLiteral, HasRange, taken, Gives as GivenOf, GivesOfTwo, NamesType, IsGiven, IsConstantText, IsOpening, IsByValue, IsLength, HaveLengths, IsPlaceOf, IsObjectAt, AreRows, AreArguments, IsCalled, IsOf}
 use Rattle.aos_code.specs.declared.instr.Cell.{Cell}
-use Rattle.aos_code.specs.declared.instr.Cell.TheVariants.{Num}
+use Rattle.aos_code.specs.declared.instr.Cell.TheVariants.{Num, Ref}
 use Rattle.aos_code.specs.declared.instr.Instr.{Instr}
 use Rattle.aos_code.specs.declared.instr.Instr.TheVariants as i
-use Rattle.aos_code.specs.Silent.{Stack, Keeps, Act, on_place, counted_on, gives_picked, gives, given}
+use Rattle.aos_code.specs.Silent.{Stack, Keeps, Act, on_place, counted_on, gives_picked, gives, gives_self, given}
 use Rattle.aos_sim.specs.Cells.{place_in, cell_of}
-use Rattle.aos_sim.specs.Code.{literal_code, kind_of, cells_of, dimensions, drops, place_code, rows_code, arguments_code, operands_code, value_code}
-use Rattle.aos_sim.proofs.Runs.{Run, Onward, Tables, past, on_run, runs}
+use Rattle.aos_sim.specs.Code.{literal_code, kind_of, cells_of, dimensions, drops, place_code, rows_code, arguments_code, operands_code, value_code, called_code}
+use Rattle.aos_sim.proofs.Runs.{Run, Onward, Tables, on_run, runs}
 use Rattle.aos_sim.proofs.Types.{IsValueOf, number_cell, flag_is, included, literal_is}
 use Rattle.aos_sim.proofs.Operators.{unary_agrees, Suit, operands_suit, binary_agrees}
 use Rattle.aos_sim.proofs.First.{all_get}
 use Rattle.aos_sim.proofs.Extended.{record_base, open_some}
-use Rattle.aos_sim.proofs.References.{nil_value, fitting_value, value_is_one, value_no_record, value_scalar}
-use Rattle.aos_sim.proofs.Objects.{deref_does, spread_does, is_does, guard_does, same_does, is_record_does, guard_place_does, typed_does}
-use Rattle.aos_sim.proofs.Does.{HasPredeclared, HasTypes, HasShapes, alias_sort, HasScalar, Handles, HandlesFor, Given, IsAnswer, addr_of, lengths_are, Does, knows_grows, along, does_bind}
-use Rattle.aos_sim.proofs.Evaluates.{OfType, number_in, pushed, pushed-append, Pushed, OnTop, OnStack, OfSort, Brings, Remain, Evaluates, Yields, yields, evaluates, sorts_stay, front_does, piece_does, pieces_do, two_do, values_stay, operand_does, ends_at}
-use Rattle.aos_sim.proofs.Designators.{IsFound, RowsHold, holds_exactly, holds_extension, longer_rows, AreFound, rows_cells, IsText, text_cells, counted_taken, Finds, FindsRows, Hands, FindsText, FindsRoom, places_stay, rows_remain, texts_remain, variable_does, local_does, passed_does, field_does, index_does, array_rows, constant_rows, opened_does, row_does, of_does, rows_text, rows_room}
-use Rattle.aos_sim.proofs.Routines.{called, routine_there}
-use Rattle.aos_sim.proofs.Called.{call_asks, call_valid, call_gives}
+use Rattle.aos_sim.proofs.References.{nil_value, made_reference, to_target, fitting_value, value_is_one, value_no_record, value_scalar}
+use Rattle.aos_sim.proofs.Objects.{object_target, deref_does, object_does, spread_does, is_does, guard_does, same_does, is_record_does, guard_place_does, typed_does}
+use Rattle.aos_sim.proofs.Does.{HasPredeclared, HasTypes, HasShapes, IsObject, IsSelf, alias_sort, HasScalar, Handles, HandlesFor, Given, addr_of, lengths_are, Does, knows_grows, along, does_bind, does_more}
+use Rattle.aos_sim.proofs.Evaluates.{OfType, number_in, pushed, pushed-append, Pushed, OnTop, OnStack, OfSort, Brings, ComesTo, Remain, Evaluates, Yields, yields, evaluates, sorts_stay, front_does, piece_does, pieces_do, two_do, values_stay, operand_does, ends_at}
+use Rattle.aos_sim.proofs.Designators.{IsFound, HasFields, has_record, RowsHold, holds_exactly, holds_extension, longer_rows, AreFound, rows_cells, IsText, text_cells, counted_taken, Finds, FindsRows, Hands, FindsText, FindsRoom, places_stay, rows_remain, texts_remain, variable_does, local_does, passed_does, field_does, index_does, array_rows, constant_rows, opened_does, row_does, of_does, rows_text, rows_room}
+use Rattle.aos_sim.proofs.Sends.{Answers, Answered, plain_does, upper_does, dispatched_does}
 use Rattle.aos_sim.proofs.Results.{Agrees, chr_agrees}
 use Rattle.aos_sim.proofs.Shortcuts.{and_does, or_does}
 
@@ -147,7 +147,7 @@ two_basic In t g = ap is_basic g
 ord_is : (v : Value) → IsValueOf type.Char v → IsValueOf (type.Integer W16) (ord v)
 ord_is v h = subst (λ x. IsValueOf (type.Integer W16) (ord x)) (sym h.1) (pos h.0, refl, record { low = omega (arith, ints, h.2); high = omega (arith, ints, h.2) })
 
-module _ (program : Program) (own : Option Procedure) (tables : Tables) (number here : ℕ) (code : List Instr) where
+module _ (program : Program) (own : Option Procedure) (tables : Tables) (number : ℕ) (here : Here) (code : List Instr) where
   abbrev onward : List Instr → Onward
   onward = runs tables number here code
 
@@ -440,27 +440,27 @@ module _ (program : Program) (own : Option Procedure) (tables : Tables) (number 
             is.bound b,
           )
 
-  -- a function is called
-  function_does : HasTypes program → HasShapes program tables → (m k : ℕ) (q : Procedure) (t u : TType) (ca : List Instr) (ra : Doing (List Value)) (at : ℕ) → procedure_in program m k ≡ Some q → q.result ≡ Some u → Fits program.types t u → Hands program own tables number here code q.parameters ca ra at → Yield t (ca ++ i.Call (procedure_number program m k) ∷ []) (bind ra (λ vs. ask (Calls (procedure_number program m k) vs))) at
-  function_does typed shaped m k q t u ca ra at there result fits h w known rest ks s =
-      let n = procedure_number program m k in
-      let x = i.Call n in
-      let p = at + length ca in
-      let z = at + length (ca ++ x ∷ []) in
-      let behind : p + 1 ≡ z = omega (arith, length-append ca (x ∷ [])) in
-      front_does program own tables number here code (λ w vs. Given program w q.parameters vs) (λ w vs. map (cell_of w) vs) (Yielded t rest z ks s) (λ vs. ask (Calls n vs)) ca (x ∷ []) ra at rest ks s h w known
-      (λ w1 up vs m' given e. (
-        (λ c. past tables (Calls n (map (cell_of w1) vs)) c p ks s (onward rest)),
-        e ∙ call_asks program tables shaped here w1 m k q there vs given number code rest p ks s,
-        call_valid program tables shaped here w1 m k q there vs given,
-        λ w2 up' v answer.
-            let is = subst (λ r. IsAnswer program w2 r v) result (answer (called m q) (routine_there program m k q there)) in
-            let gives = call_gives program tables shaped here w1 m k q there vs given ∙ ap is_some result in
-            record {
-              is = fitting_value program w2 typed t u v fits is;
-              run = ap (λ b. onward rest 0 (p + 1) ks (if b then cell_of w2 v ∷ s else s)) gives ∙ ap (λ j. onward rest 0 j ks (cell_of w2 v ∷ s)) behind;
-            },
-      ))
+  -- what a function gives
+  function_does : HasTypes program → (q : Procedure) (t u : TType) (xs : List Instr) (r : Doing Value) (at : ℕ) → q.result ≡ Some u → Fits program.types t u → Answers program own tables number here code q.result xs r at → Yield t xs r at
+  function_does typed q t u xs r at result fits h w known rest k s =
+      let z = at + length xs in
+      does_more program here (Answered program own tables number here code q.result rest z k s) (Yielded t rest z k s) w (onward (xs ++ rest) 0 at k s) r (h w known rest k s)
+      (λ w' up v m p.
+      subst (λ o. Answered program own tables number here code o rest z k s w' v m → Yielded t rest z k s w' v m) (sym result)
+      (λ p. record { is = fitting_value program w' typed t u v fits p.is; run = p.run }) p)
+
+  -- the object whose method or body it is
+  self_does : HasTypes program → (t : TType) (a at : ℕ) → self_type own ≡ Some a → is_object (row_of program.types (id_of (type.Named a))) ≡ true → Fits program.types t (type.Named a) → Yield t (value_code program own SelfRef at) (value_of program here SelfRef) at
+  self_does typed t a at of is fits w known rest k s =
+      let self = subst (λ o. IsSelf program w.made o here.self) of known.self in
+      let id = id_of (type.Named a) in
+      let v = Object here.self in
+      let object : IsObject w v self.1 = record { number = self.0; is = ap (λ o. Object o) self.2; made = self.3 } in
+      record {
+        is = fitting_value program w typed t (type.Named a) v fits
+            (to_target program w (type.Named a) id v (object_target program.types id (row_of program.types id) is) (made_reference program.types w (Extends program.types id) v self.1 object self.4 self.5));
+        run = ap (λ o. on_run tables (gives_self o s) (onward rest) at k) self.2 ∙ ap (λ o. onward rest 0 (at + 1) k (Ref o ∷ s)) (sym self.2);
+      }
 
   -- how many dimensions of an array have their lengths behind its place
   dimensions_are : (r : Rows) (n : ℕ) (t : TType) → AreRows program own r n t → dimensions r ≡ n
@@ -516,7 +516,11 @@ module _ (program : Program) (own : Option Procedure) (tables : Tables) (number 
       place_does (ModuleVar m k) t ok at = variable_does program own tables number here code typed m k t at ok
       place_does (Local k) t ok at = local_does program own tables number here code typed k t at ok
       place_does (Passed k) t ok at = passed_does program own tables number here code typed k t at ok.0 ok.1 ok.2
-      place_does (Field p u k) t ok at = field_does program own tables number here code typed (NamesType program own p u) u t k (place_code program own p at) (place_of program here p) at ok.1 (place_does p u ok.0 at)
+      place_does (Field p u k) t (inl h, of) at =
+          field_does program own tables number here code typed (IsFound program (NamesType program own p u) u) u t (λ w s f. has_record program own tables number here code typed (NamesType program own p u) u h.1 w s f) k
+          (place_code program own p at) (place_of program here p) at of (place_does p u h.0 at)
+      place_does (Field p u k) t (inr h, of) at =
+          field_does program own tables number here code typed (HasFields program (id_of u)) u t (λ w s f. f) k (place_code program own p at) (place_of program here p) at of (object_at_does p u h at)
       place_does (Index p n u e) t ok at =
           let ca = place_code program own p at in
           let pb = at + length ca in
@@ -532,6 +536,20 @@ module _ (program : Program) (own : Option Procedure) (tables : Tables) (number 
       place_does (Guarded p k) t ok at =
           subst (λ x. Finds program own tables number here code (NamesType program own (Guarded p k) x) x (place_code program own (Guarded p k) at) (place_of program here (Guarded p k)) at) (sym ok.4)
           (guard_place_does program own tables number here code shaped typed (NamesType program own p ok.0) ok.0 k (k + 1) (place_code program own p at) (place_of program here p) at (omega arith) ok.2 ok.3 (place_does p ok.0 ok.1 at))
+
+      -- the fields of an object
+      object_at_does : (p : Designator) (u : TType) → IsObjectAt program own p u → (at : ℕ) → ComesTo program own tables number here code (HasFields program (id_of u)) place_in (place_code program own p at) (place_of program here p) at
+      object_at_does (Deref e v) u ok at =
+          subst (λ x. ComesTo program own tables number here code (HasFields program (id_of x)) place_in (place_code program own (Deref e v) at) (place_of program here (Deref e v)) at) (sym ok.2)
+          (object_does program own tables number here code typed v (value_code program own e at) (value_of program here e) at ok.1 (yields_do e v ok.0 at))
+      object_at_does (ModuleVar m k) u ok at = absurd ok
+      object_at_does (Local k) u ok at = absurd ok
+      object_at_does (Passed k) u ok at = absurd ok
+      object_at_does (Field p v k) u ok at = absurd ok
+      object_at_does (Index p n v e) u ok at = absurd ok
+      object_at_does (Of r) u ok at = absurd ok
+      object_at_does (Typed p k) u ok at = absurd ok
+      object_at_does (Guarded p k) u ok at = absurd ok
 
       -- an array's place, and the lengths of its dimensions
       pub rows_does : (r : Rows) (n : ℕ) (t : TType) → AreRows program own r n t → (at : ℕ) → FindsRows program own tables number here code (HaveLengths r) n t (rows_code program own r at) (rows_of program here r) at
@@ -574,6 +592,7 @@ module _ (program : Program) (own : Option Procedure) (tables : Tables) (number 
       -- an expression's value
       pub yields_do : (e : Expr) (t : TType) → IsOf program own e t → (at : ℕ) → Yields program own tables number here code t (value_code program own e at) (value_of program here e) at
       yields_do (Lit l) t ok at = literal_yields l t at ok
+      yields_do SelfRef t ok at = self_does typed t ok.0 at ok.1 ok.2 ok.3
       yields_do (Read u p) t ok at = read_does typed (NamesType program own p u) t u (place_code program own p at) (place_of program here p) at ok.1 ok.2 (place_does p u ok.0 at)
       yields_do (Unary op a) t ok at =
           told_value t (given_basic op t ok.1) (Unary op a) at
@@ -615,8 +634,9 @@ module _ (program : Program) (own : Option Procedure) (tables : Tables) (number 
       yields_do (LenBehind r l) t ok at =
           told_value t (included_basic t W32 ok.4) (LenBehind r l) at
           (behind_does t ok.1 (HaveLengths r) ok.0 (dimensions r) l (rows_code program own r at) (rows_of program here r) at (dimensions_are r ok.0 ok.1 ok.2) ok.3 ok.4 (rows_does r ok.0 ok.1 ok.2 at))
-      yields_do (Function m k more) t ok at =
-          function_does typed shaped m k ok.0 t ok.1 (arguments_code program own more at) (arguments_of program here more) at ok.2 ok.3 ok.5 (arguments_do more ok.0.parameters ok.6 at)
+      yields_do (Function c more) t ok at =
+          function_does typed ok.0 t ok.1 (value_code program own (Function c more) at) (value_of program here (Function c more)) at ok.3 ok.5
+          (called_do c ok.0 ok.2 more (λ at'. arguments_do more ok.0.parameters ok.6 at') at)
       yields_do (Same a b) t ok at =
           let ca = value_code program own a at in
           let pb = at + length ca in
@@ -631,6 +651,20 @@ module _ (program : Program) (own : Option Procedure) (tables : Tables) (number 
       yields_do (Guard a k) t ok at =
           guard_does program own tables number here code typed shaped ok.0.0 t k (k + 1) (value_code program own a at) (value_of program here a) at (omega arith) ok.0.2 ok.2 (yields_do a ok.0.0 ok.0.1 at)
       yields_do (Had v) t ok at = absurd ok
+
+      -- a call, for whose arguments the code hands over what the procedure takes
+      pub called_do : (c : Callee) (q : Procedure) → IsCalled program own c q → (more : Arguments) → ((at : ℕ) → Hands program own tables number here code q.parameters (arguments_code program own more at) (arguments_of program here more) at) → (at : ℕ) → Answers program own tables number here code q.result (called_code program own c more at) (called_of program here c more) at
+      called_do (PlainCall m k) q ok more hands at =
+          let none : at + 0 ≡ at = omega arith in
+          let ca = arguments_code program own more (at + 0) in
+          plain_does program own tables number here code typed shaped m k q ca (arguments_of program here more) at ok
+          (subst (λ z. Hands program own tables number here code q.parameters ca (arguments_of program here more) z) none (hands (at + 0)))
+      called_do (Dispatched e t k) q ok more hands at =
+          let cr = value_code program own e at in
+          let pa = at + length cr in
+          dispatched_does program own tables number here code typed shaped t k q ok.2 cr (value_of program here e) (arguments_code program own more pa) (arguments_of program here more) at ok.1 (yields_do e (type.Named t) ok.0 at) (hands pa)
+      called_do (Upper t k) q ok more hands at =
+          upper_does program own tables number here code typed shaped t k q ok.0 (arguments_code program own more (at + 1)) (arguments_of program here more) at ok.1 ok.2 ok.3 (hands (at + 1))
 
     -- one of a basic type
     pub value_does : (e : Expr) (t : TType) → is_basic t ≡ true → IsOf program own e t → (at : ℕ) → Evaluates program own tables number here code t (value_code program own e at) (value_of program here e) at

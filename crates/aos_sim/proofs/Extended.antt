@@ -12,7 +12,7 @@ use Rattle.aos_types.specs.declared.row.TypeRow.TheVariants as row
 use Rattle.aos_types.specs.Table.{row_of, base_of, has_fields, is_open, is_object, is_record}
 use Rattle.aos_types.specs.Shape as shape
 use Rattle.aos_types.specs.Shape.{Shape, One, Nothing, Pair, join, part, before, inside, offset, shaped}
-use Rattle.aos_types.specs.Contents.{of_variable, with_parts, contents}
+use Rattle.aos_types.specs.Contents.{of_variable, of_base, with_parts, contents}
 use Rattle.aos_types.specs.Extension.{comes_to, AreBases}
 use Rattle.aos_types.proofs.Tables.{by_parts, bases_of, base_part, front}
 use Rattle.aos_typed.specs.Numbers.{id_of_made}
@@ -23,7 +23,7 @@ use Rattle.aos_typed.specs.Program.{Program}
 use Rattle.aos_typed.specs.Sort.{Sort, Plain, variable_shape, object_shape}
 use Rattle.aos_typed.specs.Typing.{nested}
 use Rattle.aos_typed.specs.Source.{shape_made, made_shape}
-use Rattle.aos_typed.specs.WellTyped.{fields_by, fields_in, field_type, is_whole}
+use Rattle.aos_typed.specs.WellTyped.{with_base, fields_by, fields_in, field_type, is_whole}
 use Rattle.aos_sim.proofs.Parts.{before_step, part_of_row, own_contents, part_shaped, before_shaped, shaped_join, whole_ends}
 use Rattle.aos_sim.proofs.Does.{HasTypes}
 
@@ -59,6 +59,40 @@ record_is (Some row.Any) e = absurd (cc)
 
 pub record_fields : (o : Option TypeRow) → is_record o ≡ true → has_fields o ≡ true
 record_fields o e = let r = record_is o e in ap has_fields r.2
+
+-- what has a base has fields, and what has fields is no open array
+based_fields : (o : Option TypeRow) (b : TypeId) → base_of o ≡ Some b → has_fields o ≡ true
+based_fields None b e = absurd (cc)
+based_fields (Some (row.Basic k)) b e = absurd (cc)
+based_fields (Some (row.Array n of)) b e = absurd (cc)
+based_fields (Some (row.Open of)) b e = absurd (cc)
+based_fields (Some (row.Record base fields)) b e = refl
+based_fields (Some (row.Pointer to)) b e = absurd (cc)
+based_fields (Some (row.Object base fields)) b e = refl
+based_fields (Some (row.Procedure formals r)) b e = absurd (cc)
+based_fields (Some row.Any) b e = absurd (cc)
+
+pub object_fields : (o : Option TypeRow) → is_object o ≡ true → has_fields o ≡ true
+object_fields None e = absurd (cc)
+object_fields (Some (row.Basic k)) e = absurd (cc)
+object_fields (Some (row.Array n of)) e = absurd (cc)
+object_fields (Some (row.Open of)) e = absurd (cc)
+object_fields (Some (row.Record base fields)) e = refl
+object_fields (Some (row.Pointer to)) e = absurd (cc)
+object_fields (Some (row.Object base fields)) e = refl
+object_fields (Some (row.Procedure formals r)) e = absurd (cc)
+object_fields (Some row.Any) e = absurd (cc)
+
+pub fields_closed : (o : Option TypeRow) → has_fields o ≡ true → is_open o ≡ false
+fields_closed None e = absurd (cc)
+fields_closed (Some (row.Basic k)) e = absurd (cc)
+fields_closed (Some (row.Array n of)) e = absurd (cc)
+fields_closed (Some (row.Open of)) e = absurd (cc)
+fields_closed (Some (row.Record base fields)) e = refl
+fields_closed (Some (row.Pointer to)) e = absurd (cc)
+fields_closed (Some (row.Object base fields)) e = refl
+fields_closed (Some (row.Procedure formals r)) e = absurd (cc)
+fields_closed (Some row.Any) e = absurd (cc)
 
 pub record_no_object : (o : Option TypeRow) → is_record o ≡ true → is_object o ≡ false
 record_no_object o e = let r = record_is o e in ap is_object r.2
@@ -150,60 +184,82 @@ module _ (p : Program) (typed : HasTypes p) where
   abbrev FieldsAre : ℕ → TypeId → Type 0
   FieldsAre n t = contents rows t ≡ shape.row (map of (fields_by n rows t))
 
-  own_fields : (n : ℕ) (t : TypeId) (fields : List TypeId) → row_of rows t ≡ Some (row.Record None fields) → fields_by n rows t ≡ fields
-  own_fields zero t fields e = ap (fields_in (λ b. [])) e
-  own_fields (suc n) t fields e = ap (fields_in (λ b. fields_by n rows b)) e
+  -- a record or an object type has its base's fields, and its own behind them
+  record IsFielded (t : TypeId) (o : Option TypeRow) : Type 0 where
+    base : Option TypeId
+    own : List TypeId
+    base_is : base_of o ≡ base
+    fields_are : (f : TypeId → List TypeId) → fields_in f o ≡ with_base f base own
+    parts_are : with_parts (contents rows) rows t o ≡ join (of_base (contents rows) base) (shape.row (map of own))
 
-  no_base : (n : ℕ) (t : TypeId) (fields : List TypeId) → row_of rows t ≡ Some (row.Record None fields) → FieldsAre n t
-  no_base n t fields e =
-      by_parts rows typed.ranked t ∙ ap (with_parts (contents rows) rows t) e ∙ ap (λ fs. shape.row (map of fs)) (sym (own_fields n t fields e))
+  fielded : (t : TypeId) (o : Option TypeRow) → has_fields o ≡ true → IsFielded t o
+  fielded t None e = absurd (cc)
+  fielded t (Some (row.Basic b)) e = absurd (cc)
+  fielded t (Some (row.Array n x)) e = absurd (cc)
+  fielded t (Some (row.Open x)) e = absurd (cc)
+  fielded t (Some (row.Record base fields)) e = record { base = base; own = fields; base_is = refl; fields_are = λ f. refl; parts_are = refl }
+  fielded t (Some (row.Pointer to)) e = absurd (cc)
+  fielded t (Some (row.Object base fields)) e = record { base = base; own = fields; base_is = refl; fields_are = λ f. refl; parts_are = refl }
+  fielded t (Some (row.Procedure formals r)) e = absurd (cc)
+  fielded t (Some row.Any) e = absurd (cc)
 
-  on_base : (n : ℕ) (t b : TypeId) (fields : List TypeId) → row_of rows t ≡ Some (row.Record (Some b) fields) → FieldsAre n b → FieldsAre (suc n) t
-  on_base n t b fields e h =
-      by_parts rows typed.ranked t ∙ ap (with_parts (contents rows) rows t) e ∙ ap (λ s. join s (shape.row (map of fields))) h
-      ∙ join_rows (map of (fields_by n rows b)) (map of fields)
-      ∙ ap (λ l. shape.row l) (sym (map-append of (fields_by n rows b) fields))
-      ∙ ap (λ o. shape.row (map of (fields_in (λ b. fields_by n rows b) o))) (sym e)
+  module _ (t : TypeId) (h : IsFielded t (row_of rows t)) where
+    no_base : (n : ℕ) → h.base ≡ None → FieldsAre n t
+    no_base n e =
+        by_parts rows typed.ranked t ∙ h.parts_are ∙ ap (λ b. join (of_base (contents rows) b) (shape.row (map of h.own))) e
+        ∙ ap (λ fs. shape.row (map of fs)) (sym (own_fields n))
+      where
+        own_fields : (n : ℕ) → fields_by n rows t ≡ h.own
+        own_fields zero = h.fields_are (λ b. []) ∙ ap (λ b. with_base (λ b. []) b h.own) e
+        own_fields (suc n) = h.fields_are (λ b. fields_by n rows b) ∙ ap (λ b. with_base (λ b. fields_by n rows b) b h.own) e
 
-  base_falls : (t b : TypeId) (fields : List TypeId) → row_of rows t ≡ Some (row.Record (Some b) fields) → typed.ranked.rank b < typed.ranked.rank t
-  base_falls t b fields e = typed.ranked.falls t b (base_part rows (row_of rows t) b (ap base_of e))
+    on_base : (n : ℕ) (b : TypeId) → h.base ≡ Some b → FieldsAre n b → FieldsAre (suc n) t
+    on_base n b e k =
+        by_parts rows typed.ranked t ∙ h.parts_are ∙ ap (λ b. join (of_base (contents rows) b) (shape.row (map of h.own))) e
+        ∙ ap (λ s. join s (shape.row (map of h.own))) k
+        ∙ join_rows (map of (fields_by n rows b)) (map of h.own)
+        ∙ ap (λ l. shape.row l) (sym (map-append of (fields_by n rows b) h.own))
+        ∙ ap (λ fs. shape.row (map of fs)) (sym (h.fields_are (λ b. fields_by n rows b) ∙ ap (λ b. with_base (λ b. fields_by n rows b) b h.own) e))
 
-  fields_are : (n : ℕ) (t : TypeId) → typed.ranked.rank t ≤ n → is_record (row_of rows t) ≡ true → FieldsAre n t
-  fields_are zero t low is = let r = record_is (row_of rows t) is in by r.0 r.1 r.2
+    base_falls : (b : TypeId) → h.base ≡ Some b → typed.ranked.rank b < typed.ranked.rank t
+    base_falls b e = typed.ranked.falls t b (base_part rows (row_of rows t) b (h.base_is ∙ e))
+
+  fields_are : (n : ℕ) (t : TypeId) → typed.ranked.rank t ≤ n → has_fields (row_of rows t) ≡ true → FieldsAre n t
+  fields_are zero t low is = let h = fielded t (row_of rows t) is in by h h.base refl
     where
-      by : (base : Option TypeId) (fields : List TypeId) → row_of rows t ≡ Some (row.Record base fields) → FieldsAre zero t
-      by None fields e = no_base zero t fields e
-      by (Some b) fields e = let f = base_falls t b fields e in absurd (omega (arith, f, low))
-  fields_are (suc n) t low is = let r = record_is (row_of rows t) is in by (λ b l k. fields_are n b l k) r.0 r.1 r.2
+      by : (h : IsFielded t (row_of rows t)) (base : Option TypeId) → h.base ≡ base → FieldsAre zero t
+      by h None e = no_base t h zero e
+      by h (Some b) e = let f = base_falls t h b e in absurd (omega (arith, f, low))
+  fields_are (suc n) t low is = let h = fielded t (row_of rows t) is in by (λ b l k. fields_are n b l k) h h.base refl
     where
-      by : ((b : TypeId) → typed.ranked.rank b ≤ n → is_record (row_of rows b) ≡ true → FieldsAre n b) → (base : Option TypeId) (fields : List TypeId) → row_of rows t ≡ Some (row.Record base fields) → FieldsAre (suc n) t
-      by more None fields e = no_base (suc n) t fields e
-      by more (Some b) fields e =
-          let f = base_falls t b fields e in
-          on_base n t b fields e (more b (omega (arith, f, low)) (typed.record_bases t b (ap base_of e) ∙ is))
+      by : ((b : TypeId) → typed.ranked.rank b ≤ n → has_fields (row_of rows b) ≡ true → FieldsAre n b) → (h : IsFielded t (row_of rows t)) (base : Option TypeId) → h.base ≡ base → FieldsAre (suc n) t
+      by more h None e = no_base t h (suc n) e
+      by more h (Some b) e =
+          let f = base_falls t h b e in
+          on_base t h n b e (more b (omega (arith, f, low)) (typed.bases t b (h.base_is ∙ e)))
 
-  -- what has a field is a record
-  field_record : (n : ℕ) (t u : TypeId) (k : ℕ) → slice_get (fields_by n rows t) k ≡ Some u → is_record (row_of rows t) ≡ true
-  field_record n t u k e = with_fuel n e
+  -- what has a field is a record or an object type
+  field_fielded : (n : ℕ) (t u : TypeId) (k : ℕ) → slice_get (fields_by n rows t) k ≡ Some u → has_fields (row_of rows t) ≡ true
+  field_fielded n t u k e = with_fuel n e
     where
-      by : (f : TypeId → List TypeId) (o : Option TypeRow) → slice_get (fields_in f o) k ≡ Some u → is_record o ≡ true
+      by : (f : TypeId → List TypeId) (o : Option TypeRow) → slice_get (fields_in f o) k ≡ Some u → has_fields o ≡ true
       by f None e = absurd (cc)
       by f (Some (row.Basic b)) e = absurd (cc)
       by f (Some (row.Array n x)) e = absurd (cc)
       by f (Some (row.Open x)) e = absurd (cc)
       by f (Some (row.Record base fields)) e = refl
       by f (Some (row.Pointer to)) e = absurd (cc)
-      by f (Some (row.Object base fields)) e = absurd (cc)
+      by f (Some (row.Object base fields)) e = refl
       by f (Some (row.Procedure formals r)) e = absurd (cc)
       by f (Some row.Any) e = absurd (cc)
 
-      with_fuel : (n : ℕ) → slice_get (fields_by n rows t) k ≡ Some u → is_record (row_of rows t) ≡ true
+      with_fuel : (n : ℕ) → slice_get (fields_by n rows t) k ≡ Some u → has_fields (row_of rows t) ≡ true
       with_fuel zero e = by (λ b. []) (row_of rows t) e
       with_fuel (suc n) e = by (λ b. fields_by n rows b) (row_of rows t) e
 
   module _ (t u : TypeId) (k : ℕ) (has : field_type rows t k ≡ Some u) where
-    pub is_fielded : is_record (row_of rows t) ≡ true
-    is_fielded = field_record (length rows) t u k has
+    is_fielded : has_fields (row_of rows t) ≡ true
+    is_fielded = field_fielded (length rows) t u k has
 
     field_there : part k (contents rows t) ≡ Some (of u)
     field_there =
@@ -211,21 +267,18 @@ module _ (p : Program) (typed : HasTypes p) where
         ap (part k) (fields_are (length rows) t (omega (arith, low)) is_fielded)
         ∙ part_of_row k (map of (fields_by (length rows) rows t)) ∙ slice_get-map of (fields_by (length rows) rows t) k ∙ ap (option_map of) has
 
-    record_shape : variable_shape rows t ≡ shaped Plain (contents rows t)
-    record_shape = own_contents rows t (record_no_object (row_of rows t) is_fielded)
+    field_shape : part k (object_shape rows t) ≡ Some (variable_shape rows u)
+    field_shape = part_shaped Plain k (contents rows t) ∙ ap (option_map (shaped Plain)) field_there
 
-    field_shape : part k (variable_shape rows t) ≡ Some (variable_shape rows u)
-    field_shape = ap (part k) record_shape ∙ part_shaped Plain k (contents rows t) ∙ ap (option_map (shaped Plain)) field_there
-
-    -- a field of the record, whatever stands behind its fields
+    -- a field of the record or the object, whatever stands behind its fields
     module _ (more : Shape Sort) where
-      pub field_part : inside (k ∷ []) (join (variable_shape rows t) more) ≡ Some (variable_shape rows u)
-      field_part = ap (option_and_then (λ s. Some s)) (part_join k (variable_shape rows t) more (variable_shape rows u) field_shape)
+      pub field_part : inside (k ∷ []) (join (object_shape rows t) more) ≡ Some (variable_shape rows u)
+      field_part = ap (option_and_then (λ s. Some s)) (part_join k (object_shape rows t) more (variable_shape rows u) field_shape)
 
-      pub field_offset : offset (k ∷ []) (join (variable_shape rows t) more) ≡ offset (k ∷ []) (contents rows t)
+      pub field_offset : offset (k ∷ []) (join (object_shape rows t) more) ≡ offset (k ∷ []) (contents rows t)
       field_offset =
-          before_step k (join (variable_shape rows t) more) ∙ before_join k (variable_shape rows t) more (variable_shape rows u) field_shape
-          ∙ ap (before k) record_shape ∙ before_shaped Plain k (contents rows t) ∙ sym (before_step k (contents rows t))
+          before_step k (join (object_shape rows t) more) ∙ before_join k (object_shape rows t) more (variable_shape rows u) field_shape
+          ∙ before_shaped Plain k (contents rows t) ∙ sym (before_step k (contents rows t))
 
   -- What extends a type
 
@@ -252,6 +305,21 @@ module _ (p : Program) (typed : HasTypes p) where
   -- and so is what a record extends
   pub record_base : (a b : TypeId) → is_record (row_of rows a) ≡ true → comes_to rows a b ≡ true → is_record (row_of rows b) ≡ true
   record_base a b is e = let r = bases_of rows (length rows) a b e in below r.bases a b is r.are
+
+  fielded_bases : (bs : List TypeId) (a b : TypeId) → has_fields (row_of rows b) ≡ true → AreBases rows a bs b → has_fields (row_of rows a) ≡ true
+  fielded_bases [] a b is h = ap (λ y. has_fields (row_of rows y)) h ∙ is
+  fielded_bases (x ∷ bs) a b is h = based_fields (row_of rows a) x h.0
+
+  -- an object of what extends a type with fields begins with one of that
+  pub begins_object : (a b : TypeId) → has_fields (row_of rows b) ≡ true → comes_to rows a b ≡ true → (more : Shape Sort) × (object_shape rows a ≡ join (object_shape rows b) more)
+  begins_object a b is e =
+      let f = front rows typed.ranked a b is e in (shaped Plain f.more, ap (shaped Plain) f.is ∙ shaped_join Plain (contents rows b) f.more)
+
+  pub object_made : (m : Made) (t : TypeId) → comes_to rows (id_of_made m.type) t ≡ true → has_fields (row_of rows t) ≡ true → made_shape rows m ≡ object_shape rows (id_of_made m.type)
+  object_made m t e is =
+      let d = id_of_made m.type in
+      let r = bases_of rows (length rows) d t e in
+      closed_made rows m (row_of rows d) (fields_closed (row_of rows d) (fielded_bases r.bases d t is r.are))
 
   -- and begins with it
   pub begins_with : (a b : TypeId) → is_record (row_of rows b) ≡ true → comes_to rows a b ≡ true → (more : Shape Sort) × (object_shape rows a ≡ join (variable_shape rows b) more)

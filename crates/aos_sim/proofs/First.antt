@@ -34,25 +34,11 @@ use Rattle.aos_places.proofs.Makes.{first_fits, first_cells}
 use Rattle.aos_sim.specs.Cells.{cell_of}
 use Rattle.aos_sim.specs.Shows.{numbers_from, text_cells, first_cells as module_cells}
 use Rattle.aos_sim.proofs.Does.{HasPredeclared}
+pub use Rattle.aos_sim.proofs.Lists.{all_get, get_left, get_right}
 use Rattle.aos_sim.proofs.Kept.{values_kept}
 use Rattle.aos_sim.proofs.Parts.{plain_parts}
 
 -- Lists
-
-pub all_get : {X : Type 0} (P : X → Type 0) (xs : List X) (i : ℕ) (x : X) → All P xs → slice_get xs i ≡ Some x → P x
-all_get P [] i x h e = absurd (cc)
-all_get P (y ∷ ys) zero x h e = let q : y ≡ x = cc in subst P q (h 0 y (omega arith))
-all_get P (y ∷ ys) (suc i) x h e = all_get P ys i x (All-tail P y ys h) e
-
-pub get_left : {X : Type 0} (xs ys : List X) (i : ℕ) (x : X) → slice_get xs i ≡ Some x → slice_get (xs ++ ys) i ≡ Some x
-get_left [] ys i x e = absurd (cc)
-get_left (y ∷ xs) ys zero x e = e
-get_left (y ∷ xs) ys (suc i) x e = get_left xs ys i x e
-
-pub get_right : {X : Type 0} (xs ys : List X) (n i : ℕ) → n ≡ length xs + i → slice_get (xs ++ ys) n ≡ slice_get ys i
-get_right [] ys n i e = let h : n ≡ i = omega arith in ap (slice_get ys) h
-get_right (x ∷ xs) ys zero i e = absurd (omega arith)
-get_right (x ∷ xs) ys (suc n) i e = get_right xs ys n i (omega arith)
 
 pub number_at : {A : Type 0} (k j : ℕ) (xs : List A) → slice_get (numbers_from k xs) j ≡ option_map (λ x. k + j) (slice_get xs j)
 number_at k j [] = refl

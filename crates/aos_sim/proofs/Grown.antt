@@ -1,5 +1,5 @@
 -- A turn of the source makes objects, and those that there are stay as they were made.
-use Rattle.std.proofs.Common.{◌≡◌, ℕ, zero, suc, List, [], ◌∷◌, ◌++◌, length, map, Bool, true, false, Option, Some, None, if◌then◌else◌, refl, sym, append-nil}
+use Rattle.std.proofs.Common.{◌≡◌, ℕ, zero, suc, List, [], ◌∷◌, ◌++◌, map, Bool, true, false, Option, Some, None, if◌then◌else◌, refl, sym, append-nil}
 use Rattle.std.specs.Prelude.{unsigned_abs}
 use Rattle.aos_base.specs.declared.place.Root.{Root}
 use Rattle.aos_base.specs.declared.place.Root.TheVariants.{Frame as FrameRoot, Module as ModuleRoot, Object as ObjectRoot}
@@ -18,7 +18,7 @@ use Rattle.aos_typed.specs.Text.{text_in, with_text, fitted}
 use Rattle.aos_typed.specs.Value.{Value, Int, Flag, Char, Set, Object, Callable, Place, number_of, is_true}
 use Rattle.aos_typed.specs.Store.{Store, store_with, has_room, made_in}
 use Rattle.aos_typed.specs.Meaning.{Question, Doing, Item, Do, Rounds, Round, Until, After, Into, Returns, Exits, leave, item_of, value_of}
-use Rattle.aos_typed.specs.Source.{Frame, Turned, answered, done, all_rooted, begins, ends, tests, finishes, settles, first_value, made_shape, written, prints, makes, makes_with, starts, copies, stores_text, calm, noted, is_deep, enters, called_frame, calls, answer, goes, item_turn, turn_at}
+use Rattle.aos_typed.specs.Source.{here_of, Frame, Turned, answered, done, all_rooted, begins, ends, tests, finishes, settles, first_value, made_shape, written, prints, makes, makes_with, starts, copies, stores_text, calm, noted, is_deep, enters, called_frame, calls, answer, goes, item_turn, turn_at}
 
 -- more objects than before
 abbrev pub Grown : List Made → List Made → Type 0
@@ -126,7 +126,7 @@ module _ (program : Program) (following : List ℕ) where
   settles_grown (Rounds at w p last step b ∷ is) f fs s = none s.made
   settles_grown (Round st ∷ is) f fs s = none s.made
   settles_grown (Until at b e ∷ is) f fs s =
-      let test = value_of program (length fs) e in
+      let test = value_of program (here_of f fs) e in
       tests_grown (calm program.types (made_in s) f.variables test) (settles program following is f fs s) (begins following at (Do (Repeat at b e) ∷ is) f fs s)
       (record f { items = Until at b e ∷ is; answers = Some (noted program.types (made_in s) f.variables test) }) fs s (settles_grown is f fs s) (none s.made)
 
@@ -141,7 +141,7 @@ module _ (program : Program) (following : List ℕ) where
   item_grown None is f fs s = settles_grown is f fs s
   item_grown (Some vs) [] f fs s = none s.made
   item_grown (Some vs) (i ∷ is) f fs s =
-      let left = feed vs (item_of program (length fs) i) in
+      let left = feed vs (item_of program (here_of f fs) i) in
       goes_grown (calm program.types (made_in s) f.variables left) is (record f { answers = Some (vs ++ noted program.types (made_in s) f.variables left) }) fs s
 
   pub turn_grown : (fs : List Frame) (s : Store) → Grown s.made (turn_at program following fs s).store.made

@@ -3,7 +3,7 @@ use Rattle.std.proofs.Common.{◌≡◌, ℕ, ◌+◌, Option, List, [], ◌∷�
 use Rattle.aos_types.specs.World.{World}
 use Rattle.aos_typed.specs.Program.{Stat, Assign, Copy, PutText, If, Case, While, Repeat, Loop, Exit, For, Block, Assert, Halt, Change, Perform, Return, New, Make, With, WithRecord, Out, Procedure, Program}
 use Rattle.aos_typed.specs.Sort.{Sort}
-use Rattle.aos_typed.specs.Meaning.{Item, Do, Rounds, Round, Until, item_of, pos_of}
+use Rattle.aos_typed.specs.Meaning.{Here, Item, Do, Rounds, Round, Until, item_of, pos_of}
 use Rattle.aos_code.specs.declared.instr.Instr.{Instr}
 use Rattle.aos_code.specs.Silent.{Keeps}
 use Rattle.aos_sim.specs.Code.{stat_code}
@@ -17,7 +17,7 @@ use Rattle.aos_sim.proofs.Changes.{changed_does}
 use Rattle.aos_sim.proofs.Rounds.{rounds_does, for_does}
 use Rattle.aos_sim.proofs.Choices.{case_does}
 
-module _ (program : Program) (own : Option Procedure) (tables : Tables) (number here : ℕ) (code : List Instr) (typed : HasTypes program) (shaped : HasShapes program tables) (is_own : IsOwn program own tables number) where
+module _ (program : Program) (own : Option Procedure) (tables : Tables) (number : ℕ) (here : Here) (code : List Instr) (typed : HasTypes program) (shaped : HasShapes program tables) (is_own : IsOwn program own tables number) where
   statement_does : (s : Stat) (x d : ℕ) (k : Keeps) (after : List Item) → StatementDoes program own tables number here code x d k after s
   statement_does (Assign there t pl e) x d k after = assign_does program own tables number here code x d k after typed shaped there t pl e
   statement_does (Copy there t p q) x d k after = copy_does program own tables number here code x d k after typed shaped there t p q
@@ -33,7 +33,7 @@ module _ (program : Program) (own : Option Procedure) (tables : Tables) (number 
   statement_does (Assert there e n) x d k after = assert_does program own tables number here code x d k after typed shaped there e n
   statement_does (Halt there n) x d k after = halt_does program own tables number here code x d k after there n
   statement_does (Change there c p e) x d k after = changed_does program own tables number here code x d k after typed shaped there c p e
-  statement_does (Perform there m n more) x d k after = perform_does program own tables number here code x d k after typed shaped there m n more
+  statement_does (Perform there c more) x d k after = perform_does program own tables number here code x d k after typed shaped there c more
   statement_does (Return there e) x d k after = return_does program own tables number here code x d k after typed shaped is_own there e
   statement_does (New there pl t) x d k after = new_does program own tables number here code x d k after typed shaped there pl t
   statement_does (Make there pl t ns) x d k after = make_does program own tables number here code x d k after typed shaped there pl t ns

@@ -9,7 +9,7 @@ use Rattle.aos_typed.specs.declared.tree.TType.TheVariants as type
 use Rattle.aos_typed.specs.Program.{Expr, If, While, Repeat, Loop, Stats, Arms, Otherwise, Arm, Procedure, Program}
 use Rattle.aos_typed.specs.Sort.{Sort}
 use Rattle.aos_typed.specs.Value.{Value, Flag, is_true}
-use Rattle.aos_typed.specs.Meaning.{Doing, Item, Do, Round, Until, After, Into, items_of, value_of, arms_of, item_of}
+use Rattle.aos_typed.specs.Meaning.{Here, Doing, Item, Do, Round, Until, After, Into, items_of, value_of, arms_of, item_of}
 use Rattle.aos_typed.specs.WellTyped.{IsOf, AreArms}
 use Rattle.aos_code.specs.declared.instr.Cell.TheVariants.{Num}
 use Rattle.aos_code.specs.declared.instr.Instr.{Instr}
@@ -36,7 +36,7 @@ tested_stands : (code : List Instr) (at : ℕ) (there : Pos) (b c last rest : Li
 tested_stands code at there b c last rest e =
     e ∙ ap (λ l. begin there ∷ l) (append_assoc b (c ++ last) rest ∙ ap (λ l. b ++ l) (append_assoc c last rest))
 
-module _ (program : Program) (own : Option Procedure) (tables : Tables) (number here : ℕ) (code : List Instr) where
+module _ (program : Program) (own : Option Procedure) (tables : Tables) (number : ℕ) (here : Here) (code : List Instr) where
   abbrev onward : List Instr → Onward
   onward = runs tables number here code
 

@@ -1,7 +1,10 @@
 -- NEW: an object is made and stored, and its activity started; a record or an array is made with its lengths, and stored. WITH: an object
 -- or a record is guarded, and then statements are carried out.
-use Rattle.std.proofs.Common.{◌≡◌, ℕ, zero, suc, ℤ, pos, negsuc, ◌+◌, ◌≤◌, Bool, true, false, Option, List, [], ◌∷◌, ◌++◌, length, map, drop, Some, None, refl, sym, ap, ◌∙◌, subst, arith, append-nil, append_assoc, length-append}
-use Rattle.std.specs.Prelude.{◌||◌, All, is_some}
+use Rattle.std.proofs.Common.{◌≡◌, ℕ, zero, suc, ℤ, pos, negsuc, ◌+◌, ◌≤◌, ◌<◌, Bool, true, false, Option, List, [], ◌∷◌, ◌++◌, length, map, drop, Some, None, refl, sym, ap, ◌∙◌, subst, arith, append-nil, append_assoc, length-append}
+use Rattle.std.specs.Prelude.{◌||◌, All, is_some, slice_get, option_map}
+use Rattle.std.specs.List.{list_any}
+use Rattle.std.proofs.lemmas.Bool.{eq-eqb}
+use Rattle.std.proofs.lemmas.Option.{slice_get_within}
 use Rattle.std.proofs.lemmas.List.{length-map}
 use Rattle.std.proofs.lemmas.List.Elements.{All-nil, All-cons}
 use Rattle.std.proofs.lemmas.Int.{ints}
@@ -19,13 +22,14 @@ use Rattle.aos_types.specs.World.{World, Grows}
 use Rattle.aos_typed.specs.declared.tree.TType.{TType}
 use Rattle.aos_typed.specs.declared.tree.TType.TheVariants as type
 use Rattle.aos_typed.specs.Numbers.{id_of, id_of_made}
-use Rattle.aos_typed.specs.Open.{open_by, open_dimensions}
-use Rattle.aos_typed.specs.Program.{Place, Expr, New, Make, With, WithRecord, Stats, Procedure, Program}
+use Rattle.aos_typed.specs.Open.{open_by, open_dimensions, first_same}
+use Rattle.aos_layout.specs.Layout.{leads_to, is_made}
+use Rattle.aos_typed.specs.Program.{Place, Expr, New, Make, With, WithRecord, Stats, Procedure, ObjectType, Program}
 use Rattle.aos_typed.specs.Sort.{Sort, Plain}
 use Rattle.aos_typed.specs.Spot.{Spot}
 use Rattle.aos_typed.specs.Typing.{Extends, HasLengths}
 use Rattle.aos_typed.specs.Value.{Value, Object, number_of}
-use Rattle.aos_typed.specs.Meaning.{Doing, Item, After, Into, items_of, place_of, value_of, values_of}
+use Rattle.aos_typed.specs.Meaning.{Here, Doing, Item, After, Into, items_of, place_of, value_of, values_of}
 use Rattle.aos_typed.specs.WellTyped.{is_basic, is_value, AreStatements, target_in, target, is_any, IsLength, NamesType, AreLengthsOf}
 use Rattle.aos_code.specs.declared.instr.Cell.{Cell}
 use Rattle.aos_code.specs.declared.instr.Cell.TheVariants as cell
@@ -41,6 +45,7 @@ use Rattle.aos_sim.proofs.Runs.{Run, Onward, Tables, on_run, runs, run, drop_nex
 use Rattle.aos_sim.proofs.Types.{number_cell, integer_is, is_integer}
 use Rattle.aos_sim.proofs.Does.{addr_of, HasTypes, HasShapes, IsObject, AreIntegers, Does, Knows, placed, knows_grows, along, does_bind}
 use Rattle.aos_sim.proofs.References.{made_reference, to_target, comes_same}
+use Rattle.aos_sim.proofs.Objects.{object_target}
 use Rattle.aos_sim.proofs.Evaluates.{OfSort, OfType, number_in, pushed, OnTop, Brings, ComesTo, front_does, piece_does}
 use Rattle.aos_sim.proofs.Designators.{IsFound, counted_all, places_stay}
 use Rattle.aos_places.proofs.Grow.{grows_twice}
@@ -49,17 +54,6 @@ use Rattle.aos_sim.proofs.Carries.{Holds, HasStatements, Carries, Behind, Statem
 use Rattle.aos_sim.proofs.Stats.{from_here, last_asks}
 
 -- What types values of these are made as.
-
-object_target : (rows : List TypeRow) (t : TypeId) (o : Option TypeRow) → is_object o ≡ true → target_in rows t o ≡ Some t
-object_target rows t None e = absurd (cc)
-object_target rows t (Some (row.Basic b)) e = absurd (cc)
-object_target rows t (Some (row.Array n of)) e = absurd (cc)
-object_target rows t (Some (row.Open of)) e = absurd (cc)
-object_target rows t (Some (row.Record base fields)) e = absurd (cc)
-object_target rows t (Some (row.Pointer to)) e = absurd (cc)
-object_target rows t (Some (row.Object base fields)) e = refl
-object_target rows t (Some (row.Procedure formals r)) e = absurd (cc)
-object_target rows t (Some row.Any) e = absurd (cc)
 
 object_closed : (o : Option TypeRow) → is_object o ≡ true → is_open o ≡ false
 object_closed None e = absurd (cc)
@@ -138,12 +132,49 @@ long_lengths (z ∷ zs) ns e = by (λ ms f. long_lengths zs ms f) z (array_lengt
 both_lengths : (ns : List ℕ) → All (λ n. 1 ≤ n) ns → All (λ n. n ≤ 16777216) ns → All IsLength ns
 both_lengths ns a b i n lt = let l = a i n lt in let m = b i n lt in (l, record { low = omega (arith, ints); high = omega (arith, ints, m) })
 
+-- what stands beside a type is there
+beside : (os : List ObjectType) (t : ℕ) → option_map (λ o. o.has_body) (slice_get os t) ≡ Some true → t < length os
+beside os t e = by (slice_get os t) refl e
+  where
+    by : (o : Option ObjectType) → slice_get os t ≡ o → option_map (λ o. o.has_body) o ≡ Some true → t < length os
+    by None f h = absurd (cc)
+    by (Some o) f h = slice_get_within os t o f
+
+-- objects of the type may be made that a reference leads to
+any_there : (f : TypeRow → Bool) (xs : List TypeRow) (i : ℕ) (x : TypeRow) → slice_get xs i ≡ Some x → f x ≡ true → list_any f xs ≡ true
+any_there f [] i x e h = absurd (cc)
+any_there f (y ∷ xs) zero x e h = let q : y ≡ x = cc in ap (λ b. b || list_any f xs) (ap f q ∙ h)
+any_there f (y ∷ xs) (suc i) x e h = ap (λ b. f y || b) (any_there f xs i x e h) ∙ by (f y)
+  where
+    by : (b : Bool) → (b || true) ≡ true
+    by true = refl
+    by false = refl
+
+target_made : (rows : List TypeRow) (k t : TypeId) (o : Option TypeRow) → row_of rows k ≡ o → target_in rows k o ≡ Some t → is_made rows t ≡ true
+target_made rows k t None f e = absurd (cc)
+target_made rows k t (Some (row.Basic b)) f e = absurd (cc)
+target_made rows k t (Some (row.Array n of)) f e = absurd (cc)
+target_made rows k t (Some (row.Open of)) f e = absurd (cc)
+target_made rows k t (Some (row.Record base fields)) f e = absurd (cc)
+target_made rows k t (Some (row.Pointer to)) f e =
+    let q : first_same rows to ≡ t = cc in
+    ap (λ b. is_object (row_of rows t) || b) (any_there (leads_to rows t) rows k.0 (row.Pointer to) f (eq-eqb (first_same rows to).0 t.0 (ap (λ z. z.0) q)))
+    ∙ by (is_object (row_of rows t))
+  where
+    by : (b : Bool) → (b || true) ≡ true
+    by true = refl
+    by false = refl
+target_made rows k t (Some (row.Object base fields)) f e =
+    let q : k ≡ t = cc in ap (λ b. b || list_any (leads_to rows t) rows) (ap (λ z. is_object (row_of rows z)) (sym q) ∙ ap is_object f)
+target_made rows k t (Some (row.Procedure formals r)) f e = absurd (cc)
+target_made rows k t (Some row.Any) f e = absurd (cc)
+
 or_three : {c : Bool} (a b : Bool) → c ≡ true → (a || (b || c)) ≡ true
 or_three true b e = refl
 or_three false true e = refl
 or_three false false e = e
 
-module _ (program : Program) (own : Option Procedure) (tables : Tables) (number here : ℕ) (code : List Instr) where
+module _ (program : Program) (own : Option Procedure) (tables : Tables) (number : ℕ) (here : Here) (code : List Instr) where
   abbrev onward : List Instr → Onward
   onward = runs tables number here code
 
@@ -203,7 +234,7 @@ module _ (program : Program) (own : Option Procedure) (tables : Tables) (number 
         ap (λ a. on_run tables a (onward rest) p k) acts ∙ ap (λ j. Asks (Makes j (map (cell_of w) all)) (λ x. onward rest 0 (p + 1) k (x ∷ s))) number_is
 
     -- what is made so is a value of a pointer to the type
-    made_lengths : (t : ℕ) (es : ℕ) (vs : List Value) (ns : List ℕ) → length vs ≡ es → es ≡ open_dimensions program.types (id_of (type.Named t)) → array_lengths (map number_of vs) ≡ Some ns → All (λ n. n ≤ 16777216) ns → HasLengths program.types (row_of program.types (id_of (type.Named t))) (record { type = suc t; lengths = ns })
+    pub made_lengths : (t : ℕ) (es : ℕ) (vs : List Value) (ns : List ℕ) → length vs ≡ es → es ≡ open_dimensions program.types (id_of (type.Named t)) → array_lengths (map number_of vs) ≡ Some ns → All (λ n. n ≤ 16777216) ns → HasLengths program.types (row_of program.types (id_of (type.Named t))) (record { type = suc t; lengths = ns })
     made_lengths t es vs ns many dims e few = by (is_open (row_of program.types id)) refl
       where
         id : TypeId
@@ -246,7 +277,14 @@ module _ (program : Program) (own : Option Procedure) (tables : Tables) (number 
           let number_is : t + 1 ≡ suc t = omega arith in (
             (λ x. onward (i.Dup ∷ ((cp ++ last) ++ rest)) 0 (at + 1 + 1) k (x ∷ [])),
             from_here program own tables number here code (at + 1) (xs ++ rest) k [] h1 ∙ ap (λ n. Asks (Makes n []) (λ x. onward (i.Dup ∷ ((cp ++ last) ++ rest)) 0 (at + 1 + 1) k (x ∷ []))) number_is,
-            (t, refl, has.typed.3, sym (none_open program.types (id_of named) (length program.types) (object_closed (row_of program.types (id_of named)) has.typed.2)), tt),
+            (
+              t,
+              refl,
+              beside program.objects t has.typed.3,
+              sym (none_open program.types (id_of named) (length program.types) (object_closed (row_of program.types (id_of named)) has.typed.2)),
+              tt,
+              ap (λ b. b || list_any (leads_to program.types (id_of named)) program.types) has.typed.2,
+            ),
             λ w1 up v made. along program here (Leaves after) w1 _ _ (bind (place_of program here pl) (stored v)) (ap (λ n. onward ((cp ++ last) ++ rest) 0 n k (cell_of w1 v ∷ (cell_of w1 v ∷ []))) two)
                 (piece_does program own tables number here code (IsFound program names named) place_in (Leaves after) (stored v) cp last (place_of program here pl) (at + 1 + 2) rest k (cell_of w1 v ∷ (cell_of w1 v ∷ []))
                 (place_does program own tables number here code typed shaped pl named has.typed.1 (at + 1 + 2)) w1 (knows_grows program own here w w1 up known)
@@ -303,15 +341,15 @@ module _ (program : Program) (own : Option Procedure) (tables : Tables) (number 
           (place_does program own tables number here code typed shaped pl u has.typed.0.1 (at + 1)) w known
           (λ w1 up a m found e. along program here (Leaves after) w1 m _ (bind (values_of program here ns) (λ vs. made a vs)) e
           (front_does program own tables number here code (AreValues (length ns)) value_cells (Leaves after) (λ vs. made a vs) cn last (values_of program here ns) pn rest k (place_in w1 a ∷ [])
-          (values_do typed shaped ns has.typed.3 pn) w1 (knows_grows program own here w w1 up known)
+          (values_do typed shaped ns has.typed.2 pn) w1 (knows_grows program own here w w1 up known)
           (λ w2 up2 vs m2 are e2. (
             (λ y. onward (i.Store R ∷ rest) 0 (p + 1) k (y ∷ (place_in w1 a ∷ []))),
             e2 ∙ make_asks typed shaped t w2 vs (length ns) are (i.Store R ∷ rest) p k (place_in w1 a ∷ []),
-            (t, refl, has.typed.2, are.0 ∙ has.typed.4, are.1),
+            (t, refl, has.typed.1, are.0 ∙ has.typed.3, are.1, target_made program.types (id_of u) (id_of (type.Named t)) (row_of program.types (id_of u)) refl to),
             λ w3 up3 v new.
                 let up13 : Grows w1 w3 = grows_twice w1 w2 w3 up2 up3 in
                 let stay = places_stay program own tables number here code named u w1 w3 up13 a found in
-                stores w3 u a named stay.0 to v new.0 new.2 (made_lengths typed shaped t (length ns) vs new.0 are.0 has.typed.4 new.1 new.3) _ rest (p + 1)
+                stores w3 u a named stay.0 to v new.0 new.2 (made_lengths typed shaped t (length ns) vs new.0 are.0 has.typed.3 new.1 new.3) _ rest (p + 1)
                 (ap (λ z. onward (i.Store R ∷ rest) 0 (p + 1) k (cell_of w3 v ∷ (z ∷ []))) stay.1) h3 (subst Carried len c),
           )))))
         where

@@ -1,6 +1,6 @@
 -- No turn of a program enters a region or awaits a condition, so no execution of it comes to be Dead.
 use Rattle.std.proofs.Common.{◌≢◌, ℕ, zero, suc, List, [], ◌∷◌, ◌++◌, Bool, true, false}
-use Rattle.std.specs.Prelude.{length, map, Option, Some, None, unsigned_abs, if◌then◌else◌}
+use Rattle.std.specs.Prelude.{map, Option, Some, None, unsigned_abs, if◌then◌else◌}
 use Rattle.aos_base.specs.declared.kernel.Outcome.TheVariants.{Dead}
 use Rattle.aos_base.specs.Machine.{Choice, execution}
 use Rattle.aos_base.specs.Observation.{observation}
@@ -19,7 +19,7 @@ use Rattle.aos_typed.specs.Value.{Value, Int, Flag, Char, Set, Object, Callable,
 use Rattle.aos_typed.specs.Store.{Store, has_room, made_in}
 use Rattle.aos_typed.specs.Routines.{Routine, routines}
 use Rattle.aos_typed.specs.Meaning.{Question, Doing, Item, Do, Rounds, Round, Until, After, Into, Exits, Returns, leave, item_of, value_of}
-use Rattle.aos_typed.specs.Source.{Frame, Turned, answered, done, all_rooted, begins, ends, finishes, tests, settles, first_value, made_shape, written, prints, makes, makes_with, starts, copies, stores_text, is_deep, enters, called_frame, calls, calm, noted, answer, goes, item_turn, turn_at, opened, source, first_state, first_store, first_frames}
+use Rattle.aos_typed.specs.Source.{here_of, Frame, Turned, answered, done, all_rooted, begins, ends, finishes, tests, settles, first_value, made_shape, written, prints, makes, makes_with, starts, copies, stores_text, is_deep, enters, called_frame, calls, calm, noted, answer, goes, item_turn, turn_at, opened, source, first_state, first_store, first_frames}
 use Rattle.aos_concurrency.specs.Spot.{NoOne}
 use Rattle.aos_concurrency.specs.Waits.{MayWait}
 use Rattle.aos_concurrency.proofs.Itself.{Any, anything}
@@ -123,7 +123,7 @@ module _ (program : Program) (following : List ℕ) where
   settles_lively (Rounds at w p last step b ∷ is) f fs s = λ h. h
   settles_lively (Round st ∷ is) f fs s = λ h. h
   settles_lively (Until at b e ∷ is) f fs s =
-      let test = value_of program (length fs) e in
+      let test = value_of program (here_of f fs) e in
       tests_lively (calm program.types (made_in s) f.variables test) (settles program following is f fs s) (begins following at (Do (Repeat at b e) ∷ is) f fs s)
       (record f { items = Until at b e ∷ is; answers = Some (noted program.types (made_in s) f.variables test) }) fs s (settles_lively is f fs s) (λ h. h)
 
@@ -138,7 +138,7 @@ module _ (program : Program) (following : List ℕ) where
   item_lively None is f fs s = settles_lively is f fs s
   item_lively (Some vs) [] f fs s = λ h. h
   item_lively (Some vs) (i ∷ is) f fs s =
-      let left = feed vs (item_of program (length fs) i) in
+      let left = feed vs (item_of program (here_of f fs) i) in
       goes_lively (calm program.types (made_in s) f.variables left) is (record f { answers = Some (vs ++ noted program.types (made_in s) f.variables left) }) fs s
 
   turn_at_lively : (fs : List Frame) (s : Store) → Lively (turn_at program following fs s)

@@ -1,6 +1,6 @@
 -- No meaning of a program has trap 16, so no execution of an image that shows the program has one.
 use Rattle.std.proofs.Common.{◌≡◌, ℕ, zero, suc, ◌<◌, List, [], ◌∷◌, ◌++◌, Bool, true, false, refl, sym, subst, arith}
-use Rattle.std.specs.Prelude.{length, map, All, ℤ, pos, ◌+ℤ◌, ◌-ℤ◌, ◌*ℤ◌, neg_ℤ, unsigned_abs, int_lt, ◌&&◌, int_le, if◌then◌else◌, Option, Some, None}
+use Rattle.std.specs.Prelude.{map, All, ℤ, pos, ◌+ℤ◌, ◌-ℤ◌, ◌*ℤ◌, neg_ℤ, unsigned_abs, int_lt, ◌&&◌, int_le, if◌then◌else◌, Option, Some, None}
 use Rattle.std.specs.Option.{option_zip}
 use Rattle.std.specs.List.{list_any}
 use Rattle.std.specs.Int.{int_div_euclid, int_rem_euclid}
@@ -21,19 +21,20 @@ use Rattle.aos_types.specs.Shape.{Shape}
 use Rattle.aos_types.specs.Content.{Content, first_content}
 use Rattle.aos_types.specs.World.{read}
 use Rattle.aos_code.specs.declared.image.Image.{Image}
-use Rattle.aos_typed.specs.Program.{Place, ModuleVar, Local, Passed, Field, Index, Of, Deref, Typed, Guarded, Rows, Known as KnownRows, Opened, Row, Spread, Longer, Arguments, NoMore, Scalar, Whole, Opening, Expr, Lit, Read, Unary, Binary, And, Or, Element, Ord, Chr, CompareTexts, Len, LenBehind, Function, Same, Is, IsRecord, Guard, Had, Call, Open as OutOpen, Char as OutChar, Int as OutInt, String as OutString, Ln as OutLn, Stat, Assign, Copy, PutText, If, Case, While, Repeat, Loop, Exit, For, Block, Assert, Halt, Change, Perform, Return, New, Make, With, WithRecord, Out, Arms, Otherwise, Arm, Cases, NoElse, Else, OfLabels, Program}
+use Rattle.aos_typed.specs.Program.{Place, ModuleVar, Local, Passed, Field, Index, Of, Deref, Typed, Guarded, Rows, Known as KnownRows, Opened, Row, Spread, Longer, Arguments, NoMore, Scalar, Whole, Opening, Callee, Plain, Dispatched, Upper, Expr, Lit, SelfRef, Read, Unary, Binary, And, Or, Element, Ord, Chr, CompareTexts, Len, LenBehind, Function, Same, Is, IsRecord, Guard, Had, Call, Open as OutOpen, Char as OutChar, Int as OutInt, String as OutString, Ln as OutLn, Stat, Assign, Copy, PutText, If, Case, While, Repeat, Loop, Exit, For, Block, Assert, Halt, Change, Perform, Return, New, Make, With, WithRecord, Out, Arms, Otherwise, Arm, Cases, NoElse, Else, OfLabels, Program}
 use Rattle.aos_typed.specs.declared.tree.Change.{Change as Changing}
 use Rattle.aos_typed.specs.declared.tree.Change.TheVariants as change
 use Rattle.aos_typed.specs.declared.tree.TType.TheVariants as type
-use Rattle.aos_typed.specs.Numbers.{id_of}
+use Rattle.aos_types.specs.Extension.{comes_to}
+use Rattle.aos_typed.specs.Numbers.{id_of, id_of_made}
 use Rattle.aos_typed.specs.Sort.{Sort as ScalarSort, variable_shape}
 use Rattle.aos_typed.specs.Spot.{Spot}
 use Rattle.aos_typed.specs.Text.{text_in, fitted}
 use Rattle.aos_typed.specs.Value.{Value, Int, Flag, Char, Set, Object, Callable, Place as Spotted, number_of, Sort, Integer, Character, Elements, element, given, unary_sort, binary_sort, is_true}
 use Rattle.aos_typed.specs.Store.{Store, has_room, made_in}
 use Rattle.aos_typed.specs.Routines.{Routine, routines}
-use Rattle.aos_typed.specs.Meaning.{Question, Doing, object_in, by_number as by_object, dereferenced, sizes_from, spread, is_instance, guarded, has_type, record_guarded, Item, Do, Rounds, Round, Until, After, Into, Exits, Returns, leave, is_in, element_of, Found, row_at, lengths_from, place_of, rows_of, arguments_of, value_of, values_of, changed, arms_of, case_of, out_of, stat_of, item_of}
-use Rattle.aos_typed.specs.Source.{Frame, Turned, answered, done, all_rooted, begins, ends, finishes, tests, settles, first_value, made_shape, written, prints, makes, makes_with, starts, copies, stores_text, is_deep, enters, called_frame, calls, known, length_in, object_place, has_type_in, calm, noted, answer, goes, item_turn, turn_at, opened, source, first_state, first_store, first_frames}
+use Rattle.aos_typed.specs.Meaning.{Here, Question, Doing, object_in, by_number as by_object, dereferenced, sizes_from, spread, is_instance, guarded, has_type, record_guarded, place_in, dispatched, calls as calls_of, receiver_of, called, Item, Do, Rounds, Round, Until, After, Into, Exits, Returns, leave, is_in, element_of, Found, row_at, lengths_from, place_of, rows_of, arguments_of, value_of, values_of, changed, arms_of, case_of, out_of, stat_of, item_of}
+use Rattle.aos_typed.specs.Source.{here_of, Frame, Turned, answered, done, all_rooted, begins, ends, finishes, tests, settles, first_value, made_shape, written, prints, makes, makes_with, starts, copies, stores_text, is_deep, enters, called_frame, calls, known, length_in, object_place, has_type_in, calm, noted, answer, goes, item_turn, turn_at, opened, source, first_state, first_store, first_frames}
 use Rattle.aos_sim.specs.Shows.{Shows, NeverLost}
 use Rattle.aos_sim.proofs.Traps.{Leaves, traps_with}
 
@@ -176,7 +177,20 @@ guarded_comes v t = nil_comes (object_in v) (Traps 3 0) _ (omega arith) (λ b. e
 record_comes : (rows : List TypeRow) (s : Spot) (t : ℕ) → Comes (record_guarded rows s t)
 record_comes rows s t = either_comes (has_type rows s t) (Val s) (Traps 3 0) tt (omega arith)
 
-module _ (program : Program) (here : ℕ) where
+-- calls
+
+dispatched_comes : (p : Program) (v : Value) (t k : ℕ) (vs : List Value) (made : ℕ) → Comes (dispatched p v t k vs made)
+dispatched_comes p v t k vs zero = omega arith
+dispatched_comes p v t k vs (suc d) =
+    either_comes (comes_to p.types (id_of_made (suc d)) (id_of_made (suc t))) _ (Traps 1 0) (λ x. tt) (omega arith)
+
+calls_come : (p : Program) (c : Callee) (o : Value) (vs : List Value) → Comes (calls_of p c o vs)
+calls_come p (Plain m k) o vs = λ x. tt
+calls_come p (Dispatched e t k) o vs =
+    nil_comes (object_in o) (Traps 1 0) _ (omega arith) (λ x. dispatched_comes p o t k vs (place_in x).type)
+calls_come p (Upper t k) o vs = λ x. tt
+
+module _ (program : Program) (here : Here) where
   lengths_come : (k d n : ℕ) → Comes (lengths_from program here k d n)
   lengths_come k d zero = tt
   lengths_come k d (suc n) = λ v. comes_then (lengths_from program here k (suc d) n) _ (lengths_come k (suc d) n) (λ vs. tt)
@@ -211,8 +225,14 @@ module _ (program : Program) (here : ℕ) where
     arguments_come (Opening r as') =
         comes_then (rows_of program here r) _ (rows_come r) (λ x. comes_then (arguments_of program here as') _ (arguments_come as') (λ vs. tt))
 
+    receiver_comes : (c : Callee) → Comes (receiver_of program here c)
+    receiver_comes (Plain m k) = tt
+    receiver_comes (Dispatched e t k) = value_comes e
+    receiver_comes (Upper t k) = tt
+
     value_comes : (e : Expr) → Comes (value_of program here e)
     value_comes (Lit l) = tt
+    value_comes SelfRef = tt
     value_comes (Read t p) = comes_then (place_of program here p) _ (place_comes p) (λ s v. tt)
     value_comes (Unary op a) =
         comes_then (value_of program here a) _ (value_comes a) (λ x. given_comes (unary_sort op) _ (unary_gives op (number_of x)))
@@ -232,7 +252,9 @@ module _ (program : Program) (here : ℕ) where
         comes_then (rows_of program here a) _ (rows_come a) (λ x. comes_then (rows_of program here b) _ (rows_come b) (λ y v. tt))
     value_comes (Len r d) = comes_then (rows_of program here r) _ (rows_come r) (λ x. tt)
     value_comes (LenBehind r n) = comes_then (rows_of program here r) _ (rows_come r) (λ x. tt)
-    value_comes (Function m k as') = comes_then (arguments_of program here as') _ (arguments_come as') (λ vs v. tt)
+    value_comes (Function c as') =
+        comes_then (receiver_of program here c) _ (receiver_comes c)
+        (λ o. comes_then (arguments_of program here as') _ (arguments_come as') (λ vs. calls_come program c o vs))
     value_comes (Same a b) =
         comes_then (value_of program here a) _ (value_comes a) (λ x. comes_then (value_of program here b) _ (value_comes b) (λ y. tt))
     value_comes (Is a t) = comes_then (value_of program here a) _ (value_comes a) (λ v. instance_comes v t)
@@ -278,7 +300,7 @@ module _ (program : Program) (here : ℕ) where
   stat_comes (Change at c p e) =
       comes_then (place_of program here p) _ (place_comes p)
       (λ s. comes_then (value_of program here e) _ (value_comes e) (λ n v. comes_then (changed c v n) _ (changed_comes c v n) (λ x w. tt)))
-  stat_comes (Perform at m k as') = comes_then (arguments_of program here as') _ (arguments_come as') (λ vs v. tt)
+  stat_comes (Perform at c as') = comes_then (called program here c as') _ (value_comes (Function c as')) (λ v. tt)
   stat_comes (Return at None) = tt
   stat_comes (Return at (Some e)) = comes_then (value_of program here e) _ (value_comes e) (λ v. tt)
   stat_comes (New at p t) = λ o. comes_then (place_of program here p) _ (place_comes p) (λ s v w. tt)
@@ -421,10 +443,10 @@ module _ (program : Program) (following : List ℕ) where
   settles_known (Rounds at w p last step b ∷ is) f fs s = tt
   settles_known (Round st ∷ is) f fs s = tt
   settles_known (Until at b e ∷ is) f fs s =
-      let test = value_of program (length fs) e in
+      let test = value_of program (here_of f fs) e in
       tests_known (calm program.types (made_in s) f.variables test) (settles program following is f fs s) (begins following at (Do (Repeat at b e) ∷ is) f fs s)
       (record f { items = Until at b e ∷ is; answers = Some (noted program.types (made_in s) f.variables test) }) fs s
-      (calm_comes program.types (made_in s) f.variables test (value_comes program (length fs) e)) (settles_known is f fs s) tt
+      (calm_comes program.types (made_in s) f.variables test (value_comes program (here_of f fs) e)) (settles_known is f fs s) tt
 
   goes_known : (d : Doing After) (rest : List Item) (f : Frame) (fs : List Frame) (s : Store) → Comes d → Known (goes program following d rest f fs s)
   goes_known (Val (Into is)) rest f fs s h = settles_known (is ++ rest) f fs s
@@ -437,10 +459,10 @@ module _ (program : Program) (following : List ℕ) where
   item_known None is f fs s = settles_known is f fs s
   item_known (Some vs) [] f fs s = tt
   item_known (Some vs) (i ∷ is) f fs s =
-      let doing = item_of program (length fs) i in
+      let doing = item_of program (here_of f fs) i in
       let left = feed vs doing in
       goes_known (calm program.types (made_in s) f.variables left) is (record f { answers = Some (vs ++ noted program.types (made_in s) f.variables left) }) fs s
-      (calm_comes program.types (made_in s) f.variables left (comes_fed vs doing (item_comes program (length fs) i)))
+      (calm_comes program.types (made_in s) f.variables left (comes_fed vs doing (item_comes program (here_of f fs) i)))
 
   turn_at_known : (fs : List Frame) (s : Store) → Known (turn_at program following fs s)
   turn_at_known [] s = tt

@@ -14,7 +14,7 @@ use Rattle.aos_types.specs.declared.row.TypeRow.{TypeRow}
 use Rattle.aos_types.specs.declared.row.TypeRow.TheVariants as row
 use Rattle.aos_types.specs.Extension.{comes_to}
 use Rattle.aos_types.specs.Shape.{Nothing, size, join, inside, offset, number_of as number_of_shape}
-use Rattle.aos_types.specs.Table.{row_of, is_open, is_record}
+use Rattle.aos_types.specs.Table.{row_of, is_open, is_record, is_object}
 use Rattle.aos_types.proofs.Tables.{comes_on}
 use Rattle.aos_types.specs.World.{World, shape_at, cell_at}
 use Rattle.aos_typed.specs.declared.tree.TType.{TType}
@@ -28,9 +28,9 @@ use Rattle.aos_typed.specs.Spot.{Spot, OnHeap}
 use Rattle.aos_types.specs.Content.{EachSort}
 use Rattle.aos_typed.specs.Typing.{Is, IsPlain, IsReference, Extends, HasLengths, Names, OnPlace, nested}
 use Rattle.aos_typed.specs.Value.{Value, Int, Flag, Object, is_true}
-use Rattle.aos_typed.specs.Meaning.{Doing, Found, found, object_in, dereferenced, sizes_from, spread, is_instance, guarded, has_type, record_guarded}
+use Rattle.aos_typed.specs.Meaning.{Here, Doing, Found, found, object_in, dereferenced, sizes_from, spread, is_instance, guarded, has_type, record_guarded}
 use Rattle.aos_typed.specs.Meaning as source
-use Rattle.aos_typed.specs.WellTyped.{target, is_reference, is_whole, IsLength}
+use Rattle.aos_typed.specs.WellTyped.{target_in, target, is_reference, is_whole, IsLength}
 use Rattle.aos_code.specs.declared.instr.Cell.TheVariants as cell
 use Rattle.aos_code.specs.declared.instr.Instr.{Instr}
 use Rattle.aos_code.specs.declared.instr.Instr.TheVariants as i
@@ -40,11 +40,11 @@ use Rattle.aos_sim.specs.Code.{operands_code}
 use Rattle.aos_sim.proofs.Runs.{Run, Onward, Tables, on_run, runs, at_cell, at_elements, asks_sizes, if_passed}
 use Rattle.aos_sim.proofs.Types.{IsValueOf, number_cell}
 use Rattle.aos_sim.proofs.Parts.{each_nested, each_rest, variable_plain, whole_ends, own_contents}
-use Rattle.aos_sim.proofs.Extended.{record_no_object, record_extension, record_made, array_made, rows_made, open_made}
+use Rattle.aos_sim.proofs.Extended.{object_fields, begins_object, object_made, record_no_object, record_extension, record_made, array_made, rows_made, open_made}
 use Rattle.aos_sim.proofs.Does.{HasTypes, HasShapes, IsObject, IsReached, Does, does_bind, object_grows, spot_cell}
 use Rattle.aos_sim.proofs.References.{IsMadeAs, nil_or, made_reference, some_object, of_target, to_target, to_any, comes_same}
-use Rattle.aos_sim.proofs.Evaluates.{OfSort, OnStack, Pushed, Yields, Evaluates, pushed, piece_does, pieces_do, sorts_stay}
-use Rattle.aos_sim.proofs.Designators.{IsFound, AreRowsAt, Named, Finds, WithRows, FindsRows, record_whole, variable_holds, holds_record, rows_hold, names_hold, names_found, rows_grow}
+use Rattle.aos_sim.proofs.Evaluates.{OfSort, ComesTo, OnStack, Pushed, Yields, Evaluates, pushed, piece_does, pieces_do, sorts_stay}
+use Rattle.aos_sim.proofs.Designators.{IsFound, HasFields, AreRowsAt, Named, Finds, WithRows, FindsRows, record_whole, variable_holds, holds_record, rows_hold, names_hold, names_found, rows_grow}
 
 -- what an object is made as
 abbrev pub spot_of : ℕ → Made → Spot
@@ -65,7 +65,19 @@ open_lengths rows m (Some (row.Object base fields)) e h = absurd (cc)
 open_lengths rows m (Some (row.Procedure formals r)) e h = absurd (cc)
 open_lengths rows m (Some row.Any) e h = absurd (cc)
 
-module _ (program : Program) (own : Option Procedure) (tables : Tables) (number here : ℕ) (code : List Instr) where
+-- an object type is what its values are made as
+pub object_target : (rows : List TypeRow) (t : TypeId) (o : Option TypeRow) → is_object o ≡ true → target_in rows t o ≡ Some t
+object_target rows t None e = absurd (cc)
+object_target rows t (Some (row.Basic b)) e = absurd (cc)
+object_target rows t (Some (row.Array n of)) e = absurd (cc)
+object_target rows t (Some (row.Open of)) e = absurd (cc)
+object_target rows t (Some (row.Record base fields)) e = absurd (cc)
+object_target rows t (Some (row.Pointer to)) e = absurd (cc)
+object_target rows t (Some (row.Object base fields)) e = refl
+object_target rows t (Some (row.Procedure formals r)) e = absurd (cc)
+object_target rows t (Some row.Any) e = absurd (cc)
+
+module _ (program : Program) (own : Option Procedure) (tables : Tables) (number : ℕ) (here : Here) (code : List Instr) where
   abbrev onward : List Instr → Onward
   onward = runs tables number here code
 
@@ -78,9 +90,6 @@ module _ (program : Program) (own : Option Procedure) (tables : Tables) (number 
 
   -- the place of what it holds
   module _ (typed : HasTypes program) (w : World Sort) (o : ℕ) (m : Made) (t : TType) (extends : comes_to rows (id_of_made m.type) (id_of t) ≡ true) (whole : is_whole (row_of rows (id_of t)) ≡ true) (shape : w.shape (ObjectRoot o) ≡ Some (made_shape rows m)) (reached : IsReached w (spot_of o m)) where
-    first_cell : cell_at w (ObjectRoot o) [] ≡ 0
-    first_cell = ap (number_of_shape (offset [])) shape
-
     object_names : is_record (row_of rows (id_of t)) ≡ true → Names rows w (id_of t) (spot_of o m)
     object_names is =
         let d = id_of_made m.type in
@@ -110,27 +119,27 @@ module _ (program : Program) (own : Option Procedure) (tables : Tables) (number 
               names = λ is. absurd (false≢true (sym isnt ∙ is));
             }
 
-  pub deref_does : HasTypes program → (u t : TType) (xs : List Instr) (r : Doing Value) (at : ℕ) → target rows u ≡ Some (id_of t) → is_whole (row_of rows (id_of t)) ≡ true → Yields program own tables number here code u xs r at → Finds program own tables number here code (is_record (row_of rows (id_of t)) ≡ true) t (xs ++ i.Deref 0 ∷ []) (bind r (λ v. dereferenced v)) at
-  deref_does typed u t xs r at to whole h w known rest k s =
+  -- what is so of the place of each object of a type is so of what is found behind a reference
+  deref_goes : (P : World Sort → Spot → Type 0) (u t : TType) → ((w : World Sort) (o : ℕ) (m : Made) → comes_to rows (id_of_made m.type) (id_of t) ≡ true → w.shape (ObjectRoot o) ≡ Some (made_shape rows m) → IsReached w (spot_of o m) → P w (spot_of o m)) → (xs : List Instr) (r : Doing Value) (at : ℕ) → target rows u ≡ Some (id_of t) → Yields program own tables number here code u xs r at → ComesTo program own tables number here code P place_in (xs ++ i.Deref 0 ∷ []) (bind r (λ v. dereferenced v)) at
+  deref_goes P u t so xs r at to h w known rest k s =
       let x = i.Deref 0 in
       let p = at + length xs in
       let q = at + length (xs ++ x ∷ []) in
       let behind : p + 1 ≡ q = omega (arith, length-append xs (x ∷ [])) in
-      let named = is_record (row_of rows (id_of t)) ≡ true in
-      let Q = Named program own tables number here code named t rest q k s in
+      let Q = OnStack tables number here code P place_in rest q k s in
       piece_does program own tables number here code (OfSort program own tables number here code u) cell_of Q (λ v. dereferenced v) xs (x ∷ []) r at rest k s h w known
       (λ w1 up v m is e. by p q behind w1 v m (nil_or rows w1 (Extends rows (id_of t)) v (of_target program w1 u (id_of t) v to is)) e)
     where
       Reached : ℕ → World Sort → Spot → Run → Type 0
-      Reached q = Named program own tables number here code (is_record (row_of rows (id_of t)) ≡ true) t rest q k s
+      Reached q = OnStack tables number here code P place_in rest q k s
 
       placed_so : (w2 : World Sort) (o : ℕ) (made : Made) (q p : ℕ) → p + 1 ≡ q → comes_to rows (id_of_made made.type) (id_of t) ≡ true → w2.shape (ObjectRoot o) ≡ Some (made_shape rows made) → (y : Value) → y ≡ object_place o (Some made) → OnPlace (IsReached w2) y → Reached q w2 (source.place_in y) (onward rest 0 (p + 1) k (at_cell 0 (cell_of w2 y) ∷ s))
       placed_so w2 o made q p behind ext shape y is reached =
           subst (λ z. OnPlace (IsReached w2) z → Reached q w2 (source.place_in z) (onward rest 0 (p + 1) k (at_cell 0 (cell_of w2 z) ∷ s))) (sym is)
           (λ on. record {
-            is = object_found typed w2 o made t ext whole shape on;
+            is = so w2 o made ext shape on;
             run = ap (λ n. onward rest 0 n k (cell.Place (ObjectRoot o) 0 made.type ∷ s)) behind
-                ∙ ap (λ n. onward rest 0 q k (cell.Place (ObjectRoot o) n made.type ∷ s)) (sym (first_cell typed w2 o made t ext whole shape on));
+                ∙ ap (λ n. onward rest 0 q k (cell.Place (ObjectRoot o) n made.type ∷ s)) (sym (ap (number_of_shape (offset [])) shape));
           }) reached
 
       by : (p q : ℕ) → p + 1 ≡ q → (w1 : World Sort) (v : Value) (m : Run) → (v ≡ Object 0) ⊎ IsMadeAs rows w1 (Extends rows (id_of t)) v → m ≡ onward (i.Deref 0 ∷ rest) 0 p k (cell_of w1 v ∷ s) → Does program here (Reached q) w1 m (dereferenced v)
@@ -148,6 +157,22 @@ module _ (program : Program) (own : Option Procedure) (tables : Tables) (number 
                 let c = conforms a.made (object_grows program here w1 w2 up (Object (suc o)) a.made obj) in
                 placed_so w2 (suc o) a.made q p behind a.is c.1 y c.0 c.2,
           )) e
+
+  pub deref_does : HasTypes program → (u t : TType) (xs : List Instr) (r : Doing Value) (at : ℕ) → target rows u ≡ Some (id_of t) → is_whole (row_of rows (id_of t)) ≡ true → Yields program own tables number here code u xs r at → Finds program own tables number here code (is_record (row_of rows (id_of t)) ≡ true) t (xs ++ i.Deref 0 ∷ []) (bind r (λ v. dereferenced v)) at
+  deref_does typed u t xs r at to whole h =
+      deref_goes (IsFound program (is_record (row_of rows (id_of t)) ≡ true) t) u t (λ w o m ext shape reached. object_found typed w o m t ext whole shape reached) xs r at to h
+
+  -- the fields of an object
+  pub object_does : HasTypes program → (t : TType) (xs : List Instr) (r : Doing Value) (at : ℕ) → is_object (row_of rows (id_of t)) ≡ true → Yields program own tables number here code t xs r at → ComesTo program own tables number here code (HasFields program (id_of t)) place_in (xs ++ i.Deref 0 ∷ []) (bind r (λ v. dereferenced v)) at
+  object_does typed t xs r at is h = deref_goes (HasFields program (id_of t)) t t fields xs r at (object_target rows (id_of t) (row_of rows (id_of t)) is) h
+    where
+      fields : (w : World Sort) (o : ℕ) (m : Made) → comes_to rows (id_of_made m.type) (id_of t) ≡ true → w.shape (ObjectRoot o) ≡ Some (made_shape rows m) → IsReached w (spot_of o m) → HasFields program (id_of t) w (spot_of o m)
+      fields w o m ext shape reached =
+          let has = object_fields (row_of rows (id_of t)) is in
+          let d = id_of_made m.type in
+          let r = begins_object program typed d (id_of t) has ext in
+          let there : shape_at w (ObjectRoot o) [] ≡ Some (object_shape rows d) = ap (option_and_then (inside [])) shape ∙ ap (λ s. Some s) (object_made program typed m (id_of t) ext has) in
+          record { shape = object_shape rows d; there = there; few = reached (object_shape rows d) there; more = r.0; begins = r.1 }
 
   -- An open array that is an object
 

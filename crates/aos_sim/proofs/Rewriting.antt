@@ -12,11 +12,13 @@ use Rattle.aos_base.specs.Operators.{natural, unary as unary_of, binary as binar
 use Rattle.aos_base.specs.Question.{Tree, Val, Asks, Traps, bind, feed, ask, Reads, Stores, Copies, PutsText, ComparesTexts, Calls, Ends, Makes, Starts, PutsInt, PutsChar, PutsString, PutsNothing, PutsLn, Places, Lengths, Opens, Sizes, Tests}
 use Rattle.aos_base.specs.Rooted.{Made}
 use Rattle.aos_types.specs.Content.{Content}
-use Rattle.aos_typed.specs.Numbers.{procedure_number}
-use Rattle.aos_typed.specs.Program.{Place, ModuleVar, Local, Passed, Field, Index, Of, Deref, Typed, Guarded, Rows, Known, Opened, Row, Spread, Longer, Arguments, NoMore, Scalar, Whole, Opening, Expr, Lit, Read, Unary, Binary, And, Or, Element, Ord, Chr, CompareTexts, Len, LenBehind, Function, Same, Is, IsRecord, Guard, Had, Program}
+use Rattle.aos_types.specs.Extension.{comes_to}
+use Rattle.aos_typed.specs.Methods.{method_number}
+use Rattle.aos_typed.specs.Numbers.{id_of, id_of_made, procedure_number}
+use Rattle.aos_typed.specs.Program.{Place, ModuleVar, Local, Passed, Field, Index, Of, Deref, Typed, Guarded, Rows, Known, Opened, Row, Spread, Longer, Arguments, NoMore, Scalar, Whole, Opening, Plain, Dispatched, Upper, Expr, Lit, SelfRef, Read, Unary, Binary, And, Or, Element, Ord, Chr, CompareTexts, Len, LenBehind, Function, Same, Is, IsRecord, Guard, Had, Program}
 use Rattle.aos_typed.specs.Spot.{Spot}
-use Rattle.aos_typed.specs.Value.{Value, Int, Flag, Place as PlaceValue, number_of, Sort, Character, given, unary_sort, binary_sort, unary, binary, element, ord, chr, is_true}
-use Rattle.aos_typed.specs.Meaning.{Question, Doing, Found, found, After, Into, place_in, own_place, part_of, element_of, row_at, length_at, text_length, object_in, by_number, dereferenced, sizes_from, spread, is_instance, guarded, has_type, record_guarded, lengths_from, place_of, rows_of, arguments_of, value_of}
+use Rattle.aos_typed.specs.Value.{Value, Int, Flag, Object, Place as PlaceValue, number_of, Sort, Character, given, unary_sort, binary_sort, unary, binary, element, ord, chr, is_true}
+use Rattle.aos_typed.specs.Meaning.{Here, Question, Doing, Found, found, After, Into, place_in, own_place, part_of, field_of, dispatched, sent, element_of, row_at, length_at, text_length, object_in, by_number, dereferenced, sizes_from, spread, is_instance, guarded, has_type, record_guarded, lengths_from, place_of, rows_of, arguments_of, value_of}
 use Rattle.aos_typed.specs.Source.{known, length_in, object_place, has_type_in}
 use Rattle.aos_sim.specs.Rewriting.{is_asking, are_asked, settled, with_first_index, with_first_row, with_first_argument, with_first, rewritten_place, rewritten, DesignatorRewrites, ExpressionRewrites, AssignedRewrites, AssignmentRewrites, StatementRewrites}
 
@@ -228,10 +230,26 @@ module _ (p : Program) (made : ℕ → Option Made) (c : Content Value) where
       let d : Doing Value = if b then Val v else Traps 3 0 in
       nil_silent (object_in v) (Traps 3 0) _ refl (settled_silent d (either_silent b (Val v) (Traps 3 0) refl refl))
 
+  -- a method that is called asks for the call alone
+  sent_fed : (v o : Value) (t k : ℕ) (vs : List Value) → is_asking (settled p made c (sent p o t k vs)) ≡ true → feed (v ∷ []) (settled p made c (sent p o t k vs)) ≡ Val v
+  sent_fed v o t k vs asks = by (object_in o) asks
+    where
+      at_type : (d : ℕ) → is_asking (settled p made c (dispatched p o t k vs d)) ≡ true → feed (v ∷ []) (settled p made c (dispatched p o t k vs d)) ≡ Val v
+      at_type zero asks = absurd (cc asks)
+      at_type (suc d) asks = at_test (comes_to p.types (id_of_made (suc d)) (id_of_made (suc t))) asks
+        where
+          at_test : (b : Bool) → is_asking (settled p made c (if b then ask (Calls (method_number p d k) (o ∷ vs)) else Traps 1 0)) ≡ true → feed (v ∷ []) (settled p made c (if b then ask (Calls (method_number p d k) (o ∷ vs)) else Traps 1 0)) ≡ Val v
+          at_test true asks = refl
+          at_test false asks = absurd (cc asks)
+
+      by : (n : ℕ) → is_asking (settled p made c (by_number n (Traps 1 0) (bind (ask (Opens o)) (λ x. dispatched p o t k vs (place_in x).type)))) ≡ true → feed (v ∷ []) (settled p made c (by_number n (Traps 1 0) (bind (ask (Opens o)) (λ x. dispatched p o t k vs (place_in x).type)))) ≡ Val v
+      by zero asks = absurd (cc asks)
+      by (suc n) asks = at_type (place_in (object_place (object_in o) (made (object_in o)))).type asks
+
   record_silent : (s : Spot) (t : ℕ) → is_asking (record_guarded p.types s t) ≡ false
   record_silent s t = either_silent (has_type p.types s t) (Val s) (Traps 3 0) refl refl
 
-  module _ (here : ℕ) where
+  module _ (here : Here) where
     -- an open array parameter has no visible work
     lengths_silent : (k d n : ℕ) → is_asking (settled p made c (lengths_from p here k d n)) ≡ false
     lengths_silent k d zero = refl
@@ -292,12 +310,31 @@ module _ (p : Program) (made : ℕ → Option Made) (c : Content Value) where
                 let y = asks_behind (S (rows b)) (λ y. S (ask (compared x y))) none (ap is_asking (sym at) ∙ asks) in
                 ap (feed (v ∷ [])) at ∙ ap (λ r. feed (v ∷ []) (bind r (λ y. S (ask (compared x y))))) y.1
 
+      -- a method called, whose receiver is evaluated first
+      module _ (e : Expr) (t k : ℕ) (more : Arguments) where
+        abbrev called_with : Arguments → Value → Doing Value
+        called_with us o = bind (arguments us) (λ vs. sent p o t k vs)
+
+        dispatch_turns : Turns v (value e) (value (first_value e)) → Turns v (arguments more) (arguments (first_argument more)) → Turns v (value (Function (Dispatched e t k) more)) (value (first_value (Function (Dispatched e t k) more)))
+        dispatch_turns one other =
+            on_two value v (value e) (value (first_value e)) (called_with more) (Function (Dispatched (first_value e) t k) more)
+            (if is_asking (S (arguments more)) then Function (Dispatched e t k) (first_argument more) else Had v) refl one
+            (λ o at asks. by o at asks (is_asking (S (arguments more))) refl) (is_asking (S (value e))) refl
+          where
+            by : (o : Value) → settled p made c (value e) ≡ Val o → is_asking (settled p made c (called_with more o)) ≡ true → (d : Bool) → is_asking (settled p made c (arguments more)) ≡ d → feed (v ∷ []) (settled p made c (called_with more o)) ≡ settled p made c (value (if d then Function (Dispatched e t k) (first_argument more) else Had v))
+            by o is asks true first =
+                on_first v (arguments more) (arguments (first_argument more)) (λ vs. sent p o t k vs) other first ∙ behind_value (value e) (called_with (first_argument more)) o is
+            by o is asks false none =
+                let at = settled_bind (arguments more) (λ vs. sent p o t k vs) in
+                let us = asks_behind (S (arguments more)) (λ vs. S (sent p o t k vs)) none (ap is_asking (sym at) ∙ asks) in
+                ap (feed (v ∷ [])) at ∙ ap (λ r. feed (v ∷ []) (bind r (λ vs. S (sent p o t k vs)))) us.1 ∙ sent_fed v o t k us.0 us.2
+
       mutual
         one_index : (q : Place) → Turns v (place q) (place (first_place q))
         one_index (ModuleVar m k) asks = absurd (cc asks)
         one_index (Local k) asks = absurd (cc asks)
         one_index (Passed k) asks = absurd (cc asks)
-        one_index (Field q t k) asks = on_one v (place q) (place (first_place q)) (λ s. Val (part_of k s)) (λ s. refl) (one_index q) asks
+        one_index (Field q t k) asks = on_one v (place q) (place (first_place q)) (λ s. Val (field_of p.types (id_of t) k s)) (λ s. refl) (one_index q) asks
         one_index (Index q n t e) asks =
             let at : Expr → Spot → Doing Spot = λ d s. bind (value d) (λ x. element_of n x s) in
             on_both place v (place q) (place (first_place q)) (at e) (at (first_value e)) (Index (first_place q) n t e) (Index q n t (first_value e)) refl refl (one_index q)
@@ -336,6 +373,7 @@ module _ (p : Program) (made : ℕ → Option Made) (c : Content Value) where
 
         one_read : (e : Expr) → Turns v (value e) (value (first_value e))
         one_read (Lit m) asks = absurd (cc asks)
+        one_read SelfRef asks = absurd (cc asks)
         one_read (Read t q) asks = on_last value v (place q) (place (first_place q)) (λ s. Reads t s) (Read t (first_place q)) (Had v) (λ s. refl) refl refl (one_index q) asks
         one_read (Unary op a) asks = on_one v (value a) (value (first_value a)) (on_operand op) (unary_silent op) (one_read a) asks
         one_read (Binary op a b) asks =
@@ -356,8 +394,11 @@ module _ (p : Program) (made : ℕ → Option Made) (c : Content Value) where
         one_read (CompareTexts r a b) asks = compare_turns r a b (one_row a) (one_row b) asks
         one_read (Len r d) asks = on_one v (rows r) (rows (first_row r)) (λ x. Val (length_at d x)) (λ x. refl) (one_row r) asks
         one_read (LenBehind r n) asks = on_one v (rows r) (rows (first_row r)) (λ x. Val (Int (pos n))) (λ x. refl) (one_row r) asks
-        one_read (Function m k more) asks =
-            on_last value v (arguments more) (arguments (first_argument more)) (λ vs. Calls (procedure_number p m k) vs) (Function m k (first_argument more)) (Had v) (λ vs. refl) refl refl (one_argument more) asks
+        one_read (Function (Plain m k) more) asks =
+            on_last value v (arguments more) (arguments (first_argument more)) (λ vs. Calls (procedure_number p m k) vs) (Function (Plain m k) (first_argument more)) (Had v) (λ vs. refl) refl refl (one_argument more) asks
+        one_read (Function (Dispatched e t k) more) asks = dispatch_turns e t k more (one_read e) (one_argument more) asks
+        one_read (Function (Upper t k) more) asks =
+            on_last value v (arguments more) (arguments (first_argument more)) (λ vs. Calls (method_number p t k) (Object here.self ∷ vs)) (Function (Upper t k) (first_argument more)) (Had v) (λ vs. refl) refl refl (one_argument more) asks
         one_read (Same a b) asks =
             let after : Expr → Value → Doing Value = λ d x. bind (value d) (λ y. Val (Flag (object_in x == object_in y))) in
             on_both value v (value a) (value (first_value a)) (after b) (after (first_value b)) (Same (first_value a) b) (Same a (first_value b)) refl refl (one_read a)
@@ -394,7 +435,7 @@ statement_rewrites p here made c e onward ls asked =
     all_fed p made c (value_of p here) (with_first p here made c) (rewritten p here made c) (λ x. refl) (λ l ls x. refl) (one_read p made c here) (λ t. bind t onward) (λ t a. asks_before t onward a) (λ v t a. fed_before v t onward a) e ls asked
 
 -- what an assignment goes on with behind its designator
-abbrev stored : Program → ℕ → Expr → Spot → Doing After
+abbrev stored : Program → Here → Expr → Spot → Doing After
 stored p here e s = bind (value_of p here e) (λ v. bind (ask (Stores s v)) (λ _. Val (Into [])))
 
 pub assigned_rewrites : AssignedRewrites

@@ -13,7 +13,7 @@ use Rattle.aos_typed.specs.declared.tree.TType.TheVariants.{Integer}
 use Rattle.aos_typed.specs.Program.{Place, Expr, Read, Assign, For, Stats, Procedure, Program}
 use Rattle.aos_typed.specs.Sort.{Sort}
 use Rattle.aos_typed.specs.Value.{Value, number_of}
-use Rattle.aos_typed.specs.Meaning.{Doing, Item, Do, Rounds, After, Into, items_of, value_of, until, next_value, rounds_of}
+use Rattle.aos_typed.specs.Meaning.{Here, Doing, Item, Do, Rounds, After, Into, items_of, value_of, until, next_value, rounds_of}
 use Rattle.aos_code.specs.declared.instr.Cell.TheVariants.{Num}
 use Rattle.aos_code.specs.declared.instr.Instr.{Instr}
 use Rattle.aos_code.specs.declared.instr.Instr.TheVariants as i
@@ -37,7 +37,7 @@ head_stands : (code : List Instr) (at : ℕ) (there : Pos) (v : List Instr) (kee
 head_stands code at there v keep a more rest e =
     e ∙ append_assoc (begin there ∷ (v ++ (keep ∷ a))) more rest ∙ ap (λ l. begin there ∷ l) (append_assoc v (keep ∷ a) (more ++ rest))
 
-module _ (program : Program) (own : Option Procedure) (tables : Tables) (number here : ℕ) (code : List Instr) (typed : HasTypes program) (shaped : HasShapes program tables) where
+module _ (program : Program) (own : Option Procedure) (tables : Tables) (number : ℕ) (here : Here) (code : List Instr) (typed : HasTypes program) (shaped : HasShapes program tables) where
   abbrev onward : List Instr → Onward
   onward = runs tables number here code
 

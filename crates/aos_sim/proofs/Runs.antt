@@ -9,6 +9,7 @@ use Rattle.aos_base.specs.Question.{Tree, Val, Asks, Traps, feed, Reads, Stores,
 use Rattle.aos_base.specs.Rooted.{Made}
 use Rattle.aos_base.specs.declared.place.Root.TheVariants.{Object as ObjectRoot}
 use Rattle.aos_base.specs.Operators.{flag}
+use Rattle.aos_typed.specs.Meaning.{Here}
 use Rattle.aos_code.specs.declared.instr.Cell.{Cell}
 use Rattle.aos_code.specs.declared.instr.Cell.TheVariants.{Num, Ref, Call as CallCell, Place}
 use Rattle.aos_code.specs.declared.instr.Instr.{Instr}
@@ -16,7 +17,7 @@ use Rattle.aos_code.specs.declared.image.ProcShape.{ProcShape}
 use Rattle.aos_code.specs.declared.image.TypeDesc.{TypeDesc}
 use Rattle.aos_code.specs.declared.image.Image.{Image}
 use Rattle.aos_code.specs.Numbered.{numbered}
-use Rattle.aos_code.specs.Silent.{Stack, Keeps, Question, End, Begins, Fails, Stop, Work, Ended, Look, AtCell, AtElements, IsType, AsType, Act, Goes, Puts, Takes, Looks, Sees, Stops, is_of, kept, extends, length_cells, Noted, Visible, Answered, Unknown, noted, on_noted, Told, Tells, Refuses, Unheard, told_by, on_told, act, on_act, walk, silent}
+use Rattle.aos_code.specs.Silent.{Here as CodeHere, Stack, Keeps, Question, End, Begins, Fails, Stop, Work, Ended, Look, AtCell, AtElements, IsType, AsType, AtSlot, Act, Goes, Puts, Takes, Looks, Sees, Stops, is_of, kept, extends, length_cells, Noted, Visible, Answered, Unknown, noted, on_noted, Told, Tells, Refuses, Invokes, Unheard, stands_for, invoked, method_at, told_by, on_told, act, on_act, walk, silent}
 
 -- where code comes to a Begin: its place in the code and the text, what is kept, and the operands
 pub data Left : Type 0 where
@@ -45,6 +46,10 @@ pub record Tables : Type 0 where
 abbrev pub tables_of : Image → Tables
 tables_of image = record { procedures = image.shapes.items; types = image.types.items }
 
+-- where the code stands whose statements are carried out here
+abbrev pub in_code : Here → CodeHere
+in_code here = record { below = here.below; self = here.self }
+
 -- what an object tells is asked of it as a row of questions
 
 abbrev pub is_asked_at_once : Question → Bool
@@ -72,14 +77,28 @@ abbrev pub if_passed : Cell → Run → Run
 if_passed (Num (pos (suc zero))) r = r
 if_passed v r = Traps 3 0
 
-abbrev pub looked : Look → (object : Cell) → (Stack → Run) → Stack → Run
-looked (AtCell c) v k s = Asks (Opens v) (λ x. k (at_cell c x ∷ s))
-looked (AtElements j) v k s = Asks (Opens v) (λ x. asks_sizes v 0 j k (at_elements x ∷ s))
-looked (IsType t) v k s = Asks (Tests v t) (λ x. k (x ∷ s))
-looked (AsType t) v k s = Asks (Tests v t) (λ x. if_passed x (k (v ∷ s)))
+-- the type of what stands at a place
+abbrev pub type_at : Cell → ℕ
+type_at (Place root cell type) = type
+type_at v = 0
+
+-- the call that an object's type has in a slot, where it has one
+abbrev pub invokes : Told → (Question → Run) → Run
+invokes (Invokes q vs) call = call (Calls q vs)
+invokes (Tells vs) call = Traps 16 0
+invokes (Refuses n) call = Traps 16 0
+invokes Unheard call = Traps 16 0
 
 -- of an image's procedures and types this is known
 module _ (tables : Tables) where
+  abbrev pub looked : Look → (object : ℕ) → (Question → Run) → (Stack → Run) → Stack → Run
+  looked (AtCell c) o call k s = Asks (Opens (Ref o)) (λ x. k (at_cell c x ∷ s))
+  looked (AtElements j) o call k s = Asks (Opens (Ref o)) (λ x. asks_sizes (Ref o) 0 j k (at_elements x ∷ s))
+  looked (IsType t) o call k s = Asks (Tests (Ref o) t) (λ x. k (x ∷ s))
+  looked (AsType t) o call k s = Asks (Tests (Ref o) t) (λ x. if_passed x (k (Ref o ∷ s)))
+  looked (AtSlot c p vs) o call k s =
+      Asks (Opens (Ref o)) (λ x. invokes (invoked tables.procedures p (method_at tables.types (type_at x) c) o vs) call)
+
   -- work is done, and with its answer the code goes on behind it; behind an end nothing follows
   abbrev pub past : Question → Cell → ℕ → Keeps → Stack → Onward → Run
   past (Reads kind a) x at k s next = next 0 (at + 1) k (x ∷ s)
@@ -110,7 +129,7 @@ module _ (tables : Tables) where
   on_run (Goes over s) next at k = next over (at + 1) k s
   on_run (Puts c v s) next at k = next 0 (at + 1) (kept c v k) s
   on_run (Takes c kind s) next at k = if is_of kind (k c) then next 0 (at + 1) k (k c ∷ s) else Traps 16 0
-  on_run (Looks l o s) next at k = looked l (Ref o) (λ s'. next 0 (at + 1) k s') s
+  on_run (Looks l o s) next at k = looked l o (λ q. at_work q at k s next) (λ s'. next 0 (at + 1) k s') s
   on_run (Sees q s) next at k = at_work q at k s next
   on_run (Stops end) next at k = ended end k
 
@@ -148,10 +167,10 @@ module _ (types : List TypeDesc) (made : ℕ → Option Made) (cells : List Cell
       by Unknown on = Traps 16 0
 
 -- in a frame of a procedure, above so many others
-module _ (tables : Tables) (own here : ℕ) (code : List Instr) where
+module _ (tables : Tables) (own : ℕ) (here : Here) (code : List Instr) where
   abbrev pub runs : List Instr → Onward
   runs [] over at k s = Traps 16 0
-  runs (i ∷ rest) zero at k s = on_run tables (act tables.procedures tables.types own here i code at s) (runs rest) at k
+  runs (i ∷ rest) zero at k s = on_run tables (act tables.procedures tables.types own (in_code here) i code at s) (runs rest) at k
   runs (i ∷ rest) (suc n) at k s = runs rest n (at + 1) k s
 
   -- from a place of the code
@@ -253,7 +272,10 @@ pushed_reverse (c ∷ cs) s =
 abbrev pub numbers : List ℕ → List Cell
 numbers ns = map (λ n. Num (pos n)) ns
 
-module _ (types : List TypeDesc) (made : ℕ → Option Made) (cells : List Cell) (o : ℕ) (k : Stack → Run) where
+module _ (tables : Tables) (made : ℕ → Option Made) (cells : List Cell) (o : ℕ) (call : Question → Run) (k : Stack → Run) where
+  abbrev types : List TypeDesc
+  types = tables.types
+
   abbrev calmed : Run → Run
   calmed r = calm types made cells r
 
@@ -261,6 +283,7 @@ module _ (types : List TypeDesc) (made : ℕ → Option Made) (cells : List Cell
   abbrev told_run : Told → Stack → Run
   told_run (Tells vs) s = calmed (k (vs ++ s))
   told_run (Refuses n) s = Traps n 0
+  told_run (Invokes q vs) s = calmed (call (Calls q vs))
   told_run Unheard s = Traps 16 0
 
   module _ (m : Made) (is : made o ≡ Some m) where
@@ -285,7 +308,7 @@ module _ (types : List TypeDesc) (made : ℕ → Option Made) (cells : List Cell
         ∙ sizes_told n (suc d) ns (Num (pos x) ∷ s) (λ j. let f : d + suc j ≡ suc d + j = omega arith in e (suc j) ∙ ap (slice_get m.lengths) f)
         ∙ ap (λ b. if b then calmed (k (pushed (numbers (take n ns)) (Num (pos x) ∷ s))) else Traps 16 0) (sym (leb-suc-suc n (length ns)))
 
-    elements_told : (j : ℕ) (s : Stack) → calmed (asks_sizes (Ref o) 0 j k (Place (ObjectRoot o) 0 0 ∷ s)) ≡ told_run (told_by types (AtElements j) o (Some m)) s
+    elements_told : (j : ℕ) (s : Stack) → calmed (asks_sizes (Ref o) 0 j k (Place (ObjectRoot o) 0 0 ∷ s)) ≡ told_run (told_by tables.procedures types (AtElements j) o (Some m)) s
     elements_told j s =
         sizes_told j 0 m.lengths (Place (ObjectRoot o) 0 0 ∷ s) (λ i. let z : i ≡ 0 + i = omega arith in ap (slice_get m.lengths) z) ∙ by (nat_le j (length m.lengths))
       where
@@ -299,7 +322,15 @@ module _ (types : List TypeDesc) (made : ℕ → Option Made) (cells : List Cell
     test_told true s = refl
     test_told false s = refl
 
-    tells : (l : Look) (s : Stack) → calmed (looked l (Ref o) k s) ≡ told_run (told_by types l o (Some m)) s
+    method_told : (p : ℕ) (vs : List Cell) (s : Stack) (n : Option ℕ) → calmed (invokes (invoked tables.procedures p n o vs) call) ≡ told_run (invoked tables.procedures p n o vs) s
+    method_told p vs s None = refl
+    method_told p vs s (Some q) = by (stands_for (numbered tables.procedures q) (numbered tables.procedures p))
+      where
+        by : (b : Bool) → calmed (invokes (if b then Invokes q (Ref o ∷ vs) else Unheard) call) ≡ told_run (if b then Invokes q (Ref o ∷ vs) else Unheard) s
+        by true = refl
+        by false = refl
+
+    tells : (l : Look) (s : Stack) → calmed (looked tables l o call k s) ≡ told_run (told_by tables.procedures types l o (Some m)) s
     tells (AtCell c) s =
         calm_answered types made cells (Opens (Ref o)) (λ x. k (at_cell c x ∷ s)) (Place (ObjectRoot o) 0 m.type) (ap (told_as (λ m. Answered (Place (ObjectRoot o) 0 m.type))) is)
     tells (AtElements j) s =
@@ -310,19 +341,24 @@ module _ (types : List TypeDesc) (made : ℕ → Option Made) (cells : List Cell
     tells (AsType t) s =
         calm_answered types made cells (Tests (Ref o) t) (λ x. if_passed x (k (Ref o ∷ s))) (Num (flag (extends types m.type t))) (ap (told_as (λ m. Answered (Num (flag (extends types m.type t))))) is)
         ∙ test_told (extends types m.type t) s
+    tells (AtSlot c p vs) s =
+        calm_answered types made cells (Opens (Ref o)) (λ x. invokes (invoked tables.procedures p (method_at types (type_at x) c) o vs) call) (Place (ObjectRoot o) 0 m.type) (ap (told_as (λ m. Answered (Place (ObjectRoot o) 0 m.type))) is)
+        ∙ method_told p vs s (method_at types m.type c)
 
-  tells_nothing : made o ≡ None → (l : Look) (s : Stack) → calmed (looked l (Ref o) k s) ≡ Traps 16 0
+  tells_nothing : made o ≡ None → (l : Look) (s : Stack) → calmed (looked tables l o call k s) ≡ Traps 16 0
   tells_nothing e (AtCell c) s = calm_unknown types made cells (Opens (Ref o)) (λ x. k (at_cell c x ∷ s)) (ap (told_as (λ m. Answered (Place (ObjectRoot o) 0 m.type))) e)
   tells_nothing e (AtElements j) s =
       calm_unknown types made cells (Opens (Ref o)) (λ x. asks_sizes (Ref o) 0 j k (at_elements x ∷ s)) (ap (told_as (λ m. Answered (Place (ObjectRoot o) 0 m.type))) e)
   tells_nothing e (IsType t) s = calm_unknown types made cells (Tests (Ref o) t) (λ x. k (x ∷ s)) (ap (told_as (λ m. Answered (Num (flag (extends types m.type t))))) e)
   tells_nothing e (AsType t) s =
       calm_unknown types made cells (Tests (Ref o) t) (λ x. if_passed x (k (Ref o ∷ s))) (ap (told_as (λ m. Answered (Num (flag (extends types m.type t))))) e)
+  tells_nothing e (AtSlot c p vs) s =
+      calm_unknown types made cells (Opens (Ref o)) (λ x. invokes (invoked tables.procedures p (method_at types (type_at x) c) o vs) call) (ap (told_as (λ m. Answered (Place (ObjectRoot o) 0 m.type))) e)
 
-  told_at_once : (l : Look) (s : Stack) → calmed (looked l (Ref o) k s) ≡ told_run (told_by types l o (made o)) s
+  told_at_once : (l : Look) (s : Stack) → calmed (looked tables l o call k s) ≡ told_run (told_by tables.procedures types l o (made o)) s
   told_at_once l s = by (made o) refl
     where
-      by : (r : Option Made) → made o ≡ r → calmed (looked l (Ref o) k s) ≡ told_run (told_by types l o r) s
+      by : (r : Option Made) → made o ≡ r → calmed (looked tables l o call k s) ≡ told_run (told_by tables.procedures types l o r) s
       by None e = tells_nothing e l s
       by (Some m) e = tells m e l s
 
@@ -370,7 +406,7 @@ object_unnoted cells PutsLn e = absurd (cc)
 object_unnoted cells (Places a) e = absurd (cc)
 object_unnoted cells (Lengths a) e = absurd (cc)
 
-module _ (tables : Tables) (made : ℕ → Option Made) (own here : ℕ) (cells : List Cell) (code : List Instr) where
+module _ (tables : Tables) (made : ℕ → Option Made) (own : ℕ) (here : Here) (cells : List Cell) (code : List Instr) where
   abbrev runs_here : List Instr → Onward
   runs_here = runs tables own here code
 
@@ -378,7 +414,7 @@ module _ (tables : Tables) (made : ℕ → Option Made) (own here : ℕ) (cells 
   calm_here = calm tables.types made cells
 
   abbrev stops : List Instr → ℕ → ℕ → Keeps → Stack → Stop
-  stops = walk tables.procedures tables.types made own here cells code
+  stops = walk tables.procedures tables.types made own (in_code here) cells code
 
   abbrev from_stop : Stop → Run
   from_stop = resume tables own here code
@@ -405,18 +441,20 @@ module _ (tables : Tables) (made : ℕ → Option Made) (own here : ℕ) (cells 
   by_test rest at ih true k s = ih 0 k s
   by_test rest at ih false k s = refl
 
-  by_told : (rest : List Instr) (at : ℕ) → Leads rest (at + 1) → (o : ℕ) (k : Keeps) (s : Stack) (t : Told) → told_run tables.types made cells o (λ s'. runs_here rest 0 (at + 1) k s') t s ≡ from_stop (on_told t (stops rest) at k s)
-  by_told rest at ih o k s (Tells vs) = ih 0 k (vs ++ s)
-  by_told rest at ih o k s (Refuses n) = refl
-  by_told rest at ih o k s Unheard = refl
+  by_told : (rest : List Instr) (at : ℕ) → drop (at + 1) code ≡ rest → Leads rest (at + 1) → (o : ℕ) (k : Keeps) (s : Stack) (t : Told) → told_run tables made cells o (λ q. at_work tables q at k s (runs_here rest)) (λ s'. runs_here rest 0 (at + 1) k s') t s ≡ from_stop (on_told t (stops rest) at k s)
+  by_told rest at e ih o k s (Tells vs) = ih 0 k (vs ++ s)
+  by_told rest at e ih o k s (Refuses n) = refl
+  by_told rest at e ih o k s (Invokes q vs) = by_note rest at e ih (Calls q vs) k s Visible refl false refl
+  by_told rest at e ih o k s Unheard = refl
 
   -- one instruction, where the rest is known
-  by_act : (rest : List Instr) (at : ℕ) → drop (at + 1) code ≡ rest → Leads rest (at + 1) → (k : Keeps) (a : Act) → calm_here (on_run tables a (runs_here rest) at k) ≡ from_stop (on_act tables.types made cells a (stops rest) at k)
+  by_act : (rest : List Instr) (at : ℕ) → drop (at + 1) code ≡ rest → Leads rest (at + 1) → (k : Keeps) (a : Act) → calm_here (on_run tables a (runs_here rest) at k) ≡ from_stop (on_act tables.procedures tables.types made cells a (stops rest) at k)
   by_act rest at e ih k (Goes over s) = ih over k s
   by_act rest at e ih k (Puts c v s) = ih 0 (kept c v k) s
   by_act rest at e ih k (Takes c kind s) = by_test rest at ih (is_of kind (k c)) k (k c ∷ s)
   by_act rest at e ih k (Looks l o s) =
-      told_at_once tables.types made cells o (λ s'. runs_here rest 0 (at + 1) k s') l s ∙ by_told rest at ih o k s (told_by tables.types l o (made o))
+      told_at_once tables made cells o (λ q. at_work tables q at k s (runs_here rest)) (λ s'. runs_here rest 0 (at + 1) k s') l s
+      ∙ by_told rest at e ih o k s (told_by tables.procedures tables.types l o (made o))
   by_act rest at e ih k (Sees q s) = by_note rest at e ih q k s (noted cells q) refl (is_asked_at_once q) refl
   by_act rest at e ih k (Stops (Begins to p s)) = refl
   by_act rest at e ih k (Stops (Fails n c)) = refl
@@ -426,10 +464,10 @@ module _ (tables : Tables) (made : ℕ → Option Made) (own here : ℕ) (cells 
   run_by_walk (i ∷ rest) at e (suc n) k s = run_by_walk rest (at + 1) (drop_next at code i rest e) n k s
   run_by_walk (i ∷ rest) at e zero k s =
       let next = drop_next at code i rest e in
-      by_act rest at next (run_by_walk rest (at + 1) next) k (act tables.procedures tables.types own here i code at s)
+      by_act rest at next (run_by_walk rest (at + 1) next) k (act tables.procedures tables.types own (in_code here) i code at s)
 
   -- the run from a place of the code, as far as it's silent, is that from where silent work from there stops
-  pub run_by_silent : (at : ℕ) (k : Keeps) (s : Stack) → calm tables.types made cells (run tables own here code at k s) ≡ resume tables own here code (silent tables.procedures tables.types made own here cells code at k s)
+  pub run_by_silent : (at : ℕ) (k : Keeps) (s : Stack) → calm tables.types made cells (run tables own here code at k s) ≡ resume tables own here code (silent tables.procedures tables.types made own (in_code here) cells code at k s)
   run_by_silent at k s = run_by_walk (drop at code) at refl 0 k s
 
 feed-traps : {Q V A : Type 0} (u : List V) (n c : ℕ) → feed {Q = Q} {V = V} {A = A} u (Traps n c) ≡ Traps n c

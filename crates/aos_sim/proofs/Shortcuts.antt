@@ -7,7 +7,7 @@ use Rattle.aos_typed.specs.declared.tree.TType.TheVariants as type
 use Rattle.aos_typed.specs.Program.{Procedure, Program}
 use Rattle.aos_typed.specs.Sort.{Sort}
 use Rattle.aos_typed.specs.Value.{Value, Flag, number_of, is_true}
-use Rattle.aos_typed.specs.Meaning.{Doing}
+use Rattle.aos_typed.specs.Meaning.{Here, Doing}
 use Rattle.aos_code.specs.declared.instr.Cell.TheVariants.{Num}
 use Rattle.aos_code.specs.declared.instr.Instr.{Instr}
 use Rattle.aos_code.specs.declared.instr.Instr.TheVariants as i
@@ -18,7 +18,7 @@ use Rattle.aos_sim.proofs.Types.{IsValueOf}
 use Rattle.aos_sim.proofs.Does.{Does, along, does_more, Knows, knows_grows}
 use Rattle.aos_sim.proofs.Evaluates.{Pushed, passed, jump_on, Evaluates, operand_does, ends_at}
 
-module _ (program : Program) (own : Option Procedure) (tables : Tables) (number here : ℕ) (code : List Instr) where
+module _ (program : Program) (own : Option Procedure) (tables : Tables) (number : ℕ) (here : Here) (code : List Instr) where
   abbrev onward : List Instr → Onward
   onward = runs tables number here code
 

@@ -1,20 +1,22 @@
 -- An image that has a well-typed program's code shows the program.
-use Rattle.std.proofs.Common.{◌≡◌, ℕ, zero, suc, ◌+◌, ◌<◌, ◌^◌, List, [], ◌∷◌, ◌++◌, map, length, Option, Some, None, refl, sym, ap, ◌∙◌, subst, arith}
-use Rattle.std.specs.Prelude.{slice_get, flat_map, option_map, option_and_then}
+use Rattle.std.proofs.Common.{◌≡◌, ℕ, zero, suc, ◌+◌, List, [], ◌∷◌, ◌++◌, map, length, Bool, true, false, Option, Some, None, refl, sym, ap, ◌∙◌, subst, arith}
+use Rattle.std.specs.Prelude.{slice_get, flat_map, is_some, option_map, option_and_then, if◌then◌else◌}
 use Rattle.std.specs.List.{range_with_len}
 use Rattle.std.proofs.lemmas.Option.{slice_get-map}
 use Rattle.std.proofs.lemmas.List.Elements.{All-nil}
-use Rattle.aos_types.specs.Shape.{size}
+use Rattle.aos_types.specs.Extension.{comes_to}
+use Rattle.aos_types.specs.Shape.{Nothing}
 use Rattle.aos_base.specs.Book.{Where}
 use Rattle.aos_base.specs.Rooted.{Made, by_number}
 use Rattle.aos_base.specs.Machine.{Choice, execution}
 use Rattle.aos_typed.specs.declared.tree.TType.{TType}
-use Rattle.aos_typed.specs.Program.{ObjectType, Module, Program}
-use Rattle.aos_typed.specs.Routines.{result_of}
+use Rattle.aos_typed.specs.Program.{Variable, ObjectType, Module, Program}
+use Rattle.aos_typed.specs.Routines.{result_of, routine_of}
+use Rattle.aos_typed.specs.Numbers.{id_of_made}
 use Rattle.aos_typed.specs.Typing.{Is}
 use Rattle.aos_typed.specs.Store.{Store}
 use Rattle.aos_typed.specs.Source as S
-use Rattle.aos_typed.specs.WellTyped.{IsWellTyped}
+use Rattle.aos_typed.specs.WellTyped.{IsObjectType, IsWellTyped}
 use Rattle.aos_code.specs.declared.image.Image.{Image}
 use Rattle.aos_code.specs.declared.image.ModuleDesc.{ModuleDesc}
 use Rattle.aos_code.specs.declared.image.TypeDesc.{TypeDesc}
@@ -25,15 +27,18 @@ use Rattle.aos_code.specs.Machine.{machine, bodies, home_of}
 use Rattle.aos_concurrency.specs.Simulates.{Simulates, Matches}
 use Rattle.aos_concurrency.specs.Spot.{Anyone}
 use Rattle.aos_concurrency.proofs.Matching.{execution_matches, start_matches, observation_matches, events_match}
-use Rattle.aos_sim.specs.Shows.{numbers_from, IsCodeOf, Shows}
+use Rattle.aos_sim.specs.Shows.{numbers_from, body_numbers, IsCodeOf, Shows}
 use Rattle.aos_places.specs.Shows.{AllShown}
 use Rattle.aos_sim.specs.Cells.{cell_of}
 use Rattle.aos_sim.proofs.Items.{items_do}
-use Rattle.aos_sim.proofs.First.{number_at, modules_shown}
+use Rattle.aos_sim.proofs.First.{modules_shown}
+use Rattle.aos_sim.proofs.Methods.{object_type}
+use Rattle.aos_sim.proofs.Objects.{some_same}
+use Rattle.aos_sim.proofs.References.{comes_same}
 use Rattle.aos_sim.proofs.Typed.{has_types}
 use Rattle.aos_sim.proofs.Runs.{tables_of}
-use Rattle.aos_sim.proofs.Does.{HasTypes, HasShapes}
-use Rattle.aos_sim.proofs.States.{world_of, SameStore, Placed, RoutinesRun, Follows, Waiting, SameFrames, Same, body_same, body_shown, opened_same, same_grows}
+use Rattle.aos_sim.proofs.Does.{HasTypes, HasShapes, IsFrameOf, IsSelf}
+use Rattle.aos_sim.proofs.States.{world_of, IsFew, AreFew, number_get, SameStore, Placed, RoutinesRun, Follows, Waiting, SameFrames, Same, body_same, body_shown, opened_same, same_grows}
 use Rattle.aos_sim.proofs.Routines.{module_there, object_there}
 use Rattle.aos_sim.proofs.Bodies.{has_shapes, home_known, routines_run}
 use Rattle.aos_sim.proofs.Grown.{turn_grown}
@@ -41,15 +46,15 @@ use Rattle.aos_sim.proofs.Turns.{Together, turn_alike}
 
 module _ (program : Program) (image : Image) (shaped : HasShapes program (tables_of image)) where
   -- a frame's text is of the module that its procedure's shape names
-  home_same : (f : S.Frame) (g : I.Frame) → Placed program image f g → f.home ≡ home_of image g.procedure
-  home_same f g h = sym (home_known program (tables_of image) shaped g.procedure h.routine h.there ∙ h.home_is)
+  home_same : (made : ℕ → Option Made) (f : S.Frame) (g : I.Frame) → Placed program image made f g → f.home ≡ home_of image g.procedure
+  home_same made f g h = sym (home_known program (tables_of image) shaped g.procedure h.routine h.there ∙ h.home_is)
 
   waiting_position : (made : List Made) (result : Option TType) (below : Where) (fs : List S.Frame) (gs : List I.Frame) → Waiting program image made result fs gs → S.position_or below fs ≡ I.position_or image below gs
   waiting_position made result below [] [] h = refl
   waiting_position made result below [] (g ∷ gs) h = absurd h
   waiting_position made result below (f ∷ fs) [] h = absurd h
   waiting_position made result below (f ∷ fs) (g ∷ gs) h =
-      λ j. S.or_below (sym h.0.place.at_is j) (home_same f g h.0.place j) (waiting_position made (result_of h.0.place.routine.own) below fs gs h.1 j)
+      λ j. S.or_below (sym h.0.place.at_is j) (home_same (λ o. by_number o made) f g h.0.place j) (waiting_position made (result_of h.0.place.routine.own) below fs gs h.1 j)
 
   pub position_same : (made : List Made) (fs : List S.Frame) (gs : List I.Frame) → SameFrames program image made fs gs → S.position_in fs ≡ I.position_in image gs
   position_same made [] [] h = refl
@@ -57,7 +62,7 @@ module _ (program : Program) (image : Image) (shaped : HasShapes program (tables
   position_same made (f ∷ fs) [] h = absurd h
   position_same made (f ∷ fs) (g ∷ gs) h =
       let from : ℕ → Where = λ m. record { module_ = m; pos = record { line = 0; col = 0 } } in
-      let home = home_same f g h.0.place in
+      let home = home_same (λ o. by_number o made) f g h.0.place in
       (λ j. S.or_below (sym h.0.place.at_is j) (home j) (waiting_position made (result_of h.0.place.routine.own) (from f.home) fs gs h.1 j))
       ∙ ap (λ m. I.position_or image (from m) (g ∷ gs)) home
 
@@ -72,7 +77,7 @@ module _ (p : Program) (image : Image) (well : IsWellTyped p) (ok : IsCodeOf p i
   first_store_same =
       record {
         made = refl;
-        few = All-nil (λ m. size (S.made_shape p.types m) < 2 ^ 32);
+        few = All-nil (IsFew p);
         of_modules = subst (λ ys. AllShown (Is p.types) cell_of (world_of p [] []) (map (S.module_shape p) ms) (S.first_store p).modules ys) (sym ok.cells) (modules_shown p (world_of p [] []) well.predeclared ms well.texts);
         of_objects = tt;
       }
@@ -101,34 +106,73 @@ module _ (p : Program) (image : Image) (well : IsWellTyped p) (ok : IsCodeOf p i
       subst (λ b. Follows p image (k ∷ range_with_len (k + 1) (length xs)) (bodies b ++ flat_map (λ (x : ModuleDesc). bodies x.body) ds)) (sym here)
       ((m, there, module_there p k m there), below)
 
-  -- the body of an object, by its type on both sides
-  object_same : (made : List Made) (o t : ℕ) (x : Option ObjectType) (d : Option TypeDesc) → slice_get os t ≡ x → slice_get image.types.items t ≡ d → Same p image made (S.object_frames o x) (I.object_frames o d)
-  object_same made o t x d ex ed = by_case x d ex (ap (option_map (λ (y : TypeDesc). y.body)) (sym ed) ∙ sym (slice_get-map (λ (y : TypeDesc). y.body) image.types.items t) ∙ ap (λ l. slice_get l t) ok.types ∙ number_at (suc (length ms)) t os ∙ ap (option_map (λ y. suc (length ms) + t)) ex)
-    where
-      by_case : (x : Option ObjectType) (d : Option TypeDesc) → slice_get os t ≡ x → option_map (λ (y : TypeDesc). y.body) d ≡ option_map (λ y. suc (length ms) + t) x → Same p image made (S.object_frames o x) (I.object_frames o d)
-      by_case None None ex e = record { follows = tt; frames = tt; shown = tt }
-      by_case None (Some d) ex e = absurd (cc e)
-      by_case (Some x) None ex e = absurd (cc e)
-      by_case (Some x) (Some d) ex e =
-          let here : d.body ≡ suc (length ms) + t = cc e in
-          let n : suc (length ms) + t ≡ suc (length ms + t) = omega arith in
-          let number = suc (length ms + t) in
-          subst (λ b. Same p image made (S.object_frames o (Some x)) (record { following = []; frames = map (I.body_frame o) (bodies b) })) (sym (here ∙ n))
-          (record {
-            follows = tt;
-            frames = body_same p image run made o number x.home x.body (object_there p t x ex);
-            shown = body_shown p image made o number x.home x.body;
-          })
+  body_number : (k j : ℕ) (xs : List ObjectType) → slice_get (body_numbers k xs) j ≡ option_map (λ x. if x.has_body then k + j else 0) (slice_get xs j)
+  body_number k j [] = refl
+  body_number k zero (y ∷ ys) = let n : k ≡ k + 0 = omega arith in ap (λ m. Some (if y.has_body then m else 0)) n
+  body_number k (suc j) (y ∷ ys) =
+      let n : suc k + j ≡ k + suc j = omega arith in
+      body_number (suc k) j ys ∙ ap (λ m. option_map (λ x. if x.has_body then m else 0) (slice_get ys j)) n
 
-  made_same : (made : List Made) (o : ℕ) (t : Option ℕ) → Same p image made (S.object_frames o (option_and_then (λ n. by_number n os) t)) (I.object_frames o (option_and_then (numbered image.types.items) t))
-  made_same made o None = record { follows = tt; frames = tt; shown = tt }
-  made_same made o (Some zero) = record { follows = tt; frames = tt; shown = tt }
-  made_same made o (Some (suc n)) = object_same made o n (slice_get os n) (slice_get image.types.items n) refl refl
+  -- the body of an object, by its type on both sides
+  module _ (made : List Made) (o t : ℕ) (self : IsSelf p (λ o. by_number o made) (Some t) o) where
+    body_begins : (x : ObjectType) → slice_get os t ≡ Some x → SameFrames p image made (S.body_frame x.home o x.body.body ∷ []) (I.body_frame o (suc (length ms + t)) ∷ [])
+    body_begins x there =
+        let is = object_type p well.objects t x there in
+        body_same p image run made o (suc (length ms + t)) (routine_of x.home x.body) (object_there p t x there) (sym (ap is_some is.proper)) (frame is)
+        (subst (λ z. IsSelf p (λ o. by_number o made) z o) (sym is.own) self)
+      where
+        frame : IsObjectType p t x → IsFrameOf p (Some x.body) Nothing
+        frame is =
+            record {
+              parameters = λ k a e. absurd (let none : slice_get x.body.parameters k ≡ None = ap (λ l. slice_get l k) is.plain in cc (none, e));
+              locals = λ k u e.
+                  let own : Some x.body ≡ Some e.0 = e.2 in
+                  let same : x.body ≡ e.0 = cc in
+                  let none : option_map (λ (v : Variable). v.of) (slice_get e.0.locals e.1) ≡ None = ap (λ q. option_map (λ (v : Variable). v.of) (slice_get q.locals e.1)) (sym same) ∙ ap (λ l. option_map (λ (v : Variable). v.of) (slice_get l e.1)) is.bare in
+                  let some = e.4 in
+                  absurd (cc (none, some));
+              few = omega arith;
+            }
+
+    object_same : (x : Option ObjectType) (d : Option TypeDesc) → slice_get os t ≡ x → slice_get image.types.items t ≡ d → Same p image made (S.object_frames o x) (I.object_frames o d)
+    object_same x d ex ed =
+        by_case x d ex
+        (ap (option_map (λ (y : TypeDesc). y.body)) (sym ed) ∙ sym (slice_get-map (λ (y : TypeDesc). y.body) image.types.items t) ∙ ap (λ l. slice_get l t) ok.types ∙ body_number (suc (length ms)) t os
+        ∙ ap (option_map (λ x. if x.has_body then suc (length ms) + t else 0)) ex)
+      where
+        with_body : (x : ObjectType) (d : TypeDesc) → slice_get os t ≡ Some x → (b : Bool) → d.body ≡ (if b then suc (length ms) + t else 0) → Same p image made (record { following = []; frames = if b then S.body_frame x.home o x.body.body ∷ [] else [] }) (record { following = []; frames = map (I.body_frame o) (bodies d.body) })
+        with_body x d there false e =
+            subst (λ z. Same p image made (record { following = []; frames = [] }) (record { following = []; frames = map (I.body_frame o) (bodies z) })) (sym e) (record { follows = tt; frames = tt; shown = tt })
+        with_body x d there true e =
+            let n : suc (length ms) + t ≡ suc (length ms + t) = omega arith in
+            let number = suc (length ms + t) in
+            subst (λ z. Same p image made (record { following = []; frames = S.body_frame x.home o x.body.body ∷ [] }) (record { following = []; frames = map (I.body_frame o) (bodies z) })) (sym (e ∙ n))
+            (record { follows = tt; frames = body_begins x there; shown = body_shown p image made o number x.home x.body.body })
+
+        by_case : (x : Option ObjectType) (d : Option TypeDesc) → slice_get os t ≡ x → option_map (λ (y : TypeDesc). y.body) d ≡ option_map (λ x. if x.has_body then suc (length ms) + t else 0) x → Same p image made (S.object_frames o x) (I.object_frames o d)
+        by_case None None ex e = record { follows = tt; frames = tt; shown = tt }
+        by_case None (Some d) ex e = absurd (cc e)
+        by_case (Some x) None ex e = absurd (cc e)
+        by_case (Some x) (Some d) ex e = with_body x d ex x.has_body (some_same d.body (if x.has_body then suc (length ms) + t else 0) e)
+
+  -- an object is one of its own type
+  self_made : (made : List Made) → AreFew p made → (o : ℕ) (m : Made) (t : ℕ) → by_number o made ≡ Some m → m.type ≡ suc t → IsSelf p (λ o. by_number o made) (Some t) o
+  self_made made few zero m t e type_is = absurd (cc e)
+  self_made made few (suc k) m t e type_is =
+      (k, m, refl, e, (number_get (IsFew p) (suc k) made m few e).1, subst (λ z. comes_to p.types (id_of_made m.type) (id_of_made z) ≡ true) type_is (comes_same p.types (id_of_made m.type)))
+
+  made_same : (made : List Made) → AreFew p made → (o : ℕ) (m : Option Made) → by_number o made ≡ m → Same p image made (S.object_frames o (option_and_then (λ n. by_number n os) (option_map (λ (m : Made). m.type) m))) (I.object_frames o (option_and_then (numbered image.types.items) (option_map (λ (m : Made). m.type) m)))
+  made_same made few o None e = record { follows = tt; frames = tt; shown = tt }
+  made_same made few o (Some m) e = by m.type refl
+    where
+      by : (n : ℕ) → m.type ≡ n → Same p image made (S.object_frames o (by_number n os)) (I.object_frames o (numbered image.types.items n))
+      by zero is = record { follows = tt; frames = tt; shown = tt }
+      by (suc n) is = object_same made o n (self_made made few o m n e is) (slice_get os n) (slice_get image.types.items n) refl refl
 
   object_body_same : (s : Store) (mem : Memory) (o : ℕ) → SameStore p s mem → Same p image s.made (S.body_of p s o) (I.body_of image mem o)
   object_body_same s mem o stores =
       let t : List Made → Option ℕ = λ l. option_map (λ (m : Made). m.type) (by_number o l) in
-      subst (λ l. Same p image s.made (S.body_of p s o) (I.object_frames o (option_and_then (numbered image.types.items) (t l)))) (sym stores.made) (made_same s.made o (t s.made))
+      subst (λ l. Same p image s.made (S.body_of p s o) (I.object_frames o (option_and_then (numbered image.types.items) (t l)))) (sym stores.made) (made_same s.made stores.few o (by_number o s.made) refl)
 
   -- one turn of the image is one turn of the source
   simulates : Simulates (SameStore p) (Together p image) Anyone (S.source p) (machine image)

@@ -98,7 +98,7 @@ module _ (program : Program) (own : Option Procedure) where
     stat_length (Assert here e code) at x y d = refl
     stat_length (Halt here code) at x y d = refl
     stat_length (Change here c p e) at x y d = refl
-    stat_length (Perform here m k more) at x y d = refl
+    stat_length (Perform here c more) at x y d = refl
     stat_length (Return here None) at x y d = refl
     stat_length (Return here (Some e)) at x y d = refl
     stat_length (New here p t) at x y d = refl
@@ -167,7 +167,7 @@ mutual
   stat_above (Assert here e code) d = omega arith
   stat_above (Halt here code) d = omega arith
   stat_above (Change here c p e) d = omega arith
-  stat_above (Perform here m k more) d = omega arith
+  stat_above (Perform here c more) d = omega arith
   stat_above (Return here e) d = omega arith
   stat_above (New here p t) d = omega arith
   stat_above (Make here p t ns) d = omega arith

@@ -16,9 +16,10 @@ use Rattle.aos_code.specs.declared.instr.Instr.TheVariants as instr
 use Rattle.aos_code.specs.declared.image.ProcShape.{ProcShape}
 use Rattle.aos_code.specs.Memory.{Addr}
 use Rattle.aos_code.specs.Numbered.{numbered}
-use Rattle.aos_code.specs.Silent.{Stack, Keeps, Question, Fails, Stop, Work, Ended, Look, AtCell, AtElements, IsType, AsType, Act, Goes, Puts, Takes, Looks, Sees, Stops, object_then, on_object, unless_nil, looks, extends, Told, Tells, Refuses, Unheard, told_by, on_told, lost, kept, is_of, on_any, on_kind, on_number, number_then, place_then, on_place, on_text, length_then, lengths_on, counted_on, gives, given, asserts, gives_place, element, cells_of, length_cells, in_rows, gives_picked, on_kinds, kinds_of, calls, ends, lands, jumps, jumps_on_false, act, Noted, Visible, Answered, Unknown, noted, on_noted, on_act, walk, silent}
+use Rattle.aos_code.specs.Silent.{Stack, Keeps, Question, Fails, Stop, Work, Ended, Look, AtCell, AtElements, IsType, AsType, Act, Goes, Puts, Takes, Looks, Sees, Stops, object_then, on_object, unless_nil, looks, on_receiver, called, sends, gives_self, extends, Told, Tells, Refuses, Invokes, Unheard, told_by, on_told, lost, kept, is_of, on_any, on_kind, on_number, number_then, place_then, on_place, on_text, length_then, lengths_on, counted_on, gives, given, asserts, gives_place, element, cells_of, length_cells, in_rows, gives_picked, on_kinds, kinds_of, calls, ends, lands, jumps, jumps_on_false, act, Noted, Visible, Answered, Unknown, noted, on_noted, on_act, walk, silent}
 use Rattle.aos_base.specs.Rooted.{Made}
-use Rattle.aos_sim.proofs.Runs.{Tables, on_run, runs, run, drop_next}
+use Rattle.aos_sim.proofs.Runs.{Tables, in_code, on_run, runs, run, drop_next}
+use Rattle.aos_typed.specs.Meaning.{Here}
 
 -- What isn't a start.
 
@@ -100,9 +101,37 @@ calm_kinds : (kinds : List Kind) (vs : List Cell) (k : List Cell → Stack → A
 calm_kinds [] vs k s h = h vs s
 calm_kinds (kind ∷ kinds) vs k s h = calm_kind kind _ s (λ v s'. calm_kinds kinds (v ∷ vs) k s' h)
 
+calm_object_then : (k : ℕ → Act) (v : Cell) → ((o : ℕ) → mark (k o) ≡ 0) → mark (object_then k v) ≡ 0
+calm_object_then k (Num a) h = refl
+calm_object_then k (Ref o) h = h o
+calm_object_then k (CallCell p o) h = refl
+calm_object_then k (Place root cell type) h = refl
+
+calm_object : (k : ℕ → Stack → Act) (s : Stack) → ((o : ℕ) (s' : Stack) → mark (k o s') ≡ 0) → mark (on_object k s) ≡ 0
+calm_object k s h = calm_any _ s (λ v s'. calm_object_then (λ o. k o s') v (λ o. h o s'))
+
+calm_nil : (o : ℕ) (a b : Act) → mark a ≡ 0 → mark b ≡ 0 → mark (unless_nil o a b) ≡ 0
+calm_nil zero a b h g = h
+calm_nil (suc o) a b h g = g
+
+calm_receiver : (k : ℕ → Stack → Act) (s : Stack) → ((o : ℕ) (s' : Stack) → mark (k o s') ≡ 0) → mark (on_receiver k s) ≡ 0
+calm_receiver k s h = calm_object _ s (λ o s'. calm_nil o (Stops (Fails 1 0)) (k o s') refl (h o s'))
+
+calm_called : (method : Bool) (p : ℕ) (ws : List Cell) (s : Stack) → mark (called method p ws s) ≡ 0
+calm_called true p ws s = calm_receiver _ s (λ o s'. refl)
+calm_called false p ws s = refl
+
+calm_self : (o : ℕ) (s : Stack) → mark (gives_self o s) ≡ 0
+calm_self zero s = refl
+calm_self (suc o) s = refl
+
 calm_calls : (f : Option ProcShape) (p : ℕ) (s : Stack) → mark (calls f p s) ≡ 0
 calm_calls None p s = refl
-calm_calls (Some f) p s = calm_kinds (reverse (kinds_of f.params.items)) [] _ s (λ ws s'. refl)
+calm_calls (Some f) p s = calm_kinds (reverse (kinds_of f.params.items)) [] _ s (λ ws s'. calm_called f.method p ws s')
+
+calm_sends : (f : Option ProcShape) (slot p : ℕ) (s : Stack) → mark (sends f slot p s) ≡ 0
+calm_sends None slot p s = refl
+calm_sends (Some f) slot p s = calm_kinds (reverse (kinds_of f.params.items)) [] _ s (λ ws s'. calm_receiver _ s' (λ o s2. refl))
 
 calm_result : (f : ProcShape) (r : Option Kind) (s : Stack) → mark (ends (Some (record f { result = r })) s) ≡ 0
 calm_result f None s = refl
@@ -129,19 +158,6 @@ calm_on_false code to at (pos (suc zero)) s = refl
 calm_on_false code to at (pos (suc (suc n))) s = refl
 calm_on_false code to at (negsuc n) s = refl
 
-calm_object_then : (k : ℕ → Act) (v : Cell) → ((o : ℕ) → mark (k o) ≡ 0) → mark (object_then k v) ≡ 0
-calm_object_then k (Num a) h = refl
-calm_object_then k (Ref o) h = h o
-calm_object_then k (CallCell p o) h = refl
-calm_object_then k (Place root cell type) h = refl
-
-calm_object : (k : ℕ → Stack → Act) (s : Stack) → ((o : ℕ) (s' : Stack) → mark (k o s') ≡ 0) → mark (on_object k s) ≡ 0
-calm_object k s h = calm_any _ s (λ v s'. calm_object_then (λ o. k o s') v (λ o. h o s'))
-
-calm_nil : (o : ℕ) (a b : Act) → mark a ≡ 0 → mark b ≡ 0 → mark (unless_nil o a b) ≡ 0
-calm_nil zero a b h g = h
-calm_nil (suc o) a b h g = g
-
 calm_looks : (l : Look) (at_nil : Stack → Act) (s : Stack) → ((s' : Stack) → mark (at_nil s') ≡ 0) → mark (looks l at_nil s) ≡ 0
 calm_looks l at_nil s h = calm_object _ s (λ o s'. calm_nil o (at_nil s') (Looks l o s') (h s') refl)
 
@@ -157,9 +173,10 @@ start_on_top [] v s' e = absurd (cc e)
 start_on_top (w ∷ s) v s' e = start_if (is_of R w) w v s s' e
 
 -- whose activity is started lies on top
-act_starts : (tables : Tables) (own here : ℕ) (i : Instr) (code : List Instr) (at : ℕ) (s : Stack) (v : Cell) (s' : Stack) → act tables.procedures tables.types own here i code at s ≡ Sees (Starts v) s' → s ≡ v ∷ s'
+act_starts : (tables : Tables) (own : ℕ) (here : Here) (i : Instr) (code : List Instr) (at : ℕ) (s : Stack) (v : Cell) (s' : Stack) → act tables.procedures tables.types own (in_code here) i code at s ≡ Sees (Starts v) s' → s ≡ v ∷ s'
 act_starts tables own here (instr.Num n) code at s v s' e = marked _ v s s' refl e
 act_starts tables own here instr.Nil code at s v s' e = marked _ v s s' refl e
+act_starts tables own here instr.SelfRef code at s v s' e = marked _ v s s' (calm_self here.self s) e
 act_starts tables own here instr.Dup code at s v s' e = marked _ v s s' (calm_any _ s (λ w r. refl)) e
 act_starts tables own here instr.Drop code at s v s' e = marked _ v s s' (calm_any _ s (λ w r. refl)) e
 act_starts tables own here instr.Swap code at s v s' e = marked _ v s s' (calm_any _ s (λ w r. calm_any _ r (λ x y. refl))) e
@@ -197,6 +214,7 @@ act_starts tables own here (instr.Copy n) code at s v s' e = marked _ v s s' (ca
 act_starts tables own here (instr.PutText strict) code at s v s' e = marked _ v s s' (calm_text (λ a n r. on_text (λ b m x. Sees (PutsText strict b m a n) x) r) s (λ a n r. calm_text (λ b m x. Sees (PutsText strict b m a n) x) r (λ b m x. refl))) e
 act_starts tables own here (instr.CmpText o) code at s v s' e = marked _ v s s' (calm_text (λ b m r. on_text (λ a n x. Sees (ComparesTexts o a n b m) x) r) s (λ b m r. calm_text (λ a n x. Sees (ComparesTexts o a n b m) x) r (λ a n x. refl))) e
 act_starts tables own here (instr.Call p) code at s v s' e = marked _ v s s' (calm_calls (numbered tables.procedures p) p s) e
+act_starts tables own here (instr.Virtual k p) code at s v s' e = marked _ v s s' (calm_sends (numbered tables.procedures p) k p s) e
 act_starts tables own here (instr.NewObject t) code at s v s' e = marked _ v s s' refl e
 act_starts tables own here (instr.NewArray t j) code at s v s' e = marked _ v s s' (calm_counted j [] _ s (λ zs r. refl)) e
 act_starts tables own here instr.Start code at s v s' e = start_on_top s v s' e
@@ -207,18 +225,21 @@ act_starts tables own here instr.OutString code at s v s' e = marked _ v s s' (c
 act_starts tables own here instr.OutLn code at s v s' e = marked _ v s s' refl e
 act_starts tables own here instr.OutOpen code at s v s' e = marked _ v s s' refl e
 
-module _ (tables : Tables) (made : ℕ → Option Made) (own here : ℕ) (cells : List Cell) (code : List Instr) (q : Question) (p : ℕ) (k' : Keeps) (s' : Stack) where
+module _ (tables : Tables) (made : ℕ → Option Made) (own : ℕ) (here : Here) (cells : List Cell) (code : List Instr) (whom : Cell) (p : ℕ) (k' : Keeps) (s' : Stack) where
+  abbrev q : Question
+  q = Starts whom
+
   -- the instruction that asks, and the operands that it finds
   record Asked : Type 0 where
     instruction : Instr
     rest : List Instr
     there : drop p code ≡ instruction ∷ rest
     stack : Stack
-    asks : act tables.procedures tables.types own here instruction code p stack ≡ Sees q s'
+    asks : act tables.procedures tables.types own (in_code here) instruction code p stack ≡ Sees q s'
     visible : noted cells q ≡ Visible
 
   module _ (i : Instr) (rest : List Instr) (at : ℕ) (there : drop at code ≡ i ∷ rest) (next : ℕ → ℕ → Keeps → Stack → Stop) (ih : (over : ℕ) (k : Keeps) (s : Stack) → next over (at + 1) k s ≡ Work q p k' s' → Asked) (s : Stack) where
-    noted_asks : (n : Noted) (asked : Question) (k : Keeps) (s1 : Stack) → noted cells asked ≡ n → act tables.procedures tables.types own here i code at s ≡ Sees asked s1 → on_noted n asked next at k s1 ≡ Work q p k' s' → Asked
+    noted_asks : (n : Noted) (asked : Question) (k : Keeps) (s1 : Stack) → noted cells asked ≡ n → act tables.procedures tables.types own (in_code here) i code at s ≡ Sees asked s1 → on_noted n asked next at k s1 ≡ Work q p k' s' → Asked
     noted_asks Visible asked k s1 n seen e =
         let a : asked ≡ q = cc e in
         let b : at ≡ p = cc e in
@@ -228,7 +249,7 @@ module _ (tables : Tables) (made : ℕ → Option Made) (own here : ℕ) (cells 
           rest = rest;
           there = ap (λ x. drop x code) (sym b) ∙ there;
           stack = s;
-          asks = ap (λ x. act tables.procedures tables.types own here i code x s) (sym b) ∙ seen ∙ (λ j. Sees (a j) (c j));
+          asks = ap (λ x. act tables.procedures tables.types own (in_code here) i code x s) (sym b) ∙ seen ∙ (λ j. Sees (a j) (c j));
           visible = ap (noted cells) (sym a) ∙ n;
         }
     noted_asks (Answered v) asked k s1 n seen e = ih 0 k (v ∷ s1) e
@@ -241,36 +262,37 @@ module _ (tables : Tables) (made : ℕ → Option Made) (own here : ℕ) (cells 
     told_asks : (t : Told) (k : Keeps) (s1 : Stack) → on_told t next at k s1 ≡ Work q p k' s' → Asked
     told_asks (Tells vs) k s1 e = ih 0 k (vs ++ s1) e
     told_asks (Refuses n) k s1 e = absurd (cc e)
+    told_asks (Invokes n us) k s1 e = absurd (cc e)
     told_asks Unheard k s1 e = absurd (cc e)
 
-    act_asks : (a : Act) (k : Keeps) → act tables.procedures tables.types own here i code at s ≡ a → on_act tables.types made cells a next at k ≡ Work q p k' s' → Asked
+    act_asks : (a : Act) (k : Keeps) → act tables.procedures tables.types own (in_code here) i code at s ≡ a → on_act tables.procedures tables.types made cells a next at k ≡ Work q p k' s' → Asked
     act_asks (Goes over s1) k seen e = ih over k s1 e
     act_asks (Puts c v s1) k seen e = ih 0 (kept c v k) s1 e
     act_asks (Takes c kind s1) k seen e = if_asks (is_of kind (k c)) k (k c ∷ s1) e
-    act_asks (Looks l o s1) k seen e = told_asks (told_by tables.types l o (made o)) k s1 e
+    act_asks (Looks l o s1) k seen e = told_asks (told_by tables.procedures tables.types l o (made o)) k s1 e
     act_asks (Sees asked s1) k seen e = noted_asks (noted cells asked) asked k s1 refl seen e
     act_asks (Stops end) k seen e = absurd (cc e)
 
-  walk_asks : (rest : List Instr) (over at : ℕ) (k : Keeps) (s : Stack) → drop at code ≡ rest → walk tables.procedures tables.types made own here cells code rest over at k s ≡ Work q p k' s' → Asked
+  walk_asks : (rest : List Instr) (over at : ℕ) (k : Keeps) (s : Stack) → drop at code ≡ rest → walk tables.procedures tables.types made own (in_code here) cells code rest over at k s ≡ Work q p k' s' → Asked
   walk_asks [] over at k s there e = absurd (cc e)
   walk_asks (i ∷ rest) (suc n) at k s there e = walk_asks rest n (at + 1) k s (drop_next at code i rest there) e
   walk_asks (i ∷ rest) zero at k s there e =
-      act_asks i rest at there (walk tables.procedures tables.types made own here cells code rest) (λ over k1 s1 e1. walk_asks rest over (at + 1) k1 s1 (drop_next at code i rest there) e1) s (act tables.procedures tables.types own here i code at s) k refl e
+      act_asks i rest at there (walk tables.procedures tables.types made own (in_code here) cells code rest) (λ over k1 s1 e1. walk_asks rest over (at + 1) k1 s1 (drop_next at code i rest there) e1) s (act tables.procedures tables.types own (in_code here) i code at s) k refl e
 
 -- from where silent work has come to a start, with the object on top
-module _ (tables : Tables) (made : ℕ → Option Made) (own here : ℕ) (cells : List Cell) (code : List Instr) (at : ℕ) (k : Keeps) (s : Stack) (v : Cell) (p : ℕ) (k' : Keeps) (s' : Stack) (e : silent tables.procedures tables.types made own here cells code at k s ≡ Work (Starts v) p k' s') where
-  abbrev asking : Asked tables made own here cells code (Starts v) p k' s'
-  asking = walk_asks tables made own here cells code (Starts v) p k' s' (drop at code) 0 at k s refl e
+module _ (tables : Tables) (made : ℕ → Option Made) (own : ℕ) (here : Here) (cells : List Cell) (code : List Instr) (at : ℕ) (k : Keeps) (s : Stack) (v : Cell) (p : ℕ) (k' : Keeps) (s' : Stack) (e : silent tables.procedures tables.types made own (in_code here) cells code at k s ≡ Work (Starts v) p k' s') where
+  abbrev asking : Asked tables made own here cells code v p k' s'
+  asking = walk_asks tables made own here cells code v p k' s' (drop at code) 0 at k s refl e
 
-  starts_so : act tables.procedures tables.types own here asking.instruction code p (v ∷ s') ≡ Sees (Starts v) s'
+  starts_so : act tables.procedures tables.types own (in_code here) asking.instruction code p (v ∷ s') ≡ Sees (Starts v) s'
   starts_so =
-      ap (λ x. act tables.procedures tables.types own here asking.instruction code p x) (sym (act_starts tables own here asking.instruction code p asking.stack v s' asking.asks)) ∙ asking.asks
+      ap (λ x. act tables.procedures tables.types own (in_code here) asking.instruction code p x) (sym (act_starts tables own here asking.instruction code p asking.stack v s' asking.asks)) ∙ asking.asks
 
   -- it comes to the same, whatever objects are known
-  pub silent_at_start : (known : ℕ → Option Made) → silent tables.procedures tables.types known own here cells code p k' (v ∷ s') ≡ Work (Starts v) p k' s'
+  pub silent_at_start : (known : ℕ → Option Made) → silent tables.procedures tables.types known own (in_code here) cells code p k' (v ∷ s') ≡ Work (Starts v) p k' s'
   silent_at_start known =
-      ap (λ l. walk tables.procedures tables.types known own here cells code l 0 p k' (v ∷ s')) asking.there
-      ∙ ap (λ a. on_act tables.types known cells a (walk tables.procedures tables.types known own here cells code asking.rest) p k') starts_so
+      ap (λ l. walk tables.procedures tables.types known own (in_code here) cells code l 0 p k' (v ∷ s')) asking.there
+      ∙ ap (λ a. on_act tables.procedures tables.types known cells a (walk tables.procedures tables.types known own (in_code here) cells code asking.rest) p k') starts_so
 
   -- and the code goes on behind it
   pub run_at_start : run tables own here code p k' (v ∷ s') ≡ Asks (Starts v) (λ x. run tables own here code (p + 1) k' s')

@@ -12,13 +12,14 @@ use Rattle.aos_types.specs.Content.{Content}
 use Rattle.aos_types.specs.World.{World, Grows, world}
 use Rattle.aos_typed.specs.declared.tree.TType.{TType}
 use Rattle.aos_typed.specs.Program.{Stats, Procedure, Module, Program}
-use Rattle.aos_typed.specs.Numbers.{id_of}
-use Rattle.aos_typed.specs.Routines.{Routine, result_of, gives, routines}
+use Rattle.aos_typed.specs.Numbers.{id_of, id_of_made}
+use Rattle.aos_typed.specs.Routines.{Routine, self_type, result_of, gives, routines}
 use Rattle.aos_typed.specs.Sort.{Sort, Plain}
 use Rattle.aos_typed.specs.Value.{Value}
-use Rattle.aos_typed.specs.Typing.{Is, IsPlain}
+use Rattle.aos_types.specs.Table.{row_of}
+use Rattle.aos_typed.specs.Typing.{Is, IsPlain, HasLengths}
 use Rattle.aos_typed.specs.Store.{Store}
-use Rattle.aos_typed.specs.Meaning.{Item, After, Into, Returns, Exits, items_of, item_of}
+use Rattle.aos_typed.specs.Meaning.{Here, Item, After, Into, Returns, Exits, items_of, item_of}
 use Rattle.aos_typed.specs.Source as S
 use Rattle.aos_typed.specs.Source.{made_shape, first_value}
 use Rattle.aos_code.specs.declared.instr.Cell.{Cell}
@@ -34,7 +35,7 @@ use Rattle.aos_places.proofs.Makes.{frames_shown_grow}
 use Rattle.aos_sim.specs.Cells.{cell_of}
 use Rattle.aos_sim.proofs.Kept.{values_kept}
 use Rattle.aos_sim.proofs.Runs.{Run, tables_of, run}
-use Rattle.aos_sim.proofs.Does.{scheme, HasTypes, HasShapes, IsFrameOf, IsAnswer, IsResult, AreReached, IsWhole, Does, does_last, lasts_grow}
+use Rattle.aos_sim.proofs.Does.{scheme, HasTypes, HasShapes, IsSelf, self_grows, IsFrameOf, IsAnswer, IsResult, AreReached, IsWhole, Does, does_last, lasts_grow}
 use Rattle.aos_sim.proofs.Carries.{GoesOn, Remains, Behind}
 use Rattle.aos_sim.proofs.First.{all_get, zero_cell, first_is, first_same}
 
@@ -45,11 +46,14 @@ world_of p made shapes = world (scheme p) made shapes
 abbrev pub shapes_of : List S.Frame → List (Shape Sort)
 shapes_of fs = map (λ f. f.shape) fs
 
--- objects that are made as these have cells with numbers of 32 bits
-abbrev pub AreFew : Program → List Made → Type 0
-AreFew program made = All (λ m. size (made_shape program.types m) < 2 ^ 32) made
+-- objects that are made as these have cells with numbers of 32 bits, and the lengths that their types ask for
+abbrev pub IsFew : Program → Made → Type 0
+IsFew program m = (size (made_shape program.types m) < 2 ^ 32) × HasLengths program.types (row_of program.types (id_of_made m.type)) m
 
-number_get : {X : Type 0} (P : X → Type 0) (o : ℕ) (xs : List X) (x : X) → All P xs → by_number o xs ≡ Some x → P x
+abbrev pub AreFew : Program → List Made → Type 0
+AreFew program made = All (IsFew program) made
+
+pub number_get : {X : Type 0} (P : X → Type 0) (o : ℕ) (xs : List X) (x : X) → All P xs → by_number o xs ≡ Some x → P x
 number_get P zero xs x h e = absurd (cc)
 number_get P (suc o) xs x h e = all_get P xs o x h e
 
@@ -83,7 +87,7 @@ with_answer w (Some t) v s = cell_of w v ∷ s
 module _ (program : Program) (image : Image) where
   -- a frame is one of the routine with its procedure's number, of the object of the other side's, has begun the same statement, and
   -- counts alike
-  pub record SamePlace (procedure home object : ℕ) (at : Option Pos) (function : Bool) (shape : Shape Sort) (counted of : ℕ) (begun : Option Pos) (many : ℕ) : Type 0 where
+  pub record SamePlace (made : ℕ → Option Made) (procedure home object : ℕ) (at : Option Pos) (function : Bool) (shape : Shape Sort) (counted of : ℕ) (begun : Option Pos) (many : ℕ) : Type 0 where
     pub routine : Routine
     pub there : by_number procedure (routines program) ≡ Some routine
     pub home_is : routine.home ≡ home
@@ -92,12 +96,32 @@ module _ (program : Program) (image : Image) where
     pub gives_is : function ≡ gives routine.own
     pub counted_is : many ≡ counted
     pub frame : IsFrameOf program routine.own shape
+    pub self : IsSelf program made (self_type routine.own) object
 
-  abbrev pub Placed : S.Frame → I.Frame → Type 0
-  Placed f g = SamePlace g.procedure f.home f.object f.at f.gives f.shape f.counted g.object g.at g.counted
+  abbrev pub Placed : (ℕ → Option Made) → S.Frame → I.Frame → Type 0
+  Placed made f g = SamePlace made g.procedure f.home f.object f.at f.gives f.shape f.counted g.object g.at g.counted
+
+  -- as objects are made
+  abbrev pub place_grows : (made made' : ℕ → Option Made) → ((o : ℕ) (m : Made) → made o ≡ Some m → made' o ≡ Some m) → (f : S.Frame) (g : I.Frame) → Placed made f g → Placed made' f g
+  place_grows made made' up f g h =
+      record {
+        routine = h.routine;
+        there = h.there;
+        home_is = h.home_is;
+        object_is = h.object_is;
+        at_is = h.at_is;
+        gives_is = h.gives_is;
+        counted_is = h.counted_is;
+        frame = h.frame;
+        self = self_grows program made made' up (self_type h.routine.own) f.object h.self;
+      }
+
+  -- where a frame's statements are carried out that is above so many others
+  abbrev pub here_in : ℕ → S.Frame → Here
+  here_in below f = record { below = below; self = f.object }
 
   -- behind an answer the code does what is left of the first item
-  abbrev pub Went : Option Procedure → (number here : ℕ) → World Sort → Option (List Value) → List Item → ℕ → Keeps → Stack → Type 0
+  abbrev pub Went : Option Procedure → (number : ℕ) (here : Here) → World Sort → Option (List Value) → List Item → ℕ → Keeps → Stack → Type 0
   Went own number here w None is next k s = ⊥
   Went own number here w (Some t) [] next k s = ⊥
   Went own number here w (Some t) (i ∷ is) next k s =
@@ -105,19 +129,19 @@ module _ (program : Program) (image : Image) where
       Does program here (Behind program own (tables_of image) number here code is) w (run (tables_of image) number here code next k s) (feed t (item_of program here i))
 
   -- a frame above so many others, in a world; what remains of its items is what its code goes on with
-  pub record SameFrame (w : World Sort) (here : ℕ) (f : S.Frame) (g : I.Frame) : Type 0 where
-    pub place : Placed f g
-    pub remains : Remains program place.routine.own (tables_of image) g.procedure here (code_of image g.procedure) f.variables g.cells w f.answers f.items g.next g.keeps g.stack
+  pub record SameFrame (w : World Sort) (below : ℕ) (f : S.Frame) (g : I.Frame) : Type 0 where
+    pub place : Placed w.made f g
+    pub remains : Remains program place.routine.own (tables_of image) g.procedure (here_in below f) (code_of image g.procedure) f.variables g.cells w f.answers f.items g.next g.keeps g.stack
 
   -- one that has had an answer
-  pub record WentFrame (w : World Sort) (here : ℕ) (f : S.Frame) (g : I.Frame) : Type 0 where
-    pub place : Placed f g
-    pub went : Went place.routine.own g.procedure here w f.answers f.items g.next g.keeps g.stack
+  pub record WentFrame (w : World Sort) (below : ℕ) (f : S.Frame) (g : I.Frame) : Type 0 where
+    pub place : Placed w.made f g
+    pub went : Went place.routine.own g.procedure (here_in below f) w f.answers f.items g.next g.keeps g.stack
 
   -- one that waits for the end of the frame above, which gives such a result: it goes on with each
-  pub record WaitingFrame (w : World Sort) (result : Option TType) (here : ℕ) (f : S.Frame) (g : I.Frame) : Type 0 where
-    pub place : Placed f g
-    pub goes : (w' : World Sort) → Grows w w' → (v : Value) → IsAnswer program w' result v → Went place.routine.own g.procedure here w' (S.told v f.answers) f.items g.next g.keeps (with_answer w' result v g.stack)
+  pub record WaitingFrame (w : World Sort) (result : Option TType) (below : ℕ) (f : S.Frame) (g : I.Frame) : Type 0 where
+    pub place : Placed w.made f g
+    pub goes : (w' : World Sort) → Grows w w' → (v : Value) → IsAnswer program w' result v → Went place.routine.own g.procedure (here_in below f) w' (S.told v f.answers) f.items g.next g.keeps (with_answer w' result v g.stack)
 
   -- frames whose topmost waits for the end of the one above, and each other one for the end of the next
   abbrev pub Waiting : List Made → Option TType → List S.Frame → List I.Frame → Type 0
@@ -146,7 +170,7 @@ module _ (program : Program) (image : Image) where
   -- the code of each routine carries out its statements
   abbrev pub RoutinesRun : Type 0
   RoutinesRun =
-      (p : ℕ) (r : Routine) → by_number p (routines program) ≡ Some r → (here : ℕ) → GoesOn program r.own (tables_of image) p here (code_of image p) (items_of r.body) (run (tables_of image) p here (code_of image p) 0 (λ c. Num (pos 0)) [])
+      (p : ℕ) (r : Routine) → by_number p (routines program) ≡ Some r → (here : Here) → GoesOn program r.own (tables_of image) p here (code_of image p) (items_of r.body) (run (tables_of image) p here (code_of image p) 0 (λ c. Num (pos 0)) [])
 
   -- the bodies of modules that are to follow, and the procedures that they are
   abbrev pub Follows : List ℕ → List ℕ → Type 0
@@ -223,14 +247,14 @@ module _ (program : Program) (image : Image) where
   result_grows w w' g (Some t) (Some v) h =
       ((values_kept program.types).is w w' g (Plain (id_of t)) v h, ap (λ c. Some c) ((values_kept program.types).cells w w' g (Plain (id_of t)) v h))
 
-  pub behind_grows : (w w' : World Sort) → Grows w w' → (own : Option Procedure) (number here : ℕ) (is : List Item) (a : After) (m : Run) → Behind program own (tables_of image) number here (code_of image number) is w a m → Behind program own (tables_of image) number here (code_of image number) is w' a m
+  pub behind_grows : (w w' : World Sort) → Grows w w' → (own : Option Procedure) (number : ℕ) (here : Here) (is : List Item) (a : After) (m : Run) → Behind program own (tables_of image) number here (code_of image number) is w a m → Behind program own (tables_of image) number here (code_of image number) is w' a m
   behind_grows w w' g own number here is (Into new) m h = h
   behind_grows w w' g own number here is Exits m h = h
   behind_grows w w' g own number here is (Returns r) m h =
       let k = result_grows w w' g (result_of own) r h.2 in
       (h.0, h.1 ∙ ap (λ o. Asks (Ends o) h.0) k.1, k.0)
 
-  remains_grows : (w w' : World Sort) → Grows w w' → (own : Option Procedure) (number here : ℕ) (c : Content Value) (cells : List Cell) (answers : Option (List Value)) (is : List Item) (next : ℕ) (k : Keeps) (st : Stack) → Remains program own (tables_of image) number here (code_of image number) c cells w answers is next k st → Remains program own (tables_of image) number here (code_of image number) c cells w' answers is next k st
+  remains_grows : (w w' : World Sort) → Grows w w' → (own : Option Procedure) (number : ℕ) (here : Here) (c : Content Value) (cells : List Cell) (answers : Option (List Value)) (is : List Item) (next : ℕ) (k : Keeps) (st : Stack) → Remains program own (tables_of image) number here (code_of image number) c cells w answers is next k st → Remains program own (tables_of image) number here (code_of image number) c cells w' answers is next k st
   remains_grows w w' g own number here c cells None is next k st h = h
   remains_grows w w' g own number here c cells (Some t) [] next k st h = absurd h
   remains_grows w w' g own number here c cells (Some t) (i ∷ is) next k st h =
@@ -259,7 +283,7 @@ module _ (program : Program) (image : Image) where
       where
         by : (m : Option Made) → by_number o made ≡ m → option_map (scheme program).made m ≡ Some s → size s < 2 ^ 32
         by None f e' = absurd (cc)
-        by (Some m) f e' = let q : made_shape program.types m ≡ s = cc in subst (λ x. size x < 2 ^ 32) q (number_get (λ m. size (made_shape program.types m) < 2 ^ 32) o made m objects f)
+        by (Some m) f e' = let q : made_shape program.types m ≡ s = cc in subst (λ x. size x < 2 ^ 32) q ((number_get (IsFew program) o made m objects f).0)
 
     -- and so all objects have the shapes that they are made as
     pub all_whole : (made : List Made) (z : Shape Sort) (result : Option TType) (fs : List S.Frame) (gs : List I.Frame) → AreFew program made → size z < 2 ^ 32 → Waiting made result fs gs → IsWhole program (world_of program made (z ∷ shapes_of fs))
@@ -279,25 +303,26 @@ module _ (program : Program) (image : Image) where
         now : World Sort
         now = world_of program made (shapes_of (f ∷ fs))
 
-        calmed : (own : Option Procedure) (answers : Option (List Value)) (items : List Item) → Went own g.procedure (length fs) now answers items g.next g.keeps g.stack → IsWhole program now → Remains program own (tables_of image) g.procedure (length fs) (code_of image g.procedure) f.variables g.cells now answers items g.next g.keeps g.stack
+        calmed : (own : Option Procedure) (answers : Option (List Value)) (items : List Item) → Went own g.procedure (here_in (length fs) f) now answers items g.next g.keeps g.stack → IsWhole program now → Remains program own (tables_of image) g.procedure (here_in (length fs) f) (code_of image g.procedure) f.variables g.cells now answers items g.next g.keeps g.stack
         calmed own None items h' whole = absurd h'
         calmed own (Some t) [] h' whole = absurd h'
         calmed own (Some t) (i ∷ is) h' whole =
             let code = code_of image g.procedure in
-            does_last program (length fs) (Behind program own (tables_of image) g.procedure (length fs) code is) now f.shape f.variables g.cells (tables_of image) (run (tables_of image) g.procedure (length fs) code g.next g.keeps g.stack) (feed t (item_of program (length fs) i))
-            (λ w' up. behind_grows now w' up own g.procedure (length fs) is) (top_shape program made f fs) shown.0 whole shaped h'
+            let here = here_in (length fs) f in
+            does_last program here (Behind program own (tables_of image) g.procedure here code is) now f.shape f.variables g.cells (tables_of image) (run (tables_of image) g.procedure here code g.next g.keeps g.stack) (feed t (item_of program here i))
+            (λ w' up. behind_grows now w' up own g.procedure here is) (top_shape program made f fs) shown.0 whole shaped h'
 
   -- The next body.
 
-  pub body_same : RoutinesRun → (made : List Made) (o p home : ℕ) (ss : Stats) → by_number p (routines program) ≡ Some (record { home = home; own = None; body = ss }) → SameFrames made (S.body_frame home o ss ∷ []) (I.body_frame o p ∷ [])
-  body_same runs made o p home ss there =
-      let r : Routine = record { home = home; own = None; body = ss } in (
-        record {
-          place = record { routine = r; there = there; home_is = refl; object_is = refl; at_is = refl; gives_is = refl; counted_is = refl; frame = body_frame program Nothing (omega arith) };
-          remains = (refl, runs p r there 0);
-        },
-        tt,
-      )
+  -- a routine without variables that gives nothing: the body of a module or of an object
+  pub body_same : RoutinesRun → (made : List Made) (o p : ℕ) (r : Routine) → by_number p (routines program) ≡ Some r → false ≡ gives r.own → IsFrameOf program r.own Nothing → IsSelf program (λ o. by_number o made) (self_type r.own) o → SameFrames made (S.body_frame r.home o r.body ∷ []) (I.body_frame o p ∷ [])
+  body_same runs made o p r there proper frame self = (
+    record {
+      place = record { routine = r; there = there; home_is = refl; object_is = refl; at_is = refl; gives_is = proper; counted_is = refl; frame = frame; self = self };
+      remains = (refl, runs p r there (record { below = 0; self = o }));
+    },
+    tt,
+  )
 
   pub body_shown : (made : List Made) (o p home : ℕ) (ss : Stats) → SameVariables program made (S.body_frame home o ss ∷ []) (I.body_frame o p ∷ [])
   body_shown made o p home ss = (record { fits = tt; same = refl }, tt)
@@ -309,7 +334,11 @@ module _ (program : Program) (image : Image) where
   opened_by_same runs made [] [] (m ∷ ms) (p ∷ ps) follows h shown =
       let x = follows.0.0 in
       subst (λ o. Same made (S.next_body program m ms o) (I.opened_by [] (p ∷ ps))) (sym follows.0.1)
-      (record { follows = follows.1; frames = body_same runs made 0 p m x.body follows.0.2; shown = body_shown made 0 p m x.body })
+      (record {
+        follows = follows.1;
+        frames = body_same runs made 0 p (record { home = m; own = None; body = x.body }) follows.0.2 refl (body_frame program Nothing (omega arith)) tt;
+        shown = body_shown made 0 p m x.body;
+      })
   opened_by_same runs made [] (g ∷ gs) ms ps follows h shown = absurd h
   opened_by_same runs made (f ∷ fs) [] ms ps follows h shown = absurd h
   opened_by_same runs made (f ∷ fs) (g ∷ gs) ms ps follows h shown = record { follows = follows; frames = h; shown = shown }
@@ -330,17 +359,19 @@ module _ (program : Program) (image : Image) where
     waiting_grow result (f ∷ fs) (g ∷ gs) h =
         let w = world_of program made (shapes_of (f ∷ fs)) in
         let w' = world_of program (made ++ more) (shapes_of (f ∷ fs)) in
-        (record { place = h.0.place; goes = λ w2 g2. h.0.goes w2 (grows_twice w w' w2 (up (shapes_of (f ∷ fs))) g2) }, waiting_grow (result_of h.0.place.routine.own) fs gs h.1)
+        (record { place = place_grows w.made w'.made (up (shapes_of (f ∷ fs))).made f g h.0.place; goes = λ w2 g2. h.0.goes w2 (grows_twice w w' w2 (up (shapes_of (f ∷ fs))) g2) }, waiting_grow (result_of h.0.place.routine.own) fs gs h.1)
 
     frames_grow : (fs : List S.Frame) (gs : List I.Frame) → SameFrames made fs gs → SameFrames (made ++ more) fs gs
     frames_grow [] [] h = tt
     frames_grow [] (g ∷ gs) h = absurd h
     frames_grow (f ∷ fs) [] h = absurd h
     frames_grow (f ∷ fs) (g ∷ gs) h =
-        let place = h.0.place in (
+        let place = h.0.place in
+        let w = world_of program made (shapes_of (f ∷ fs)) in
+        let w' = world_of program (made ++ more) (shapes_of (f ∷ fs)) in (
           record {
-            place = place;
-            remains = remains_grows (world_of program made (shapes_of (f ∷ fs))) (world_of program (made ++ more) (shapes_of (f ∷ fs))) (up (shapes_of (f ∷ fs))) place.routine.own g.procedure (length fs) f.variables g.cells f.answers f.items g.next g.keeps g.stack h.0.remains;
+            place = place_grows w.made w'.made (up (shapes_of (f ∷ fs))).made f g place;
+            remains = remains_grows w w' (up (shapes_of (f ∷ fs))) place.routine.own g.procedure (here_in (length fs) f) f.variables g.cells f.answers f.items g.next g.keeps g.stack h.0.remains;
           },
           waiting_grow (result_of place.routine.own) fs gs h.1,
         )

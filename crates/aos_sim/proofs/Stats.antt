@@ -1,25 +1,25 @@
 -- The code of statements without statements in them does what the statement does, and what is left of a body is carried out from the
 -- place that it leaves.
-use Rattle.std.proofs.Common.{◌≡◌, ℕ, ℤ, suc, pos, ◌+◌, ◌<◌, ◌≤◌, ◌-◌, zero, Bool, true, false, Option, List, [], ◌∷◌, ◌++◌, length, map, drop, Some, None, if◌then◌else◌, refl, sym, ap, ◌∙◌, subst, arith, append-nil, append_assoc, length-append}
-use Rattle.std.specs.Prelude.{option_map, is_some}
+use Rattle.std.proofs.Common.{◌≡◌, ℕ, ℤ, suc, pos, ◌+◌, ◌<◌, ◌≤◌, ◌-◌, zero, Bool, true, false, Option, List, [], ◌∷◌, ◌++◌, length, drop, Some, None, if◌then◌else◌, refl, sym, ap, ◌∙◌, subst, arith, append-nil, append_assoc, length-append}
+use Rattle.std.specs.Prelude.{option_map}
 use Rattle.std.proofs.lemmas.Bool.{le-ltb, lt-ltb}
 use Rattle.std.proofs.lemmas.List.{drop-drop}
 use Rattle.aos_base.specs.declared.number.Width.TheVariants.{W64}
 use Rattle.aos_base.specs.declared.text.Pos.{Pos}
 use Rattle.aos_base.specs.Operators.{flag}
-use Rattle.aos_base.specs.Question.{Val, Asks, Traps, bind, ask, Stores, Copies, PutsText, Calls, Ends, PutsInt, PutsChar, PutsString, PutsNothing, PutsLn}
+use Rattle.aos_base.specs.Question.{Val, Asks, Traps, bind, ask, Stores, Copies, PutsText, Ends, PutsInt, PutsChar, PutsString, PutsNothing, PutsLn}
 use Rattle.aos_types.specs.Table.{row_of}
 use Rattle.aos_types.specs.World.{World}
 use Rattle.aos_typed.specs.declared.tree.TType.{TType}
 use Rattle.aos_typed.specs.declared.tree.TType.TheVariants as type
-use Rattle.aos_typed.specs.Program.{Place, Rows, Arguments, Expr, Call, Open as OutOpen, Char as OutChar, Int as OutInt, String as OutString, Ln as OutLn, Stat, Assign, Copy, PutText, If, Case, While, Repeat, Loop, Exit, For, Block, Assert, Halt, Change, Perform, Return, New, Make, With, WithRecord, Out, Stats, Procedure, Program}
-use Rattle.aos_typed.specs.Numbers.{id_of, procedure_number}
+use Rattle.aos_typed.specs.Program.{Place, Rows, Arguments, Callee, Expr, Call, Open as OutOpen, Char as OutChar, Int as OutInt, String as OutString, Ln as OutLn, Stat, Assign, Copy, PutText, If, Case, While, Repeat, Loop, Exit, For, Block, Assert, Halt, Change, Perform, Return, New, Make, With, WithRecord, Out, Stats, Procedure, Program}
+use Rattle.aos_typed.specs.Numbers.{id_of}
 use Rattle.aos_typed.specs.Routines.{result_of}
 use Rattle.aos_typed.specs.Sort.{Sort, Plain, variable_shape}
 use Rattle.aos_typed.specs.Spot.{Spot}
 use Rattle.aos_typed.specs.Value.{Value, Int, Flag, is_true}
 use Rattle.aos_typed.specs.Meaning as source
-use Rattle.aos_typed.specs.Meaning.{Doing, Found, text_length, Item, After, Into, Returns, leave, items_of, place_of, rows_of, arguments_of, value_of, stat_of, out_of, pos_of}
+use Rattle.aos_typed.specs.Meaning.{Here, Doing, Found, text_length, Item, After, Into, Returns, leave, items_of, place_of, rows_of, value_of, called as called_of, stat_of, out_of, pos_of}
 use Rattle.aos_types.specs.Shape.{Shape, join}
 use Rattle.aos_types.specs.Content.{EachSort}
 use Rattle.aos_typed.specs.Typing.{Is, IsPlain}
@@ -35,21 +35,22 @@ use Rattle.aos_code.specs.declared.instr.Kind.TheVariants.{N}
 use Rattle.aos_code.specs.Numbered.{numbered}
 use Rattle.aos_code.specs.Silent.{Stack, Keeps, keeps_in, kept, is_of, jumps, lands}
 use Rattle.aos_sim.specs.Cells.{place_in, cell_of}
-use Rattle.aos_sim.specs.Code.{begin, kind_of, cells_of, place_code, rows_code, arguments_code, operands_code, value_code, stat_code, stats_code, end_code, body_code}
+use Rattle.aos_sim.specs.Code.{begin, kind_of, cells_of, place_code, rows_code, operands_code, value_code, called_code, stat_code, stats_code, end_code, body_code}
 use Rattle.aos_sim.specs.Need.{keeps_of}
-use Rattle.aos_sim.proofs.Runs.{Run, Onward, Tables, AtBegin, gives_result, on_run, runs, run, drop_next, drop_past, get_at}
+use Rattle.aos_sim.proofs.Runs.{Run, Onward, Tables, AtBegin, on_run, runs, run, drop_next, drop_past, get_at}
 use Rattle.aos_sim.proofs.Types.{number_cell, is_integer, is_character}
-use Rattle.aos_sim.proofs.Does.{HasTypes, HasShapes, Knows, addr_of, placed, Given, IsResult, Valid, Does, along}
+use Rattle.aos_sim.proofs.Does.{HasTypes, HasShapes, Knows, addr_of, placed, IsResult, Valid, Does, along, does_bind}
 use Rattle.aos_sim.proofs.References.{stored_kind}
 use Rattle.aos_sim.proofs.Evaluates.{OfType, number_in, OfSort, pushed, Brings, ComesTo, Remain, Stays, front_does, piece_does, two_do, values_stay, operand_does}
 use Rattle.aos_sim.proofs.Designators.{IsFound, holds_whole, holds_extension, IsText, IsRoom, text_cells, places_stay, texts_remain}
-use Rattle.aos_sim.proofs.Exprs.{scalar_found, place_does, arguments_do, yields_do, value_does, text_found, room_found}
-use Rattle.aos_sim.proofs.Called.{kind_of_value, call_asks, call_valid, call_gives}
+use Rattle.aos_sim.proofs.Exprs.{scalar_found, place_does, arguments_do, called_do, yields_do, value_does, text_found, room_found}
+use Rattle.aos_sim.proofs.Called.{kind_of_value}
+use Rattle.aos_sim.proofs.Sends.{answer_cells, Answered}
 use Rattle.aos_sim.proofs.Shortcuts.{by_flag}
 use Rattle.aos_sim.proofs.Sizes.{stats_length}
 use Rattle.aos_sim.proofs.Carries.{Stands, IsOwn, AtEnd, HasStatements, Carries, bound, GoesOn, Behind, outside, carries_all, StatementDoes}
 
-module _ (program : Program) (own : Option Procedure) (tables : Tables) (number here : ℕ) (code : List Instr) where
+module _ (program : Program) (own : Option Procedure) (tables : Tables) (number : ℕ) (here : Here) (code : List Instr) where
   abbrev onward : List Instr → Onward
   onward = runs tables number here code
 
@@ -130,7 +131,7 @@ module _ (program : Program) (own : Option Procedure) (tables : Tables) (number 
   begins_with (Assert there e c) at x d k st = ap (λ l. onward l 0 at k []) st.here
   begins_with (Halt there c) at x d k st = ap (λ l. onward l 0 at k []) st.here
   begins_with (Change there c p e) at x d k st = ap (λ l. onward l 0 at k []) st.here
-  begins_with (Perform there m n more) at x d k st = ap (λ l. onward l 0 at k []) st.here
+  begins_with (Perform there c more) at x d k st = ap (λ l. onward l 0 at k []) st.here
   begins_with (Return there None) at x d k st = ap (λ l. onward l 0 at k []) st.here
   begins_with (Return there (Some e)) at x d k st = ap (λ l. onward l 0 at k []) st.here
   begins_with (Make there p t ns) at x d k st = ap (λ l. onward l 0 at k []) st.here
@@ -324,27 +325,20 @@ module _ (program : Program) (own : Option Procedure) (tables : Tables) (number 
           told n p rest next w' false m e' = (e', omega arith)
 
       -- a call, whose answer no code takes
-      pub perform_does : (there : Pos) (m n : ℕ) (more : Arguments) → StatementDoes program own tables number here code x d k after (Perform there m n more)
-      perform_does there m n more w at known has c =
+      pub perform_does : (there : Pos) (callee : Callee) (more : Arguments) → StatementDoes program own tables number here code x d k after (Perform there callee more)
+      perform_does there callee more w at known has c =
           let q = has.typed.0 in
-          let number_is = procedure_number program m n in
-          let ca = arguments_code program own more (at + 1) in
-          let last = i.Call number_is ∷ [] in
+          let ca = called_code program own callee more (at + 1) in
+          let called_so = called_of program here callee more in
           let p = at + 1 + length ca in
           let rest = has.stands.rest in
-          let h1 : drop (at + 1) code ≡ (ca ++ last) ++ rest = drop_next at code (begin there) ((ca ++ last) ++ rest) has.stands.here in
-          let h2 : drop p code ≡ i.Call number_is ∷ rest = drop_past ca (at + 1) code (i.Call number_is ∷ rest) (h1 ∙ append_assoc ca last rest) in
-          let len : at + suc (length (ca ++ last)) ≡ p + 1 = omega (arith, length-append ca last) in
-          let does : List Value → Doing After = λ vs. bind (ask (Calls number_is vs)) (λ _. Val (Into [])) in
-          along program here (Leaves after) w _ _ (bind (arguments_of program here more) does) (from_here (at + 1) ((ca ++ last) ++ rest) k [] h1)
-          (front_does program own tables number here code (λ w vs. Given program w q.parameters vs) (λ w vs. map (cell_of w) vs) (Leaves after) does ca last (arguments_of program here more) (at + 1) rest k []
-          (arguments_do program own tables number here code typed shaped more q.parameters has.typed.3 (at + 1)) w known
-          (λ w' up vs m' is e.
-          let none : gives_result (numbered tables.procedures number_is) ≡ false = call_gives program tables shaped here w' m n q has.typed.1 vs is ∙ ap is_some has.typed.2 in
-          last_asks (Calls number_is vs) w' m' p rest
-          (e ∙ call_asks program tables shaped here w' m n q has.typed.1 vs is number code rest p k []
-          ∙ ap (λ b. Asks (Calls number_is (map (cell_of w') vs)) (λ y. onward rest 0 (p + 1) k (if b then y ∷ [] else []))) none)
-          (call_valid program tables shaped here w' m n q has.typed.1 vs is) (drop_next p code (i.Call number_is) rest h2) (subst Carried len c)))
+          let h1 : drop (at + 1) code ≡ ca ++ rest = drop_next at code (begin there) (ca ++ rest) has.stands.here in
+          let len : at + suc (length ca) ≡ p = omega arith in
+          let next = goes_on p rest (drop_past ca (at + 1) code rest h1) (subst Carried len c) in
+          along program here (Leaves after) w _ _ (bind called_so (λ _. Val (Into []))) (from_here (at + 1) (ca ++ rest) k [] h1)
+          (does_bind program here (Answered program own tables number here code q.result rest p k []) (Leaves after) w (onward (ca ++ rest) 0 (at + 1) k []) called_so (λ _. Val (Into []))
+          (called_do program own tables number here code typed shaped callee q has.typed.1 more (λ at'. arguments_do program own tables number here code typed shaped more q.parameters has.typed.3 at') (at + 1) w known rest k [])
+          (λ w' up v m a. subst (GoesOn program own tables number here code after) (sym (a.run ∙ ap (λ t. onward rest 0 p k (pushed (answer_cells program own tables number here code w' t v) [])) has.typed.2)) next))
 
       -- the end of the procedure, with the result of a function
       pub return_does : IsOwn program own tables number → (there : Pos) (e : Option Expr) → StatementDoes program own tables number here code x d k after (Return there e)

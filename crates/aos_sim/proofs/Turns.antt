@@ -1,6 +1,6 @@
 -- One turn of each side from related frames gives related frames, with the same work left to the kernel.
-use Rattle.std.proofs.Common.{◌≡◌, ℕ, suc, pos, ◌+◌, ◌<◌, ◌^◌, List, [], ◌∷◌, ◌++◌, length, drop, Option, Some, None, refl, sym, ap, ◌∙◌, subst, arith}
-use Rattle.std.specs.Prelude.{ℤ, Bool, true, false, is_some, unsigned_abs, nat_lt, option_map, sum_by, map, if◌then◌else◌}
+use Rattle.std.proofs.Common.{◌≡◌, ℕ, suc, pos, ◌+◌, ◌<◌, ◌≤◌, List, [], ◌∷◌, ◌++◌, length, drop, Option, Some, None, refl, sym, ap, ◌∙◌, subst, arith}
+use Rattle.std.specs.Prelude.{All, ℤ, Bool, true, false, is_some, unsigned_abs, nat_lt, option_map, sum_by, map, if◌then◌else◌}
 use Rattle.std.proofs.lemmas.List.{length-map}
 use Rattle.std.proofs.lemmas.List.Sums.{sum_by-cons}
 use Rattle.std.proofs.lemmas.List.Elements.{All-nil, All-cons, All-append}
@@ -15,21 +15,22 @@ use Rattle.aos_base.specs.declared.kernel.Did.TheVariants.{Went, Ended as NoFram
 use Rattle.aos_base.specs.Question.{Val, Asks, Traps, bind, feed, Reads, Stores, Copies, PutsText, ComparesTexts, Calls, Ends, Makes, Starts, PutsInt, PutsChar, PutsString, PutsNothing, PutsLn, Places, Lengths, Opens, Sizes, Tests}
 use Rattle.aos_base.specs.Rooted.{Made, Rooted, by_number, spliced}
 use Rattle.aos_types.specs.Table.{row_of as type_row, is_open}
-use Rattle.aos_types.specs.Shape.{Shape, One, size, leaves}
+use Rattle.aos_types.specs.Shape.{Shape, One, leaves}
 use Rattle.aos_types.specs.Content.{Content, Scalar, placed as placed_at, overlay}
 use Rattle.aos_types.specs.World.{World, Grows, shape_at, read}
 use Rattle.aos_typed.specs.declared.tree.TType.{TType}
 use Rattle.aos_typed.specs.Program.{Expr, Repeat, Stats, Procedure, Program}
-use Rattle.aos_typed.specs.Routines.{Routine, result_of, routines}
+use Rattle.aos_typed.specs.Routines.{Routine, self_type, has_self, result_of, routines}
+use Rattle.aos_typed.specs.Open.{open_dimensions}
 use Rattle.aos_typed.specs.Numbers.{id_of, id_of_made}
 use Rattle.aos_typed.specs.Sort.{Sort, Plain, variable_shape}
 use Rattle.aos_typed.specs.Spot.{Spot}
 use Rattle.aos_typed.specs.Text.{with_text, fitted}
 use Rattle.aos_typed.specs.Value.{Value, Int, Flag, Char, Object, number_of, is_true}
-use Rattle.aos_typed.specs.Typing.{Is, IsPlain, IsInteger}
+use Rattle.aos_typed.specs.Typing.{Is, IsPlain, IsInteger, HasLengths}
 use Rattle.aos_typed.specs.Store.{Store, scalar_in, has_room, new_number, with_object as with_content}
 use Rattle.aos_typed.specs.Meaning as source
-use Rattle.aos_typed.specs.Meaning.{Doing, Item, Do, Rounds, Round, Until, After, Into, Returns, Exits, leave, value_of, item_of, pos_of}
+use Rattle.aos_typed.specs.Meaning.{Here, Doing, Item, Do, Rounds, Round, Until, After, Into, Returns, Exits, leave, value_of, item_of, pos_of}
 use Rattle.aos_typed.specs.Source as S
 use Rattle.aos_typed.specs.Source.{first_value, made_shape}
 use Rattle.aos_code.specs.declared.instr.Cell.{Cell}
@@ -40,7 +41,7 @@ use Rattle.aos_code.specs.declared.image.TypeDesc.{TypeDesc}
 use Rattle.aos_code.specs.declared.image.Image.{Image}
 use Rattle.aos_code.specs.Numbered.{numbered}
 use Rattle.aos_code.specs.Memory.{Memory, has_room as memory_room, with_object as with_cells}
-use Rattle.aos_code.specs.Silent.{Stack, Keeps, Question, Begins, Fails, Stop, Work, Ended, silent}
+use Rattle.aos_code.specs.Silent.{Here as CodeHere, Stack, Keeps, Question, Begins, Fails, Stop, Work, Ended, silent}
 use Rattle.aos_code.specs.Machine as I
 use Rattle.aos_code.specs.Machine.{first_cell, code_of}
 use Rattle.aos_concurrency.specs.Spot.{Anyone, GoesPast}
@@ -51,22 +52,22 @@ use Rattle.aos_places.proofs.Places.{ReadAlike, read_alike, stored_alike}
 use Rattle.aos_places.proofs.Makes.{shown_grows, made_alike}
 use Rattle.aos_sim.specs.Cells.{cell_of}
 use Rattle.aos_sim.specs.Code.{kind_of}
-use Rattle.aos_sim.specs.Shows.{shape_of, type_kinds}
+use Rattle.aos_sim.specs.Shows.{shape_of, type_kinds, made_kinds}
 use Rattle.aos_layout.specs.Layout.{kind_of as layout_kind}
 use Rattle.aos_layout.specs.Seen.{seen_shape}
 use Rattle.aos_sim.proofs.Kept.{values_kept}
-use Rattle.aos_sim.proofs.Runs.{Run, Tables, tables_of, is_asked_at_once, AtBegin, Onward, gives_result, past, calm, runs, run, resume, run_by_silent, feed-append}
+use Rattle.aos_sim.proofs.Runs.{Run, Tables, tables_of, in_code, is_asked_at_once, AtBegin, Onward, gives_result, past, calm, runs, run, resume, run_by_silent, feed-append}
 use Rattle.aos_sim.proofs.Types.{integer_is, character_is}
 use Rattle.aos_sim.proofs.Results.{natural_is}
 use Rattle.aos_sim.proofs.References.{stored_kind}
-use Rattle.aos_sim.proofs.Does.{scheme, addr_of, placed, HasCharacters, HasText, HasTypes, HasShapes, Knows, IsWhole, IsAnswer, IsResult, IsVisible, IsCalm, Valid, Conforms, Does, Calmly, Lasts, along, knows_grows, calm_does, heard_on, calm_heard, does_last, feed_noted, calm_seen, calm_visible_same, calm_bind, feed_noted_bind, lasts_calm, lasts_calm_on}
+use Rattle.aos_sim.proofs.Does.{IsSelf, IsCalledOn, scheme, addr_of, placed, HasCharacters, HasText, HasTypes, HasShapes, Knows, IsWhole, IsAnswer, IsResult, IsVisible, IsCalm, Valid, Conforms, Does, Calmly, Lasts, along, knows_grows, calm_does, heard_on, calm_heard, does_last, feed_noted, calm_seen, calm_visible_same, calm_bind, feed_noted_bind, lasts_calm, lasts_calm_on}
 use Rattle.aos_sim.proofs.Carries.{IsOwn, AtEnd, GoesOn, Behind, Remains, BeginsAt, ItemsDo}
 use Rattle.aos_sim.proofs.Bodies.{own_known}
 use Rattle.aos_sim.proofs.First.{zero_cell, first_is, first_same, get_right}
-use Rattle.aos_sim.proofs.States.{world_of, shapes_of, with_answer, SameStore, SameVariables, Placed, Waiting, SameFrames, WentFrames, RoutinesRun, Follows, Same, SameState, waiting_length, answer_of, ends_went, ends_shown, AreFew, all_whole, behind_grows, top_shape, went_same, opened_same, waiting_grow}
+use Rattle.aos_sim.proofs.States.{world_of, shapes_of, with_answer, SameStore, SameVariables, Placed, place_grows, IsFew, Waiting, SameFrames, WentFrames, RoutinesRun, Follows, Same, SameState, waiting_length, answer_of, ends_went, ends_shown, AreFew, all_whole, behind_grows, top_shape, went_same, opened_same, waiting_grow}
 use Rattle.aos_sim.proofs.Entered.{both, handed_there, called_shown, called_counted, called_frame_of, answer_stacked, few_scalars, waiting_counted}
 use Rattle.aos_sim.proofs.Written.{written}
-use Rattle.aos_sim.proofs.Making.{some_lengths, none_open}
+use Rattle.aos_sim.proofs.Making.{some_lengths, none_open, made_lengths}
 use Rattle.aos_sim.proofs.Created.{numbers_found, made_plain, made_cells, begun, room_same, roomy}
 use Rattle.aos_sim.proofs.Copied.{copied_alike}
 use Rattle.aos_sim.proofs.Objects.{some_same}
@@ -75,7 +76,7 @@ use Rattle.aos_sim.proofs.Starting.{silent_at_start, run_at_start}
 
 -- Where silent work stops, by the run from there.
 
-module _ (tables : Tables) (own here : ℕ) (code : List Instr) where
+module _ (tables : Tables) (own : ℕ) (here : Here) (code : List Instr) where
   abbrev work_at : (q : Question) (p : ℕ) (k : Keeps) (st : Stack) → Cell → Run
   work_at q p k st x = past tables q x p k st (λ over at' k' s'. runs tables own here code (drop at' code) over at' k' s')
 
@@ -156,7 +157,7 @@ module _ (program : Program) (image : Image) where
   ends_is ms (Some v) fs s = refl
 
   -- the topmost frame
-  module _ (typed : HasTypes program) (shaped : HasShapes program (tables_of image)) (routines_run : RoutinesRun program image) (items_do : ItemsDo program) (ms ps : List ℕ) (f : S.Frame) (g : I.Frame) (fs : List S.Frame) (gs : List I.Frame) (s : Store) (mem : Memory) (place : Placed program image f g) (follows : Follows program image ms ps) (below : Waiting program image s.made (result_of place.routine.own) fs gs) (stores : SameStore program s mem) (shown : SameVariables program s.made (f ∷ fs) (g ∷ gs)) where
+  module _ (typed : HasTypes program) (shaped : HasShapes program (tables_of image)) (routines_run : RoutinesRun program image) (items_do : ItemsDo program) (ms ps : List ℕ) (f : S.Frame) (g : I.Frame) (fs : List S.Frame) (gs : List I.Frame) (s : Store) (mem : Memory) (place : Placed program image (λ o. by_number o s.made) f g) (follows : Follows program image ms ps) (below : Waiting program image s.made (result_of place.routine.own) fs gs) (stores : SameStore program s mem) (shown : SameVariables program s.made (f ∷ fs) (g ∷ gs)) where
     abbrev own : Option Procedure
     own = place.routine.own
 
@@ -172,8 +173,8 @@ module _ (program : Program) (image : Image) where
     abbrev code : List Instr
     code = code_of image g.procedure
 
-    abbrev here : ℕ
-    here = length fs
+    abbrev here : Here
+    here = S.here_of f fs
 
     abbrev now : World Sort
     now = world_of program s.made (shapes_of (f ∷ fs))
@@ -185,7 +186,7 @@ module _ (program : Program) (image : Image) where
     onward over at k st = runs tables g.procedure here code (drop at code) over at k st
 
     abbrev stop_from : ℕ → Keeps → Stack → Stop
-    stop_from = silent shapes types now.made g.procedure here g.cells code
+    stop_from = silent shapes types now.made g.procedure (in_code here) g.cells code
 
     abbrev resumed : Stop → Run
     resumed = resume tables g.procedure here code
@@ -219,7 +220,7 @@ module _ (program : Program) (image : Image) where
     whole = all_whole program image typed s.made f.shape (result_of own) fs gs stores.few place.frame.few below
 
     knows : Knows program own here now
-    knows = record { modules = λ m x e. e; frame = (f.shape, top_shape program s.made f fs, place.frame) }
+    knows = record { modules = λ m x e. e; frame = (f.shape, top_shape program s.made f fs, place.frame); self = place.self }
 
     is_own : IsOwn program own tables g.procedure
     is_own = own_known program tables shaped g.procedure place.routine place.there
@@ -273,7 +274,7 @@ module _ (program : Program) (image : Image) where
             follows = follows;
             frames = (
               record {
-                place = record { routine = place.routine; there = place.there; home_is = place.home_is; object_is = place.object_is; at_is = refl; gives_is = place.gives_is; counted_is = place.counted_is; frame = place.frame };
+                place = record { routine = place.routine; there = place.there; home_is = place.home_is; object_is = place.object_is; at_is = refl; gives_is = place.gives_is; counted_is = place.counted_is; frame = place.frame; self = place.self };
                 remains = lasting is (run_from (b.at + 1) b.keeps []) (item i) b.does;
               },
               below,
@@ -458,6 +459,13 @@ module _ (program : Program) (image : Image) where
         more : Grows now (world_of program made shapes_now)
         more = objects_grow (scheme program) s.made (one ∷ []) shapes_now
 
+        -- it has the lengths that its type asks for
+        lengths : All (λ n. n ≤ 16777216) ns → HasLengths program.types (type_row program.types (id_of_made u)) one
+        lengths few =
+            let number = x.valid.0 in
+            subst (λ z. HasLengths program.types (type_row program.types (id_of_made z)) (record { type = z; lengths = ns })) (sym x.valid.1)
+            (made_lengths program own tables g.procedure here code typed shaped number (length vs) vs ns refl (x.valid.3 ∙ ap (λ z. open_dimensions program.types (id_of_made z)) x.valid.1) lengths_are few)
+
         made_now : (room : Bool) → has_room one content s ≡ room → Alike (S.makes ms room one content top fs s) (I.makes ps room one zeros x.at x.keeps x.stack low gs mem)
         made_now false e = went s mem [] false (Trapped 12 0) _ _ (λ z. z) (state (i ∷ is) (Some t) next k st left)
         made_now true e =
@@ -467,7 +475,7 @@ module _ (program : Program) (image : Image) where
             let new = made_alike (Is program.types) cell_of IsPlain (values_kept program.types) (first_value program) (zero_cell program) (first_is program) (first_same program) (scheme program) s.made shapes_now one variables cells (made_plain program one) shows in
             let last : length s.made ≡ length s.made + 0 = omega arith in
             let found : w.made (new_number s) ≡ Some one = get_right s.made (one ∷ []) (length s.made) 0 last in
-            let few : AreFew program made = All-append (λ m. size (made_shape program.types m) < 2 ^ 32) s.made (one ∷ []) stores.few (All-cons (λ m. size (made_shape program.types m) < 2 ^ 32) one [] room.0 (All-nil (λ m. size (made_shape program.types m) < 2 ^ 32))) in
+            let few : AreFew program made = All-append (IsFew program) s.made (one ∷ []) stores.few (All-cons (IsFew program) one [] (room.0, lengths room.1) (All-nil (IsFew program))) in
             let conforms : Conforms program w (Makes u vs) v = (ns, lengths_are, record { number = length s.made; is = refl; made = found }, room.1) in
             let goes = answered_so (Makes u vs) x w more v conforms (Ref (new_number s) ∷ x.stack) refl in
             subst (λ n. Alike (S.makes ms true one content top fs s) (I.goes_on ps (I.behind ps x.at x.keeps (Ref (suc n) ∷ x.stack) low ∷ gs) (with_cells one zeros mem))) (sym (ap length stores.made))
@@ -476,7 +484,7 @@ module _ (program : Program) (image : Image) where
               stores = record { made = ap (λ l. l ++ one ∷ []) stores.made; few = few; of_modules = new.of_modules; of_objects = new.of_objects };
               same = record {
                 follows = follows;
-                frames = went_same program image typed shaped made (S.answered v top ∷ fs) (lower (x.at + 1) x.keeps (Ref (new_number s) ∷ x.stack) ∷ gs) few (record { place = place; went = goes }, waiting_grow program image s.made (one ∷ []) (result_of own) fs gs below) new.of_frames;
+                frames = went_same program image typed shaped made (S.answered v top ∷ fs) (lower (x.at + 1) x.keeps (Ref (new_number s) ∷ x.stack) ∷ gs) few (record { place = place_grows program image now.made w.made more.made (S.answered v top) (lower (x.at + 1) x.keeps (Ref (new_number s) ∷ x.stack)) place; went = goes }, waiting_grow program image s.made (one ∷ []) (result_of own) fs gs below) new.of_frames;
                 shown = new.of_frames;
               };
             }))
@@ -503,7 +511,8 @@ module _ (program : Program) (image : Image) where
           let d = shaped.kinds number x.valid.2 in
           let image_so : Option TypeDesc → Option (List ℤ) → I.Turned = λ o l. I.makes_of ps o l u x.at x.keeps x.stack low gs mem in
           let there : numbered types u ≡ Some d.0 = ap (numbered types) x.valid.1 ∙ d.1 in
-          let kinds : d.0.kinds.items ≡ type_kinds program.types (id_of_made u) = d.2 ∙ ap (λ n. type_kinds program.types (id_of_made n)) (sym x.valid.1) in
+          let kinds : d.0.kinds.items ≡ type_kinds program.types (id_of_made u) = d.2 ∙ ap (λ n. made_kinds program.types (id_of_made n)) (sym x.valid.1)
+          ∙ ap (λ b. if b then type_kinds program.types (id_of_made u) else []) x.valid.5 in
           subst (Alike (S.makes_with program ms (array_lengths zs) u top fs s)) (sym (λ j. image_so (there j) (numbers_found ps now vs x.valid.4 j)))
           (by (array_lengths zs) refl d.0 kinds)
         where
@@ -518,7 +527,8 @@ module _ (program : Program) (image : Image) where
           let at_start = I.before ps x.at x.keeps (Ref (suc o) ∷ x.stack) low in
           let stop = silent_at_start tables now.made g.procedure here g.cells code next k st (Ref (suc o)) x.at x.keeps x.stack x.stop (λ o. None) in
           let ran = run_at_start tables now.made g.procedure here g.cells code next k st (Ref (suc o)) x.at x.keeps x.stack x.stop in
-          let stop_is = ap (λ n. silent shapes types (λ o. None) g.procedure n g.cells code x.at x.keeps (Ref (suc o) ∷ x.stack)) (sym (waiting_length program image s.made (result_of own) fs gs below)) ∙ stop in
+          let long = sym (waiting_length program image s.made (result_of own) fs gs below) in
+          let stop_is = (λ j. silent shapes types (λ o. None) g.procedure (record { below = long j; self = place.object_is j }) g.cells code x.at x.keeps (Ref (suc o) ∷ x.stack)) ∙ stop in
           let on : (w : World Sort) → Grows now w → (v : Value) → Conforms program w q v → Does program here (Leads is) w (run_from (x.at + 1) x.keeps x.stack) (x.onto v) = λ w up v c. along program here (Leads is) w (run_from (x.at + 1) x.keeps x.stack) (x.code_on (cell_of w v)) (x.onto v) (sym (x.on (cell_of w v))) (x.after w up v c) in
           let still = subst (λ r. Does program here (Leads is) now (run_from x.at x.keeps (Ref (suc o) ∷ x.stack)) r) (sym x.asks) ((λ z. run_from (x.at + 1) x.keeps x.stack), ran, x.valid, on) in
           record {
@@ -558,7 +568,43 @@ module _ (program : Program) (image : Image) where
         handed = both program typed.ranked ps ms s.made (top ∷ fs) s cells shows routine vs x.valid.2 n shape shape_is
 
         abbrev entered : I.Frame
-        entered = I.called_frame ps n shape handed
+        entered = I.called_frame ps n (S.self_of (has_self routine.own) vs) shape handed
+
+        abbrev cells_given : List Cell
+        cells_given = map (cell_of now) vs
+
+        abbrev us : List Value
+        us = S.arguments_in (has_self routine.own) vs
+
+        method_is : shape.method ≡ has_self routine.own
+        method_is = ap (λ z. z.method) shape_is ∙ by routine.own
+          where
+            by : (own : Option Procedure) → (shape_of program.types (record { home = routine.home; own = own; body = routine.body })).method ≡ has_self own
+            by None = refl
+            by (Some q) = refl
+
+        -- a method is called on the same object, and given the same for its parameters
+        arguments_same : I.arguments_of shape.method cells_given ≡ map (cell_of now) us
+        arguments_same = ap (λ b. I.arguments_of b cells_given) method_is ∙ by (has_self routine.own) vs
+          where
+            by : (b : Bool) (vs : List Value) → I.arguments_of b (map (cell_of now) vs) ≡ map (cell_of now) (S.arguments_in b vs)
+            by true [] = refl
+            by true (v ∷ vs) = refl
+            by false vs = refl
+
+        object_same : I.object_of shape.method cells_given ≡ S.self_of (has_self routine.own) vs
+        object_same = ap (λ b. I.object_of b cells_given) method_is ∙ by (self_type routine.own) x.valid.3
+          where
+            by : (t : Option ℕ) → IsCalledOn program now.made t vs → I.object_of (is_some t) (map (cell_of now) vs) ≡ S.self_of (is_some t) vs
+            by None on = refl
+            by (Some t) on = (λ j. I.object_of true (map (cell_of now) (on.2 j))) ∙ sym (λ j. S.self_of true (on.2 j))
+
+        self_is : IsSelf program now.made (self_type routine.own) (S.self_of (has_self routine.own) vs)
+        self_is = by (self_type routine.own) x.valid.3
+          where
+            by : (t : Option ℕ) → IsCalledOn program now.made t vs → IsSelf program now.made t (S.self_of (is_some t) vs)
+            by None on = tt
+            by (Some t) on = subst (λ z. IsSelf program now.made (Some t) (S.self_of true z)) (sym on.2) on.3
 
         -- with a result the code goes on with it on the stack
         stacked : (w : World Sort) (v : Value) → past tables (placed program now (Calls n vs)) (cell_of w v) x.at x.keeps x.stack onward ≡ run_from (x.at + 1) x.keeps (with_answer w (result_of routine.own) v x.stack)
@@ -583,9 +629,9 @@ module _ (program : Program) (image : Image) where
             ∙ sym (sum_by-cons (λ (z : S.Frame). z.counted) top fs) in
             λ j. if nat_lt (suc (sym long j)) 512 then nat_lt 65536 (counted j + sums j) else true
 
-        handed_same : I.handed ps (suc (length gs)) cells shape.params.items (map (cell_of now) vs) (length shape.kinds.items) ≡ Some handed
+        handed_same : I.handed ps (suc (length gs)) cells shape.params.items (I.arguments_of shape.method cells_given) (length shape.kinds.items) ≡ Some handed
         handed_same =
-            ap (λ m. I.handed ps (suc m) cells shape.params.items (map (cell_of now) vs) (length shape.kinds.items)) (sym long)
+            (λ j. I.handed ps (suc (sym long j)) cells shape.params.items (arguments_same j) (length shape.kinds.items))
             ∙ handed_there program typed.ranked ps ms s.made (top ∷ fs) s cells shows routine vs x.valid.2 n shape shape_is
 
         enters_alike : (b : Bool) → S.is_deep ms new (top ∷ fs) ≡ b → Alike (S.enters ms b new (top ∷ fs) s) (I.enters ps b entered x.at x.keeps x.stack low gs mem)
@@ -608,8 +654,9 @@ module _ (program : Program) (image : Image) where
                       gives_is = refl;
                       counted_is = called_counted program typed.ranked ps ms s.made (top ∷ fs) s cells shows routine vs x.valid.2 n shape shape_is;
                       frame = called_frame_of program typed.ranked ps ms s.made (top ∷ fs) s cells shows routine vs x.valid.2 n shape shape_is few;
+                      self = self_is;
                     };
-                    remains = (refl, routines_run n routine there (length (top ∷ fs)));
+                    remains = (refl, routines_run n routine there (S.here_of new (top ∷ fs)));
                   },
                   (
                     record {
@@ -625,12 +672,11 @@ module _ (program : Program) (image : Image) where
 
         calls_alike : Alike (S.answer program ms (Calls n vs) top fs s) (I.answer ps shapes types (placed program now (Calls n vs)) x.at x.keeps x.stack low gs mem)
         calls_alike =
-            let cs = map (cell_of now) vs in
-            let image_so : Option ProcShape → I.Turned = λ o. I.calls ps o n cs x.at x.keeps x.stack low gs mem in
-            let handed_so : Option (I.Handed ps) → I.Turned = λ o. I.calls_with ps n shape o x.at x.keeps x.stack low gs mem in
+            let image_so : Option ProcShape → I.Turned = λ o. I.calls ps o n cells_given x.at x.keeps x.stack low gs mem in
+            let handed_so : ℕ → Option (I.Handed ps) → I.Turned = λ m o. I.calls_with ps n m shape o x.at x.keeps x.stack low gs mem in
             subst (λ o. Alike (S.calls program ms o vs top fs s) (image_so (numbered shapes n))) (sym there)
             (subst (λ o. Alike (S.calls program ms (Some routine) vs top fs s) (image_so o)) (sym (shaped.shapes n routine there).1)
-            (subst (λ o. Alike (S.calls program ms (Some routine) vs top fs s) (handed_so o)) (sym handed_same)
+            (subst (Alike (S.calls program ms (Some routine) vs top fs s)) (sym (λ j. handed_so (object_same j) (handed_same j)))
             (subst (λ b. Alike (S.calls program ms (Some routine) vs top fs s) (I.enters ps b entered x.at x.keeps x.stack low gs mem)) (sym deep_same)
             (enters_alike (S.is_deep ms new (top ∷ fs)) refl))))
 
@@ -723,7 +769,7 @@ module _ (program : Program) (image : Image) where
               heard = λ w up. calm_heard program here now f.shape f.variables g.cells (top_shape program s.made f fs) shown.0 whole tables shaped (Leads is) w up (comes now (grows_same now) whole).0 (bind test on) (does_at now (grows_same now) whole);
               does = λ w up h.
                   subst (λ z. Calmly program here (Leads is) types g.cells w z (goes_known w (bind test on))) (sym (comes w up h).1)
-                  (calm_does program here w f.shape f.variables g.cells (up.shapes (FrameRoot here) f.shape (top_shape program s.made f fs)) (shown_grows (Is program.types) cell_of IsPlain (values_kept program.types) now w up f.shape f.variables g.cells shown.0) h tables shaped (Leads is) (comes w up h).0 (bind test on) (does_at w up h));
+                  (calm_does program here w f.shape f.variables g.cells (up.shapes (FrameRoot here.below) f.shape (top_shape program s.made f fs)) (shown_grows (Is program.types) cell_of IsPlain (values_kept program.types) now w up f.shape f.variables g.cells shown.0) h tables shaped (Leads is) (comes w up h).0 (bind test on) (does_at w up h));
             }
 
         test_heard : (w : World Sort) → Grows now w → known w test ≡ known now test
@@ -839,8 +885,9 @@ module _ (program : Program) (image : Image) where
         let place = h.0.place in
         let shapes = image.shapes.items in
         let types = image.types.items in
-        let image_so : ℕ → List Made → I.Turned = λ n made. I.goes ps shapes types (silent shapes types (λ o. by_number o made) g.procedure n g.cells (code_of image g.procedure) g.next g.keeps g.stack) g gs mem in
-        subst (Alike (S.turn_at program ms (f ∷ fs) s)) (λ j. image_so (waiting_length program image s.made (result_of place.routine.own) fs gs h.1 j) (sym stores.made j))
+        let image_so : CodeHere → List Made → I.Turned = λ n made. I.goes ps shapes types (silent shapes types (λ o. by_number o made) g.procedure n g.cells (code_of image g.procedure) g.next g.keeps g.stack) g gs mem in
+        let long = waiting_length program image s.made (result_of place.routine.own) fs gs h.1 in
+        subst (Alike (S.turn_at program ms (f ∷ fs) s)) (λ j. image_so (record { below = long j; self = sym place.object_is j }) (sym stores.made j))
         (top_alike typed shaped routines_run items_do ms ps f g fs gs s mem place follows h.1 stores shown f.answers f.items g.next g.keeps g.stack h.0.remains)
 
     pub turn_alike : (s : Store) (mem : Memory) (x : S.Frames) (y : I.Frames) → SameStore program s mem → Same program image s.made x y → Alike (S.turn program s x) (I.turn image mem y)

@@ -1,15 +1,15 @@
 -- What the law takes of a well-typed program's types and modules.
 use Rattle.std.proofs.Common.{◌≡◌, ℕ, ◌<◌, ◌^◌, List, [], ◌∷◌, ◌++◌, map, Option, Some, None, refl, sym, ◌∙◌, subst, arith}
-use Rattle.std.specs.Prelude.{slice_get, option_map}
+use Rattle.std.specs.Prelude.{All, slice_get, option_map, option_and_then}
 use Rattle.std.proofs.lemmas.Option.{slice_get-map}
 use Rattle.aos_types.specs.Shape.{Shape, size, row}
 use Rattle.aos_types.proofs.Ranks.{ranked}
-use Rattle.aos_typed.specs.Program.{Variable, Module, Program}
+use Rattle.aos_typed.specs.Program.{Variable, Procedure, Module, Program}
 use Rattle.aos_typed.specs.Numbers.{id_of}
 use Rattle.aos_typed.specs.Sort.{Sort, variable_shape}
 use Rattle.aos_typed.specs.Source.{module_shape}
 use Rattle.aos_typed.specs.Text.{text_shape}
-use Rattle.aos_typed.specs.WellTyped.{IsWellTyped}
+use Rattle.aos_typed.specs.WellTyped.{procedure_in, IsProcedure, IsWellTyped}
 use Rattle.aos_code.specs.declared.image.Body.{Body}
 use Rattle.aos_code.specs.declared.image.ProcShape.{ProcShape}
 use Rattle.aos_code.specs.declared.image.ModuleDesc.{ModuleDesc}
@@ -18,6 +18,7 @@ use Rattle.aos_layout.specs.Layout.{block, block_parts}
 use Rattle.aos_layout.proofs.Blocks.{same_sizes}
 use Rattle.aos_sim.specs.Shows.{IsCode}
 use Rattle.aos_sim.proofs.First.{all_get}
+use Rattle.aos_sim.proofs.Methods.{has_methods}
 use Rattle.aos_sim.proofs.Does.{HasTypes}
 
 rows_size : {S T : Type 0} (ss : List (Shape S)) (ts : List (Shape T)) → map size ss ≡ map size ts → size (row ss) ≡ size (row ts)
@@ -46,6 +47,26 @@ module _ (p : Program) where
           let same = block_size x in
           subst (λ z. size z < 2 ^ 32) h (omega (arith, few, same))
 
+  -- a module's procedure is no method
+  plain_of : IsWellTyped p → (m k : ℕ) (q : Procedure) → procedure_in p m k ≡ Some q → q.of ≡ None
+  plain_of well m k q e = by (slice_get p.modules m) refl e
+    where
+      by : (o : Option Module) → slice_get p.modules m ≡ o → option_and_then (λ x. slice_get x.procedures k) o ≡ Some q → q.of ≡ None
+      by None f e' = absurd (cc)
+      by (Some x) f e' =
+          let all = all_get (λ m. All (λ q. IsProcedure p q × (q.of ≡ None)) m.procedures) p.modules m x well.procedures f in
+          (all_get (λ q. IsProcedure p q × (q.of ≡ None)) x.procedures k q all e').1
+
   pub has_types : (bs : List Body) (ss : List ProcShape) (ds : List ModuleDesc) (ts : List TypeDesc) → IsWellTyped p → IsCode p bs ss ds ts → HasTypes p
   has_types bs ss ds ts well code =
-      record { predeclared = well.predeclared; ranked = ranked p.types well.types.none_contains_itself; bases = well.types.bases; record_bases = well.types.record_bases; beside = well.beside; few = few_of bs ss ds ts code }
+      let ranks = ranked p.types well.types.none_contains_itself in
+      record {
+        predeclared = well.predeclared;
+        ranked = ranks;
+        bases = well.types.bases;
+        record_bases = well.types.record_bases;
+        beside = well.beside;
+        few = few_of bs ss ds ts code;
+        plain = plain_of well;
+        methods = has_methods p ranks well.types.bases well.predeclared well.beside well.objects;
+      }

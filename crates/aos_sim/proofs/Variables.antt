@@ -25,6 +25,7 @@ use Rattle.aos_typed.specs.Value.{Value}
 use Rattle.aos_typed.specs.Typing.{Is, IsPlainly}
 use Rattle.aos_typed.specs.Source.{module_shape}
 use Rattle.aos_typed.specs.WellTyped.{is_basic, variable_type, IsConstantText, IsLength, IsParameter, IsLocal, IsByReference, IsByValue}
+use Rattle.aos_typed.specs.Meaning.{Here}
 use Rattle.aos_sim.specs.Code.{variable_cell, own_cell}
 use Rattle.aos_sim.proofs.Types.{IsValueOf, basic_of, from_basic, to_basic}
 use Rattle.aos_sim.proofs.Parts.{part_of_row, within_root}
@@ -188,17 +189,17 @@ part_opened : (p : Program) (o b : Bool) (t : TypeId) (m : Shape Sort) → o ≡
 part_opened p true b t m e h = record { lengths = h.0; many = h.1; bound = h.2; is = h.3 }
 part_opened p false b t m e h = absurd (cc)
 
-module _ (program : Program) (own : Option Procedure) (here : ℕ) (w : World Sort) (known : KnowsFrame program own here w) where
+module _ (program : Program) (own : Option Procedure) (here : Here) (w : World Sort) (known : KnowsFrame program own here w) where
   -- a part of the frame is there, at the cell that its code takes for it
   pub record OwnThere (k : ℕ) (m : Shape Sort) : Type 0 where
-    pub there : shape_at w (FrameRoot here) (k ∷ []) ≡ Some m
-    pub cell : cell_at w (FrameRoot here) (k ∷ []) ≡ own_cell program own k
-    pub few : cell_at w (FrameRoot here) (k ∷ []) + size m < 2 ^ 32
+    pub there : shape_at w (FrameRoot here.below) (k ∷ []) ≡ Some m
+    pub cell : cell_at w (FrameRoot here.below) (k ∷ []) ≡ own_cell program own k
+    pub few : cell_at w (FrameRoot here.below) (k ∷ []) + size m < 2 ^ 32
 
   own_there : (k : ℕ) (m : Shape Sort) → IsStood program own known.0 k m → OwnThere k m
   own_there k m h =
-      let there : shape_at w (FrameRoot here) (k ∷ []) ≡ Some m = ap (option_and_then (inside (k ∷ []))) known.1 ∙ ap (option_and_then (λ y. Some y)) h.there in
-      let within = within_root w (FrameRoot here) known.0 known.1 (k ∷ []) m there in
+      let there : shape_at w (FrameRoot here.below) (k ∷ []) ≡ Some m = ap (option_and_then (inside (k ∷ []))) known.1 ∙ ap (option_and_then (λ y. Some y)) h.there in
+      let within = within_root w (FrameRoot here.below) known.0 known.1 (k ∷ []) m there in
       let few = known.2.few in
       record { there = there; cell = ap (number_of (offset (k ∷ []))) known.1 ∙ h.cell; few = omega (arith, within, few) }
 

@@ -22,7 +22,7 @@ use Rattle.aos_places.specs.Shows.{FramesShown, Shows}
 use Rattle.aos_sim.specs.Cells.{cell_of}
 use Rattle.aos_sim.proofs.Does.{scheme, HasTypes, HasShapes}
 use Rattle.aos_sim.proofs.Runs.{tables_of}
-use Rattle.aos_sim.proofs.States.{AreFew, world_of, shapes_of, with_answer, Went, WaitingFrame, WentFrame, Waiting, WentFrames, SameVariables, Follows, SameState, waiting_length, went_same}
+use Rattle.aos_sim.proofs.States.{here_in, AreFew, world_of, shapes_of, with_answer, Went, WaitingFrame, WentFrame, Waiting, WentFrames, SameVariables, Follows, SameState, waiting_length, went_same}
 
 module _ {X : Type 0} (F : X → X) (d : ℕ) where
   -- an element is changed before or behind a look at it
@@ -57,7 +57,7 @@ module _ (program : Program) (image : Image) where
         record {
           place = h.place;
           goes = λ w up v is.
-              subst (λ n. Went program image h.place.routine.own g.procedure n w (S.told v f.answers) f.items g.next g.keeps (with_answer w result v g.stack)) (sym long)
+              subst (λ n. Went program image h.place.routine.own g.procedure (here_in program image n f) w (S.told v f.answers) f.items g.next g.keeps (with_answer w result v g.stack)) (sym long)
               (h.goes w (subst (λ ss. Grows (world_of program made (f.shape ∷ ss)) w) shapes up) v is);
         }
 
@@ -65,8 +65,8 @@ module _ (program : Program) (image : Image) where
     went_moved h =
         record {
           place = h.place;
-          went = subst (λ ss. Went program image h.place.routine.own g.procedure (length fs') (world_of program made (f.shape ∷ ss)) f.answers f.items g.next g.keeps g.stack) (sym shapes)
-              (subst (λ n. Went program image h.place.routine.own g.procedure n (world_of program made (shapes_of (f ∷ fs))) f.answers f.items g.next g.keeps g.stack) (sym long) h.went);
+          went = subst (λ ss. Went program image h.place.routine.own g.procedure (here_in program image (length fs') f) (world_of program made (f.shape ∷ ss)) f.answers f.items g.next g.keeps g.stack) (sym shapes)
+              (subst (λ n. Went program image h.place.routine.own g.procedure (here_in program image n f) (world_of program made (shapes_of (f ∷ fs))) f.answers f.items g.next g.keeps g.stack) (sym long) h.went);
         }
 
   module _ (made : List Made) (d : ℕ) (a : Content Value → Content Value) (b : List Cell → List Cell) where

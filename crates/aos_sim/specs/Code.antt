@@ -13,10 +13,11 @@ use Rattle.aos_typed.specs.declared.tree.Literal.TheVariants as literal
 use Rattle.aos_typed.specs.declared.tree.Change.{Change as Changing}
 use Rattle.aos_typed.specs.declared.tree.Change.TheVariants as change
 use Rattle.aos_typed.specs.Meaning.{until}
+use Rattle.aos_typed.specs.Methods.{method_number}
 use Rattle.aos_typed.specs.Numbers.{id_of, procedure_number}
 use Rattle.aos_typed.specs.Routines.{result_of}
 use Rattle.aos_layout.specs.Frame.{frame}
-use Rattle.aos_typed.specs.Program.{Place, ModuleVar, Local, Passed, Field, Index, Of, Deref, Typed, Guarded, Rows, Known, Opened, Row, Spread, Longer, Arguments, NoMore, Scalar, Whole, Opening, Expr, Lit, Read, Unary, Binary, And, Or, Element, Ord, Chr, CompareTexts, Len, LenBehind, Function, Same, Is, IsRecord, Guard, Had, Call, Open, Char, Int, String, Ln, Stat, Assign, Copy, PutText, If, Case, While, Repeat, Loop, Exit, For, Block, Assert, Halt, Change, Perform, Return, New, Make, With, WithRecord, Out, Stats, Nothing, Then, Arms, Otherwise, Arm, Cases, NoElse, Else, OfLabels, Procedure, Program}
+use Rattle.aos_typed.specs.Program.{Place, ModuleVar, Local, Passed, Field, Index, Of, Deref, Typed, Guarded, Rows, Known, Opened, Row, Spread, Longer, Arguments, NoMore, Scalar, Whole, Opening, Callee, Plain, Dispatched, Upper, Expr, Lit, SelfRef, Read, Unary, Binary, And, Or, Element, Ord, Chr, CompareTexts, Len, LenBehind, Function, Same, Is, IsRecord, Guard, Had, Call, Open, Char, Int, String, Ln, Stat, Assign, Copy, PutText, If, Case, While, Repeat, Loop, Exit, For, Block, Assert, Halt, Change, Perform, Return, New, Make, With, WithRecord, Out, Stats, Nothing, Then, Arms, Otherwise, Arm, Cases, NoElse, Else, OfLabels, Procedure, Program}
 use Rattle.aos_typed.specs.Source.{module_shape}
 use Rattle.aos_sim.specs.Search.{arms_in, search_of, search_size, search_code}
 use Rattle.aos_typed.specs.declared.tree.TType.{TType}
@@ -25,7 +26,7 @@ use Rattle.aos_typed.specs.declared.tree.TType.TheVariants.{Integer}
 use Rattle.aos_code.specs.declared.instr.Kind.{Kind}
 use Rattle.aos_code.specs.declared.instr.Kind.TheVariants.{N, R}
 use Rattle.aos_code.specs.declared.instr.Instr.{Instr}
-use Rattle.aos_code.specs.declared.instr.Instr.TheVariants.{Num, Nil, Deref as DerefOf, OpenRef, EqRef, Is as IsOf, IsPlace, Guard as GuardOf, GuardPlace, NewArray, Dup, Drop, Swap, Frame as FrameOf, Param, Length, IndexOpen, PickLen, Call as CallOf, Keep, Kept, Fail, Assert as AssertOf, Halt as HaltOf, Module, Offset, Index as IndexOf, Unary as OnOne, Binary as OnTwo, Jump, JumpFalse, Begin, Load, Store, Copy as CopyOf, PutText as PutTextOf, CmpText, NewObject, Start, Return as ReturnOf, OutChar, OutInt, OutString, OutLn, OutOpen}
+use Rattle.aos_code.specs.declared.instr.Instr.TheVariants.{Num, Nil, SelfRef as SelfOf, Virtual, Deref as DerefOf, OpenRef, EqRef, Is as IsOf, IsPlace, Guard as GuardOf, GuardPlace, NewArray, Dup, Drop, Swap, Frame as FrameOf, Param, Length, IndexOpen, PickLen, Call as CallOf, Keep, Kept, Fail, Assert as AssertOf, Halt as HaltOf, Module, Offset, Index as IndexOf, Unary as OnOne, Binary as OnTwo, Jump, JumpFalse, Begin, Load, Store, Copy as CopyOf, PutText as PutTextOf, CmpText, NewObject, Start, Return as ReturnOf, OutChar, OutInt, OutString, OutLn, OutOpen}
 
 abbrev pub begin : Pos → Instr
 begin at = Begin at.line at.col
@@ -118,6 +119,12 @@ abbrev pub make_instr : ℕ → (lengths : ℕ) → Instr
 make_instr t zero = NewObject (t + 1)
 make_instr t (suc n) = NewArray (t + 1) (suc n)
 
+-- what calls a procedure; of a method the type that is known of the object says what is handed over
+abbrev pub call_instr : Program → Callee → Instr
+call_instr program (Plain m k) = CallOf (procedure_number program m k)
+call_instr program (Dispatched e t k) = Virtual k (method_number program t k)
+call_instr program (Upper t k) = CallOf (method_number program t k)
+
 -- in a program, whose variables have their cells, in the body of this procedure or of none
 module _ (program : Program) (own : Option Procedure) where
   -- the first cell of a module's variable, or of a string constant, by the numbers of both
@@ -163,8 +170,15 @@ module _ (program : Program) (own : Option Procedure) where
     arguments_code (Whole p more) at = place_code p at ++ arguments_code more (at + length (place_code p at))
     arguments_code (Opening r more) at = rows_code r at ++ arguments_code more (at + length (rows_code r at))
 
+    -- an object on which something is called lies below the arguments
+    pub receiver_code : Callee → ℕ → List Instr
+    receiver_code (Plain m k) at = []
+    receiver_code (Dispatched e t k) at = value_code e at
+    receiver_code (Upper t k) at = SelfOf ∷ []
+
     pub value_code : Expr → ℕ → List Instr
     value_code (Lit l) at = literal_code l ∷ []
+    value_code SelfRef at = SelfOf ∷ []
     value_code (Read t p) at = place_code p at ++ Load (kind_of t) ∷ []
     value_code (Unary op a) at = value_code a at ++ OnOne op ∷ []
     value_code (Binary op a b) at =
@@ -178,12 +192,17 @@ module _ (program : Program) (own : Option Procedure) where
         operands_code (rows_code a at) (rows_code b (at + length (rows_code a at))) (CmpText r)
     value_code (Len r d) at = rows_code r at ++ PickLen d (dimensions r) ∷ []
     value_code (LenBehind r n) at = rows_code r at ++ (drops (suc (dimensions r)) ++ Num (pos n) ∷ [])
-    value_code (Function m k more) at = arguments_code more at ++ CallOf (procedure_number program m k) ∷ []
+    value_code (Function c more) at =
+        let receiver = receiver_code c at in receiver ++ (arguments_code more (at + length receiver) ++ call_instr program c ∷ [])
     value_code (Same a b) at = operands_code (value_code a at) (value_code b (at + length (value_code a at))) EqRef
     value_code (Is a t) at = value_code a at ++ IsOf (t + 1) ∷ []
     value_code (IsRecord q t) at = place_code q at ++ IsPlace (t + 1) ∷ []
     value_code (Guard a t) at = value_code a at ++ GuardOf (t + 1) ∷ []
     value_code (Had v) at = []
+
+  abbrev pub called_code : Callee → Arguments → ℕ → List Instr
+  called_code c more at =
+      let receiver = receiver_code c at in receiver ++ (arguments_code more (at + length receiver) ++ call_instr program c ∷ [])
 
   -- values one above the other
   abbrev pub values_code : List Expr → ℕ → List Instr
@@ -273,8 +292,7 @@ module _ (program : Program) (own : Option Procedure) where
     stat_code (Assert here e code) at exit level = begin here ∷ (value_code e (at + 1) ++ AssertOf code ∷ [])
     stat_code (Halt here code) at exit level = begin here ∷ (HaltOf code ∷ [])
     stat_code (Change here c p e) at exit level = changed_code here c p e at
-    stat_code (Perform here m k more) at exit level =
-        begin here ∷ (arguments_code more (at + 1) ++ CallOf (procedure_number program m k) ∷ [])
+    stat_code (Perform here c more) at exit level = begin here ∷ called_code c more (at + 1)
     stat_code (Return here None) at exit level = begin here ∷ (ReturnOf ∷ [])
     stat_code (Return here (Some e)) at exit level = begin here ∷ (value_code e (at + 1) ++ ReturnOf ∷ [])
     stat_code (New here p t) at exit level = begin here ∷ new_code p t (at + 1)

@@ -1,7 +1,7 @@
 -- How many operands code has at most, beyond those that are there where it begins.
 use Rattle.std.specs.Prelude.{◌≡◌, ℕ, suc, ◌+◌, List, [], ◌∷◌, map, max, length, Some, None}
 use Rattle.aos_sim.specs.Code.{dimensions}
-use Rattle.aos_typed.specs.Program.{Place, ModuleVar, Local, Passed, Field, Index, Of, Deref, Typed, Guarded, Rows, Known, Opened, Row, Spread, Longer, Arguments, NoMore, Scalar, Whole, Opening, Expr, Lit, Read, Unary, Binary, And, Or, Element, Ord, Chr, CompareTexts, Len, LenBehind, Function, Same, Is, IsRecord, Guard, Had, Call, Open, Char, Int, String, Ln, Stat, Assign, Copy, PutText, If, Case, While, Repeat, Loop, Exit, For, Block, Assert, Halt, Change, Perform, Return, New, Make, With, WithRecord, Out, Stats, Nothing, Then, Arms, Otherwise, Arm, Cases, NoElse, Else, OfLabels, Program}
+use Rattle.aos_typed.specs.Program.{Place, ModuleVar, Local, Passed, Field, Index, Of, Deref, Typed, Guarded, Rows, Known, Opened, Row, Spread, Longer, Arguments, NoMore, Scalar, Whole, Opening, Callee, Plain, Dispatched, Upper, Expr, Lit, SelfRef, Read, Unary, Binary, And, Or, Element, Ord, Chr, CompareTexts, Len, LenBehind, Function, Same, Is, IsRecord, Guard, Had, Call, Open, Char, Int, String, Ln, Stat, Assign, Copy, PutText, If, Case, While, Repeat, Loop, Exit, For, Block, Assert, Halt, Change, Perform, Return, New, Make, With, WithRecord, Out, Stats, Nothing, Then, Arms, Otherwise, Arm, Cases, NoElse, Else, OfLabels, Program}
 use Rattle.aos_typed.specs.declared.tree.Change.{Change as Changing}
 use Rattle.aos_typed.specs.declared.tree.Change.TheVariants as change
 use Rattle.aos_typed.specs.Routines.{routines}
@@ -10,6 +10,12 @@ use Rattle.aos_code.specs.declared.image.Image.{Image}
 -- two texts: the first lies below the second, with its length
 abbrev pub texts_need : (left right : ℕ) → ℕ
 texts_need left right = max left (2 + right)
+
+-- how many operands what something is called on takes
+abbrev pub receivers : Callee → ℕ
+receivers (Plain m k) = 0
+receivers (Dispatched e t k) = 1
+receivers (Upper t k) = 1
 
 abbrev mutual
   -- a designator; the place of an array lies below its index
@@ -39,9 +45,16 @@ abbrev mutual
   arguments_need (Whole p more) = max (place_need p) (1 + arguments_need more)
   arguments_need (Opening r more) = max (rows_need r) (1 + dimensions r + arguments_need more)
 
+  -- what something is called on, which lies below the arguments
+  pub receiver_need : Callee → ℕ
+  receiver_need (Plain m k) = 0
+  receiver_need (Dispatched e t k) = value_need e
+  receiver_need (Upper t k) = 1
+
   -- an expression; what its left operand gives lies below its right one
   pub value_need : Expr → ℕ
   value_need (Lit l) = 1
+  value_need SelfRef = 1
   value_need (Read t p) = place_need p
   value_need (Unary op a) = value_need a
   value_need (Binary op a b) = max (value_need a) (1 + value_need b)
@@ -53,7 +66,7 @@ abbrev mutual
   value_need (CompareTexts r a b) = texts_need (rows_need a) (rows_need b)
   value_need (Len r d) = rows_need r
   value_need (LenBehind r n) = rows_need r
-  value_need (Function m k more) = max 1 (arguments_need more)
+  value_need (Function c more) = max 1 (max (receiver_need c) (receivers c + arguments_need more))
   value_need (Same a b) = max (value_need a) (1 + value_need b)
   value_need (Is a t) = value_need a
   value_need (IsRecord q t) = place_need q
@@ -103,7 +116,7 @@ abbrev mutual
   stat_need (Assert here e code) = value_need e
   stat_need (Halt here code) = 0
   stat_need (Change here c p e) = changed_need c (place_need p) (value_need e)
-  stat_need (Perform here m k more) = arguments_need more
+  stat_need (Perform here c more) = max (receiver_need c) (receivers c + arguments_need more)
   stat_need (Return here None) = 0
   stat_need (Return here (Some e)) = value_need e
   stat_need (New here p t) = 2 + place_need p
@@ -143,7 +156,7 @@ abbrev mutual
   stat_level (Assert here e code) d = d
   stat_level (Halt here code) d = d
   stat_level (Change here c p e) d = d
-  stat_level (Perform here m k more) d = d
+  stat_level (Perform here c more) d = d
   stat_level (Return here e) d = d
   stat_level (New here p t) d = d
   stat_level (Make here p t ns) d = d

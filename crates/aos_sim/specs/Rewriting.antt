@@ -5,10 +5,10 @@ use Rattle.aos_base.specs.Question.{Tree, Val, Asks, Traps, bind, feed, Places, 
 use Rattle.aos_base.specs.Rooted.{Made}
 use Rattle.aos_types.specs.Content.{Content}
 use Rattle.aos_typed.specs.declared.tree.TType.{TType}
-use Rattle.aos_typed.specs.Program.{Place, ModuleVar, Local, Passed, Field, Index, Of, Deref, Typed, Guarded, Rows, Known, Opened, Row, Spread, Longer, Arguments, NoMore, Scalar, Whole, Opening, Expr, Lit, Read, Unary, Binary, And, Or, Element, Ord, Chr, CompareTexts, Len, LenBehind, Function, Same, Is, IsRecord, Guard, Had, Assign, Program}
+use Rattle.aos_typed.specs.Program.{Place, ModuleVar, Local, Passed, Field, Index, Of, Deref, Typed, Guarded, Rows, Known, Opened, Row, Spread, Longer, Arguments, NoMore, Scalar, Whole, Opening, Callee, Plain, Dispatched, Upper, Expr, Lit, SelfRef, Read, Unary, Binary, And, Or, Element, Ord, Chr, CompareTexts, Len, LenBehind, Function, Same, Is, IsRecord, Guard, Had, Assign, Program}
 use Rattle.aos_typed.specs.Value.{Value}
 use Rattle.aos_typed.specs.Spot.{Spot}
-use Rattle.aos_typed.specs.Meaning.{Doing, object_in, After, place_of, rows_of, arguments_of, value_of, stat_of}
+use Rattle.aos_typed.specs.Meaning.{Here, receiver_of, Doing, object_in, After, place_of, rows_of, arguments_of, value_of, stat_of}
 use Rattle.aos_typed.specs.Source.{known, object_place, length_in, has_type_in}
 
 -- whether a question stands first
@@ -37,7 +37,7 @@ module _ (p : Program) (made : ℕ → Option Made) (c : Content Value) where
   settled (Asks q k) = Asks q (λ v. settled (k v))
 
 -- in a procedure's frame with these variables and objects, below which there are so many frames of its activity
-module _ (p : Program) (here : ℕ) (made : ℕ → Option Made) (c : Content Value) where
+module _ (p : Program) (here : Here) (made : ℕ → Option Made) (c : Content Value) where
   abbrev pub found_place : Place → Doing Spot
   found_place q = settled p made c (place_of p here q)
 
@@ -52,6 +52,9 @@ module _ (p : Program) (here : ℕ) (made : ℕ → Option Made) (c : Content Va
 
   abbrev asks_arguments : Arguments → Bool
   asks_arguments as' = is_asking (settled p made c (arguments_of p here as'))
+
+  abbrev asks_receiver : Callee → Bool
+  asks_receiver r = is_asking (settled p made c (receiver_of p here r))
 
   abbrev asks_value : Expr → Bool
   asks_value e = is_asking (found_value e)
@@ -87,8 +90,14 @@ module _ (p : Program) (here : ℕ) (made : ℕ → Option Made) (c : Content Va
     with_first_argument l (Opening r more) =
         if asks_rows r then Opening (with_first_row l r) more else Opening r (with_first_argument l more)
 
+    pub with_first_receiver : Value → Callee → Callee
+    with_first_receiver l (Plain m k) = Plain m k
+    with_first_receiver l (Dispatched e t k) = Dispatched (with_first l e) t k
+    with_first_receiver l (Upper t k) = Upper t k
+
     pub with_first : Value → Expr → Expr
     with_first l (Lit m) = Lit m
+    with_first l SelfRef = SelfRef
     with_first l (Read t q) = if asks_place q then Read t (with_first_index l q) else Had l
     with_first l (Unary op a) = Unary op (with_first l a)
     with_first l (Binary op a b) = if asks_value a then Binary op (with_first l a) b else Binary op a (with_first l b)
@@ -103,7 +112,10 @@ module _ (p : Program) (here : ℕ) (made : ℕ → Option Made) (c : Content Va
         else Had l
     with_first l (Len r d) = Len (with_first_row l r) d
     with_first l (LenBehind r n) = LenBehind (with_first_row l r) n
-    with_first l (Function m k more) = if asks_arguments more then Function m k (with_first_argument l more) else Had l
+    with_first l (Function c more) =
+        if asks_receiver c then Function (with_first_receiver l c) more
+        else if asks_arguments more then Function c (with_first_argument l more)
+        else Had l
     with_first l (Same a b) = if asks_value a then Same (with_first l a) b else Same a (with_first l b)
     with_first l (Is a t) = Is (with_first l a) t
     with_first l (IsRecord q t) = IsRecord (with_first_index l q) t
@@ -122,28 +134,28 @@ module _ (p : Program) (here : ℕ) (made : ℕ → Option Made) (c : Content Va
 -- a designator whose first reads were answered by these values is the one in which these reads are replaced by them
 abbrev pub DesignatorRewrites : Type 0
 DesignatorRewrites =
-    (p : Program) (here : ℕ) (made : ℕ → Option Made) (c : Content Value) (q : Place) (ls : List Value)
+    (p : Program) (here : Here) (made : ℕ → Option Made) (c : Content Value) (q : Place) (ls : List Value)
     → are_asked ls (found_place p here made c q) ≡ true
     → feed ls (found_place p here made c q) ≡ found_place p here made c (rewritten_place p here made c ls q)
 
 -- so is an expression
 abbrev pub ExpressionRewrites : Type 0
 ExpressionRewrites =
-    (p : Program) (here : ℕ) (made : ℕ → Option Made) (c : Content Value) (e : Expr) (ls : List Value)
+    (p : Program) (here : Here) (made : ℕ → Option Made) (c : Content Value) (e : Expr) (ls : List Value)
     → are_asked ls (found_value p here made c e) ≡ true
     → feed ls (found_value p here made c e) ≡ found_value p here made c (rewritten p here made c ls e)
 
 -- and an assignment: in its designator, and once that is found in its expression
 abbrev pub AssignedRewrites : Type 0
 AssignedRewrites =
-    (p : Program) (here : ℕ) (made : ℕ → Option Made) (c : Content Value) (at : Pos) (t : TType) (q : Place) (e : Expr) (ls : List Value)
+    (p : Program) (here : Here) (made : ℕ → Option Made) (c : Content Value) (at : Pos) (t : TType) (q : Place) (e : Expr) (ls : List Value)
     → are_asked ls (found_place p here made c q) ≡ true
     → feed ls (settled p made c (stat_of p here (Assign at t q e)))
     ≡ settled p made c (stat_of p here (Assign at t (rewritten_place p here made c ls q) e))
 
 abbrev pub AssignmentRewrites : Type 0
 AssignmentRewrites =
-    (p : Program) (here : ℕ) (made : ℕ → Option Made) (c : Content Value) (at : Pos) (t : TType) (q : Place) (s : Spot) (e : Expr) (ls : List Value)
+    (p : Program) (here : Here) (made : ℕ → Option Made) (c : Content Value) (at : Pos) (t : TType) (q : Place) (s : Spot) (e : Expr) (ls : List Value)
     → found_place p here made c q ≡ Val s
     → are_asked ls (found_value p here made c e) ≡ true
     → feed ls (settled p made c (stat_of p here (Assign at t q e)))
@@ -152,7 +164,7 @@ AssignmentRewrites =
 -- and whatever goes on with the expression's value in a statement
 abbrev pub StatementRewrites : Type 0
 StatementRewrites =
-    (p : Program) (here : ℕ) (made : ℕ → Option Made) (c : Content Value) (e : Expr) (onward : Value → Doing After) (ls : List Value)
+    (p : Program) (here : Here) (made : ℕ → Option Made) (c : Content Value) (e : Expr) (onward : Value → Doing After) (ls : List Value)
     → are_asked ls (found_value p here made c e) ≡ true
     → feed ls (bind (found_value p here made c e) onward)
     ≡ bind (found_value p here made c (rewritten p here made c ls e)) onward

@@ -6,6 +6,7 @@ use Rattle.aos_base.specs.declared.text.Pos.{Pos}
 use Rattle.aos_base.specs.declared.number.Width.{Width}
 use Rattle.aos_typed.specs.declared.tree.TPlace.{TPlace}
 use Rattle.aos_typed.specs.declared.tree.TArgument.{TArgument}
+use Rattle.aos_typed.specs.declared.tree.TCallee.{TCallee}
 use Rattle.aos_typed.specs.declared.tree.TExpr.{TExpr, Row_of-TArgument, end_of-TArgument, more_of-TArgument}
 use Rattle.aos_typed.specs.declared.tree.TArgument.TheViews as expr
 use Rattle.aos_typed.specs.declared.tree.TArgument.TheBlock.{items_hidden-the_row-TArgument-0, hidden-the_row-TArgument-0, items-the_row-TArgument}
@@ -16,7 +17,7 @@ use Rattle.aos_typed.specs.declared.tree.TElse.TheViews as view
 use Rattle.aos_typed.specs.declared.tree.TElse.TheBlock.{items_hidden-the_row-TStat-0, hidden-the_row-TStat-0, items-the_row-TStat, items_shown-the_row-TStat-0, items_hidden-the_row-TArm-1, hidden-the_row-TArm-1, items-the_row-TArm, items_hidden-the_row-TCase-2, hidden-the_row-TCase-2, items-the_row-TCase}
 use Rattle.aos_typed.specs.declared.tree.TStat.{TStat, Row_of-TStat, end_of-TStat, more_of-TStat, Row_of-TArm, end_of-TArm, more_of-TArm, Row_of-TCase, end_of-TCase, more_of-TCase}
 use Rattle.aos_typed.specs.Program.{Function, Stats, If, Case, While, Repeat, Loop, For, Block, With, WithRecord, Then, Arm, Cases, Else, OfLabels}
-use Rattle.aos_typed.specs.Seen.{seen_place, seen_argument, seen_arguments, seen_list, seen_expr, seen_stat, seen_row, seen_arms, seen_cases, seen_else, seen_stats, arms_of, cases_of}
+use Rattle.aos_typed.specs.Seen.{seen_place, seen_argument, seen_arguments, seen_list, seen_callee, seen_expr, seen_stat, seen_row, seen_arms, seen_cases, seen_else, seen_stats, arms_of, cases_of}
 
 row_seen : {m : _} (row : Row_of-TStat m) → seen_row row ≡ seen_stats (items-the_row-TStat m row)
 row_seen end_of-TStat = refl
@@ -72,6 +73,6 @@ arguments_seen : {m : _} (row : Row_of-TArgument m) → seen_arguments row ≡ s
 arguments_seen end_of-TArgument = refl
 arguments_seen (more_of-TArgument a as') = ap (λ l. seen_argument a l) (arguments_seen as')
 
-pub function_seen : (m k : ℕ) (as' : Vec TArgument Global) → seen_expr (expr.Function m k as') ≡ Function m k (seen_list as'.items)
-function_seen m k as' =
-    ap (λ l. Function m k l) (arguments_seen (hidden-the_row-TArgument-0 as') ∙ ap seen_list (items_hidden-the_row-TArgument-0 as'))
+pub function_seen : (c : TCallee) (as' : Vec TArgument Global) → seen_expr (expr.Function c as') ≡ Function (seen_callee c) (seen_list as'.items)
+function_seen c as' =
+    ap (λ l. Function (seen_callee c) l) (arguments_seen (hidden-the_row-TArgument-0 as') ∙ ap seen_list (items_hidden-the_row-TArgument-0 as'))

@@ -2,6 +2,7 @@ pub mod Program
 pub mod Seen
 pub mod Value
 pub mod Store
+pub mod Methods
 pub mod Meaning
 pub mod Source
 pub mod Numbers
@@ -10,6 +11,7 @@ pub mod WellTyped
 pub mod Sort
 pub mod Text
 pub mod Open
+pub mod Fields
 pub mod Handed
 pub mod Spot
 pub mod Typing

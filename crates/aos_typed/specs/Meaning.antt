@@ -15,14 +15,23 @@ use Rattle.aos_typed.specs.declared.tree.Change.TheVariants as change
 use Rattle.aos_typed.specs.declared.tree.LabelRange.{LabelRange}
 use Rattle.aos_typed.specs.declared.tree.TType.TheVariants.{Integer, Set}
 use Rattle.aos_base.specs.Question.{Tree, Val, Traps, bind, ask, Ask, Reads, Stores, Copies, PutsText, ComparesTexts, Calls, Places, Lengths, Opens, Sizes, Tests, Makes, Starts, PutsInt, PutsChar, PutsString, PutsLn, PutsNothing}
-use Rattle.aos_typed.specs.Program.{Place, ModuleVar, Local, Passed, Field, Index, Of, Deref, Typed, Guarded, Rows, Known, Opened, Row, Spread, Longer, Arguments, NoMore, Scalar, Whole, Opening, Expr, Lit, Read, Unary, Binary, And, Or, Element, Ord, Chr, CompareTexts, Len, LenBehind, Function, Same, Is, IsRecord, Guard, Had, Call, Open as OutOpen, Char as OutChar, Int as OutInt, String as OutString, Ln as OutLn, Stat, Assign, Copy, PutText, If, Case, While, Repeat, Loop, Exit, For, Block, Assert, Halt, Change, Perform, Return, New, Make, With, WithRecord, Out, Stats, Nothing, Then, Arms, Otherwise, Arm, Cases, NoElse, Else, OfLabels, Program}
+use Rattle.aos_typed.specs.Program.{Place, ModuleVar, Local, Passed, Field, Index, Of, Deref, Typed, Guarded, Rows, Known, Opened, Row, Spread, Longer, Arguments, NoMore, Scalar, Whole, Opening, Callee, Plain, Dispatched, Upper, Expr, Lit, SelfRef, Read, Unary, Binary, And, Or, Element, Ord, Chr, CompareTexts, Len, LenBehind, Function, Same, Is, IsRecord, Guard, Had, Call, Open as OutOpen, Char as OutChar, Int as OutInt, String as OutString, Ln as OutLn, Stat, Assign, Copy, PutText, If, Case, While, Repeat, Loop, Exit, For, Block, Assert, Halt, Change, Perform, Return, New, Make, With, WithRecord, Out, Stats, Nothing, Then, Arms, Otherwise, Arm, Cases, NoElse, Else, OfLabels, Program}
+use Rattle.aos_types.specs.declared.row.TypeId.{TypeId}
 use Rattle.aos_types.specs.declared.row.TypeRow.{TypeRow}
 use Rattle.aos_types.specs.Extension.{comes_to}
 use Rattle.aos_typed.specs.Value.{Value, Int, Flag, Object, Place as PlaceValue, number_of, literal_value, unary, binary, element, ord, chr, is_true}
 use Rattle.aos_base.specs.declared.place.Root.TheVariants.{Frame as FrameRoot, Module as ModuleRoot}
 use Rattle.aos_typed.specs.declared.tree.TType.{TType}
 use Rattle.aos_typed.specs.Spot.{Spot, InFrame, OfModule}
-use Rattle.aos_typed.specs.Numbers.{procedure_number, id_of_made}
+use Rattle.aos_typed.specs.Fields.{declared_as}
+use Rattle.aos_typed.specs.Methods.{method_number}
+use Rattle.aos_typed.specs.Numbers.{id_of, procedure_number, id_of_made}
+
+-- where statements are carried out: how many frames of the activity are below theirs, and the object whose method or body it is, 0
+-- for none
+pub record Here : Type 0 where
+  pub below : ℕ
+  pub self : ℕ
 
 -- a scalar is known by its type, and so is what is copied
 abbrev pub Question : Type 0
@@ -41,6 +50,10 @@ place_in v = record { root = FrameRoot 0; path = []; type = 0; of = InFrame }
 -- a part of a place, by its number: it is a part of the same declared variable
 abbrev pub part_of : ℕ → Spot → Spot
 part_of i s = record { root = s.root; path = s.path ++ i ∷ []; type = 0; of = s.of }
+
+-- a field of a record or an object of this type
+abbrev pub field_of : List TypeRow → TypeId → ℕ → Spot → Spot
+field_of rows t k s = record { root = s.root; path = s.path ++ k ∷ []; type = 0; of = declared_as rows t k s.of }
 
 -- an element of an array of so many; trap 2 where there is none with this index
 abbrev pub element_of : ℕ → Value → Spot → Doing Spot
@@ -115,11 +128,28 @@ has_type rows s t = comes_to rows (id_of_made s.type) (id_of_made (suc t))
 abbrev pub record_guarded : List TypeRow → Spot → ℕ → Doing Spot
 record_guarded rows s t = if has_type rows s t then Val s else Traps 3 0
 
--- In a procedure's frame, below which there are so many frames of its activity, in a program.
-module _ (p : Program) (here : ℕ) where
+-- whether the object's type extends the one that is known of it, whose slot this is: then what its own type has there is called on it
+-- with these arguments. No well-typed program comes to another object
+abbrev pub dispatched : Program → Value → (type slot : ℕ) → List Value → (made : ℕ) → Doing Value
+dispatched p v t k vs zero = Traps 1 0
+dispatched p v t k vs (suc d) =
+    if comes_to p.types (id_of_made (suc d)) (id_of_made (suc t)) then ask (Calls (method_number p d k) (v ∷ vs)) else Traps 1 0
+
+-- a method is called on an object; whether that is NIL is asked behind the arguments
+abbrev pub sent : Program → Value → (type slot : ℕ) → List Value → Doing Value
+sent p v t k vs = unless_nil v (Traps 1 0) (bind (ask (Opens v)) (λ x. dispatched p v t k vs (place_in x).type))
+
+-- what is called on an object gets it before its arguments
+abbrev pub calls : Program → Callee → Value → List Value → Doing Value
+calls p (Plain m k) o vs = ask (Calls (procedure_number p m k) vs)
+calls p (Dispatched e t k) o vs = sent p o t k vs
+calls p (Upper t k) o vs = ask (Calls (method_number p t k) (o ∷ vs))
+
+-- In a procedure's frame here, in a program.
+module _ (p : Program) (here : Here) where
   -- a parameter or a local of the frame
   abbrev pub own_place : ℕ → Spot
-  own_place k = record { root = FrameRoot here; path = k ∷ []; type = 0; of = InFrame }
+  own_place k = record { root = FrameRoot here.below; path = k ∷ []; type = 0; of = InFrame }
 
   -- what a parameter stands for is found in the frame, and no visible work
   abbrev pub passed : ℕ → Doing Spot
@@ -143,7 +173,7 @@ module _ (p : Program) (here : ℕ) where
     place_of (ModuleVar m i) = Val (record { root = ModuleRoot m; path = i ∷ []; type = 0; of = OfModule m i })
     place_of (Local k) = Val (own_place k)
     place_of (Passed k) = passed k
-    place_of (Field q t k) = bind (place_of q) (λ s. Val (part_of k s))
+    place_of (Field q t k) = bind (place_of q) (λ s. Val (field_of p.types (id_of t) k s))
     place_of (Index q n t e) = bind (place_of q) (λ s. bind (value_of e) (λ v. element_of n v s))
     place_of (Of r) = bind (rows_of r) (λ x. Val x.place)
     place_of (Deref e t) = bind (value_of e) (λ v. dereferenced v)
@@ -165,8 +195,15 @@ module _ (p : Program) (here : ℕ) where
     arguments_of (Opening r as') =
         bind (rows_of r) (λ x. bind (arguments_of as') (λ vs. Val (PlaceValue x.place ∷ (x.lengths ++ vs))))
 
+    -- on what is called: a receiver, which is evaluated before the arguments, or SELF
+    pub receiver_of : Callee → Doing Value
+    receiver_of (Plain m k) = Val (Object 0)
+    receiver_of (Dispatched e t k) = value_of e
+    receiver_of (Upper t k) = Val (Object here.self)
+
     pub value_of : Expr → Doing Value
     value_of (Lit l) = Val (literal_value l)
+    value_of SelfRef = Val (Object here.self)
     value_of (Read t q) = bind (place_of q) (λ s. ask (Reads t s))
     value_of (Unary op a) = bind (value_of a) (λ x. unary op x)
     value_of (Binary op a b) = bind (value_of a) (λ x. bind (value_of b) (λ y. binary op x y))
@@ -179,12 +216,15 @@ module _ (p : Program) (here : ℕ) where
         bind (rows_of a) (λ x. bind (rows_of b) (λ y. ask (ComparesTexts r x.place (text_length x) y.place (text_length y))))
     value_of (Len r d) = bind (rows_of r) (λ x. Val (length_at d x))
     value_of (LenBehind r n) = bind (rows_of r) (λ x. Val (Int (pos n)))
-    value_of (Function m k as') = bind (arguments_of as') (λ vs. ask (Calls (procedure_number p m k) vs))
+    value_of (Function c as') = bind (receiver_of c) (λ o. bind (arguments_of as') (λ vs. calls p c o vs))
     value_of (Same a b) = bind (value_of a) (λ x. bind (value_of b) (λ y. Val (Flag (object_in x == object_in y))))
     value_of (Is a t) = bind (value_of a) (λ v. is_instance v t)
     value_of (IsRecord q t) = bind (place_of q) (λ s. Val (Flag (has_type p.types s t)))
     value_of (Guard a t) = bind (value_of a) (λ v. guarded v t)
     value_of (Had v) = Val v
+
+  abbrev pub called : Callee → Arguments → Doing Value
+  called c as' = bind (receiver_of c) (λ o. bind (arguments_of as') (λ vs. calls p c o vs))
 
   abbrev pub values_of : List Expr → Doing (List Value)
   values_of [] = Val []
@@ -261,7 +301,7 @@ pos_of (Block at body) = at
 pos_of (Assert at e code) = at
 pos_of (Halt at code) = at
 pos_of (Change at c p e) = at
-pos_of (Perform at m k as') = at
+pos_of (Perform at c as') = at
 pos_of (Return at e) = at
 pos_of (New at p t) = at
 pos_of (Make at p t ns) = at
@@ -269,8 +309,8 @@ pos_of (With at e body) = at
 pos_of (WithRecord at p body) = at
 pos_of (Out at call) = at
 
--- In a procedure's frame, below which there are so many frames of its activity, in a program.
-module _ (p : Program) (here : ℕ) where
+-- In a procedure's frame here, in a program.
+module _ (p : Program) (here : Here) where
   abbrev place : Place → Doing Spot
   place = place_of p here
 
@@ -321,8 +361,7 @@ module _ (p : Program) (here : ℕ) where
   stat_of (Change at c q e) =
       bind (place q) (λ s. bind (value e) (λ n. bind (ask (Reads (changed_type c) s)) (λ v.
       bind (changed c v n) (λ x. bind (ask (Stores s x)) (λ _. Val (Into []))))))
-  stat_of (Perform at m k as') =
-      bind (arguments_of p here as') (λ vs. bind (ask (Calls (procedure_number p m k) vs)) (λ _. Val (Into [])))
+  stat_of (Perform at c as') = bind (called p here c as') (λ _. Val (Into []))
   stat_of (Return at None) = Val (Returns None)
   stat_of (Return at (Some e)) = bind (value e) (λ v. Val (Returns (Some v)))
   -- the object is made, then stored in a variable that is no part of another, and then its activity is started

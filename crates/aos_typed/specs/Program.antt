@@ -15,7 +15,7 @@ use Rattle.aos_typed.specs.Value.{Value}
 
 mutual
   -- a designator: a variable of a module, by the module's number in load order and the variable's number, on from which its string
-  -- constants are numbered; a field of a record, by the type that declares it and its number; or an element of an array, which has
+  -- constants are numbered; a field of a record or an object, by that one's type and its number; or an element of an array, which has
   -- so many of this type, by its index
   pub data Place : Type 0 where
     ModuleVar : (home number : ℕ) → Place
@@ -24,7 +24,7 @@ mutual
     Field : (whole : Place) → (of : TType) → (number : ℕ) → Place
     Index : (whole : Place) → (elements : ℕ) → (of : TType) → Expr → Place
     Of : Rows → Place  -- an element of an open array, behind all its dimensions
-    Deref : Expr → (of : TType) → Place  -- the record or the array of this type that an object is
+    Deref : Expr → (of : TType) → Place  -- the record or the array of this type that an object is, or the object with its fields
     Typed : Place → (type : ℕ) → Place  -- a record with its type, by the type's number
     Guarded : Place → (type : ℕ) → Place  -- what a VAR parameter stands for, where that is a record whose type extends this one
 
@@ -46,10 +46,18 @@ mutual
     Whole : Place → Arguments → Arguments
     Opening : Rows → Arguments → Arguments
 
+  -- what is called: a procedure of a module, by the numbers of both; the method that an object's own type has in a slot, where the
+  -- object is known to be of a type; or the method that a type has in a slot, called on SELF
+  pub data Callee : Type 0 where
+    Plain : (home number : ℕ) → Callee
+    Dispatched : Expr → (type slot : ℕ) → Callee
+    Upper : (type slot : ℕ) → Callee
+
   -- a text is an array of characters with its length; a length is that of an array whose place is found before, of one of its
-  -- dimensions that are open, or of one behind these; a function is named by the numbers of its module and its own there
+  -- dimensions that are open, or of one behind these
   pub data Expr : Type 0 where
     Lit : Literal → Expr
+    SelfRef : Expr  -- the object whose method or body it is in
     Read : TType → Place → Expr
     Unary : UnaryOperator → Expr → Expr
     Binary : BinaryOperator → Expr → Expr → Expr
@@ -61,7 +69,7 @@ mutual
     CompareTexts : Relation → (left right : Rows) → Expr
     Len : Rows → (dimension : ℕ) → Expr
     LenBehind : Rows → (length : ℕ) → Expr
-    Function : (home number : ℕ) → Arguments → Expr
+    Function : Callee → Arguments → Expr
     Same : Expr → Expr → Expr  -- whether both are one object, or NIL
     Is : Expr → (type : ℕ) → Expr  -- whether an object's type extends this one
     IsRecord : Place → (type : ℕ) → Expr  -- whether the type of the record that a VAR parameter stands for does
@@ -95,7 +103,7 @@ mutual
     Assert : Pos → Expr → (code : ℕ) → Stat
     Halt : Pos → (code : ℕ) → Stat
     Change : Pos → Changing → Place → Expr → Stat
-    Perform : Pos → (home number : ℕ) → Arguments → Stat
+    Perform : Pos → Callee → Arguments → Stat
     Return : Pos → Option Expr → Stat
     New : Pos → Place → ℕ → Stat
     Make : Pos → Place → (type : ℕ) → (lengths : List Expr) → Stat
@@ -129,20 +137,29 @@ pub record Parameter : Type 0 where
   pub by_reference : Bool
   pub of : TType
 
--- a procedure, with the statements of its body; a proper one has no result
+-- a procedure, with the statements of its body; a proper one has no result. A method or an object's body is of a type, by the
+-- type's number in the program
 pub record Procedure : Type 0 where
   pub name : List ℕ
+  pub of : Option ℕ
   pub parameters : List Parameter
   pub locals : List Variable
   pub result : Option TType
   pub body : Stats
 
--- what stands beside a type: its name, the number of its module, and the statements of the body that its objects carry out,
--- none where it is no object type
+-- a method, with its slot: that of the method which it overrides, or else the next one
+pub record Method : Type 0 where
+  pub slot : ℕ
+  pub procedure : Procedure
+
+-- what stands beside a type: its name, the number of its module, the body that its objects carry out, where it has one, and its own
+-- methods
 pub record ObjectType : Type 0 where
   pub name : List ℕ
   pub home : ℕ
-  pub body : Stats
+  pub has_body : Bool
+  pub body : Procedure
+  pub methods : List Method
 
 -- a module, with its string constants by the codes of their characters
 pub record Module : Type 0 where

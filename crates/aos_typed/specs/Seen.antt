@@ -9,6 +9,8 @@ use Rattle.aos_typed.specs.declared.tree.TRows.TheVariants as rows
 use Rattle.aos_typed.specs.declared.tree.TArgument.{TArgument}
 use Rattle.aos_typed.specs.declared.tree.TArgument.TheVariants as argument
 use Rattle.aos_typed.specs.declared.tree.TExpr.TheVariants as expr
+use Rattle.aos_typed.specs.declared.tree.TCallee.{TCallee}
+use Rattle.aos_typed.specs.declared.tree.TCallee.TheVariants as callee
 use Rattle.aos_typed.specs.declared.tree.OutCall.{OutCall}
 use Rattle.aos_typed.specs.declared.tree.OutCall.TheVariants as call
 use Rattle.aos_typed.specs.declared.tree.TStat.{TStat, Row_of-TStat, end_of-TStat, more_of-TStat, Row_of-TArm, end_of-TArm, more_of-TArm, Row_of-TCase, end_of-TCase, more_of-TCase}
@@ -20,10 +22,11 @@ use Rattle.aos_typed.specs.declared.tree.TElse.TheVariants as otherwise
 use Rattle.aos_typed.specs.declared.tree.TVariable.{TVariable}
 use Rattle.aos_typed.specs.declared.tree.TParameter.{TParameter}
 use Rattle.aos_typed.specs.declared.tree.TProcedure.{TProcedure}
+use Rattle.aos_typed.specs.declared.tree.TMethod.{TMethod}
 use Rattle.aos_typed.specs.declared.tree.TObject.{TObject}
 use Rattle.aos_typed.specs.declared.tree.TModule.{TModule}
 use Rattle.aos_typed.specs.declared.tree.Program.{Program as TProgram}
-use Rattle.aos_typed.specs.Program.{Place, ModuleVar, Local, Passed, Field, Index, Of, Deref, Typed, Guarded, Rows, Known, Opened, Row, Spread, Longer, Arguments, NoMore, Scalar, Whole, Opening, Expr, Lit, Read, Unary, Binary, And, Or, Element, Ord, Chr, CompareTexts, Len, LenBehind, Function, Same, Is, IsRecord, Guard, Call, Open, Char, Int, String, Ln, Stat, Assign, Copy, PutText, If, Case, While, Repeat, Loop, Exit, For, Block, Assert, Halt, Change, Perform, Return, New, Make, With, WithRecord, Out, Stats, Nothing, Then, Arms, Otherwise, Arm, Cases, NoElse, Else, OfLabels, Variable, Parameter, Procedure, ObjectType, Module, Program}
+use Rattle.aos_typed.specs.Program.{Place, ModuleVar, Local, Passed, Field, Index, Of, Deref, Typed, Guarded, Rows, Known, Opened, Row, Spread, Longer, Arguments, NoMore, Scalar, Whole, Opening, Callee, Plain, Dispatched, Upper, Expr, Lit, SelfRef, Read, Unary, Binary, And, Or, Element, Ord, Chr, CompareTexts, Len, LenBehind, Function, Same, Is, IsRecord, Guard, Call, Open, Char, Int, String, Ln, Stat, Assign, Copy, PutText, If, Case, While, Repeat, Loop, Exit, For, Block, Assert, Halt, Change, Perform, Return, New, Make, With, WithRecord, Out, Stats, Nothing, Then, Arms, Otherwise, Arm, Cases, NoElse, Else, OfLabels, Variable, Parameter, Procedure, Method, ObjectType, Module, Program}
 
 abbrev mutual
   pub seen_place : TPlace → Place
@@ -53,8 +56,14 @@ abbrev mutual
   seen_argument (argument.Whole p) more = Whole (seen_place p) more
   seen_argument (argument.Opening r) more = Opening (seen_rows r) more
 
+  pub seen_callee : TCallee → Callee
+  seen_callee (callee.Plain m k) = Plain m k
+  seen_callee (callee.Dispatched' p e t k) = Dispatched (seen_expr e) t k
+  seen_callee (callee.Upper t k) = Upper t k
+
   pub seen_expr : TExpr → Expr
   seen_expr (expr.Lit l) = Lit l
+  seen_expr expr.SelfRef = SelfRef
   seen_expr (expr.Read t p) = Read t (seen_place p)
   seen_expr (expr.Unary' op p a) = Unary op (seen_expr a)
   seen_expr (expr.Binary' op p a q b) = Binary op (seen_expr a) (seen_expr b)
@@ -66,7 +75,7 @@ abbrev mutual
   seen_expr (expr.CompareTexts r a b) = CompareTexts r (seen_rows a) (seen_rows b)
   seen_expr (expr.Len r d) = Len (seen_rows r) d
   seen_expr (expr.LenBehind r n) = LenBehind (seen_rows r) n
-  seen_expr (expr.Function' m k shape row) = Function m k (seen_arguments row)
+  seen_expr (expr.Function' c shape row) = Function (seen_callee c) (seen_arguments row)
   seen_expr (expr.Same' p a q b) = Same (seen_expr a) (seen_expr b)
   seen_expr (expr.Is' p a t) = Is (seen_expr a) t
   seen_expr (expr.IsRecord' p q t) = IsRecord (seen_place q) t
@@ -99,7 +108,7 @@ abbrev mutual
   seen_stat (stat.Assert at e code) = Assert at (seen_expr e) code
   seen_stat (stat.Halt at code) = Halt at code
   seen_stat (stat.Change at c p e) = Change at c (seen_place p) (seen_expr e)
-  seen_stat (stat.Perform at m k as') = Perform at m k (seen_list as'.items)
+  seen_stat (stat.Perform at c as') = Perform at (seen_callee c) (seen_list as'.items)
   seen_stat (stat.Return at e) = Return at (option_map seen_expr e)
   seen_stat (stat.New at p t) = New at (seen_place p) t
   seen_stat (stat.Make at p t ns) = Make at (seen_place p) t (map seen_expr ns.items)
@@ -148,14 +157,25 @@ abbrev pub seen_procedure : TProcedure → Procedure
 seen_procedure p =
     record {
       name = string_bytes p.name;
+      of = p.of;
       parameters = map seen_parameter p.parameters.items;
       locals = map seen_variable p.locals.items;
       result = p.result;
       body = seen_stats p.body.items;
     }
 
+abbrev pub seen_method : TMethod → Method
+seen_method m = record { slot = m.slot; procedure = seen_procedure m.procedure }
+
 abbrev pub seen_object : TObject → ObjectType
-seen_object o = record { name = string_bytes o.name; home = o.home; body = seen_stats o.body.items }
+seen_object o =
+    record {
+      name = string_bytes o.name;
+      home = o.home;
+      has_body = o.has_body;
+      body = seen_procedure o.body;
+      methods = map seen_method o.methods.items;
+    }
 
 abbrev pub seen_module : TModule → Module
 seen_module m =

@@ -1,5 +1,5 @@
 -- A program as a machine: its store, its frames, and the turns of an activity.
-use Rattle.std.specs.Prelude.{ℕ, suc, ◌+◌, nat_lt, sum_by, ◌++◌, List, [], ◌∷◌, length, Bool, true, false, Option, Some, None, if◌then◌else◌, map, pos, unsigned_abs, slice_get, option_and_then}
+use Rattle.std.specs.Prelude.{ℕ, suc, ◌+◌, nat_lt, sum_by, ◌++◌, List, [], ◌∷◌, length, drop, Bool, true, false, Option, Some, None, if◌then◌else◌, map, pos, unsigned_abs, slice_get, option_and_then}
 use Rattle.std.specs.List.{range_with_len}
 use Rattle.std.specs.Option.{unwrap_or}
 use Rattle.aos_base.specs.declared.text.Pos.{Pos}
@@ -25,16 +25,16 @@ use Rattle.aos_types.specs.Shape as shape
 use Rattle.aos_types.specs.Content.{Content, Scalar, Empty, Row, found, placed, overlay, first_content}
 use Rattle.aos_types.specs.World.{read}
 use Rattle.aos_typed.specs.Program.{Stats, Repeat, Variable as TypedVariable, ObjectType, Module, Program}
-use Rattle.aos_typed.specs.Handed.{Part, nested, handed}
+use Rattle.aos_typed.specs.Handed.{Part, nested, head, handed}
 use Rattle.aos_typed.specs.Numbers.{id_of, id_of_made}
 use Rattle.aos_typed.specs.Open.{open_element}
-use Rattle.aos_typed.specs.Routines.{Routine, parameters_of, locals_of, gives, routines}
+use Rattle.aos_typed.specs.Routines.{Routine, parameters_of, locals_of, has_self, gives, routines}
 use Rattle.aos_typed.specs.Sort.{Sort, Plain, Variable, Alias, Elements, Length, variable_shape, object_shape}
 use Rattle.aos_typed.specs.Spot.{Spot, OnHeap}
 use Rattle.aos_typed.specs.Text.{text_in, with_text, fitted, text_content, text_shape}
 use Rattle.aos_typed.specs.Value.{Value, Int, Flag, Char, Set, Object, Callable, Place, number_of, is_true}
 use Rattle.aos_typed.specs.Store.{Store, scalar_in, rooted, value_at, store_with, type_of_object, with_object, new_number, has_room, made_in}
-use Rattle.aos_typed.specs.Meaning.{Question, Doing, Item, Do, Rounds, Round, Until, After, Into, Exits, Returns, leave, items_of, item_of, pos_of, value_of, object_in}
+use Rattle.aos_typed.specs.Meaning.{Here, Question, Doing, Item, Do, Rounds, Round, Until, After, Into, Exits, Returns, leave, items_of, item_of, pos_of, value_of, object_in}
 
 -- a frame: the module of its text, the object whose method or body it is, 0 for none, whether it is a function's, the shape of its
 -- variables and what they hold, how many scalars count, the statement last begun, the items that remain, and the answers that the
@@ -57,6 +57,10 @@ pub record Frames : Type 0 where
 
 abbrev pub Turned : Type 0
 Turned = Turn Store Frames
+
+-- where the statements of a frame above these are carried out
+abbrev pub here_of : Frame → List Frame → Here
+here_of f fs = record { below = length fs; self = f.object }
 
 abbrev pub told : Value → Option (List Value) → Option (List Value)
 told v None = None
@@ -244,23 +248,32 @@ module _ (rows : List TypeRow) (made : ℕ → Option Made) (c : Content Value) 
   noted (Asks (Tests v t) k) = let x = has_type_in t (made (object_in v)) in x ∷ noted (k x)
   noted (Asks q k) = []
 
+-- the object that a method is called on comes before its arguments
+abbrev pub self_of : (has_self : Bool) → List Value → ℕ
+self_of true vs = object_in (head vs)
+self_of false vs = 0
+
+abbrev pub arguments_in : (has_self : Bool) → List Value → List Value
+arguments_in true vs = drop 1 vs
+arguments_in false vs = vs
+
 -- and the program, which knows what is copied and called
 module _ (p : Program) (following : List ℕ) where
   abbrev pub local_part : TypedVariable → Part
   local_part v =
       let s = variable_shape p.types (id_of v.of) in record { content = first_content (first_value p) s; shape = s }
 
-  -- the frame of a call, above these
+  -- the frame of a call, above these; a method is called on its first argument
   abbrev pub called_frame : Routine → List Value → List Frame → Store → Frame
   called_frame r vs fs s =
       let locals = map local_part (locals_of r.own) in
       let copy = length (parameters_of r.own) + length locals in
-      let h = handed p.types (length fs) (all_rooted fs s) (parameters_of r.own) vs copy in
+      let h = handed p.types (length fs) (all_rooted fs s) (parameters_of r.own) (arguments_in (has_self r.own) vs) copy in
       let parts = h.parameters ++ (locals ++ h.copies) in
       let all = shape.row (map (λ x. x.shape) parts) in
       record {
         home = r.home;
-        object = 0;
+        object = self_of (has_self r.own) vs;
         gives = gives r.own;
         shape = all;
         counted = size all;
@@ -333,7 +346,7 @@ module _ (p : Program) (following : List ℕ) where
   settles (Rounds at w p last step b ∷ is) f fs s = begins following at (Rounds at w p last step b ∷ is) f fs s
   settles (Round st ∷ is) f fs s = begins following (pos_of st) (Do st ∷ is) f fs s
   settles (Until at b e ∷ is) f fs s =
-      let test = value_of p (length fs) e in
+      let test = value_of p (here_of f fs) e in
       tests (calm p.types (made_in s) f.variables test) (settles is f fs s) (begins following at (Do (Repeat at b e) ∷ is) f fs s)
       (record f { items = Until at b e ∷ is; answers = Some (noted p.types (made_in s) f.variables test) }) fs s
 
@@ -349,7 +362,7 @@ module _ (p : Program) (following : List ℕ) where
   item_turn None is f fs s = settles is f fs s
   item_turn (Some vs) [] f fs s = ends following None fs s
   item_turn (Some vs) (i ∷ is) f fs s =
-      let left = feed vs (item_of p (length fs) i) in
+      let left = feed vs (item_of p (here_of f fs) i) in
       goes (calm p.types (made_in s) f.variables left) is
       (record f { answers = Some (vs ++ noted p.types (made_in s) f.variables left) }) fs s
 
@@ -392,7 +405,7 @@ past_all (f ∷ fs) = answered done f ∷ fs
 
 abbrev pub object_frames : ℕ → Option ObjectType → Frames
 object_frames o None = record { following = []; frames = [] }
-object_frames o (Some t) = record { following = []; frames = body_frame t.home o t.body ∷ [] }
+object_frames o (Some t) = record { following = []; frames = if t.has_body then body_frame t.home o t.body.body ∷ [] else [] }
 
 module _ (p : Program) where
   -- what a module's variables hold: a row of them, behind which its string constants stand

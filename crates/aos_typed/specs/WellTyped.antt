@@ -28,13 +28,15 @@ use Rattle.aos_typed.specs.declared.tree.Literal.{Literal}
 use Rattle.aos_typed.specs.declared.tree.Literal.TheVariants as literal
 use Rattle.aos_typed.specs.declared.tree.TType.{TType}
 use Rattle.aos_typed.specs.declared.tree.TType.TheVariants.{Integer, Boolean, Char, Set, Any, Named}
-use Rattle.aos_typed.specs.Program.{Place, ModuleVar, Local, Passed, Field, Index, Of, Deref, Typed, Guarded, Rows, Known, Opened, Row, Spread, Longer, Arguments, NoMore, Scalar, Whole, Opening, Expr, Lit, Read, Unary, Binary, And, Or, Element, Ord, Chr, CompareTexts, Len, LenBehind, Function, Same, Is, IsRecord, Guard, Had, Call, Open as OutOpen, Char as OutChar, Int as OutInt, String as OutString, Ln as OutLn, Stat, Assign, Copy, PutText, If, Case, While, Repeat, Loop, Exit, For, Block, Assert, Halt, Change, Perform, Return, New, Make, With, WithRecord, Out, Stats, Nothing, Then, Arms, Otherwise, Arm, Cases, NoElse, Else, OfLabels, Parameter, Procedure, Module, Program}
+use Rattle.aos_typed.specs.Program.{Place, ModuleVar, Local, Passed, Field, Index, Of, Deref, Typed, Guarded, Rows, Known, Opened, Row, Spread, Longer, Arguments, NoMore, Scalar, Whole, Opening, Callee, Plain, Dispatched, Upper, Expr, Lit, SelfRef, Read, Unary, Binary, And, Or, Element, Ord, Chr, CompareTexts, Len, LenBehind, Function, Same, Is, IsRecord, Guard, Had, Call, Open as OutOpen, Char as OutChar, Int as OutInt, String as OutString, Ln as OutLn, Stat, Assign, Copy, PutText, If, Case, While, Repeat, Loop, Exit, For, Block, Assert, Halt, Change, Perform, Return, New, Make, With, WithRecord, Out, Stats, Nothing, Then, Arms, Otherwise, Arm, Cases, NoElse, Else, OfLabels, Parameter, Procedure, Method, ObjectType, Module, Program}
 use Rattle.aos_typed.specs.declared.tree.Change.{Change as Changing}
 use Rattle.aos_typed.specs.declared.tree.Change.TheVariants as change
 use Rattle.aos_typed.specs.declared.tree.LabelRange.{LabelRange}
 use Rattle.aos_typed.specs.Meaning.{changed_type}
 use Rattle.aos_typed.specs.Open.{open_dimensions, open_element, first_same}
-use Rattle.aos_typed.specs.Routines.{result_of}
+pub use Rattle.aos_typed.specs.Fields.{with_base, fields_in, fields_by, field_types, field_type}
+use Rattle.aos_typed.specs.Methods.{put_at, slot_of, on_base, base_type, methods_of, method_in}
+use Rattle.aos_typed.specs.Routines.{self_type, result_of}
 use Rattle.aos_typed.specs.Numbers.{id_of, predeclared_types, predeclared_rows}
 
 -- Types.
@@ -168,22 +170,6 @@ GivesOfTwo In t = t ≡ Boolean
 
 -- Designators.
 
--- the types of the fields of a record, its base's first; it has fewer bases than there are types
-abbrev pub with_base : (TypeId → List TypeId) → Option TypeId → List TypeId → List TypeId
-with_base f None fields = fields
-with_base f (Some b) fields = f b ++ fields
-
-abbrev pub fields_in : (TypeId → List TypeId) → Option TypeRow → List TypeId
-fields_in f (Some (row.Record base fields)) = with_base f base fields
-fields_in f r = []
-
-abbrev pub fields_by : ℕ → List TypeRow → TypeId → List TypeId
-fields_by zero rows t = fields_in (λ b. []) (row_of rows t)
-fields_by (suc n) rows t = fields_in (λ b. fields_by n rows b) (row_of rows t)
-
-abbrev pub field_type : List TypeRow → TypeId → ℕ → Option TypeId
-field_type rows t k = slice_get (fields_by (length rows) rows t) k
-
 -- an array of so many elements of this type
 abbrev pub IsArray : ℕ → TypeId → Option TypeRow → Type 0
 IsArray n t r = r ≡ Some (row.Array n t)
@@ -204,7 +190,7 @@ is_whole _ = false
 abbrev pub is_value : List TypeRow → TType → Bool
 is_value rows t = is_basic t || is_reference rows t
 
--- a variable that is no part of another
+-- a variable that is no part of another; a field of SELF is one, whose place is found without a trap
 abbrev pub is_variable : Place → Bool
 is_variable (ModuleVar m k) = true
 is_variable (Local k) = true
@@ -213,6 +199,7 @@ is_variable (Of r) = false
 is_variable (Deref e t) = false
 is_variable (Typed place t) = false
 is_variable (Guarded place t) = false
+is_variable (Field (Deref SelfRef of) t k) = true
 is_variable (Field place t k) = false
 is_variable (Index place n t e) = false
 
@@ -333,7 +320,9 @@ module _ (p : Program) where
       IsPlaceOf (ModuleVar m k) t = variable_type m k ≡ Some t
       IsPlaceOf (Local k) t = IsLocal k t ⊎ ((a : Parameter) × IsParameter k a × IsByValue a t)
       IsPlaceOf (Passed k) t = (a : Parameter) × IsParameter k a × IsByReference a t
-      IsPlaceOf (Field place of k) t = IsPlaceOf place of × (field_type p.types (id_of of) k ≡ Some (id_of t))
+      IsPlaceOf (Field place of k) t =
+          ((IsPlaceOf place of × (is_record (row_of p.types (id_of of)) ≡ true)) ⊎ IsObjectAt place of)
+          × (field_type p.types (id_of of) k ≡ Some (id_of t))
       IsPlaceOf (Index place n of e) t = (u : TType) × IsPlaceOf place u × IsArray n (id_of of) (row_of p.types (id_of u)) × IsOf e (Integer W64) × (t ≡ of)
       IsPlaceOf (Of r) t = AreRows r 0 t
       IsPlaceOf (Deref e u) t =
@@ -341,6 +330,18 @@ module _ (p : Program) where
       IsPlaceOf (Typed place k) t = IsPlaceOf place (Named k) × (is_record (row_of p.types (id_of (Named k))) ≡ true) × (t ≡ Named k)
       IsPlaceOf (Guarded place k) t =
           (u : TType) × IsPlaceOf place u × NamesType place u × (is_record (row_of p.types (id_of (Named k))) ≡ true) × (t ≡ Named k)
+
+      -- an object of this type with its fields, which is no variable but has variables
+      pub IsObjectAt : Place → TType → Type 0
+      IsObjectAt (Deref e u) t = IsOf e u × (is_object (row_of p.types (id_of u)) ≡ true) × (t ≡ u)
+      IsObjectAt (ModuleVar m k) t = ⊥
+      IsObjectAt (Local k) t = ⊥
+      IsObjectAt (Passed k) t = ⊥
+      IsObjectAt (Field place of k) t = ⊥
+      IsObjectAt (Index place n of e) t = ⊥
+      IsObjectAt (Of r) t = ⊥
+      IsObjectAt (Typed place k) t = ⊥
+      IsObjectAt (Guarded place k) t = ⊥
 
       -- an array with so many dimensions whose lengths are given, and elements of a type behind them
       pub AreRows : Rows → ℕ → TType → Type 0
@@ -370,9 +371,17 @@ module _ (p : Program) where
           (a : Parameter) × (rest : List Parameter) × (n : ℕ) × (t : TType) × (as' ≡ a ∷ rest) × IsOpening a n t × AreRows r n t
           × HaveLengths r × AreArguments more rest
 
+      -- what is called is a procedure with these parameters and this result: that of a module, the one that the type known of an
+      -- object has in a slot, or the one that SELF's type or a base of it has there
+      pub IsCalled : Callee → Procedure → Type 0
+      IsCalled (Plain m k) q = procedure_in m k ≡ Some q
+      IsCalled (Dispatched e t k) q = IsOf e (Named t) × (is_object (row_of p.types (id_of (Named t))) ≡ true) × (method_in p t k ≡ Some q)
+      IsCalled (Upper t k) q = (s : ℕ) × (self_type own ≡ Some s) × (comes_to p.types (id_of (Named s)) (id_of (Named t)) ≡ true) × (method_in p t k ≡ Some q)
+
       -- each value of an expression is of a type
       pub IsOf : Expr → TType → Type 0
       IsOf (Lit l) t = IsLiteral l t ⊎ ((l ≡ literal.Nil) × (is_reference p.types t ≡ true))
+      IsOf SelfRef t = (s : ℕ) × (self_type own ≡ Some s) × (is_object (row_of p.types (id_of (Named s))) ≡ true) × Fits p.types t (Named s)
       IsOf (Read u place) t = IsPlaceOf place u × (is_value p.types u ≡ true) × Fits p.types t u
       IsOf (Unary op a) t = IsOf a (taken op) × Gives op t
       IsOf (Binary op a b) t = Takes op (IsOf a) (IsOf b) × GivesOfTwo op t
@@ -384,8 +393,8 @@ module _ (p : Program) where
       IsOf (CompareTexts r a b) t = AreRows a 1 Char × AreRows b 1 Char × (t ≡ Boolean)
       IsOf (Len r d) t = (n : ℕ) × (u : TType) × AreRows r n u × HaveLengths r × (d < n) × Includes t (Integer W32)
       IsOf (LenBehind r n) t = (m : ℕ) × (u : TType) × AreRows r m u × IsWithin W32 (pos n) × Includes t (Integer W32)
-      IsOf (Function m k more) t =
-          (q : Procedure) × (u : TType) × (procedure_in m k ≡ Some q) × (q.result ≡ Some u) × (is_value p.types u ≡ true)
+      IsOf (Function c more) t =
+          (q : Procedure) × (u : TType) × IsCalled c q × (q.result ≡ Some u) × (is_value p.types u ≡ true)
           × Fits p.types t u × AreArguments more q.parameters
       IsOf (Same a b) t =
           ((u : TType) × IsOf a u × (is_reference p.types u ≡ true)) × ((u : TType) × IsOf b u × (is_reference p.types u ≡ true)) × (t ≡ Boolean)
@@ -440,13 +449,13 @@ module _ (p : Program) where
       IsStatement (Assert at e code) = IsOf e Boolean × (code < 256)
       IsStatement (Halt at code) = code < 256
       IsStatement (Change at c place e) = IsPlaceOf place (changed_type c) × IsOf e (amount_type c)
-      IsStatement (Perform at m k more) =
-          (q : Procedure) × (procedure_in m k ≡ Some q) × (q.result ≡ None) × AreArguments more q.parameters
+      IsStatement (Perform at c more) = (q : Procedure) × IsCalled c q × (q.result ≡ None) × AreArguments more q.parameters
       IsStatement (Return at e) = IsReturn e (result_of own)
-      IsStatement (New at place t) = (is_variable place ≡ true) × IsPlaceOf place (Named t) × (is_object (row_of p.types (id_of (Named t))) ≡ true) × (t < length p.objects)
+      IsStatement (New at place t) =
+          (is_variable place ≡ true) × IsPlaceOf place (Named t) × (is_object (row_of p.types (id_of (Named t))) ≡ true)
+          × (option_map (λ o. o.has_body) (slice_get p.objects t) ≡ Some true)
       IsStatement (Make at place t ns) =
-          ((u : TType) × IsPlaceOf place u × (target p.types u ≡ Some (id_of (Named t)))) × (is_object (row_of p.types (id_of (Named t))) ≡ false)
-          × (t < length p.objects) × AreLengthsOf ns
+          ((u : TType) × IsPlaceOf place u × (target p.types u ≡ Some (id_of (Named t)))) × (t < length p.objects) × AreLengthsOf ns
           × (length ns ≡ open_dimensions p.types (id_of (Named t)))
       IsStatement (With at e body) = AreObjects e × AreStatements body
       IsStatement (WithRecord at place body) = ((u : TType) × IsPlaceOf place u × NamesType place u) × AreStatements body
@@ -502,6 +511,50 @@ pub record IsProcedure (p : Program) (x : Procedure) : Type 0 where
   pub result : IsResult p x.result
   pub body : AreStatements p (Some x) x.body
 
+-- What stands beside types.
+
+-- the same type, or open arrays of the same elements
+abbrev pub AreSame : Program → TType → TType → Type 0
+AreSame p t u =
+    (t ≡ u)
+    ⊎ ((is_open (row_of p.types (id_of t)) ≡ true) × (is_open (row_of p.types (id_of u)) ≡ true)
+    × (open_dimensions p.types (id_of t) ≡ open_dimensions p.types (id_of u)) × (open_element p.types (id_of t) ≡ open_element p.types (id_of u)))
+
+-- two lists of parameters agree where their kinds and types are the same in order
+abbrev pub Agree : Program → List Parameter → List Parameter → Type 0
+Agree p [] [] = Unit {0}
+Agree p [] (b ∷ bs) = ⊥
+Agree p (a ∷ as') [] = ⊥
+Agree p (a ∷ as') (b ∷ bs) = (a.by_reference ≡ b.by_reference) × AreSame p a.of b.of × Agree p as' bs
+
+-- a method overrides another one with the same formals and the same result
+abbrev pub Overrides : Program → (method other : Procedure) → Type 0
+Overrides p q r = Agree p q.parameters r.parameters × (q.result ≡ r.result)
+
+-- each of a type's methods is a new one, whose slot is the next behind those before, or overrides the one in its slot
+abbrev pub AreSlots : Program → List Procedure → List Method → Type 0
+AreSlots p table [] = Unit {0}
+AreSlots p table (m ∷ ms) =
+    ((m.slot ≡ length table) ⊎ ((r : Procedure) × (slice_get table m.slot ≡ Some r) × Overrides p m.procedure r))
+    × AreSlots p (put_at table (slot_of m)) ms
+
+-- what stands beside the type of this number
+pub record IsObjectType (p : Program) (t : ℕ) (o : ObjectType) : Type 0 where
+  pub body : IsProcedure p o.body
+  pub own : o.body.of ≡ Some t
+  pub plain : o.body.parameters ≡ []
+  pub bare : o.body.locals ≡ []
+  pub proper : o.body.result ≡ None
+  pub methods : All (λ m. IsProcedure p m.procedure × (m.procedure.of ≡ Some t)) o.methods
+  pub slots : AreSlots p (on_base (methods_of p) (base_type p t)) o.methods
+  -- what is no object type has neither a body nor methods
+  pub others : (is_object (row_of p.types (id_of (Named t))) ≡ true) ⊎ ((o.has_body ≡ false) × (o.methods ≡ []))
+
+-- of types that are numbered on from this number
+abbrev pub AreObjectTypes : Program → ℕ → List ObjectType → Type 0
+AreObjectTypes p t [] = Unit {0}
+AreObjectTypes p t (o ∷ os) = IsObjectType p t o × AreObjectTypes p (suc t) os
+
 -- how many scalars the variables of a module have
 abbrev pub module_scalars : Program → Module → ℕ
 module_scalars p m = sum_by (λ v. variable_scalars p.types (id_of v.of)) m.variables
@@ -514,7 +567,7 @@ pub record IsWellTyped (p : Program) : Type 0 where
   pub names : All (λ m. is_ident m.name ≡ true) p.modules
   pub differ : AllPairs (λ m n. m.name ≢ n.name) p.modules
   pub bodies : All (λ m. AreStatements p None m.body) p.modules
-  pub objects : All (λ o. AreStatements p None o.body) p.objects
+  pub objects : AreObjectTypes p 0 p.objects
   pub homes : All (λ o. o.home < length p.modules) p.objects
   pub types : AreTypes p.types
   pub texts : All (λ m. All (λ t. All (λ c. c < 256) t) m.texts) p.modules
@@ -522,4 +575,4 @@ pub record IsWellTyped (p : Program) : Type 0 where
   pub beside : length p.types ≡ length p.objects + predeclared_types
   pub variables : All (λ m. All (λ v. IsVariableType p v.of) m.variables) p.modules
   pub few_scalars : All (λ m. module_scalars p m ≤ MOST_SCALARS) p.modules
-  pub procedures : All (λ m. All (IsProcedure p) m.procedures) p.modules
+  pub procedures : All (λ m. All (λ q. IsProcedure p q × (q.of ≡ None)) m.procedures) p.modules

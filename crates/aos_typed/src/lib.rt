@@ -7,6 +7,7 @@ pub mod tree;
 
 pub use open::{OpenArray, open_array};
 pub use tree::{
-    Change, LabelRange, LabelRow, Literal, OutCall, Program, TArgument, TArm, TCase, TElse, TExpr,
-    TModule, TObject, TParameter, TPlace, TProcedure, TRows, TStat, TType, TVariable, TextConstant,
+    Change, LabelRange, LabelRow, Literal, OutCall, Program, TArgument, TArm, TCallee, TCase,
+    TElse, TExpr, TMethod, TModule, TObject, TParameter, TPlace, TProcedure, TRows, TStat, TType,
+    TVariable, TextConstant,
 };

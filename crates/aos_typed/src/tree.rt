@@ -38,13 +38,13 @@ pub enum TPlace {
     Local(u32),
     /// What a VAR parameter stands for that is no open array, by its number.
     Passed(u32),
-    /// A field of a record, by the record type that declares it and its number from 0, that type's base's first.
+    /// A field of a record or an object, by the type that is known of that and the field's number from 0, the type's base's first.
     Field(Box<TPlace>, TType, u32),
     /// An element of an array of so many elements, each of this type, by its index; trap 2 where that isn't one of them.
     Index(Box<TPlace>, u32, TType, Box<TExpr>),
     /// An element of an open array, behind all its dimensions.
     Of(Box<TRows>),
-    /// The record or the array of this type that an object is; trap 1 at NIL.
+    /// The record or the array of this type that an object is, or the object of this type with its fields; trap 1 at NIL.
     Deref(Box<TExpr>, TType),
     /// A record with its type, by the type's number in the program.
     Typed(Box<TPlace>, u32),
@@ -104,11 +104,26 @@ impl Drop for TPlace {
     }
 }
 
+/// What is called.
+#[cycle(parts)]
+#[derive(Drop, Debug)]
+pub enum TCallee {
+    /// A procedure of a module, by the numbers of both, each from 0.
+    Plain(u32, u32),
+    /// A method of an object, by the type that is known of the object, by its number in the program, and the method's slot: the one
+    /// that the object's own type has there. Trap 1 at NIL.
+    Dispatched(Box<TExpr>, u32, u32),
+    /// The method that a type has in a slot, called on SELF, by the numbers of both.
+    Upper(u32, u32),
+}
+
 /// An expression.
 #[cycle(parts)]
 #[derive(Debug)]
 pub enum TExpr {
     Lit(Literal),
+    /// The object whose method or body it is in.
+    SelfRef,
     /// A variable of this type.
     Read(TType, TPlace),
     Unary(Unary, Box<TExpr>),
@@ -129,8 +144,8 @@ pub enum TExpr {
     Len(TRows, u32),
     /// The length of a dimension behind the open ones, which is known. The array is found first.
     LenBehind(TRows, u32),
-    /// The result of a function, by the numbers of its module and its own among the procedures there, each from 0.
-    Function(u32, u32, Vec<TArgument>),
+    /// The result of a function.
+    Function(TCallee, Vec<TArgument>),
     /// Whether two operands are one object, or both NIL.
     Same(Box<TExpr>, Box<TExpr>),
     /// Whether an object's type extends this one, by its number in the program; FALSE of NIL.
@@ -148,11 +163,12 @@ impl Drop for TExpr {
         loop {
             match self {
                 TExpr::Lit(_) => return,
+                TExpr::SelfRef => return,
                 TExpr::Read(_, _) => return,
                 TExpr::CompareTexts(_, _, _) => return,
                 TExpr::Len(_, _) => return,
                 TExpr::LenBehind(_, _) => return,
-                TExpr::Function(_, _, _) => return,
+                TExpr::Function(_, _) => return,
                 TExpr::IsRecord(_, _) => return,
                 TExpr::Is(operand, _) => self = Box::into_inner(operand),
                 TExpr::Guard(operand, _) => self = Box::into_inner(operand),
@@ -271,13 +287,14 @@ pub enum TStat {
     Halt(Pos, u8),
     /// A variable is changed by a value.
     Change(Pos, Change, TPlace, TExpr),
-    /// A call of a procedure, by the numbers of its module and its own among the procedures there.
-    Perform(Pos, u32, u32, Vec<TArgument>),
+    /// A call of a proper procedure.
+    Perform(Pos, TCallee, Vec<TArgument>),
     /// The end of the procedure, with the result of a function.
     Return(Pos, Option<TExpr>),
     /// NEW of a variable: an object of this type, by the type's number in the program, whose activity is started.
     New(Pos, TPlace, u32),
-    /// NEW of a pointer: a record or an array of this type, by its number in the program, and the lengths of an open array.
+    /// NEW of a pointer, or of an object without a body: a record, an array or an object of this type, by its number in the program,
+    /// and the lengths of an open array.
     Make(Pos, TPlace, u32, Vec<TExpr>),
     /// WITH: an object that is guarded first, and statements.
     With(Pos, TExpr, Vec<TStat>),
@@ -314,24 +331,37 @@ pub struct TParameter {
     pub of: TType,
 }
 
-/// A procedure, with the statements of its body; a proper one has no result.
+/// A procedure, with the statements of its body; a proper one has no result. A method or an object's body says of which type it
+/// is, by the type's number in the program.
 #[derive(Drop, Debug)]
 pub struct TProcedure {
     pub name: String,
+    pub of: Option<u32>,
     pub parameters: Vec<TParameter>,
     pub locals: Vec<TVariable>,
     pub result: Option<TType>,
     pub body: Vec<TStat>,
 }
 
+/// A method of an object type, with its slot: that of the method which it overrides, or else the next one behind those of the
+/// type's base and of its own methods before.
+#[derive(Drop, Debug)]
+pub struct TMethod {
+    pub slot: u32,
+    pub procedure: TProcedure,
+}
+
 /// What stands beside a type that a module defines or writes: its name, which is empty where it has none, the number of its
-/// module in load order from 0, and the statements of its body, which each object's activity carries out. A type that is no
-/// object type has none.
+/// module in load order from 0, the body that each object's activity carries out, a procedure without parameters and locals, and
+/// the methods that it declares. A type that is no object type, or has no body of its own, has an empty one that nothing carries out.
 #[derive(Drop, Debug)]
 pub struct TObject {
     pub name: String,
     pub home: u32,
-    pub body: Vec<TStat>,
+    /// Whether the body is carried out.
+    pub has_body: bool,
+    pub body: TProcedure,
+    pub methods: Vec<TMethod>,
 }
 
 /// A module, with its string constants, by the codes of their characters, its procedures, and the statements of its body.
