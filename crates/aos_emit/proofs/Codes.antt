@@ -1,5 +1,5 @@
 -- The code of one more routine, and what describes one more module.
-use Rattle.std.proofs.Common.{◌≡◌, ℕ, suc, ◌+◌, List, [], ◌∷◌, ◌++◌, ◌<◌, ◌≤◌, Some, get_or, take, length, map, refl, sym, ap, ◌∙◌, subst, arith, append-nil, append_assoc}
+use Rattle.std.proofs.Common.{◌≡◌, All, ℕ, zero, suc, ◌+◌, List, [], ◌∷◌, ◌++◌, ◌<◌, ◌≤◌, get_or, take, length, map, refl, sym, ap, ◌∙◌, subst, arith, append-nil, append_assoc}
 use Rattle.std.specs.String.{string_bytes}
 use Rattle.std.specs.List.{flat_map}
 use Rattle.std.specs.declared.vec.Vec.{Vec}
@@ -7,10 +7,10 @@ use Rattle.std.specs.declared.alloc.Global.{Global}
 use Rattle.std.proofs.lemmas.List.{map-append, map_more, length-map, length-take-le}
 use Rattle.aos_typed.specs.declared.tree.TModule.{TModule}
 use Rattle.aos_typed.specs.declared.tree.TObject.{TObject}
-use Rattle.aos_typed.specs.declared.tree.TProcedure.{TProcedure}
-use Rattle.aos_typed.specs.Program.{Procedure, Module, ObjectType, Program}
-use Rattle.aos_typed.specs.Routines.{Routine, bodies_from, procedures_from, routines}
-use Rattle.aos_typed.specs.Seen.{seen_stats, seen_module, seen_object, seen_procedure}
+use Rattle.aos_typed.specs.Program.{Module, ObjectType, Program}
+use Rattle.aos_typed.specs.Routines.{Routine, bodies_from, methods_from, procedures_from, routines}
+use Rattle.aos_typed.specs.Seen.{seen_stats, seen_method, seen_module, seen_object, seen_procedure}
+use Rattle.aos_typed.specs.WellTyped.{IsProcedure, AreObjectTypes}
 use Rattle.aos_types.specs.declared.row.TypeRow.{TypeRow}
 use Rattle.aos_types.specs.Shape.{leaves, row}
 use Rattle.aos_layout.specs.Layout.{variable_cells}
@@ -22,7 +22,7 @@ use Rattle.aos_code.specs.declared.image.ModuleDesc.{ModuleDesc}
 use Rattle.aos_sim.specs.Code.{body_code}
 use Rattle.aos_sim.specs.Need.{body_need}
 use Rattle.aos_sim.specs.Shows.{numbers_from, text_cells, first_cells, shape_of}
-use Rattle.aos_emit.specs.Made.{body_of, bodies_of_objects, procedures_of, AreMade, Adds, AreModules}
+use Rattle.aos_emit.specs.Made.{body_of, bodies_of_objects, methods_of, procedures_of, AreMade, Adds, AreModules}
 
 numbers-append : {A : Type 0} (k : ℕ) (xs : List A) (x : A) → numbers_from k (xs ++ x ∷ []) ≡ numbers_from k xs ++ (k + length xs) ∷ []
 numbers-append k [] x = let e : k ≡ k + 0 = omega arith in ap (λ n. n ∷ []) e
@@ -42,7 +42,7 @@ more_of f g xs zs x z e h = more f xs (map g zs) x (g z) e h ∙ sym (map-append
 pub next_of : {X Y : Type 0} (f : X → Y) (xs : List X) (k : ℕ) (x : X) → k < length xs → x ≡ get_or xs k x → map f (take (k + 1) xs) ≡ map f (take k xs) ++ f x ∷ []
 next_of f xs k x lt at = map_more f xs k x lt ∙ ap (λ q. map f (take k xs) ++ f q ∷ []) (sym at)
 
-count_of : {X Y : Type 0} (f : X → Y) (xs : List X) (k : ℕ) → k < length xs → length (map f (take k xs)) ≡ k
+pub count_of : {X Y : Type 0} (f : X → Y) (xs : List X) (k : ℕ) → k < length xs → length (map f (take k xs)) ≡ k
 count_of f xs k lt = let le : k ≤ length xs = omega arith in length-map (take k xs) f ∙ length-take-le k xs le
 
 -- what a module's cells hold at first, from its string constants as the code has them
@@ -74,7 +74,7 @@ module _ (p : Program) where
   adds_as xs ys b0 b1 s0 s1 e f = subst (λ l. Adds p l b0 s0 b1 s1) e f
 
   module _ (b0 b1 b2 : List Body) (s0 s1 s2 : List ProcShape) where
-    -- the body of one more module,
+    -- The body of one more module,
     pub body_more : (ms : List TModule) (k n : ℕ) (m : TModule) → k < length ms → m ≡ get_or ms k m → n ≡ k → Adds p (bodies_from 0 (map seen_module (take k ms))) b0 s0 b1 s1 → Adds p (body_of n (seen_stats m.body.items) ∷ []) b1 s1 b2 s2 → Adds p (bodies_from 0 (map seen_module (take (k + 1) ms))) b0 s0 b2 s2
     body_more ms k n m lt at is f g =
         let xs = map seen_module (take k ms) in
@@ -87,19 +87,24 @@ module _ (p : Program) where
             let e : suc a + length ys ≡ a + suc (length ys) = omega arith in
             ap (λ l. body_of a y.body ∷ l) (last (suc a) ys x ∙ ap (λ j. bodies_from (suc a) ys ++ body_of j x.body ∷ []) e)
 
-    -- that of one more object type,
-    pub object_more : (os : List TObject) (k : ℕ) (o : TObject) → k < length os → o ≡ get_or os k o → Adds p (bodies_of_objects (map seen_object (take k os))) b0 s0 b1 s1 → Adds p (body_of o.home (seen_stats o.body.items) ∷ []) b1 s1 b2 s2 → Adds p (bodies_of_objects (map seen_object (take (k + 1) os))) b0 s0 b2 s2
-    object_more os k o lt at f g =
-        let xs = map seen_object (take k os) in
-        let one : ObjectType → Routine = λ x. body_of x.home x.body in
-        adds_as _ _ b0 b2 s0 s2 (sym (ap bodies_of_objects (next_of seen_object os k o lt at) ∙ map-append one xs (seen_object o ∷ []))) (adds_both (bodies_of_objects xs) (body_of o.home (seen_stats o.body.items) ∷ []) b0 b1 b2 s0 s1 s2 f g)
+    -- one more of what each gives one routine, as the body beside a type, a procedure or a method,
+    pub one_more : {X Y : Type 0} (see : X → Y) (one : Y → Routine) (xs : List X) (k : ℕ) (x : X) → k < length xs → x ≡ get_or xs k x → Adds p (map one (map see (take k xs))) b0 s0 b1 s1 → Adds p (one (see x) ∷ []) b1 s1 b2 s2 → Adds p (map one (map see (take (k + 1) xs))) b0 s0 b2 s2
+    one_more see one xs k x lt at f g =
+        let ys = map see (take k xs) in
+        adds_as _ _ b0 b2 s0 s2 (sym (ap (map one) (next_of see xs k x lt at) ∙ map-append one ys (see x ∷ []))) (adds_both (map one ys) (one (see x) ∷ []) b0 b1 b2 s0 s1 s2 f g)
 
-    -- one more procedure of a module,
-    pub procedure_more : (home : ℕ) (qs : List TProcedure) (k : ℕ) (q : TProcedure) → k < length qs → q ≡ get_or qs k q → Adds p (procedures_of home (map seen_procedure (take k qs))) b0 s0 b1 s1 → Adds p (procedures_of home (seen_procedure q ∷ [])) b1 s1 b2 s2 → Adds p (procedures_of home (map seen_procedure (take (k + 1) qs))) b0 s0 b2 s2
-    procedure_more home qs k q lt at f g =
-        let xs = map seen_procedure (take k qs) in
-        let one : Procedure → Routine = λ x. record { home = home; own = Some x; body = x.body } in
-        adds_as _ _ b0 b2 s0 s2 (sym (ap (procedures_of home) (next_of seen_procedure qs k q lt at) ∙ map-append one xs (seen_procedure q ∷ []))) (adds_both (procedures_of home xs) (procedures_of home (seen_procedure q ∷ [])) b0 b1 b2 s0 s1 s2 f g)
+    -- the methods of one more type,
+    pub methods_more : (os : List TObject) (k : ℕ) (o : TObject) → k < length os → o ≡ get_or os k o → Adds p (methods_from (map seen_object (take k os))) b0 s0 b1 s1 → Adds p (methods_of o.home (map seen_method o.methods.items)) b1 s1 b2 s2 → Adds p (methods_from (map seen_object (take (k + 1) os))) b0 s0 b2 s2
+    methods_more os k o lt at f g =
+        let xs = map seen_object (take k os) in
+        let ms = methods_of o.home (map seen_method o.methods.items) in
+        adds_as _ _ b0 b2 s0 s2 (sym (ap methods_from (next_of seen_object os k o lt at) ∙ last xs (seen_object o))) (adds_both (methods_from xs) ms b0 b1 b2 s0 s1 s2 f g)
+      where
+        last : (xs : List ObjectType) (x : ObjectType) → methods_from (xs ++ x ∷ []) ≡ methods_from xs ++ methods_of x.home x.methods
+        last [] x = append-nil (methods_of x.home x.methods)
+        last (y ∷ ys) x =
+            ap (λ l. methods_of y.home y.methods ++ l) (last ys x)
+            ∙ sym (append_assoc (methods_of y.home y.methods) (methods_from ys) (methods_of x.home x.methods))
 
     -- and the procedures of one more module
     pub procedures_more : (ms : List TModule) (k n : ℕ) (m : TModule) → k < length ms → m ≡ get_or ms k m → n ≡ k → Adds p (procedures_from 0 (map seen_module (take k ms))) b0 s0 b1 s1 → Adds p (procedures_of n (map seen_procedure m.procedures.items)) b1 s1 b2 s2 → Adds p (procedures_from 0 (map seen_module (take (k + 1) ms))) b0 s0 b2 s2
@@ -128,12 +133,27 @@ module _ (p : Program) where
       }))
 
 -- all routines of a program, those of modules first
-pub adds_all : (p : Program) (ms : List TModule) (os : List TObject) (b0 b1 b2 b3 : List Body) (s0 s1 s2 s3 : List ProcShape) → p.modules ≡ map seen_module ms → p.objects ≡ map seen_object os → b0 ≡ [] → s0 ≡ [] → Adds p (bodies_from 0 (map seen_module ms)) b0 s0 b1 s1 → Adds p (bodies_of_objects (map seen_object os)) b1 s1 b2 s2 → Adds p (procedures_from 0 (map seen_module ms)) b2 s2 b3 s3 → AreMade p (routines p) b3 s3
-adds_all p ms os b0 b1 b2 b3 s0 s1 s2 s3 em eo eb es f g h =
+pub adds_all : (p : Program) (ms : List TModule) (os : List TObject) (b0 b1 b2 b3 b4 : List Body) (s0 s1 s2 s3 s4 : List ProcShape) → p.modules ≡ map seen_module ms → p.objects ≡ map seen_object os → b0 ≡ [] → s0 ≡ [] → Adds p (bodies_from 0 (map seen_module ms)) b0 s0 b1 s1 → Adds p (bodies_of_objects (map seen_object os)) b1 s1 b2 s2 → Adds p (procedures_from 0 (map seen_module ms)) b2 s2 b3 s3 → Adds p (methods_from (map seen_object os)) b3 s3 b4 s4 → AreMade p (routines p) b4 s4
+adds_all p ms os b0 b1 b2 b3 b4 s0 s1 s2 s3 s4 em eo eb es f g h k =
     let xs = bodies_from 0 (map seen_module ms) in
     let ys = bodies_of_objects (map seen_object os) in
     let zs = procedures_from 0 (map seen_module ms) in
+    let ws = methods_from (map seen_object os) in
     let none : AreMade p [] b0 s0 = subst (λ l. AreMade p [] l s0) (sym eb) (subst (λ l. AreMade p [] [] l) (sym es) (record { bodies = refl; depths = refl; shapes = refl })) in
-    let made : AreMade p (xs ++ (ys ++ zs)) b3 s3 = adds_both p xs (ys ++ zs) b0 b1 b3 s0 s1 s3 f (adds_both p ys zs b1 b2 b3 s1 s2 s3 g h) [] none in
-    let all : xs ++ (ys ++ zs) ≡ routines p = sym (λ i. bodies_from 0 (em i) ++ (bodies_of_objects (eo i) ++ procedures_from 0 (em i))) in
-    subst (λ l. AreMade p l b3 s3) all made
+    let made : AreMade p (xs ++ (ys ++ (zs ++ ws))) b4 s4 =
+    adds_both p xs (ys ++ (zs ++ ws)) b0 b1 b4 s0 s1 s4 f
+    (adds_both p ys (zs ++ ws) b1 b2 b4 s1 s2 s4 g (adds_both p zs ws b2 b3 b4 s2 s3 s4 h k)) [] none in
+    let all : xs ++ (ys ++ (zs ++ ws)) ≡ routines p =
+    sym (λ i. bodies_from 0 (em i) ++ (bodies_of_objects (eo i) ++ (procedures_from 0 (em i) ++ methods_from (eo i)))) in
+    subst (λ l. AreMade p l b4 s4) all made
+
+-- what stands beside types is typed
+pub bodies_typed : (p : Program) (t : ℕ) (os : List ObjectType) → AreObjectTypes p t os → All (λ o. IsProcedure p o.body) os
+bodies_typed p t [] h k d lt = absurd (omega arith)
+bodies_typed p t (o ∷ os) h zero d lt = h.0.body
+bodies_typed p t (o ∷ os) h (suc k) d lt = bodies_typed p (suc t) os h.1 k d (omega arith)
+
+pub methods_typed : (p : Program) (t : ℕ) (os : List ObjectType) → AreObjectTypes p t os → All (λ o. All (λ m. IsProcedure p m.procedure) o.methods) os
+methods_typed p t [] h k d lt = absurd (omega arith)
+methods_typed p t (o ∷ os) h zero d lt = λ i m l. (h.0.methods i m l).0
+methods_typed p t (o ∷ os) h (suc k) d lt = methods_typed p (suc t) os h.1 k d (omega arith)

@@ -4,14 +4,13 @@ use Rattle.std.specs.Prelude.{zero, suc, ℤ, Option, reverse}
 use Rattle.std.proofs.lemmas.List.{reverse-append, reverse-reverse, map-append, length-reverse, length-map}
 use Rattle.aos_base.specs.declared.operator.Unary.TheVariants.{Range}
 use Rattle.aos_base.specs.declared.operator.Binary.TheVariants.{SetSpan}
-use Rattle.aos_typed.specs.Numbers.{procedure_number}
 use Rattle.aos_typed.specs.declared.tree.Literal.{Literal}
 use Rattle.aos_typed.specs.declared.tree.Literal.TheVariants as literal
-use Rattle.aos_typed.specs.Program.{Place, ModuleVar, Local, Passed, Field, Index, Of, Deref, Typed, Guarded, Rows, Known, Opened, Row, Spread, Longer, Arguments, NoMore, Scalar, Whole, Opening, Expr, Lit, Read, Unary, Binary, And, Or, Element, Ord, Chr, CompareTexts, Len, LenBehind, Function, Same, Is, IsRecord, Guard, Had, Procedure, Program}
+use Rattle.aos_typed.specs.Program.{Place, ModuleVar, Local, Passed, Field, Index, Of, Deref, Typed, Guarded, Rows, Known, Opened, Row, Spread, Longer, Arguments, NoMore, Scalar, Whole, Opening, Callee, Plain, Dispatched, Upper, Expr, Lit, SelfRef, Read, Unary, Binary, And, Or, Element, Ord, Chr, CompareTexts, Len, LenBehind, Function, Same, Is, IsRecord, Guard, Had, Procedure, Program}
 use Rattle.aos_code.specs.declared.instr.Instr.{Instr}
-use Rattle.aos_code.specs.declared.instr.Instr.TheVariants.{Num, Deref as DerefOf, OpenRef, EqRef, Is as IsOf, IsPlace, Guard as GuardOf, GuardPlace, Dup, Drop, Frame as FrameOf, Param, Length, Module, Offset, Index as IndexOf, IndexOpen, PickLen, Call as CallOf, Unary as OnOne, Binary as OnTwo, Jump, JumpFalse, Load, CmpText}
-use Rattle.aos_sim.specs.Code.{literal_code, kind_of, variable_cell, own_cell, field_cell, cells_of, dimensions, lengths_code, drops, place_code, rows_code, arguments_code, value_code}
-use Rattle.aos_emit.specs.Back.{back_place, back_rows, back_arguments, back_code, placed}
+use Rattle.aos_code.specs.declared.instr.Instr.TheVariants.{Num, SelfRef as SelfOf, Deref as DerefOf, OpenRef, EqRef, Is as IsOf, IsPlace, Guard as GuardOf, GuardPlace, Dup, Drop, Frame as FrameOf, Param, Length, Module, Offset, Index as IndexOf, IndexOpen, PickLen, Unary as OnOne, Binary as OnTwo, Jump, JumpFalse, Load, CmpText}
+use Rattle.aos_sim.specs.Code.{literal_code, call_instr, kind_of, variable_cell, own_cell, field_cell, cells_of, dimensions, lengths_code, drops, place_code, rows_code, arguments_code, receiver_code, value_code}
+use Rattle.aos_emit.specs.Back.{back_place, back_rows, back_arguments, back_receiver, back_code, placed}
 use Rattle.aos_emit.specs.Forwards.{forwards}
 
 -- more instructions are placed before those
@@ -90,6 +89,11 @@ behind_drops end n behind z =
     ∙ ap (λ l. l ++ forwards end behind) (more end (Num z ∷ []) (drops n) ∙ ap (λ l. l ++ Num z ∷ []) (drops_placed end n))
 
 module _ (p : Program) (own : Option Procedure) where
+  call_placed : (end : ℕ) (c : Callee) → placed end (call_instr p c) ≡ call_instr p c
+  call_placed end (Plain m k) = refl
+  call_placed end (Dispatched e t k) = refl
+  call_placed end (Upper t k) = refl
+
   mutual
     pub place_forth : (x : Place) → IsPlaced (place_code p own x) (back_place p own x)
     place_forth (ModuleVar m k) at behind end ends = last_first end behind (Module m (variable_cell p own m k))
@@ -153,8 +157,14 @@ module _ (p : Program) (own : Option Procedure) where
         let both = length-append c rest in
         operand (rows_code p own r) (back_rows p own r) at end rest (back_arguments p own more behind) behind (rows_forth r) (arguments_forth more (at + length c) behind end (omega arith)) ends
 
+    receiver_forth : (c : Callee) → IsPlaced (receiver_code p own c) (back_receiver p own c)
+    receiver_forth (Plain m k) at behind end ends = refl
+    receiver_forth (Dispatched e t k) at behind end ends = forth e at behind end ends
+    receiver_forth (Upper t k) at behind end ends = last_first end behind SelfOf
+
     pub forth : (e : Expr) → IsPlaced (value_code p own e) (back_code p own e)
     forth (Lit l) at behind end ends = last_first end behind (literal_code l) ∙ ap (λ i. i ∷ forwards end behind) (literal_placed end l)
+    forth SelfRef at behind end ends = last_first end behind SelfOf
     forth (Read t x) at behind end ends =
         let load = Load (kind_of t) in
         operand (place_code p own x) (back_place p own x) at end (load ∷ []) (behind ++ load ∷ []) behind (place_forth x) (last_first end behind load) ends
@@ -214,9 +224,14 @@ module _ (p : Program) (own : Option Procedure) where
     forth (LenBehind r n) at behind end ends =
         let some = suc (dimensions r) in
         operand (rows_code p own r) (back_rows p own r) at end (drops some ++ Num (pos n) ∷ []) (behind ++ Num (pos n) ∷ drops some) behind (rows_forth r) (behind_drops end some behind (pos n)) ends
-    forth (Function m k more) at behind end ends =
-        let call = CallOf (procedure_number p m k) in
-        operand (arguments_code p own more) (back_arguments p own more) at end (call ∷ []) (behind ++ call ∷ []) behind (arguments_forth more) (last_first end behind call) ends
+    forth (Function c more) at behind end ends =
+        let call = call_instr p c in
+        let cr = receiver_code p own c at in
+        let ca = arguments_code p own more (at + length cr) in
+        let both = length-append cr (ca ++ call ∷ []) in
+        let last = last_first end behind call ∙ ap (λ i. i ∷ forwards end behind) (call_placed end c) in
+        let second = operand (arguments_code p own more) (back_arguments p own more) (at + length cr) end (call ∷ []) (behind ++ call ∷ []) behind (arguments_forth more) last (omega arith) in
+        operand (receiver_code p own c) (back_receiver p own c) at end (ca ++ call ∷ []) (back_arguments p own more (behind ++ call ∷ [])) behind (receiver_forth c) second ends
     forth (Same a b) at behind end ends =
         let ca = value_code p own a at in
         let cb = value_code p own b (at + length ca) in

@@ -1,9 +1,9 @@
 -- The cells of a program's variables and string constants are found by the numbers of modules and variables, those of a procedure's
 -- parameters and locals by their numbers, and the numbers of procedures by those of their modules.
-use Rattle.std.proofs.Common.{◌≡◌, ◌^◌, ◌++◌, drop, append_assoc, All, subst, ℕ, zero, suc, ◌+◌, ◌<◌, true, arith, List, [], ◌∷◌, length, get_or, map, take, Option, Some, None, refl, sym, ap, ◌∙◌}
+use Rattle.std.proofs.Common.{◌≡◌, ◌^◌, ◌++◌, drop, append_assoc, All, subst, ℕ, zero, suc, ◌+◌, ◌<◌, ◌≤◌, true, arith, List, [], ◌∷◌, length, get_or, map, take, Option, Some, None, refl, sym, ap, ◌∙◌}
 use Rattle.std.specs.Prelude.{slice_get, option_map}
 use Rattle.std.specs.Option.{unwrap_or}
-use Rattle.std.proofs.lemmas.List.{length-map, drop_more}
+use Rattle.std.proofs.lemmas.List.{length-map, drop_more, drop_all}
 use Rattle.std.proofs.lemmas.List.Sums.{sum_by-cons}
 use Rattle.std.proofs.lemmas.List.Elements.{All-append, All-replicate}
 use Rattle.std.specs.Prelude.{sum_by}
@@ -18,7 +18,7 @@ use Rattle.aos_typed.specs.Numbers.{id_of, procedure_number}
 use Rattle.aos_typed.specs.WellTyped.{IsResult, IsProcedure}
 use Rattle.aos_typed.specs.Program.{Procedure, Module, Program}
 use Rattle.aos_typed.specs.declared.tree.TObject.{TObject}
-use Rattle.aos_typed.specs.Seen.{seen_module, seen_object, seen_procedure, seen_variable}
+use Rattle.aos_typed.specs.Seen.{seen_module, seen_object, seen_variable}
 use Rattle.aos_typed.specs.Source.{module_shape}
 use Rattle.aos_code.specs.declared.instr.Kind.{Kind}
 use Rattle.aos_layout.specs.declared.block.BlockShape.{BlockShape as CodeBlockShape}
@@ -28,7 +28,7 @@ use Rattle.aos_layout.specs.Seen.{seen_block}
 use Rattle.aos_layout.specs.Frame.{AreThere, MayBeThere, frame_parts}
 use Rattle.aos_layout.proofs.Blocks.{first_of_part, first_cell, variable_kinds}
 use Rattle.aos_sim.specs.Code.{variable_cell, own_cell}
-use Rattle.aos_emit.specs.Laid.{AreBlocks, AreFirsts, firsts_from, cell_in, variables_in, module_kinds}
+use Rattle.aos_emit.specs.Laid.{AreBlocks, AreFirsts, firsts_by, firsts_from, cell_in, variables_in, module_kinds}
 use Rattle.aos_emit.proofs.Codes.{next_of}
 use Rattle.aos_emit.specs.Scope.{AreOwn, first_own, all_own}
 
@@ -79,7 +79,8 @@ number_is p ns m k n are e =
     omega (arith, h)
   where
     from : (a : ℕ) (xs : List Module) (m : ℕ) → option_map (λ f. f + k) (slice_get (firsts_from a xs) m) ≡ Some n → n ≡ a + sum_by (λ x. length x.procedures) (take m xs) + k
-    from a [] m e = absurd (cc)
+    from a [] zero e = let h : a + k ≡ n = cc in omega (arith, h)
+    from a [] (suc m) e = absurd (cc)
     from a (x ∷ xs) zero e = let h : a + k ≡ n = cc in omega (arith, h)
     from a (x ∷ xs) (suc m) e = omega (arith, from (a + length x.procedures) xs m e, sum_by-cons (λ x. length x.procedures) x (take m xs))
 
@@ -105,15 +106,18 @@ narrow_more rows ms k m b lt at is few all =
     let here : P (seen_module m) = subst (λ n. n < 2 ^ 32) (ap (λ (x : BlockShape). x.cells) is) few in
     subst (λ l. All P l) (sym (next_of seen_module ms k m lt at)) (All-append P (map seen_module (take k ms)) (seen_module m ∷ []) all (All-replicate P 1 (seen_module m) here))
 
--- the numbers of the first procedures of modules, one more of them,
-pub firsts_more : (ms : List TModule) (k : ℕ) (m : TModule) (next behind : ℕ) (firsts : List ℕ) → k < length ms → m ≡ get_or ms k m → behind ≡ next + length m.procedures.items → (firsts ++ next ∷ []) ++ firsts_from behind (map seen_module (drop (k + 1) ms)) ≡ firsts ++ firsts_from next (map seen_module (drop k ms))
-firsts_more ms k m next behind firsts lt at is =
-    let rest = map seen_module (drop (k + 1) ms) in
-    let same : behind ≡ next + length (seen_module m).procedures = omega (arith, is, length-map m.procedures.items seen_procedure) in
-    append_assoc firsts (next ∷ []) (firsts_from behind rest)
-    ∙ ap (λ n. firsts ++ next ∷ firsts_from n rest) same
-    ∙ ap (λ x. firsts ++ firsts_from next (seen_module x ∷ rest)) at
-    ∙ ap (λ l. firsts ++ firsts_from next (map seen_module l)) (sym (drop_more ms k m lt))
+-- the numbers of the first ones of what each has, one more of them,
+pub firsts_more : {A B : Type 0} (see : A → B) (count : B → ℕ) (xs : List A) (k : ℕ) (x : A) (next behind : ℕ) (firsts : List ℕ) → k < length xs → x ≡ get_or xs k x → behind ≡ next + count (see x) → (firsts ++ next ∷ []) ++ firsts_by count behind (map see (drop (k + 1) xs)) ≡ firsts ++ firsts_by count next (map see (drop k xs))
+firsts_more see count xs k x next behind firsts lt at is =
+    let rest = map see (drop (k + 1) xs) in
+    append_assoc firsts (next ∷ []) (firsts_by count behind rest)
+    ∙ ap (λ n. firsts ++ next ∷ firsts_by count n rest) is
+    ∙ ap (λ y. firsts ++ firsts_by count next (see y ∷ rest)) at
+    ∙ ap (λ l. firsts ++ firsts_by count next (map see l)) (sym (drop_more xs k x lt))
+
+-- all of them,
+pub firsts_end : {A B : Type 0} (see : A → B) (count : B → ℕ) (xs : List A) (k next : ℕ) (firsts : List ℕ) → length xs ≤ k → firsts ++ next ∷ [] ≡ firsts ++ firsts_by count next (map see (drop k xs))
+firsts_end see count xs k next firsts le = ap (λ l. firsts ++ firsts_by count next (map see l)) (sym (drop_all k xs le))
 
 -- and those of all modules of a program
 pub firsts_are : (ms xs : List TModule) (os : List TObject) (first : ℕ) (ns : List ℕ) → xs ≡ ms → first ≡ suc (length ms + length os) → ns ≡ firsts_from first (map seen_module xs) → ns ≡ firsts_from (suc (length (map seen_module ms) + length (map seen_object os))) (map seen_module ms)

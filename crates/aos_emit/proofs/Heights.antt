@@ -23,7 +23,7 @@ abbrev mutual
   height (Assert at e code) = 0
   height (Halt at code) = 0
   height (Change at c p e) = 0
-  height (Perform at m k more) = 0
+  height (Perform at c more) = 0
   height (Return at e) = 0
   height (New at p t) = 0
   height (Make at p t ns) = 0

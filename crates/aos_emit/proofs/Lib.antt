@@ -12,3 +12,4 @@ pub mod Fields
 pub mod Made
 pub mod Sorts
 pub mod Searches
+pub mod Tables

@@ -3,7 +3,7 @@ use Rattle.std.proofs.Common.{◌≡◌, ℕ, zero, suc, ◌+◌, ◌<◌, ◌�
 use Rattle.aos_typed.specs.declared.tree.TArgument.{TArgument}
 use Rattle.aos_typed.specs.declared.tree.TArgument.TheVariants as argument
 use Rattle.aos_typed.specs.declared.tree.TExpr.{TExpr}
-use Rattle.aos_typed.specs.Program.{Place, ModuleVar, Local, Passed, Field, Index, Of, Deref, Typed, Guarded, Rows, Known, Opened, Row, Spread, Longer, Arguments, NoMore, Scalar, Whole, Opening, Expr, Lit, Read, Unary, Binary, And, Or, Element, Ord, Chr, CompareTexts, Len, LenBehind, Function, Same, Is, IsRecord, Guard, Had}
+use Rattle.aos_typed.specs.Program.{Place, ModuleVar, Local, Passed, Field, Index, Of, Deref, Typed, Guarded, Rows, Known, Opened, Row, Spread, Longer, Arguments, NoMore, Scalar, Whole, Opening, Callee, Plain, Dispatched, Upper, Expr, Lit, SelfRef, Read, Unary, Binary, And, Or, Element, Ord, Chr, CompareTexts, Len, LenBehind, Function, Same, Is, IsRecord, Guard, Had}
 use Rattle.aos_typed.specs.Seen.{seen_argument, seen_list, seen_expr}
 
 abbrev mutual
@@ -31,8 +31,14 @@ abbrev mutual
   arguments_size (Whole p more) = suc (place_size p + arguments_size more)
   arguments_size (Opening r more) = suc (rows_size r + arguments_size more)
 
+  pub callee_size : Callee → ℕ
+  callee_size (Plain m k) = 0
+  callee_size (Dispatched e t k) = value_size e
+  callee_size (Upper t k) = 0
+
   pub value_size : Expr → ℕ
   value_size (Lit l) = 0
+  value_size SelfRef = 0
   value_size (Read t p) = suc (place_size p)
   value_size (Unary op a) = suc (value_size a)
   value_size (Binary op a b) = suc (value_size a + value_size b)
@@ -44,7 +50,7 @@ abbrev mutual
   value_size (CompareTexts r a b) = suc (rows_size a + rows_size b)
   value_size (Len r d) = suc (rows_size r)
   value_size (LenBehind r n) = suc (rows_size r)
-  value_size (Function m k more) = suc (arguments_size more)
+  value_size (Function c more) = suc (callee_size c + arguments_size more)
   value_size (Same a b) = suc (value_size a + value_size b)
   value_size (Is a t) = suc (value_size a)
   value_size (IsRecord p t) = suc (place_size p)
@@ -66,6 +72,6 @@ got_less (a ∷ as') (suc k) d lt = omega (arith, split a (seen_list as'), got_l
 pub argument_less : (as' : List TArgument) (k : ℕ) (a : TArgument) → k < length as' → a ≡ get_or as' k a → arguments_size (seen_argument a NoMore) ≤ arguments_size (seen_list as')
 argument_less as' k a lt is = let h = ap (λ x. arguments_size (seen_argument x NoMore)) is in omega (arith, h, got_less as' k a lt)
 
--- the arguments of a call are less than the call
-pub arguments_within : (e : TExpr) (m k : ℕ) (xs as' : List TArgument) → seen_expr e ≡ Function m k (seen_list as') → xs ≡ as' → arguments_size (seen_list xs) < value_size (seen_expr e)
-arguments_within e m k xs as' is same = let a = ap value_size is in let b = ap (λ l. arguments_size (seen_list l)) same in omega (arith, a, b)
+-- what a call is on and its arguments are less than the call
+pub call_within : (e : TExpr) (c : Callee) (xs as' : List TArgument) → seen_expr e ≡ Function c (seen_list as') → xs ≡ as' → callee_size c + arguments_size (seen_list xs) < value_size (seen_expr e)
+call_within e c xs as' is same = let a = ap value_size is in let b = ap (λ l. arguments_size (seen_list l)) same in omega (arith, a, b)

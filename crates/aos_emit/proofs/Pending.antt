@@ -15,11 +15,11 @@ use Rattle.aos_typed.specs.declared.tree.Change.TheVariants as change
 use Rattle.aos_typed.specs.declared.tree.TType.{TType}
 use Rattle.aos_typed.specs.declared.tree.TType.TheVariants.{Integer}
 use Rattle.aos_typed.specs.Meaning.{until}
-use Rattle.aos_typed.specs.Program.{Place, ModuleVar, Local, Passed, Field, Index, Of, Deref, Typed, Guarded, Rows, Known, Opened, Row, Spread, Longer, Arguments, NoMore, Scalar, Whole, Opening, Expr, Lit, Read, Unary, Binary, And, Or, Element, Ord, Chr, CompareTexts, Len, LenBehind, Function, Same, Is, IsRecord, Guard, Had, Call, Open, Char, Int, String, Ln, Stat, Assign, Copy, PutText, If, Case, While, Repeat, Loop, Exit, For, Block, Assert, Halt, Change, Perform, Return, New, Make, With, WithRecord, Out, Stats, Nothing, Then, Arms, Otherwise, Arm, Cases, NoElse, Else, OfLabels, Procedure, Program}
+use Rattle.aos_typed.specs.Program.{Place, ModuleVar, Local, Passed, Field, Index, Of, Deref, Typed, Guarded, Rows, Known, Opened, Row, Spread, Longer, Arguments, NoMore, Scalar, Whole, Opening, Callee, Plain, Dispatched, Upper, Expr, Lit, SelfRef, Read, Unary, Binary, And, Or, Element, Ord, Chr, CompareTexts, Len, LenBehind, Function, Same, Is, IsRecord, Guard, Had, Call, Open, Char, Int, String, Ln, Stat, Assign, Copy, PutText, If, Case, While, Repeat, Loop, Exit, For, Block, Assert, Halt, Change, Perform, Return, New, Make, With, WithRecord, Out, Stats, Nothing, Then, Arms, Otherwise, Arm, Cases, NoElse, Else, OfLabels, Procedure, Program}
 use Rattle.aos_code.specs.declared.instr.Instr.{Instr}
 use Rattle.aos_code.specs.declared.instr.Instr.TheVariants as i
 use Rattle.aos_code.specs.declared.instr.Kind.TheVariants.{N}
-use Rattle.aos_sim.specs.Code.{begin, literal_code, lengths_code, drops, dimensions, make_instr, own_cell, place_code, rows_code, arguments_code, value_code, values_code, make_code, out_code, new_code, change_code, changed_code, assign_code, for_head, step_code, body_place, rounds_with, stat_code, stats_code, arms_code, cases_code, arm_place}
+use Rattle.aos_sim.specs.Code.{begin, literal_code, lengths_code, drops, dimensions, make_instr, call_instr, own_cell, place_code, rows_code, arguments_code, receiver_code, value_code, values_code, make_code, out_code, new_code, change_code, changed_code, assign_code, for_head, step_code, body_place, rounds_with, stat_code, stats_code, arms_code, cases_code, arm_place}
 use Rattle.aos_sim.specs.Search.{Search, Nowhere, At, Split, arms_in, search_of, search_size, search_code}
 use Rattle.aos_sim.proofs.Sizes.{search_length, stat_length, stats_length, arms_length, cases_length}
 use Rattle.aos_emit.specs.Redirect.{redirected, redirect}
@@ -98,6 +98,11 @@ module _ (p x : ℕ) where
   made_same t (suc n) = refl
 
   module _ (program : Program) (own : Option Procedure) where
+    call_same : (c : Callee) → redirect p x (call_instr program c) ≡ call_instr program c
+    call_same (Plain m k) = refl
+    call_same (Dispatched e t k) = refl
+    call_same (Upper t k) = refl
+
     mutual
       place_turns : (q : Place) (at : ℕ) → Turns at (place_code program own q at) (place_code program own q at)
       place_turns (ModuleVar m k) at = turn refl nothing
@@ -123,8 +128,14 @@ module _ (p x : ℕ) where
       arguments_turn (Whole q more) at = both (place_turns q at) (arguments_turn more (at + length (place_code program own q at)))
       arguments_turn (Opening r more) at = both (rows_turn r at) (arguments_turn more (at + length (rows_code program own r at)))
 
+      receiver_turns : (c : Callee) (at : ℕ) → Turns at (receiver_code program own c at) (receiver_code program own c at)
+      receiver_turns (Plain m k) at = nothing
+      receiver_turns (Dispatched e t k) at = value_turns e at
+      receiver_turns (Upper t k) at = turn refl nothing
+
       value_turns : (e : Expr) (at : ℕ) → Turns at (value_code program own e at) (value_code program own e at)
       value_turns (Lit l) at = turn (literal_same l) nothing
+      value_turns SelfRef at = turn refl nothing
       value_turns (Read t q) at = behind (place_turns q at) refl
       value_turns (Unary op a) at = behind (value_turns a at) refl
       value_turns (Binary op a b) at = both (value_turns a at) (behind (value_turns b (at + length (value_code program own a at))) refl)
@@ -149,7 +160,8 @@ module _ (p x : ℕ) where
       value_turns (CompareTexts r a b) at = both (rows_turn a at) (behind (rows_turn b (at + length (rows_code program own a at))) refl)
       value_turns (Len r d) at = behind (rows_turn r at) refl
       value_turns (LenBehind r n) at = behind (rows_turn r at) (drops_same (suc (dimensions r)) n)
-      value_turns (Function m k more) at = behind (arguments_turn more at) refl
+      value_turns (Function c more) at =
+          both (receiver_turns c at) (both (arguments_turn more (at + length (receiver_code program own c at))) (turn (call_same c) nothing))
       value_turns (Same a b) at = both (value_turns a at) (behind (value_turns b (at + length (value_code program own a at))) refl)
       value_turns (Is a t) at = behind (value_turns a at) refl
       value_turns (IsRecord q t) at = behind (place_turns q at) refl
@@ -285,7 +297,7 @@ module _ (p x : ℕ) where
       stat_turns (Assert here e code) at y d = turn refl (behind (value_turns e (at + 1)) refl)
       stat_turns (Halt here code) at y d = turn refl (turn refl nothing)
       stat_turns (Change here c q e) at y d = changed_turns here c q e at
-      stat_turns (Perform here m k more) at y d = turn refl (behind (arguments_turn more (at + 1)) refl)
+      stat_turns (Perform here c more) at y d = turn refl (value_turns (Function c more) (at + 1))
       stat_turns (Return here None) at y d = turn refl (turn refl nothing)
       stat_turns (Return here (Some e)) at y d = turn refl (behind (value_turns e (at + 1)) refl)
       stat_turns (New here q t) at y d = turn refl (new_turns q t (at + 1))

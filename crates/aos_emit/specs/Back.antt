@@ -2,11 +2,10 @@
 use Rattle.std.specs.Prelude.{ℕ, suc, pos, ◌+◌, ◌-◌, Option, List, [], ◌∷◌, ◌++◌, length, map, reverse}
 use Rattle.aos_base.specs.declared.operator.Unary.TheVariants.{Range}
 use Rattle.aos_base.specs.declared.operator.Binary.TheVariants.{SetSpan}
-use Rattle.aos_typed.specs.Numbers.{procedure_number}
-use Rattle.aos_typed.specs.Program.{Place, ModuleVar, Local, Passed, Field, Index, Of, Deref, Typed, Guarded, Rows, Known, Opened, Row, Spread, Longer, Arguments, NoMore, Scalar, Whole, Opening, Expr, Lit, Read, Unary, Binary, And, Or, Element, Ord, Chr, CompareTexts, Len, LenBehind, Function, Same, Is, IsRecord, Guard, Had, Procedure, Program}
+use Rattle.aos_typed.specs.Program.{Place, ModuleVar, Local, Passed, Field, Index, Of, Deref, Typed, Guarded, Rows, Known, Opened, Row, Spread, Longer, Arguments, NoMore, Scalar, Whole, Opening, Callee, Plain, Dispatched, Upper, Expr, Lit, SelfRef, Read, Unary, Binary, And, Or, Element, Ord, Chr, CompareTexts, Len, LenBehind, Function, Same, Is, IsRecord, Guard, Had, Procedure, Program}
 use Rattle.aos_code.specs.declared.instr.Instr.{Instr}
-use Rattle.aos_code.specs.declared.instr.Instr.TheVariants.{Num, Deref as DerefOf, OpenRef, EqRef, Is as IsOf, IsPlace, Guard as GuardOf, GuardPlace, Dup, Frame as FrameOf, Param, Module, Offset, Index as IndexOf, IndexOpen, PickLen, Call as CallOf, Unary as OnOne, Binary as OnTwo, Jump, JumpFalse, Load, CmpText}
-use Rattle.aos_sim.specs.Code.{literal_code, kind_of, variable_cell, own_cell, field_cell, cells_of, dimensions, lengths_code, drops}
+use Rattle.aos_code.specs.declared.instr.Instr.TheVariants.{Num, SelfRef as SelfOf, Deref as DerefOf, OpenRef, EqRef, Is as IsOf, IsPlace, Guard as GuardOf, GuardPlace, Dup, Frame as FrameOf, Param, Module, Offset, Index as IndexOf, IndexOpen, PickLen, Unary as OnOne, Binary as OnTwo, Jump, JumpFalse, Load, CmpText}
+use Rattle.aos_sim.specs.Code.{literal_code, call_instr, kind_of, variable_cell, own_cell, field_cell, cells_of, dimensions, lengths_code, drops}
 
 -- in a program, whose variables have their cells, in the body of this procedure or of none
 module _ (program : Program) (own : Option Procedure) where
@@ -39,8 +38,14 @@ module _ (program : Program) (own : Option Procedure) where
     back_arguments (Whole p more) behind = back_place p (back_arguments more behind)
     back_arguments (Opening r more) behind = back_rows r (back_arguments more behind)
 
+    pub back_receiver : Callee → List Instr → List Instr
+    back_receiver (Plain m k) behind = behind
+    back_receiver (Dispatched e t k) behind = back_code e behind
+    back_receiver (Upper t k) behind = behind ++ SelfOf ∷ []
+
     pub back_code : Expr → List Instr → List Instr
     back_code (Lit l) behind = behind ++ literal_code l ∷ []
+    back_code SelfRef behind = behind ++ SelfOf ∷ []
     back_code (Read t p) behind = back_place p (behind ++ Load (kind_of t) ∷ [])
     back_code (Unary op a) behind = back_code a (behind ++ OnOne op ∷ [])
     back_code (Binary op a b) behind = back_code a (back_code b (behind ++ OnTwo op ∷ []))
@@ -56,7 +61,7 @@ module _ (program : Program) (own : Option Procedure) where
     back_code (CompareTexts r a b) behind = back_rows a (back_rows b (behind ++ CmpText r ∷ []))
     back_code (Len r d) behind = back_rows r (behind ++ PickLen d (dimensions r) ∷ [])
     back_code (LenBehind r n) behind = back_rows r (behind ++ Num (pos n) ∷ drops (suc (dimensions r)))
-    back_code (Function m k more) behind = back_arguments more (behind ++ CallOf (procedure_number program m k) ∷ [])
+    back_code (Function c more) behind = back_receiver c (back_arguments more (behind ++ call_instr program c ∷ []))
     back_code (Same a b) behind = back_code a (back_code b (behind ++ EqRef ∷ []))
     back_code (Is a t) behind = back_code a (behind ++ IsOf (t + 1) ∷ [])
     back_code (IsRecord p t) behind = back_place p (behind ++ IsPlace (t + 1) ∷ [])

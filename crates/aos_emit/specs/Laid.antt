@@ -1,13 +1,17 @@
 -- The cells of a program's variables, of their parts and of its string constants, and the numbers of its procedures, as they are
 -- looked up.
 use Rattle.std.specs.Prelude.{◌≡◌, ◌≤◌, ◌<◌, ◌^◌, All, ℕ, suc, ◌+◌, ◌∷◌, List, [], length, map, Option, Some, None, slice_get, option_map, nat_lt, if◌then◌else◌}
+use Rattle.std.specs.List.{range_with_len}
 use Rattle.std.specs.Option.{unwrap_or}
+use Rattle.std.specs.declared.vec.Vec.{Vec}
+use Rattle.std.specs.declared.alloc.Global.{Global}
 use Rattle.aos_code.specs.declared.instr.Kind.{Kind}
 use Rattle.aos_types.specs.Shape.{row, size}
 use Rattle.aos_types.specs.declared.row.TypeId.{TypeId}
 use Rattle.aos_types.specs.declared.row.TypeRow.{TypeRow}
 use Rattle.aos_typed.specs.declared.tree.TModule.{TModule}
 use Rattle.aos_typed.specs.declared.tree.TType.{TType}
+use Rattle.aos_typed.specs.Methods.{slots, own_numbers}
 use Rattle.aos_typed.specs.Numbers.{id_of}
 use Rattle.aos_typed.specs.Program.{Module, Program}
 use Rattle.aos_typed.specs.WellTyped.{AreTypes}
@@ -24,21 +28,31 @@ AreBlocks p bs = map seen_block bs ≡ map (block_shape p.types) p.modules
 abbrev pub AreNarrow : Program → Type 0
 AreNarrow p = All (λ m. size (block p.types m) < 2 ^ 32) p.modules
 
--- the number of the first procedure of each of these modules, where that of the first one is this
+-- the number of the first of what each of these has so many of, where that of the first one is this, and the number behind all
+abbrev pub firsts_by : {A : Type 0} → (A → ℕ) → ℕ → List A → List ℕ
+firsts_by count n [] = n ∷ []
+firsts_by count n (x ∷ xs) = n ∷ firsts_by count (n + count x) xs
+
+-- the number of the first procedure of each of these modules
 abbrev pub firsts_from : ℕ → List Module → List ℕ
-firsts_from n [] = []
-firsts_from n (x ∷ xs) = n ∷ firsts_from (n + length x.procedures) xs
+firsts_from n ms = firsts_by (λ x. length x.procedures) n ms
 
 -- first come the bodies of the modules, and then those of the object types
 abbrev pub AreFirsts : Program → List ℕ → Type 0
 AreFirsts p ns = ns ≡ firsts_from (suc (length p.modules + length p.objects)) p.modules
 
--- the program's types are as they are to be, and these are the cells of each module, and the numbers of their first procedures
-pub record IsLaid (p : Program) (bs : List CodeBlockShape) (ns : List ℕ) : Type 0 where
+-- the methods of each type by their slots, as numbers of routines
+abbrev pub AreTables : Program → List (Vec ℕ Global) → Type 0
+AreTables p tables = map (λ v. v.items) tables ≡ map (λ k. slots p (own_numbers p) k) (range_with_len 0 (length p.objects))
+
+-- the program's types are as they are to be, and these are the cells of each module, the numbers of their first procedures, and the
+-- methods of each type
+pub record IsLaid (p : Program) (bs : List CodeBlockShape) (ns : List ℕ) (ts : List (Vec ℕ Global)) : Type 0 where
   pub few : length p.types ≤ 2 ^ 32
   pub types : AreTypes p.types
   pub blocks : AreBlocks p bs
   pub firsts : AreFirsts p ns
+  pub tables : AreTables p ts
 
 -- a type, where it is in the table
 abbrev pub there_in : List TypeRow → TType → Option TypeId

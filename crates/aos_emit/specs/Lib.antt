@@ -5,3 +5,4 @@ pub mod Places
 pub mod Laid
 pub mod Scope
 pub mod Made
+pub mod Tables

@@ -2,20 +2,19 @@
 
 ghost use Rattle.std.specs.Prelude.{◌≡◌, ◌+◌, ◌<◌, suc, [], ◌∷◌, ◌++◌, length, map, reverse, pos, IfOk, OnOk};
 ghost use Rattle.aos_base.specs.declared.operator.Binary.TheVariants as binary;
-ghost use Rattle.aos_typed.specs.Numbers.{procedure_number};
-ghost use Rattle.aos_typed.specs.Seen.{seen_place, seen_rows, seen_argument, seen_list, seen_expr};
+ghost use Rattle.aos_typed.specs.Seen.{seen_place, seen_rows, seen_argument, seen_list, seen_callee, seen_expr};
 ghost use Rattle.aos_typed.specs.Program.{NoMore};
-ghost use Rattle.aos_emit.specs.Back.{back_place, back_rows, back_arguments, back_code, placed};
+ghost use Rattle.aos_emit.specs.Back.{back_place, back_rows, back_arguments, back_receiver, back_code, placed};
 ghost use Rattle.aos_emit.specs.Scope.{program_of, own_of};
 ghost use Rattle.aos_emit.specs.Forwards.{forwards};
 ghost use Rattle.aos_emit.specs.Redirect.{pending_end};
 ghost use Rattle.aos_sim.specs.Code as codes;
-ghost use Rattle.aos_sim.specs.Code.{literal_code, kind_of, own_cell, lengths_code, drops, place_code, rows_code, arguments_code, value_code};
+ghost use Rattle.aos_sim.specs.Code.{literal_code, kind_of, own_cell, lengths_code, drops, place_code, rows_code, called_code, value_code};
 
 use crate::scope::Scope;
 use aos_base::{Binary, Pos, Relation, Unary, truth};
 use aos_code::{Instr, Kind};
-use aos_typed::{Literal, TArgument, TExpr, TPlace, TRows, TType};
+use aos_typed::{Literal, TArgument, TCallee, TExpr, TPlace, TRows, TType};
 use std::alloc::{AllocError, Global};
 
 /// The number that a jump to the end of a statement has until that is known: no instruction has it.
@@ -347,20 +346,50 @@ fn emit_arguments_back(
     Ok(())
 }
 
-// A call of a function, from the last instruction to the first.
+// What calls a procedure: a method is found by the object's own type, or known where it is called on SELF.
+fn call_instr(scope: &Scope<'_>, callee: &TCallee) -> Result<Instr, AllocError>
+    ensures { IfOk result (λ i. i ≡ codes.call_instr (program_of scope.now) (seen_callee callee.now)) }
+{
+    match callee {
+        TCallee::Plain(home, number) => Ok(Instr::Call(scope.called(*home, *number)?)),
+        TCallee::Dispatched(_, of, slot) => Ok(Instr::Virtual(*slot, scope.method(*of, *slot)?)),
+        TCallee::Upper(of, slot) => Ok(Instr::Call(scope.method(*of, *slot)?)),
+    }
+}
+
+// What something is called on, from the last instruction to the first.
 #[cycle(emit_back)]
-fn emit_function_back(
+fn emit_receiver_back(
     scope: &Scope<'_>,
     code: &mut Vec<Instr>,
-    home: u32,
-    number: u32,
+    callee: &TCallee,
+) -> Result<(), AllocError>
+    ensures { OnOk result (code.new.items ≡
+        back_receiver (program_of scope.now) (own_of scope.now) (seen_callee callee.now) code.old.items) }
+{
+    match callee {
+        TCallee::Plain(_, _) => Ok(()),
+        TCallee::Dispatched(object, _, _) => emit_back(scope, code, object),
+        TCallee::Upper(_, _) => put(code, Instr::SelfRef),
+    }
+}
+
+// A call, from the last instruction to the first.
+#[cycle(emit_back)]
+fn emit_call_back(
+    scope: &Scope<'_>,
+    code: &mut Vec<Instr>,
+    callee: &TCallee,
     arguments: &[TArgument],
 ) -> Result<(), AllocError>
-    ensures { OnOk result (code.new.items ≡ back_arguments (program_of scope.now) (own_of scope.now)
-        (seen_list arguments.now) (code.old.items ++ Instr.Call (procedure_number (program_of scope.now) home number) ∷ [])) }
+    ensures { OnOk result (code.new.items ≡
+        back_receiver (program_of scope.now) (own_of scope.now) (seen_callee callee.now)
+        (back_arguments (program_of scope.now) (own_of scope.now) (seen_list arguments.now)
+        (code.old.items ++ codes.call_instr (program_of scope.now) (seen_callee callee.now) ∷ []))) }
 {
-    put(code, Instr::Call(scope.called(home, number)?))?;
-    emit_arguments_back(scope, code, arguments)
+    put(code, call_instr(scope, callee)?)?;
+    emit_arguments_back(scope, code, arguments)?;
+    emit_receiver_back(scope, code, callee)
 }
 
 // The second operand of `&` with what stands around it, from the last instruction to the first.
@@ -411,14 +440,15 @@ fn emit_back(scope: &Scope<'_>, code: &mut Vec<Instr>, value: &TExpr) -> Result<
     loop {
         match rest {
             TExpr::Lit(literal) => return put(code, literal_instr(*literal)),
+            TExpr::SelfRef => return put(code, Instr::SelfRef),
             TExpr::Read(of, place) => return emit_read_back(scope, code, *of, place),
             TExpr::Len(rows, number) => return emit_length_back(scope, code, rows, *number),
             TExpr::LenBehind(rows, length) => return emit_behind_back(scope, code, rows, *length),
             TExpr::CompareTexts(relation, left, right) => {
                 return emit_texts_back(scope, code, *relation, left, right);
             }
-            TExpr::Function(home, number, arguments) => {
-                return emit_function_back(scope, code, *home, *number, arguments);
+            TExpr::Function(callee, arguments) => {
+                return emit_call_back(scope, code, callee, arguments);
             }
             TExpr::Unary(operator, operand) => {
                 put(code, Instr::Unary(*operator))?;
@@ -521,18 +551,20 @@ pub fn emit_rows(
     put_forwards(code, back)
 }
 
-/// The code of what a call hands over.
-pub fn emit_arguments(
+/// The code of a call.
+pub fn emit_call(
     alloc: Global,
     scope: &Scope<'_>,
     code: &mut Vec<Instr>,
+    callee: &TCallee,
     arguments: &[TArgument],
 ) -> Result<(), AllocError>
     ensures { OnOk result (code.new.items ≡ code.old.items ++
-        arguments_code (program_of scope.now) (own_of scope.now) (seen_list arguments.now) (length code.old.items)) }
+        called_code (program_of scope.now) (own_of scope.now) (seen_callee callee.now) (seen_list arguments.now)
+        (length code.old.items)) }
 {
     let mut back = Vec::new(alloc);
-    emit_arguments_back(scope, &mut back, arguments)?;
+    emit_call_back(scope, &mut back, callee, arguments)?;
     put_forwards(code, back)
 }
 

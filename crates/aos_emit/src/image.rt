@@ -1,19 +1,20 @@
 // The image of a program.
 
-ghost use Rattle.std.specs.Prelude.{◌≡◌, ◌≤◌, ◌^◌, All, List, [], ◌∷◌, ◌++◌, length, map, None, IfOk, OnOk};
+ghost use Rattle.std.specs.Prelude.{◌≡◌, ◌<◌, ◌≤◌, ◌^◌, if◌then◌else◌, All, List, [], ◌∷◌, ◌++◌, length, map, None, IfOk, OnOk};
 ghost use Rattle.std.specs.List.{flat_map};
 ghost use Rattle.std.specs.String.{string_bytes};
-ghost use Rattle.aos_typed.specs.Routines.{bodies_from, procedures_from, routines};
-ghost use Rattle.aos_typed.specs.Seen.{seen_program, seen_module, seen_object, seen_procedure, seen_stats};
+ghost use Rattle.aos_typed.specs.Routines.{bodies_from, methods_from, procedures_from, routines};
+ghost use Rattle.aos_typed.specs.Seen.{seen_program, seen_method, seen_module, seen_object, seen_procedure, seen_stats};
 ghost use Rattle.aos_typed.specs.WellTyped.{IsProcedure, IsWellTyped};
 ghost use Rattle.aos_types.specs.Chain.{NoneContainsItself};
 ghost use Rattle.aos_types.specs.Table.{row_of, base_of};
 ghost use Rattle.aos_types.specs.declared.row.TypeRow.{TypeRow};
 ghost use Rattle.aos_code.specs.Machine as machine;
+ghost use Rattle.aos_layout.specs.Marks.{AreMade};
 ghost use Rattle.aos_layout.specs.Seen.{seen_shape};
-ghost use Rattle.aos_emit.specs.Made.{AreModules, AreTypesOf, AreMade, Adds, body_of, bodies_of_objects, procedures_of};
+ghost use Rattle.aos_emit.specs.Made.{AreModules, AreTypesOf, AreMade as AreEmitted, Adds, body_of, bodies_of_objects, methods_of, procedures_of};
 ghost use Rattle.aos_sim.specs.Need.{HasDepthsOf};
-ghost use Rattle.aos_sim.specs.Shows.{text_cells, shape_of, type_kinds, base_number, IsCodeOf, Shows};
+ghost use Rattle.aos_sim.specs.Shows.{text_cells, shape_of, made_kinds, base_number, IsCodeOf, Shows};
 
 use crate::emit::number_of;
 use crate::laid::{Laid, PREDECLARED_TYPES};
@@ -22,9 +23,9 @@ use crate::scope::Scope;
 use crate::stats::emit_body;
 use aos_base::NoMemory;
 use aos_code::{Body, Cell, Image, Kind, ModuleDesc, ProcShape, TypeDesc};
-use aos_layout::{FrameShape, base_number, object_kinds};
+use aos_layout::{FrameShape, base_number, made_kinds, made_types};
 use aos_sim::image_shows_program;
-use aos_typed::{Program, TModule, TObject, TProcedure, TStat};
+use aos_typed::{Program, TMethod, TModule, TObject, TProcedure, TStat};
 use aos_types::{TypeId, Types};
 use std::alloc::{AllocError, Global};
 
@@ -109,17 +110,38 @@ fn modules_of(
     Ok(modules)
 }
 
-// The description of a type, whose objects' body is the procedure of this number.
-fn describe_type(alloc: Global, types: &Types, of: TypeId, body: u32) -> Result<TypeDesc, NoMemory>
-    requires { NoneContainsItself types.now }
+// Numbers behind others.
+fn copy_of(alloc: Global, numbers: &[u32]) -> Result<Vec<u32>, AllocError>
+    ensures { IfOk result (λ copy. copy.items ≡ numbers.now) }
+{
+    let mut copy = Vec::new(alloc);
+    copy.extend_from_slice(numbers)?;
+    Ok(copy)
+}
+
+// The description of a type, which has these methods, and whose objects' body is the procedure of this number.
+fn describe_type(
+    alloc: Global,
+    types: &Types,
+    made: &[bool],
+    of: TypeId,
+    methods: &[u32],
+    body: u32,
+) -> Result<TypeDesc, NoMemory>
+    requires none_contains_itself { NoneContainsItself types.now }
+    requires there { of.0 < length types.now }
+    requires made { AreMade types.now made.now }
     ensures base { IfOk result (λ d. d.base ≡ base_number (base_of (row_of types.now of))) }
-    ensures kinds { IfOk result (λ d. d.kinds.items ≡ type_kinds types.now of) }
+    ensures kinds { IfOk result (λ d. d.kinds.items ≡ made_kinds types.now of) }
+    ensures methods { IfOk result (λ d. d.methods.items ≡ methods.now) }
     ensures start { IfOk result (λ d. d.body ≡ body) }
 {
-    let kinds = object_kinds(alloc, types, of)?;
+    let kinds = made_kinds(alloc, types, made, of)?;
+    let methods = copy_of(alloc, methods)?;
     Ok(TypeDesc {
         base: base_number(types, of),
         kinds,
+        methods,
         body,
     })
 }
@@ -132,20 +154,31 @@ fn put_type(types: &mut Vec<TypeDesc>, one: TypeDesc) -> Result<(), AllocError>
     Ok(())
 }
 
+// The number of the body beside a type, which is this one where there is one.
+fn body_number(object: &TObject, number: u32) -> u32
+    ensures { result ≡ (if object.now.has_body then number else 0) }
+{
+    if object.has_body { number } else { 0 }
+}
+
 // The types that a program names: their bodies are numbered on from those of its modules.
-fn types_of(alloc: Global, program: &Program) -> Result<Vec<TypeDesc>, NoMemory>
+fn types_of(alloc: Global, laid: &Laid<'_>, program: &Program) -> Result<Vec<TypeDesc>, NoMemory>
     requires few { length program.now.modules.items ≤ 64 }
     requires few_types { length program.now.objects.items ≤ 2 ^ 26 }
+    requires laid { laid.now ≡ program.now }
     requires typed { IsWellTyped (seen_program program.now) }
     ensures { IfOk result (λ types.
         AreTypesOf (seen_program program.now) (length program.now.objects.items) types.items) }
 {
+    let made = made_types(alloc, &program.types)?;
+    let first = program.modules.len() as u32 + 1;
     let mut types = Vec::new(alloc);
-    let mut body = program.modules.len() as u32;
-    let mut number = PREDECLARED_TYPES;
-    for _object in &program.objects {
-        body += 1;
-        let one = describe_type(alloc, &program.types, TypeId(number), body)?;
+    let mut number = 0;
+    for object in &program.objects {
+        let body = body_number(object, first + number);
+        let methods = laid.methods(number);
+        let of = TypeId(number + PREDECLARED_TYPES);
+        let one = describe_type(alloc, &program.types, &made, of, methods, body)?;
         put_type(&mut types, one)?;
         number += 1;
     }
@@ -171,7 +204,7 @@ impl Made {
     }
 }
 
-// The shape of a body in a module: its frame has no cells, and it gives nothing.
+// The shape of a module's body: its frame has no cells, and it gives nothing.
 fn body_shape(alloc: Global, home: u32, body: &[TStat]) -> Result<ProcShape, AllocError>
     ensures { IfOk result (λ s. (rows : List TypeRow) → seen_shape s ≡ shape_of rows (body_of home (seen_stats body.now))) }
 {
@@ -187,7 +220,7 @@ fn body_shape(alloc: Global, home: u32, body: &[TStat]) -> Result<ProcShape, All
     })
 }
 
-// One more body, which is no procedure's.
+// One more module's body.
 fn add_body(
     alloc: Global,
     laid: &Laid<'_>,
@@ -223,23 +256,7 @@ fn add_bodies(
     Ok(())
 }
 
-// The bodies of object types.
-fn add_objects(
-    alloc: Global,
-    laid: &Laid<'_>,
-    made: &mut Made,
-    objects: &[TObject],
-) -> Result<(), AllocError>
-    ensures { OnOk result (Adds (seen_program laid.now) (bodies_of_objects (map seen_object objects.now))
-        made.old.bodies.items made.old.shapes.items made.new.bodies.items made.new.shapes.items) }
-{
-    for object in objects {
-        add_body(alloc, laid, made, object.home, &object.body)?;
-    }
-    Ok(())
-}
-
-// One more procedure, of the module with this number.
+// One more procedure, a method or what objects carry out, of the module with this number.
 fn add_procedure(
     alloc: Global,
     laid: &Laid<'_>,
@@ -257,6 +274,23 @@ fn add_procedure(
     let scope = Scope::procedure(laid, procedure, &places, shape.cells);
     let code = emit_body(alloc, &scope, &procedure.body)?;
     made.put(shape, code)?;
+    Ok(())
+}
+
+// The bodies beside types.
+fn add_objects(
+    alloc: Global,
+    laid: &Laid<'_>,
+    made: &mut Made,
+    objects: &[TObject],
+) -> Result<(), NoMemory>
+    requires typed { All (λ o. IsProcedure (seen_program laid.now) o.body) (map seen_object objects.now) }
+    ensures { OnOk result (Adds (seen_program laid.now) (bodies_of_objects (map seen_object objects.now))
+        made.old.bodies.items made.old.shapes.items made.new.bodies.items made.new.shapes.items) }
+{
+    for object in objects {
+        add_procedure(alloc, laid, made, object.home, &object.body)?;
+    }
     Ok(())
 }
 
@@ -298,13 +332,48 @@ fn add_all(
     Ok(())
 }
 
+// The methods of a type that the module with this number defines.
+fn add_own(
+    alloc: Global,
+    laid: &Laid<'_>,
+    made: &mut Made,
+    home: u32,
+    methods: &[TMethod],
+) -> Result<(), NoMemory>
+    requires typed { All (λ m. IsProcedure (seen_program laid.now) m.procedure) (map seen_method methods.now) }
+    ensures { OnOk result (Adds (seen_program laid.now) (methods_of home (map seen_method methods.now))
+        made.old.bodies.items made.old.shapes.items made.new.bodies.items made.new.shapes.items) }
+{
+    for method in methods {
+        add_procedure(alloc, laid, made, home, &method.procedure)?;
+    }
+    Ok(())
+}
+
+// The methods of all types.
+fn add_methods(
+    alloc: Global,
+    laid: &Laid<'_>,
+    made: &mut Made,
+    objects: &[TObject],
+) -> Result<(), NoMemory>
+    requires typed { All (λ o. All (λ m. IsProcedure (seen_program laid.now) m.procedure) o.methods) (map seen_object objects.now) }
+    ensures { OnOk result (Adds (seen_program laid.now) (methods_from (map seen_object objects.now))
+        made.old.bodies.items made.old.shapes.items made.new.bodies.items made.new.shapes.items) }
+{
+    for object in objects {
+        add_own(alloc, laid, made, object.home, &object.methods)?;
+    }
+    Ok(())
+}
+
 // All that runs in a well-typed program.
 fn routines_of(alloc: Global, laid: &Laid<'_>, program: &Program) -> Result<Made, NoMemory>
     requires few { length program.now.modules.items ≤ 64 }
     requires laid { laid.now ≡ program.now }
     requires typed { IsWellTyped (seen_program program.now) }
     ensures { IfOk result (λ made.
-        AreMade (seen_program program.now) (routines (seen_program program.now)) made.bodies.items made.shapes.items) }
+        AreEmitted (seen_program program.now) (routines (seen_program program.now)) made.bodies.items made.shapes.items) }
 {
     let mut made = Made {
         shapes: Vec::new(alloc),
@@ -313,6 +382,7 @@ fn routines_of(alloc: Global, laid: &Laid<'_>, program: &Program) -> Result<Made
     add_bodies(alloc, laid, &mut made, &program.modules)?;
     add_objects(alloc, laid, &mut made, &program.objects)?;
     add_all(alloc, laid, &mut made, &program.modules)?;
+    add_methods(alloc, laid, &mut made, &program.objects)?;
     Ok(made)
 }
 
@@ -333,7 +403,7 @@ pub fn image_of(alloc: Global, program: &Program) -> Result<Image, NoMemory>
     image_shows_program();
     let laid = Laid::new(alloc, program)?;
     let modules = modules_of(alloc, &laid, program)?;
-    let types = types_of(alloc, program)?;
+    let types = types_of(alloc, &laid, program)?;
     let Made { shapes, bodies } = routines_of(alloc, &laid, program)?;
     Ok(Image {
         modules,

@@ -1,22 +1,23 @@
 // A program whose variables and string constants have their cells.
 
-ghost use Rattle.std.specs.Prelude.{◌≡◌, true, ◌≤◌, ◌<◌, ◌^◌, ◌+◌, suc, [], ◌∷◌, ◌++◌, length, map, take, slice_get, Some, None, option_map, IfOk, OnOk};
+ghost use Rattle.std.specs.Prelude.{◌≡◌, true, is_some, ◌≤◌, ◌<◌, ◌^◌, ◌+◌, suc, [], ◌∷◌, ◌++◌, length, map, take, slice_get, Some, None, option_map, IfOk, OnOk};
 ghost use Rattle.std.specs.Option.{unwrap_or};
-ghost use Rattle.aos_typed.specs.Seen.{seen_program, seen_module, seen_procedure};
+ghost use Rattle.aos_typed.specs.Seen.{seen_program, seen_module, seen_object, seen_procedure};
 ghost use Rattle.aos_typed.specs.WellTyped.{AreTypes, IsProcedure, IsWellTyped};
 ghost use Rattle.aos_layout.specs.Frame as frame;
 ghost use Rattle.aos_layout.specs.Seen.{seen_block, seen_frame};
-ghost use Rattle.aos_layout.specs.Part as parts;
 ghost use Rattle.aos_types.specs.Shape as shape;
 ghost use Rattle.aos_types.specs.Contents.{contents, variable_scalars};
+ghost use Rattle.aos_typed.specs.Methods.{method_number, own_numbers, slots};
 ghost use Rattle.aos_typed.specs.Numbers.{id_of, procedure_number};
 ghost use Rattle.aos_sim.specs.Code.{variable_cell, field_cell, cells_of};
-ghost use Rattle.aos_emit.specs.Laid.{AreBlocks, AreNarrow, firsts_from, there_in, cell_in, variables_in, module_kinds};
+ghost use Rattle.aos_emit.specs.Laid.{AreBlocks, AreNarrow, firsts_by, firsts_from, there_in, cell_in, variables_in, module_kinds};
 
+use crate::methods::{number_in, tables_of};
 use aos_base::{NoMemory, Width};
 use aos_code::Kind;
-use aos_layout::{BlockShape, FrameShape, block_shape, frame_shape, offset};
-use aos_typed::{Program, TModule, TProcedure, TType};
+use aos_layout::{BlockShape, FrameShape, block_shape, frame_shape, offset, width};
+use aos_typed::{Program, TModule, TObject, TProcedure, TType};
 use aos_types::{TypeId, TypeRow, Types};
 use std::alloc::{AllocError, Global};
 use std::marker::Model;
@@ -109,8 +110,8 @@ fn type_number(of: TType) -> u64
     }
 }
 
-// A type of the table, where it is there.
-fn type_in(types: &Types, of: TType) -> Option<TypeId>
+/// A type of the table, where it is there.
+pub fn type_in(types: &Types, of: TType) -> Option<TypeId>
     requires few { length types.now ≤ 2 ^ 32 }
     ensures { result ≡ there_in types.now of }
 {
@@ -134,34 +135,20 @@ fn variable_cells(types: &Types, of: TType) -> u32
     }
 }
 
-// Whether a record has a field of this number, its base's first: fields are counted from its own to those of the first base.
+// Whether a record or an object type has a field of this number, its base's first.
 fn has_field(types: &Types, t: TypeId, number: u32) -> bool
+    requires there { t.0 < length types.now }
     requires typed { AreTypes types.now }
-    ensures { result ≡ true → number < parts.width (contents types.now t) }
+    ensures { result ≡ true → is_some (shape.inside (number ∷ []) (contents types.now t)) ≡ true }
 {
-    let mut at = t;
-    let mut left = number as usize;
-    for _step in 0..types.len() {
-        if at.0 as usize >= types.len() {
-            return false;
-        }
-        let TypeRow::Record(base, fields) = types.row(at) else {
-            return false;
-        };
-        let own = fields.as_slice().len();
-        if left < own {
-            return true;
-        }
-        let Some(next) = base else {
-            return false;
-        };
-        left -= own;
-        at = *next;
+    match types.row(t) {
+        TypeRow::Record(_, _) => u128::from(number) < width(types, t),
+        TypeRow::Object(_, _) => u128::from(number) < width(types, t),
+        _ => false,
     }
-    false
 }
 
-// How many cells stand before a field in its record. One that a record doesn't have is in no well-typed program: there is no
+// How many cells stand before a field in its record or object. One that isn't there is in no well-typed program: there is no
 // memory for it.
 fn cells_before(types: &Types, of: TType, number: u32) -> Result<u32, AllocError>
     requires few { length types.now ≤ 2 ^ 32 }
@@ -169,9 +156,6 @@ fn cells_before(types: &Types, of: TType, number: u32) -> Result<u32, AllocError
     ensures { IfOk result (λ cells. cells ≡ shape.offset (number ∷ []) (contents types.now (id_of of))) }
 {
     let Some(t) = type_in(types, of) else {
-        return Err(AllocError);
-    };
-    let TypeRow::Record(_, _) = types.row(t) else {
         return Err(AllocError);
     };
     if has_field(types, t, number) {
@@ -189,9 +173,8 @@ fn first_number(modules: usize, objects: usize) -> u32
     (modules + objects + 1) as u32
 }
 
-// The number of the first procedure of each of these modules, where that of the first one is this. Procedures that have no number
-// are want of memory.
-#[tactic(auto, using(crate::proofs::Found::firsts_more))]
+// The number of the first procedure of each of these modules, where that of the first one is this, and the number behind all.
+// Procedures that have no number are want of memory.
 fn firsts_of(alloc: Global, modules: &[TModule], first: u32) -> Result<Vec<u32>, AllocError>
     ensures { IfOk result (λ firsts. firsts.items ≡ firsts_from first (map seen_module modules.now)) }
 {
@@ -202,11 +185,28 @@ fn firsts_of(alloc: Global, modules: &[TModule], first: u32) -> Result<Vec<u32>,
         let behind = after(next, module.procedures.len())?;
         next = behind;
     }
+    firsts.push(next)?;
     Ok(firsts)
 }
 
-// A number so many behind another one.
-fn after(number: u32, count: usize) -> Result<u32, AllocError>
+// The number of the first method of each of these types, where that of the first one is this, and the number behind all.
+fn method_firsts(alloc: Global, objects: &[TObject], first: u32) -> Result<Vec<u32>, AllocError>
+    ensures { IfOk result (λ firsts. firsts.items ≡
+        firsts_by (λ o. length o.methods) first (map seen_object objects.now)) }
+{
+    let mut firsts = Vec::new(alloc);
+    let mut next = first;
+    for object in objects {
+        firsts.push(next)?;
+        let behind = after(next, object.methods.len())?;
+        next = behind;
+    }
+    firsts.push(next)?;
+    Ok(firsts)
+}
+
+/// A number so many behind another one.
+pub fn after(number: u32, count: usize) -> Result<u32, AllocError>
     ensures { IfOk result (λ n. n ≡ number + count) }
 {
     let Ok(more) = u32::try_from(count) else {
@@ -232,12 +232,23 @@ fn number_at(firsts: &[u32], home: u32, number: u32) -> Result<u32, AllocError>
     }
 }
 
-/// A program, with the cells of its modules and the numbers of their procedures.
+// What a type has in its slots, by its number.
+fn table_in(tables: &[Vec<u32>], number: u32) -> &[u32]
+    ensures { result.now ≡ unwrap_or (option_map (λ v. v.items) (slice_get tables.now number)) [] }
+{
+    match tables.get(number as usize) {
+        Some(table) => table.as_slice(),
+        None => &[],
+    }
+}
+
+/// A program, with the cells of its modules, the numbers of their procedures, and the methods of its types by their slots.
 #[derive(Drop)]
 pub struct Laid<'a> {
     program: &'a Program,
     blocks: Vec<BlockShape>,
     firsts: Vec<u32>,
+    tables: Vec<Vec<u32>>,
 }
 
 impl<'a> Model for Laid<'a> {
@@ -253,7 +264,7 @@ impl<'a> Model for Laid<'a> {
 
     ghost view = { λ l. l.program.now };
 
-    ghost invariant = { λ l. IsLaid (seen_program l.program.now) l.blocks.items l.firsts.items };
+    ghost invariant = { λ l. IsLaid (seen_program l.program.now) l.blocks.items l.firsts.items l.tables.items };
 }
 
 impl<'a> Laid<'a> {
@@ -269,10 +280,14 @@ impl<'a> Laid<'a> {
         let blocks = blocks_of(alloc, program)?;
         let first = first_number(program.modules.len(), program.objects.len());
         let firsts = firsts_of(alloc, &program.modules, first)?;
+        let behind = number_at(&firsts, program.modules.len() as u32, 0)?;
+        let methods = method_firsts(alloc, &program.objects, behind)?;
+        let tables = tables_of(alloc, program, &methods)?;
         Ok(Laid {
             program,
             blocks,
             firsts,
+            tables,
         })
     }
 
@@ -303,6 +318,22 @@ impl<'a> Laid<'a> {
     {
         let all = number_at(&self.firsts, home, number)?;
         Ok(all)
+    }
+
+    /// The number of the method that a type has in a slot, by the type's number in the program.
+    pub fn method(&self, of: u32, slot: u32) -> Result<u32, AllocError>
+        ensures { IfOk result (λ n. n ≡ method_number (seen_program self.now) of slot) }
+    {
+        let number = number_in(&self.tables, of, slot)?;
+        Ok(number)
+    }
+
+    /// The methods of a type by their slots, as numbers of routines.
+    pub fn methods(&self, of: u32) -> &[u32]
+        requires { of < length self.now.objects.items }
+        ensures { result.now ≡ slots (seen_program self.now) (own_numbers (seen_program self.now)) of }
+    {
+        table_in(&self.tables, of)
     }
 
     /// The frame of a procedure with this number, in the module with that number, whose body keeps so many values.

@@ -77,7 +77,7 @@ fn stat_level(statement: &TStat, around: u32) -> Result<u32, AllocError>
         TStat::Assert(_, _, _) => Ok(around),
         TStat::Halt(_, _) => Ok(around),
         TStat::Change(_, _, _, _) => Ok(around),
-        TStat::Perform(_, _, _, _) => Ok(around),
+        TStat::Perform(_, _, _) => Ok(around),
         TStat::Return(_, _) => Ok(around),
         TStat::New(_, _, _) => Ok(around),
         TStat::Make(_, _, _, _) => Ok(around),

@@ -5,6 +5,7 @@ mod emit;
 mod image;
 mod laid;
 mod level;
+mod methods;
 mod need;
 mod objects;
 mod scope;

@@ -1,12 +1,14 @@
 // How many operands code has at most.
 
 ghost use Rattle.std.specs.Prelude.{◌≡◌, ◌+◌, map, max, IfOk};
-ghost use Rattle.aos_typed.specs.Seen.{seen_place, seen_rows, seen_argument, seen_list, seen_expr, seen_call, seen_stat, seen_stats, seen_else, arms_of, cases_of};
+ghost use Rattle.aos_typed.specs.Seen.{seen_place, seen_rows, seen_argument, seen_list, seen_callee, seen_expr, seen_call, seen_stat, seen_stats, seen_else, arms_of, cases_of};
 ghost use Rattle.aos_typed.specs.Program.{Arguments};
 ghost use Rattle.aos_sim.specs.Need as need_of;
 
 use crate::emit::{dimensions, number_of};
-use aos_typed::{Change, OutCall, TArgument, TArm, TCase, TElse, TExpr, TPlace, TRows, TStat};
+use aos_typed::{
+    Change, OutCall, TArgument, TArm, TCallee, TCase, TElse, TExpr, TPlace, TRows, TStat,
+};
 use std::alloc::AllocError;
 
 // So many operands above so many others. As many as 2^32 are want of memory.
@@ -117,6 +119,39 @@ fn arguments_need(arguments: &[TArgument]) -> Result<u32, AllocError>
     Ok(need)
 }
 
+// How many operands what something is called on takes.
+fn receivers(callee: &TCallee) -> u32
+    ensures { result ≡ need_of.receivers (seen_callee callee.now) }
+{
+    match callee {
+        TCallee::Plain(_, _) => 0,
+        TCallee::Dispatched(_, _, _) => 1,
+        TCallee::Upper(_, _) => 1,
+    }
+}
+
+#[cycle(value_need)]
+fn receiver_need(callee: &TCallee) -> Result<u32, AllocError>
+    ensures { IfOk result (λ n. n ≡ need_of.receiver_need (seen_callee callee.now)) }
+{
+    match callee {
+        TCallee::Plain(_, _) => Ok(0),
+        TCallee::Dispatched(object, _, _) => value_need(object),
+        TCallee::Upper(_, _) => Ok(1),
+    }
+}
+
+// A call: what something is called on lies below what is handed over.
+#[cycle(value_need)]
+fn call_need(callee: &TCallee, arguments: &[TArgument]) -> Result<u32, AllocError>
+    ensures { IfOk result (λ n. n ≡ max
+        (need_of.receiver_need (seen_callee callee.now))
+        (need_of.receivers (seen_callee callee.now) + need_of.arguments_need (seen_list arguments.now))) }
+{
+    let handed = above(receivers(callee), arguments_need(arguments)?)?;
+    Ok(handed.max(receiver_need(callee)?))
+}
+
 // A long sum has as many left operands, one in another: the loop over them takes no stack.
 #[cycle(value_need)]
 fn value_need(value: &TExpr) -> Result<u32, AllocError>
@@ -127,12 +162,13 @@ fn value_need(value: &TExpr) -> Result<u32, AllocError>
     loop {
         match rest {
             TExpr::Lit(_) => return Ok(need.max(1)),
+            TExpr::SelfRef => return Ok(need.max(1)),
             TExpr::Read(_, place) => return Ok(need.max(place_need(place)?)),
             TExpr::Len(rows, _) => return Ok(need.max(rows_need(rows)?)),
             TExpr::LenBehind(rows, _) => return Ok(need.max(rows_need(rows)?)),
             TExpr::CompareTexts(_, left, right) => return Ok(need.max(texts_need(left, right)?)),
-            TExpr::Function(_, _, arguments) => {
-                return Ok(need.max(1).max(arguments_need(arguments)?));
+            TExpr::Function(callee, arguments) => {
+                return Ok(need.max(1).max(call_need(callee, arguments)?));
             }
             TExpr::Unary(_, operand) => rest = operand,
             TExpr::Binary(_, left, right) => {
@@ -313,7 +349,7 @@ fn stat_need(statement: &TStat) -> Result<u32, AllocError>
         TStat::Assert(_, condition, _) => value_need(condition),
         TStat::Halt(_, _) => Ok(0),
         TStat::Change(_, change, place, value) => changed_need(*change, place, value),
-        TStat::Perform(_, _, _, arguments) => arguments_need(arguments),
+        TStat::Perform(_, callee, arguments) => call_need(callee, arguments),
         TStat::Return(_, None) => Ok(0),
         TStat::Return(_, Some(value)) => value_need(value),
         TStat::New(_, place, _) => above(2, place_need(place)?),

@@ -2,6 +2,7 @@
 
 ghost use Rattle.std.specs.Prelude.{◌≡◌, None, Some, slice_get, IfOk};
 ghost use Rattle.std.specs.Option.{unwrap_or};
+ghost use Rattle.aos_typed.specs.Methods.{method_number};
 ghost use Rattle.aos_typed.specs.Numbers.{procedure_number};
 ghost use Rattle.aos_typed.specs.Routines.{gives};
 ghost use Rattle.aos_typed.specs.Seen.{seen_program, seen_procedure};
@@ -103,6 +104,13 @@ impl<'a> Scope<'a> {
         ensures { IfOk result (λ n. n ≡ procedure_number (program_of self.now) home number) }
     {
         self.program.called(home, number)
+    }
+
+    /// The number of the method that a type has in a slot, by the type's number in the program.
+    pub fn method(&self, of: u32, slot: u32) -> Result<u32, AllocError>
+        ensures { IfOk result (λ n. n ≡ method_number (program_of self.now) of slot) }
+    {
+        self.program.method(of, slot)
     }
 
     /// Whether the routine is a function.

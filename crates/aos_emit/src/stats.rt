@@ -4,7 +4,7 @@
 ghost use Rattle.std.specs.Prelude.{◌≡◌, ◌+◌, ◌≤◌, [], ◌∷◌, ◌++◌, length, option_map, OnOk, IfOk};
 ghost use Rattle.aos_typed.specs.Meaning as meaning;
 ghost use Rattle.aos_typed.specs.Program.{Read, Copy, PutText, Perform, Return, If, Case, While, Repeat, Loop, Block, With, WithRecord, Assert};
-ghost use Rattle.aos_typed.specs.Seen.{seen_place, seen_rows, seen_list, seen_expr, seen_call, seen_stat, seen_stats, seen_else, arms_of, cases_of};
+ghost use Rattle.aos_typed.specs.Seen.{seen_place, seen_rows, seen_list, seen_callee, seen_expr, seen_call, seen_stat, seen_stats, seen_else, arms_of, cases_of};
 ghost use Rattle.aos_emit.specs.Redirect.{pending_exit, pending_end, redirect_behind, redirect as redirection};
 ghost use Rattle.aos_emit.specs.Scope.{program_of, own_of};
 ghost use Rattle.aos_emit.specs.Places.{places_from};
@@ -13,8 +13,8 @@ ghost use Rattle.aos_sim.specs.Search.{arms_in, search_of, search_size, search_c
 ghost use Rattle.aos_sim.specs.Code.{begin, value_code, out_code, assign_code, change_code, changed_code, for_head, step_code, rounds_code, arm_code, stat_code, stats_code, arms_code, cases_code, arm_place, end_code, body_code};
 
 use crate::emit::{
-    PENDING_END, cell_kind, emit_arguments, emit_begin, emit_place, emit_rows, emit_value,
-    next_place, number_of, put,
+    PENDING_END, cell_kind, emit_begin, emit_call, emit_place, emit_rows, emit_value, next_place,
+    number_of, put,
 };
 use crate::level::deeper;
 use crate::need::stats_need;
@@ -24,7 +24,7 @@ use crate::search::{put_search, rows_of, set_places};
 use aos_base::{Binary, Pos, Relation, Width};
 use aos_code::{Body, Instr, Kind};
 use aos_typed::{
-    Change, OutCall, TArgument, TArm, TCase, TElse, TExpr, TPlace, TRows, TStat, TType,
+    Change, OutCall, TArgument, TArm, TCallee, TCase, TElse, TExpr, TPlace, TRows, TStat, TType,
 };
 use std::alloc::{AllocError, Global};
 
@@ -156,17 +156,15 @@ fn emit_perform(
     scope: &Scope<'_>,
     code: &mut Vec<Instr>,
     at: Pos,
-    home: u32,
-    number: u32,
+    callee: &TCallee,
     arguments: &[TArgument],
 ) -> Result<(), AllocError>
     ensures { OnOk result (code.new.items ≡ code.old.items ++
-        stat_code (program_of scope.now) (own_of scope.now) (Perform at home number (seen_list arguments.now))
+        stat_code (program_of scope.now) (own_of scope.now) (Perform at (seen_callee callee.now) (seen_list arguments.now))
         (length code.old.items) 0 0) }
 {
     emit_begin(code, at)?;
-    emit_arguments(alloc, scope, code, arguments)?;
-    put(code, Instr::Call(scope.called(home, number)?))
+    emit_call(alloc, scope, code, callee, arguments)
 }
 
 fn emit_return(
@@ -724,8 +722,8 @@ fn emit_stat(
         TStat::Change(at, change, place, value) => {
             emit_change(alloc, scope, code, *at, *change, place, value)
         }
-        TStat::Perform(at, home, number, arguments) => {
-            emit_perform(alloc, scope, code, *at, *home, *number, arguments)
+        TStat::Perform(at, callee, arguments) => {
+            emit_perform(alloc, scope, code, *at, callee, arguments)
         }
         TStat::Return(at, value) => emit_return(alloc, scope, code, *at, value),
         TStat::New(at, place, object) => emit_new(alloc, scope, code, *at, place, *object),

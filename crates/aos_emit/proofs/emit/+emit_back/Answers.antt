@@ -1,19 +1,18 @@
 use Rattle.std.proofs.Common.{◌≡◌, ◌<◌, ◌≤◌, ◌+◌, ◌-◌, ◌++◌, [], ◌∷◌, length, sym, ap, ◌∙◌, arith, rules}
 use Rattle.std.proofs.lemmas.Result.{on_ok_weaker}
-use Rattle.aos_typed.specs.Numbers.{procedure_number}
-use Rattle.aos_typed.specs.Seen.{seen_list, seen_expr}
+use Rattle.aos_typed.specs.Seen.{seen_list, seen_callee, seen_expr}
 use Rattle.aos_typed.proofs.Seen.{function_seen}
-use Rattle.aos_code.specs.declared.instr.Instr.TheVariants.{Call}
+use Rattle.aos_sim.specs.Code.{call_instr}
 use Rattle.aos_emit.specs.Scope.{program_of, own_of}
-use Rattle.aos_emit.specs.Back.{back_arguments, back_code}
-use Rattle.aos_emit.proofs.Parts.{arguments_within}
+use Rattle.aos_emit.specs.Back.{back_arguments, back_receiver, back_code}
+use Rattle.aos_emit.proofs.Parts.{call_within}
 use Rattle.aos_emit.proofs.Turned.{argument_more}
 use Rattle.aos_emit.proofs.emit.+emit_back.Goals as goal
 
-pub emit_back-emit_function_back-requires : goal.emit_back-emit_function_back-requires
-emit_back-emit_function_back-requires t c =
+pub emit_back-emit_call_back-requires : goal.emit_back-emit_call_back-requires
+emit_back-emit_call_back-requires t c =
     let x = c.in-Function in
-    let less = arguments_within _ _ _ _ _ (ap seen_expr x.is ∙ function_seen x.home x.number x.arguments) c.deref.ensures.value in
+    let less = call_within _ _ _ _ (ap seen_expr x.is ∙ function_seen x.callee x.arguments) c.deref.ensures.value in
     search (rules, less)
 
 pub emit_back-returns-in-Function : goal.emit_back-returns-in-Function
@@ -22,10 +21,11 @@ emit_back-returns-in-Function t c =
     let p = program_of c.args.scope.now in
     let own = own_of c.args.scope.now in
     let code = c.loop-rest.code.items in
-    on_ok_weaker c.emit_function_back.result (λ e. e
-    ∙ ap (λ l. back_arguments p own (seen_list l) (code ++ Call (procedure_number p x.home x.number) ∷ [])) c.deref.ensures.value
-    ∙ sym (ap (λ v. back_code p own v code) (ap seen_expr x.is ∙ function_seen x.home x.number x.arguments))
-    ∙ c.loop-rest.invariant.0) c.emit_function_back.ensures
+    let callee = seen_callee x.callee in
+    on_ok_weaker c.emit_call_back.result (λ e. e
+    ∙ ap (λ l. back_receiver p own callee (back_arguments p own (seen_list l) (code ++ call_instr p callee ∷ []))) c.deref.ensures.value
+    ∙ sym (ap (λ v. back_code p own v code) (ap seen_expr x.is ∙ function_seen x.callee x.arguments))
+    ∙ c.loop-rest.invariant.0) c.emit_call_back.ensures
 
 pub emit_arguments_back-loop-left-preserved : goal.emit_arguments_back-loop-left-preserved
 emit_arguments_back-loop-left-preserved t c =

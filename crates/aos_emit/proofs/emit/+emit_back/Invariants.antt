@@ -1,9 +1,9 @@
 use Rattle.std.proofs.Common.{◌≡◌, ◌≤◌, ◌*◌, ◌+◌, drop, length}
 use Rattle.aos_typed.specs.Program.{NoMore}
-use Rattle.aos_typed.specs.Seen.{seen_place, seen_rows, seen_argument, seen_list, seen_expr}
+use Rattle.aos_typed.specs.Seen.{seen_place, seen_rows, seen_argument, seen_list, seen_callee, seen_expr}
 use Rattle.aos_emit.specs.Scope.{program_of, own_of}
 use Rattle.aos_emit.specs.Back.{back_place, back_rows, back_arguments, back_code}
-use Rattle.aos_emit.proofs.Parts.{place_size, rows_size, arguments_size, value_size}
+use Rattle.aos_emit.proofs.Parts.{place_size, rows_size, arguments_size, callee_size, value_size}
 use Rattle.aos_emit.proofs.emit.+emit_back.Given as goal
 
 -- the code of what is left behind the code so far is that of all, and what is left is no more
@@ -54,8 +54,11 @@ decreases-emit_argument_back l = 8 * arguments_size (seen_argument l.argument.no
 abbrev pub decreases-emit_arguments_back : goal.decreases-emit_arguments_back
 decreases-emit_arguments_back l = 8 * arguments_size (seen_list l.arguments.now) + 2
 
-abbrev pub decreases-emit_function_back : goal.decreases-emit_function_back
-decreases-emit_function_back l = 8 * arguments_size (seen_list l.arguments.now) + 3
+abbrev pub decreases-emit_receiver_back : goal.decreases-emit_receiver_back
+decreases-emit_receiver_back l = 8 * callee_size (seen_callee l.callee.now) + 1
+
+abbrev pub decreases-emit_call_back : goal.decreases-emit_call_back
+decreases-emit_call_back l = 8 * (callee_size (seen_callee l.callee.now) + arguments_size (seen_list l.arguments.now)) + 3
 
 abbrev pub decreases-emit_and_back : goal.decreases-emit_and_back
 decreases-emit_and_back l = 8 * value_size (seen_expr l.second.now) + 1

@@ -2,7 +2,8 @@ use Rattle.std.proofs.Common.{◌<◌, length, arith}
 use Rattle.aos_typed.specs.Seen.{seen_program, seen_procedure}
 use Rattle.aos_typed.specs.WellTyped.{IsProcedure}
 use Rattle.aos_layout.proofs.Frames.{there_at}
-use Rattle.aos_emit.proofs.Codes.{procedure_more}
+use Rattle.aos_typed.specs.Routines.{routine_of}
+use Rattle.aos_emit.proofs.Codes.{one_more}
 use Rattle.aos_emit.proofs.image.add_procedures.Goals as goal
 
 pub add_procedure-requires : goal.add_procedure-requires
@@ -11,10 +12,8 @@ add_procedure-requires c =
 
 pub loop-procedure-preserved : goal.loop-procedure-preserved
 loop-procedure-preserved c =
-    let p = seen_program c.args.laid.now in
     let xs = c.args.procedures.now in
     let k = c.loop-procedure.procedure-index in
     let x = c.procedure-item.result in
     let lt : k < length xs = omega arith in
-    let one = c.in_ok-add_procedure.ensures in
-    procedure_more p _ _ _ _ _ _ c.args.home xs k x lt c.procedure-item.is c.loop-procedure.invariant one
+    one_more (seen_program c.args.laid.now) _ _ _ _ _ _ seen_procedure (routine_of c.args.home) xs k x lt c.procedure-item.is c.loop-procedure.invariant c.in_ok-add_procedure.ensures

@@ -17,6 +17,7 @@ returns-clause-code c =
       shapes = made.shapes;
       starts = modules.starts;
       types = bodies_are p ts types;
+      methods = types.methods;
       bases = bases_are p ts types c.requires.typed.beside;
       kinds = types.kinds;
       cells = modules.cells;

@@ -1,13 +1,24 @@
-use Rattle.std.proofs.Common.{◌<◌, Some, length, ap, ◌∙◌, arith}
-use Rattle.aos_emit.proofs.Fields.{own_there, base_counted}
+use Rattle.std.proofs.Common.{◌<◌, Some, ap, ◌∙◌, arith}
+use Rattle.std.proofs.lemmas.Bool.{ltb-true}
+use Rattle.aos_types.specs.Contents.{contents}
+use Rattle.aos_layout.specs.Part.{width}
+use Rattle.aos_emit.proofs.Fields.{record_field, object_field}
 use Rattle.aos_emit.proofs.laid.has_field.Goals as goal
 
-pub returns-then-left-own : goal.returns-then-left-own
-returns-then-left-own c =
-    let fields = c.in-Record.fields in
-    let lt : c.loop-step.left < length fields = omega (arith, ap length c.as_slice-own.ensures, c.if-left-own.true) in
-    λ e. own_there c.args.types.now c.requires.typed.none_contains_itself c.args.t c.loop-step.at c.args.number c.loop-step.left c.loop-step.invariant c.in-Record.base fields (c.row.ensures ∙ ap (λ r. Some r) c.in-Record.is) lt
+pub returns-in-Record : goal.returns-in-Record
+returns-in-Record c =
+    let rows = c.args.types.now in
+    let x = c.in-Record in
+    λ e.
+    let below = ltb-true c.from.result c.width.result e in
+    let lt : c.args.number < width (contents rows c.args.t) = omega (arith, below, c.from.ensures, c.width.ensures) in
+    record_field rows c.requires.typed.none_contains_itself c.args.t c.args.number lt x.field-0 x.field-1 (c.row.ensures ∙ ap (λ r. Some r) x.is)
 
-pub loop-step-preserved : goal.loop-step-preserved
-loop-step-preserved c =
-    base_counted c.args.types.now c.requires.typed.none_contains_itself c.args.t c.loop-step.at c.args.number c.loop-step.left c.loop-step.invariant c.in-Record.base c.in-Record.fields (c.row.ensures ∙ ap (λ r. Some r) c.in-Record.is) c.in-Some.next (length c.as_slice-own.result.now) c.in-Some.is (ap length c.as_slice-own.ensures) (omega (arith, c.if-left-own.false))
+pub returns-in-Object : goal.returns-in-Object
+returns-in-Object c =
+    let rows = c.args.types.now in
+    let x = c.in-Object in
+    λ e.
+    let below = ltb-true c.from-in-Object.result c.width-in-Object.result e in
+    let lt : c.args.number < width (contents rows c.args.t) = omega (arith, below, c.from-in-Object.ensures, c.width-in-Object.ensures) in
+    object_field rows c.requires.typed.none_contains_itself c.args.t c.args.number lt x.field-0 x.field-1 (c.row.ensures ∙ ap (λ r. Some r) x.is)

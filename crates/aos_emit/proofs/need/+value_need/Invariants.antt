@@ -1,8 +1,8 @@
 use Rattle.std.proofs.Common.{◌≡◌, ◌≤◌, ◌+◌, ◌*◌, drop, length, max}
 use Rattle.aos_typed.specs.Program.{NoMore}
-use Rattle.aos_typed.specs.Seen.{seen_place, seen_rows, seen_argument, seen_list, seen_expr}
+use Rattle.aos_typed.specs.Seen.{seen_place, seen_rows, seen_argument, seen_list, seen_callee, seen_expr}
 use Rattle.aos_sim.specs.Need.{place_need, rows_need, arguments_need, value_need}
-use Rattle.aos_emit.proofs.Parts.{place_size, rows_size, arguments_size, value_size}
+use Rattle.aos_emit.proofs.Parts.{place_size, rows_size, arguments_size, callee_size, value_size}
 use Rattle.aos_emit.proofs.need.+value_need.Given as goal
 
 -- the need so far and that of what is left is that of all, and what is left is no more
@@ -40,6 +40,12 @@ decreases-argument_need l = 8 * arguments_size (seen_argument l.argument.now NoM
 
 abbrev pub decreases-arguments_need : goal.decreases-arguments_need
 decreases-arguments_need l = 8 * arguments_size (seen_list l.arguments.now) + 2
+
+abbrev pub decreases-receiver_need : goal.decreases-receiver_need
+decreases-receiver_need l = 8 * callee_size (seen_callee l.callee.now) + 1
+
+abbrev pub decreases-call_need : goal.decreases-call_need
+decreases-call_need l = 8 * (callee_size (seen_callee l.callee.now) + arguments_size (seen_list l.arguments.now)) + 3
 
 abbrev pub decreases-value_need : goal.decreases-value_need
 decreases-value_need l = 8 * value_size (seen_expr l.value.now)
