@@ -19,7 +19,7 @@ use Rattle.aos_typed.specs.declared.tree.TType.{TType}
 use Rattle.aos_typed.specs.declared.tree.TType.TheVariants as type
 use Rattle.aos_typed.specs.Numbers.{id_of}
 use Rattle.aos_typed.specs.Open.{open_dimensions, open_element}
-use Rattle.aos_typed.specs.Program.{Place, Rows, Known as KnownRows, Longer, Arguments, Expr as TypedExpr, Read, Parameter, Passed, Deref, Typed, Guarded, Function as Invoked, Procedure}
+use Rattle.aos_typed.specs.Program.{Place, Rows, Known as KnownRows, Longer, Arguments, Expr as TypedExpr, Read, Parameter, Passed, Deref, Typed, Guarded, Plain, Function as Invoked, Procedure}
 use Rattle.aos_typed.specs.WellTyped.{HaveLengths, IsArrayOf, IsByValue, IsOpening, is_whole, is_basic as is_basic_type, FitsObject, IsGiven, NamesType, procedure_in, is_reference as is_reference_type, is_value as is_value_type}
 use Rattle.aos_symbols.specs.declared.home.Parameter.{Parameter as Formal}
 use Rattle.aos_symbols.specs.declared.home.Gives.{Gives}
@@ -641,7 +641,7 @@ module _ (p : Inside) (e : Env) where
       (calls.arguments_for e first s.parameters js xs) (calls.function_told e first m k of) (arguments_part first s.parameters js parts xs same) told
     where
       given : IsWhole p e → (m k : ℕ) (gs : List Given) (q : Procedure) → procedure_in p.program m k ≡ Some q → (t : TypeId) → q.result ≡ Some (type_as t) → (t ≡ nil → ⊥) →
-          AreArguments p (listed gs) q.parameters → (b : Bool) → is_basic t ≡ b → (b || is_reference e t) ≡ true → IsScalar p t (Invoked m k (listed gs)) ⊎ IsOther p t (Invoked m k (listed gs))
+          AreArguments p (listed gs) q.parameters → (b : Bool) → is_basic t ≡ b → (b || is_reference e t) ≡ true → IsScalar p t (Invoked (Plain m k) (listed gs)) ⊎ IsOther p t (Invoked (Plain m k) (listed gs))
       given whole m k gs q there t result not_nil are true low is =
           inl (low, (q, type_as t, there, result, ap (λ b. b || is_reference_type p.program.types (type_as t)) (as_basic t low), inl (includes_itself (type_as t) (as_basic t low)), are))
       given whole m k gs q there t result not_nil are false high ref =

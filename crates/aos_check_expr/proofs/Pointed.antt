@@ -1,5 +1,5 @@
 -- What pointers lead to, and what is guarded, in an environment of bodies.
-use Rattle.std.proofs.Common.{◌≡◌, ℕ, zero, suc, ◌-◌, ◌≤◌, ◌<◌, ◌==◌, List, length, Bool, true, false, ◌&&◌, ◌||◌, ◌⊎◌, inl, inr, not, nat_lt, Option, Some, None, slice_get, if◌then◌else◌, refl, sym, ap, ◌∙◌, subst, eqb-true, eq-eqb, ltb-true, ltb-false, le-ltb, arith}
+use Rattle.std.proofs.Common.{◌≡◌, ℕ, zero, suc, ◌≤◌, ◌<◌, ◌==◌, List, length, Bool, true, false, ◌&&◌, ◌||◌, ◌⊎◌, inl, inr, not, nat_lt, Option, Some, None, slice_get, if◌then◌else◌, refl, sym, ap, ◌∙◌, subst, eqb-true, eq-eqb, ltb-true, ltb-false, le-ltb, arith}
 use Rattle.std.proofs.lemmas.Option.{none-some, same_Some, slice_get_within}
 use Rattle.std.proofs.lemmas.Bool.{and_parts}
 use Rattle.aos_types.specs.declared.row.Basic.{Basic}

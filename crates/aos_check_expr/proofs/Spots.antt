@@ -11,7 +11,6 @@ use Rattle.aos_types.specs.declared.row.TypeId.{TypeId}
 use Rattle.aos_types.specs.declared.row.TypeRow.{TypeRow}
 use Rattle.aos_types.specs.declared.row.TypeRow.TheVariants as row
 use Rattle.aos_types.specs.Table.{row_of, is_open, is_record}
-use Rattle.aos_types.specs.Sameness.{element_of}
 use Rattle.aos_typed.specs.declared.tree.Literal.{Literal}
 use Rattle.aos_typed.specs.declared.tree.Literal.TheVariants as literal
 use Rattle.aos_typed.specs.Numbers.{id_of}
@@ -49,7 +48,7 @@ use Rattle.aos_check_expr.specs.declared.designators.Head.{Head}
 use Rattle.aos_check_expr.specs.Known.{Answer, Spot, Held, Stands, Value, is_basic, is_number, is_lost, object_number, value_class, type_as, type_of, read_from, known_as, spot_of, answered, constant_answer, nothing}
 use Rattle.aos_check_expr.specs.Designators as desig
 use Rattle.aos_check_expr.proofs.Types.{includes_itself, as_basic, id_as}
-pub use Rattle.aos_check_expr.proofs.Whole.{IsTyped, closed, opened, GoodConstants, IsParameterType, AreParameters, IsResultOf, IsSigned, IsSearched, AreOpensTold, parameter_type, opens_told, told_element, IsWhole, NarrowsWell, text_row, no_array, array_open, no_open, opened_row, told_closed, row_opened, elements_told, elements_id}
+pub use Rattle.aos_check_expr.proofs.Whole.{IsTyped, closed, opened, GoodConstants, IsParameterType, AreParameters, IsResultOf, IsSigned, IsSearched, AreOpensTold, parameter_type, opens_told, told_element, HasBody, IsWhole, NarrowsWell, text_row, no_array, array_open, no_open, opened_row, told_closed, row_opened, elements_told, elements_id}
 use Rattle.aos_check_expr.proofs.Objects.{sound_object, parts_no_reference, record_no_reference, IsPartsRow}
 use Rattle.aos_check_expr.proofs.Pointed.{pointed_kind, followed_typed, guard_object, guard_record}
 use Rattle.aos_check_expr.proofs.Opens.{closed_dimensions, closed_element, next_dimensions, next_element}
@@ -535,7 +534,9 @@ module _ (p : Inside) (e : Env) where
       let there : field_type p.program.types (id_of (type_as t)) f.number ≡ Some (id_of (type_as u)) =
       ap (λ i. field_type p.program.types i f.number) (id_as e.types t known) ∙ ap (λ rows. field_type rows t f.number) whole.rows
       ∙ g.2 ∙ ap (λ i. Some i) (sym (id_as e.types u g.3)) in
-      subst (λ o. IsTyped p e (FieldOf place (type_as t) f.number) o) (sym g.1) (closed (typed, there) g.3)
+      let of_record : is_record (row_of p.program.types (id_of (type_as t))) ≡ true =
+      ap (λ i. is_record (row_of p.program.types i)) (id_as e.types t known) ∙ ap (λ rows. is_record (row_of rows t)) whole.rows ∙ r in
+      subst (λ o. IsTyped p e (FieldOf place (type_as t) f.number) o) (sym g.1) (closed (inl (typed, of_record), there) g.3)
   field_typed whole t n f is r place (opened u q same at opening rows lengths) =
       absurd (no_open_record (row_of e.types t) r (ap (λ v. is_open (row_of e.types v)) (same_Some t u same) ∙ ap is_open (opened_row e u opening).2))
     where

@@ -17,7 +17,7 @@ use Rattle.aos_typed.specs.declared.tree.Literal.TheVariants as literal
 use Rattle.aos_typed.specs.declared.tree.TType.{TType}
 use Rattle.aos_typed.specs.declared.tree.TType.TheVariants as type
 use Rattle.aos_typed.specs.Numbers.{id_of}
-use Rattle.aos_typed.specs.Program.{Expr, Lit, Read, Unary, Binary, And, Or, Element, Ord, Chr, CompareTexts, Len, LenBehind, Function, Same, Is, IsRecord, Guard, Had}
+use Rattle.aos_typed.specs.Program.{Expr, Lit, Read, Unary, Binary, And, Or, Element, Ord, Chr, CompareTexts, Len, LenBehind, SelfRef, Function, Same, Is, IsRecord, Guard, Had}
 use Rattle.aos_typed.specs.WellTyped.{bits, Includes, Fits, FitsObject, IsLiteral, HasRange, Gives, GivesOfTwo, target, is_any, is_reference, is_basic as is_basic_type}
 use Rattle.aos_symbols.specs.Env.{shortint, integer, longint, hugeint, boolean, char, set, nil, any}
 use Rattle.aos_symbols.proofs.Told.{IsTold, basic, of_any, defined}
@@ -272,7 +272,8 @@ basic_wider p (Chr a) t u b h i = (h.0, char_wider t u i h.1)
 basic_wider p (CompareTexts r x y) t u b h i = (h.0, h.1, boolean_wider t u i h.2)
 basic_wider p (Len r d) t u b h i = (h.0, h.1, h.2, h.3, h.4, includes_on u t (type.Integer W32) i h.5)
 basic_wider p (LenBehind r n) t u b h i = (h.0, h.1, h.2, h.3, includes_on u t (type.Integer W32) i h.4)
-basic_wider p (Function m k more) t u b h i = (h.0, h.1, h.2, h.3, h.4, fits_wider p t u h.1 b i h.5, h.6)
+basic_wider p SelfRef t u b h i = (h.0, h.1, h.2, fits_wider p t u (type.Named h.0) b i h.3)
+basic_wider p (Function c more) t u b h i = (h.0, h.1, h.2, h.3, h.4, fits_wider p t u h.1 b i h.5, h.6)
 basic_wider p (Same x y) t u b h i = (h.0, h.1, boolean_wider t u i h.2)
 basic_wider p (Is a k) t u b h i = (h.0, h.1, boolean_wider t u i h.2)
 basic_wider p (IsRecord place k) t u b h i = (h.0, h.1, h.2, h.3, boolean_wider t u i h.4)

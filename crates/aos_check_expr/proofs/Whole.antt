@@ -1,5 +1,5 @@
 -- Environments of bodies, in which each variable has its type: what is known of its table of types.
-use Rattle.std.proofs.Common.{◌≡◌, ℕ, ◌+◌, ◌≤◌, ◌<◌, List, [], ◌∷◌, length, Bool, true, false, ◌&&◌, ◌⊎◌, inl, inr, not, Option, Some, None, is_some, slice_get, refl, sym, ap, ◌∙◌, le-ltb, arith}
+use Rattle.std.proofs.Common.{◌≡◌, ℕ, ◌+◌, ◌≤◌, ◌<◌, List, [], ◌∷◌, length, Bool, true, false, ◌&&◌, ◌⊎◌, inl, inr, not, Option, Some, None, is_some, option_map, slice_get, refl, sym, ap, ◌∙◌, le-ltb, arith}
 use Rattle.std.proofs.lemmas.Option.{none-some, same_Some, slice_get_within}
 use Rattle.std.proofs.lemmas.Bool.{and_parts}
 use Rattle.aos_base.specs.declared.text.Pos.{Pos}
@@ -8,12 +8,14 @@ use Rattle.aos_types.specs.declared.row.Basic.TheVariants as basic
 use Rattle.aos_types.specs.declared.row.TypeId.{TypeId}
 use Rattle.aos_types.specs.declared.row.TypeRow.{TypeRow}
 use Rattle.aos_types.specs.declared.row.TypeRow.TheVariants as row
-use Rattle.aos_types.specs.Table.{row_of, is_open, is_record}
+use Rattle.aos_types.specs.Table.{row_of, is_open, is_record, is_object}
 use Rattle.aos_types.specs.Sameness.{element_of}
 use Rattle.aos_typed.specs.Numbers.{id_of}
 use Rattle.aos_typed.specs.Open.{open_dimensions, open_element}
 use Rattle.aos_typed.specs.declared.tree.TType.{TType}
-use Rattle.aos_typed.specs.Program.{Place, ModuleVar, Of, Rows, Parameter, Procedure, Module}
+use Rattle.aos_typed.specs.declared.tree.TType.TheVariants.{Named}
+use Rattle.aos_typed.specs.Program.{Place, ModuleVar, Of, Rows, Parameter, Procedure, ObjectType, Module, Program}
+use Rattle.aos_typed.specs.Routines.{result_of}
 use Rattle.aos_typed.specs.WellTyped.{HaveLengths, field_type, procedure_in}
 use Rattle.aos_symbols.specs.declared.home.Parameter.{Parameter as Formal}
 use Rattle.aos_symbols.specs.declared.home.Gives.{Gives}
@@ -130,9 +132,13 @@ NarrowsWell e x k a (v ∷ vs) =
     (desig.is_narrowed x k v ≡ true → desig.may_test e (desig.is_passed (desig.place_of a.held)) a.known.of (Some v.of) ≡ true)
     × NarrowsWell e x k (desig.narrowed_by e x k a v) vs
 
+-- the objects of the type with this number have a body, which NEW of one starts
+abbrev pub HasBody : Program → ℕ → Type 0
+HasBody p t = option_map (λ (o : ObjectType). o.has_body) (slice_get p.objects t) ≡ Some true
+
 -- The environment is that of bodies: each variable in the scope of a module or of the procedure has its type, the table is the program's
--- and begins with what is predeclared, the types behind the first ten are its object types, each procedure is as its signature says, and
--- each module's string constants are those of its text.
+-- and begins with what is predeclared, the types behind the first ten are its object types, each procedure is as its signature says,
+-- a body without a signature gives nothing, each object type's objects have a body, and each module's string constants are those of its text.
 pub record IsWhole (p : Inside) (e : Env) : Type 0 where
   pub variables : (o : Open) (s : Scope) (w : List ℕ) (x : Entry) (k : ℕ) → o.scope ≡ 0 → env.scope e o ≡ Some s → find s w ≡ Some x →
       x.means ≡ means.Variable k → IsTyped p e (ModuleVar o.home k) (env.variable_type e o k)
@@ -151,7 +157,8 @@ pub record IsWhole (p : Inside) (e : Env) : Type 0 where
       let o : Open = record { home = e.number; scope = env.innermost e.path } in
       env.scope e o ≡ Some s → find s w ≡ Some x → x.means ≡ means.Variable k → IsTyped p e (desig.own_place e k) (env.variable_type e o k)
   pub own : (s : Signature) → env.own_signature e ≡ Some s → (q : Procedure) × (p.own ≡ Some q) × IsSigned e s q
-  pub own_body : env.own_signature e ≡ None → p.own ≡ None
+  pub own_body : env.own_signature e ≡ None → result_of p.own ≡ None
+  pub object_bodies : (t : ℕ) → is_object (row_of p.program.types (id_of (Named t))) ≡ true → HasBody p.program t
   pub signatures : (m k : ℕ) (s : Signature) → env.signature e m k ≡ Some s → (q : Procedure) × (procedure_in p.program m k ≡ Some q) × IsSigned e s q
   pub strings : (m : ℕ) (h : Home) → env.home e m ≡ Some h →
       (x : Module) × (slice_get p.program.modules m ≡ Some x) × (length x.variables ≡ env.variable_count e m) × (x.texts ≡ texts_of h)

@@ -31,7 +31,7 @@ use Rattle.aos_types.specs.declared.row.TypeId.{TypeId}
 use Rattle.aos_typed.specs.declared.tree.Literal.{Literal}
 use Rattle.aos_typed.specs.declared.tree.Literal.TheVariants as literal
 use Rattle.aos_typed.specs.declared.tree.TextConstant.{TextConstant}
-use Rattle.aos_typed.specs.Program.{Expr as Typed, CompareTexts, Function as Invoked, Is, IsRecord}
+use Rattle.aos_typed.specs.Program.{Expr as Typed, CompareTexts, Plain, Function as Invoked, Is, IsRecord}
 use Rattle.aos_symbols.specs.declared.home.Gives.{Gives}
 use Rattle.aos_symbols.specs.declared.home.Gives.TheVariants as gives
 use Rattle.aos_symbols.specs.declared.home.Signature.{Signature}
@@ -211,7 +211,7 @@ len_of e at js xs = desig.refused 34 at
 -- the result of a function with these arguments, which has no type where a rule of the call is broken
 abbrev pub function_answer : (home number : ℕ) → Option TypeId → Handing → Answer
 function_answer m k of h =
-    answered (op.kept_class h.are_kept Computed) (op.kept_type h.are_kept of) (Invoked m k (listed h.given))
+    answered (op.kept_class h.are_kept Computed) (op.kept_type h.are_kept of) (Invoked (Plain m k) (listed h.given))
 
 -- a result that isn't of a basic type and no object isn't built
 abbrev pub function_told : Env → (first : Pos) → (home number : ℕ) → Option TypeId → Handing → Judged Answer

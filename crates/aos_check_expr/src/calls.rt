@@ -20,7 +20,7 @@ use aos_symbols::{
     OTHER_KIND, UNKNOWN, WRONG_CALL, note,
 };
 use aos_tree::{Desig, Expr, Factor, Name, Qualident, Selector, Simple};
-use aos_typed::{Literal, TExpr};
+use aos_typed::{Literal, TCallee, TExpr};
 use aos_types::TypeId;
 use std::alloc::{AllocError, Global};
 
@@ -276,7 +276,7 @@ fn function_answer(home: u32, number: u32, of: Option<TypeId>, handing: Handing)
     answered(
         operations::kept_class(handing.are_kept, Class::Computed),
         operations::kept_type(handing.are_kept, of),
-        TExpr::Function(home, number, handing.given),
+        TExpr::Function(TCallee::Plain(home, number), handing.given),
     )
 }
 

@@ -135,6 +135,7 @@ module _ (e : Env) (ns : List Narrowed) where
         (typed_within p _ _ (whole.locals s w x k own there found means));
     own = λ s is. let q = whole.own s is in (q.0, q.1, signed_within s q.0 q.2);
     own_body = whole.own_body;
+    object_bodies = whole.object_bodies;
     signatures = λ m k s is. let q = whole.signatures m k s is in (q.0, q.1, signed_within s q.0 q.2);
     strings = whole.strings;
   }

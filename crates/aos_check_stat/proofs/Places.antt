@@ -39,7 +39,7 @@ use Rattle.aos_check_expr.proofs.Sound.{IsSound, scalar_of}
 use Rattle.aos_check_expr.proofs.Objects.{IsMadeAs, pointer_kind, object_kind}
 use Rattle.aos_check_expr.proofs.Pointed.{made_there, made_pointed, number_back}
 use Rattle.aos_check_expr.proofs.Passed.{basic_fit, whole_place}
-use Rattle.aos_check_expr.proofs.Spots.{IsTyped, closed, opened, IsStoredHeld, opened_row}
+use Rattle.aos_check_expr.proofs.Spots.{IsTyped, closed, opened, HasBody, IsStoredHeld, opened_row}
 use Rattle.aos_check_expr.proofs.Worded.{room_kept}
 use Rattle.aos_check_expr.proofs.Typing.{IsWhole, IsSoundSpot, IsTextAt, characters_are, text_rows_are, designator_sound, designator_known, designator_stored}
 use Rattle.aos_check_stat.specs.Bodies.{is_made, is_built_there, makes_object, made_type, lengths_wanted, new_breaches, count_breaches, put_text}
@@ -210,13 +210,13 @@ module _ (p : Inside) (e : Env) (whole : IsWhole p e) where
   abbrev pub IsMade : Option TypeId → Place → Type 0
   IsMade of place =
       (is_variable place ≡ true) × IsPlaceOf p place (type.Named (made_type e of)) × (is_object_row (row_of p.program.types (Made of)) ≡ true)
-      × (made_type e of < length p.program.objects)
+      × HasBody p.program (made_type e of)
 
   -- what a pointer leads to, an array with so many lengths
   abbrev pub IsLed : Option TypeId → Place → ℕ → Type 0
   IsLed of place n =
-      ((u : TType) × IsPlaceOf p place u × (target p.program.types u ≡ Some (Made of))) × (is_object_row (row_of p.program.types (Made of)) ≡ false)
-      × (made_type e of < length p.program.objects) × (n ≡ open_dimensions p.program.types (Made of))
+      ((u : TType) × IsPlaceOf p place u × (target p.program.types u ≡ Some (Made of))) × (made_type e of < length p.program.objects)
+      × (n ≡ open_dimensions p.program.types (Made of))
 
   abbrev pub Makes : Option TypeId → Place → ℕ → Type 0
   Makes of place n = ((makes_object e of ≡ true) × IsMade of place) ⊎ ((makes_object e of ≡ false) × IsLed of place n)
@@ -233,7 +233,7 @@ module _ (p : Inside) (e : Env) (whole : IsWhole p e) where
 
   object_made : (t : TypeId) (place : Place) → is_object_type e t ≡ true → is_variable place ≡ true → IsPlaceOf p place (type_as t) →
       (is_variable place ≡ true) × IsPlaceOf p place (type.Named (desig.made_number e t))
-      × (is_object_row (row_of p.program.types (id_of (type.Named (desig.made_number e t)))) ≡ true) × (desig.made_number e t < length p.program.objects)
+      × (is_object_row (row_of p.program.types (id_of (type.Named (desig.made_number e t)))) ≡ true) × HasBody p.program (desig.made_number e t)
   object_made t place is part typed = by (row_of e.types t) refl two.1
     where
       two : (not (is_basic t) ≡ true) × (is_object_row (row_of e.types t) ≡ true)
@@ -244,23 +244,25 @@ module _ (p : Inside) (e : Env) (whole : IsWhole p e) where
       low false h = refl
 
       by : (o : Option TypeRow) → row_of e.types t ≡ o → is_object_row o ≡ true → (is_variable place ≡ true) × IsPlaceOf p place (type.Named (desig.made_number e t))
-          × (is_object_row (row_of p.program.types (id_of (type.Named (desig.made_number e t)))) ≡ true) × (desig.made_number e t < length p.program.objects)
+          × (is_object_row (row_of p.program.types (id_of (type.Named (desig.made_number e t)))) ≡ true) × HasBody p.program (desig.made_number e t)
       by (Some (row.Object base fs)) there object =
           let high = low (is_basic t) two.0 in
           let made = object_kind p e whole t base fs high there in
           let itself : desig.made_as e t ≡ t = rw (high, there) refl in
           let few = made_number_few t made in
+          let kind : is_object_row (row_of p.program.types (id_of (type.Named (desig.made_number e t)))) ≡ true =
+          ap (λ u. is_object_row (row_of p.program.types u)) (few.0 ∙ itself) ∙ ap (λ rows. is_object_row (row_of rows t)) whole.rows ∙ ap is_object_row there in
           let above = made.0 in (
             part,
             subst (IsPlaceOf p place) (as_named t (omega (arith, above)) ∙ ap (λ u. type.Named (object_number u)) (sym itself)) typed,
-            ap (λ u. is_object_row (row_of p.program.types u)) (few.0 ∙ itself) ∙ ap (λ rows. is_object_row (row_of rows t)) whole.rows ∙ ap is_object_row there,
-            few.1,
+            kind,
+            whole.object_bodies (desig.made_number e t) kind,
           )
       by o there object = absurd (not_both object)
 
   pointer_made : (t : TypeId) (place : Place) (n : ℕ) → is_pointer_type e t ≡ true → IsPlaceOf p place (type_as t) → (lengths_wanted e t == n) ≡ true →
       ((u : TType) × IsPlaceOf p place u × (target p.program.types u ≡ Some (id_of (type.Named (desig.made_number e t)))))
-      × (is_object_row (row_of p.program.types (id_of (type.Named (desig.made_number e t)))) ≡ false) × (desig.made_number e t < length p.program.objects)
+      × (desig.made_number e t < length p.program.objects)
       × (n ≡ open_dimensions p.program.types (id_of (type.Named (desig.made_number e t))))
   pointer_made t place n is typed many = by (row_of e.types t) refl two.1
     where
@@ -273,7 +275,7 @@ module _ (p : Inside) (e : Env) (whole : IsWhole p e) where
 
       by : (o : Option TypeRow) → row_of e.types t ≡ o → is_pointer_row o ≡ true →
           ((u : TType) × IsPlaceOf p place u × (target p.program.types u ≡ Some (id_of (type.Named (desig.made_number e t)))))
-          × (is_object_row (row_of p.program.types (id_of (type.Named (desig.made_number e t)))) ≡ false) × (desig.made_number e t < length p.program.objects)
+          × (desig.made_number e t < length p.program.objects)
           × (n ≡ open_dimensions p.program.types (id_of (type.Named (desig.made_number e t))))
       by (Some (row.Pointer u)) there pointer =
           let high = low (is_basic t) two.0 in
@@ -283,7 +285,6 @@ module _ (p : Inside) (e : Env) (whole : IsWhole p e) where
           let own = made_pointed p e whole t u led in
           let wanted : lengths_wanted e t ≡ open_dimensions e.types u = rw led refl in (
             (type_as t, typed, made.1 ∙ ap (λ v. Some v) (sym few.0)),
-            ap (λ v. is_object_row (row_of p.program.types v)) few.0 ∙ ap (λ rows. is_object_row (row_of rows (desig.made_as e t))) whole.rows ∙ own.0,
             few.1,
             sym (eqb-true (lengths_wanted e t) n many) ∙ wanted ∙ sym own.1 ∙ ap (λ rows. open_dimensions rows (desig.made_as e t)) (sym whole.rows)
                 ∙ ap (open_dimensions p.program.types) (sym few.0),

@@ -19,7 +19,7 @@ use Rattle.aos_tree.specs.declared.stat.Stat.{Stat as TreeStat, Row_of-Stat, end
 use Rattle.aos_tree.specs.declared.stat.Stat.TheVariants as stat
 use Rattle.aos_typed.specs.declared.tree.TType.TheVariants as type
 use Rattle.aos_typed.specs.Routines.{result_of}
-use Rattle.aos_typed.specs.Program.{Expr, Call, Open as OutOpen, Char, Int, String, Ln, Stat, Assign, Copy, If, Case as CaseOf, While, Repeat, Loop, For, Block as BlockOf, Perform, Return, Out, Parameter, Arms, Otherwise, Arm, Cases, Else, OfLabels}
+use Rattle.aos_typed.specs.Program.{Expr, Call, Open as OutOpen, Char, Int, String, Ln, Stat, Assign, Copy, If, Case as CaseOf, While, Repeat, Loop, For, Block as BlockOf, Plain, Perform, Return, Out, Parameter, Arms, Otherwise, Arm, Cases, Else, OfLabels}
 use Rattle.aos_typed.specs.WellTyped.{AreLabels, AreApart, labels_of}
 use Rattle.aos_typed.specs.WellTyped as typed
 use Rattle.aos_types.specs.declared.row.TypeId.{TypeId}
@@ -223,7 +223,7 @@ module _ (p : Inside) (e : Env) (whole : IsWhole p e) where
 
   made_statement : (at : Pos) (a : Spot) (ns : List Expr) → Makes p e whole a.known.of (place_of a.held) (length ns) → typed.AreLengthsOf p.program p.own ns → MayBe (judge.made e at a ns)
   made_statement at a ns (inl is) are = rw is.0 is.1
-  made_statement at a ns (inr is) are = rw is.0 (is.1.0, is.1.1, is.1.2, are, is.1.3)
+  made_statement at a ns (inr is) are = rw is.0 (is.1.0, is.1.1, are, is.1.2)
 
   new_with_sound : (at first : Pos) (a : Spot) → IsRead p e whole a → (xs : List TreeExpr) → Holds MayBe (judge.new_with e at first a xs)
   new_with_sound at first a is xs =
@@ -297,7 +297,7 @@ module _ (p : Inside) (e : Env) (whole : IsWhole p e) where
 
   perform_with_sound : (at : Pos) (m k : ℕ) (sig : Signature) → env.signature e m k ≡ Some sig → sig.gives ≡ gives.Nothing → (xs : List TreeExpr) → Holds MayBe (judge.perform_with e at m k sig xs)
   perform_with_sound at m k sig is none xs =
-      holds_bind (IsHanded sig) MayBe (arguments_for e at sig.parameters (map (expr e) xs) xs) (λ h. kept (Some (Perform at m k (listed_arguments h.given))))
+      holds_bind (IsHanded sig) MayBe (arguments_for e at sig.parameters (map (expr e) xs) xs) (λ h. kept (Some (Perform at (Plain m k) (listed_arguments h.given))))
       (arguments_part p e at sig.parameters (map (expr e) xs) (parts_of xs) xs (length-map xs (expr e)))
       (λ g handed h. let q = whole.signatures m k sig is in (q.0, q.1, subst (λ o. IsResultOf o q.0.result) none q.2.result, handed.1 whole q.0.parameters q.2.parameters))
 
@@ -358,7 +358,7 @@ module _ (p : Inside) (e : Env) (whole : IsWhole p e) where
   own_result = by (env.own_signature e) refl
     where
       by : (o : Option Signature) → env.own_signature e ≡ o → IsResultOf (judge.gives_here e) (result_of p.own)
-      by None is = rw is (ap result_of (whole.own_body is))
+      by None is = rw is (whole.own_body is)
       by (Some sig) is = let q = whole.own sig is in rw is (subst (λ o. IsResultOf sig.gives (result_of o)) (sym q.1) q.2.result)
 
   return_sound : (at : Pos) (g : Gives) → IsResultOf g (result_of p.own) → (x : Option TreeExpr) → Holds MayBe (judge.return_of e at g x)

@@ -20,7 +20,7 @@ use Rattle.aos_tree.specs.declared.stat.Label.{Label}
 use Rattle.aos_tree.specs.declared.stat.Case.TheVariants as case
 use Rattle.aos_tree.specs.declared.stat.Stat.{Stat as TreeStat, Row_of-Stat, end_of-Stat, more_of-Stat, Row_of-Elsif, end_of-Elsif, more_of-Elsif, Row_of-Case, end_of-Case, more_of-Case, Held-Stat-If-4, None', Some'}
 use Rattle.aos_tree.specs.declared.stat.Stat.TheVariants as stat
-use Rattle.aos_typed.specs.Program.{Call, Open, Char, Int, String, Ln, Place, ModuleVar, Expr as Typed, Lit, Stat, Assign, Copy, PutText, If, Case, While, Repeat, Loop, Exit, For, Block, Assert, Halt, Change, Perform, Return, New, Make, With, WithRecord, Out, Stats, Nothing, Then, Arms, Otherwise, Arm, Cases, NoElse, Else, OfLabels}
+use Rattle.aos_typed.specs.Program.{Plain, Call, Open, Char, Int, String, Ln, Place, ModuleVar, Expr as Typed, Lit, Stat, Assign, Copy, PutText, If, Case, While, Repeat, Loop, Exit, For, Block, Assert, Halt, Change, Perform, Return, New, Make, With, WithRecord, Out, Stats, Nothing, Then, Arms, Otherwise, Arm, Cases, NoElse, Else, OfLabels}
 use Rattle.aos_typed.specs.declared.tree.TextConstant.{TextConstant}
 use Rattle.aos_typed.specs.declared.tree.Literal.{Literal}
 use Rattle.aos_typed.specs.declared.tree.Literal.TheVariants as literal
@@ -422,7 +422,7 @@ module _ (e : Env) where
   -- a call of a proper one, which begins here
   abbrev pub perform_with : (at : Pos) → (home number : ℕ) → Signature → List TreeExpr → Judged (Option Stat)
   perform_with at m k s xs =
-      bind (arguments_for e at s.parameters (map (expr e) xs) xs) (λ h. kept (Some (Perform at m k (listed_arguments h.given))))
+      bind (arguments_for e at s.parameters (map (expr e) xs) xs) (λ h. kept (Some (Perform at (Plain m k) (listed_arguments h.given))))
 
   -- a function gives a value
   abbrev pub perform_signed : (at : Pos) → (home number : ℕ) → Signature → List TreeExpr → Judged (Option Stat)

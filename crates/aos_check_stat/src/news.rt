@@ -10,7 +10,7 @@ ghost use Rattle.aos_check_expr.specs.Seen.{seen_held, seen_spot};
 ghost use Rattle.aos_check_expr.specs.Designators.{place_of as place_held};
 ghost use Rattle.aos_check_stat.specs.Bodies as judge;
 
-use crate::refusals::refused;
+use crate::refusals::{is_variable, refused};
 use aos_base::Pos;
 use aos_check_expr::{
     Class, Held, Spot, desig_alone, designator, expr, is_number, is_object_type, is_pointer_type,
@@ -18,7 +18,7 @@ use aos_check_expr::{
 };
 use aos_symbols::{ARGUMENT_COUNT, Breach, Env, NOT_BUILT, READ_ONLY, WRONG_NEW, note};
 use aos_tree::{Desig, Expr};
-use aos_typed::{TExpr, TPlace, TStat, open_array};
+use aos_typed::{TExpr, TStat, open_array};
 use aos_types::TypeId;
 use std::alloc::{AllocError, Global};
 
@@ -33,15 +33,12 @@ fn is_made(env: &Env<'_>, of: Option<TypeId>) -> bool
 }
 
 /// Whether what a designator stands for is no part of another variable.
-fn is_variable(held: &Held) -> bool
+fn holds_variable(held: &Held) -> bool
     ensures { result ≡ is_variable_place (place_held (seen_held held.now)) }
 {
     match held {
         Held::Value(_) => true,
-        Held::Stands(TPlace::ModuleVar(_, _)) => true,
-        Held::Stands(TPlace::Local(_)) => true,
-        Held::Stands(TPlace::Passed(_)) => true,
-        _ => false,
+        Held::Stands(place) => is_variable(place),
     }
 }
 
@@ -58,7 +55,7 @@ fn makes_object(env: &Env<'_>, of: Option<TypeId>) -> bool
 fn is_built_there(env: &Env<'_>, of: Option<TypeId>, held: &Held) -> bool
     ensures { result ≡ judge.is_built_there env.now of (place_held (seen_held held.now)) }
 {
-    !makes_object(env, of) || is_variable(held)
+    !makes_object(env, of) || holds_variable(held)
 }
 
 /// NEW stands at a place, and its argument begins at `first`: that must be a pointer or an object variable that may be written.

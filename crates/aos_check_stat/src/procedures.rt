@@ -16,7 +16,7 @@ use aos_symbols::{
     note,
 };
 use aos_tree::{Desig, Expr, Selector};
-use aos_typed::TStat;
+use aos_typed::{TCallee, TStat};
 use aos_types::TypeId;
 use std::alloc::{AllocError, Global};
 
@@ -39,7 +39,7 @@ fn perform_with(
 {
     let parameters = signature.parameters.as_slice();
     let handing = arguments_for(alloc, found, env, at, parameters, arguments)?;
-    Ok(Some(TStat::Perform(at, home, number, handing.given)))
+    Ok(Some(TStat::Perform(at, TCallee::Plain(home, number), handing.given)))
 }
 
 /// A call of a procedure with these arguments, which begins at a place: a function gives a value.

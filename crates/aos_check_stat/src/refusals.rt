@@ -1,7 +1,10 @@
-// Statements and modifiers that break a rule, and the parts of a call.
+// Statements and modifiers that break a rule, the parts of a call, and variables that are no part of another.
 
 ghost use Rattle.std.specs.Prelude.{◌≡◌, None, option_map};
-ghost use Rattle.aos_typed.specs.Seen.{seen_stat};
+ghost use Rattle.aos_typed.specs.declared.tree.TType.TheVariants.{Boolean};
+ghost use Rattle.aos_typed.specs.Program.{Field};
+ghost use Rattle.aos_typed.specs.Seen.{seen_place, seen_stat};
+ghost use Rattle.aos_typed.specs.WellTyped.{is_variable as is_variable_place};
 ghost use Rattle.aos_symbols.specs.Breaches.{first_after};
 ghost use Rattle.aos_symbols.specs.Judged.{kept};
 ghost use Rattle.aos_check_stat.specs.Bodies as judge;
@@ -9,7 +12,7 @@ ghost use Rattle.aos_check_stat.specs.Bodies as judge;
 use aos_base::Pos;
 use aos_symbols::{Breach, NOT_BUILT, WRONG_CALL, WRONG_SELECTOR, is_active, note};
 use aos_tree::{Expr, Modifier, Selector};
-use aos_typed::TStat;
+use aos_typed::{TExpr, TPlace, TStat};
 
 /// A statement that breaks a rule at a place, which is none.
 pub fn refused(found: &mut Option<Breach>, rule: u16, at: Pos) -> Option<TStat>
@@ -79,5 +82,26 @@ pub fn refuse_modifiers(
             note(found, NOT_BUILT, modifier.name.pos);
         }
         may_be_active = may_be_active && !is_active(text, modifier);
+    }
+}
+
+/// Whether what a field is of is SELF.
+fn is_of_self(whole: &TPlace) -> bool
+    ensures { result ≡ is_variable_place (Field (seen_place whole.now) Boolean 0) }
+{
+    match whole {
+        TPlace::Deref(object, _) => matches!(&**object, TExpr::SelfRef),
+        _ => false,
+    }
+}
+
+/// Whether a place is no part of another variable; a field of SELF is none.
+pub fn is_variable(place: &TPlace) -> bool
+    ensures { result ≡ is_variable_place (seen_place place.now) }
+{
+    match place {
+        TPlace::ModuleVar(_, _) | TPlace::Local(_) | TPlace::Passed(_) => true,
+        TPlace::Field(whole, _, _) => is_of_self(whole),
+        _ => false,
     }
 }

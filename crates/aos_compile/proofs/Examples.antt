@@ -1,5 +1,5 @@
 -- Small texts with their trees, and what they come to. The trees are those that a parser gives.
-use Rattle.std.proofs.Common.{◌≡◌, ℕ, ◌+◌, pos, List, [], ◌∷◌, ◌++◌, Option, Some, None, refl, codes}
+use Rattle.std.proofs.Common.{◌≡◌, ℕ, ◌+◌, pos, List, [], ◌∷◌, ◌++◌, true, Option, Some, None, refl, codes}
 use Rattle.std.specs.Str.Lossy.{utf8_lossy}
 use denote.Hole.Carrier.{out, shown, hidden}
 use Rattle.aos_tree.specs.declared.expr.Factor.TheBlock.{shown-the_row-Product-6, shown-the_row-Addition-5}
@@ -188,7 +188,15 @@ an_object_of_another_module : elaborate (codes "MODULE A; IMPORT B; BEGIN NEW(B.
       modules = record { name = utf8_lossy (codes "B"); variables = record { name = utf8_lossy (codes "p"); of = ttype.Named 0 } ∷ []; texts = []; procedures = []; body = Nothing }
           ∷ record { name = utf8_lossy (codes "A"); variables = []; texts = []; procedures = []; body = Then (New (place 26) (ModuleVar 0 0) 0) Nothing } ∷ [];
       types = basic_rows ++ row.Object None [] ∷ [];
-      objects = record { name = utf8_lossy (codes "T"); home = 0; body = Nothing } ∷ [];
+      objects =
+          record {
+            name = utf8_lossy (codes "T");
+            home = 0;
+            has_body = true;
+            body = record { name = []; of = Some 0; parameters = []; locals = []; result = None; body = Nothing };
+            methods = [];
+          }
+          ∷ [];
     })
 unfolding out-Expr out-Simple out-Term out shown-the_row-Product-6 shown-the_row-Addition-5 shown hidden
 an_object_of_another_module = refl

@@ -12,6 +12,8 @@ pub mod TypingProcedures
 pub mod TypingLocals
 pub mod TypingScalars
 pub mod TypingFields
+pub mod Numbered
+pub mod TypingObjects
 pub mod TypingModules
 pub mod Typing
 pub mod Idents

@@ -5,9 +5,8 @@ use Rattle.aos_tree.specs.declared.decl.Decl.{Decl}
 use Rattle.aos_tree.specs.declared.decl.TypeDef.{TypeDef}
 use Rattle.aos_tree.specs.declared.module.Module.{Module as Tree}
 use Rattle.aos_typed.specs.declared.tree.TStat.{TStat}
-use Rattle.aos_typed.specs.declared.tree.TObject.{TObject}
-use Rattle.aos_typed.specs.Program.{Then, ObjectType}
-use Rattle.aos_typed.specs.Seen.{seen_stat, seen_stats, seen_object}
+use Rattle.aos_typed.specs.Program.{Then}
+use Rattle.aos_typed.specs.Seen.{seen_stat, seen_stats}
 use Rattle.aos_symbols.specs.declared.breach.Breach.{Breach}
 use Rattle.aos_symbols.specs.declared.env.Env.{Env}
 use Rattle.aos_symbols.specs.Env.{within}
@@ -23,7 +22,9 @@ use Rattle.aos_check_stat.specs.Bodies.{listed}
 use Rattle.aos_compile.specs.declared.compile_err.CompileErr.{CompileErr}
 use Rattle.aos_compile.specs.declared.compile_err.CompileErr.TheVariants.{Refused, NoMemory}
 use Rattle.aos_compile.specs.Elaborates.{OnRefused}
-use Rattle.aos_compile.specs.Modules.{World, Bodies, bodies, object_in, extended, elaborated}
+use Rattle.aos_compile.specs.declared.objects.Beside.{Beside as CodeBeside}
+use Rattle.aos_compile.specs.Seen.{seen_beside}
+use Rattle.aos_compile.specs.Modules.{World, Beside, Bodies, bodies, object_in, extended, elaborated}
 use Rattle.aos_compile.proofs.Kept.{before_kept}
 
 -- statements are seen in their order
@@ -31,11 +32,11 @@ pub stats_listed : (ss : List TStat) → seen_stats ss ≡ listed (map seen_stat
 stats_listed [] = refl
 stats_listed (s ∷ ss) = ap (λ z. Then (seen_stat s) z) (stats_listed ss)
 
-pub within_seen : (e : Env) (os : List TObject) → within e (suc (length (map seen_object os))) ≡ within e (suc (length os))
-within_seen e os = ap (λ k. within e (suc k)) (length-map os seen_object)
+pub within_seen : (e : Env) (os : List CodeBeside) → within e (suc (length (map seen_beside os))) ≡ within e (suc (length os))
+within_seen e os = ap (λ k. within e (suc k)) (length-map os seen_beside)
 
 -- as many object types as definitions
-pub objects_long : (e : Env) (os : List ObjectType) (ds : List TypeDef) → length (walk (object_in e) os ds).answer ≡ length os + length ds
+pub objects_long : (e : Env) (os : List Beside) (ds : List TypeDef) → length (walk (object_in e) os ds).answer ≡ length os + length ds
 objects_long e os [] = omega arith
 objects_long e os (d ∷ ds) =
     let more = (object_in e os d).answer in
@@ -53,18 +54,18 @@ walk_both step a (x ∷ xs) ys =
     ap (λ z. bind s (λ c. z)) (walk_both step s.answer xs ys)
     ∙ ap (λ bs. judged bs (walk step b.answer ys).answer) (sym (append_assoc s.breaches b.breaches (walk step b.answer ys).breaches))
 
-pub types_step : (e : Env) (os : List ObjectType) (ds : List Decl) (i : ℕ) (d : Decl) → i < length ds →
+pub types_step : (e : Env) (os : List Beside) (ds : List Decl) (i : ℕ) (d : Decl) → i < length ds →
     walk (object_in e) os (type_defs (drop i ds)) ≡ bind (walk (object_in e) os (types_in (get_or ds i d))) (λ b. walk (object_in e) b (type_defs (drop (i + 1) ds)))
 types_step e os ds i d lt =
     ap (λ l. walk (object_in e) os (type_defs l)) (drop-cons ds i d lt)
     ∙ walk_both (object_in e) os (types_in (get_or ds i d)) (type_defs (drop (suc i) ds))
     ∙ ap (λ j. bind (walk (object_in e) os (types_in (get_or ds i d))) (λ b. walk (object_in e) b (type_defs (drop j ds)))) (sym (add-one i))
 
-pub types_end : (e : Env) (os : List ObjectType) (ds : List Decl) (i : ℕ) → length ds ≤ i → walk (object_in e) os (type_defs (drop i ds)) ≡ kept os
+pub types_end : (e : Env) (os : List Beside) (ds : List Decl) (i : ℕ) → length ds ≤ i → walk (object_in e) os (type_defs (drop i ds)) ≡ kept os
 types_end e os ds i le = ap (λ l. walk (object_in e) os (type_defs l)) (past ds i le)
 
 -- the types of one declaration, and those of the others behind it
-module _ (e : Env) (os new : List ObjectType) (ds : List Decl) (i : ℕ) (x : Decl) where
+module _ (e : Env) (os new : List Beside) (ds : List Decl) (i : ℕ) (x : Decl) where
   types_next : i < length ds → x ≡ get_or ds i x → new ≡ (walk (object_in e) os (types_in x)).answer →
       walk (object_in e) os (type_defs (drop i ds))
       ≡ judged ((walk (object_in e) os (types_in x)).breaches ++ (walk (object_in e) new (type_defs (drop (i + 1) ds))).breaches)
@@ -81,11 +82,11 @@ module _ (e : Env) (os new : List ObjectType) (ds : List Decl) (i : ℕ) (x : De
   types_noted met behind lt is told noted =
       ap (λ z. first_after z (walk (object_in e) new (type_defs (drop (i + 1) ds))).breaches) noted
       ∙ sym (after_more met (walk (object_in e) os (types_in x)).breaches (walk (object_in e) new (type_defs (drop (i + 1) ds))).breaches)
-      ∙ ap (λ (z : Judged (List ObjectType)). first_after met z.breaches) (sym (types_next lt is told))
+      ∙ ap (λ (z : Judged (List Beside)). first_after met z.breaches) (sym (types_next lt is told))
 
   pub types_answer : i < length ds → x ≡ get_or ds i x → new ≡ (walk (object_in e) os (types_in x)).answer →
       (walk (object_in e) new (type_defs (drop (i + 1) ds))).answer ≡ (walk (object_in e) os (type_defs (drop i ds))).answer
-  types_answer lt is told = ap (λ (z : Judged (List ObjectType)). z.answer) (sym (types_next lt is told))
+  types_answer lt is told = ap (λ (z : Judged (List Beside)). z.answer) (sym (types_next lt is told))
 
 -- a pass that goes gives its answer
 decided_is : {A : Type 0} (file : ℕ) (found : Option Breach) (a b : A) → decided file found a ≡ went b → a ≡ b

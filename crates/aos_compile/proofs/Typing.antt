@@ -3,7 +3,7 @@ use Rattle.std.proofs.Common.{◌≡◌, ℕ, ◌+◌, ◌<◌, ◌≤◌, List,
 use Rattle.aos_types.specs.declared.TheConstants.{MOST_SCALARS}
 use Rattle.aos_typed.specs.Numbers.{predeclared_types, predeclared_rows}
 use Rattle.aos_typed.specs.Program.{Module, Program}
-use Rattle.aos_typed.specs.WellTyped.{AreStatements, AreTypes, IsVariableType, IsProcedure, module_scalars, IsWellTyped}
+use Rattle.aos_typed.specs.WellTyped.{AreStatements, AreTypes, IsVariableType, IsProcedure, AreObjectTypes, module_scalars, IsWellTyped}
 use Rattle.aos_symbols.specs.Home.{Home}
 use Rattle.aos_symbols.specs.Outcome as outcome
 use Rattle.aos_symbols.specs.Outcome.{went, in_turn}
@@ -16,6 +16,7 @@ use Rattle.aos_compile.proofs.Names.{named_well}
 use Rattle.aos_compile.proofs.TypingTypes.{known_variables}
 use Rattle.aos_compile.proofs.TypingScalars.{sum_typed}
 use Rattle.aos_compile.proofs.Strings.{texts_below}
+use Rattle.aos_compile.proofs.TypingObjects.{object_types, object_homes}
 use Rattle.aos_compile.proofs.TypingModules.{AreHomes, IsWorld, no_world, module_sound}
 
 module _ (ss : List Source) where
@@ -40,7 +41,7 @@ module _ (ss : List Source) where
 -- all that is typed of a program
 pub record TypedWell (p : Program) : Type 0 where
   pub bodies : All (λ m. AreStatements p None m.body) p.modules
-  pub objects : All (λ o. AreStatements p None o.body) p.objects
+  pub objects : AreObjectTypes p 0 p.objects
   pub homes : All (λ o. o.home < length p.modules) p.objects
   pub types : AreTypes p.types
   pub texts : All (λ m. All (λ t. All (λ c. c < 256) t) m.texts) p.modules
@@ -48,7 +49,7 @@ pub record TypedWell (p : Program) : Type 0 where
   pub beside : length p.types ≡ length p.objects + predeclared_types
   pub variables : All (λ m. All (λ v. IsVariableType p v.of) m.variables) p.modules
   pub few_scalars : All (λ m. module_scalars p m ≤ MOST_SCALARS) p.modules
-  pub procedures : All (λ m. All (IsProcedure p) m.procedures) p.modules
+  pub procedures : All (λ m. All (λ q. IsProcedure p q × (q.of ≡ None)) m.procedures) p.modules
 
 module _ (w : World) (sound : IsWorld w) where
   abbrev AreVariables : Module → Type 0
@@ -90,15 +91,15 @@ module _ (w : World) (sound : IsWorld w) where
   world_typed : TypedWell (program_of w)
   world_typed = record {
     bodies = all_of (λ m. AreStatements (program_of w) None m.body) w.modules sound.bodies;
-    objects = all_of (λ o. AreStatements (program_of w) None o.body) w.objects sound.objects;
-    homes = all_of (λ o. o.home < length w.modules) w.objects sound.places;
+    objects = object_types (program_of w) sound.objects;
+    homes = object_homes (program_of w) sound.objects;
     types = sound.table.sound;
     texts = all_of HasCodes w.modules (codes_of_homes w.before w.modules sound.homes);
     predeclared = sound.table.basic;
     beside = omega (arith, sound.count);
     variables = all_of AreVariables w.modules (variables_of_homes w.before w.modules sound.homes);
     few_scalars = all_of HasFew w.modules (few_of_homes w.before w.modules sound.homes);
-    procedures = all_of (λ m. All (IsProcedure (program_of w)) m.procedures) w.modules sound.procedures;
+    procedures = all_of (λ m. All (λ q. IsProcedure (program_of w) q × (q.of ≡ None)) m.procedures) w.modules sound.procedures;
   }
 
 pub typed_well : (texts : List (List ℕ)) (rs : List Reading) (p : Program) → elaborate texts rs ≡ went p → TypedWell p

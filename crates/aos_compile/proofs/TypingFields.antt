@@ -32,6 +32,8 @@ use Rattle.aos_compile.proofs.TypingTypes.{RowsStay, there_stays}
 fields_agree : (f g : TypeId → List TypeId) (o : Option TypeRow) → ((b : TypeId) → base_of o ≡ Some b → f b ≡ g b) → fields_in f o ≡ fields_in g o
 fields_agree f g (Some (row.Record None fs)) same = refl
 fields_agree f g (Some (row.Record (Some b) fs)) same = ap (λ xs. xs ++ fs) (same b refl)
+fields_agree f g (Some (row.Object None fs)) same = refl
+fields_agree f g (Some (row.Object (Some b) fs)) same = ap (λ xs. xs ++ fs) (same b refl)
 fields_agree f g o same = refl
 
 module _ (ts us : List TypeRow) (stay : RowsStay ts us) (ranked : IsRanked ts) (bases : (t b : TypeId) → base_of (row_of ts t) ≡ Some b → b.0 < length ts) where

@@ -13,8 +13,12 @@ use Rattle.aos_types.specs.declared.TheConstants.{MOST_SCALARS}
 use Rattle.aos_types.specs.declared.row.Basic.TheVariants.{Text}
 use Rattle.aos_types.specs.declared.row.TypeRow.{TypeRow}
 use Rattle.aos_types.specs.declared.row.TypeRow.TheVariants as row
+use Rattle.aos_types.specs.Table.{row_of, is_object}
 use Rattle.aos_types.proofs.Ranks.{ranked}
+use Rattle.aos_typed.specs.declared.tree.TType.TheVariants.{Named}
+use Rattle.aos_typed.specs.Numbers.{id_of}
 use Rattle.aos_typed.specs.Program.{ModuleVar, Stat, Stats, Procedure as TypedProcedure, ObjectType, Module, Program}
+use Rattle.aos_typed.specs.Routines.{result_of}
 use Rattle.aos_typed.specs.WellTyped.{procedure_in, AreStatements, IsProcedure}
 use Rattle.aos_symbols.specs.declared.scope.Entry.{Entry}
 use Rattle.aos_symbols.specs.declared.scope.Meaning.TheVariants as means
@@ -38,12 +42,14 @@ use Rattle.aos_check_expr.specs.Designators as desig
 use Rattle.aos_check_expr.proofs.Inside.{Inside}
 use Rattle.aos_check_expr.proofs.Opens.{some_there}
 use Rattle.aos_check_expr.proofs.Sound.{not_both}
-use Rattle.aos_check_expr.proofs.Spots.{IsTyped, closed, IsSigned, IsSearched, IsWhole, NarrowsWell, opens_told}
+use Rattle.aos_check_expr.proofs.Spots.{IsTyped, closed, IsSigned, IsSearched, HasBody, IsWhole, NarrowsWell, opens_told}
 use Rattle.aos_check_decl.specs.Pass.{declare}
 use Rattle.aos_check_decl.proofs.Typing.{AreGood, AreReady, IsReady, variable_cells, IsHeading, HasHeading, IsDeclared, declare_sound}
 use Rattle.aos_check_stat.specs.Bodies.{listed, body_of}
 use Rattle.aos_check_stat.proofs.Typing.{body_sound}
-use Rattle.aos_compile.specs.Modules.{World, no_modules, program_of, object_body, object_in, local_type, unnamed_type, other_types, bodies_from, first_scope, Bodies, bodies, variables_of, variable_of, procedure_of, module_of, extended, elaborated, spelling}
+use Rattle.aos_compile.specs.Modules.{World, no_modules, program_of, object_body, object_in, local_type, unnamed_type, other_types, bodies_from, first_scope, Beside, body_beside, objects_from, Bodies, bodies, variables_of, variable_of, procedure_of, module_of, extended, elaborated, spelling}
+use Rattle.aos_compile.proofs.TypingObjects.{IsBodyBeside, IsBeside, behind, has_known, bodies_known, beside_grows, beside_new}
+use Rattle.aos_compile.proofs.Numbered.{numbered_count}
 use Rattle.aos_compile.proofs.TypingPrograms.{HaveTypes, Grows, grown, body_grows}
 use Rattle.aos_compile.proofs.TypingScopes.{variables_are, locals_are, procedure_at}
 use Rattle.aos_compile.proofs.TypingTypes.{RowsStay, longer as more_rows, bases_there, basic_ready}
@@ -79,18 +85,16 @@ pub record IsWorld (w : World) : Type 0 where
   pub homes : AreHomes w.types w.before w.modules
   pub count : length w.types ≡ 10 + length w.objects
   pub bodies : Each (λ m. AreStatements (program_of w) None m.body) w.modules
-  pub objects : Each (λ o. AreStatements (program_of w) None o.body) w.objects
-  pub places : Each (λ o. o.home < length w.modules) w.objects
+  pub objects : (k : ℕ) (o : ObjectType) → slice_get w.objects k ≡ Some o → IsBeside (program_of w) k o
   pub table : AreReady w.types
-  pub procedures : Each (λ m. All (IsProcedure (program_of w)) m.procedures) w.modules
+  pub procedures : Each (λ m. All (λ q. IsProcedure (program_of w) q × (q.of ≡ None)) m.procedures) w.modules
 
 pub no_world : IsWorld no_modules
 no_world = record {
   homes = tt;
   count = refl;
   bodies = tt;
-  objects = tt;
-  places = tt;
+  objects = λ k o there. absurd (none-some o there);
   table = basic_ready;
   procedures = tt;
 }
@@ -162,12 +166,12 @@ pub record IsPlaced (p : Inside) (e : Env) : Type 0 where
       let o : Open = record { home = e.number; scope = env.innermost e.path } in
       env.scope e o ≡ Some s → find s w ≡ Some x → x.means ≡ means.Variable k → IsTyped p e (desig.own_place e k) (env.variable_type e o k)
   pub own : (s : Signature) → env.own_signature e ≡ Some s → (q : TypedProcedure) × (p.own ≡ Some q) × IsSigned e s q
-  pub own_body : env.own_signature e ≡ None → p.own ≡ None
+  pub own_body : env.own_signature e ≡ None → result_of p.own ≡ None
 
 whole : (p : Inside) (e : Env) (hs : List Home) → AreHomes e.types hs p.program.modules → ((m : ℕ) (h : Home) → env.home e m ≡ Some h → slice_get hs m ≡ Some h) →
     AreReady e.types → FieldsAgree e.types e.here → ((m : ℕ) (h : Home) → slice_get e.before m ≡ Some h → FieldsAgree e.types h) → e.narrowed ≡ [] →
-    p.program.types ≡ e.types → length e.types ≡ 10 + length p.program.objects → IsPlaced p e → IsWhole p e
-whole p e hs are at table here before none rows count placed = record {
+    p.program.types ≡ e.types → length e.types ≡ 10 + length p.program.objects → ((t : ℕ) → is_object (row_of p.program.types (id_of (Named t))) ≡ true → HasBody p.program t) → IsPlaced p e → IsWhole p e
+whole p e hs are at table here before none rows count bodied placed = record {
   variables = λ o s w x k first there found means. by_home o s w x k first found means there (env.home e o.home) refl there;
   constants = λ o s there. by_scope o s (env.home e o.home) refl there;
   parts = table.parts;
@@ -182,6 +186,7 @@ whole p e hs are at table here before none rows count placed = record {
   locals = placed.locals;
   own = placed.own;
   own_body = placed.own_body;
+  object_bodies = bodied;
   signatures = λ m k s is. by_signature m k s (env.home e m) refl is;
   strings = λ m h there. let one = home_at e.types hs p.program.modules are m h (at m h there) in (one.0, one.1, counted m h one.0 there one.2, one.2.texts);
 }
@@ -232,16 +237,20 @@ module _ (program : Program) (e : Env) (m : Tree) (begins : RowsStay env.basic_r
     (headings : (j : ℕ) (q : Procedure) → slice_get (procedures m.decls) j ≡ Some q → HasHeading m e j q)
     (below : (j : ℕ) (q : Procedure) → slice_get (procedures m.decls) j ≡ Some q → (s : Scope) → slice_get e.here.scopes (first_scope m + j) ≡ Some s →
     (w : List ℕ) (x : Entry) (k : ℕ) → find s w ≡ Some x → x.means ≡ means.Variable k → k < length s.variables) where
-  abbrev outside : Inside
-  outside = record { program = program; own = None; basic = begins }
+  abbrev inside : Option TypedProcedure → Inside
+  inside own = record { program = program; own = own; basic = begins }
 
-  -- the module's body, and those of its objects, are no procedure's
-  none_placed : (path : List Open) → Each (IsSearched (env.back_at path e)) path → env.own_signature (env.back_at path e) ≡ None → IsPlaced outside (env.back_at path e)
-  none_placed path searched none = record {
+  abbrev outside : Inside
+  outside = inside None
+
+  -- the module's body, and those of its objects, have no signature and give nothing
+  none_placed : (own : Option TypedProcedure) → result_of own ≡ None → (path : List Open) → Each (IsSearched (env.back_at path e)) path →
+      env.own_signature (env.back_at path e) ≡ None → IsPlaced (inside own) (env.back_at path e)
+  none_placed own proper path searched none = record {
     path = searched;
     locals = λ s w x k some there found means. absurd (not_both (sym some ∙ ap is_some none));
     own = λ s is. absurd (none-some s (sym none ∙ is));
-    own_body = λ is. refl;
+    own_body = λ is. proper;
   }
 
   own_searched : (f : Env) → Each (IsSearched f) (env.own e.number ∷ [])
@@ -255,7 +264,7 @@ module _ (program : Program) (e : Env) (m : Tree) (begins : RowsStay env.basic_r
   pub base : IsWhole outside e
   base =
       everywhere None e.path
-      (none_placed e.path (subst (Each (IsSearched e)) (sym path_is) (own_searched e)) (ap (λ os. signature_in e.here (env.innermost os)) path_is ∙ no_signature 0 (omega arith)))
+      (none_placed None refl e.path (subst (Each (IsSearched e)) (sym path_is) (own_searched e)) (ap (λ os. signature_in e.here (env.innermost os)) path_is ∙ no_signature 0 (omega arith)))
 
   abbrev deeper : ℕ → List Open
   deeper k = record { home = e.number; scope = k } ∷ e.path
@@ -266,46 +275,48 @@ module _ (program : Program) (e : Env) (m : Tree) (begins : RowsStay env.basic_r
   abbrev IsBody : List Stat → Type 0
   IsBody ss = AreStatements program None (listed ss)
 
-  inside_sound : (k : ℕ) → k < first_scope m → (may_be_active : Bool) (b : Option Block) → Holds IsBody (body_of (env.within e k) may_be_active b)
-  inside_sound k less may_be_active b =
-      body_sound outside (env.within e k) (everywhere None (deeper k) (none_placed (deeper k) (deeper_searched k) (no_signature k less))) may_be_active b
+  -- the body of an object type, whatever its number
+  inside_sound : (k : ℕ) → k < first_scope m → (b : Option Block) → Holds (λ ss. IsBodyBeside program (listed ss)) (body_of (env.within e k) true b)
+  inside_sound k less b none n =
+      let own = Some (body_beside n (listed (body_of (env.within e k) true b).answer)) in
+      body_sound (inside own) (env.within e k) (everywhere own (deeper k) (none_placed own refl (deeper k) (deeper_searched k) (no_signature k less))) true b none
 
-  abbrev AreObjects : List ObjectType → Type 0
-  AreObjects os = Each (λ o. AreStatements program None o.body) os × Each (λ o. o.home ≡ e.number) os
+  abbrev AreObjects : List Beside → Type 0
+  AreObjects os = Each (λ x. IsBodyBeside program x.body) os
 
-  both : (os qs : List ObjectType) → AreObjects os → AreObjects qs → AreObjects (os ++ qs)
-  both os qs are also = (joined (λ o. AreStatements program None o.body) os qs are.0 also.0, joined (λ o. o.home ≡ e.number) os qs are.1 also.1)
+  both : (os qs : List Beside) → AreObjects os → AreObjects qs → AreObjects (os ++ qs)
+  both os qs are also = joined (λ x. IsBodyBeside program x.body) os qs are also
 
   -- one more, whose scope is that of a type
-  abbrev IsOneMore : List ObjectType → List ObjectType → Type 0
+  abbrev IsOneMore : List Beside → List Beside → Type 0
   IsOneMore os qs = AreObjects qs × (length qs ≡ suc (length os))
 
-  object_in_sound : (os : List ObjectType) (d : TypeDef) → length os < length (type_defs m.decls) → AreObjects os → Holds (IsOneMore os) (object_in e os d)
+  object_in_sound : (os : List Beside) (d : TypeDef) → length os < length (type_defs m.decls) → AreObjects os → Holds (IsOneMore os) (object_in e os d)
   object_in_sound os d few are =
       let k = suc (length os) in
-      let named = λ (ss : List Stat). let o : ObjectType = record { name = spelling e.here.text d.def.name; home = e.number; body = listed ss } in o in
-      holds_bind IsBody (IsOneMore os) (body_of (env.within e k) true (object_body d.value)) (λ ss. kept (os ++ named ss ∷ []))
-      (inside_sound k (omega (arith, few)) true (object_body d.value))
-      (λ ss is h. (both os (named ss ∷ []) are ((is, tt), (refl, tt)), let long = length-append os (named ss ∷ []) in omega (arith, long)))
+      let named = λ (ss : List Stat). let x : Beside = record { name = spelling e.here.text d.def.name; body = listed ss } in x in
+      holds_bind (λ ss. IsBodyBeside program (listed ss)) (IsOneMore os) (body_of (env.within e k) true (object_body d.value)) (λ ss. kept (os ++ named ss ∷ []))
+      (inside_sound k (omega (arith, few)) (object_body d.value))
+      (λ ss is h. (both os (named ss ∷ []) are (is, tt), let long = length-append os (named ss ∷ []) in omega (arith, long)))
 
-  objects_sound : (ds : List TypeDef) (os : List ObjectType) → length os + length ds ≤ length (type_defs m.decls) → AreObjects os → Holds AreObjects (walk (object_in e) os ds)
+  objects_sound : (ds : List TypeDef) (os : List Beside) → length os + length ds ≤ length (type_defs m.decls) → AreObjects os → Holds AreObjects (walk (object_in e) os ds)
   objects_sound [] os few are = λ h. are
   objects_sound (d ∷ ds) os few are =
       holds_bind (IsOneMore os) AreObjects (object_in e os d) (λ qs. walk (object_in e) qs ds) (object_in_sound os d (omega (arith, few)) are)
       (λ qs more. let long = more.1 in objects_sound ds qs (omega (arith, few, long)) more.0)
 
   locals_are_objects : (ds : List TypeDef) → AreObjects (map (local_type e) ds)
-  locals_are_objects [] = (tt, tt)
-  locals_are_objects (d ∷ ds) = let more = locals_are_objects ds in ((tt, more.0), (refl, more.1))
+  locals_are_objects [] = tt
+  locals_are_objects (d ∷ ds) = (λ n. tt, locals_are_objects ds)
 
-  unnamed_are : (ats : List Pos) → AreObjects (map (unnamed_type e) ats)
-  unnamed_are [] = (tt, tt)
-  unnamed_are (at ∷ ats) = let more = unnamed_are ats in ((tt, more.0), (refl, more.1))
+  unnamed_are : (ats : List Pos) → AreObjects (map unnamed_type ats)
+  unnamed_are [] = tt
+  unnamed_are (at ∷ ats) = (λ n. tt, unnamed_are ats)
 
   others_are : AreObjects (other_types e m)
   others_are =
       let ds = flat_map (λ p. type_defs p.decls) (procedures m.decls) in
-      both (map (local_type e) ds) (map (unnamed_type e) e.places) (locals_are_objects ds) (unnamed_are e.places)
+      both (map (local_type e) ds) (map unnamed_type e.places) (locals_are_objects ds) (unnamed_are e.places)
 
   -- The bodies of procedures.
 
@@ -411,11 +422,11 @@ module _ (program : Program) (e : Env) (m : Tree) (begins : RowsStay env.basic_r
 
   bodies_sound : Holds AreBodies (bodies e m)
   bodies_sound =
-      let last = λ (os : List ObjectType) (ps : List Stats) (ss : List Stat). let b : Bodies = record { objects = os ++ other_types e m; procedures = ps; own = ss } in b in
+      let last = λ (os : List Beside) (ps : List Stats) (ss : List Stat). let b : Bodies = record { objects = os ++ other_types e m; procedures = ps; own = ss } in b in
       let Typed = AreMore (first_scope m) (procedures m.decls) e.here.signatures [] in
       holds_bind AreObjects AreBodies (walk (object_in e) [] (type_defs m.decls))
       (λ os. bind (bodies_from e (first_scope m) [] (procedures m.decls)) (λ ps. bind (body_of e false m.body) (λ ss. kept (last os ps ss))))
-      (objects_sound (type_defs m.decls) [] (omega arith) (tt, tt))
+      (objects_sound (type_defs m.decls) [] (omega arith) tt)
       (λ os are. holds_bind Typed AreBodies (bodies_from e (first_scope m) [] (procedures m.decls))
       (λ ps. bind (body_of e false m.body) (λ ss. kept (last os ps ss)))
       (procedures_sound (procedures m.decls) e.here.signatures 0 (first_scope m) [] (omega arith) (λ i. ap (slice_get (procedures m.decls)) (from_zero i))
@@ -440,12 +451,12 @@ bodies_count e (q ∷ qs) k done =
 
 -- Something stands beside each type.
 
-object_count : (e : Env) (ds : List TypeDef) (os : List ObjectType) → length (walk (object_in e) os ds).answer ≡ length os + length ds
+object_count : (e : Env) (ds : List TypeDef) (os : List Beside) → length (walk (object_in e) os ds).answer ≡ length os + length ds
 object_count e [] os = omega arith
 object_count e (d ∷ ds) os =
     let bs = (body_of (env.within e (suc (length os))) true (object_body d.value)).answer in
-    let o : ObjectType = record { name = spelling e.here.text d.def.name; home = e.number; body = listed bs } in
-    object_count e ds (os ++ o ∷ []) ∙ counted (length-append os (o ∷ []))
+    let x : Beside = record { name = spelling e.here.text d.def.name; body = listed bs } in
+    object_count e ds (os ++ x ∷ []) ∙ counted (length-append os (x ∷ []))
   where
     counted : {n : ℕ} → n ≡ length os + 1 → n + length ds ≡ length os + suc (length ds)
     counted is = omega arith
@@ -459,9 +470,9 @@ beside_count e m =
       arith,
       object_count e own [],
       length-append os (other_types e m),
-      length-append (map (local_type e) inner) (map (unnamed_type e) e.places),
+      length-append (map (local_type e) inner) (map unnamed_type e.places),
       length-map inner (local_type e),
-      length-map e.places (unnamed_type e),
+      length-map e.places unnamed_type,
       length-append own inner,
     )
 
@@ -478,6 +489,9 @@ module _ (w : World) (sound : IsWorld w) (text : List ℕ) (m : Tree) where
     fields = λ k h at. (home_at w.types w.before w.modules sound.homes k h at).2.fields;
     table = sound.table;
   }
+
+  abbrev IsPlain : TypedProcedure → Type 0
+  IsPlain q = IsProcedure (program_of w) q × (q.of ≡ None)
 
   abbrev Declared : Env → Type 0
   Declared e = IsDeclared (length w.before) w.before w.types text m e
@@ -529,12 +543,19 @@ module _ (w : World) (sound : IsWorld w) (text : List ℕ) (m : Tree) where
           by false at there = get_front w.before (e.here ∷ []) k h (ap (λ hs. slice_get hs k) (sym is.before_is) ∙ there)
 
       count_objects : length e.types ≡ 10 + length world.objects
-      count_objects = omega (arith, is.long, sound.count, count, length-append w.objects b.objects)
+      count_objects = omega (arith, is.long, sound.count, count, numbered_count e (length w.objects) b.objects, length-append w.objects (objects_from e (length w.objects) b.objects))
+
+      -- each object type's objects have a body
+      known : (k : ℕ) (o : ObjectType) → slice_get world.objects k ≡ Some o → o.has_body ≡ is_object (row_of e.types (id_of (Named k)))
+      known = has_known w.types e w.objects b.objects is.stays sound.count (λ k o there. (sound.objects k o there).has)
+
+      bodied : (t : ℕ) → is_object (row_of e.types (id_of (Named t))) ≡ true → HasBody (program_of world) t
+      bodied = bodies_known (program_of world) count_objects known
 
       everywhere : (own : Option TypedProcedure) (path : List Open) → IsPlaced (record { program = program_of world; own = own; basic = is.table.basic }) (env.back_at path e) →
           IsWhole (record { program = program_of world; own = own; basic = is.table.basic }) (env.back_at path e)
       everywhere own path placed =
-          whole (record { program = program_of world; own = own; basic = is.table.basic }) (env.back_at path e) world.before homes_more at_home is.table is.fields fields_before is.narrowed_is refl count_objects placed
+          whole (record { program = program_of world; own = own; basic = is.table.basic }) (env.back_at path e) world.before homes_more at_home is.table is.fields fields_before is.narrowed_is refl count_objects bodied placed
 
       own_path : e.path ≡ env.own e.number ∷ []
       own_path = is.path_is ∙ ap (λ n. env.own n ∷ []) (sym is.number_is)
@@ -562,11 +583,12 @@ module _ (w : World) (sound : IsWorld w) (text : List ℕ) (m : Tree) where
           by : (o : Option Module) → slice_get w.modules n ≡ o → option_and_then (λ (y : Module). slice_get y.procedures k) o ≡ Some x → HaveTypes (program_of w) x.parameters
           by None at there = absurd (no_scope there)
           by (Some y) at there =
-              (all_at (IsProcedure (program_of w)) y.procedures k x (each_at (λ (y : Module). All (IsProcedure (program_of w)) y.procedures) w.modules n y sound.procedures at) there).parameters
+              (all_at IsPlain y.procedures k x (each_at (λ (y : Module). All IsPlain y.procedures) w.modules n y sound.procedures at) there).0.parameters
 
       grows : Grows (program_of w) (program_of world)
       grows =
-          grown w.modules (module_of e m b ∷ []) w.types e.types w.objects b.objects is.stays sound.table is.table parameters_there
+          grown w.modules (module_of e m b ∷ []) w.types e.types w.objects (objects_from e (length w.objects) b.objects) is.stays sound.table is.table parameters_there
+          (λ k o there. (sound.objects k o there).methods)
 
       longer : length world.modules ≡ length w.modules + 1
       longer = length-append w.modules (module_of e m b ∷ [])
@@ -575,35 +597,22 @@ module _ (w : World) (sound : IsWorld w) (text : List ℕ) (m : Tree) where
         abbrev AreSound : Module → Type 0
         AreSound x = AreStatements (program_of world) None x.body
 
-        abbrev IsSound : ObjectType → Type 0
-        IsSound o = AreStatements (program_of world) None o.body
-
         all_bodies : Each AreSound world.modules
         all_bodies =
             joined AreSound w.modules (module_of e m b ∷ [])
             (implied (λ x. AreStatements (program_of w) None x.body) AreSound (λ x is. body_grows (program_of w) (program_of world) grows x.body is) w.modules sound.bodies)
             (are.own, tt)
 
-        all_objects : Each IsSound world.objects
-        all_objects =
-            joined IsSound w.objects b.objects
-            (implied (λ o. AreStatements (program_of w) None o.body) IsSound (λ o is. body_grows (program_of w) (program_of world) grows o.body is) w.objects sound.objects)
-            are.objects.0
-
-        all_places : Each (λ o. o.home < length world.modules) world.objects
-        all_places =
-            joined (λ o. o.home < length world.modules) w.objects b.objects
-            (implied (λ o. o.home < length w.modules) (λ o. o.home < length world.modules) (λ o is. before o.home is) w.objects sound.places)
-            (implied (λ o. o.home ≡ e.number) (λ o. o.home < length world.modules) (λ o is. here o.home is) b.objects are.objects.1)
+        all_objects : (k : ℕ) (o : ObjectType) → slice_get world.objects k ≡ Some o → IsBeside (program_of world) k o
+        all_objects = behind w.objects (objects_from e (length w.objects) b.objects) (IsBeside (program_of world))
+            (λ k o there. beside_grows (program_of w) (program_of world) grows sound.count (omega (arith, longer)) k o there (sound.objects k o there))
+            (beside_new (program_of world) e refl here b.objects are.objects (length w.objects))
           where
-            before : (k : ℕ) → k < length w.modules → k < length world.modules
-            before k h = omega (arith, longer)
-
-            here : (k : ℕ) → k ≡ e.number → k < length world.modules
-            here k h = omega (arith, longer, is.number_is, same_length w.types w.before w.modules sound.homes)
+            here : e.number < length world.modules
+            here = omega (arith, longer, is.number_is, same_length w.types w.before w.modules sound.homes)
 
         abbrev AreProcedures : Module → Type 0
-        AreProcedures x = All (IsProcedure (program_of world)) x.procedures
+        AreProcedures x = All (λ q. IsProcedure (program_of world) q × (q.of ≡ None)) x.procedures
 
         headings : HaveHeadings (program_of world) is.table.basic e.here.text e.here.scopes (first_scope m) (procedures m.decls) e.here.signatures
         headings j q at =
@@ -613,9 +622,9 @@ module _ (w : World) (sound : IsWorld w) (text : List ℕ) (m : Tree) where
         all_procedures : Each AreProcedures world.modules
         all_procedures =
             joined AreProcedures w.modules (module_of e m b ∷ [])
-            (implied (λ x. All (IsProcedure (program_of w)) x.procedures) AreProcedures
-            (λ x. All-weaker (IsProcedure (program_of w)) (IsProcedure (program_of world)) (procedure_grows (program_of w) (program_of world) grows) x.procedures) w.modules sound.procedures) (
-              all_of (IsProcedure (program_of world)) (module_of e m b).procedures
+            (implied (λ x. All IsPlain x.procedures) AreProcedures
+            (λ x. All-weaker IsPlain (λ q. IsProcedure (program_of world) q × (q.of ≡ None)) (λ q is. (procedure_grows (program_of w) (program_of world) grows q is.0, is.1)) x.procedures) w.modules sound.procedures) (
+              all_of (λ q. IsProcedure (program_of world) q × (q.of ≡ None)) (module_of e m b).procedures
                   (procedures_typed (program_of world) is.table.basic e.here.text e.here.scopes (first_scope m) (procedures m.decls) e.here.signatures b.procedures headings are.procedures),
               tt,
             )
@@ -626,7 +635,6 @@ module _ (w : World) (sound : IsWorld w) (text : List ℕ) (m : Tree) where
           count = count_objects;
           bodies = all_bodies;
           objects = all_objects;
-          places = all_places;
           table = is.table;
           procedures = all_procedures;
         }

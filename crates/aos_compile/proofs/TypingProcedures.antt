@@ -101,7 +101,7 @@ module _ (p : Program) (begins : RowsStay basic_rows p.types) (text : List ℕ) 
       }
 
   pub procedures_typed : (scopes : List Scope) (k : ℕ) (qs : List Procedure) (ss : List Signature) (bs : List Stats) → HaveHeadings scopes k qs ss →
-      AreBodies scopes k qs ss bs → Each (IsProcedure p) (procedures_of text scopes k qs ss bs)
+      AreBodies scopes k qs ss bs → Each (λ x. IsProcedure p x × (x.of ≡ None)) (procedures_of text scopes k qs ss bs)
   procedures_typed scopes k [] ss bs headings typed = tt
   procedures_typed scopes k (q ∷ qs) [] bs headings typed = tt
   procedures_typed scopes k (q ∷ qs) (s ∷ ss) [] headings typed = tt
@@ -110,8 +110,11 @@ module _ (p : Program) (begins : RowsStay basic_rows p.types) (text : List ℕ) 
       let here : slice_get scopes k ≡ Some one.scope = ap (slice_get scopes) (no_more k) ∙ one.scope_is in
       let heading : IsHeading p.types q s one.scope =
       subst (λ (z : Signature). IsHeading p.types q z one.scope) (sym (same_Some s one.signature one.signature_is)) one.heading in (
-        subst (λ (o : Option Scope). IsProcedure p (procedure_of text q s (variables_of o) b)) (sym here)
-            (procedure q s one.scope b heading (subst (λ (o : Option Scope). AreStatements p (Some (procedure_of text q s (variables_of o) b)) b) here typed.0)),
+        (
+          subst (λ (o : Option Scope). IsProcedure p (procedure_of text q s (variables_of o) b)) (sym here)
+              (procedure q s one.scope b heading (subst (λ (o : Option Scope). AreStatements p (Some (procedure_of text q s (variables_of o) b)) b) here typed.0)),
+          refl,
+        ),
         procedures_typed scopes (suc k) qs ss bs (others scopes k q qs s ss headings) typed.1,
       )
 

@@ -1,5 +1,5 @@
 -- A program with more modules and more objects: what is well typed stays so.
-use Rattle.std.proofs.Common.{◌≡◌, ℕ, zero, suc, ◌<◌, ◌≤◌, ◌⊎◌, inl, inr, List, [], ◌∷◌, ◌++◌, length, true, All, Option, Some, None, option_map, option_and_then, slice_get, refl, sym, ap, ◌∙◌, subst, length-append, arith}
+use Rattle.std.proofs.Common.{◌≡◌, ℕ, zero, suc, ◌<◌, ◌≤◌, ◌⊎◌, inl, inr, List, [], ◌∷◌, ◌++◌, length, map, fold, true, All, Option, Some, None, option_map, option_and_then, slice_get, refl, sym, ap, ◌∙◌, subst, length-append, arith}
 use Rattle.std.proofs.lemmas.List.Elements.{All-head, All-tail}
 use Rattle.std.proofs.lemmas.Option.{none-some, same_Some, slice_get_within}
 use Rattle.aos_base.specs.declared.operator.Binary.{Binary as BinaryOperator}
@@ -15,9 +15,10 @@ use Rattle.aos_typed.specs.declared.tree.TType.TheVariants.{Integer, Named, Any,
 use Rattle.aos_typed.specs.Numbers.{id_of}
 use Rattle.aos_typed.specs.Meaning.{changed_type}
 use Rattle.aos_typed.specs.Routines.{result_of}
-use Rattle.aos_typed.specs.Program.{Place, ModuleVar, Local, Passed, Field, Index, Of, Deref, Typed, Guarded, Rows, Known, Opened, Row, Spread, Longer, Arguments, NoMore, Scalar, Whole, Opening, Expr, Lit, Read, Unary, Binary, And, Or, Element, Ord, Chr, CompareTexts, Len, LenBehind, Function, Same, Is, IsRecord, Guard, Had, Call, Open, Char, Int, String, Ln, Stat, Assign, Copy, PutText, If, Case, While, Repeat, Loop, Exit, For, Block, Assert, Halt, Change, Perform, Return, New, Make, With, WithRecord, Out, Stats, Nothing, Then, Arms, Otherwise, Arm, Cases, NoElse, Else, OfLabels, Parameter, Procedure, Module, ObjectType, Program}
+use Rattle.aos_typed.specs.Program.{Place, ModuleVar, Local, Passed, Field, Index, Of, Deref, Typed, Guarded, Rows, Known, Opened, Row, Spread, Longer, Arguments, NoMore, Scalar, Whole, Opening, Callee, Plain, Dispatched, Upper, Expr, Lit, SelfRef, Read, Unary, Binary, And, Or, Element, Ord, Chr, CompareTexts, Len, LenBehind, Function, Same, Is, IsRecord, Guard, Had, Call, Open, Char, Int, String, Ln, Stat, Assign, Copy, PutText, If, Case, While, Repeat, Loop, Exit, For, Block, Assert, Halt, Change, Perform, Return, New, Make, With, WithRecord, Out, Stats, Nothing, Then, Arms, Otherwise, Arm, Cases, NoElse, Else, OfLabels, Parameter, Procedure, Module, ObjectType, Program}
 use Rattle.aos_typed.specs.Open.{open_dimensions, open_element}
-use Rattle.aos_typed.specs.WellTyped.{variable_type, procedure_in, field_type, target, is_reference, is_value, is_whole, Fits, amount_type, Takes, IsArrayOf, IsConstantText, IsOpening, IsByReference, IsByValue, IsParameter, NamesType, IsGiven, IsPlaceOf, AreRows, AreArguments, IsOf, AreObjects, AreLengthsOf, IsCall, IsReturn, IsStatement, AreStatements, AreArms, AreCases, IsType}
+use Rattle.aos_typed.specs.Methods.{put_at, methods_in, own_methods, base_type, on_base, slots_by, slot_of, own_procedures, method_in}
+use Rattle.aos_typed.specs.WellTyped.{variable_type, procedure_in, field_type, target, is_reference, is_value, is_whole, Fits, amount_type, Takes, IsArrayOf, IsConstantText, IsOpening, IsByReference, IsByValue, IsParameter, NamesType, IsGiven, IsPlaceOf, IsObjectAt, AreRows, AreArguments, IsCalled, IsOf, AreObjects, AreLengthsOf, IsCall, IsReturn, IsStatement, AreStatements, AreArms, AreCases, IsType}
 use Rattle.aos_symbols.proofs.Told.{get_front}
 use Rattle.aos_check_expr.proofs.Opens.{OpensFall, stand_fall, dimensions_stay, element_stays}
 use Rattle.aos_check_decl.proofs.Typing.{AreReady}
@@ -28,11 +29,14 @@ use Rattle.aos_compile.proofs.TypingTypes.{RowsStay, fact_stays, closed_stays}
 abbrev pub HaveTypes : Program → List Parameter → Type 0
 HaveTypes p as' = All (λ a. IsType p a.of) as'
 
--- each module, each row and each object type has its number, and both tables are those of modules that break no rule
+-- each module, each row and each object type has its number, none of these has methods, and both tables are those of modules that
+-- break no rule
 pub record Grows (p q : Program) : Type 0 where
   pub modules : (m : ℕ) (x : Module) → slice_get p.modules m ≡ Some x → slice_get q.modules m ≡ Some x
   pub rows : RowsStay p.types q.types
   pub objects : length p.objects ≤ length q.objects
+  pub stand : (t : ℕ) (o : ObjectType) → slice_get p.objects t ≡ Some o → slice_get q.objects t ≡ Some o
+  pub bare : (t : ℕ) (o : ObjectType) → slice_get p.objects t ≡ Some o → o.methods ≡ []
   pub parameters : (m k : ℕ) (x : Procedure) → procedure_in p m k ≡ Some x → HaveTypes p x.parameters
   pub old : AreReady p.types
   pub new : AreReady q.types
@@ -55,6 +59,31 @@ takes_more Meet A B C D f g h = (f _ h.0, g _ h.1)
 takes_more Xor A B C D f g h = (f _ h.0, g _ h.1)
 takes_more SetSpan A B C D f g h = (f _ h.0, g _ h.1)
 takes_more In A B C D f g h = (f _ h.0, g _ h.1)
+
+-- where no type has methods there is none in a slot
+module _ (p : Program) (bare : (t : ℕ) (o : ObjectType) → slice_get p.objects t ≡ Some o → o.methods ≡ []) where
+  no_own : (t : ℕ) → own_methods p t ≡ []
+  no_own t = by (slice_get p.objects t) refl
+    where
+      by : (o : Option ObjectType) → slice_get p.objects t ≡ o → methods_in o ≡ []
+      by None is = refl
+      by (Some o) is = bare t o is
+
+  no_slots : (n t : ℕ) → slots_by p (own_procedures p) n t ≡ []
+  no_slots zero t = refl
+  no_slots (suc n) t =
+      ap (λ ms. fold put_at (on_base (slots_by p (own_procedures p) n) (base_type p t)) (map slot_of ms)) (no_own t) ∙ by (base_type p t) (no_slots n)
+    where
+      by : (b : Option ℕ) → ((u : ℕ) → slots_by p (own_procedures p) n u ≡ []) → on_base (slots_by p (own_procedures p) n) b ≡ []
+      by None none = refl
+      by (Some u) none = none u
+
+  no_method : (t k : ℕ) (x : Procedure) → method_in p t k ≡ Some x → ⊥
+  no_method t k x is = none-some x (ap (λ xs. slice_get xs k) (sym (no_slots (length p.objects) t)) ∙ is)
+
+either_grows : {A B C D : Type 0} → (A → C) → (B → D) → A ⊎ B → C ⊎ D
+either_grows f g (inl a) = inl (f a)
+either_grows f g (inr b) = inr (g b)
 
 module _ (p q : Program) (grows : Grows p q) where
   falls : OpensFall p.types
@@ -107,6 +136,15 @@ module _ (p q : Program) (grows : Grows p q) where
 
   fewer : (k : ℕ) → k < length p.objects → k < length q.objects
   fewer k h = let more = grows.objects in omega (arith, h, more)
+
+  has_grows : (t : ℕ) → option_map (λ (o : ObjectType). o.has_body) (slice_get p.objects t) ≡ Some true →
+      option_map (λ (o : ObjectType). o.has_body) (slice_get q.objects t) ≡ Some true
+  has_grows t h = by (slice_get p.objects t) refl h
+    where
+      by : (o : Option ObjectType) → slice_get p.objects t ≡ o → option_map (λ (o : ObjectType). o.has_body) o ≡ Some true →
+          option_map (λ (o : ObjectType). o.has_body) (slice_get q.objects t) ≡ Some true
+      by None is h = absurd (no_type h)
+      by (Some o) is h = ap (option_map (λ (o : ObjectType). o.has_body)) (grows.stand t o is) ∙ h
 
   -- each variable has its type, and each procedure its number
   in_module : {A : Type 0} (f : Module → Option A) (m : ℕ) (x : A) → option_and_then f (slice_get p.modules m) ≡ Some x → option_and_then f (slice_get q.modules m) ≡ Some x
@@ -199,18 +237,34 @@ module _ (p q : Program) (grows : Grows p q) where
         inr (inl (closed_stays p.types q.types grows.rows (id_of a.of).0 there h.0, h.1, names_grow x u h.2, comes_grow (id_of u) (id_of a.of) h.3))
     given_grows a x u there (inr (inr h)) = inr (inr (value_parameter a a.of there h.0, whole_grows a.of h.1, comes_grow (id_of u) (id_of a.of) h.2))
 
+    called_grows : (c : Callee) (x : Procedure) → IsCalled p own c x → IsCalled q own c x × HaveTypes p x.parameters
+    called_grows (Plain m k) x h = (procedure_grows m k x h, grows.parameters m k x h)
+    called_grows (Dispatched e t k) x h = absurd (no_method p grows.bare t k x h.2)
+    called_grows (Upper t k) x h = absurd (no_method p grows.bare t k x h.3)
+
     mutual
       place_grows : (x : Place) (t : TType) → IsPlaceOf p own x t → IsPlaceOf q own x t
       place_grows (ModuleVar m k) t h = variable_grows m k t h
       place_grows (Local k) t (inl h) = inl h
       place_grows (Local k) t (inr h) = inr (h.0, h.1, value_parameter h.0 t (own_there k h.0 h.1) h.2)
       place_grows (Passed k) t h = (h.0, h.1, reference_parameter h.0 t (own_there k h.0 h.1) h.2)
-      place_grows (Field x of k) t h = (place_grows x of h.0, field_grows (id_of of) k (id_of t) h.1)
+      place_grows (Field x of k) t h = (either_grows (λ a. (place_grows x of a.0, record_grows of a.1)) (object_grows x of) h.0, field_grows (id_of of) k (id_of t) h.1)
       place_grows (Index x n of e) t h = (h.0, place_grows x h.0 h.1, row_grows (id_of h.0).0 (row.Array n (id_of of)) h.2, value_grows e (Integer W64) h.3, h.4)
       place_grows (Of r) t h = rows_grow r 0 t h
       place_grows (Deref e u) t h = (h.0, value_grows e h.0 h.1, target_grows h.0 (id_of u) h.2, whole_grows u h.3, h.4)
       place_grows (Typed x k) t h = (place_grows x (Named k) h.0, record_grows (Named k) h.1, h.2)
       place_grows (Guarded x k) t h = (h.0, place_grows x h.0 h.1, names_grow x h.0 h.2, record_grows (Named k) h.3, h.4)
+
+      object_grows : (x : Place) (t : TType) → IsObjectAt p own x t → IsObjectAt q own x t
+      object_grows (Deref e u) t h = (value_grows e u h.0, fact_stays p.types q.types grows.rows is_object refl (id_of u).0 h.1, h.2)
+      object_grows (ModuleVar m k) t h = h
+      object_grows (Local k) t h = h
+      object_grows (Passed k) t h = h
+      object_grows (Field x of k) t h = h
+      object_grows (Index x n of e) t h = h
+      object_grows (Of r) t h = h
+      object_grows (Typed x k) t h = h
+      object_grows (Guarded x k) t h = h
 
       rows_grow : (r : Rows) (n : ℕ) (t : TType) → AreRows p own r n t → AreRows q own r n t
       rows_grow (Known x ns) n t h = (h.0, known_grows (IsPlaceOf p own x) (IsPlaceOf q own x) (place_grows x) x ns t h.1)
@@ -258,8 +312,10 @@ module _ (p q : Program) (grows : Grows p q) where
       value_grows (CompareTexts r x y) t h = (rows_grow x 1 TChar h.0, rows_grow y 1 TChar h.1, h.2)
       value_grows (Len r d) t h = (h.0, h.1, rows_grow r h.0 h.1 h.2, h.3, h.4, h.5)
       value_grows (LenBehind r n) t h = (h.0, h.1, rows_grow r h.0 h.1 h.2, h.3, h.4)
-      value_grows (Function m k more) t h =
-          (h.0, h.1, procedure_grows m k h.0 h.2, h.3, scalar_grows h.1 h.4, fits_grow t h.1 h.5, arguments_grow more h.0.parameters (grows.parameters m k h.0 h.2) h.6)
+      value_grows SelfRef t h = (h.0, h.1, fact_stays p.types q.types grows.rows is_object refl (id_of (Named h.0)).0 h.2, fits_grow t (Named h.0) h.3)
+      value_grows (Function c more) t h =
+          let one = called_grows c h.0 h.2 in
+          (h.0, h.1, one.0, h.3, scalar_grows h.1 h.4, fits_grow t h.1 h.5, arguments_grow more h.0.parameters one.1 h.6)
       value_grows (Same a b) t h = (
         (h.0.0, value_grows a h.0.0 h.0.1, reference_grows h.0.0 h.0.2),
         (h.1.0, value_grows b h.1.0 h.1.1, reference_grows h.1.0 h.1.2),
@@ -310,17 +366,17 @@ module _ (p q : Program) (grows : Grows p q) where
       statement_grows (Assert at e code) h = (value_grows e _ h.0, h.1)
       statement_grows (Halt at code) h = h
       statement_grows (Change at c x e) h = (place_grows x (changed_type c) h.0, value_grows e (amount_type c) h.1)
-      statement_grows (Perform at m k more) h = (h.0, procedure_grows m k h.0 h.1, h.2, arguments_grow more h.0.parameters (grows.parameters m k h.0 h.1) h.3)
+      statement_grows (Perform at c more) h =
+          let one = called_grows c h.0 h.1 in (h.0, one.0, h.2, arguments_grow more h.0.parameters one.1 h.3)
       statement_grows (Return at e) h = return_grows e (result_of own) h
       statement_grows (New at x t) h =
-          (h.0, place_grows x (Named t) h.1, fact_stays p.types q.types grows.rows is_object refl (id_of (Named t)).0 h.2, fewer t h.3)
+          (h.0, place_grows x (Named t) h.1, fact_stays p.types q.types grows.rows is_object refl (id_of (Named t)).0 h.2, has_grows t h.3)
       statement_grows (Make at x t ns) h =
           let there = target_there p.types q.types grows.rows falls targets h.0.0 (id_of (Named t)) h.0.2 in (
             (h.0.0, place_grows x h.0.0 h.0.1, target_grows h.0.0 (id_of (Named t)) h.0.2),
-            ap is_object (grows.rows (id_of (Named t)).0 there) ∙ h.1,
-            fewer t h.2,
-            lengths_grow ns h.3,
-            h.4 ∙ sym (dimensions_grow (id_of (Named t)) there),
+            fewer t h.1,
+            lengths_grow ns h.2,
+            h.3 ∙ sym (dimensions_grow (id_of (Named t)) there),
           )
       statement_grows (With at e body) h = (objects_grow e h.0, statements_grow body h.1)
       statement_grows (WithRecord at x body) h = ((h.0.0, place_grows x h.0.0 h.0.1, names_grow x h.0.0 h.0.2), statements_grow body h.1)
@@ -346,11 +402,14 @@ module _ (p q : Program) (grows : Grows p q) where
 -- more modules, more rows and more objects behind those of a program
 pub grown : (ms ns : List Module) (ts us : List TypeRow) (os qs : List ObjectType) → RowsStay ts us → AreReady ts → AreReady us →
     ((m k : ℕ) (x : Procedure) → procedure_in (record { modules = ms; types = ts; objects = os }) m k ≡ Some x → HaveTypes (record { modules = ms; types = ts; objects = os }) x.parameters) →
+    ((t : ℕ) (o : ObjectType) → slice_get os t ≡ Some o → o.methods ≡ []) →
     Grows (record { modules = ms; types = ts; objects = os }) (record { modules = ms ++ ns; types = us; objects = os ++ qs })
-grown ms ns ts us os qs stay old new parameters = record {
+grown ms ns ts us os qs stay old new parameters bare = record {
   modules = get_front ms ns;
   rows = stay;
   objects = omega (arith, length-append os qs);
+  stand = get_front os qs;
+  bare = bare;
   parameters = parameters;
   old = old;
   new = new;

@@ -13,7 +13,10 @@ use Rattle.aos_tree.specs.declared.decl.TypeExpr.TheVariants as type
 use Rattle.aos_tree.specs.declared.module.Module.{Module as Tree}
 use Rattle.aos_types.specs.declared.row.TypeId.{TypeId}
 use Rattle.aos_types.specs.declared.row.TypeRow.{TypeRow}
+use Rattle.aos_types.specs.Table.{row_of, is_object}
 use Rattle.aos_typed.specs.declared.tree.TType.{TType}
+use Rattle.aos_typed.specs.declared.tree.TType.TheVariants.{Named}
+use Rattle.aos_typed.specs.Numbers.{id_of}
 use Rattle.aos_typed.specs.Program.{Stat, Stats, Nothing, Variable, Parameter, Procedure as TypedProcedure, ObjectType, Module, Program}
 use Rattle.aos_symbols.specs.declared.home.Parameter.{Parameter as Formal}
 use Rattle.aos_symbols.specs.declared.home.Gives.{Gives}
@@ -53,23 +56,27 @@ abbrev pub object_body : TypeExpr → Option Block
 object_body (type.Object' p base shape row body end) = body
 object_body t = None
 
--- What stands beside the types: first those that a module's own declarations define, each in whose scope its body stands; then
--- those of its procedures, and those that are written elsewhere.
+-- What a module says beside its types: a name, and the statements of a body. First stand those that the module's own declarations
+-- define, each in whose scope its body stands; then those of its procedures, and those that are written elsewhere.
 
-abbrev pub object_in : Env → List ObjectType → TypeDef → Judged (List ObjectType)
+pub record Beside : Type 0 where
+  pub name : List ℕ
+  pub body : Stats
+
+abbrev pub object_in : Env → List Beside → TypeDef → Judged (List Beside)
 object_in e os d =
     bind (body_of (env.within e (suc (length os))) true (object_body d.value)) (λ ss.
-    kept (os ++ record { name = spelling e.here.text d.def.name; home = e.number; body = listed ss } ∷ []))
+    kept (os ++ record { name = spelling e.here.text d.def.name; body = listed ss } ∷ []))
 
-abbrev pub local_type : Env → TypeDef → ObjectType
-local_type e d = record { name = spelling e.here.text d.def.name; home = e.number; body = Nothing }
+abbrev pub local_type : Env → TypeDef → Beside
+local_type e d = record { name = spelling e.here.text d.def.name; body = Nothing }
 
-abbrev pub unnamed_type : Env → Pos → ObjectType
-unnamed_type e at = record { name = []; home = e.number; body = Nothing }
+abbrev pub unnamed_type : Pos → Beside
+unnamed_type at = record { name = []; body = Nothing }
 
-abbrev pub other_types : Env → Tree → List ObjectType
+abbrev pub other_types : Env → Tree → List Beside
 other_types e m =
-    map (local_type e) (flat_map (λ p. type_defs p.decls) (procedures m.decls)) ++ map (unnamed_type e) e.places
+    map (local_type e) (flat_map (λ p. type_defs p.decls) (procedures m.decls)) ++ map unnamed_type e.places
 
 -- The bodies of procedures, whose scopes have the numbers from k on, behind those before them.
 abbrev pub bodies_from : Env → ℕ → List Stats → List Procedure → Judged (List Stats)
@@ -81,8 +88,29 @@ bodies_from e k done (p ∷ ps) =
 abbrev pub first_scope : Tree → ℕ
 first_scope m = suc (length (type_defs m.decls))
 
+-- The types of a program have their numbers in load order. The objects of each object type carry out its body, which is that of a
+-- procedure with nothing of its own.
+
+abbrev pub body_beside : (type : ℕ) → Stats → TypedProcedure
+body_beside k body = record { name = []; of = Some k; parameters = []; locals = []; result = None; body = body }
+
+abbrev pub object_of : Env → (type : ℕ) → Beside → ObjectType
+object_of e k x =
+    record {
+      name = x.name;
+      home = e.number;
+      has_body = is_object (row_of e.types (id_of (Named k)));
+      body = body_beside k x.body;
+      methods = [];
+    }
+
+-- the first of these types has the number k
+abbrev pub objects_from : Env → ℕ → List Beside → List ObjectType
+objects_from e k [] = []
+objects_from e k (x ∷ xs) = object_of e k x ∷ objects_from e (suc k) xs
+
 pub record Bodies : Type 0 where
-  pub objects : List ObjectType
+  pub objects : List Beside
   pub procedures : List Stats
   pub own : List Stat
 
@@ -113,6 +141,7 @@ procedure_of text p s variables body =
     let names = formal_names p.formals in
     record {
       name = spelling text p.name;
+      of = None;
       parameters = map (parameter_of text) (zip names s.parameters);
       locals = map (variable_of text) (zip (single_variables p.decls) (drop (length names) variables));
       result = result_of s.gives;
@@ -145,7 +174,7 @@ extended w e m b =
       before = w.before ++ e.here ∷ [];
       types = e.types;
       modules = w.modules ++ module_of e m b ∷ [];
-      objects = w.objects ++ b.objects;
+      objects = w.objects ++ objects_from e (length w.objects) b.objects;
     }
 
 -- the module of a file, whose text this is

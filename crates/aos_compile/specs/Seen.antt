@@ -1,9 +1,11 @@
 -- What the code's modules are seen as.
 use Rattle.std.specs.Prelude.{map}
+use Rattle.std.specs.String.{string_bytes}
 use Rattle.aos_typed.specs.Seen.{seen_stat, seen_stats, seen_module, seen_object}
 use Rattle.aos_compile.specs.declared.modules.World.{World as CodeWorld}
+use Rattle.aos_compile.specs.declared.objects.Beside.{Beside as CodeBeside}
 use Rattle.aos_compile.specs.declared.objects.Bodies.{Bodies as CodeBodies}
-use Rattle.aos_compile.specs.Modules.{World, Bodies}
+use Rattle.aos_compile.specs.Modules.{World, Beside, Bodies}
 
 abbrev pub seen_world : CodeWorld → World
 seen_world w =
@@ -14,10 +16,13 @@ seen_world w =
       objects = map seen_object w.objects.items;
     }
 
+abbrev pub seen_beside : CodeBeside → Beside
+seen_beside x = record { name = string_bytes x.name; body = seen_stats x.body.items }
+
 abbrev pub seen_bodies : CodeBodies → Bodies
 seen_bodies b =
     record {
-      objects = map seen_object b.objects.items;
+      objects = map seen_beside b.objects.items;
       procedures = map (λ ss. seen_stats ss.items) b.procedures.items;
       own = map seen_stat b.own.items;
     }

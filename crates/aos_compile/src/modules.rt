@@ -2,7 +2,10 @@
 
 ghost use Rattle.std.specs.Prelude.{◌≡◌, ◌≤◌, ◌^◌, ◌+◌, ◌++◌, [], None, length, map, IfOk, IfErr, OnOk};
 ghost use Rattle.aos_types.specs.declared.row.TypeRow.TheVariants as row;
-ghost use Rattle.aos_typed.specs.Seen.{seen_stat, seen_stats, seen_module, seen_object, seen_program};
+ghost use Rattle.aos_types.specs.Table.{row_of, is_object};
+ghost use Rattle.aos_typed.specs.declared.tree.TType.TheVariants.{Named};
+ghost use Rattle.aos_typed.specs.Numbers.{id_of};
+ghost use Rattle.aos_typed.specs.Seen.{seen_stat, seen_stats, seen_module, seen_object, seen_procedure, seen_program};
 ghost use Rattle.aos_symbols.specs.Breaches.{first};
 ghost use Rattle.aos_symbols.specs.Judged.{judged};
 ghost use Rattle.aos_symbols.specs.Outcome.{went, refused, passed, refusal_of};
@@ -11,10 +14,10 @@ ghost use Rattle.aos_check_decl.specs.Pass.{declare as declare_of};
 ghost use Rattle.aos_compile.specs.declared.compile_err.CompileErr.TheVariants as err;
 ghost use Rattle.aos_compile.specs.Elaborates.{OnRefused};
 ghost use Rattle.aos_compile.specs.Modules as judge;
-ghost use Rattle.aos_compile.specs.Seen.{seen_world, seen_bodies};
+ghost use Rattle.aos_compile.specs.Seen.{seen_world, seen_beside, seen_bodies};
 
 use crate::compile_err::CompileErr;
-use crate::objects::{Bodies, bodies_of, spelling_of};
+use crate::objects::{Beside, Bodies, bodies_of, spelling_of};
 use crate::procedures::procedures_of;
 use crate::texts::texts_of;
 use crate::variables::variables_of;
@@ -22,9 +25,12 @@ use aos_base::{NoMemory, Refusal};
 use aos_check_decl::declare;
 use aos_symbols::{Breach, Env, Home, check_names};
 use aos_tree::{Items, Module};
-use aos_typed::{Program, TModule, TObject, TStat};
-use aos_types::{Basic, TypeRow, Types};
+use aos_typed::{Program, TModule, TObject, TProcedure, TStat};
+use aos_types::{Basic, TypeId, TypeRow, Types};
 use std::alloc::{AllocError, Global};
+
+/// How many types are predeclared; they stand first in the table.
+const PREDECLARED_TYPES: u32 = 10;
 
 /// The basic types, in the order of their numbers; ANY and the type of string constants stand behind them.
 const BASIC_TYPES: [Basic; 8] = [
@@ -169,12 +175,65 @@ fn module_of(
     })
 }
 
-/// Puts object types behind these.
-fn join_objects(all: &mut Vec<TObject>, objects: Vec<TObject>) -> Result<(), AllocError>
-    ensures { OnOk result (all.new.items ≡ all.old.items ++ objects.items) }
+/// Whether the type with a number in the program is an object type.
+fn is_object_type(env: &Env<'_>, number: u32) -> Result<bool, AllocError>
+    ensures { IfOk result (λ b. b ≡ is_object (row_of env.now.types (id_of (Named number)))) }
 {
-    for object in objects {
-        all.push(object)?;
+    match number.checked_add(PREDECLARED_TYPES) {
+        Some(id) => Ok(matches!(env.row(Some(TypeId(id))), Some(TypeRow::Object(_, _)))),
+        None => Err(AllocError),
+    }
+}
+
+/// The body beside the type with a number in the program.
+fn body_beside(alloc: Global, number: u32, body: Vec<TStat>) -> TProcedure
+    ensures { seen_procedure result ≡ judge.body_beside number (seen_stats body.items) }
+{
+    TProcedure {
+        name: String::new(alloc),
+        of: Some(number),
+        parameters: Vec::new(alloc),
+        locals: Vec::new(alloc),
+        result: None,
+        body,
+    }
+}
+
+/// What stands beside the type with a number in the program.
+fn object_of(
+    alloc: Global,
+    env: &Env<'_>,
+    number: u32,
+    beside: Beside,
+) -> Result<TObject, AllocError>
+    ensures { IfOk result
+        (λ o. seen_object o ≡ judge.object_of env.now number (seen_beside beside)) }
+{
+    let Beside { name, body } = beside;
+    Ok(TObject {
+        name,
+        home: env.number,
+        has_body: is_object_type(env, number)?,
+        body: body_beside(alloc, number, body),
+        methods: Vec::new(alloc),
+    })
+}
+
+/// Puts what stands beside a module's types behind those before it.
+fn join_objects(
+    alloc: Global,
+    env: &Env<'_>,
+    all: &mut Vec<TObject>,
+    objects: Vec<Beside>,
+) -> Result<(), AllocError>
+    ensures { OnOk result (map seen_object all.new.items ≡ map seen_object all.old.items
+        ++ judge.objects_from env.now (length (map seen_object all.old.items)) (map seen_beside objects.items)) }
+{
+    for beside in objects {
+        let Ok(number) = u32::try_from(all.len()) else {
+            return Err(AllocError);
+        };
+        all.push(object_of(alloc, env, number, beside)?)?;
     }
     Ok(())
 }
@@ -202,7 +261,7 @@ fn extended<'a>(
         own,
     } = bodies;
     modules.push(module_of(alloc, &env, tree, procedures, own)?)?;
-    join_objects(&mut objects, more)?;
+    join_objects(alloc, &env, &mut objects, more)?;
     let Env {
         mut before,
         here,

@@ -3,27 +3,34 @@
 ghost use Rattle.std.specs.Prelude.{◌≡◌, ◌++◌, suc, [], true, false, OnOk, IfOk, map};
 ghost use Rattle.std.specs.List.{flat_map};
 ghost use Rattle.std.specs.String.{string_bytes};
-ghost use Rattle.aos_typed.specs.Seen.{seen_stat, seen_stats, seen_object};
+ghost use Rattle.aos_typed.specs.Seen.{seen_stat, seen_stats};
 ghost use Rattle.aos_symbols.specs.Breaches.{first_after};
 ghost use Rattle.aos_symbols.specs.Judged.{walk};
 ghost use Rattle.aos_symbols.specs.Declarations.{types_in, type_defs, procedures};
 ghost use Rattle.aos_symbols.specs.Env as env_of;
 ghost use Rattle.aos_check_stat.specs.Bodies.{body_of as body_of_env};
 ghost use Rattle.aos_compile.specs.Modules as judge;
-ghost use Rattle.aos_compile.specs.Seen.{seen_bodies};
+ghost use Rattle.aos_compile.specs.Seen.{seen_beside, seen_bodies};
 
 use aos_base::Pos;
 use aos_check_stat::body_of;
 use aos_symbols::{Breach, Env, word};
 use aos_tree::{Block, Decl, Module, Name, TypeDef, TypeExpr};
-use aos_typed::{TObject, TStat};
+use aos_typed::TStat;
 use std::alloc::{AllocError, Global};
+
+/// What a module says beside one of its types: its name, which is empty where it has none, and the statements of its body.
+#[derive(Drop)]
+pub struct Beside {
+    pub name: String,
+    pub body: Vec<TStat>,
+}
 
 /// The bodies of a module, as the typed program has them: what stands beside its types, the statements of its procedures, and
 /// those of its own body.
 #[derive(Drop)]
 pub struct Bodies {
-    pub objects: Vec<TObject>,
+    pub objects: Vec<Beside>,
     pub procedures: Vec<Vec<TStat>>,
     pub own: Vec<TStat>,
 }
@@ -100,20 +107,19 @@ fn add_object(
     alloc: Global,
     found: &mut Option<Breach>,
     env: &mut Env<'_>,
-    objects: &mut Vec<TObject>,
+    objects: &mut Vec<Beside>,
     def: &TypeDef,
 ) -> Result<(), AllocError>
     ensures noted { OnOk result (found.new ≡ first_after found.old
-        (judge.object_in env.old (map seen_object objects.old.items) def.now).breaches) }
-    ensures answer { OnOk result (map seen_object objects.new.items ≡
-        (judge.object_in env.old (map seen_object objects.old.items) def.now).answer) }
+        (judge.object_in env.old (map seen_beside objects.old.items) def.now).breaches) }
+    ensures answer { OnOk result (map seen_beside objects.new.items ≡
+        (judge.object_in env.old (map seen_beside objects.old.items) def.now).answer) }
     ensures env { OnOk result (env.new ≡ env.old) }
 {
-    let home = env.number;
     let scope = scope_behind(objects.len())?;
     let body = inner_statements(alloc, found, env, scope, &def.value)?;
     let name = spelling_of(alloc, env.here.text(), def.def.name)?;
-    objects.push(TObject { name, home, body })?;
+    objects.push(Beside { name, body })?;
     Ok(())
 }
 
@@ -122,13 +128,13 @@ fn add_objects(
     alloc: Global,
     found: &mut Option<Breach>,
     env: &mut Env<'_>,
-    objects: &mut Vec<TObject>,
+    objects: &mut Vec<Beside>,
     defs: &[TypeDef],
 ) -> Result<(), AllocError>
     ensures noted { OnOk result (found.new ≡ first_after found.old
-        (walk (judge.object_in env.old) (map seen_object objects.old.items) defs.now).breaches) }
-    ensures answer { OnOk result (map seen_object objects.new.items ≡
-        (walk (judge.object_in env.old) (map seen_object objects.old.items) defs.now).answer) }
+        (walk (judge.object_in env.old) (map seen_beside objects.old.items) defs.now).breaches) }
+    ensures answer { OnOk result (map seen_beside objects.new.items ≡
+        (walk (judge.object_in env.old) (map seen_beside objects.old.items) defs.now).answer) }
     ensures env { OnOk result (env.new ≡ env.old) }
 {
     for def in defs {
@@ -141,13 +147,13 @@ fn add_objects_in(
     alloc: Global,
     found: &mut Option<Breach>,
     env: &mut Env<'_>,
-    objects: &mut Vec<TObject>,
+    objects: &mut Vec<Beside>,
     decl: &Decl,
 ) -> Result<(), AllocError>
     ensures noted { OnOk result (found.new ≡ first_after found.old (walk (judge.object_in env.old)
-        (map seen_object objects.old.items) (types_in decl.now)).breaches) }
-    ensures answer { OnOk result (map seen_object objects.new.items ≡ (walk
-        (judge.object_in env.old) (map seen_object objects.old.items) (types_in decl.now)).answer) }
+        (map seen_beside objects.old.items) (types_in decl.now)).breaches) }
+    ensures answer { OnOk result (map seen_beside objects.new.items ≡ (walk
+        (judge.object_in env.old) (map seen_beside objects.old.items) (types_in decl.now)).answer) }
     ensures env { OnOk result (env.new ≡ env.old) }
 {
     match decl {
@@ -163,10 +169,10 @@ fn objects_of(
     found: &mut Option<Breach>,
     env: &mut Env<'_>,
     decls: &[Decl],
-) -> Result<Vec<TObject>, AllocError>
+) -> Result<Vec<Beside>, AllocError>
     ensures noted { OnOk result (found.new ≡ first_after found.old
         (walk (judge.object_in env.old) [] (type_defs decls.now)).breaches) }
-    ensures answer { IfOk result (λ os. map seen_object os.items ≡
+    ensures answer { IfOk result (λ os. map seen_beside os.items ≡
         (walk (judge.object_in env.old) [] (type_defs decls.now)).answer) }
     ensures env { OnOk result (env.new ≡ env.old) }
 {
@@ -181,17 +187,16 @@ fn objects_of(
 fn add_local_types(
     alloc: Global,
     env: &Env<'_>,
-    objects: &mut Vec<TObject>,
+    objects: &mut Vec<Beside>,
     defs: &[TypeDef],
 ) -> Result<(), AllocError>
-    ensures { OnOk result (map seen_object objects.new.items ≡
-        map seen_object objects.old.items ++ map (judge.local_type env.now) defs.now) }
+    ensures { OnOk result (map seen_beside objects.new.items ≡
+        map seen_beside objects.old.items ++ map (judge.local_type env.now) defs.now) }
 {
     for def in defs {
         let name = spelling_of(alloc, env.here.text(), def.def.name)?;
-        objects.push(TObject {
+        objects.push(Beside {
             name,
-            home: env.number,
             body: Vec::new(alloc),
         })?;
     }
@@ -202,11 +207,11 @@ fn add_local_types(
 fn add_types_of(
     alloc: Global,
     env: &Env<'_>,
-    objects: &mut Vec<TObject>,
+    objects: &mut Vec<Beside>,
     decls: &[Decl],
 ) -> Result<(), AllocError>
-    ensures { OnOk result (map seen_object objects.new.items ≡
-        map seen_object objects.old.items ++ map (judge.local_type env.now) (type_defs decls.now)) }
+    ensures { OnOk result (map seen_beside objects.new.items ≡
+        map seen_beside objects.old.items ++ map (judge.local_type env.now) (type_defs decls.now)) }
 {
     for decl in decls {
         if let Decl::Types(_, defs) = decl {
@@ -220,10 +225,10 @@ fn add_types_of(
 fn add_types_of_procedures(
     alloc: Global,
     env: &Env<'_>,
-    objects: &mut Vec<TObject>,
+    objects: &mut Vec<Beside>,
     decls: &[Decl],
 ) -> Result<(), AllocError>
-    ensures { OnOk result (map seen_object objects.new.items ≡ map seen_object objects.old.items
+    ensures { OnOk result (map seen_beside objects.new.items ≡ map seen_beside objects.old.items
         ++ map (judge.local_type env.now) (flat_map (λ p. type_defs p.decls) (procedures decls.now))) }
 {
     for decl in decls {
@@ -235,19 +240,13 @@ fn add_types_of_procedures(
 }
 
 /// Types that are written elsewhere, at these places: they have no name.
-fn add_unnamed(
-    alloc: Global,
-    env: &Env<'_>,
-    objects: &mut Vec<TObject>,
-    places: &[Pos],
-) -> Result<(), AllocError>
-    ensures { OnOk result (map seen_object objects.new.items ≡
-        map seen_object objects.old.items ++ map (judge.unnamed_type env.now) places.now) }
+fn add_unnamed(alloc: Global, objects: &mut Vec<Beside>, places: &[Pos]) -> Result<(), AllocError>
+    ensures { OnOk result (map seen_beside objects.new.items ≡
+        map seen_beside objects.old.items ++ map judge.unnamed_type places.now) }
 {
     for _place in places {
-        objects.push(TObject {
+        objects.push(Beside {
             name: String::new(alloc),
-            home: env.number,
             body: Vec::new(alloc),
         })?;
     }
@@ -258,14 +257,14 @@ fn add_unnamed(
 fn add_others(
     alloc: Global,
     env: &Env<'_>,
-    objects: &mut Vec<TObject>,
+    objects: &mut Vec<Beside>,
     tree: &Module,
 ) -> Result<(), AllocError>
-    ensures { OnOk result (map seen_object objects.new.items ≡
-        map seen_object objects.old.items ++ judge.other_types env.now tree.now) }
+    ensures { OnOk result (map seen_beside objects.new.items ≡
+        map seen_beside objects.old.items ++ judge.other_types env.now tree.now) }
 {
     add_types_of_procedures(alloc, env, objects, tree.decls.as_slice())?;
-    add_unnamed(alloc, env, objects, env.places.as_slice())
+    add_unnamed(alloc, objects, env.places.as_slice())
 }
 
 /// The statements of a procedure's body, in the scope with a number.

@@ -129,6 +129,7 @@ fn procedure_of(
     let locals = locals_of(alloc, text, scope, names.len(), proc.decls.as_slice())?;
     Ok(TProcedure {
         name,
+        of: None,
         parameters,
         locals,
         result: result_of(signature.gives),

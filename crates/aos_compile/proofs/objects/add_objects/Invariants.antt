@@ -1,16 +1,16 @@
 -- The loop over the types of one declaration: the object types are those of the walk so far.
 use Rattle.std.proofs.Common.{◌≡◌, drop, map}
-use Rattle.aos_typed.specs.Seen.{seen_object}
 use Rattle.aos_symbols.specs.Breaches.{first_after}
 use Rattle.aos_symbols.specs.Judged.{walk}
 use Rattle.aos_compile.specs.Modules as judge
+use Rattle.aos_compile.specs.Seen.{seen_beside}
 use Rattle.aos_compile.proofs.objects.add_objects.Given as goal
 
 abbrev pub invariant-loop-def : goal.invariant-loop-def
 invariant-loop-def l = record {
-  noted : first_after l.found (walk (judge.object_in l.initial.env) (map seen_object l.objects.items) (drop l.def-index l.defs)).breaches
-      ≡ first_after l.initial.found (walk (judge.object_in l.initial.env) (map seen_object l.initial.objects.items) l.defs).breaches;
-  answer : (walk (judge.object_in l.initial.env) (map seen_object l.objects.items) (drop l.def-index l.defs)).answer
-      ≡ (walk (judge.object_in l.initial.env) (map seen_object l.initial.objects.items) l.defs).answer;
+  noted : first_after l.found (walk (judge.object_in l.initial.env) (map seen_beside l.objects.items) (drop l.def-index l.defs)).breaches
+      ≡ first_after l.initial.found (walk (judge.object_in l.initial.env) (map seen_beside l.initial.objects.items) l.defs).breaches;
+  answer : (walk (judge.object_in l.initial.env) (map seen_beside l.objects.items) (drop l.def-index l.defs)).answer
+      ≡ (walk (judge.object_in l.initial.env) (map seen_beside l.initial.objects.items) l.defs).answer;
   env : l.env ≡ l.initial.env;
 }

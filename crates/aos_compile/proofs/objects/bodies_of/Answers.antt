@@ -4,7 +4,7 @@ use Rattle.std.proofs.lemmas.List.{length-map}
 use Rattle.aos_tree.specs.declared.decl.Decl.{Decl}
 use Rattle.aos_typed.specs.declared.tree.TStat.{TStat}
 use Rattle.aos_typed.specs.Program.{Stats}
-use Rattle.aos_typed.specs.Seen.{seen_stat, seen_stats, seen_object}
+use Rattle.aos_typed.specs.Seen.{seen_stat, seen_stats}
 use Rattle.aos_symbols.specs.declared.env.Env.{Env}
 use Rattle.aos_symbols.specs.Breaches.{first_after}
 use Rattle.aos_symbols.specs.Judged.{Judged, walk}
@@ -12,6 +12,7 @@ use Rattle.aos_symbols.specs.Declarations.{procedures, type_defs}
 use Rattle.aos_symbols.proofs.Keeping.{after_two}
 use Rattle.aos_check_stat.specs.Bodies.{body_of}
 use Rattle.aos_compile.specs.Modules as judge
+use Rattle.aos_compile.specs.Seen.{seen_beside}
 use Rattle.aos_compile.proofs.Passes.{objects_long}
 use Rattle.aos_compile.proofs.objects.bodies_of.Goals as goal
 
@@ -26,12 +27,12 @@ module _ (c : goal.In_ok-add_others) where
   same : c.procedure_bodies.new.env ≡ e
   same = c.in_ok-procedures.ensures.env ∙ c.in_ok-objects.ensures.env
 
-  objects : map seen_object c.in_ok-objects.objects.items ≡ (walk (judge.object_in e) [] (type_defs decls)).answer
+  objects : map seen_beside c.in_ok-objects.objects.items ≡ (walk (judge.object_in e) [] (type_defs decls)).answer
   objects = c.in_ok-objects.ensures.answer ∙ ap (λ ds. (walk (judge.object_in e) [] (type_defs ds)).answer) c.as_slice-decls.ensures
 
   first : c.in_ok-first.first ≡ judge.first_scope c.args.tree.now
   first =
-      let many : c.len.result ≡ length (map seen_object c.in_ok-objects.objects.items) = search (rules, length-map) in
+      let many : c.len.result ≡ length (map seen_beside c.in_ok-objects.objects.items) = search (rules, length-map) in
       let long = objects_long e [] (type_defs decls) in
       let as_many : c.len.result ≡ length (type_defs decls) = many ∙ ap length objects ∙ long ∙ omega arith in
       c.in_ok-first.ensures ∙ ap suc as_many
@@ -66,6 +67,6 @@ returns-clause-answer c =
     let told = map (λ (ss : Vec TStat Global). seen_stats ss.items) c.in_ok-procedures.procedures.items in
     let own = map seen_stat c.in_ok-own.own.items in
     ap (λ l. record { objects = l; procedures = told; own = own })
-    (c.in_ok-add_others.ensures ∙ ap (λ (v : Env). map seen_object c.in_ok-objects.objects.items ++ judge.other_types v tree) (c.in_ok-own.ensures.env ∙ same c) ∙ ap (λ l. l ++ judge.other_types e tree) (objects c))
+    (c.in_ok-add_others.ensures ∙ ap (λ (v : Env). map seen_beside c.in_ok-objects.objects.items ++ judge.other_types v tree) (c.in_ok-own.ensures.env ∙ same c) ∙ ap (λ l. l ++ judge.other_types e tree) (objects c))
     ∙ ap (λ l. record { objects = os; procedures = l; own = own }) (c.in_ok-procedures.ensures.answer ∙ ap (λ (j : Judged (List Stats)). j.answer) (bodies c))
     ∙ ap (λ l. record { objects = os; procedures = ps; own = l }) (c.in_ok-own.ensures.answer ∙ ap (λ (v : Env). (body_of v false tree.body).answer) (same c))

@@ -1,19 +1,19 @@
 -- One declaration more.
 use Rattle.std.proofs.Common.{map, ap, ◌∙◌}
-use Rattle.aos_typed.specs.Seen.{seen_object}
 use Rattle.aos_symbols.specs.declared.env.Env.{Env}
 use Rattle.aos_symbols.specs.Breaches.{first_after}
 use Rattle.aos_symbols.specs.Judged.{walk}
 use Rattle.aos_symbols.specs.Declarations.{types_in}
 use Rattle.aos_compile.specs.Modules as judge
+use Rattle.aos_compile.specs.Seen.{seen_beside}
 use Rattle.aos_compile.proofs.Passes.{types_noted, types_answer}
 use Rattle.aos_compile.proofs.objects.objects_of.Goals as goal
 
 pub loop-decl-preserved : goal.loop-decl-preserved
 loop-decl-preserved c =
     let e = c.args.env.now in
-    let os = map seen_object c.loop-decl.objects.items in
-    let new = map seen_object c.add_objects_in.new.objects.items in
+    let os = map seen_beside c.loop-decl.objects.items in
+    let new = map seen_beside c.add_objects_in.new.objects.items in
     let x = c.decl-item.result in
     let same = c.loop-decl.invariant.env in
     let told = c.in_ok-add_objects_in.ensures.answer ∙ ap (λ (v : Env). (walk (judge.object_in v) os (types_in x)).answer) same in
