@@ -2,19 +2,15 @@
 #![tactic(auto)]
 
 #[cfg(test)]
-mod blocks;
-#[cfg(test)]
 mod checks;
-#[cfg(test)]
-mod expressions;
 #[cfg(test)]
 mod load_order;
 #[cfg(test)]
-mod modules;
+mod parsers;
+#[cfg(test)]
+mod rows;
 #[cfg(test)]
 mod texts;
-#[cfg(test)]
-mod tokens;
 #[cfg(test)]
 mod trees;
 #[cfg(test)]
