@@ -1,5 +1,6 @@
 -- The tables of types' methods: a chain of bases, one more method, one more type of a chain, and one more table.
-use Rattle.std.proofs.Common.{◌≡◌, ℕ, zero, suc, ◌+◌, ◌-◌, ◌<◌, ◌≤◌, List, [], ◌∷◌, ◌++◌, length, map, take, drop, get_or, Option, Some, None, true, false, if◌then◌else◌, refl, sym, ap, ◌∙◌, arith, append_assoc}
+use Rattle.std.proofs.lemmas.Bool.{ltb-false, true≢false}
+use Rattle.std.proofs.Common.{◌≡◌, ℕ, zero, suc, ◌+◌, ◌-◌, ◌<◌, ◌≤◌, List, [], ◌∷◌, ◌++◌, length, map, take, drop, get_or, Option, Some, None, Bool, true, false, ◌||◌, if◌then◌else◌, refl, sym, ap, ◌∙◌, arith, append_assoc}
 use Rattle.std.specs.Prelude.{nat_lt, slice_get, slice_set, sum_by, option_map, option_and_then}
 use Rattle.std.specs.Option.{unwrap_or}
 use Rattle.std.specs.List.{fold, range_with_len}
@@ -14,9 +15,10 @@ use Rattle.aos_typed.specs.declared.tree.TObject.{TObject}
 use Rattle.aos_typed.specs.Numbers.{procedures_before}
 use Rattle.aos_typed.specs.Program.{ObjectType, Program}
 use Rattle.aos_typed.specs.Methods.{base_type, on_base, put_at, slots_by, slots, methods_in, own_numbers, first_method, numbered_from, method_number}
-use Rattle.aos_typed.specs.Seen.{seen_method, seen_object}
+use Rattle.aos_typed.specs.Seen.{seen_method, seen_object, seen_program}
+use Rattle.aos_typed.specs.declared.tree.Program.{Program as TProgram}
 use Rattle.aos_emit.specs.Laid.{firsts_by, AreFirsts, AreTables}
-use Rattle.aos_emit.specs.Tables.{AreMethodFirsts, chain_by, put_all}
+use Rattle.aos_emit.specs.Tables.{AreMethodFirsts, chain_by, declares_some, put_all}
 use Rattle.aos_emit.proofs.Codes.{more}
 use Rattle.aos_emit.proofs.Found.{number_is}
 
@@ -142,3 +144,31 @@ method_is p tables t k n are e = at_table (slice_get tables t) refl e
     at_table : (o : Option (Vec ℕ Global)) → slice_get tables t ≡ o → option_and_then (λ v. slice_get v.items k) o ≡ Some n → n ≡ method_number p t k
     at_table None is e = absurd (cc)
     at_table (Some v) is e = sym (ap (λ o. unwrap_or o 0) (sym (ap (λ l. slice_get l k) (slots_at p tables t v are is)) ∙ e))
+
+-- Where no type declares a method nothing stands in a slot.
+
+neither : (a b : Bool) → (a || b) ≡ false → (a ≡ false) × (b ≡ false)
+neither true b e = absurd (true≢false e)
+neither false b e = (refl, e)
+
+no_own : (ms : List TMethod) → nat_lt 0 (length ms) ≡ false → map seen_method ms ≡ []
+no_own [] e = refl
+no_own (m ∷ ms) e = absurd (omega (arith, ltb-false 0 (suc (length ms)) e))
+
+no_methods : (os : List TObject) (t : ℕ) → declares_some os ≡ false → methods_in (slice_get (map seen_object os) t) ≡ []
+no_methods [] t e = refl
+no_methods (o ∷ os) zero e = no_own o.methods.items (neither (nat_lt 0 (length o.methods.items)) (declares_some os) e).0
+no_methods (o ∷ os) (suc t) e = no_methods os t (neither (nat_lt 0 (length o.methods.items)) (declares_some os) e).1
+
+none_put : {A : Type 0} (p : Program) (own : ℕ → List (ℕ × A)) → ((t : ℕ) → own t ≡ []) → (n t : ℕ) → slots_by p own n t ≡ []
+none_put p own none zero t = refl
+none_put p own none (suc n) t = (λ i. fold put_at (on_base (slots_by p own n) (base_type p t)) (none t i)) ∙ at_base (base_type p t) (none_put p own none n)
+  where
+    at_base : (b : Option ℕ) → ((u : ℕ) → slots_by p own n u ≡ []) → on_base (slots_by p own n) b ≡ []
+    at_base None h = refl
+    at_base (Some u) h = h u
+
+pub no_slots : (p : TProgram) (t : ℕ) → declares_some p.objects.items ≡ false → slots (seen_program p) (own_numbers (seen_program p)) t ≡ []
+no_slots p t e =
+    none_put (seen_program p) (own_numbers (seen_program p))
+    (λ u. ap (numbered_from (first_method (seen_program p) u)) (no_methods p.objects.items u e)) (length (seen_program p).objects) t

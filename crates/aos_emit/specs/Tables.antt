@@ -1,5 +1,6 @@
 -- What the tables of types' methods are made of.
-use Rattle.std.specs.Prelude.{◌≡◌, ℕ, zero, suc, ◌+◌, List, [], ◌∷◌, length}
+use Rattle.std.specs.Prelude.{◌≡◌, ℕ, zero, suc, ◌+◌, nat_lt, List, [], ◌∷◌, length, Bool, false, ◌||◌}
+use Rattle.aos_typed.specs.declared.tree.TObject.{TObject}
 use Rattle.std.specs.List.{fold}
 use Rattle.aos_typed.specs.Numbers.{procedures_before}
 use Rattle.aos_typed.specs.Program.{Program}
@@ -10,6 +11,11 @@ use Rattle.aos_emit.specs.Laid.{firsts_by}
 abbrev pub AreMethodFirsts : Program → List ℕ → Type 0
 AreMethodFirsts p ns =
     ns ≡ firsts_by (λ o. length o.methods) (suc (length p.modules + length p.objects + procedures_before p (length p.modules))) p.objects
+
+-- one of these types declares a method
+abbrev pub declares_some : List TObject → Bool
+declares_some [] = false
+declares_some (o ∷ os) = nat_lt 0 (length o.methods.items) || declares_some os
 
 -- a type and its bases, at most so many
 abbrev pub chain_by : Program → ℕ → (type : ℕ) → List ℕ

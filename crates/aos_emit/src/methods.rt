@@ -6,10 +6,10 @@ ghost use Rattle.aos_typed.specs.Methods.{base_type, put_at, numbered_from, own_
 ghost use Rattle.aos_typed.specs.Numbers.{predeclared_types};
 ghost use Rattle.aos_typed.specs.Seen.{seen_method, seen_program};
 ghost use Rattle.aos_emit.specs.Laid.{AreTables};
-ghost use Rattle.aos_emit.specs.Tables.{AreMethodFirsts, chain_by};
+ghost use Rattle.aos_emit.specs.Tables.{AreMethodFirsts, chain_by, declares_some};
 
 use crate::laid::{PREDECLARED_TYPES, after, type_in};
-use aos_typed::{Program, TMethod, TType};
+use aos_typed::{Program, TMethod, TObject, TType};
 use aos_types::{TypeId, TypeRow};
 use std::alloc::{AllocError, Global};
 
@@ -102,6 +102,18 @@ fn put_own(
     Ok(())
 }
 
+// Whether one of these types declares a method.
+fn has_methods(objects: &[TObject]) -> bool
+    ensures { result ≡ declares_some objects.now }
+{
+    for object in objects {
+        if 0 < object.methods.len() {
+            return true;
+        }
+    }
+    false
+}
+
 // The methods of a type by their slots: those of the last of its bases first.
 fn table_of(
     alloc: Global,
@@ -130,6 +142,28 @@ fn put_table(tables: &mut Vec<Vec<u32>>, table: Vec<u32>) -> Result<(), AllocErr
     Ok(())
 }
 
+// The same, which walks no bases where no type declares a method.
+#[tactic(auto, using(crate::proofs::Tables::no_slots))]
+fn table_if(
+    alloc: Global,
+    program: &Program,
+    firsts: &[u32],
+    t: u32,
+    any: bool,
+) -> Result<Vec<u32>, AllocError>
+    requires few { length program.now.types ≤ 2 ^ 32 }
+    requires firsts { AreMethodFirsts (seen_program program.now) firsts.now }
+    requires any { any ≡ declares_some program.now.objects.items }
+    ensures { IfOk result (λ table. table.items ≡
+        slots (seen_program program.now) (own_numbers (seen_program program.now)) t) }
+{
+    if any {
+        table_of(alloc, program, firsts, t)
+    } else {
+        Ok(Vec::new(alloc))
+    }
+}
+
 /// The methods of each type by their slots, where the first method of each has these numbers.
 pub fn tables_of(
     alloc: Global,
@@ -141,9 +175,10 @@ pub fn tables_of(
     requires firsts { AreMethodFirsts (seen_program program.now) firsts.now }
     ensures { IfOk result (λ tables. AreTables (seen_program program.now) tables.items) }
 {
+    let any = has_methods(&program.objects);
     let mut tables = Vec::new(alloc);
     for number in 0..program.objects.len() {
-        let table = table_of(alloc, program, firsts, number as u32)?;
+        let table = table_if(alloc, program, firsts, number as u32, any)?;
         put_table(&mut tables, table)?;
     }
     Ok(tables)
