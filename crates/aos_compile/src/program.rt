@@ -12,7 +12,8 @@ use crate::compile_err::CompileErr;
 use crate::files::elaborate;
 use crate::laws::law_of_typing;
 use aos_code::Image;
-use aos_emit::image_of;
+use aos_emit::bodies_of;
+use aos_image::link;
 use aos_typed::Program;
 use std::alloc::Global;
 
@@ -39,7 +40,8 @@ fn with_image(
     if program.objects.len() > MOST_OBJECT_TYPES {
         return Err(CompileErr::NoMemory);
     }
-    let image = image_of(alloc, &program)?;
+    let bodies = bodies_of(alloc, &program)?;
+    let image = link(alloc, &program, bodies)?;
     Ok((program, image))
 }
 

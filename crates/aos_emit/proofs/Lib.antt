@@ -1,15 +1,11 @@
 pub mod Patch
 pub mod Pending
-pub mod Codes
-pub mod Described
 pub mod Turned
 pub mod Forth
-pub mod Heights
 pub mod Parts
 pub mod Ends
-pub mod Found
-pub mod Fields
+pub mod Owned
+pub mod Matching
 pub mod Made
 pub mod Sorts
 pub mod Searches
-pub mod Tables

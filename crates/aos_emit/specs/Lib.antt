@@ -2,7 +2,4 @@ pub mod Back
 pub mod Forwards
 pub mod Redirect
 pub mod Places
-pub mod Laid
 pub mod Scope
-pub mod Made
-pub mod Tables

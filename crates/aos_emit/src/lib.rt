@@ -1,15 +1,12 @@
-//! From a typed program to the image that has its code, and so shows it.
+//! From the routines of a typed program to their bodies, each of which has the code that the definitions give.
 #![tactic(auto)]
 
+mod bodies;
 mod emit;
-mod image;
-mod laid;
-mod level;
-mod methods;
 mod need;
 mod objects;
 mod scope;
 mod search;
 mod stats;
 
-pub use image::image_of;
+pub use bodies::bodies_of;

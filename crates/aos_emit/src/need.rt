@@ -283,7 +283,7 @@ fn for_need(place: &TPlace, from: &TExpr, to: &TExpr) -> Result<u32, AllocError>
 }
 
 #[cycle(stat_need)]
-#[tactic(auto, using(crate::proofs::Heights::arm_less, crate::proofs::Heights::otherwise_less))]
+#[tactic(auto, using(aos_laid::proofs::Heights::arm_less, aos_laid::proofs::Heights::otherwise_less))]
 fn arms_need(arms: &[TArm], otherwise: &[TStat]) -> Result<u32, AllocError>
     ensures { IfOk result (λ n. n ≡ need_of.arms_need (arms_of arms.now (seen_stats otherwise.now))) }
 {
@@ -307,7 +307,7 @@ fn else_need(otherwise: &TElse) -> Result<u32, AllocError>
 }
 
 #[cycle(stat_need)]
-#[tactic(auto, using(crate::proofs::Heights::case_less, crate::proofs::Heights::else_less))]
+#[tactic(auto, using(aos_laid::proofs::Heights::case_less, aos_laid::proofs::Heights::else_less))]
 fn cases_need(cases: &[TCase], otherwise: &TElse) -> Result<u32, AllocError>
     ensures { IfOk result (λ n. n ≡ need_of.cases_need (cases_of cases.now (seen_else otherwise.now))) }
 {
@@ -368,7 +368,7 @@ fn stat_need(statement: &TStat) -> Result<u32, AllocError>
 
 /// How many operands these statements have at most.
 #[cycle(stat_need)]
-#[tactic(auto, using(crate::proofs::Heights::one_less))]
+#[tactic(auto, using(aos_laid::proofs::Heights::one_less))]
 pub fn stats_need(statements: &[TStat]) -> Result<u32, AllocError>
     ensures { IfOk result (λ n. n ≡ need_of.stats_need (seen_stats statements.now)) }
 {

@@ -9,7 +9,7 @@ ghost use Rattle.aos_typed.specs.Seen.{seen_program, seen_procedure};
 ghost use Rattle.aos_sim.specs.Code.{variable_cell, own_cell, field_cell, cells_of};
 ghost use Rattle.aos_emit.specs.Scope.{AreOwn, program_of, own_of};
 
-use crate::laid::Laid;
+use aos_laid::Laid;
 use aos_typed::{TProcedure, TType};
 use std::alloc::AllocError;
 use std::marker::Model;

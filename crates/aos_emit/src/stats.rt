@@ -16,13 +16,13 @@ use crate::emit::{
     PENDING_END, cell_kind, emit_begin, emit_call, emit_place, emit_rows, emit_value, next_place,
     number_of, put,
 };
-use crate::level::deeper;
 use crate::need::stats_need;
 use crate::objects::{emit_make, emit_new, emit_object, emit_record};
 use crate::scope::Scope;
 use crate::search::{put_search, rows_of, set_places};
 use aos_base::{Binary, Pos, Relation, Width};
 use aos_code::{Body, Instr, Kind};
+use aos_laid::next;
 use aos_typed::{
     Change, OutCall, TArgument, TArm, TCallee, TCase, TElse, TExpr, TPlace, TRows, TStat, TType,
 };
@@ -531,7 +531,7 @@ fn emit_rounds(
         (length code.old.items) pending_exit level) }
 {
     let start = next_place(code)?;
-    let inside = deeper(level)?;
+    let inside = next(level)?;
     emit_begin(code, at)?;
     emit_test(alloc, scope, code, width, variable, step, level)?;
     let test_end = code.len();
@@ -545,7 +545,7 @@ fn emit_rounds(
 }
 
 #[cycle(emit_stat)]
-#[tactic(auto, using(crate::proofs::Heights::arm_less, crate::proofs::Heights::otherwise_less))]
+#[tactic(auto, using(aos_laid::proofs::Heights::arm_less, aos_laid::proofs::Heights::otherwise_less))]
 fn emit_arms(
     alloc: Global,
     scope: &Scope<'_>,
@@ -606,7 +606,7 @@ fn emit_else(
 
 // The arms of CASE, one behind another, and where they begin. The jumps past them are told their target when that is known.
 #[cycle(emit_stat)]
-#[tactic(auto, using(crate::proofs::Heights::case_less, crate::proofs::Heights::else_less))]
+#[tactic(auto, using(aos_laid::proofs::Heights::case_less, aos_laid::proofs::Heights::else_less))]
 fn emit_choices(
     alloc: Global,
     scope: &Scope<'_>,
@@ -739,7 +739,7 @@ fn emit_stat(
 }
 
 #[cycle(emit_stat)]
-#[tactic(auto, using(crate::proofs::Heights::one_less))]
+#[tactic(auto, using(aos_laid::proofs::Heights::one_less))]
 fn emit_stats(
     alloc: Global,
     scope: &Scope<'_>,

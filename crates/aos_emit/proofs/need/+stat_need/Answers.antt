@@ -3,7 +3,7 @@ use Rattle.std.specs.Prelude.{◌≡◌, IfOk}
 use Rattle.aos_typed.specs.Seen.{seen_expr, seen_stat, seen_stats, seen_else, arms_of, cases_of}
 use Rattle.aos_typed.proofs.Seen.{if_seen, case_seen, while_seen, repeat_seen, loop_seen, for_seen, block_seen, with_seen, with_record_seen}
 use Rattle.aos_sim.specs.Need.{value_need, stat_need, stats_need, arms_need, cases_need}
-use Rattle.aos_emit.proofs.Heights.{within, arms_within, cases_within}
+use Rattle.aos_laid.proofs.Heights.{within, arms_within, cases_within}
 use Rattle.aos_emit.proofs.need.+stat_need.Goals as goal
 
 pub stat_need-arms_need-requires : goal.stat_need-arms_need-requires

@@ -1,7 +1,7 @@
 use Rattle.std.proofs.Common.{◌≡◌, ◌+◌, ◌*◌, drop, max}
 use Rattle.aos_typed.specs.Seen.{seen_stat, seen_stats, seen_else, arms_of, cases_of}
 use Rattle.aos_sim.specs.Need.{stats_need, arms_need, cases_need}
-use Rattle.aos_emit.proofs.Heights.{height, heights, arms_height, cases_height}
+use Rattle.aos_laid.proofs.Heights.{height, heights, arms_height, cases_height}
 use Rattle.aos_emit.proofs.need.+stat_need.Given as goal
 
 -- the need so far and that of the rest is that of all

@@ -17,7 +17,7 @@ use Rattle.aos_sim.proofs.Sizes.{stats_length, arms_length}
 use Rattle.aos_emit.specs.Scope.{program_of, own_of}
 use Rattle.aos_emit.specs.Places.{places_from, place_in, led}
 use Rattle.aos_emit.specs.Redirect.{pending_exit, pending_end}
-use Rattle.aos_emit.proofs.Heights.{within, arms_within, cases_within}
+use Rattle.aos_laid.proofs.Heights.{within, arms_within, cases_within}
 use Rattle.aos_emit.proofs.Patch.{followed, guarded, choice_more, place_more, patched, ended, round_is, emitted}
 use Rattle.aos_emit.proofs.Pending.{exit_known, arms_known}
 use Rattle.aos_emit.proofs.Searches.{else_rows, else_arms, else_place, searched}

@@ -4,7 +4,7 @@ use Rattle.aos_sim.specs.Code.{stats_code, arms_code, cases_code}
 use Rattle.aos_emit.specs.Scope.{program_of, own_of}
 use Rattle.aos_emit.specs.Places.{places_from}
 use Rattle.aos_emit.specs.Redirect.{pending_exit, pending_end}
-use Rattle.aos_emit.proofs.Heights.{height, heights, arms_height, cases_height}
+use Rattle.aos_laid.proofs.Heights.{height, heights, arms_height, cases_height}
 use Rattle.aos_emit.proofs.stats.+emit_stat.Given as goal
 
 -- the code so far and that of the rest is that of all

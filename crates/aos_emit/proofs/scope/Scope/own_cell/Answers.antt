@@ -2,7 +2,7 @@ use Rattle.std.proofs.Common.{ap, ◌∙◌}
 use Rattle.std.specs.Prelude.{option_map}
 use Rattle.aos_sim.specs.Code.{own_cell}
 use Rattle.aos_emit.specs.Scope.{Inside, program_of, own_of}
-use Rattle.aos_emit.proofs.Found.{own_is}
+use Rattle.aos_emit.proofs.Owned.{own_is}
 use Rattle.aos_emit.proofs.scope.Scope.own_cell.Goals as goal
 
 pub returns : goal.returns

@@ -1,0 +1,82 @@
+// The bodies of all routines of a program, in the order of their numbers.
+
+ghost use Rattle.std.specs.Prelude.{◌≡◌, ◌≤◌, ◌^◌, ◌∷◌, [], ◌++◌, length, map, Some, IfOk, OnOk};
+ghost use Rattle.aos_typed.specs.Routines.{routines};
+ghost use Rattle.aos_typed.specs.Seen.{seen_program, seen_procedure};
+ghost use Rattle.aos_typed.specs.WellTyped.{IsProcedure, IsWellTyped};
+ghost use Rattle.aos_laid.specs.Routines.{IsTyped, seen_routine};
+ghost use Rattle.aos_sim.specs.Code.{body_code};
+ghost use Rattle.aos_sim.specs.Need.{body_need};
+
+use crate::scope::Scope;
+use crate::stats::emit_body;
+use aos_base::NoMemory;
+use aos_code::Body;
+use aos_laid::{Laid, Routine, routines_of};
+use aos_layout::FrameShape;
+use aos_typed::{Program, TProcedure};
+use std::alloc::{AllocError, Global};
+
+// The body of a procedure of the module with this number, a method or what objects carry out. Where its parameters and locals lie
+// doesn't rest on how many values it keeps.
+fn procedure_body(
+    alloc: Global,
+    laid: &Laid<'_>,
+    home: u32,
+    procedure: &TProcedure,
+) -> Result<Body, NoMemory>
+    requires typed { IsProcedure (seen_program laid.now) (seen_procedure procedure.now) }
+    ensures code { IfOk result (λ b. b.code.items ≡
+        body_code (seen_program laid.now) (Some (seen_procedure procedure.now)) (seen_procedure procedure.now).body) }
+    ensures depth { IfOk result (λ b. b.depth ≡ body_need (seen_procedure procedure.now).body) }
+{
+    let FrameShape { shape, places, .. } = laid.frame(alloc, home, 0, procedure)?;
+    let scope = Scope::procedure(laid, procedure, &places, shape.cells);
+    let body = emit_body(alloc, &scope, &procedure.body)?;
+    Ok(body)
+}
+
+// The body of a routine.
+fn body_of(alloc: Global, laid: &Laid<'_>, routine: &Routine<'_>) -> Result<Body, NoMemory>
+    requires typed { IsTyped (seen_program laid.now) (seen_routine routine.now) }
+    ensures code { IfOk result (λ b. b.code.items ≡
+        body_code (seen_program laid.now) (seen_routine routine.now).own (seen_routine routine.now).body) }
+    ensures depth { IfOk result (λ b. b.depth ≡ body_need (seen_routine routine.now).body) }
+{
+    match routine {
+        Routine::Body(_, statements) => {
+            let body = emit_body(alloc, &Scope::body(laid), statements)?;
+            Ok(body)
+        }
+        Routine::Procedure(home, procedure) => procedure_body(alloc, laid, *home, procedure),
+    }
+}
+
+// One more body.
+fn put_body(bodies: &mut Vec<Body>, body: Body) -> Result<(), AllocError>
+    ensures { OnOk result (bodies.new.items ≡ bodies.old.items ++ body ∷ []) }
+{
+    bodies.push(body)?;
+    Ok(())
+}
+
+/// The bodies of all routines of a well-typed program of at most 64 modules and 2^26 object types, in the order of their numbers.
+/// Each has its routine's code, and as many operands at most as its statements need. Want of memory is the only error.
+pub fn bodies_of(alloc: Global, program: &Program) -> Result<Vec<Body>, NoMemory>
+    requires few { length program.now.modules.items ≤ 64 }
+    requires few_types { length program.now.objects.items ≤ 2 ^ 26 }
+    requires typed { IsWellTyped (seen_program program.now) }
+    ensures code { IfOk result (λ bodies. map (λ b. b.code.items) bodies.items ≡
+        map (λ r. body_code (seen_program program.now) r.own r.body) (routines (seen_program program.now))) }
+    ensures depths { IfOk result (λ bodies. map (λ b. b.depth) bodies.items ≡
+        map (λ r. body_need r.body) (routines (seen_program program.now))) }
+{
+    let laid = Laid::new(alloc, program)?;
+    let routines = routines_of(alloc, program)?;
+    let mut bodies = Vec::new(alloc);
+    for routine in &routines {
+        let body = body_of(alloc, &laid, routine)?;
+        put_body(&mut bodies, body)?;
+    }
+    Ok(bodies)
+}

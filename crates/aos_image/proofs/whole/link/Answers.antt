@@ -1,0 +1,35 @@
+use Rattle.std.proofs.Common.{sym, subst}
+use Rattle.std.proofs.lemmas.List.{length-map}
+use Rattle.aos_typed.specs.Seen.{seen_program, seen_object}
+use Rattle.aos_image.specs.Made.{AreTypesOf}
+use Rattle.aos_image.proofs.Described.{bodies_are, bases_are}
+use Rattle.aos_image.proofs.whole.link.Goals as goal
+
+pub returns-clause-code : goal.returns-clause-code
+returns-clause-code c =
+    let p = seen_program c.args.program.now in
+    let modules = c.in_ok-modules.ensures in
+    let ts = c.in_ok-types.types.items in
+    let types = subst (λ n. AreTypesOf p n ts) (sym (length-map c.args.program.now.objects.items seen_object)) c.in_ok-types.ensures in
+    record {
+      bodies = c.requires.matching;
+      shapes = c.in_ok-shapes.ensures;
+      starts = modules.starts;
+      types = bodies_are p ts types;
+      methods = types.methods;
+      bases = bases_are p ts types c.requires.typed.beside;
+      kinds = types.kinds;
+      cells = modules.cells;
+      names = modules.names;
+      few = c.in_ok-laid.ensures.narrow;
+    }
+
+pub returns-clause-depths : goal.returns-clause-depths
+returns-clause-depths c = c.requires.depths
+
+pub returns-clause-shows : goal.returns-clause-shows
+returns-clause-shows c =
+    c.image_shows_program.ensures (seen_program c.args.program.now) _ c.requires.typed (returns-clause-code c)
+
+pub returns-clause-names : goal.returns-clause-names
+returns-clause-names c = c.in_ok-modules.ensures.names

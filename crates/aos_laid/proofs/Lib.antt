@@ -1,0 +1,6 @@
+pub mod Lists
+pub mod Heights
+pub mod Found
+pub mod Fields
+pub mod Tables
+pub mod Listed

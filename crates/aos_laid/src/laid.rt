@@ -1,0 +1,298 @@
+// A program with the cells of its modules, the numbers of its procedures, and the methods of its types by their slots.
+
+ghost use Rattle.std.specs.Prelude.{◌≡◌, true, is_some, ◌≤◌, ◌<◌, ◌^◌, [], ◌∷◌, ◌++◌, length, map, take, slice_get, Some, None, option_map, IfOk, OnOk};
+ghost use Rattle.std.specs.Option.{unwrap_or};
+ghost use Rattle.aos_typed.specs.Seen.{seen_program, seen_procedure};
+ghost use Rattle.aos_typed.specs.WellTyped.{AreTypes, IsProcedure, IsWellTyped};
+ghost use Rattle.aos_layout.specs.Frame as frame;
+ghost use Rattle.aos_layout.specs.Seen.{seen_block, seen_frame};
+ghost use Rattle.aos_types.specs.Shape as shape;
+ghost use Rattle.aos_types.specs.Contents.{contents, variable_scalars};
+ghost use Rattle.aos_typed.specs.Methods.{method_number, own_numbers, slots};
+ghost use Rattle.aos_typed.specs.Numbers.{id_of, procedure_number};
+ghost use Rattle.aos_typed.specs.Source.{module_shape};
+ghost use Rattle.aos_laid.specs.Laid.{AreBlocks, AreNarrow, there_in, cell_in, variables_in, module_kinds};
+
+use crate::methods::{number_in, tables_of};
+use crate::numbers::{first_number, firsts_of, method_firsts, number_at};
+use aos_base::{NoMemory, Width};
+use aos_code::Kind;
+use aos_layout::{BlockShape, FrameShape, block_shape, frame_shape, offset, width};
+use aos_typed::{Program, TModule, TProcedure, TType};
+use aos_types::{TypeId, TypeRow, Types};
+use std::alloc::{AllocError, Global};
+use std::marker::Model;
+
+// The cells of one more module.
+fn put(blocks: &mut Vec<BlockShape>, block: BlockShape) -> Result<(), AllocError>
+    ensures put { OnOk result (blocks.new.items ≡ blocks.old.items ++ block ∷ []) }
+    ensures narrow { OnOk result (block.cells < 2 ^ 32) }
+{
+    blocks.push(block)?;
+    Ok(())
+}
+
+// The cells of each module.
+fn blocks_of(alloc: Global, program: &Program) -> Result<Vec<BlockShape>, NoMemory>
+    requires few { length program.now.objects.items ≤ 2 ^ 26 }
+    requires typed { IsWellTyped (seen_program program.now) }
+    ensures blocks { IfOk result (λ blocks. AreBlocks (seen_program program.now) blocks.items) }
+    ensures narrow { OnOk result (AreNarrow (seen_program program.now)) }
+{
+    let mut blocks = Vec::new(alloc);
+    for module in &program.modules {
+        let block = block_shape(alloc, &program.types, module)?;
+        put(&mut blocks, block)?;
+    }
+    Ok(blocks)
+}
+
+// The first cell of a variable or a string constant of one of these modules, by the numbers of both.
+fn cell_of(blocks: &[BlockShape], home: u32, number: usize) -> u32
+    ensures { result ≡ cell_in (slice_get (map seen_block blocks.now) home) number }
+{
+    match blocks.get(home as usize) {
+        Some(block) => match block.places.get(number) {
+            Some(cell) => *cell,
+            None => block.cells,
+        },
+        None => 0,
+    }
+}
+
+// The kinds of the cells of one of these modules.
+fn kinds_of(blocks: &[BlockShape], home: u32) -> &[Kind]
+    ensures { result.now ≡
+        unwrap_or (option_map (λ b. b.kinds) (slice_get (map seen_block blocks.now) home)) [] }
+{
+    match blocks.get(home as usize) {
+        Some(block) => block.kinds.as_slice(),
+        None => &[],
+    }
+}
+
+// How many variables one of these modules has.
+fn variables_of(modules: &[TModule], home: u32) -> usize
+    ensures { result ≡ variables_in (slice_get modules.now home) }
+{
+    match modules.get(home as usize) {
+        Some(module) => module.variables.len(),
+        None => 0,
+    }
+}
+
+// The first ones of these kinds.
+fn first_of(kinds: &[Kind], count: u32) -> &[Kind]
+    ensures { result.now ≡ take count kinds.now }
+{
+    match kinds.get(..count as usize) {
+        Some(first) => first,
+        None => kinds,
+    }
+}
+
+/// How many types are predeclared, before those that a program names.
+pub const PREDECLARED_TYPES: u32 = 10;
+
+// The number of a type.
+fn type_number(of: TType) -> u64
+    ensures { result ≡ (id_of of).0 }
+{
+    match of {
+        TType::Integer(Width::W8) => 0,
+        TType::Integer(Width::W16) => 1,
+        TType::Integer(Width::W32) => 2,
+        TType::Integer(Width::W64) => 3,
+        TType::Boolean => 4,
+        TType::Char => 5,
+        TType::Set => 6,
+        TType::Any => 8,
+        TType::Named(number) => u64::from(number) + u64::from(PREDECLARED_TYPES),
+    }
+}
+
+/// A type of the table, where it is there.
+pub fn type_in(types: &Types, of: TType) -> Option<TypeId>
+    requires few { length types.now ≤ 2 ^ 32 }
+    ensures { result ≡ there_in types.now of }
+{
+    let number = type_number(of);
+    if number < types.len() as u64 {
+        Some(TypeId(number as u32))
+    } else {
+        None
+    }
+}
+
+// How many cells a variable of a type has.
+fn variable_cells(types: &Types, of: TType) -> u32
+    requires few { length types.now ≤ 2 ^ 32 }
+    requires typed { AreTypes types.now }
+    ensures { result ≡ variable_scalars types.now (id_of of) }
+{
+    match type_in(types, of) {
+        Some(t) => types.variable_scalars(t).unwrap_or(0),
+        None => 0,
+    }
+}
+
+// Whether a record or an object type has a field of this number, its base's first.
+fn has_field(types: &Types, t: TypeId, number: u32) -> bool
+    requires there { t.0 < length types.now }
+    requires typed { AreTypes types.now }
+    ensures { result ≡ true → is_some (shape.inside (number ∷ []) (contents types.now t)) ≡ true }
+{
+    match types.row(t) {
+        TypeRow::Record(_, _) => u128::from(number) < width(types, t),
+        TypeRow::Object(_, _) => u128::from(number) < width(types, t),
+        _ => false,
+    }
+}
+
+// How many cells stand before a field in its record or object. One that isn't there is in no well-typed program: there is no
+// memory for it.
+fn cells_before(types: &Types, of: TType, number: u32) -> Result<u32, AllocError>
+    requires few { length types.now ≤ 2 ^ 32 }
+    requires typed { AreTypes types.now }
+    ensures { IfOk result (λ cells. cells ≡ shape.offset (number ∷ []) (contents types.now (id_of of))) }
+{
+    let Some(t) = type_in(types, of) else {
+        return Err(AllocError);
+    };
+    if has_field(types, t, number) {
+        return Ok(offset(types, t, &[number]));
+    }
+    Err(AllocError)
+}
+
+// What a type has in its slots, by its number.
+fn table_in(tables: &[Vec<u32>], number: u32) -> &[u32]
+    ensures { result.now ≡ unwrap_or (option_map (λ v. v.items) (slice_get tables.now number)) [] }
+{
+    match tables.get(number as usize) {
+        Some(table) => table.as_slice(),
+        None => &[],
+    }
+}
+
+/// A program, with the cells of its modules, the numbers of their procedures, and the methods of its types by their slots.
+#[derive(Drop)]
+pub struct Laid<'a> {
+    program: &'a Program,
+    blocks: Vec<BlockShape>,
+    firsts: Vec<u32>,
+    tables: Vec<Vec<u32>>,
+}
+
+impl<'a> Model for Laid<'a> {
+    ghost use Rattle.aos_typed.specs.declared.tree.Program.{Program};
+    ghost use Rattle.aos_typed.specs.Seen.{seen_program};
+    ghost use Rattle.aos_typed.specs.contracts.tree.TStat as stat;
+    ghost use Rattle.std.specs.Coded.{codes};
+    ghost use Rattle.aos_laid.specs.Laid.{IsLaid};
+
+    ghost Value = { Program };
+
+    ghost coded = { Prim.hlevel (codes, stat.the_row.coded) };
+
+    ghost view = { λ l. l.program.now };
+
+    ghost invariant = { λ l. IsLaid (seen_program l.program.now) l.blocks.items l.firsts.items l.tables.items };
+}
+
+impl<'a> Laid<'a> {
+    /// A well-typed program, whose variables and string constants have their cells.
+    #[tactic(auto, using(crate::proofs::Found::firsts_are))]
+    pub fn new(alloc: Global, program: &'a Program) -> Result<Laid<'a>, NoMemory>
+        requires few { length program.now.modules.items ≤ 64 }
+        requires few_types { length program.now.objects.items ≤ 2 ^ 26 }
+        requires typed { IsWellTyped (seen_program program.now) }
+        ensures laid { IfOk result (λ laid. laid ≡ program.now) }
+        ensures narrow { OnOk result (AreNarrow (seen_program program.now)) }
+    {
+        let blocks = blocks_of(alloc, program)?;
+        let first = first_number(program.modules.len(), program.objects.len());
+        let firsts = firsts_of(alloc, &program.modules, first)?;
+        let behind = number_at(&firsts, program.modules.len() as u32, 0)?;
+        let methods = method_firsts(alloc, &program.objects, behind)?;
+        let tables = tables_of(alloc, program, &methods)?;
+        Ok(Laid {
+            program,
+            blocks,
+            firsts,
+            tables,
+        })
+    }
+
+    /// The first cell of a module's variable or string constant, by the numbers of both.
+    pub fn cell(&self, home: u32, number: u32) -> u32
+        ensures { result ≡ shape.number_of (shape.offset (number ∷ []))
+            (slice_get (map (module_shape (seen_program self.now)) (seen_program self.now).modules) home) }
+    {
+        cell_of(&self.blocks, home, number as usize)
+    }
+
+    /// How many cells stand before a field in its record, by the record type and the field's number.
+    pub fn field(&self, of: TType, number: u32) -> Result<u32, AllocError>
+        ensures { IfOk result (λ cells. cells ≡
+            shape.offset (number ∷ []) (contents (seen_program self.now).types (id_of of))) }
+    {
+        cells_before(&self.program.types, of, number)
+    }
+
+    /// How many cells a variable of a type has.
+    pub fn cells_of(&self, of: TType) -> u32
+        ensures { result ≡ variable_scalars (seen_program self.now).types (id_of of) }
+    {
+        variable_cells(&self.program.types, of)
+    }
+
+    /// The number of a procedure, by the numbers of its module and its own there.
+    pub fn called(&self, home: u32, number: u32) -> Result<u32, AllocError>
+        ensures { IfOk result (λ n. n ≡ procedure_number (seen_program self.now) home number) }
+    {
+        let all = number_at(&self.firsts, home, number)?;
+        Ok(all)
+    }
+
+    /// The number of the method that a type has in a slot, by the type's number in the program.
+    pub fn method(&self, of: u32, slot: u32) -> Result<u32, AllocError>
+        ensures { IfOk result (λ n. n ≡ method_number (seen_program self.now) of slot) }
+    {
+        let number = number_in(&self.tables, of, slot)?;
+        Ok(number)
+    }
+
+    /// The methods of a type by their slots, as numbers of routines.
+    pub fn methods(&self, of: u32) -> &[u32]
+        requires { of < length self.now.objects.items }
+        ensures { result.now ≡ slots (seen_program self.now) (own_numbers (seen_program self.now)) of }
+    {
+        table_in(&self.tables, of)
+    }
+
+    /// The frame of a procedure of the module with this number, whose body keeps so many values. The procedure's own number, which
+    /// isn't told, is 0 in it.
+    pub fn frame(
+        &self,
+        alloc: Global,
+        home: u32,
+        keeps: u32,
+        procedure: &TProcedure,
+    ) -> Result<FrameShape, NoMemory>
+        requires typed { IsProcedure (seen_program self.now) (seen_procedure procedure.now) }
+        ensures { IfOk result (λ f. seen_frame f ≡
+            frame.frame_shape (seen_program self.now).types 0 home keeps (seen_procedure procedure.now)) }
+    {
+        frame_shape(alloc, &self.program.types, 0, home, keeps, procedure)
+    }
+
+    /// The kinds of the cells of a module's variables, by the module's number. Behind them stand its string constants.
+    pub fn kinds(&self, home: u32) -> &[Kind]
+        ensures { result.now ≡ module_kinds (seen_program self.now) home }
+    {
+        let variables = variables_of(&self.program.modules, home);
+        let cells = cell_of(&self.blocks, home, variables);
+        first_of(kinds_of(&self.blocks, home), cells)
+    }
+}
