@@ -1,5 +1,5 @@
 -- One more name of a scope.
-use Rattle.std.proofs.Common.{◌≡◌, ◌<◌, ◌≤◌, ℕ, suc, List, [], ◌∷◌, ◌++◌, ◌+◌, length, map, take, get_or, drop, drop-cons, add-one, length-append, Option, arith, ap, ◌∙◌, sym, if◌then◌else◌, bytes_eq}
+use Rattle.std.proofs.Common.{◌≡◌, ◌<◌, ◌≤◌, ℕ, suc, List, [], ◌∷◌, ◌++◌, ◌+◌, length, map, take, get_or, drop, drop-cons, add-one, length-append, append_assoc, Option, arith, refl, ap, ◌∙◌, sym, if◌then◌else◌, bytes_eq}
 use Rattle.std.proofs.lemmas.List.Sums.{fold-append}
 use Rattle.std.proofs.lemmas.List.{take_more, flat_map_more, map-append}
 use Rattle.aos_tree.specs.declared.decl.Def.{Def}
@@ -10,8 +10,9 @@ use Rattle.aos_symbols.specs.declared.entries.Sort.{Sort}
 use Rattle.aos_symbols.specs.declared.scope.Meaning.TheVariants as means
 use Rattle.aos_symbols.specs.Home.{Home}
 use Rattle.aos_symbols.specs.Scope.{Named, Scope, with_name, with_names}
-use Rattle.aos_symbols.specs.Declarations.{type_defs, types_in}
-use Rattle.aos_symbols.specs.Entries.{among, numbered, entry, meant, number_at, types_from, inner_scope}
+use Rattle.std.specs.List.{flat_map}
+use Rattle.aos_symbols.specs.Declarations.{Procedure, procedures, type_defs, types_in, local_types, methods_in, all_procedures}
+use Rattle.aos_symbols.specs.Entries.{among, numbered, entry, meant, number_at, types_from, inner_scope, procedure_scope, procedure_scopes}
 use Rattle.aos_symbols.proofs.Paths.{past}
 
 pub among_step : (w : List ℕ) (hs : List Home) (i : ℕ) (d : Home) → i < length hs →
@@ -94,3 +95,94 @@ pub inner_step : (text : List ℕ) (own : Scope) (ds : List Decl) (i : ℕ) (d :
 inner_step text own ds i d lt =
     ap (λ z. own ∷ z) (sym (map-append (inner_scope text) (type_defs (take i ds)) (types_in (get_or ds i d))))
     ∙ ap (λ z. own ∷ map (inner_scope text) z) (flat_map_more types_in [] (take i ds) (get_or ds i d) ∙ ap type_defs (sym (take_more ds i d lt)))
+
+-- the scopes of procedures, and of others behind them
+scopes_both : (text : List ℕ) (numbers : List (Option TypeId)) (k : ℕ) (ps qs : List Procedure) →
+    procedure_scopes text numbers k (ps ++ qs) ≡ procedure_scopes text numbers k ps ++ procedure_scopes text numbers (k + length (local_types ps)) qs
+scopes_both text numbers k [] qs = ap (λ j. procedure_scopes text numbers j qs) (omega arith)
+scopes_both text numbers k (p ∷ ps) qs =
+    let here = length (type_defs p.decls) in
+    let count = length-append (type_defs p.decls) (local_types ps) in
+    let same : k + here + length (local_types ps) ≡ k + length (local_types (p ∷ ps)) = omega (arith, count) in
+    ap (λ z. procedure_scope text numbers k p.formals p.decls ∷ z)
+    (scopes_both text numbers (k + here) ps qs
+    ∙ ap (λ j. procedure_scopes text numbers (k + here) ps ++ procedure_scopes text numbers j qs) same)
+
+types_joined : (ps qs : List Procedure) → length (local_types (ps ++ qs)) ≡ length (local_types ps) + length (local_types qs)
+types_joined [] qs = omega (arith)
+types_joined (p ∷ ps) qs =
+    let all = length-append (type_defs p.decls) (local_types (ps ++ qs)) in
+    let some = length-append (type_defs p.decls) (local_types ps) in
+    let rest = types_joined ps qs in
+    omega (arith, all, some, rest)
+
+-- the scopes of the methods of one type, and of those behind it; the same of declarations
+methods_step : (text : List ℕ) (numbers : List (Option TypeId)) (k : ℕ) (ds : List TypeDef) (i : ℕ) (d : TypeDef) → i < length ds →
+    procedure_scopes text numbers k (flat_map methods_in (drop i ds))
+    ≡ procedure_scopes text numbers k (methods_in (get_or ds i d))
+    ++ procedure_scopes text numbers (k + length (local_types (methods_in (get_or ds i d)))) (flat_map methods_in (drop (i + 1) ds))
+methods_step text numbers k ds i d lt =
+    let x = get_or ds i d in
+    ap (λ l. procedure_scopes text numbers k (flat_map methods_in l)) (drop-cons ds i d lt)
+    ∙ scopes_both text numbers k (methods_in x) (flat_map methods_in (drop (suc i) ds))
+    ∙ ap (λ j. procedure_scopes text numbers k (methods_in x)
+    ++ procedure_scopes text numbers (k + length (local_types (methods_in x))) (flat_map methods_in (drop j ds))) (sym (add-one i))
+
+pub methods_on : (met whole : List Scope) (text : List ℕ) (numbers : List (Option TypeId)) (k : ℕ) (ds : List TypeDef) (i : ℕ) (d : TypeDef) → i < length ds →
+    met ++ procedure_scopes text numbers k (flat_map methods_in (drop i ds)) ≡ whole →
+    (met ++ procedure_scopes text numbers k (methods_in (get_or ds i d)))
+    ++ procedure_scopes text numbers (k + length (local_types (methods_in (get_or ds i d)))) (flat_map methods_in (drop (i + 1) ds)) ≡ whole
+methods_on met whole text numbers k ds i d lt all =
+    let x = get_or ds i d in
+    append_assoc met (procedure_scopes text numbers k (methods_in x))
+    (procedure_scopes text numbers (k + length (local_types (methods_in x))) (flat_map methods_in (drop (i + 1) ds)))
+    ∙ ap (λ z. met ++ z) (sym (methods_step text numbers k ds i d lt)) ∙ all
+
+pub method_count : (ds : List TypeDef) (i : ℕ) (d : TypeDef) → i < length ds →
+    length (local_types (flat_map methods_in (drop i ds)))
+    ≡ length (local_types (methods_in (get_or ds i d))) + length (local_types (flat_map methods_in (drop (i + 1) ds)))
+method_count ds i d lt =
+    let x = get_or ds i d in
+    ap (λ l. length (local_types (flat_map methods_in l))) (drop-cons ds i d lt)
+    ∙ types_joined (methods_in x) (flat_map methods_in (drop (suc i) ds))
+    ∙ ap (λ j. length (local_types (methods_in x)) + length (local_types (flat_map methods_in (drop j ds)))) (sym (add-one i))
+
+pub methods_end : (ds : List TypeDef) (i : ℕ) → length ds ≤ i → flat_map methods_in (drop i ds) ≡ []
+methods_end ds i le = ap (λ l. flat_map methods_in l) (past ds i le)
+
+methods_apart : (xs ys : List TypeDef) → flat_map methods_in (xs ++ ys) ≡ flat_map methods_in xs ++ flat_map methods_in ys
+methods_apart [] ys = refl
+methods_apart (x ∷ xs) ys =
+    ap (λ z. methods_in x ++ z) (methods_apart xs ys) ∙ sym (append_assoc (methods_in x) (flat_map methods_in xs) (flat_map methods_in ys))
+
+decl_methods_step : (text : List ℕ) (numbers : List (Option TypeId)) (k : ℕ) (ds : List Decl) (i : ℕ) (d : Decl) → i < length ds →
+    procedure_scopes text numbers k (flat_map methods_in (type_defs (drop i ds)))
+    ≡ procedure_scopes text numbers k (flat_map methods_in (types_in (get_or ds i d)))
+    ++ procedure_scopes text numbers (k + length (local_types (flat_map methods_in (types_in (get_or ds i d))))) (flat_map methods_in (type_defs (drop (i + 1) ds)))
+decl_methods_step text numbers k ds i d lt =
+    let x = types_in (get_or ds i d) in
+    ap (λ l. procedure_scopes text numbers k (flat_map methods_in (type_defs l))) (drop-cons ds i d lt)
+    ∙ ap (λ l. procedure_scopes text numbers k l) (methods_apart x (type_defs (drop (suc i) ds)))
+    ∙ scopes_both text numbers k (flat_map methods_in x) (flat_map methods_in (type_defs (drop (suc i) ds)))
+    ∙ ap (λ j. procedure_scopes text numbers k (flat_map methods_in x)
+    ++ procedure_scopes text numbers (k + length (local_types (flat_map methods_in x))) (flat_map methods_in (type_defs (drop j ds)))) (sym (add-one i))
+
+pub decl_methods_on : (met whole : List Scope) (text : List ℕ) (numbers : List (Option TypeId)) (k : ℕ) (ds : List Decl) (i : ℕ) (d : Decl) → i < length ds →
+    met ++ procedure_scopes text numbers k (flat_map methods_in (type_defs (drop i ds))) ≡ whole →
+    (met ++ procedure_scopes text numbers k (flat_map methods_in (types_in (get_or ds i d))))
+    ++ procedure_scopes text numbers (k + length (local_types (flat_map methods_in (types_in (get_or ds i d))))) (flat_map methods_in (type_defs (drop (i + 1) ds))) ≡ whole
+decl_methods_on met whole text numbers k ds i d lt all =
+    let x = types_in (get_or ds i d) in
+    append_assoc met (procedure_scopes text numbers k (flat_map methods_in x))
+    (procedure_scopes text numbers (k + length (local_types (flat_map methods_in x))) (flat_map methods_in (type_defs (drop (i + 1) ds))))
+    ∙ ap (λ z. met ++ z) (sym (decl_methods_step text numbers k ds i d lt)) ∙ all
+
+pub decl_methods_end : (ds : List Decl) (i : ℕ) → length ds ≤ i → flat_map methods_in (type_defs (drop i ds)) ≡ []
+decl_methods_end ds i le = ap (λ l. flat_map methods_in (type_defs l)) (past ds i le)
+
+-- those of procedures, and of methods behind them
+pub all_scopes : (text : List ℕ) (numbers : List (Option TypeId)) (k : ℕ) (ds : List Decl) →
+    procedure_scopes text numbers k (all_procedures ds)
+    ≡ procedure_scopes text numbers k (procedures ds)
+    ++ procedure_scopes text numbers (k + length (local_types (procedures ds))) (flat_map methods_in (type_defs ds))
+all_scopes text numbers k ds = scopes_both text numbers k (procedures ds) (flat_map methods_in (type_defs ds))

@@ -60,7 +60,7 @@ met_stays (b ∷ bs) a e = either (is_before b a) (met_stays bs b) (met_stays bs
     either true x y = x
     either false x y = y
 
-none_first : (bs : List Breach) → first bs ≡ None → bs ≡ []
+pub none_first : (bs : List Breach) → first bs ≡ None → bs ≡ []
 none_first [] e = refl
 none_first (b ∷ bs) e = absurd (met_stays bs b e)
 

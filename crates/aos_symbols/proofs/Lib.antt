@@ -13,3 +13,5 @@ pub mod Lookups
 pub mod Steps
 pub mod Records
 pub mod Bases
+pub mod Chains
+pub mod Methods

@@ -25,7 +25,7 @@ pub data IsPredeclared : Meaning → Type 0 where
   a_truth : (b : Bool) → IsPredeclared (means.Truth b)
   a_function : (f : Function) → IsPredeclared (means.Function f)
   a_routine : (r : Routine) → IsPredeclared (means.Routine r)
-  another : IsPredeclared means.Other
+  itself : IsPredeclared means.Itself
 
 -- what holds of all that names stand for, where these scopes are searched
 pub record IsOfAll (e : Env) (Searched : Open → Type 0) (P : Symbol → Type 0) : Type 0 where
@@ -66,7 +66,7 @@ all_rows =
     before a_function _ before a_function _ before a_function _ before a_function _ before a_function _ before a_function _
     before a_routine _ before a_routine _ before a_routine _ before a_routine _
     before a_routine _ before a_routine _ before a_routine _ before a_routine _
-    before another before tt
+    before itself before tt
 
 found_in : (w : List ℕ) (es : List (List ℕ × Meaning)) → ArePredeclared es → MayBePredeclared (lookup_in (λ k. bytes_eq k w) es)
 found_in w [] each = tt

@@ -4,9 +4,9 @@ use Rattle.std.specs.Map.{lookup}
 use Rattle.indexmap.specs.IndexMap.{insert_entry}
 use Rattle.aos_types.specs.declared.row.TypeId.{TypeId}
 use Rattle.aos_symbols.specs.Scope.{Scope}
-use Rattle.aos_symbols.specs.Home.{Home, add_record, fields_of}
+use Rattle.aos_symbols.specs.Home.{Home, add_record, record_fields}
 
-lookup_here : (rs : List (ℕ × Scope)) (k : ℕ) (s : Scope) → lookup (λ j. nat_eq k j) (insert_entry nat_eq rs k s) ≡ Some s
+pub lookup_here : {A : Type 0} (rs : List (ℕ × A)) (k : ℕ) (s : A) → lookup (λ j. nat_eq k j) (insert_entry nat_eq rs k s) ≡ Some s
 lookup_here [] k s = ap (λ b. cond b (Some s) None) (eq-eqb k k refl)
 lookup_here (e ∷ rs) k s = by (lookup_here rs k s) (nat_eq k e.0) refl
   where
@@ -22,7 +22,7 @@ differ j k other = by (nat_eq j k) refl
     by true is = absurd (other (eqb-true j k is))
     by false is = is
 
-lookup_other : (rs : List (ℕ × Scope)) (k j : ℕ) (s : Scope) → (j ≡ k → ⊥) →
+pub lookup_other : {A : Type 0} (rs : List (ℕ × A)) (k j : ℕ) (s : A) → (j ≡ k → ⊥) →
     lookup (λ i. nat_eq j i) (insert_entry nat_eq rs k s) ≡ lookup (λ i. nat_eq j i) rs
 lookup_other [] k j s other = ap (λ b. cond b (Some s) None) (differ j k other)
 lookup_other (e ∷ rs) k j s other = by (lookup_other rs k j s other) (nat_eq k e.0) refl
@@ -35,8 +35,8 @@ lookup_other (e ∷ rs) k j s other = by (lookup_other rs k j s other) (nat_eq k
     by more false is = ap (λ o. cond (nat_eq j e.0) (Some e.1) o) more
 
 -- the fields of that type, and those of another one
-pub fields_here : (h : Home) (t : TypeId) (s : Scope) → fields_of (add_record h t s) t ≡ Some s
-fields_here h t s = lookup_here h.records t.0 s
+pub record_here : (h : Home) (t : TypeId) (s : Scope) → record_fields (add_record h t s) t ≡ Some s
+record_here h t s = lookup_here h.records t.0 s
 
-pub fields_other : (h : Home) (t u : TypeId) (s : Scope) → (u.0 ≡ t.0 → ⊥) → fields_of (add_record h t s) u ≡ fields_of h u
-fields_other h t u s other = lookup_other h.records t.0 u.0 s other
+pub record_other : (h : Home) (t u : TypeId) (s : Scope) → (u.0 ≡ t.0 → ⊥) → record_fields (add_record h t s) u ≡ record_fields h u
+record_other h t u s other = lookup_other h.records t.0 u.0 s other

@@ -1,5 +1,5 @@
 -- What stands in a row of a tree, read as a list.
-use Rattle.std.proofs.Common.{◌≡◌, ℕ, refl, ap, ◌∙◌, List, ◌++◌, Option, Some, None, append-nil}
+use Rattle.std.proofs.Common.{◌≡◌, ℕ, refl, ap, ◌∙◌, List, [], ◌∷◌, ◌++◌, Option, Some, None, append-nil}
 use denote.Hole.Carrier.{hidden}
 use Rattle.std.specs.List.{flat_map}
 use Rattle.aos_base.specs.declared.text.Pos.{Pos}
@@ -17,7 +17,7 @@ use Rattle.aos_tree.specs.declared.decl.Decl.TheBlock.{hidden-the_row-TypeDef-0,
 use Rattle.aos_tree.specs.declared.decl.TypeExpr.{TypeExpr, Row_of-Fields, end_of-Fields, more_of-Fields, items-the_row-Fields, items_hidden-the_row-Fields-4}
 use Rattle.aos_tree.specs.declared.decl.TypeExpr.TheVariants as type
 use Rattle.aos_symbols.specs.Names.{within_decl, within_decls, within_type, within_types, within_variables, within_field, within_fields, within_held, other_end, object_end, twice, field_names}
-use Rattle.aos_symbols.specs.Declarations.{declared_names, formal_names}
+use Rattle.aos_symbols.specs.Declarations.{procedure_of, whole_procedures_in, declared_names, formal_names}
 
 module _ (text : List ℕ) where
   decls_row : (n : _) (r : Row_of-Decl n) → within_decls text r ≡ flat_map (within_decl text) (items-the_row-Decl n r)
@@ -75,3 +75,7 @@ module _ (text : List ℕ) where
   within_type_object name p base ds body end =
       ap (λ z. twice text (declared_names (items-the_row-Decl _ (hidden-the_row-Decl-2 ds))) ++ z ++ object_end text name end) (decls_row _ (hidden-the_row-Decl-2 ds))
       ∙ ap (λ z. twice text (declared_names z) ++ flat_map (within_decl text) z ++ object_end text name end) (items_hidden-the_row-Decl-2 ds)
+
+-- a procedure, with its declarations as a list
+pub whole_procedure : (a : Proc) → whole_procedures_in (decl.Proc a) ≡ procedure_of a ∷ []
+whole_procedure a = ap (λ ds. record (procedure_of a) { decls = ds } ∷ []) (items_hidden-the_row-Decl-2 a.decls)

@@ -1,7 +1,8 @@
 -- Types that are told: the basic types of values, which each table begins with, ANY, and types that modules define, whose rows stand
 -- in the table and are no open arrays. What is told stays told where the table goes on.
-use Rattle.std.proofs.Common.{◌≡◌, ℕ, zero, suc, ◌<◌, ◌≤◌, List, [], ◌∷◌, ◌++◌, length, map, Bool, true, false, ◌||◌, Option, Some, None, slice_get, refl}
+use Rattle.std.proofs.Common.{◌≡◌, ℕ, zero, suc, ◌<◌, ◌≤◌, List, [], ◌∷◌, ◌++◌, length, map, true, false, ◌||◌, Option, Some, None, slice_get, refl}
 use Rattle.std.proofs.lemmas.Option.{none-some}
+use mathlib.Core.Logic.{◌⊎◌}
 use Rattle.aos_types.specs.declared.row.TypeId.{TypeId}
 use Rattle.aos_types.specs.declared.row.TypeRow.{TypeRow}
 use Rattle.aos_types.specs.declared.row.TypeRow.TheVariants as row
@@ -60,19 +61,23 @@ IsObjectBase types (Some b) = is_object (row_of types b) ≡ true
 abbrev pub IsTarget : List TypeRow → TypeId → Type 0
 IsTarget types t = (10 ≤ t.0) × ((is_whole (row_of types t) || is_open (row_of types t)) ≡ true)
 
--- the elements of an array, which has one of these lengths, and the fields of a record are told
+-- the elements of an array, which has one of these lengths, and the fields of a record or an object are told
 abbrev pub AreToldParts : List TypeRow → TypeRow → Type 0
 AreToldParts types (row.Array n t) = IsLength n × IsTold types t
 AreToldParts types (row.Record base ts) = IsBase types base × Each (IsTold types) ts
 AreToldParts types (row.Pointer t) = IsTarget types t
-AreToldParts types (row.Object base ts) = IsObjectBase types base
+AreToldParts types (row.Object base ts) = IsObjectBase types base × Each (IsTold types) ts
 AreToldParts types r = Unit {0}
 
 abbrev pub PartsAreTold : List TypeRow → Type 0
 PartsAreTold types = (k : ℕ) (r : TypeRow) → slice_get types k ≡ Some r → AreToldParts types r
 
--- the fields of record types that a module knows are those of their rows
+-- a type has these fields of its own
+abbrev pub HasFields : List TypeRow → TypeId → Option TypeId → List TypeId → Type 0
+HasFields types t base ts = (slice_get types t.0 ≡ Some (row.Record base ts)) ⊎ (slice_get types t.0 ≡ Some (row.Object base ts))
+
+-- the fields of record and object types that a module knows are those of their rows
 abbrev pub FieldsAgree : List TypeRow → Home → Type 0
 FieldsAgree types h =
-    (t : TypeId) (s : Scope) → fields_of h t ≡ Some s →
-    (t.0 < length types) × ((base : Option TypeId) (ts : List TypeId) → slice_get types t.0 ≡ Some (row.Record base ts) → s.variables ≡ map (λ t. Some t) ts)
+    (t : TypeId) (s : Scope) → fields_of (is_object (row_of types t)) h t ≡ Some s →
+    (t.0 < length types) × ((base : Option TypeId) (ts : List TypeId) → HasFields types t base ts → s.variables ≡ map (λ t. Some t) ts)

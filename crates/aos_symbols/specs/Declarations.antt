@@ -1,12 +1,16 @@
 -- The names that declarations declare, in the order of the text.
 use Rattle.std.specs.Prelude.{List, [], ◌∷◌, ◌++◌, map, Option, Some, None}
 use Rattle.std.specs.List.{flat_map}
+use Rattle.std.specs.Borrow.{Bor}
 use Rattle.aos_base.specs.declared.text.Pos.{Pos}
 use Rattle.aos_tree.specs.declared.name.Name.{Name}
 use Rattle.aos_tree.specs.declared.decl.Def.{Def}
 use Rattle.aos_tree.specs.declared.decl.TypeDef.{TypeDef}
 use Rattle.aos_tree.specs.declared.decl.VarDef.{VarDef}
+use Rattle.aos_tree.specs.declared.decl.TypeExpr.{TypeExpr}
+use Rattle.aos_tree.specs.declared.decl.TypeExpr.TheVariants as type
 use Rattle.aos_tree.specs.declared.decl.Formals.{Formals}
+use Rattle.aos_tree.specs.declared.decl.Proc.{Proc}
 use Rattle.aos_tree.specs.declared.decl.Decl.{Decl, items-the_row-TypeDef, items-the_row-VarDef, items-the_row-Decl}
 use Rattle.aos_tree.specs.declared.decl.Decl.TheVariants.{Consts, Types', Vars', Proc'}
 use Rattle.aos_tree.specs.declared.stat.Block.{Block}
@@ -26,6 +30,9 @@ types_in (Types' p shape row) = items-the_row-TypeDef _ row
 types_in (Consts p cs) = []
 types_in (Vars' p shape row) = []
 types_in (Proc' p i def formals shape row body end) = []
+
+abbrev pub seen_types : List (Bor TypeDef) → List TypeDef
+seen_types ds = map (λ d. d.now) ds
 
 abbrev pub variables_in : Decl → List VarDef
 variables_in (Vars' p shape row) = items-the_row-VarDef _ row
@@ -80,6 +87,14 @@ pub record Procedure : Type 0 where
   pub decls : List Decl
   pub body : Option Block
 
+abbrev pub procedure_of : Proc → Procedure
+procedure_of p =
+    record { at = p.pos; initializer = p.initializer; name = p.def.name; formals = p.formals; decls = p.decls; body = p.body }
+
+-- procedures that are borrowed
+abbrev pub seen_procedures : List (Bor Proc) → List Procedure
+seen_procedures ps = map (λ p. procedure_of p.now) ps
+
 abbrev pub whole_procedures_in : Decl → List Procedure
 whole_procedures_in (Proc' p i def formals shape row body end) =
     record { at = p; initializer = i; name = def.name; formals = formals; decls = items-the_row-Decl _ row; body = body } ∷ []
@@ -94,6 +109,25 @@ abbrev pub formal_names : Option Formals → List Name
 formal_names None = []
 formal_names (Some f) = flat_map (λ s. s.names) f.sections
 
--- the types that a module's declarations define: its own, and behind them those of its procedures
+-- what is declared in an object type; it has no number of its own yet where it is a type
+abbrev pub inner_decls : TypeExpr → List Decl
+inner_decls (type.Object' p base shape row body end) = items-the_row-Decl _ row
+inner_decls (type.Named q) = []
+inner_decls (type.Array' p lengths shape row) = []
+inner_decls (type.Record' p base shape row) = []
+inner_decls (type.Pointer' p shape row) = []
+inner_decls (type.Proc p flag formals) = []
+
+-- a module's procedures, and behind them the methods of the object types that its declarations name
+abbrev pub methods_in : TypeDef → List Procedure
+methods_in d = procedures (inner_decls d.value)
+
+abbrev pub all_procedures : List Decl → List Procedure
+all_procedures ds = procedures ds ++ flat_map methods_in (type_defs ds)
+
+-- the types that a module's declarations define: its own, and behind them those of its procedures and methods
+abbrev pub local_types : List Procedure → List TypeDef
+local_types ps = flat_map (λ p. type_defs p.decls) ps
+
 abbrev pub all_type_defs : List Decl → List TypeDef
-all_type_defs ds = type_defs ds ++ flat_map (λ p. type_defs p.decls) (procedures ds)
+all_type_defs ds = type_defs ds ++ local_types (all_procedures ds)

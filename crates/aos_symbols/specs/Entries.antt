@@ -1,14 +1,16 @@
 -- The scopes of a module, as its declarations make them. All names are there before any declaration is looked at, so a name
 -- may be used before it is declared. Constants, variables and procedures are numbered in their scope in the order of the text;
--- the types that a module's declarations define, its own and behind them those of its procedures, have the numbers of a list.
-use Rattle.std.specs.Prelude.{ℕ, suc, ◌+◌, List, [], ◌∷◌, ◌++◌, length, codes, map, Option, Some, None, if◌then◌else◌, unwrap_or, slice_get}
+-- the types that a module's declarations define, its own and behind them those of its procedures and methods, have the numbers of a
+-- list.
+use Rattle.std.specs.Prelude.{ℕ, suc, ◌+◌, nat_eq, List, [], ◌∷◌, ◌++◌, length, fold, codes, map, Option, Some, None, is_some, if◌then◌else◌, unwrap_or, slice_get}
 use Rattle.std.specs.Str.{bytes_eq}
+use Rattle.indexmap.specs.IndexMap.{insert_entry}
 use Rattle.aos_tree.specs.declared.name.Name.{Name}
 use Rattle.aos_tree.specs.declared.decl.Export.{Export}
 use Rattle.aos_tree.specs.declared.decl.Formals.{Formals}
 use Rattle.aos_tree.specs.declared.decl.Mark.{Mark}
 use Rattle.aos_tree.specs.declared.decl.Def.{Def}
-use Rattle.aos_tree.specs.declared.decl.Decl.{Decl, items-the_row-Decl}
+use Rattle.aos_tree.specs.declared.decl.Decl.{Decl}
 use Rattle.aos_tree.specs.declared.decl.TypeDef.{TypeDef}
 use Rattle.aos_tree.specs.declared.decl.TypeExpr.{TypeExpr}
 use Rattle.aos_tree.specs.declared.decl.TypeExpr.TheVariants as type
@@ -20,8 +22,9 @@ use Rattle.aos_symbols.specs.declared.scope.Meaning.TheVariants as means
 use Rattle.aos_symbols.specs.declared.entries.Sort.{Sort}
 use Rattle.aos_symbols.specs.declared.entries.Sort.TheVariants as sort
 use Rattle.aos_symbols.specs.Spelling.{word}
-use Rattle.aos_symbols.specs.Declarations.{constant_defs, type_defs, single_variables, procedure_defs, Procedure, procedures, formal_names}
+use Rattle.aos_symbols.specs.Declarations.{constant_defs, type_defs, single_variables, procedure_defs, Procedure, procedures, inner_decls, methods_in, all_procedures, formal_names}
 use Rattle.aos_symbols.specs.Scope.{Named, Scope, empty, with_names}
+use Rattle.aos_symbols.specs.declared.home.ObjectScope.{ObjectScope}
 use Rattle.aos_symbols.specs.Home.{Home, strings_of}
 
 abbrev pub export_of : Def → Option Export
@@ -30,15 +33,6 @@ export_of d = marked d.mark
     marked : Option Mark → Option Export
     marked None = None
     marked (Some m) = Some m.export
-
--- what is declared in an object type; it has no number of its own yet where it is a type
-abbrev pub inner_decls : TypeExpr → List Decl
-inner_decls (type.Object' p base shape row body end) = items-the_row-Decl _ row
-inner_decls (type.Named q) = []
-inner_decls (type.Array' p lengths shape row) = []
-inner_decls (type.Record' p base shape row) = []
-inner_decls (type.Pointer' p shape row) = []
-inner_decls (type.Proc p flag formals) = []
 
 -- the module that an import names: Out, or one of those before this one, of which the first has this number
 abbrev pub among : List ℕ → ℕ → List Home → Meaning
@@ -56,6 +50,30 @@ meant sort.Procedure k = means.Procedure k
 
 abbrev pub number_at : List (Option TypeId) → ℕ → Option TypeId
 number_at numbers k = unwrap_or (slice_get numbers k) None
+
+-- The object types among definitions of types, by the types' numbers: the next definition has this place among the numbers, and so many
+-- signatures stand before those of its methods.
+pub record Objects : Type 0 where
+  pub place : ℕ
+  pub methods : ℕ
+  pub all : List (ℕ × ObjectScope)
+
+abbrev pub numbered_objects : (place methods : ℕ) → List (ℕ × ObjectScope) → Objects
+numbered_objects k n os = record { place = k; methods = n; all = os }
+
+-- in a module with the number m
+abbrev pub with_object : (m place methods : ℕ) → Option TypeId → TypeExpr → List (ℕ × ObjectScope) → List (ℕ × ObjectScope)
+with_object m k n (Some t) (type.Object' p base shape row body end) os =
+    insert_entry nat_eq os t.0 (record { home = m; scope = suc k; methods = n; has_body = is_some body })
+with_object m k n t x os = os
+
+abbrev pub next_object : ℕ → List (Option TypeId) → Objects → TypeDef → Objects
+next_object m numbers os d =
+    numbered_objects (suc os.place) (os.methods + length (methods_in d))
+    (with_object m os.place os.methods (number_at numbers os.place) d.value os.all)
+
+abbrev pub objects_of : ℕ → List (Option TypeId) → List Decl → List (ℕ × ObjectScope)
+objects_of m numbers ds = (fold (next_object m numbers) (numbered_objects 0 (length (procedures ds)) []) (type_defs ds)).all
 
 abbrev pub unmarked : Name → Def
 unmarked n = record { name = n; mark = None }
@@ -111,7 +129,7 @@ module _ (text : List ℕ) where
   abbrev pub scopes : List Home → List (Option TypeId) → Module → List Scope
   scopes homes numbers m =
       own_scope homes numbers m
-      ∷ (map inner_scope (type_defs m.decls) ++ procedure_scopes numbers (length (type_defs m.decls)) (procedures m.decls))
+      ∷ (map inner_scope (type_defs m.decls) ++ procedure_scopes numbers (length (type_defs m.decls)) (all_procedures m.decls))
 
   abbrev pub home_of : List Home → List (Option TypeId) → Module → Home
   home_of homes numbers m =
@@ -123,4 +141,6 @@ module _ (text : List ℕ) where
         first = suc (length (type_defs m.decls));
         signatures = [];
         records = [];
+        objects = objects_of (length homes) numbers m.decls;
+        slots = [];
       }

@@ -1,7 +1,8 @@
--- What a module has declared: its name, its text, the strings there, its scopes, the signatures of its procedures, and the fields of
--- the record types that it writes. The first scope is the module's own; behind it come those of the types that it defines, in which the names within
--- an object type stand, and then those of its procedures, each in the order of the text.
-use Rattle.std.specs.Prelude.{ℕ, pos, nat_eq, nat_lt, ◌+◌, ◌-◌, List, [], ◌∷◌, ◌++◌, map, fold, Option, Some, None, if◌then◌else◌, slice_get, slice_set, position}
+-- What a module has declared: its name, its text, the strings there, its scopes, the signatures of its procedures and methods, the
+-- fields of the record types that it writes, and its object types. The first scope is the module's own; behind it come those of the types
+-- that it defines, in which the names within an object type stand, and then those of its procedures and of its types' methods, each in
+-- the order of the text.
+use Rattle.std.specs.Prelude.{ℕ, pos, nat_eq, nat_lt, ◌+◌, ◌-◌, List, [], ◌∷◌, ◌++◌, map, fold, Bool, true, false, ◌&&◌, Option, Some, None, option_and_then, if◌then◌else◌, slice_get, slice_set, position}
 use Rattle.std.specs.Option.{unwrap_or}
 use Rattle.std.specs.List.{slice_range}
 use Rattle.aos_base.specs.Operators.{natural}
@@ -11,7 +12,8 @@ use Rattle.indexmap.specs.IndexMap.{insert_entry}
 use Rattle.aos_types.specs.declared.row.TypeId.{TypeId}
 use Rattle.aos_symbols.specs.declared.scope.Constant.{Constant}
 use Rattle.aos_symbols.specs.declared.home.Signature.{Signature}
-use Rattle.aos_symbols.specs.Scope.{Scope, with_constant, with_variable}
+use Rattle.aos_symbols.specs.declared.home.ObjectScope.{ObjectScope}
+use Rattle.aos_symbols.specs.Scope.{Scope, with_constant, with_variable, setting_variables}
 
 pub record Home : Type 0 where
   pub name : List ℕ
@@ -19,8 +21,10 @@ pub record Home : Type 0 where
   pub strings : List (ℕ × ℕ)  -- where each begins with its quote, and where it ends
   pub scopes : List Scope
   pub first : ℕ  -- the number of the scope of the first procedure
-  pub signatures : List Signature
+  pub signatures : List Signature  -- those of procedures, and behind them those of methods
   pub records : List (ℕ × Scope)  -- by the types' numbers
+  pub objects : List (ℕ × ObjectScope)  -- by the types' numbers
+  pub slots : List (List ℕ)  -- of the methods that each of the module's own types declares, in the order of their scopes
 
 -- with another scope in the place of the one with this number
 abbrev pub with_scope : Home → ℕ → Scope → Home
@@ -37,12 +41,41 @@ add_constant h k c = changed (λ s. with_constant s c) h k (slice_get h.scopes k
 abbrev pub add_variable : Home → ℕ → Option TypeId → Home
 add_variable h k of = changed (λ s. with_variable s of) h k (slice_get h.scopes k)
 
+-- with these variables in a scope, in the place of those that it had
+abbrev pub set_variables : Home → ℕ → List (Option TypeId) → Home
+set_variables h k ofs = changed (λ s. setting_variables s ofs) h k (slice_get h.scopes k)
+
 -- with the fields of a record type, in a scope of which they are the variables
 abbrev pub add_record : Home → TypeId → Scope → Home
 add_record h t s = record h { records = insert_entry nat_eq h.records t.0 s }
 
-abbrev pub fields_of : Home → TypeId → Option Scope
-fields_of h t = lookup (λ k. nat_eq t.0 k) h.records
+abbrev pub record_fields : Home → TypeId → Option Scope
+record_fields h t = lookup (λ k. nat_eq t.0 k) h.records
+
+-- the object type with a number, where the module declares it
+abbrev pub object_of : Home → TypeId → Option ObjectScope
+object_of h t = lookup (λ k. nat_eq t.0 k) h.objects
+
+-- the fields of an object type are the variables of its scope
+abbrev pub scope_of : Home → Option ObjectScope → Option Scope
+scope_of h o = option_and_then (λ x. slice_get h.scopes x.scope) o
+
+-- the fields of an object type or a record
+abbrev pub fields_of : (is_object : Bool) → Home → TypeId → Option Scope
+fields_of true h t = scope_of h (object_of h t)
+fields_of false h t = record_fields h t
+
+-- a scope is that of a type
+abbrev pub is_inner : Home → (scope : ℕ) → Bool
+is_inner h k = nat_lt 0 k && nat_lt k h.first
+
+-- with the slots of all methods
+abbrev pub with_slots : Home → List (List ℕ) → Home
+with_slots h ks = record h { slots = ks }
+
+-- the slot of a method, by its place among those that an object type of the module declares
+abbrev pub slot_at : Home → ObjectScope → ℕ → ℕ
+slot_at h o k = unwrap_or (option_and_then (λ ks. slice_get ks k) (slice_get h.slots (o.scope - 1))) 0
 
 -- with the signature of the next procedure
 abbrev pub add_signature : Home → Signature → Home

@@ -1,12 +1,13 @@
 // The scopes of a module, as its declarations make them.
 
-ghost use Rattle.std.specs.Prelude.{◌≡◌, ◌≤◌, ◌^◌, ◌+◌, ◌++◌, ◌∷◌, [], length, map, IfOk, OnOk};
+ghost use Rattle.std.specs.Prelude.{◌≡◌, ◌≤◌, ◌<◌, ◌^◌, ◌+◌, ◌++◌, ◌∷◌, [], length, fold, map, IfOk, OnOk};
 ghost use Rattle.std.specs.List.{flat_map};
 ghost use Rattle.aos_symbols.specs.Declarations as declarations;
 ghost use Rattle.aos_symbols.specs.Entries as entries;
 ghost use Rattle.aos_symbols.specs.Scope as names;
 
-use crate::home::Home;
+use crate::declarations::inner_decls;
+use crate::home::{Home, ObjectScope};
 use crate::scope::{Entry, Meaning, Scope};
 use crate::spelling::word;
 use aos_base::NoMemory;
@@ -14,6 +15,7 @@ use aos_tree::{
     ConstDef, Decl, Def, Export, Formals, Import, Module, Name, TypeDef, TypeExpr, VarDef,
 };
 use aos_types::TypeId;
+use indexmap::IndexMap;
 use std::alloc::{AllocError, Global};
 
 /// How many declarations of one sort, or strings, can be told apart by their numbers.
@@ -363,16 +365,6 @@ fn procedure_scope<'a>(
     Ok(scope)
 }
 
-/// What is declared in an object type.
-fn inner_decls(of: &TypeExpr) -> &[Decl]
-    ensures { result.now ≡ entries.inner_decls of.now }
-{
-    match of {
-        TypeExpr::Object(_, _, decls, _, _) => decls.as_slice(),
-        _ => &[],
-    }
-}
-
 /// Declares types within an object type in turn.
 #[tactic(auto, using(crate::proofs::Entered::mapped_step, crate::proofs::Entered::mapped_end))]
 fn declare_inner_types<'a>(
@@ -441,8 +433,78 @@ fn add_inner_scopes_in<'a>(
     }
 }
 
-/// The scopes of a module's procedures, of which the first type of the first has this place among the numbers.
+/// The scopes of the procedures of declarations, of which the first type of the first has this place among the numbers.
 fn add_procedure_scopes<'a>(
+    alloc: Global,
+    scopes: &mut Vec<Scope<'a>>,
+    place: &mut usize,
+    text: &'a [u8],
+    numbers: &[Option<TypeId>],
+    decls: &[Decl],
+) -> Result<(), NoMemory>
+    ensures scopes { OnOk result (scopes.new.items ≡ scopes.old.items ++
+        entries.procedure_scopes text.now numbers.now place.old (declarations.procedures decls.now)) }
+    ensures place { OnOk result (place.new ≡
+        place.old + length (declarations.local_types (declarations.procedures decls.now))) }
+{
+    for decl in decls {
+        if let Decl::Proc(proc) = decl {
+            let decls = proc.decls.as_slice();
+            let scope = procedure_scope(alloc, place, text, numbers, &proc.formals, decls)?;
+            add_scope(scopes, scope)?;
+        }
+    }
+    Ok(())
+}
+
+/// The same of the methods that types declare.
+#[tactic(auto, using(crate::proofs::Entered::methods_on, crate::proofs::Entered::methods_end, crate::proofs::Entered::method_count))]
+fn add_method_scopes<'a>(
+    alloc: Global,
+    scopes: &mut Vec<Scope<'a>>,
+    place: &mut usize,
+    text: &'a [u8],
+    numbers: &[Option<TypeId>],
+    defs: &[TypeDef],
+) -> Result<(), NoMemory>
+    ensures scopes { OnOk result (scopes.new.items ≡ scopes.old.items ++ entries.procedure_scopes
+        text.now numbers.now place.old (flat_map declarations.methods_in defs.now)) }
+    ensures place { OnOk result (place.new ≡
+        place.old + length (declarations.local_types (flat_map declarations.methods_in defs.now))) }
+{
+    for def in defs {
+        let decls = inner_decls(&def.value);
+        add_procedure_scopes(alloc, scopes, place, text, numbers, decls)?;
+    }
+    Ok(())
+}
+
+/// The same of the methods of the types that a declaration defines.
+fn add_method_scopes_in<'a>(
+    alloc: Global,
+    scopes: &mut Vec<Scope<'a>>,
+    place: &mut usize,
+    text: &'a [u8],
+    numbers: &[Option<TypeId>],
+    decl: &Decl,
+) -> Result<(), NoMemory>
+    ensures scopes { OnOk result (scopes.new.items ≡ scopes.old.items ++ entries.procedure_scopes
+        text.now numbers.now place.old
+        (flat_map declarations.methods_in (declarations.types_in decl.now))) }
+    ensures place { OnOk result (place.new ≡ place.old + length (declarations.local_types
+        (flat_map declarations.methods_in (declarations.types_in decl.now)))) }
+{
+    match decl {
+        Decl::Types(_, defs) => {
+            add_method_scopes(alloc, scopes, place, text, numbers, defs.as_slice())
+        },
+        _ => Ok(()),
+    }
+}
+
+/// The same of all procedures of a module, and behind them the methods of its types.
+#[tactic(auto, using(crate::proofs::Entered::decl_methods_on, crate::proofs::Entered::decl_methods_end, crate::proofs::Entered::all_scopes))]
+fn add_all_scopes<'a>(
     alloc: Global,
     scopes: &mut Vec<Scope<'a>>,
     first: usize,
@@ -451,17 +513,114 @@ fn add_procedure_scopes<'a>(
     decls: &[Decl],
 ) -> Result<(), NoMemory>
     ensures { OnOk result (scopes.new.items ≡ scopes.old.items ++
-        entries.procedure_scopes text.now numbers.now first (declarations.procedures decls.now)) }
+        entries.procedure_scopes text.now numbers.now first (declarations.all_procedures decls.now)) }
 {
     let mut place = first;
+    add_procedure_scopes(alloc, scopes, &mut place, text, numbers, decls)?;
     for decl in decls {
-        if let Decl::Proc(proc) = decl {
-            let decls = proc.decls.as_slice();
-            let scope = procedure_scope(alloc, &mut place, text, numbers, &proc.formals, decls)?;
-            add_scope(scopes, scope)?;
-        }
+        add_method_scopes_in(alloc, scopes, &mut place, text, numbers, decl)?;
     }
     Ok(())
+}
+
+/// How many procedures declarations declare. 2^32 and more are want of memory.
+fn count_procedures(decls: &[Decl]) -> Result<u32, NoMemory>
+    ensures { IfOk result (λ n. n ≡ length (declarations.procedures decls.now)) }
+{
+    let mut count: u32 = 0;
+    for decl in decls {
+        if let Decl::Proc(_) = decl {
+            count = more_of(count, 1)?;
+        }
+    }
+    Ok(count)
+}
+
+/// So many, and as many more.
+fn more_of(count: u32, more: u32) -> Result<u32, NoMemory>
+    ensures { IfOk result (λ n. n ≡ count + more) }
+{
+    match count.checked_add(more) {
+        Some(count) => Ok(count),
+        None => Err(NoMemory),
+    }
+}
+
+/// Puts the object type that a definition writes behind these: in a module with this number, at this place among the definitions, with
+/// so many signatures before those of its methods.
+fn add_object(
+    objects: &mut IndexMap<u32, ObjectScope>,
+    home: u32,
+    place: u32,
+    methods: u32,
+    number: Option<TypeId>,
+    of: &TypeExpr,
+) -> Result<(), NoMemory>
+    ensures { OnOk result (objects.new.entries ≡
+        entries.with_object home place methods number of.now objects.old.entries) }
+{
+    let Some(number) = number else {
+        return Ok(());
+    };
+    let TypeExpr::Object(_, _, _, body, _) = of else {
+        return Ok(());
+    };
+    let object = ObjectScope {
+        home,
+        scope: more_of(place, 1)?,
+        methods,
+        has_body: body.is_some(),
+    };
+    match objects.insert(number.0, object) {
+        Ok(_) => Ok(()),
+        Err(e) => Err(AllocError::from(e).into()),
+    }
+}
+
+/// The same of definitions in turn.
+fn add_objects(
+    objects: &mut IndexMap<u32, ObjectScope>,
+    home: u32,
+    place: &mut u32,
+    methods: &mut u32,
+    numbers: &[Option<TypeId>],
+    defs: &[TypeDef],
+) -> Result<(), NoMemory>
+    ensures objects { OnOk result (objects.new.entries ≡ (fold (entries.next_object home numbers.now)
+        (entries.numbered_objects place.old methods.old objects.old.entries) defs.now).all) }
+    ensures place { OnOk result (place.new ≡ (fold (entries.next_object home numbers.now)
+        (entries.numbered_objects place.old methods.old objects.old.entries) defs.now).place) }
+    ensures methods { OnOk result (methods.new ≡ (fold (entries.next_object home numbers.now)
+        (entries.numbered_objects place.old methods.old objects.old.entries) defs.now).methods) }
+{
+    for def in defs {
+        let number = number_at(numbers, *place as usize);
+        add_object(objects, home, *place, *methods, number, &def.value)?;
+        *place = more_of(*place, 1)?;
+        *methods = more_of(*methods, count_procedures(inner_decls(&def.value))?)?;
+    }
+    Ok(())
+}
+
+/// The object types that a module with this number declares, by the types' numbers.
+fn objects_of(
+    alloc: Global,
+    home: u32,
+    numbers: &[Option<TypeId>],
+    decls: &[Decl],
+) -> Result<IndexMap<u32, ObjectScope>, NoMemory>
+    ensures { IfOk result (λ os. os.entries ≡ entries.objects_of home numbers.now decls.now) }
+{
+    let mut objects = IndexMap::new(alloc);
+    let mut place: u32 = 0;
+    let mut methods = count_procedures(decls)?;
+    for decl in decls {
+        if let Decl::Types(_, defs) = decl {
+            let defs = defs.as_slice();
+            add_objects(&mut objects, home, &mut place, &mut methods, numbers, defs)?;
+        }
+    }
+    Ok(objects)
 }
 
 /// What a module declares, before any of its declarations is looked at: its scopes, in a module that comes behind these in load
@@ -475,7 +634,7 @@ pub fn home_of<'a>(
     text: &'a [u8],
     tree: &Module,
 ) -> Result<Home<'a>, NoMemory>
-    requires { length homes.now ≤ 2 ^ 32 }
+    requires { length homes.now < 2 ^ 32 }
     ensures { IfOk result (λ h. h ≡ entries.home_of text.now homes.now numbers.now tree.now) }
 {
     let decls = tree.decls.as_slice();
@@ -487,7 +646,8 @@ pub fn home_of<'a>(
         add_inner_scopes_in(alloc, &mut scopes, text, decl)?;
     }
     let first = scopes.len();
-    add_procedure_scopes(alloc, &mut scopes, place, text, numbers, decls)?;
-    let strings = tree.strings.as_slice();
-    Ok(Home::new(alloc, word(text, tree.name), text, strings, scopes, first)?)
+    add_all_scopes(alloc, &mut scopes, place, text, numbers, decls)?;
+    let objects = objects_of(alloc, homes.len() as u32, numbers, decls)?;
+    let (name, strings) = (word(text, tree.name), tree.strings.as_slice());
+    Ok(Home::new(alloc, name, text, strings, scopes, first, objects)?)
 }

@@ -4,7 +4,7 @@ ghost use Rattle.std.specs.Prelude.{◌≡◌, ◌+◌, Some, length, map, OnOk,
 ghost use Rattle.std.specs.Map.{lookup};
 ghost use Rattle.std.specs.Option.{option_copied};
 ghost use Rattle.std.specs.Str.{bytes_eq};
-ghost use Rattle.aos_types.specs.Table.{base_of, row_of as row_in};
+ghost use Rattle.aos_types.specs.Table.{base_of, is_object, row_of as row_in};
 ghost use Rattle.aos_symbols.specs.Env as env;
 
 use crate::home::{Home, Signature};
@@ -65,14 +65,26 @@ pub enum Lookup {
     Found(Symbol),
 }
 
-/// A field of a record type: whether this module writes the type that declares it, the field's mark, its number in the record,
-/// and its type, which is none where it breaks a rule.
+/// A field of a record or an object type: whether this module writes the type that declares it, the field's mark, its number in the
+/// type, and its own type, which is none where it breaks a rule.
 #[derive(Clone, Copy, PartialEq, Eq, Debug)]
 pub struct Field {
     pub is_own: bool,
     pub mark: Option<Export>,
     pub number: u32,
     pub of: Option<TypeId>,
+}
+
+/// A method of an object type: whether this module writes the type that declares it, its mark, the number of the module that does,
+/// its number among that module's signatures, the type that declares it, and its slot.
+#[derive(Clone, Copy, PartialEq, Eq, Debug)]
+pub struct Method {
+    pub is_own: bool,
+    pub mark: Option<Export>,
+    pub home: u32,
+    pub number: u32,
+    pub of: TypeId,
+    pub slot: u32,
 }
 
 /// A variable that a WITH narrows: its scope, its number there, and the type that it has within.
@@ -90,8 +102,12 @@ pub enum Claim {
     Target(Pos, TypeId),
     /// Rule 17: what is named here is the base of a record, whose type stands behind, so it is a record.
     Base(Pos, TypeId, TypeId),
-    /// Rule 23: a record of which it is the base has a field with this name, so it has none.
+    /// Rule 17: what is named here is the base of an object type, which stands behind, so it is an object type.
+    ObjectBase(Pos, TypeId, TypeId),
+    /// Rule 23: a type of which it is the base has a field with this name, so it has neither such a field nor such a method.
     Field(Name, TypeId),
+    /// Rule 23: an object type of which it is the base has a method with this name, so it has no such field.
+    Method(Name, TypeId),
 }
 
 /// What names stand for at a place of a module.
@@ -113,9 +129,11 @@ pub struct Env<'a> {
     pub claims: Items<Claim>,
     /// The variables that are narrowed by the WITHs around the place, the outermost first.
     pub narrowed: Items<Narrowed>,
+    /// The object type in whose methods or body the place stands.
+    pub self_type: Option<TypeId>,
 }
 
-/// The predeclared names (Reali 2002, predeclared identifiers); SELF isn't built yet.
+/// The predeclared names (Reali 2002, predeclared identifiers).
 const PREDECLARED: [(&str, Meaning); 30] = [
     ("SHORTINT", Meaning::Type(Some(SHORTINT))),
     ("INTEGER", Meaning::Type(Some(INTEGER))),
@@ -146,7 +164,7 @@ const PREDECLARED: [(&str, Meaning); 30] = [
     ("INC", Meaning::Routine(Routine::Inc)),
     ("INCL", Meaning::Routine(Routine::Incl)),
     ("NEW", Meaning::Routine(Routine::New)),
-    ("SELF", Meaning::Other),
+    ("SELF", Meaning::Itself),
 ];
 
 /// What the first row with a word says.
@@ -221,12 +239,12 @@ fn field_in(is_own: bool, fields: &Scope<'_>, word: &[u8]) -> Option<Field>
     })
 }
 
-/// The field with this word of a record type that one of these modules writes.
-fn field_among(homes: &[Home<'_>], of: TypeId, word: &[u8]) -> Option<Field>
-    ensures { result ≡ env.field_among homes.now of word.now }
+/// The field with this word of an object type or a record that one of these modules writes.
+fn field_among(homes: &[Home<'_>], is_object: bool, of: TypeId, word: &[u8]) -> Option<Field>
+    ensures { result ≡ env.field_among is_object homes.now of word.now }
 {
     for home in homes {
-        if let Some(fields) = home.fields(of) {
+        if let Some(fields) = home.fields(is_object, of) {
             return field_in(false, fields, word);
         }
     }
@@ -268,7 +286,7 @@ impl<'a> Env<'a> {
         }
     }
 
-    fn in_scope(&self, at: Open, word: &[u8]) -> Option<Symbol>
+    pub(crate) fn in_scope(&self, at: Open, word: &[u8]) -> Option<Symbol>
         ensures { result ≡ env.in_scope self.now at word.now }
     {
         match self.scope(at) {
@@ -353,19 +371,26 @@ impl<'a> Env<'a> {
         }
     }
 
-    /// The own field of a record type that has a name; none where it hasn't one.
+    fn is_object(&self, of: TypeId) -> bool
+        ensures { result ≡ is_object (row_in self.now.types of) }
+    {
+        matches!(self.row(Some(of)), Some(TypeRow::Object(_, _)))
+    }
+
+    /// The own field of a type that has a name; none where it hasn't one.
     fn own_field(&self, of: TypeId, name: Name) -> Option<Field>
         ensures { result ≡ env.own_field self.now of name }
     {
         let word = word(self.here.text(), name);
-        match self.here.fields(of) {
+        let is_object = self.is_object(of);
+        match self.here.fields(is_object, of) {
             Some(fields) => field_in(true, fields, word),
-            None => field_among(self.before.as_slice(), of, word),
+            None => field_among(self.before.as_slice(), is_object, of, word),
         }
     }
 
     /// The base of a record or an object type.
-    fn base(&self, of: TypeId) -> Option<TypeId>
+    pub fn base(&self, of: TypeId) -> Option<TypeId>
         ensures { result ≡ base_of (row_in self.now.types of) }
     {
         match self.row(Some(of)) {
@@ -375,19 +400,20 @@ impl<'a> Env<'a> {
         }
     }
 
-    /// How many own fields a record has.
+    /// How many own fields a type has.
     fn field_count(&self, of: TypeId) -> usize
         ensures { result ≡ env.field_count (row_in self.now.types of) }
     {
         match self.row(Some(of)) {
             Some(TypeRow::Record(_, fields)) => fields.as_slice().len(),
+            Some(TypeRow::Object(_, fields)) => fields.as_slice().len(),
             _ => 0,
         }
     }
 
     /// How many fields a type has of its bases. 2^32 and more are want of memory.
     #[tactic(auto, using(crate::proofs::Bases::before_base, crate::proofs::Bases::before_none, crate::proofs::Bases::before_end))]
-    fn fields_before(&self, of: TypeId) -> Result<u32, AllocError>
+    pub(crate) fn fields_before(&self, of: TypeId) -> Result<u32, AllocError>
         ensures { IfOk result (λ n. n ≡
             env.fields_before (length self.now.types) self.now.types of) }
     {
@@ -415,7 +441,7 @@ impl<'a> Env<'a> {
         }
     }
 
-    /// The field of a record type, or of one of its bases, that has a name; none where there isn't one.
+    /// The field of a type, or of one of its bases, that has a name; none where there isn't one.
     #[tactic(auto, using(crate::proofs::Bases::found_own, crate::proofs::Bases::searched_base, crate::proofs::Bases::found_none, crate::proofs::Bases::found_end))]
     pub fn field(&self, of: TypeId, name: Name) -> Result<Option<Field>, AllocError>
         ensures { IfOk result (λ f. f ≡ env.field self.now of name) }

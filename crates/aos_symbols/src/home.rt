@@ -34,9 +34,21 @@ pub struct Signature {
     pub gives: Gives,
 }
 
-/// A module's name, its text, the strings there, its scopes, the signatures of its procedures, and the fields of the record types that it writes,
-/// by the types' numbers: they are the variables of a scope. The first scope is the module's own; behind it come those of the
-/// types that it defines and then those of its procedures, the first of which has the number `first`, each in the order of the text.
+/// An object type: the number of the module that declares it, the number of its scope there, in which its constants, fields and
+/// methods stand, the number of its first method among the module's signatures, and whether it has a body.
+#[derive(Clone, Copy, PartialEq, Eq, Debug)]
+pub struct ObjectScope {
+    pub home: u32,
+    pub scope: u32,
+    pub methods: u32,
+    pub has_body: bool,
+}
+
+/// A module's name, its text, the strings there, its scopes, the signatures of its procedures and behind them those of methods, the
+/// fields of the record types that it writes and its object types, by the types' numbers, and the slots of the methods that each
+/// type declares. A record's fields are the variables of a scope. The first scope is the module's own; behind it come those of the
+/// types that it defines and then those of its procedures and methods, the first of which has the number `first`, each in the order
+/// of the text.
 #[derive(Drop)]
 pub struct Home<'a> {
     name: &'a [u8],
@@ -46,6 +58,8 @@ pub struct Home<'a> {
     first: usize,
     signatures: Vec<Signature>,
     records: IndexMap<u32, Scope<'a>>,
+    objects: IndexMap<u32, ObjectScope>,
+    slots: Vec<Items<u32>>,
 }
 
 /// The strings of a text, by the places where they begin. More than 2^32 of them are want of memory.
@@ -85,14 +99,16 @@ impl<'a> Model for Home<'a> {
       first = h.first;
       signatures = h.signatures.items;
       records = h.records.entries;
+      objects = h.objects.entries;
+      slots = h.slots.items;
     } };
 
     ghost invariant = { λ h. length h.strings.entries ≤ 2 ^ 32 };
 }
 
 impl<'a> Home<'a> {
-    /// A module of this name, with this text and these strings and scopes, of which that of the first procedure has a number; no
-    /// procedure has its signature yet, and no record type its fields.
+    /// A module of this name, with this text and these strings and scopes, of which that of the first procedure has a number, and
+    /// these object types; no procedure has its signature yet, no record type its fields and no method its slot.
     pub fn new(
         alloc: Global,
         name: &'a [u8],
@@ -100,6 +116,7 @@ impl<'a> Home<'a> {
         strings: &[Text],
         scopes: Vec<Scope<'a>>,
         first: usize,
+        objects: IndexMap<u32, ObjectScope>,
     ) -> Result<Home<'a>, AllocError>
         ensures { IfOk result (λ h. h ≡ record {
           name = name.now;
@@ -109,6 +126,8 @@ impl<'a> Home<'a> {
           first = first;
           signatures = [];
           records = [];
+          objects = objects.entries;
+          slots = [];
         }) }
     {
         Ok(Home {
@@ -119,6 +138,8 @@ impl<'a> Home<'a> {
             first,
             signatures: Vec::new(alloc),
             records: IndexMap::new(alloc),
+            objects,
+            slots: Vec::new(alloc),
         })
     }
 
@@ -199,11 +220,62 @@ impl<'a> Home<'a> {
         }
     }
 
-    /// The fields of a record type, where this module writes it.
-    pub fn fields(&self, of: TypeId) -> Option<&Scope<'a>>
-        ensures { option_copied result ≡ home.fields_of self.now of }
+    /// The types of all variables of a scope, in the place of those that there were.
+    pub fn set_variables(&mut self, scope: u32, of: Vec<Option<TypeId>>)
+        ensures { self.new ≡ home.set_variables self.old scope of.items }
     {
-        self.records.get(&of.0)
+        if let Some(scope) = self.scopes.get_mut(scope as usize) {
+            scope.set_variables(of);
+        }
+    }
+
+    /// An object type, where this module declares it.
+    pub fn object(&self, of: TypeId) -> Option<ObjectScope>
+        ensures { result ≡ home.object_of self.now of }
+    {
+        self.objects.get(&of.0).copied()
+    }
+
+    /// The scope of an object type.
+    fn scope_of(&self, of: Option<ObjectScope>) -> Option<&Scope<'a>>
+        ensures { option_copied result ≡ home.scope_of self.now of }
+    {
+        self.scope(of?.scope)
+    }
+
+    /// The fields of an object type or a record, where this module writes it.
+    pub fn fields(&self, is_object: bool, of: TypeId) -> Option<&Scope<'a>>
+        ensures { option_copied result ≡ home.fields_of is_object self.now of }
+    {
+        if is_object {
+            self.scope_of(self.object(of))
+        } else {
+            self.records.get(&of.0)
+        }
+    }
+
+    /// The slot of a method, by its place among those that an object type of this module declares.
+    pub fn slot(&self, of: ObjectScope, number: u32) -> u32
+        ensures { result ≡ home.slot_at self.now of number }
+    {
+        match self.slots.get((of.scope as usize).saturating_sub(1)) {
+            Some(slots) => slots.as_slice().get(number as usize).copied().unwrap_or(0),
+            None => 0,
+        }
+    }
+
+    /// The slots of the methods that each type declares, by the types' definitions.
+    pub fn set_slots(&mut self, slots: Vec<Items<u32>>)
+        ensures { self.new ≡ home.with_slots self.old slots.items }
+    {
+        self.slots = slots;
+    }
+
+    /// Whether a scope is that of a type.
+    pub fn is_inner(&self, scope: u32) -> bool
+        ensures { result ≡ home.is_inner self.now scope }
+    {
+        scope > 0 && (scope as usize) < self.first
     }
 
     /// The fields of a record type. Without memory all stays as it was.

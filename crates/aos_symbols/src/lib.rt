@@ -2,12 +2,14 @@
 #![tactic(auto)]
 
 pub mod breach;
-mod declarations;
+mod chain;
+pub mod declarations;
 pub mod entries;
 pub mod env;
 pub mod home;
 mod laws;
 mod names;
+mod objects;
 pub mod scope;
 mod spelling;
 
@@ -15,15 +17,17 @@ pub use breach::{
     ARGUMENT_COUNT, ARGUMENT_TYPE, Breach, CONTAINS_ITSELF, EXIT_OUTSIDE, IN_BASE, NAMED_OUT,
     NO_CONDITION, NO_VARIABLE, NOT_BUILT, NOT_CONSTANT, NOT_EXPORTED, OBJECT_INSIDE, OPEN_ARRAY,
     OTHER_END, OTHER_KIND, READ_ONLY, TOO_MANY_SCALARS, TWICE, UNFIT, UNKNOWN, WRONG_BASE,
-    WRONG_CALL, WRONG_FOR, WRONG_INITIALIZER, WRONG_LABEL, WRONG_NEW, WRONG_OPERANDS, WRONG_RETURN,
-    WRONG_SELECTOR, WRONG_TEST, WRONG_TYPE, WRONG_WITH, note,
+    WRONG_CALL, WRONG_FOR, WRONG_INITIALIZER, WRONG_LABEL, WRONG_NEW, WRONG_OPERANDS,
+    WRONG_OVERRIDE, WRONG_RETURN, WRONG_SELECTOR, WRONG_SELF, WRONG_TEST, WRONG_TYPE, WRONG_WITH,
+    note,
 };
+pub use declarations::{all_procedures, inner_decls, type_definitions};
 pub use entries::{declare, home_of};
 pub use env::{
-    ANY, BASIC_TYPES, BOOLEAN, CHAR, Claim, Env, Field, HUGEINT, INTEGER, LONGINT, Lookup, NIL,
-    Narrowed, Open, SET, SHORTINT, Symbol, TEXT,
+    ANY, BASIC_TYPES, BOOLEAN, CHAR, Claim, Env, Field, HUGEINT, INTEGER, LONGINT, Lookup, Method,
+    NIL, Narrowed, Open, SET, SHORTINT, Symbol, TEXT,
 };
-pub use home::{Gives, Home, Parameter, Signature};
+pub use home::{Gives, Home, ObjectScope, Parameter, Signature};
 pub use laws::law_of_first;
 pub use names::check_names;
 pub use scope::{Constant, Entry, Function, Meaning, Routine, Scope};

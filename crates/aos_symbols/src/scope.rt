@@ -1,10 +1,10 @@
 // Scopes: names by their bytes, and what they stand for.
 
-ghost use Rattle.std.specs.Prelude.{◌≡◌, length, OnErr, OnOk, IfOk, not, slice_get};
+ghost use Rattle.std.specs.Prelude.{◌≡◌, length, OnErr, OnOk, IfOk, not, option_map, slice_get};
 ghost use Rattle.aos_symbols.specs.Scope as names;
 
 use aos_base::Pos;
-use aos_tree::Export;
+use aos_tree::{Export, Items};
 use aos_typed::Literal;
 use aos_types::TypeId;
 use indexmap::IndexMap;
@@ -33,6 +33,8 @@ pub enum Meaning {
     Routine(Routine),
     /// A procedure of module Out.
     Proper,
+    /// SELF.
+    Itself,
     /// Something else that isn't built yet.
     Other,
 }
@@ -133,6 +135,77 @@ impl<'a> Scope<'a> {
         Ok(true)
     }
 
+    /// Where a word stands among the names. A place of 2^32 and more is want of memory.
+    fn place_of(&self, word: &[u8]) -> Result<u32, AllocError>
+        ensures { IfOk result (λ k. k ≡ names.place_of self.now word.now) }
+    {
+        let Some(place) = self.table.get_index_of(word) else {
+            return Ok(0);
+        };
+        match u32::try_from(place) {
+            Ok(place) => Ok(place),
+            Err(_) => Err(AllocError),
+        }
+    }
+
+    /// How many names there are.
+    fn name_count(&self) -> usize
+        ensures { result ≡ length self.now.entries }
+    {
+        self.table.len()
+    }
+
+    /// The name with this place.
+    fn name_at(&self, place: usize) -> Option<(&'a [u8], Entry)>
+        ensures { option_map names.named result ≡ slice_get self.now.entries place }
+    {
+        match self.table.get_index(place) {
+            Some((word, entry)) => Some((*word, *entry)),
+            None => None,
+        }
+    }
+
+    /// The name with this place, where it is that of a method.
+    fn method_at(&self, place: usize) -> Option<(&'a [u8], Entry)>
+        ensures { option_map names.named result ≡
+            names.if_method (slice_get self.now.entries place) }
+    {
+        match self.name_at(place) {
+            Some((word, entry)) => match entry.means {
+                Meaning::Procedure(_) => Some((word, entry)),
+                _ => None,
+            },
+            None => None,
+        }
+    }
+
+    /// Declares the methods of this scope in another one, too.
+    #[tactic(auto, using(crate::proofs::Methods::declared_more, crate::proofs::Methods::declared_none, crate::proofs::Methods::declared_end))]
+    pub fn add_methods(&self, all: &mut Scope<'a>) -> Result<(), AllocError>
+        ensures { OnOk result (all.new ≡ names.with_names all.old (names.methods_of self.now)) }
+    {
+        for place in 0..self.name_count() {
+            if let Some((word, entry)) = self.method_at(place) {
+                all.declare(word, entry)?;
+            }
+        }
+        Ok(())
+    }
+
+    /// Where the methods of this scope stand among the names of another one.
+    #[tactic(auto, using(crate::proofs::Methods::placed_more, crate::proofs::Methods::placed_none, crate::proofs::Methods::placed_end))]
+    pub fn places_in(&self, alloc: Global, all: &Scope<'_>) -> Result<Items<u32>, AllocError>
+        ensures { IfOk result (λ ks. ks ≡ names.places_in all.now (names.methods_of self.now)) }
+    {
+        let mut places = Items::new(alloc);
+        for place in 0..self.name_count() {
+            if let Some((word, _)) = self.method_at(place) {
+                places.push(all.place_of(word)?)?;
+            }
+        }
+        Ok(places)
+    }
+
     /// The constant with a number; none where it is declared later.
     pub fn constant(&self, number: u32) -> Option<Constant>
         ensures { result ≡ slice_get self.now.constants number }
@@ -162,6 +235,13 @@ impl<'a> Scope<'a> {
     {
         self.constants.push(constant)?;
         Ok(())
+    }
+
+    /// The types of all variables, in the place of those that there were.
+    pub fn set_variables(&mut self, of: Vec<Option<TypeId>>)
+        ensures { self.new ≡ names.setting_variables self.old of.items }
+    {
+        self.variables = of;
     }
 
     /// The type of the next variable. Without memory the scope stays as it was.

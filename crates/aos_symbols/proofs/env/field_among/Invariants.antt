@@ -4,4 +4,4 @@ use Rattle.aos_symbols.specs.Env as env
 use Rattle.aos_symbols.proofs.env.field_among.Given as goal
 
 abbrev pub invariant-loop-home : goal.invariant-loop-home
-invariant-loop-home l = env.field_among (drop l.home-index l.homes) l.of l.word ≡ env.field_among l.homes l.of l.word
+invariant-loop-home l = env.field_among l.is_object (drop l.home-index l.homes) l.of l.word ≡ env.field_among l.is_object l.homes l.of l.word

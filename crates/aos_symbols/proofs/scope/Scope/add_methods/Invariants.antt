@@ -1,0 +1,7 @@
+use Rattle.std.proofs.Common.{◌≡◌}
+use Rattle.aos_symbols.specs.Scope as names
+use Rattle.aos_symbols.proofs.Methods.{methods_before}
+use Rattle.aos_symbols.proofs.scope.Scope.add_methods.Given as goal
+
+abbrev pub invariant-loop-place : goal.invariant-loop-place
+invariant-loop-place l = l.all ≡ names.with_names l.initial.all (methods_before l.self l.place)

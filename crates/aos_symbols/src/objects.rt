@@ -1,0 +1,245 @@
+// Object types: their scopes, and their methods with their slots.
+
+ghost use Rattle.std.specs.Prelude.{◌≡◌, OnOk, IfOk, OnErr};
+ghost use Rattle.std.specs.Option.{option_copied};
+ghost use Rattle.aos_symbols.specs.Scope as names;
+ghost use Rattle.aos_symbols.specs.Env as env;
+
+use crate::env::{Env, Method, Open, Symbol};
+use crate::home::{Home, ObjectScope};
+use crate::scope::{Meaning, Scope};
+use crate::spelling::word;
+use aos_tree::{Items, Name};
+use aos_types::TypeId;
+use std::alloc::{AllocError, Global};
+use std::mem;
+
+/// Where the names of an object type stand.
+fn object_place(object: ObjectScope) -> Open
+    ensures { result ≡ env.object_place object }
+{
+    Open {
+        home: object.home,
+        scope: object.scope,
+    }
+}
+
+/// The object type with a number, where one of these modules declares it.
+fn object_among(homes: &[Home<'_>], of: TypeId) -> Option<ObjectScope>
+    ensures { result ≡ env.object_among homes.now of }
+{
+    for home in homes {
+        if let Some(object) = home.object(of) {
+            return Some(object);
+        }
+    }
+    None
+}
+
+impl<'a> Env<'a> {
+    /// The object type with a number, where a module declares it.
+    pub fn object(&self, of: TypeId) -> Option<ObjectScope>
+        ensures { result ≡ env.object self.now of }
+    {
+        match self.here.object(of) {
+            Some(object) => Some(object),
+            None => object_among(self.before.as_slice(), of),
+        }
+    }
+
+    /// Whether a scope is that of a type, so that a name in it is one of an object type.
+    pub fn is_inner(&self, at: Open) -> bool
+        ensures { result ≡ env.is_inner self.now at }
+    {
+        match self.home(at.home) {
+            Some(home) => home.is_inner(at.scope),
+            None => false,
+        }
+    }
+
+    /// A type, its base, the base of that and so on.
+    #[tactic(auto, using(crate::proofs::Chains::chain_step, crate::proofs::Chains::chain_none, crate::proofs::Chains::chain_end))]
+    fn chain(&self, alloc: Global, of: TypeId) -> Result<Vec<TypeId>, AllocError>
+        ensures { IfOk result (λ ts. ts.items ≡ env.chain self.now.types of) }
+    {
+        let mut all = Vec::new(alloc);
+        let mut at = of;
+        let mut left = self.types.len();
+        while left > 0 {
+            all.push(at)?;
+            let Some(base) = self.base(at) else {
+                return Ok(all);
+            };
+            at = base;
+            left -= 1;
+        }
+        all.push(at)?;
+        Ok(all)
+    }
+
+    /// The scopes of object types.
+    fn object_path(&self, alloc: Global, types: &[TypeId]) -> Result<Items<Open>, AllocError>
+        ensures { IfOk result (λ path. path ≡ env.object_path self.now types.now) }
+    {
+        let mut path = Items::new(alloc);
+        for of in types {
+            if let Some(object) = self.object(*of) {
+                path.push(object_place(object))?;
+            }
+        }
+        Ok(path)
+    }
+
+    /// The slot of a method that an object type declares, by its place among those.
+    fn slot_of(&self, object: ObjectScope, number: u32) -> u32
+        ensures { result ≡ env.slot_of (env.home self.now object.home) object number }
+    {
+        match self.home(object.home) {
+            Some(home) => home.slot(object, number),
+            None => 0,
+        }
+    }
+
+    /// The method that a name in the scope of an object type stands for. A number of 2^32 and more is want of memory.
+    fn method_meant(
+        &self,
+        of: TypeId,
+        object: ObjectScope,
+        symbol: Symbol,
+    ) -> Result<Option<Method>, AllocError>
+        ensures { IfOk result (λ m. m ≡ env.method_meant self.now of object symbol) }
+    {
+        let Meaning::Procedure(place) = symbol.means else {
+            return Ok(None);
+        };
+        let Some(number) = object.methods.checked_add(place) else {
+            return Err(AllocError);
+        };
+        Ok(Some(Method {
+            is_own: object.home == self.number,
+            mark: symbol.mark,
+            home: object.home,
+            number,
+            of,
+            slot: self.slot_of(object, place),
+        }))
+    }
+
+    /// The method with this word that an object type itself declares.
+    fn own_method(&self, of: TypeId, word: &[u8]) -> Result<Option<Method>, AllocError>
+        ensures { IfOk result (λ m. m ≡ env.own_method self.now of word.now) }
+    {
+        let Some(object) = self.object(of) else {
+            return Ok(None);
+        };
+        match self.in_scope(object_place(object), word) {
+            Some(symbol) => self.method_meant(of, object, symbol),
+            None => Ok(None),
+        }
+    }
+
+    /// The method with this word of an object type or else of the nearest of its bases that has one.
+    #[tactic(auto, using(crate::proofs::Chains::chain_base, crate::proofs::Chains::chain_none, crate::proofs::Chains::chain_end))]
+    fn method_named(&self, of: TypeId, word: &[u8]) -> Result<Option<Method>, AllocError>
+        ensures { IfOk result (λ m. m ≡ env.method_named self.now of word.now) }
+    {
+        let mut at = of;
+        let mut left = self.types.len();
+        while left > 0 {
+            if let Some(method) = self.own_method(at, word)? {
+                return Ok(Some(method));
+            }
+            let Some(base) = self.base(at) else {
+                return Ok(None);
+            };
+            at = base;
+            left -= 1;
+        }
+        self.own_method(at, word)
+    }
+
+    /// The method of an object type that has a name: its own, or else that of the nearest of its bases that has one.
+    pub fn method(&self, of: TypeId, name: Name) -> Result<Option<Method>, AllocError>
+        ensures { IfOk result (λ m. m ≡ env.method self.now of name) }
+    {
+        self.method_named(of, word(self.here.text(), name))
+    }
+
+    /// The method with a name that one of this type overrides.
+    pub fn upper(&self, of: TypeId, name: Name) -> Result<Option<Method>, AllocError>
+        ensures { IfOk result (λ m. m ≡ env.upper self.now of name) }
+    {
+        match self.base(of) {
+            Some(base) => self.method(base, name),
+            None => Ok(None),
+        }
+    }
+
+    /// The scope in which the names of an object type stand.
+    fn object_scope(&self, of: TypeId) -> Option<&Scope<'a>>
+        ensures { option_copied result ≡ env.object_scope self.now of }
+    {
+        self.scope(object_place(self.object(of)?))
+    }
+
+    /// Declares the methods that an object type itself declares in a scope.
+    fn add_methods(&self, all: &mut Scope<'a>, of: TypeId) -> Result<(), AllocError>
+        ensures { OnOk result
+            (all.new ≡ names.with_names all.old (env.own_methods self.now of)) }
+    {
+        match self.object_scope(of) {
+            Some(scope) => scope.add_methods(all),
+            None => Ok(()),
+        }
+    }
+
+    /// The methods of types, of which each stands before its base.
+    #[tactic(auto, using(crate::proofs::Chains::methods_step))]
+    fn methods_along(&self, alloc: Global, types: &[TypeId]) -> Result<Scope<'a>, AllocError>
+        ensures { IfOk result (λ s. s ≡ env.methods_along self.now types.now) }
+    {
+        let mut all = Scope::new(alloc);
+        let mut left = types.len();
+        while left > 0 {
+            left -= 1;
+            self.add_methods(&mut all, types[left])?;
+        }
+        Ok(all)
+    }
+
+    /// The slots of the methods that an object type itself declares.
+    pub fn own_slots(&self, alloc: Global, of: TypeId) -> Result<Items<u32>, AllocError>
+        ensures { IfOk result (λ ks. ks ≡ env.own_slots self.now of) }
+    {
+        let Some(scope) = self.object_scope(of) else {
+            return Ok(Items::new(alloc));
+        };
+        let types = self.chain(alloc, of)?;
+        let all = self.methods_along(alloc, &types)?;
+        scope.places_in(alloc, &all)
+    }
+
+    /// Goes into the methods or the body of an object type of this module, and gives the path of the place where it was. Without
+    /// memory all stays as it was.
+    pub fn enter_object(&mut self, alloc: Global, of: TypeId) -> Result<Items<Open>, AllocError>
+        ensures ok { OnOk result (self.new ≡ env.within_object self.old of) }
+        ensures path { IfOk result (λ path. path ≡ self.old.path) }
+        ensures err { OnErr result (self.new ≡ self.old) }
+    {
+        let types = self.chain(alloc, of)?;
+        let mut path = self.object_path(alloc, &types)?;
+        for open in self.path.as_slice() {
+            path.push(*open)?;
+        }
+        self.self_type = Some(of);
+        Ok(mem::replace(&mut self.path, path))
+    }
+
+    /// Goes back to a place of the module with this path.
+    pub fn leave_object(&mut self, path: Items<Open>)
+        ensures { self.new ≡ env.outside path self.old }
+    {
+        self.path = path;
+        self.self_type = None;
+    }
+}
