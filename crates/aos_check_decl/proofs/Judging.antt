@@ -1,13 +1,12 @@
 -- One more type, result or variable that is judged.
-use Rattle.std.proofs.Common.{◌≡◌, ◌<◌, ◌≤◌, ◌⊎◌, inl, inr, ℕ, zero, suc, List, [], ◌∷◌, ◌+◌, length, get_or, take, drop, drop-cons, add-one, ◌++◌, Bool, nat_le, sum_by, Option, Some, None, slice_get, refl, ap, ◌∙◌, sym}
+use Rattle.std.proofs.Common.{◌≡◌, ◌<◌, ◌≤◌, ◌⊎◌, inl, inr, ℕ, zero, suc, List, [], ◌∷◌, ◌+◌, length, get_or, take, drop, drop-cons, add-one, ◌++◌, Bor, Bool, nat_le, sum_by, Option, Some, None, slice_get, refl, ap, ◌∙◌, sym}
 use Rattle.std.specs.List.{zip}
-use Rattle.std.proofs.lemmas.List.{take_all, at_drop_more}
+use Rattle.std.proofs.lemmas.List.{take_all}
 use Rattle.std.proofs.lemmas.List.Sums.{sum_by_more}
 use Rattle.std.proofs.lemmas.Option.{none-some, slice_get_within, slice_get_cases, get_or_from_slice_get}
 use Rattle.aos_tree.specs.declared.decl.Def.{Def}
 use Rattle.aos_tree.specs.declared.decl.Proc.{Proc}
-use Rattle.aos_tree.specs.declared.decl.Decl.{Decl, roll-Decl, roll-out-Decl}
-use Rattle.aos_tree.specs.declared.decl.Decl.TheVariants as decl
+use Rattle.aos_tree.specs.declared.decl.Decl.{Decl}
 use Rattle.aos_types.specs.declared.TheConstants.{MOST_SCALARS}
 use Rattle.aos_types.specs.declared.row.TypeId.{TypeId}
 use Rattle.aos_types.specs.declared.row.TypeRow.{TypeRow}
@@ -16,7 +15,7 @@ use Rattle.aos_symbols.specs.declared.breach.Breach.{Breach}
 use Rattle.aos_symbols.specs.declared.env.Env.{Env}
 use Rattle.aos_symbols.specs.declared.home.Signature.{Signature}
 use Rattle.aos_symbols.specs.Breaches.{breach_unless, first_after}
-use Rattle.aos_symbols.specs.Declarations.{Procedure, whole_procedures_in, procedures, single_variables}
+use Rattle.aos_symbols.specs.Declarations.{Procedure, all_procedures, seen_procedures, single_variables}
 use Rattle.aos_symbols.specs.Scope.{Scope}
 use Rattle.aos_symbols.proofs.Keeping.{after_more, after_three}
 use Rattle.aos_symbols.proofs.Paths.{past}
@@ -55,14 +54,6 @@ got_none (x ∷ xs) zero e = absurd (no_item x e)
     no_item x e = cc
 got_none (x ∷ xs) (suc k) e = got_none xs k e
 
--- what is no procedure has none
-no_procedure : (x : Decl) → ((a : Proc) → x ≡ decl.Proc a → ⊥) → whole_procedures_in x ≡ []
-no_procedure (decl.Consts p cs) never = refl
-no_procedure (decl.Types' p shape row) never = refl
-no_procedure (decl.Vars' p shape row) never = refl
-no_procedure (decl.Proc' p i def formals shape row body end) never =
-    absurd (never _ (sym (roll-out-Decl (decl.Proc' p i def formals shape row body end)) ∙ ap roll-Decl (decl.outs-Proc' p i def formals shape row body end) ∙ decl.rolls-Proc _))
-
 module _ (flags : List Bool) (rows : List TypeRow) where
   -- results where there is no signature
   results_none : (ps : List Procedure) → results_from flags rows ps [] ≡ []
@@ -75,29 +66,21 @@ module _ (flags : List Bool) (rows : List TypeRow) where
   results_end met ps ss k none =
       ap (λ l. first_after met (results_from flags rows ps l)) (got_none ss k none) ∙ ap (λ l. first_after met l) (results_none ps)
 
-  -- one more declaration, which is a procedure
-  pub results_step : (met : Option Breach) (ds : List Decl) (i : ℕ) (x : Decl) (a : Proc) (ss : List Signature) (k : ℕ) (s : Signature) {after : Option Breach} {j : ℕ} →
-      i < length ds → x ≡ get_or ds i x → x ≡ decl.Proc a → slice_get ss k ≡ Some s → j ≡ k + 1 →
-      after ≡ first_after met (result_breaches flags rows (result_of flags rows a.formals) s.gives) →
-      first_after after (results_from flags rows (procedures (drop (i + 1) ds)) (drop j ss)) ≡ first_after met (results_from flags rows (procedures (drop i ds)) (drop k ss))
-  results_step met ds i x a ss k s {after = after} {j = j} lt at is one j_is noted =
-      let this = result_breaches flags rows (result_of flags rows a.formals) s.gives in
-      let rest = λ (l : ℕ). results_from flags rows (procedures (drop (i + 1) ds)) (drop l ss) in
-      let over = λ (d : Decl). first_after met (results_from flags rows (whole_procedures_in d ++ procedures (drop (i + 1) ds)) (drop k ss)) in
+  -- one more procedure
+  pub results_step : (met : Option Breach) (ps : List (Bor Proc)) (i : ℕ) (x : Bor Proc) (ss : List Signature) (k : ℕ) (s : Signature) {after : Option Breach} {j : ℕ} →
+      i < length ps → x ≡ get_or ps i x → slice_get ss k ≡ Some s → j ≡ k + 1 →
+      after ≡ first_after met (result_breaches flags rows (result_of flags rows x.now.formals) s.gives) →
+      first_after after (results_from flags rows (seen_procedures (drop (i + 1) ps)) (drop j ss)) ≡ first_after met (results_from flags rows (seen_procedures (drop i ps)) (drop k ss))
+  results_step met ps i x ss k s {after = after} {j = j} lt at one j_is noted =
+      let this = result_breaches flags rows (result_of flags rows x.now.formals) s.gives in
+      let rest = λ (l : ℕ). results_from flags rows (seen_procedures (drop (i + 1) ps)) (drop l ss) in
       ap (λ f. first_after f (rest j)) noted
       ∙ ap (λ l. first_after (first_after met this) (rest l)) j_is
       ∙ sym (after_more met this (rest (k + 1)))
-      ∙ sym (ap (λ ps. first_after met (results_from flags rows ps (drop k ss))) (at_drop_more procedures ds i x lt)
-      ∙ ap over (sym at ∙ is)
-      ∙ ap (λ l. first_after met (results_from flags rows (whole_procedures_in (decl.Proc a) ++ procedures (drop (i + 1) ds)) l)) (got_one ss k s one))
-
-  -- and one that is none
-  pub results_other : (met : Option Breach) (ds : List Decl) (i : ℕ) (x : Decl) (ss : List Signature) → i < length ds → x ≡ get_or ds i x →
-      ((a : Proc) → x ≡ decl.Proc a → ⊥) →
-      first_after met (results_from flags rows (procedures (drop (i + 1) ds)) ss) ≡ first_after met (results_from flags rows (procedures (drop i ds)) ss)
-  results_other met ds i x ss lt at never =
-      let over = λ (ps : List Procedure). first_after met (results_from flags rows ps ss) in
-      sym (ap over (at_drop_more procedures ds i x lt) ∙ ap (λ ps. over (ps ++ procedures (drop (i + 1) ds))) (ap whole_procedures_in (sym at) ∙ no_procedure x never))
+      ∙ sym (ap (λ l. first_after met (results_from flags rows (seen_procedures l) (drop k ss))) (drop-cons ps i x lt)
+      ∙ ap (λ l. first_after met (results_from flags rows (seen_procedures (l ∷ drop (suc i) ps)) (drop k ss))) (sym at)
+      ∙ ap (λ l. first_after met (results_from flags rows (seen_procedures (x ∷ drop (suc i) ps)) l)) (got_one ss k s one)
+      ∙ ap (λ l. first_after met (this ++ results_from flags rows (seen_procedures (drop l ps)) (drop (k + 1) ss))) (sym (add-one i)))
 
 -- where there are no types of variables, there are no pairs
 no_pairs : (ds : List Def) → zip {X = Option TypeId} ds [] ≡ []
@@ -151,21 +134,22 @@ sum_end {X = X} f xs k none = by (slice_get_cases xs k).1
     by (inr h) = ap (λ l. sum_by f l) (take_all k xs h.0)
 
 -- all that is judged of the types of a module
-pub limits_noted : (e : Env) (first : ℕ) (ds : List Decl) (m0 : Option Breach) {flags flags' : List Bool} {rows : List TypeRow} {ws : List Written} {m1 m2 m3 : Option Breach} →
-    flags ≡ circles e.types → flags' ≡ circles e.types → rows ≡ cut (circles e.types) e.types → ws ≡ written e ds →
-    m1 ≡ first_after m0 (types_from flags rows first ws) → m2 ≡ first_after m1 (results_from flags' rows (procedures ds) e.here.signatures) →
+pub limits_noted : (e : Env) (first : ℕ) (ds : List Decl) (m0 : Option Breach) {flags flags' : List Bool} {rows : List TypeRow} {ws : List Written} {ps : List Procedure} {m1 m2 m3 : Option Breach} →
+    flags ≡ circles e.types → flags' ≡ circles e.types → rows ≡ cut (circles e.types) e.types → ws ≡ written e ds → ps ≡ all_procedures ds →
+    m1 ≡ first_after m0 (types_from flags rows first ws) → m2 ≡ first_after m1 (results_from flags' rows ps e.here.signatures) →
     m3 ≡ first_after m2 (variables_past [] rows (sum_by (scalars_of [] rows) e.before) (zip (single_variables ds) (variables_of [] rows (slice_get e.here.scopes 0)))) →
     m3 ≡ first_after m0 (cut_off e first ds).breaches
-limits_noted e first ds m0 {flags = flags} {flags' = flags'} {rows = rows} {ws = ws} {m1 = m1} {m2 = m2} flags_are flags_are' rows_are ws_are n1 n2 n3 =
+limits_noted e first ds m0 {flags = flags} {flags' = flags'} {rows = rows} {ws = ws} {ps = ps} {m1 = m1} {m2 = m2} flags_are flags_are' rows_are ws_are ps_are n1 n2 n3 =
     let marks = circles e.types in
     let rest = cut marks e.types in
     let over = λ (r : List TypeRow). variables_past [] r (sum_by (scalars_of [] r) e.before) (zip (single_variables ds) (variables_of [] r (slice_get e.here.scopes 0))) in
-    after_three m0 (types_from marks rest first (written e ds)) (results_from marks rest (procedures ds) e.here.signatures) (over rest)
+    after_three m0 (types_from marks rest first (written e ds)) (results_from marks rest (all_procedures ds) e.here.signatures) (over rest)
     (n1
     ∙ ap (λ f. first_after m0 (types_from f rows first ws)) flags_are
     ∙ ap (λ r. first_after m0 (types_from marks r first ws)) rows_are
     ∙ ap (λ w. first_after m0 (types_from marks rest first w)) ws_are)
     (n2
-    ∙ ap (λ f. first_after m1 (results_from f rows (procedures ds) e.here.signatures)) flags_are'
-    ∙ ap (λ r. first_after m1 (results_from marks r (procedures ds) e.here.signatures)) rows_are)
+    ∙ ap (λ f. first_after m1 (results_from f rows ps e.here.signatures)) flags_are'
+    ∙ ap (λ r. first_after m1 (results_from marks r ps e.here.signatures)) rows_are
+    ∙ ap (λ qs. first_after m1 (results_from marks rest qs e.here.signatures)) ps_are)
     (n3 ∙ ap (λ r. first_after m2 (over r)) rows_are)

@@ -15,6 +15,11 @@ pub mod TypingTables
 pub mod TypingLimits
 pub mod TypingOnce
 pub mod TypingSlots
+pub mod ObjectTypes
+pub mod TypingDefined
+pub mod TypingObjects
+pub mod TypingPlain
+pub mod TypingStays
 pub mod TypingWalks
 pub mod TypingWhole
 pub mod Typing
@@ -27,3 +32,5 @@ pub mod Judging
 pub mod Binds
 pub mod Numbers
 pub mod Starts
+pub mod Overrides
+mod Headed

@@ -1,17 +1,17 @@
 -- What definitions lead to, over declarations one after another.
-use Rattle.std.proofs.Common.{◌≡◌, ℕ, suc, ◌+◌, ◌<◌, ◌≤◌, List, [], ◌∷◌, ◌++◌, length, get_or, drop, Option, refl, ap, ◌∙◌, sym, append_assoc}
+use Rattle.std.proofs.Common.{◌≡◌, ℕ, suc, ◌+◌, ◌<◌, ◌≤◌, List, [], ◌∷◌, ◌++◌, length, get_or, drop, drop-cons, add-one, Bor, Option, refl, ap, ◌∙◌, sym, append_assoc}
 use Rattle.std.proofs.Math.Path.{ap₂}
 use Rattle.std.proofs.lemmas.List.{at_drop_more, at_drop_all}
 use Rattle.aos_tree.specs.declared.decl.Proc.{Proc}
-use Rattle.aos_tree.specs.declared.decl.Decl.{Decl, items_hidden-the_row-Decl-2}
-use Rattle.aos_tree.specs.declared.decl.Decl.TheVariants as decl
+use Rattle.aos_tree.specs.declared.decl.Decl.{Decl}
 use Rattle.aos_symbols.specs.declared.env.Env.{Env}
 use Rattle.aos_symbols.specs.declared.breach.Breach.{Breach}
 use Rattle.aos_symbols.specs.Judged.{Judged, judged, kept, bind, walk}
-use Rattle.aos_symbols.specs.Declarations.{types_in, type_defs, whole_procedures_in, procedures}
+use Rattle.aos_symbols.specs.Declarations.{types_in, type_defs, seen_procedures}
 use Rattle.aos_symbols.specs.Env as env
 use Rattle.aos_symbols.specs.Breaches.{first_after}
 use Rattle.aos_symbols.proofs.Keeping.{after_more}
+use Rattle.aos_symbols.proofs.Paths.{past}
 use Rattle.aos_check_decl.specs.declared.aliases.Target.{Target}
 use Rattle.aos_check_decl.specs.Aliases.{with_target, local_targets}
 
@@ -45,20 +45,13 @@ module _ (e : Env) where
   pub types_end : (ts : List Target) (ds : List Decl) (i : ℕ) → length ds ≤ i → walk (with_target e) ts (type_defs (drop i ds)) ≡ kept ts
   types_end ts ds i le = ap (walk (with_target e) ts) (at_drop_all type_defs ds i le)
 
-  -- a procedure among declarations, and others
-  pub procedure_step : (k : ℕ) (ts : List Target) (ds : List Decl) (i : ℕ) (a : Proc) → i < length ds → decl.Proc a ≡ get_or ds i (decl.Proc a) →
-      local_targets e k ts (procedures (drop i ds))
-      ≡ bind (walk (with_target (env.within e k)) ts (type_defs a.decls)) (λ us. local_targets e (suc k) us (procedures (drop (i + 1) ds)))
-  procedure_step k ts ds i a lt is =
-      ap (local_targets e k ts) (at_drop_more procedures ds i (decl.Proc a) lt)
-      ∙ ap (λ d. local_targets e k ts (whole_procedures_in d ++ procedures (drop (i + 1) ds))) (sym is)
-      ∙ ap (λ ds'. bind (walk (with_target (env.within e k)) ts (type_defs ds')) (λ us. local_targets e (suc k) us (procedures (drop (i + 1) ds)))) (items_hidden-the_row-Decl-2 a.decls)
+  -- one procedure more
+  pub procedure_step : (k : ℕ) (ts : List Target) (ps : List (Bor Proc)) (i : ℕ) (d : Bor Proc) → i < length ps →
+      local_targets e k ts (seen_procedures (drop i ps))
+      ≡ bind (walk (with_target (env.within e k)) ts (type_defs (get_or ps i d).now.decls)) (λ us. local_targets e (suc k) us (seen_procedures (drop (i + 1) ps)))
+  procedure_step k ts ps i d lt =
+      ap (λ l. local_targets e k ts (seen_procedures l)) (drop-cons ps i d lt)
+      ∙ ap (λ j. bind (walk (with_target (env.within e k)) ts (type_defs (get_or ps i d).now.decls)) (λ us. local_targets e (suc k) us (seen_procedures (drop j ps)))) (sym (add-one i))
 
-  pub other_step : (k : ℕ) (ts : List Target) (ds : List Decl) (i : ℕ) (d : Decl) → i < length ds → d ≡ get_or ds i d → whole_procedures_in d ≡ [] →
-      local_targets e k ts (procedures (drop i ds)) ≡ local_targets e k ts (procedures (drop (i + 1) ds))
-  other_step k ts ds i d lt is none =
-      ap (local_targets e k ts) (at_drop_more procedures ds i d lt)
-      ∙ ap (λ ps. local_targets e k ts (ps ++ procedures (drop (i + 1) ds))) (ap whole_procedures_in (sym is) ∙ none)
-
-  pub procedures_end : (k : ℕ) (ts : List Target) (ds : List Decl) (i : ℕ) → length ds ≤ i → local_targets e k ts (procedures (drop i ds)) ≡ kept ts
-  procedures_end k ts ds i le = ap (local_targets e k ts) (at_drop_all procedures ds i le)
+  pub procedures_end : (k : ℕ) (ts : List Target) (ps : List (Bor Proc)) (i : ℕ) → length ps ≤ i → local_targets e k ts (seen_procedures (drop i ps)) ≡ kept ts
+  procedures_end k ts ps i le = ap (λ l. local_targets e k ts (seen_procedures l)) (past ps i le)

@@ -20,8 +20,8 @@ use Rattle.aos_symbols.specs.Env as env
 use Rattle.aos_symbols.proofs.Each.{implied}
 use Rattle.aos_symbols.proofs.Holds.{none_left, none_right, test_is}
 use Rattle.aos_symbols.proofs.Told.{IsTold, basic, of_any, defined, GoOn, get_front, IsBase, IsObjectBase, PartsAreTold, AreToldParts}
-use Rattle.aos_check_decl.specs.Types.{base_claims}
-use Rattle.aos_check_decl.specs.Limits.{may_be_base, may_be_target, claim_breaches, without_base}
+use Rattle.aos_check_decl.specs.Types.{base_claims, object_claims}
+use Rattle.aos_check_decl.specs.Limits.{may_be_base, may_be_object_base, may_be_target, claim_breaches, without_base}
 use Rattle.aos_check_decl.proofs.TypingLists.{set_other, get_behind}
 
 -- of this type it is asked that it may be a base, or that pointers may lead to it
@@ -30,6 +30,13 @@ pub record IsAskedBase (cs : List Claim) (b : TypeId) : Type 0 where
   pub at : Pos
   pub of : TypeId
   pub is : slice_get cs place ≡ Some (claim.Base at b of)
+
+-- or an object type's
+pub record IsAskedObject (cs : List Claim) (b : TypeId) : Type 0 where
+  pub place : ℕ
+  pub at : Pos
+  pub of : TypeId
+  pub is : slice_get cs place ≡ Some (claim.ObjectBase at b of)
 
 pub record IsAskedTarget (cs : List Claim) (t : TypeId) : Type 0 where
   pub place : ℕ
@@ -57,6 +64,11 @@ field_bases P b [] k at c t is = absurd (none-some (claim.Base at c t) is)
 field_bases P b (n ∷ names) zero at c t is = absurd (cc)
 field_bases P b (n ∷ names) (suc k) at c t is = field_bases P b names k at c t is
 
+method_bases : (P : TypeId → TypeId → Type 0) (b : TypeId) (names : List Name) → AllBases P (map (λ n. claim.Method n b) names)
+method_bases P b [] k at c t is = absurd (none-some (claim.Base at c t) is)
+method_bases P b (n ∷ names) zero at c t is = absurd (cc)
+method_bases P b (n ∷ names) (suc k) at c t is = method_bases P b names k at c t is
+
 pub base_more : (cs ds : List Claim) (b : TypeId) → IsAskedBase cs b → IsAskedBase (cs ++ ds) b
 base_more cs ds b asked = record {
   place = asked.place;
@@ -73,6 +85,50 @@ base_behind cs ds b asked = record {
   is = get_behind cs ds asked.place ∙ asked.is;
 }
 
+-- The same of object types.
+
+-- what holds of all bases that are asked for, and the types that have them
+abbrev pub AllObjectBases : (TypeId → TypeId → Type 0) → List Claim → Type 0
+AllObjectBases P cs = (k : ℕ) (at : Pos) (b t : TypeId) → slice_get cs k ≡ Some (claim.ObjectBase at b t) → P b t
+
+pub no_object_bases : (P : TypeId → TypeId → Type 0) → AllObjectBases P []
+no_object_bases P k at b t is = absurd (none-some (claim.ObjectBase at b t) is)
+
+pub more_object_bases : (P : TypeId → TypeId → Type 0) (cs ds : List Claim) → AllObjectBases P cs → AllObjectBases P ds → AllObjectBases P (cs ++ ds)
+more_object_bases P [] ds old new k at b t is = new k at b t is
+more_object_bases P (c ∷ cs) ds old new zero at b t is = old zero at b t is
+more_object_bases P (c ∷ cs) ds old new (suc k) at b t is = more_object_bases P cs ds (λ k at b t is. old (suc k) at b t is) new k at b t is
+
+pub target_object_bases : (P : TypeId → TypeId → Type 0) (at : Pos) (t : TypeId) → AllObjectBases P (claim.Target at t ∷ [])
+target_object_bases P at t zero at' b u is = absurd (cc)
+target_object_bases P at t (suc k) at' b u is = absurd (none-some (claim.ObjectBase at' b u) is)
+
+field_object_bases : (P : TypeId → TypeId → Type 0) (b : TypeId) (names : List Name) → AllObjectBases P (map (λ n. claim.Field n b) names)
+field_object_bases P b [] k at c t is = absurd (none-some (claim.ObjectBase at c t) is)
+field_object_bases P b (n ∷ names) zero at c t is = absurd (cc)
+field_object_bases P b (n ∷ names) (suc k) at c t is = field_object_bases P b names k at c t is
+
+method_object_bases : (P : TypeId → TypeId → Type 0) (b : TypeId) (names : List Name) → AllObjectBases P (map (λ n. claim.Method n b) names)
+method_object_bases P b [] k at c t is = absurd (none-some (claim.ObjectBase at c t) is)
+method_object_bases P b (n ∷ names) zero at c t is = absurd (cc)
+method_object_bases P b (n ∷ names) (suc k) at c t is = method_object_bases P b names k at c t is
+
+pub object_more : (cs ds : List Claim) (b : TypeId) → IsAskedObject cs b → IsAskedObject (cs ++ ds) b
+object_more cs ds b asked = record {
+  place = asked.place;
+  at = asked.at;
+  of = asked.of;
+  is = get_front cs ds asked.place (claim.ObjectBase asked.at b asked.of) asked.is;
+}
+
+pub object_behind : (cs ds : List Claim) (b : TypeId) → IsAskedObject ds b → IsAskedObject (cs ++ ds) b
+object_behind cs ds b asked = record {
+  place = length cs + asked.place;
+  at = asked.at;
+  of = asked.of;
+  is = get_behind cs ds asked.place ∙ asked.is;
+}
+
 pub target_more : (cs ds : List Claim) (t : TypeId) → IsAskedTarget cs t → IsAskedTarget (cs ++ ds) t
 target_more cs ds t asked = record { place = asked.place; at = asked.at; is = get_front cs ds asked.place (claim.Target asked.at t) asked.is }
 
@@ -80,6 +136,13 @@ target_more cs ds t asked = record { place = asked.place; at = asked.at; is = ge
 pub record AreOfBase (cs : List Claim) (base : Option TypeId) (t : TypeId) : Type 0 where
   pub asked : (b : TypeId) → base ≡ Some b → IsAskedBase cs b
   pub alone : AllBases (λ b u. (u ≡ t) × (base ≡ Some b)) cs
+  pub free : AllObjectBases (λ b u. ⊥) cs
+
+-- and those of an object type
+pub record AreOfObject (cs : List Claim) (base : Option TypeId) (t : TypeId) : Type 0 where
+  pub asked : (b : TypeId) → base ≡ Some b → IsAskedObject cs b
+  pub alone : AllObjectBases (λ b u. (u ≡ t) × (base ≡ Some b)) cs
+  pub free : AllBases (λ b u. ⊥) cs
 
 -- a record has a base only where one is written, and then it is known
 abbrev pub IsBaseMet : (Option TypeId → Type 0) → Option Qualident → Option TypeId → Type 0
@@ -91,16 +154,63 @@ no_base {b = b} base none some = none-some b (sym none ∙ some)
 
 pub claims_of_base : (Known : Option TypeId → Type 0) (q : Option Qualident) (names : List Name) (base : Option TypeId) (t : TypeId) → IsBaseMet Known q base →
     AreOfBase (base_claims q names base (Some t)) base t
-claims_of_base Known None names base t met = record { asked = λ b some. absurd (no_base base met some); alone = no_bases (λ b u. (u ≡ t) × (base ≡ Some b)) }
-claims_of_base Known (Some q) names None t met = record { asked = λ b some. absurd (none-some b some); alone = no_bases (λ b u. (u ≡ t) × (None ≡ Some b)) }
+claims_of_base Known None names base t met = record {
+  asked = λ b some. absurd (no_base base met some);
+  alone = no_bases (λ b u. (u ≡ t) × (base ≡ Some b));
+  free = no_object_bases (λ b u. ⊥);
+}
+claims_of_base Known (Some q) names None t met = record {
+  asked = λ b some. absurd (none-some b some);
+  alone = no_bases (λ b u. (u ≡ t) × (None ≡ Some b));
+  free = no_object_bases (λ b u. ⊥);
+}
 claims_of_base Known (Some q) names (Some b) t met = record {
   asked = λ c some. (let same : b ≡ c = same_Some b c some in record { place = 0; at = q.first.pos; of = t; is = ap (λ (c : TypeId). Some (claim.Base q.first.pos c t)) same });
   alone = alone;
+  free = free;
 }
   where
     alone : AllBases (λ c u. (u ≡ t) × (Some b ≡ Some c)) (claim.Base q.first.pos b t ∷ map (λ n. claim.Field n b) names)
     alone zero at c u is = (let one : u ≡ t = cc in one, let two : b ≡ c = cc in ap (λ z. Some z) two)
     alone (suc k) at c u is = field_bases (λ c u. (u ≡ t) × (Some b ≡ Some c)) b names k at c u is
+
+    free : AllObjectBases (λ c u. ⊥) (claim.Base q.first.pos b t ∷ map (λ n. claim.Field n b) names)
+    free zero at c u is = absurd (cc)
+    free (suc k) at c u is = field_object_bases (λ c u. ⊥) b names k at c u is
+
+pub claims_of_object : (Known : Option TypeId → Type 0) (q : Option Qualident) (fs ms : List Name) (base : Option TypeId) (t : TypeId) → IsBaseMet Known q base →
+    AreOfObject (object_claims q fs ms base t) base t
+claims_of_object Known None fs ms base t met = record {
+  asked = λ b some. absurd (no_base base met some);
+  alone = no_object_bases (λ b u. (u ≡ t) × (base ≡ Some b));
+  free = no_bases (λ b u. ⊥);
+}
+claims_of_object Known (Some q) fs ms None t met = record {
+  asked = λ b some. absurd (none-some b some);
+  alone = no_object_bases (λ b u. (u ≡ t) × (None ≡ Some b));
+  free = no_bases (λ b u. ⊥);
+}
+claims_of_object Known (Some q) fs ms (Some b) t met = record {
+  asked = λ c some. (let same : b ≡ c = same_Some b c some in record { place = 0; at = q.first.pos; of = t; is = ap (λ (c : TypeId). Some (claim.ObjectBase q.first.pos c t)) same });
+  alone = alone;
+  free = free;
+}
+  where
+    fields : List Claim
+    fields = map (λ n. claim.Field n b) fs
+
+    methods : List Claim
+    methods = map (λ n. claim.Method n b) ms
+
+    alone : AllObjectBases (λ c u. (u ≡ t) × (Some b ≡ Some c)) (claim.ObjectBase q.first.pos b t ∷ (fields ++ methods))
+    alone zero at c u is = (let one : u ≡ t = cc in one, let two : b ≡ c = cc in ap (λ z. Some z) two)
+    alone (suc k) at c u is =
+        let P = λ (c u : TypeId). (let p : Type 0 = (u ≡ t) × (Some b ≡ Some c) in p) in
+        more_object_bases P fields methods (field_object_bases P b fs) (method_object_bases P b ms) k at c u is
+
+    free : AllBases (λ c u. ⊥) (claim.ObjectBase q.first.pos b t ∷ (fields ++ methods))
+    free zero at c u is = absurd (cc)
+    free (suc k) at c u is = more_bases (λ c u. ⊥) fields methods (field_bases (λ c u. ⊥) b fs) (method_bases (λ c u. ⊥) b ms) k at c u is
 
 pub base_met : (Known : Option TypeId → Type 0) (q : Option Qualident) (base : Option TypeId) → IsBaseMet Known q base → (p : TypeId) → IsOneOf p (base_list base) → Known (Some p)
 base_met Known None base met p one = absurd (subst (λ o. IsOneOf p (base_list o)) met one)
@@ -129,35 +239,52 @@ module _ (e : Env) (cs : List Claim) (none : flat_map (claim_breaches e) cs ≡ 
       record_or_open (is_record (row_of e.types b)) (is_open (row_of e.types b))
       (test_is (may_be_base (row_of e.types b)) 17 at (claim_kept e cs none k (claim.Base at b t) is)) closed
 
--- Records whose bases are no records lose their contents.
+  pub object_kept : (k : ℕ) (at : Pos) (b t : TypeId) → slice_get cs k ≡ Some (claim.ObjectBase at b t) → is_open (row_of e.types b) ≡ false → is_object (row_of e.types b) ≡ true
+  object_kept k at b t is closed =
+      record_or_open (is_object (row_of e.types b)) (is_open (row_of e.types b))
+      (test_is (may_be_object_base (row_of e.types b)) 17 at (claim_kept e cs none k (claim.ObjectBase at b t) is)) closed
 
-one_same : (rows : List TypeRow) (c : Claim) → ((at : Pos) (b t : TypeId) → c ≡ claim.Base at b t → is_record (row_of rows b) ≡ true) → without_base rows c ≡ rows
-one_same rows (claim.Target at t) records = refl
-one_same rows (claim.Base at b t) records = ap (λ z. if z then rows else slice_set rows t.0 (row.Record None [])) (records at b t refl)
-one_same rows (claim.Field n b) records = refl
+-- Records whose bases are no records lose their contents, and so do object types.
 
--- nothing is lost where all bases are records
-pub bases_same : (rows : List TypeRow) (cs : List Claim) → AllBases (λ b t. is_record (row_of rows b) ≡ true) cs → fold without_base rows cs ≡ rows
-bases_same rows [] records = refl
-bases_same rows (c ∷ cs) records =
-    ap (λ z. fold without_base z cs) (one_same rows c (λ at b t is. records zero at b t (ap (λ z. Some z) is)))
-    ∙ bases_same rows cs (λ k at b t is. records (suc k) at b t is)
+one_same : (rows : List TypeRow) (c : Claim) → ((at : Pos) (b t : TypeId) → c ≡ claim.Base at b t → is_record (row_of rows b) ≡ true) →
+    ((at : Pos) (b t : TypeId) → c ≡ claim.ObjectBase at b t → is_object (row_of rows b) ≡ true) → without_base rows c ≡ rows
+one_same rows (claim.Target at t) records objects = refl
+one_same rows (claim.Base at b t) records objects = ap (λ z. if z then rows else slice_set rows t.0 (row.Record None [])) (records at b t refl)
+one_same rows (claim.ObjectBase at b t) records objects = ap (λ z. if z then rows else slice_set rows t.0 (row.Object None [])) (objects at b t refl)
+one_same rows (claim.Field n b) records objects = refl
+one_same rows (claim.Method n b) records objects = refl
 
-one_other : (rows : List TypeRow) (c : Claim) (k : ℕ) → ((at : Pos) (b t : TypeId) → c ≡ claim.Base at b t → t.0 ≡ k → ⊥) → slice_get (without_base rows c) k ≡ slice_get rows k
-one_other rows (claim.Target at t) k others = refl
-one_other rows (claim.Base at b t) k others = by (is_record (row_of rows b))
+-- nothing is lost where all bases are records, and those of object types object types
+pub bases_same : (rows : List TypeRow) (cs : List Claim) → AllBases (λ b t. is_record (row_of rows b) ≡ true) cs →
+    AllObjectBases (λ b t. is_object (row_of rows b) ≡ true) cs → fold without_base rows cs ≡ rows
+bases_same rows [] records objects = refl
+bases_same rows (c ∷ cs) records objects =
+    ap (λ z. fold without_base z cs) (one_same rows c (λ at b t is. records zero at b t (ap (λ z. Some z) is)) (λ at b t is. objects zero at b t (ap (λ z. Some z) is)))
+    ∙ bases_same rows cs (λ k at b t is. records (suc k) at b t is) (λ k at b t is. objects (suc k) at b t is)
+
+one_other : (rows : List TypeRow) (c : Claim) (k : ℕ) → ((at : Pos) (b t : TypeId) → c ≡ claim.Base at b t → t.0 ≡ k → ⊥) →
+    ((at : Pos) (b t : TypeId) → c ≡ claim.ObjectBase at b t → t.0 ≡ k → ⊥) → slice_get (without_base rows c) k ≡ slice_get rows k
+one_other rows (claim.Target at t) k others objects = refl
+one_other rows (claim.Base at b t) k others objects = by (is_record (row_of rows b))
   where
     by : (z : Bool) → slice_get (if z then rows else slice_set rows t.0 (row.Record None [])) k ≡ slice_get rows k
     by true = refl
     by false = set_other rows t.0 k (row.Record None []) (λ same. others at b t refl (sym same))
-one_other rows (claim.Field n b) k others = refl
+one_other rows (claim.ObjectBase at b t) k others objects = by (is_object (row_of rows b))
+  where
+    by : (z : Bool) → slice_get (if z then rows else slice_set rows t.0 (row.Object None [])) k ≡ slice_get rows k
+    by true = refl
+    by false = set_other rows t.0 k (row.Object None []) (λ same. objects at b t refl (sym same))
+one_other rows (claim.Field n b) k others objects = refl
+one_other rows (claim.Method n b) k others objects = refl
 
 -- a row of another number stays
-pub bases_other : (cs : List Claim) (k : ℕ) → AllBases (λ b t. t.0 ≡ k → ⊥) cs → (rows : List TypeRow) → slice_get (fold without_base rows cs) k ≡ slice_get rows k
-bases_other [] k others rows = refl
-bases_other (c ∷ cs) k others rows =
-    bases_other cs k (λ j at b t is. others (suc j) at b t is) (without_base rows c)
-    ∙ one_other rows c k (λ at b t is. others zero at b t (ap (λ z. Some z) is))
+pub bases_other : (cs : List Claim) (k : ℕ) → AllBases (λ b t. t.0 ≡ k → ⊥) cs → AllObjectBases (λ b t. t.0 ≡ k → ⊥) cs → (rows : List TypeRow) →
+    slice_get (fold without_base rows cs) k ≡ slice_get rows k
+bases_other [] k others objects rows = refl
+bases_other (c ∷ cs) k others objects rows =
+    bases_other cs k (λ j at b t is. others (suc j) at b t is) (λ j at b t is. objects (suc j) at b t is) (without_base rows c)
+    ∙ one_other rows c k (λ at b t is. others zero at b t (ap (λ z. Some z) is)) (λ at b t is. objects zero at b t (ap (λ z. Some z) is))
 
 one_long : (rows : List TypeRow) (c : Claim) → length (without_base rows c) ≡ length rows
 one_long rows (claim.Target at t) = refl
@@ -166,7 +293,13 @@ one_long rows (claim.Base at b t) = by (is_record (row_of rows b))
     by : (z : Bool) → length (if z then rows else slice_set rows t.0 (row.Record None [])) ≡ length rows
     by true = refl
     by false = length-set rows t.0 (row.Record None [])
+one_long rows (claim.ObjectBase at b t) = by (is_object (row_of rows b))
+  where
+    by : (z : Bool) → length (if z then rows else slice_set rows t.0 (row.Object None [])) ≡ length rows
+    by true = refl
+    by false = length-set rows t.0 (row.Object None [])
 one_long rows (claim.Field n b) = refl
+one_long rows (claim.Method n b) = refl
 
 pub bases_long : (cs : List Claim) (rows : List TypeRow) → length (fold without_base rows cs) ≡ length rows
 bases_long [] rows = refl
@@ -240,7 +373,7 @@ module _ (us vs : List TypeRow) (on : GoOn us vs) (kept : (k : ℕ) (r : TypeRow
   told_on (row.Open t) told = tt
   told_on (row.Record base fs) told = (base_stays base told.0, implied (IsTold us) (IsTold vs) on fs told.1)
   told_on (row.Pointer t) told = (told.0, whole_on us vs kept may_be_target refl t told.1)
-  told_on (row.Object base fs) told = object_stays base told
+  told_on (row.Object base fs) told = (object_stays base told.0, implied (IsTold us) (IsTold vs) on fs told.1)
   told_on (row.Procedure fs r) told = tt
 
 -- Bases of types whose parts are told.
@@ -285,7 +418,7 @@ base_fits types parts t b is = by (row_of types t) refl is
         of_row (Some (row.Record c ts)) at (record_fields (row_of types b) is, is)
     by (Some (row.Object c ts)) at base =
         let told : AreToldParts types (row.Object c ts) = parts t.0 (row.Object c ts) at in
-        let is : is_object (row_of types b) ≡ true = subst (IsObjectBase types) base told in
+        let is : is_object (row_of types b) ≡ true = subst (IsObjectBase types) base told.0 in
         of_row (Some (row.Object c ts)) at (object_fields (row_of types b) is)
     by (Some (row.Basic c)) at base = absurd (none-some b base)
     by (Some (row.Array n u)) at base = absurd (none-some b base)

@@ -3,6 +3,7 @@
 use Rattle.std.proofs.Common.{◌≡◌, ℕ, zero, suc, ◌+◌, ◌-◌, ◌<◌, ◌≤◌, List, [], ◌∷◌, ◌++◌, length, map, Bool, true, false, Option, Some, slice_get, refl, sym, ap, ◌∙◌, subst, arith, codes, bytes_eq, unwrap_or, if◌then◌else◌, length-append}
 use Rattle.std.specs.List.{flat_map}
 use Rattle.std.proofs.lemmas.List.{length-map}
+use Rattle.std.proofs.lemmas.Bool.{cases_lt}
 use Rattle.std.proofs.lemmas.Option.{none-some, same_Some}
 use mathlib.Core.Logic.{◌⊎◌, inl, inr}
 use Rattle.aos_tree.specs.declared.decl.Def.{Def}
@@ -17,13 +18,13 @@ use Rattle.aos_symbols.specs.declared.scope.Meaning.TheVariants as means
 use Rattle.aos_symbols.specs.declared.entries.Sort.{Sort}
 use Rattle.aos_symbols.specs.declared.entries.Sort.TheVariants as sort
 use Rattle.aos_symbols.specs.Spelling.{word}
-use Rattle.aos_symbols.specs.Declarations.{constant_defs, type_defs, all_type_defs, single_variables, procedure_defs, Procedure, procedures, formal_names}
+use Rattle.aos_symbols.specs.Declarations.{constant_defs, type_defs, all_type_defs, single_variables, procedure_defs, Procedure, all_procedures, inner_decls, formal_names}
 use Rattle.aos_symbols.specs.Scope.{Named, Scope, empty, find, has, with_name, with_names}
 use Rattle.aos_symbols.specs.Home.{Home}
-use Rattle.aos_symbols.specs.Entries.{among, module_named, meant, number_at, unmarked, entry, numbered, types_from, inner_decls, inner_type, import_entry, other_entries, own_scope, inner_scope, procedure_scope, procedure_scopes, scopes}
+use Rattle.aos_symbols.specs.Entries.{among, module_named, meant, number_at, unmarked, entry, numbered, types_from, inner_type, import_entry, other_entries, own_scope, inner_scope, procedure_scope, procedure_scopes, scopes}
 use Rattle.aos_symbols.proofs.Each.{Each, joined, each_at}
 use Rattle.aos_symbols.proofs.Found.{found_is}
-use Rattle.aos_check_decl.proofs.TypingLists.{get_behind}
+use Rattle.aos_check_decl.proofs.TypingLists.{get_behind, get_below}
 
 -- the names of the scopes
 abbrev pub own_names : List ℕ → List Home → List (Option TypeId) → Module → List Named
@@ -61,8 +62,8 @@ fresh_procedures text numbers k (p ∷ ps) = (fresh (procedure_names text number
 fresh_scopes : (text : List ℕ) (homes : List Home) (numbers : List (Option TypeId)) (m : Module) → Each IsFresh (scopes text homes numbers m)
 fresh_scopes text homes numbers m = (
   fresh (own_names text homes numbers m) empty (refl, refl),
-  joined IsFresh (map (inner_scope text) (type_defs m.decls)) (procedure_scopes text numbers (length (type_defs m.decls)) (procedures m.decls))
-      (all_mapped IsFresh (inner_scope text) (type_defs m.decls) (λ d. fresh (inner_names text d) empty (refl, refl))) (fresh_procedures text numbers (length (type_defs m.decls)) (procedures m.decls)),
+  joined IsFresh (map (inner_scope text) (type_defs m.decls)) (procedure_scopes text numbers (length (type_defs m.decls)) (all_procedures m.decls))
+      (all_mapped IsFresh (inner_scope text) (type_defs m.decls) (λ d. fresh (inner_names text d) empty (refl, refl))) (fresh_procedures text numbers (length (type_defs m.decls)) (all_procedures m.decls)),
 )
 
 pub scope_fresh : (text : List ℕ) (homes : List Home) (numbers : List (Option TypeId)) (m : Module) (k : ℕ) (s : Scope) → slice_get (scopes text homes numbers m) k ≡ Some s → IsFresh s
@@ -77,18 +78,18 @@ one_there text numbers k (q ∷ ps) zero p is = (procedure_scope text numbers k 
 one_there text numbers k (q ∷ ps) (suc j) p is = one_there text numbers (k + length (type_defs q.decls)) ps j p is
 
 pub behind_types : (text : List ℕ) (homes : List Home) (numbers : List (Option TypeId)) (m : Module) (j : ℕ) →
-    slice_get (scopes text homes numbers m) (suc (length (type_defs m.decls)) + j) ≡ slice_get (procedure_scopes text numbers (length (type_defs m.decls)) (procedures m.decls)) j
+    slice_get (scopes text homes numbers m) (suc (length (type_defs m.decls)) + j) ≡ slice_get (procedure_scopes text numbers (length (type_defs m.decls)) (all_procedures m.decls)) j
 behind_types text homes numbers m j =
     let n = length (type_defs m.decls) in
     let is = map (inner_scope text) (type_defs m.decls) in
-    let ps = procedure_scopes text numbers n (procedures m.decls) in
+    let ps = procedure_scopes text numbers n (all_procedures m.decls) in
     let number : suc n + j ≡ suc (length is + j) = omega (arith, length-map (type_defs m.decls) (inner_scope text)) in
     ap (slice_get (scopes text homes numbers m)) number ∙ get_behind is ps j
 
-pub procedure_there : (text : List ℕ) (homes : List Home) (numbers : List (Option TypeId)) (m : Module) (j : ℕ) (p : Procedure) → slice_get (procedures m.decls) j ≡ Some p →
+pub procedure_there : (text : List ℕ) (homes : List Home) (numbers : List (Option TypeId)) (m : Module) (j : ℕ) (p : Procedure) → slice_get (all_procedures m.decls) j ≡ Some p →
     (s : Scope) × (slice_get (scopes text homes numbers m) (suc (length (type_defs m.decls)) + j) ≡ Some s)
 procedure_there text homes numbers m j p is =
-    let r = one_there text numbers (length (type_defs m.decls)) (procedures m.decls) j p is in
+    let r = one_there text numbers (length (type_defs m.decls)) (all_procedures m.decls) j p is in
     (r.0, behind_types text homes numbers m j ∙ r.1)
 
 -- Names of types.
@@ -145,6 +146,11 @@ module _ (text : List ℕ) (P : Named → Type 0) (other : (n : Named) → IsNoT
       let ts = types_from text numbers 0 (type_defs m.decls) in
       joined P (is ++ ts) (other_entries text m.decls) (joined P is ts (imports_all homes m.imports) types) (others_all m.decls)
 
+  -- an object type that declares no types
+  pub inner_all : (d : TypeDef) → type_defs (inner_decls d.value) ≡ [] → Each P (inner_names text d)
+  inner_all d none =
+      subst (λ ds. Each P (map (inner_type text) ds ++ other_entries text (inner_decls d.value))) (sym none) (others_all (inner_decls d.value))
+
   pub procedure_all : (numbers : List (Option TypeId)) (k : ℕ) (p : Procedure) → Each P (types_from text numbers k (type_defs p.decls)) → Each P (procedure_names text numbers k p)
   procedure_all numbers k p types =
       let ts = types_from text numbers k (type_defs p.decls) in
@@ -152,9 +158,13 @@ module _ (text : List ℕ) (P : Named → Type 0) (other : (n : Named) → IsNoT
       let vs = map unmarked (formal_names p.formals) ++ single_variables p.decls in
       joined P (ts ++ cs) (numbered text sort.Variable 0 vs) (joined P ts cs types (numbered_all sort.Constant 0 (constant_defs p.decls))) (numbered_all sort.Variable 0 vs)
 
--- What holds of the numbers of all types that a module's declarations define holds of the types of all entries of its own scope
--- and of those of its procedures.
-module _ (text : List ℕ) (homes : List Home) (numbers : List (Option TypeId)) (m : Module) (Q : Option TypeId → Type 0)
+-- no object type declares types
+abbrev pub IsPlain : TypeDef → Type 0
+IsPlain d = type_defs (inner_decls d.value) ≡ []
+
+-- What holds of the numbers of all types that a module's declarations define holds of the types of all entries of its scopes, where its
+-- object types declare none.
+module _ (text : List ℕ) (homes : List Home) (numbers : List (Option TypeId)) (m : Module) (plain : Each IsPlain (type_defs m.decls)) (Q : Option TypeId → Type 0)
     (each : (k : ℕ) → k < length (all_type_defs m.decls) → Q (number_at numbers k)) where
   abbrev IsTyped : Named → Type 0
   IsTyped n = (of : Option TypeId) → n.1.means ≡ means.Type of → Q of
@@ -169,8 +179,8 @@ module _ (text : List ℕ) (homes : List Home) (numbers : List (Option TypeId)) 
   no_types : (n : Named) → IsNoType n.1.means → IsTyped n
   no_types n other of is = absurd (other of is)
 
-  own_long : length (all_type_defs m.decls) ≡ length (type_defs m.decls) + length (flat_map (λ (p : Procedure). type_defs p.decls) (procedures m.decls))
-  own_long = length-append (type_defs m.decls) (flat_map (λ (p : Procedure). type_defs p.decls) (procedures m.decls))
+  own_long : length (all_type_defs m.decls) ≡ length (type_defs m.decls) + length (flat_map (λ (p : Procedure). type_defs p.decls) (all_procedures m.decls))
+  own_long = length-append (type_defs m.decls) (flat_map (λ (p : Procedure). type_defs p.decls) (all_procedures m.decls))
 
   procedures_typed : (k : ℕ) (ps : List Procedure) → k + length (flat_map (λ (p : Procedure). type_defs p.decls) ps) ≤ length (all_type_defs m.decls) →
       (j : ℕ) (s : Scope) (w : List ℕ) (x : Entry) → slice_get (procedure_scopes text numbers k ps) j ≡ Some s → find s w ≡ Some x → IsTyped (w, x)
@@ -183,13 +193,37 @@ module _ (text : List ℕ) (homes : List Home) (numbers : List (Option TypeId)) 
       let long = length-append (type_defs p.decls) (flat_map (λ (p : Procedure). type_defs p.decls) ps) in
       procedures_typed (k + length (type_defs p.decls)) ps (omega (arith, most, long)) j s w x there found
 
-  pub scopes_typed : (k : ℕ) (s : Scope) (w : List ℕ) (x : Entry) (of : Option TypeId) → (k ≡ 0) ⊎ (length (type_defs m.decls) < k) →
+  inner_typed : (ds : List TypeDef) → Each IsPlain ds → (j : ℕ) (s : Scope) (w : List ℕ) (x : Entry) → slice_get (map (inner_scope text) ds) j ≡ Some s →
+      find s w ≡ Some x → IsTyped (w, x)
+  inner_typed [] plain j s w x there found = absurd (none-some s there)
+  inner_typed (d ∷ ds) plain zero s w x there found =
+      found_is IsTyped (inner_names text d) w x (inner_all text IsTyped no_types d plain.0)
+      (ap (λ (z : Scope). find z w) (same_Some (inner_scope text d) s there) ∙ found)
+  inner_typed (d ∷ ds) plain (suc j) s w x there found = inner_typed ds plain.1 j s w x there found
+
+  abbrev count : ℕ
+  count = length (type_defs m.decls)
+
+  abbrev inner : List Scope
+  inner = map (inner_scope text) (type_defs m.decls)
+
+  inner_long : length inner ≡ count
+  inner_long = length-map (type_defs m.decls) (inner_scope text)
+
+  behind_typed : (j : ℕ) (s : Scope) (w : List ℕ) (x : Entry) (of : Option TypeId) → (j < count) ⊎ (count ≤ j) →
+      slice_get (inner ++ procedure_scopes text numbers count (all_procedures m.decls)) j ≡ Some s → find s w ≡ Some x → x.means ≡ means.Type of → Q of
+  behind_typed j s w x of (inl low) there found is =
+      inner_typed (type_defs m.decls) plain j s w x
+      (sym (get_below inner (procedure_scopes text numbers count (all_procedures m.decls)) j (omega (arith, low, inner_long))) ∙ there) found of is
+  behind_typed j s w x of (inr high) there found is =
+      let number : length inner + (j - count) ≡ j = omega (arith, high, inner_long) in
+      procedures_typed count (all_procedures m.decls) (omega (arith, own_long)) (j - count) s w x
+      (sym (get_behind inner (procedure_scopes text numbers count (all_procedures m.decls)) (j - count))
+      ∙ ap (slice_get (inner ++ procedure_scopes text numbers count (all_procedures m.decls))) number ∙ there) found of is
+
+  pub scopes_typed : (k : ℕ) (s : Scope) (w : List ℕ) (x : Entry) (of : Option TypeId) →
       slice_get (scopes text homes numbers m) k ≡ Some s → find s w ≡ Some x → x.means ≡ means.Type of → Q of
-  scopes_typed k s w x of (inl first) there found is =
+  scopes_typed zero s w x of there found is =
       found_is IsTyped (own_names text homes numbers m) w x (own_all text IsTyped no_types homes numbers m (types_typed 0 (type_defs m.decls) (omega (arith, own_long))))
-      (ap (λ (z : Scope). find z w) (same_Some (own_scope text homes numbers m) s (ap (slice_get (scopes text homes numbers m)) (sym first) ∙ there)) ∙ found) of is
-  scopes_typed k s w x of (inr own) there found is =
-      let n = length (type_defs m.decls) in
-      let number : suc n + (k - suc n) ≡ k = omega (arith, own) in
-      procedures_typed n (procedures m.decls) (omega (arith, own_long)) (k - suc n) s w x
-      (sym (behind_types text homes numbers m (k - suc n)) ∙ ap (slice_get (scopes text homes numbers m)) number ∙ there) found of is
+      (ap (λ (z : Scope). find z w) (same_Some (own_scope text homes numbers m) s there) ∙ found) of is
+  scopes_typed (suc j) s w x of there found is = behind_typed j s w x of (cases_lt j count) there found is

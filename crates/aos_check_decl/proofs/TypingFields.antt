@@ -2,7 +2,7 @@
 use Rattle.std.proofs.Common.{◌≡◌, ℕ, zero, suc, ◌+◌, ◌<◌, ◌≤◌, nat_eq, List, [], ◌∷◌, ◌++◌, length, map, fold, replicate, Bool, true, false, if◌then◌else◌, Option, Some, None, slice_get, slice_set, refl, sym, ap, ◌∙◌, subst, arith, append_assoc, append-nil, length-append, length-set}
 use Rattle.std.specs.Map.{lookup}
 use Rattle.std.proofs.lemmas.Bool.{cases_order}
-use Rattle.std.proofs.lemmas.List.{map-append}
+use Rattle.std.proofs.lemmas.List.{map-append, length-map}
 use Rattle.std.proofs.lemmas.Option.{same_Some, slice_get_within}
 use mathlib.Core.Logic.{◌⊎◌, inl, inr}
 use Rattle.aos_base.specs.declared.text.Pos.{Pos}
@@ -16,16 +16,18 @@ use Rattle.aos_types.specs.Count.{named_in}
 use Rattle.aos_types.proofs.Reached.{one_of_left, one_of_right}
 use Rattle.aos_symbols.specs.declared.env.Claim.{Claim}
 use Rattle.aos_symbols.specs.declared.env.Claim.TheVariants as claim
+use Rattle.aos_symbols.specs.declared.home.ObjectScope.{ObjectScope}
 use Rattle.aos_symbols.specs.Scope.{Named, Scope, has, with_name}
-use Rattle.aos_symbols.specs.Home.{Home, add_record, fields_of as fields_known}
+use Rattle.aos_symbols.specs.Home.{Home, add_record, record_fields}
 use Rattle.aos_symbols.proofs.Each.{Each, implied}
-use Rattle.aos_symbols.proofs.Records.{fields_here, fields_other}
+use Rattle.aos_symbols.proofs.Records.{record_here, record_other}
 use Rattle.aos_symbols.proofs.Told.{IsTold, basic, of_any, defined, GoOn, told_behind, get_front, get_end, IsLength}
 use Rattle.aos_check_expr.proofs.Opens.{IsVariableNumber, IsOpenAt, OpensStand, some_there}
 use Rattle.aos_check_expr.proofs.Whole.{IsWritten}
 use Rattle.aos_check_decl.specs.Types.{fields_of, with_field}
 use Rattle.aos_check_decl.specs.Limits.{may_be_target}
-use Rattle.aos_check_decl.proofs.TypingClaims.{IsAskedBase, IsAskedTarget, AllBases, more_bases, target_bases, base_more, base_behind, target_more, AreOfBase}
+use Rattle.aos_check_decl.proofs.TypingClaims.{IsAskedBase, IsAskedObject, IsAskedTarget, AllBases, AllObjectBases, more_bases, more_object_bases, target_bases, target_object_bases, base_more, base_behind, object_more, object_behind, target_more, AreOfBase, AreOfObject}
+use Rattle.aos_check_decl.proofs.TypingScopes.{variables_at}
 use Rattle.aos_check_decl.proofs.TypingLists.{set_here, set_other, set_gives, push_gives, get_below}
 
 -- The variables of a scope behind fields of one type.
@@ -103,22 +105,25 @@ stands_on n us vs kept t stands = (stands.0, by (row_of us t) refl stands.1)
 abbrev pub Leads : (TypeId → Type 0) → List Claim → TypeId → Type 0
 Leads S cs t = IsAskedTarget cs t ⊎ S t
 
--- what is no record
+-- what is neither a record nor an object type
 abbrev pub IsNoRecord : TypeRow → Type 0
-IsNoRecord r = (base : Option TypeId) (ts : List TypeId) → r ≡ row.Record base ts → ⊥
+IsNoRecord r = (base : Option TypeId) (ts : List TypeId) → (r ≡ row.Record base ts → ⊥) × (r ≡ row.Object base ts → ⊥)
 
--- a row but a record's: an array has one of the lengths that arrays have, a pointer leads to a type like these, an object type has no base
+-- such a row: an array has one of the lengths that arrays have, a pointer leads to a type like these
 abbrev pub IsRow : (TypeId → Type 0) → TypeRow → Type 0
 IsRow L (row.Basic b) = ⊥
 IsRow L row.Any = ⊥
 IsRow L (row.Array n t) = IsLength n
 IsRow L (row.Pointer t) = L t
-IsRow L (row.Object b ts) = b ≡ None
 IsRow L r = Unit {0}
 
 abbrev pub IsBaseAsked : List Claim → Option TypeId → Type 0
 IsBaseAsked cs None = Unit {0}
 IsBaseAsked cs (Some b) = IsAskedBase cs b
+
+abbrev pub IsObjectAsked : List Claim → Option TypeId → Type 0
+IsObjectAsked cs None = Unit {0}
+IsObjectAsked cs (Some b) = IsAskedObject cs b
 
 module _ (n : ℕ) where
   -- a row that the module writes
@@ -128,7 +133,7 @@ module _ (n : ℕ) where
   AreAskedParts types cs (row.Array k t) = IsLength k × IsTold types t
   AreAskedParts types cs (row.Record base ts) = IsBaseAsked cs base × Each (IsTold types) ts
   AreAskedParts types cs (row.Pointer t) = Leads (Stands n types) cs t
-  AreAskedParts types cs (row.Object base ts) = base ≡ None
+  AreAskedParts types cs (row.Object base ts) = IsObjectAsked cs base × Each (IsTold types) ts
   AreAskedParts types cs r = Unit {0}
 
   pub asked_written : (types : List TypeRow) (cs : List Claim) (r : TypeRow) → AreAskedParts types cs r → IsWritten r
@@ -146,9 +151,9 @@ module _ (n : ℕ) where
   asked_parts types cs row.Any other ok each = ok
   asked_parts types cs (row.Array k t) other ok each = (ok, each t (inl refl))
   asked_parts types cs (row.Open t) other ok each = tt
-  asked_parts types cs (row.Record b ts) other ok each = absurd (other b ts refl)
+  asked_parts types cs (row.Record b ts) other ok each = absurd ((other b ts).0 refl)
   asked_parts types cs (row.Pointer t) other ok each = ok
-  asked_parts types cs (row.Object b ts) other ok each = ok
+  asked_parts types cs (row.Object b ts) other ok each = absurd ((other b ts).1 refl)
   asked_parts types cs (row.Procedure ts r) other ok each = tt
 
   leads_on : (us vs : List TypeRow) (cs ds : List Claim) → AreKept n us vs → (t : TypeId) → Leads (Stands n us) cs t → Leads (Stands n vs) (cs ++ ds) t
@@ -159,6 +164,10 @@ module _ (n : ℕ) where
   base_on cs ds None asked = tt
   base_on cs ds (Some b) asked = base_more cs ds b asked
 
+  object_on : (cs ds : List Claim) (base : Option TypeId) → IsObjectAsked cs base → IsObjectAsked (cs ++ ds) base
+  object_on cs ds None asked = tt
+  object_on cs ds (Some b) asked = object_more cs ds b asked
+
   parts_on : (us vs : List TypeRow) (cs ds : List Claim) → GoOn us vs → AreKept n us vs → (r : TypeRow) → AreAskedParts us cs r → AreAskedParts vs (cs ++ ds) r
   parts_on us vs cs ds on kept (row.Basic b) told = told
   parts_on us vs cs ds on kept row.Any told = told
@@ -166,7 +175,7 @@ module _ (n : ℕ) where
   parts_on us vs cs ds on kept (row.Open t) told = tt
   parts_on us vs cs ds on kept (row.Record base ts) told = (base_on cs ds base told.0, implied (IsTold us) (IsTold vs) on ts told.1)
   parts_on us vs cs ds on kept (row.Pointer t) told = leads_on us vs cs ds kept t told
-  parts_on us vs cs ds on kept (row.Object base ts) told = told
+  parts_on us vs cs ds on kept (row.Object base ts) told = (object_on cs ds base told.0, implied (IsTold us) (IsTold vs) on ts told.1)
   parts_on us vs cs ds on kept (row.Procedure ts r) told = tt
 
   -- of all rows from a number on
@@ -238,14 +247,22 @@ of_row types k s agree r is base ts same = agree base ts (is ∙ ap (λ z. Some 
 records_set : (us : List TypeRow) (rs : List (ℕ × Scope)) (k : ℕ) (r : TypeRow) → IsNoRecord r → RecordsAgree us rs → RecordsAgree (slice_set us k r) rs
 records_set us rs k r other agree t s found = (
   let l = (agree t s found).0 in omega (arith, l, length-set us k r),
-  λ base ts is. set_gives (IsOfRow s) us k t.0 (row.Record base ts) r is (λ base ts same. absurd (other base ts same))
+  λ base ts is. set_gives (IsOfRow s) us k t.0 (row.Record base ts) r is (λ base ts same. absurd ((other base ts).0 same))
+      (λ old. of_row us t.0 s (agree t s found).1 (row.Record base ts) old) base ts refl,
+)
+
+objects_keep : (us : List TypeRow) (rs : List (ℕ × Scope)) (k : ℕ) (own : Option TypeId) (fs : List TypeId) → RecordsAgree us rs →
+    RecordsAgree (slice_set us k (row.Object own fs)) rs
+objects_keep us rs k own fs agree t s found = (
+  let l = (agree t s found).0 in omega (arith, l, length-set us k (row.Object own fs)),
+  λ base ts is. set_gives (IsOfRow s) us k t.0 (row.Record base ts) (row.Object own fs) is (λ base ts same. absurd (cc))
       (λ old. of_row us t.0 s (agree t s found).1 (row.Record base ts) old) base ts refl,
 )
 
 records_push : (us : List TypeRow) (rs : List (ℕ × Scope)) (r : TypeRow) → IsNoRecord r → RecordsAgree us rs → RecordsAgree (us ++ r ∷ []) rs
 records_push us rs r other agree t s found = (
   let l = (agree t s found).0 in omega (arith, l, length-append us (r ∷ [])),
-  λ base ts is. push_gives (IsOfRow s) us t.0 (row.Record base ts) r is (λ base ts same. absurd (other base ts same))
+  λ base ts is. push_gives (IsOfRow s) us t.0 (row.Record base ts) r is (λ base ts same. absurd ((other base ts).0 same))
       (λ old. of_row us t.0 s (agree t s found).1 (row.Record base ts) old) base ts refl,
 )
 
@@ -257,7 +274,7 @@ added us vs h of own fs s longer below there others same agree t x found = by (c
   where
     here : t.0 ≡ of.0 → AreFieldsOf vs t x
     here is =
-        let scope : s ≡ x = same_Some s x (sym (fields_here h of s) ∙ ap (λ n. fields_known (add_record h of s) (record { 0 = n })) (sym is) ∙ found) in (
+        let scope : s ≡ x = same_Some s x (sym (record_here h of s) ∙ ap (λ n. record_fields (add_record h of s) (record { 0 = n })) (sym is) ∙ found) in (
           omega (arith, below, is),
           λ base ts row_is. ap (λ (z : Scope). z.variables) (sym scope) ∙ same
               ∙ ap (λ (us : List TypeId). map (λ (t : TypeId). Some t) us)
@@ -266,7 +283,7 @@ added us vs h of own fs s longer below there others same agree t x found = by (c
 
     elsewhere : (t.0 ≡ of.0 → ⊥) → AreFieldsOf vs t x
     elsewhere other =
-        let a = agree t x (sym (fields_other h of t s other) ∙ found) in
+        let a = agree t x (sym (record_other h of t s other) ∙ found) in
         let l = a.0 in
         (omega (arith, l, longer), λ base ts row_is. a.1 base ts (sym (others t.0 l other) ∙ row_is))
 
@@ -281,11 +298,25 @@ module _ (m n : ℕ) where
   pub record Agree (types : List TypeRow) (rs : List (ℕ × Scope)) (cs : List Claim) : Type 0 where
     pub parts : PartsAreAsked n m types cs
     pub bases : AllBases (λ b t. IsTold types b) cs
+    pub objects : AllObjectBases (λ b t. IsTold types b) cs
     pub opens : OpensStand types
     pub fields : RecordsAgree types rs
 
   bases_on : (us vs : List TypeRow) → GoOn us vs → (cs : List Claim) → AllBases (λ b t. IsTold us b) cs → AllBases (λ b t. IsTold vs b) cs
   bases_on us vs on cs all k at b t is = on b (all k at b t is)
+
+  objects_on : (us vs : List TypeRow) → GoOn us vs → (cs : List Claim) → AllObjectBases (λ b t. IsTold us b) cs → AllObjectBases (λ b t. IsTold vs b) cs
+  objects_on us vs on cs all k at b t is = on b (all k at b t is)
+
+  -- claims that ask for no base
+  more_free : (us vs : List TypeRow) → GoOn us vs → (cs ds : List Claim) → AllBases (λ b u. ⊥) ds → AllBases (λ b t. IsTold us b) cs → AllBases (λ b t. IsTold vs b) (cs ++ ds)
+  more_free us vs on cs ds free all =
+      more_bases (λ b t. IsTold vs b) cs ds (bases_on us vs on cs all) (λ k at b u is. absurd (free k at b u is))
+
+  more_objects_free : (us vs : List TypeRow) → GoOn us vs → (cs ds : List Claim) → AllObjectBases (λ b u. ⊥) ds → AllObjectBases (λ b t. IsTold us b) cs →
+      AllObjectBases (λ b t. IsTold vs b) (cs ++ ds)
+  more_objects_free us vs on cs ds free all =
+      more_object_bases (λ b t. IsTold vs b) cs ds (objects_on us vs on cs all) (λ k at b u is. absurd (free k at b u is))
 
   -- the base of a record is told
   base_told : (us : List TypeRow) (base : Option TypeId) (fs : List TypeId) → AreToldIn us (row.Record base fs) → (b : TypeId) → base ≡ Some b → IsTold us b
@@ -313,6 +344,7 @@ module _ (m n : ℕ) where
       record {
         parts = subst (PartsAreAsked n m vs) (append-nil cs) (parts_set n m us cs t r [] below closed own agree.parts);
         bases = bases_on us vs on cs agree.bases;
+        objects = objects_on us vs on cs agree.objects;
         opens = opens_set us t r closed agree.opens;
         fields = records_set us rs t.0 r other agree.fields;
       }
@@ -326,6 +358,7 @@ module _ (m n : ℕ) where
       record {
         parts = subst (PartsAreAsked n m vs) (append-nil cs) (parts_push n m us cs r [] own agree.parts);
         bases = bases_on us vs on cs agree.bases;
+        objects = objects_on us vs on cs agree.objects;
         opens = opens_push us r (closed_at (length us) r closed) agree.opens;
         fields = records_push us rs r other agree.fields;
       }
@@ -337,14 +370,16 @@ module _ (m n : ℕ) where
       record {
         parts = subst (PartsAreAsked n m vs) (append-nil cs) (parts_push n m us cs (row.Open t) [] tt agree.parts);
         bases = bases_on us vs (told_behind us (row.Open t ∷ [])) cs agree.bases;
+        objects = objects_on us vs (told_behind us (row.Open t ∷ [])) cs agree.objects;
         opens = opens_push us (row.Open t) (below, ten, number) agree.opens;
-        fields = records_push us rs (row.Open t) (λ base ts e. cc) agree.fields;
+        fields = records_push us rs (row.Open t) (λ base ts. (λ e. cc, λ e. cc)) agree.fields;
       }
 
   pub agree_target : (us : List TypeRow) (rs : List (ℕ × Scope)) (cs : List Claim) (at : Pos) (t : TypeId) → Agree us rs cs → Agree us rs (cs ++ claim.Target at t ∷ [])
   agree_target us rs cs at t agree = record {
     parts = λ k r high is. parts_on n us us cs (claim.Target at t ∷ []) (λ t told. told) (λ k r high is. is) r (agree.parts k r high is);
     bases = more_bases (λ b t. IsTold us b) cs (claim.Target at t ∷ []) agree.bases (target_bases (λ b t. IsTold us b) at t);
+    objects = more_object_bases (λ b t. IsTold us b) cs (claim.Target at t ∷ []) agree.objects (target_object_bases (λ b t. IsTold us b) at t);
     opens = agree.opens;
     fields = agree.fields;
   }
@@ -360,6 +395,7 @@ module _ (m n : ℕ) where
       record {
         parts = parts_set n m us cs t r ds low refl (record_parts us vs on cs ds base fs t claims told) agree.parts;
         bases = record_bases us vs on cs ds base fs t claims told agree.bases;
+        objects = more_objects_free us vs on cs ds claims.free agree.objects;
         opens = opens_set us t r refl agree.opens;
         fields = added us vs h t base fs s (omega (arith, length-set us t.0 r)) (omega (arith, below, length-set us t.0 r)) (set_here us t.0 x.0 r x.1)
             (λ j l other. set_other us t.0 j r other) same agree.fields;
@@ -376,7 +412,114 @@ module _ (m n : ℕ) where
       record {
         parts = parts_push n m us cs r ds (record_parts us vs on cs ds base fs t claims told) agree.parts;
         bases = record_bases us vs on cs ds base fs t claims told agree.bases;
+        objects = more_objects_free us vs on cs ds claims.free agree.objects;
         opens = opens_push us r tt agree.opens;
         fields = added us vs h t base fs s (omega (arith, length-append us (r ∷ []))) (omega (arith, length-append us (r ∷ []))) (get_end us r)
             (λ j l other. get_below us (r ∷ []) j l) same agree.fields;
       }
+
+  -- an object type's row, whose fields are the variables of a scope
+  object_parts : (us vs : List TypeRow) → GoOn us vs → (cs ds : List Claim) (base : Option TypeId) (fs : List TypeId) (t : TypeId) → AreOfObject ds base t →
+      AreToldIn us (row.Object base fs) → AreAskedParts n vs (cs ++ ds) (row.Object base fs)
+  object_parts us vs on cs ds base fs t claims each = (by base claims.asked, implied (IsTold us) (IsTold vs) on fs (all_told us fs (λ p one. each p (one_of_right p (base_list base) fs one))))
+    where
+      by : (o : Option TypeId) → ((b : TypeId) → o ≡ Some b → IsAskedObject ds b) → IsObjectAsked (cs ++ ds) o
+      by None asked = tt
+      by (Some b) asked = object_behind cs ds b (asked b refl)
+
+  object_bases : (us vs : List TypeRow) → GoOn us vs → (cs ds : List Claim) (base : Option TypeId) (fs : List TypeId) (t : TypeId) → AreOfObject ds base t →
+      AreToldIn us (row.Object base fs) → AllObjectBases (λ b t. IsTold us b) cs → AllObjectBases (λ b t. IsTold vs b) (cs ++ ds)
+  object_bases us vs on cs ds base fs t claims each all =
+      more_object_bases (λ b t. IsTold vs b) cs ds (objects_on us vs on cs all) (λ k at b u is. on b (base_told us base fs each b (claims.alone k at b u is).1))
+
+  pub agree_object_set : (us : List TypeRow) (rs : List (ℕ × Scope)) (cs : List Claim) (t : TypeId) (base : Option TypeId) (fs : List TypeId) (ds : List Claim) →
+      t.0 < n → AreOfObject ds base t → AreToldIn us (row.Object base fs) → Agree us rs cs → Agree (slice_set us t.0 (row.Object base fs)) rs (cs ++ ds)
+  agree_object_set us rs cs t base fs ds low claims told agree =
+      let r = row.Object base fs in
+      let vs = slice_set us t.0 r in
+      let on = set_on us t r refl in
+      record {
+        parts = parts_set n m us cs t r ds low refl (object_parts us vs on cs ds base fs t claims told) agree.parts;
+        bases = more_free us vs on cs ds claims.free agree.bases;
+        objects = object_bases us vs on cs ds base fs t claims told agree.objects;
+        opens = opens_set us t r refl agree.opens;
+        fields = objects_keep us rs t.0 base fs agree.fields;
+      }
+
+-- The fields of object types are the variables of their scopes. Each has the row of its definition, or the first one before the definition
+-- is met, an array of itself.
+
+pub record IsObjectRow (fields : ℕ → ℕ) (types : List TypeRow) (ss : List Scope) (t : TypeId) (o : ObjectScope) : Type 0 where
+  pub base : Option TypeId
+  pub own : List TypeId
+  pub is : slice_get types t.0 ≡ Some (row.Object base own)
+  pub variables : variables_at ss o.scope ≡ Some (map (λ (t : TypeId). Some t) own)
+  pub count : length own ≡ fields o.scope
+
+abbrev pub IsFilled : (ℕ → ℕ) → List TypeRow → List Scope → TypeId → ObjectScope → Type 0
+IsFilled fields types ss t o = (slice_get types t.0 ≡ Some (row.Array 1 t)) ⊎ IsObjectRow fields types ss t o
+
+abbrev pub AreFilled : (ℕ → ℕ) → List (ℕ × ObjectScope) → List TypeRow → List Scope → Type 0
+AreFilled fields os types ss = (t : TypeId) (o : ObjectScope) → lookup (λ k. nat_eq t.0 k) os ≡ Some o → IsFilled fields types ss t o
+
+-- each has a scope of a type, and no two have one
+pub record AreApart (inner : ℕ) (os : List (ℕ × ObjectScope)) : Type 0 where
+  pub places : (t : TypeId) (o : ObjectScope) → lookup (λ k. nat_eq t.0 k) os ≡ Some o → (0 < o.scope) × (o.scope ≤ inner)
+  pub apart : (t u : TypeId) (o q : ObjectScope) → lookup (λ k. nat_eq t.0 k) os ≡ Some o → lookup (λ k. nat_eq u.0 k) os ≡ Some q → o.scope ≡ q.scope → t.0 ≡ u.0
+
+module _ (fields : ℕ → ℕ) where
+  -- with the same row and the same variables
+  filled_same : (us vs : List TypeRow) (ss ss' : List Scope) (t : TypeId) (o : ObjectScope) → ((r : TypeRow) → slice_get us t.0 ≡ Some r → slice_get vs t.0 ≡ Some r) →
+      variables_at ss' o.scope ≡ variables_at ss o.scope → IsFilled fields us ss t o → IsFilled fields vs ss' t o
+  filled_same us vs ss ss' t o row_same same (inl is) = inl (row_same (row.Array 1 t) is)
+  filled_same us vs ss ss' t o row_same same (inr x) =
+      inr (record { base = x.base; own = x.own; is = row_same (row.Object x.base x.own) x.is; variables = same ∙ x.variables; count = x.count })
+
+  module _ (os : List (ℕ × ObjectScope)) where
+    pub objects_set : (us : List TypeRow) (ss : List Scope) (t : TypeId) (r : TypeRow) → ((o : ObjectScope) → lookup (λ k. nat_eq t.0 k) os ≡ Some o → ⊥) →
+        AreFilled fields os us ss → AreFilled fields os (slice_set us t.0 r) ss
+    objects_set us ss t r bare all u o at = filled_same us (slice_set us t.0 r) ss ss u o (λ x is. set_other us t.0 u.0 r other ∙ is) refl (all u o at)
+      where
+        other : u.0 ≡ t.0 → ⊥
+        other same = bare o (ap (λ n. lookup (λ k. nat_eq n k) os) (sym same) ∙ at)
+
+    pub objects_push : (us : List TypeRow) (ss : List Scope) (r : TypeRow) → AreFilled fields os us ss → AreFilled fields os (us ++ r ∷ []) ss
+    objects_push us ss r all u o at = filled_same us (us ++ r ∷ []) ss ss u o (λ x is. get_front us (r ∷ []) u.0 x is) refl (all u o at)
+
+    module _ (inner : ℕ) (are : AreApart inner os) where
+      pub objects_scopes : (us : List TypeRow) (ss ss' : List Scope) → ((j : ℕ) → 0 < j → j ≤ inner → variables_at ss' j ≡ variables_at ss j) →
+          AreFilled fields os us ss → AreFilled fields os us ss'
+      objects_scopes us ss ss' same all t o at = let p = are.places t o at in filled_same us us ss ss' t o (λ x is. is) (same o.scope p.0 p.1) (all t o at)
+
+      pub objects_placed : (us : List TypeRow) (ss ss' : List Scope) (t : TypeId) (o : ObjectScope) (base : Option TypeId) (fs : List TypeId) (vs : List (Option TypeId)) →
+          t.0 < length us → lookup (λ k. nat_eq t.0 k) os ≡ Some o → variables_at ss' o.scope ≡ Some vs →
+          ((j : ℕ) → (j ≡ o.scope → ⊥) → variables_at ss' j ≡ variables_at ss j) → vs ≡ map (λ (t : TypeId). Some t) fs → length vs ≡ fields o.scope →
+          AreFilled fields os us ss → AreFilled fields os (slice_set us t.0 (row.Object base fs)) ss'
+      objects_placed us ss ss' t o base fs vs below at own others are_all many all u q at' = by (cases_order u.0 t.0)
+        where
+          r : TypeRow
+          r = row.Object base fs
+
+          x : (y : TypeRow) × (slice_get us t.0 ≡ Some y)
+          x = some_there us t.0 below
+
+          here : u.0 ≡ t.0 → IsFilled fields (slice_set us t.0 r) ss' u q
+          here same =
+              let scope_is : o ≡ q = same_Some o q (sym at ∙ ap (λ n. lookup (λ k. nat_eq n k) os) (sym same) ∙ at') in
+              let long = ap length are_all ∙ length-map fs (λ (t : TypeId). Some t) in
+              inr (record {
+                base = base;
+                own = fs;
+                is = ap (slice_get (slice_set us t.0 r)) same ∙ set_here us t.0 x.0 r x.1;
+                variables = ap (λ (z : ObjectScope). variables_at ss' z.scope) (sym scope_is) ∙ own ∙ ap (λ z. Some z) are_all;
+                count = sym long ∙ many ∙ ap (λ (z : ObjectScope). fields z.scope) scope_is;
+              })
+
+          elsewhere : (u.0 ≡ t.0 → ⊥) → IsFilled fields (slice_set us t.0 r) ss' u q
+          elsewhere other =
+              filled_same us (slice_set us t.0 r) ss ss' u q (λ x is. set_other us t.0 u.0 r other ∙ is) (others q.scope (λ same. other (are.apart u t q o at' at same))) (all u q at')
+
+          by : (u.0 ≡ t.0) ⊎ ((u.0 < t.0) ⊎ (t.0 < u.0)) → IsFilled fields (slice_set us t.0 r) ss' u q
+          by (inl same) = here same
+          by (inr (inl l)) = elsewhere (λ same. omega (arith, l, same))
+          by (inr (inr l)) = elsewhere (λ same. omega (arith, l, same))

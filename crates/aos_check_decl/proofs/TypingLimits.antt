@@ -28,7 +28,7 @@ use Rattle.aos_symbols.specs.declared.home.Gives.TheVariants as gives
 use Rattle.aos_symbols.specs.declared.home.Signature.{Signature}
 use Rattle.aos_symbols.specs.declared.env.Env.{Env}
 use Rattle.aos_symbols.specs.Breaches.{breach_unless}
-use Rattle.aos_symbols.specs.Declarations.{Procedure, procedures, all_type_defs, single_variables}
+use Rattle.aos_symbols.specs.Declarations.{Procedure, all_procedures, all_type_defs, single_variables}
 use Rattle.aos_symbols.specs.Env as env
 use Rattle.aos_symbols.proofs.Holds.{none_left, none_right, test_is}
 use Rattle.aos_symbols.proofs.Told.{IsTold, basic, of_any, defined}
@@ -77,7 +77,7 @@ module _ (flags : List Bool) (rows : List TypeRow) where
     types = judge.types_from flags rows first (written e ds)
 
     abbrev results : List Breach
-    results = judge.results_from flags rows (procedures ds) e.here.signatures
+    results = judge.results_from flags rows (all_procedures ds) e.here.signatures
 
     abbrev variables : List Breach
     variables = judge.variables_past flags rows (sum_by (judge.scalars_of flags rows) e.before) (zip (single_variables ds) (judge.variables_of flags rows (slice_get e.here.scopes 0)))
@@ -97,9 +97,9 @@ module _ (flags : List Bool) (rows : List TypeRow) where
     pub variables_kept : variables ≡ []
     variables_kept = none_right (types ++ results) variables none
 
-    pub result_kept : (j : ℕ) (p : Procedure) (s : Signature) → slice_get (procedures ds) j ≡ Some p → slice_get e.here.signatures j ≡ Some s →
+    pub result_kept : (j : ℕ) (p : Procedure) (s : Signature) → slice_get (all_procedures ds) j ≡ Some p → slice_get e.here.signatures j ≡ Some s →
         judge.result_breaches flags rows (judge.result_of flags rows p.formals) s.gives ≡ []
-    result_kept = results_kept (procedures ds) e.here.signatures (none_right types results (none_left (types ++ results) variables none))
+    result_kept = results_kept (all_procedures ds) e.here.signatures (none_right types results (none_left (types ++ results) variables none))
 
 -- Variables of a module.
 

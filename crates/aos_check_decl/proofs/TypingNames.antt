@@ -20,7 +20,7 @@ use Rattle.aos_symbols.specs.Home.{Home}
 use Rattle.aos_symbols.specs.Env as env
 use Rattle.aos_symbols.proofs.Each.{Each}
 use Rattle.aos_symbols.proofs.Holds.{Holds, broken}
-use Rattle.aos_symbols.proofs.Lookups.{IsPredeclared, a_type, a_truth, a_function, a_routine, another, IsOfAll, lookup_is, member_is}
+use Rattle.aos_symbols.proofs.Lookups.{IsPredeclared, a_type, a_truth, a_function, a_routine, itself, IsOfAll, lookup_is, member_is}
 use Rattle.aos_check_decl.specs.Types as judge
 use Rattle.aos_check_decl.specs.Headings.{slot_meant, slot_in}
 use Rattle.aos_check_decl.proofs.TypingScopes.{names_at, scope_at}
@@ -55,9 +55,9 @@ predeclared_basic P basic m (a_routine r) of e = absurd (no_routine of e)
   where
     no_routine : (of : Option TypeId) → means.Routine r ≡ means.Type of → ⊥
     no_routine of e = cc
-predeclared_basic P basic m another of e = absurd (no_other of e)
+predeclared_basic P basic m itself of e = absurd (no_other of e)
   where
-    no_other : (of : Option TypeId) → means.Other ≡ means.Type of → ⊥
+    no_other : (of : Option TypeId) → means.Itself ≡ means.Type of → ⊥
     no_other of e = cc
 
 -- in the scopes that are searched, entries of types have types of which this holds
@@ -98,6 +98,7 @@ module _ (e : Env) (Searched : Open → Type 0) (P : Option TypeId → Type 0) (
   type_meant_sound (means.Function f) is at = broken P _ [] _
   type_meant_sound (means.Routine r) is at = broken P _ [] _
   type_meant_sound means.Proper is at = broken P _ [] _
+  type_meant_sound means.Itself is at = broken P _ [] _
   type_meant_sound means.Other is at = broken P _ [] _
 
   type_found_sound : (l : Lookup) → MayName l → (at : Pos) → Holds P (judge.type_found l at)
@@ -116,6 +117,7 @@ module _ (e : Env) (Searched : Open → Type 0) (P : Option TypeId → Type 0) (
   in_module_sound (means.Function f) at n = broken P _ [] _
   in_module_sound (means.Routine r) at n = broken P _ [] _
   in_module_sound means.Proper at n = broken P _ [] _
+  in_module_sound means.Itself at n = broken P _ [] _
   in_module_sound means.Other at n = broken P _ [] _
 
   qualified_sound : (l : Lookup) (at : Pos) (n : Name) → Holds P (judge.qualified_type e l at n)
@@ -138,7 +140,7 @@ predeclared_slot P basic m (a_type u le other) t e = subst P (let same : u ≡ t
 predeclared_slot P basic m (a_truth b) t e = absurd (cc)
 predeclared_slot P basic m (a_function f) t e = absurd (cc)
 predeclared_slot P basic m (a_routine r) t e = absurd (cc)
-predeclared_slot P basic m another t e = absurd (cc)
+predeclared_slot P basic m itself t e = absurd (cc)
 
 meant_slot : (P : TypeId → Type 0) (m : Meaning) → ((of : Option TypeId) → m ≡ means.Type of → (t : TypeId) → of ≡ Some t → P t) → (t : TypeId) → slot_meant m ≡ Some t → P t
 meant_slot P (means.Type of) h t e = h of refl t e
@@ -151,6 +153,7 @@ meant_slot P (means.Truth b) h t e = absurd (cc)
 meant_slot P (means.Function f) h t e = absurd (cc)
 meant_slot P (means.Routine r) h t e = absurd (cc)
 meant_slot P means.Proper h t e = absurd (cc)
+meant_slot P means.Itself h t e = absurd (cc)
 meant_slot P means.Other h t e = absurd (cc)
 
 module _ (e : Env) (Searched : Open → Type 0) (P : TypeId → Type 0) (named : AreNamed e Searched (λ of. (t : TypeId) → of ≡ Some t → P t))
@@ -172,50 +175,51 @@ module _ (e : Env) (Searched : Open → Type 0) (P : TypeId → Type 0) (named :
   pub slot_sound : (n : Name) (t : TypeId) → slot_in (env.lookup e n) ≡ Some t → P t
   slot_sound n = by_lookup (env.lookup e n) (lookup_is e Searched Slot all_slots path n)
 
--- The scopes that are searched in a module's environment: its own, those of its procedures, behind those of types, and the own
--- scopes of other modules.
+-- The scopes that are searched in a module's environment: its own ones, and of other modules their own scopes and those of their types.
 
-abbrev pub IsSearchedIn : (number inner : ℕ) → Open → Type 0
-IsSearchedIn number inner o = (o.scope ≡ 0) ⊎ ((o.home ≡ number) × (inner < o.scope))
+abbrev pub IsOuter : List Home → Open → Type 0
+IsOuter before o = (h : Home) → slice_get before o.home ≡ Some h → o.scope < h.first
 
-abbrev pub AreOwnNamed : ℕ → List Scope → (Option TypeId → Type 0) → Type 0
-AreOwnNamed inner scopes P = (k : ℕ) (s : Scope) (w : List ℕ) (x : Entry) (of : Option TypeId) → (k ≡ 0) ⊎ (inner < k) → slice_get scopes k ≡ Some s →
+abbrev pub IsSearchedIn : (number : ℕ) → List Home → Open → Type 0
+IsSearchedIn number before o = (o.scope ≡ 0) ⊎ ((o.home ≡ number) ⊎ IsOuter before o)
+
+abbrev pub AreOwnNamed : List Scope → (Option TypeId → Type 0) → Type 0
+AreOwnNamed scopes P = (k : ℕ) (s : Scope) (w : List ℕ) (x : Entry) (of : Option TypeId) → slice_get scopes k ≡ Some s →
     find s w ≡ Some x → x.means ≡ means.Type of → P of
 
 abbrev pub AreOthersNamed : List Home → (Option TypeId → Type 0) → Type 0
-AreOthersNamed before P = (m : ℕ) (h : Home) (s : Scope) (w : List ℕ) (x : Entry) (of : Option TypeId) → slice_get before m ≡ Some h →
-    slice_get h.scopes 0 ≡ Some s → find s w ≡ Some x → x.means ≡ means.Type of → P of
+AreOthersNamed before P = (m : ℕ) (h : Home) (k : ℕ) (s : Scope) (w : List ℕ) (x : Entry) (of : Option TypeId) → slice_get before m ≡ Some h →
+    (k ≡ 0) ⊎ (k < h.first) → slice_get h.scopes k ≡ Some s → find s w ≡ Some x → x.means ≡ means.Type of → P of
 
-module _ (number : ℕ) (before : List Home) (scopes : List Scope) (inner : ℕ) (P : Option TypeId → Type 0) (own : AreOwnNamed inner scopes P) (others : AreOthersNamed before P)
+module _ (number : ℕ) (before : List Home) (scopes : List Scope) (P : Option TypeId → Type 0) (own : AreOwnNamed scopes P) (others : AreOthersNamed before P)
     (e : Env) (number_is : e.number ≡ number) (before_is : e.before ≡ before) (names_are : (j : ℕ) → names_at e.here.scopes j ≡ names_at scopes j) where
   abbrev IsNamed : Scope → Type 0
   IsNamed s = (w : List ℕ) (x : Entry) → find s w ≡ Some x → (of : Option TypeId) → x.means ≡ means.Type of → P of
 
-  listed : (o : Open) → IsSearchedIn number inner o → (o.scope ≡ 0) ⊎ (inner < o.scope)
-  listed o (inl first) = inl first
-  listed o (inr own) = inr own.1
-
-  named_here : (k : ℕ) (s : Scope) → (k ≡ 0) ⊎ (inner < k) → slice_get e.here.scopes k ≡ Some s → IsNamed s
-  named_here k s is there w x found of means =
+  named_here : (k : ℕ) (s : Scope) → slice_get e.here.scopes k ≡ Some s → IsNamed s
+  named_here k s there w x found of means =
       let r = scope_at scopes k s.entries (sym (names_are k) ∙ ap (option_map (λ (z : Scope). z.entries)) there) in
-      own k r.0 w x of is r.1 (ap (λ ns. find (record r.0 { entries = ns }) w) r.2 ∙ found) means
+      own k r.0 w x of r.1 (ap (λ ns. find (record r.0 { entries = ns }) w) r.2 ∙ found) means
 
-  named_before : (o : Open) (s : Scope) → o.scope ≡ 0 → (h : Option Home) → slice_get e.before o.home ≡ h →
-      option_and_then (λ h. slice_get h.scopes o.scope) h ≡ Some s → IsNamed s
-  named_before o s first None at there w x found of means = absurd (none-some s there)
-  named_before o s first (Some h) at there w x found of means =
-      others o.home h s w x of (ap (λ hs. slice_get hs o.home) (sym before_is) ∙ at) (ap (slice_get h.scopes) (sym first) ∙ there) found means
+  named_before : (o : Open) (s : Scope) → ((h : Home) → slice_get before o.home ≡ Some h → (o.scope ≡ 0) ⊎ (o.scope < h.first)) → (h : Option Home) →
+      slice_get e.before o.home ≡ h → option_and_then (λ h. slice_get h.scopes o.scope) h ≡ Some s → IsNamed s
+  named_before o s outer None at there w x found of means = absurd (none-some s there)
+  named_before o s outer (Some h) at there w x found of means =
+      let there_before = ap (λ hs. slice_get hs o.home) (sym before_is) ∙ at in
+      others o.home h o.scope s w x of there_before (outer h there_before) there found means
 
-  elsewhere : (o : Open) → (o.home == e.number) ≡ false → IsSearchedIn number inner o → o.scope ≡ 0
-  elsewhere o other (inl first) = first
-  elsewhere o other (inr own) = let here : (o.home == e.number) ≡ true = eq-eqb o.home e.number (own.0 ∙ sym number_is) in absurd (cc)
+  elsewhere : (o : Open) → (o.home == e.number) ≡ false → IsSearchedIn number before o → (h : Home) → slice_get before o.home ≡ Some h →
+      (o.scope ≡ 0) ⊎ (o.scope < h.first)
+  elsewhere o other (inl first) h there = inl first
+  elsewhere o other (inr (inl own)) h there = let here : (o.home == e.number) ≡ true = eq-eqb o.home e.number (own ∙ sym number_is) in absurd (cc)
+  elsewhere o other (inr (inr outer)) h there = inr (outer h there)
 
-  named_at : (o : Open) (s : Scope) → IsSearchedIn number inner o → env.scope e o ≡ Some s → IsNamed s
+  named_at : (o : Open) (s : Scope) → IsSearchedIn number before o → env.scope e o ≡ Some s → IsNamed s
   named_at o s searched there = by (o.home == e.number) refl there
     where
       by : (b : Bool) → (o.home == e.number) ≡ b → option_and_then (λ h. slice_get h.scopes o.scope) (if b then Some e.here else slice_get e.before o.home) ≡ Some s → IsNamed s
-      by true own there = named_here o.scope s (listed o searched) there
+      by true own there = named_here o.scope s there
       by false other there = named_before o s (elsewhere o other searched) (slice_get e.before o.home) refl there
 
-  pub all_named_in : AreNamed e (IsSearchedIn number inner) P
+  pub all_named_in : AreNamed e (IsSearchedIn number before) P
   all_named_in o s w x searched there = named_at o s searched there w x

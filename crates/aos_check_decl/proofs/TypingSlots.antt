@@ -15,7 +15,7 @@ use Rattle.aos_symbols.specs.declared.env.Lookup.TheVariants.{NotExported, Found
 use Rattle.aos_symbols.specs.declared.env.Env.{Env}
 use Rattle.aos_symbols.specs.Spelling.{word}
 use Rattle.aos_symbols.specs.declared.entries.Sort.TheVariants as sort
-use Rattle.aos_symbols.specs.Declarations.{constant_defs, type_defs, all_type_defs, single_variables, formal_names, Procedure, procedures}
+use Rattle.aos_symbols.specs.Declarations.{constant_defs, type_defs, all_type_defs, single_variables, formal_names, Procedure, all_procedures}
 use Rattle.aos_symbols.specs.Scope.{Named, Scope, empty, find, has, with_names}
 use Rattle.aos_symbols.specs.Home.{Home}
 use Rattle.aos_symbols.specs.Entries.{number_at, unmarked, numbered, types_from, import_entry, other_entries, procedure_scope, procedure_scopes, scopes}
@@ -31,7 +31,7 @@ use Rattle.aos_check_decl.proofs.TypingEntries.{own_names, procedure_names, IsNo
 use Rattle.aos_check_decl.proofs.TypingOnce.{AreAlike}
 
 -- a name of the innermost scope is found there
-slot_found : (e : Env) (o : Open) (os : List Open) → e.path ≡ o ∷ os → o.home ≡ e.number → (s : Scope) → slice_get e.here.scopes o.scope ≡ Some s →
+pub slot_found : (e : Env) (o : Open) (os : List Open) → e.path ≡ o ∷ os → o.home ≡ e.number → (s : Scope) → slice_get e.here.scopes o.scope ≡ Some s →
     (n : Name) (x : Entry) → find s (word e.here.text n) ≡ Some x → slot_in (env.lookup e n) ≡ slot_meant x.means
 slot_found e o os path_is own s there n x found =
     let w = word e.here.text n in
@@ -54,6 +54,7 @@ no_slot (means.Truth b) other t e = none-some t e
 no_slot (means.Function f) other t e = none-some t e
 no_slot (means.Routine r) other t e = none-some t e
 no_slot means.Proper other t e = none-some t e
+no_slot means.Itself other t e = none-some t e
 no_slot means.Other other t e = none-some t e
 
 -- an entry of this name, which stands for the number of a definition if it stands for a type's
@@ -66,20 +67,20 @@ slot_other S w n other same t e = absurd (no_slot n.1.means other t e)
 module _ (c : Telling) where
   -- a definition in the innermost scope, which has these names
   has_slot : (o : Open) (os : List Open) (names : List Named) → o.home ≡ c.number → names_at c.scopes o.scope ≡ Some (with_names empty names).entries → (d : TypeDef) →
-      has (with_names empty names) (word c.text d.def.name) ≡ true → (is_name d.value ≡ false → Each (IsSlotOf c.IsSlot (word c.text d.def.name)) names) → HasSlot c (o ∷ os) d
+      has (with_names empty names) (word c.text d.def.name) ≡ true → (is_name d.value ≡ false → Each (IsSlotOf (c.IsNumber d) (word c.text d.def.name)) names) → HasSlot c (o ∷ os) d
   has_slot o os names own are d there all not_name e fit t is =
       let w = word c.text d.def.name in
       let s = scope_at e.here.scopes o.scope (with_names empty names).entries (fit.names_are o.scope ∙ are) in
       let x = some_found (find (with_names empty names) w) there in
       let found : find s.0 (word e.here.text d.def.name) ≡ Some x.0 =
       ap (λ text. find s.0 (word text d.def.name)) fit.text_is ∙ ap (λ ns. find (record s.0 { entries = ns }) w) s.2 ∙ x.1 in
-      found_is (IsSlotOf c.IsSlot w) names w x.0 (all not_name) x.1 refl t (sym (slot_found e o os fit.path_is (own ∙ sym fit.number_is) s.0 s.1 d.def.name x.0 found) ∙ is)
+      found_is (IsSlotOf (c.IsNumber d) w) names w x.0 (all not_name) x.1 refl t (sym (slot_found e o os fit.path_is (own ∙ sym fit.number_is) s.0 s.1 d.def.name x.0 found) ∙ is)
 
   module _ (numbers : List (Option TypeId)) where
     -- the numbers of definitions that are no names for other types, from this one on
     abbrev pub AreNumbers : ℕ → List TypeDef → Type 0
     AreNumbers k [] = Unit {0}
-    AreNumbers k (d ∷ ds) = (is_name d.value ≡ false → (t : TypeId) → number_at numbers k ≡ Some t → c.IsSlot t) × AreNumbers (suc k) ds
+    AreNumbers k (d ∷ ds) = (is_name d.value ≡ false → (t : TypeId) → number_at numbers k ≡ Some t → c.IsNumber d t) × AreNumbers (suc k) ds
 
     numbers_front : (k : ℕ) (xs ys : List TypeDef) → AreNumbers k (xs ++ ys) → AreNumbers k xs
     numbers_front k [] ys are = tt
@@ -90,10 +91,10 @@ module _ (c : Telling) where
     numbers_back k (x ∷ xs) ys are = subst (λ n. AreNumbers n ys) (let same : suc k + length xs ≡ k + suc (length xs) = omega arith in same) (numbers_back (suc k) xs ys are.1)
 
     types_slots : (d : TypeDef) → is_name d.value ≡ false → (k : ℕ) (xs : List TypeDef) → Each (AreAlike c.text d) xs → AreNumbers k xs →
-        Each (IsSlotOf c.IsSlot (word c.text d.def.name)) (types_from c.text numbers k xs)
+        Each (IsSlotOf (c.IsNumber d) (word c.text d.def.name)) (types_from c.text numbers k xs)
     types_slots d not_name k [] alike are = tt
     types_slots d not_name k (x ∷ xs) alike are =
-        (λ same t e. are.0 (sym (alike.0 (sym same)) ∙ not_name) t e, types_slots d not_name (suc k) xs alike.1 are.1)
+        (λ same t e. (let one = alike.0 (sym same) in subst (λ (z : TypeDef). c.IsNumber z t) (sym one) (are.0 (ap (λ (x : TypeDef). is_name x.value) (sym one) ∙ not_name) t e)), types_slots d not_name (suc k) xs alike.1 are.1)
 
     -- definitions that stand in a scope
 
@@ -109,11 +110,11 @@ module _ (c : Telling) where
     both P Q (x ∷ xs) a b = ((a.0, b.0), both P Q xs a.1 b.1)
 
     scope_slots : (o : Open) (os : List Open) (names : List Named) → o.home ≡ c.number → names_at c.scopes o.scope ≡ Some (with_names empty names).entries → (ds : List TypeDef) →
-        Each (λ d. has (with_names empty names) (word c.text d.def.name) ≡ true) ds → Each (λ d. is_name d.value ≡ false → Each (IsSlotOf c.IsSlot (word c.text d.def.name)) names) ds →
+        Each (λ d. has (with_names empty names) (word c.text d.def.name) ≡ true) ds → Each (λ d. is_name d.value ≡ false → Each (IsSlotOf (c.IsNumber d) (word c.text d.def.name)) names) ds →
         Each (HasSlot c (o ∷ os)) ds
     scope_slots o os names own are ds there all =
         let here = λ (d : TypeDef). (let p : Type 0 = has (with_names empty names) (word c.text d.def.name) ≡ true in p) in
-        let fine = λ (d : TypeDef). (let p : Type 0 = is_name d.value ≡ false → Each (IsSlotOf c.IsSlot (word c.text d.def.name)) names in p) in
+        let fine = λ (d : TypeDef). (let p : Type 0 = is_name d.value ≡ false → Each (IsSlotOf (c.IsNumber d) (word c.text d.def.name)) names in p) in
         implied (λ d. here d × fine d) (HasSlot c (o ∷ os)) (λ d r. has_slot o os names own are d r.0 r.1) ds (both here fine ds there all)
 
     -- The module's own scope.
@@ -128,9 +129,9 @@ module _ (c : Telling) where
           let found = λ (n : Named). (let p : Type 0 = has (with_names empty names) n.0 ≡ true in p) in
           scope_slots (env.own c.number) [] names refl (ap (λ ss. names_at ss 0) scopes_are) ds
           (listed (with_names empty names) 0 ds (back found imports types (front found (imports ++ types) (other_entries c.text m.decls) (each_found names empty))))
-          (implied (λ d. Each (AreAlike c.text d) ds) (λ d. is_name d.value ≡ false → Each (IsSlotOf c.IsSlot (word c.text d.def.name)) names)
-          (λ d same not_name. own_all c.text (IsSlotOf c.IsSlot (word c.text d.def.name)) (slot_other c.IsSlot (word c.text d.def.name)) homes numbers m
-          (types_slots d not_name 0 ds same (numbers_front 0 ds (flat_map (λ (p : Procedure). type_defs p.decls) (procedures m.decls)) are))) ds alike)
+          (implied (λ d. Each (AreAlike c.text d) ds) (λ d. is_name d.value ≡ false → Each (IsSlotOf (c.IsNumber d) (word c.text d.def.name)) names)
+          (λ d same not_name. own_all c.text (IsSlotOf (c.IsNumber d) (word c.text d.def.name)) (slot_other (c.IsNumber d) (word c.text d.def.name)) homes numbers m
+          (types_slots d not_name 0 ds same (numbers_front 0 ds (flat_map (λ (p : Procedure). type_defs p.decls) (all_procedures m.decls)) are))) ds alike)
 
     -- The scopes of procedures, of which the first has the number k and the first type the place `first`.
 
@@ -149,8 +150,8 @@ module _ (c : Telling) where
           let found = λ (n : Named). (let p : Type 0 = has (with_names empty names) n.0 ≡ true in p) in
           scope_slots (record { home = c.number; scope = k }) path names refl (ap (option_map names_of) there) ds
           (listed (with_names empty names) first ds (front found types constants (front found (types ++ constants) variables (each_found names empty))))
-          (implied (λ d. Each (AreAlike c.text d) ds) (λ d. is_name d.value ≡ false → Each (IsSlotOf c.IsSlot (word c.text d.def.name)) names)
-          (λ d same not_name. procedure_all c.text (IsSlotOf c.IsSlot (word c.text d.def.name)) (slot_other c.IsSlot (word c.text d.def.name)) numbers first p
+          (implied (λ d. Each (AreAlike c.text d) ds) (λ d. is_name d.value ≡ false → Each (IsSlotOf (c.IsNumber d) (word c.text d.def.name)) names)
+          (λ d same not_name. procedure_all c.text (IsSlotOf (c.IsNumber d) (word c.text d.def.name)) (slot_other (c.IsNumber d) (word c.text d.def.name)) numbers first p
           (types_slots d not_name first ds same are)) ds alike)
 
       pub all_slotted : (ps : List Procedure) (k first : ℕ) → ((j : ℕ) → slice_get c.scopes (k + j) ≡ slice_get (procedure_scopes c.text numbers first ps) j) →
@@ -162,11 +163,11 @@ module _ (c : Telling) where
             (numbers_back first (type_defs p.decls) (types_in_all ps) are),
       )
 
-      pub procedures_slots : (homes : List Home) (m : Module) → c.scopes ≡ scopes c.text homes numbers m →
-          Each (λ (p : Procedure). Each (λ d. Each (AreAlike c.text d) (type_defs p.decls)) (type_defs p.decls)) (procedures m.decls) → AreNumbers 0 (all_type_defs m.decls) →
-          AreSlotted c path searched (suc (length (type_defs m.decls))) (procedures m.decls)
-      procedures_slots homes m scopes_are alike are =
-          let n = length (type_defs m.decls) in
-          all_slotted (procedures m.decls) (suc n) n
-          (λ j. ap (λ ss. slice_get ss (suc n + j)) scopes_are ∙ behind_types c.text homes numbers m j) alike
-          (subst (λ k. AreNumbers k (types_in_all (procedures m.decls))) (let same : 0 + n ≡ n = omega arith in same) (numbers_back 0 (type_defs m.decls) (types_in_all (procedures m.decls)) are))
+    pub procedures_slots : (homes : List Home) (m : Module) → c.scopes ≡ scopes c.text homes numbers m →
+        Each (λ (p : Procedure). Each (λ d. Each (AreAlike c.text d) (type_defs p.decls)) (type_defs p.decls)) (all_procedures m.decls) → AreNumbers 0 (all_type_defs m.decls) →
+        (path : List Open) (searched : Each (IsSearched c) path) → AreSlotted c path searched (suc (length (type_defs m.decls))) (all_procedures m.decls)
+    procedures_slots homes m scopes_are alike are path searched =
+        let n = length (type_defs m.decls) in
+        all_slotted path searched (all_procedures m.decls) (suc n) n
+        (λ j. ap (λ ss. slice_get ss (suc n + j)) scopes_are ∙ behind_types c.text homes numbers m j) alike
+        (subst (λ k. AreNumbers k (types_in_all (all_procedures m.decls))) (let same : 0 + n ≡ n = omega arith in same) (numbers_back 0 (type_defs m.decls) (types_in_all (all_procedures m.decls)) are))

@@ -13,21 +13,24 @@ use Rattle.aos_types.specs.declared.row.TypeId.{TypeId}
 use Rattle.aos_types.specs.declared.row.TypeRow.{TypeRow}
 use Rattle.aos_symbols.specs.declared.env.Open.{Open}
 use Rattle.aos_symbols.specs.declared.env.Env.{Env}
+use Rattle.aos_symbols.specs.declared.breach.Breach.{Breach}
+use Rattle.aos_symbols.specs.Breaches.{first as first_of}
 use Rattle.aos_symbols.specs.Judged.{kept, walk}
-use Rattle.aos_symbols.specs.Declarations.{Procedure, procedures, type_defs, all_type_defs}
-use Rattle.aos_symbols.specs.Home.{Home}
+use Rattle.aos_symbols.specs.Declarations.{Procedure, all_procedures, type_defs, all_type_defs}
+use Rattle.aos_symbols.specs.declared.home.ObjectScope.{ObjectScope}
+use Rattle.aos_symbols.specs.Home.{Home, object_of}
 use Rattle.aos_symbols.specs.Entries.{number_at, scopes}
 use Rattle.aos_symbols.specs.Env as env
 use Rattle.aos_symbols.proofs.Each.{Each}
-use Rattle.aos_symbols.proofs.Holds.{Holds, holds_bind}
+use Rattle.aos_symbols.proofs.Holds.{Holds, holds_bind, none_first}
 use Rattle.aos_symbols.proofs.Told.{IsTold, basic, of_any, IsKnown}
 use Rattle.aos_check_decl.specs.declared.aliases.Target.{Target}
 use Rattle.aos_check_decl.specs.declared.aliases.Target.TheVariants.{Own, Of, Nothing}
 use Rattle.aos_check_decl.specs.Types.{named_type}
-use Rattle.aos_check_decl.specs.Aliases.{target_of, led_by, with_target, local_targets, targets}
+use Rattle.aos_check_decl.specs.Aliases.{target_of, later, led_by, with_target, local_targets, targets}
 use Rattle.aos_check_decl.specs.Pass.{own_numbers, entered}
 use Rattle.aos_check_decl.proofs.TypingNames.{IsBasicNumber, IsSearchedIn, AreOthersNamed, all_named_in, named_sound}
-use Rattle.aos_check_decl.proofs.TypingEntries.{scopes_typed}
+use Rattle.aos_check_decl.proofs.TypingEntries.{scopes_typed, IsPlain}
 use Rattle.aos_check_decl.proofs.TypingHeadings.{is_name}
 
 -- the number at a place of a list that is made by numbers
@@ -79,7 +82,14 @@ module _ (types : List TypeRow) (n : ℕ) where
   led_at (x ∷ ds) (u ∷ ts) are zero t is = (x, refl, subst (IsLed x.value) (same_Some u t is) are.0)
   led_at (x ∷ ds) (u ∷ ts) are (suc k) t is = led_at ds ts are.1 k t is
 
-module _ (number : ℕ) (before : List Home) (types : List TypeRow) (text : List ℕ) (m : Module) (others : AreOthersNamed before (IsKnown types)) where
+-- What is known of the modules before, of which there are so many, and of a module whose object types declare no types.
+pub record IsGiven (number : ℕ) (before : List Home) (types : List TypeRow) (m : Module) : Type 0 where
+  pub here : length before ≡ number
+  pub named : AreOthersNamed before (IsKnown types)
+  pub objects : (k : ℕ) (h : Home) (t : TypeId) (o : ObjectScope) → slice_get before k ≡ Some h → object_of h t ≡ Some o → (o.home ≡ k) × (o.scope < h.first)
+  pub plain : Each IsPlain (type_defs m.decls)
+
+module _ (number : ℕ) (before : List Home) (types : List TypeRow) (text : List ℕ) (m : Module) (given : IsGiven number before types m) where
   abbrev count : ℕ
   count = length (all_type_defs m.decls)
 
@@ -105,17 +115,22 @@ module _ (number : ℕ) (before : List Home) (types : List TypeRow) (text : List
   known_meant None known = absurd known
   known_meant (Some t) known = inl known
 
-  meant_in : (path : List Open) → Each (IsSearchedIn number inner) path → (q : Qualident) → Holds Means (named_type (env.back_at path first) q)
+  meant_in : (path : List Open) → Each (IsSearchedIn number before) path → (q : Qualident) → Holds Means (named_type (env.back_at path first) q)
   meant_in path searched q =
-      named_sound (env.back_at path first) (IsSearchedIn number inner) Means
-      (all_named_in number before (scopes text before own m) inner Means (scopes_typed text before own m Means own_meant)
-      (λ j h s w x of at there found is. known_meant of (others j h s w x of at there found is)) (env.back_at path first) refl refl (λ j. refl))
+      named_sound (env.back_at path first) (IsSearchedIn number before) Means
+      (all_named_in number before (scopes text before own m) Means (scopes_typed text before own m given.plain Means own_meant)
+      (λ j h k s w x of at outer there found is. known_meant of (given.named j h k s w x of at outer there found is)) (env.back_at path first) refl refl (λ j. refl))
       (λ t low. inl (basic_told types t low)) searched (λ j. inl refl) q
 
-  led_sound : (path : List Open) → Each (IsSearchedIn number inner) path → (of : TypeExpr) → Holds (IsLed types count of) (led_by (env.back_at path first) of)
-  led_sound path searched (type.Named q) =
-      holds_bind Means (IsLed types count (type.Named q)) (named_type (env.back_at path first) q) (λ of. kept (target_of of)) (meant_in path searched q) (λ of means h. by of means)
+  led_sound : (path : List Open) → Each (IsSearchedIn number before) path → (of : TypeExpr) → Holds (IsLed types count of) (led_by (env.back_at path first) of)
+  led_sound path searched (type.Named q) = λ none.
+      let j = named_type (env.back_at path first) q in
+      by j.answer (meant_in path searched q (none_first j.breaches (none_later (first_of j.breaches) none)))
     where
+      none_later : (o : Option Breach) → later o ≡ [] → o ≡ None
+      none_later None e = refl
+      none_later (Some b) e = cc
+
       by : (of : Option TypeId) → Means of → IsLed types count (type.Named q) (target_of of)
       by None means = means
       by (Some t) means = (refl, means)
@@ -125,7 +140,7 @@ module _ (number : ℕ) (before : List Home) (types : List TypeRow) (text : List
   led_sound path searched (type.Proc p flag formals) = λ h. tt
   led_sound path searched (type.Object' p base shape row body end) = λ h. tt
 
-  some_led : (path : List Open) → Each (IsSearchedIn number inner) path → (ds done : List TypeDef) (ts : List Target) → AreLed types count done ts →
+  some_led : (path : List Open) → Each (IsSearchedIn number before) path → (ds done : List TypeDef) (ts : List Target) → AreLed types count done ts →
       Holds (AreLed types count (done ++ ds)) (walk (with_target (env.back_at path first)) ts ds)
   some_led path searched [] done ts are = λ h. subst (λ ds. AreLed types count ds ts) (sym (append-nil done)) are
   some_led path searched (d ∷ ds) done ts are =
@@ -144,12 +159,12 @@ module _ (number : ℕ) (before : List Home) (types : List TypeRow) (text : List
       let rest = flat_map (λ (p : Procedure). type_defs p.decls) ps in
       subst (λ all. Holds (AreLed types count all) (local_targets first k ts (p ∷ ps))) (append_assoc done ds rest)
       (holds_bind (AreLed types count (done ++ ds)) (AreLed types count ((done ++ ds) ++ rest)) (walk (with_target (env.within first k)) ts ds) (λ us. local_targets first (suc k) us ps)
-      (some_led (record { home = number; scope = k } ∷ env.own number ∷ []) (inr (refl, behind), (inl refl, tt)) ds done ts are)
+      (some_led (record { home = number; scope = k } ∷ env.own number ∷ []) (inr (inl refl), (inl refl, tt)) ds done ts are)
       (λ us more. locals_led ps (suc k) (omega (arith, behind)) (done ++ ds) us more))
 
   pub targets_sound : Holds (AreLed types count (all_type_defs m.decls)) (targets first m.decls)
   targets_sound =
       holds_bind (AreLed types count (type_defs m.decls)) (AreLed types count (all_type_defs m.decls)) (walk (with_target first) [] (type_defs m.decls))
-      (λ ts. local_targets first (suc inner) ts (procedures m.decls))
+      (λ ts. local_targets first (suc inner) ts (all_procedures m.decls))
       (some_led (env.own number ∷ []) (inl refl, tt) (type_defs m.decls) [] [] tt)
-      (λ ts are. locals_led (procedures m.decls) (suc inner) (omega arith) (type_defs m.decls) ts are)
+      (λ ts are. locals_led (all_procedures m.decls) (suc inner) (omega arith) (type_defs m.decls) ts are)

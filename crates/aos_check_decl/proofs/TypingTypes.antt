@@ -1,6 +1,6 @@
 -- A walk over declarations in a module's environment, and what is told of types on it: the types that are written break no rule,
 -- and so their numbers are known.
-use Rattle.std.proofs.Common.{◌≡◌, append-nil, ℕ, suc, ◌+◌, ◌==◌, List, [], ◌∷◌, ◌++◌, length, replicate, ℤ, pos, negsuc, int_le, Bool, true, false, ◌&&◌, Option, Some, None, option_and_then, slice_get, slice_set, if◌then◌else◌, refl, sym, ap, ◌∙◌, subst, arith, length-append, length-set}
+use Rattle.std.proofs.Common.{◌≡◌, append-nil, ℕ, suc, ◌+◌, ◌<◌, ◌≤◌, ◌==◌, nat_eq, List, [], ◌∷◌, ◌++◌, length, replicate, ℤ, pos, negsuc, int_le, Bool, true, false, ◌&&◌, Option, Some, None, option_and_then, slice_get, slice_set, if◌then◌else◌, refl, sym, ap, ◌∙◌, subst, arith, length-append, length-set}
 use Rattle.std.specs.Prelude.{unsigned_abs}
 use Rattle.std.proofs.lemmas.Bool.{and_parts}
 use Rattle.std.proofs.lemmas.Int.{ints}
@@ -13,6 +13,7 @@ use Rattle.aos_tree.specs.declared.expr.Expr.{Expr, out-Expr}
 use Rattle.aos_tree.specs.declared.stat.Block.{Block}
 use Rattle.aos_tree.specs.declared.decl.Def.{Def}
 use Rattle.aos_tree.specs.declared.decl.Decl.{Decl, items-the_row-Decl}
+use Rattle.aos_tree.specs.declared.decl.TypeDef.{TypeDef}
 use Rattle.aos_tree.specs.declared.decl.Fields.{Fields}
 use Rattle.aos_tree.specs.declared.decl.Fields.TheVariants as fields
 use Rattle.aos_tree.specs.declared.decl.TypeExpr.{TypeExpr, Row_of-TypeExpr, end_of-TypeExpr, more_of-TypeExpr, Row_of-Fields, end_of-Fields, more_of-Fields, items-the_row-Fields}
@@ -27,13 +28,16 @@ use Rattle.aos_types.specs.Count.{named_in}
 use Rattle.aos_types.proofs.Reached.{one_of_both}
 use Rattle.aos_typed.specs.declared.tree.Literal.{Literal}
 use Rattle.aos_typed.specs.declared.tree.Literal.TheVariants as literal
+use Rattle.std.specs.Map.{lookup}
+use Rattle.aos_symbols.specs.declared.home.ObjectScope.{ObjectScope}
 use Rattle.aos_symbols.specs.declared.env.Open.{Open}
 use Rattle.aos_symbols.specs.declared.env.Claim.{Claim}
 use Rattle.aos_symbols.specs.declared.env.Claim.TheVariants as claim
 use Rattle.aos_symbols.specs.declared.env.Env.{Env}
 use Rattle.aos_symbols.specs.Judged.{Judged, judged, kept, bind, walk}
-use Rattle.aos_symbols.specs.Scope.{Scope, empty}
-use Rattle.aos_symbols.specs.Home.{Home, add_record}
+use Rattle.aos_symbols.specs.Declarations.{single_variables, inner_decls}
+use Rattle.aos_symbols.specs.Scope.{Named, Scope, empty}
+use Rattle.aos_symbols.specs.Home.{Home, add_record, object_of}
 use Rattle.aos_symbols.specs.Env as env
 use Rattle.aos_symbols.proofs.Each.{Each, joined, implied, repeated}
 use Rattle.aos_symbols.proofs.Told.{get_end, IsLength}
@@ -42,19 +46,25 @@ use Rattle.aos_check_expr.specs.Expressions.{constant}
 use Rattle.aos_check_expr.proofs.Typing.{HasGood, GoodConstants}
 use Rattle.aos_check_expr.proofs.Typing.{constant_good as good_value}
 use Rattle.aos_check_decl.specs.Types as judge
-use Rattle.aos_check_decl.specs.Types.{Met, met, FieldsMet, fields_met}
+use Rattle.aos_check_decl.specs.Types.{Met, met, FieldsMet, fields_met, MembersMet, members_met}
 use Rattle.aos_check_decl.specs.Aliases.{nil}
 use Rattle.aos_check_decl.specs.Limits.{may_be_target}
+use Rattle.aos_check_decl.proofs.ObjectTypes.{IsObject}
 use Rattle.aos_check_decl.proofs.TypingNames.{IsBasicNumber, IsSearchedIn, AreOwnNamed, AreOthersNamed, all_named_in, named_sound}
-use Rattle.aos_check_decl.proofs.TypingScopes.{AreGood, AllGood, names_at}
-use Rattle.aos_check_decl.proofs.TypingClaims.{AreOfBase, IsBaseMet, claims_of_base, base_met}
+use Rattle.aos_check_decl.proofs.TypingScopes.{AreGood, AllGood, names_at, variables_at}
+use Rattle.aos_check_decl.proofs.TypingClaims.{AreOfBase, AreOfObject, IsBaseMet, claims_of_base, base_met}
 use Rattle.aos_check_decl.proofs.TypingFields.{IsNoRecord, IsRow, Leads, field_variables}
+
+-- no object type has this number
+abbrev pub IsBareAmong : List (ℕ × ObjectScope) → TypeId → Type 0
+IsBareAmong os t = (o : ObjectScope) → lookup (λ k. nat_eq t.0 k) os ≡ Some o → ⊥
 
 -- A walk: the module's number, the modules before it, its name and text, its scopes as its names make them, how many of them are those of
 -- types, and the first table of types; and what is told of types. `Known` is told of the types of variables, elements, fields and bases,
 -- `There` of those of parameters and of what pointers lead to, `Stands` of records and arrays behind pointers that have no names, `IsSlot`
--- of the numbers of definitions, `GoesTo` of two tables, one before the other, `Agrees` of a table, the fields of record types that the
--- module knows and what it asks, and `AreAll` of a record's variables and the types in its row.
+-- of the numbers of definitions, `IsNumber` of the number of one of them, `GoesTo` of two tables, one before the other, `Agrees` of a table, the fields of record types that the
+-- module knows and what it asks, `AreAll` of a type's variables and the types in its row, and `Filled` of a table and the scopes in which
+-- the fields of object types stand, which are among those of types; the object type of a scope declares so many `fields`.
 pub record Telling : Type 1 where
   pub number : ℕ
   pub before : List Home
@@ -102,18 +112,40 @@ pub record Telling : Type 1 where
   pub agree_record_push : (ts : List TypeRow) (h : Home) (cs : List Claim) (base : Option TypeId) (us : List TypeId) (s : Scope) (ds : List Claim) →
       GoesTo first ts → AreOfBase ds base (record { 0 = length ts }) → ((p : TypeId) → IsOneOf p (base_list base ++ us) → Known ts (Some p)) → AreAll s.variables us →
       Agrees ts h.records cs → Agrees (ts ++ row.Record base us ∷ []) (add_record h (record { 0 = length ts }) s).records (cs ++ ds)
-  pub own : AreOwnNamed inner scopes (Known first)
+  pub agree_object_set : (ts : List TypeRow) (rs : List (ℕ × Scope)) (cs : List Claim) (t : TypeId) (base : Option TypeId) (us : List TypeId) (ds : List Claim) →
+      GoesTo first ts → IsSlot t → AreOfObject ds base t → ((p : TypeId) → IsOneOf p (base_list base ++ us) → Known ts (Some p)) →
+      Agrees ts rs cs → Agrees (slice_set ts t.0 (row.Object base us)) rs (cs ++ ds)
+  pub objects : List (ℕ × ObjectScope)
+  pub fields : ℕ → ℕ
+  pub IsNumber : TypeDef → TypeId → Type 0
+  pub slot_of : (d : TypeDef) (t : TypeId) → IsNumber d t → IsSlot t
+  pub bare : (d : TypeDef) (t : TypeId) → IsNumber d t → (IsObject d.value → ⊥) → IsBareAmong objects t
+  pub many : (d : TypeDef) (t : TypeId) (o : ObjectScope) → IsNumber d t → lookup (λ k. nat_eq t.0 k) objects ≡ Some o →
+      fields o.scope ≡ length (single_variables (inner_decls d.value))
+  pub homes : (t : TypeId) (o : ObjectScope) → lookup (λ k. nat_eq t.0 k) objects ≡ Some o → o.home ≡ number
+  pub others_objects : (m : ℕ) (h : Home) (t : TypeId) (o : ObjectScope) → slice_get before m ≡ Some h → object_of h t ≡ Some o → (o.home ≡ m) × (o.scope < h.first)
+  pub places : (t : TypeId) (o : ObjectScope) → lookup (λ k. nat_eq t.0 k) objects ≡ Some o → (0 < o.scope) × (o.scope ≤ inner)
+  pub inner_there : (k : ℕ) → k ≤ inner → (ns : List Named) × (names_at scopes k ≡ Some ns)
+  pub Filled : List TypeRow → List Scope → Type 0
+  pub filled_set : (ts : List TypeRow) (ss : List Scope) (t : TypeId) (r : TypeRow) → IsBareAmong objects t → Filled ts ss → Filled (slice_set ts t.0 r) ss
+  pub filled_push : (ts : List TypeRow) (ss : List Scope) (r : TypeRow) → Filled ts ss → Filled (ts ++ r ∷ []) ss
+  pub filled_scopes : (ts : List TypeRow) (ss ss' : List Scope) → ((j : ℕ) → 0 < j → j ≤ inner → variables_at ss' j ≡ variables_at ss j) → Filled ts ss → Filled ts ss'
+  pub filled_placed : (ts : List TypeRow) (ss ss' : List Scope) (t : TypeId) (o : ObjectScope) (base : Option TypeId) (us : List TypeId) (vs : List (Option TypeId)) →
+      GoesTo first ts → IsSlot t → lookup (λ k. nat_eq t.0 k) objects ≡ Some o → variables_at ss' o.scope ≡ Some vs →
+      ((j : ℕ) → (j ≡ o.scope → ⊥) → variables_at ss' j ≡ variables_at ss j) → AreAll vs us → length vs ≡ fields o.scope → Filled ts ss →
+      Filled (slice_set ts t.0 (row.Object base us)) ss'
+  pub own : AreOwnNamed scopes (Known first)
   pub others : AreOthersNamed before (Known first)
   pub constants : (m : ℕ) (h : Home) (k : ℕ) (s : Scope) → slice_get before m ≡ Some h → slice_get h.scopes k ≡ Some s → AreGood s.constants
 
 no_numbers : {x : ℕ} → (let n : Option ℕ = None in n) ≡ Some x → ⊥
 no_numbers e = cc
 
-chosen : {A : Type 0} (P : A → Type 0) (b : Bool) (i j : Judged A) → Holds P i → Holds P j → Holds P (if b then i else j)
+pub chosen : {A : Type 0} (P : A → Type 0) (b : Bool) (i j : Judged A) → Holds P i → Holds P j → Holds P (if b then i else j)
 chosen P true i j h k = h
 chosen P false i j h k = k
 
-each_of : (P : TypeId → Type 0) (ts : List TypeId) → Each P ts → (p : TypeId) → IsOneOf p ts → P p
+pub each_of : (P : TypeId → Type 0) (ts : List TypeId) → Each P ts → (p : TypeId) → IsOneOf p ts → P p
 each_of P [] all p h = absurd h
 each_of P (t ∷ ts) all p (inl e) = subst P e all.0
 each_of P (t ∷ ts) all p (inr h) = each_of P ts all.1 p h
@@ -140,11 +172,11 @@ module _ (c : Telling) where
 
   -- the scopes in which names are looked up
   abbrev pub IsSearched : Open → Type 0
-  IsSearched = IsSearchedIn c.number c.inner
+  IsSearched = IsSearchedIn c.number c.before
 
   abbrev pub IsSlotted : Option TypeId → Type 0
   IsSlotted None = Unit {0}
-  IsSlotted (Some t) = c.IsSlot t
+  IsSlotted (Some t) = c.IsSlot t × IsBareAmong c.objects t
 
   -- an environment on the walk, at a place with this path
   pub record IsFit (path : List Open) (e : Env) : Type 0 where
@@ -159,6 +191,8 @@ module _ (c : Telling) where
     pub good : AllGood e.here
     pub table : GoesTo c.first e.types
     pub agrees : c.Agrees e.types e.here.records e.claims
+    pub objects_is : e.here.objects ≡ c.objects
+    pub filled : c.Filled e.types e.here.scopes
 
   -- the same environment with a later table, and with more fields
   pub record IsBeyond (e e' : Env) : Type 0 where
@@ -169,6 +203,8 @@ module _ (c : Telling) where
     pub first : e'.here.first ≡ e.here.first
     pub scopes : e'.here.scopes ≡ e.here.scopes
     pub signatures : e'.here.signatures ≡ e.here.signatures
+    pub objects : e'.here.objects ≡ e.here.objects
+    pub filled : c.Filled e.types e.here.scopes → c.Filled e'.types e'.here.scopes
     pub path : e'.path ≡ e.path
     pub narrowed : e'.narrowed ≡ e.narrowed
     pub agree : c.Agrees e.types e.here.records e.claims → c.Agrees e'.types e'.here.records e'.claims
@@ -184,6 +220,8 @@ module _ (c : Telling) where
     first = refl;
     scopes = refl;
     signatures = refl;
+    objects = refl;
+    filled = λ f. f;
     path = refl;
     narrowed = refl;
     agree = λ a. a;
@@ -203,6 +241,8 @@ module _ (c : Telling) where
         first = two.first ∙ one.first;
         scopes = two.scopes ∙ one.scopes;
         signatures = two.signatures ∙ one.signatures;
+        objects = two.objects ∙ one.objects;
+        filled = λ f. two.filled (one.filled f);
         path = two.path ∙ one.path;
         narrowed = two.narrowed ∙ one.narrowed;
         agree = λ a. two.agree (one.agree a);
@@ -223,6 +263,8 @@ module _ (c : Telling) where
     good = λ k s there. fit.good k s (ap (λ (ss : List Scope). slice_get ss k) (sym one.scopes) ∙ there);
     table = c.on c.first e.types f.types fit.table one.goes;
     agrees = one.agree fit.agrees;
+    objects_is = one.objects ∙ fit.objects_is;
+    filled = one.filled fit.filled;
   }
 
   module _ (path : List Open) (searched : Each IsSearched path) where
@@ -230,7 +272,7 @@ module _ (c : Telling) where
     named e fit q =
         named_sound e IsSearched (Known e.types)
         (λ o s w x is there found of means. c.known_on c.first e.types fit.table of
-        (all_named_in c.number c.before c.scopes c.inner (Known c.first) c.own c.others e fit.number_is fit.before_is fit.names_are o s w x is there found of means))
+        (all_named_in c.number c.before c.scopes (Known c.first) c.own c.others e fit.number_is fit.before_is fit.names_are o s w x is there found of means))
         (c.basic e.types fit.table) (subst (Each IsSearched) (sym fit.path_is) searched) (λ m. inl refl) q
 
     -- Constants, and the lengths of arrays.
@@ -345,10 +387,12 @@ module _ (c : Telling) where
         first = refl;
         scopes = refl;
         signatures = refl;
+        objects = refl;
+        filled = c.filled_set e.types e.here.scopes t r ok.1;
         path = refl;
         narrowed = refl;
-        agree = c.agree_set e.types e.here.records e.claims t r ok closed other whole known;
-        goes = c.set e.types t r fit.table ok closed (λ p one. c.known_there e.types (Some p) (known p one));
+        agree = c.agree_set e.types e.here.records e.claims t r ok.0 closed other whole known;
+        goes = c.set e.types t r fit.table ok.0 closed (λ p one. c.known_there e.types (Some p) (known p one));
         long = ap (λ n. n + length e.places) (length-set e.types t.0 r);
       };
       of = tt;
@@ -362,6 +406,8 @@ module _ (c : Telling) where
         first = refl;
         scopes = refl;
         signatures = refl;
+        objects = refl;
+        filled = c.filled_push e.types e.here.scopes r;
         path = refl;
         narrowed = refl;
         agree = c.agree_push e.types e.here.records e.claims r closed other whole known;
@@ -378,7 +424,7 @@ module _ (c : Telling) where
     array_sound may_be_open e fit slot ok at n long f None is = record { beyond = is.beyond; of = of_slot may_be_open true slot f.types None (is.of.known refl) (λ h. tt) }
     array_sound may_be_open e fit slot ok at n long f (Some t) is =
         met_on may_be_open true e f slot (judge.placed slot at (row.Array n t) f) is.beyond
-        (placed_sound may_be_open f (fit_beyond path e f fit is.beyond) slot ok at (row.Array n t) refl (λ base ts e. cc) long (λ p one. element p one))
+        (placed_sound may_be_open f (fit_beyond path e f fit is.beyond) slot ok at (row.Array n t) refl (λ base ts. (λ e. cc, λ e. cc)) long (λ p one. element p one))
       where
         element : (p : TypeId) → IsOneOf p (t ∷ []) → c.Known f.types (Some p)
         element p (inl e) = subst (λ (q : TypeId). c.Known f.types (Some q)) e (is.of.known refl)
@@ -407,6 +453,8 @@ module _ (c : Telling) where
       first = refl;
       scopes = refl;
       signatures = refl;
+      objects = refl;
+      filled = c.filled_push e.types e.here.scopes (row.Open t);
       path = refl;
       narrowed = refl;
       agree = c.agree_open e.types e.here.records e.claims t fit.table there;
@@ -497,11 +545,13 @@ module _ (c : Telling) where
             first = refl;
             scopes = refl;
             signatures = refl;
+            objects = refl;
+            filled = c.filled_set e.types e.here.scopes t (row.Record base us) ok.1;
             path = refl;
             narrowed = refl;
-            agree = c.agree_record_set e.types e.here e.claims t base us s (judge.base_claims q names base (Some t)) fit.table ok
+            agree = c.agree_record_set e.types e.here e.claims t base us s (judge.base_claims q names base (Some t)) fit.table ok.0
                 (claims_of_base (Known e.types) q names base t met) each all;
-            goes = c.set e.types t (row.Record base us) fit.table ok refl (λ p one. c.known_there e.types (Some p) (each p one));
+            goes = c.set e.types t (row.Record base us) fit.table ok.0 refl (λ p one. c.known_there e.types (Some p) (each p one));
             long = ap (λ n. n + length e.places) (length-set e.types t.0 (row.Record base us));
           };
           of = tt;
@@ -517,6 +567,8 @@ module _ (c : Telling) where
                 first = refl;
                 scopes = refl;
                 signatures = refl;
+                objects = refl;
+                filled = c.filled_push e.types e.here.scopes (row.Record base us);
                 path = refl;
                 narrowed = refl;
                 agree = c.agree_record_push e.types e.here e.claims base us s (judge.base_claims q names base (Some t)) fit.table
@@ -528,7 +580,7 @@ module _ (c : Telling) where
                   (λ h. c.pushed_stands e.types (row.Record base us) fit.table refl);
             }
 
-    base_sound : (e : Env) → IsFit path e → (q : Option Qualident) → Holds (IsBaseMet (Known e.types) q) (judge.base_in e q)
+    pub base_sound : (e : Env) → IsFit path e → (q : Option Qualident) → Holds (IsBaseMet (Known e.types) q) (judge.base_in e q)
     base_sound e fit None = λ h. refl
     base_sound e fit (Some q) = named e fit q
 
@@ -546,15 +598,25 @@ module _ (c : Telling) where
         (record_placed may_be_open f.env (fit_beyond path e f.env fit is.beyond) slot ok at q names b f.types f.scope (base_on e f.env is.beyond q b base)
         (each_of (λ t. c.Known f.env.types (Some t)) f.types is.parts) is.all)))
 
-    object_sound : (may_be_open : Bool) (e : Env) → IsFit path e → (slot : Option TypeId) → IsSlotted slot → (at : Pos) (base : Option Qualident) (decls : List Decl) (body : Option Block) →
-        Holds (IsMet may_be_open false e slot) (judge.object_in slot e at base decls body)
-    object_sound may_be_open e fit None ok at base decls body =
+    -- an object type without a name of its own isn't built
+    object_sound : (may_be_open : Bool) (e : Env) (at : Pos) (base : Option Qualident) (decls : List Decl) (body : Option Block) (object : Option ObjectScope)
+        (members : Env → Judged MembersMet) → Holds (IsMet may_be_open false e None) (judge.object_in None object e at base decls body members)
+    object_sound may_be_open e at base decls body object members =
         chosen (IsMet may_be_open false e None) (env.innermost e.path == 0) (judge.refused_type 99 at e) (judge.refused_type 26 at e)
         (broken (IsMet may_be_open false e None) _ [] _) (broken (IsMet may_be_open false e None) _ [] _)
-    object_sound may_be_open e fit (Some t) ok at base decls body =
-        let object = judge.placed (Some t) at (row.Object None []) e in
-        chosen (IsMet may_be_open false e (Some t)) (env.innermost e.path == 0) (judged (judge.object_breaches e at base decls body) object) (judge.refused_type 26 at e)
-        (λ h. placed_sound may_be_open e fit (Some t) ok at (row.Object None []) refl (λ base ts e. cc) refl (λ p none. absurd none)) (broken (IsMet may_be_open false e (Some t)) _ [] _)
+
+    -- those that declarations name come later
+    abbrev pub IsOther : TypeExpr → Option TypeId → Type 0
+    IsOther (type.Object' p base shape row body end) (Some t) = ⊥
+    IsOther of slot = Unit {0}
+
+    pub other_none : (of : TypeExpr) → IsOther of None
+    other_none (type.Named q) = tt
+    other_none (type.Array' p lengths shape row) = tt
+    other_none (type.Record' p base shape row) = tt
+    other_none (type.Pointer' p shape row) = tt
+    other_none (type.Proc p flag formals) = tt
+    other_none (type.Object' p base shape row body end) = tt
 
     -- Pointers: what is written behind one is a record or an array, and of what is named it is asked.
 
@@ -567,6 +629,8 @@ module _ (c : Telling) where
       first = refl;
       scopes = refl;
       signatures = refl;
+      objects = refl;
+      filled = λ f. f;
       path = refl;
       narrowed = refl;
       agree = agree;
@@ -610,7 +674,7 @@ module _ (c : Telling) where
         let g = judge.claiming (judge.target_claims x t) f in
         let beyond = beyond_on e f g is.beyond target.beyond in
         met_on may_be_open false e g slot (judge.placed slot at (row.Pointer t) g) beyond
-        (placed_sound may_be_open g (fit_beyond path e g fit beyond) slot ok at (row.Pointer t) refl (λ base ts e. cc) target.leads (λ p none. absurd none))
+        (placed_sound may_be_open g (fit_beyond path e g fit beyond) slot ok at (row.Pointer t) refl (λ base ts. (λ e. cc, λ e. cc)) target.leads (λ p none. absurd none))
 
     -- what is written behind a pointer, and what it breaks
     abbrev IsBehind : Env → TypeExpr → Met → Type 0
@@ -634,30 +698,31 @@ module _ (c : Telling) where
     held_written (more_of-TypeExpr t ts) = is_written t
 
     mutual
-      pub type_sound : (may_be_open : Bool) (e : Env) → IsFit path e → (slot : Option TypeId) → IsSlotted slot → IsAsked may_be_open slot → (of : TypeExpr) →
+      pub type_sound : (may_be_open : Bool) (e : Env) → IsFit path e → (slot : Option TypeId) → IsSlotted slot → IsAsked may_be_open slot → (of : TypeExpr) → IsOther of slot →
           Holds (IsMet may_be_open (is_written of) e slot) (judge.type_in may_be_open slot e of)
-      type_sound may_be_open e fit slot ok asked (type.Named q) =
+      type_sound may_be_open e fit slot ok asked (type.Named q) other =
           holds_bind (Known e.types) (IsMet may_be_open false e slot) (judge.named_type e q) (λ of. kept (met e of)) (named e fit q)
           (λ of known h. record { beyond = beyond_same e; of = of_slot may_be_open false slot e.types of known (λ h. never h) })
-      type_sound may_be_open e fit slot ok asked (type.Array' p lengths shape row) =
+      type_sound may_be_open e fit slot ok asked (type.Array' p lengths shape row) other =
           array_in_sound may_be_open e fit slot ok asked p lengths (held_written row) (judge.held_in (may_be_open && judge.is_empty lengths) e row)
           (held_sound (may_be_open && judge.is_empty lengths) e fit row)
-      type_sound may_be_open e fit slot ok asked (type.Record' p base shape row) =
+      type_sound may_be_open e fit slot ok asked (type.Record' p base shape row) other =
           record_sound may_be_open e fit slot ok p base (judge.field_names (items-the_row-Fields _ row)) (judge.fields_in (fields_met e [] empty) row)
           (fields_sound e fit (fields_met e [] empty) (record { beyond = beyond_same e; parts = tt; all = c.none_all }) row)
-      type_sound may_be_open e fit slot ok asked (type.Pointer' p shape row) = pointed_sound may_be_open e fit slot ok p row
-      type_sound may_be_open e fit slot ok asked (type.Proc p flag formals) = broken (IsMet may_be_open false e slot) _ [] _
-      type_sound may_be_open e fit slot ok asked (type.Object' p base shape row body end) =
-          object_sound may_be_open e fit slot ok p base (items-the_row-Decl _ row) body
+      type_sound may_be_open e fit slot ok asked (type.Pointer' p shape row) other = pointed_sound may_be_open e fit slot ok p row
+      type_sound may_be_open e fit slot ok asked (type.Proc p flag formals) other = broken (IsMet may_be_open false e slot) _ [] _
+      type_sound may_be_open e fit None ok asked (type.Object' p base shape row body end) other =
+          object_sound may_be_open e p base (items-the_row-Decl _ row) body None (λ e. judge.members_in (members_met e [] []) row)
+      type_sound may_be_open e fit (Some s) ok asked (type.Object' p base shape row body end) other = absurd other
 
       held_sound : {m : _} (may_be_open : Bool) (e : Env) → IsFit path e → (r : Row_of-TypeExpr m) → Holds (IsMet may_be_open (held_written r) e None) (judge.held_in may_be_open e r)
       held_sound may_be_open e fit end_of-TypeExpr = broken (IsMet may_be_open false e None) _ [] _
-      held_sound may_be_open e fit (more_of-TypeExpr t ts) = type_sound may_be_open e fit None tt (asked_none may_be_open) t
+      held_sound may_be_open e fit (more_of-TypeExpr t ts) = type_sound may_be_open e fit None tt (asked_none may_be_open) t (other_none t)
 
       pointed_sound : {m : _} (may_be_open : Bool) (e : Env) → IsFit path e → (slot : Option TypeId) → IsSlotted slot → (at : Pos) (r : Row_of-TypeExpr m) →
           Holds (IsMet may_be_open false e slot) (judge.pointer_in slot e at r)
       pointed_sound may_be_open e fit slot ok at end_of-TypeExpr = broken (IsMet may_be_open false e slot) _ [] _
-      pointed_sound may_be_open e fit slot ok at (more_of-TypeExpr t ts) = pointer_in_sound may_be_open e fit slot ok at t (type_sound true e fit None tt tt t)
+      pointed_sound may_be_open e fit slot ok at (more_of-TypeExpr t ts) = pointer_in_sound may_be_open e fit slot ok at t (type_sound true e fit None tt tt t (other_none t))
 
       fields_sound : {m : _} (e : Env) → IsFit path e → (f : FieldsMet) → AreFields e f → (r : Row_of-Fields m) → Holds (AreFields e) (judge.fields_in f r)
       fields_sound e fit f are end_of-Fields = λ h. are
@@ -668,5 +733,5 @@ module _ (c : Telling) where
       field_sound e fit f are fields.Empty = λ h. are
       field_sound e fit f are (fields.Of' defs of) =
           holds_bind (IsMet false (is_written of) f.env None) (AreFields e) (judge.type_in false None f.env of) (λ m. kept (judge.with_fields f defs m))
-          (type_sound false f.env (fit_beyond path e f.env fit are.beyond) None tt tt of)
+          (type_sound false f.env (fit_beyond path e f.env fit are.beyond) None tt tt of (other_none of))
           (λ m is h. more_fields e f are defs m.env m.of (plain false (is_written of) f.env m is))

@@ -1,9 +1,13 @@
 -- Two walks over the declarations of a module. On the first all rows name types that are there, and those of types of other
 -- modules and of names for other types stay; on the second, which takes it that each name for a type leads to one, types are told.
-use Rattle.std.proofs.Common.{◌≡◌, ℕ, suc, ◌+◌, ◌<◌, ◌≤◌, List, [], ◌∷◌, ◌++◌, length, map, replicate, Bool, true, false, Option, Some, None, slice_get, slice_set, refl, sym, ap, ◌∙◌, subst, arith, length-append, length-set}
+use Rattle.std.proofs.Common.{◌≡◌, ℕ, suc, ◌+◌, ◌<◌, ◌≤◌, nat_eq, List, [], ◌∷◌, ◌++◌, length, map, replicate, Bool, true, false, Option, Some, None, unwrap_or, slice_get, slice_set, refl, sym, ap, ◌∙◌, subst, arith, length-append, length-set}
+use Rattle.std.proofs.lemmas.List.FromFn.{length-map-range_with_len}
 use Rattle.std.proofs.lemmas.Option.{same_Some, slice_get_within}
 use mathlib.Core.Logic.{◌⊎◌, inl, inr}
+use Rattle.std.specs.Map.{lookup}
 use Rattle.aos_tree.specs.declared.decl.TypeDef.{TypeDef}
+use Rattle.aos_tree.specs.declared.decl.TypeExpr.{TypeExpr}
+use Rattle.aos_tree.specs.declared.decl.TypeExpr.TheVariants as type
 use Rattle.aos_tree.specs.declared.module.Module.{Module}
 use Rattle.aos_types.specs.declared.row.TypeId.{TypeId}
 use Rattle.aos_types.specs.declared.row.TypeRow.{TypeRow}
@@ -14,28 +18,31 @@ use Rattle.aos_types.specs.Count.{named_in, AreBelow}
 use Rattle.aos_symbols.specs.declared.env.Claim.{Claim}
 use Rattle.aos_symbols.specs.declared.env.Claim.TheVariants as claim
 use Rattle.aos_symbols.specs.Spelling.{word}
-use Rattle.aos_symbols.specs.Declarations.{type_defs, all_type_defs}
+use Rattle.aos_symbols.specs.Declarations.{type_defs, all_procedures, local_types, all_type_defs, single_variables, inner_decls}
 use Rattle.aos_symbols.specs.Scope.{Scope}
 use Rattle.aos_symbols.specs.Home.{Home}
-use Rattle.aos_symbols.specs.Entries.{number_at, scopes}
-use Rattle.aos_symbols.proofs.Told.{IsTold, basic, of_any, defined, IsKnown, GoOn, known_on, told_behind, get_end}
+use Rattle.aos_symbols.specs.declared.home.ObjectScope.{ObjectScope}
+use Rattle.aos_symbols.specs.Entries.{number_at, scopes, objects_of}
+use Rattle.aos_symbols.proofs.Told.{IsTold, basic, of_any, defined, IsKnown, GoOn, known_on, told_behind, get_front, get_end}
 use Rattle.aos_check_decl.specs.declared.aliases.Target.{Target}
 use Rattle.aos_check_decl.specs.declared.aliases.Target.TheVariants.{Own, Of, Nothing}
 use Rattle.aos_check_decl.specs.Aliases.{nil, follow, stands_for, first_rows, numbers}
-use Rattle.aos_check_expr.proofs.Opens.{IsVariableNumber}
+use Rattle.aos_check_expr.proofs.Opens.{IsVariableNumber, some_there}
 use Rattle.aos_check_decl.specs.Types.{fields_of}
 use Rattle.aos_check_decl.specs.Limits.{may_be_target}
 use Rattle.aos_check_decl.proofs.TypingLists.{set_other, set_gives, push_gives, get_below}
 use Rattle.aos_check_decl.proofs.TypingScopes.{AreGood}
-use Rattle.aos_check_decl.proofs.TypingNames.{IsBasicNumber, AreOthersNamed}
-use Rattle.aos_check_decl.proofs.TypingClaims.{AllBases, more_bases, target_bases, AreOfBase}
+use Rattle.aos_check_decl.proofs.TypingNames.{IsBasicNumber}
+use Rattle.aos_check_decl.proofs.TypingClaims.{AllBases, AllObjectBases, more_bases, more_object_bases, target_bases, target_object_bases, AreOfBase, AreOfObject}
 use Rattle.aos_check_decl.proofs.TypingTables.{AllBelow}
 use Rattle.aos_check_decl.proofs.TypingEntries.{scopes_typed}
 use Rattle.aos_check_decl.proofs.TypingTypes.{Telling}
-use Rattle.aos_check_decl.proofs.TypingFields.{Stands, AreKept, set_keeps, push_keeps, Agree, set_on, more_some, agree_set, agree_push, agree_open, agree_target, agree_record_set, agree_record_push}
+use Rattle.aos_check_decl.proofs.TypingFields.{Stands, AreKept, set_keeps, push_keeps, Agree, set_on, more_some, agree_set, agree_push, agree_open, agree_target, agree_record_set, agree_record_push, agree_object_set, AreApart, AreFilled, objects_set, objects_push, objects_scopes, objects_placed}
+use Rattle.aos_check_decl.proofs.ObjectTypes.{IsObject}
+use Rattle.aos_check_decl.proofs.TypingObjects.{own_homes, own_apart, own_defined, fields_at, fields_are, inner_there}
 use Rattle.aos_check_decl.proofs.TypingHeadings.{is_name}
 use Rattle.aos_check_decl.proofs.TypingSlots.{AreNumbers}
-use Rattle.aos_check_decl.proofs.TypingTargets.{basic_told, number_of, IsMeant, IsLed, AreLed, led_long, led_at}
+use Rattle.aos_check_decl.proofs.TypingTargets.{IsGiven, basic_told, number_of, IsMeant, IsLed, AreLed, led_long, led_at}
 use Rattle.aos_check_decl.proofs.TypingAliases.{own_of, IsSound, IsProper, proper_says, own_follows, own_target, follow_meant, stands}
 
 first_long : (k : ℕ) (ts : List Target) → length (first_rows k ts) ≡ length ts
@@ -48,7 +55,7 @@ told_below types ten t (of_any any) = omega (arith, ten, any)
 told_below types ten t (defined r high there closed) = slice_get_within types t.0 r there
 
 module _ (number : ℕ) (before : List Home) (types : List TypeRow) (text : List ℕ) (m : Module) (ts : List Target)
-    (others : AreOthersNamed before (IsKnown types))
+    (given : IsGiven number before types m)
     (constants : (j : ℕ) (h : Home) (k : ℕ) (s : Scope) → slice_get before j ≡ Some h → slice_get h.scopes k ≡ Some s → AreGood s.constants)
     (ten : 10 ≤ length types) (led : AreLed types (length (all_type_defs m.decls)) (all_type_defs m.decls) ts) where
   abbrev pub first : List TypeRow
@@ -56,6 +63,12 @@ module _ (number : ℕ) (before : List Home) (types : List TypeRow) (text : List
 
   abbrev pub standing : List (Option TypeId)
   standing = numbers (length types) ts
+
+  abbrev pub all_objects : List (ℕ × ObjectScope)
+  all_objects = objects_of number standing m.decls
+
+  pub apart : AreApart (length (type_defs m.decls)) all_objects
+  apart = own_apart number standing m
 
   abbrev pub named_scopes : List Scope
   named_scopes = scopes text before standing m
@@ -186,8 +199,130 @@ module _ (number : ℕ) (before : List Home) (types : List TypeRow) (text : List
   abbrev pub HasSlot : TypeId → TypeId → Type 0
   HasSlot b t = IsSlot t
 
-  pub own_bases : (ds : List Claim) (base : Option TypeId) (t : TypeId) → AreOfBase ds base t → IsSlot t → AllBases HasSlot ds
-  own_bases ds base t claims slot k at b u is = subst IsSlot (sym (claims.alone k at b u is).0) slot
+  abbrev pub HaveSlots : List Claim → Type 0
+  HaveSlots cs = AllBases HasSlot cs × AllObjectBases HasSlot cs
+
+  pub more_slots : (cs ds : List Claim) → HaveSlots cs → HaveSlots ds → HaveSlots (cs ++ ds)
+  more_slots cs ds a b = (more_bases HasSlot cs ds a.0 b.0, more_object_bases HasSlot cs ds a.1 b.1)
+
+  pub own_bases : (ds : List Claim) (base : Option TypeId) (t : TypeId) → AreOfBase ds base t → IsSlot t → HaveSlots ds
+  own_bases ds base t claims slot = (
+    λ k at b u is. subst IsSlot (sym (claims.alone k at b u is).0) slot,
+    λ k at b u is. absurd (claims.free k at b u is),
+  )
+
+  pub object_bases : (ds : List Claim) (base : Option TypeId) (t : TypeId) → AreOfObject ds base t → IsSlot t → HaveSlots ds
+  object_bases ds base t claims slot = (
+    λ k at b u is. absurd (claims.free k at b u is),
+    λ k at b u is. subst IsSlot (sym (claims.alone k at b u is).0) slot,
+  )
+
+  -- the number of a definition that is no name for another type is its own
+  pub own_number : (k : ℕ) → k < length (all_type_defs m.decls) → slice_get ts k ≡ Some Own → (t : TypeId) → number_at standing k ≡ Some t → record { 0 = length types + k } ≡ t
+  own_number k below own t e =
+      let from : TypeId = record { 0 = length types + k } in
+      let at = own_target (length types) ts k Own own in
+      let stands = sym (number_is k below) ∙ e in
+      sym (own_follows (length types) ts (length ts) from at) ∙ (proper_says (length types) ts (follow (length types) ts (length ts) from) t stands).0
+
+  pub own_kept : (k : ℕ) → slice_get ts k ≡ Some Own → IsKept (length types + k) → ⊥
+  own_kept k own (inl low) = omega (arith, low)
+  own_kept k own (inr alias) =
+      let place = alias.3 in
+      let same : alias.0 ≡ k = omega (arith, place) in
+      let e : Some (Of alias.1) ≡ Some Own = sym alias.2 ∙ ap (slice_get ts) same ∙ own in
+      own_of (sym (same_Some (Of alias.1) Own e))
+
+  pub own_below : (k : ℕ) → slice_get ts k ≡ Some Own → length types + k < length first
+  own_below k own = let l = slice_get_within ts k Own own in omega (arith, l, table_long)
+
+  -- the number of a definition, which leads to itself
+  pub record IsNumber (d : TypeDef) (t : TypeId) : Type 0 where
+    pub place : ℕ
+    pub is : slice_get (all_type_defs m.decls) place ≡ Some d
+    pub own : slice_get ts place ≡ Some Own
+    pub equal : record { 0 = length types + place } ≡ t
+
+  -- so does what is no name for another type
+  pub leads_own : (k : ℕ) (d : TypeDef) → slice_get (all_type_defs m.decls) k ≡ Some d → is_name d.value ≡ false → slice_get ts k ≡ Some Own
+  leads_own k d is not_name = by x.0 (subst (λ (z : TypeDef). IsLed types (length (all_type_defs m.decls)) z.value x.0) (same_Some one.0 d (sym one.1 ∙ is)) one.2) x.1
+    where
+      below : k < length (all_type_defs m.decls)
+      below = slice_get_within (all_type_defs m.decls) k d is
+
+      x : (x : Target) × (slice_get ts k ≡ Some x)
+      x = some_there ts k (omega (arith, below, count))
+
+      one : (d : TypeDef) × (slice_get (all_type_defs m.decls) k ≡ Some d) × IsLed types (length (all_type_defs m.decls)) d.value x.0
+      one = led_at types (length (all_type_defs m.decls)) (all_type_defs m.decls) ts led k x.0 x.1
+
+      name_not : (b : Bool) → b ≡ true → b ≡ false → ⊥
+      name_not b e f = let g : true ≡ false = sym e ∙ f in cc
+
+      by : (x : Target) → IsLed types (length (all_type_defs m.decls)) d.value x → slice_get ts k ≡ Some x → slice_get ts k ≡ Some Own
+      by Own l is = is
+      by (Of u) l is = absurd (name_not (is_name d.value) l.0 not_name)
+      by Nothing l is = absurd l
+
+  abbrev pub numbered : (k : ℕ) (d : TypeDef) → slice_get (all_type_defs m.decls) k ≡ Some d → is_name d.value ≡ false → (t : TypeId) → number_at standing k ≡ Some t → IsNumber d t
+  numbered k d is not_name t e =
+      let own = leads_own k d is not_name in
+      record { place = k; is = is; own = own; equal = own_number k (slice_get_within (all_type_defs m.decls) k d is) own t e }
+
+  pub object_no_name : (of : TypeExpr) → IsObject of → is_name of ≡ false
+  object_no_name (type.Named q) object = absurd object
+  object_no_name (type.Object' p base shape row body end) object = refl
+  object_no_name (type.Array' p lengths shape row) object = refl
+  object_no_name (type.Record' p base shape row) object = refl
+  object_no_name (type.Pointer' p shape row) object = refl
+  object_no_name (type.Proc p flag formals) object = refl
+
+  -- and so an object type's stands behind those of the modules before
+  pub record HasPlace (t : TypeId) (o : ObjectScope) : Type 0 where
+    pub place : ℕ
+    pub def : TypeDef
+    pub is : slice_get (type_defs m.decls) place ≡ Some def
+    pub object : IsObject def.value
+    pub scope : o.scope ≡ suc place
+    pub one : IsNumber def t
+    pub same : one.place ≡ place
+
+  pub own_first : (k : ℕ) (d : TypeDef) → slice_get (type_defs m.decls) k ≡ Some d → slice_get (all_type_defs m.decls) k ≡ Some d
+  own_first k d is = get_front (type_defs m.decls) (local_types (all_procedures m.decls)) k d is
+
+  pub object_number : (t : TypeId) (o : ObjectScope) → lookup (λ k. nat_eq t.0 k) all_objects ≡ Some o → HasPlace t o
+  object_number t o at =
+      let x = own_defined number standing m t o at in
+      record {
+        place = x.place;
+        def = x.def;
+        is = x.is;
+        object = x.object;
+        scope = x.scope;
+        one = numbered x.place x.def (own_first x.place x.def x.is) (object_no_name x.def.value x.object) t x.number;
+        same = refl;
+      }
+
+  -- a number is that of one definition
+  pub same_place : (t : TypeId) (j k : ℕ) → record { 0 = length types + j } ≡ t → record { 0 = length types + k } ≡ t → j ≡ k
+  same_place t j k one two = let e : length types + j ≡ length types + k = ap (λ (t : TypeId). t.0) (one ∙ sym two) in omega (arith, e)
+
+  same_def : (d : TypeDef) (t : TypeId) (o : ObjectScope) (one : IsNumber d t) (x : HasPlace t o) → x.def ≡ d
+  same_def d t o one x =
+      let place = same_place t x.one.place one.place x.one.equal one.equal in
+      same_Some x.def d (sym x.one.is ∙ ap (slice_get (all_type_defs m.decls)) place ∙ one.is)
+
+  pub no_object : (d : TypeDef) (t : TypeId) → IsNumber d t → (IsObject d.value → ⊥) → (o : ObjectScope) → lookup (λ k. nat_eq t.0 k) all_objects ≡ Some o → ⊥
+  no_object d t one never o at =
+      let x = object_number t o at in
+      never (subst (λ (z : TypeDef). IsObject z.value) (same_def d t o one x) x.object)
+
+  pub as_many : (d : TypeDef) (t : TypeId) (o : ObjectScope) → IsNumber d t → lookup (λ k. nat_eq t.0 k) all_objects ≡ Some o →
+      fields_at (type_defs m.decls) o.scope ≡ length (single_variables (inner_decls d.value))
+  as_many d t o one at =
+      let x = object_number t o at in
+      ap (fields_at (type_defs m.decls)) x.scope ∙ fields_are (type_defs m.decls) x.place x.def x.is
+      ∙ ap (λ (z : TypeDef). length (single_variables (inner_decls z.value))) (same_def d t o one x)
 
   abbrev pub outline : Telling
   outline = record {
@@ -216,62 +351,52 @@ module _ (number : ℕ) (before : List Home) (types : List TypeRow) (text : List
     pushed = λ us r goes closed. last_below us r;
     pushed_open = λ us t goes. last_below us (row.Open t);
     pushed_stands = λ us r goes may. tt;
-    Agrees = λ us rs cs. AllBases HasSlot cs;
+    Agrees = λ us rs cs. HaveSlots cs;
     AreAll = λ vs us. Unit {0};
     none_all = tt;
     more_all = λ ts vs us n of known all. tt;
     agree_set = λ us rs cs t r slot closed other ok known a. a;
     agree_push = λ us rs cs r closed other ok known a. a;
     agree_open = λ us rs cs t goes there a. a;
-    agree_target = λ us rs cs at t a. more_bases HasSlot cs (claim.Target at t ∷ []) a (target_bases HasSlot at t);
+    agree_target = λ us rs cs at t a. more_slots cs (claim.Target at t ∷ []) a (target_bases HasSlot at t, target_object_bases HasSlot at t);
     agree_unsettled = λ us rs cs t known a. a;
-    agree_record_set = λ us h cs t base fs s ds goes slot claims known all a. more_bases HasSlot cs ds a (own_bases ds base t claims slot);
+    agree_record_set = λ us h cs t base fs s ds goes slot claims known all a. more_slots cs ds a (own_bases ds base t claims slot);
     agree_record_push = λ us h cs base fs s ds goes claims known all a.
-        more_bases HasSlot cs ds a (own_bases ds base (record { 0 = length us }) claims (pushed_slot us goes));
-    own = scopes_typed text before standing m (IsBelow first) number_below;
-    others = λ j h s w x of there own found means t e.
-        let known = subst (IsKnown types) e (others j h s w x of there own found means) in
+        more_slots cs ds a (own_bases ds base (record { 0 = length us }) claims (pushed_slot us goes));
+    agree_object_set = λ us rs cs t base fs ds goes slot claims known a. more_slots cs ds a (object_bases ds base t claims slot);
+    objects = all_objects;
+    fields = fields_at (type_defs m.decls);
+    IsNumber = IsNumber;
+    slot_of = λ d t one. subst IsSlot one.equal (own_kept one.place one.own);
+    bare = no_object;
+    many = as_many;
+    homes = own_homes number standing m;
+    others_objects = given.objects;
+    places = apart.places;
+    inner_there = inner_there text before standing m;
+    Filled = λ us ss. Unit {0};
+    filled_set = λ us ss t r bare f. tt;
+    filled_push = λ us ss r f. tt;
+    filled_scopes = λ us ss ss' same f. tt;
+    filled_placed = λ us ss ss' t o base fs vs goes slot at own others all many f. tt;
+    own = scopes_typed text before standing m given.plain (IsBelow first) number_below;
+    others = λ j h k s w x of there outer own found means t e.
+        let known = subst (IsKnown types) e (given.named j h k s w x of there outer own found means) in
         let l = told_below types ten t known in
         omega (arith, l, table_long);
     constants = constants;
   }
 
-  -- the number of a definition that is no name for another type is its own
-  own_kept : (k : ℕ) → slice_get ts k ≡ Some Own → IsKept (length types + k) → ⊥
-  own_kept k own (inl low) = omega (arith, low)
-  own_kept k own (inr alias) =
-      let place = alias.3 in
-      let same : alias.0 ≡ k = omega (arith, place) in
-      let e : Some (Of alias.1) ≡ Some Own = sym alias.2 ∙ ap (slice_get ts) same ∙ own in
-      own_of (sym (same_Some (Of alias.1) Own e))
-
-  own_slot : (k : ℕ) → k < length (all_type_defs m.decls) → slice_get ts k ≡ Some Own → (t : TypeId) → number_at standing k ≡ Some t → IsSlot t
-  own_slot k below own t e =
-      let from : TypeId = record { 0 = length types + k } in
-      let at = own_target (length types) ts k Own own in
-      let stands = sym (number_is k below) ∙ e in
-      let same = (proper_says (length types) ts (follow (length types) ts (length ts) from) t stands).0 in
-      subst IsSlot (sym (own_follows (length types) ts (length ts) from at) ∙ same) (own_kept k own)
-
-  numbers_from : (ds : List TypeDef) (us : List Target) (k : ℕ) → AreLed types (length (all_type_defs m.decls)) ds us → ((j : ℕ) → slice_get ts (k + j) ≡ slice_get us j) →
-      k + length ds ≤ length (all_type_defs m.decls) → AreNumbers outline standing k ds
-  numbers_from [] us k are there most = tt
-  numbers_from (d ∷ ds) [] k are there most = absurd are
-  numbers_from (d ∷ ds) (u ∷ us) k are there most = (
-    λ not_name t e. by u are.0 not_name (ap (slice_get ts) (let same : k ≡ k + 0 = omega arith in same) ∙ there 0) t e,
-    numbers_from ds us (suc k) are.1 (λ j. ap (slice_get ts) (let same : suc k + j ≡ k + suc j = omega arith in same) ∙ there (suc j)) (omega (arith, most)),
+  numbers_from : (c : Telling) → ((k : ℕ) (d : TypeDef) → slice_get (all_type_defs m.decls) k ≡ Some d → is_name d.value ≡ false → (t : TypeId) → number_at standing k ≡ Some t → c.IsNumber d t) →
+      (ds : List TypeDef) (k : ℕ) → ((j : ℕ) → slice_get (all_type_defs m.decls) (k + j) ≡ slice_get ds j) → AreNumbers c standing k ds
+  numbers_from c each [] k there = tt
+  numbers_from c each (d ∷ ds) k there = (
+    each k d (ap (slice_get (all_type_defs m.decls)) (let same : k ≡ k + 0 = omega arith in same) ∙ there 0),
+    numbers_from c each ds (suc k) (λ j. ap (slice_get (all_type_defs m.decls)) (let same : suc k + j ≡ k + suc j = omega arith in same) ∙ there (suc j)),
   )
-    where
-      name_not : (b : Bool) → b ≡ true → b ≡ false → ⊥
-      name_not b e f = let g : true ≡ false = sym e ∙ f in cc
-
-      by : (x : Target) → IsLed types (length (all_type_defs m.decls)) d.value x → is_name d.value ≡ false → slice_get ts k ≡ Some x → (t : TypeId) → number_at standing k ≡ Some t → IsSlot t
-      by Own l not_name is t e = own_slot k (omega (arith, most)) is t e
-      by (Of v) l not_name is t e = absurd (name_not (is_name d.value) l.0 not_name)
-      by Nothing l not_name is t e = absurd l
 
   pub all_numbers : AreNumbers outline standing 0 (all_type_defs m.decls)
-  all_numbers = numbers_from (all_type_defs m.decls) ts 0 led (λ j. ap (slice_get ts) (let same : 0 + j ≡ j = omega arith in same)) (omega arith)
+  all_numbers = numbers_from outline numbered (all_type_defs m.decls) 0 (λ j. ap (slice_get (all_type_defs m.decls)) (let same : 0 + j ≡ j = omega arith in same))
 
   -- The second walk.
 
@@ -379,15 +504,43 @@ module _ (number : ℕ) (before : List Home) (types : List TypeRow) (text : List
       agree_record_set = λ us h cs t base fs s ds goes slot claims known all a.
           (let l = goes.long in agree_record_set (length types) (length first) us h cs t base fs s ds slot (omega (arith, slot, l)) claims known all a);
       agree_record_push = λ us h cs base fs s ds goes claims known all a. agree_record_push (length types) (length first) us h cs base fs s ds claims known all a;
-      own = scopes_typed text before standing m (IsKnown first) number_known;
-      others = λ j h s w x of there own found means. known_on types first (told_behind types (first_rows (length types) ts)) of (others j h s w x of there own found means);
+      agree_object_set = λ us rs cs t base fs ds goes slot claims known a. agree_object_set (length types) (length first) us rs cs t base fs ds slot claims known a;
+      objects = all_objects;
+      fields = fields_at (type_defs m.decls);
+      IsNumber = IsNumber;
+      slot_of = λ d t one. subst (λ (t : TypeId). t.0 < length first) one.equal (own_below one.place one.own);
+      bare = no_object;
+      many = as_many;
+      homes = own_homes number standing m;
+      others_objects = given.objects;
+      places = apart.places;
+      inner_there = inner_there text before standing m;
+      Filled = AreFilled (fields_at (type_defs m.decls)) all_objects;
+      filled_set = objects_set (fields_at (type_defs m.decls)) all_objects;
+      filled_push = objects_push (fields_at (type_defs m.decls)) all_objects;
+      filled_scopes = objects_scopes (fields_at (type_defs m.decls)) all_objects (length (type_defs m.decls)) apart;
+      filled_placed = λ us ss ss' t o base fs vs goes slot at own others all many f.
+          (let l = goes.long in objects_placed (fields_at (type_defs m.decls)) all_objects (length (type_defs m.decls)) apart us ss ss' t o base fs vs (omega (arith, slot, l)) at own others all many f);
+      own = scopes_typed text before standing m given.plain (IsKnown first) number_known;
+      others = λ j h k s w x of there outer own found means. known_on types first (told_behind types (first_rows (length types) ts)) of (given.named j h k s w x of there outer own found means);
       constants = constants;
     }
 
-    -- the numbers of definitions are those of rows that there are
-    below_numbers : (ds : List TypeDef) (k : ℕ) → k + length ds ≤ length (all_type_defs m.decls) → AreNumbers told standing k ds
-    below_numbers [] k most = tt
-    below_numbers (d ∷ ds) k most = (λ not_name t e. number_below k (omega (arith, most)) t e, below_numbers ds (suc k) (omega (arith, most)))
+    -- what a definition that is no name for another type stands for
+    pub own_stands : (k : ℕ) (d : TypeDef) → slice_get (all_type_defs m.decls) k ≡ Some d → is_name d.value ≡ false → number_at standing k ≡ Some (record { 0 = length types + k })
+    own_stands k d is not_name =
+        let from : TypeId = record { 0 = length types + k } in
+        let below = slice_get_within (all_type_defs m.decls) k d is in
+        let r = stands types ts ten sound from (place_meant k (omega (arith, below, count))) (ends from) in
+        let e = number_is k below ∙ r.1 in
+        e ∙ ap (λ t. Some t) (sym (own_number k below (leads_own k d is not_name) r.0 e))
+
+    pub own_there : (k : ℕ) (d : TypeDef) → slice_get (all_type_defs m.decls) k ≡ Some d → is_name d.value ≡ false → slice_get standing k ≡ Some (Some (record { 0 = length types + k }))
+    own_there k d is not_name =
+        let below = slice_get_within (all_type_defs m.decls) k d is in
+        let long = length-map-range_with_len (λ k. stands_for (length types) ts (record { 0 = length types + k })) 0 (length ts) in
+        let x = some_there standing k (omega (arith, below, count, long)) in
+        x.1 ∙ ap (λ o. Some o) (sym (ap (λ o. unwrap_or o None) x.1) ∙ own_stands k d is not_name)
 
     pub told_numbers : AreNumbers told standing 0 (all_type_defs m.decls)
-    told_numbers = below_numbers (all_type_defs m.decls) 0 (omega arith)
+    told_numbers = numbers_from told numbered (all_type_defs m.decls) 0 (λ j. ap (slice_get (all_type_defs m.decls)) (let same : 0 + j ≡ j = omega arith in same))

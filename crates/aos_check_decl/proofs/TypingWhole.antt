@@ -1,6 +1,6 @@
 -- A module's environment behind its declarations, where none of them breaks a rule, and what is judged of all its types breaks
 -- none: no type contains itself, so that each name for a type leads to one, and all types are told.
-use Rattle.std.proofs.Common.{◌≡◌, ℕ, ◌+◌, ◌-◌, ◌<◌, ◌≤◌, List, [], ◌∷◌, length, true, false, Option, Some, None, slice_get, refl, sym, ap, ◌∙◌, subst, arith}
+use Rattle.std.proofs.Common.{◌≡◌, ℕ, ◌+◌, ◌-◌, ◌<◌, ◌≤◌, nat_eq, List, [], ◌∷◌, length, Bool, true, false, if◌then◌else◌, Option, Some, None, slice_get, refl, sym, ap, ◌∙◌, subst, arith}
 use Rattle.std.specs.List.{flat_map}
 use Rattle.std.proofs.lemmas.Bool.{cases_Bool, cases_lt}
 use Rattle.std.proofs.lemmas.Option.{none-some, slice_get_within}
@@ -10,22 +10,26 @@ use Rattle.aos_types.specs.declared.TheConstants.{MOST_SCALARS}
 use Rattle.aos_types.specs.declared.row.TypeId.{TypeId}
 use Rattle.aos_types.specs.declared.row.TypeRow.{TypeRow}
 use Rattle.aos_types.specs.declared.row.TypeRow.TheVariants as row
-use Rattle.aos_types.specs.Table.{row_of, is_record}
+use Rattle.aos_types.specs.Table.{row_of, is_record, is_object}
 use Rattle.aos_types.specs.Contents.{scalars}
-use Rattle.aos_types.specs.Chain.{NoneContainsItself, contains_itself, circles, cut}
+use Rattle.aos_types.specs.Chain.{NoneContainsItself, IsOneOf, IsPartOf, parts_of, contains_itself, circles, cut}
 use Rattle.aos_types.specs.Count.{AreBelow}
 use Rattle.aos_types.specs.Limit.{is_first_past}
 use Rattle.aos_types.proofs.Circles.{circle_test}
+use Rattle.aos_types.proofs.Ranks.{ranked}
 use Rattle.aos_types.proofs.Cut.{nothing_cut}
 use Rattle.aos_symbols.specs.declared.env.Open.{Open}
 use Rattle.aos_symbols.specs.declared.env.Env.{Env}
-use Rattle.aos_symbols.specs.Declarations.{all_type_defs}
+use Rattle.aos_symbols.specs.Declarations.{type_defs, all_type_defs}
 use Rattle.aos_symbols.specs.Scope.{Scope}
 use Rattle.aos_symbols.specs.Home.{Home}
 use Rattle.aos_symbols.specs.Names.{name_breaches}
+use Rattle.std.specs.Map.{lookup}
+use Rattle.aos_symbols.specs.declared.home.ObjectScope.{ObjectScope}
+use Rattle.aos_symbols.specs.Entries.{objects_of}
 use Rattle.aos_symbols.specs.Env as env
 use Rattle.aos_symbols.proofs.Each.{Each}
-use Rattle.aos_symbols.proofs.Told.{IsTold, IsKnown, GoOn, told_behind, IsLength, IsBase, IsObjectBase, AreToldParts, PartsAreTold}
+use Rattle.aos_symbols.proofs.Told.{IsTold, GoOn, told_behind, IsLength, IsBase, IsObjectBase, AreToldParts, PartsAreTold}
 use Rattle.aos_check_expr.proofs.Opens.{IsOpenAt, OpensStand}
 use Rattle.aos_check_expr.proofs.Whole.{IsWritten}
 use Rattle.aos_check_decl.specs.declared.aliases.Target.{Target}
@@ -37,19 +41,19 @@ use Rattle.aos_check_decl.specs.Limits.{may_be_target}
 use Rattle.aos_check_decl.specs.Pass.{entered}
 use Rattle.aos_check_decl.proofs.TypingLists.{get_below, get_behind, mapped_at}
 use Rattle.aos_check_decl.proofs.TypingScopes.{AreGood, AllGood}
-use Rattle.aos_check_decl.proofs.TypingNames.{AreOthersNamed}
 use Rattle.aos_check_decl.proofs.TypingTypes.{Telling, IsSearched, IsFit}
-use Rattle.aos_check_decl.proofs.TypingClaims.{AllBases, no_bases, base_kept, target_kept, bases_same, bases_other, bases_long, target_high, told_closed, told_on}
-use Rattle.aos_check_decl.proofs.TypingFields.{Stands, Leads, IsBaseAsked, AreAskedParts, PartsAreAsked, asked_written}
+use Rattle.aos_check_decl.proofs.TypingClaims.{AllBases, AllObjectBases, no_bases, no_object_bases, base_kept, object_kept, target_kept, bases_same, bases_other, bases_long, target_high, told_closed, told_on}
+use Rattle.aos_check_decl.proofs.TypingFields.{Stands, Leads, IsBaseAsked, IsObjectAsked, AreAskedParts, PartsAreAsked, asked_written, IsObjectRow, IsFilled}
+use Rattle.aos_check_decl.proofs.TypingObjects.{fields_at}
 use Rattle.aos_check_decl.proofs.TypingProcedures.{IsHeaded, headings_sound}
 use Rattle.aos_check_decl.proofs.TypingEntries.{scope_fresh}
-use Rattle.aos_check_decl.proofs.TypingTargets.{AreLed}
+use Rattle.aos_check_decl.proofs.TypingTargets.{AreLed, IsGiven}
 use Rattle.aos_check_decl.proofs.TypingAliases.{IsProper, IsSound, rows_at, first_row_at, told_first, ends}
 use Rattle.aos_check_decl.proofs.TypingTables.{AllBelow, all_within}
 use Rattle.aos_check_decl.proofs.TypingLimits.{type_kept, flag_is, none_circular}
 use Rattle.aos_check_decl.proofs.TypingOnce.{module_alike, procedures_alike}
 use Rattle.aos_check_decl.proofs.TypingSlots.{own_slots, procedures_slots}
-use Rattle.aos_check_decl.proofs.TypingWalks.{GoesTo, IsKept, HasSlot, first, standing, count, table_long, sound, meant_below, place_meant, outline, told, all_numbers, told_numbers}
+use Rattle.aos_check_decl.proofs.TypingWalks.{GoesTo, IsKept, HasSlot, first, standing, count, table_long, sound, meant_below, place_meant, outline, told, all_numbers, told_numbers, object_number}
 
 -- what is known of the types before
 pub record AreOld (types : List TypeRow) : Type 0 where
@@ -62,14 +66,14 @@ pub record AreOld (types : List TypeRow) : Type 0 where
   pub opens : OpensStand types
 
 module _ (number : ℕ) (before : List Home) (types : List TypeRow) (text : List ℕ) (m : Module) (ts : List Target)
-    (others : AreOthersNamed before (IsKnown types))
+    (given : IsGiven number before types m)
     (constants : (j : ℕ) (h : Home) (k : ℕ) (s : Scope) → slice_get before j ≡ Some h → slice_get h.scopes k ≡ Some s → AreGood s.constants)
     (old : AreOld types) (led : AreLed types (length (all_type_defs m.decls)) (all_type_defs m.decls) ts) (once : name_breaches text m ≡ []) where
   abbrev pub table : List TypeRow
-  table = first number before types text m ts others constants old.ten led
+  table = first number before types text m ts given constants old.ten led
 
   abbrev pub own : List (Option TypeId)
-  own = standing number before types text m ts others constants old.ten led
+  own = standing number before types text m ts given constants old.ten led
 
   abbrev pub begun : Env
   begun = entered number before table text m own
@@ -86,7 +90,7 @@ module _ (number : ℕ) (before : List Home) (types : List TypeRow) (text : List
   on_table = told_behind types (first_rows (length types) ts)
 
   abbrev is_sound : (k : ℕ) (x : Target) → slice_get ts k ≡ Some x → IsSound types (length ts) x
-  is_sound = sound number before types text m ts others constants old.ten led
+  is_sound = sound number before types text m ts given constants old.ten led
 
   length_one : IsLength 1
   length_one = (omega arith, omega arith)
@@ -95,7 +99,7 @@ module _ (number : ℕ) (before : List Home) (types : List TypeRow) (text : List
   first_parts k Own l is = (
     length_one,
     told_first types ts old.ten is_sound (record { 0 = length types + k })
-        (place_meant number before types text m ts others constants old.ten led k l),
+        (place_meant number before types text m ts given constants old.ten led k l),
   )
   first_parts k (Of u) l is = (length_one, told_first types ts old.ten is_sound u (is_sound k (Of u) is))
   first_parts k Nothing l is = tt
@@ -132,13 +136,19 @@ module _ (number : ℕ) (before : List Home) (types : List TypeRow) (text : List
       by (inl below) = old.opens k r (sym (get_below types (first_rows (length types) ts) k below) ∙ is)
       by (inr behind) = let x = first_row_is k r behind is in subst (IsOpenAt k) x.row_is (first_opens x.place x.target x.is k)
 
+  -- the first row of an object type that the module declares
+  first_object : (t : TypeId) (o : ObjectScope) → lookup (λ k. nat_eq t.0 k) (objects_of number own m.decls) ≡ Some o → slice_get table t.0 ≡ Some (row.Array 1 t)
+  first_object t o at =
+      let x = (object_number number before types text m ts given constants old.ten led t o at).one in
+      subst (λ (t : TypeId). slice_get table t.0 ≡ Some (row.Array 1 t)) x.equal (first_row_at types ts x.place Own x.own)
+
   -- The first walk.
 
   abbrev first_walk : Telling
-  first_walk = outline number before types text m ts others constants old.ten led
+  first_walk = outline number before types text m ts given constants old.ten led
 
   abbrev IsFurther : List TypeRow → List TypeRow → Type 0
-  IsFurther = GoesTo number before types text m ts others constants old.ten led
+  IsFurther = GoesTo number before types text m ts given constants old.ten led
 
   fit_first : IsFit first_walk path begun
   fit_first = record {
@@ -152,7 +162,9 @@ module _ (number : ℕ) (before : List Home) (types : List TypeRow) (text : List
     narrowed_is = refl;
     good = begun_good;
     table = first_walk.stays table;
-    agrees = no_bases (HasSlot number before types text m ts others constants old.ten led);
+    agrees = (no_bases (HasSlot number before types text m ts given constants old.ten led), no_object_bases (HasSlot number before types text m ts given constants old.ten led));
+    objects_is = ap (λ n. objects_of n own m.decls) given.here;
+    filled = tt;
   }
 
   first_searched : Each (IsSearched first_walk) path
@@ -164,21 +176,21 @@ module _ (number : ℕ) (before : List Home) (types : List TypeRow) (text : List
 
     outlined : IsHeaded first_walk path first_searched m.decls begun ended
     outlined =
-        let all = all_numbers number before types text m ts others constants old.ten led in
+        let all = all_numbers number before types text m ts given constants old.ten led in
         headings_sound first_walk path first_searched refl m.decls refl
         (own_slots first_walk own before m refl (module_alike text m once) all)
-        (procedures_slots first_walk own path first_searched before m refl (procedures_alike text m once) all) begun fit_first none
+        (procedures_slots first_walk own before m refl (procedures_alike text m once) all) begun fit_first none
 
     goes : IsFurther table ended.types
     goes = outlined.goes
 
     long_table : length table ≡ length types + length ts
-    long_table = table_long number before types text m ts others constants old.ten led
+    long_table = table_long number before types text m ts given constants old.ten led
 
     pub long : length ended.types ≡ length types + (length (all_type_defs m.decls) + length ended.places)
     long =
         let l = outlined.long in
-        let c = count number before types text m ts others constants old.ten led in
+        let c = count number before types text m ts given constants old.ten led in
         omega (arith, l, c, long_table)
 
     pub stays : (k : ℕ) → k < length types → slice_get ended.types k ≡ slice_get types k
@@ -196,9 +208,9 @@ module _ (number : ℕ) (before : List Home) (types : List TypeRow) (text : List
     row_below k Own l is p (inr h) = absurd h
     row_below k (Of u) l is p (inl e) =
         subst (λ (p : TypeId). p.0 < length table) e
-        (meant_below number before types text m ts others constants old.ten led u (sound number before types text m ts others constants old.ten led k (Of u) is))
+        (meant_below number before types text m ts given constants old.ten led u (sound number before types text m ts given constants old.ten led k (Of u) is))
     row_below k (Of u) l is p (inr h) = absurd h
-    row_below k Nothing l is p one = absurd (sound number before types text m ts others constants old.ten led k Nothing is)
+    row_below k Nothing l is p one = absurd (sound number before types text m ts given constants old.ten led k Nothing is)
 
     table_closed : AllBelow (length table) table
     table_closed k r is = by (cases_lt k (length types))
@@ -220,8 +232,9 @@ module _ (number : ℕ) (before : List Home) (types : List TypeRow) (text : List
     based_long : length based ≡ length ended.types
     based_long = bases_long ended.claims ended.types
 
-    based_kept : (k : ℕ) → IsKept number before types text m ts others constants old.ten led k → slice_get based k ≡ slice_get ended.types k
-    based_kept k kept = bases_other ended.claims k (λ j at b t is same. outlined.fit.agrees j at b t is (subst (IsKept number before types text m ts others constants old.ten led) (sym same) kept)) ended.types
+    based_kept : (k : ℕ) → IsKept number before types text m ts given constants old.ten led k → slice_get based k ≡ slice_get ended.types k
+    based_kept k kept = bases_other ended.claims k (λ j at b t is same. outlined.fit.agrees.0 j at b t is (subst (IsKept number before types text m ts given constants old.ten led) (sym same) kept))
+        (λ j at b t is same. outlined.fit.agrees.1 j at b t is (subst (IsKept number before types text m ts given constants old.ten led) (sym same) kept)) ended.types
 
     based_stays : (k : ℕ) → k < length types → slice_get based k ≡ slice_get types k
     based_stays k below = based_kept k (inl below) ∙ stays k below
@@ -246,19 +259,19 @@ module _ (number : ℕ) (before : List Home) (types : List TypeRow) (text : List
       -- The second walk.
 
       pub all_end : (t : TypeId) → IsProper (length types) ts (follow (length types) ts (length ts) t)
-      all_end = ends types ts old.ten (sound number before types text m ts others constants old.ten led) based based_free based_aliases
+      all_end = ends types ts old.ten (sound number before types text m ts given constants old.ten led) based based_free based_aliases
 
       abbrev pub second_walk : Telling
-      second_walk = told number before types text m ts others constants old.ten led all_end
+      second_walk = told number before types text m ts given constants old.ten led all_end
 
       abbrev pub second_searched : Each (IsSearched second_walk) path
       second_searched = (inl refl, tt)
 
       pub headed : IsHeaded second_walk path second_searched m.decls begun ended
       headed =
-          let all = told_numbers number before types text m ts others constants old.ten led all_end in
+          let all = told_numbers number before types text m ts given constants old.ten led all_end in
           headings_sound second_walk path second_searched refl m.decls refl (own_slots second_walk own before m refl (module_alike text m once) all)
-          (procedures_slots second_walk own path second_searched before m refl (procedures_alike text m once) all) begun (record {
+          (procedures_slots second_walk own before m refl (procedures_alike text m once) all) begun (record {
             number_is = refl;
             before_is = refl;
             name_is = refl;
@@ -269,7 +282,15 @@ module _ (number : ℕ) (before : List Home) (types : List TypeRow) (text : List
             narrowed_is = refl;
             good = begun_good;
             table = second_walk.stays table;
-            agrees = record { parts = table_parts; bases = no_bases (λ b t. IsTold table b); opens = table_opens; fields = λ t s found. absurd (none-some s found) };
+            agrees = record {
+              parts = table_parts;
+              bases = no_bases (λ b t. IsTold table b);
+              objects = no_object_bases (λ b t. IsTold table b);
+              opens = table_opens;
+              fields = λ t s found. absurd (none-some s found);
+            };
+            objects_is = ap (λ n. objects_of n own m.decls) given.here;
+            filled = λ t o at. inl (first_object t o at);
           }) none
 
       -- All bases are records, and what pointers lead to is whole.
@@ -280,12 +301,19 @@ module _ (number : ℕ) (before : List Home) (types : List TypeRow) (text : List
       base_record : AllBases (λ b t. is_record (row_of ended.types b) ≡ true) ended.claims
       base_record k at b t is = base_kept ended ended.claims asked k at b t is (told_closed ended.types basics b (headed.fit.agrees.bases k at b t is))
 
+      base_object : AllObjectBases (λ b t. is_object (row_of ended.types b) ≡ true) ended.claims
+      base_object k at b t is = object_kept ended ended.claims asked k at b t is (told_closed ended.types basics b (headed.fit.agrees.objects k at b t is))
+
       pub bases_are : based ≡ ended.types
-      bases_are = bases_same ended.types ended.claims base_record
+      bases_are = bases_same ended.types ended.claims base_record base_object
 
       base_of_row : (base : Option TypeId) → IsBaseAsked ended.claims base → IsBase ended.types base
       base_of_row None asked = tt
       base_of_row (Some b) asked = base_record asked.place asked.at b asked.of asked.is
+
+      object_of_row : (base : Option TypeId) → IsObjectAsked ended.claims base → IsObjectBase ended.types base
+      object_of_row None asked = tt
+      object_of_row (Some b) asked = base_object asked.place asked.at b asked.of asked.is
 
       target_of_row : (t : TypeId) → Leads (Stands (length table) ended.types) ended.claims t → may_be_target (row_of ended.types t) ≡ true
       target_of_row t (inl claimed) = target_kept ended ended.claims asked t claimed
@@ -298,7 +326,7 @@ module _ (number : ℕ) (before : List Home) (types : List TypeRow) (text : List
       told_row (row.Open t) parts = tt
       told_row (row.Record base fs) parts = (base_of_row base parts.0, parts.1)
       told_row (row.Pointer t) parts = let may = target_of_row t parts in (target_high ended.types basics t may, may)
-      told_row (row.Object base fs) parts = subst (IsObjectBase ended.types) (sym parts) tt
+      told_row (row.Object base fs) parts = (object_of_row base parts.0, parts.1)
       told_row (row.Procedure fs r) parts = tt
 
       goes_on : GoOn types ended.types
@@ -333,6 +361,23 @@ module _ (number : ℕ) (before : List Home) (types : List TypeRow) (text : List
 
       pub kept_whole : limits.all_breaches (circles ended.types) ended.types ended (length types) m.decls ≡ []
       kept_whole = subst (λ rows. limits.all_breaches (circles ended.types) rows ended (length types) m.decls ≡ []) cut_same kept
+
+      -- So each object type has the row of its definition.
+
+      no_array : (t : TypeId) → slice_get ended.types t.0 ≡ Some (row.Array 1 t) → ⊥
+      no_array t is =
+          let part : IsPartOf ended.types t t =
+          subst (λ o. IsOneOf t (parts_of ended.types o)) (sym is) (subst (λ (b : Bool). IsOneOf t (if b then [] else t ∷ [])) (sym (ap is_object is)) (inl refl)) in
+          let falls = (ranked ended.types free).falls t t part in
+          omega (arith, falls)
+
+      pub object_row : (t : TypeId) (o : ObjectScope) → lookup (λ k. nat_eq t.0 k) (objects_of number own m.decls) ≡ Some o →
+          IsObjectRow (fields_at (type_defs m.decls)) ended.types ended.here.scopes t o
+      object_row t o at = by (headed.fit.filled t o at)
+        where
+          by : IsFilled (fields_at (type_defs m.decls)) ended.types ended.here.scopes t o → IsObjectRow (fields_at (type_defs m.decls)) ended.types ended.here.scopes t o
+          by (inl first) = absurd (no_array t first)
+          by (inr row) = row
 
       pub not_circular : (t : TypeId) → t.0 < length ended.types → limits.is_circular (circles ended.types) ended.types t ≡ false
       not_circular t l = flag_is ended.types ended.types t l ∙ by (cases_Bool (contains_itself ended.types t))

@@ -10,8 +10,10 @@ use Rattle.aos_types.specs.declared.row.TypeId.{TypeId}
 use Rattle.aos_types.specs.declared.row.TypeRow.{TypeRow}
 use Rattle.aos_types.specs.declared.row.TypeRow.TheVariants as row
 use Rattle.aos_symbols.specs.declared.env.Env.{Env}
-use Rattle.aos_symbols.specs.Judged.{Judged, kept, bind, walk}
-use Rattle.aos_symbols.specs.Declarations.{Procedure, procedures, type_defs}
+use Rattle.aos_symbols.specs.declared.breach.Breach.{Breach}
+use Rattle.aos_symbols.specs.Breaches.{first, not_built}
+use Rattle.aos_symbols.specs.Judged.{Judged, judged, kept, bind, walk}
+use Rattle.aos_symbols.specs.Declarations.{Procedure, all_procedures, type_defs}
 use Rattle.aos_symbols.specs.Env as env
 use Rattle.aos_check_decl.specs.declared.aliases.Target.{Target}
 use Rattle.aos_check_decl.specs.declared.aliases.Target.TheVariants.{Own, Of, Nothing}
@@ -25,9 +27,15 @@ abbrev pub target_of : Option TypeId → Target
 target_of None = Nothing
 target_of (Some t) = Of t
 
+-- A name for another type is judged again where its definition is met, in all scopes of that place, and which rule it breaks is told
+-- there. Here it is refused at the same place by a number that stands behind those of all other rules.
+abbrev pub later : Option Breach → List Breach
+later None = []
+later (Some b) = not_built b.pos
+
 -- what a definition's number leads to
 abbrev pub led_by : Env → TypeExpr → Judged Target
-led_by e (type.Named q) = bind (named_type e q) (λ of. kept (target_of of))
+led_by e (type.Named q) = let j = named_type e q in judged (later (first j.breaches)) (target_of j.answer)
 led_by e (type.Array' p lengths shape row) = kept Own
 led_by e (type.Record' p base shape row) = kept Own
 led_by e (type.Pointer' p shape row) = kept Own
@@ -37,7 +45,7 @@ led_by e (type.Object' p base shape row body end) = kept Own
 abbrev pub with_target : Env → List Target → TypeDef → Judged (List Target)
 with_target e ts d = bind (led_by e d.value) (λ t. kept (ts ++ t ∷ []))
 
--- of the types of procedures, whose scopes have the numbers from k on
+-- of the types of procedures and methods, whose scopes have the numbers from k on
 abbrev pub local_targets : Env → ℕ → List Target → List Procedure → Judged (List Target)
 local_targets e k ts [] = kept ts
 local_targets e k ts (p ∷ ps) =
@@ -46,7 +54,7 @@ local_targets e k ts (p ∷ ps) =
 -- of all types that a module's declarations define
 abbrev pub targets : Env → List Decl → Judged (List Target)
 targets e ds =
-    bind (walk (with_target e) [] (type_defs ds)) (λ ts. local_targets e (suc (length (type_defs ds))) ts (procedures ds))
+    bind (walk (with_target e) [] (type_defs ds)) (λ ts. local_targets e (suc (length (type_defs ds))) ts (all_procedures ds))
 
 module _ (first : ℕ) (ts : List Target) where
   -- the target of a type of the module, of which the first has the number `first`

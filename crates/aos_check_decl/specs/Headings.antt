@@ -1,11 +1,10 @@
--- The second pass: constants, types and headings, and the environment behind them. First come the module's own declarations,
--- then those of its procedures.
-use Rattle.std.specs.Prelude.{ℕ, zero, suc, List, [], ◌∷◌, ◌++◌, length, replicate, false, Option, Some, None, slice_set}
+-- The second pass: constants, types and headings, and the environment behind them. First come the module's own declarations, then
+-- those of its procedures, and then those of its types' methods.
+use Rattle.std.specs.Prelude.{ℕ, suc, List, [], ◌∷◌, ◌++◌, ◌+◌, length, replicate, false, Option, Some, None, slice_set}
 use Rattle.aos_base.specs.declared.text.Pos.{Pos}
 use Rattle.aos_tree.specs.declared.name.Qualident.{Qualident}
 use Rattle.aos_tree.specs.declared.decl.Decl.{Decl, items-the_row-TypeDef, items-the_row-VarDef}
 use Rattle.aos_tree.specs.declared.decl.Decl.TheVariants as decl
-use Rattle.aos_tree.specs.declared.decl.ConstDef.{ConstDef}
 use Rattle.aos_tree.specs.declared.decl.TypeDef.{TypeDef}
 use Rattle.aos_tree.specs.declared.decl.VarDef.{VarDef}
 use Rattle.aos_tree.specs.declared.decl.TypeExpr.{TypeExpr}
@@ -14,46 +13,23 @@ use Rattle.aos_tree.specs.declared.decl.Formals.{Formals}
 use Rattle.aos_tree.specs.declared.decl.Section.{Section}
 use Rattle.aos_types.specs.declared.row.TypeId.{TypeId}
 use Rattle.aos_types.specs.declared.row.TypeRow.TheVariants as row
-use Rattle.aos_typed.specs.declared.tree.Literal.{Literal}
 use Rattle.aos_symbols.specs.declared.breach.Breach.{Breach}
-use Rattle.aos_symbols.specs.declared.scope.Meaning.{Meaning}
-use Rattle.aos_symbols.specs.declared.scope.Meaning.TheVariants as means
 use Rattle.aos_symbols.specs.declared.home.Parameter.{Parameter}
 use Rattle.aos_symbols.specs.declared.home.Gives.{Gives}
 use Rattle.aos_symbols.specs.declared.home.Gives.TheVariants as gives
 use Rattle.aos_symbols.specs.declared.home.Signature.{Signature}
-use Rattle.aos_symbols.specs.declared.env.Lookup.{Lookup}
-use Rattle.aos_symbols.specs.declared.env.Lookup.TheVariants.{Unknown, NotExported, Found}
 use Rattle.aos_symbols.specs.declared.env.Env.{Env}
 use Rattle.aos_symbols.specs.Breaches.{breach}
 use Rattle.aos_symbols.specs.Judged.{Judged, judged, kept, bind, walk}
-use Rattle.aos_symbols.specs.Declarations.{Procedure, procedures, type_defs}
-use Rattle.aos_symbols.specs.Home.{add_variable, add_constant, add_signature}
+use Rattle.aos_symbols.specs.Declarations.{Procedure, procedures, methods_in, type_defs}
+use Rattle.aos_symbols.specs.Home.{add_signature}
 use Rattle.aos_symbols.specs.Env as env
-use Rattle.aos_check_expr.specs.Expressions.{constant}
+pub use Rattle.aos_check_decl.specs.Variables.{with_constant, constant_def, with_variable, with_variables}
 use Rattle.aos_check_decl.specs.Types.{Met, met, placed, named_type, type_in}
 use Rattle.aos_check_decl.specs.Aliases.{nil}
-
--- Constants: each has its value where its expression is constant and breaks no rule. What is declared stands in the innermost
--- scope of the place.
-
-abbrev pub with_constant : Env → Pos → Option Literal → Env
-with_constant e at v = record e { here = add_constant e.here (env.innermost e.path) (record { at = at; value = v }) }
-
-abbrev pub constant_def : Env → ConstDef → Judged Env
-constant_def e d = bind (constant e d.value) (λ v. kept (with_constant e d.def.name.pos v))
+pub use Rattle.aos_check_decl.specs.Methods.{slot_meant, slot_in, defined_type, overriding}
 
 -- Types.
-
--- the number that a type's name stands for
-abbrev pub slot_meant : Meaning → Option TypeId
-slot_meant (means.Type of) = of
-slot_meant m = None
-
-abbrev pub slot_in : Lookup → Option TypeId
-slot_in Unknown = None
-slot_in NotExported = None
-slot_in (Found x) = slot_meant x.means
 
 -- a definition that breaks a rule gives a type without contents
 abbrev pub settled : Option TypeId → Met → Env
@@ -67,23 +43,15 @@ settled slot m = by slot m.of
 abbrev pub defined : Env → Option TypeId → TypeExpr → Judged Env
 defined e slot of = bind (type_in false slot e of) (λ m. kept (settled slot m))
 
--- names for other types were told before
+-- what names for other types stand for was told before; which rules they break is told here, where they stand in all scopes
 abbrev pub type_def : Env → TypeDef → Judged Env
 type_def e d = by d.value
   where
     by : TypeExpr → Judged Env
-    by (type.Named q) = kept e
+    by (type.Named q) = bind (named_type e q) (λ of. kept e)
     by of = defined e (slot_in (env.lookup e d.def.name)) of
 
 -- Variables.
-
-abbrev pub with_variable : Env → Option TypeId → Env
-with_variable e of = record e { here = add_variable e.here (env.innermost e.path) of }
-
--- so many variables of one type
-abbrev pub with_variables : Env → ℕ → Option TypeId → Env
-with_variables e zero of = e
-with_variables e (suc n) of = with_variables (with_variable e of) n of
 
 abbrev pub variable_def : Env → VarDef → Judged Env
 variable_def e v = bind (type_in false None e v.of) (λ m. kept (with_variables m.env (length v.defs) m.of))
@@ -144,10 +112,10 @@ abbrev pub with_parameters : Env → List Parameter → Env
 with_parameters e [] = e
 with_parameters e (p ∷ ps) = with_parameters (with_variable e p.of) ps
 
--- an initializer stands in an object type alone
-abbrev pub initializer_breaches : Option Pos → List Breach
-initializer_breaches None = []
-initializer_breaches (Some at) = breach 24 at
+-- an initializer stands in an object type alone, where it isn't built
+abbrev pub initializer_breaches : (rule : ℕ) → Option Pos → List Breach
+initializer_breaches rule None = []
+initializer_breaches rule (Some at) = breach rule at
 
 abbrev pub with_signature : Env → Signature → Env
 with_signature e s = record e { here = add_signature e.here s }
@@ -158,15 +126,35 @@ locals_in k h ds =
     bind (walk declared (with_parameters (env.within (with_signature h.env h.signature) k) h.signature.parameters) ds) (λ e.
     kept (env.back_at h.env.path e))
 
-abbrev pub procedure : Env → ℕ → Option Pos → Option Formals → List Decl → Judged Env
-procedure e k initializer formals ds =
-    bind (judged (initializer_breaches initializer) e) (λ e. bind (formals_in e formals) (λ h. locals_in k h ds))
+abbrev pub procedure : (rule : ℕ) → Env → ℕ → Option Pos → Option Formals → List Decl → Judged Env
+procedure rule e k initializer formals ds =
+    bind (judged (initializer_breaches rule initializer) e) (λ e. bind (formals_in e formals) (λ h. locals_in k h ds))
 
 -- procedures, whose scopes have the numbers from k on
-abbrev pub procedures_from : Env → ℕ → List Procedure → Judged Env
-procedures_from e k [] = kept e
-procedures_from e k (p ∷ ps) = bind (procedure e k p.initializer p.formals p.decls) (λ e. procedures_from e (suc k) ps)
+abbrev pub procedures_from : (rule : ℕ) → Env → ℕ → List Procedure → Judged Env
+procedures_from rule e k [] = kept e
+procedures_from rule e k (p ∷ ps) =
+    bind (procedure rule e k p.initializer p.formals p.decls) (λ e. procedures_from rule e (suc k) ps)
 
--- all declarations of a module
+-- Methods: their headings and declarations stand within their object type.
+
+abbrev pub within_type : Env → Option TypeId → Env
+within_type e None = e
+within_type e (Some t) = env.within_object e t
+
+abbrev pub type_methods : Env → ℕ → TypeDef → Judged Env
+type_methods e k d =
+    bind (procedures_from 99 (within_type e (defined_type e d)) k (methods_in d)) (λ f. kept (env.outside e.path f))
+
+-- of types in turn
+abbrev pub methods_from : Env → ℕ → List TypeDef → Judged Env
+methods_from e k [] = kept e
+methods_from e k (d ∷ ds) = bind (type_methods e k d) (λ e. methods_from e (k + length (methods_in d)) ds)
+
+-- all declarations of a module, once which its methods are judged together
 abbrev pub headings : Env → List Decl → Judged Env
-headings e ds = bind (walk declared e ds) (λ e. procedures_from e (suc (length (type_defs ds))) (procedures ds))
+headings e ds =
+    let first = suc (length (type_defs ds)) in
+    bind (walk declared e ds) (λ e.
+    bind (procedures_from 24 e first (procedures ds)) (λ e.
+    bind (methods_from e (first + length (procedures ds)) (type_defs ds)) (λ e. overriding e (type_defs ds))))

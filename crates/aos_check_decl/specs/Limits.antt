@@ -16,7 +16,7 @@ use Rattle.aos_types.specs.declared.TheConstants.{MOST_SCALARS}
 use Rattle.aos_types.specs.declared.row.TypeId.{TypeId}
 use Rattle.aos_types.specs.declared.row.TypeRow.{TypeRow}
 use Rattle.aos_types.specs.declared.row.TypeRow.TheVariants as row
-use Rattle.aos_types.specs.Table.{row_of, is_record, is_open}
+use Rattle.aos_types.specs.Table.{row_of, is_record, is_object, is_open}
 use Rattle.aos_types.specs.Contents.{at_most, variable_scalars}
 use Rattle.aos_typed.specs.WellTyped.{is_whole}
 use Rattle.aos_types.specs.Chain.{circles, cut}
@@ -30,7 +30,7 @@ use Rattle.aos_symbols.specs.declared.env.Claim.TheVariants as claim
 use Rattle.aos_symbols.specs.declared.env.Env.{Env}
 use Rattle.aos_symbols.specs.Breaches.{breach_unless}
 use Rattle.aos_symbols.specs.Judged.{Judged, judged, bind}
-use Rattle.aos_symbols.specs.Declarations.{Procedure, procedures, all_type_defs, single_variables}
+use Rattle.aos_symbols.specs.Declarations.{Procedure, all_procedures, all_type_defs, single_variables}
 use Rattle.aos_symbols.specs.Scope.{Scope}
 use Rattle.aos_symbols.specs.Home.{Home}
 use Rattle.aos_symbols.specs.Env as env
@@ -63,17 +63,23 @@ written e ds = map defined_at (all_type_defs ds) ++ map unnamed_at e.places
 abbrev pub may_be_base : Option TypeRow → Bool
 may_be_base r = is_record r || is_open r
 
+abbrev pub may_be_object_base : Option TypeRow → Bool
+may_be_object_base r = is_object r || is_open r
+
 abbrev pub may_be_target : Option TypeRow → Bool
 may_be_target r = is_whole r || is_open r
 
 abbrev pub claim_breaches : Env → Claim → List Breach
 claim_breaches e (claim.Target at t) = breach_unless (may_be_target (row_of e.types t)) 25 at
 claim_breaches e (claim.Base at b t) = breach_unless (may_be_base (row_of e.types b)) 17 at
-claim_breaches e (claim.Field n b) = breach_unless (is_none (env.field e b n)) 23 n.pos
+claim_breaches e (claim.ObjectBase at b t) = breach_unless (may_be_object_base (row_of e.types b)) 17 at
+claim_breaches e (claim.Field n b) = breach_unless (is_none (env.field e b n) && is_none (env.method e b n)) 23 n.pos
+claim_breaches e (claim.Method n b) = breach_unless (is_none (env.field e b n)) 23 n.pos
 
--- a record whose base is no record has no contents
+-- a record whose base is no record has no contents, and neither has an object type whose base is none
 abbrev pub without_base : List TypeRow → Claim → List TypeRow
 without_base rows (claim.Base at b t) = if is_record (row_of rows b) then rows else slice_set rows t.0 (row.Record None [])
+without_base rows (claim.ObjectBase at b t) = if is_object (row_of rows b) then rows else slice_set rows t.0 (row.Object None [])
 without_base rows c = rows
 
 abbrev pub with_bases : Env → Env
@@ -111,7 +117,7 @@ module _ (flags : List Bool) (rows : List TypeRow) where
   result_of None = None
   result_of (Some f) = f.result
 
-  -- of procedures and their signatures
+  -- of procedures and methods, and their signatures
   abbrev pub results_from : List Procedure → List Signature → List Breach
   results_from [] ss = []
   results_from (p ∷ ps) [] = []
@@ -140,7 +146,7 @@ module _ (flags : List Bool) (rows : List TypeRow) where
   -- of a module, whose first type has the number `first`
   abbrev pub all_breaches : Env → ℕ → List Decl → List Breach
   all_breaches e first ds =
-      types_from first (written e ds) ++ results_from (procedures ds) e.here.signatures
+      types_from first (written e ds) ++ results_from (all_procedures ds) e.here.signatures
       ++ variables_past (sum_by scalars_of e.before) (zip (single_variables ds) (variables_of (slice_get e.here.scopes 0)))
 
 -- the environment without types that contain themselves

@@ -1,6 +1,6 @@
 -- Types that are written: the rules that they break, their rows in the table of types, and their numbers. What isn't
 -- built is refused by rule 99 at its first token; nothing behind that in it is looked at.
-use Rattle.std.specs.Prelude.{ℕ, pos, int_le, unsigned_abs, List, [], ◌∷◌, ◌++◌, length, replicate, fold, map, Bool, true, false, ◌==◌, ◌&&◌, Option, Some, None, slice_set, if◌then◌else◌}
+use Rattle.std.specs.Prelude.{ℕ, pos, int_le, unsigned_abs, List, [], ◌∷◌, ◌++◌, length, replicate, fold, map, Bool, true, false, ◌==◌, ◌&&◌, ◌||◌, Option, Some, None, option_and_then, slice_set, if◌then◌else◌}
 use Rattle.std.specs.List.{flat_map, list_any}
 use Rattle.std.specs.Option.{is_none}
 use Rattle.aos_base.specs.declared.text.Pos.{Pos}
@@ -9,7 +9,9 @@ use Rattle.aos_tree.specs.declared.name.Qualident.{Qualident}
 use Rattle.aos_tree.specs.declared.expr.Expr.{Expr, out-Expr}
 use Rattle.aos_tree.specs.declared.stat.Block.{Block}
 use Rattle.aos_tree.specs.declared.decl.Def.{Def}
-use Rattle.aos_tree.specs.declared.decl.Decl.{Decl, items-the_row-Decl}
+use Rattle.aos_tree.specs.declared.decl.ConstDef.{ConstDef}
+use Rattle.aos_tree.specs.declared.decl.VarDef.{VarDef}
+use Rattle.aos_tree.specs.declared.decl.Decl.{Decl, Row_of-VarDef, end_of-VarDef, more_of-VarDef, Row_of-Decl, end_of-Decl, more_of-Decl, items-the_row-Decl}
 use Rattle.aos_tree.specs.declared.decl.Decl.TheVariants as decl
 use Rattle.aos_tree.specs.declared.decl.Fields.{Fields}
 use Rattle.aos_tree.specs.declared.decl.Fields.TheVariants as fields
@@ -26,25 +28,18 @@ use Rattle.aos_symbols.specs.declared.scope.Meaning.TheVariants as means
 use Rattle.aos_symbols.specs.declared.env.Claim.{Claim}
 use Rattle.aos_symbols.specs.declared.env.Claim.TheVariants as claim
 use Rattle.aos_symbols.specs.declared.env.Env.{Env}
+use Rattle.aos_symbols.specs.declared.home.ObjectScope.{ObjectScope}
 use Rattle.aos_symbols.specs.Breaches.{breach, breach_unless, not_built}
 use Rattle.aos_symbols.specs.Judged.{Judged, judged, kept, bind, walk}
 use Rattle.aos_symbols.specs.Scope.{Scope, empty, with_name, with_variable}
-use Rattle.aos_symbols.specs.Home.{add_record}
+use Rattle.aos_symbols.specs.Declarations.{single_variables, procedure_defs}
+use Rattle.aos_symbols.specs.Home.{add_record, set_variables, object_of as object_here}
 use Rattle.aos_symbols.specs.Entries.{entry}
 use Rattle.aos_symbols.specs.Spelling.{is_active}
 use Rattle.aos_symbols.specs.Env as env
 use Rattle.aos_check_expr.specs.Expressions.{constant, no_place}
+use Rattle.aos_check_decl.specs.Variables.{constant_def}
 pub use Rattle.aos_check_expr.specs.TypeNames.{no_type, type_meant, type_found, type_of_out, type_in_module, qualified_type, named_type}
-
--- where a declaration begins
-abbrev pub decl_place : Decl → Pos
-decl_place (decl.Consts p cs) = p
-decl_place (decl.Types' p shape row) = p
-decl_place (decl.Vars' p shape row) = p
-decl_place (decl.Proc' p i def formals shape row body end) = p
-
-abbrev pub refused_decl : Decl → List Breach
-refused_decl d = not_built (decl_place d)
 
 -- What is met of a type: the environment behind it, and its number, none where it breaks a rule.
 pub record Met : Type 0 where
@@ -210,25 +205,75 @@ pointer_to slot at x m = to m.of
     to None = m
     to (Some t) = placed slot at (row.Pointer t) (claiming (target_claims x t) m.env)
 
--- Object types: at module level alone; built are those that a declaration names, without base and declarations, whose body is
--- active.
+-- Object types: at module level alone; built are those that a declaration names, whose bodies are active, without types and
+-- initializers in them. Their constants and fields stand in a scope of their own; their methods come later. A field whose type breaks a
+-- rule has no type, and the row leaves it out.
 
 abbrev pub has_active : List ℕ → Option Block → Bool
 has_active text None = false
 has_active text (Some b) = list_any (is_active text) b.modifiers
 
-abbrev pub object_breaches : Env → Pos → Option Qualident → List Decl → Option Block → List Breach
-object_breaches e at base decls body =
-    breach_unless (is_none base) 99 at ++ breach_unless (has_active e.here.text body) 99 at ++ flat_map refused_decl decls
+-- an object type may have no body
+abbrev pub body_breaches : Env → Pos → Option Block → List Breach
+body_breaches e at body = breach_unless (is_none body || has_active e.here.text body) 99 at
 
-abbrev pub object_in : Option TypeId → Env → Pos → Option Qualident → List Decl → Option Block → Judged Met
-object_in slot e at base decls body =
-    if env.innermost e.path == 0 then at_module_level slot else refused_type 26 at e
+-- what is met of an object type: the environment, the types in its row, and those of its fields
+pub record MembersMet : Type 0 where
+  pub env : Env
+  pub types : List TypeId
+  pub variables : List (Option TypeId)
+
+abbrev pub members_met : Env → List TypeId → List (Option TypeId) → MembersMet
+members_met e ts vs = record { env = e; types = ts; variables = vs }
+
+-- so many fields more
+abbrev pub with_members : MembersMet → ℕ → Met → MembersMet
+with_members f n m = members_met m.env (f.types ++ fields_of n m.of) (f.variables ++ replicate n m.of)
+
+abbrev pub constant_members : MembersMet → List ConstDef → Judged MembersMet
+constant_members f cs = bind (walk constant_def f.env cs) (λ e. kept (members_met e f.types f.variables))
+
+abbrev pub refused_members : Pos → MembersMet → Judged MembersMet
+refused_members at f = judged (not_built at) f
+
+-- the names of its fields and of its methods, of which its base has none
+abbrev pub own_fields : List Decl → List Name
+own_fields ds = map (λ d. d.name) (single_variables ds)
+
+abbrev pub own_methods : List Decl → List Name
+own_methods ds = map (λ d. d.name) (procedure_defs ds)
+
+abbrev pub object_claims : Option Qualident → List Name → List Name → Option TypeId → TypeId → List Claim
+object_claims (Some q) fs ms (Some b) t =
+    claim.ObjectBase q.first.pos b t ∷ (map (λ n. claim.Field n b) fs ++ map (λ n. claim.Method n b) ms)
+object_claims q fs ms b t = []
+
+-- an object type with a number, whose fields have these types
+abbrev pub object_met : TypeId → Pos → Option Qualident → List Decl → Option TypeId → List TypeId → Env → Met
+object_met t at base ds b ts e =
+    met (claiming (object_claims base (own_fields ds) (own_methods ds) b t) (placed (Some t) at (row.Object b ts) e).env) (Some t)
+
+-- the fields are the variables of its scope
+abbrev pub with_own_fields : ℕ → List (Option TypeId) → Env → Env
+with_own_fields k vs e = record e { here = set_variables e.here k vs }
+
+-- its members are met in its scope, which has the number k
+abbrev pub object_with : Env → Pos → Option Qualident → List Decl → Option Block → TypeId → ℕ → Judged MembersMet → Judged Met
+object_with e at base ds body t k members =
+    bind (judged (body_breaches e at body) e) (λ e.
+    bind (base_in e base) (λ b.
+    bind members (λ f. kept (object_met t at base ds b f.types (with_own_fields k f.variables (env.back_at e.path f.env))))))
+
+-- the number of a definition, and the scope of its object type
+abbrev pub object_slot : Env → Option TypeId → Option ObjectScope
+object_slot e slot = option_and_then (object_here e.here) slot
+
+abbrev pub object_in : Option TypeId → Option ObjectScope → Env → Pos → Option Qualident → List Decl → Option Block → (Env → Judged MembersMet) → Judged Met
+object_in slot object e at base ds body members = if env.innermost e.path == 0 then at_module_level slot object else refused_type 26 at e
   where
-    at_module_level : Option TypeId → Judged Met
-    at_module_level None = refused_type 99 at e
-    at_module_level (Some t) =
-        judged (object_breaches e at base decls body) (placed (Some t) at (row.Object None []) e)
+    at_module_level : Option TypeId → Option ObjectScope → Judged Met
+    at_module_level (Some t) (Some o) = object_with e at base ds body t o.scope (members (env.within e o.scope))
+    at_module_level _ _ = refused_type 99 at e
 
 -- a type, which is that of a definition where it has a number
 abbrev mutual
@@ -240,7 +285,24 @@ abbrev mutual
       record_in slot e p base (field_names (items-the_row-Fields _ row)) (fields_in (fields_met e [] empty) row)
   type_in may_be_open slot e (type.Pointer' p shape row) = pointer_in slot e p row
   type_in may_be_open slot e (type.Proc p flag formals) = refused_type 99 p e
-  type_in may_be_open slot e (type.Object' p base shape row body end) = object_in slot e p base (items-the_row-Decl _ row) body
+  type_in may_be_open slot e (type.Object' p base shape row body end) =
+      object_in slot (object_slot e slot) e p base (items-the_row-Decl _ row) body (λ e. members_in (members_met e [] []) row)
+
+  -- what is declared in an object type
+  pub members_in : {m : _} → MembersMet → Row_of-Decl m → Judged MembersMet
+  members_in f end_of-Decl = kept f
+  members_in f (more_of-Decl d ds) = bind (member_in f d) (λ g. members_in g ds)
+
+  pub member_in : MembersMet → Decl → Judged MembersMet
+  member_in f (decl.Consts p cs) = constant_members f cs
+  member_in f (decl.Types' p shape row) = refused_members p f
+  member_in f (decl.Vars' p shape row) = variables_in f row
+  member_in f (decl.Proc' p i def formals shape row body end) = kept f
+
+  pub variables_in : {m : _} → MembersMet → Row_of-VarDef m → Judged MembersMet
+  variables_in f end_of-VarDef = kept f
+  variables_in f (more_of-VarDef defs of ds) =
+      bind (bind (type_in false None f.env of) (λ m. kept (with_members f (length defs) m))) (λ g. variables_in g ds)
 
   -- the type of an array's elements
   pub held_in : {m : _} → (may_be_open : Bool) → Env → Row_of-TypeExpr m → Judged Met
@@ -260,6 +322,13 @@ abbrev mutual
   pub field_in : FieldsMet → Fields → Judged FieldsMet
   field_in f fields.Empty = kept f
   field_in f (fields.Of' defs of) = bind (type_in false None f.env of) (λ m. kept (with_fields f defs m))
+
+-- one field after another of an object type, and its declarations, as lists
+abbrev pub variable_in : MembersMet → VarDef → Judged MembersMet
+variable_in f v = bind (type_in false None f.env v.of) (λ m. kept (with_members f (length v.defs) m))
+
+abbrev pub object_of : Option TypeId → Env → Pos → Option Qualident → List Decl → Option Block → Judged Met
+object_of slot e at base ds body = object_in slot (object_slot e slot) e at base ds body (λ e. walk member_in (members_met e [] []) ds)
 
 -- a record, with its fields as a list
 abbrev pub record_of : Option TypeId → Env → Pos → Option Qualident → List Fields → Judged Met

@@ -2,18 +2,19 @@
 
 ghost use Rattle.std.specs.Prelude.{◌≡◌, ◌+◌, ◌≤◌, ◌^◌, ◌++◌, length, map, OnOk, IfOk};
 ghost use Rattle.std.specs.List.{range_with_len};
-ghost use Rattle.aos_symbols.specs.Breaches.{first_after};
-ghost use Rattle.aos_symbols.specs.Declarations.{procedures, type_defs, types_in};
+ghost use Rattle.aos_symbols.specs.Breaches.{first as first_of, first_after};
+ghost use Rattle.aos_symbols.specs.Declarations.{seen_procedures, type_defs, types_in};
 ghost use Rattle.aos_symbols.specs.Judged.{walk};
 ghost use Rattle.aos_symbols.specs.Env as env_of;
 ghost use Rattle.aos_check_decl.specs.Aliases as judge;
 ghost use Rattle.aos_check_decl.specs.Ahead as far;
+ghost use Rattle.aos_check_decl.specs.Types as types;
 
 use crate::procedures::count_types;
 use aos_base::NoMemory;
 use aos_check_expr::named_type;
-use aos_symbols::{Breach, Env};
-use aos_tree::{Decl, TypeDef, TypeExpr};
+use aos_symbols::{Breach, Env, NOT_BUILT, all_procedures, note};
+use aos_tree::{Decl, Proc, Qualident, TypeDef, TypeExpr};
 use aos_types::{TypeId, TypeRow, Types};
 use std::alloc::{AllocError, Global};
 
@@ -28,13 +29,28 @@ pub enum Target {
 /// The type of NIL, which no name stands for.
 pub(crate) const NIL: TypeId = TypeId(7);
 
+/// The type that a name stands for, so far as its scopes are known. Which rule it breaks is told where its definition is met; here it is
+/// only refused at the same place.
+fn type_so_far(found: &mut Option<Breach>, env: &Env<'_>, name: Qualident) -> Option<TypeId>
+    ensures noted { found.new ≡ first_after found.old
+        (judge.later (first_of (types.named_type env.now name).breaches)) }
+    ensures answer { result ≡ (types.named_type env.now name).answer }
+{
+    let mut refused = None;
+    let of = named_type(&mut refused, env, name);
+    if let Some(breach) = refused {
+        note(found, NOT_BUILT, breach.pos);
+    }
+    of
+}
+
 /// What a definition's number leads to.
 fn leads_to(found: &mut Option<Breach>, env: &Env<'_>, of: &TypeExpr) -> Target
     ensures noted { found.new ≡ first_after found.old (judge.led_by env.now of.now).breaches }
     ensures answer { result ≡ (judge.led_by env.now of.now).answer }
 {
     match of {
-        TypeExpr::Named(name) => match named_type(found, env, *name) {
+        TypeExpr::Named(name) => match type_so_far(found, env, *name) {
             Some(of) => Target::Of(of),
             None => Target::Nothing,
         },
@@ -121,36 +137,35 @@ fn add_targets_within(
     Ok(())
 }
 
-/// What the definitions of the procedures among declarations lead to, behind those before them.
-#[tactic(auto, using(aos_symbols::proofs::Keeping::after_more, crate::proofs::Targets::procedure_step, crate::proofs::Targets::other_step, crate::proofs::Targets::procedures_end))]
+/// What the definitions of procedures lead to, behind those before them.
+#[tactic(auto, using(aos_symbols::proofs::Keeping::after_more, crate::proofs::Targets::procedure_step, crate::proofs::Targets::procedures_end))]
 fn add_targets_of_procedures(
     alloc: Global,
     found: &mut Option<Breach>,
     env: &mut Env<'_>,
     first: u32,
     targets: &mut Vec<Target>,
-    decls: &[Decl],
+    procs: &[&Proc],
 ) -> Result<(), NoMemory>
     ensures noted { OnOk result (found.new ≡ first_after found.old
-        (judge.local_targets env.old first targets.old.items (procedures decls.now)).breaches) }
+        (judge.local_targets env.old first targets.old.items
+        (seen_procedures procs.now)).breaches) }
     ensures answer { OnOk result (targets.new.items ≡
-        (judge.local_targets env.old first targets.old.items (procedures decls.now)).answer) }
+        (judge.local_targets env.old first targets.old.items (seen_procedures procs.now)).answer) }
     ensures env { OnOk result (env.new ≡ env.old) }
 {
     let mut scope = first;
-    for decl in decls {
-        if let Decl::Proc(proc) = decl {
-            add_targets_within(alloc, found, env, scope, targets, proc.decls.as_slice())?;
-            let Some(next) = scope.checked_add(1) else {
-                return Err(NoMemory);
-            };
-            scope = next;
-        }
+    for proc in procs {
+        add_targets_within(alloc, found, env, scope, targets, proc.decls.as_slice())?;
+        let Some(next) = scope.checked_add(1) else {
+            return Err(NoMemory);
+        };
+        scope = next;
     }
     Ok(())
 }
 
-/// What the definitions of all declarations of a module lead to, its own first, and then those of its procedures.
+/// What the definitions of all declarations of a module lead to, its own first, and then those of its procedures and methods.
 #[tactic(auto, using(aos_symbols::proofs::Keeping::after_more))]
 pub(crate) fn targets_of(
     alloc: Global,
@@ -168,7 +183,8 @@ pub(crate) fn targets_of(
     };
     let mut targets = Vec::new(alloc);
     add_targets_in(found, env, &mut targets, decls)?;
-    add_targets_of_procedures(alloc, found, env, first, &mut targets, decls)?;
+    let procs = all_procedures(alloc, decls)?;
+    add_targets_of_procedures(alloc, found, env, first, &mut targets, &procs)?;
     Ok(targets)
 }
 

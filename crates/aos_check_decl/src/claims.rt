@@ -1,6 +1,6 @@
 // What is asked of the types that a module names, once all are met: rules 17, 23 and 25.
 
-ghost use Rattle.std.specs.Prelude.{◌≡◌, fold, OnOk, IfOk, OnErr};
+ghost use Rattle.std.specs.Prelude.{◌≡◌, fold, slice_set, OnOk, IfOk, OnErr};
 ghost use Rattle.std.specs.List.{flat_map};
 ghost use Rattle.aos_types.specs.Table as table;
 ghost use Rattle.aos_symbols.specs.Breaches.{first_after};
@@ -32,6 +32,16 @@ fn may_be_base(env: &Env<'_>, of: TypeId) -> bool
     )
 }
 
+/// Whether a type is an object type, or its definition breaks a rule.
+fn may_be_object_base(env: &Env<'_>, of: TypeId) -> bool
+    ensures { result ≡ judge.may_be_object_base (table.row_of env.now.types of) }
+{
+    matches!(
+        env.row(Some(of)),
+        Some(TypeRow::Object(_, _) | TypeRow::Open(_))
+    )
+}
+
 fn note_target(found: &mut Option<Breach>, env: &Env<'_>, at: Pos, of: TypeId)
     ensures { found.new ≡ first_after found.old
         (judge.claim_breaches env.now (Claim.Target at of)) }
@@ -50,6 +60,15 @@ fn note_base(found: &mut Option<Breach>, env: &Env<'_>, at: Pos, base: TypeId, o
     }
 }
 
+fn note_object_base(found: &mut Option<Breach>, env: &Env<'_>, at: Pos, base: TypeId, of: TypeId)
+    ensures { found.new ≡ first_after found.old
+        (judge.claim_breaches env.now (Claim.ObjectBase at base of)) }
+{
+    if !may_be_object_base(env, base) {
+        note(found, WRONG_BASE, at);
+    }
+}
+
 fn note_field(
     found: &mut Option<Breach>,
     env: &Env<'_>,
@@ -58,6 +77,21 @@ fn note_field(
 ) -> Result<(), AllocError>
     ensures { OnOk result (found.new ≡ first_after found.old
         (judge.claim_breaches env.now (Claim.Field name base))) }
+{
+    if env.field(base, name)?.is_some() || env.method(base, name)?.is_some() {
+        note(found, IN_BASE, name.pos);
+    }
+    Ok(())
+}
+
+fn note_method(
+    found: &mut Option<Breach>,
+    env: &Env<'_>,
+    name: Name,
+    base: TypeId,
+) -> Result<(), AllocError>
+    ensures { OnOk result (found.new ≡ first_after found.old
+        (judge.claim_breaches env.now (Claim.Method name base))) }
 {
     if env.field(base, name)?.is_some() {
         note(found, IN_BASE, name.pos);
@@ -72,7 +106,9 @@ fn note_claim(found: &mut Option<Breach>, env: &Env<'_>, claim: Claim) -> Result
     match claim {
         Claim::Target(at, of) => note_target(found, env, at, of),
         Claim::Base(at, base, of) => note_base(found, env, at, base, of),
+        Claim::ObjectBase(at, base, of) => note_object_base(found, env, at, base, of),
         Claim::Field(name, base) => note_field(found, env, name, base)?,
+        Claim::Method(name, base) => note_method(found, env, name, base)?,
     }
     Ok(())
 }
@@ -95,18 +131,41 @@ fn is_record(types: &Types, t: TypeId) -> bool
     (t.0 as usize) < types.len() && matches!(types.row(t), TypeRow::Record(_, _))
 }
 
-/// A record whose base is no record has no contents.
-fn drop_base(alloc: Global, types: &mut Types, claim: Claim)
-    ensures { types.new ≡ judge.without_base types.old claim }
+fn is_object(types: &Types, t: TypeId) -> bool
+    ensures { result ≡ table.is_object (table.row_of types.now t) }
 {
-    if let Claim::Base(_, base, of) = claim {
-        if !is_record(types, base) && (of.0 as usize) < types.len() {
-            types.set(of, TypeRow::Record(None, Items::new(alloc)));
-        }
+    (t.0 as usize) < types.len() && matches!(types.row(t), TypeRow::Object(_, _))
+}
+
+/// Puts a type's row in the place of the one that is there.
+fn replace(types: &mut Types, of: TypeId, row: TypeRow)
+    ensures { types.new ≡ slice_set types.old of.0 row }
+{
+    if (of.0 as usize) < types.len() {
+        types.set(of, row);
     }
 }
 
-/// The same of all records.
+/// A record whose base is no record has no contents, and neither has an object type whose base is none.
+fn drop_base(alloc: Global, types: &mut Types, claim: Claim)
+    ensures { types.new ≡ judge.without_base types.old claim }
+{
+    match claim {
+        Claim::Base(_, base, of) => {
+            if !is_record(types, base) {
+                replace(types, of, TypeRow::Record(None, Items::new(alloc)));
+            }
+        },
+        Claim::ObjectBase(_, base, of) => {
+            if !is_object(types, base) {
+                replace(types, of, TypeRow::Object(None, Items::new(alloc)));
+            }
+        },
+        _ => {},
+    }
+}
+
+/// The same of all records and object types.
 pub(crate) fn drop_bases(alloc: Global, types: &mut Types, claims: &[Claim])
     ensures { types.new ≡ fold judge.without_base types.old claims.now }
 {

@@ -7,26 +7,14 @@ ghost use Rattle.aos_check_decl.specs.Types as types;
 ghost use Rattle.aos_check_decl.specs.Headings as judge;
 
 use crate::aliases::NIL;
+use crate::methods::defined_type;
 use crate::types::type_in;
 use aos_base::NoMemory;
-use aos_check_expr::constant;
-use aos_symbols::{Breach, Constant, Env, Lookup, Meaning};
+use aos_check_expr::{constant, named_type};
+use aos_symbols::{Breach, Constant, Env};
 use aos_tree::{ConstDef, Decl, TypeDef, TypeExpr, VarDef};
 use aos_types::{TypeId, TypeRow};
 use std::alloc::{AllocError, Global};
-
-/// The number of the type that a name stands for.
-fn slot_in(lookup: Lookup) -> Option<TypeId>
-    ensures { result ≡ judge.slot_in lookup }
-{
-    match lookup {
-        Lookup::Found(symbol) => match symbol.means {
-            Meaning::Type(of) => of,
-            _ => None,
-        },
-        _ => None,
-    }
-}
 
 /// A constant, with its value where its expression is constant and breaks no rule.
 #[tactic(auto, using(aos_symbols::proofs::Keeping::after_more))]
@@ -48,7 +36,7 @@ fn constant_def(
 }
 
 #[tactic(auto, using(aos_symbols::proofs::Keeping::after_more, aos_symbols::proofs::Steps::walk_step, aos_symbols::proofs::Steps::walk_end))]
-fn constant_defs(
+pub(crate) fn constant_defs(
     alloc: Global,
     found: &mut Option<Breach>,
     env: &mut Env<'_>,
@@ -87,10 +75,11 @@ fn type_def(
         (found.new ≡ first_after found.old (judge.type_def env.old def.now).breaches) }
     ensures env { OnOk result (env.new ≡ (judge.type_def env.old def.now).answer) }
 {
-    if let TypeExpr::Named(_) = &def.value {
+    if let TypeExpr::Named(name) = &def.value {
+        named_type(found, env, *name);
         return Ok(());
     }
-    let slot = slot_in(env.lookup(def.def.name));
+    let slot = defined_type(env, def);
     let of = type_in(alloc, found, env, false, slot, &def.value)?;
     settle(env, slot, of);
     Ok(())

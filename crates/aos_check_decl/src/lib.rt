@@ -5,8 +5,11 @@ mod aliases;
 mod claims;
 mod declarations;
 mod limits;
+mod methods;
+mod objects;
 mod pass;
 mod procedures;
 mod types;
 
+pub use methods::defined_type;
 pub use pass::declare;

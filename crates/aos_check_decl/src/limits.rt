@@ -7,16 +7,17 @@ ghost use Rattle.aos_types.specs.Chain.{NoneContainsItself};
 ghost use Rattle.aos_types.specs.Limit.{is_past, is_first_past};
 ghost use Rattle.aos_types.specs.Table.{row_of};
 ghost use Rattle.aos_symbols.specs.Breaches.{breach_unless, first_after};
-ghost use Rattle.aos_symbols.specs.Declarations.{procedures, single_variables, type_defs};
+ghost use Rattle.aos_symbols.specs.Declarations.{all_procedures, local_types, seen_procedures, single_variables, type_defs};
 ghost use Rattle.aos_check_decl.specs.Limits as judge;
 
 use crate::claims::{drop_bases, note_claims};
 use crate::procedures::next;
 use aos_base::{NoMemory, Pos};
 use aos_symbols::{
-    Breach, CONTAINS_ITSELF, Env, Gives, Home, Scope, TOO_MANY_SCALARS, WRONG_TYPE, note,
+    Breach, CONTAINS_ITSELF, Env, Gives, Home, Scope, TOO_MANY_SCALARS, WRONG_TYPE, all_procedures,
+    note,
 };
-use aos_tree::{Decl, Def, Formals, TypeDef, TypeExpr, VarDef};
+use aos_tree::{Decl, Def, Formals, Proc, TypeDef, TypeExpr, VarDef};
 use aos_types::{MOST_SCALARS, TypeId, TypeRow, Types};
 use std::alloc::{AllocError, Global};
 use std::marker::Model;
@@ -78,25 +79,29 @@ fn add_defined_by(written: &mut Vec<Written>, decls: &[Decl]) -> Result<(), Allo
 }
 
 /// Puts where the types of procedures are defined behind these.
-fn add_defined_within(written: &mut Vec<Written>, decls: &[Decl]) -> Result<(), AllocError>
+fn add_defined_within(written: &mut Vec<Written>, procs: &[&Proc]) -> Result<(), AllocError>
     ensures { OnOk result (written.new.items ≡ written.old.items ++
-        map judge.defined_at (flat_map (λ p. type_defs p.decls) (procedures decls.now))) }
+        map judge.defined_at (local_types (seen_procedures procs.now))) }
 {
-    for decl in decls {
-        if let Decl::Proc(proc) = decl {
-            add_defined_by(written, proc.decls.as_slice())?;
-        }
+    for proc in procs {
+        add_defined_by(written, proc.decls.as_slice())?;
     }
     Ok(())
 }
 
 /// Where all types of a module stand, in the order of their numbers.
-fn written_in(alloc: Global, env: &Env<'_>, decls: &[Decl]) -> Result<Vec<Written>, AllocError>
+fn written_in(
+    alloc: Global,
+    env: &Env<'_>,
+    decls: &[Decl],
+    procs: &[&Proc],
+) -> Result<Vec<Written>, AllocError>
+    requires { seen_procedures procs.now ≡ all_procedures decls.now }
     ensures { IfOk result (λ ws. ws.items ≡ judge.written env.now decls.now) }
 {
     let mut written = Vec::new(alloc);
     add_defined_by(&mut written, decls)?;
-    add_defined_within(&mut written, decls)?;
+    add_defined_within(&mut written, procs)?;
     for at in env.places.as_slice() {
         written.push(Written {
             named: *at,
@@ -221,27 +226,25 @@ fn note_result(
     }
 }
 
-/// Rule 25 at the results of a module's procedures.
+/// Rule 25 at the results of a module's procedures and methods.
 #[tactic(auto, using(crate::proofs::Judging::results_end))]
 fn note_results(
     found: &mut Option<Breach>,
     env: &Env<'_>,
     flags: &[bool],
-    decls: &[Decl],
+    procs: &[&Proc],
 ) -> Result<(), NoMemory>
     requires { NoneContainsItself env.now.types }
     ensures { OnOk result (found.new ≡ first_after found.old (judge.results_from flags.now
-        env.now.types (procedures decls.now) env.now.here.signatures)) }
+        env.now.types (seen_procedures procs.now) env.now.here.signatures)) }
 {
     let mut number = 0;
-    for decl in decls {
-        if let Decl::Proc(proc) = decl {
-            let Some(signature) = env.here.signature(number) else {
-                return Ok(());
-            };
-            note_result(found, &env.types, flags, &proc.formals, signature.gives);
-            number = next(number)?;
-        }
+    for proc in procs {
+        let Some(signature) = env.here.signature(number) else {
+            return Ok(());
+        };
+        note_result(found, &env.types, flags, &proc.formals, signature.gives);
+        number = next(number)?;
     }
     Ok(())
 }
@@ -397,9 +400,10 @@ fn cut_off(
     ensures env { OnOk result (env.new ≡ (judge.cut_off env.old first decls.now).answer) }
 {
     let flags = env.types.cut_circles(alloc)?;
-    let written = written_in(alloc, env, decls)?;
+    let procs = all_procedures(alloc, decls)?;
+    let written = written_in(alloc, env, decls, &procs)?;
     note_types(found, &env.types, &flags, first, &written)?;
-    note_results(found, env, &flags, decls)?;
+    note_results(found, env, &flags, &procs)?;
     note_variables(alloc, found, env, decls)
 }
 

@@ -9,23 +9,22 @@ use crate::aliases::{add_rows, numbers_of, targets_of};
 use crate::limits::limits;
 use crate::procedures::{count_types, headings};
 use aos_base::NoMemory;
-use aos_symbols::{Breach, Env, Home, Open, home_of};
+use aos_symbols::{Breach, Env, Home, Open, all_procedures, home_of};
 use aos_tree::{Decl, Items, Module};
 use aos_types::{TypeId, Types};
 use std::alloc::{AllocError, Global};
 
-/// How many types a module's declarations define: its own, and those of its procedures.
-fn count_all_types(decls: &[Decl]) -> Result<u32, NoMemory>
+/// How many types a module's declarations define: its own, and those of its procedures and methods.
+fn count_all_types(alloc: Global, decls: &[Decl]) -> Result<u32, NoMemory>
     ensures { IfOk result (λ n. n ≡ length (all_type_defs decls.now)) }
 {
     let mut count = count_types(decls)?;
-    for decl in decls {
-        if let Decl::Proc(proc) = decl {
-            let Some(more) = count.checked_add(count_types(proc.decls.as_slice())?) else {
-                return Err(NoMemory);
-            };
-            count = more;
-        }
+    let procs = all_procedures(alloc, decls)?;
+    for proc in &procs {
+        let Some(more) = count.checked_add(count_types(proc.decls.as_slice())?) else {
+            return Err(NoMemory);
+        };
+        count = more;
     }
     Ok(count)
 }
@@ -79,6 +78,7 @@ fn entered<'a>(
         places: Items::new(alloc),
         claims: Items::new(alloc),
         narrowed: Items::new(alloc),
+        self_type: None,
     })
 }
 
@@ -101,7 +101,7 @@ fn begin<'a>(
         return Err(NoMemory);
     };
     let decls = tree.decls.as_slice();
-    let count = count_all_types(decls)?;
+    let count = count_all_types(alloc, decls)?;
     if !have_numbers(first, count as usize) {
         return Err(NoMemory);
     }
@@ -118,7 +118,7 @@ fn begin<'a>(
 }
 
 /// The second pass over a module behind these in load order, whose types these are: constants, types and headings, with the
-/// rules 14 to 21 and 23 to 26, and the environment behind them (Oberon-2 report, 5 to 7 and 10; Reali 2002). The
+/// rules 14 to 26, and the environment behind them (Oberon-2 report, 5 to 7 and 10; Reali 2002). The
 /// first rule that is broken is taken down. Want of memory is the only error.
 #[tactic(auto, using(aos_symbols::proofs::Keeping::after_more))]
 pub fn declare<'a>(

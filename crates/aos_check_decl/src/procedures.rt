@@ -2,17 +2,21 @@
 
 ghost use Rattle.std.specs.Prelude.{◌≡◌, ◌+◌, ◌∷◌, ◌++◌, [], OnOk, IfOk, length, replicate};
 ghost use Rattle.aos_symbols.specs.Breaches.{first_after};
-ghost use Rattle.aos_symbols.specs.Declarations.{procedures, type_defs};
+ghost use Rattle.aos_symbols.specs.Declarations.{procedures, seen_types, type_defs};
 ghost use Rattle.aos_symbols.specs.Judged.{walk};
 ghost use Rattle.aos_check_decl.specs.Types as types;
 ghost use Rattle.aos_check_decl.specs.Headings as judge;
 
 use crate::declarations::{add_variable, declare_all};
+use crate::methods::{defined_type, overriding};
 use crate::types::place_row;
 use aos_base::{NoMemory, Pos};
 use aos_check_expr::named_type;
-use aos_symbols::{Breach, Env, Gives, Parameter, Signature, WRONG_INITIALIZER, note};
-use aos_tree::{Decl, Formals, Items, Qualident, Section};
+use aos_symbols::{
+    Breach, Env, Gives, NOT_BUILT, Open, Parameter, Signature, WRONG_INITIALIZER, inner_decls,
+    note, type_definitions,
+};
+use aos_tree::{Decl, Formals, Items, Qualident, Section, TypeDef};
 use aos_types::{TypeId, TypeRow};
 use std::alloc::{AllocError, Global};
 
@@ -187,24 +191,25 @@ fn locals_in(
     Ok(())
 }
 
-/// A procedure: its heading, and its declarations in the scope with this number.
+/// A procedure: its heading, and its declarations in the scope with this number. An initializer breaks this rule.
 #[tactic(auto, using(aos_symbols::proofs::Keeping::after_more))]
 fn procedure_in(
     alloc: Global,
     found: &mut Option<Breach>,
     env: &mut Env<'_>,
+    rule: u16,
     scope: u32,
     initializer: Option<Pos>,
     formals: &Option<Formals>,
     decls: &[Decl],
 ) -> Result<(), NoMemory>
     ensures noted { OnOk result (found.new ≡ first_after found.old
-        (judge.procedure env.old scope initializer formals.now decls.now).breaches) }
+        (judge.procedure rule env.old scope initializer formals.now decls.now).breaches) }
     ensures env { OnOk result (env.new ≡
-        (judge.procedure env.old scope initializer formals.now decls.now).answer) }
+        (judge.procedure rule env.old scope initializer formals.now decls.now).answer) }
 {
     if let Some(at) = initializer {
-        note(found, WRONG_INITIALIZER, at);
+        note(found, rule, at);
     }
     let signature = formals_in(alloc, found, env, formals)?;
     locals_in(alloc, found, env, scope, signature, decls)
@@ -220,19 +225,20 @@ pub(crate) fn next(number: u32) -> Result<u32, NoMemory>
     }
 }
 
-/// The procedures of a module, whose scopes stand behind its own and those of its types.
+/// Procedures, whose scopes have the numbers from this one on; an initializer breaks this rule.
 #[tactic(auto, using(aos_symbols::proofs::Keeping::after_more))]
 fn procedures_in(
     alloc: Global,
     found: &mut Option<Breach>,
     env: &mut Env<'_>,
+    rule: u16,
     first: u32,
     decls: &[Decl],
 ) -> Result<(), NoMemory>
     ensures noted { OnOk result (found.new ≡ first_after found.old
-        (judge.procedures_from env.old first (procedures decls.now)).breaches) }
+        (judge.procedures_from rule env.old first (procedures decls.now)).breaches) }
     ensures env { OnOk result (env.new ≡
-        (judge.procedures_from env.old first (procedures decls.now)).answer) }
+        (judge.procedures_from rule env.old first (procedures decls.now)).answer) }
 {
     let mut scope = first;
     for decl in decls {
@@ -242,6 +248,7 @@ fn procedures_in(
                 alloc,
                 found,
                 env,
+                rule,
                 scope,
                 proc.initializer,
                 &proc.formals,
@@ -272,6 +279,86 @@ pub(crate) fn count_types(decls: &[Decl]) -> Result<u32, NoMemory>
     }
 }
 
+/// How many procedures there are among declarations, with so many before them.
+fn behind_procedures(count: u32, decls: &[Decl]) -> Result<u32, NoMemory>
+    ensures { IfOk result (λ n. n ≡ count + length (procedures decls.now)) }
+{
+    let mut all = count;
+    for decl in decls {
+        if let Decl::Proc(_) = decl {
+            all = next(all)?;
+        }
+    }
+    Ok(all)
+}
+
+/// The path of a place.
+fn path_of(alloc: Global, env: &Env<'_>) -> Result<Items<Open>, AllocError>
+    ensures { IfOk result (λ path. path ≡ env.now.path) }
+{
+    let mut path = Items::new(alloc);
+    for open in env.path.as_slice() {
+        path.push(*open)?;
+    }
+    Ok(path)
+}
+
+/// Goes into a type, and gives the path of the place where it was.
+fn enter_type(
+    alloc: Global,
+    env: &mut Env<'_>,
+    of: Option<TypeId>,
+) -> Result<Items<Open>, AllocError>
+    ensures ok { OnOk result (env.new ≡ judge.within_type env.old of) }
+    ensures path { IfOk result (λ path. path ≡ env.old.path) }
+{
+    match of {
+        Some(of) => env.enter_object(alloc, of),
+        None => path_of(alloc, env),
+    }
+}
+
+/// The methods of a type, whose scopes have the numbers from this one on.
+#[tactic(auto, using(aos_symbols::proofs::Keeping::after_more))]
+fn type_methods(
+    alloc: Global,
+    found: &mut Option<Breach>,
+    env: &mut Env<'_>,
+    scope: u32,
+    def: &TypeDef,
+) -> Result<(), NoMemory>
+    ensures noted { OnOk result (found.new ≡ first_after found.old
+        (judge.type_methods env.old scope def.now).breaches) }
+    ensures env { OnOk result (env.new ≡ (judge.type_methods env.old scope def.now).answer) }
+{
+    let outer = enter_type(alloc, env, defined_type(env, def))?;
+    procedures_in(alloc, found, env, NOT_BUILT, scope, inner_decls(&def.value))?;
+    env.leave_object(outer);
+    Ok(())
+}
+
+/// The methods of types in turn.
+#[tactic(auto, using(aos_symbols::proofs::Keeping::after_more))]
+fn methods_of(
+    alloc: Global,
+    found: &mut Option<Breach>,
+    env: &mut Env<'_>,
+    first: u32,
+    defs: &[&TypeDef],
+) -> Result<(), NoMemory>
+    ensures noted { OnOk result (found.new ≡ first_after found.old
+        (judge.methods_from env.old first (seen_types defs.now)).breaches) }
+    ensures env { OnOk result (env.new ≡
+        (judge.methods_from env.old first (seen_types defs.now)).answer) }
+{
+    let mut scope = first;
+    for def in defs {
+        type_methods(alloc, found, env, scope, def)?;
+        scope = behind_procedures(scope, inner_decls(&def.value))?;
+    }
+    Ok(())
+}
+
 /// The environment behind all declarations of a module.
 #[tactic(auto, using(aos_symbols::proofs::Keeping::after_more))]
 pub(crate) fn headings(
@@ -286,5 +373,9 @@ pub(crate) fn headings(
 {
     declare_all(alloc, found, env, decls)?;
     let first = next(count_types(decls)?)?;
-    procedures_in(alloc, found, env, first, decls)
+    procedures_in(alloc, found, env, WRONG_INITIALIZER, first, decls)?;
+    let first = behind_procedures(first, decls)?;
+    let defs = type_definitions(alloc, decls)?;
+    methods_of(alloc, found, env, first, &defs)?;
+    overriding(alloc, found, env, &defs)
 }

@@ -8,40 +8,21 @@ ghost use Rattle.aos_types.specs.declared.row.TypeRow.TheVariants as kind;
 ghost use Rattle.aos_symbols.specs.declared.env.Claim.TheVariants as claims;
 ghost use Rattle.aos_check_decl.specs.Types as judge;
 
+use crate::declarations::constant_defs;
+use crate::objects::{add_types, place_object, refuse_body};
 use aos_base::{NoMemory, Pos};
 use aos_check_expr::{constant, named_type, no_type};
 use aos_symbols::{
     Breach, Claim, Env, Meaning, NOT_BUILT, NOT_CONSTANT, OBJECT_INSIDE, OPEN_ARRAY, Scope,
-    WRONG_TYPE, declare, is_active, note,
+    WRONG_TYPE, declare, note,
 };
-use aos_tree::{Block, Decl, Def, Expr, Fields, Items as Parts, Qualident, TypeExpr};
+use aos_tree::{Block, Decl, Def, Expr, Fields, Items as Parts, Qualident, TypeExpr, VarDef};
 use aos_typed::Literal;
 use aos_types::{Items, MOST_SCALARS, TypeId, TypeRow};
 use std::alloc::{AllocError, Global};
 
 /// How many types can be told apart by their numbers.
 const MOST_TYPES: usize = 4_294_967_296;
-
-/// Where a declaration begins.
-fn decl_place(decl: &Decl) -> Pos
-    ensures { result ≡ judge.decl_place decl.now }
-{
-    match decl {
-        Decl::Consts(at, _) => *at,
-        Decl::Types(at, _) => *at,
-        Decl::Vars(at, _) => *at,
-        Decl::Proc(proc) => proc.pos,
-    }
-}
-
-/// An object type's declarations, of which none is built.
-fn refuse_decls(found: &mut Option<Breach>, decls: &[Decl])
-    ensures { found.new ≡ first_after found.old (flat_map judge.refused_decl decls.now) }
-{
-    for decl in decls {
-        note(found, NOT_BUILT, decl_place(decl));
-    }
-}
 
 /// A rule that a type breaks; nothing of it is known.
 fn refuse_type(found: &mut Option<Breach>, rule: u16, at: Pos) -> Option<TypeId>
@@ -234,14 +215,14 @@ fn add_record<'a>(env: &mut Env<'a>, of: Option<TypeId>, fields: Scope<'a>) -> R
 }
 
 /// Asks something of a type that is named.
-fn claim(env: &mut Env<'_>, one: Claim) -> Result<(), AllocError>
+pub(crate) fn claim(env: &mut Env<'_>, one: Claim) -> Result<(), AllocError>
     ensures { OnOk result (env.new ≡ judge.claiming (one ∷ []) env.old) }
 {
     env.claims.push(one)
 }
 
 /// Asks of a record's base that it has no field with one of these names.
-fn claim_names(env: &mut Env<'_>, base: TypeId, defs: &[Def]) -> Result<(), AllocError>
+pub(crate) fn claim_names(env: &mut Env<'_>, base: TypeId, defs: &[Def]) -> Result<(), AllocError>
     ensures { OnOk result (env.new ≡
         judge.claiming (map (λ n. claims.Field n base) (map (λ d. d.name) defs.now)) env.old) }
 {
@@ -386,71 +367,6 @@ fn add_fields(types: &mut Items<TypeId>, count: usize, of: Option<TypeId>) -> Re
     Ok(())
 }
 
-fn has_active(text: &[u8], body: &Option<Block>) -> bool
-    ensures { result ≡ judge.has_active text.now body.now }
-{
-    let Some(body) = body else {
-        return false;
-    };
-    for modifier in body.modifiers.as_slice() {
-        if is_active(text, modifier) {
-            return true;
-        }
-    }
-    false
-}
-
-/// What isn't built of an object type.
-#[tactic(auto, using(aos_symbols::proofs::Keeping::after_more))]
-fn refuse_object(
-    found: &mut Option<Breach>,
-    env: &Env<'_>,
-    at: Pos,
-    base: Option<Qualident>,
-    decls: &[Decl],
-    body: &Option<Block>,
-)
-    ensures { found.new ≡ first_after found.old
-        (judge.object_breaches env.now at base decls.now body.now) }
-{
-    if base.is_some() {
-        note(found, NOT_BUILT, at);
-    }
-    if !has_active(env.here.text(), body) {
-        note(found, NOT_BUILT, at);
-    }
-    refuse_decls(found, decls);
-}
-
-/// An object type, which stands at module level alone.
-#[tactic(auto, using(aos_symbols::proofs::Keeping::after_more))]
-fn object_in(
-    alloc: Global,
-    found: &mut Option<Breach>,
-    env: &mut Env<'_>,
-    slot: Option<TypeId>,
-    at: Pos,
-    base: Option<Qualident>,
-    decls: &[Decl],
-    body: &Option<Block>,
-) -> Result<Option<TypeId>, NoMemory>
-    ensures noted { OnOk result (found.new ≡ first_after found.old
-        (judge.object_in slot env.old at base decls.now body.now).breaches) }
-    ensures env { OnOk result (env.new ≡
-        (judge.object_in slot env.old at base decls.now body.now).answer.env) }
-    ensures of { IfOk result (λ of. of ≡
-        (judge.object_in slot env.old at base decls.now body.now).answer.of) }
-{
-    if env.innermost() != 0 {
-        return Ok(refuse_type(found, OBJECT_INSIDE, at));
-    }
-    if slot.is_none() {
-        return Ok(refuse_type(found, NOT_BUILT, at));
-    }
-    refuse_object(found, env, at, base, decls, body);
-    place_row(env, slot, at, TypeRow::Object(None, Items::new(alloc)))
-}
-
 /// The fields of a record behind these, so far as their types are known.
 #[cycle(types)]
 #[tactic(auto, using(aos_symbols::proofs::Keeping::after_more))]
@@ -507,6 +423,131 @@ fn record_in<'a>(
     Ok(of)
 }
 
+/// The fields of an object type behind these, so far as their types are known.
+#[cycle(types)]
+#[tactic(auto, using(aos_symbols::proofs::Keeping::after_more))]
+fn variables_in<'a>(
+    alloc: Global,
+    found: &mut Option<Breach>,
+    env: &mut Env<'a>,
+    types: &mut Items<TypeId>,
+    variables: &mut Vec<Option<TypeId>>,
+    defs: &Parts<VarDef>,
+) -> Result<(), NoMemory>
+    ensures noted { OnOk result (found.new ≡ first_after found.old
+        (walk judge.variable_in (judge.members_met env.old types.old variables.old.items) defs.now).breaches) }
+    ensures env { OnOk result (env.new ≡
+        (walk judge.variable_in (judge.members_met env.old types.old variables.old.items) defs.now).answer.env) }
+    ensures types { OnOk result (types.new ≡
+        (walk judge.variable_in (judge.members_met env.old types.old variables.old.items) defs.now).answer.types) }
+    ensures variables { OnOk result (variables.new.items ≡
+        (walk judge.variable_in (judge.members_met env.old types.old variables.old.items) defs.now).answer.variables) }
+{
+    for def in defs.as_slice() {
+        let of = type_in(alloc, found, env, false, None, &def.of)?;
+        add_fields(types, def.defs.len(), of)?;
+        add_types(variables, def.defs.len(), of)?;
+    }
+    Ok(())
+}
+
+/// A declaration of an object type, whose methods come later.
+#[cycle(types)]
+#[tactic(auto, using(aos_symbols::proofs::Keeping::after_more))]
+fn member_in<'a>(
+    alloc: Global,
+    found: &mut Option<Breach>,
+    env: &mut Env<'a>,
+    types: &mut Items<TypeId>,
+    variables: &mut Vec<Option<TypeId>>,
+    decl: &Decl,
+) -> Result<(), NoMemory>
+    ensures noted { OnOk result (found.new ≡ first_after found.old
+        (judge.member_in (judge.members_met env.old types.old variables.old.items) decl.now).breaches) }
+    ensures env { OnOk result (env.new ≡
+        (judge.member_in (judge.members_met env.old types.old variables.old.items) decl.now).answer.env) }
+    ensures types { OnOk result (types.new ≡
+        (judge.member_in (judge.members_met env.old types.old variables.old.items) decl.now).answer.types) }
+    ensures variables { OnOk result (variables.new.items ≡
+        (judge.member_in (judge.members_met env.old types.old variables.old.items) decl.now).answer.variables) }
+{
+    match decl {
+        Decl::Consts(_, defs) => constant_defs(alloc, found, env, defs.as_slice()),
+        Decl::Types(at, _) => {
+            note(found, NOT_BUILT, *at);
+            Ok(())
+        },
+        Decl::Vars(_, defs) => variables_in(alloc, found, env, types, variables, defs),
+        Decl::Proc(_) => Ok(()),
+    }
+}
+
+/// The declarations of an object type.
+#[cycle(types)]
+#[tactic(auto, using(aos_symbols::proofs::Keeping::after_more))]
+fn members_in<'a>(
+    alloc: Global,
+    found: &mut Option<Breach>,
+    env: &mut Env<'a>,
+    types: &mut Items<TypeId>,
+    variables: &mut Vec<Option<TypeId>>,
+    decls: &Parts<Decl>,
+) -> Result<(), NoMemory>
+    ensures noted { OnOk result (found.new ≡ first_after found.old
+        (walk judge.member_in (judge.members_met env.old types.old variables.old.items) decls.now).breaches) }
+    ensures env { OnOk result (env.new ≡
+        (walk judge.member_in (judge.members_met env.old types.old variables.old.items) decls.now).answer.env) }
+    ensures types { OnOk result (types.new ≡
+        (walk judge.member_in (judge.members_met env.old types.old variables.old.items) decls.now).answer.types) }
+    ensures variables { OnOk result (variables.new.items ≡
+        (walk judge.member_in (judge.members_met env.old types.old variables.old.items) decls.now).answer.variables) }
+{
+    for decl in decls.as_slice() {
+        member_in(alloc, found, env, types, variables, decl)?;
+    }
+    Ok(())
+}
+
+/// An object type, which stands at module level alone.
+#[cycle(types)]
+#[tactic(auto, using(aos_symbols::proofs::Keeping::after_more))]
+fn object_in<'a>(
+    alloc: Global,
+    found: &mut Option<Breach>,
+    env: &mut Env<'a>,
+    slot: Option<TypeId>,
+    at: Pos,
+    base: Option<Qualident>,
+    decls: &Parts<Decl>,
+    body: &Option<Block>,
+) -> Result<Option<TypeId>, NoMemory>
+    ensures noted { OnOk result (found.new ≡ first_after found.old
+        (judge.object_of slot env.old at base decls.now body.now).breaches) }
+    ensures env { OnOk result (env.new ≡
+        (judge.object_of slot env.old at base decls.now body.now).answer.env) }
+    ensures of { IfOk result (λ t. t ≡
+        (judge.object_of slot env.old at base decls.now body.now).answer.of) }
+{
+    if env.innermost() != 0 {
+        return Ok(refuse_type(found, OBJECT_INSIDE, at));
+    }
+    let Some(of) = slot else {
+        return Ok(refuse_type(found, NOT_BUILT, at));
+    };
+    let Some(object) = env.here.object(of) else {
+        return Ok(refuse_type(found, NOT_BUILT, at));
+    };
+    refuse_body(found, env, at, body);
+    let named = base_in(found, env, base);
+    let mut types = Items::new(alloc);
+    let mut variables = Vec::new(alloc);
+    let outer = env.enter(alloc, object.scope)?;
+    members_in(alloc, found, env, &mut types, &mut variables, decls)?;
+    env.path = outer;
+    env.here.set_variables(object.scope, variables);
+    place_object(env, of, at, base, named, types, decls.as_slice())
+}
+
 /// A type, which is that of a definition where it has a number: its number, none where it breaks a rule. An open array may stand
 /// there or not.
 #[cycle(types)]
@@ -549,7 +590,7 @@ pub(crate) fn type_in<'a>(
         },
         TypeExpr::Proc(at, _, _) => Ok(refuse_type(found, NOT_BUILT, *at)),
         TypeExpr::Object(at, base, decls, body, _) => {
-            object_in(alloc, found, env, slot, *at, *base, decls.as_slice(), body)
+            object_in(alloc, found, env, slot, *at, *base, decls, body)
         },
     }
 }

@@ -7,8 +7,8 @@ use Rattle.aos_symbols.specs.Breaches.{first_after}
 use Rattle.aos_symbols.specs.Judged.{Judged}
 use Rattle.aos_symbols.proofs.Keeping.{after_two}
 use Rattle.aos_check_decl.specs.Types as judge
-use Rattle.aos_check_decl.specs.Types.{Met}
-use Rattle.aos_check_decl.proofs.Forms.{array_met, open_met, record_met, pointer_met}
+use Rattle.aos_check_decl.specs.Types.{Met, MembersMet}
+use Rattle.aos_check_decl.proofs.Forms.{array_met, open_met, record_met, member_variables, object_written, pointer_met}
 use Rattle.aos_check_decl.proofs.types.+types.Goals as goal
 use Rattle.aos_check_decl.proofs.types.+types.Goals.{type_in-else-is_empty-via-then-is_empty+else-not-may_be_open, type_in-else-is_empty-via-else-is_empty}
 
@@ -70,6 +70,26 @@ type_in-returns-in-Record t c =
       noted = subst (λ (j : Judged Met). OnOk c.record_in.result (c.record_in.new.found ≡ first_after c.args.found.now j.breaches)) is c.record_in.ensures.noted;
       env = subst (λ (j : Judged Met). OnOk c.record_in.result (c.record_in.new.env ≡ j.answer.env)) is c.record_in.ensures.env;
       of = subst (λ (j : Judged Met). IfOk c.record_in.result (λ t. t ≡ j.answer.of)) is c.record_in.ensures.of;
+    }
+
+pub member_in-returns-in-Vars : goal.member_in-returns-in-Vars
+member_in-returns-in-Vars t c =
+    let f = judge.members_met c.args.env.now c.args.types.now c.args.variables.now.items in
+    let is = sym (ap (judge.member_in f) c.in-Vars.is ∙ member_variables f c.in-Vars.field-0 c.in-Vars.defs) in
+    record {
+      noted = subst (λ (j : Judged MembersMet). OnOk c.variables_in.result (c.variables_in.new.found ≡ first_after c.args.found.now j.breaches)) is c.variables_in.ensures.noted;
+      env = subst (λ (j : Judged MembersMet). OnOk c.variables_in.result (c.variables_in.new.env ≡ j.answer.env)) is c.variables_in.ensures.env;
+      types = subst (λ (j : Judged MembersMet). OnOk c.variables_in.result (c.variables_in.new.types ≡ j.answer.types)) is c.variables_in.ensures.types;
+      variables = subst (λ (j : Judged MembersMet). OnOk c.variables_in.result (c.variables_in.new.variables.items ≡ j.answer.variables)) is c.variables_in.ensures.variables;
+    }
+
+pub type_in-returns-in-Object : goal.type_in-returns-in-Object
+type_in-returns-in-Object t c =
+    let is = sym (object_written c.args.may_be_open c.args.slot c.args.env.now c.args.of.now c.in-Object.at c.in-Object.base c.in-Object.decls c.in-Object.body c.in-Object.field-4 c.in-Object.is) in
+    record {
+      noted = subst (λ (j : Judged Met). OnOk c.object_in.result (c.object_in.new.found ≡ first_after c.args.found.now j.breaches)) is c.object_in.ensures.noted;
+      env = subst (λ (j : Judged Met). OnOk c.object_in.result (c.object_in.new.env ≡ j.answer.env)) is c.object_in.ensures.env;
+      of = subst (λ (j : Judged Met). IfOk c.object_in.result (λ t. t ≡ j.answer.of)) is c.object_in.ensures.of;
     }
 
 pub type_in-returns-in_ok-target-in-Pointer : goal.type_in-returns-in_ok-target-in-Pointer

@@ -1,0 +1,210 @@
+// What is judged of methods once all headings are met.
+
+ghost use Rattle.std.specs.Prelude.{◌≡◌, length, map, OnOk, IfOk};
+ghost use Rattle.std.specs.List.{flat_map};
+ghost use Rattle.aos_types.specs.declared.row.TypeId.{TypeId};
+ghost use Rattle.std.specs.Option.{option_copied};
+ghost use Rattle.aos_symbols.specs.Breaches.{breach_unless, first_after};
+ghost use Rattle.aos_symbols.specs.Declarations.{procedures, methods_in, seen_types, type_defs};
+ghost use Rattle.aos_check_decl.specs.Methods as judge;
+
+use aos_base::NoMemory;
+use aos_symbols::{
+    Breach, Env, Gives, Lookup, Meaning, Method, Parameter, Signature, WRONG_OVERRIDE, inner_decls,
+    note, type_definitions,
+};
+use aos_tree::{Decl, Items, Name, TypeDef};
+use aos_types::{TypeId, Types};
+use std::alloc::{AllocError, Global};
+
+/// The number of the type that a name stands for.
+fn slot_in(lookup: Lookup) -> Option<TypeId>
+    ensures { result ≡ judge.slot_in lookup }
+{
+    match lookup {
+        Lookup::Found(symbol) => match symbol.means {
+            Meaning::Type(of) => of,
+            _ => None,
+        },
+        _ => None,
+    }
+}
+
+/// The number of the type that a definition defines.
+pub fn defined_type(env: &Env<'_>, def: &TypeDef) -> Option<TypeId>
+    ensures { result ≡ judge.defined_type env.now def.now }
+{
+    slot_in(env.lookup(def.def.name))
+}
+
+/// Two types are the same, or one of them breaks a rule.
+fn same_type(types: &Types, a: Option<TypeId>, b: Option<TypeId>) -> bool
+    ensures { result ≡ judge.same_type types.now a b }
+{
+    match (a, b) {
+        (Some(a), Some(b)) => types.same(a, b),
+        _ => true,
+    }
+}
+
+fn same_parameter(types: &Types, a: Parameter, b: Parameter) -> bool
+    ensures { result ≡ judge.same_parameter types.now a b }
+{
+    a.by_reference == b.by_reference && same_type(types, a.of, b.of)
+}
+
+/// Parameters in order, of which there are as many.
+#[tactic(auto, using(crate::proofs::Overrides::both_step, crate::proofs::Overrides::both_end))]
+fn same_in_order(types: &Types, a: &[Parameter], b: &[Parameter]) -> bool
+    requires { length a.now ≡ length b.now }
+    ensures { result ≡ judge.same_parameters types.now a.now b.now }
+{
+    for number in 0..a.len() {
+        if !same_parameter(types, a[number], b[number]) {
+            return false;
+        }
+    }
+    true
+}
+
+#[tactic(auto, using(crate::proofs::Overrides::other_length))]
+fn same_parameters(types: &Types, a: &[Parameter], b: &[Parameter]) -> bool
+    ensures { result ≡ judge.same_parameters types.now a.now b.now }
+{
+    a.len() == b.len() && same_in_order(types, a, b)
+}
+
+fn same_result(types: &Types, a: Gives, b: Gives) -> bool
+    ensures { result ≡ judge.same_result types.now a b }
+{
+    match (a, b) {
+        (Gives::Nothing, Gives::Nothing) => true,
+        (Gives::Value(a), Gives::Value(b)) => same_type(types, a, b),
+        _ => false,
+    }
+}
+
+/// Whether one heading may stand in the place of the other; what isn't met may.
+fn may_override(types: &Types, a: Option<&Signature>, b: Option<&Signature>) -> bool
+    ensures { result ≡
+        judge.may_override types.now (option_copied a.entry) (option_copied b.entry) }
+{
+    let (Some(a), Some(b)) = (a, b) else {
+        return true;
+    };
+    same_parameters(types, a.parameters.as_slice(), b.parameters.as_slice())
+        && same_result(types, a.gives, b.gives)
+}
+
+/// Rule 22 at a method's name.
+fn note_method(
+    found: &mut Option<Breach>,
+    env: &Env<'_>,
+    of: TypeId,
+    name: Name,
+) -> Result<(), AllocError>
+    ensures { OnOk result (found.new ≡ first_after found.old
+        (judge.named_breaches env.now of name)) }
+{
+    let (Some(method), Some(upper)) = (env.method(of, name)?, env.upper(of, name)?) else {
+        return Ok(());
+    };
+    let signature = env.signature(method.home, method.number);
+    if !may_override(
+        &env.types,
+        signature,
+        env.signature(upper.home, upper.number),
+    ) {
+        note(found, WRONG_OVERRIDE, name.pos);
+    }
+    Ok(())
+}
+
+/// The same of the methods that an object type declares.
+#[tactic(auto, using(aos_symbols::proofs::Keeping::first_after_more))]
+fn note_methods(
+    found: &mut Option<Breach>,
+    env: &Env<'_>,
+    of: TypeId,
+    decls: &[Decl],
+) -> Result<(), AllocError>
+    ensures { OnOk result (found.new ≡ first_after found.old
+        (flat_map (judge.method_breaches env.now of) (procedures decls.now))) }
+{
+    for decl in decls {
+        if let Decl::Proc(proc) = decl {
+            note_method(found, env, of, proc.def.name)?;
+        }
+    }
+    Ok(())
+}
+
+fn note_definition(
+    found: &mut Option<Breach>,
+    env: &Env<'_>,
+    def: &TypeDef,
+) -> Result<(), AllocError>
+    ensures { OnOk result (found.new ≡ first_after found.old
+        (judge.definition_breaches env.now def.now)) }
+{
+    match defined_type(env, def) {
+        Some(of) => note_methods(found, env, of, inner_decls(&def.value)),
+        None => Ok(()),
+    }
+}
+
+/// The same of all definitions of types.
+#[tactic(auto, using(aos_symbols::proofs::Keeping::first_after_more))]
+fn note_definitions(
+    found: &mut Option<Breach>,
+    env: &Env<'_>,
+    defs: &[&TypeDef],
+) -> Result<(), AllocError>
+    ensures { OnOk result (found.new ≡ first_after found.old
+        (flat_map (judge.definition_breaches env.now) (seen_types defs.now))) }
+{
+    for def in defs {
+        note_definition(found, env, def)?;
+    }
+    Ok(())
+}
+
+/// The slots of the methods that a type declares.
+fn definition_slots(alloc: Global, env: &Env<'_>, def: &TypeDef) -> Result<Items<u32>, AllocError>
+    ensures { IfOk result (λ ks. ks ≡ judge.definition_slots env.now def.now) }
+{
+    match defined_type(env, def) {
+        Some(of) => env.own_slots(alloc, of),
+        None => Ok(Items::new(alloc)),
+    }
+}
+
+/// The same of all types.
+fn slots_of(alloc: Global, env: &Env<'_>, defs: &[&TypeDef]) -> Result<Vec<Items<u32>>, AllocError>
+    ensures { IfOk result (λ ks. ks.items ≡
+        map (judge.definition_slots env.now) (seen_types defs.now)) }
+{
+    let mut slots = Vec::new(alloc);
+    for def in defs {
+        slots.push(definition_slots(alloc, env, def)?)?;
+    }
+    Ok(slots)
+}
+
+/// Rule 22 of all methods that these types declare, and their slots.
+pub(crate) fn overriding(
+    alloc: Global,
+    found: &mut Option<Breach>,
+    env: &mut Env<'_>,
+    defs: &[&TypeDef],
+) -> Result<(), NoMemory>
+    ensures noted { OnOk result (found.new ≡ first_after found.old
+        (judge.overriding env.old (seen_types defs.now)).breaches) }
+    ensures env { OnOk result (env.new ≡
+        (judge.overriding env.old (seen_types defs.now)).answer) }
+{
+    let slots = slots_of(alloc, env, defs)?;
+    env.here.set_slots(slots);
+    env.self_type = None;
+    Ok(note_definitions(found, env, defs)?)
+}

@@ -1,0 +1,127 @@
+// Object types, and what is asked of their bases.
+
+ghost use Rattle.std.specs.Prelude.{◌≡◌, ◌++◌, ◌∷◌, [], map, replicate, Some, OnOk, IfOk};
+ghost use Rattle.std.specs.List.{flat_map};
+ghost use Rattle.aos_symbols.specs.Breaches.{first_after};
+ghost use Rattle.aos_symbols.specs.declared.env.Claim.TheVariants as claims;
+ghost use Rattle.aos_check_decl.specs.Types as judge;
+
+use crate::types::{claim, claim_names, place_row};
+use aos_base::{NoMemory, Pos};
+use aos_symbols::{Breach, Claim, Env, NOT_BUILT, is_active, note};
+use aos_tree::{Block, Decl, Qualident, VarDef};
+use aos_types::{Items, TypeId, TypeRow};
+use std::alloc::AllocError;
+
+fn has_active(text: &[u8], body: &Option<Block>) -> bool
+    ensures { result ≡ judge.has_active text.now body.now }
+{
+    let Some(body) = body else {
+        return false;
+    };
+    for modifier in body.modifiers.as_slice() {
+        if is_active(text, modifier) {
+            return true;
+        }
+    }
+    false
+}
+
+/// The body of an object type, if it has one, is active.
+pub(crate) fn refuse_body(found: &mut Option<Breach>, env: &Env<'_>, at: Pos, body: &Option<Block>)
+    ensures { found.new ≡ first_after found.old (judge.body_breaches env.now at body.now) }
+{
+    if body.is_some() && !has_active(env.here.text(), body) {
+        note(found, NOT_BUILT, at);
+    }
+}
+
+/// Asks of an object type's base that it has neither a field nor a method with the name of one of these fields.
+fn claim_variables(env: &mut Env<'_>, base: TypeId, defs: &[VarDef]) -> Result<(), AllocError>
+    ensures { OnOk result (env.new ≡ judge.claiming
+        (map (λ n. claims.Field n base) (map (λ d. d.name) (flat_map (λ v. v.defs) defs.now)))
+        env.old) }
+{
+    for def in defs {
+        claim_names(env, base, def.defs.as_slice())?;
+    }
+    Ok(())
+}
+
+/// The same of all fields.
+fn claim_own_fields(env: &mut Env<'_>, base: TypeId, decls: &[Decl]) -> Result<(), AllocError>
+    ensures { OnOk result (env.new ≡
+        judge.claiming (map (λ n. claims.Field n base) (judge.own_fields decls.now)) env.old) }
+{
+    for decl in decls {
+        if let Decl::Vars(_, defs) = decl {
+            claim_variables(env, base, defs.as_slice())?;
+        }
+    }
+    Ok(())
+}
+
+/// Asks of an object type's base that it has no field with the name of one of the type's methods.
+fn claim_own_methods(env: &mut Env<'_>, base: TypeId, decls: &[Decl]) -> Result<(), AllocError>
+    ensures { OnOk result (env.new ≡
+        judge.claiming (map (λ n. claims.Method n base) (judge.own_methods decls.now)) env.old) }
+{
+    for decl in decls {
+        if let Decl::Proc(proc) = decl {
+            claim(env, Claim::Method(proc.def.name, base))?;
+        }
+    }
+    Ok(())
+}
+
+/// So many types of fields behind these.
+pub(crate) fn add_types(
+    types: &mut Vec<Option<TypeId>>,
+    count: usize,
+    of: Option<TypeId>,
+) -> Result<(), AllocError>
+    ensures { OnOk result (types.new.items ≡ types.old.items ++ replicate count of) }
+{
+    for _ in 0..count {
+        types.push(of)?;
+    }
+    Ok(())
+}
+
+/// What is asked of an object type's base, where it is known.
+fn claim_object(
+    env: &mut Env<'_>,
+    name: Option<Qualident>,
+    decls: &[Decl],
+    base: Option<TypeId>,
+    of: TypeId,
+) -> Result<(), AllocError>
+    ensures { OnOk result (env.new ≡ judge.claiming (judge.object_claims name
+        (judge.own_fields decls.now) (judge.own_methods decls.now) base of) env.old) }
+{
+    let (Some(name), Some(base)) = (name, base) else {
+        return Ok(());
+    };
+    claim(env, Claim::ObjectBase(name.first.pos, base, of))?;
+    claim_own_fields(env, base, decls)?;
+    claim_own_methods(env, base, decls)
+}
+
+/// An object type with a base or none, whose fields are of these types.
+pub(crate) fn place_object(
+    env: &mut Env<'_>,
+    of: TypeId,
+    at: Pos,
+    name: Option<Qualident>,
+    base: Option<TypeId>,
+    types: Items<TypeId>,
+    decls: &[Decl],
+) -> Result<Option<TypeId>, NoMemory>
+    ensures env { OnOk result (env.new ≡
+        (judge.object_met of at name decls.now base types env.old).env) }
+    ensures of { IfOk result (λ t. t ≡ Some of) }
+{
+    place_row(env, Some(of), at, TypeRow::Object(base, types))?;
+    claim_object(env, name, decls, base, of)?;
+    Ok(Some(of))
+}
