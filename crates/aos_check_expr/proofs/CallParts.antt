@@ -1,9 +1,11 @@
 -- Calls that break no rule are sound, where their arguments are: predeclared functions, conversions, and MAX and MIN of a type.
 use Rattle.std.proofs.Common.{◌≡◌, List, [], ◌∷◌, length, Bool, true, false, Option, Some, None, if◌then◌else◌, refl}
 use Rattle.aos_base.specs.declared.text.Pos.{Pos}
+use Rattle.aos_tree.specs.declared.name.Name.{Name}
 use Rattle.aos_tree.specs.declared.expr.Expr.{Expr, out-Expr}
 use Rattle.aos_types.specs.declared.row.TypeId.{TypeId}
 use Rattle.aos_typed.specs.declared.tree.Literal.{Literal}
+use Rattle.aos_typed.specs.Program.{Plain}
 use Rattle.aos_symbols.specs.declared.scope.Meaning.{Meaning}
 use Rattle.aos_symbols.specs.declared.scope.Meaning.TheVariants as means
 use Rattle.aos_symbols.specs.declared.scope.Function.{Function}
@@ -28,41 +30,42 @@ use Rattle.aos_check_expr.specs.Expressions.{Callee, Calls, Invokes, Converts, N
 use Rattle.aos_check_expr.proofs.Good.{IsGood, MayBe, greatest_good, least_good}
 use Rattle.aos_check_expr.proofs.Sound.{IsStep, TestsOne, applied_step, applied_tests, converted_step, converted_tests}
 use Rattle.aos_check_expr.proofs.Parts.{argument_part, arguments_part, limit_part}
-use Rattle.aos_check_expr.proofs.Spots.{IsWhole, GoodConstants, MayFind, Part, Valued, Spotted, refused_part, spotted, named_spot, guarded_part}
+use Rattle.aos_check_expr.proofs.Spots.{IsWhole, GoodConstants, IsProcedure, MayFind, Part, Valued, Spotted, refused_part, spotted, named_spot, guarded_part}
 use Rattle.aos_check_expr.proofs.Worded.{len_alone_part, len_in_part}
+use Rattle.aos_check_expr.proofs.Called.{IsCalling}
 use Rattle.aos_check_expr.proofs.Passed.{invoked_part}
 
--- a conversion is into an integer type
-abbrev IsRightCallee : Callee → Type 0
-IsRightCallee (Calls f) = Unit {0}
-IsRightCallee (Invokes m k) = Unit {0}
-IsRightCallee (Converts t) = is_integer t ≡ true
-IsRightCallee Neither = Unit {0}
-
-conversion_right : (of : Option TypeId) → IsRightCallee (judge.conversion of)
-conversion_right None = tt
-conversion_right (Some t) = by (is_integer t) refl
-  where
-    by : (b : Bool) → is_integer t ≡ b → IsRightCallee (if b then Converts t else Neither)
-    by true i = i
-    by false i = tt
-
-meant_right : (x : Symbol) (m : Meaning) → IsRightCallee (judge.callee_meant x m)
-meant_right x (means.Function f) = tt
-meant_right x (means.Type of) = conversion_right of
-meant_right x (means.Procedure k) = by (desig.is_of_module x)
-  where
-    by : (b : Bool) → IsRightCallee (if b then Invokes x.at.home k else Neither)
-    by true = tt
-    by false = tt
-meant_right x m = tt
-
-callee_right : (l : Lookup) → IsRightCallee (judge.callee l)
-callee_right NoName = tt
-callee_right NotExported = tt
-callee_right (Found x) = meant_right x x.means
-
 module _ (p : Inside) (e : Env) where
+  -- a conversion is into an integer type, and a procedure is that of its signature
+  abbrev IsRightCallee : Callee → Type 0
+  IsRightCallee (Calls f) = Unit {0}
+  IsRightCallee (Invokes m k) = IsWhole p e → IsCalling p e (Plain m k) m k
+  IsRightCallee (Converts t) = is_integer t ≡ true
+  IsRightCallee Neither = Unit {0}
+
+  conversion_right : (of : Option TypeId) → IsRightCallee (judge.conversion of)
+  conversion_right None = tt
+  conversion_right (Some t) = by (is_integer t) refl
+    where
+      by : (b : Bool) → is_integer t ≡ b → IsRightCallee (if b then Converts t else Neither)
+      by true i = i
+      by false i = tt
+
+  meant_right : (x : Symbol) → (IsWhole p e → IsProcedure p e x) → (m : Meaning) → x.means ≡ m → IsRightCallee (judge.callee_meant x m)
+  meant_right x seen (means.Function f) is = tt
+  meant_right x seen (means.Type of) is = conversion_right of
+  meant_right x seen (means.Procedure k) is = by (desig.is_of_module x) refl
+    where
+      by : (b : Bool) → desig.is_of_module x ≡ b → IsRightCallee (if b then Invokes x.at.home k else Neither)
+      by true own = λ whole. seen whole k is own
+      by false own = tt
+  meant_right x seen m is = tt
+
+  callee_right : (l : Lookup) → MayFind p e l → IsRightCallee (judge.callee l)
+  callee_right NoName may = tt
+  callee_right NotExported may = tt
+  callee_right (Found x) may = meant_right x (λ whole. (may whole x refl).1) x.means refl
+
   abbrev IsFine : Judged Answer → Type 0
   IsFine = Holds (Valued p e)
 
@@ -86,7 +89,7 @@ module _ (p : Inside) (e : Env) where
 
   limit_named : (value : TypeId → Option Literal) → GivesGood value → (o : Option Head) (first : Pos) → IsFine (judge.limit_named value o first)
   limit_named value good None first = refused_part p e 35 first
-  limit_named value good (Some h) first = limit_found value good h.found h.at h.first
+  limit_named value good (Some h) first = limit_found value good h.found h.name.pos h.first
 
   limit_of_type : (value : TypeId → Option Literal) → GivesGood value → (xs : List Expr) (at : Pos) → IsFine (judge.limit e value xs at)
   limit_of_type value good [] at = refused_part p e 34 at
@@ -139,13 +142,13 @@ module _ (p : Inside) (e : Env) where
         holds_bind (Spotted p e) (Spotted p e) (desig.named e h) (λ a. desig.guarded e h.first at a (judge.guard_type e xs)) (named_spot p e good h may)
         (λ a x. guarded_part p e h.first at a x (judge.guard_type e xs))
 
-    not_called_of : (l : Lookup) (place first : Pos) → MayFind p e l → (at : Pos) (xs : List Expr) → Holds (Spotted p e) (judge.not_called e (record { found = l; at = place; first = first }) at xs)
-    not_called_of NoName place first may at xs = value_called (record { found = NoName; at = place; first = first }) may at xs
-    not_called_of NotExported place first may at xs = value_called (record { found = NotExported; at = place; first = first }) may at xs
+    not_called_of : (l : Lookup) (place : Name) (first : Pos) → MayFind p e l → (at : Pos) (xs : List Expr) → Holds (Spotted p e) (judge.not_called e (record { found = l; name = place; first = first }) at xs)
+    not_called_of NoName place first may at xs = value_called (record { found = NoName; name = place; first = first }) may at xs
+    not_called_of NotExported place first may at xs = value_called (record { found = NotExported; name = place; first = first }) may at xs
     not_called_of (Found x) place first may at xs = by x.at x.mark x.means may
       where
         head : Open → Option Export → Meaning → Head
-        head o mark m = record { found = Found (record { at = o; mark = mark; means = m }); at = place; first = first }
+        head o mark m = record { found = Found (record { at = o; mark = mark; means = m }); name = place; first = first }
 
         by : (o : Open) (mark : Option Export) (m : Meaning) → MayFind p e (head o mark m).found → Holds (Spotted p e) (judge.not_called e (head o mark m) at xs)
         by o mark (means.Type None) may = spotted p e first (desig.refused 99 first) (refused_part p e 99 first)
@@ -153,7 +156,7 @@ module _ (p : Inside) (e : Env) where
         by o mark m may = value_called (head o mark m) may at xs
 
     not_called_part : (h : Head) → MayFind p e h.found → (at : Pos) (xs : List Expr) → Holds (Spotted p e) (judge.not_called e h at xs)
-    not_called_part h may at xs = not_called_of h.found h.at h.first may at xs
+    not_called_part h may at xs = not_called_of h.found h.name h.first may at xs
 
     function_part : (f : Function) (first : Pos) (js : List (Judged Answer)) → Parts js → (xs : List Expr) → IsFine (judge.function_called e f first js xs)
     function_part function.Max first js parts xs = limit_of_type op.greatest_value greatest_good xs first
@@ -171,10 +174,11 @@ module _ (p : Inside) (e : Env) where
     called : (c : Callee) → IsRightCallee c → (h : Head) → MayFind p e h.found → (at : Pos) (js : List (Judged Answer)) → Parts js → (xs : List Expr) → length js ≡ length xs →
         Holds (Spotted p e) (judge.called_by e c h at js xs)
     called (Calls f) right h may at js parts xs many = spotted p e h.first (judge.function_called e f h.first js xs) (function_part f h.first js parts xs)
-    called (Invokes m k) right h may at js parts xs many = spotted p e h.first (judge.invoked e h.first m k js xs) (invoked_part p e h.first m k js parts xs many)
+    called (Invokes m k) right h may at js parts xs many =
+        spotted p e h.first (judge.invoked e h.first (Plain m k) m k js xs) (invoked_part p e h.first (Plain m k) m k right js parts xs many)
     called (Converts t) right h may at js parts xs many =
         spotted p e h.first (judge.one_of (λ of. op.converted t of) h.first js xs) (of_one (op.converted t) (converted_step p t right) (converted_tests t) h.first js parts xs)
     called Neither right h may at js parts xs many = not_called_part h may at xs
 
     pub called_part : (h : Head) → MayFind p e h.found → (at : Pos) (js : List (Judged Answer)) → Parts js → (xs : List Expr) → length js ≡ length xs → Holds (Spotted p e) (judge.called e h at js xs)
-    called_part h may at js parts xs many = called (judge.callee h.found) (callee_right h.found) h may at js parts xs many
+    called_part h may at js parts xs many = called (judge.callee h.found) (callee_right h.found may) h may at js parts xs many

@@ -137,7 +137,7 @@ module _ (p : Inside) (e : Env) (whole : IsWhole p e) where
       up : (o : Option TypeRow) → row_of e.types a ≡ o → on_base (λ c. comes_by n e.types c any) (base_of o) ≡ true →
           ((a : TypeId) → comes_by n e.types a any ≡ true → a ≡ any) → a ≡ any
       up (Some (row.Record (Some c) fs)) there is more = absurd (no_any (row_of e.types c) (any_row c (more c is)) (inl (whole.parts a.0 (row.Record (Some c) fs) there).0))
-      up (Some (row.Object (Some c) fs)) there is more = absurd (no_any (row_of e.types c) (any_row c (more c is)) (inr (whole.parts a.0 (row.Object (Some c) fs) there)))
+      up (Some (row.Object (Some c) fs)) there is more = absurd (no_any (row_of e.types c) (any_row c (more c is)) (inr (whole.parts a.0 (row.Object (Some c) fs) there).0))
       up (Some (row.Record None fs)) there is more = absurd (not_both (sym is))
       up (Some (row.Object None fs)) there is more = absurd (not_both (sym is))
       up o there is more = absurd (not_both (sym is))

@@ -7,9 +7,9 @@ use Rattle.aos_tree.specs.declared.expr.Expr.{Expr, out-Expr}
 use Rattle.aos_typed.specs.declared.tree.TArgument.{TArgument}
 use Rattle.aos_typed.specs.declared.tree.TArgument.TheVariants as argument
 use Rattle.aos_typed.specs.declared.tree.TExpr.TheVariants as expr
-use Rattle.aos_typed.specs.declared.tree.TCallee.TheVariants as callee
-use Rattle.aos_typed.specs.Program.{Arguments, Plain, Function}
-use Rattle.aos_typed.specs.Seen.{seen_expr, seen_argument, seen_list}
+use Rattle.aos_typed.specs.declared.tree.TCallee.{TCallee}
+use Rattle.aos_typed.specs.Program.{Arguments, Function}
+use Rattle.aos_typed.specs.Seen.{seen_callee, seen_expr, seen_argument, seen_list}
 use Rattle.aos_typed.proofs.Seen.{function_seen}
 use Rattle.aos_symbols.specs.declared.home.Parameter.{Parameter}
 use Rattle.aos_symbols.specs.declared.env.Env.{Env}
@@ -42,8 +42,8 @@ pub as_listed : (as' : List TArgument) → seen_list as' ≡ listed (map seen_gi
 as_listed [] = refl
 as_listed (a ∷ as') = as_given a (seen_list as') ∙ ap (λ more. given_as (seen_given a) more) (as_listed as')
 
-pub function_is : (m k : ℕ) (as' : Vec TArgument Global) → seen_expr (expr.Function (callee.Plain m k) as') ≡ Function (Plain m k) (listed (map seen_given as'.items))
-function_is m k as' = function_seen (callee.Plain m k) as' ∙ ap (λ more. Function (Plain m k) more) (as_listed as'.items)
+pub function_is : (c : TCallee) (as' : Vec TArgument Global) → seen_expr (expr.Function c as') ≡ Function (seen_callee c) (listed (map seen_given as'.items))
+function_is c as' = function_seen c as' ∙ ap (λ more. Function (seen_callee c) more) (as_listed as'.items)
 
 module _ (e : Env) (f : Expr → Judged Answer) where
   -- behind the first i arguments

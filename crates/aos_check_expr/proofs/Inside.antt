@@ -1,7 +1,7 @@
 -- What is well typed in the body of a procedure of a program, or in one of none. The predeclared types stand first in its table.
 use Rattle.std.proofs.Common.{◌≡◌, ◌<◌, ℕ, List, Option, slice_get}
 use Rattle.aos_typed.specs.declared.tree.TType.{TType}
-use Rattle.aos_typed.specs.Program.{Place, Rows, Arguments, Expr, Call, Stat, Stats, Arms, Cases, Parameter, Procedure, Program}
+use Rattle.aos_typed.specs.Program.{Place, Rows, Arguments, Callee, Expr, Call, Stat, Stats, Arms, Cases, Parameter, Procedure, Program}
 use Rattle.aos_typed.specs.Numbers.{predeclared_types, predeclared_rows}
 use Rattle.aos_typed.specs.WellTyped as typed
 
@@ -21,6 +21,9 @@ AreArguments p = typed.AreArguments p.program p.own
 
 abbrev pub IsOf : Inside → Expr → TType → Type 0
 IsOf p = typed.IsOf p.program p.own
+
+abbrev pub IsCalled : Inside → Callee → Procedure → Type 0
+IsCalled p = typed.IsCalled p.program p.own
 
 -- Statements.
 

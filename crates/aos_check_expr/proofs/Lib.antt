@@ -12,6 +12,8 @@ pub mod Whole
 pub mod Objects
 pub mod Pointed
 pub mod Compatible
+pub mod Selves
+pub mod Called
 pub mod Spots
 pub mod Tested
 pub mod Worded

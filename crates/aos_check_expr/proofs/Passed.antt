@@ -19,8 +19,8 @@ use Rattle.aos_typed.specs.declared.tree.TType.{TType}
 use Rattle.aos_typed.specs.declared.tree.TType.TheVariants as type
 use Rattle.aos_typed.specs.Numbers.{id_of}
 use Rattle.aos_typed.specs.Open.{open_dimensions, open_element}
-use Rattle.aos_typed.specs.Program.{Place, Rows, Known as KnownRows, Longer, Arguments, Expr as TypedExpr, Read, Parameter, Passed, Deref, Typed, Guarded, Plain, Function as Invoked, Procedure}
-use Rattle.aos_typed.specs.WellTyped.{HaveLengths, IsArrayOf, IsByValue, IsOpening, is_whole, is_basic as is_basic_type, FitsObject, IsGiven, NamesType, procedure_in, is_reference as is_reference_type, is_value as is_value_type}
+use Rattle.aos_typed.specs.Program.{Place, Rows, Known as KnownRows, Longer, Arguments, Expr as TypedExpr, Read, Parameter, Passed, Deref, Typed, Guarded, Callee, Function as Invoked, Procedure}
+use Rattle.aos_typed.specs.WellTyped.{HaveLengths, IsArrayOf, IsByValue, IsOpening, is_whole, is_basic as is_basic_type, FitsObject, IsGiven, NamesType, is_reference as is_reference_type, is_value as is_value_type}
 use Rattle.aos_symbols.specs.declared.home.Parameter.{Parameter as Formal}
 use Rattle.aos_symbols.specs.declared.home.Gives.{Gives}
 use Rattle.aos_symbols.specs.declared.home.Gives.TheVariants as gives
@@ -41,7 +41,7 @@ use Rattle.aos_check_expr.specs.Arrays as arrays
 use Rattle.aos_check_expr.specs.Arguments as judge
 use Rattle.aos_check_expr.specs.Arguments.{Given, Scalar, Whole, Opening, Handing, given_as, listed}
 use Rattle.aos_check_expr.specs.Expressions as calls
-use Rattle.aos_check_expr.proofs.Inside.{Inside, IsPlaceOf, AreRows, AreArguments, IsOf}
+use Rattle.aos_check_expr.proofs.Inside.{Inside, IsPlaceOf, AreRows, AreArguments, IsCalled, IsOf}
 use Rattle.aos_check_expr.proofs.Types.{same_type, id_as, id_above, as_named, as_basic, fits_includes, wider, includes_itself, integer_basic}
 use Rattle.aos_check_expr.proofs.Opens.{closed_row, all_behind, closed_dimensions, closed_element, next_dimensions, next_element}
 use Rattle.aos_check_expr.proofs.Good.{IsGood, IsKnownClass}
@@ -49,9 +49,10 @@ use Rattle.aos_check_expr.proofs.Stored.{IsStored}
 use Rattle.aos_check_expr.proofs.Sound.{not_both, IsScalar, IsClosedPlace, IsOpenPlace, IsWholeRead, IsOther, IsSound, scalar_of}
 use Rattle.aos_check_expr.proofs.Whole.{IsWritten}
 use Rattle.aos_check_expr.proofs.Objects.{either_is, IsPartsRow, row_high, high_row, reference_kind, reference_typed, of_any_type, object_of, parts_no_reference}
+use Rattle.aos_check_expr.proofs.Called.{IsCalling}
 use Rattle.aos_check_expr.proofs.Pointed.{comes_record, comes_whole}
 use Rattle.aos_check_expr.proofs.Compatible.{by_table, object_fits, whole_fits}
-use Rattle.aos_check_expr.proofs.Spots.{IsWhole, IsParameterType, elements_told, elements_id, AreParameters, IsResultOf, told_element, opened_row, Part, Valued, refused_value_part}
+use Rattle.aos_check_expr.proofs.Spots.{IsWhole, IsParameterType, elements_told, elements_id, AreParameters, IsResultOf, IsSigned, told_element, opened_row, Part, Valued, refused_value_part}
 use Rattle.aos_check_expr.proofs.Worded.{string_rows_are, string_kept, lengths_read, has_in, array_row, no_text, no_object, characters_row, char_row}
 
 some_not : (n : ℕ) → Some n ≡ None → ⊥
@@ -634,17 +635,17 @@ module _ (p : Inside) (e : Env) where
 
   -- A function's value.
 
-  function_part : (first : Pos) (m k : ℕ) (s : Signature) (of : Option TypeId) → env.signature e m k ≡ Some s → s.gives ≡ gives.Value of → (js : List (Judged Answer)) →
-      Each (Holds (Part p e)) js → (xs : List Expr) → length js ≡ length xs → Holds (Valued p e) (calls.function_value e first m k s of js xs)
-  function_part first m k s of is value js parts xs same =
+  function_part : (first : Pos) (c : Callee) (s : Signature) (of : Option TypeId) → (IsWhole p e → (q : Procedure) × IsCalled p c q × IsSigned e s q) → s.gives ≡ gives.Value of →
+      (js : List (Judged Answer)) → Each (Holds (Part p e)) js → (xs : List Expr) → length js ≡ length xs → Holds (Valued p e) (calls.function_value e first c s of js xs)
+  function_part first c s of called value js parts xs same =
       holds_bind (λ (g : Handing). (g.are_kept ≡ true) × (IsWhole p e → (as' : List Parameter) → AreParameters e s.parameters as' → AreArguments p (listed g.given) as')) (Valued p e)
-      (calls.arguments_for e first s.parameters js xs) (calls.function_told e first m k of) (arguments_part first s.parameters js parts xs same) told
+      (calls.arguments_for e first s.parameters js xs) (calls.function_told e first c of) (arguments_part first s.parameters js parts xs same) told
     where
-      given : IsWhole p e → (m k : ℕ) (gs : List Given) (q : Procedure) → procedure_in p.program m k ≡ Some q → (t : TypeId) → q.result ≡ Some (type_as t) → (t ≡ nil → ⊥) →
-          AreArguments p (listed gs) q.parameters → (b : Bool) → is_basic t ≡ b → (b || is_reference e t) ≡ true → IsScalar p t (Invoked (Plain m k) (listed gs)) ⊎ IsOther p t (Invoked (Plain m k) (listed gs))
-      given whole m k gs q there t result not_nil are true low is =
+      given : IsWhole p e → (gs : List Given) (q : Procedure) → IsCalled p c q → (t : TypeId) → q.result ≡ Some (type_as t) → (t ≡ nil → ⊥) →
+          AreArguments p (listed gs) q.parameters → (b : Bool) → is_basic t ≡ b → (b || is_reference e t) ≡ true → IsScalar p t (Invoked c (listed gs)) ⊎ IsOther p t (Invoked c (listed gs))
+      given whole gs q there t result not_nil are true low is =
           inl (low, (q, type_as t, there, result, ap (λ b. b || is_reference_type p.program.types (type_as t)) (as_basic t low), inl (includes_itself (type_as t) (as_basic t low)), are))
-      given whole m k gs q there t result not_nil are false high ref =
+      given whole gs q there t result not_nil are false high ref =
           let kind = reference_kind p e whole t ref in
           let typed = reference_typed p e whole t kind in
           inr (inr (high, typed, λ u takes. (q, type_as t, there, result, or_right (is_basic_type (type_as t)) _ typed, inr (fits takes.1), are)))
@@ -658,30 +659,31 @@ module _ (p : Inside) (e : Env) where
           or_right false b is = is
 
       told : (g : Handing) → (g.are_kept ≡ true) × (IsWhole p e → (as' : List Parameter) → AreParameters e s.parameters as' → AreArguments p (listed g.given) as') →
-          Holds (Valued p e) (calls.function_told e first m k of g)
+          Holds (Valued p e) (calls.function_told e first c of g)
       told g arguments none = rw arguments.0 (record {
         class = tt;
         valued = refl;
         made = λ w. w;
         plain = λ whole.
-            let signed = whole.signatures m k s is in
+            let signed = called whole in
             let result = subst (λ r. IsResultOf r signed.0.result) value signed.2.result in
             let held : is_value e result.0 ≡ true = sym (ap (passes (is_value e)) result.1) ∙ test_is (passes (is_value e) of) 99 first none in
             record {
               of = result.0;
               known = result.1;
-              typed = given whole m k g.given signed.0 signed.1 result.0 result.2 result.3 (arguments.1 whole signed.0.parameters signed.2.parameters) (is_basic result.0) refl held;
+              typed = given whole g.given signed.0 signed.1 result.0 result.2 result.3 (arguments.1 whole signed.0.parameters signed.2.parameters) (is_basic result.0) refl held;
             };
       })
 
-  pub invoked_part : (first : Pos) (m k : ℕ) (js : List (Judged Answer)) → Each (Holds (Part p e)) js → (xs : List Expr) → length js ≡ length xs →
-      Holds (Valued p e) (calls.invoked e first m k js xs)
-  invoked_part first m k js parts xs same = by (env.signature e m k) refl
+  -- of what is called as its signature tells
+  pub invoked_part : (first : Pos) (c : Callee) (m k : ℕ) → (IsWhole p e → IsCalling p e c m k) → (js : List (Judged Answer)) → Each (Holds (Part p e)) js → (xs : List Expr) → length js ≡ length xs →
+      Holds (Valued p e) (calls.invoked e first c m k js xs)
+  invoked_part first c m k called js parts xs same = by (env.signature e m k) refl
     where
-      by_result : (s : Signature) → env.signature e m k ≡ Some s → (g : Gives) → s.gives ≡ g → Holds (Valued p e) (calls.value_of_procedure e first m k s js xs)
+      by_result : (s : Signature) → env.signature e m k ≡ Some s → (g : Gives) → s.gives ≡ g → Holds (Valued p e) (calls.value_of_procedure e first c s js xs)
       by_result s is gives.Nothing at = rw at (refused_value_part p e 36 first)
-      by_result s is (gives.Value of) at = rw at (function_part first m k s of is at js parts xs same)
+      by_result s is (gives.Value of) at = rw at (function_part first c s of (λ whole. called whole s is) at js parts xs same)
 
-      by : (o : Option Signature) → env.signature e m k ≡ o → Holds (Valued p e) (calls.invoked e first m k js xs)
+      by : (o : Option Signature) → env.signature e m k ≡ o → Holds (Valued p e) (calls.invoked e first c m k js xs)
       by None is = rw is (refused_value_part p e 20 first)
       by (Some s) is = rw is (by_result s is s.gives refl)

@@ -252,7 +252,7 @@ module _ (p : Inside) (e : Env) (whole : IsWhole p e) where
           ((a b : TypeId) → comes_by n e.types a b ≡ true → is_record (row_of e.types b) ≡ true → is_record (row_of e.types a) ≡ true) → is_record o ≡ true
       up (Some (row.Record base fs)) there is more = refl
       up (Some (row.Object None fs)) there is more = absurd (not_both (sym is))
-      up (Some (row.Object (Some c) fs)) there is more = absurd (both (row_of e.types c) (whole.parts a.0 (row.Object (Some c) fs) there) (more c b is r))
+      up (Some (row.Object (Some c) fs)) there is more = absurd (both (row_of e.types c) (whole.parts a.0 (row.Object (Some c) fs) there).0 (more c b is r))
         where
           both : (o : Option TypeRow) → is_object o ≡ true → is_record o ≡ true → ⊥
           both (Some (row.Object base gs)) i j = not_both (sym j)
@@ -273,7 +273,7 @@ module _ (p : Inside) (e : Env) (whole : IsWhole p e) where
           ((a b : TypeId) → comes_by n e.types a b ≡ true → is_whole (row_of e.types b) ≡ true → is_whole (row_of e.types a) ≡ true) → is_whole o ≡ true
       up (Some (row.Record base fs)) there is more = refl
       up (Some (row.Object None fs)) there is more = absurd (not_both (sym is))
-      up (Some (row.Object (Some c) fs)) there is more = absurd (both (row_of e.types c) (whole.parts a.0 (row.Object (Some c) fs) there) (more c b is r))
+      up (Some (row.Object (Some c) fs)) there is more = absurd (both (row_of e.types c) (whole.parts a.0 (row.Object (Some c) fs) there).0 (more c b is r))
         where
           both : (o : Option TypeRow) → is_object o ≡ true → is_whole o ≡ true → ⊥
           both (Some (row.Object base gs)) i j = not_both (sym j)

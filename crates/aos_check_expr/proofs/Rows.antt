@@ -21,7 +21,7 @@ use Rattle.aos_symbols.specs.Judged.{Judged, bind, walk}
 use Rattle.aos_check_expr.specs.Known.{Answer, Spot}
 use Rattle.aos_check_expr.specs.Operations.{no_elements}
 use Rattle.aos_check_expr.specs.Designators.{plain, read}
-use Rattle.aos_check_expr.specs.Expressions.{expr, relation, relation_if, simple, addition, additions, term, product, products, factor, elements, element, Part, Begun, spot_of_part, as_part, designator, selectors, selector, indices, index, indexed, arguments, bracketed, added, is_test, tested, qualident_in, related_by, signed, opposite, whole_set, with_element, with_span}
+use Rattle.aos_check_expr.specs.Expressions.{expr, relation, relation_if, simple, addition, additions, term, product, products, factor, elements, element, Part, Begun, spot_of_part, selected, as_part, designator, selectors, selector, indices, index, indexed, arguments, bracketed, added, is_test, tested, qualident_in, related_by, signed, opposite, whole_set, with_element, with_span}
 
 -- a list of two
 pub two_items : {X : Type 0} (xs : List X) (x y d d' : X) → 2 ≤ length xs → length xs < 3 → x ≡ get_or xs 0 d → y ≡ get_or xs 1 d' → xs ≡ x ∷ y ∷ []
@@ -134,8 +134,8 @@ module _ (e : Env) where
   pub selector_index : (first : Pos) (a : Part) (x : Selector) (p : Pos) (es : List Expr) → x ≡ s.Index p es → selector e first a x ≡ indexed e p a es
   selector_index first a x p es is =
       ap (λ y. selector e first a y) is
-      ∙ ap (λ z. as_part (bind (spot_of_part e a) (λ b. z)))
-      (indices_row _ p (spot_of_part e a).answer (hidden-the_row-Expr-4 es) ∙ ap (λ xs. walk (index e p) (spot_of_part e a).answer xs) (items_hidden-the_row-Expr-4 es))
+      ∙ ap (λ z. as_part (bind (selected e p a) (λ b. z)))
+      (indices_row _ p (selected e p a).answer (hidden-the_row-Expr-4 es) ∙ ap (λ xs. walk (index e p) (selected e p a).answer xs) (items_hidden-the_row-Expr-4 es))
 
   pub selector_paren : (first : Pos) (a : Part) (x : Selector) (p : Pos) (es : List Expr) → x ≡ s.Paren p es →
       selector e first a x ≡ bracketed e first a p (map (expr e) es) es

@@ -10,14 +10,14 @@ use Rattle.aos_tree.specs.declared.decl.Export.TheVariants.{ReadWrite, ReadOnly 
 use Rattle.aos_types.specs.declared.row.TypeId.{TypeId}
 use Rattle.aos_types.specs.declared.row.TypeRow.{TypeRow}
 use Rattle.aos_types.specs.declared.row.TypeRow.TheVariants as row
-use Rattle.aos_types.specs.Table.{row_of, is_open, is_record}
+use Rattle.aos_types.specs.Table.{row_of, is_open, is_record, is_object}
 use Rattle.aos_typed.specs.declared.tree.Literal.{Literal}
 use Rattle.aos_typed.specs.declared.tree.Literal.TheVariants as literal
 use Rattle.aos_typed.specs.Numbers.{id_of}
 use Rattle.aos_typed.specs.Open.{open_dimensions, open_element}
 use Rattle.aos_typed.specs.declared.tree.TType.{TType}
 use Rattle.aos_typed.specs.declared.tree.TType.TheVariants as type
-use Rattle.aos_typed.specs.Program.{Place, ModuleVar, Of, Index, Guarded, Row, Expr, Read, Guard}
+use Rattle.aos_typed.specs.Program.{Place, ModuleVar, Of, Index, Deref, Guarded, Row, Expr, Read, Guard, Plain}
 use Rattle.aos_typed.specs.Program.{Field as FieldOf}
 use Rattle.aos_typed.specs.WellTyped.{field_type, is_reference as is_reference_type}
 use Rattle.aos_symbols.specs.declared.scope.Entry.{Entry}
@@ -38,7 +38,7 @@ use Rattle.aos_symbols.specs.Env as env
 use Rattle.aos_symbols.specs.Env.{text}
 use Rattle.aos_symbols.proofs.Each.{each_at}
 use Rattle.aos_symbols.proofs.Holds.{Holds, holds_bind, broken}
-use Rattle.aos_symbols.proofs.Lookups.{IsPredeclared, another, IsOfAll, lookup_is, member_is}
+use Rattle.aos_symbols.proofs.Lookups.{IsPredeclared, itself, IsOfAll, lookup_is, member_is}
 use Rattle.aos_symbols.proofs.Told.{IsTold}
 use Rattle.aos_check_expr.proofs.Inside.{Inside, IsPlaceOf, AreRows, IsOf}
 use Rattle.aos_check_expr.specs.declared.known.Class.{Class}
@@ -48,8 +48,10 @@ use Rattle.aos_check_expr.specs.declared.designators.Head.{Head}
 use Rattle.aos_check_expr.specs.Known.{Answer, Spot, Held, Stands, Value, is_basic, is_number, is_lost, object_number, value_class, type_as, type_of, read_from, known_as, spot_of, answered, constant_answer, nothing}
 use Rattle.aos_check_expr.specs.Designators as desig
 use Rattle.aos_check_expr.proofs.Types.{includes_itself, as_basic, id_as}
-pub use Rattle.aos_check_expr.proofs.Whole.{IsTyped, closed, opened, GoodConstants, IsParameterType, AreParameters, IsResultOf, IsSigned, IsSearched, AreOpensTold, parameter_type, opens_told, told_element, HasBody, IsWhole, NarrowsWell, text_row, no_array, array_open, no_open, opened_row, told_closed, row_opened, elements_told, elements_id}
-use Rattle.aos_check_expr.proofs.Objects.{sound_object, parts_no_reference, record_no_reference, IsPartsRow}
+pub use Rattle.aos_check_expr.proofs.Whole.{IsTyped, closed, opened, GoodConstants, IsParameterType, AreParameters, IsResultOf, IsSigned, IsFieldScope, IsSearched, has_fields, AreOpensTold, parameter_type, opens_told, told_element, HasBody, IsWhole, NarrowsWell, text_row, no_array, array_open, no_open, opened_row, told_closed, row_opened, elements_told, elements_id}
+use Rattle.aos_check_expr.proofs.Called.{IsCalling}
+use Rattle.aos_check_expr.proofs.Objects.{sound_object, of_own_type, parts_no_reference, record_no_reference, IsPartsRow}
+use Rattle.aos_check_expr.proofs.Selves.{object_made, self_object, object_field_typed, self_field, object_refers, object_type_row}
 use Rattle.aos_check_expr.proofs.Pointed.{pointed_kind, followed_typed, guard_object, guard_record}
 use Rattle.aos_check_expr.proofs.Opens.{closed_dimensions, closed_element, next_dimensions, next_element}
 use Rattle.aos_check_expr.proofs.Stored.{IsStored, IsMade}
@@ -79,8 +81,16 @@ pub record IsSpot (p : Inside) (e : Env) (a : Spot) : Type 0 where
 
 -- what is predeclared is no variable
 no_variable : (m : Meaning) → IsPredeclared m → (k : ℕ) → m ≡ means.Variable k → ⊥
-no_variable m another k e = cc
+no_variable m itself k e = cc
 no_variable m x k e = cc
+
+-- and no procedure of a module
+no_procedure : (m : Meaning) → IsPredeclared m → (k : ℕ) → m ≡ means.Procedure k → ⊥
+no_procedure m itself k e = cc
+no_procedure m x k e = cc
+
+found_same : (a b : Symbol) → Found a ≡ Found b → a ≡ b
+found_same a b e = cc
 
 access_stored : (here : Bool) (mark : Option Export) → IsStored (desig.access here mark)
 access_stored here None = tt
@@ -143,43 +153,59 @@ module _ (p : Inside) (e : Env) where
   -- What is found of a name.
 
   abbrev IsVariable : Symbol → Type 0
-  IsVariable x = (k : ℕ) → x.means ≡ means.Variable k → desig.is_reached e x ≡ true → IsTyped p e (desig.place_of_variable e x k) (env.variable_type e x.at k)
+  IsVariable x = (k : ℕ) → x.means ≡ means.Variable k → IsTyped p e (desig.place_of_variable e x k) (env.variable_type e x.at k)
+
+  -- a procedure that the scope of a module names is that of its signature
+  abbrev pub IsProcedure : Symbol → Type 0
+  IsProcedure x = (k : ℕ) → x.means ≡ means.Procedure k → desig.is_of_module x ≡ true → IsCalling p e (Plain x.at.home k) x.at.home k
+
+  abbrev pub IsSeen : Symbol → Type 0
+  IsSeen x = IsVariable x × IsProcedure x
 
   abbrev pub MayFind : Lookup → Type 0
-  MayFind l = IsWhole p e → (x : Symbol) → l ≡ Found x → IsVariable x
+  MayFind l = IsWhole p e → (x : Symbol) → l ≡ Found x → IsSeen x
 
-  all_variables : IsWhole p e → IsOfAll e (IsSearched e) IsVariable
-  all_variables whole = record {
-    entries = λ o s w x searched there is k means at. variable o s w x k searched there is means at;
-    others = λ m is k means at. absurd (no_variable m is k means);
+  all_seen : IsWhole p e → IsOfAll e (IsSearched e) IsSeen
+  all_seen whole = record {
+    entries = λ o s w x searched there is. (λ k means. variable o s w x k searched there is means, λ k means own. procedure o s w x k own there is means);
+    others = λ m is. (λ k means. absurd (no_variable m is k means), λ k means own. absurd (no_procedure m is k means));
   }
     where
+      procedure : (o : Open) (s : Scope) (w : List ℕ) (x : Entry) (k : ℕ) → (o.scope == 0) ≡ true → env.scope e o ≡ Some s → find s w ≡ Some x → x.means ≡ means.Procedure k →
+          IsCalling p e (Plain o.home k) o.home k
+      procedure o s w x k own there is means =
+          let here : o ≡ env.own o.home = ap (λ (i : ℕ). record { home = o.home; scope = i }) (eqb-true o.scope 0 own) in
+          whole.signatures o.home k s w x (subst (λ (o : Open). env.scope e o ≡ Some s) here there) is means
+
+      own_variable : (o : Open) (s : Scope) (w : List ℕ) (x : Entry) (k : ℕ) → desig.is_own_scope e o ≡ true → env.scope e o ≡ Some s → find s w ≡ Some x → x.means ≡ means.Variable k →
+          IsTyped p e (desig.own_place e k) (env.variable_type e o k)
+      own_variable o s w x k at there is means =
+          let two = and_parts (o.home == e.number && o.scope == env.innermost e.path) (is_some (env.own_signature e)) at in
+          let places = and_parts (o.home == e.number) (o.scope == env.innermost e.path) two.0 in
+          let here : o ≡ record { home = e.number; scope = env.innermost e.path } =
+          ap₂ (λ (h i : ℕ). record { home = h; scope = i }) (eqb-true o.home e.number places.0) (eqb-true o.scope (env.innermost e.path) places.1) in
+          subst (λ (o : Open). IsTyped p e (desig.own_place e k) (env.variable_type e o k)) (sym here)
+          (whole.locals s w x k two.1 (subst (λ (o : Open). env.scope e o ≡ Some s) here there) is means)
+
       variable : (o : Open) (s : Scope) (w : List ℕ) (x : Entry) (k : ℕ) → IsSearched e o → env.scope e o ≡ Some s → find s w ≡ Some x → x.means ≡ means.Variable k →
-          desig.is_reached e (env.declared_at o x) ≡ true → IsTyped p e (desig.place_of_variable e (env.declared_at o x) k) (env.variable_type e o k)
-      variable o s w x k searched there is means at = by (o.scope == 0) refl searched
+          IsTyped p e (desig.place_of_variable e (env.declared_at o x) k) (env.variable_type e o k)
+      variable o s w x k searched there is means = by (o.scope == 0) refl (desig.is_own_scope e o) refl searched
         where
-          Typed : Bool → Type 0
-          Typed b = IsTyped p e (if b then ModuleVar o.home k else desig.own_place e k) (env.variable_type e o k)
+          Typed : Bool → Bool → Type 0
+          Typed b c = IsTyped p e (if b then ModuleVar o.home k else if c then desig.own_place e k else desig.inner_place e o k) (env.variable_type e o k)
 
-          reached : (o.scope == 0) ≡ false → is_some (env.own_signature e) ≡ true
-          reached isnt = sym (ap (λ b. b || is_some (env.own_signature e)) isnt) ∙ at
-
-          own : (o' : Open) → o ≡ o' → is_some (env.own_signature e) ≡ true → o'.home ≡ e.number → o'.scope ≡ env.innermost e.path → IsTyped p e (desig.own_place e k) (env.variable_type e o k)
-          own o' same signed home inner =
-              let here : o ≡ record { home = e.number; scope = env.innermost e.path } = same ∙ ap₂ (λ h i. record { home = h; scope = i }) home inner in
-              subst (λ o. IsTyped p e (desig.own_place e k) (env.variable_type e o k)) (sym here)
-              (whole.locals s w x k signed (subst (λ o. env.scope e o ≡ Some s) here there) is means)
-
-          by : (b : Bool) → (o.scope == 0) ≡ b → IsSearched e o → Typed b
-          by true z searched = whole.variables o s w x k (eqb-true o.scope 0 z) there is means
-          by false z (inl none) = absurd (not_both (sym (eq-eqb o.scope 0 none) ∙ z))
-          by false z (inr same) = own o refl (reached z) same.0 same.1
+          by : (b : Bool) → (o.scope == 0) ≡ b → (c : Bool) → desig.is_own_scope e o ≡ c → IsSearched e o → Typed b c
+          by true z c own searched = whole.variables o s w x k (eqb-true o.scope 0 z) there is means
+          by false z true own searched = own_variable o s w x k own there is means
+          by false z false own (inl none) = absurd (not_both (sym (eq-eqb o.scope 0 none) ∙ z))
+          by false z false own (inr (inl same)) = absurd (not_both (sym same ∙ own))
+          by false z false own (inr (inr field)) = self_field p e whole o s w x k field there is means
 
   none_found : MayFind NoName
   none_found whole x is = absurd (cc)
 
   pub plain_head : (n : Name) → MayFind (desig.plain e n).found
-  plain_head n whole = lookup_is e (IsSearched e) IsVariable (all_variables whole) whole.path n
+  plain_head n whole = lookup_is e (IsSearched e) IsSeen (all_seen whole) whole.path n
 
   of_out : (n : Name) → MayFind (desig.member_of_out e n)
   of_out n = by (is_among procedures_of_out (word e.here.text n))
@@ -187,12 +213,15 @@ module _ (p : Inside) (e : Env) where
       proper : (x : Symbol) → Found (record { at = env.own e.number; mark = None; means = means.Proper }) ≡ Found x → (k : ℕ) → x.means ≡ means.Variable k → ⊥
       proper x is k m = cc
 
+      no_own : (x : Symbol) → Found (record { at = env.own e.number; mark = None; means = means.Proper }) ≡ Found x → (k : ℕ) → x.means ≡ means.Procedure k → ⊥
+      no_own x is k m = cc
+
       by : (b : Bool) → MayFind (if b then Found (record { at = env.own e.number; mark = None; means = means.Proper }) else NoName)
-      by true = λ whole x is k m at. absurd (proper x is k m)
+      by true = λ whole x is. (λ k m. absurd (proper x is k m), λ k m own. absurd (no_own x is k m))
       by false = none_found
 
   of_meaning : (m : Meaning) (n : Name) → MayFind (desig.member_of e m n)
-  of_meaning (means.Module m) n = λ whole. member_is e (IsSearched e) IsVariable (all_variables whole) m (inl refl) n
+  of_meaning (means.Module m) n = λ whole. member_is e (IsSearched e) IsSeen (all_seen whole) m (inl refl) n
   of_meaning means.Out n = of_out n
   of_meaning m n = none_found
 
@@ -200,6 +229,30 @@ module _ (p : Inside) (e : Env) where
   behind_head NoName n = none_found
   behind_head NotExported n = λ whole x is. absurd (cc)
   behind_head (Found x) n = of_meaning x.means n
+
+  -- what is found behind a module's name is in the scope of a module
+  abbrev IsOfModule : Lookup → Type 0
+  IsOfModule l = (x : Symbol) → l ≡ Found x → desig.is_of_module x ≡ true
+
+  all_of_modules : IsOfAll e (λ o. (o.scope == 0) ≡ true) (λ x. desig.is_of_module x ≡ true)
+  all_of_modules = record { entries = λ o s w x own there is. own; others = λ m is. refl }
+
+  none_of_module : IsOfModule NoName
+  none_of_module x is = absurd (cc)
+
+  out_of_module : (b : Bool) → IsOfModule (if b then Found (record { at = env.own e.number; mark = None; means = means.Proper }) else NoName)
+  out_of_module true x is = subst (λ y. desig.is_of_module y ≡ true) (found_same (record { at = env.own e.number; mark = None; means = means.Proper }) x is) refl
+  out_of_module false x is = none_of_module x is
+
+  pub behind_of_module : (l : Lookup) (n : Name) → IsOfModule (desig.member_in e l n)
+  behind_of_module NoName n = none_of_module
+  behind_of_module NotExported n = λ x is. absurd (cc)
+  behind_of_module (Found y) n = by y.means
+    where
+      by : (m : Meaning) → IsOfModule (desig.member_of e m n)
+      by (means.Module m) = member_is e (λ o. (o.scope == 0) ≡ true) (λ x. desig.is_of_module x ≡ true) all_of_modules m refl n
+      by means.Out = out_of_module (is_among procedures_of_out (word e.here.text n))
+      by m = none_of_module
 
   -- Values.
 
@@ -421,31 +474,45 @@ module _ (p : Inside) (e : Env) where
       one false is = s
 
   otherwise_spot : (m : Meaning) (h : Head) → Holds Spotted (desig.meant_otherwise m h)
-  otherwise_spot (means.Type of) h = spotted h.at (desig.refused 16 h.at) (refused_part 16 h.at)
-  otherwise_spot (means.Module m) h = spotted h.at (desig.refused 16 h.at) (refused_part 16 h.at)
-  otherwise_spot means.Out h = spotted h.at (desig.refused 16 h.at) (refused_part 16 h.at)
-  otherwise_spot (means.Truth b) h = spotted h.at (kept (constant_answer (literal.Bool b))) (λ none. constant_part p (IsWhole p e) (literal.Bool b) tt)
-  otherwise_spot (means.Function f) h = spotted h.at (desig.refused_value 36 h.first) (refused_value_part 36 h.first)
-  otherwise_spot (means.Routine r) h = spotted h.at (desig.refused_value 36 h.first) (refused_value_part 36 h.first)
-  otherwise_spot means.Proper h = spotted h.at (desig.refused_value 36 h.first) (refused_value_part 36 h.first)
-  otherwise_spot (means.Procedure k) h = spotted h.at (desig.refused_value 99 h.first) (refused_value_part 99 h.first)
-  otherwise_spot (means.Variable k) h = spotted h.at (desig.refused_value 99 h.first) (refused_value_part 99 h.first)
-  otherwise_spot (means.Constant k) h = spotted h.at (desig.refused_value 99 h.first) (refused_value_part 99 h.first)
-  otherwise_spot means.Other h = spotted h.at (desig.refused_value 99 h.first) (refused_value_part 99 h.first)
+  otherwise_spot (means.Type of) h = spotted h.name.pos (desig.refused 16 h.name.pos) (refused_part 16 h.name.pos)
+  otherwise_spot (means.Module m) h = spotted h.name.pos (desig.refused 16 h.name.pos) (refused_part 16 h.name.pos)
+  otherwise_spot means.Out h = spotted h.name.pos (desig.refused 16 h.name.pos) (refused_part 16 h.name.pos)
+  otherwise_spot (means.Truth b) h = spotted h.name.pos (kept (constant_answer (literal.Bool b))) (λ none. constant_part p (IsWhole p e) (literal.Bool b) tt)
+  otherwise_spot (means.Function f) h = spotted h.name.pos (desig.refused_value 36 h.first) (refused_value_part 36 h.first)
+  otherwise_spot (means.Routine r) h = spotted h.name.pos (desig.refused_value 36 h.first) (refused_value_part 36 h.first)
+  otherwise_spot means.Proper h = spotted h.name.pos (desig.refused_value 36 h.first) (refused_value_part 36 h.first)
+  otherwise_spot (means.Procedure k) h = spotted h.name.pos (desig.refused_value 99 h.first) (refused_value_part 99 h.first)
+  otherwise_spot (means.Variable k) h = spotted h.name.pos (desig.refused_value 99 h.first) (refused_value_part 99 h.first)
+  otherwise_spot (means.Constant k) h = spotted h.name.pos (desig.refused_value 99 h.first) (refused_value_part 99 h.first)
+  otherwise_spot means.Itself h = spotted h.name.pos (desig.refused_value 99 h.first) (refused_value_part 99 h.first)
+  otherwise_spot means.Other h = spotted h.name.pos (desig.refused_value 99 h.first) (refused_value_part 99 h.first)
+
+  -- SELF
+  self_spot : (at : Pos) → Holds Spotted (desig.itself e at)
+  self_spot at = by e.self_type refl
+    where
+      by : (o : Option TypeId) → e.self_type ≡ o → Holds Spotted (desig.self_of o at)
+      by None is = spotted at (desig.refused 46 at) (refused_part 46 at)
+      by (Some t) is = λ none. record {
+        class = tt;
+        valued = refl;
+        stored = λ w. w;
+        sound = λ whole. record { of = t; known = refl; typed = inr (inr (self_object p e whole t is)) };
+      }
 
   meant_spot : GoodConstants e → (x : Symbol) → (IsWhole p e → IsVariable x) → (m : Meaning) → x.means ≡ m → (h : Head) → Holds Spotted (desig.meant e x m h)
-  meant_spot good x sound (means.Variable k) is h = by (desig.is_reached e x) refl
-    where
-      by : (b : Bool) → desig.is_reached e x ≡ b → Holds Spotted (if b then kept (desig.narrowed e x k (desig.variable e x k h.at)) else desig.spotted h.at (desig.refused 99 h.at))
-      by true own = λ none. narrowed_fine x k e.narrowed (desig.variable e x k h.at) (stored (desig.access (x.at.home == e.number) x.mark) (env.variable_type e x.at k) (desig.place_of_variable e x k) h.at (access_stored (x.at.home == e.number) x.mark) (λ whole. sound whole k is own)) (λ whole. whole.narrows x k h.at)
-      by false own = spotted h.at (desig.refused 99 h.at) (refused_part 99 h.at)
-  meant_spot good x sound (means.Constant k) is h = spotted h.at (desig.constant_of (env.constant e x.at k h.first) h.at) (constant_there good x.at k h.first h.at)
+  meant_spot good x sound (means.Variable k) is h = λ none.
+      narrowed_fine x k e.narrowed (desig.variable e x k h.name.pos)
+      (stored (desig.access (x.at.home == e.number) x.mark) (env.variable_type e x.at k) (desig.place_of_variable e x k) h.name.pos (access_stored (x.at.home == e.number) x.mark) (λ whole. sound whole k is))
+      (λ whole. whole.narrows x k h.name.pos)
+  meant_spot good x sound (means.Constant k) is h = spotted h.name.pos (desig.constant_of (env.constant e x.at k h.first) h.name.pos) (constant_there good x.at k h.first h.name.pos)
+  meant_spot good x sound means.Itself is h = self_spot h.name.pos
   meant_spot good x sound m is h = otherwise_spot m h
 
   found_spot : GoodConstants e → (l : Lookup) → MayFind l → (h : Head) → Holds Spotted (desig.found e l h)
-  found_spot good NoName may h = spotted h.at (desig.refused 14 h.at) (refused_part 14 h.at)
-  found_spot good NotExported may h = spotted h.at (desig.refused 15 h.at) (refused_part 15 h.at)
-  found_spot good (Found x) may h = meant_spot good x (λ whole. may whole x refl) x.means refl h
+  found_spot good NoName may h = spotted h.name.pos (desig.refused 14 h.name.pos) (refused_part 14 h.name.pos)
+  found_spot good NotExported may h = spotted h.name.pos (desig.refused 15 h.name.pos) (refused_part 15 h.name.pos)
+  found_spot good (Found x) may h = meant_spot good x (λ whole. (may whole x refl).0) x.means refl h
 
   pub named_spot : GoodConstants e → (h : Head) → MayFind h.found → Holds Spotted (desig.named e h)
   named_spot good h may = found_spot good h.found may h
@@ -525,11 +592,47 @@ module _ (p : Inside) (e : Env) where
   through_fine : (a : Spot) → Spotted a → Spotted (desig.through e a)
   through_fine a x = through_of a.known.of a.known.class a.held a.at x
 
+  -- an object that a designator is
+  pub object_held : IsWhole p e → (a : Spot) → Spotted a → (t : TypeId) → a.known.of ≡ Some t → desig.is_object_type e t ≡ true → IsOf p (read_from a.known.of a.held) (type_as t)
+  object_held whole a x t known object =
+      let sound = read_sound whole a.known a.held (x.sound whole) in
+      let same : t ≡ sound.of = same_Some t sound.of (sym known ∙ sound.known) in
+      of_own_type p e whole t (read_from a.known.of a.held)
+      (subst (λ v. IsObject p v (read_from a.known.of a.held)) (sym same)
+      (sound_object p e whole (record { known = a.known; typed = read_from a.known.of a.held }) sound
+      (ap (desig.is_reference e) (sym same) ∙ object_refers p e whole t object)))
+      (object_made p e whole t (object_type_row p e whole t object).1)
+
+  -- a field of an object is a variable
+  variable_stored : (may : Bool) → IsStored (desig.part_class may Variable)
+  variable_stored true = tt
+  variable_stored false = tt
+
+  object_field_fine : (t : TypeId) (f : Field) (n : Name) (at : Pos) (a : Spot) → Spotted a → a.known.of ≡ Some t → env.field e t n ≡ Some f → desig.is_object_type e t ≡ true →
+      Spotted (desig.object_field t f at a)
+  object_field_fine t f n at a x known found object =
+      subst
+      (λ c. Spotted (record { known = known_as (desig.part_class (desig.may_write f) c) f.of; held = Stands (FieldOf (Deref (read_from a.known.of a.held) (type_as t)) (type_as t) f.number); at = at }))
+      (sym (followed_variable a.known.class x.class))
+      (stored (desig.part_class (desig.may_write f) Variable) f.of (FieldOf (Deref (read_from a.known.of a.held) (type_as t)) (type_as t) f.number) at (variable_stored (desig.may_write f)) (λ whole.
+      let own = (object_type_row p e whole t object).1 in
+      let g = whole.fields t n f found (object_fields (row_of e.types t) own) in
+      subst (λ of. IsTyped p e (FieldOf (Deref (read_from a.known.of a.held) (type_as t)) (type_as t) f.number) of) (sym g.1)
+      (object_field_typed p e whole t (read_from a.known.of a.held) (object_held whole a x t known object) own f.number g.0 g.2 g.3)))
+    where
+      object_fields : (o : Option TypeRow) → is_object o ≡ true → has_fields o ≡ true
+      object_fields (Some (row.Object base fs)) i = refl
+      object_fields o i = absurd (not_both (sym i))
+
+  record_fields : (o : Option TypeRow) → is_record o ≡ true → has_fields o ≡ true
+  record_fields (Some (row.Record base fs)) i = refl
+  record_fields o i = absurd (not_both (sym i))
+
   -- a field of a record
   field_typed : IsWhole p e → (t : TypeId) (n : Name) (f : Field) → env.field e t n ≡ Some f → is_record (row_of e.types t) ≡ true →
       IsPartOf (Some t) f.of (λ place. FieldOf place (type_as t) f.number)
   field_typed whole t n f is r place (closed typed known) =
-      let g = whole.fields t n f is r in
+      let g = whole.fields t n f is (record_fields (row_of e.types t) r) in
       let u = g.0 in
       let there : field_type p.program.types (id_of (type_as t)) f.number ≡ Some (id_of (type_as u)) =
       ap (λ i. field_type p.program.types i f.number) (id_as e.types t known) ∙ ap (λ rows. field_type rows t f.number) whole.rows
@@ -552,11 +655,11 @@ module _ (p : Inside) (e : Env) where
       by o is r = absurd (not_both (sym r))
 
   field_in : (t : TypeId) (a : Spot) → Spotted a → a.known.of ≡ Some t → (q : Pos) (n : Name) →
-      Holds Spotted (if desig.is_record_type e t then desig.field_found e a q n t (env.field e t n) else desig.lacking e t q)
-  field_in t a x known q n = by (desig.is_record_type e t) refl
+      Holds Spotted (if desig.has_fields e t then desig.field_found e a q n t (env.field e t n) else desig.lacking e t q)
+  field_in t a x known q n = by (desig.has_fields e t) refl
     where
-      seen : (f : Field) (b : Bool) → Spotted (desig.field_spot t f n.pos a) →
-          Holds Spotted (if b then kept (desig.field_spot t f n.pos a) else desig.spotted n.pos (desig.refused 15 n.pos))
+      seen : (f : Field) (b : Bool) → Spotted (desig.field_spot e t f n.pos a) →
+          Holds Spotted (if b then kept (desig.field_spot e t f n.pos a) else desig.spotted n.pos (desig.refused 15 n.pos))
       seen f true s = λ none. s
       seen f false s = spotted n.pos (desig.refused 15 n.pos) (refused_part 15 n.pos)
 
@@ -564,16 +667,24 @@ module _ (p : Inside) (e : Env) where
       low true h = absurd (not_both (sym h))
       low false h = refl
 
-      there : desig.is_record_type e t ≡ true → (o : Option Field) → env.field e t n ≡ o → Holds Spotted (desig.field_found e a q n t o)
-      there of_record None is = lacking_fine t q
-      there of_record (Some f) is =
-          let two = and_parts (not (is_basic t)) _ of_record in
-          seen f (f.is_own || is_some f.mark)
-          (part_fine (desig.may_write f) f.of (λ place. FieldOf place (type_as t) f.number) n.pos a x t known (low (is_basic t) two.0, λ whole. record_parts t two.1)
-          (λ whole. subst (λ of. IsPartOf of f.of (λ place. FieldOf place (type_as t) f.number)) (sym known) (field_typed whole t n f is two.1)))
+      left : (b c : Bool) → c ≡ false → (b || c) ≡ true → b ≡ true
+      left true c none is = refl
+      left false c none is = absurd (not_both (sym is ∙ none))
 
-      by : (b : Bool) → desig.is_record_type e t ≡ b → Holds Spotted (if b then desig.field_found e a q n t (env.field e t n) else desig.lacking e t q)
-      by true of_record = there of_record (env.field e t n) refl
+      spot_fine : desig.has_fields e t ≡ true → (f : Field) → env.field e t n ≡ Some f → (b : Bool) → desig.is_object_type e t ≡ b →
+          Spotted (if b then desig.object_field t f n.pos a else desig.part_spot (desig.may_write f) f.of (λ place. FieldOf place (type_as t) f.number) n.pos a)
+      spot_fine has f is true object = object_field_fine t f n n.pos a x known is object
+      spot_fine has f is false other =
+          let two = and_parts (not (is_basic t)) _ (left (desig.is_record_type e t) (desig.is_object_type e t) other has) in
+          part_fine (desig.may_write f) f.of (λ place. FieldOf place (type_as t) f.number) n.pos a x t known (low (is_basic t) two.0, λ whole. record_parts t two.1)
+          (λ whole. subst (λ of. IsPartOf of f.of (λ place. FieldOf place (type_as t) f.number)) (sym known) (field_typed whole t n f is two.1))
+
+      there : desig.has_fields e t ≡ true → (o : Option Field) → env.field e t n ≡ o → Holds Spotted (desig.field_found e a q n t o)
+      there has None is = lacking_fine t q
+      there has (Some f) is = seen f (f.is_own || is_some f.mark) (spot_fine has f is (desig.is_object_type e t) refl)
+
+      by : (b : Bool) → desig.has_fields e t ≡ b → Holds Spotted (if b then desig.field_found e a q n t (env.field e t n) else desig.lacking e t q)
+      by true has = there has (env.field e t n) refl
       by false other = lacking_fine t q
 
   field_of : (of : Option TypeId) (c : Class) (h : Held) (at : Pos) → Spotted (spot of c h at) → (q : Pos) (n : Name) → Holds Spotted (desig.field_of e (spot of c h at) q n)

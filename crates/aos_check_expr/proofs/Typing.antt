@@ -1,5 +1,5 @@
 -- Expressions that break no rule are well typed, where the types of all variables are known and all constants have values.
-use Rattle.std.proofs.Common.{◌≡◌, ℕ, suc, List, [], length, ap, Bool, true, false, not, Some, None, if◌then◌else◌, refl}
+use Rattle.std.proofs.Common.{◌≡◌, ℕ, suc, List, [], length, ap, Bool, true, false, not, ◌||◌, Option, Some, None, is_some, if◌then◌else◌, refl, sym, ◌∙◌}
 use Rattle.aos_base.specs.declared.text.Pos.{Pos}
 use Rattle.aos_base.specs.declared.number.Width.TheVariants.{W64}
 use Rattle.aos_tree.specs.declared.name.Name.{Name}
@@ -15,12 +15,15 @@ use Rattle.aos_tree.specs.declared.expr.Elem.{Elem, Elem', Elem-last-None', Elem
 use Rattle.aos_tree.specs.declared.expr.Desig.{Desig, Row_of-Selector, end_of-Selector, more_of-Selector}
 use Rattle.aos_tree.specs.declared.expr.Selector.{Selector, items-the_row-Expr}
 use Rattle.aos_tree.specs.declared.expr.Selector.TheVariants as s
+use Rattle.aos_types.specs.declared.row.TypeId.{TypeId}
 use Rattle.aos_typed.specs.declared.tree.Literal.TheVariants as literal
 use Rattle.aos_typed.specs.declared.tree.TType.TheVariants as type
 use Rattle.aos_typed.specs.Numbers.{predeclared_rows}
+use Rattle.aos_symbols.specs.declared.env.Method.{Method}
 use Rattle.aos_symbols.specs.declared.env.Env.{Env}
 use Rattle.aos_symbols.specs.Breaches.{breach_unless}
 use Rattle.aos_symbols.specs.Judged.{Judged, judged, kept, bind, walk}
+use Rattle.aos_symbols.specs.Env as env
 use Rattle.aos_symbols.specs.Env.{text_constant}
 use Rattle.aos_symbols.proofs.Holds.{Holds, holds_bind, holds_walk, broken, test_is}
 use Rattle.aos_base.specs.Number.{if_within}
@@ -28,13 +31,17 @@ use Rattle.aos_base.specs.Operators.{natural}
 use Rattle.aos_check_expr.proofs.Inside.{IsOf, AreRows}
 use Rattle.aos_check_expr.specs.declared.known.Class.{Class}
 use Rattle.aos_check_expr.specs.declared.known.Class.TheVariants.{Unknown, Constant, Variable, ReadOnly, Computed}
-use Rattle.aos_check_expr.specs.Known.{Answer, Spot, is_number, is_boolean, is_char, is_lost, constant_answer}
+use Rattle.aos_check_expr.specs.declared.designators.Head.{Head}
+use Rattle.aos_check_expr.specs.Known.{Answer, Spot, read_from, is_number, is_boolean, is_char, is_lost, constant_answer}
 use Rattle.aos_check_expr.specs.Operations as op
 use Rattle.aos_check_expr.specs.Designators as desig
 use Rattle.aos_check_expr.specs.Expressions as judge
 use Rattle.aos_check_expr.proofs.Good.{IsKnownClass, within_if, natural_below}
 use Rattle.aos_check_expr.proofs.Parts.{Elements, as_part, constant_part, added_part, multiplied_part, related_part, signed_part, opposite_part, number_part, character_part, string_part, no_elements, with_element_part, with_span_part, whole_part}
-use Rattle.aos_check_expr.proofs.Spots.{MayFind, IsStoredHeld, Part, Spotted, guarded_part, plain_head, behind_head, named_spot, field_part, element_part, followed_part, read_part}
+use Rattle.aos_check_expr.proofs.Selves.{object_type_row}
+use Rattle.aos_check_expr.proofs.Called.{IsBound, if_some, dispatched_calling, own_calling, raised_calling}
+use Rattle.aos_check_expr.proofs.Spots.{MayFind, IsStoredHeld, Part, Spotted, refused_part, refused_value_part, spotted, object_held, guarded_part, plain_head, behind_head, named_spot, field_part, element_part, followed_part, read_part}
+use Rattle.aos_check_expr.proofs.Passed.{invoked_part}
 use Rattle.aos_check_expr.proofs.Tested.{objects_part, tested_part}
 use Rattle.aos_check_expr.proofs.CallParts.{Parts, called_part}
 use Rattle.aos_check_expr.proofs.Worded.{first_below, texts_part}
@@ -52,7 +59,7 @@ module _ (p : Inside) (e : Env) (good : GoodConstants e) where
   abbrev IsFine : Judged Answer → Type 0
   IsFine = Holds (Part p e)
 
-  abbrev IsFineSpot : Judged Spot → Type 0
+  abbrev pub IsFineSpot : Judged Spot → Type 0
   IsFineSpot = Holds (Spotted p e)
 
   abbrev AreFine : Judged Answer → Type 0
@@ -62,9 +69,10 @@ module _ (p : Inside) (e : Env) (good : GoodConstants e) where
   after = holds_bind (Part p e) (Part p e)
 
   -- what a designator is so far
-  abbrev Parted : judge.Part → Type 0
+  abbrev pub Parted : judge.Part → Type 0
   Parted (judge.Begun h) = MayFind p e h.found
   Parted (judge.Meant a) = Spotted p e a
+  Parted (judge.Waits b) = IsBound p e b
 
   abbrev IsFinePart : Judged judge.Part → Type 0
   IsFinePart = Holds Parted
@@ -72,31 +80,96 @@ module _ (p : Inside) (e : Env) (good : GoodConstants e) where
   part_of : (j : Judged Spot) → IsFineSpot j → IsFinePart (judge.as_part j)
   part_of j h = holds_bind (Spotted p e) Parted j (λ a. kept (judge.Meant a)) h (λ a x none. x)
 
-  spot_fine : (a : judge.Part) → Parted a → IsFineSpot (judge.spot_of_part e a)
+  pub spot_fine : (a : judge.Part) → Parted a → IsFineSpot (judge.spot_of_part e a)
   spot_fine (judge.Begun h) may = named_spot p e good h may
   spot_fine (judge.Meant a) x = λ none. x
+  spot_fine (judge.Waits b) x =
+      spotted p e b.first (desig.refused_value (judge.unbound_rule b.callee) b.first) (refused_value_part p e (judge.unbound_rule b.callee) b.first)
 
-  pointed_fine : (a : judge.Part) → Parted a → (q : Pos) (n : Name) → IsFinePart (judge.pointed e a q n)
-  pointed_fine (judge.Begun h) may q n = by (desig.is_module h.found)
+  selected_fine : (q : Pos) (a : judge.Part) → Parted a → IsFineSpot (judge.selected e q a)
+  selected_fine q (judge.Begun h) may = named_spot p e good h may
+  selected_fine q (judge.Meant a) x = λ none. x
+  selected_fine q (judge.Waits b) x = spotted p e b.first (desig.refused 42 q) (refused_part p e 42 q)
+
+  -- a method of an object, or a field
+  pointed_spot_fine : (first : Pos) (a : Spot) → Spotted p e a → (q : Pos) (n : Name) → IsFinePart (judge.pointed_spot e first a q n)
+  pointed_spot_fine first a x q n = by a.known.of refl (judge.method_of e a.known.of n) refl
     where
-      by : (b : Bool) → IsFinePart (if b then kept (judge.Begun (desig.member_behind e h n)) else judge.pointed_name e h q n)
+      plain : IsFinePart (judge.as_part (desig.field e a q n))
+      plain = part_of (desig.field e a q n) (field_part p e a x q n)
+
+      calling : (t : TypeId) (m : Method) → a.known.of ≡ Some t → judge.method_in e t n ≡ Some m → IsBound p e (judge.dispatched first (read_from a.known.of a.held) t m)
+      calling t m known found whole =
+          let two = if_some (desig.is_object_type e t) (env.method e t n) m found in
+          dispatched_calling p e whole t (read_from a.known.of a.held) m n (object_held p e whole a x t known two.0) (object_type_row p e whole t two.0).1 two.1
+
+      seen : (t : TypeId) (m : Method) → IsBound p e (judge.dispatched first (read_from a.known.of a.held) t m) → (b : Bool) →
+          IsFinePart (if b then kept (judge.Waits (judge.dispatched first (read_from a.known.of a.held) t m)) else judge.as_part (desig.spotted n.pos (desig.refused 15 n.pos)))
+      seen t m bound true = λ none. bound
+      seen t m bound false = part_of (desig.spotted n.pos (desig.refused 15 n.pos)) (spotted p e n.pos (desig.refused 15 n.pos) (refused_part p e 15 n.pos))
+
+      by : (of : Option TypeId) → a.known.of ≡ of → (o : Option Method) → judge.method_of e a.known.of n ≡ o → IsFinePart (judge.pointed_as e first a q n of o)
+      by None known None found = plain
+      by None known (Some m) found = plain
+      by (Some t) known None found = plain
+      by (Some t) known (Some m) found =
+          seen t m (calling t m known (sym (ap (λ of. judge.method_of e of n) known) ∙ found)) (m.is_own || is_some m.mark)
+
+  pointed_fine : (first : Pos) (a : judge.Part) → Parted a → (q : Pos) (n : Name) → IsFinePart (judge.pointed e first a q n)
+  pointed_fine first (judge.Begun h) may q n = by (desig.is_module h.found)
+    where
+      by : (b : Bool) → IsFinePart (if b then kept (judge.Begun (desig.member_behind e h n)) else judge.pointed_name e first h q n)
       by true = λ none. behind_head p e h.found n
-      by false = holds_bind (Spotted p e) Parted (desig.named e h) (λ a. judge.as_part (desig.field e a q n)) (named_spot p e good h may) (λ a x. part_of (desig.field e a q n) (field_part p e a x q n))
-  pointed_fine (judge.Meant a) x q n = part_of (desig.field e a q n) (field_part p e a x q n)
+      by false = holds_bind (Spotted p e) Parted (desig.named e h) (λ a. judge.pointed_spot e first a q n) (named_spot p e good h may) (λ a x. pointed_spot_fine first a x q n)
+  pointed_fine first (judge.Meant a) x q n = pointed_spot_fine first a x q n
+  pointed_fine first (judge.Waits b) x q n = part_of (judge.selected e q (judge.Waits b)) (selected_fine q (judge.Waits b) x)
+
+  followed_spot_fine : (a : judge.Part) → Parted a → (q : Pos) → IsFinePart (judge.followed_spot e a q)
+  followed_spot_fine a may q =
+      part_of (bind (judge.selected e q a) (λ b. desig.followed e b q))
+      (holds_bind (Spotted p e) (Spotted p e) (judge.selected e q a) (λ b. desig.followed e b q) (selected_fine q a may) (λ b x. followed_part p e b x q))
+
+  raised_fine : (h : Head) (q : Pos) → IsFinePart (judge.raised e h q)
+  raised_fine h q = by (judge.upper_here e h) refl
+    where
+      by : (o : Option judge.Bound) → judge.upper_here e h ≡ o → IsFinePart (judge.raised_to o h.first q)
+      by None found = part_of (desig.spotted h.first (desig.refused 46 q)) (spotted p e h.first (desig.refused 46 q) (refused_part p e 46 q))
+      by (Some b) found = λ none whole. raised_calling p e whole h b found
 
   followed_part_fine : (a : judge.Part) → Parted a → (q : Pos) → IsFinePart (judge.followed_part e a q)
-  followed_part_fine a may q =
-      part_of (bind (judge.spot_of_part e a) (λ b. desig.followed e b q))
-      (holds_bind (Spotted p e) (Spotted p e) (judge.spot_of_part e a) (λ b. desig.followed e b q) (spot_fine a may) (λ b x. followed_part p e b x q))
+  followed_part_fine (judge.Begun h) may q = by (judge.is_method h.found)
+    where
+      by : (b : Bool) → IsFinePart (if b then judge.raised e h q else judge.followed_spot e (judge.Begun h) q)
+      by true = raised_fine h q
+      by false = followed_spot_fine (judge.Begun h) may q
+  followed_part_fine (judge.Meant a) x q = followed_spot_fine (judge.Meant a) x q
+  followed_part_fine (judge.Waits b) x q = followed_spot_fine (judge.Waits b) x q
 
-  bracketed_fine : (first : Pos) (a : judge.Part) → Parted a → (q : Pos) (js : List (Judged Answer)) → Parts p e js → (xs : List Expr) → length js ≡ length xs → IsFinePart (judge.bracketed e first a q js xs)
-  bracketed_fine first (judge.Begun h) may q js parts xs many = by (desig.is_module h.found)
+  -- a bracket behind it
+  bound_head_fine : (h : Head) → MayFind p e h.found → (o : Option judge.Bound) → judge.own_method e h ≡ o → Parted (judge.bound_head h o)
+  bound_head_fine h may None found = may
+  bound_head_fine h may (Some b) found = λ whole. own_calling p e whole h b found
+
+  pub bound_fine : (a : judge.Part) → Parted a → Parted (judge.bound_part e a)
+  bound_fine (judge.Begun h) may = bound_head_fine h may (judge.own_method e h) refl
+  bound_fine (judge.Meant a) x = x
+  bound_fine (judge.Waits b) x = x
+
+  pub bracketed_as_fine : (first : Pos) (a : judge.Part) → Parted a → (q : Pos) (js : List (Judged Answer)) → Parts p e js → (xs : List Expr) → length js ≡ length xs →
+      IsFinePart (judge.bracketed_as e first a q js xs)
+  bracketed_as_fine first (judge.Begun h) may q js parts xs many = by (desig.is_module h.found)
     where
       by : (b : Bool) → IsFinePart (if b then judge.as_part (desig.named e h) else judge.as_part (judge.called e h q js xs))
       by true = part_of (desig.named e h) (named_spot p e good h may)
       by false = part_of (judge.called e h q js xs) (called_part p e good h may q js parts xs many)
-  bracketed_fine first (judge.Meant a) x q js parts xs many =
+  bracketed_as_fine first (judge.Meant a) x q js parts xs many =
       part_of (desig.guarded e first q a (judge.guard_type e xs)) (guarded_part p e first q a x (judge.guard_type e xs))
+  bracketed_as_fine first (judge.Waits b) x q js parts xs many =
+      let j = judge.invoked e b.first b.callee b.home b.number js xs in
+      part_of (desig.spotted b.first j) (spotted p e b.first j (invoked_part p e b.first b.callee b.home b.number x js parts xs many))
+
+  pub bracketed_fine : (first : Pos) (a : judge.Part) → Parted a → (q : Pos) (js : List (Judged Answer)) → Parts p e js → (xs : List Expr) → length js ≡ length xs → IsFinePart (judge.bracketed e first a q js xs)
+  bracketed_fine first a x q js parts xs many = bracketed_as_fine first (judge.bound_part e a) (bound_fine a x) q js parts xs many
 
   -- there are as many arguments as expressions
   as_many : {m : _} (r : Row_of-Expr m) → length (judge.arguments e r) ≡ length (items-the_row-Expr _ r)
@@ -191,10 +264,10 @@ module _ (p : Inside) (e : Env) (good : GoodConstants e) where
         holds_bind Parted Parted (judge.selector e first a x) (λ b. judge.selectors e first b xs) (selector_fine first a h x) (λ b k. selectors_fine first b k xs)
 
     selector_fine : (first : Pos) (a : judge.Part) → Parted a → (x : Selector) → IsFinePart (judge.selector e first a x)
-    selector_fine first a h (s.Field q n) = pointed_fine a h q n
+    selector_fine first a h (s.Field q n) = pointed_fine first a h q n
     selector_fine first a h (s.Index' q shape row) =
-        part_of (bind (judge.spot_of_part e a) (λ b. judge.indices e q b row))
-        (holds_bind (Spotted p e) (Spotted p e) (judge.spot_of_part e a) (λ b. judge.indices e q b row) (spot_fine a h) (λ b k. indices_fine q b k row))
+        part_of (bind (judge.selected e q a) (λ b. judge.indices e q b row))
+        (holds_bind (Spotted p e) (Spotted p e) (judge.selected e q a) (λ b. judge.indices e q b row) (selected_fine q a h) (λ b k. indices_fine q b k row))
     selector_fine first a h (s.Follow q) = followed_part_fine a h q
     selector_fine first a h (s.Paren' q shape row) = bracketed_fine first a h q (judge.arguments e row) (arguments_fine row) (items-the_row-Expr _ row) (as_many row)
 
@@ -224,6 +297,12 @@ expr_sound p e whole x none = (expr_fine p e whole.constants x none).sound whole
 
 pub designator_sound : (p : Inside) (e : Env) → IsWhole p e → (d : Desig) → Holds (IsSoundSpot p e) (judge.designator e d)
 designator_sound p e whole d none = (designator_fine p e whole.constants d none).sound whole
+
+-- what a designator is behind some of its selectors, and behind a bracket
+pub parts_sound : (p : Inside) (e : Env) (whole : IsWhole p e) → (n : Name) (xs : List Selector) →
+    Holds (Parted p e whole.constants) (walk (judge.selector e n.pos) (judge.Begun (desig.plain e n)) xs)
+parts_sound p e whole n xs =
+    holds_walk (Parted p e whole.constants) (judge.selector e n.pos) (λ a x h. selector_fine p e whole.constants n.pos a h x) xs (judge.Begun (desig.plain e n)) (plain_head p e n)
 
 -- an expression, and a designator, as parts of others
 pub expr_part : (p : Inside) (e : Env) → IsWhole p e → (x : Expr) → Holds (Part p e) (judge.expr e x)

@@ -1,5 +1,5 @@
 -- Environments of bodies, in which each variable has its type: what is known of its table of types.
-use Rattle.std.proofs.Common.{◌≡◌, ℕ, ◌+◌, ◌≤◌, ◌<◌, List, [], ◌∷◌, length, Bool, true, false, ◌&&◌, ◌⊎◌, inl, inr, not, Option, Some, None, is_some, option_map, slice_get, refl, sym, ap, ◌∙◌, le-ltb, arith}
+use Rattle.std.proofs.Common.{◌≡◌, ℕ, ◌+◌, ◌≤◌, ◌<◌, List, [], ◌∷◌, length, Bool, true, false, ◌==◌, ◌&&◌, ◌⊎◌, inl, inr, not, Option, Some, None, is_some, option_map, slice_get, refl, sym, ap, ◌∙◌, le-ltb, arith}
 use Rattle.std.proofs.lemmas.Option.{none-some, same_Some, slice_get_within}
 use Rattle.std.proofs.lemmas.Bool.{and_parts}
 use Rattle.aos_base.specs.declared.text.Pos.{Pos}
@@ -8,14 +8,15 @@ use Rattle.aos_types.specs.declared.row.Basic.TheVariants as basic
 use Rattle.aos_types.specs.declared.row.TypeId.{TypeId}
 use Rattle.aos_types.specs.declared.row.TypeRow.{TypeRow}
 use Rattle.aos_types.specs.declared.row.TypeRow.TheVariants as row
-use Rattle.aos_types.specs.Table.{row_of, is_open, is_record, is_object}
+use Rattle.aos_types.specs.Table.{row_of, is_open, is_object}
+use Rattle.aos_types.specs.Extension.{comes_to}
 use Rattle.aos_types.specs.Sameness.{element_of}
 use Rattle.aos_typed.specs.Numbers.{id_of}
 use Rattle.aos_typed.specs.Open.{open_dimensions, open_element}
 use Rattle.aos_typed.specs.declared.tree.TType.{TType}
-use Rattle.aos_typed.specs.declared.tree.TType.TheVariants.{Named}
 use Rattle.aos_typed.specs.Program.{Place, ModuleVar, Of, Rows, Parameter, Procedure, ObjectType, Module, Program}
-use Rattle.aos_typed.specs.Routines.{result_of}
+use Rattle.aos_typed.specs.Methods.{method_in}
+use Rattle.aos_typed.specs.Routines.{self_type, result_of}
 use Rattle.aos_typed.specs.WellTyped.{HaveLengths, field_type, procedure_in}
 use Rattle.aos_symbols.specs.declared.home.Parameter.{Parameter as Formal}
 use Rattle.aos_symbols.specs.declared.home.Gives.{Gives}
@@ -27,6 +28,7 @@ use Rattle.aos_symbols.specs.declared.scope.Meaning.TheVariants as means
 use Rattle.aos_symbols.specs.declared.env.Open.{Open}
 use Rattle.aos_symbols.specs.declared.env.Symbol.{Symbol}
 use Rattle.aos_symbols.specs.declared.env.Field.{Field}
+use Rattle.aos_symbols.specs.declared.env.Method.{Method}
 use Rattle.aos_symbols.specs.declared.env.Narrowed.{Narrowed}
 use Rattle.aos_symbols.specs.declared.env.Env.{Env}
 use Rattle.aos_symbols.specs.Scope.{Scope, find}
@@ -36,7 +38,7 @@ use Rattle.aos_symbols.specs.Env.{nil, text}
 use Rattle.aos_symbols.proofs.Each.{Each}
 use Rattle.aos_symbols.proofs.Told.{IsTold, basic as basic_told, of_any, defined, IsKnown, PartsAreTold}
 use Rattle.aos_check_expr.proofs.Inside.{Inside, IsPlaceOf, AreRows}
-use Rattle.aos_check_expr.specs.Known.{Spot, is_basic, type_as, type_of}
+use Rattle.aos_check_expr.specs.Known.{Spot, is_basic, object_number, type_as, type_of}
 use Rattle.aos_check_expr.specs.Designators as desig
 use Rattle.aos_check_expr.proofs.Opens.{OpensFall, OpensStand, IsVariableNumber, some_there, behind_all}
 use Rattle.aos_check_expr.proofs.Good.{HasGood}
@@ -77,9 +79,21 @@ pub record IsSigned (e : Env) (s : Signature) (q : Procedure) : Type 0 where
   pub parameters : AreParameters e s.parameters q.parameters
   pub result : IsResultOf s.gives q.result
 
--- a scope that is searched is a module's own, or that of the procedure
+-- a scope is that of SELF's type, or of one of its bases
+abbrev pub IsFieldScope : Env → Open → Type 0
+IsFieldScope e o =
+    (t b : TypeId) × (e.self_type ≡ Some t) × (comes_to e.types t b ≡ true) × (env.object_at e o ≡ Some b) × (desig.is_own_scope e o ≡ false)
+    × ((o.scope == 0) ≡ false)
+
+-- a scope that is searched is a module's own, that of the procedure, or one of SELF's fields
 abbrev pub IsSearched : Env → Open → Type 0
-IsSearched e o = (o.scope ≡ 0) ⊎ ((o.home ≡ e.number) × (o.scope ≡ env.innermost e.path))
+IsSearched e o = (o.scope ≡ 0) ⊎ ((desig.is_own_scope e o ≡ true) ⊎ IsFieldScope e o)
+
+-- the rows of types that have fields
+abbrev pub has_fields : Option TypeRow → Bool
+has_fields (Some (row.Record base fs)) = true
+has_fields (Some (row.Object base fs)) = true
+has_fields r = false
 
 -- each open array of the table stands behind its elements, whose type is told or an open array
 pub record AreOpensTold (e : Env) : Type 0 where
@@ -137,14 +151,15 @@ abbrev pub HasBody : Program → ℕ → Type 0
 HasBody p t = option_map (λ (o : ObjectType). o.has_body) (slice_get p.objects t) ≡ Some true
 
 -- The environment is that of bodies: each variable in the scope of a module or of the procedure has its type, the table is the program's
--- and begins with what is predeclared, the types behind the first ten are its object types, each procedure is as its signature says,
--- a body without a signature gives nothing, each object type's objects have a body, and each module's string constants are those of its text.
+-- and begins with what is predeclared, the types behind the first ten are its object types, each procedure that a module's scope names is as its signature says,
+-- a body without a signature gives nothing, SELF is of an object type, whose fields and methods are those of the program, objects of types
+-- that have a body have one there, and each module's string constants are those of its text.
 pub record IsWhole (p : Inside) (e : Env) : Type 0 where
   pub variables : (o : Open) (s : Scope) (w : List ℕ) (x : Entry) (k : ℕ) → o.scope ≡ 0 → env.scope e o ≡ Some s → find s w ≡ Some x →
       x.means ≡ means.Variable k → IsTyped p e (ModuleVar o.home k) (env.variable_type e o k)
   pub constants : GoodConstants e
   pub parts : PartsAreTold e.types
-  pub fields : (t : TypeId) (n : Name) (f : Field) → env.field e t n ≡ Some f → is_record (row_of e.types t) ≡ true →
+  pub fields : (t : TypeId) (n : Name) (f : Field) → env.field e t n ≡ Some f → has_fields (row_of e.types t) ≡ true →
       (u : TypeId) × (f.of ≡ Some u) × (field_type e.types t f.number ≡ Some u) × IsTold e.types u
   pub rows : p.program.types ≡ e.types
   pub objects : length e.types ≡ 10 + length p.program.objects
@@ -158,8 +173,15 @@ pub record IsWhole (p : Inside) (e : Env) : Type 0 where
       env.scope e o ≡ Some s → find s w ≡ Some x → x.means ≡ means.Variable k → IsTyped p e (desig.own_place e k) (env.variable_type e o k)
   pub own : (s : Signature) → env.own_signature e ≡ Some s → (q : Procedure) × (p.own ≡ Some q) × IsSigned e s q
   pub own_body : env.own_signature e ≡ None → result_of p.own ≡ None
-  pub object_bodies : (t : ℕ) → is_object (row_of p.program.types (id_of (Named t))) ≡ true → HasBody p.program t
-  pub signatures : (m k : ℕ) (s : Signature) → env.signature e m k ≡ Some s → (q : Procedure) × (procedure_in p.program m k ≡ Some q) × IsSigned e s q
+  pub itself : (t : TypeId) → e.self_type ≡ Some t → (self_type p.own ≡ Some (object_number t)) × (is_object (row_of e.types t) ≡ true)
+  pub own_fields : (t b : TypeId) (o : Open) (s : Scope) (w : List ℕ) (x : Entry) (k : ℕ) → e.self_type ≡ Some t → comes_to e.types t b ≡ true → env.object_at e o ≡ Some b →
+      env.scope e o ≡ Some s → find s w ≡ Some x → x.means ≡ means.Variable k →
+      (u : TypeId) × (env.variable_type e o k ≡ Some u) × (field_type e.types t (env.field_number e b k) ≡ Some u) × IsTold e.types u
+  pub methods : (t : TypeId) (n : Name) (m : Method) → env.method e t n ≡ Some m → is_object (row_of e.types t) ≡ true →
+      (s : Signature) → env.signature e m.home m.number ≡ Some s → (q : Procedure) × (method_in p.program (object_number t) m.slot ≡ Some q) × IsSigned e s q
+  pub bodies : (t : TypeId) → env.body_of e t ≡ Some t → HasBody p.program (object_number t)
+  pub signatures : (m k : ℕ) (s : Scope) (w : List ℕ) (x : Entry) → env.scope e (env.own m) ≡ Some s → find s w ≡ Some x → x.means ≡ means.Procedure k →
+      (g : Signature) → env.signature e m k ≡ Some g → (q : Procedure) × (procedure_in p.program m k ≡ Some q) × IsSigned e g q
   pub strings : (m : ℕ) (h : Home) → env.home e m ≡ Some h →
       (x : Module) × (slice_get p.program.modules m ≡ Some x) × (length x.variables ≡ env.variable_count e m) × (x.texts ≡ texts_of h)
 

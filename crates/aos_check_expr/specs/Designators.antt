@@ -12,7 +12,7 @@ use Rattle.aos_typed.specs.declared.tree.Literal.TheVariants as literal
 use Rattle.aos_types.specs.Table.{is_open, is_record, is_pointer, is_object}
 use Rattle.aos_types.specs.Extension.{extends}
 use Rattle.aos_types.specs.Fit.{fits as fits_of}
-use Rattle.aos_typed.specs.Program.{Place, ModuleVar, Local, Passed, Index, Of, Deref, Typed, Guarded, Rows, Known, Opened, Row, Spread, Expr, Read, Guard}
+use Rattle.aos_typed.specs.Program.{Place, ModuleVar, Local, Passed, Index, Of, Deref, Typed, Guarded, Rows, Known, Opened, Row, Spread, Expr, SelfRef, Read, Guard}
 use Rattle.aos_typed.specs.Program.{Field as FieldOf}
 use Rattle.aos_typed.specs.WellTyped.{is_whole}
 use Rattle.aos_typed.specs.Open.{open_dimensions, open_element, first_same}
@@ -20,6 +20,7 @@ use Rattle.aos_symbols.specs.declared.breach.Breach.{Breach}
 use Rattle.aos_symbols.specs.declared.home.Parameter.{Parameter}
 use Rattle.aos_symbols.specs.declared.scope.Meaning.{Meaning}
 use Rattle.aos_symbols.specs.declared.scope.Meaning.TheVariants as means
+use Rattle.aos_symbols.specs.declared.env.Open.{Open}
 use Rattle.aos_symbols.specs.declared.env.Symbol.{Symbol}
 use Rattle.aos_symbols.specs.declared.env.Field.{Field}
 use Rattle.aos_symbols.specs.declared.env.Narrowed.{Narrowed}
@@ -35,10 +36,10 @@ use Rattle.aos_check_expr.specs.declared.known.Class.TheVariants.{Unknown, Const
 use Rattle.aos_check_expr.specs.declared.designators.Head.{Head}
 use Rattle.aos_check_expr.specs.Known.{Answer, Spot, Held, Stands, Value, passes, is_basic, is_of_any, is_long_text, is_number, fits_type, object_number, type_as, unknown, some_value, constant_answer, answered, nothing, spot_of, read_from, known_as, value_class, lost}
 
--- A head is what is found of a name, where the name stands, and where the designator begins.
+-- A head is what is found of a name, the name, and where the designator begins.
 
 abbrev pub plain : Env → Name → Head
-plain e n = record { found = env.lookup e n; at = n.pos; first = n.pos }
+plain e n = record { found = env.lookup e n; name = n; first = n.pos }
 
 abbrev pub is_module_meaning : Meaning → Bool
 is_module_meaning (means.Module m) = true
@@ -51,6 +52,7 @@ is_module_meaning (means.Truth b) = false
 is_module_meaning (means.Function f) = false
 is_module_meaning (means.Routine r) = false
 is_module_meaning means.Proper = false
+is_module_meaning means.Itself = false
 is_module_meaning means.Other = false
 
 abbrev pub is_module : Lookup → Bool
@@ -77,11 +79,11 @@ member_in e (Found x) n = member_of e x.means n
 
 -- a name behind that of a module
 abbrev pub member : Env → Name → Name → Head
-member e m n = record { found = member_in e (env.lookup e m) n; at = n.pos; first = m.pos }
+member e m n = record { found = member_in e (env.lookup e m) n; name = n; first = m.pos }
 
 -- the same, where what is found of the module's name is known
 abbrev pub member_behind : Env → Head → Name → Head
-member_behind e h n = record { found = member_in e h.found n; at = n.pos; first = h.first }
+member_behind e h n = record { found = member_in e h.found n; name = n; first = h.first }
 
 -- a name marked `-` may only be read in other modules
 abbrev pub access : Bool → Option Export → Class
@@ -336,12 +338,27 @@ own_place e k = by (own_parameter e k)
 abbrev pub is_of_module : Symbol → Bool
 is_of_module x = x.at.scope == 0
 
-abbrev pub place_of_variable : Env → Symbol → ℕ → Place
-place_of_variable e x k = if is_of_module x then ModuleVar x.at.home k else own_place e k
+-- a scope is that of the procedure in which the place stands
+abbrev pub is_own_scope : Env → Open → Bool
+is_own_scope e o = (o.home == e.number && o.scope == env.innermost e.path) && is_some (env.own_signature e)
 
--- a variable of a module, or of the procedure in which the place stands; one of an object type isn't built
-abbrev pub is_reached : Env → Symbol → Bool
-is_reached e x = is_of_module x || is_some (env.own_signature e)
+-- a field of SELF, by the field's number
+abbrev pub self_place : TypeId → ℕ → Place
+self_place t number = FieldOf (Deref SelfRef (type_as t)) (type_as t) number
+
+-- by SELF's type and the one that declares the field
+abbrev pub declared_place : Env → Option TypeId → Option TypeId → ℕ → Place
+declared_place e (Some t) (Some b) k = self_place t (env.field_number e b k)
+declared_place e _ _ k = Local k
+
+abbrev pub inner_place : Env → Open → ℕ → Place
+inner_place e o k = declared_place e e.self_type (env.object_at e o) k
+
+abbrev pub place_in_scope : Env → Open → ℕ → Place
+place_in_scope e o k = if is_own_scope e o then own_place e k else inner_place e o k
+
+abbrev pub place_of_variable : Env → Symbol → ℕ → Place
+place_of_variable e x k = if is_of_module x then ModuleVar x.at.home k else place_in_scope e x.at k
 
 abbrev pub variable : Env → Symbol → ℕ → Pos → Spot
 variable e x k at =
@@ -351,31 +368,43 @@ variable e x k at =
       at = at;
     }
 
+-- SELF, which is a value in the methods and the body of an object type, and elsewhere may be anything
+abbrev pub self_spot : TypeId → Pos → Spot
+self_spot t at = record { known = known_as Computed (Some t); held = Value SelfRef; at = at }
+
+abbrev pub self_of : Option TypeId → Pos → Judged Spot
+self_of None at = spotted at (refused 46 at)
+self_of (Some t) at = kept (self_spot t at)
+
+abbrev pub itself : Env → Pos → Judged Spot
+itself e at = self_of e.self_type at
+
 -- what a name stands for that is no call: the name of a type or a module is no value, nor is a procedure
 abbrev pub meant_otherwise : Meaning → Head → Judged Spot
-meant_otherwise (means.Type of) h = spotted h.at (refused 16 h.at)
-meant_otherwise (means.Module m) h = spotted h.at (refused 16 h.at)
-meant_otherwise means.Out h = spotted h.at (refused 16 h.at)
-meant_otherwise (means.Truth b) h = spotted h.at (kept (constant_answer (literal.Bool b)))
-meant_otherwise (means.Function f) h = spotted h.at (refused_value 36 h.first)
-meant_otherwise (means.Routine r) h = spotted h.at (refused_value 36 h.first)
-meant_otherwise means.Proper h = spotted h.at (refused_value 36 h.first)
-meant_otherwise m h = spotted h.at (refused_value 99 h.first)
+meant_otherwise (means.Type of) h = spotted h.name.pos (refused 16 h.name.pos)
+meant_otherwise (means.Module m) h = spotted h.name.pos (refused 16 h.name.pos)
+meant_otherwise means.Out h = spotted h.name.pos (refused 16 h.name.pos)
+meant_otherwise (means.Truth b) h = spotted h.name.pos (kept (constant_answer (literal.Bool b)))
+meant_otherwise (means.Function f) h = spotted h.name.pos (refused_value 36 h.first)
+meant_otherwise (means.Routine r) h = spotted h.name.pos (refused_value 36 h.first)
+meant_otherwise means.Proper h = spotted h.name.pos (refused_value 36 h.first)
+meant_otherwise m h = spotted h.name.pos (refused_value 99 h.first)
 
 abbrev pub meant : Env → Symbol → Meaning → Head → Judged Spot
-meant e x (means.Variable k) h = if is_reached e x then kept (narrowed e x k (variable e x k h.at)) else spotted h.at (refused 99 h.at)
-meant e x (means.Constant k) h = spotted h.at (constant_of (env.constant e x.at k h.first) h.at)
+meant e x (means.Variable k) h = kept (narrowed e x k (variable e x k h.name.pos))
+meant e x (means.Constant k) h = spotted h.name.pos (constant_of (env.constant e x.at k h.first) h.name.pos)
+meant e x means.Itself h = itself e h.name.pos
 meant e x m h = meant_otherwise m h
 
 abbrev pub found : Env → Lookup → Head → Judged Spot
-found e NoName h = spotted h.at (refused 14 h.at)
-found e NotExported h = spotted h.at (refused 15 h.at)
+found e NoName h = spotted h.name.pos (refused 14 h.name.pos)
+found e NotExported h = spotted h.name.pos (refused 15 h.name.pos)
 found e (Found x) h = meant e x x.means h
 
 abbrev pub named : Env → Head → Judged Spot
 named e h = found e h.found h
 
--- a field of a record; one marked `-` may only be read in other modules
+-- a field of a record or an object; one marked `-` may only be read in other modules
 abbrev pub may_write : Field → Bool
 may_write f = f.is_own || not (is_read_only f.mark)
   where
@@ -383,21 +412,35 @@ may_write f = f.is_own || not (is_read_only f.mark)
     is_read_only (Some OnlyRead) = true
     is_read_only m = false
 
-abbrev pub field_spot : TypeId → Field → Pos → Spot → Spot
-field_spot t f at a = part_spot (may_write f) f.of (λ p. FieldOf p (type_as t) f.number) at a
+-- that of an object is a variable, whatever the object is
+abbrev pub object_field : TypeId → Field → Pos → Spot → Spot
+object_field t f at a =
+    record {
+      known = known_as (part_class (may_write f) (followed_class a.known.class)) f.of;
+      held = Stands (FieldOf (Deref (read_from a.known.of a.held) (type_as t)) (type_as t) f.number);
+      at = at;
+    }
 
--- with a point at a place: a field of another module's record has an export mark
+abbrev pub field_spot : Env → TypeId → Field → Pos → Spot → Spot
+field_spot e t f at a =
+    if is_object_type e t then object_field t f at a
+    else part_spot (may_write f) f.of (λ p. FieldOf p (type_as t) f.number) at a
+
+-- with a point at a place: a field of another module's type has an export mark
 abbrev pub field_found : Env → Spot → Pos → Name → TypeId → Option Field → Judged Spot
 field_found e a p n t None = lacking e t p
 field_found e a p n t (Some f) =
-    if f.is_own || is_some f.mark then kept (field_spot t f n.pos a) else spotted n.pos (refused 15 n.pos)
+    if f.is_own || is_some f.mark then kept (field_spot e t f n.pos a) else spotted n.pos (refused 15 n.pos)
+
+abbrev pub has_fields : Env → TypeId → Bool
+has_fields e t = is_record_type e t || is_object_type e t
 
 abbrev pub field_of : Env → Spot → Pos → Name → Judged Spot
 field_of e a p n = by a.known.of
   where
     by : Option TypeId → Judged Spot
     by None = kept (unknown_part n.pos a)
-    by (Some t) = if is_record_type e t then field_found e a p n t (env.field e t n) else lacking e t p
+    by (Some t) = if has_fields e t then field_found e a p n t (env.field e t n) else lacking e t p
 
 abbrev pub field : Env → Spot → Pos → Name → Judged Spot
 field e a p n = field_of e (through e a) p n

@@ -1,6 +1,6 @@
 -- Expressions: which rules they break, what is known of them and what they are in the typed program (Oberon-2 report, section
 -- 8).
-use Rattle.std.specs.Prelude.{ℕ, ℤ, pos, List, [], ◌∷◌, ◌++◌, Bool, true, false, ◌&&◌, ◌||◌, Option, Some, None, option_and_then, if◌then◌else◌}
+use Rattle.std.specs.Prelude.{ℕ, ℤ, pos, List, [], ◌∷◌, ◌++◌, Bool, true, false, not, ◌&&◌, ◌||◌, Option, Some, None, is_some, option_map, option_and_then, if◌then◌else◌}
 use Rattle.aos_base.specs.declared.text.Pos.{Pos}
 use Rattle.aos_base.specs.declared.number.Width.TheVariants.{W64}
 use Rattle.aos_base.specs.declared.number.Relation.{Relation}
@@ -28,10 +28,11 @@ use Rattle.aos_tree.specs.declared.expr.Desig.{Desig, Row_of-Selector, end_of-Se
 use Rattle.aos_tree.specs.declared.expr.Selector.{Selector, items-the_row-Expr}
 use Rattle.aos_tree.specs.declared.expr.Selector.TheVariants as s
 use Rattle.aos_types.specs.declared.row.TypeId.{TypeId}
+use Rattle.aos_types.specs.Table.{row_of, base_of}
 use Rattle.aos_typed.specs.declared.tree.Literal.{Literal}
 use Rattle.aos_typed.specs.declared.tree.Literal.TheVariants as literal
 use Rattle.aos_typed.specs.declared.tree.TextConstant.{TextConstant}
-use Rattle.aos_typed.specs.Program.{Expr as Typed, CompareTexts, Plain, Function as Invoked, Is, IsRecord}
+use Rattle.aos_typed.specs.Program.{Callee as TypedCallee, Plain, Dispatched, Upper, Expr as Typed, SelfRef, CompareTexts, Function as Invoked, Is, IsRecord}
 use Rattle.aos_symbols.specs.declared.home.Gives.{Gives}
 use Rattle.aos_symbols.specs.declared.home.Gives.TheVariants as gives
 use Rattle.aos_symbols.specs.declared.home.Signature.{Signature}
@@ -39,6 +40,7 @@ use Rattle.aos_symbols.specs.declared.scope.Meaning.{Meaning}
 use Rattle.aos_symbols.specs.declared.scope.Meaning.TheVariants as means
 use Rattle.aos_symbols.specs.declared.scope.Function.{Function}
 use Rattle.aos_symbols.specs.declared.scope.Function.TheVariants as function
+use Rattle.aos_symbols.specs.declared.env.Method.{Method}
 use Rattle.aos_symbols.specs.declared.env.Symbol.{Symbol}
 use Rattle.aos_symbols.specs.declared.env.Lookup.{Lookup}
 use Rattle.aos_symbols.specs.declared.env.Lookup.TheVariants.{Unknown as NoName, NotExported, Found}
@@ -55,7 +57,7 @@ use Rattle.aos_check_expr.specs.declared.operations.Step.{Step}
 use Rattle.aos_check_expr.specs.declared.operations.Operation.{Operation}
 use Rattle.aos_check_expr.specs.declared.calls.Limit.{Limit}
 use Rattle.aos_check_expr.specs.declared.calls.Limit.TheVariants as which
-use Rattle.aos_check_expr.specs.Known.{Answer, Spot, passes, is_of_any, is_number, is_boolean, is_integer, object_number, value_class, constant_answer, answered, nothing}
+use Rattle.aos_check_expr.specs.Known.{Answer, Spot, passes, is, is_of_any, is_number, is_boolean, is_integer, object_number, value_class, constant_answer, answered, nothing, read_from}
 use Rattle.aos_check_expr.specs.Operations as op
 use Rattle.aos_check_expr.specs.Designators as desig
 pub use Rattle.aos_check_expr.specs.Arrays.{is_array, length_of, is_opening, array_in, lengths_from, open_rows, array_rows, length_behind, len_typed, len_answer, number_in, has_dimension, is_dimension, len_alone, len_in, is_characters, string_in, is_text, is_only_text, may_be_text, are_texts, string_rows, rows_in, text_rows, has_room, text_for}
@@ -133,7 +135,7 @@ limit_found value (Found x) at first = limit_of value x.means at first
 
 abbrev pub limit_named : (TypeId → Option Literal) → Option Head → Pos → Judged Answer
 limit_named value None first = desig.refused 35 first
-limit_named value (Some h) first = limit_found value h.found h.at h.first
+limit_named value (Some h) first = limit_found value h.found h.name.pos h.first
 
 abbrev pub limit : Env → (TypeId → Option Literal) → List Expr → Pos → Judged Answer
 limit e value (x ∷ []) at = limit_named value (name_alone e x) (out-Expr x).pos
@@ -152,7 +154,7 @@ abbrev pub conversion : Option TypeId → Callee
 conversion None = Neither
 conversion (Some t) = if is_integer t then Converts t else Neither
 
--- a procedure of a module; one of an object type isn't built
+-- a procedure of a module
 abbrev pub callee_meant : Symbol → Meaning → Callee
 callee_meant x (means.Function f) = Calls f
 callee_meant x (means.Type of) = conversion of
@@ -209,31 +211,31 @@ len_of e at js xs = desig.refused 34 at
 -- A procedure's value: that of a function, whose result is a scalar.
 
 -- the result of a function with these arguments, which has no type where a rule of the call is broken
-abbrev pub function_answer : (home number : ℕ) → Option TypeId → Handing → Answer
-function_answer m k of h =
-    answered (op.kept_class h.are_kept Computed) (op.kept_type h.are_kept of) (Invoked (Plain m k) (listed h.given))
+abbrev pub function_answer : TypedCallee → Option TypeId → Handing → Answer
+function_answer c of h =
+    answered (op.kept_class h.are_kept Computed) (op.kept_type h.are_kept of) (Invoked c (listed h.given))
 
 -- a result that isn't of a basic type and no object isn't built
-abbrev pub function_told : Env → (first : Pos) → (home number : ℕ) → Option TypeId → Handing → Judged Answer
-function_told e first m k of h = judged (breach_unless (passes (desig.is_value e) of) 99 first) (function_answer m k of h)
+abbrev pub function_told : Env → (first : Pos) → TypedCallee → Option TypeId → Handing → Judged Answer
+function_told e first c of h = judged (breach_unless (passes (desig.is_value e) of) 99 first) (function_answer c of h)
 
-abbrev pub function_value : Env → (first : Pos) → (home number : ℕ) → Signature → Option TypeId → List (Judged Answer) → List Expr → Judged Answer
-function_value e first m k s of js xs = bind (arguments_for e first s.parameters js xs) (function_told e first m k of)
+abbrev pub function_value : Env → (first : Pos) → TypedCallee → Signature → Option TypeId → List (Judged Answer) → List Expr → Judged Answer
+function_value e first c s of js xs = bind (arguments_for e first s.parameters js xs) (function_told e first c of)
 
-abbrev pub value_of_procedure : Env → (first : Pos) → (home number : ℕ) → Signature → List (Judged Answer) → List Expr → Judged Answer
-value_of_procedure e first m k s js xs = by s.gives
+abbrev pub value_of_procedure : Env → (first : Pos) → TypedCallee → Signature → List (Judged Answer) → List Expr → Judged Answer
+value_of_procedure e first c s js xs = by s.gives
   where
     by : Gives → Judged Answer
     by gives.Nothing = desig.refused_value 36 first
-    by (gives.Value of) = function_value e first m k s of js xs
+    by (gives.Value of) = function_value e first c s of js xs
 
--- where its heading isn't met yet a constant is needed
-abbrev pub invoked : Env → (first : Pos) → (home number : ℕ) → List (Judged Answer) → List Expr → Judged Answer
-invoked e first m k js xs = by (env.signature e m k)
+-- What is called has the signature with these numbers. Where its heading isn't met yet a constant is needed.
+abbrev pub invoked : Env → (first : Pos) → TypedCallee → (home number : ℕ) → List (Judged Answer) → List Expr → Judged Answer
+invoked e first c m k js xs = by (env.signature e m k)
   where
     by : Option Signature → Judged Answer
     by None = desig.refused_value 20 first
-    by (Some s) = value_of_procedure e first m k s js xs
+    by (Some s) = value_of_procedure e first c s js xs
 
 -- a predeclared function's value
 abbrev pub function_called : Env → Function → (first : Pos) → List (Judged Answer) → List Expr → Judged Answer
@@ -245,38 +247,144 @@ function_called e f first js xs = one_of (λ of. op.applied f of) first js xs
 
 abbrev pub called_by : Env → Callee → Head → Pos → List (Judged Answer) → List Expr → Judged Spot
 called_by e (Calls f) h at js xs = desig.spotted h.first (function_called e f h.first js xs)
-called_by e (Invokes m k) h at js xs = desig.spotted h.first (invoked e h.first m k js xs)
+called_by e (Invokes m k) h at js xs = desig.spotted h.first (invoked e h.first (Plain m k) m k js xs)
 called_by e (Converts t) h at js xs = desig.spotted h.first (one_of (λ of. op.converted t of) h.first js xs)
 called_by e Neither h at js xs = not_called e h at xs
 
 abbrev pub called : Env → Head → Pos → List (Judged Answer) → List Expr → Judged Spot
 called e h at js xs = called_by e (callee h.found) h at js xs
 
--- what a designator is so far: a name, which a bracket may call, or a variable or a value
+-- a method that waits for its bracket: what is called, the numbers of its signature, and where its designator begins
+pub record Bound : Type 0 where
+  pub callee : TypedCallee
+  pub home : ℕ
+  pub number : ℕ
+  pub first : Pos
+
+-- what a designator is so far: a name, which a bracket may call, a variable or a value, or a method of an object
 pub data Part : Type 0 where
   Begun : Head → Part
   Meant : Spot → Part
+  Waits : Bound → Part
+
+abbrev pub as_part : Judged Spot → Judged Part
+as_part j = bind j (λ a. kept (Meant a))
+
+-- Methods. One is called on an object, of which a type is known, and dispatched by the object's own type.
+abbrev pub dispatched : Pos → Typed → TypeId → Method → Bound
+dispatched first x t m =
+    record { callee = Dispatched x (object_number t) m.slot; home = m.home; number = m.number; first = first }
+
+-- the method that a plain name stands for, which is called on SELF
+abbrev pub method_meant : Symbol → Meaning → Bool
+method_meant x (means.Procedure k) = not (desig.is_of_module x)
+method_meant x m = false
+
+abbrev pub is_method : Lookup → Bool
+is_method NoName = false
+is_method NotExported = false
+is_method (Found x) = method_meant x x.means
+
+abbrev pub method_on : Env → TypeId → Head → Option Bound
+method_on e t h = option_map (dispatched h.first SelfRef t) (env.method e t h.name)
+
+abbrev pub own_method : Env → Head → Option Bound
+own_method e h = if is_method h.found then option_and_then (λ t. method_on e t h) e.self_type else None
+
+-- `m^` is the method that a base of SELF's type has, where the type itself declares m
+abbrev pub upper_method : Pos → TypeId → Method → Bound
+upper_method first b m = record { callee = Upper (object_number b) m.slot; home = m.home; number = m.number; first = first }
+
+abbrev pub declares : TypeId → Option Method → Bool
+declares t None = false
+declares t (Some m) = is t m.of
+
+abbrev pub upper_of : Env → Head → TypeId → Option Bound
+upper_of e h t =
+    if declares t (env.method e t h.name)
+    then option_and_then (λ b. option_map (upper_method h.first b) (env.method e b h.name)) (base_of (row_of e.types t))
+    else None
+
+abbrev pub upper_here : Env → Head → Option Bound
+upper_here e h = option_and_then (λ t. upper_of e h t) e.self_type
+
+abbrev pub raised_to : Option Bound → Pos → Pos → Judged Part
+raised_to None first p = as_part (desig.spotted first (desig.refused 46 p))
+raised_to (Some b) first p = kept (Waits b)
+
+abbrev pub raised : Env → Head → Pos → Judged Part
+raised e h p = raised_to (upper_here e h) h.first p
+
+-- a method that isn't called is a procedure as a value, which isn't built, and `m^` is none
+abbrev pub unbound_rule : TypedCallee → ℕ
+unbound_rule (Upper t k) = 36
+unbound_rule (Plain m k) = 99
+unbound_rule (Dispatched x t k) = 99
+
+abbrev pub unbound : Bound → Judged Spot
+unbound b = desig.spotted b.first (desig.refused_value (unbound_rule b.callee) b.first)
 
 -- as a variable or a value
 abbrev pub spot_of_part : Env → Part → Judged Spot
 spot_of_part e (Begun h) = desig.named e h
 spot_of_part e (Meant a) = kept a
+spot_of_part e (Waits b) = unbound b
 
-abbrev pub as_part : Judged Spot → Judged Part
-as_part j = bind j (λ a. kept (Meant a))
+-- the same, before a selector at a place that methods haven't
+abbrev pub selected : Env → Pos → Part → Judged Spot
+selected e p (Begun h) = desig.named e h
+selected e p (Meant a) = kept a
+selected e p (Waits b) = desig.spotted b.first (desig.refused 42 p)
 
--- a point behind what there is so far: a name of a module, or a field
-abbrev pub pointed_name : Env → Head → Pos → Name → Judged Part
-pointed_name e h p n = bind (desig.named e h) (λ a. as_part (desig.field e a p n))
+-- a point behind a variable or a value, in a designator that begins here: a method of an object, or a field
+abbrev pub method_found : (first : Pos) → Spot → Name → TypeId → Method → Judged Part
+method_found first a n t m =
+    if m.is_own || is_some m.mark
+    then kept (Waits (dispatched first (read_from a.known.of a.held) t m))
+    else as_part (desig.spotted n.pos (desig.refused 15 n.pos))
 
-abbrev pub pointed : Env → Part → Pos → Name → Judged Part
-pointed e (Begun h) p n =
-    if desig.is_module h.found then kept (Begun (desig.member_behind e h n)) else pointed_name e h p n
-pointed e (Meant a) p n = as_part (desig.field e a p n)
+abbrev pub method_in : Env → TypeId → Name → Option Method
+method_in e t n = if desig.is_object_type e t then env.method e t n else None
+
+abbrev pub method_of : Env → Option TypeId → Name → Option Method
+method_of e of n = option_and_then (λ t. method_in e t n) of
+
+abbrev pub pointed_as : Env → (first : Pos) → Spot → Pos → Name → Option TypeId → Option Method → Judged Part
+pointed_as e first a p n (Some t) (Some m) = method_found first a n t m
+pointed_as e first a p n _ _ = as_part (desig.field e a p n)
+
+abbrev pub pointed_spot : Env → (first : Pos) → Spot → Pos → Name → Judged Part
+pointed_spot e first a p n = pointed_as e first a p n a.known.of (method_of e a.known.of n)
+
+abbrev pub pointed_name : Env → (first : Pos) → Head → Pos → Name → Judged Part
+pointed_name e first h p n = bind (desig.named e h) (λ a. pointed_spot e first a p n)
+
+-- a point behind what there is so far: a name of a module, a field, or a method
+abbrev pub pointed : Env → (first : Pos) → Part → Pos → Name → Judged Part
+pointed e first (Begun h) p n =
+    if desig.is_module h.found then kept (Begun (desig.member_behind e h n))
+    else pointed_name e first h p n
+pointed e first (Meant a) p n = pointed_spot e first a p n
+pointed e first (Waits b) p n = as_part (selected e p (Waits b))
 
 -- `^` behind it
+abbrev pub followed_spot : Env → Part → Pos → Judged Part
+followed_spot e a p = as_part (bind (selected e p a) (λ b. desig.followed e b p))
+
 abbrev pub followed_part : Env → Part → Pos → Judged Part
-followed_part e a p = as_part (bind (spot_of_part e a) (λ b. desig.followed e b p))
+followed_part e (Begun h) p = if is_method h.found then raised e h p else followed_spot e (Begun h) p
+followed_part e (Meant a) p = followed_spot e (Meant a) p
+followed_part e (Waits b) p = followed_spot e (Waits b) p
+
+-- before a bracket: a plain name that stands for a method is that
+abbrev pub bound_head : Head → Option Bound → Part
+bound_head h None = Begun h
+bound_head h (Some b) = Waits b
+
+abbrev pub bound_part : Env → Part → Part
+bound_part e (Begun h) = bound_head h (own_method e h)
+bound_part e (Meant a) = Meant a
+bound_part e (Waits b) = Waits b
 
 -- a bracket behind it, whose arguments are judged so: a call, or a guard
 abbrev pub bracketed_name : Env → Head → Pos → List (Judged Answer) → List Expr → Judged Part
@@ -285,9 +393,16 @@ bracketed_name e h p js xs =
     then as_part (desig.named e h)
     else as_part (called e h p js xs)
 
+abbrev pub bracketed_method : Env → Bound → List (Judged Answer) → List Expr → Judged Part
+bracketed_method e b js xs = as_part (desig.spotted b.first (invoked e b.first b.callee b.home b.number js xs))
+
+abbrev pub bracketed_as : Env → Pos → Part → Pos → List (Judged Answer) → List Expr → Judged Part
+bracketed_as e first (Begun h) p js xs = bracketed_name e h p js xs
+bracketed_as e first (Meant a) p js xs = as_part (desig.guarded e first p a (guard_type e xs))
+bracketed_as e first (Waits b) p js xs = bracketed_method e b js xs
+
 abbrev pub bracketed : Env → Pos → Part → Pos → List (Judged Answer) → List Expr → Judged Part
-bracketed e first (Begun h) p js xs = bracketed_name e h p js xs
-bracketed e first (Meant a) p js xs = as_part (desig.guarded e first p a (guard_type e xs))
+bracketed e first a p js xs = bracketed_as e first (bound_part e a) p js xs
 
 -- The tables at a place.
 
@@ -495,8 +610,8 @@ module _ (e : Env) where
     selectors first a (more_of-Selector x xs) = bind (selector first a x) (λ b. selectors first b xs)
 
     pub selector : Pos → Part → Selector → Judged Part
-    selector first a (s.Field p n) = pointed e a p n
-    selector first a (s.Index' p shape row) = as_part (bind (spot_of_part e a) (λ b. indices p b row))
+    selector first a (s.Field p n) = pointed e first a p n
+    selector first a (s.Index' p shape row) = as_part (bind (selected e p a) (λ b. indices p b row))
     selector first a (s.Follow p) = followed_part e a p
     selector first a (s.Paren' p shape row) = bracketed e first a p (arguments row) (items-the_row-Expr _ row)
 
@@ -528,7 +643,7 @@ module _ (e : Env) where
   index at a x = bind (expr x) (λ i. desig.element e at a i)
 
   abbrev pub indexed : Pos → Part → List Expr → Judged Part
-  indexed at a xs = as_part (bind (spot_of_part e a) (λ b. walk (index at) b xs))
+  indexed at a xs = as_part (bind (selected e at a) (λ b. walk (index at) b xs))
 
   -- a constant expression, with its value where it breaks no rule
   abbrev pub constant : Expr → Judged (Option Literal)

@@ -1,13 +1,14 @@
 -- What the code's answers are seen as.
 use Rattle.std.specs.Prelude.{map}
-use Rattle.aos_typed.specs.Seen.{seen_place, seen_rows, seen_expr}
+use Rattle.aos_typed.specs.Seen.{seen_place, seen_rows, seen_callee, seen_expr}
 use Rattle.aos_check_expr.specs.declared.known.Answer.{Answer as CodeAnswer}
 use Rattle.aos_check_expr.specs.declared.known.Held.{Held as CodeHeld}
 use Rattle.aos_check_expr.specs.declared.known.Held.TheVariants as held
 use Rattle.aos_check_expr.specs.declared.known.Spot.{Spot as CodeSpot}
-use Rattle.aos_check_expr.specs.declared.selectors.Part.{Part as CodePart}
-use Rattle.aos_check_expr.specs.declared.selectors.Part.TheVariants as code_part
-use Rattle.aos_check_expr.specs.Expressions.{Part, Begun, Meant}
+use Rattle.aos_check_expr.specs.declared.methods.Bound.{Bound as CodeBound}
+use Rattle.aos_check_expr.specs.declared.methods.Part.{Part as CodePart}
+use Rattle.aos_check_expr.specs.declared.methods.Part.TheVariants as code_part
+use Rattle.aos_check_expr.specs.Expressions.{Bound, Part, Begun, Meant, Waits}
 use Rattle.aos_check_expr.specs.Known.{Answer, Spot, Held, Stands, Value}
 use Rattle.aos_typed.specs.declared.tree.TArgument.{TArgument}
 use Rattle.aos_typed.specs.declared.tree.TArgument.TheVariants as argument
@@ -24,9 +25,13 @@ seen_held (held.Value e) = Value (seen_expr e)
 abbrev pub seen_spot : CodeSpot → Spot
 seen_spot a = record { known = a.known; held = seen_held a.held; at = a.at }
 
+abbrev pub seen_bound : CodeBound → Bound
+seen_bound b = record { callee = seen_callee b.callee; home = b.home; number = b.number; first = b.first }
+
 abbrev pub seen_part : CodePart → Part
 seen_part (code_part.Begun h) = Begun h
 seen_part (code_part.Meant a) = Meant (seen_spot a)
+seen_part (code_part.Waits b) = Waits (seen_bound b)
 
 abbrev pub seen_given : TArgument → Given
 seen_given (argument.Scalar e) = Scalar (seen_expr e)

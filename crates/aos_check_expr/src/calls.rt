@@ -2,6 +2,7 @@
 
 ghost use Rattle.std.specs.Prelude.{◌≡◌, OnOk, IfOk};
 ghost use Rattle.std.specs.Option.{option_copied};
+ghost use Rattle.aos_typed.specs.Seen.{seen_callee};
 ghost use Rattle.aos_symbols.specs.Breaches.{first_after};
 ghost use Rattle.aos_symbols.specs.Judged.{bind};
 ghost use Rattle.aos_check_expr.specs.Designators as designators;
@@ -186,9 +187,9 @@ fn limit_named(found: &mut Option<Breach>, limit: Limit, head: Option<Head>, fir
         return refused(found, ARGUMENT_TYPE, first);
     };
     match head.found {
-        Lookup::Unknown => refused(found, UNKNOWN, head.at),
-        Lookup::NotExported => refused(found, NOT_EXPORTED, head.at),
-        Lookup::Found(symbol) => limit_meant(found, limit, symbol.means, head.at, head.first),
+        Lookup::Unknown => refused(found, UNKNOWN, head.name.pos),
+        Lookup::NotExported => refused(found, NOT_EXPORTED, head.name.pos),
+        Lookup::Found(symbol) => limit_meant(found, limit, symbol.means, head.name.pos, head.first),
     }
 }
 
@@ -270,13 +271,14 @@ pub fn may_be_value(env: &Env<'_>, of: Option<TypeId>) -> bool
 
 /// The result of a function with these arguments.
 #[tactic(auto, using(crate::proofs::Handed::function_is))]
-fn function_answer(home: u32, number: u32, of: Option<TypeId>, handing: Handing) -> Answer
-    ensures { seen_answer result ≡ judge.function_answer home number of (seen_handing handing) }
+fn function_answer(callee: TCallee, of: Option<TypeId>, handing: Handing) -> Answer
+    ensures { seen_answer result ≡
+        judge.function_answer (seen_callee callee) of (seen_handing handing) }
 {
     answered(
         operations::kept_class(handing.are_kept, Class::Computed),
         operations::kept_type(handing.are_kept, of),
-        TExpr::Function(TCallee::Plain(home, number), handing.given),
+        TExpr::Function(callee, handing.given),
     )
 }
 
@@ -285,20 +287,19 @@ pub fn function_value(
     found: &mut Option<Breach>,
     env: &Env<'_>,
     first: Pos,
-    home: u32,
-    number: u32,
+    callee: TCallee,
     of: Option<TypeId>,
     handing: Handing,
 ) -> Answer
     ensures noted { found.new ≡ first_after found.old
-        (judge.function_told env.now first home number of (seen_handing handing)).breaches }
+        (judge.function_told env.now first (seen_callee callee) of (seen_handing handing)).breaches }
     ensures answer { seen_answer result ≡
-        (judge.function_told env.now first home number of (seen_handing handing)).answer }
+        (judge.function_told env.now first (seen_callee callee) of (seen_handing handing)).answer }
 {
     if !may_be_value(env, of) {
         note(found, NOT_BUILT, first);
     }
-    function_answer(home, number, of, handing)
+    function_answer(callee, of, handing)
 }
 
 /// The value of a function of one argument, which begins here.

@@ -8,15 +8,16 @@ ghost use Rattle.aos_check_expr.specs.Designators as judge;
 ghost use Rattle.aos_check_expr.specs.Seen.{seen_answer, seen_held, seen_spot};
 
 use crate::known::{
-    Answer, Class, Held, Known, Spot, answered, constant_answer, is_basic, is_long_text, nothing,
-    read_from, some_value, spot_of, unknown,
+    Answer, Class, Held, Known, Spot, answered, constant_answer, is_basic, is_long_text, known_as,
+    nothing, read_from, some_value, spot_of, unknown,
 };
 use crate::references::{guarded_spot, is_value};
-use crate::variables::{is_opened, is_reached, place_of_variable};
+use crate::variables::{is_opened, place_of_variable};
 use aos_base::Pos;
 use aos_symbols::{
     Breach, Env, Lookup, Meaning, NO_VARIABLE, NOT_BUILT, NOT_CONSTANT, NOT_EXPORTED, Narrowed,
-    OTHER_KIND, Open, READ_ONLY, Symbol, UNKNOWN, WRONG_CALL, is_procedure_of_out, note, word,
+    OTHER_KIND, Open, READ_ONLY, Symbol, UNKNOWN, WRONG_CALL, WRONG_SELF, is_procedure_of_out,
+    note, word,
 };
 use aos_tree::{Export, Name};
 use aos_typed::{Literal, TExpr, TPlace};
@@ -24,11 +25,11 @@ use aos_types::{TypeId, TypeRow};
 use std::alloc::{AllocError, Global};
 use std::mem;
 
-/// What is found of a name, where the name stands, and where its designator begins.
+/// What is found of a name, the name, and where its designator begins.
 #[derive(Clone, Copy, PartialEq, Eq, Debug)]
 pub struct Head {
     pub found: Lookup,
-    pub at: Pos,
+    pub name: Name,
     pub first: Pos,
 }
 
@@ -38,7 +39,7 @@ pub fn plain(env: &Env<'_>, name: Name) -> Head
 {
     Head {
         found: env.lookup(name),
-        at: name.pos,
+        name,
         first: name.pos,
     }
 }
@@ -94,7 +95,7 @@ pub fn member_behind(env: &Env<'_>, head: Head, name: Name) -> Head
 {
     Head {
         found: member_in(env, head.found, name),
-        at: name.pos,
+        name,
         first: head.first,
     }
 }
@@ -105,12 +106,13 @@ pub fn member(env: &Env<'_>, home: Name, name: Name) -> Head
 {
     Head {
         found: member_in(env, env.lookup(home), name),
-        at: name.pos,
+        name,
         first: home.pos,
     }
 }
 
-fn access(is_own: bool, mark: Option<Export>) -> Class
+/// What a variable is by its mark: one marked `-` may only be read in other modules.
+pub fn access(is_own: bool, mark: Option<Export>) -> Class
     ensures { result ≡ judge.access is_own mark }
 {
     match mark {
@@ -232,7 +234,8 @@ fn narrowed(
     Ok(guarded)
 }
 
-fn refused_value_at(found: &mut Option<Breach>, rule: u16, first: Pos, at: Pos) -> Spot
+/// The same of what is some value.
+pub fn refused_value_at(found: &mut Option<Breach>, rule: u16, first: Pos, at: Pos) -> Spot
     ensures noted { found.new ≡
         first_after found.old (judge.spotted at (judge.refused_value rule first)).breaches }
     ensures answer { seen_spot result ≡
@@ -254,12 +257,9 @@ fn meant(
         first_after found.old (judge.meant env.now symbol means head).breaches) }
     ensures answer { IfOk result (λ r. seen_spot r ≡ (judge.meant env.now symbol means head).answer) }
 {
-    let at = head.at;
+    let at = head.name.pos;
     match means {
         Meaning::Variable(number) => {
-            if !is_reached(env, symbol) {
-                return Ok(refused_at(found, NOT_BUILT, at, at));
-            }
             let whole = variable(alloc, env, symbol, number, at)?;
             narrowed(alloc, env, symbol, number, whole)
         }
@@ -267,7 +267,23 @@ fn meant(
             let value = env.constant(symbol.at, number, head.first);
             Ok(spot_of(at, constant_of(found, value, at)))
         }
+        Meaning::Itself => Ok(itself(found, env, at)),
         _ => Ok(meant_otherwise(found, means, head)),
+    }
+}
+
+/// SELF, which is a value in the methods and the body of an object type.
+fn itself(found: &mut Option<Breach>, env: &Env<'_>, at: Pos) -> Spot
+    ensures noted { found.new ≡ first_after found.old (judge.itself env.now at).breaches }
+    ensures answer { seen_spot result ≡ (judge.itself env.now at).answer }
+{
+    match env.self_type {
+        Some(of) => Spot {
+            known: known_as(Class::Computed, Some(of)),
+            held: Held::Value(TExpr::SelfRef),
+            at,
+        },
+        None => refused_at(found, WRONG_SELF, at, at),
     }
 }
 
@@ -277,7 +293,7 @@ fn meant_otherwise(found: &mut Option<Breach>, means: Meaning, head: Head) -> Sp
         first_after found.old (judge.meant_otherwise means head).breaches }
     ensures answer { seen_spot result ≡ (judge.meant_otherwise means head).answer }
 {
-    let at = head.at;
+    let at = head.name.pos;
     match means {
         Meaning::Truth(value) => spot_of(at, constant_answer(Literal::Bool(value))),
         Meaning::Type(_) => refused_at(found, OTHER_KIND, at, at),
@@ -302,8 +318,8 @@ pub fn named(
     ensures answer { IfOk result (λ r. seen_spot r ≡ (judge.named env.now head).answer) }
 {
     match head.found {
-        Lookup::Unknown => Ok(refused_at(found, UNKNOWN, head.at, head.at)),
-        Lookup::NotExported => Ok(refused_at(found, NOT_EXPORTED, head.at, head.at)),
+        Lookup::Unknown => Ok(refused_at(found, UNKNOWN, head.name.pos, head.name.pos)),
+        Lookup::NotExported => Ok(refused_at(found, NOT_EXPORTED, head.name.pos, head.name.pos)),
         Lookup::Found(symbol) => meant(alloc, found, env, symbol, symbol.means, head),
     }
 }

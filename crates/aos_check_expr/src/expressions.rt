@@ -1,11 +1,12 @@
 // Expressions: which rules they break, what is known of them and what they are in the typed program.
 
 ghost use Rattle.std.specs.Prelude.{◌≡◌, OnOk, IfOk, map, true};
+ghost use Rattle.aos_typed.specs.Seen.{seen_callee};
 ghost use Rattle.aos_symbols.specs.Breaches.{first_after};
 ghost use Rattle.aos_symbols.specs.Judged.{walk};
 ghost use Rattle.aos_check_expr.specs.Operations as operations;
 ghost use Rattle.aos_check_expr.specs.Expressions as judge;
-ghost use Rattle.aos_check_expr.specs.Seen.{seen_answer, seen_handing, seen_part, seen_spot};
+ghost use Rattle.aos_check_expr.specs.Seen.{seen_answer, seen_bound, seen_handing, seen_part, seen_spot};
 
 use crate::arguments::{Handing, hand, nothing_handed};
 use crate::calls::{
@@ -19,9 +20,10 @@ use crate::forms::{
 };
 use crate::known::{Answer, Spot, constant_answer, is_integer, spot_of};
 use crate::lengths::{len_alone, len_in};
+use crate::methods::{Bound, Part, bound_part, followed_part, pointed, selected, spot_of_part};
 use crate::operations;
 use crate::references::guarded;
-use crate::selectors::{self, Part, followed_part, pointed, spot_of_part};
+use crate::selectors::element as element_of;
 use crate::variables::is_of_module;
 use aos_base::Pos;
 use aos_symbols::{
@@ -29,7 +31,7 @@ use aos_symbols::{
     WRONG_CALL, note,
 };
 use aos_tree::{Addition, Desig, Elem, Expr, Factor, Product, Relation, Selector, Simple, Term};
-use aos_typed::Literal;
+use aos_typed::{Literal, TCallee};
 use aos_types::TypeId;
 use std::alloc::{AllocError, Global};
 
@@ -285,14 +287,14 @@ pub fn designator(
 {
     let begun = Part::Begun(plain(env, part.name));
     let first = part.name.pos;
-    let whole = selectors(alloc, found, env, first, begun, part.selectors.as_slice())?;
+    let whole = follow_selectors(alloc, found, env, first, begun, part.selectors.as_slice())?;
     spot_of_part(alloc, found, env, whole)
 }
 
 /// What a designator that begins here is so far, and its selectors.
 #[cycle(exprs)]
 #[tactic(auto, using(aos_symbols::proofs::Keeping::after_more, aos_symbols::proofs::Steps::walk_step, aos_symbols::proofs::Steps::walk_end))]
-fn selectors(
+pub fn follow_selectors(
     alloc: Global,
     found: &mut Option<Breach>,
     env: &Env<'_>,
@@ -329,7 +331,7 @@ fn selector(
         (judge.selector env.now first (seen_part whole) part.now).answer) }
 {
     match part {
-        Selector::Field(at, name) => pointed(alloc, found, env, whole, *at, *name),
+        Selector::Field(at, name) => pointed(alloc, found, env, first, whole, *at, *name),
         Selector::Index(at, all) => { indexed(alloc, found, env, whole, *at, all.as_slice()) }
         Selector::Follow(at) => followed_part(alloc, found, env, whole, *at),
         Selector::Paren(at, arguments) => {
@@ -354,7 +356,7 @@ fn indexed(
     ensures answer { IfOk result (λ r. seen_part r ≡
         (judge.indexed env.now at (seen_part whole) all.now).answer) }
 {
-    let begun = spot_of_part(alloc, found, env, whole)?;
+    let begun = selected(alloc, found, env, at, whole)?;
     let reached = indices(alloc, found, env, at, begun, all)?;
     Ok(Part::Meant(reached))
 }
@@ -399,13 +401,13 @@ fn index(
         (judge.index env.now at (seen_spot whole) part.now).answer) }
 {
     let index = expr(alloc, found, env, part)?;
-    selectors::element(alloc, found, env, at, whole, index)
+    element_of(alloc, found, env, at, whole, index)
 }
 
 /// A bracket that stands here, behind what a designator is so far: a call, or a guard.
 #[cycle(exprs)]
 #[tactic(auto, using(aos_symbols::proofs::Keeping::after_more))]
-fn bracketed(
+pub fn bracketed(
     alloc: Global,
     found: &mut Option<Breach>,
     env: &Env<'_>,
@@ -421,14 +423,37 @@ fn bracketed(
         (judge.bracketed env.now first (seen_part whole) at
         (map (judge.expr env.now) arguments.now) arguments.now).answer) }
 {
-    match whole {
+    match bound_part(alloc, env, whole)? {
         Part::Begun(head) => bracketed_name(alloc, found, env, head, at, arguments),
         Part::Meant(spot) => {
             let of = guard_type(env, arguments);
             let whole = guarded(alloc, found, env, first, at, spot, of)?;
             Ok(Part::Meant(whole))
         }
+        Part::Waits(bound) => bracketed_method(alloc, found, env, bound, arguments),
     }
+}
+
+/// A bracket behind a method.
+#[cycle(exprs)]
+#[tactic(auto, using(aos_symbols::proofs::Keeping::after_more))]
+fn bracketed_method(
+    alloc: Global,
+    found: &mut Option<Breach>,
+    env: &Env<'_>,
+    bound: Bound,
+    arguments: &[Expr],
+) -> Result<Part, AllocError>
+    ensures noted { OnOk result (found.new ≡ first_after found.old
+        (judge.bracketed_method env.now (seen_bound bound)
+        (map (judge.expr env.now) arguments.now) arguments.now).breaches) }
+    ensures answer { IfOk result (λ r. seen_part r ≡
+        (judge.bracketed_method env.now (seen_bound bound)
+        (map (judge.expr env.now) arguments.now) arguments.now).answer) }
+{
+    let first = bound.first;
+    let value = invoked(alloc, found, env, bound, arguments)?;
+    Ok(Part::Meant(spot_of(first, value)))
 }
 
 /// A bracket that stands here, behind a name.
@@ -505,7 +530,13 @@ fn called_as(
             Ok(spot_of(first, value))
         }
         Meaning::Procedure(number) if is_of_module(symbol) => {
-            let value = invoked(alloc, found, env, first, symbol.at.home, number, arguments)?;
+            let bound = Bound {
+                callee: TCallee::Plain(symbol.at.home, number),
+                home: symbol.at.home,
+                number,
+                first,
+            };
+            let value = invoked(alloc, found, env, bound, arguments)?;
             Ok(spot_of(first, value))
         }
         Meaning::Type(Some(of)) if is_integer(of) => {
@@ -543,26 +574,25 @@ fn called_function(
     }
 }
 
-/// A call of a procedure of a module, which begins here.
+/// A call of what has a signature, with these arguments.
 #[cycle(exprs)]
 #[tactic(auto, using(aos_symbols::proofs::Keeping::after_more))]
 fn invoked(
     alloc: Global,
     found: &mut Option<Breach>,
     env: &Env<'_>,
-    first: Pos,
-    home: u32,
-    number: u32,
+    bound: Bound,
     arguments: &[Expr],
 ) -> Result<Answer, AllocError>
     ensures noted { OnOk result (found.new ≡ first_after found.old
-        (judge.invoked env.now first home number
+        (judge.invoked env.now bound.first (seen_callee bound.callee) bound.home bound.number
         (map (judge.expr env.now) arguments.now) arguments.now).breaches) }
     ensures answer { IfOk result (λ r. seen_answer r ≡
-        (judge.invoked env.now first home number
+        (judge.invoked env.now bound.first (seen_callee bound.callee) bound.home bound.number
         (map (judge.expr env.now) arguments.now) arguments.now).answer) }
 {
-    let Some(signature) = env.signature(home, number) else {
+    let first = bound.first;
+    let Some(signature) = env.signature(bound.home, bound.number) else {
         return Ok(refused_value(found, NOT_CONSTANT, first));
     };
     let Gives::Value(of) = signature.gives else {
@@ -570,7 +600,7 @@ fn invoked(
     };
     let parameters = signature.parameters.as_slice();
     let handing = arguments_for(alloc, found, env, first, parameters, arguments)?;
-    Ok(function_value(found, env, first, home, number, of, handing))
+    Ok(function_value(found, env, first, bound.callee, of, handing))
 }
 
 /// The arguments of a call that begins here: there is one for each parameter.

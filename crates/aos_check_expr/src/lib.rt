@@ -8,6 +8,7 @@ pub mod expressions;
 mod forms;
 pub mod known;
 mod lengths;
+pub mod methods;
 pub mod operations;
 mod references;
 mod required;
@@ -19,21 +20,21 @@ mod variables;
 pub use arguments::Handing;
 pub use calls::{desig_alone, may_be_value};
 pub use designators::{
-    Head, has_parts, is_built, is_module, member, member_behind, named, place_in, place_of, plain,
-    refuse_assigned, refuse_written, refused_at,
+    Head, access, has_parts, is_built, is_module, member, member_behind, named, place_in, place_of,
+    plain, refuse_assigned, refuse_written, refused_at,
 };
-pub use expressions::{arguments_for, designator, expr};
+pub use expressions::{arguments_for, bracketed, designator, expr, follow_selectors};
 pub use known::{
     Answer, Class, Held, Known, Spot, fits, is_basic, is_char, is_number, is_set, is_unknown,
     object_number, type_of, type_of_literal, width_of,
 };
 pub use lengths::{array_rows, is_opening};
+pub use methods::{Bound, Part, bound_part, spot_of_part};
 pub use operations::{Joint, Operation, Single, Step, number};
 pub use references::{
     guard, is_compatible, is_object_type, is_pointer_type, made_number, target_of,
 };
 pub use required::{char_argument, condition, constant, constant_class, number_argument};
-pub use selectors::Part;
 pub use texts::{has_room, is_characters, may_be_text, text_for, text_rows};
 pub use type_names::{known_type, named_type, no_type};
-pub use variables::{is_of_module, is_reached, place_of_variable};
+pub use variables::{is_of_module, place_of_variable};

@@ -115,7 +115,8 @@ pub fn is_compatible(env: &Env<'_>, from: Option<TypeId>, to: Option<TypeId>) ->
     }
 }
 
-fn followed_class(class: Class) -> Class
+/// The class of what a pointer or an object of this class leads to.
+pub fn followed_class(class: Class) -> Class
     ensures { result ≡ judge.followed_class class }
 {
     match class {

@@ -1,4 +1,4 @@
-// Parts of variables: the fields of records and the elements of arrays; and what a designator is so far.
+// Parts of variables: the fields of records and objects, the elements of arrays, and what pointers lead to.
 
 ghost use Rattle.std.specs.Prelude.{◌≡◌, OnOk, IfOk};
 ghost use Rattle.aos_typed.specs.Program.{Index, Of, Row};
@@ -7,12 +7,13 @@ ghost use Rattle.aos_typed.specs.Seen.{seen_expr};
 ghost use Rattle.aos_symbols.specs.Breaches.{first_after};
 ghost use Rattle.aos_check_expr.specs.Known as known;
 ghost use Rattle.aos_check_expr.specs.Designators as judge;
-ghost use Rattle.aos_check_expr.specs.Expressions as expressions;
-ghost use Rattle.aos_check_expr.specs.Seen.{seen_answer, seen_held, seen_part, seen_spot};
+ghost use Rattle.aos_check_expr.specs.Seen.{seen_answer, seen_held, seen_spot};
 
-use crate::designators::{Head, is_built, is_module, member_behind, named, refused_at};
-use crate::known::{Answer, Class, Held, Spot, is_basic, is_number, known_as, type_as};
-use crate::references::{followed_spot, is_record_type, target_of, through, unknown_part};
+use crate::designators::{is_built, refused_at};
+use crate::known::{Answer, Class, Held, Spot, is_basic, is_number, known_as, read_from, type_as};
+use crate::references::{
+    followed_class, followed_spot, is_object_type, is_record_type, target_of, through, unknown_part,
+};
 use crate::variables::rows_of;
 use aos_base::Pos;
 use aos_symbols::{Breach, Env, Field, NOT_BUILT, NOT_EXPORTED, WRONG_SELECTOR};
@@ -69,16 +70,41 @@ fn field_held(alloc: Global, of: TypeId, number: u32, whole: Held) -> Result<Hel
     }
 }
 
-/// A field of a variable that is of this record type.
-fn field_spot(
+/// A field of an object that is of this type: it is a variable, whatever the object is.
+fn object_field(
     alloc: Global,
     of: TypeId,
     field: Field,
     at: Pos,
     whole: Spot,
 ) -> Result<Spot, AllocError>
-    ensures { IfOk result (λ r. seen_spot r ≡ judge.field_spot of field at (seen_spot whole)) }
+    ensures { IfOk result (λ r. seen_spot r ≡ judge.object_field of field at (seen_spot whole)) }
 {
+    let class = part_class(may_write(field), followed_class(whole.known.class));
+    let object = Box::new(alloc, read_from(whole.known.of, whole.held))?;
+    let object = Box::new(alloc, TPlace::Deref(object, type_as(of)))?;
+    Ok(Spot {
+        known: known_as(class, field.of),
+        held: Held::Stands(TPlace::Field(object, type_as(of), field.number)),
+        at,
+    })
+}
+
+/// A field of a variable that is of this type, or of an object.
+fn field_spot(
+    alloc: Global,
+    env: &Env<'_>,
+    of: TypeId,
+    field: Field,
+    at: Pos,
+    whole: Spot,
+) -> Result<Spot, AllocError>
+    ensures { IfOk result (λ r. seen_spot r ≡
+        judge.field_spot env.now of field at (seen_spot whole)) }
+{
+    if is_object_type(env, of) {
+        return object_field(alloc, of, field, at, whole);
+    }
     Ok(Spot {
         known: known_as(part_class(may_write(field), whole.known.class), field.of),
         held: field_held(alloc, of, field.number, whole.held)?,
@@ -86,7 +112,7 @@ fn field_spot(
     })
 }
 
-/// The field of a record, where it has one: a field of another module's record has an export mark.
+/// The field of a type, where it has one: a field of another module's type has an export mark.
 fn found_field(
     alloc: Global,
     found: &mut Option<Breach>,
@@ -106,7 +132,7 @@ fn found_field(
         None => Ok(lacking(found, env, of, at)),
         Some(field) => {
             if field.is_own || field.mark.is_some() {
-                field_spot(alloc, of, field, name.pos, whole)
+                field_spot(alloc, env, of, field, name.pos, whole)
             } else {
                 Ok(refused_at(found, NOT_EXPORTED, name.pos, name.pos))
             }
@@ -114,7 +140,14 @@ fn found_field(
     }
 }
 
-/// A field of a variable, or of what a pointer leads to, behind a point that stands here.
+/// Whether a type has fields.
+fn has_fields(env: &Env<'_>, of: TypeId) -> bool
+    ensures { result ≡ judge.has_fields env.now of }
+{
+    is_record_type(env, of) || is_object_type(env, of)
+}
+
+/// A field of a variable, of an object, or of what a pointer leads to, behind a point that stands here.
 pub fn field(
     alloc: Global,
     found: &mut Option<Breach>,
@@ -132,7 +165,7 @@ pub fn field(
     let Some(of) = whole.known.of else {
         return Ok(unknown_part(name.pos, whole));
     };
-    if !is_record_type(env, of) {
+    if !has_fields(env, of) {
         return Ok(lacking(found, env, of, at));
     }
     let field = env.field(of, name)?;
@@ -289,7 +322,7 @@ pub fn element(
 }
 
 /// What a pointer leads to, by `^`, which stands here.
-fn followed(
+pub fn followed(
     alloc: Global,
     found: &mut Option<Breach>,
     env: &Env<'_>,
@@ -308,96 +341,4 @@ fn followed(
         Some(to) => followed_spot(alloc, env, to, whole),
         None => Ok(lacking(found, env, of, at)),
     }
-}
-
-/// What a designator is so far: a name, which a bracket may call, or a variable or a value.
-#[derive(Drop, Debug)]
-pub enum Part {
-    Begun(Head),
-    Meant(Spot),
-}
-
-/// What a designator is so far, as a variable or a value.
-pub fn spot_of_part(
-    alloc: Global,
-    found: &mut Option<Breach>,
-    env: &Env<'_>,
-    part: Part,
-) -> Result<Spot, AllocError>
-    ensures noted { OnOk result (found.new ≡ first_after found.old
-        (expressions.spot_of_part env.now (seen_part part)).breaches) }
-    ensures answer { IfOk result (λ r. seen_spot r ≡
-        (expressions.spot_of_part env.now (seen_part part)).answer) }
-{
-    match part {
-        Part::Begun(head) => named(alloc, found, env, head),
-        Part::Meant(spot) => Ok(spot),
-    }
-}
-
-/// A field of what a name stands for, behind a point that stands here.
-#[tactic(auto, using(aos_symbols::proofs::Keeping::after_more))]
-fn pointed_name(
-    alloc: Global,
-    found: &mut Option<Breach>,
-    env: &Env<'_>,
-    head: Head,
-    at: Pos,
-    name: Name,
-) -> Result<Part, AllocError>
-    ensures noted { OnOk result (found.new ≡ first_after found.old
-        (expressions.pointed_name env.now head at name).breaches) }
-    ensures answer { IfOk result (λ r. seen_part r ≡
-        (expressions.pointed_name env.now head at name).answer) }
-{
-    let whole = named(alloc, found, env, head)?;
-    let part = field(alloc, found, env, whole, at, name)?;
-    Ok(Part::Meant(part))
-}
-
-/// A point behind what a designator is so far: a name of a module, or a field.
-pub fn pointed(
-    alloc: Global,
-    found: &mut Option<Breach>,
-    env: &Env<'_>,
-    part: Part,
-    at: Pos,
-    name: Name,
-) -> Result<Part, AllocError>
-    ensures noted { OnOk result (found.new ≡ first_after found.old
-        (expressions.pointed env.now (seen_part part) at name).breaches) }
-    ensures answer { IfOk result (λ r. seen_part r ≡
-        (expressions.pointed env.now (seen_part part) at name).answer) }
-{
-    match part {
-        Part::Begun(head) => {
-            if is_module(head.found) {
-                Ok(Part::Begun(member_behind(env, head, name)))
-            } else {
-                pointed_name(alloc, found, env, head, at, name)
-            }
-        }
-        Part::Meant(whole) => {
-            let part = field(alloc, found, env, whole, at, name)?;
-            Ok(Part::Meant(part))
-        }
-    }
-}
-
-/// `^`, which stands here, behind what a designator is so far.
-#[tactic(auto, using(aos_symbols::proofs::Keeping::after_more))]
-pub fn followed_part(
-    alloc: Global,
-    found: &mut Option<Breach>,
-    env: &Env<'_>,
-    part: Part,
-    at: Pos,
-) -> Result<Part, AllocError>
-    ensures noted { OnOk result (found.new ≡ first_after found.old
-        (expressions.followed_part env.now (seen_part part) at).breaches) }
-    ensures answer { IfOk result (λ r. seen_part r ≡
-        (expressions.followed_part env.now (seen_part part) at).answer) }
-{
-    let whole = spot_of_part(alloc, found, env, part)?;
-    Ok(Part::Meant(followed(alloc, found, env, whole, at)?))
 }

@@ -1,13 +1,13 @@
-// The places of variables: those of modules, and those of the procedure in which a name stands.
+// The places of variables: those of modules, those of the procedure in which a name stands, and the fields of SELF.
 
 ghost use Rattle.std.specs.Prelude.{◌≡◌, IfOk};
 ghost use Rattle.aos_typed.specs.Open.{open_dimensions as dimensions_in};
 ghost use Rattle.aos_typed.specs.Seen.{seen_place, seen_rows};
 ghost use Rattle.aos_check_expr.specs.Designators as judge;
 
-use crate::known::is_basic;
-use aos_symbols::{Env, Parameter, Symbol};
-use aos_typed::{TPlace, TRows, open_array};
+use crate::known::{is_basic, type_as};
+use aos_symbols::{Env, Open, Parameter, Symbol};
+use aos_typed::{TExpr, TPlace, TRows, open_array};
 use aos_types::{TypeId, TypeRow};
 use std::alloc::{AllocError, Global};
 use std::mem;
@@ -87,6 +87,43 @@ pub fn is_of_module(symbol: Symbol) -> bool
     symbol.at.scope == 0
 }
 
+/// Whether a scope is that of the procedure in which a place stands.
+fn is_own_scope(env: &Env<'_>, at: Open) -> bool
+    ensures { result ≡ judge.is_own_scope env.now at }
+{
+    at.home == env.number && at.scope == env.innermost() && env.own_signature().is_some()
+}
+
+/// A field of SELF, which is of this type, by the field's number.
+fn self_place(alloc: Global, of: TypeId, number: u32) -> Result<TPlace, AllocError>
+    ensures { IfOk result (λ p. seen_place p ≡ judge.self_place of number) }
+{
+    let object = TPlace::Deref(Box::new(alloc, TExpr::SelfRef)?, type_as(of));
+    Ok(TPlace::Field(Box::new(alloc, object)?, type_as(of), number))
+}
+
+/// A variable in the scope of an object type: a field of SELF.
+fn inner_place(alloc: Global, env: &Env<'_>, at: Open, number: u32) -> Result<TPlace, AllocError>
+    ensures { IfOk result (λ p. seen_place p ≡ judge.inner_place env.now at number) }
+{
+    match (env.self_type, env.object_at(at)) {
+        (Some(of), Some(declarer)) => {
+            self_place(alloc, of, env.field_number(declarer, number)?)
+        },
+        _ => Ok(TPlace::Local(number)),
+    }
+}
+
+fn place_in_scope(alloc: Global, env: &Env<'_>, at: Open, number: u32) -> Result<TPlace, AllocError>
+    ensures { IfOk result (λ p. seen_place p ≡ judge.place_in_scope env.now at number) }
+{
+    if is_own_scope(env, at) {
+        own_place(alloc, env, number)
+    } else {
+        inner_place(alloc, env, at, number)
+    }
+}
+
 /// The place of a variable.
 pub fn place_of_variable(
     alloc: Global,
@@ -99,15 +136,8 @@ pub fn place_of_variable(
     if is_of_module(symbol) {
         Ok(TPlace::ModuleVar(symbol.at.home, number))
     } else {
-        own_place(alloc, env, number)
+        place_in_scope(alloc, env, symbol.at, number)
     }
-}
-
-/// Whether a variable is one of a module, or of the procedure in which the place stands.
-pub fn is_reached(env: &Env<'_>, symbol: Symbol) -> bool
-    ensures { result ≡ judge.is_reached env.now symbol }
-{
-    is_of_module(symbol) || env.own_signature().is_some()
 }
 
 /// The rows of an open array; what is none has no open dimensions.

@@ -1,5 +1,5 @@
 -- FOR's variable, values and step are well typed, and so are the labels of CASE.
-use Rattle.std.proofs.Common.{◌≡◌, ℕ, ℤ, pos, ◌⊎◌, inl, inr, List, [], ◌∷◌, ◌++◌, Bool, true, false, not, ◌||◌, Option, Some, None, option_map, refl, sym, ap, ◌∙◌, subst, arith, if◌then◌else◌}
+use Rattle.std.proofs.Common.{◌≡◌, ℕ, ℤ, pos, ◌⊎◌, inl, inr, List, [], ◌∷◌, ◌++◌, Bool, true, false, not, ◌==◌, ◌||◌, Option, Some, None, option_map, refl, sym, ap, ◌∙◌, subst, if◌then◌else◌}
 use Rattle.std.specs.Prelude.{All}
 use Rattle.std.proofs.lemmas.Option.{none-some}
 use Rattle.std.specs.List.{list_any}
@@ -18,11 +18,9 @@ use Rattle.aos_typed.specs.declared.tree.LabelRange.{LabelRange}
 use Rattle.aos_typed.specs.declared.tree.Literal.{Literal}
 use Rattle.aos_typed.specs.declared.tree.Literal.TheVariants as literal
 use Rattle.aos_typed.specs.declared.tree.TType.TheVariants as type
-use Rattle.aos_typed.specs.Open.{open_dimensions}
-use Rattle.aos_typed.specs.Program.{Place, ModuleVar, Local, Passed, Of, Opened, Lit}
+use Rattle.aos_typed.specs.Program.{Place, Lit}
 use Rattle.aos_typed.specs.WellTyped.{is_variable, meets, AreLabels, AreApart}
 use Rattle.aos_symbols.specs.declared.env.Env.{Env}
-use Rattle.aos_symbols.specs.declared.home.Parameter.{Parameter}
 use Rattle.aos_symbols.specs.declared.env.Symbol.{Symbol}
 use Rattle.aos_symbols.specs.declared.env.Lookup.{Lookup}
 use Rattle.aos_symbols.specs.declared.env.Lookup.TheVariants.{Unknown as NoName, NotExported, Found}
@@ -37,19 +35,17 @@ use Rattle.aos_check_expr.specs.declared.known.Class.TheVariants.{Constant}
 use Rattle.aos_check_expr.specs.Known.{Answer, is_number, is_char, fits, type_as, type_of_literal, width_of}
 use Rattle.aos_check_expr.specs.Operations.{number}
 use Rattle.aos_check_expr.specs.Designators as desig
-use Rattle.aos_check_expr.specs.Designators.{is_opened}
 use Rattle.aos_check_expr.specs.Expressions.{constant_class, expr}
 use Rattle.aos_check_expr.proofs.Good.{IsGood, HasGood, good_number}
 use Rattle.aos_check_expr.proofs.Inside.{Inside, IsOf}
-use Rattle.aos_check_expr.proofs.Opens.{next_dimensions}
 use Rattle.aos_check_expr.proofs.Passed.{basic_fit}
-use Rattle.aos_check_expr.proofs.Spots.{IsTyped, closed, opened, opened_row, plain_head}
+use Rattle.aos_check_expr.proofs.Spots.{IsTyped, closed, opened, plain_head}
 use Rattle.aos_check_expr.proofs.Types.{as_integer, integer_basic, wider, fits_includes}
-use Rattle.aos_check_expr.proofs.Sound.{not_both, IsSound, sound_number, sound_char}
+use Rattle.aos_check_expr.proofs.Sound.{IsSound, sound_number, sound_char}
 use Rattle.aos_check_expr.proofs.Typing.{IsWhole, expr_sound, constant_good}
-use Rattle.aos_check_stat.specs.Bodies.{Control, Labels, lost, control, control_found, control_meant, control_variable, fitting, is_step, step_in, step_of, is_selector, selector, is_label, range_of, label_value, label_range, with_label, label_in}
+use Rattle.aos_check_stat.specs.Bodies.{Control, Labels, lost, control, control_found, control_meant, fitting, is_step, step_in, step_of, is_selector, selector, is_label, range_of, label_value, label_range, with_label, label_in}
 use Rattle.aos_check_stat.proofs.Apart.{Behind, none_behind, one_behind, apart_push}
-use Rattle.aos_check_stat.proofs.Places.{fits_basic}
+use Rattle.aos_check_stat.proofs.Places.{some_breach, fits_basic}
 use Rattle.aos_check_stat.proofs.Changed.{one_within}
 
 -- labels behind others, no two of which have a value together
@@ -66,49 +62,6 @@ module _ (p : Inside) (e : Env) (whole : IsWhole p e) where
     pub typed : IsTyped p e c.0 c.1
     pub number : is_number c.1 ≡ true
 
-  -- an integer variable is no open array
-  none_opened : (of : Option TypeId) → is_number of ≡ true → (t : TypeId) → of ≡ Some t → is_opened e t ≡ true → ⊥
-  none_opened of number t same opening = not_both (sym (integer_basic t (subst (λ o. is_number o ≡ true) same number)) ∙ (opened_row e t opening).1)
-
-  parameter_variable : (k : ℕ) (a : Parameter) (of : Option TypeId) → is_number of ≡ true → IsTyped p e (desig.parameter_place e k a) of → is_variable (desig.parameter_place e k a) ≡ true
-  parameter_variable k a of number = by_type a.of
-    where
-      unopened : (b : Bool) → is_variable (if b then Passed k else Local k) ≡ true
-      unopened true = refl
-      unopened false = refl
-
-      none_there : (t : TypeId) → is_opened e t ≡ true → IsTyped p e (Of (Opened k (open_dimensions e.types t))) of → ⊥
-      none_there t opening (closed typed known) =
-          let u = opened_row e t opening in
-          let some = next_dimensions e.types whole.opens.falls t u.0 u.2 in
-          let none : 0 ≡ open_dimensions e.types t = typed.0 in
-          omega (arith, some, none)
-      none_there t opening (opened u q same at also rows lengths) = none_opened of number u same also
-
-      by_open : (t : TypeId) (b : Bool) → is_opened e t ≡ b → IsTyped p e (if b then Of (Opened k (open_dimensions e.types t)) else desig.unopened_place k a) of →
-          is_variable (if b then Of (Opened k (open_dimensions e.types t)) else desig.unopened_place k a) ≡ true
-      by_open t true opening typed = absurd (none_there t opening typed)
-      by_open t false opening typed = unopened a.by_reference
-
-      by_type : (o : Option TypeId) → IsTyped p e (desig.parameter_place e k (record { by_reference = a.by_reference; of = o })) of →
-          is_variable (desig.parameter_place e k (record { by_reference = a.by_reference; of = o })) ≡ true
-      by_type None typed = unopened a.by_reference
-      by_type (Some t) typed = by_open t (is_opened e t) refl typed
-
-  own_variable : (k : ℕ) (of : Option TypeId) → is_number of ≡ true → IsTyped p e (desig.own_place e k) of → is_variable (desig.own_place e k) ≡ true
-  own_variable k of number = by (desig.own_parameter e k) refl
-    where
-      by : (o : Option Parameter) → desig.own_parameter e k ≡ o → IsTyped p e (desig.own_place e k) of → is_variable (desig.own_place e k) ≡ true
-      by None is = rw is (λ typed. refl)
-      by (Some a) is = rw is (parameter_variable k a of number)
-
-  variable_place : (x : Symbol) (k : ℕ) (of : Option TypeId) → IsTyped p e (desig.place_of_variable e x k) of → is_number of ≡ true → is_variable (desig.place_of_variable e x k) ≡ true
-  variable_place x k of typed number = by (desig.is_of_module x) typed
-    where
-      by : (b : Bool) → IsTyped p e (if b then ModuleVar x.at.home k else desig.own_place e k) of → is_variable (if b then ModuleVar x.at.home k else desig.own_place e k) ≡ true
-      by true typed = refl
-      by false typed = own_variable k of number typed
-
   pub control_sound : (n : Name) → Holds IsControl (control e n)
   control_sound n = by (env.lookup e n) refl
     where
@@ -116,15 +69,14 @@ module _ (p : Inside) (e : Env) (whole : IsWhole p e) where
       lost_sound rule = broken IsControl (record { rule = rule; pos = n.pos }) [] _
 
       meant : (x : Symbol) → env.lookup e n ≡ Found x → (m : Meaning) → x.means ≡ m → Holds IsControl (control_meant e n.pos x m)
-      meant x found (means.Variable k) is = by_scope (desig.is_reached e x) refl
+      meant x found (means.Variable k) is = λ h.
+          let two = kept_control (desig.access (x.at.home == e.number) x.mark) (desig.place_of_variable e x k) (is_number (env.variable_type e x.at k)) h in
+          record { variable = two.1; typed = (plain_head p e n whole x found).0 k is; number = two.0 }
         where
-          by_scope : (b : Bool) → desig.is_reached e x ≡ b →
-              Holds IsControl (if b then control_variable n.pos (desig.place_of_variable e x k) (env.variable_type e x.at k) else lost 99 n.pos)
-          by_scope true at = λ h.
-              let typed = plain_head p e n whole x found k is at in
-              let number = test_is (is_number (env.variable_type e x.at k)) 48 n.pos h in
-              record { variable = variable_place x k (env.variable_type e x.at k) typed number; typed = typed; number = number }
-          by_scope false at = lost_sound 99
+          kept_control : (c : Class) (place : Place) (b : Bool) → desig.written c n.pos ++ (if b then breach_unless (is_variable place) 99 n.pos else breach 48 n.pos) ≡ [] →
+              (b ≡ true) × (is_variable place ≡ true)
+          kept_control c place true h = (refl, test_is (is_variable place) 99 n.pos (none_right (desig.written c n.pos) (breach_unless (is_variable place) 99 n.pos) h))
+          kept_control c place false h = absurd (some_breach (none_right (desig.written c n.pos) (breach 48 n.pos) h))
       meant x found m is = lost_sound 48
 
       by : (l : Lookup) → env.lookup e n ≡ l → Holds IsControl (control_found e n.pos l)

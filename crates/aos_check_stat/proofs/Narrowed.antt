@@ -13,11 +13,15 @@ use Rattle.aos_typed.specs.declared.tree.TType.TheVariants as type
 use Rattle.aos_typed.specs.Numbers.{id_of}
 use Rattle.aos_typed.specs.Program.{Place, ModuleVar, Guarded, Parameter, Procedure, Guard, Stats, With, WithRecord}
 use Rattle.aos_symbols.specs.declared.home.Parameter.{Parameter as Formal}
+use Rattle.aos_symbols.specs.declared.home.ObjectScope.{ObjectScope}
 use Rattle.aos_symbols.specs.declared.home.Signature.{Signature}
+use Rattle.aos_symbols.specs.declared.scope.Meaning.{Meaning}
+use Rattle.aos_symbols.specs.declared.scope.Meaning.TheVariants as means
 use Rattle.aos_symbols.specs.declared.env.Open.{Open}
 use Rattle.aos_symbols.specs.declared.env.Symbol.{Symbol}
 use Rattle.aos_symbols.specs.declared.env.Narrowed.{Narrowed}
 use Rattle.aos_symbols.specs.declared.env.Env.{Env}
+use Rattle.aos_symbols.specs.Spelling.{word}
 use Rattle.aos_symbols.specs.Env as env
 use Rattle.aos_check_expr.specs.declared.known.Class.{Class}
 use Rattle.aos_check_expr.specs.declared.known.Class.TheVariants.{Unknown, Constant, Variable, ReadOnly, Computed}
@@ -66,6 +70,32 @@ module _ (e : Env) (ns : List Narrowed) where
       on_base None same = refl
       on_base (Some b) same = same b
 
+  -- methods
+  meant_within : (t : TypeId) (o : ObjectScope) (at : Open) (mark : Option Export) (m : Meaning) →
+      env.method_meant within t o (record { at = at; mark = mark; means = m }) ≡ env.method_meant e t o (record { at = at; mark = mark; means = m })
+  meant_within t o at mark (means.Procedure k) = refl
+  meant_within t o at mark m = refl
+
+  own_method_within : (t : TypeId) (w : List ℕ) → env.own_method within t w ≡ env.own_method e t w
+  own_method_within t w = by (env.object e t)
+    where
+      found : (o : ObjectScope) (s : Option Symbol) → option_and_then (env.method_meant within t o) s ≡ option_and_then (env.method_meant e t o) s
+      found o None = refl
+      found o (Some x) = meant_within t o x.at x.mark x.means
+
+      by : (o : Option ObjectScope) →
+          option_and_then (λ o. option_and_then (env.method_meant within t o) (env.in_scope e (env.object_place o) w)) o
+          ≡ option_and_then (λ o. option_and_then (env.method_meant e t o) (env.in_scope e (env.object_place o) w)) o
+      by None = refl
+      by (Some o) = found o (env.in_scope e (env.object_place o) w)
+
+  along_within : (w : List ℕ) (ts : List TypeId) → env.method_along within w ts ≡ env.method_along e w ts
+  along_within w [] = refl
+  along_within w (t ∷ ts) = ap₂ option_or (own_method_within t w) (along_within w ts)
+
+  method_within : (t : TypeId) (n : Name) → env.method within t n ≡ env.method e t n
+  method_within t n = along_within (word e.here.text n) (env.chain e.types t)
+
   -- places
   parameter_within : (k : ℕ) (b : Bool) (of : Option TypeId) →
       desig.parameter_place within k (record { by_reference = b; of = of }) ≡ desig.parameter_place e k (record { by_reference = b; of = of })
@@ -79,14 +109,23 @@ module _ (e : Env) (ns : List Narrowed) where
       by None is = rw is refl
       by (Some a) is = rw is (parameter_within k a.by_reference a.of)
 
+  declared_within : (a b : Option TypeId) (k : ℕ) → desig.declared_place within a b k ≡ desig.declared_place e a b k
+  declared_within (Some t) (Some b) k = refl
+  declared_within (Some t) None k = refl
+  declared_within None (Some b) k = refl
+  declared_within None None k = refl
+
+  place_within : (o : Open) (k : ℕ) → desig.place_in_scope within o k ≡ desig.place_in_scope e o k
+  place_within o k = ap₂ (λ a b. if desig.is_own_scope e o then a else b) (own_within k) (declared_within e.self_type (env.object_at e o) k)
+
   variable_within : (x : Symbol) (k : ℕ) (at : Pos) → desig.variable within x k at ≡ desig.variable e x k at
   variable_within x k at =
       ap (λ (place : Place). record { known = known_as (desig.access (x.at.home == e.number) x.mark) (env.variable_type e x.at k); held = Stands place; at = at })
       (by (desig.is_of_module x))
     where
-      by : (b : Bool) → (if b then ModuleVar x.at.home k else desig.own_place within k) ≡ (if b then ModuleVar x.at.home k else desig.own_place e k)
+      by : (b : Bool) → (if b then ModuleVar x.at.home k else desig.place_in_scope within x.at k) ≡ (if b then ModuleVar x.at.home k else desig.place_in_scope e x.at k)
       by true = refl
-      by false = own_within k
+      by false = place_within x.at k
 
   -- guards
   may_within : (b : Bool) (of t : Option TypeId) → desig.may_test within b of t ≡ desig.may_test e b of t
@@ -135,8 +174,11 @@ module _ (e : Env) (ns : List Narrowed) where
         (typed_within p _ _ (whole.locals s w x k own there found means));
     own = λ s is. let q = whole.own s is in (q.0, q.1, signed_within s q.0 q.2);
     own_body = whole.own_body;
-    object_bodies = whole.object_bodies;
-    signatures = λ m k s is. let q = whole.signatures m k s is in (q.0, q.1, signed_within s q.0 q.2);
+    itself = whole.itself;
+    own_fields = whole.own_fields;
+    methods = λ t n m found object s is. let q = whole.methods t n m (sym (method_within t n) ∙ found) object s is in (q.0, q.1, signed_within s q.0 q.2);
+    bodies = whole.bodies;
+    signatures = λ m k s w x there found means g is. let q = whole.signatures m k s w x there found means g is in (q.0, q.1, signed_within g q.0 q.2);
     strings = whole.strings;
   }
 
@@ -234,7 +276,7 @@ module _ (e : Env) where
     where
       begun : (o : Open) → x.at ≡ o → y.at ≡ o → AreAlike (desig.variable e x k at) (desig.variable e y k there)
       begun o is same = (
-        ap (λ (z : Open). Stands (if z.scope == 0 then ModuleVar z.home k else desig.own_place e k)) (is ∙ sym same),
+        ap (λ (z : Open). Stands (if z.scope == 0 then ModuleVar z.home k else desig.place_in_scope e z k)) (is ∙ sym same),
         known_of (desig.access (x.at.home == e.number) x.mark) (env.variable_type e x.at k) (access_of (x.at.home == e.number) x.mark)
             ∙ ap (λ (z : Open). env.variable_type e z k) (is ∙ sym same)
             ∙ sym (known_of (desig.access (y.at.home == e.number) y.mark) (env.variable_type e y.at k) (access_of (y.at.home == e.number) y.mark)),

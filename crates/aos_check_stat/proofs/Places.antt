@@ -11,6 +11,7 @@ use Rattle.aos_types.specs.declared.row.TypeRow.{TypeRow}
 use Rattle.aos_types.specs.declared.row.TypeRow.TheVariants as row
 use Rattle.aos_types.specs.Table.{row_of, is_pointer as is_pointer_row, is_object as is_object_row}
 use Rattle.aos_types.specs.Extension.{comes_to}
+use Rattle.aos_types.specs.Sameness.{element_of}
 use Rattle.aos_typed.specs.declared.tree.TextConstant.{TextConstant}
 use Rattle.aos_typed.specs.declared.tree.TType.{TType}
 use Rattle.aos_typed.specs.declared.tree.TType.TheVariants as type
@@ -19,6 +20,7 @@ use Rattle.aos_typed.specs.Numbers.{id_of}
 use Rattle.aos_typed.specs.Program.{Place, Stat}
 use Rattle.aos_typed.specs.WellTyped.{is_whole, is_variable, target}
 use Rattle.aos_symbols.specs.declared.env.Env.{Env}
+use Rattle.aos_symbols.specs.Env as env
 use Rattle.aos_symbols.specs.Env.{text, nil}
 use Rattle.aos_symbols.specs.declared.breach.Breach.{Breach}
 use Rattle.aos_symbols.specs.Breaches.{breach_unless}
@@ -34,7 +36,9 @@ use Rattle.aos_check_expr.specs.Expressions.{is_characters, string_in, designato
 use Rattle.aos_check_expr.proofs.Inside.{Inside, IsPlaceOf, IsOf, IsStatement}
 use Rattle.aos_check_expr.proofs.Good.{IsGood, IsKnownClass}
 use Rattle.aos_check_expr.proofs.Stored.{IsMade as IsMadeClass}
-use Rattle.aos_check_expr.proofs.Types.{id_as, id_above, as_named, wider, fits_includes}
+use Rattle.aos_check_expr.proofs.Types.{same_type, id_as, id_above, as_named, wider, fits_includes}
+use Rattle.aos_check_expr.proofs.Opens.{closed_dimensions}
+use Rattle.aos_check_expr.proofs.Called.{if_some}
 use Rattle.aos_check_expr.proofs.Sound.{IsSound, scalar_of}
 use Rattle.aos_check_expr.proofs.Objects.{IsMadeAs, pointer_kind, object_kind}
 use Rattle.aos_check_expr.proofs.Pointed.{made_there, made_pointed, number_back}
@@ -42,7 +46,7 @@ use Rattle.aos_check_expr.proofs.Passed.{basic_fit, whole_place}
 use Rattle.aos_check_expr.proofs.Spots.{IsTyped, closed, opened, HasBody, IsStoredHeld, opened_row}
 use Rattle.aos_check_expr.proofs.Worded.{room_kept}
 use Rattle.aos_check_expr.proofs.Typing.{IsWhole, IsSoundSpot, IsTextAt, characters_are, text_rows_are, designator_sound, designator_known, designator_stored}
-use Rattle.aos_check_stat.specs.Bodies.{is_made, is_built_there, makes_object, made_type, lengths_wanted, new_breaches, count_breaches, put_text}
+use Rattle.aos_check_stat.specs.Bodies.{is_made, started, is_built_body, is_built_there, starts_body, made_type, lengths_wanted, new_breaches, count_breaches, put_text}
 use Rattle.aos_check_stat.specs.Bodies as judge
 
 not_both : false ≡ true → ⊥
@@ -219,7 +223,7 @@ module _ (p : Inside) (e : Env) (whole : IsWhole p e) where
       × (n ≡ open_dimensions p.program.types (Made of))
 
   abbrev pub Makes : Option TypeId → Place → ℕ → Type 0
-  Makes of place n = ((makes_object e of ≡ true) × IsMade of place) ⊎ ((makes_object e of ≡ false) × IsLed of place n)
+  Makes of place n = ((starts_body e of ≡ true) × IsMade of place) ⊎ ((starts_body e of ≡ false) × IsLed of place n)
 
   -- by the number of the type as which objects are made
   made_number_few : (t : TypeId) → IsMadeAs p e whole t →
@@ -231,10 +235,10 @@ module _ (p : Inside) (e : Env) (whole : IsWhole p e) where
       let high = at.1 in
       (number_back p e whole (desig.made_as e t) low, omega (arith, objects, low, high))
 
-  object_made : (t : TypeId) (place : Place) → is_object_type e t ≡ true → is_variable place ≡ true → IsPlaceOf p place (type_as t) →
+  object_made : (t : TypeId) (place : Place) → is_object_type e t ≡ true → HasBody p.program (object_number t) → is_variable place ≡ true → IsPlaceOf p place (type_as t) →
       (is_variable place ≡ true) × IsPlaceOf p place (type.Named (desig.made_number e t))
       × (is_object_row (row_of p.program.types (id_of (type.Named (desig.made_number e t)))) ≡ true) × HasBody p.program (desig.made_number e t)
-  object_made t place is part typed = by (row_of e.types t) refl two.1
+  object_made t place is body part typed = by (row_of e.types t) refl two.1
     where
       two : (not (is_basic t) ≡ true) × (is_object_row (row_of e.types t) ≡ true)
       two = and_parts (not (is_basic t)) _ is
@@ -256,7 +260,38 @@ module _ (p : Inside) (e : Env) (whole : IsWhole p e) where
             part,
             subst (IsPlaceOf p place) (as_named t (omega (arith, above)) ∙ ap (λ u. type.Named (object_number u)) (sym itself)) typed,
             kind,
-            whole.object_bodies (desig.made_number e t) kind,
+            subst (λ u. HasBody p.program (object_number u)) (sym itself) body,
+          )
+      by o there object = absurd (not_both object)
+
+  -- an object without a body
+  object_led : (t : TypeId) (place : Place) (n : ℕ) → is_object_type e t ≡ true → IsPlaceOf p place (type_as t) → (lengths_wanted e t == n) ≡ true →
+      ((u : TType) × IsPlaceOf p place u × (target p.program.types u ≡ Some (id_of (type.Named (desig.made_number e t)))))
+      × (desig.made_number e t < length p.program.objects)
+      × (n ≡ open_dimensions p.program.types (id_of (type.Named (desig.made_number e t))))
+  object_led t place n is typed many = by (row_of e.types t) refl two.1
+    where
+      two : (not (is_basic t) ≡ true) × (is_object_row (row_of e.types t) ≡ true)
+      two = and_parts (not (is_basic t)) _ is
+
+      low : (b : Bool) → not b ≡ true → b ≡ false
+      low true h = absurd (not_both h)
+      low false h = refl
+
+      by : (o : Option TypeRow) → row_of e.types t ≡ o → is_object_row o ≡ true →
+          ((u : TType) × IsPlaceOf p place u × (target p.program.types u ≡ Some (id_of (type.Named (desig.made_number e t)))))
+          × (desig.made_number e t < length p.program.objects)
+          × (n ≡ open_dimensions p.program.types (id_of (type.Named (desig.made_number e t))))
+      by (Some (row.Object base fs)) there object =
+          let high = low (is_basic t) two.0 in
+          let made = object_kind p e whole t base fs high there in
+          let itself : desig.made_as e t ≡ t = rw (high, there) refl in
+          let few = made_number_few t made in
+          let none : lengths_wanted e t ≡ 0 = rw (high, there) refl in
+          let shut : element_of (row_of p.program.types t) ≡ None = ap (λ rows. element_of (row_of rows t)) whole.rows ∙ ap element_of there in (
+            (type_as t, typed, made.1 ∙ ap (λ v. Some v) (sym few.0)),
+            few.1,
+            sym (eqb-true (lengths_wanted e t) n many) ∙ none ∙ sym (ap (open_dimensions p.program.types) (few.0 ∙ itself) ∙ closed_dimensions p.program.types t shut),
           )
       by o there object = absurd (not_both object)
 
@@ -334,16 +369,32 @@ module _ (p : Inside) (e : Env) (whole : IsWhole p e) where
       object_or true c is other = refl
       object_or false c is other = sym other ∙ is
 
-      typed : (t : TypeId) → a.known.of ≡ Some t → (is_pointer_type e t || is_object_type e t) ≡ true → IsPlaceOf p (place_of a.held) (type_as t) → (b : Bool) → is_object_type e t ≡ b →
-          Makes (Some t) (place_of a.held) n
-      typed t known kind held true object =
-          let part : is_variable (place_of a.held) ≡ true = sym (ap (λ c. not c || is_variable (place_of a.held)) object) ∙ sym (ap (λ o. is_built_there e o (place_of a.held)) known) ∙ there in
-          inl (object, object_made t (place_of a.held) object part held)
-      typed t known kind held false other =
-          let pointer = object_or (is_pointer_type e t) (is_object_type e t) kind other in
+      counted_lengths : (t : TypeId) → a.known.of ≡ Some t → (is_pointer_type e t || is_object_type e t) ≡ true → (lengths_wanted e t == n) ≡ true
+      counted_lengths t known kind =
           let test = not (is_pointer_type e t || is_object_type e t) || lengths_wanted e t == n in
           let many : test ≡ true = test_is test 34 at (sym (ap (λ o. count_breaches e at o n) known) ∙ counted) in
-          inr (other, pointer_made t (place_of a.held) n pointer held (sym (ap (λ c. not c || lengths_wanted e t == n) kind) ∙ many))
+          sym (ap (λ c. not c || lengths_wanted e t == n) kind) ∙ many
+
+      -- an object's own body
+      own_body : (t b : TypeId) → a.known.of ≡ Some t → started e t ≡ Some b → ((t.0 == b.0) ≡ true) × (is_variable (place_of a.held) ≡ true)
+      own_body t b known body =
+          and_parts (t.0 == b.0) (is_variable (place_of a.held))
+          (sym (ap (is_built_body t (place_of a.held)) body) ∙ sym (ap (λ o. is_built_there e o (place_of a.held)) known) ∙ there)
+
+      led : (t : TypeId) → a.known.of ≡ Some t → (is_pointer_type e t || is_object_type e t) ≡ true → IsPlaceOf p (place_of a.held) (type_as t) → (b : Bool) → is_object_type e t ≡ b →
+          IsLed (Some t) (place_of a.held) n
+      led t known kind held true object = object_led t (place_of a.held) n object held (counted_lengths t known kind)
+      led t known kind held false other =
+          pointer_made t (place_of a.held) n (object_or (is_pointer_type e t) (is_object_type e t) kind other) held (counted_lengths t known kind)
+
+      typed : (t : TypeId) → a.known.of ≡ Some t → (is_pointer_type e t || is_object_type e t) ≡ true → IsPlaceOf p (place_of a.held) (type_as t) →
+          (o : Option TypeId) → started e t ≡ o → Makes (Some t) (place_of a.held) n
+      typed t known kind held None none = inr (ap is_some none, led t known kind held (is_object_type e t) refl)
+      typed t known kind held (Some b) body =
+          let two = own_body t b known body in
+          let one = if_some (is_object_type e t) (env.body_of e t) b body in
+          let own : env.body_of e t ≡ Some t = one.1 ∙ ap (λ u. Some u) (sym (same_type t b two.0)) in
+          inl (ap is_some body, object_made t (place_of a.held) one.0 (whole.bodies t own) two.1 held)
 
       by : (of : Option TypeId) → a.known.of ≡ of → IsTyped p e (place_of a.held) a.known.of → Makes of (place_of a.held) n
       by None known held = absurd (none_typed a.known.of known held)
@@ -354,7 +405,7 @@ module _ (p : Inside) (e : Env) (whole : IsWhole p e) where
           none_typed (Some t) is held = none-some t (sym is)
       by (Some t) known held =
           let one = sym (ap (is_made e) known) ∙ kind in
-          typed t known one (told_typed (place_of a.held) t (shut (is_opened e t) refl one) (subst (IsTyped p e (place_of a.held)) known held)).1 (is_object_type e t) refl
+          typed t known one (told_typed (place_of a.held) t (shut (is_opened e t) refl one) (subst (IsTyped p e (place_of a.held)) known held)).1 (started e t) refl
         where
           shut : (b : Bool) → is_opened e t ≡ b → (is_pointer_type e t || is_object_type e t) ≡ true → is_opened e t ≡ false
           shut true opening one = absurd (not_open t one opening)

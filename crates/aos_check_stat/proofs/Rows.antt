@@ -5,7 +5,8 @@ use Rattle.aos_base.specs.declared.text.Pos.{Pos}
 use Rattle.aos_tree.specs.declared.name.Name.{Name}
 use Rattle.aos_tree.specs.declared.name.Qualident.{Qualident}
 use Rattle.aos_tree.specs.declared.expr.Expr.{Expr as TreeExpr}
-use Rattle.aos_tree.specs.declared.expr.Selector.{Selector}
+use Rattle.aos_tree.specs.declared.expr.Desig.{Desig}
+use Rattle.aos_tree.specs.declared.expr.Selector.{Selector, items_hidden-the_row-Expr-4}
 use Rattle.aos_tree.specs.declared.expr.Selector.TheVariants as s
 use Rattle.aos_tree.specs.declared.stat.Block.{Block}
 use Rattle.aos_tree.specs.declared.stat.Elsif.{Elsif}
@@ -36,7 +37,7 @@ use Rattle.aos_symbols.proofs.Keeping.{after_more}
 use Rattle.aos_check_expr.specs.Known.{width_of}
 use Rattle.aos_check_expr.specs.Designators.{guard}
 use Rattle.aos_check_expr.specs.Expressions.{condition, known_type}
-use Rattle.aos_check_stat.specs.Bodies.{listed, modifier_breaches, ended, Labels, label_in, selector, control, fitting, step_of, with_variable, narrowed_by, with_stat, stat_of, stat_in, stats_in, else_in, case_else_in, elsifs_in, cases_in}
+use Rattle.aos_check_stat.specs.Bodies.{listed, modifier_breaches, called_last, called_before, ended, Labels, label_in, selector, control, fitting, step_of, with_variable, narrowed_by, with_stat, stat_of, stat_in, stats_in, else_in, case_else_in, elsifs_in, cases_in}
 use Rattle.aos_check_stat.specs.Listed as parts
 use Rattle.aos_check_stat.specs.Listed.{onto}
 
@@ -323,3 +324,7 @@ module _ (e : Env) (in_loop : Bool) where
       ∙ more l
       ∙ ap (λ t. (parts.cases_of e in_loop t [] xs l).answer) of_is))
       ∙ sym (ap (λ j. j.answer) (stat_case e in_loop x p c xs o is))
+
+-- a call with a bracket that stands last
+pub called_bracket : (e : Env) (d : Desig) (x : Selector) (p : Pos) (es : List TreeExpr) → x ≡ s.Paren p es → called_last e d (Some x) ≡ called_before e d p es
+called_bracket e d x p es same = ap (λ y. called_last e d (Some y)) same ∙ ap (called_before e d p) (items_hidden-the_row-Expr-4 es)

@@ -1,5 +1,5 @@
 -- Statements that break no rule are well typed, where the types of all variables are known.
-use Rattle.std.proofs.Common.{◌≡◌, ℤ, ◌⊎◌, inl, inr, arith, length-append, ◌+◌, List, [], ◌∷◌, ◌++◌, drop, length, Bool, true, false, ◌||◌, codes, map, ℕ, not, ◌==◌, Option, Some, None, is_some, refl, sym, ap, ◌∙◌, subst, if◌then◌else◌}
+use Rattle.std.proofs.Common.{◌≡◌, ℤ, ◌⊎◌, inl, inr, arith, length-append, ◌+◌, List, [], ◌∷◌, ◌++◌, drop, length, ◌-◌, slice_get, Bool, true, false, ◌&&◌, ◌||◌, codes, map, ℕ, not, Option, Some, None, is_some, refl, sym, ap, ◌∙◌, subst, if◌then◌else◌}
 use Rattle.aos_base.specs.declared.text.Pos.{Pos}
 use Rattle.std.specs.Prelude.{All}
 use Rattle.std.proofs.lemmas.Bool.{and_parts}
@@ -11,7 +11,7 @@ use Rattle.aos_tree.specs.declared.name.Name.{Name}
 use Rattle.aos_tree.specs.declared.name.Qualident.{Qualident}
 use Rattle.aos_tree.specs.declared.expr.Expr.{Expr as TreeExpr, out-Expr}
 use Rattle.aos_tree.specs.declared.expr.Desig.{Desig}
-use Rattle.aos_tree.specs.declared.expr.Selector.{Selector}
+use Rattle.aos_tree.specs.declared.expr.Selector.{Selector, items-the_row-Expr}
 use Rattle.aos_tree.specs.declared.expr.Selector.TheVariants as s
 use Rattle.aos_tree.specs.declared.stat.Block.{Block}
 use Rattle.aos_tree.specs.declared.stat.Case.TheVariants as case
@@ -19,7 +19,7 @@ use Rattle.aos_tree.specs.declared.stat.Stat.{Stat as TreeStat, Row_of-Stat, end
 use Rattle.aos_tree.specs.declared.stat.Stat.TheVariants as stat
 use Rattle.aos_typed.specs.declared.tree.TType.TheVariants as type
 use Rattle.aos_typed.specs.Routines.{result_of}
-use Rattle.aos_typed.specs.Program.{Expr, Call, Open as OutOpen, Char, Int, String, Ln, Stat, Assign, Copy, If, Case as CaseOf, While, Repeat, Loop, For, Block as BlockOf, Plain, Perform, Return, Out, Parameter, Arms, Otherwise, Arm, Cases, Else, OfLabels}
+use Rattle.aos_typed.specs.Program.{Expr, Call, Open as OutOpen, Char, Int, String, Ln, Stat, Assign, Copy, If, Case as CaseOf, While, Repeat, Loop, For, Block as BlockOf, Callee, Plain, Perform, Return, Out, Parameter, Procedure, Arms, Otherwise, Arm, Cases, Else, OfLabels}
 use Rattle.aos_typed.specs.WellTyped.{AreLabels, AreApart, labels_of}
 use Rattle.aos_typed.specs.WellTyped as typed
 use Rattle.aos_types.specs.declared.row.TypeId.{TypeId}
@@ -50,15 +50,17 @@ use Rattle.aos_check_expr.specs.Known.{Answer, Spot, passes, type_as, is_long_te
 use Rattle.aos_check_expr.specs.Designators as desig
 use Rattle.aos_check_expr.specs.Designators.{has_parts, is_opened, assigned, place_of, place_in}
 use Rattle.aos_check_expr.specs.Arguments.{Handing, arguments_for, listed as listed_arguments}
+use Rattle.aos_check_expr.specs.Expressions as judge_expr
 use Rattle.aos_check_expr.specs.Expressions.{is_opening, text_rows, known_type, expr, condition, argument, designator, desig_alone}
-use Rattle.aos_check_expr.proofs.Inside.{Inside, IsOf, AreArguments, IsCall, IsStatement, AreStatements, AreArms, AreCases}
+use Rattle.aos_check_expr.proofs.Inside.{Inside, IsOf, AreArguments, IsCalled, IsCall, IsStatement, AreStatements, AreArms, AreCases}
 use Rattle.aos_check_expr.proofs.Sound.{sound_number}
 use Rattle.aos_check_expr.proofs.Passed.{scalar_fits}
 use Rattle.aos_check_expr.proofs.Tested.{known_some}
-use Rattle.aos_check_expr.proofs.Spots.{AreParameters, IsResultOf, IsSpot, Part, MayFind, plain_head, behind_head, named_spot, spotted, refused_part}
-use Rattle.aos_check_expr.proofs.Typing.{IsWhole, IsSound, IsTextAt, expr_sound, expr_part, condition_sound, argument_sound, text_argument, arguments_part}
+use Rattle.aos_check_expr.proofs.Spots.{AreParameters, IsResultOf, IsSigned, IsSpot, Part, IsProcedure, MayFind, plain_head, behind_head, behind_of_module, named_spot, spotted, refused_part}
+use Rattle.aos_check_expr.proofs.Typing.{IsWhole, IsSound, IsTextAt, expr_sound, expr_part, condition_sound, argument_sound, text_argument, arguments_part, Parted, spot_fine, bound_fine, bracketed_fine, parts_sound}
+use Rattle.aos_check_expr.proofs.Called.{IsCalling, IsBound}
 use Rattle.aos_check_stat.specs.Bodies as judge
-use Rattle.aos_check_stat.specs.Bodies.{listed, put, made, new_breaches, count_breaches, outs, ended, arguments, behind_arguments, modifier_breaches}
+use Rattle.aos_check_stat.specs.Bodies.{listed, put, made, new_breaches, count_breaches, outs, ended, arguments, behind_arguments, goes_on, modifier_breaches}
 use Rattle.aos_check_stat.proofs.Places.{MayBe as MayBeOf, some_breach, not_long, not_nil, IsRead, read_sound, IsAssigned, assigned_sound, told_typed, copying, putting, copied_text, Makes, made_sound}
 use Rattle.aos_check_stat.proofs.Changed.{place_changed, change_call_sound, assert_sound, halt_sound}
 use Rattle.aos_check_stat.proofs.Apart.{between}
@@ -279,11 +281,6 @@ module _ (p : Inside) (e : Env) (whole : IsWhole p e) where
   no_call_sound at ReadOnly = λ h. tt
   no_call_sound at Computed = λ h. tt
 
-  value_sound : (d : Desig) → Holds MayBe (bind (designator e d) (λ a. judge.no_call d.name.pos a.known.class))
-  value_sound d =
-      holds_bind (IsRead p e whole) MayBe (designator e d) (λ a. judge.no_call d.name.pos a.known.class) (read_sound p e whole d)
-      (λ a is. no_call_sound d.name.pos a.known.class)
-
   -- Procedures that modules declare.
 
   parts_of : (xs : List TreeExpr) → Each (Holds (Part p e)) (map (expr e) xs)
@@ -295,61 +292,119 @@ module _ (p : Inside) (e : Env) (whole : IsWhole p e) where
       (g.are_kept ≡ true)
       × (IsWhole p e → (as' : List Parameter) → AreParameters e sig.parameters as' → AreArguments p (listed_arguments g.given) as')
 
-  perform_with_sound : (at : Pos) (m k : ℕ) (sig : Signature) → env.signature e m k ≡ Some sig → sig.gives ≡ gives.Nothing → (xs : List TreeExpr) → Holds MayBe (judge.perform_with e at m k sig xs)
-  perform_with_sound at m k sig is none xs =
-      holds_bind (IsHanded sig) MayBe (arguments_for e at sig.parameters (map (expr e) xs) xs) (λ h. kept (Some (Perform at (Plain m k) (listed_arguments h.given))))
+  perform_with_sound : (at : Pos) (c : Callee) (sig : Signature) → (q : Procedure) × IsCalled p c q × IsSigned e sig q → sig.gives ≡ gives.Nothing → (xs : List TreeExpr) →
+      Holds MayBe (judge.perform_with e at c sig xs)
+  perform_with_sound at c sig q none xs =
+      holds_bind (IsHanded sig) MayBe (arguments_for e at sig.parameters (map (expr e) xs) xs) (λ h. kept (Some (Perform at c (listed_arguments h.given))))
       (arguments_part p e at sig.parameters (map (expr e) xs) (parts_of xs) xs (length-map xs (expr e)))
-      (λ g handed h. let q = whole.signatures m k sig is in (q.0, q.1, subst (λ o. IsResultOf o q.0.result) none q.2.result, handed.1 whole q.0.parameters q.2.parameters))
+      (λ g handed h. (q.0, q.1, subst (λ o. IsResultOf o q.0.result) none q.2.result, handed.1 whole q.0.parameters q.2.parameters))
 
-  perform_signed_sound : (at : Pos) (m k : ℕ) (sig : Signature) → env.signature e m k ≡ Some sig → (xs : List TreeExpr) → Holds MayBe (judge.perform_signed e at m k sig xs)
-  perform_signed_sound at m k sig is xs = by sig.gives refl
+  perform_signed_sound : (at : Pos) (c : Callee) (sig : Signature) → (q : Procedure) × IsCalled p c q × IsSigned e sig q → (xs : List TreeExpr) → Holds MayBe (judge.perform_signed e at c sig xs)
+  perform_signed_sound at c sig q xs = by sig.gives refl
     where
-      by : (g : Gives) → sig.gives ≡ g → Holds MayBe (judge.perform_signed e at m k sig xs)
-      by gives.Nothing same = rw same (perform_with_sound at m k sig is same xs)
+      by : (g : Gives) → sig.gives ≡ g → Holds MayBe (judge.perform_signed e at c sig xs)
+      by gives.Nothing same = rw same (perform_with_sound at c sig q same xs)
       by (gives.Value of) same = rw same (λ h. tt)
 
-  perform_sound : (at : Pos) (x : Symbol) (k : ℕ) (xs : List TreeExpr) → Holds MayBe (judge.perform e at x k xs)
-  perform_sound at x k xs = by (x.at.scope == 0) refl (env.signature e x.at.home k) refl
+  perform_sound : (at : Pos) (c : Callee) (m k : ℕ) → IsCalling p e c m k → (xs : List TreeExpr) → Holds MayBe (judge.perform e at c m k xs)
+  perform_sound at c m k called xs = by (env.signature e m k) refl
     where
-      by : (b : Bool) → (x.at.scope == 0) ≡ b → (o : Option Signature) → env.signature e x.at.home k ≡ o → Holds MayBe (judge.perform e at x k xs)
-      by true own (Some sig) is = rw (own, is) (perform_signed_sound at x.at.home k sig is xs)
-      by true own None is = rw (own, is) (λ h. tt)
-      by false own (Some sig) is = rw own (λ h. tt)
-      by false own None is = rw own (λ h. tt)
+      by : (o : Option Signature) → env.signature e m k ≡ o → Holds MayBe (judge.perform e at c m k xs)
+      by (Some sig) is = rw is (perform_signed_sound at c sig (called sig is) xs)
+      by None is = rw is (λ h. tt)
 
-  performed_sound : (at : Pos) (x : Symbol) (k : ℕ) (more : List Selector) → Holds MayBe (judge.performed e at x k more)
-  performed_sound at x k more = ended_sound at (behind_arguments more) (judge.perform e at x k (arguments more)) (perform_sound at x k (arguments more))
+  performed_sound : (at : Pos) (x : Symbol) (k : ℕ) → IsCalling p e (Plain x.at.home k) x.at.home k → (more : List Selector) → Holds MayBe (judge.performed e at x k more)
+  performed_sound at x k called more =
+      ended_sound at (behind_arguments more) (judge.perform e at (Plain x.at.home k) x.at.home k (arguments more))
+      (perform_sound at (Plain x.at.home k) x.at.home k called (arguments more))
 
-  member_meant_sound : (m : Meaning) (o : Open) (mark : Option Export) (more : List Selector) (d : Desig) →
+  -- What a designator is.
+
+  abbrev IsPart : judge_expr.Part → Type 0
+  IsPart = Parted p e whole.constants
+
+  spot_sound : (first : Pos) (j : Judged judge_expr.Part) → Holds IsPart j → Holds MayBe (judge.called_spot e first j)
+  spot_sound first j is =
+      holds_bind (IsSpot p e) MayBe (bind j (judge_expr.spot_of_part e)) (λ a. judge.no_call first a.known.class)
+      (holds_bind IsPart (IsSpot p e) j (judge_expr.spot_of_part e) is (spot_fine p e whole.constants)) (λ a x. no_call_sound first a.known.class)
+
+  method_sound : (first : Pos) (b : judge_expr.Bound) → IsBound p e b → (xs : List TreeExpr) → Holds MayBe (judge.perform_method e first b xs)
+  method_sound first b is xs = perform_sound first b.callee b.home b.number (is whole) xs
+
+  alone_sound : (first : Pos) (a : judge_expr.Part) → IsPart a → Holds MayBe (judge.called_as e first a)
+  alone_sound first (judge_expr.Waits b) is = method_sound first b is []
+  alone_sound first (judge_expr.Begun h) is = spot_sound first (kept (judge_expr.Begun h)) (λ none. is)
+  alone_sound first (judge_expr.Meant a) is = spot_sound first (kept (judge_expr.Meant a)) (λ none. is)
+
+  bracket_sound : (first : Pos) (a : judge_expr.Part) → IsPart a → (at : Pos) (xs : List TreeExpr) → Holds MayBe (judge.bracketed_spot e first a at xs)
+  bracket_sound first a is at xs =
+      spot_sound first (judge_expr.bracketed e first a at (map (expr e) xs) xs)
+      (bracketed_fine p e whole.constants first a is at (map (expr e) xs) (parts_of xs) xs (length-map xs (expr e)))
+
+  with_sound : (first : Pos) (a : judge_expr.Part) → IsPart a → (at : Pos) (xs : List TreeExpr) → Holds MayBe (judge.bracketed_as e first a at xs)
+  with_sound first (judge_expr.Waits b) is at xs = method_sound first b is xs
+  with_sound first (judge_expr.Begun h) is at xs = bracket_sound first (judge_expr.Begun h) is at xs
+  with_sound first (judge_expr.Meant a) is at xs = bracket_sound first (judge_expr.Meant a) is at xs
+
+  whole_sound : (d : Desig) → Holds MayBe (judge.called_whole e d)
+  whole_sound d =
+      holds_bind IsPart MayBe (judge.part_of e d d.selectors) (λ a. judge.called_alone e d.name.pos a) (parts_sound p e whole d.name d.selectors)
+      (λ a is. alone_sound d.name.pos (judge_expr.bound_part e a) (bound_fine p e whole.constants a is))
+
+  before_sound : (d : Desig) (at : Pos) (xs : List TreeExpr) → Holds MayBe (judge.called_before e d at xs)
+  before_sound d at xs =
+      holds_bind IsPart MayBe (judge.part_of e d (judge.before_last d.selectors)) (λ a. judge.called_with e d.name.pos a at xs) (parts_sound p e whole d.name (judge.before_last d.selectors))
+      (λ a is. with_sound d.name.pos (judge_expr.bound_part e a) (bound_fine p e whole.constants a is) at xs)
+
+  value_sound : (d : Desig) → Holds MayBe (judge.called_value e d)
+  value_sound d = by (slice_get d.selectors (length d.selectors - 1))
+    where
+      by : (o : Option Selector) → Holds MayBe (judge.called_last e d o)
+      by (Some (s.Paren' q shape row)) = before_sound d q (items-the_row-Expr _ row)
+      by (Some (s.Field q n)) = whole_sound d
+      by (Some (s.Index' q shape row)) = whole_sound d
+      by (Some (s.Follow q)) = whole_sound d
+      by None = whole_sound d
+
+  member_meant_sound : (m : Meaning) (o : Open) (mark : Option Export) → ((k : ℕ) → m ≡ means.Procedure k → IsCalling p e (Plain o.home k) o.home k) → (more : List Selector) (d : Desig) →
       Holds MayBe (judge.called_member e (Found (record { at = o; mark = mark; means = m })) more d)
-  member_meant_sound (means.Procedure k) o mark more d = performed_sound d.name.pos (record { at = o; mark = mark; means = means.Procedure k }) k more
-  member_meant_sound m o mark more d = value_sound d
+  member_meant_sound (means.Procedure k) o mark called more d = by (goes_on more)
+    where
+      by : (b : Bool) → Holds MayBe (if b then judge.called_value e d else judge.performed e d.name.pos (record { at = o; mark = mark; means = means.Procedure k }) k more)
+      by true = value_sound d
+      by false = performed_sound d.name.pos (record { at = o; mark = mark; means = means.Procedure k }) k (called k refl) more
+  member_meant_sound m o mark called more d = value_sound d
 
-  called_member_sound : (l : Lookup) (more : List Selector) (d : Desig) → Holds MayBe (judge.called_member e l more d)
-  called_member_sound NoName more d = value_sound d
-  called_member_sound NotExported more d = value_sound d
-  called_member_sound (Found x) more d = member_meant_sound x.means x.at x.mark more d
+  called_member_sound : (l : Lookup) → MayFind p e l → ((x : Symbol) → l ≡ Found x → desig.is_of_module x ≡ true) → (more : List Selector) (d : Desig) → Holds MayBe (judge.called_member e l more d)
+  called_member_sound NoName may own more d = value_sound d
+  called_member_sound NotExported may own more d = value_sound d
+  called_member_sound (Found x) may own more d = member_meant_sound x.means x.at x.mark (λ k is. (may whole x refl).1 k is (own x refl)) more d
 
   in_module_sound : (h : Head) (ss : List Selector) (d : Desig) → Holds MayBe (judge.called_in_module e h ss d)
   in_module_sound h [] d = value_sound d
-  in_module_sound h (s.Field q n ∷ more) d = called_member_sound (desig.member_behind e h n).found more d
+  in_module_sound h (s.Field q n ∷ more) d = called_member_sound (desig.member_behind e h n).found (behind_head p e h.found n) (behind_of_module p e h.found n) more d
   in_module_sound h (s.Paren' q shape row ∷ more) d = value_sound d
   in_module_sound h (s.Index' q shape row ∷ more) d = value_sound d
   in_module_sound h (s.Follow q ∷ more) d = value_sound d
 
-  called_meaning_sound : (x : Symbol) (m : Meaning) (d : Desig) → Holds MayBe (judge.called_meaning e x m d)
-  called_meaning_sound x means.Out d = out_selectors_sound d.name.pos d.selectors
-  called_meaning_sound x (means.Module m) d = in_module_sound (desig.plain e d.name) d.selectors d
-  called_meaning_sound x (means.Routine r) d =
+  called_meaning_sound : (x : Symbol) → IsProcedure p e x → (m : Meaning) → x.means ≡ m → (d : Desig) → Holds MayBe (judge.called_meaning e x m d)
+  called_meaning_sound x seen means.Out is d = out_selectors_sound d.name.pos d.selectors
+  called_meaning_sound x seen (means.Module m) is d = in_module_sound (desig.plain e d.name) d.selectors d
+  called_meaning_sound x seen (means.Routine r) is d =
       let xs = arguments d.selectors in ended_sound d.name.pos (behind_arguments d.selectors) (judge.routine_call e r d.name.pos xs) (routine_sound r d.name.pos xs)
-  called_meaning_sound x means.Proper d = λ h. tt
-  called_meaning_sound x (means.Procedure k) d = performed_sound d.name.pos x k d.selectors
-  called_meaning_sound x m d = value_sound d
+  called_meaning_sound x seen means.Proper is d = λ h. tt
+  called_meaning_sound x seen (means.Procedure k) is d = by (desig.is_of_module x) refl (goes_on d.selectors)
+    where
+      by : (b : Bool) → desig.is_of_module x ≡ b → (more : Bool) → Holds MayBe (if b && not more then judge.performed e d.name.pos x k d.selectors else judge.called_value e d)
+      by true own false = performed_sound d.name.pos x k (seen k is own) d.selectors
+      by true own true = value_sound d
+      by false own more = value_sound d
+  called_meaning_sound x seen m is d = value_sound d
 
-  called_sound : (l : Lookup) (d : Desig) → Holds MayBe (judge.called e l d)
-  called_sound NoName d = λ h. tt
-  called_sound NotExported d = λ h. tt
-  called_sound (Found x) d = called_meaning_sound x x.means d
+  called_sound : (l : Lookup) → MayFind p e l → (d : Desig) → Holds MayBe (judge.called e l d)
+  called_sound NoName may d = λ h. tt
+  called_sound NotExported may d = λ h. tt
+  called_sound (Found x) may d = called_meaning_sound x (may whole x refl).1 x.means refl d
 
   -- RETURN.
 
@@ -430,12 +485,8 @@ module _ (p : Inside) (e : Env) (whole : IsWhole p e) where
   Ends (Some n) = IsWhole p (env.narrowing e n)
 
   meant_ends : (u : TypeId) (x : Symbol) (m : Meaning) (h : Head) → (desig.meant e x m h).breaches ≡ [] → MayBeNarrowed u (desig.meant e x m h).answer → Ends (judge.narrowed_meaning x m u)
-  meant_ends u x (means.Variable k) h = by (desig.is_reached e x)
-    where
-      by : (b : Bool) → let j = if b then kept (desig.narrowed e x k (desig.variable e x k h.at)) else desig.spotted h.at (desig.refused 99 h.at) in
-          j.breaches ≡ [] → MayBeNarrowed u j.answer → IsWhole p (env.narrowing e (record { at = x.at; number = k; of = u }))
-      by true none may = whole_within e (e.narrowed ++ record { at = x.at; number = k; of = u } ∷ []) p whole (narrows_on e p whole x k h.at u may)
-      by false none may = absurd (some_breach none)
+  meant_ends u x (means.Variable k) h = λ none may.
+      whole_within e (e.narrowed ++ record { at = x.at; number = k; of = u } ∷ []) p whole (narrows_on e p whole x k h.name.pos u may)
   meant_ends u x m h = λ none may. whole
 
   name_ends : (u : TypeId) (l : Lookup) (h : Head) → h.found ≡ l → (judge.with_name e h).breaches ≡ [] → MayBeNarrowed u (judge.with_name e h).answer → Ends (judge.narrowed_found l u)
@@ -504,7 +555,7 @@ module _ (p : Inside) where
     stat_sound : (e : Env) (whole : IsWhole p e) (in_loop : Bool) (x : TreeStat) → Holds Fine (judge.stat_of e in_loop x)
     stat_sound e whole in_loop stat.Empty = λ h. tt
     stat_sound e whole in_loop (stat.Assign d at x) = assign_sound p e whole d at x
-    stat_sound e whole in_loop (stat.Call d) = called_sound p e whole (env.lookup e d.name) d
+    stat_sound e whole in_loop (stat.Call d) = called_sound p e whole (env.lookup e d.name) (plain_head p e d.name) d
     stat_sound e whole in_loop (stat.While' q c shape row) =
         holds_bind IsTest Fine (condition e c) (λ test. bind (judge.stats_in e in_loop [] row) (λ body. kept (Some (While q test (listed body)))))
         (condition_sound p e whole c)

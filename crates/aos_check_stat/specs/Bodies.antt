@@ -1,8 +1,8 @@
--- The third pass: bodies. Built are assignments, calls of procedures, all other statements but AWAIT, the predeclared procedures, of
--- which NEW takes a pointer, or an object variable that is no part of another, the calls of Out, and of the modifiers ACTIVE on an
+-- The third pass: bodies. Built are assignments, calls of procedures and methods, all other statements but AWAIT, the predeclared
+-- procedures, of which NEW takes a pointer or an object variable, which is no part of another where the object has a body, the calls of Out, and of the modifiers ACTIVE on an
 -- object's body.
 -- A statement that isn't built is refused at its first token, a modifier at itself.
-use Rattle.std.specs.Prelude.{ℕ, ℤ, pos, ◌||◌, drop, List, [], ◌∷◌, ◌++◌, length, codes, map, Bool, true, false, not, ◌&&◌, Option, Some, None, is_some, if◌then◌else◌, ◌==◌}
+use Rattle.std.specs.Prelude.{ℕ, ◌-◌, ℤ, pos, ◌||◌, slice_get, take, drop, List, [], ◌∷◌, ◌++◌, length, codes, map, Bool, true, false, not, ◌&&◌, Option, Some, None, is_some, if◌then◌else◌, ◌==◌}
 use Rattle.std.specs.Option.{is_none, unwrap_or, option_map}
 use Rattle.std.specs.List.{list_any}
 use Rattle.std.specs.Ordering.{int_eq}
@@ -20,7 +20,7 @@ use Rattle.aos_tree.specs.declared.stat.Label.{Label}
 use Rattle.aos_tree.specs.declared.stat.Case.TheVariants as case
 use Rattle.aos_tree.specs.declared.stat.Stat.{Stat as TreeStat, Row_of-Stat, end_of-Stat, more_of-Stat, Row_of-Elsif, end_of-Elsif, more_of-Elsif, Row_of-Case, end_of-Case, more_of-Case, Held-Stat-If-4, None', Some'}
 use Rattle.aos_tree.specs.declared.stat.Stat.TheVariants as stat
-use Rattle.aos_typed.specs.Program.{Plain, Call, Open, Char, Int, String, Ln, Place, ModuleVar, Expr as Typed, Lit, Stat, Assign, Copy, PutText, If, Case, While, Repeat, Loop, Exit, For, Block, Assert, Halt, Change, Perform, Return, New, Make, With, WithRecord, Out, Stats, Nothing, Then, Arms, Otherwise, Arm, Cases, NoElse, Else, OfLabels}
+use Rattle.aos_typed.specs.Program.{Callee, Plain, Call, Open, Char, Int, String, Ln, Place, ModuleVar, Expr as Typed, Lit, Stat, Assign, Copy, PutText, If, Case, While, Repeat, Loop, Exit, For, Block, Assert, Halt, Change, Perform, Return, New, Make, With, WithRecord, Out, Stats, Nothing, Then, Arms, Otherwise, Arm, Cases, NoElse, Else, OfLabels}
 use Rattle.aos_typed.specs.declared.tree.TextConstant.{TextConstant}
 use Rattle.aos_typed.specs.declared.tree.Literal.{Literal}
 use Rattle.aos_typed.specs.declared.tree.Literal.TheVariants as literal
@@ -49,13 +49,14 @@ use Rattle.aos_types.specs.declared.row.TypeId.{TypeId}
 use Rattle.aos_typed.specs.Open.{open_dimensions}
 use Rattle.aos_check_expr.specs.declared.known.Class.{Class}
 use Rattle.aos_check_expr.specs.declared.known.Class.TheVariants.{Unknown, Constant, Variable, ReadOnly, Computed}
-use Rattle.aos_check_expr.specs.Known.{Answer, Spot, Held, Stands, Value, passes, is_number, is_char, is_set, fits, width_of, type_of, type_of_literal}
+use Rattle.aos_check_expr.specs.Known.{Answer, Spot, Held, Stands, Value, passes, is, is_number, is_char, is_set, fits, width_of, type_of, type_of_literal}
 use Rattle.aos_check_expr.specs.Operations.{number}
 use Rattle.aos_check_expr.specs.declared.designators.Head.{Head}
 use Rattle.aos_check_expr.specs.Designators as desig
 use Rattle.aos_check_expr.specs.Designators.{has_parts, assigned, written, place_of, place_in}
 use Rattle.aos_check_expr.specs.Arguments.{arguments_for, listed as listed_arguments}
-use Rattle.aos_check_expr.specs.Expressions.{constant_class, is_characters, is_opening, may_be_text, text_rows, array_rows, text_for, has_room, known_type, expr, condition, argument, designator, desig_alone}
+use Rattle.aos_check_expr.specs.Expressions.{constant_class, is_characters, is_opening, may_be_text, text_rows, array_rows, text_for, has_room, known_type, Bound, Part, Begun, Meant, Waits, spot_of_part, bound_part, bracketed, expr, condition, argument, designator, desig_alone}
+use Rattle.aos_check_expr.specs.Expressions.{selector as selector_of}
 
 -- statements as a sequence of the typed program
 abbrev pub listed : List Stat → Stats
@@ -102,15 +103,32 @@ abbrev pub behind_arguments : List Selector → List Selector
 behind_arguments (s.Paren' p shape row ∷ more) = more
 behind_arguments xs = xs
 
+-- more stands behind the bracket of a call, so that it is a part of a designator
+abbrev pub goes_on : List Selector → Bool
+goes_on (s.Paren' p shape row ∷ more) = not (length more == 0)
+goes_on _ = false
+
+-- all selectors but the last one
+abbrev pub before_last : List Selector → List Selector
+before_last xs = take (length xs - 1) xs
+
 -- NEW stands at the first place, its argument, a pointer or an object variable, at the second.
 
 abbrev pub is_made : Env → Option TypeId → Bool
 is_made e = passes (λ t. desig.is_pointer_type e t || desig.is_object_type e t)
 
--- an object that is a part of another variable isn't built
+-- the type whose body an object of this one carries out, where it carries out one
+abbrev pub started : Env → TypeId → Option TypeId
+started e t = if desig.is_object_type e t then env.body_of e t else None
+
+-- the body of a base isn't built, nor is one of an object that is a part of another variable
+abbrev pub is_built_body : TypeId → Place → Option TypeId → Bool
+is_built_body t p None = true
+is_built_body t p (Some b) = is t b && is_variable p
+
 abbrev pub is_built_there : Env → Option TypeId → Place → Bool
 is_built_there e None p = true
-is_built_there e (Some t) p = not (desig.is_object_type e t) || is_variable p
+is_built_there e (Some t) p = is_built_body t p (started e t)
 
 abbrev pub new_breaches : Env → Pos → Pos → Spot → List Breach
 new_breaches e at first a =
@@ -140,14 +158,15 @@ abbrev pub made_type : Env → Option TypeId → ℕ
 made_type e None = 0
 made_type e (Some t) = desig.made_number e t
 
-abbrev pub makes_object : Env → Option TypeId → Bool
-makes_object e None = false
-makes_object e (Some t) = desig.is_object_type e t
+-- an object is made whose body is carried out
+abbrev pub starts_body : Env → Option TypeId → Bool
+starts_body e None = false
+starts_body e (Some t) = is_some (started e t)
 
 abbrev pub made : Env → Pos → Spot → List Typed → Option Stat
 made e at a ns =
     Some (
-    if makes_object e a.known.of
+    if starts_body e a.known.of
     then New at (place_of a.held) (made_type e a.known.of)
     else Make at (place_of a.held) (made_type e a.known.of) ns)
 
@@ -235,8 +254,12 @@ Control = Place × Option TypeId
 abbrev pub lost : ℕ → Pos → Judged Control
 lost rule at = judged (breach rule at) (ModuleVar 0 0, None)
 
-abbrev pub control_variable : Pos → Place → Option TypeId → Judged Control
-control_variable at p of = judged (breach_unless (is_number of) 48 at) (p, of)
+-- it must be one that may be written, and a part of another variable isn't built
+abbrev pub control_breaches : Class → Pos → Place → Option TypeId → List Breach
+control_breaches c at p of = written c at ++ (if is_number of then breach_unless (is_variable p) 99 at else breach 48 at)
+
+abbrev pub control_variable : Class → Pos → Place → Option TypeId → Judged Control
+control_variable c at p of = judged (control_breaches c at p of) (p, of)
 
 -- a step is a constant other than 0 that fits the variable
 abbrev pub is_step : Option TypeId → Class → Bool
@@ -420,32 +443,78 @@ module _ (e : Env) where
   -- Procedures that modules declare.
 
   -- a call of a proper one, which begins here
-  abbrev pub perform_with : (at : Pos) → (home number : ℕ) → Signature → List TreeExpr → Judged (Option Stat)
-  perform_with at m k s xs =
-      bind (arguments_for e at s.parameters (map (expr e) xs) xs) (λ h. kept (Some (Perform at (Plain m k) (listed_arguments h.given))))
+  abbrev pub perform_with : (at : Pos) → Callee → Signature → List TreeExpr → Judged (Option Stat)
+  perform_with at c s xs =
+      bind (arguments_for e at s.parameters (map (expr e) xs) xs) (λ h. kept (Some (Perform at c (listed_arguments h.given))))
 
   -- a function gives a value
-  abbrev pub perform_signed : (at : Pos) → (home number : ℕ) → Signature → List TreeExpr → Judged (Option Stat)
-  perform_signed at m k s xs = by s.gives
+  abbrev pub perform_signed : (at : Pos) → Callee → Signature → List TreeExpr → Judged (Option Stat)
+  perform_signed at c s xs = by s.gives
     where
       by : Gives → Judged (Option Stat)
-      by gives.Nothing = perform_with at m k s xs
+      by gives.Nothing = perform_with at c s xs
       by (gives.Value of) = refused 36 at
 
-  -- one of an object type isn't built
-  abbrev pub perform : (at : Pos) → Symbol → ℕ → List TreeExpr → Judged (Option Stat)
-  perform at x k xs = by (desig.is_of_module x) (env.signature e x.at.home k)
+  -- of what has the signature with these numbers
+  abbrev pub perform : (at : Pos) → Callee → (home number : ℕ) → List TreeExpr → Judged (Option Stat)
+  perform at c m k xs = by (env.signature e m k)
     where
-      by : Bool → Option Signature → Judged (Option Stat)
-      by true (Some s) = perform_signed at x.at.home k s xs
-      by _ _ = not_yet at
+      by : Option Signature → Judged (Option Stat)
+      by (Some s) = perform_signed at c s xs
+      by None = not_yet at
 
   abbrev pub performed : (at : Pos) → Symbol → ℕ → List Selector → Judged (Option Stat)
-  performed at x k more = ended at (behind_arguments more) (perform at x k (arguments more))
+  performed at x k more =
+      ended at (behind_arguments more) (perform at (Plain x.at.home k) x.at.home k (arguments more))
 
-  -- what is no procedure
+  -- Calls of what a designator is: of a method, with the bracket that stands last, or of what is no procedure.
+
+  -- of a variable or a value
+  abbrev pub called_spot : (first : Pos) → Judged Part → Judged (Option Stat)
+  called_spot first j = bind (bind j (spot_of_part e)) (λ a. no_call first a.known.class)
+
+  abbrev pub perform_method : (first : Pos) → Bound → List TreeExpr → Judged (Option Stat)
+  perform_method first b xs = perform first b.callee b.home b.number xs
+
+  -- without a bracket, and with one
+  abbrev pub called_as : (first : Pos) → Part → Judged (Option Stat)
+  called_as first (Waits b) = perform_method first b []
+  called_as first (Begun h) = called_spot first (kept (Begun h))
+  called_as first (Meant a) = called_spot first (kept (Meant a))
+
+  abbrev pub called_alone : (first : Pos) → Part → Judged (Option Stat)
+  called_alone first a = called_as first (bound_part e a)
+
+  abbrev pub bracketed_spot : (first : Pos) → Part → Pos → List TreeExpr → Judged (Option Stat)
+  bracketed_spot first a p xs = called_spot first (bracketed e first a p (map (expr e) xs) xs)
+
+  abbrev pub bracketed_as : (first : Pos) → Part → Pos → List TreeExpr → Judged (Option Stat)
+  bracketed_as first (Waits b) p xs = perform_method first b xs
+  bracketed_as first (Begun h) p xs = bracketed_spot first (Begun h) p xs
+  bracketed_as first (Meant a) p xs = bracketed_spot first (Meant a) p xs
+
+  abbrev pub called_with : (first : Pos) → Part → Pos → List TreeExpr → Judged (Option Stat)
+  called_with first a p xs = bracketed_as first (bound_part e a) p xs
+
+  -- what a designator is behind these of its selectors
+  abbrev pub part_of : Desig → List Selector → Judged Part
+  part_of d xs = walk (selector_of e d.name.pos) (Begun (desig.plain e d.name)) xs
+
+  abbrev pub called_whole : Desig → Judged (Option Stat)
+  called_whole d = bind (part_of d d.selectors) (λ a. called_alone d.name.pos a)
+
+  abbrev pub called_before : Desig → Pos → List TreeExpr → Judged (Option Stat)
+  called_before d p xs = bind (part_of d (before_last d.selectors)) (λ a. called_with d.name.pos a p xs)
+
+  abbrev pub called_last : Desig → Option Selector → Judged (Option Stat)
+  called_last d (Some (s.Paren' p shape row)) = called_before d p (items-the_row-Expr _ row)
+  called_last d (Some (s.Field p n)) = called_whole d
+  called_last d (Some (s.Index' p shape row)) = called_whole d
+  called_last d (Some (s.Follow p)) = called_whole d
+  called_last d None = called_whole d
+
   abbrev pub called_value : Desig → Judged (Option Stat)
-  called_value d = bind (designator e d) (λ a. no_call d.name.pos a.known.class)
+  called_value d = called_last d (slice_get d.selectors (length d.selectors - 1))
 
   -- a name of another module, with what stands behind it
   abbrev pub called_member : Lookup → List Selector → Desig → Judged (Option Stat)
@@ -454,7 +523,7 @@ module _ (e : Env) where
   called_member (Found x) more d = by x.means
     where
       by : Meaning → Judged (Option Stat)
-      by (means.Procedure k) = performed d.name.pos x k more
+      by (means.Procedure k) = if goes_on more then called_value d else performed d.name.pos x k more
       by m = called_value d
 
   abbrev pub called_in_module : Head → List Selector → Desig → Judged (Option Stat)
@@ -468,7 +537,8 @@ module _ (e : Env) where
   called_meaning x (means.Routine r) d =
       ended d.name.pos (behind_arguments d.selectors) (routine_call r d.name.pos (arguments d.selectors))
   called_meaning x means.Proper d = not_yet d.name.pos
-  called_meaning x (means.Procedure k) d = performed d.name.pos x k d.selectors
+  called_meaning x (means.Procedure k) d =
+      if desig.is_of_module x && not (goes_on d.selectors) then performed d.name.pos x k d.selectors else called_value d
   called_meaning x m d = called_value d
 
   abbrev pub called : Lookup → Desig → Judged (Option Stat)
@@ -521,7 +591,7 @@ module _ (e : Env) where
 
   abbrev pub control_meant : Pos → Symbol → Meaning → Judged Control
   control_meant at x (means.Variable k) =
-      if desig.is_reached e x then control_variable at (desig.place_of_variable e x k) (env.variable_type e x.at k) else lost 99 at
+      control_variable (desig.access (x.at.home == e.number) x.mark) at (desig.place_of_variable e x k) (env.variable_type e x.at k)
   control_meant at x m = lost 48 at
 
   abbrev pub control_found : Pos → Lookup → Judged Control

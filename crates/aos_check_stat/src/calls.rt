@@ -6,14 +6,15 @@ ghost use Rattle.aos_symbols.specs.Breaches.{first_after};
 ghost use Rattle.aos_symbols.specs.Env as scopes;
 ghost use Rattle.aos_check_stat.specs.Bodies as judge;
 
+use crate::methods::called_value;
 use crate::news::new_call;
 use crate::out::out_selectors;
-use crate::procedures::{called_in_module, called_value, performed};
-use crate::refusals::{arguments, behind_arguments, not_yet, refuse_behind, refused};
+use crate::procedures::{called_in_module, performed};
+use crate::refusals::{arguments, behind_arguments, goes_on, not_yet, refuse_behind, refused};
 use crate::routines::{assert_call, change_call, halt_call};
 use crate::texts::copy_call;
 use aos_base::Pos;
-use aos_check_expr::plain;
+use aos_check_expr::{is_of_module, plain};
 use aos_symbols::{Breach, Env, Lookup, Meaning, NOT_EXPORTED, Routine, Symbol, UNKNOWN};
 use aos_tree::{Desig, Expr, Selector};
 use aos_typed::TStat;
@@ -88,7 +89,7 @@ fn called_meaning(
             routine_selectors(alloc, found, env, routine, at, selectors)
         },
         Meaning::Proper => Ok(not_yet(found, at)),
-        Meaning::Procedure(number) => {
+        Meaning::Procedure(number) if is_of_module(symbol) && !goes_on(selectors) => {
             performed(alloc, found, env, at, symbol, number, selectors)
         },
         Meaning::Module(_) => {

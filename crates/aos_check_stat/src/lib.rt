@@ -5,6 +5,7 @@ pub mod bodies;
 mod calls;
 mod labels;
 mod loops;
+mod methods;
 mod news;
 mod out;
 mod procedures;

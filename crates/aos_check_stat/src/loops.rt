@@ -5,9 +5,10 @@ ghost use Rattle.aos_typed.specs.Seen.{seen_expr, seen_place};
 ghost use Rattle.aos_symbols.specs.Breaches.{first_after};
 ghost use Rattle.aos_check_stat.specs.Bodies as judge;
 
+use crate::refusals::is_variable;
 use aos_base::Pos;
 use aos_check_expr::{
-    Class, expr, fits, is_number, is_reached, place_of_variable, type_of_literal,
+    Class, access, expr, fits, is_number, place_of_variable, refuse_written, type_of_literal,
 };
 use aos_symbols::{
     Breach, Env, Lookup, Meaning, NOT_BUILT, NOT_EXPORTED, Symbol, UNKNOWN, WRONG_FOR, note,
@@ -26,20 +27,25 @@ fn lost(found: &mut Option<Breach>, rule: u16, at: Pos) -> (TPlace, Option<TypeI
     (TPlace::ModuleVar(0, 0), None)
 }
 
-/// A variable, which must be of an integer type.
+/// A variable, which must be of an integer type and may be written; a part of another one isn't built.
+#[tactic(auto, using(aos_symbols::proofs::Keeping::after_more))]
 fn control_variable(
     found: &mut Option<Breach>,
+    class: Class,
     at: Pos,
     place: TPlace,
     of: Option<TypeId>,
 ) -> (TPlace, Option<TypeId>)
     ensures noted { found.new ≡
-        first_after found.old (judge.control_variable at (seen_place place) of).breaches }
+        first_after found.old (judge.control_variable class at (seen_place place) of).breaches }
     ensures answer { (seen_place result.0, result.1) ≡
-        (judge.control_variable at (seen_place place) of).answer }
+        (judge.control_variable class at (seen_place place) of).answer }
 {
+    refuse_written(found, class, at);
     if !is_number(of) {
         note(found, WRONG_FOR, at);
+    } else if !is_variable(&place) {
+        note(found, NOT_BUILT, at);
     }
     (place, of)
 }
@@ -58,12 +64,10 @@ fn control_meant(
 {
     match symbol.means {
         Meaning::Variable(number) => {
-            if !is_reached(env, symbol) {
-                return Ok(lost(found, NOT_BUILT, at));
-            }
             let of = env.variable_type(symbol.at, number);
             let place = place_of_variable(alloc, env, symbol, number)?;
-            Ok(control_variable(found, at, place, of))
+            let class = access(symbol.at.home == env.number, symbol.mark);
+            Ok(control_variable(found, class, at, place, of))
         },
         _ => Ok(lost(found, WRONG_FOR, at)),
     }

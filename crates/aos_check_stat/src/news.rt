@@ -42,20 +42,39 @@ fn holds_variable(held: &Held) -> bool
     }
 }
 
-fn makes_object(env: &Env<'_>, of: Option<TypeId>) -> bool
-    ensures { result ≡ judge.makes_object env.now of }
+/// The type whose body an object of this one carries out, where it carries out one.
+fn started(env: &Env<'_>, of: TypeId) -> Option<TypeId>
+    ensures { result ≡ judge.started env.now of }
+{
+    if is_object_type(env, of) {
+        env.body_of(of)
+    } else {
+        None
+    }
+}
+
+/// Whether the object that NEW makes for a variable has a body, which is carried out.
+fn starts_body(env: &Env<'_>, of: Option<TypeId>) -> bool
+    ensures { result ≡ judge.starts_body env.now of }
 {
     match of {
-        Some(of) => is_object_type(env, of),
+        Some(of) => started(env, of).is_some(),
         None => false,
     }
 }
 
-/// Whether what NEW makes for a variable there is built: an object that is a part of another variable isn't.
+/// Whether what NEW makes for a variable there is built: the body of a base isn't, nor is one of an object that is a part of another
+/// variable.
 fn is_built_there(env: &Env<'_>, of: Option<TypeId>, held: &Held) -> bool
     ensures { result ≡ judge.is_built_there env.now of (place_held (seen_held held.now)) }
 {
-    !makes_object(env, of) || holds_variable(held)
+    let Some(of) = of else {
+        return true;
+    };
+    match started(env, of) {
+        Some(body) => of.0 == body.0 && holds_variable(held),
+        None => true,
+    }
 }
 
 /// NEW stands at a place, and its argument begins at `first`: that must be a pointer or an object variable that may be written.
@@ -174,7 +193,7 @@ fn made(
     let of = spot.known.of;
     let made = made_type(env, of)?;
     let place = place_of(spot.held);
-    if makes_object(env, of) {
+    if starts_body(env, of) {
         return Ok(Some(TStat::New(at, place, made)));
     }
     Ok(Some(TStat::Make(at, place, made, lengths)))

@@ -1,16 +1,14 @@
 // Procedures that modules declare: their calls as statements, and RETURN.
 
 ghost use Rattle.std.specs.Prelude.{◌≡◌, OnOk, IfOk, option_map};
-ghost use Rattle.aos_typed.specs.Seen.{seen_stat};
+ghost use Rattle.aos_typed.specs.Seen.{seen_callee, seen_stat};
 ghost use Rattle.aos_symbols.specs.Breaches.{first_after};
 ghost use Rattle.aos_check_stat.specs.Bodies as judge;
 
-use crate::refusals::{arguments, behind_arguments, not_yet, refuse_behind, refused};
+use crate::methods::called_value;
+use crate::refusals::{arguments, behind_arguments, goes_on, not_yet, refuse_behind, refused};
 use aos_base::Pos;
-use aos_check_expr::{
-    Class, Head, arguments_for, designator, expr, is_compatible, is_of_module, may_be_value,
-    member_behind,
-};
+use aos_check_expr::{Head, arguments_for, expr, is_compatible, may_be_value, member_behind};
 use aos_symbols::{
     Breach, Env, Gives, Lookup, Meaning, NOT_BUILT, Signature, Symbol, WRONG_CALL, WRONG_RETURN,
     note,
@@ -27,19 +25,18 @@ fn perform_with(
     found: &mut Option<Breach>,
     env: &Env<'_>,
     at: Pos,
-    home: u32,
-    number: u32,
+    callee: TCallee,
     signature: &Signature,
     arguments: &[Expr],
 ) -> Result<Option<TStat>, AllocError>
     ensures noted { OnOk result (found.new ≡ first_after found.old
-        (judge.perform_with env.now at home number signature.now arguments.now).breaches) }
+        (judge.perform_with env.now at (seen_callee callee) signature.now arguments.now).breaches) }
     ensures answer { IfOk result (λ s. option_map seen_stat s ≡
-        (judge.perform_with env.now at home number signature.now arguments.now).answer) }
+        (judge.perform_with env.now at (seen_callee callee) signature.now arguments.now).answer) }
 {
     let parameters = signature.parameters.as_slice();
     let handing = arguments_for(alloc, found, env, at, parameters, arguments)?;
-    Ok(Some(TStat::Perform(at, TCallee::Plain(home, number), handing.given)))
+    Ok(Some(TStat::Perform(at, callee, handing.given)))
 }
 
 /// A call of a procedure with these arguments, which begins at a place: a function gives a value.
@@ -48,47 +45,39 @@ fn perform_signed(
     found: &mut Option<Breach>,
     env: &Env<'_>,
     at: Pos,
-    home: u32,
-    number: u32,
+    callee: TCallee,
     signature: &Signature,
     arguments: &[Expr],
 ) -> Result<Option<TStat>, AllocError>
     ensures noted { OnOk result (found.new ≡ first_after found.old
-        (judge.perform_signed env.now at home number signature.now arguments.now).breaches) }
+        (judge.perform_signed env.now at (seen_callee callee) signature.now arguments.now).breaches) }
     ensures answer { IfOk result (λ s. option_map seen_stat s ≡
-        (judge.perform_signed env.now at home number signature.now arguments.now).answer) }
+        (judge.perform_signed env.now at (seen_callee callee) signature.now arguments.now).answer) }
 {
     match signature.gives {
-        Gives::Nothing => {
-            perform_with(alloc, found, env, at, home, number, signature, arguments)
-        },
+        Gives::Nothing => perform_with(alloc, found, env, at, callee, signature, arguments),
         Gives::Value(_) => Ok(refused(found, WRONG_CALL, at)),
     }
 }
 
-/// A call of a procedure with these arguments, which begins at a place: one of an object type isn't built.
-fn perform(
+/// A call with these arguments, which begins at a place, of what has the signature with these numbers.
+pub fn perform(
     alloc: Global,
     found: &mut Option<Breach>,
     env: &Env<'_>,
     at: Pos,
-    symbol: Symbol,
+    callee: TCallee,
+    home: u32,
     number: u32,
     arguments: &[Expr],
 ) -> Result<Option<TStat>, AllocError>
     ensures noted { OnOk result (found.new ≡ first_after found.old
-        (judge.perform env.now at symbol number arguments.now).breaches) }
+        (judge.perform env.now at (seen_callee callee) home number arguments.now).breaches) }
     ensures answer { IfOk result (λ s. option_map seen_stat s ≡
-        (judge.perform env.now at symbol number arguments.now).answer) }
+        (judge.perform env.now at (seen_callee callee) home number arguments.now).answer) }
 {
-    let home = symbol.at.home;
-    if !is_of_module(symbol) {
-        return Ok(not_yet(found, at));
-    }
     match env.signature(home, number) {
-        Some(signature) => {
-            perform_signed(alloc, found, env, at, home, number, signature, arguments)
-        },
+        Some(signature) => { perform_signed(alloc, found, env, at, callee, signature, arguments) },
         None => Ok(not_yet(found, at)),
     }
 }
@@ -109,40 +98,20 @@ pub fn performed(
     ensures answer { IfOk result (λ s. option_map seen_stat s ≡
         (judge.performed env.now at symbol number selectors.now).answer) }
 {
-    let call = perform(alloc, found, env, at, symbol, number, arguments(selectors))?;
+    let home = symbol.at.home;
+    let callee = TCallee::Plain(home, number);
+    let call = perform(
+        alloc,
+        found,
+        env,
+        at,
+        callee,
+        home,
+        number,
+        arguments(selectors),
+    )?;
     refuse_behind(found, at, behind_arguments(selectors));
     Ok(call)
-}
-
-/// A call of what can't be called, which begins at a place.
-fn no_call(found: &mut Option<Breach>, at: Pos, class: Class) -> Option<TStat>
-    ensures noted { found.new ≡ first_after found.old (judge.no_call at class).breaches }
-    ensures answer { option_map seen_stat result ≡ (judge.no_call at class).answer }
-{
-    match class {
-        Class::Unknown => None,
-        Class::Constant(_) => refused(found, WRONG_CALL, at),
-        Class::Variable => refused(found, WRONG_CALL, at),
-        Class::ReadOnly => refused(found, WRONG_CALL, at),
-        Class::Computed => refused(found, WRONG_CALL, at),
-    }
-}
-
-/// A call of what a designator is, which is no procedure.
-#[tactic(auto, using(aos_symbols::proofs::Keeping::after_more))]
-pub fn called_value(
-    alloc: Global,
-    found: &mut Option<Breach>,
-    env: &Env<'_>,
-    desig: &Desig,
-) -> Result<Option<TStat>, AllocError>
-    ensures noted { OnOk result (found.new ≡
-        first_after found.old (judge.called_value env.now desig.now).breaches) }
-    ensures answer { IfOk result (λ s.
-        option_map seen_stat s ≡ (judge.called_value env.now desig.now).answer) }
-{
-    let spot = designator(alloc, found, env, desig)?;
-    Ok(no_call(found, desig.name.pos, spot.known.class))
 }
 
 /// A call of a name behind that of a module, of which this is found, with what stands behind it.
@@ -163,7 +132,7 @@ fn called_member(
         return called_value(alloc, found, env, desig);
     };
     match symbol.means {
-        Meaning::Procedure(number) => {
+        Meaning::Procedure(number) if !goes_on(more) => {
             performed(alloc, found, env, desig.name.pos, symbol, number, more)
         },
         _ => called_value(alloc, found, env, desig),

@@ -51,6 +51,16 @@ pub fn behind_arguments(selectors: &[Selector]) -> &[Selector]
     }
 }
 
+/// Whether more stands behind the bracket of a call, so that it is a part of a designator.
+pub fn goes_on(selectors: &[Selector]) -> bool
+    ensures { result ≡ judge.goes_on selectors.now }
+{
+    match selectors.split_first() {
+        Some((Selector::Paren(_, _), more)) => !more.is_empty(),
+        _ => false,
+    }
+}
+
 /// What stands behind a call that gives no value, and that begins at `first`: nothing may.
 pub fn refuse_behind(found: &mut Option<Breach>, first: Pos, behind: &[Selector])
     ensures { found.new ≡ first_after found.old (judge.ended first behind.now (kept None)).breaches }

@@ -25,8 +25,8 @@ invariant-elements-loop-part l = record {
   answer : (walk (judge.element l.env l.at) (seen_answer l.whole) (drop l.part-index l.all)).answer ≡ (walk (judge.element l.env l.at) no_elements l.all).answer;
 }
 
-abbrev pub invariant-selectors-loop-part : goal.invariant-selectors-loop-part
-invariant-selectors-loop-part l = record {
+abbrev pub invariant-follow_selectors-loop-part : goal.invariant-follow_selectors-loop-part
+invariant-follow_selectors-loop-part l = record {
   noted : first_after l.found (walk (judge.selector l.env l.first) (seen_part l.whole) (drop l.part-index l.all)).breaches ≡ first_after l.initial.found (walk (judge.selector l.env l.first) (seen_part l.initial.whole) l.all).breaches;
   answer : (walk (judge.selector l.env l.first) (seen_part l.whole) (drop l.part-index l.all)).answer ≡ (walk (judge.selector l.env l.first) (seen_part l.initial.whole) l.all).answer;
 }

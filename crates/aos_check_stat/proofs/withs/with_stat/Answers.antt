@@ -1,5 +1,5 @@
 -- The statement is one, or the other, with its body as a list.
-use Rattle.std.proofs.Common.{◌≡◌, sym, ap, ◌∙◌}
+use Rattle.std.proofs.Common.{sym, ap, ◌∙◌}
 use Rattle.aos_typed.specs.Seen.{seen_stats}
 use Rattle.aos_typed.proofs.Seen.{with_seen, with_record_seen}
 use Rattle.aos_check_expr.specs.Seen.{seen_held}

@@ -1,0 +1,215 @@
+// Calls of what a designator is: of a method, or of what is no procedure.
+
+ghost use Rattle.std.specs.Prelude.{◌≡◌, OnOk, IfOk, option_map};
+ghost use Rattle.aos_typed.specs.Seen.{seen_stat};
+ghost use Rattle.aos_symbols.specs.Breaches.{first_after};
+ghost use Rattle.aos_symbols.specs.Judged.{kept};
+ghost use Rattle.aos_check_expr.specs.Seen.{seen_bound, seen_part};
+ghost use Rattle.aos_check_stat.specs.Bodies as judge;
+
+use crate::procedures::perform;
+use crate::refusals::refused;
+use aos_base::Pos;
+use aos_check_expr::{
+    Bound, Class, Part, bound_part, bracketed, follow_selectors, plain, spot_of_part,
+};
+use aos_symbols::{Breach, Env, WRONG_CALL};
+use aos_tree::{Desig, Expr, Selector};
+use aos_typed::TStat;
+use std::alloc::{AllocError, Global};
+
+/// A call of what can't be called, which begins at a place.
+fn no_call(found: &mut Option<Breach>, at: Pos, class: Class) -> Option<TStat>
+    ensures noted { found.new ≡ first_after found.old (judge.no_call at class).breaches }
+    ensures answer { option_map seen_stat result ≡ (judge.no_call at class).answer }
+{
+    match class {
+        Class::Unknown => None,
+        Class::Constant(_) => refused(found, WRONG_CALL, at),
+        Class::Variable => refused(found, WRONG_CALL, at),
+        Class::ReadOnly => refused(found, WRONG_CALL, at),
+        Class::Computed => refused(found, WRONG_CALL, at),
+    }
+}
+
+/// A call of a variable or a value, which begins at a place.
+#[tactic(auto, using(aos_symbols::proofs::Keeping::after_more))]
+fn called_spot(
+    alloc: Global,
+    found: &mut Option<Breach>,
+    env: &Env<'_>,
+    first: Pos,
+    part: Part,
+) -> Result<Option<TStat>, AllocError>
+    ensures noted { OnOk result (found.new ≡ first_after found.old
+        (judge.called_spot env.now first (kept (seen_part part))).breaches) }
+    ensures answer { IfOk result (λ s. option_map seen_stat s ≡
+        (judge.called_spot env.now first (kept (seen_part part))).answer) }
+{
+    let spot = spot_of_part(alloc, found, env, part)?;
+    Ok(no_call(found, first, spot.known.class))
+}
+
+/// A call of a method, with these arguments.
+fn perform_method(
+    alloc: Global,
+    found: &mut Option<Breach>,
+    env: &Env<'_>,
+    first: Pos,
+    bound: Bound,
+    arguments: &[Expr],
+) -> Result<Option<TStat>, AllocError>
+    ensures noted { OnOk result (found.new ≡ first_after found.old
+        (judge.perform_method env.now first (seen_bound bound) arguments.now).breaches) }
+    ensures answer { IfOk result (λ s. option_map seen_stat s ≡
+        (judge.perform_method env.now first (seen_bound bound) arguments.now).answer) }
+{
+    let home = bound.home;
+    let number = bound.number;
+    perform(
+        alloc,
+        found,
+        env,
+        first,
+        bound.callee,
+        home,
+        number,
+        arguments,
+    )
+}
+
+/// A call, without a bracket, of what a designator is that begins at a place.
+fn called_alone(
+    alloc: Global,
+    found: &mut Option<Breach>,
+    env: &Env<'_>,
+    first: Pos,
+    part: Part,
+) -> Result<Option<TStat>, AllocError>
+    ensures noted { OnOk result (found.new ≡ first_after found.old
+        (judge.called_alone env.now first (seen_part part)).breaches) }
+    ensures answer { IfOk result (λ s. option_map seen_stat s ≡
+        (judge.called_alone env.now first (seen_part part)).answer) }
+{
+    match bound_part(alloc, env, part)? {
+        Part::Waits(bound) => perform_method(alloc, found, env, first, bound, &[]),
+        Part::Begun(head) => called_spot(alloc, found, env, first, Part::Begun(head)),
+        Part::Meant(spot) => called_spot(alloc, found, env, first, Part::Meant(spot)),
+    }
+}
+
+/// A bracket, which stands here, behind what is no method.
+#[tactic(auto, using(aos_symbols::proofs::Keeping::after_more))]
+fn bracketed_spot(
+    alloc: Global,
+    found: &mut Option<Breach>,
+    env: &Env<'_>,
+    first: Pos,
+    part: Part,
+    at: Pos,
+    arguments: &[Expr],
+) -> Result<Option<TStat>, AllocError>
+    ensures noted { OnOk result (found.new ≡ first_after found.old
+        (judge.bracketed_spot env.now first (seen_part part) at arguments.now).breaches) }
+    ensures answer { IfOk result (λ s. option_map seen_stat s ≡
+        (judge.bracketed_spot env.now first (seen_part part) at arguments.now).answer) }
+{
+    let called = bracketed(alloc, found, env, first, part, at, arguments)?;
+    called_spot(alloc, found, env, first, called)
+}
+
+/// A call, with a bracket that stands here, of what a designator is so far that begins at a place.
+fn called_with(
+    alloc: Global,
+    found: &mut Option<Breach>,
+    env: &Env<'_>,
+    first: Pos,
+    part: Part,
+    at: Pos,
+    arguments: &[Expr],
+) -> Result<Option<TStat>, AllocError>
+    ensures noted { OnOk result (found.new ≡ first_after found.old
+        (judge.called_with env.now first (seen_part part) at arguments.now).breaches) }
+    ensures answer { IfOk result (λ s. option_map seen_stat s ≡
+        (judge.called_with env.now first (seen_part part) at arguments.now).answer) }
+{
+    match bound_part(alloc, env, part)? {
+        Part::Waits(bound) => perform_method(alloc, found, env, first, bound, arguments),
+        Part::Begun(head) => {
+            bracketed_spot(alloc, found, env, first, Part::Begun(head), at, arguments)
+        },
+        Part::Meant(spot) => {
+            bracketed_spot(alloc, found, env, first, Part::Meant(spot), at, arguments)
+        },
+    }
+}
+
+/// A call of what a designator is, without a bracket behind it.
+#[tactic(auto, using(aos_symbols::proofs::Keeping::after_more))]
+fn called_whole(
+    alloc: Global,
+    found: &mut Option<Breach>,
+    env: &Env<'_>,
+    desig: &Desig,
+) -> Result<Option<TStat>, AllocError>
+    ensures noted { OnOk result (found.new ≡ first_after found.old
+        (judge.called_whole env.now desig.now).breaches) }
+    ensures answer { IfOk result (λ s. option_map seen_stat s ≡
+        (judge.called_whole env.now desig.now).answer) }
+{
+    let first = desig.name.pos;
+    let begun = Part::Begun(plain(env, desig.name));
+    let selectors = desig.selectors.as_slice();
+    let part = follow_selectors(alloc, found, env, first, begun, selectors)?;
+    called_alone(alloc, found, env, first, part)
+}
+
+/// All selectors but the last one.
+fn before_last(selectors: &[Selector]) -> &[Selector]
+    ensures { result.now ≡ judge.before_last selectors.now }
+{
+    &selectors[..selectors.len().saturating_sub(1)]
+}
+
+/// A call of what a designator is before its last selector, which is a bracket that stands here.
+#[tactic(auto, using(aos_symbols::proofs::Keeping::after_more))]
+fn called_before(
+    alloc: Global,
+    found: &mut Option<Breach>,
+    env: &Env<'_>,
+    desig: &Desig,
+    at: Pos,
+    arguments: &[Expr],
+) -> Result<Option<TStat>, AllocError>
+    ensures noted { OnOk result (found.new ≡ first_after found.old
+        (judge.called_before env.now desig.now at arguments.now).breaches) }
+    ensures answer { IfOk result (λ s. option_map seen_stat s ≡
+        (judge.called_before env.now desig.now at arguments.now).answer) }
+{
+    let first = desig.name.pos;
+    let begun = Part::Begun(plain(env, desig.name));
+    let before = before_last(desig.selectors.as_slice());
+    let part = follow_selectors(alloc, found, env, first, begun, before)?;
+    called_with(alloc, found, env, first, part, at, arguments)
+}
+
+/// A call of what a designator is: of a method, or of what is no procedure.
+#[tactic(auto, using(crate::proofs::Rows::called_bracket))]
+pub fn called_value(
+    alloc: Global,
+    found: &mut Option<Breach>,
+    env: &Env<'_>,
+    desig: &Desig,
+) -> Result<Option<TStat>, AllocError>
+    ensures noted { OnOk result (found.new ≡
+        first_after found.old (judge.called_value env.now desig.now).breaches) }
+    ensures answer { IfOk result (λ s.
+        option_map seen_stat s ≡ (judge.called_value env.now desig.now).answer) }
+{
+    match desig.selectors.as_slice().last() {
+        Some(Selector::Paren(at, arguments)) => {
+            called_before(alloc, found, env, desig, *at, arguments.as_slice())
+        },
+        _ => called_whole(alloc, found, env, desig),
+    }
+}
