@@ -1,14 +1,15 @@
 -- Declarations leave the module's number, the modules before it and its text alone, in which the names of a module lie.
-use Rattle.std.proofs.Common.{◌≡◌, ℕ, zero, suc, List, [], ◌∷◌, Bool, true, false, ◌==◌, ◌&&◌, length, slice_get, Option, Some, None, refl, ap, ◌∙◌}
+use Rattle.std.proofs.Common.{◌≡◌, ℕ, zero, suc, ◌+◌, List, [], ◌∷◌, Bool, true, false, ◌==◌, ◌&&◌, length, slice_get, Option, Some, None, refl, ap, ◌∙◌}
 use Rattle.aos_base.specs.declared.text.Pos.{Pos}
 use Rattle.aos_tree.specs.declared.name.Name.{Name}
 use Rattle.aos_tree.specs.declared.name.Qualident.{Qualident}
 use Rattle.aos_tree.specs.declared.expr.Expr.{Expr}
 use Rattle.aos_tree.specs.declared.stat.Block.{Block}
-use Rattle.aos_tree.specs.declared.decl.Decl.{Decl, items-the_row-TypeDef, items-the_row-VarDef, items-the_row-Decl}
+use Rattle.aos_tree.specs.declared.decl.Decl.{Decl, Row_of-Decl, end_of-Decl, more_of-Decl, Row_of-VarDef, end_of-VarDef, more_of-VarDef, items-the_row-TypeDef, items-the_row-VarDef, items-the_row-Decl}
 use Rattle.aos_tree.specs.declared.decl.Decl.TheVariants as decl
 use Rattle.aos_tree.specs.declared.decl.Def.{Def}
 use Rattle.aos_tree.specs.declared.decl.VarDef.{VarDef}
+use Rattle.aos_tree.specs.declared.decl.TypeDef.{TypeDef}
 use Rattle.aos_tree.specs.declared.decl.ConstDef.{ConstDef}
 use Rattle.aos_tree.specs.declared.decl.Formals.{Formals}
 use Rattle.aos_tree.specs.declared.decl.Section.{Section}
@@ -21,15 +22,16 @@ use Rattle.aos_types.specs.declared.row.TypeId.{TypeId}
 use Rattle.aos_types.specs.declared.row.TypeRow.{TypeRow}
 use Rattle.aos_types.specs.declared.row.TypeRow.TheVariants as row
 use Rattle.aos_symbols.specs.declared.home.Parameter.{Parameter}
+use Rattle.aos_symbols.specs.declared.home.ObjectScope.{ObjectScope}
 use Rattle.aos_symbols.specs.declared.env.Env.{Env}
 use Rattle.aos_symbols.specs.Env as env
 use Rattle.aos_symbols.specs.Judged.{Judged, walk}
-use Rattle.aos_symbols.specs.Declarations.{Procedure, procedures, type_defs}
-use Rattle.aos_symbols.specs.Scope.{Scope, empty, with_constant as with_value, with_variable as with_type}
-use Rattle.aos_symbols.specs.Home.{Home, changed}
+use Rattle.aos_symbols.specs.Declarations.{Procedure, procedures, methods_in, type_defs}
+use Rattle.aos_symbols.specs.Scope.{Scope, empty, with_constant as with_value, with_variable as with_type, setting_variables}
+use Rattle.aos_symbols.specs.Home.{Home, changed, set_variables}
 use Rattle.aos_check_expr.specs.Expressions.{constant}
-use Rattle.aos_check_decl.specs.Types.{Met, met, FieldsMet, fields_met, placed, array_of, inner_arrays, arrays, lengths_of, open_of, array_in, is_empty, with_record, base_in, field_names, record_in, claiming, target_claims, pointer_to, object_in, named_type, type_in, held_in, pointer_in, fields_in, field_in}
-use Rattle.aos_check_decl.specs.Headings.{with_variable, with_variables, constant_def, type_def, variable_def, settled, declared, opened, FormalsMet, formals_met, with_section, HeadingMet, formals_in, with_parameters, with_signature, locals_in, procedure, procedures_from, headings, slot_in}
+use Rattle.aos_check_decl.specs.Types.{Met, met, FieldsMet, fields_met, placed, array_of, inner_arrays, arrays, lengths_of, open_of, array_in, is_empty, with_record, base_in, field_names, record_in, claiming, target_claims, pointer_to, MembersMet, members_met, with_members, object_slot, object_in, named_type, type_in, members_in, member_in, variables_in, held_in, pointer_in, fields_in, field_in}
+use Rattle.aos_check_decl.specs.Headings.{with_variable, with_variables, constant_def, type_def, variable_def, settled, declared, opened, FormalsMet, formals_met, with_section, HeadingMet, formals_in, with_parameters, with_signature, locals_in, procedure, procedures_from, within_type, type_methods, methods_from, headings, slot_in, defined_type}
 use Rattle.aos_check_decl.specs.Pass.{begun, declare}
 
 -- what declarations leave alone
@@ -86,14 +88,38 @@ pointer_fixed : (slot : Option TypeId) (at : Pos) (x : TypeExpr) (e : Env) (of :
 pointer_fixed slot at x e None = refl
 pointer_fixed slot at x e (Some t) = placed_fixed slot at (row.Pointer t) (claiming (target_claims x t) e)
 
-object_in_fixed : (slot : Option TypeId) (e : Env) (at : Pos) (base : Option Qualident) (ds : List Decl) (body : Option Block) →
-    fixed (object_in slot e at base ds body).answer.env ≡ fixed e
-object_in_fixed slot e at base ds body = by (env.innermost e.path == 0) refl slot
+-- Constants and variables.
+
+text_kept : (f : Scope → Scope) (h : Home) (k : ℕ) (s : Option Scope) → (changed f h k s).text ≡ h.text
+text_kept f h k None = refl
+text_kept f h k (Some s) = refl
+
+changed_fixed : (f : Scope → Scope) (e : Env) (k : ℕ) → fixed (record e { here = changed f e.here k (slice_get e.here.scopes k) }) ≡ fixed e
+changed_fixed f e k = ap (λ t. (e.number, e.before, t)) (text_kept f e.here k (slice_get e.here.scopes k))
+
+constant_fixed : (e : Env) (d : ConstDef) → fixed (constant_def e d).answer ≡ fixed e
+constant_fixed e d = changed_fixed (λ s. with_value s (record { at = d.def.name.pos; value = (constant e d.value).answer })) e (env.innermost e.path)
+
+variables_fixed : (e : Env) (n : ℕ) (of : Option TypeId) → fixed (with_variables e n of) ≡ fixed e
+variables_fixed e zero of = refl
+variables_fixed e (suc n) of = variables_fixed (with_variable e of) n of ∙ changed_fixed (λ s. with_type s of) e (env.innermost e.path)
+
+-- Object types.
+
+variables_put : (vs : List (Option TypeId)) (e : Env) (k : ℕ) → fixed (record e { here = set_variables e.here k vs }) ≡ fixed e
+variables_put vs e k = changed_fixed (λ s. setting_variables s vs) e k
+
+object_in_fixed : (slot : Option TypeId) (object : Option ObjectScope) (e : Env) (at : Pos) (base : Option Qualident) (ds : List Decl) (body : Option Block) (members : Env → Judged MembersMet) →
+    ((f : Env) → fixed (members f).answer.env ≡ fixed f) → fixed (object_in slot object e at base ds body members).answer.env ≡ fixed e
+object_in_fixed slot object e at base ds body members kept = by (env.innermost e.path == 0) refl slot object
   where
-    by : (b : Bool) → (env.innermost e.path == 0) ≡ b → (slot : Option TypeId) → fixed (object_in slot e at base ds body).answer.env ≡ fixed e
-    by true is None = rw is refl
-    by true is (Some t) = rw is refl
-    by false is slot = rw is refl
+    by : (b : Bool) → (env.innermost e.path == 0) ≡ b → (slot : Option TypeId) (object : Option ObjectScope) → fixed (object_in slot object e at base ds body members).answer.env ≡ fixed e
+    by true is None object = rw is refl
+    by true is (Some t) None = rw is refl
+    by true is (Some t) (Some o) =
+        let f = (members (env.within e o.scope)).answer in
+        rw is (variables_put f.variables (env.back_at e.path f.env) o.scope ∙ kept (env.within e o.scope))
+    by false is slot object = rw is refl
 
 mutual
   type_fixed : (may_be_open : Bool) (slot : Option TypeId) (e : Env) (t : TypeExpr) → fixed (type_in may_be_open slot e t).answer.env ≡ fixed e
@@ -104,7 +130,24 @@ mutual
       record_in_fixed slot e p base (field_names (items-the_row-Fields _ row)) (fields_in (fields_met e [] empty) row) (fields_fixed (fields_met e [] empty) row)
   type_fixed may_be_open slot e (type.Pointer' p shape row) = pointed_fixed slot e p row
   type_fixed may_be_open slot e (type.Proc p flag formals) = refl
-  type_fixed may_be_open slot e (type.Object' p base shape row body end) = object_in_fixed slot e p base (items-the_row-Decl _ row) body
+  type_fixed may_be_open slot e (type.Object' p base shape row body end) =
+      object_in_fixed slot (object_slot e slot) e p base (items-the_row-Decl _ row) body (λ e. members_in (members_met e [] []) row) (λ f. members_fixed (members_met f [] []) row)
+
+  members_fixed : {m : _} (f : MembersMet) (r : Row_of-Decl m) → fixed (members_in f r).answer.env ≡ fixed f.env
+  members_fixed f end_of-Decl = refl
+  members_fixed f (more_of-Decl d ds) = members_fixed (member_in f d).answer ds ∙ member_fixed f d
+
+  member_fixed : (f : MembersMet) (d : Decl) → fixed (member_in f d).answer.env ≡ fixed f.env
+  member_fixed f (decl.Consts p cs) = walk_keeps fixed constant_def constant_fixed f.env cs
+  member_fixed f (decl.Types' p shape row) = refl
+  member_fixed f (decl.Vars' p shape row) = own_fields_fixed f row
+  member_fixed f (decl.Proc' p i def formals shape row body end) = refl
+
+  own_fields_fixed : {m : _} (f : MembersMet) (r : Row_of-VarDef m) → fixed (variables_in f r).answer.env ≡ fixed f.env
+  own_fields_fixed f end_of-VarDef = refl
+  own_fields_fixed f (more_of-VarDef defs of ds) =
+      let m = (type_in false None f.env of).answer in
+      own_fields_fixed (with_members f (length defs) m) ds ∙ type_fixed false None f.env of
 
   held_fixed : {m : _} (may_be_open : Bool) (e : Env) (r : Row_of-TypeExpr m) → fixed (held_in may_be_open e r).answer.env ≡ fixed e
   held_fixed may_be_open e end_of-TypeExpr = refl
@@ -123,17 +166,7 @@ mutual
   field_fixed f fields.Empty = refl
   field_fixed f (fields.Of' defs of) = type_fixed false None f.env of
 
--- Constants, types and variables.
-
-text_kept : (f : Scope → Scope) (h : Home) (k : ℕ) (s : Option Scope) → (changed f h k s).text ≡ h.text
-text_kept f h k None = refl
-text_kept f h k (Some s) = refl
-
-changed_fixed : (f : Scope → Scope) (e : Env) (k : ℕ) → fixed (record e { here = changed f e.here k (slice_get e.here.scopes k) }) ≡ fixed e
-changed_fixed f e k = ap (λ t. (e.number, e.before, t)) (text_kept f e.here k (slice_get e.here.scopes k))
-
-constant_fixed : (e : Env) (d : ConstDef) → fixed (constant_def e d).answer ≡ fixed e
-constant_fixed e d = changed_fixed (λ s. with_value s (record { at = d.def.name.pos; value = (constant e d.value).answer })) e (env.innermost e.path)
+-- Declarations.
 
 settled_fixed : (slot : Option TypeId) (e : Env) (of : Option TypeId) → fixed (settled slot (met e of)) ≡ fixed e
 settled_fixed (Some t) e None = refl
@@ -151,10 +184,6 @@ type_def_fixed e def (type.Record' p base shape row) = defined_fixed (slot_in (e
 type_def_fixed e def (type.Pointer' p shape row) = defined_fixed (slot_in (env.lookup e def.name)) e (type.Pointer' p shape row)
 type_def_fixed e def (type.Proc p flag formals) = defined_fixed (slot_in (env.lookup e def.name)) e (type.Proc p flag formals)
 type_def_fixed e def (type.Object' p base shape row body end) = defined_fixed (slot_in (env.lookup e def.name)) e (type.Object' p base shape row body end)
-
-variables_fixed : (e : Env) (n : ℕ) (of : Option TypeId) → fixed (with_variables e n of) ≡ fixed e
-variables_fixed e zero of = refl
-variables_fixed e (suc n) of = variables_fixed (with_variable e of) n of ∙ changed_fixed (λ s. with_type s of) e (env.innermost e.path)
 
 variable_fixed : (e : Env) (v : VarDef) → fixed (variable_def e v).answer ≡ fixed e
 variable_fixed e v = let m = (type_in false None e v.of).answer in variables_fixed m.env (length v.defs) m.of ∙ type_fixed false None e v.of
@@ -191,14 +220,28 @@ locals_fixed k h ds =
     let inner = env.within (with_signature h.env h.signature) k in
     walk_keeps fixed declared declared_fixed (with_parameters inner h.signature.parameters) ds ∙ parameters_fixed inner h.signature.parameters
 
-procedures_fixed : (e : Env) (k : ℕ) (ps : List Procedure) → fixed (procedures_from e k ps).answer ≡ fixed e
-procedures_fixed e k [] = refl
-procedures_fixed e k (p ∷ ps) =
-    procedures_fixed (procedure e k p.initializer p.formals p.decls).answer (suc k) ps
+procedures_fixed : (rule : ℕ) (e : Env) (k : ℕ) (ps : List Procedure) → fixed (procedures_from rule e k ps).answer ≡ fixed e
+procedures_fixed rule e k [] = refl
+procedures_fixed rule e k (p ∷ ps) =
+    procedures_fixed rule (procedure rule e k p.initializer p.formals p.decls).answer (suc k) ps
     ∙ locals_fixed k (formals_in e p.formals).answer p.decls ∙ formals_fixed e p.formals
 
+within_fixed : (e : Env) (of : Option TypeId) → fixed (within_type e of) ≡ fixed e
+within_fixed e None = refl
+within_fixed e (Some t) = refl
+
+methods_fixed : (e : Env) (k : ℕ) (ds : List TypeDef) → fixed (methods_from e k ds).answer ≡ fixed e
+methods_fixed e k [] = refl
+methods_fixed e k (d ∷ ds) =
+    methods_fixed (type_methods e k d).answer (k + length (methods_in d)) ds
+    ∙ procedures_fixed 99 (within_type e (defined_type e d)) k (methods_in d) ∙ within_fixed e (defined_type e d)
+
 headings_fixed : (e : Env) (ds : List Decl) → fixed (headings e ds).answer ≡ fixed e
-headings_fixed e ds = procedures_fixed (walk declared e ds).answer (suc (length (type_defs ds))) (procedures ds) ∙ walk_keeps fixed declared declared_fixed e ds
+headings_fixed e ds =
+    let first = suc (length (type_defs ds)) in
+    let f = (walk declared e ds).answer in
+    methods_fixed (procedures_from 24 f first (procedures ds)).answer (first + length (procedures ds)) (type_defs ds)
+    ∙ procedures_fixed 24 f first (procedures ds) ∙ walk_keeps fixed declared declared_fixed e ds
 
 module _ (number : ℕ) (before : List Home) (types : List TypeRow) (text : List ℕ) (m : Module) where
   declare_fixed : fixed (declare number before types text m).answer ≡ (number, before, text)

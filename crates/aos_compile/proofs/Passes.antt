@@ -1,92 +1,68 @@
 -- What the passes of a module give, one after another.
-use Rattle.std.proofs.Common.{◌≡◌, ◌<◌, ◌≤◌, ℕ, suc, List, [], ◌∷◌, ◌++◌, ◌+◌, length, map, Option, Some, None, get_or, drop, drop-cons, add-one, append_assoc, length-append, arith, refl, ap, ◌∙◌, sym}
-use Rattle.std.proofs.lemmas.List.{length-map}
-use Rattle.aos_tree.specs.declared.decl.Decl.{Decl}
+use Rattle.std.proofs.Common.{◌≡◌, ◌<◌, ℕ, suc, Bor, List, [], ◌∷◌, ◌++◌, ◌+◌, length, map, Option, Some, None, get_or, drop, append-nil, arith, refl, ap, ◌∙◌, sym}
 use Rattle.aos_tree.specs.declared.decl.TypeDef.{TypeDef}
 use Rattle.aos_tree.specs.declared.module.Module.{Module as Tree}
 use Rattle.aos_typed.specs.declared.tree.TStat.{TStat}
-use Rattle.aos_typed.specs.Program.{Then}
+use Rattle.aos_typed.specs.Program.{Procedure as TypedProcedure, Then}
 use Rattle.aos_typed.specs.Seen.{seen_stat, seen_stats}
 use Rattle.aos_symbols.specs.declared.breach.Breach.{Breach}
 use Rattle.aos_symbols.specs.declared.env.Env.{Env}
-use Rattle.aos_symbols.specs.Env.{within}
-use Rattle.aos_symbols.specs.Judged.{Judged, kept, bind, walk, judged}
+use Rattle.aos_symbols.specs.declared.home.ObjectScope.{ObjectScope}
+use Rattle.aos_symbols.specs.Home.{Home, slot_at}
+use Rattle.aos_symbols.specs.Judged.{Judged, walk, judged}
 use Rattle.aos_symbols.specs.Breaches.{first, first_after}
 use Rattle.aos_symbols.specs.Outcome.{Outcome, went, refused, then, passed, decided}
-use Rattle.aos_symbols.specs.Declarations.{types_in, type_defs}
+use Rattle.aos_symbols.specs.Declarations.{seen_types}
 use Rattle.aos_symbols.specs.Names.{name_breaches}
-use Rattle.aos_symbols.proofs.Paths.{past}
 use Rattle.aos_symbols.proofs.Keeping.{after_more}
 use Rattle.aos_check_decl.specs.Pass.{declare}
 use Rattle.aos_check_stat.specs.Bodies.{listed}
 use Rattle.aos_compile.specs.declared.compile_err.CompileErr.{CompileErr}
 use Rattle.aos_compile.specs.declared.compile_err.CompileErr.TheVariants.{Refused, NoMemory}
 use Rattle.aos_compile.specs.Elaborates.{OnRefused}
-use Rattle.aos_compile.specs.declared.objects.Beside.{Beside as CodeBeside}
-use Rattle.aos_compile.specs.Seen.{seen_beside}
-use Rattle.aos_compile.specs.Modules.{World, Beside, Bodies, bodies, object_in, extended, elaborated}
+use Rattle.aos_compile.specs.Modules.{World, Beside, Bodies, bodies, defined_object, slotted, beside_in, object_in, extended, elaborated}
 use Rattle.aos_compile.proofs.Kept.{before_kept}
+use Rattle.aos_compile.proofs.Pairs.{drop_item}
 
 -- statements are seen in their order
 pub stats_listed : (ss : List TStat) → seen_stats ss ≡ listed (map seen_stat ss)
 stats_listed [] = refl
 stats_listed (s ∷ ss) = ap (λ z. Then (seen_stat s) z) (stats_listed ss)
 
-pub within_seen : (e : Env) (os : List CodeBeside) → within e (suc (length (map seen_beside os))) ≡ within e (suc (length os))
-within_seen e os = ap (λ k. within e (suc k)) (length-map os seen_beside)
+-- one definition more, of which this stands beside its type
+module _ (e : Env) (first : ℕ) (os new : List Beside) (ds : List (Bor TypeDef)) (i : ℕ) (d : Bor TypeDef) where
+  abbrev one : Judged Beside
+  one = beside_in e first d.now (defined_object e d.now)
 
--- as many object types as definitions
-pub objects_long : (e : Env) (os : List Beside) (ds : List TypeDef) → length (walk (object_in e) os ds).answer ≡ length os + length ds
-objects_long e os [] = omega arith
-objects_long e os (d ∷ ds) =
-    let more = (object_in e os d).answer in
-    let rest = objects_long e more ds in
-    let one : length more ≡ length os + 1 = length-append os _ in
-    omega (arith, rest, one)
+  abbrev rest : Judged (List Beside)
+  rest = walk (object_in e first) new (seen_types (drop (i + 1) ds))
 
--- a walk over two lists, one behind the other
-walk_both : {A X : Type 0} (step : A → X → Judged A) (a : A) (xs ys : List X) →
-    walk step a (xs ++ ys) ≡ bind (walk step a xs) (λ b. walk step b ys)
-walk_both step a [] ys = refl
-walk_both step a (x ∷ xs) ys =
-    let s = step a x in
-    let b = walk step s.answer xs in
-    ap (λ z. bind s (λ c. z)) (walk_both step s.answer xs ys)
-    ∙ ap (λ bs. judged bs (walk step b.answer ys).answer) (sym (append_assoc s.breaches b.breaches (walk step b.answer ys).breaches))
+  objects_next : i < length ds → d ≡ get_or ds i d → new ≡ os ++ one.answer ∷ [] →
+      walk (object_in e first) os (seen_types (drop i ds)) ≡ judged (one.breaches ++ rest.breaches) rest.answer
+  objects_next lt at told =
+      ap (λ l. walk (object_in e first) os (seen_types l)) (drop_item ds i d lt at)
+      ∙ ap (λ b. let w = walk (object_in e first) b (seen_types (drop (i + 1) ds)) in judged ((one.breaches ++ []) ++ w.breaches) w.answer) (sym told)
+      ∙ ap (λ l. judged (l ++ rest.breaches) rest.answer) (append-nil one.breaches)
 
-pub types_step : (e : Env) (os : List Beside) (ds : List Decl) (i : ℕ) (d : Decl) → i < length ds →
-    walk (object_in e) os (type_defs (drop i ds)) ≡ bind (walk (object_in e) os (types_in (get_or ds i d))) (λ b. walk (object_in e) b (type_defs (drop (i + 1) ds)))
-types_step e os ds i d lt =
-    ap (λ l. walk (object_in e) os (type_defs l)) (drop-cons ds i d lt)
-    ∙ walk_both (object_in e) os (types_in (get_or ds i d)) (type_defs (drop (suc i) ds))
-    ∙ ap (λ j. bind (walk (object_in e) os (types_in (get_or ds i d))) (λ b. walk (object_in e) b (type_defs (drop j ds)))) (sym (add-one i))
+  pub objects_noted : (met behind : Option Breach) → i < length ds → d ≡ get_or ds i d → new ≡ os ++ one.answer ∷ [] →
+      behind ≡ first_after met one.breaches → first_after behind rest.breaches ≡ first_after met (walk (object_in e first) os (seen_types (drop i ds))).breaches
+  objects_noted met behind lt at told noted =
+      ap (λ z. first_after z rest.breaches) noted
+      ∙ sym (after_more met one.breaches rest.breaches)
+      ∙ ap (λ (z : Judged (List Beside)). first_after met z.breaches) (sym (objects_next lt at told))
 
-pub types_end : (e : Env) (os : List Beside) (ds : List Decl) (i : ℕ) → length ds ≤ i → walk (object_in e) os (type_defs (drop i ds)) ≡ kept os
-types_end e os ds i le = ap (λ l. walk (object_in e) os (type_defs l)) (past ds i le)
+  pub objects_answer : i < length ds → d ≡ get_or ds i d → new ≡ os ++ one.answer ∷ [] →
+      rest.answer ≡ (walk (object_in e first) os (seen_types (drop i ds))).answer
+  objects_answer lt at told = ap (λ (z : Judged (List Beside)). z.answer) (sym (objects_next lt at told))
 
--- the types of one declaration, and those of the others behind it
-module _ (e : Env) (os new : List Beside) (ds : List Decl) (i : ℕ) (x : Decl) where
-  types_next : i < length ds → x ≡ get_or ds i x → new ≡ (walk (object_in e) os (types_in x)).answer →
-      walk (object_in e) os (type_defs (drop i ds))
-      ≡ judged ((walk (object_in e) os (types_in x)).breaches ++ (walk (object_in e) new (type_defs (drop (i + 1) ds))).breaches)
-      (walk (object_in e) new (type_defs (drop (i + 1) ds))).answer
-  types_next lt is told =
-      types_step e os ds i x lt
-      ∙ ap (λ d. bind (walk (object_in e) os (types_in d)) (λ b. walk (object_in e) b (type_defs (drop (i + 1) ds)))) (sym is)
-      ∙ ap (λ b. judged ((walk (object_in e) os (types_in x)).breaches ++ (walk (object_in e) b (type_defs (drop (i + 1) ds))).breaches) (walk (object_in e) b (type_defs (drop (i + 1) ds))).answer)
-      (sym told)
-
-  pub types_noted : (met behind : Option Breach) → i < length ds → x ≡ get_or ds i x → new ≡ (walk (object_in e) os (types_in x)).answer →
-      behind ≡ first_after met (walk (object_in e) os (types_in x)).breaches →
-      first_after behind (walk (object_in e) new (type_defs (drop (i + 1) ds))).breaches ≡ first_after met (walk (object_in e) os (type_defs (drop i ds))).breaches
-  types_noted met behind lt is told noted =
-      ap (λ z. first_after z (walk (object_in e) new (type_defs (drop (i + 1) ds))).breaches) noted
-      ∙ sym (after_more met (walk (object_in e) os (types_in x)).breaches (walk (object_in e) new (type_defs (drop (i + 1) ds))).breaches)
-      ∙ ap (λ (z : Judged (List Beside)). first_after met z.breaches) (sym (types_next lt is told))
-
-  pub types_answer : i < length ds → x ≡ get_or ds i x → new ≡ (walk (object_in e) os (types_in x)).answer →
-      (walk (object_in e) new (type_defs (drop (i + 1) ds))).answer ≡ (walk (object_in e) os (type_defs (drop i ds))).answer
-  types_answer lt is told = ap (λ (z : Judged (List Beside)). z.answer) (sym (types_next lt is told))
+-- one method more, with its slot
+pub slotted_more : (h : Home) (o : ObjectScope) (k : ℕ) (qs : List TypedProcedure) (q : TypedProcedure) →
+    slotted h o k (qs ++ q ∷ []) ≡ slotted h o k qs ++ record { slot = slot_at h o (k + length qs); procedure = q } ∷ []
+slotted_more h o k [] q = ap (λ n. record { slot = slot_at h o n; procedure = q } ∷ []) (let same : k ≡ k + 0 = omega arith in same)
+slotted_more h o k (p ∷ ps) q =
+    ap (λ l. record { slot = slot_at h o k; procedure = p } ∷ l)
+    (slotted_more h o (suc k) ps q
+    ∙ ap (λ n. slotted h o (suc k) ps ++ record { slot = slot_at h o n; procedure = q } ∷ []) (let same : suc k + length ps ≡ k + suc (length ps) = omega arith in same))
 
 -- a pass that goes gives its answer
 decided_is : {A : Type 0} (file : ℕ) (found : Option Breach) (a b : A) → decided file found a ≡ went b → a ≡ b

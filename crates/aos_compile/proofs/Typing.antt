@@ -1,14 +1,18 @@
 -- The program that texts come to is well typed.
-use Rattle.std.proofs.Common.{◌≡◌, ℕ, ◌+◌, ◌<◌, ◌≤◌, List, [], ◌∷◌, length, Option, Some, None, slice_get, zip, All, refl, sym, subst, arith}
+use Rattle.std.proofs.Common.{◌≡◌, ℕ, suc, ◌+◌, ◌-◌, ◌<◌, ◌≤◌, List, [], ◌∷◌, length, Option, Some, None, slice_get, zip, All, refl, sym, ap, subst, arith}
+use Rattle.std.proofs.lemmas.Option.{slice_get_within}
+use Rattle.aos_types.specs.declared.row.TypeId.{TypeId}
 use Rattle.aos_types.specs.declared.TheConstants.{MOST_SCALARS}
 use Rattle.aos_typed.specs.Numbers.{predeclared_types, predeclared_rows}
-use Rattle.aos_typed.specs.Program.{Module, Program}
-use Rattle.aos_typed.specs.WellTyped.{AreStatements, AreTypes, IsVariableType, IsProcedure, AreObjectTypes, module_scalars, IsWellTyped}
+use Rattle.aos_typed.specs.Methods.{methods_in, own_methods, base_type, on_base, methods_of}
+use Rattle.aos_typed.specs.Program.{ObjectType, Module, Program}
+use Rattle.aos_typed.specs.WellTyped.{AreSlots, AreStatements, AreTypes, IsVariableType, IsProcedure, AreObjectTypes, module_scalars, IsWellTyped}
 use Rattle.aos_symbols.specs.Home.{Home}
 use Rattle.aos_symbols.specs.Outcome as outcome
 use Rattle.aos_symbols.specs.Outcome.{went, in_turn}
 use Rattle.aos_symbols.proofs.Each.{Each, all_of}
 use Rattle.aos_symbols.proofs.Holds.{then_went, same_went}
+use Rattle.aos_check_expr.specs.Known.{object_number}
 use Rattle.aos_compile.specs.Modules.{World, no_modules, program_of}
 use Rattle.aos_compile.specs.Files.{Reading, Source, trees_from, loaded, load_order, modules, elaborate}
 use Rattle.aos_compile.specs.Elaborates.{ComesTo}
@@ -17,7 +21,12 @@ use Rattle.aos_compile.proofs.TypingTypes.{known_variables}
 use Rattle.aos_compile.proofs.TypingScalars.{sum_typed}
 use Rattle.aos_compile.proofs.Strings.{texts_below}
 use Rattle.aos_compile.proofs.TypingObjects.{object_types, object_homes}
-use Rattle.aos_compile.proofs.TypingModules.{AreHomes, IsWorld, no_world, module_sound}
+use Rattle.aos_compile.proofs.MethodsGrow.{bases_high}
+use Rattle.aos_compile.proofs.TypingHomes.{AreHomes}
+use Rattle.aos_compile.proofs.TypingMethods.{all_are_slots}
+use Rattle.aos_compile.proofs.TypingOutlook.{outlook}
+use Rattle.aos_compile.proofs.TypingWorld.{IsWorld, no_world}
+use Rattle.aos_compile.proofs.TypingModules.{module_sound}
 
 module _ (ss : List Source) where
   loaded_sound : (k : ℕ) (w v : World) → IsWorld w → loaded ss w k ≡ went v → IsWorld v
@@ -55,50 +64,61 @@ module _ (w : World) (sound : IsWorld w) where
   abbrev AreVariables : Module → Type 0
   AreVariables m = All (λ v. IsVariableType (program_of w) v.of) m.variables
 
-  variables_of_homes : (hs : List Home) (ms : List Module) → AreHomes w.types hs ms → Each AreVariables ms
-  variables_of_homes [] [] are = tt
-  variables_of_homes [] (m ∷ ms) are = absurd are
-  variables_of_homes (h ∷ hs) [] are = absurd are
-  variables_of_homes (h ∷ hs) (m ∷ ms) are = (
+  variables_of_homes : (n : ℕ) (hs : List Home) (ms : List Module) → AreHomes w.types n hs ms → Each AreVariables ms
+  variables_of_homes n [] [] are = tt
+  variables_of_homes n [] (m ∷ ms) are = absurd are
+  variables_of_homes n (h ∷ hs) [] are = absurd are
+  variables_of_homes n (h ∷ hs) (m ∷ ms) are = (
     all_of (λ v. IsVariableType (program_of w) v.of) m.variables
         (known_variables (program_of w) sound.table.basic m.variables are.0.scope.variables are.0.typed are.0.known),
-    variables_of_homes hs ms are.1,
+    variables_of_homes (suc n) hs ms are.1,
   )
 
   abbrev HasFew : Module → Type 0
   HasFew m = module_scalars (program_of w) m ≤ MOST_SCALARS
 
-  few_of_homes : (hs : List Home) (ms : List Module) → AreHomes w.types hs ms → Each HasFew ms
-  few_of_homes [] [] are = tt
-  few_of_homes [] (m ∷ ms) are = absurd are
-  few_of_homes (h ∷ hs) [] are = absurd are
-  few_of_homes (h ∷ hs) (m ∷ ms) are = (
+  few_of_homes : (n : ℕ) (hs : List Home) (ms : List Module) → AreHomes w.types n hs ms → Each HasFew ms
+  few_of_homes n [] [] are = tt
+  few_of_homes n [] (m ∷ ms) are = absurd are
+  few_of_homes n (h ∷ hs) [] are = absurd are
+  few_of_homes n (h ∷ hs) (m ∷ ms) are = (
     subst (λ n. n ≤ MOST_SCALARS) (sym (sum_typed w.types m.variables are.0.scope.variables are.0.typed are.0.known)) are.0.few,
-    few_of_homes hs ms are.1,
+    few_of_homes (suc n) hs ms are.1,
   )
 
   -- the codes of string constants are those of characters
   abbrev HasCodes : Module → Type 0
   HasCodes m = All (λ t. All (λ c. c < 256) t) m.texts
 
-  codes_of_homes : (hs : List Home) (ms : List Module) → AreHomes w.types hs ms → Each HasCodes ms
-  codes_of_homes [] [] are = tt
-  codes_of_homes [] (m ∷ ms) are = absurd are
-  codes_of_homes (h ∷ hs) [] are = absurd are
-  codes_of_homes (h ∷ hs) (m ∷ ms) are =
-      (subst (All (λ t. All (λ c. c < 256) t)) (sym are.0.texts) (texts_below h), codes_of_homes hs ms are.1)
+  codes_of_homes : (n : ℕ) (hs : List Home) (ms : List Module) → AreHomes w.types n hs ms → Each HasCodes ms
+  codes_of_homes n [] [] are = tt
+  codes_of_homes n [] (m ∷ ms) are = absurd are
+  codes_of_homes n (h ∷ hs) [] are = absurd are
+  codes_of_homes n (h ∷ hs) (m ∷ ms) are =
+      (subst (All (λ t. All (λ c. c < 256) t)) (sym are.0.texts) (texts_below h), codes_of_homes (suc n) hs ms are.1)
+
+  -- the methods that each type declares are in their slots
+  slots : (k : ℕ) (o : ObjectType) → slice_get w.objects k ≡ Some o → AreSlots (program_of w) (on_base (methods_of (program_of w)) (base_type (program_of w) k)) o.methods
+  slots k o there =
+      let t : TypeId = record { 0 = 10 + k } in
+      let number : object_number t ≡ k = let same : (10 + k) - 10 ≡ k = omega arith in same in
+      let below = slice_get_within w.objects k o there in
+      let count = sound.count in
+      subst (λ ms. AreSlots (program_of w) (on_base (methods_of (program_of w)) (base_type (program_of w) k)) ms) (ap methods_in there)
+      (subst (λ n. AreSlots (program_of w) (on_base (methods_of (program_of w)) (base_type (program_of w) n)) (own_methods (program_of w) n)) number
+      (all_are_slots (outlook w.before w.types) w.modules w.objects sound.table sound.count sound.own (bases_high w.types sound.table) t (omega arith) (omega (arith, below, count))))
 
   world_typed : TypedWell (program_of w)
   world_typed = record {
     bodies = all_of (λ m. AreStatements (program_of w) None m.body) w.modules sound.bodies;
-    objects = object_types (program_of w) sound.objects;
+    objects = object_types (program_of w) sound.objects slots;
     homes = object_homes (program_of w) sound.objects;
     types = sound.table.sound;
-    texts = all_of HasCodes w.modules (codes_of_homes w.before w.modules sound.homes);
+    texts = all_of HasCodes w.modules (codes_of_homes 0 w.before w.modules sound.homes);
     predeclared = sound.table.basic;
     beside = omega (arith, sound.count);
-    variables = all_of AreVariables w.modules (variables_of_homes w.before w.modules sound.homes);
-    few_scalars = all_of HasFew w.modules (few_of_homes w.before w.modules sound.homes);
+    variables = all_of AreVariables w.modules (variables_of_homes 0 w.before w.modules sound.homes);
+    few_scalars = all_of HasFew w.modules (few_of_homes 0 w.before w.modules sound.homes);
     procedures = all_of (λ m. All (λ q. IsProcedure (program_of w) q × (q.of ≡ None)) m.procedures) w.modules sound.procedures;
   }
 

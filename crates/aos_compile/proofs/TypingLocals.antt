@@ -8,6 +8,7 @@ use Rattle.aos_typed.specs.Open.{open_dimensions, open_element}
 use Rattle.aos_typed.specs.Program.{Local, Passed, Of, Opened, Stats, Parameter, Procedure as TypedProcedure, Program}
 use Rattle.aos_symbols.specs.declared.home.Parameter.{Parameter as Formal}
 use Rattle.aos_symbols.specs.declared.home.Signature.{Signature}
+use Rattle.aos_symbols.specs.declared.env.Open.{Open}
 use Rattle.aos_symbols.specs.declared.env.Env.{Env}
 use Rattle.aos_symbols.specs.Declarations.{Procedure, single_variables, formal_names}
 use Rattle.aos_symbols.specs.Scope.{Scope}
@@ -21,12 +22,12 @@ use Rattle.aos_check_expr.specs.Designators.{is_opened}
 use Rattle.aos_check_expr.proofs.Inside.{Inside, IsPlaceOf}
 use Rattle.aos_check_expr.proofs.Sound.{not_both}
 use Rattle.aos_check_expr.proofs.Opens.{some_there}
-use Rattle.aos_check_expr.proofs.Spots.{IsTyped, closed, opened, IsWhole, IsParameterType, parameter_type, elements_id}
+use Rattle.aos_check_expr.proofs.Whole.{IsTyped, closed, opened, IsWhole, IsParameterType, parameter_type, elements_id}
 use Rattle.aos_check_expr.proofs.Passed.{is_opening, shut}
 use Rattle.aos_check_decl.proofs.Typing.{IsHeading}
 use Rattle.aos_compile.specs.Modules.{variable_of, procedure_of}
 use Rattle.aos_compile.proofs.TypingTypes.{RowsStay}
-use Rattle.aos_compile.proofs.TypingProcedures.{IsSignature, heading_signature, formal_at, signature_long}
+use Rattle.aos_compile.proofs.TypingProcedures.{IsSignature, heading_signature, signature_with, formal_at, signature_long}
 
 -- Lists.
 
@@ -55,23 +56,23 @@ types_beside text [] (of ∷ ofs) e = absurd (omega arith)
 types_beside text (d ∷ ds) [] e = absurd (omega arith)
 types_beside text (d ∷ ds) (of ∷ ofs) e = ap (λ z. type_of of ∷ z) (types_beside text ds ofs (omega arith))
 
--- A procedure of a module, with a signature and the variables of its scope, which has the number k.
+-- A procedure of a module, or a method of a type, with a signature and the variables of its scope, at a place with this path.
 module _ (program : Program) (begins : RowsStay basic_rows program.types) (e : Env) (base : IsWhole (record { program = program; own = None; basic = begins }) e) (q : Procedure) (s : Signature) (scope : Scope)
-    (heading : IsHeading e.types q s scope) (b : Stats) (k : ℕ) (here : env.own_signature (env.within e k) ≡ Some s) where
+    (heading : IsHeading e.types q s scope) (b : Stats) (of : Option ℕ) (path : List Open) (self : Option TypeId) (here : env.own_signature (record e { path = path; self_type = self }) ≡ Some s) where
   abbrev pub own : TypedProcedure
-  own = procedure_of e.here.text q s scope.variables b
+  own = record (procedure_of e.here.text q s scope.variables b) { of = of }
 
   abbrev pub body : Inside
   body = record { program = program; own = Some own; basic = begins }
 
   abbrev pub place : Env
-  place = env.within e k
+  place = record e { path = path; self_type = self }
 
   abbrev outside : Inside
   outside = record { program = program; own = None; basic = begins }
 
   signature : IsSignature e.types s own
-  signature = heading_signature e.types e.here.text q s scope scope.variables b heading
+  signature = signature_with of e.types s (procedure_of e.here.text q s scope.variables b) (heading_signature e.types e.here.text q s scope scope.variables b heading)
 
   -- Parameters.
 

@@ -1,12 +1,13 @@
 -- A module's procedures: their parameters, their locals and what they give have types as they are to be.
-use Rattle.std.proofs.Common.{◌≡◌, ℕ, zero, suc, ◌+◌, ◌≤◌, List, [], ◌∷◌, length, map, drop, zip, true, All, Option, Some, None, slice_get, refl, sym, ap, ◌∙◌, subst, arith}
-use Rattle.std.proofs.lemmas.Option.{none-some, same_Some}
+use Rattle.std.proofs.Common.{◌≡◌, ℕ, zero, suc, ◌+◌, ◌<◌, ◌≤◌, List, [], ◌∷◌, length, map, drop, zip, true, false, All, Option, Some, None, slice_get, refl, sym, ap, ◌∙◌, subst, arith}
+use Rattle.std.proofs.lemmas.Option.{none-some, same_Some, slice_get_within}
 use Rattle.std.proofs.lemmas.List.Elements.{All-weaker}
 use Rattle.aos_tree.specs.declared.name.Name.{Name}
 use Rattle.aos_tree.specs.declared.decl.Def.{Def}
 use Rattle.aos_types.specs.declared.row.TypeId.{TypeId}
 use Rattle.aos_types.specs.declared.row.TypeRow.{TypeRow}
-use Rattle.aos_types.specs.Table.{row_of, is_scalar}
+use Rattle.aos_types.specs.declared.row.TypeRow.TheVariants as row
+use Rattle.aos_types.specs.Table.{row_of, is_open, is_scalar}
 use Rattle.aos_typed.specs.declared.tree.TType.{TType}
 use Rattle.aos_typed.specs.Numbers.{id_of}
 use Rattle.aos_typed.specs.Program.{Stats, Variable, Parameter, Procedure as TypedProcedure, Program}
@@ -22,11 +23,14 @@ use Rattle.aos_symbols.specs.Env.{basic_rows}
 use Rattle.aos_symbols.proofs.Each.{Each, all_of}
 use Rattle.aos_symbols.proofs.Told.{IsKnown}
 use Rattle.aos_check_expr.specs.Known.{type_as, type_of}
-use Rattle.aos_check_expr.proofs.Spots.{AreParameters, IsResultOf, IsSigned, parameter_type}
+use Rattle.aos_check_expr.proofs.Whole.{AreParameters, IsResultOf, IsSigned, parameter_type}
 use Rattle.aos_check_decl.proofs.Typing.{IsThere, IsResult as IsScalarType, IsHeading}
 use Rattle.aos_compile.specs.Modules.{variables_of, variable_of, parameter_of, result_of, procedure_of, procedures_of}
 use Rattle.aos_compile.proofs.TypingPrograms.{Grows, statements_grow}
-use Rattle.aos_compile.proofs.TypingTypes.{RowsStay, there_stays, closed_stays, fact_stays, number_is, told_number, told_no_nil, there, known_type}
+use Rattle.aos_compile.proofs.TypingTypes.{RowsStay, longer as more_rows, there_stays, closed_stays, fact_stays, number_is, told_number, told_no_nil, there, known_type}
+
+not_both : true ≡ false → ⊥
+not_both e = cc
 
 module _ (p : Program) (begins : RowsStay basic_rows p.types) (text : List ℕ) where
   parameters : (names : List Name) (ps : List Formal) → Each (λ a. IsThere p.types a.of) ps → Each (λ a. IsType p a.of) (map (parameter_of text) (zip names ps))
@@ -50,9 +54,10 @@ module _ (p : Program) (begins : RowsStay basic_rows p.types) (text : List ℕ) 
       subst (λ (o : Option TypeId). is_scalar (row_of p.types (id_of (type_of o))) ≡ true) (sym one.is)
       (subst (λ (u : TypeId). is_scalar (row_of p.types u) ≡ true) (sym (number_is one.type (told_number p.types one.type one.told))) one.scalar)
 
-  pub procedure : (q : Procedure) (s : Signature) (scope : Scope) (b : Stats) → IsHeading p.types q s scope →
-      AreStatements p (Some (procedure_of text q s scope.variables b)) b → IsProcedure p (procedure_of text q s scope.variables b)
-  procedure q s scope b heading typed =
+  -- of a type, or of the module
+  pub procedure : (of : Option ℕ) (q : Procedure) (s : Signature) (scope : Scope) (b : Stats) → IsHeading p.types q s scope →
+      AreStatements p (Some (record (procedure_of text q s scope.variables b) { of = of })) b → IsProcedure p (record (procedure_of text q s scope.variables b) { of = of })
+  procedure of q s scope b heading typed =
       let names = formal_names q.formals in
       let ps = map (parameter_of text) (zip names s.parameters) in
       let vs = map (variable_of text) (zip (single_variables q.decls) (drop (length names) scope.variables)) in
@@ -74,13 +79,13 @@ module _ (p : Program) (begins : RowsStay basic_rows p.types) (text : List ℕ) 
   abbrev pub HaveHeadings : List Scope → ℕ → List Procedure → List Signature → Type 0
   HaveHeadings scopes k qs ss = (j : ℕ) (q : Procedure) → slice_get qs j ≡ Some q → Has scopes k ss j q
 
-  -- the bodies of procedures, each in its own
-  abbrev pub AreBodies : List Scope → ℕ → List Procedure → List Signature → List Stats → Type 0
-  AreBodies scopes k [] ss bs = Unit {0}
-  AreBodies scopes k (q ∷ qs) [] bs = Unit {0}
-  AreBodies scopes k (q ∷ qs) (s ∷ ss) [] = Unit {0}
-  AreBodies scopes k (q ∷ qs) (s ∷ ss) (b ∷ bs) =
-      AreStatements p (Some (procedure_of text q s (variables_of (slice_get scopes k)) b)) b × AreBodies scopes (suc k) qs ss bs
+  -- the bodies of procedures, or of the methods of a type, each in its own
+  abbrev pub AreBodies : (of : Option ℕ) → List Scope → ℕ → List Procedure → List Signature → List Stats → Type 0
+  AreBodies of scopes k [] ss bs = Unit {0}
+  AreBodies of scopes k (q ∷ qs) [] bs = Unit {0}
+  AreBodies of scopes k (q ∷ qs) (s ∷ ss) [] = Unit {0}
+  AreBodies of scopes k (q ∷ qs) (s ∷ ss) (b ∷ bs) =
+      AreStatements p (Some (record (procedure_of text q s (variables_of (slice_get scopes k)) b) { of = of })) b × AreBodies of scopes (suc k) qs ss bs
 
   no_more : (k : ℕ) → k ≡ k + 0
   no_more k = omega arith
@@ -101,7 +106,7 @@ module _ (p : Program) (begins : RowsStay basic_rows p.types) (text : List ℕ) 
       }
 
   pub procedures_typed : (scopes : List Scope) (k : ℕ) (qs : List Procedure) (ss : List Signature) (bs : List Stats) → HaveHeadings scopes k qs ss →
-      AreBodies scopes k qs ss bs → Each (λ x. IsProcedure p x × (x.of ≡ None)) (procedures_of text scopes k qs ss bs)
+      AreBodies None scopes k qs ss bs → Each (λ x. IsProcedure p x × (x.of ≡ None)) (procedures_of text scopes k qs ss bs)
   procedures_typed scopes k [] ss bs headings typed = tt
   procedures_typed scopes k (q ∷ qs) [] bs headings typed = tt
   procedures_typed scopes k (q ∷ qs) (s ∷ ss) [] headings typed = tt
@@ -112,10 +117,26 @@ module _ (p : Program) (begins : RowsStay basic_rows p.types) (text : List ℕ) 
       subst (λ (z : Signature). IsHeading p.types q z one.scope) (sym (same_Some s one.signature one.signature_is)) one.heading in (
         (
           subst (λ (o : Option Scope). IsProcedure p (procedure_of text q s (variables_of o) b)) (sym here)
-              (procedure q s one.scope b heading (subst (λ (o : Option Scope). AreStatements p (Some (procedure_of text q s (variables_of o) b)) b) here typed.0)),
+              (procedure None q s one.scope b heading (subst (λ (o : Option Scope). AreStatements p (Some (procedure_of text q s (variables_of o) b)) b) here typed.0)),
           refl,
         ),
         procedures_typed scopes (suc k) qs ss bs (others scopes k q qs s ss headings) typed.1,
+      )
+
+  -- the methods of a type
+  pub methods_typed : (of : Option ℕ) (scopes : List Scope) (k : ℕ) (qs : List Procedure) (ss : List Signature) (bs : List Stats) → HaveHeadings scopes k qs ss →
+      AreBodies of scopes k qs ss bs → Each (λ x. IsProcedure p (record x { of = of })) (procedures_of text scopes k qs ss bs)
+  methods_typed of scopes k [] ss bs headings typed = tt
+  methods_typed of scopes k (q ∷ qs) [] bs headings typed = tt
+  methods_typed of scopes k (q ∷ qs) (s ∷ ss) [] headings typed = tt
+  methods_typed of scopes k (q ∷ qs) (s ∷ ss) (b ∷ bs) headings typed =
+      let one = headings 0 q refl in
+      let here : slice_get scopes k ≡ Some one.scope = ap (slice_get scopes) (no_more k) ∙ one.scope_is in
+      let heading : IsHeading p.types q s one.scope =
+      subst (λ (z : Signature). IsHeading p.types q z one.scope) (sym (same_Some s one.signature one.signature_is)) one.heading in (
+        subst (λ (o : Option Scope). IsProcedure p (record (procedure_of text q s (variables_of o) b) { of = of })) (sym here)
+            (procedure of q s one.scope b heading (subst (λ (o : Option Scope). AreStatements p (Some (record (procedure_of text q s (variables_of o) b) { of = of })) b) here typed.0)),
+        methods_typed of scopes (suc k) qs ss bs (others scopes k q qs s ss headings) typed.1,
       )
 
 -- Signatures, and the procedures of the typed program that have them.
@@ -127,9 +148,11 @@ AreFormals types (x ∷ xs) as' =
     (a : Parameter) × (rest : List Parameter) × (t : TypeId) × (as' ≡ a ∷ rest) × (x.of ≡ Some t) × (a.of ≡ type_as t)
     × (a.by_reference ≡ x.by_reference) × IsThere types (Some t) × AreFormals types xs rest
 
+-- a function's type is no open array
 pub record IsSignature (types : List TypeRow) (s : Signature) (q : TypedProcedure) : Type 0 where
   pub parameters : AreFormals types s.parameters q.parameters
   pub result : IsResultOf s.gives q.result
+  pub closed : (t : TypeId) → s.gives ≡ gives.Value (Some t) → (t.0 < length types) × (is_open (row_of types t) ≡ false)
 
 formals_are : (types : List TypeRow) (text : List ℕ) (names : List Name) (ps : List Formal) → length ps ≡ length names → Each (λ a. IsThere types a.of) ps →
     AreFormals types ps (map (parameter_of text) (zip names ps))
@@ -152,7 +175,25 @@ pub heading_signature : (types : List TypeRow) (text : List ℕ) (q : Procedure)
 heading_signature types text q s scope variables b heading = record {
   parameters = formals_are types text (formal_names q.formals) s.parameters heading.few heading.parameters;
   result = result_is types s.gives heading.result;
+  closed = λ t value.
+      let one = heading.result (Some t) value in
+      let same : one.type ≡ t = same_Some one.type t (sym one.is) in
+      let scalar = ap (λ (u : TypeId). is_scalar (row_of types u)) (sym same) ∙ one.scalar in
+      scalar_row t (row_of types t) refl scalar;
 }
+  where
+    scalar_row : (t : TypeId) (r : Option TypeRow) → row_of types t ≡ r → is_scalar r ≡ true → (t.0 < length types) × (is_open (row_of types t) ≡ false)
+    scalar_row t None there is = absurd (not_both (sym is))
+    scalar_row t (Some (row.Open u)) there is = absurd (not_both (sym is))
+    scalar_row t (Some (row.Basic b)) there is = (slice_get_within types t.0 (row.Basic b) there, ap is_open there)
+    scalar_row t (Some (row.Pointer u)) there is = (slice_get_within types t.0 (row.Pointer u) there, ap is_open there)
+    scalar_row t (Some (row.Object base fs)) there is = (slice_get_within types t.0 (row.Object base fs) there, ap is_open there)
+    scalar_row t (Some (row.Procedure fs r)) there is = (slice_get_within types t.0 (row.Procedure fs r) there, ap is_open there)
+    scalar_row t (Some row.Any) there is = (slice_get_within types t.0 row.Any there, ap is_open there)
+    scalar_row t r there is = absurd (not_both (sym is))
+
+pub signature_with : (of : Option ℕ) (types : List TypeRow) (s : Signature) (q : TypedProcedure) → IsSignature types s q → IsSignature types s (record q { of = of })
+signature_with of types s q is = record { parameters = is.parameters; result = is.result; closed = is.closed }
 
 -- the parameter with a number
 pub formal_at : (types : List TypeRow) (xs : List Formal) (as' : List Parameter) → AreFormals types xs as' → (k : ℕ) (x : Formal) → slice_get xs k ≡ Some x →
@@ -189,24 +230,37 @@ signed e s q is = record { parameters = parameters s.parameters q.parameters is.
         (are.0, are.1, are.2, are.3, are.4, are.5, are.6, parameter_type e are.2 are.7.0 are.7.1, parameters xs are.1 are.8)
 
 -- and where the table goes on
-pub signature_on : (ts us : List TypeRow) → length ts ≤ length us → (s : Signature) (q : TypedProcedure) → IsSignature ts s q → IsSignature us s q
-signature_on ts us longer s q is = record { parameters = formals_on s.parameters q.parameters is.parameters; result = is.result }
+pub signature_on : (ts us : List TypeRow) → RowsStay ts us → (s : Signature) (q : TypedProcedure) → IsSignature ts s q → IsSignature us s q
+signature_on ts us stay s q is = record {
+  parameters = formals_on s.parameters q.parameters is.parameters;
+  result = is.result;
+  closed = λ t value. let one = is.closed t value in (there_stays ts us stay t.0 one.0, closed_stays ts us stay t.0 one.0 one.1);
+}
   where
+    longer : length ts ≤ length us
+    longer = more_rows ts us stay
+
     formals_on : (xs : List Formal) (as' : List Parameter) → AreFormals ts xs as' → AreFormals us xs as'
     formals_on [] as' are = are
     formals_on (x ∷ xs) as' are =
-        (are.0, are.1, are.2, are.3, are.4, are.5, are.6, (let below = are.7.0 in omega (arith, below, longer), are.7.1), formals_on xs are.1 are.8)
+        (are.0, are.1, are.2, are.3, are.4, are.5, are.6, (let below = are.7.0 in let l = longer in omega (arith, below, l), are.7.1), formals_on xs are.1 are.8)
 
--- the procedures of a module have its signatures, one for each
+-- the procedures of a module have its first signatures, one for each
+pub procedures_long : (text : List ℕ) (scopes : List Scope) (k : ℕ) (qs : List Procedure) (ss : List Signature) (bs : List Stats) → length bs ≡ length qs → length qs ≤ length ss →
+    length (procedures_of text scopes k qs ss bs) ≡ length qs
+procedures_long text scopes k [] ss bs long few = refl
+procedures_long text scopes k (q ∷ qs) [] bs long few = absurd (omega (arith, few))
+procedures_long text scopes k (q ∷ qs) (s ∷ ss) [] long few = absurd (omega (arith, long))
+procedures_long text scopes k (q ∷ qs) (s ∷ ss) (b ∷ bs) long few = ap suc (procedures_long text scopes (suc k) qs ss bs (omega (arith, long)) (omega (arith, few)))
+
 pub signatures_are : (types : List TypeRow) (text : List ℕ) (scopes : List Scope) (k : ℕ) (qs : List Procedure) (ss : List Signature) (bs : List Stats) → length bs ≡ length qs →
     ((j : ℕ) (q : Procedure) (s : Signature) → slice_get qs j ≡ Some q → slice_get ss j ≡ Some s → (scope : Scope) × IsHeading types q s scope) →
-    length ss ≡ length qs → (j : ℕ) (s : Signature) → slice_get ss j ≡ Some s →
+    (j : ℕ) (s : Signature) → j < length qs → slice_get ss j ≡ Some s →
     (x : TypedProcedure) × (slice_get (procedures_of text scopes k qs ss bs) j ≡ Some x) × IsSignature types s x
-signatures_are types text scopes k [] [] bs long headings count j s is = absurd (none-some s is)
-signatures_are types text scopes k [] (z ∷ ss) bs long headings count j s is = absurd (omega (arith, count))
-signatures_are types text scopes k (q ∷ qs) [] bs long headings count j s is = absurd (none-some s is)
-signatures_are types text scopes k (q ∷ qs) (z ∷ ss) [] long headings count j s is = absurd (omega (arith, long))
-signatures_are types text scopes k (q ∷ qs) (z ∷ ss) (b ∷ bs) long headings count zero s is =
+signatures_are types text scopes k [] ss bs long headings j s less is = absurd (omega (arith, less))
+signatures_are types text scopes k (q ∷ qs) [] bs long headings j s less is = absurd (none-some s is)
+signatures_are types text scopes k (q ∷ qs) (z ∷ ss) [] long headings j s less is = absurd (omega (arith, long))
+signatures_are types text scopes k (q ∷ qs) (z ∷ ss) (b ∷ bs) long headings zero s less is =
     let same = same_Some z s is in
     let one = headings 0 q z refl refl in (
       procedure_of text q z (variables_of (slice_get scopes k)) b,
@@ -214,8 +268,8 @@ signatures_are types text scopes k (q ∷ qs) (z ∷ ss) (b ∷ bs) long heading
       subst (λ (y : Signature). IsSignature types y (procedure_of text q z (variables_of (slice_get scopes k)) b)) same
           (heading_signature types text q z one.0 (variables_of (slice_get scopes k)) b one.1),
     )
-signatures_are types text scopes k (q ∷ qs) (z ∷ ss) (b ∷ bs) long headings count (suc j) s is =
-    signatures_are types text scopes (suc k) qs ss bs (omega (arith, long)) (λ i r y at there. headings (suc i) r y at there) (omega (arith, count)) j s is
+signatures_are types text scopes k (q ∷ qs) (z ∷ ss) (b ∷ bs) long headings (suc j) s less is =
+    signatures_are types text scopes (suc k) qs ss bs (omega (arith, long)) (λ i r y at there. headings (suc i) r y at there) j s (omega (arith, less)) is
 
 -- With more modules, and more rows behind those that are there.
 

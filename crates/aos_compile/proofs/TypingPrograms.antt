@@ -1,5 +1,5 @@
 -- A program with more modules and more objects: what is well typed stays so.
-use Rattle.std.proofs.Common.{◌≡◌, ℕ, zero, suc, ◌<◌, ◌≤◌, ◌⊎◌, inl, inr, List, [], ◌∷◌, ◌++◌, length, map, fold, true, All, Option, Some, None, option_map, option_and_then, slice_get, refl, sym, ap, ◌∙◌, subst, length-append, arith}
+use Rattle.std.proofs.Common.{◌≡◌, ◌+◌, ℕ, zero, suc, ◌<◌, ◌≤◌, ◌⊎◌, inl, inr, List, [], ◌∷◌, ◌++◌, length, true, All, Option, Some, None, option_map, option_and_then, slice_get, refl, sym, ap, ◌∙◌, subst, length-append, arith}
 use Rattle.std.proofs.lemmas.List.Elements.{All-head, All-tail}
 use Rattle.std.proofs.lemmas.Option.{none-some, same_Some, slice_get_within}
 use Rattle.aos_base.specs.declared.operator.Binary.{Binary as BinaryOperator}
@@ -17,11 +17,13 @@ use Rattle.aos_typed.specs.Meaning.{changed_type}
 use Rattle.aos_typed.specs.Routines.{result_of}
 use Rattle.aos_typed.specs.Program.{Place, ModuleVar, Local, Passed, Field, Index, Of, Deref, Typed, Guarded, Rows, Known, Opened, Row, Spread, Longer, Arguments, NoMore, Scalar, Whole, Opening, Callee, Plain, Dispatched, Upper, Expr, Lit, SelfRef, Read, Unary, Binary, And, Or, Element, Ord, Chr, CompareTexts, Len, LenBehind, Function, Same, Is, IsRecord, Guard, Had, Call, Open, Char, Int, String, Ln, Stat, Assign, Copy, PutText, If, Case, While, Repeat, Loop, Exit, For, Block, Assert, Halt, Change, Perform, Return, New, Make, With, WithRecord, Out, Stats, Nothing, Then, Arms, Otherwise, Arm, Cases, NoElse, Else, OfLabels, Parameter, Procedure, Module, ObjectType, Program}
 use Rattle.aos_typed.specs.Open.{open_dimensions, open_element}
-use Rattle.aos_typed.specs.Methods.{put_at, methods_in, own_methods, base_type, on_base, slots_by, slot_of, own_procedures, method_in}
+use Rattle.aos_typed.specs.Methods.{method_in}
 use Rattle.aos_typed.specs.WellTyped.{variable_type, procedure_in, field_type, target, is_reference, is_value, is_whole, Fits, amount_type, Takes, IsArrayOf, IsConstantText, IsOpening, IsByReference, IsByValue, IsParameter, NamesType, IsGiven, IsPlaceOf, IsObjectAt, AreRows, AreArguments, IsCalled, IsOf, AreObjects, AreLengthsOf, IsCall, IsReturn, IsStatement, AreStatements, AreArms, AreCases, IsType}
+use Rattle.aos_symbols.proofs.Each.{Each}
 use Rattle.aos_symbols.proofs.Told.{get_front}
 use Rattle.aos_check_expr.proofs.Opens.{OpensFall, stand_fall, dimensions_stay, element_stays}
 use Rattle.aos_check_decl.proofs.Typing.{AreReady}
+use Rattle.aos_compile.proofs.MethodsGrow.{method_stays, each_method}
 use Rattle.aos_compile.proofs.TypingTables.{TargetsThere, targets_there, comes_stays, field_stays, target_stays, target_there, reference_stays, value_stays, fits_stays}
 use Rattle.aos_compile.proofs.TypingTypes.{RowsStay, fact_stays, closed_stays}
 
@@ -29,14 +31,14 @@ use Rattle.aos_compile.proofs.TypingTypes.{RowsStay, fact_stays, closed_stays}
 abbrev pub HaveTypes : Program → List Parameter → Type 0
 HaveTypes p as' = All (λ a. IsType p a.of) as'
 
--- each module, each row and each object type has its number, none of these has methods, and both tables are those of modules that
--- break no rule
+-- each module, each row, each object type and each method in its slot has its number, and both tables are those of modules that break no
+-- rule
 pub record Grows (p q : Program) : Type 0 where
   pub modules : (m : ℕ) (x : Module) → slice_get p.modules m ≡ Some x → slice_get q.modules m ≡ Some x
   pub rows : RowsStay p.types q.types
   pub objects : length p.objects ≤ length q.objects
   pub stand : (t : ℕ) (o : ObjectType) → slice_get p.objects t ≡ Some o → slice_get q.objects t ≡ Some o
-  pub bare : (t : ℕ) (o : ObjectType) → slice_get p.objects t ≡ Some o → o.methods ≡ []
+  pub methods : (t k : ℕ) (x : Procedure) → method_in p t k ≡ Some x → (method_in q t k ≡ Some x) × HaveTypes p x.parameters
   pub parameters : (m k : ℕ) (x : Procedure) → procedure_in p m k ≡ Some x → HaveTypes p x.parameters
   pub old : AreReady p.types
   pub new : AreReady q.types
@@ -59,27 +61,6 @@ takes_more Meet A B C D f g h = (f _ h.0, g _ h.1)
 takes_more Xor A B C D f g h = (f _ h.0, g _ h.1)
 takes_more SetSpan A B C D f g h = (f _ h.0, g _ h.1)
 takes_more In A B C D f g h = (f _ h.0, g _ h.1)
-
--- where no type has methods there is none in a slot
-module _ (p : Program) (bare : (t : ℕ) (o : ObjectType) → slice_get p.objects t ≡ Some o → o.methods ≡ []) where
-  no_own : (t : ℕ) → own_methods p t ≡ []
-  no_own t = by (slice_get p.objects t) refl
-    where
-      by : (o : Option ObjectType) → slice_get p.objects t ≡ o → methods_in o ≡ []
-      by None is = refl
-      by (Some o) is = bare t o is
-
-  no_slots : (n t : ℕ) → slots_by p (own_procedures p) n t ≡ []
-  no_slots zero t = refl
-  no_slots (suc n) t =
-      ap (λ ms. fold put_at (on_base (slots_by p (own_procedures p) n) (base_type p t)) (map slot_of ms)) (no_own t) ∙ by (base_type p t) (no_slots n)
-    where
-      by : (b : Option ℕ) → ((u : ℕ) → slots_by p (own_procedures p) n u ≡ []) → on_base (slots_by p (own_procedures p) n) b ≡ []
-      by None none = refl
-      by (Some u) none = none u
-
-  no_method : (t k : ℕ) (x : Procedure) → method_in p t k ≡ Some x → ⊥
-  no_method t k x is = none-some x (ap (λ xs. slice_get xs k) (sym (no_slots (length p.objects) t)) ∙ is)
 
 either_grows : {A B C D : Type 0} → (A → C) → (B → D) → A ⊎ B → C ⊎ D
 either_grows f g (inl a) = inl (f a)
@@ -237,11 +218,6 @@ module _ (p q : Program) (grows : Grows p q) where
         inr (inl (closed_stays p.types q.types grows.rows (id_of a.of).0 there h.0, h.1, names_grow x u h.2, comes_grow (id_of u) (id_of a.of) h.3))
     given_grows a x u there (inr (inr h)) = inr (inr (value_parameter a a.of there h.0, whole_grows a.of h.1, comes_grow (id_of u) (id_of a.of) h.2))
 
-    called_grows : (c : Callee) (x : Procedure) → IsCalled p own c x → IsCalled q own c x × HaveTypes p x.parameters
-    called_grows (Plain m k) x h = (procedure_grows m k x h, grows.parameters m k x h)
-    called_grows (Dispatched e t k) x h = absurd (no_method p grows.bare t k x h.2)
-    called_grows (Upper t k) x h = absurd (no_method p grows.bare t k x h.3)
-
     mutual
       place_grows : (x : Place) (t : TType) → IsPlaceOf p own x t → IsPlaceOf q own x t
       place_grows (ModuleVar m k) t h = variable_grows m k t h
@@ -297,6 +273,14 @@ module _ (p q : Program) (grows : Grows p q) where
       arguments_grow (Opening r more) as' all h =
           let one = first_there as' h.0 h.1 h.4 all in
           (h.0, h.1, h.2, h.3, h.4, opening_grows h.0 h.2 h.3 one.0 h.5, rows_grow r h.2 h.3 h.6, h.7, arguments_grow more h.1 one.1 h.8)
+
+      called_grows : (c : Callee) (x : Procedure) → IsCalled p own c x → IsCalled q own c x × HaveTypes p x.parameters
+      called_grows (Plain m k) x h = (procedure_grows m k x h, grows.parameters m k x h)
+      called_grows (Dispatched e t k) x h =
+          let one = grows.methods t k x h.2 in
+          ((value_grows e (Named t) h.0, fact_stays p.types q.types grows.rows is_object refl (id_of (Named t)).0 h.1, one.0), one.1)
+      called_grows (Upper t k) x h =
+          let one = grows.methods t k x h.3 in ((h.0, h.1, comes_grow (id_of (Named h.0)) (id_of (Named t)) h.2, one.0), one.1)
 
       value_grows : (e : Expr) (t : TType) → IsOf p own e t → IsOf q own e t
       value_grows (Lit l) t (inl h) = inl h
@@ -400,17 +384,23 @@ module _ (p q : Program) (grows : Grows p q) where
   body_grows ss h = statements_grow None (λ x is. absurd (no_type is)) ss h
 
 -- more modules, more rows and more objects behind those of a program
-pub grown : (ms ns : List Module) (ts us : List TypeRow) (os qs : List ObjectType) → RowsStay ts us → AreReady ts → AreReady us →
+pub grown : (ms ns : List Module) (ts us : List TypeRow) (os qs : List ObjectType) → RowsStay ts us → AreReady ts → AreReady us → length ts ≡ 10 + length os → length us ≡ 10 + length (os ++ qs) →
     ((m k : ℕ) (x : Procedure) → procedure_in (record { modules = ms; types = ts; objects = os }) m k ≡ Some x → HaveTypes (record { modules = ms; types = ts; objects = os }) x.parameters) →
-    ((t : ℕ) (o : ObjectType) → slice_get os t ≡ Some o → o.methods ≡ []) →
+    ((t : ℕ) (o : ObjectType) → slice_get os t ≡ Some o → Each (λ m. HaveTypes (record { modules = ms; types = ts; objects = os }) m.procedure.parameters) o.methods) →
     Grows (record { modules = ms; types = ts; objects = os }) (record { modules = ms ++ ns; types = us; objects = os ++ qs })
-grown ms ns ts us os qs stay old new parameters bare = record {
-  modules = get_front ms ns;
-  rows = stay;
-  objects = omega (arith, length-append os qs);
-  stand = get_front os qs;
-  bare = bare;
-  parameters = parameters;
-  old = old;
-  new = new;
-}
+grown ms ns ts us os qs stay old new long long_on parameters own =
+    let p : Program = record { modules = ms; types = ts; objects = os } in
+    let q : Program = record { modules = ms ++ ns; types = us; objects = os ++ qs } in
+    record {
+      modules = get_front ms ns;
+      rows = stay;
+      objects = omega (arith, length-append os qs);
+      stand = get_front os qs;
+      methods = λ t k x is. (
+        method_stays p q old new long long_on stay (get_front os qs) t k x is,
+        each_method (λ x. HaveTypes p x.parameters) p own t k x is,
+      );
+      parameters = parameters;
+      old = old;
+      new = new;
+    }

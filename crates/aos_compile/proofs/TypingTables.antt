@@ -136,7 +136,7 @@ module _ (ts us : List TypeRow) (stay : RowsStay ts us) where
             ∙ ap₂ (λ x y. x || on_both (same_by m us) (element_of y) (element_of (row_of ts b))) (one_stays a b first second) (sym (stay a.0 first))
             ∙ ap (λ y. are_one us a b || on_both (same_by m us) (element_of (row_of us a)) (element_of y)) (sym (stay b.0 second))
 
-    same_stays : (a b : TypeId) → a.0 < length ts → b.0 < length ts → same ts a b ≡ same us a b
+    pub same_stays : (a b : TypeId) → a.0 < length ts → b.0 < length ts → same ts a b ≡ same us a b
     same_stays a b first second =
         let more = longer ts us stay in same_more (length ts) (length us) a b (omega (arith, first)) (omega (arith, first, more)) first second
 

@@ -1,7 +1,7 @@
 -- Modules in load order, each in three passes of which the first that breaks a rule refuses: names; constants, types and
 -- headings; bodies.
-use Rattle.std.specs.Prelude.{ℕ, suc, List, [], ◌∷◌, ◌++◌, length, map, drop, true, false, Option, Some, None, slice_get}
-use Rattle.std.specs.List.{zip, flat_map}
+use Rattle.std.specs.Prelude.{ℕ, suc, ◌+◌, List, [], ◌∷◌, ◌++◌, length, map, drop, Bool, true, false, Option, Some, None, is_some, option_map, option_and_then, slice_get}
+use Rattle.std.specs.List.{zip}
 use Rattle.std.specs.Str.Lossy.{utf8_lossy}
 use Rattle.aos_base.specs.declared.text.Pos.{Pos}
 use Rattle.aos_tree.specs.declared.name.Name.{Name}
@@ -13,25 +13,24 @@ use Rattle.aos_tree.specs.declared.decl.TypeExpr.TheVariants as type
 use Rattle.aos_tree.specs.declared.module.Module.{Module as Tree}
 use Rattle.aos_types.specs.declared.row.TypeId.{TypeId}
 use Rattle.aos_types.specs.declared.row.TypeRow.{TypeRow}
-use Rattle.aos_types.specs.Table.{row_of, is_object}
 use Rattle.aos_typed.specs.declared.tree.TType.{TType}
-use Rattle.aos_typed.specs.declared.tree.TType.TheVariants.{Named}
-use Rattle.aos_typed.specs.Numbers.{id_of}
-use Rattle.aos_typed.specs.Program.{Stat, Stats, Nothing, Variable, Parameter, Procedure as TypedProcedure, ObjectType, Module, Program}
+use Rattle.aos_typed.specs.Program.{Stat, Stats, Nothing, Variable, Parameter, Procedure as TypedProcedure, Method, ObjectType, Module, Program}
 use Rattle.aos_symbols.specs.declared.home.Parameter.{Parameter as Formal}
 use Rattle.aos_symbols.specs.declared.home.Gives.{Gives}
 use Rattle.aos_symbols.specs.declared.home.Gives.TheVariants as gives
 use Rattle.aos_symbols.specs.declared.home.Signature.{Signature}
+use Rattle.aos_symbols.specs.declared.home.ObjectScope.{ObjectScope}
 use Rattle.aos_symbols.specs.declared.env.Env.{Env}
 use Rattle.aos_symbols.specs.Judged.{Judged, judged, kept, bind, walk}
 use Rattle.aos_symbols.specs.Outcome.{Outcome, went, then, passed}
 use Rattle.aos_symbols.specs.Spelling.{word}
-use Rattle.aos_symbols.specs.Declarations.{Procedure, procedures, type_defs, single_variables, formal_names}
+use Rattle.aos_symbols.specs.Declarations.{Procedure, procedures, methods_in, all_procedures, type_defs, local_types, single_variables, formal_names}
 use Rattle.aos_symbols.specs.Scope.{Scope}
-use Rattle.aos_symbols.specs.Home.{Home, texts_of}
+use Rattle.aos_symbols.specs.Home.{Home, slot_at, texts_of}
 use Rattle.aos_symbols.specs.Names.{name_breaches}
 use Rattle.aos_symbols.specs.Env as env
 use Rattle.aos_check_expr.specs.Known.{type_of}
+use Rattle.aos_check_decl.specs.Methods.{defined_type}
 use Rattle.aos_check_decl.specs.Pass.{declare}
 use Rattle.aos_check_stat.specs.Bodies.{listed, body_of}
 
@@ -56,69 +55,30 @@ abbrev pub object_body : TypeExpr → Option Block
 object_body (type.Object' p base shape row body end) = body
 object_body t = None
 
--- What a module says beside its types: a name, and the statements of a body. First stand those that the module's own declarations
--- define, each in whose scope its body stands; then those of its procedures, and those that are written elsewhere.
+-- What a module says beside its types: a name, whether there is a body and its statements, and the methods, each with its slot. First
+-- stand those that the module's own declarations define; then those of its procedures and methods, and those that are written elsewhere.
 
 pub record Beside : Type 0 where
   pub name : List ℕ
+  pub has_body : Bool
   pub body : Stats
+  pub methods : List Method
 
-abbrev pub object_in : Env → List Beside → TypeDef → Judged (List Beside)
-object_in e os d =
-    bind (body_of (env.within e (suc (length os))) true (object_body d.value)) (λ ss.
-    kept (os ++ record { name = spelling e.here.text d.def.name; body = listed ss } ∷ []))
-
+-- a type that isn't an object type with a name
 abbrev pub local_type : Env → TypeDef → Beside
-local_type e d = record { name = spelling e.here.text d.def.name; body = Nothing }
+local_type e d = record { name = spelling e.here.text d.def.name; has_body = false; body = Nothing; methods = [] }
 
 abbrev pub unnamed_type : Pos → Beside
-unnamed_type at = record { name = []; body = Nothing }
+unnamed_type at = record { name = []; has_body = false; body = Nothing; methods = [] }
 
 abbrev pub other_types : Env → Tree → List Beside
-other_types e m =
-    map (local_type e) (flat_map (λ p. type_defs p.decls) (procedures m.decls)) ++ map unnamed_type e.places
+other_types e m = map (local_type e) (local_types (all_procedures m.decls)) ++ map unnamed_type e.places
 
 -- The bodies of procedures, whose scopes have the numbers from k on, behind those before them.
 abbrev pub bodies_from : Env → ℕ → List Stats → List Procedure → Judged (List Stats)
 bodies_from e k done [] = kept done
 bodies_from e k done (p ∷ ps) =
     bind (body_of (env.within e k) false p.body) (λ ss. bodies_from e (suc k) (done ++ listed ss ∷ []) ps)
-
--- the scope of a module's first procedure
-abbrev pub first_scope : Tree → ℕ
-first_scope m = suc (length (type_defs m.decls))
-
--- The types of a program have their numbers in load order. The objects of each object type carry out its body, which is that of a
--- procedure with nothing of its own.
-
-abbrev pub body_beside : (type : ℕ) → Stats → TypedProcedure
-body_beside k body = record { name = []; of = Some k; parameters = []; locals = []; result = None; body = body }
-
-abbrev pub object_of : Env → (type : ℕ) → Beside → ObjectType
-object_of e k x =
-    record {
-      name = x.name;
-      home = e.number;
-      has_body = is_object (row_of e.types (id_of (Named k)));
-      body = body_beside k x.body;
-      methods = [];
-    }
-
--- the first of these types has the number k
-abbrev pub objects_from : Env → ℕ → List Beside → List ObjectType
-objects_from e k [] = []
-objects_from e k (x ∷ xs) = object_of e k x ∷ objects_from e (suc k) xs
-
-pub record Bodies : Type 0 where
-  pub objects : List Beside
-  pub procedures : List Stats
-  pub own : List Stat
-
-abbrev pub bodies : Env → Tree → Judged Bodies
-bodies e m =
-    bind (walk (object_in e) [] (type_defs m.decls)) (λ os.
-    bind (bodies_from e (first_scope m) [] (procedures m.decls)) (λ ps.
-    bind (body_of e false m.body) (λ ss. kept (record { objects = os ++ other_types e m; procedures = ps; own = ss }))))
 
 abbrev pub variables_of : Option Scope → List (Option TypeId)
 variables_of None = []
@@ -155,6 +115,78 @@ procedures_of text scopes k (p ∷ ps) [] bs = []
 procedures_of text scopes k (p ∷ ps) (s ∷ ss) [] = []
 procedures_of text scopes k (p ∷ ps) (s ∷ ss) (b ∷ bs) =
     procedure_of text p s (variables_of (slice_get scopes k)) b ∷ procedures_of text scopes (suc k) ps ss bs
+
+-- Object types: their bodies and methods stand within them.
+
+-- the object type that a definition defines
+abbrev pub defined_object : Env → TypeDef → Option (TypeId × ObjectScope)
+defined_object e d = option_and_then (λ t. option_map (λ o. (t, o)) (env.object e t)) (defined_type e d)
+
+-- procedures with the slots of the methods that an object type declares, of which the first has the number k
+abbrev pub slotted : Home → ObjectScope → ℕ → List TypedProcedure → List Method
+slotted h o k [] = []
+slotted h o k (q ∷ qs) = record { slot = slot_at h o k; procedure = q } ∷ slotted h o (suc k) qs
+
+-- its methods, which have these statements; the scope of the first procedure of the module has this number
+abbrev pub methods_of : Env → (first : ℕ) → ObjectScope → List Procedure → List Stats → List Method
+methods_of e first o ps bs =
+    slotted e.here o 0 (procedures_of e.here.text e.here.scopes (first + o.methods) ps (drop o.methods e.here.signatures) bs)
+
+abbrev pub beside_in : Env → (first : ℕ) → TypeDef → Option (TypeId × ObjectScope) → Judged Beside
+beside_in e first d None = kept (local_type e d)
+beside_in e first d (Some x) =
+    let f = env.within_object e x.0 in
+    bind (body_of f true (object_body d.value)) (λ ss.
+    bind (bodies_from f (first + x.1.methods) [] (methods_in d)) (λ bs.
+    kept (record {
+      name = spelling e.here.text d.def.name;
+      has_body = is_some (object_body d.value);
+      body = listed ss;
+      methods = methods_of e first x.1 (methods_in d) bs;
+    })))
+
+abbrev pub object_in : Env → (first : ℕ) → List Beside → TypeDef → Judged (List Beside)
+object_in e first xs d = bind (beside_in e first d (defined_object e d)) (λ x. kept (xs ++ x ∷ []))
+
+-- the scope of a module's first procedure
+abbrev pub first_scope : Tree → ℕ
+first_scope m = suc (length (type_defs m.decls))
+
+-- The types of a program have their numbers in load order. The objects of each object type carry out its body, which is that of a
+-- procedure with nothing of its own.
+
+abbrev pub body_beside : (type : ℕ) → Stats → TypedProcedure
+body_beside k body = record { name = []; of = Some k; parameters = []; locals = []; result = None; body = body }
+
+-- its methods are called on its objects
+abbrev pub method_beside : (type : ℕ) → Method → Method
+method_beside k m = record m { procedure = record m.procedure { of = Some k } }
+
+abbrev pub object_of : Env → (type : ℕ) → Beside → ObjectType
+object_of e k x =
+    record {
+      name = x.name;
+      home = e.number;
+      has_body = x.has_body;
+      body = body_beside k x.body;
+      methods = map (method_beside k) x.methods;
+    }
+
+-- the first of these types has the number k
+abbrev pub objects_from : Env → ℕ → List Beside → List ObjectType
+objects_from e k [] = []
+objects_from e k (x ∷ xs) = object_of e k x ∷ objects_from e (suc k) xs
+
+pub record Bodies : Type 0 where
+  pub objects : List Beside
+  pub procedures : List Stats
+  pub own : List Stat
+
+abbrev pub bodies : Env → Tree → Judged Bodies
+bodies e m =
+    bind (walk (object_in e (first_scope m)) [] (type_defs m.decls)) (λ os.
+    bind (bodies_from e (first_scope m) [] (procedures m.decls)) (λ ps.
+    bind (body_of e false m.body) (λ ss. kept (record { objects = os ++ other_types e m; procedures = ps; own = ss }))))
 
 abbrev pub module_of : Env → Tree → Bodies → Module
 module_of e m b =

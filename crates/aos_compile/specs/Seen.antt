@@ -1,7 +1,7 @@
 -- What the code's modules are seen as.
 use Rattle.std.specs.Prelude.{map}
 use Rattle.std.specs.String.{string_bytes}
-use Rattle.aos_typed.specs.Seen.{seen_stat, seen_stats, seen_module, seen_object}
+use Rattle.aos_typed.specs.Seen.{seen_stat, seen_stats, seen_method, seen_module, seen_object}
 use Rattle.aos_compile.specs.declared.modules.World.{World as CodeWorld}
 use Rattle.aos_compile.specs.declared.objects.Beside.{Beside as CodeBeside}
 use Rattle.aos_compile.specs.declared.objects.Bodies.{Bodies as CodeBodies}
@@ -17,7 +17,13 @@ seen_world w =
     }
 
 abbrev pub seen_beside : CodeBeside → Beside
-seen_beside x = record { name = string_bytes x.name; body = seen_stats x.body.items }
+seen_beside x =
+    record {
+      name = string_bytes x.name;
+      has_body = x.has_body;
+      body = seen_stats x.body.items;
+      methods = map seen_method x.methods.items;
+    }
 
 abbrev pub seen_bodies : CodeBodies → Bodies
 seen_bodies b =

@@ -2,10 +2,7 @@
 
 ghost use Rattle.std.specs.Prelude.{◌≡◌, ◌≤◌, ◌^◌, ◌+◌, ◌++◌, [], None, length, map, IfOk, IfErr, OnOk};
 ghost use Rattle.aos_types.specs.declared.row.TypeRow.TheVariants as row;
-ghost use Rattle.aos_types.specs.Table.{row_of, is_object};
-ghost use Rattle.aos_typed.specs.declared.tree.TType.TheVariants.{Named};
-ghost use Rattle.aos_typed.specs.Numbers.{id_of};
-ghost use Rattle.aos_typed.specs.Seen.{seen_stat, seen_stats, seen_module, seen_object, seen_procedure, seen_program};
+ghost use Rattle.aos_typed.specs.Seen.{seen_stat, seen_stats, seen_method, seen_module, seen_object, seen_procedure, seen_program};
 ghost use Rattle.aos_symbols.specs.Breaches.{first};
 ghost use Rattle.aos_symbols.specs.Judged.{judged};
 ghost use Rattle.aos_symbols.specs.Outcome.{went, refused, passed, refusal_of};
@@ -17,20 +14,17 @@ ghost use Rattle.aos_compile.specs.Modules as judge;
 ghost use Rattle.aos_compile.specs.Seen.{seen_world, seen_beside, seen_bodies};
 
 use crate::compile_err::CompileErr;
-use crate::objects::{Beside, Bodies, bodies_of, spelling_of};
-use crate::procedures::procedures_of;
+use crate::objects::{Beside, Bodies, bodies_of, number_behind, spelling_of};
+use crate::procedures::{count_types, procedures_of};
 use crate::texts::texts_of;
 use crate::variables::variables_of;
 use aos_base::{NoMemory, Refusal};
 use aos_check_decl::declare;
 use aos_symbols::{Breach, Env, Home, check_names};
 use aos_tree::{Items, Module};
-use aos_typed::{Program, TModule, TObject, TProcedure, TStat};
-use aos_types::{Basic, TypeId, TypeRow, Types};
+use aos_typed::{Program, TMethod, TModule, TObject, TProcedure, TStat};
+use aos_types::{Basic, TypeRow, Types};
 use std::alloc::{AllocError, Global};
-
-/// How many types are predeclared; they stand first in the table.
-const PREDECLARED_TYPES: u32 = 10;
 
 /// The basic types, in the order of their numbers; ANY and the type of string constants stand behind them.
 const BASIC_TYPES: [Basic; 8] = [
@@ -163,9 +157,11 @@ fn module_of(
     })) }
 {
     let name = spelling_of(alloc, env.here.text(), tree.name)?;
-    let variables = variables_of(alloc, env, tree.decls.as_slice())?;
+    let decls = tree.decls.as_slice();
+    let variables = variables_of(alloc, env, decls)?;
     let texts = texts_of(alloc, &env.here)?;
-    let procedures = procedures_of(alloc, env, tree.decls.as_slice(), bodies)?;
+    let first = number_behind(count_types(decls)?)?;
+    let procedures = procedures_of(alloc, env, first, 0, decls, bodies)?;
     Ok(TModule {
         name,
         variables,
@@ -173,16 +169,6 @@ fn module_of(
         procedures,
         body,
     })
-}
-
-/// Whether the type with a number in the program is an object type.
-fn is_object_type(env: &Env<'_>, number: u32) -> Result<bool, AllocError>
-    ensures { IfOk result (λ b. b ≡ is_object (row_of env.now.types (id_of (Named number)))) }
-{
-    match number.checked_add(PREDECLARED_TYPES) {
-        Some(id) => Ok(matches!(env.row(Some(TypeId(id))), Some(TypeRow::Object(_, _)))),
-        None => Err(AllocError),
-    }
 }
 
 /// The body beside the type with a number in the program.
@@ -199,6 +185,33 @@ fn body_beside(alloc: Global, number: u32, body: Vec<TStat>) -> TProcedure
     }
 }
 
+/// A method of the type with a number in the program.
+fn method_beside(number: u32, method: TMethod) -> TMethod
+    ensures { seen_method result ≡ judge.method_beside number (seen_method method) }
+{
+    let TMethod {
+        slot,
+        mut procedure,
+    } = method;
+    procedure.of = Some(number);
+    TMethod { slot, procedure }
+}
+
+fn methods_beside(
+    alloc: Global,
+    number: u32,
+    methods: Vec<TMethod>,
+) -> Result<Vec<TMethod>, AllocError>
+    ensures { IfOk result (λ ms. map seen_method ms.items ≡
+        map (judge.method_beside number) (map seen_method methods.items)) }
+{
+    let mut all = Vec::new(alloc);
+    for method in methods {
+        all.push(method_beside(number, method))?;
+    }
+    Ok(all)
+}
+
 /// What stands beside the type with a number in the program.
 fn object_of(
     alloc: Global,
@@ -209,13 +222,18 @@ fn object_of(
     ensures { IfOk result
         (λ o. seen_object o ≡ judge.object_of env.now number (seen_beside beside)) }
 {
-    let Beside { name, body } = beside;
+    let Beside {
+        name,
+        has_body,
+        body,
+        methods,
+    } = beside;
     Ok(TObject {
         name,
         home: env.number,
-        has_body: is_object_type(env, number)?,
+        has_body,
         body: body_beside(alloc, number, body),
-        methods: Vec::new(alloc),
+        methods: methods_beside(alloc, number, methods)?,
     })
 }
 

@@ -1,29 +1,36 @@
-// The third pass over a module: the bodies of its object types, and its own.
+// The third pass over a module: the bodies of its object types and their methods, those of its procedures, and its own.
 
-ghost use Rattle.std.specs.Prelude.{◌≡◌, ◌++◌, suc, [], true, false, OnOk, IfOk, map};
-ghost use Rattle.std.specs.List.{flat_map};
+ghost use Rattle.std.specs.Prelude.{◌≡◌, ◌+◌, ◌++◌, suc, [], Some, true, false, is_some, length, OnOk, IfOk, map};
 ghost use Rattle.std.specs.String.{string_bytes};
-ghost use Rattle.aos_typed.specs.Seen.{seen_stat, seen_stats};
+ghost use Rattle.aos_typed.specs.Seen.{seen_stat, seen_stats, seen_method, seen_procedure};
 ghost use Rattle.aos_symbols.specs.Breaches.{first_after};
 ghost use Rattle.aos_symbols.specs.Judged.{walk};
-ghost use Rattle.aos_symbols.specs.Declarations.{types_in, type_defs, procedures};
+ghost use Rattle.aos_symbols.specs.Declarations.{type_defs, procedures, methods_in, all_procedures as procedures_of_all, local_types as types_of_procedures, seen_procedures, seen_types};
 ghost use Rattle.aos_symbols.specs.Env as env_of;
-ghost use Rattle.aos_check_stat.specs.Bodies.{body_of as body_of_env};
+ghost use Rattle.aos_check_stat.specs.Bodies.{body_of as body_of_env, listed};
 ghost use Rattle.aos_compile.specs.Modules as judge;
 ghost use Rattle.aos_compile.specs.Seen.{seen_beside, seen_bodies};
 
+use crate::procedures::{count_types, procedures_of};
 use aos_base::Pos;
+use aos_check_decl::defined_type;
 use aos_check_stat::body_of;
-use aos_symbols::{Breach, Env, word};
-use aos_tree::{Block, Decl, Module, Name, TypeDef, TypeExpr};
-use aos_typed::TStat;
+use aos_symbols::{
+    Breach, Env, Home, ObjectScope, all_procedures, inner_decls, type_definitions, word,
+};
+use aos_tree::{Block, Decl, Module, Name, Proc, TypeDef, TypeExpr};
+use aos_typed::{TMethod, TProcedure, TStat};
+use aos_types::TypeId;
 use std::alloc::{AllocError, Global};
 
-/// What a module says beside one of its types: its name, which is empty where it has none, and the statements of its body.
+/// What a module says beside one of its types: its name, which is empty where it has none, whether it has a body and the statements
+/// of that, and its methods.
 #[derive(Drop)]
 pub struct Beside {
     pub name: String,
+    pub has_body: bool,
     pub body: Vec<TStat>,
+    pub methods: Vec<TMethod>,
 }
 
 /// The bodies of a module, as the typed program has them: what stands beside its types, the statements of its procedures, and
@@ -52,33 +59,13 @@ fn statements_of(
     ensures noted { OnOk result (found.new ≡
         first_after found.old (body_of_env env.old true (judge.object_body of.now)).breaches) }
     ensures answer { IfOk result (λ ss.
-        map seen_stat ss.items ≡ (body_of_env env.old true (judge.object_body of.now)).answer) }
+        seen_stats ss.items ≡ listed (body_of_env env.old true (judge.object_body of.now)).answer) }
     ensures env { OnOk result (env.new ≡ env.old) }
 {
     match of {
         TypeExpr::Object(_, _, _, body, _) => body_of(alloc, found, env, true, body),
         _ => Ok(Vec::new(alloc)),
     }
-}
-
-/// The statements of the body of a type, in the scope with a number.
-fn inner_statements(
-    alloc: Global,
-    found: &mut Option<Breach>,
-    env: &mut Env<'_>,
-    scope: u32,
-    of: &TypeExpr,
-) -> Result<Vec<TStat>, AllocError>
-    ensures noted { OnOk result (found.new ≡ first_after found.old
-        (body_of_env (env_of.within env.old scope) true (judge.object_body of.now)).breaches) }
-    ensures answer { IfOk result (λ ss. map seen_stat ss.items ≡
-        (body_of_env (env_of.within env.old scope) true (judge.object_body of.now)).answer) }
-    ensures env { OnOk result (env.new ≡ env.old) }
-{
-    let outer = env.enter(alloc, scope)?;
-    let statements = statements_of(alloc, found, env, of)?;
-    env.path = outer;
-    Ok(statements)
 }
 
 /// The number behind another one.
@@ -91,180 +78,14 @@ pub fn number_behind(number: u32) -> Result<u32, AllocError>
     }
 }
 
-/// The number of the scope behind so many types.
-fn scope_behind(types: usize) -> Result<u32, AllocError>
-    ensures { IfOk result (λ n. n ≡ suc types) }
+/// The number behind so many others.
+fn number_at(number: u32, behind: u32) -> Result<u32, AllocError>
+    ensures { IfOk result (λ n. n ≡ number + behind) }
 {
-    let Ok(number) = u32::try_from(types) else {
-        return Err(AllocError);
-    };
-    number_behind(number)
-}
-
-/// The object type of a definition, behind those before it.
-#[tactic(auto, using(aos_symbols::proofs::Keeping::after_more, crate::proofs::Passes::within_seen))]
-fn add_object(
-    alloc: Global,
-    found: &mut Option<Breach>,
-    env: &mut Env<'_>,
-    objects: &mut Vec<Beside>,
-    def: &TypeDef,
-) -> Result<(), AllocError>
-    ensures noted { OnOk result (found.new ≡ first_after found.old
-        (judge.object_in env.old (map seen_beside objects.old.items) def.now).breaches) }
-    ensures answer { OnOk result (map seen_beside objects.new.items ≡
-        (judge.object_in env.old (map seen_beside objects.old.items) def.now).answer) }
-    ensures env { OnOk result (env.new ≡ env.old) }
-{
-    let scope = scope_behind(objects.len())?;
-    let body = inner_statements(alloc, found, env, scope, &def.value)?;
-    let name = spelling_of(alloc, env.here.text(), def.def.name)?;
-    objects.push(Beside { name, body })?;
-    Ok(())
-}
-
-#[tactic(auto, using(aos_symbols::proofs::Keeping::after_more, aos_symbols::proofs::Steps::walk_step, aos_symbols::proofs::Steps::walk_end))]
-fn add_objects(
-    alloc: Global,
-    found: &mut Option<Breach>,
-    env: &mut Env<'_>,
-    objects: &mut Vec<Beside>,
-    defs: &[TypeDef],
-) -> Result<(), AllocError>
-    ensures noted { OnOk result (found.new ≡ first_after found.old
-        (walk (judge.object_in env.old) (map seen_beside objects.old.items) defs.now).breaches) }
-    ensures answer { OnOk result (map seen_beside objects.new.items ≡
-        (walk (judge.object_in env.old) (map seen_beside objects.old.items) defs.now).answer) }
-    ensures env { OnOk result (env.new ≡ env.old) }
-{
-    for def in defs {
-        add_object(alloc, found, env, objects, def)?;
+    match number.checked_add(behind) {
+        Some(at) => Ok(at),
+        None => Err(AllocError),
     }
-    Ok(())
-}
-
-fn add_objects_in(
-    alloc: Global,
-    found: &mut Option<Breach>,
-    env: &mut Env<'_>,
-    objects: &mut Vec<Beside>,
-    decl: &Decl,
-) -> Result<(), AllocError>
-    ensures noted { OnOk result (found.new ≡ first_after found.old (walk (judge.object_in env.old)
-        (map seen_beside objects.old.items) (types_in decl.now)).breaches) }
-    ensures answer { OnOk result (map seen_beside objects.new.items ≡ (walk
-        (judge.object_in env.old) (map seen_beside objects.old.items) (types_in decl.now)).answer) }
-    ensures env { OnOk result (env.new ≡ env.old) }
-{
-    match decl {
-        Decl::Types(_, defs) => add_objects(alloc, found, env, objects, defs.as_slice()),
-        _ => Ok(()),
-    }
-}
-
-/// The object types that declarations define.
-#[tactic(auto, using(aos_symbols::proofs::Keeping::after_more, crate::proofs::Passes::types_step, crate::proofs::Passes::types_end))]
-fn objects_of(
-    alloc: Global,
-    found: &mut Option<Breach>,
-    env: &mut Env<'_>,
-    decls: &[Decl],
-) -> Result<Vec<Beside>, AllocError>
-    ensures noted { OnOk result (found.new ≡ first_after found.old
-        (walk (judge.object_in env.old) [] (type_defs decls.now)).breaches) }
-    ensures answer { IfOk result (λ os. map seen_beside os.items ≡
-        (walk (judge.object_in env.old) [] (type_defs decls.now)).answer) }
-    ensures env { OnOk result (env.new ≡ env.old) }
-{
-    let mut objects = Vec::new(alloc);
-    for decl in decls {
-        add_objects_in(alloc, found, env, &mut objects, decl)?;
-    }
-    Ok(objects)
-}
-
-/// Types that a procedure defines: none of them is an object type.
-fn add_local_types(
-    alloc: Global,
-    env: &Env<'_>,
-    objects: &mut Vec<Beside>,
-    defs: &[TypeDef],
-) -> Result<(), AllocError>
-    ensures { OnOk result (map seen_beside objects.new.items ≡
-        map seen_beside objects.old.items ++ map (judge.local_type env.now) defs.now) }
-{
-    for def in defs {
-        let name = spelling_of(alloc, env.here.text(), def.def.name)?;
-        objects.push(Beside {
-            name,
-            body: Vec::new(alloc),
-        })?;
-    }
-    Ok(())
-}
-
-/// The types that the declarations of a procedure define.
-fn add_types_of(
-    alloc: Global,
-    env: &Env<'_>,
-    objects: &mut Vec<Beside>,
-    decls: &[Decl],
-) -> Result<(), AllocError>
-    ensures { OnOk result (map seen_beside objects.new.items ≡
-        map seen_beside objects.old.items ++ map (judge.local_type env.now) (type_defs decls.now)) }
-{
-    for decl in decls {
-        if let Decl::Types(_, defs) = decl {
-            add_local_types(alloc, env, objects, defs.as_slice())?;
-        }
-    }
-    Ok(())
-}
-
-/// The types that the procedures among declarations define.
-fn add_types_of_procedures(
-    alloc: Global,
-    env: &Env<'_>,
-    objects: &mut Vec<Beside>,
-    decls: &[Decl],
-) -> Result<(), AllocError>
-    ensures { OnOk result (map seen_beside objects.new.items ≡ map seen_beside objects.old.items
-        ++ map (judge.local_type env.now) (flat_map (λ p. type_defs p.decls) (procedures decls.now))) }
-{
-    for decl in decls {
-        if let Decl::Proc(proc) = decl {
-            add_types_of(alloc, env, objects, proc.decls.as_slice())?;
-        }
-    }
-    Ok(())
-}
-
-/// Types that are written elsewhere, at these places: they have no name.
-fn add_unnamed(alloc: Global, objects: &mut Vec<Beside>, places: &[Pos]) -> Result<(), AllocError>
-    ensures { OnOk result (map seen_beside objects.new.items ≡
-        map seen_beside objects.old.items ++ map judge.unnamed_type places.now) }
-{
-    for _place in places {
-        objects.push(Beside {
-            name: String::new(alloc),
-            body: Vec::new(alloc),
-        })?;
-    }
-    Ok(())
-}
-
-/// Puts what stands beside types that procedures define, and beside those that are written elsewhere, behind the others.
-fn add_others(
-    alloc: Global,
-    env: &Env<'_>,
-    objects: &mut Vec<Beside>,
-    tree: &Module,
-) -> Result<(), AllocError>
-    ensures { OnOk result (map seen_beside objects.new.items ≡
-        map seen_beside objects.old.items ++ judge.other_types env.now tree.now) }
-{
-    add_types_of_procedures(alloc, env, objects, tree.decls.as_slice())?;
-    add_unnamed(alloc, objects, env.places.as_slice())
 }
 
 /// The statements of a procedure's body, in the scope with a number.
@@ -313,6 +134,254 @@ fn procedure_bodies(
     Ok(bodies)
 }
 
+/// The statements of the body of a definition's object type, and those of its methods, of which the first has the scope with this
+/// number.
+#[tactic(auto, using(aos_symbols::proofs::Keeping::after_more))]
+fn bodies_within(
+    alloc: Global,
+    found: &mut Option<Breach>,
+    env: &mut Env<'_>,
+    of: TypeId,
+    scope: u32,
+    def: &TypeDef,
+) -> Result<(Vec<TStat>, Vec<Vec<TStat>>), AllocError>
+    ensures noted { OnOk result (found.new ≡ first_after found.old
+        ((body_of_env (env_of.within_object env.old of) true (judge.object_body def.now.value)).breaches
+        ++ (judge.bodies_from (env_of.within_object env.old of) scope [] (methods_in def.now)).breaches)) }
+    ensures body { IfOk result (λ r. seen_stats r.0.items ≡ listed
+        (body_of_env (env_of.within_object env.old of) true (judge.object_body def.now.value)).answer) }
+    ensures methods { IfOk result (λ r. map (λ ss. seen_stats ss.items) r.1.items ≡
+        (judge.bodies_from (env_of.within_object env.old of) scope [] (methods_in def.now)).answer) }
+    ensures env { OnOk result (env.new ≡ env.old) }
+{
+    let self_type = env.self_type;
+    let outer = env.enter_object(alloc, of)?;
+    let body = statements_of(alloc, found, env, &def.value)?;
+    let methods = procedure_bodies(alloc, found, env, scope, inner_decls(&def.value))?;
+    env.path = outer;
+    env.self_type = self_type;
+    Ok((body, methods))
+}
+
+/// Procedures as the methods that an object type declares, in their order.
+fn slotted(
+    alloc: Global,
+    home: &Home<'_>,
+    object: ObjectScope,
+    procedures: Vec<TProcedure>,
+) -> Result<Vec<TMethod>, AllocError>
+    ensures { IfOk result (λ ms. map seen_method ms.items ≡
+        judge.slotted home.now object 0 (map seen_procedure procedures.items)) }
+{
+    let mut all = Vec::new(alloc);
+    let mut number = 0;
+    for procedure in procedures {
+        let slot = home.slot(object, number);
+        all.push(TMethod { slot, procedure })?;
+        number = number_behind(number)?;
+    }
+    Ok(all)
+}
+
+/// The methods that an object type declares, which have these statements.
+fn methods_of(
+    alloc: Global,
+    env: &Env<'_>,
+    first: u32,
+    object: ObjectScope,
+    decls: &[Decl],
+    bodies: Vec<Vec<TStat>>,
+) -> Result<Vec<TMethod>, AllocError>
+    ensures { IfOk result (λ ms. map seen_method ms.items ≡ judge.methods_of env.now first object
+        (procedures decls.now) (map (λ ss. seen_stats ss.items) bodies.items)) }
+{
+    let scope = number_at(first, object.methods)?;
+    let procedures = procedures_of(alloc, env, scope, object.methods, decls, bodies)?;
+    slotted(alloc, &env.here, object, procedures)
+}
+
+/// Whether a type has a body.
+fn has_body(of: &TypeExpr) -> bool
+    ensures { result ≡ is_some (judge.object_body of.now) }
+{
+    match of {
+        TypeExpr::Object(_, _, _, body, _) => body.is_some(),
+        _ => false,
+    }
+}
+
+/// What stands beside the object type that a definition defines.
+fn object_beside(
+    alloc: Global,
+    found: &mut Option<Breach>,
+    env: &mut Env<'_>,
+    first: u32,
+    def: &TypeDef,
+    of: TypeId,
+    object: ObjectScope,
+) -> Result<Beside, AllocError>
+    ensures noted { OnOk result (found.new ≡ first_after found.old
+        (judge.beside_in env.old first def.now (Some (of, object))).breaches) }
+    ensures answer { IfOk result (λ x. seen_beside x ≡
+        (judge.beside_in env.old first def.now (Some (of, object))).answer) }
+    ensures env { OnOk result (env.new ≡ env.old) }
+{
+    let scope = number_at(first, object.methods)?;
+    let (body, bodies) = bodies_within(alloc, found, env, of, scope, def)?;
+    let name = spelling_of(alloc, env.here.text(), def.def.name)?;
+    let methods = methods_of(alloc, env, first, object, inner_decls(&def.value), bodies)?;
+    Ok(Beside {
+        name,
+        has_body: has_body(&def.value),
+        body,
+        methods,
+    })
+}
+
+/// What stands beside a type that isn't an object type with a name.
+fn local_type(alloc: Global, env: &Env<'_>, def: &TypeDef) -> Result<Beside, AllocError>
+    ensures { IfOk result (λ x. seen_beside x ≡ judge.local_type env.now def.now) }
+{
+    Ok(Beside {
+        name: spelling_of(alloc, env.here.text(), def.def.name)?,
+        has_body: false,
+        body: Vec::new(alloc),
+        methods: Vec::new(alloc),
+    })
+}
+
+/// The object type that a definition defines.
+fn defined_object(env: &Env<'_>, def: &TypeDef) -> Option<(TypeId, ObjectScope)>
+    ensures { result ≡ judge.defined_object env.now def.now }
+{
+    let of = defined_type(env, def)?;
+    let object = env.object(of)?;
+    Some((of, object))
+}
+
+/// What stands beside the type of a definition.
+fn beside_in(
+    alloc: Global,
+    found: &mut Option<Breach>,
+    env: &mut Env<'_>,
+    first: u32,
+    def: &TypeDef,
+) -> Result<Beside, AllocError>
+    ensures noted { OnOk result (found.new ≡ first_after found.old
+        (judge.beside_in env.old first def.now (judge.defined_object env.old def.now)).breaches) }
+    ensures answer { IfOk result (λ x. seen_beside x ≡
+        (judge.beside_in env.old first def.now (judge.defined_object env.old def.now)).answer) }
+    ensures env { OnOk result (env.new ≡ env.old) }
+{
+    match defined_object(env, def) {
+        Some((of, object)) => object_beside(alloc, found, env, first, def, of, object),
+        None => local_type(alloc, env, def),
+    }
+}
+
+/// What stands beside the types of definitions.
+#[tactic(auto, using(aos_symbols::proofs::Keeping::after_more))]
+fn objects_of(
+    alloc: Global,
+    found: &mut Option<Breach>,
+    env: &mut Env<'_>,
+    first: u32,
+    defs: &[&TypeDef],
+) -> Result<Vec<Beside>, AllocError>
+    ensures noted { OnOk result (found.new ≡ first_after found.old
+        (walk (judge.object_in env.old first) [] (seen_types defs.now)).breaches) }
+    ensures answer { IfOk result (λ os. map seen_beside os.items ≡
+        (walk (judge.object_in env.old first) [] (seen_types defs.now)).answer) }
+    ensures env { OnOk result (env.new ≡ env.old) }
+{
+    let mut objects = Vec::new(alloc);
+    for def in defs {
+        objects.push(beside_in(alloc, found, env, first, def)?)?;
+    }
+    Ok(objects)
+}
+
+/// Types that a procedure defines: none of them is an object type.
+fn add_local_types(
+    alloc: Global,
+    env: &Env<'_>,
+    objects: &mut Vec<Beside>,
+    defs: &[TypeDef],
+) -> Result<(), AllocError>
+    ensures { OnOk result (map seen_beside objects.new.items ≡
+        map seen_beside objects.old.items ++ map (judge.local_type env.now) defs.now) }
+{
+    for def in defs {
+        objects.push(local_type(alloc, env, def)?)?;
+    }
+    Ok(())
+}
+
+/// The types that the declarations of a procedure define.
+fn add_types_of(
+    alloc: Global,
+    env: &Env<'_>,
+    objects: &mut Vec<Beside>,
+    decls: &[Decl],
+) -> Result<(), AllocError>
+    ensures { OnOk result (map seen_beside objects.new.items ≡
+        map seen_beside objects.old.items ++ map (judge.local_type env.now) (type_defs decls.now)) }
+{
+    for decl in decls {
+        if let Decl::Types(_, defs) = decl {
+            add_local_types(alloc, env, objects, defs.as_slice())?;
+        }
+    }
+    Ok(())
+}
+
+/// The types that procedures and methods define.
+fn add_types_of_procedures(
+    alloc: Global,
+    env: &Env<'_>,
+    objects: &mut Vec<Beside>,
+    procs: &[&Proc],
+) -> Result<(), AllocError>
+    ensures { OnOk result (map seen_beside objects.new.items ≡ map seen_beside objects.old.items
+        ++ map (judge.local_type env.now) (types_of_procedures (seen_procedures procs.now))) }
+{
+    for proc in procs {
+        add_types_of(alloc, env, objects, proc.decls.as_slice())?;
+    }
+    Ok(())
+}
+
+/// Types that are written elsewhere, at these places: they have no name.
+fn add_unnamed(alloc: Global, objects: &mut Vec<Beside>, places: &[Pos]) -> Result<(), AllocError>
+    ensures { OnOk result (map seen_beside objects.new.items ≡
+        map seen_beside objects.old.items ++ map judge.unnamed_type places.now) }
+{
+    for _place in places {
+        objects.push(Beside {
+            name: String::new(alloc),
+            has_body: false,
+            body: Vec::new(alloc),
+            methods: Vec::new(alloc),
+        })?;
+    }
+    Ok(())
+}
+
+/// Puts what stands beside types that procedures and methods define, and beside those that are written elsewhere, behind the others.
+fn add_others(
+    alloc: Global,
+    env: &Env<'_>,
+    objects: &mut Vec<Beside>,
+    tree: &Module,
+) -> Result<(), AllocError>
+    ensures { OnOk result (map seen_beside objects.new.items ≡
+        map seen_beside objects.old.items ++ judge.other_types env.now tree.now) }
+{
+    let procs = all_procedures(alloc, tree.decls.as_slice())?;
+    add_types_of_procedures(alloc, env, objects, &procs)?;
+    add_unnamed(alloc, objects, env.places.as_slice())
+}
+
 /// The bodies of a module, in which names stand for what the environment says.
 #[tactic(auto, using(aos_symbols::proofs::Keeping::after_more))]
 pub fn bodies_of(
@@ -327,8 +396,9 @@ pub fn bodies_of(
     ensures env { OnOk result (env.new ≡ env.old) }
 {
     let decls = tree.decls.as_slice();
-    let mut objects = objects_of(alloc, found, env, decls)?;
-    let first = scope_behind(objects.len())?;
+    let first = number_behind(count_types(decls)?)?;
+    let defs = type_definitions(alloc, decls)?;
+    let mut objects = objects_of(alloc, found, env, first, &defs)?;
     let procedures = procedure_bodies(alloc, found, env, first, decls)?;
     let own = body_of(alloc, found, env, false, &tree.body)?;
     add_others(alloc, env, &mut objects, tree)?;

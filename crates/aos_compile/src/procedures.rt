@@ -138,7 +138,7 @@ fn procedure_of(
 }
 
 /// How many types declarations define.
-fn count_types(decls: &[Decl]) -> Result<u32, AllocError>
+pub fn count_types(decls: &[Decl]) -> Result<u32, AllocError>
     ensures { IfOk result (λ n. n ≡ length (type_defs decls.now)) }
 {
     let mut count: u32 = 0;
@@ -156,22 +156,24 @@ fn count_types(decls: &[Decl]) -> Result<u32, AllocError>
     Ok(count)
 }
 
-/// The procedures of a module, whose statements these are.
+/// Procedures, whose statements these are; the first has the scope and the signature with these numbers.
 pub fn procedures_of(
     alloc: Global,
     env: &Env<'_>,
+    first: u32,
+    signed: u32,
     decls: &[Decl],
     bodies: Vec<Vec<TStat>>,
 ) -> Result<Vec<TProcedure>, AllocError>
     ensures { IfOk result (λ ps. map seen_procedure ps.items ≡
-        judge.procedures_of env.now.here.text env.now.here.scopes (suc (length (type_defs decls.now)))
-        (procedures decls.now) env.now.here.signatures
+        judge.procedures_of env.now.here.text env.now.here.scopes first
+        (procedures decls.now) (drop signed env.now.here.signatures)
         (map (λ ss. seen_stats ss.items) bodies.items)) }
 {
     let mut all = Vec::new(alloc);
     let mut bodies = bodies.into_iter();
-    let mut scope = number_behind(count_types(decls)?)?;
-    let mut number = 0;
+    let mut scope = first;
+    let mut number = signed;
     for decl in decls {
         if let Decl::Proc(proc) = decl {
             let Some(body) = bodies.next() else {

@@ -1,5 +1,5 @@
 -- A module of the typed program, from its parts.
-use Rattle.std.proofs.Common.{ℕ, slice_get, suc, length, Vec, Global, map, ap, ◌∙◌}
+use Rattle.std.proofs.Common.{◌≡◌, ℕ, slice_get, suc, length, Vec, Global, map, ap, ◌∙◌}
 use Rattle.std.specs.List.{zip}
 use Rattle.aos_typed.specs.declared.tree.TStat.{TStat}
 use Rattle.aos_typed.specs.Seen.{seen_variable, seen_procedure, seen_stats}
@@ -19,9 +19,12 @@ returns c =
     let procs = judge.procedures_of e.here.text e.here.scopes (judge.first_scope tree) (procedures tree.decls) e.here.signatures bodies in
     let name = c.in_ok-name.ensures ∙ ap (λ t. judge.spelling t tree.name) c.text.ensures in
     let declared = c.in_ok-variables.ensures
-    ∙ ap (λ ds. map (judge.variable_of e.here.text) (zip (single_variables ds) (judge.variables_of (slice_get e.here.scopes 0)))) c.as_slice.ensures in
+    ∙ ap (λ ds. map (judge.variable_of e.here.text) (zip (single_variables ds) (judge.variables_of (slice_get e.here.scopes 0)))) c.as_slice-decls.ensures in
+    let first : c.in_ok-first.first ≡ judge.first_scope tree =
+    c.in_ok-first.ensures ∙ ap suc (c.in_ok-count_types.ensures ∙ ap (λ ds. length (type_defs ds)) c.as_slice-decls.ensures) in
     let procedures = c.in_ok-procedures.ensures
-    ∙ ap (λ ds. judge.procedures_of e.here.text e.here.scopes (suc (length (type_defs ds))) (procedures ds) e.here.signatures bodies) c.as_slice-2.ensures in
+    ∙ ap (λ ds. judge.procedures_of e.here.text e.here.scopes c.in_ok-first.first (procedures ds) e.here.signatures bodies) c.as_slice-decls.ensures
+    ∙ ap (λ k. judge.procedures_of e.here.text e.here.scopes k (procedures tree.decls) e.here.signatures bodies) first in
     let body = seen_stats c.args.body.items in
     let told = map seen_procedure c.in_ok-procedures.procedures.items in
     let given = map (λ (t : Vec ℕ Global). t.items) c.in_ok-texts.texts.items in

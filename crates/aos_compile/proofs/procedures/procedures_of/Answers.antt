@@ -10,7 +10,7 @@ use Rattle.aos_typed.specs.Program.{Stats}
 use Rattle.aos_typed.specs.Seen.{seen_stats, seen_procedure}
 use Rattle.aos_compile.specs.Modules as judge
 use Rattle.aos_compile.proofs.InTurn.{whole, procedure_none, procedures_step, signatures_out}
-use Rattle.aos_compile.proofs.procedures.procedures_of.Goals.{in-Proc+in-Some+in-Some-signature+in_ok-procedure_of+in_ok-push+in_ok-scope-2+in_ok-number, in_default}
+use Rattle.aos_compile.proofs.procedures.procedures_of.Goals.{in-Proc+in-Some+in-Some-signature+in_ok-procedure_of+in_ok-push+in_ok-scope+in_ok-number, in_default}
 use Rattle.aos_compile.proofs.procedures.procedures_of.Goals as goal
 
 abbrev Bodies : Type 0
@@ -29,7 +29,7 @@ returns-in_default-signature c =
 
 pub loop-decl-preserved : goal.loop-decl-preserved
 loop-decl-preserved c = elim c.match-decl.branch [
-  | in-Proc+in-Some+in-Some-signature+in_ok-procedure_of+in_ok-push+in_ok-scope-2+in_ok-number w ↦
+  | in-Proc+in-Some+in-Some-signature+in_ok-procedure_of+in_ok-push+in_ok-scope+in_ok-number w ↦
       let here = c.args.env.now.here in
       let was = map seen_procedure c.loop-decl.all.items in
       let a = w.in-Proc.proc in
@@ -49,7 +49,7 @@ loop-decl-preserved c = elim c.match-decl.branch [
         told = procedures_step here.text here.scopes c.args.decls.now c.loop-decl.decl-index c.loop-decl.scope was here.signatures c.loop-decl.number
             (seen c.loop-decl.bodies) c.match-decl.scope c.match-decl.number c.decl-item.result a s (seen_stats b.items)
             (seen c.match-decl.bodies) (seen_procedure p) (map seen_procedure c.match-decl.all.items)
-            c.loop-decl-test.true c.decl-item.is w.in-Proc.is (sym w.in-Some-signature.ensures) body (w.scope-is ∙ w.in_ok-scope-2.ensures) (w.number-is ∙ w.in_ok-number.ensures) told put
+            c.loop-decl-test.true c.decl-item.is w.in-Proc.is (sym w.in-Some-signature.ensures) body (w.scope-is ∙ w.in_ok-scope.ensures) (w.number-is ∙ w.in_ok-number.ensures) told put
             ∙ c.loop-decl.invariant.told;
         left = subst (λ (it : Bodies). into_iter_len it ≡ length (into_iter_items it)) (sym w.bodies-is) fewer;
       }

@@ -1,0 +1,196 @@
+-- The environment of bodies: what is known of it where the modules before and this one break no rule.
+use Rattle.std.proofs.Common.{◌≡◌, ℕ, ◌+◌, ◌<◌, ◌==◌, List, [], ◌∷◌, length, map, Bool, true, false, is_some, if◌then◌else◌, Option, Some, None, option_map, option_and_then, slice_get, refl, sym, ap, ◌∙◌, subst, eqb-true, arith}
+use Rattle.std.proofs.lemmas.Bool.{and_parts}
+use Rattle.std.proofs.lemmas.List.{length-map}
+use Rattle.std.proofs.lemmas.Option.{none-some, same_Some, slice_get-map}
+use Rattle.aos_types.specs.declared.row.TypeId.{TypeId}
+use Rattle.aos_types.specs.Table.{row_of, is_object}
+use Rattle.aos_types.specs.Extension.{comes_to}
+use Rattle.aos_types.proofs.Ranks.{ranked}
+use Rattle.aos_typed.specs.Methods.{methods_of}
+use Rattle.aos_typed.specs.Program.{ModuleVar, Procedure as TypedProcedure, ObjectType, Module}
+use Rattle.aos_typed.specs.Routines.{self_type, result_of}
+use Rattle.aos_typed.specs.WellTyped.{procedure_in, field_type}
+use Rattle.aos_symbols.specs.declared.scope.Entry.{Entry}
+use Rattle.aos_symbols.specs.declared.scope.Meaning.TheVariants as means
+use Rattle.aos_symbols.specs.declared.home.ObjectScope.{ObjectScope}
+use Rattle.aos_symbols.specs.declared.home.Signature.{Signature}
+use Rattle.aos_symbols.specs.declared.env.Open.{Open}
+use Rattle.aos_symbols.specs.declared.env.Method.{Method}
+use Rattle.aos_symbols.specs.declared.env.Env.{Env}
+use Rattle.aos_symbols.specs.Scope.{Scope, find}
+use Rattle.aos_symbols.specs.Home.{Home, object_of, scope_of, fields_of}
+use Rattle.aos_symbols.specs.Env as env
+use Rattle.aos_symbols.specs.Spelling.{word}
+use Rattle.aos_symbols.proofs.Each.{Each, each_at}
+use Rattle.aos_symbols.proofs.Told.{IsTold, IsKnown, FieldsAgree}
+use Rattle.aos_check_expr.specs.Known.{object_number, type_of}
+use Rattle.aos_check_expr.specs.Designators as desig
+use Rattle.aos_check_expr.proofs.Inside.{Inside}
+use Rattle.aos_check_expr.proofs.Opens.{some_there}
+use Rattle.aos_check_expr.proofs.Whole.{IsTyped, closed, IsSigned, IsSearched, HasBody, IsWhole, NarrowsWell, opens_told}
+use Rattle.aos_check_decl.proofs.Typing.{AreGood, AreReady}
+use Rattle.aos_compile.proofs.Slots.{Word}
+use Rattle.aos_compile.proofs.TypingFields.{fields_told, row_with, has_row, parts_of, own_behind, fields_extend, object_fielded}
+use Rattle.aos_compile.proofs.TypingHomes.{IsHome, AreHomes, home_at}
+use Rattle.aos_compile.proofs.TypingMethods.{Meant, bare, meant, IsMeant}
+use Rattle.aos_compile.proofs.TypingProcedures.{IsSignature, signed}
+use Rattle.aos_compile.proofs.TypingTypes.{bases_there}
+
+not_both : true ≡ false → ⊥
+not_both e = cc
+
+-- the place of a body: which scopes are searched there, what is its own, and what SELF is
+pub record IsPlaced (p : Inside) (e : Env) : Type 0 where
+  pub path : Each (IsSearched e) e.path
+  pub locals : (s : Scope) (w : List ℕ) (x : Entry) (k : ℕ) → is_some (env.own_signature e) ≡ true →
+      let o : Open = record { home = e.number; scope = env.innermost e.path } in
+      env.scope e o ≡ Some s → find s w ≡ Some x → x.means ≡ means.Variable k → IsTyped p e (desig.own_place e k) (env.variable_type e o k)
+  pub own : (s : Signature) → env.own_signature e ≡ Some s → (q : TypedProcedure) × (p.own ≡ Some q) × IsSigned e s q
+  pub own_body : env.own_signature e ≡ None → result_of p.own ≡ None
+  pub itself : (t : TypeId) → e.self_type ≡ Some t → (self_type p.own ≡ Some (object_number t)) × (is_object (row_of e.types t) ≡ true)
+
+-- the first of some types for which something is so
+first_is : (test : TypeId → Bool) (ts : List TypeId) (t : TypeId) → env.first_along test ts ≡ Some t → test t ≡ true
+first_is test [] t found = absurd (none-some t found)
+first_is test (u ∷ ts) t found = by (test u) refl found (first_is test ts t)
+  where
+    by : (b : Bool) → test u ≡ b → (if b then Some u else env.first_along test ts) ≡ Some t → (env.first_along test ts ≡ Some t → test t ≡ true) → test t ≡ true
+    by true is found deeper = ap test (sym (same_Some u t found)) ∙ is
+    by false is found deeper = deeper found
+
+module _ (p : Inside) (e : Env) (hs : List Home) (are : AreHomes e.types 0 hs p.program.modules) (at : (m : ℕ) (h : Home) → env.home e m ≡ Some h → slice_get hs m ≡ Some h)
+    (table : AreReady e.types) (here : FieldsAgree e.types e.here) (before : (m : ℕ) (h : Home) → slice_get e.before m ≡ Some h → FieldsAgree e.types h)
+    (none : e.narrowed ≡ []) (rows : p.program.types ≡ e.types) (count : length e.types ≡ 10 + length p.program.objects)
+    (known : (t : TypeId) (o : ObjectScope) → env.object e t ≡ Some o → (h : Home) × (env.home e o.home ≡ Some h) × (object_of h t ≡ Some o))
+    (bodied : (t : TypeId) (o : ObjectScope) → env.object e t ≡ Some o → option_map (λ (z : ObjectType). z.has_body) (slice_get p.program.objects (object_number t)) ≡ Some o.has_body)
+    (called : (t : TypeId) (w : Word) (m : Meant) → is_object (row_of e.types t) ≡ true → meant e t w ≡ Some m →
+    (q : TypedProcedure) × (slice_get (methods_of p.program (object_number t)) m.slot ≡ Some q) × IsMeant e p.program.modules p.program.objects m q)
+    (placed : IsPlaced p e) where
+  home_of : (m : ℕ) (h : Home) → env.home e m ≡ Some h → (x : Module) × (slice_get p.program.modules m ≡ Some x) × IsHome e.types m h x
+  home_of m h there = home_at e.types hs p.program.modules are m h (at m h there)
+
+  counted : (m : ℕ) (h : Home) (x : Module) → env.home e m ≡ Some h → IsHome e.types m h x → length x.variables ≡ env.variable_count e m
+  counted m h x there is =
+      let scoped : env.scope e (env.own m) ≡ Some is.scope = ap (option_and_then (λ (h : Home). slice_get h.scopes 0)) there ∙ is.is in
+      rw scoped (sym (length-map x.variables (λ v. v.of)) ∙ ap length is.typed ∙ length-map is.scope.variables type_of)
+
+  by_signature : (m k : ℕ) (s : Scope) (w : List ℕ) (x : Entry) → env.scope e (env.own m) ≡ Some s → find s w ≡ Some x → x.means ≡ means.Procedure k →
+      (g : Signature) → env.signature e m k ≡ Some g → (q : TypedProcedure) × (procedure_in p.program m k ≡ Some q) × IsSigned e g q
+  by_signature m k s w x there found means g is = by (env.home e m) refl there is
+    where
+      by : (h : Option Home) → env.home e m ≡ h → option_and_then (λ (h : Home). slice_get h.scopes 0) h ≡ Some s → option_and_then (λ (h : Home). slice_get h.signatures k) h ≡ Some g →
+          (q : TypedProcedure) × (procedure_in p.program m k ≡ Some q) × IsSigned e g q
+      by None home there is = absurd (none-some g is)
+      by (Some h) home there is =
+          let one = home_of m h home in
+          let same : one.2.scope ≡ s = same_Some one.2.scope s (sym one.2.is ∙ there) in
+          let below = one.2.called w x k (ap (λ z. find z w) same ∙ found) means in
+          let q = one.2.procedures k g below is in
+          (q.0, ap (option_and_then (λ (x : Module). slice_get x.procedures k)) one.1 ∙ q.1, signed e g q.0 q.2)
+
+  by_scope : (o : Open) (s : Scope) (h : Option Home) → env.home e o.home ≡ h → option_and_then (λ (h : Home). slice_get h.scopes o.scope) h ≡ Some s → AreGood s.constants
+  by_scope o s None home there = absurd (none-some s there)
+  by_scope o s (Some h) home there = (home_of o.home h home).2.good o.scope s there
+
+  by_home : (o : Open) (s : Scope) (w : List ℕ) (x : Entry) (k : ℕ) → o.scope ≡ 0 → find s w ≡ Some x → x.means ≡ means.Variable k → env.scope e o ≡ Some s →
+      (h : Option Home) → env.home e o.home ≡ h → option_and_then (λ (h : Home). slice_get h.scopes o.scope) h ≡ Some s → IsTyped p e (ModuleVar o.home k) (env.variable_type e o k)
+  by_home o s w x k first found means there None home here = absurd (none-some s here)
+  by_home o s w x k first found means there (Some h) home here =
+      let one = home_of o.home h home in
+      let same : one.2.scope ≡ s = same_Some one.2.scope s (sym one.2.is ∙ ap (slice_get h.scopes) (sym first) ∙ here) in
+      let below : k < length s.variables =
+      subst (λ (z : Scope). k < length z.variables) same (one.2.numbers w x k (ap (λ z. find z w) same ∙ found) means) in
+      let of = some_there s.variables k below in
+      let is : env.variable_type e o k ≡ of.0 = ap (λ z. env.joined (option_and_then (λ (s : Scope). slice_get s.variables k) z)) there ∙ ap env.joined of.1 in
+      closed
+      (ap (λ z. option_and_then (λ (x : Module). option_map (λ v. v.of) (slice_get x.variables k)) z) one.1
+      ∙ sym (slice_get-map (λ v. v.of) one.0.variables k)
+      ∙ ap (λ z. slice_get z k) (one.2.typed ∙ ap (λ (z : Scope). map type_of z.variables) same)
+      ∙ slice_get-map type_of s.variables k
+      ∙ ap (option_map type_of) of.1
+      ∙ ap (λ z. Some (type_of z)) (sym is))
+      (subst (IsKnown e.types) (sym is)
+      (each_at (IsKnown e.types) s.variables k of.0 (subst (λ (z : Scope). Each (IsKnown e.types) z.variables) same one.2.known) of.1))
+
+  -- Fields of SELF.
+
+  abbrev IsOwnField : TypeId → TypeId → Open → ℕ → Type 0
+  IsOwnField t b o k = (u : TypeId) × (env.variable_type e o k ≡ Some u) × (field_type e.types t (env.field_number e b k) ≡ Some u) × IsTold e.types u
+
+  own_field : (t b : TypeId) (o : Open) (s : Scope) (w : List ℕ) (x : Entry) (k : ℕ) → comes_to e.types t b ≡ true → env.object_at e o ≡ Some b → env.scope e o ≡ Some s →
+      find s w ≡ Some x → x.means ≡ means.Variable k → IsOwnField t b o k
+  own_field t b o s w x k comes stands there found means = by (env.object e b) refl (standing e.self_type stands)
+    where
+      standing : (u : Option TypeId) → option_and_then (env.declarer e o) u ≡ Some b → env.stands_in o (env.object e b) ≡ true
+      standing None is = absurd (none-some b is)
+      standing (Some u) is = first_is (λ v. env.stands_in o (env.object e v)) (env.chain e.types u) b is
+
+      by : (z : Option ObjectScope) → env.object e b ≡ z → env.stands_in o z ≡ true → IsOwnField t b o k
+      by None object is = absurd (not_both (sym is))
+      by (Some z) object is =
+          let two = and_parts (z.home == o.home) (z.scope == o.scope) is in
+          let home_same = eqb-true z.home o.home two.0 in
+          let scope_same = eqb-true z.scope o.scope two.1 in
+          let h = known b z object in
+          let home : env.home e o.home ≡ Some h.0 = ap (env.home e) (sym home_same) ∙ h.1 in
+          let one = home_of o.home h.0 home in
+          let of = one.2.objects b z h.2 in
+          let high = of.1 in
+          let low = of.2 in
+          let scoped : slice_get h.0.scopes o.scope ≡ Some s = sym (ap (option_and_then (λ (h : Home). slice_get h.scopes o.scope)) home) ∙ there in
+          let below = one.2.inner o.scope s w x k (omega (arith, high, scope_same)) (omega (arith, low, scope_same)) scoped found means in
+          let row = row_with (row_of e.types b) (object_fielded (row_of e.types b) of.4) in
+          let agree = one.2.fields b s
+          (ap (λ c. fields_of c h.0 b) of.4 ∙ ap (scope_of h.0) h.2 ∙ ap (slice_get h.0.scopes) scope_same ∙ scoped) in
+          let variables = agree.1 row.base row.own (has_row e.types b row.kind row.base row.own row.is) in
+          let long : length s.variables ≡ length row.own = ap length variables ∙ length-map row.own (λ (t : TypeId). Some t) in
+          let u = some_there row.own k (omega (arith, below, long)) in
+          let above = ranked e.types table.sound.none_contains_itself in
+          let typed : slice_get s.variables k ≡ Some (Some u.0) =
+          ap (λ vs. slice_get vs k) variables ∙ slice_get-map (λ (t : TypeId). Some t) row.own k ∙ ap (option_map (λ (t : TypeId). Some t)) u.1 in (
+            u.0,
+            ap (λ z. env.joined (option_and_then (λ (s : Scope). slice_get s.variables k) z)) there ∙ ap env.joined typed,
+            fields_extend e.types above table.parts (bases_there e.types table) (length e.types) t b comes (object_fielded (row_of e.types b) of.4) (env.field_number e b k) u.0
+                (own_behind e.types above table.parts (bases_there e.types table) b row k u.0 u.1),
+            each_at (IsTold e.types) row.own k u.0 (parts_of e.types above table.parts (bases_there e.types table) b row).1 u.1,
+          )
+
+  -- Bodies of objects.
+
+  has_body : (t : TypeId) → env.body_of e t ≡ Some t → HasBody p.program (object_number t)
+  has_body t found = by (env.object e t) refl (first_is (λ u. env.is_with_body (env.object e u)) (env.chain e.types t) t found)
+    where
+      by : (o : Option ObjectScope) → env.object e t ≡ o → env.is_with_body o ≡ true → HasBody p.program (object_number t)
+      by None object is = absurd (not_both (sym is))
+      by (Some o) object is = bodied t o object ∙ ap (λ b. Some b) is
+
+  by_method : (t : TypeId) (w : Word) (m : Method) → env.method_named e t w ≡ Some m → is_object (row_of e.types t) ≡ true → (s : Signature) → env.signature e m.home m.number ≡ Some s →
+      (q : TypedProcedure) × (slice_get (methods_of p.program (object_number t)) m.slot ≡ Some q) × IsSigned e s q
+  by_method t w m found object s is =
+      let one = called t w (bare m) object (ap (option_map bare) found) in
+      (one.0, one.1, signed e s one.0 (subst (λ (g : Signature). IsSignature e.types g one.0) (same_Some one.2.signature s (sym one.2.is ∙ is)) one.2.typed))
+
+  pub whole : IsWhole p e
+  whole = record {
+    variables = λ o s w x k first there found means. by_home o s w x k first found means there (env.home e o.home) refl there;
+    constants = λ o s there. by_scope o s (env.home e o.home) refl there;
+    parts = table.parts;
+    fields = fields_told e here before (ranked e.types table.sound.none_contains_itself) table.parts (bases_there e.types table);
+    rows = rows;
+    objects = count;
+    basic = table.basic;
+    written = table.written;
+    opens = opens_told e table.opens;
+    narrows = λ x k at. subst (NarrowsWell e x k (desig.variable e x k at)) (sym none) tt;
+    path = placed.path;
+    locals = placed.locals;
+    own = placed.own;
+    own_body = placed.own_body;
+    itself = placed.itself;
+    own_fields = λ t b o s w x k self comes stands there found means. own_field t b o s w x k comes stands there found means;
+    methods = λ t n m found object s is. by_method t (word e.here.text n) m found object s is;
+    bodies = has_body;
+    signatures = by_signature;
+    strings = λ m h there. let one = home_of m h there in (one.0, one.1, counted m h one.0 there one.2, one.2.texts);
+  }
