@@ -312,7 +312,7 @@ l := LEN(l) => 10: rule 35: argument type
 l := NIL => 3: rule 31: value doesn't fit
 x := \"ab\" => 3: rule 31: value doesn't fit
 x := \"\" => 3: rule 31: value doesn't fit
-l := SELF => 6: rule 99: not built yet";
+l := SELF => 6: rule 46: wrong SELF or ^";
 
 // A declaration, likewise.
 const DECLARATIONS: &str = "\

@@ -10,6 +10,8 @@ mod expressions;
 #[cfg(test)]
 mod modules;
 #[cfg(test)]
+mod objects;
+#[cfg(test)]
 mod pointers;
 #[cfg(test)]
 mod procedures;

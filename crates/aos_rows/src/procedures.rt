@@ -102,7 +102,7 @@ Y(q) => 3: rule 35: argument type
 i := P => 6: rule 99: not built yet
 i := F => 6: rule 99: not built yet
 i := F(1).x => 10: rule 42: wrong selector
-P(1).x => 5: rule 42: wrong selector";
+P(1).x => 1: rule 36: wrong call";
 
 const RETURNS: &str = "\
 PROCEDURE P; BEGIN RETURN 1 END P; BEGIN => 20: rule 40: wrong RETURN
