@@ -25,6 +25,17 @@ feed (v ∷ vs) (Val a) = Traps 0 0
 feed (v ∷ vs) (Asks q f) = feed vs (f v)
 feed (v ∷ vs) (Traps n c) = Traps n c
 
+-- How something is called: a procedure of a module by its name; a method by the type of the object on which it is called; an overridden
+-- method, on SELF; the initializer of an object that is being made; the body of an object by its creator; or what a procedure value
+-- stands for. What is called on an object gets it as its first argument.
+pub data Manner : Type 0 where
+  ByName : Manner
+  ByType : Manner
+  Upward : Manner
+  Initially : Manner
+  ByCreator : Manner
+  ByValue : Manner
+
 -- A piece of work that a frame asks for. P: places; V: values; K: what a scalar is, its type or its kind; C: what is copied, its
 -- shape or how many cells it has. Behind the visible pieces stand those that are answered at once.
 pub data Ask (P V K C : Type 0) : Type 0 where
@@ -33,7 +44,7 @@ pub data Ask (P V K C : Type 0) : Type 0 where
   Copies : C → (from to : P) → Ask P V K C
   PutsText : (strict : Bool) → (from : P) → (length : V) → (to : P) → (room : V) → Ask P V K C
   ComparesTexts : Relation → (left : P) → (length : V) → (right : P) → (other : V) → Ask P V K C
-  Calls : (procedure : ℕ) → (arguments : List V) → Ask P V K C
+  Calls : Manner → (procedure : ℕ) → (arguments : List V) → Ask P V K C
   Ends : (result : Option V) → Ask P V K C  -- the end of the frame, which has no answer
   Makes : (type : ℕ) → (lengths : List V) → Ask P V K C  -- a new object of this type, an open array of these lengths, which is the answer
   Starts : (object : V) → Ask P V K C  -- the activity of an object

@@ -63,7 +63,7 @@ fn parameter_kind(types: &Types, parameter: &TParameter) -> Result<ParamKind, Al
 }
 
 /// What a call hands over for each of these parameters.
-fn parameter_kinds(
+pub fn parameter_kinds(
     alloc: Global,
     types: &Types,
     parameters: &[TParameter],

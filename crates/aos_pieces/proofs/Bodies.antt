@@ -1,6 +1,6 @@
 -- The code of a routine is sound, and so is each body of an image that has a program's code.
 use Rattle.std.proofs.Common.{◌≡◌, ◌≤◌, ℕ, suc, ◌+◌, List, [], length, map, Option, Some, None, refl, sym, ap, ◌∙◌, subst, arith}
-use Rattle.std.specs.Prelude.{slice_get, option_map}
+use Rattle.std.specs.Prelude.{Bool, slice_get, option_map}
 use Rattle.std.proofs.lemmas.Option.{slice_get-map}
 use Rattle.aos_base.specs.Rooted.{by_number}
 use Rattle.aos_code.specs.declared.instr.Instr.TheVariants.{Return, Fail}
@@ -38,14 +38,14 @@ module _ (p : Program) (o : Option Procedure) (image : Image) (own depth : ℕ) 
   end_closed : (at : ℕ) → Closed image own role.Procedure depth (end_code p o) at []
   end_closed at = by o refl
     where
-      of_result : (name : List ℕ) (of : Option ℕ) (parameters : List Parameter) (locals : List Variable) (result : Option TType) (body : Stats) → o ≡ Some (record { name = name; of = of; parameters = parameters; locals = locals; result = result; body = body }) → Closed image own role.Procedure depth (end_code p (Some (record { name = name; of = of; parameters = parameters; locals = locals; result = result; body = body }))) at []
-      of_result name of parameters locals None body e =
+      of_result : (name : List ℕ) (of : Option ℕ) (initial : Bool) (parameters : List Parameter) (locals : List Variable) (result : Option TType) (body : Stats) → o ≡ Some (record { name = name; of = of; is_initializer = initial; parameters = parameters; locals = locals; result = result; body = body }) → Closed image own role.Procedure depth (end_code p (Some (record { name = name; of = of; is_initializer = initial; parameters = parameters; locals = locals; result = result; body = body }))) at []
+      of_result name of initial parameters locals None body e =
           ends image own role.Procedure depth Return at [] [] (finds_nothing (ap (λ x. option_map (λ t. cell_kind p.types (id_of t)) (result_of x)) e)) refl (omega arith) (λ whole q. refl)
-      of_result name of parameters locals (Some t) body e = ends image own role.Procedure depth (Fail 10) at [] [] refl refl (omega arith) (λ whole q. refl)
+      of_result name of initial parameters locals (Some t) body e = ends image own role.Procedure depth (Fail 10) at [] [] refl refl (omega arith) (λ whole q. refl)
 
       by : (x : Option Procedure) → o ≡ x → Closed image own role.Procedure depth (end_code p x) at []
       by None e = ends image own role.Procedure depth Return at [] [] (finds_nothing (ap (λ x. option_map (λ t. cell_kind p.types (id_of t)) (result_of x)) e)) refl (omega arith) (λ whole q. refl)
-      by (Some q) e = of_result q.name q.of q.parameters q.locals q.result q.body e
+      by (Some q) e = of_result q.name q.of q.is_initializer q.parameters q.locals q.result q.body e
 
   -- a routine is sound with room for as many operands as its statements need, where it keeps what they keep
   pub body_sound : (ss : Stats) → keeps_in (numbered image.shapes.items own) ≡ keeps_of ss → AreStatements p o ss → body_need ss ≤ depth → IsSound image own role.Procedure (body_code p o ss) depth

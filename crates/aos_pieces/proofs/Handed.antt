@@ -20,7 +20,7 @@ use Rattle.aos_typed.specs.Open.{open_dimensions}
 use Rattle.aos_typed.specs.Program.{Parameter, Procedure, Place, Rows, Known, Opened, Row, Spread, Longer, Arguments, NoMore, Scalar, Whole, Opening, Program}
 use Rattle.aos_typed.specs.WellTyped.{is_value, is_whole, is_open_parameter, IsGiven, IsOpening, AreRows, AreArguments}
 use Rattle.aos_sim.specs.Code.{kind_of, dimensions}
-use Rattle.aos_sim.specs.Need.{arguments_need}
+use Rattle.aos_sim.specs.Need.{arguments_need, operands}
 use Rattle.aos_sim.proofs.Does.{HasPredeclared}
 use Rattle.aos_sim.proofs.References.{value_scalar}
 use Rattle.aos_pieces.proofs.Operands.{value_kind}
@@ -110,7 +110,7 @@ module _ (p : Program) where
   abbrev pub kinds_for : List Parameter → Kinds
   kinds_for ps = kinds_of (map (parameter_kind p.types) ps)
 
-  pub scalar_kinds : HasPredeclared p → (a : Parameter) → is_open_parameter p a ≡ false → a.by_reference ≡ false → is_value p.types a.of ≡ true → (ks : List ParamKind) → kinds_of (parameter_kind p.types a ∷ ks) ≡ (kind_of a.of ∷ []) ++ kinds_of ks
+  pub scalar_kinds : HasPredeclared p → (a : Parameter) → is_open_parameter p a ≡ false → a.by_reference ≡ false → is_value p.types a.of ≡ true → (ks : List ParamKind) → kinds_of (parameter_kind p.types a ∷ ks) ≡ (kind_of p.types a.of ∷ []) ++ kinds_of ks
   scalar_kinds has a e f v ks =
       value_kinds p.types a e f (value_scalar p has a.of v) ks ∙ ap (λ k. k ∷ kinds_of ks) (value_kind p has a.of v)
 
@@ -150,4 +150,25 @@ module _ (p : Program) where
       let d = dimensions_are p o r h.2 h.3 h.6 in
       let one = ap length (open_kinds h.0 h.2 h.3 h.5 j d (map (parameter_kind p.types) h.1)) in
       let rest = handed_room o has more h.1 h.8 in
+      omega (arith, same, one, rest, length-append (A ∷ replicate j N) (kinds_for h.1), length-replicate j N)
+
+  -- and so many operands
+  pub handed_many : (o : Option Procedure) → HasPredeclared p → (as' : Arguments) (ps : List Parameter) → AreArguments p o as' ps → length (kinds_for ps) ≡ operands as'
+  handed_many o has NoMore ps h = ap (λ l. length (kinds_for l)) h
+  handed_many o has (Scalar e more) ps h =
+      let same = ap (λ l. length (kinds_for l)) h.2 in
+      let one = ap length (scalar_kinds has h.0 h.3.0 h.3.1 h.4 (map (parameter_kind p.types) h.1)) in
+      let rest = handed_many o has more h.1 h.6 in
+      omega (arith, same, one, rest)
+  handed_many o has (Whole x more) ps h =
+      let same = ap (λ l. length (kinds_for l)) h.2 in
+      let one = ap length (place_kinds o h.0 x h.3.0 h.3.2 (map (parameter_kind p.types) h.1)) in
+      let rest = handed_many o has more h.1 h.4 in
+      omega (arith, same, one, rest)
+  handed_many o has (Opening r more) ps h =
+      let j = dimensions r in
+      let same = ap (λ l. length (kinds_for l)) h.4 in
+      let d = dimensions_are p o r h.2 h.3 h.6 in
+      let one = ap length (open_kinds h.0 h.2 h.3 h.5 j d (map (parameter_kind p.types) h.1)) in
+      let rest = handed_many o has more h.1 h.8 in
       omega (arith, same, one, rest, length-append (A ∷ replicate j N) (kinds_for h.1), length-replicate j N)

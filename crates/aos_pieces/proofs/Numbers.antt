@@ -9,7 +9,7 @@ use Rattle.std.proofs.lemmas.List.FromFn.{length-map-range_with_len}
 use Rattle.std.proofs.lemmas.List.{length-map}
 use Rattle.std.proofs.lemmas.Option.{slice_get-map, slice_get_cases, slice_get_within}
 use Rattle.aos_types.specs.declared.row.TypeRow.{TypeRow}
-use Rattle.aos_types.specs.Table.{row_of, is_record}
+use Rattle.aos_types.specs.Table.{row_of, is_object, is_record}
 use Rattle.aos_types.specs.Shape.{Shape, One, shaped, size, part, inside, offset, number_of, leaves, repeated}
 use Rattle.aos_types.specs.Shape as shape
 use Rattle.aos_types.specs.Contents.{contents, of_variable}
@@ -63,6 +63,7 @@ pub record HasNumbers (p : Program) (o : Option Procedure) (image : Image) (own 
   pub constants : (m c n : ℕ) → IsConstantText p (ModuleVar m c) n → has_place (slice_get image.modules.items m) (variable_cell p o m c) ≡ true
   pub types : (t : ℕ) → t < length p.objects → is_some (numbered image.types.items (t + 1)) ≡ true
   pub predeclared : HasPredeclared p
+  pub objects : (k : ℕ) → is_object (row_of p.types (id_of (Named k))) ≡ true → is_some (numbered image.types.items (k + 1)) ≡ true
   pub records : (k : ℕ) → is_record (row_of p.types (id_of (Named k))) ≡ true → is_some (numbered image.types.items (k + 1)) ≡ true
   pub shapes : HasShapes p (tables_of image)
   pub mine : IsOwn p o (tables_of image) own
@@ -168,7 +169,14 @@ module _ (p : Program) (o : Option Procedure) (image : Image) (ok : IsCodeOf p i
       let n : suc t ≡ t + 1 = omega arith in
       ap (λ k. is_some (numbered image.types.items k)) (sym n) ∙ some_within image.types.items t within
 
-  -- so each record that is declared has one
+  -- so each object type that is declared has one,
+  has_object : length p.types ≡ length p.objects + predeclared_types → (k : ℕ) → is_object (row_of p.types (id_of (Named k))) ≡ true → is_some (numbered image.types.items (k + 1)) ≡ true
+  has_object beside k is = elim (slice_get_cases p.types (k + predeclared_types)).1 [
+    | inl h ↦ let there = h.1 in has_type k (omega (arith, beside, there))
+    | inr h ↦ let none = sym (ap is_object h.1) ∙ is in absurd (cc)
+  ]
+
+  -- and each record
   has_record : length p.types ≡ length p.objects + predeclared_types → (k : ℕ) → is_record (row_of p.types (id_of (Named k))) ≡ true → is_some (numbered image.types.items (k + 1)) ≡ true
   has_record beside k is = elim (slice_get_cases p.types (k + predeclared_types)).1 [
     | inl h ↦ let there = h.1 in has_type k (omega (arith, beside, there))
@@ -238,6 +246,7 @@ has_numbers p image well ok own r there =
       constants = has_constant p r.own image ok;
       types = has_type p r.own image ok;
       predeclared = well.predeclared;
+      objects = has_object p r.own image ok well.beside;
       records = has_record p r.own image ok well.beside;
       shapes = shaped;
       methods = types.methods;

@@ -1,8 +1,7 @@
 -- The code of each statement and each sequence is a piece that leaves the operands as they were.
 use Rattle.std.proofs.Common.{◌≡◌, ◌≤◌, ◌<◌, inl, inr, ℕ, zero, suc, ◌+◌, ℤ, List, [], ◌∷◌, ◌++◌, Some, length, Option, None, refl, sym, ap, ◌∙◌, subst, arith, append_assoc, length-append}
-use Rattle.std.specs.Prelude.{IsTrue, true, ◌⊎◌, option_map, slice_get, max, replicate}
-use Rattle.std.proofs.lemmas.Option.{slice_get_within}
-use Rattle.std.proofs.lemmas.List.{length-replicate}
+use Rattle.std.specs.Prelude.{IsTrue, Bool, true, false, if◌then◌else◌, ◌⊎◌, is_some as has_type, option_map, option_and_then, max, replicate, reverse}
+use Rattle.std.proofs.lemmas.List.{length-replicate, length-reverse}
 use Rattle.std.proofs.lemmas.Bool.{lt-ltb}
 use Rattle.std.proofs.Math.Nat.{le-max_left, le-max_right}
 use Rattle.aos_base.specs.declared.text.Pos.{Pos}
@@ -19,7 +18,7 @@ use Rattle.aos_code.specs.declared.image.Image.{Image}
 use Rattle.aos_code.specs.Numbered.{numbered}
 use Rattle.aos_code.specs.Silent.{keeps_in}
 use Rattle.aos_sound.specs.declared.stand.Role.TheVariants.{Procedure}
-use Rattle.aos_sound.specs.Sound.{Kinds, without, topped, given, alone, returned, may_stand}
+use Rattle.aos_sound.specs.Sound.{Kinds, without, topped, given, called, alone, returned, may_stand}
 use Rattle.aos_typed.specs.declared.tree.Change.{Change as Changing}
 use Rattle.aos_typed.specs.declared.tree.Change.TheVariants as change
 use Rattle.aos_typed.specs.declared.tree.LabelRange.{LabelRange}
@@ -27,21 +26,24 @@ use Rattle.aos_typed.specs.declared.tree.Literal.TheVariants as literal
 use Rattle.aos_typed.specs.declared.tree.TType.{TType}
 use Rattle.aos_typed.specs.declared.tree.TType.TheVariants as type
 use Rattle.aos_typed.specs.Meaning.{until, changed_type}
-use Rattle.aos_typed.specs.Numbers.{id_of}
-use Rattle.aos_typed.specs.Routines.{result_of}
+use Rattle.aos_typed.specs.Numbers.{id_of, body_number}
+use Rattle.aos_types.specs.Table.{row_of, is_object}
+use Rattle.aos_typed.specs.Methods.{method_number, is_active, body_type, initializer}
+use Rattle.aos_typed.specs.Routines.{Routine, parameters_of, result_of}
 use Rattle.aos_layout.specs.Layout.{kind_of as cell_kind}
-use Rattle.aos_typed.specs.Program.{Program, ObjectType, Procedure as Declared, Place, Expr, Lit, Read, Binary, Call, Open, Char, Int, String, Ln, Stat, Assign, Copy, PutText, If, Case, While, Repeat, Loop, Exit, For, Block, Assert, Halt, Change, Perform, Return, New, Make, With, WithRecord, Out, Stats, Nothing, Then, Arms, Otherwise, Arm, Cases, NoElse, Else, OfLabels}
-use Rattle.aos_typed.specs.WellTyped.{Includes, amount_type, IsPlaceOf, IsOf, AreLengthsOf, IsCall, IsReturn, IsStatement, AreStatements, AreArms, AreCases}
-use Rattle.aos_sim.specs.Code.{begin, kind_of, cells_of, place_code, value_code, values_code, make_instr, make_code, out_code, new_code, assign_code, change_code, changed_code, for_head, step_code, body_place, stat_code, stats_code, arms_code, cases_code, arm_place}
+use Rattle.aos_typed.specs.Program.{Program, Parameter, Procedure as Declared, Arguments, Place, Expr, Lit, Read, Binary, Call, Open, Char, Int, String, Ln, Stat, Assign, Copy, PutText, If, Case, While, Repeat, Loop, Exit, For, Block, Assert, Halt, Change, Perform, Return, New, Make, With, WithRecord, Out, Stats, Nothing, Then, Arms, Otherwise, Arm, Cases, NoElse, Else, OfLabels}
+use Rattle.aos_typed.specs.WellTyped.{Includes, amount_type, IsPlaceOf, IsOf, AreArguments, AreLengthsOf, IsInitialized, IsCall, IsReturn, IsStatement, AreStatements, AreArms, AreCases}
+use Rattle.aos_sim.specs.Code.{begin, kind_of, cells_of, place_code, arguments_code, value_code, values_code, make_instr, make_code, out_code, stash, unstash, initial_kinds, initialize_code, carry_out_instr, store_code, new_code, assign_code, change_code, changed_code, for_head, step_code, body_place, stat_code, stats_code, arms_code, cases_code, arm_place}
 use Rattle.aos_sim.specs.Search.{Search, Nowhere, At as Labels, Split, arms_in, search_of, label_code, search_size, search_code}
-use Rattle.aos_sim.specs.Need.{place_need, value_need, values_need, out_need, assign_need, changed_need, stat_need, stats_need, arms_need, cases_need, stat_level, stats_level, arms_level, cases_level}
+use Rattle.aos_sim.specs.Need.{operands, arguments_need, place_need, value_need, values_need, out_need, assign_need, changed_need, stat_need, stats_need, arms_need, cases_need, stat_level, stats_level, arms_level, cases_level}
 use Rattle.aos_sim.proofs.Sizes.{search_length, stats_length, arms_length, cases_length, arm_ahead, stats_above}
+use Rattle.aos_sim.proofs.Routines.{object_there}
 use Rattle.aos_pieces.specs.Piece.{Round, Piece}
-use Rattle.aos_pieces.proofs.Pieces.{At, Entries, nothing, one, followed, both, one_then, then_one, moved, recoded, asks_less, jump_forth, branch, choose, arm, repeats, repeats_until, loops, stops}
+use Rattle.aos_pieces.proofs.Pieces.{At, Entries, nothing, one, followed, both, one_then, then_one, left_with, moved, recoded, asks_less, jump_forth, branch, choose, arm, repeats, repeats_until, loops, stops}
 use Rattle.aos_pieces.proofs.Numbers.{HasNumbers}
 use Rattle.aos_pieces.proofs.Operands.{value_kind}
-use Rattle.aos_pieces.proofs.Handed.{dimensions_are, kinds_taken}
-use Rattle.aos_pieces.proofs.Values.{some_place, some_rows, some_need, as_kind, place_piece, value_piece, lengths_of, text_piece, texts_piece, call_piece, value_typed}
+use Rattle.aos_pieces.proofs.Handed.{dimensions_are, kinds_taken, kinds_for, handed_many}
+use Rattle.aos_pieces.proofs.Values.{some_place, some_rows, some_need, as_kind, called_takes, number_there, place_piece, arguments_piece, value_piece, lengths_of, text_piece, texts_piece, call_piece, value_typed}
 
 -- an operand of any kind is stored in a place
 stored : (k : Kind) (s : Kinds) → without (k ∷ A ∷ []) (k ∷ A ∷ s) ≡ Some s
@@ -49,6 +51,13 @@ stored N s = refl
 stored R s = refl
 stored C s = refl
 stored A s = refl
+
+-- an operand of any kind is kept
+kept_one : (k : Kind) (s : Kinds) → without (k ∷ []) (k ∷ s) ≡ Some s
+kept_one N s = refl
+kept_one R s = refl
+kept_one C s = refl
+kept_one A s = refl
 
 -- a result is alone
 alone_one : (k : Kind) → alone (Some k) (k ∷ []) ≡ Some []
@@ -70,11 +79,11 @@ included_self W32 = refl
 included_self W64 = refl
 
 -- what a variable is changed by is a number
-amount_kind : (c : Changing) → kind_of (amount_type c) ≡ N
-amount_kind (change.Add w) = refl
-amount_kind (change.Subtract w) = refl
-amount_kind change.Include = refl
-amount_kind change.Exclude = refl
+amount_kind : (p : Program) (c : Changing) → kind_of p.types (amount_type c) ≡ N
+amount_kind p (change.Add w) = refl
+amount_kind p (change.Subtract w) = refl
+amount_kind p change.Include = refl
+amount_kind p change.Exclude = refl
 
 -- how many operands the change itself has
 abbrev changed_room : Changing → ℕ
@@ -125,24 +134,93 @@ module _ (p : Program) (o : Option Declared) (image : Image) (own : ℕ) (depth 
       then_one (text_piece p o image own Procedure depth has refl r h at s room) i.OutString refl refl (omega (arith, room, k, dimensions_are p o r 1 type.Char h)) (λ whole q. refl)
   out_piece Ln h at s room = one i.OutLn refl refl (omega (arith, room)) (λ whole q. refl)
 
-  -- a type whose objects have a body is there
-  type_there : (t : ℕ) → option_map (λ (x : ObjectType). x.has_body) (slice_get p.objects t) ≡ Some true → t < length p.objects
-  type_there t e = by (slice_get p.objects t) refl e
+  -- operands that are kept,
+  stash_piece : {Asks : Round} (ks : Kinds) (d at : ℕ) (s : Kinds) → d + length ks ≤ keeps → length ks + length s ≤ depth → Piece image own Procedure depth Asks (stash ks d) at (ks ++ s) s
+  stash_piece [] d at s kept room = nothing
+  stash_piece (k ∷ ks) d at s kept room =
+      one_then (i.Keep d k) (kept_one k (ks ++ s)) refl (omega (arith, room, length-append ks s)) (may_keep d (omega (arith, kept)))
+      (stash_piece ks (suc d) (at + 1) s (omega (arith, kept)) (omega (arith, room)))
+
+  -- and that are there again
+  unstash_piece : {Asks : Round} (ks : Kinds) (d at : ℕ) (s : Kinds) → d + length ks ≤ keeps → length ks + length s ≤ depth → Piece image own Procedure depth Asks (unstash ks d) at s (ks ++ s)
+  unstash_piece [] d at s kept room = nothing
+  unstash_piece (k ∷ ks) d at s kept room =
+      then_one (unstash_piece ks (suc d) at s (omega (arith, kept)) (omega (arith, room)))
+      (i.Kept d k) refl refl (omega (arith, room, length-append ks s)) (may_keep d (omega (arith, kept)))
+
+  -- what an initializer is handed, where there is one
+  record Initial (slot : Option ℕ) (t : ℕ) (more : Arguments) : Type 0 where
+    parameters : List Parameter
+    are : AreArguments p o more parameters
+    kinds : initial_kinds p o slot t ≡ reverse (kinds_for p parameters)
+
+  initial : (slot : Option ℕ) (t : ℕ) (more : Arguments) → IsInitialized p o slot t more → Initial slot t more
+  initial None t more h = record { parameters = []; are = subst (λ m. AreArguments p o m []) (sym h) refl; kinds = refl }
+  initial (Some k) t more h =
+      record { parameters = h.0.parameters; are = h.3; kinds = ap (λ r. reverse (kinds_for p (parameters_of (option_and_then (λ (x : Routine). x.own) r)))) (has.methods.found t k h.0 h.1).there }
+
+  -- an initializer is called on the object, which stays
+  initialize_piece : {Asks : Round} (slot : Option ℕ) (t : ℕ) (more : Arguments) → IsInitialized p o slot t more → (d at : ℕ) (s : Kinds) → d + operands more ≤ keeps → 2 + operands more + length s ≤ depth → Piece image own Procedure depth Asks (initialize_code p o slot t (initial_kinds p o slot t) d) at (R ∷ s) (R ∷ s)
+  unfolding initial
+  initialize_piece None t more h d at s kept room = nothing
+  initialize_piece (Some k) t more h d at s kept room =
+      let f = has.methods.found t k h.0 h.1 in
+      let n = method_number p t k in
+      let ks = initial_kinds p o (Some k) t in
+      let is : ks ≡ reverse (kinds_for p h.0.parameters) = (initial (Some k) t more h).kinds in
+      let long : length ks ≡ operands more = ap length is ∙ length-reverse (kinds_for p h.0.parameters) ∙ handed_many p o has.predeclared more h.0.parameters h.3 in
+      let takes =
+      ap (λ l. called (numbered image.shapes.items n) (l ++ (R ∷ R ∷ s))) is
+      ∙ called_takes p o image own Procedure depth has refl n f.home h.0 true f.there (ap has_type f.is) (R ∷ s)
+      ∙ ap (λ r. given (option_map (λ t. cell_kind p.types (id_of t)) r) (Some (R ∷ s))) h.2 in
+      one_then i.Dup refl refl (omega (arith, room)) (λ whole q. refl)
+      (then_one (unstash_piece ks d (at + 1) (R ∷ R ∷ s) (omega (arith, kept, long)) (omega (arith, room, long)))
+      (i.Call n) takes refl (omega (arith, room, long, length-append ks (R ∷ R ∷ s)))
+      (λ whole q. number_there p o image own Procedure depth has refl n f.home h.0 f.there))
+
+  -- the body is carried out on the object
+  carry_out_piece : {Asks : Round} (t b : ℕ) → body_type p t ≡ Some b → (at : ℕ) (s : Kinds) → 1 + length s ≤ depth → Piece image own Procedure depth Asks (carry_out_instr p o b ∷ []) at (R ∷ s) s
+  carry_out_piece {Asks} t b e at s room = by (is_active p b)
     where
-      by : (x : Option ObjectType) → slice_get p.objects t ≡ x → option_map (λ (x : ObjectType). x.has_body) x ≡ Some true → t < length p.objects
-      by None is e = absurd (cc)
-      by (Some x) is e = slice_get_within p.objects t x is
+      by : (active : Bool) → Piece image own Procedure depth Asks ((if active then i.Start else i.Call (body_number p b)) ∷ []) at (R ∷ s) s
+      by true = one i.Start refl refl (omega (arith, room)) (λ whole q. refl)
+      by false =
+          let x = has.methods.bodies t b e in
+          let n = body_number p b in
+          let q = x.object.body in
+          let there = object_there p b x.object x.there in
+          let takes =
+          ap (λ ps. called (numbered image.shapes.items n) (reverse (kinds_for p ps) ++ (R ∷ s))) (sym x.body.plain)
+          ∙ called_takes p o image own Procedure depth has refl n x.object.home q true there (ap has_type x.body.own) s
+          ∙ ap (λ r. given (option_map (λ t. cell_kind p.types (id_of t)) r) (Some s)) x.body.proper in
+          one (i.Call n) takes refl (omega (arith, room)) (λ whole j. number_there p o image own Procedure depth has refl n x.object.home q there)
+
+  -- the object is stored, and then its body is carried out
+  store_piece : {Asks : Round} (body_of : Option ℕ) (t : ℕ) → body_type p t ≡ body_of → (d at : ℕ) (s : Kinds) → d < keeps → 3 + length s ≤ depth → Piece image own Procedure depth Asks (store_code p o body_of d) at (R ∷ A ∷ s) s
+  store_piece None t e d at s kept room = one (i.Store R) refl refl (omega (arith, room)) (λ whole q. refl)
+  store_piece (Some b) t e d at s kept room =
+      one_then i.Dup refl refl (omega (arith, room)) (λ whole q. refl)
+      (one_then (i.Keep d R) refl refl (omega (arith, room)) (may_keep d kept)
+      (one_then (i.Store R) refl refl (omega (arith, room)) (λ whole q. refl)
+      (one_then (i.Kept d R) refl refl (omega (arith, room)) (may_keep d kept)
+      (carry_out_piece t b e (at + 1 + 1 + 1 + 1) s (omega (arith, room))))))
 
   -- the making of an object
-  new_piece : {Asks : Round} (x : Place) (t : ℕ) → IsPlaceOf p o x (type.Named t) → t < length p.objects → (at : ℕ) (s : Kinds) → length s + (2 + place_need x) ≤ depth → Piece image own Procedure depth Asks (new_code p o x t at) at s s
-  new_piece x t h lt at s room =
-      let k = some_place x in
-      one_then (i.NewObject (t + 1)) refl refl (omega (arith, room)) (λ whole q. has.types t lt)
-      (one_then i.Dup refl refl (omega (arith, room)) (λ whole q. refl)
-      (both (moved (omega arith) (place_piece p o image own Procedure depth has refl x (type.Named t) h (at + 2) (R ∷ R ∷ s) (omega (arith, room))))
-      (one_then i.Swap refl refl (omega (arith, room, k)) (λ whole q. refl)
-      (one_then (i.Store R) refl refl (omega (arith, room, k)) (λ whole q. refl)
-      (one i.Start refl refl (omega (arith, room)) (λ whole q. refl))))))
+  new_piece : {Asks : Round} (x : Place) (t : ℕ) (more : Arguments) → IsPlaceOf p o x (type.Named t) → is_object (row_of p.types (id_of (type.Named t))) ≡ true → IsInitialized p o (initializer p t) t more → (at d : ℕ) (s : Kinds) → d < keeps → d + operands more ≤ keeps → length s + max (place_need x) (1 + max (arguments_need more) (2 + operands more)) ≤ depth → Piece image own Procedure depth Asks (new_code p o x t more at d) at s s
+  new_piece x t more h is handed at d s one_kept kept room =
+      let slot = initializer p t in
+      let ks = initial_kinds p o slot t in
+      let a = initial slot t more handed in
+      let first = at + length (place_code p o x at) in
+      let second = first + length (arguments_code p o more first) in
+      let long : length ks ≡ operands more = ap length a.kinds ∙ length-reverse (kinds_for p a.parameters) ∙ handed_many p o has.predeclared more a.parameters a.are in
+      let made = second + length (stash ks d) + 1 in
+      both (place_piece p o image own Procedure depth has refl x (type.Named t) h at s (omega (arith, room)))
+      (both (left_with (ap (λ l. l ++ (A ∷ s)) (sym a.kinds)) (arguments_piece p o image own Procedure depth has refl more a.parameters a.are first (A ∷ s) (omega (arith, room))))
+      (both (stash_piece ks d second (A ∷ s) (omega (arith, kept, long)) (omega (arith, room, long)))
+      (one_then (i.NewObject (t + 1)) refl refl (omega (arith, room)) (λ whole q. has.objects t is)
+      (both (initialize_piece slot t more handed d made (A ∷ s) kept (omega (arith, room)))
+      (store_piece (body_type p t) t refl d (made + length (initialize_code p o slot t ks d)) s one_kept (omega (arith, room)))))))
 
   -- the making of a record or an array, whose lengths are there
   made_piece : {Asks : Round} (t n : ℕ) → t < length p.objects → (at : ℕ) (s : Kinds) → length s + n ≤ depth → Piece image own Procedure depth Asks (make_instr t n ∷ []) at (replicate n N ++ s) (R ∷ s)
@@ -167,7 +245,7 @@ module _ (p : Program) (o : Option Declared) (image : Image) (own : ℕ) (depth 
       (place_piece p o image own Procedure depth has refl x t h (at + 1) s (omega (arith, room)))
       (then_one
       (value_piece p o image own Procedure depth has refl e t g (at + 1 + length (place_code p o x (at + 1))) (A ∷ s) (omega (arith, room)))
-      (i.Store (kind_of t)) (stored (kind_of t) s) refl (let k = some_need e in omega (arith, room, k)) (λ whole q. refl)))
+      (i.Store (kind_of p.types t)) (stored (kind_of p.types t) s) refl (let k = some_need e in omega (arith, room, k)) (λ whole q. refl)))
 
   -- a variable that is changed
   change_piece : {Asks : Round} (c : Changing) (s : Kinds) (at : ℕ) → length s + changed_room c ≤ depth → Piece image own Procedure depth Asks (change_code c ++ i.Store N ∷ []) at (N ∷ N ∷ A ∷ s) s
@@ -185,7 +263,7 @@ module _ (p : Program) (o : Option Declared) (image : Image) (own : ℕ) (depth 
       let k = some_need e in
       let few = changed_few c (place_need x) (value_need e) k in
       let there = at + 1 + length (place_code p o x (at + 1)) + 1 in
-      let amount : Piece image own Procedure depth Asks (value_code p o e there) there (A ∷ A ∷ s) (N ∷ A ∷ A ∷ s) = as_kind p o image own Procedure depth has refl (amount_kind c) (value_piece p o image own Procedure depth has refl e (amount_type c) g there (A ∷ A ∷ s) (omega (arith, room, few.1))) in
+      let amount : Piece image own Procedure depth Asks (value_code p o e there) there (A ∷ A ∷ s) (N ∷ A ∷ A ∷ s) = as_kind p o image own Procedure depth has refl (amount_kind p c) (value_piece p o image own Procedure depth has refl e (amount_type c) g there (A ∷ A ∷ s) (omega (arith, room, few.1))) in
       begins here (omega (arith, room)) (both
       (place_piece p o image own Procedure depth has refl x (changed_type c) h (at + 1) s (omega (arith, room, few.0)))
       (one_then i.Dup refl refl (omega (arith, room, k, few.1)) (λ whole q. refl)
@@ -251,10 +329,10 @@ module _ (p : Program) (o : Option Declared) (image : Image) (own : ℕ) (depth 
   return_piece e None is h at room = absurd h
   return_piece e (Some t) is h at room =
       let k = some_need e in
-      let ends : returned (numbered image.shapes.items own) (kind_of t ∷ []) ≡ Some [] =
-      ap (λ f. returned f (kind_of t ∷ [])) has.mine.1
-      ∙ ap (λ k. alone k (kind_of t ∷ [])) (has.mine.2 ∙ ap (option_map (λ t. cell_kind p.types (id_of t))) is ∙ ap (λ k. Some k) (value_kind p has.predeclared t (value_typed p o e t h)))
-      ∙ alone_one (kind_of t) in
+      let ends : returned (numbered image.shapes.items own) (kind_of p.types t ∷ []) ≡ Some [] =
+      ap (λ f. returned f (kind_of p.types t ∷ [])) has.mine.1
+      ∙ ap (λ k. alone k (kind_of p.types t ∷ [])) (has.mine.2 ∙ ap (option_map (λ t. cell_kind p.types (id_of t))) is ∙ ap (λ k. Some k) (value_kind p has.predeclared t (value_typed p o e t h)))
+      ∙ alone_one (kind_of p.types t) in
       both
       (value_piece p o image own Procedure depth has refl e t h at [] (omega (arith, room)))
       (stops i.Return [] ends refl (omega (arith, room, k)) (λ whole q. refl))
@@ -361,8 +439,11 @@ module _ (p : Program) (o : Option Declared) (image : Image) (own : ℕ) (depth 
     stat_piece (Return here None) h at x d le kept room =
         begins here (omega (arith, room)) (stops i.Return [] (nothing_returned (result_of o) refl h) refl (omega (arith, room)) (λ whole q. refl))
     stat_piece (Return here (Some e)) h at x d le kept room = begins here (omega (arith, room)) (return_piece e (result_of o) refl h (at + 1) room)
-    stat_piece (New here y t) h at x d le kept room = begins here (omega (arith, room)) (new_piece y t h.1 (type_there t h.3) (at + 1) [] (omega (arith, room)))
-    stat_piece (Make here y t ns) h at x d le kept room = begins here (omega (arith, room)) (make_piece y h.0.0 t ns h.0.1 h.1 h.2 (at + 1) [] (omega (arith, room)))
+    stat_piece (New here y t more) h at x d le kept room =
+        let one_kept = le-max_left (suc d) (d + operands more) in
+        let all_kept = le-max_right (suc d) (d + operands more) in
+        begins here (omega (arith, room)) (new_piece y t more h.0 h.1 h.2 (at + 1) d [] (omega (arith, kept, one_kept)) (omega (arith, kept, all_kept)) (omega (arith, room)))
+    stat_piece (Make here y t ns) h at x d le kept room = begins here (omega (arith, room)) (make_piece y h.0.0 t ns h.0.1 h.1 h.3 (at + 1) [] (omega (arith, room)))
     stat_piece (With here e body) h at x d le kept room =
         let c = value_code p o e (at + 1) in
         let b = stats_code p o body (at + 1 + length c + 1) x d in

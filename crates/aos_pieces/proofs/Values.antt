@@ -1,7 +1,7 @@
 -- The code of each place and each expression is a piece that gives one operand more, and that of what a call hands over one that gives
 -- what the call takes.
-use Rattle.std.proofs.Common.{◌≡◌, ◌≤◌, ◌<◌, inl, inr, zero, suc, true, ℕ, ◌+◌, pos, List, [], ◌∷◌, ◌++◌, Option, Some, length, map, refl, sym, ap, ◌∙◌, arith, append_assoc, length-append}
-use Rattle.std.specs.Prelude.{IsTrue, Bool, false, is_some as has_type, replicate, reverse, option_map, nat_lt, ◌&&◌}
+use Rattle.std.proofs.Common.{◌≡◌, ◌≤◌, ◌<◌, ◌⊎◌, inl, inr, zero, suc, true, ℕ, ◌+◌, pos, List, [], ◌∷◌, ◌++◌, Option, Some, length, map, refl, sym, ap, ◌∙◌, arith, append_assoc, length-append}
+use Rattle.std.specs.Prelude.{IsTrue, Bool, false, is_some as has_type, replicate, reverse, option_map, nat_lt, not, ◌&&◌}
 use Rattle.std.proofs.lemmas.Bool.{lt-ltb}
 use Rattle.std.proofs.lemmas.List.{length-replicate, length-reverse}
 use Rattle.aos_base.specs.Operators.{flag}
@@ -9,7 +9,7 @@ use Rattle.aos_base.specs.declared.operator.Unary.TheVariants.{Range}
 use Rattle.aos_base.specs.declared.operator.Binary.TheVariants.{SetSpan}
 use Rattle.aos_base.specs.declared.number.Width.TheVariants.{W16, W32, W64}
 use Rattle.aos_code.specs.declared.instr.Kind.{Kind}
-use Rattle.aos_code.specs.declared.instr.Kind.TheVariants.{N, R, A}
+use Rattle.aos_code.specs.declared.instr.Kind.TheVariants.{N, R, C, A}
 use Rattle.aos_code.specs.declared.instr.Instr.{Instr}
 use Rattle.aos_code.specs.declared.instr.Instr.TheVariants as i
 use Rattle.aos_code.specs.declared.image.Image.{Image}
@@ -21,24 +21,25 @@ use Rattle.aos_types.specs.Shape.{size}
 use Rattle.aos_typed.specs.Open.{open_dimensions}
 use Rattle.aos_sound.specs.declared.effect.Next.TheVariants.{On}
 use Rattle.aos_sound.specs.declared.stand.Role.{Role}
-use Rattle.aos_sound.specs.Sound.{Kinds, row, without, topped, given, object_below, called, sent, is_some, is_method, has_slot, is_type_or_none, frame_cells, is_procedure, next_of, after, may_stand}
+use Rattle.aos_sound.specs.Sound.{Kinds, row, without, topped, given, object_below, called, sent, applied, is_some, is_method, is_plain, has_slot, is_type_or_none, frame_cells, is_procedure, next_of, after, may_stand}
 use Rattle.aos_base.specs.Rooted.{by_number}
 use Rattle.aos_typed.specs.Methods.{method_number}
-use Rattle.aos_typed.specs.Numbers.{id_of, procedure_number}
+use Rattle.aos_typed.specs.Formals.{pattern_of}
+use Rattle.aos_typed.specs.Numbers.{id_of, body_number, procedure_number}
 use Rattle.aos_typed.specs.Routines.{routine_of, routines}
-use Rattle.aos_typed.specs.Program.{Program, Procedure, Parameter, Place, ModuleVar, Local, Passed, Field, Index, Of, Deref, Typed, Guarded, Rows, Known, Opened, Row, Spread, Longer, Arguments, NoMore, Scalar, Whole, Opening, Callee, Plain, Dispatched, Upper, Expr, Lit, SelfRef, Read, Unary, Binary, And, Or, Element, Ord, Chr, CompareTexts, Len, LenBehind, Function, Same, Is, IsRecord, Guard, Had}
+use Rattle.aos_typed.specs.Program.{Program, Procedure, Parameter, Place, ModuleVar, Local, Passed, Field, Index, Of, Deref, Typed, Guarded, Rows, Known, Opened, Row, Spread, Longer, Arguments, NoMore, Scalar, Whole, Opening, Callee, Plain, Dispatched, Upper, Through, Expr, Lit, SelfRef, Read, Unary, Binary, And, Or, Element, Ord, Chr, CompareTexts, Len, LenBehind, Function, Same, Is, IsRecord, Guard, ProcedureOf, MethodOf, SameProcedure, Had}
 use Rattle.aos_typed.specs.declared.tree.Literal.{Literal}
 use Rattle.aos_typed.specs.declared.tree.Literal.TheVariants as literal
 use Rattle.aos_typed.specs.declared.tree.TType.{TType}
 use Rattle.aos_typed.specs.declared.tree.TType.TheVariants.{Integer, Boolean, Char, Named}
 use Rattle.aos_types.specs.Extension.{comes_to}
-use Rattle.aos_typed.specs.WellTyped.{taken, is_value, IsLiteral, IsConstantText, IsParameter, IsCalled, IsObjectAt, IsPlaceOf, AreRows, AreArguments, IsOf, AreLengthsOf}
+use Rattle.aos_typed.specs.WellTyped.{taken, is_value, is_procedural, IsLiteral, IsConstantText, IsParameter, IsCalled, IsObjectAt, IsPlaceOf, AreRows, AreArguments, IsOf, IsNamed, AreLengthsOf}
 use Rattle.aos_sim.specs.Code.{kind_of, literal_code, variable_cell, own_cell, field_cell, cells_of, dimensions, lengths_code, drops, operands_code, call_instr, place_code, rows_code, arguments_code, receiver_code, called_code, value_code, values_code}
 use Rattle.aos_sim.specs.Need.{texts_need, place_need, rows_need, arguments_need, receivers, receiver_need, value_need, values_need}
-use Rattle.aos_sim.proofs.Routines.{routine_there}
+use Rattle.aos_sim.proofs.Routines.{routine_there, object_there}
 use Rattle.aos_pieces.specs.Piece.{Round, Piece}
 use Rattle.aos_pieces.proofs.Pieces.{nothing, one, both, one_then, then_one, choose, left_with, recoded}
-use Rattle.aos_pieces.proofs.Operands.{included_kind, literal_kind, taken_kind, given_kind, given_of_two_kind, taken_kinds, number_value, reference_value, object_reference, any_or_target, fitted_value, reference_kind, target_kind, value_kind, fitted_kind}
+use Rattle.aos_pieces.proofs.Operands.{included_kind, literal_kind, taken_kind, given_kind, given_of_two_kind, taken_kinds, number_value, reference_value, procedural_value, pattern_procedural, pattern_there, object_reference, any_or_target, fitted_value, reference_kind, target_kind, procedural_kind, pattern_kind, value_kind, fitted_kind}
 use Rattle.aos_pieces.proofs.Handed.{dimensions_are, pushed, rows_taken, opened_row, opened_longer, reversed_row, kinds_taken, handed_first, scalar_kinds, place_kinds, open_kinds, handed_room, passed_size, opened_size}
 use Rattle.aos_pieces.proofs.Numbers.{HasNumbers}
 
@@ -83,29 +84,36 @@ mutual
   some_need (Is a t) = some_need a
   some_need (IsRecord x t) = some_place x
   some_need (Guard a t) = some_need a
+  some_need (ProcedureOf m k) = omega arith
+  some_need (MethodOf a t k) = some_need a
+  some_need (SameProcedure a b) = omega arith
   some_need (Had v) = omega arith
 
 -- the type of an expression is one of scalars that are built
 pub value_typed : (p : Program) (o : Option Procedure) (e : Expr) (t : TType) → IsOf p o e t → is_value p.types t ≡ true
-value_typed p o (Lit l) t (inl h) = number_value p t (literal_kind l t h)
-value_typed p o (Lit l) t (inr h) = reference_value p t h.1
+value_typed p o (Lit l) t (inl h) = number_value p t (literal_kind p.types l t h)
+value_typed p o (Lit l) t (inr (inl h)) = reference_value p t h.1
+value_typed p o (Lit l) t (inr (inr h)) = procedural_value p t h.1
 value_typed p o SelfRef t h = fitted_value p t (Named h.0) h.3 (reference_value p (Named h.0) (object_reference p.types (Named h.0) h.2))
 value_typed p o (Read u x) t h = fitted_value p t u h.2 h.1
-value_typed p o (Unary op a) t h = number_value p t (given_kind op t h.1)
-value_typed p o (Binary op a b) t h = number_value p t (given_of_two_kind op t h.1)
-value_typed p o (And a b) t h = number_value p t (ap kind_of h.2)
-value_typed p o (Or a b) t h = number_value p t (ap kind_of h.2)
-value_typed p o (Element a) t h = number_value p t (ap kind_of h.1)
-value_typed p o (Ord a) t h = number_value p t (included_kind t (Integer W16) h.1)
-value_typed p o (Chr a) t h = number_value p t (ap kind_of h.1)
-value_typed p o (CompareTexts r a b) t h = number_value p t (ap kind_of h.2)
-value_typed p o (Len r d) t h = number_value p t (included_kind t (Integer W32) h.5)
-value_typed p o (LenBehind r n) t h = number_value p t (included_kind t (Integer W32) h.4)
+value_typed p o (Unary op a) t h = number_value p t (given_kind p.types op t h.1)
+value_typed p o (Binary op a b) t h = number_value p t (given_of_two_kind p.types op t h.1)
+value_typed p o (And a b) t h = number_value p t (ap (kind_of p.types) h.2)
+value_typed p o (Or a b) t h = number_value p t (ap (kind_of p.types) h.2)
+value_typed p o (Element a) t h = number_value p t (ap (kind_of p.types) h.1)
+value_typed p o (Ord a) t h = number_value p t (included_kind p.types t (Integer W16) h.1)
+value_typed p o (Chr a) t h = number_value p t (ap (kind_of p.types) h.1)
+value_typed p o (CompareTexts r a b) t h = number_value p t (ap (kind_of p.types) h.2)
+value_typed p o (Len r d) t h = number_value p t (included_kind p.types t (Integer W32) h.5)
+value_typed p o (LenBehind r n) t h = number_value p t (included_kind p.types t (Integer W32) h.4)
 value_typed p o (Function c more) t h = fitted_value p t h.1 h.5 h.4
-value_typed p o (Same a b) t h = number_value p t (ap kind_of h.2)
-value_typed p o (Is a k) t h = number_value p t (ap kind_of h.2)
-value_typed p o (IsRecord x k) t h = number_value p t (ap kind_of h.4)
+value_typed p o (Same a b) t h = number_value p t (ap (kind_of p.types) h.2)
+value_typed p o (Is a k) t h = number_value p t (ap (kind_of p.types) h.2)
+value_typed p o (IsRecord x k) t h = number_value p t (ap (kind_of p.types) h.4)
 value_typed p o (Guard a k) t h = reference_value p t (any_or_target p t (λ b. comes_to p.types (id_of (Named k)) b ≡ true) h.2)
+value_typed p o (ProcedureOf m k) t h = procedural_value p t (pattern_procedural p t h.2.0 h.2.1)
+value_typed p o (MethodOf e j k) t h = procedural_value p t (pattern_procedural p t h.2.2.0 h.2.2.1)
+value_typed p o (SameProcedure a b) t h = number_value p t (ap (kind_of p.types) h.2)
 value_typed p o (Had v) t h = absurd h
 
 -- with so many lengths above a place
@@ -128,6 +136,7 @@ module _ (p : Program) (o : Option Procedure) (image : Image) (own : ℕ) (role 
   literal_piece (literal.Set b) t h few = one (i.Num (pos b)) refl refl few (λ whole q. refl)
   literal_piece (literal.Text c) t h few = one (i.Num (pos c.first)) refl refl few (λ whole q. refl)
   literal_piece literal.Nil t h few = absurd h
+  literal_piece literal.NoProcedure t h few = absurd h
 
   -- the place of a string constant
   constant_piece : {Asks : Round} (x : Place) (n : ℕ) → IsConstantText p x n → (at : ℕ) (s : Kinds) → length s + place_need x ≤ depth → Piece image own role depth Asks (place_code p o x at) at s (A ∷ s)
@@ -181,7 +190,7 @@ module _ (p : Program) (o : Option Procedure) (image : Image) (own : ℕ) (role 
   abbrev given_by : Procedure → Option Kind
   given_by q = option_map (λ t. cell_kind p.types (id_of t)) q.result
 
-  called_takes : (n home : ℕ) (q : Procedure) (method : Bool) → by_number n (routines p) ≡ Some (routine_of home q) → has_type q.of ≡ method → (s : Kinds) → called (numbered image.shapes.items n) (handed_for q ++ (object_below method ++ s)) ≡ given (given_by q) (Some s)
+  pub called_takes : (n home : ℕ) (q : Procedure) (method : Bool) → by_number n (routines p) ≡ Some (routine_of home q) → has_type q.of ≡ method → (s : Kinds) → called (numbered image.shapes.items n) (handed_for q ++ (object_below method ++ s)) ≡ given (given_by q) (Some s)
   called_takes n home q method there is s =
       let x = has.shapes.shapes n (routine_of home q) there in
       let ks = handed_for q in
@@ -198,22 +207,42 @@ module _ (p : Program) (o : Option Procedure) (image : Image) (own : ℕ) (role 
       ∙ (λ j. given ((x.2 j).result) (without (reverse (kinds_of (x.2 j).params) ++ R ∷ []) (ks ++ (R ∷ s))))
       ∙ ap (given (given_by q)) (taken_all ks (R ∷ []) s)
 
-  number_there : (n home : ℕ) (q : Procedure) → by_number n (routines p) ≡ Some (routine_of home q) → is_some (numbered image.shapes.items n) ≡ true
+  pub number_there : (n home : ℕ) (q : Procedure) → by_number n (routines p) ≡ Some (routine_of home q) → is_some (numbered image.shapes.items n) ≡ true
   number_there n home q there = ap is_some (has.shapes.shapes n (routine_of home q) there).1
 
   method_shape : (n home : ℕ) (q : Procedure) → by_number n (routines p) ≡ Some (routine_of home q) → has_type q.of ≡ true → is_method (numbered image.shapes.items n) ≡ true
   method_shape n home q there is = let x = has.shapes.shapes n (routine_of home q) there in ap is_method x.1 ∙ ap (λ z. z.method) x.2 ∙ is
+
+  applied_takes : (n home : ℕ) (q : Procedure) → by_number n (routines p) ≡ Some (routine_of home q) → (s : Kinds) → applied (numbered image.shapes.items n) (handed_for q ++ (C ∷ s)) ≡ given (given_by q) (Some s)
+  applied_takes n home q there s =
+      let x = has.shapes.shapes n (routine_of home q) there in
+      let ks = handed_for q in
+      ap (λ f. applied f (ks ++ (C ∷ s))) x.1
+      ∙ (λ j. given ((x.2 j).result) (without (reverse (kinds_of (x.2 j).params) ++ C ∷ []) (ks ++ (C ∷ s))))
+      ∙ ap (given (given_by q)) (taken_all ks (C ∷ []) s)
+
+  -- a procedure of a module is called on no object
+  plain_shape : (n home : ℕ) (q : Procedure) → by_number n (routines p) ≡ Some (routine_of home q) → has_type q.of ≡ false → is_plain (numbered image.shapes.items n) ≡ true
+  plain_shape n home q there is = let x = has.shapes.shapes n (routine_of home q) there in ap is_plain x.1 ∙ ap (λ z. not z.method) x.2 ∙ ap not is
+
+  -- what stands for the procedures of a procedure type has its body's number
+  pattern_number : (t : ℕ) (q : Procedure) → pattern_of p (Named t) ≡ Some q → (home : ℕ) × (by_number (body_number p t) (routines p) ≡ Some (routine_of home q))
+  pattern_number t q e =
+      let x = pattern_there p t q e in
+      (x.0.home, object_there p t x.0 x.1 ∙ ap (λ r. Some (routine_of x.0.home r)) x.2)
 
   -- what lies below what is handed over
   abbrev below : Callee → Kinds
   below (Plain m k) = []
   below (Dispatched e t k) = R ∷ []
   below (Upper t k) = R ∷ []
+  below (Through e t) = C ∷ []
 
   below_long : (c : Callee) (s : Kinds) → length (below c ++ s) ≡ receivers c + length s
   below_long (Plain m k) s = omega arith
   below_long (Dispatched e t k) s = omega arith
   below_long (Upper t k) s = omega arith
+  below_long (Through e t) s = omega arith
 
   -- what is called takes what is handed over, and gives the kind of what a procedure gives
   pub call_takes : (c : Callee) (q : Procedure) → IsCalled p o c q → (s : Kinds) → after image own (call_instr p c) (handed_for q ++ (below c ++ s)) ≡ given (given_by q) (Some s)
@@ -221,6 +250,7 @@ module _ (p : Program) (o : Option Procedure) (image : Image) (own : ℕ) (role 
   call_takes (Dispatched e t k) q h s = let f = has.methods.found t k q h.2 in sent_takes (method_number p t k) f.home q f.there s
   call_takes (Upper t k) q h s =
       let f = has.methods.found t k q h.3 in called_takes (method_number p t k) f.home q true f.there (ap has_type f.is) s
+  call_takes (Through e t) q h s = let f = pattern_number t q h.1 in applied_takes (body_number p t) f.0 q f.1 s
 
   call_stands : (c : Callee) (q : Procedure) → IsCalled p o c q → (whole : List Instr) (at : ℕ) → IsTrue (may_stand image own role whole at (call_instr p c))
   call_stands (Plain m k) q h whole at =
@@ -236,11 +266,16 @@ module _ (p : Program) (o : Option Procedure) (image : Image) (own : ℕ) (role 
       let f = has.methods.found t k q h.3 in
       let n = method_number p t k in
       ap (λ b. b && is_some (numbered image.shapes.items n)) performs ∙ number_there n f.home q f.there
+  call_stands (Through e t) q h whole at =
+      let f = pattern_number t q h.1 in
+      let n = body_number p t in
+      ap (λ b. b && is_some (numbered image.shapes.items n)) performs ∙ number_there n f.0 q f.1
 
   goes_on : (c : Callee) → next_of (call_instr p c) ≡ On
   goes_on (Plain m k) = refl
   goes_on (Dispatched e t k) = refl
   goes_on (Upper t k) = refl
+  goes_on (Through e t) = refl
 
   -- a type that is there is one that a place may be given
   type_or_none : (t : ℕ) → is_some (numbered image.types.items (t + 1)) ≡ true → IsTrue (is_type_or_none image (t + 1))
@@ -266,6 +301,11 @@ module _ (p : Program) (o : Option Procedure) (image : Image) (own : ℕ) (role 
       let d = dimensions_are p o b 1 Char g in
       both (text_of a Char h at s first)
       (then_one (text_of b Char g (at + length (rows_code p o a at)) (N ∷ A ∷ s) second) take e goes (omega (arith, room, k, d)) may)
+
+  -- a procedure value, of a procedure type or named
+  one_piece : {Asks : Round} (e : Expr) (at : ℕ) (s : Kinds) → ((u : TType) → IsOf p o e u → Piece image own role depth Asks (value_code p o e at) at s (kind_of p.types u ∷ s)) → (IsNamed p o e → Piece image own role depth Asks (value_code p o e at) at s (C ∷ s)) → ((u : TType) × IsOf p o e u × (is_procedural p.types u ≡ true)) ⊎ IsNamed p o e → Piece image own role depth Asks (value_code p o e at) at s (C ∷ s)
+  one_piece e at s by_type by_name (inl h) = as_kind (procedural_kind p has.predeclared h.0 h.2) (by_type h.0 h.1)
+  one_piece e at s by_type by_name (inr h) = by_name h
 
   mutual
     -- a place
@@ -346,9 +386,9 @@ module _ (p : Program) (o : Option Procedure) (image : Image) (own : ℕ) (role 
     pub arguments_piece : {Asks : Round} (as' : Arguments) (ps : List Parameter) → AreArguments p o as' ps → (at : ℕ) (s : Kinds) → length s + arguments_need as' ≤ depth → Piece image own role depth Asks (arguments_code p o as' at) at s (reverse (kinds_of (map (parameter_kind p.types) ps)) ++ s)
     arguments_piece NoMore ps h at s room = left_with (ap (λ l. reverse (kinds_of (map (parameter_kind p.types) l)) ++ s) (sym h)) nothing
     arguments_piece (Scalar e more) ps h at s room =
-        left_with (handed_first p (kind_of h.0.of ∷ []) h.0 h.1 ps s h.2 (scalar_kinds p has.predeclared h.0 h.3.0 h.3.1 h.4))
+        left_with (handed_first p (kind_of p.types h.0.of ∷ []) h.0 h.1 ps s h.2 (scalar_kinds p has.predeclared h.0 h.3.0 h.3.1 h.4))
         (both (value_piece e h.0.of h.5 at s (omega (arith, room)))
-        (arguments_piece more h.1 h.6 (at + length (value_code p o e at)) (kind_of h.0.of ∷ s) (omega (arith, room))))
+        (arguments_piece more h.1 h.6 (at + length (value_code p o e at)) (kind_of p.types h.0.of ∷ s) (omega (arith, room))))
     arguments_piece (Whole x more) ps h at s room =
         left_with (handed_first p (A ∷ []) h.0 h.1 ps s h.2 (place_kinds p o h.0 x h.3.0 h.3.2))
         (both (place_piece x h.3.0 h.3.1 at s (omega (arith, room)))
@@ -363,28 +403,32 @@ module _ (p : Program) (o : Option Procedure) (image : Image) (own : ℕ) (role 
     -- what something is called on
     receiver_piece : {Asks : Round} (c : Callee) (q : Procedure) → IsCalled p o c q → (at : ℕ) (s : Kinds) → length s + receiver_need c ≤ depth → Piece image own role depth Asks (receiver_code p o c at) at s (below c ++ s)
     receiver_piece (Plain m k) q h at s room = nothing
-    receiver_piece (Dispatched e t k) q h at s room = value_piece e (Named t) h.0 at s room
+    receiver_piece (Dispatched e t k) q h at s room =
+        as_kind (reference_kind p has.predeclared (Named t) (object_reference p.types (Named t) h.1)) (value_piece e (Named t) h.0 at s room)
     receiver_piece (Upper t k) q h at s room = one i.SelfRef refl refl (omega (arith, room)) (λ whole n. has.selfs h.0 h.1)
+    receiver_piece (Through e t) q h at s room = as_kind (pattern_kind p has.predeclared (Named t) q h.1) (value_piece e (Named t) h.0 at s room)
 
     -- an expression of a type gives an operand of the type's kind
-    pub value_piece : {Asks : Round} (e : Expr) (t : TType) → IsOf p o e t → (at : ℕ) (s : Kinds) → length s + value_need e ≤ depth → Piece image own role depth Asks (value_code p o e at) at s (kind_of t ∷ s)
-    value_piece (Lit l) t (inl h) at s room = as_kind (sym (literal_kind l t h)) (literal_piece l t h (omega (arith, room)))
-    value_piece (Lit l) t (inr h) at s room =
+    pub value_piece : {Asks : Round} (e : Expr) (t : TType) → IsOf p o e t → (at : ℕ) (s : Kinds) → length s + value_need e ≤ depth → Piece image own role depth Asks (value_code p o e at) at s (kind_of p.types t ∷ s)
+    value_piece (Lit l) t (inl h) at s room = as_kind (sym (literal_kind p.types l t h)) (literal_piece l t h (omega (arith, room)))
+    value_piece (Lit l) t (inr (inl h)) at s room =
         recoded (ap (λ x. literal_code x ∷ []) (sym h.0)) (as_kind (sym (reference_kind p has.predeclared t h.1)) (one i.Nil refl refl (omega (arith, room)) (λ whole q. refl)))
+    value_piece (Lit l) t (inr (inr h)) at s room =
+        recoded (ap (λ x. literal_code x ∷ []) (sym h.0)) (as_kind (sym (procedural_kind p has.predeclared t h.1)) (one i.NilCall refl refl (omega (arith, room)) (λ whole q. refl)))
     value_piece SelfRef t h at s room =
-        as_kind (sym (fitted_kind p has.predeclared t (Named h.0) h.3)) (one i.SelfRef refl refl (omega (arith, room)) (λ whole q. has.selfs h.0 h.1))
+        as_kind (sym (fitted_kind p has.predeclared t (Named h.0) h.3 ∙ reference_kind p has.predeclared (Named h.0) (object_reference p.types (Named h.0) h.2))) (one i.SelfRef refl refl (omega (arith, room)) (λ whole q. has.selfs h.0 h.1))
     value_piece (Read u x) t h at s room =
         let k = some_place x in
-        as_kind (sym (fitted_kind p has.predeclared t u h.2)) (then_one (place_piece x u h.0 at s room) (i.Load (kind_of u)) refl refl (omega (arith, room, k)) (λ whole q. refl))
+        as_kind (sym (fitted_kind p has.predeclared t u h.2)) (then_one (place_piece x u h.0 at s room) (i.Load (kind_of p.types u)) refl refl (omega (arith, room, k)) (λ whole q. refl))
     value_piece (Unary op a) t h at s room =
         let k = some_need a in
-        as_kind (sym (given_kind op t h.1)) (then_one
-        (as_kind (taken_kind op) (value_piece a (taken op) h.0 at s room))
+        as_kind (sym (given_kind p.types op t h.1)) (then_one
+        (as_kind (taken_kind p.types op) (value_piece a (taken op) h.0 at s room))
         (i.Unary op) refl refl (omega (arith, room, k)) (λ whole q. refl))
     value_piece (Binary op a b) t h at s room =
         let k = some_need b in
-        let taken = taken_kinds op (IsOf p o a) (IsOf p o b) h.0 in
-        as_kind (sym (given_of_two_kind op t h.1)) (both
+        let taken = taken_kinds p.types op (IsOf p o a) (IsOf p o b) h.0 in
+        as_kind (sym (given_of_two_kind p.types op t h.1)) (both
         (as_kind taken.4 (value_piece a taken.0 taken.2 at s (omega (arith, room))))
         (then_one
         (as_kind taken.5 (value_piece b taken.1 taken.3 (at + length (value_code p o a at)) (N ∷ s) (omega (arith, room))))
@@ -393,7 +437,7 @@ module _ (p : Program) (o : Option Procedure) (image : Image) (own : ℕ) (role 
         let here = at + length (value_code p o a at) + 1 in
         let other = here + length (value_code p o b here) + 1 in
         let k = some_need a in
-        as_kind (ap kind_of (sym h.2)) (choose other (here + length (value_code p o b here) + 2) refl (omega arith) (omega (arith, room, k)) (omega (arith, room, k))
+        as_kind (ap (kind_of p.types) (sym h.2)) (choose other (here + length (value_code p o b here) + 2) refl (omega arith) (omega (arith, room, k)) (omega (arith, room, k))
         (value_piece a Boolean h.0 at s (omega (arith, room)))
         (value_piece b Boolean h.1 here s (omega (arith, room)))
         (one (i.Num (pos 0)) refl refl (omega (arith, room)) (λ whole q. refl)))
@@ -401,32 +445,32 @@ module _ (p : Program) (o : Option Procedure) (image : Image) (own : ℕ) (role 
         let other = at + length (value_code p o a at) + 3 in
         let n : other ≡ at + length (value_code p o a at) + 1 + 1 + 1 = omega arith in
         let k = some_need a in
-        as_kind (ap kind_of (sym h.2)) (choose other (other + length (value_code p o b other)) n refl (omega (arith, room, k)) (omega (arith, room, k))
+        as_kind (ap (kind_of p.types) (sym h.2)) (choose other (other + length (value_code p o b other)) n refl (omega (arith, room, k)) (omega (arith, room, k))
         (value_piece a Boolean h.0 at s (omega (arith, room)))
         (one (i.Num (pos 1)) refl refl (omega (arith, room)) (λ whole q. refl))
         (value_piece b Boolean h.1 other s (omega (arith, room))))
     value_piece (Element a) t h at s room =
-        as_kind (ap kind_of (sym h.1)) (both (value_piece a (Integer W64) h.0 at s (omega (arith, room)))
+        as_kind (ap (kind_of p.types) (sym h.1)) (both (value_piece a (Integer W64) h.0 at s (omega (arith, room)))
         (one_then i.Dup refl refl (omega (arith, room)) (λ whole q. refl) (one (i.Binary SetSpan) refl refl (omega (arith, room)) (λ whole q. refl))))
-    value_piece (Ord a) t h at s room = as_kind (sym (included_kind t _ h.1)) (value_piece a Char h.0 at s room)
+    value_piece (Ord a) t h at s room = as_kind (sym (included_kind p.types t _ h.1)) (value_piece a Char h.0 at s room)
     value_piece (Chr a) t h at s room =
         let k = some_need a in
-        as_kind (ap kind_of (sym h.1)) (then_one (value_piece a (Integer W64) h.0 at s room) (i.Unary (Range (pos 0) (pos 255))) refl refl (omega (arith, room, k)) (λ whole q. refl))
+        as_kind (ap (kind_of p.types) (sym h.1)) (then_one (value_piece a (Integer W64) h.0 at s room) (i.Unary (Range (pos 0) (pos 255))) refl refl (omega (arith, room, k)) (λ whole q. refl))
     value_piece (CompareTexts r a b) t h at s room =
-        as_kind (ap kind_of (sym h.2)) (texts_of a b h.0 h.1 (i.CmpText r) at s room refl refl (λ whole q. refl)
+        as_kind (ap (kind_of p.types) (sym h.2)) (texts_of a b h.0 h.1 (i.CmpText r) at s room refl refl (λ whole q. refl)
         (rows_piece a 1 Char h.0 at s (omega (arith, room)))
         (rows_piece b 1 Char h.1 (at + length (rows_code p o a at)) (N ∷ A ∷ s) (omega (arith, room))))
     value_piece (Len r d) t h at s room =
         let j = dimensions r in
         let e = dimensions_are p o r h.0 h.1 h.2 in
         let less : d < h.0 = h.4 in
-        as_kind (sym (included_kind t (Integer W32) h.5))
+        as_kind (sym (included_kind p.types t (Integer W32) h.5))
         (then_one (rows_piece r h.0 h.1 h.2 at s room) (i.PickLen d j) (ap (topped N) (rows_taken j s)) refl (omega (arith, room, some_rows r, opened_long j s)) (λ whole q. lt-ltb d j (omega (arith, less, e))))
     value_piece (LenBehind r n) t h at s room =
         let j = dimensions r in
         let some = some_rows r in
         let long : length (row j) ≡ suc j = length-append (replicate j N) (A ∷ []) ∙ ap (λ n. n + 1) (length-replicate j N) ∙ (let e : j + 1 ≡ suc j = omega arith in e) in
-        as_kind (sym (included_kind t (Integer W32) h.4))
+        as_kind (sym (included_kind p.types t (Integer W32) h.4))
         (both (left_with (sym (append_assoc (replicate j N) (A ∷ []) s)) (rows_piece r h.0 h.1 h.2 at s room))
         (then_one (drops_piece (suc j) (row j) (at + length (rows_code p o r at)) s long (omega (arith, room, some, long))) (i.Num (pos n)) refl refl (omega (arith, room, some)) (λ whole q. refl)))
     value_piece (Function c more) t h at s room =
@@ -437,26 +481,56 @@ module _ (p : Program) (o : Option Procedure) (image : Image) (own : ℕ) (role 
         (arguments_piece more h.0.parameters h.6 (at + length (receiver_code p o c at)) (below c ++ s) (omega (arith, room, below_long c s))))
     value_piece (Same a b) t h at s room =
         let k = some_need b in
-        as_kind (ap kind_of (sym h.2)) (both
+        as_kind (ap (kind_of p.types) (sym h.2)) (both
         (as_kind (reference_kind p has.predeclared h.0.0 h.0.2) (value_piece a h.0.0 h.0.1 at s (omega (arith, room))))
         (then_one
         (as_kind (reference_kind p has.predeclared h.1.0 h.1.2) (value_piece b h.1.0 h.1.1 (at + length (value_code p o a at)) (R ∷ s) (omega (arith, room))))
         i.EqRef refl refl (omega (arith, room, k)) (λ whole q. refl)))
     value_piece (Is a c) t h at s room =
         let k = some_need a in
-        as_kind (ap kind_of (sym h.2)) (then_one
+        as_kind (ap (kind_of p.types) (sym h.2)) (then_one
         (as_kind (reference_kind p has.predeclared h.0.0 h.0.2) (value_piece a h.0.0 h.0.1 at s room))
         (i.Is (c + 1)) refl refl (omega (arith, room, k)) (λ whole q. has.types c h.1))
     value_piece (IsRecord x c) t h at s room =
         let k = some_place x in
-        as_kind (ap kind_of (sym h.4)) (then_one (place_piece x h.0 h.1 at s room) (i.IsPlace (c + 1)) refl refl (omega (arith, room, k)) (λ whole q. has.records c h.3))
+        as_kind (ap (kind_of p.types) (sym h.4)) (then_one (place_piece x h.0 h.1 at s room) (i.IsPlace (c + 1)) refl refl (omega (arith, room, k)) (λ whole q. has.records c h.3))
     value_piece (Guard a c) t h at s room =
         let k = some_need a in
         let is = any_or_target p t (λ b. comes_to p.types (id_of (Named c)) b ≡ true) h.2 in
         as_kind (sym (reference_kind p has.predeclared t is)) (then_one
         (as_kind (reference_kind p has.predeclared h.0.0 h.0.2) (value_piece a h.0.0 h.0.1 at s room))
         (i.Guard (c + 1)) refl refl (omega (arith, room, k)) (λ whole q. has.types c h.1))
+    value_piece (ProcedureOf m k) t h at s room =
+        let n = procedure_number p m k in
+        as_kind (sym (pattern_kind p has.predeclared t h.2.0 h.2.1))
+        (one (i.Proc n) refl refl (omega (arith, room)) (λ whole q. plain_shape n m h.0 (routine_there p m k h.0 h.1) (ap has_type (has.plain m k h.0 h.1))))
+    value_piece (MethodOf a j k) t h at s room =
+        let some = some_need a in
+        let f = has.methods.found j k h.2.0 h.2.1 in
+        as_kind (sym (pattern_kind p has.predeclared t h.2.2.0 h.2.2.1))
+        (then_one (as_kind (reference_kind p has.predeclared (Named j) (object_reference p.types (Named j) h.1)) (value_piece a (Named j) h.0 at s room))
+        (i.Bind k) refl refl (omega (arith, room, some)) (λ whole q. has.slots j k (method_number p j k) f.below f.number))
+    value_piece (SameProcedure a b) t h at s room =
+        let k = some_need b in
+        as_kind (ap (kind_of p.types) (sym h.2)) (both
+        (one_piece a at s (λ u g. value_piece a u g at s (omega (arith, room))) (λ g. named_piece a g at s (omega (arith, room))) h.0)
+        (then_one
+        (one_piece b (at + length (value_code p o a at)) (C ∷ s) (λ u g. value_piece b u g (at + length (value_code p o a at)) (C ∷ s) (omega (arith, room))) (λ g. named_piece b g (at + length (value_code p o a at)) (C ∷ s) (omega (arith, room))) h.1)
+        i.EqCall refl refl (omega (arith, room, k)) (λ whole q. refl)))
     value_piece (Had v) t h at s room = absurd h
+
+    -- a procedure that is named, or none
+    named_piece : {Asks : Round} (e : Expr) → IsNamed p o e → (at : ℕ) (s : Kinds) → length s + value_need e ≤ depth → Piece image own role depth Asks (value_code p o e at) at s (C ∷ s)
+    named_piece (Lit l) h at s room =
+        recoded (ap (λ x. literal_code x ∷ []) (sym h)) (one i.NilCall refl refl (omega (arith, room)) (λ whole q. refl))
+    named_piece (ProcedureOf m k) h at s room =
+        one (i.Proc (procedure_number p m k)) refl refl (omega (arith, room)) (λ whole q. plain_shape (procedure_number p m k) m h.0 (routine_there p m k h.0 h.1) (ap has_type (has.plain m k h.0 h.1)))
+    named_piece (MethodOf a j k) h at s room =
+        let some = some_need a in
+        let f = has.methods.found j k h.2.0 h.2.1 in
+        then_one (as_kind (reference_kind p has.predeclared (Named j) (object_reference p.types (Named j) h.1)) (value_piece a (Named j) h.0 at s room))
+        (i.Bind k) refl refl (omega (arith, room, some)) (λ whole q. has.slots j k (method_number p j k) f.below f.number)
+    named_piece _ h at s room = absurd h
 
   -- lengths, one above the other
   pub lengths_of : {Asks : Round} (es : List Expr) → AreLengthsOf p o es → (at : ℕ) (s : Kinds) → length s + values_need es ≤ depth → Piece image own role depth Asks (values_code p o es at) at s (replicate (length es) N ++ s)

@@ -1,5 +1,5 @@
 -- What an image has of each routine of a program: its code, which carries out the routine's statements, and its shape.
-use Rattle.std.proofs.Common.{◌≡◌, ℕ, zero, suc, pos, ◌+◌, ◌<◌, length, List, [], ◌∷◌, ◌++◌, map, Option, Some, None, refl, sym, ap, ◌∙◌, arith}
+use Rattle.std.proofs.Common.{◌≡◌, ℕ, zero, suc, pos, ◌+◌, ◌<◌, length, List, [], ◌∷◌, ◌++◌, map, Option, Some, None, refl, sym, ap, ◌∙◌, arith, ◌≤◌}
 use Rattle.std.specs.Prelude.{All, slice_get, option_map, option_and_then}
 use Rattle.std.proofs.lemmas.List.Elements.{All-nil, All-cons, All-append, All-map, All-tail}
 use Rattle.std.proofs.lemmas.Option.{slice_get-map}
@@ -33,7 +33,7 @@ use Rattle.aos_sim.proofs.Stats.{body_goes}
 use Rattle.aos_sim.proofs.States.{RoutinesRun}
 
 -- what stands at a place of one list, where another has alike at it
-alike_at : {A B X : Type 0} (f : A → X) (g : B → X) (xs : List A) (ys : List B) → map f xs ≡ map g ys → (k : ℕ) (y : B) → slice_get ys k ≡ Some y → (x : A) × (slice_get xs k ≡ Some x) × (f x ≡ g y)
+pub alike_at : {A B X : Type 0} (f : A → X) (g : B → X) (xs : List A) (ys : List B) → map f xs ≡ map g ys → (k : ℕ) (y : B) → slice_get ys k ≡ Some y → (x : A) × (slice_get xs k ≡ Some x) × (f x ≡ g y)
 alike_at {A = A} f g xs ys same k y e =
     by (slice_get xs k) refl (sym (slice_get-map f xs k) ∙ ap (λ l. slice_get l k) same ∙ slice_get-map g ys k ∙ ap (option_map g) e)
   where
@@ -41,10 +41,15 @@ alike_at {A = A} f g xs ys same k y e =
     by None there h = absurd (cc)
     by (Some x) there h = (x, there, cc)
 
-range_get : (n from k : ℕ) → k < n → slice_get (range_with_len from n) k ≡ Some (k + from)
+pub range_get : (n from k : ℕ) → k < n → slice_get (range_with_len from n) k ≡ Some (k + from)
 range_get zero from k l = absurd (omega (arith, l))
 range_get (suc n) from zero l = let e : from ≡ 0 + from = omega arith in ap (λ m. Some m) e
 range_get (suc n) from (suc k) l = let e : k + (from + 1) ≡ suc k + from = omega arith in range_get n (from + 1) k (omega (arith, l)) ∙ ap (λ m. Some m) e
+
+pub range_past : (n from k : ℕ) → n ≤ k → slice_get (range_with_len from n) k ≡ None
+range_past zero from k l = refl
+range_past (suc n) from zero l = absurd (omega (arith, l))
+range_past (suc n) from (suc k) l = range_past n (from + 1) k (omega (arith, l))
 
 -- what a shape says of a routine
 

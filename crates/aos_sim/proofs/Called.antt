@@ -4,7 +4,7 @@ use Rattle.std.specs.Prelude.{option_map, reverse, replicate, is_some, not}
 use Rattle.std.proofs.lemmas.List.{map-append}
 use Rattle.std.proofs.lemmas.Grind.{reverse_onto}
 use Rattle.aos_base.specs.declared.number.Width.TheVariants.{W8, W16, W32, W64}
-use Rattle.aos_base.specs.Question.{Asks, Traps, Calls, Opens}
+use Rattle.aos_base.specs.Question.{ByName, Asks, Traps, Calls, Opens}
 use Rattle.aos_types.specs.declared.row.Basic.{Basic}
 use Rattle.aos_types.specs.declared.row.Basic.TheVariants as basic
 use Rattle.aos_types.specs.declared.row.TypeId.{TypeId}
@@ -20,7 +20,7 @@ use Rattle.aos_typed.specs.Numbers.{id_of}
 use Rattle.aos_typed.specs.Open.{open_dimensions, open_element, first_same}
 use Rattle.aos_typed.specs.Sort.{Sort, Variable, Alias}
 use Rattle.aos_typed.specs.Value.{Value, Int, Flag, Char, Set, Object, Callable, Place}
-use Rattle.aos_typed.specs.Typing.{IsBasic, IsPlainly, Extends, Is}
+use Rattle.aos_typed.specs.Typing.{IsBasic, pattern_at, IsPlainly, Extends, Is}
 use Rattle.aos_typed.specs.WellTyped.{is_basic}
 use Rattle.aos_typed.specs.Meaning.{Here}
 use Rattle.aos_layout.specs.Frame.{parameter_kind}
@@ -32,19 +32,19 @@ use Rattle.aos_code.specs.declared.image.ProcShape.{ProcShape}
 use Rattle.aos_base.specs.Rooted.{by_number}
 use Rattle.aos_typed.specs.Routines.{routine_of, routines}
 use Rattle.aos_code.specs.declared.instr.Cell.{Cell}
-use Rattle.aos_code.specs.declared.instr.Cell.TheVariants.{Ref}
+use Rattle.aos_code.specs.declared.instr.Cell.TheVariants.{Ref, Call as CallCell}
 use Rattle.aos_code.specs.declared.instr.Instr.{Instr}
 use Rattle.aos_code.specs.declared.instr.Instr.TheVariants as i
 use Rattle.aos_code.specs.declared.instr.Kind.{Kind}
-use Rattle.aos_code.specs.declared.instr.Kind.TheVariants.{N, R, C, A}
+use Rattle.aos_code.specs.declared.instr.Kind.TheVariants.{N, R, A}
 use Rattle.aos_code.specs.Numbered.{numbered}
-use Rattle.aos_code.specs.Silent.{Stack, Keeps, Act, Looks, AtSlot, Stops, lost, is_of, kinds_of, on_kind, on_kinds, on_arguments, on_receiver, called as called_on, calls, sends, invoked, method_at}
+use Rattle.aos_code.specs.Silent.{Stack, Keeps, Act, Looks, AtSlot, Stops, lost, is_of, kinds_of, on_kind, on_kinds, on_arguments, on_receiver, on_callable, applies, applies_as, calls_value, called as called_on, calls, sends, invoked, method_at}
 use Rattle.aos_sim.specs.Cells.{cell_of}
 use Rattle.aos_sim.specs.Shows.{shape_of}
 use Rattle.aos_sim.proofs.Runs.{Run, Tables, gives_result, type_at, invokes, on_run, at_work, runs}
 use Rattle.aos_sim.proofs.Types.{basic_of, number_cell, from_basic}
 use Rattle.aos_sim.proofs.Does.{HasShapes, Handles, Given}
-use Rattle.aos_sim.proofs.References.{reference_kind}
+use Rattle.aos_sim.proofs.References.{reference_kind, callable_kind}
 use Rattle.aos_sim.proofs.Evaluates.{pushed}
 
 -- What lies on the stack for a call.
@@ -56,11 +56,26 @@ AreOf [] (v ∷ vs) = ⊥
 AreOf (k ∷ ks) [] = ⊥
 AreOf (k ∷ ks) (v ∷ vs) = (is_of k v ≡ true) × AreOf ks vs
 
-are_both : (ks js : List Kind) (vs us : List Cell) → AreOf ks vs → AreOf js us → AreOf (ks ++ js) (vs ++ us)
+pub are_both : (ks js : List Kind) (vs us : List Cell) → AreOf ks vs → AreOf js us → AreOf (ks ++ js) (vs ++ us)
 are_both [] js [] us h g = g
 are_both [] js (v ∷ vs) us h g = absurd h
 are_both (k ∷ ks) js [] us h g = absurd h
 are_both (k ∷ ks) js (v ∷ vs) us h g = (h.0, are_both ks js vs us h.1 g)
+
+pub are_reversed : (ks : List Kind) (vs : List Cell) → AreOf ks vs → AreOf (reverse ks) (reverse vs)
+are_reversed [] [] h = tt
+are_reversed [] (v ∷ vs) h = absurd h
+are_reversed (k ∷ ks) [] h = absurd h
+are_reversed (k ∷ ks) (v ∷ vs) h =
+    subst (λ l. AreOf l (reverse (v ∷ vs))) (sym (reverse_onto ks k []))
+    (subst (λ l. AreOf (reverse ks ++ k ∷ []) l) (sym (reverse_onto vs v [])) (are_both (reverse ks) (k ∷ []) (reverse vs) (v ∷ []) (are_reversed ks vs h.1) (h.0, tt)))
+
+-- as many as the kinds
+pub are_many : (ks : List Kind) (vs : List Cell) → AreOf ks vs → length vs ≡ length ks
+are_many [] [] h = refl
+are_many [] (v ∷ vs) h = absurd h
+are_many (k ∷ ks) [] h = absurd h
+are_many (k ∷ ks) (v ∷ vs) h = ap (λ n. suc n) (are_many ks vs h.1)
 
 -- the last of these operands are taken first
 on_both : (ks js : List Kind) (vs : List Cell) (f : List Cell → Stack → Act) (s : Stack) → on_kinds (ks ++ js) vs f s ≡ on_kinds ks vs (λ us s'. on_kinds js us f s') s
@@ -79,7 +94,7 @@ on_pushed (k ∷ ks) (v ∷ vs) us f s h =
     ∙ rw h.0 refl
 
 -- a value of a type is in a cell of the type's kind
-module _ (rows : List TypeRow) (w : World Sort) where
+module _ (program : Program) (w : World Sort) where
   is_number : (v : Value) (z : ℤ) → v ≡ Int z → is_of N (cell_of w v) ≡ true
   is_number v z e = subst (λ x. is_of N (cell_of w x) ≡ true) (sym e) refl
 
@@ -100,20 +115,20 @@ module _ (rows : List TypeRow) (w : World Sort) where
   of_basic basic.Nil v h = is_reference v 0 h
   of_basic (basic.Text n) v h = is_number v (pos 0) h
 
-  pub kind_of_value : (t : TypeId) (o : Option TypeRow) (v : Value) → IsPlainly rows w t o v → is_of (kind_in o) (cell_of w v) ≡ true
+  pub kind_of_value : (t : TypeId) (o : Option TypeRow) (v : Value) → IsPlainly program w t o v → is_of (kind_in o) (cell_of w v) ≡ true
   kind_of_value t None v h = is_number v (pos 0) h
   kind_of_value t (Some (row.Basic b)) v h = of_basic b v h
   kind_of_value t (Some (row.Array n of)) v h = is_number v (pos 0) h
   kind_of_value t (Some (row.Open of)) v h = is_number v (pos 0) h
   kind_of_value t (Some (row.Record base fields)) v h = is_number v (pos 0) h
-  kind_of_value t (Some (row.Pointer to)) v h = reference_kind rows w (Extends rows (first_same rows to)) v h
-  kind_of_value t (Some (row.Object base fields)) v h = reference_kind rows w (Extends rows t) v h
-  kind_of_value t (Some (row.Procedure formals r)) v h = subst (λ x. is_of C (cell_of w x) ≡ true) (sym h) refl
-  kind_of_value t (Some row.Any) v h = reference_kind rows w (λ m. Unit {0}) v h
+  kind_of_value t (Some (row.Pointer to)) v h = reference_kind program w (Extends program (first_same program.types to)) v h
+  kind_of_value t (Some (row.Object base fields)) v h = reference_kind program w (Extends program t) v h
+  kind_of_value t (Some (row.Procedure formals r)) v h = callable_kind program w (pattern_at program t) v h
+  kind_of_value t (Some row.Any) v h = reference_kind program w (λ m. Unit {0}) v h
 
 module _ (program : Program) where
   -- the kinds of what is handed over for a parameter
-  abbrev kinds_for : (opens by_reference one : Bool) → TypeId → List Kind
+  abbrev pub kinds_for : (opens by_reference one : Bool) → TypeId → List Kind
   kinds_for true b c t = A ∷ replicate (open_dimensions program.types t) N
   kinds_for false true c t = A ∷ []
   kinds_for false false true t = kind_of program.types t ∷ []
@@ -125,7 +140,7 @@ module _ (program : Program) where
   kinds_behind false false true t d n m v ps e = refl
   kinds_behind false false false t d n m v ps e = refl
 
-  kinds_first : (a : Parameter) (ps : List ParamKind) → let t = id_of a.of in kinds_of (parameter_kind program.types a ∷ ps) ≡ kinds_for (is_open (row_of program.types t)) a.by_reference (is_scalar (row_of program.types t)) t ++ kinds_of ps
+  pub kinds_first : (a : Parameter) (ps : List ParamKind) → let t = id_of a.of in kinds_of (parameter_kind program.types a ∷ ps) ≡ kinds_for (is_open (row_of program.types t)) a.by_reference (is_scalar (row_of program.types t)) t ++ kinds_of ps
   kinds_first a ps =
       let t = id_of a.of in
       kinds_behind (is_open (row_of program.types t)) a.by_reference (is_scalar (row_of program.types t)) t (open_dimensions program.types t) (size (cells program.types (open_element program.types t))) (size (cells program.types t)) (not a.by_reference) ps refl
@@ -138,7 +153,7 @@ module _ (program : Program) where
     lengths_are (n ∷ ns) (suc d) e = (refl, lengths_are ns d (omega (arith, e)))
 
     -- what a VAR parameter stands for is a place
-    alias_kind : (b : Bool) (t : TypeId) (v : Value) → Is program.types w (if b then Variable t else Alias t) v → is_of A (cell_of w v) ≡ true
+    alias_kind : (b : Bool) (t : TypeId) (v : Value) → Is program w (if b then Variable t else Alias t) v → is_of A (cell_of w v) ≡ true
     alias_kind b t (Place p) h = refl
     alias_kind true t (Int z) h = absurd h
     alias_kind true t (Flag b) h = absurd h
@@ -158,10 +173,10 @@ module _ (program : Program) where
         subst (λ us. AreOf (kinds_for true b c t) (map (cell_of w) us)) (sym h.2) (refl, lengths_are h.1 (open_dimensions program.types t) h.3)
     handled false true c t us h = subst (λ us. AreOf (A ∷ []) (map (cell_of w) us)) (sym h.1) (alias_kind (is_record (row_of program.types t)) t h.0 h.2, tt)
     handled false false true t us h =
-        subst (λ us. AreOf (kind_of program.types t ∷ []) (map (cell_of w) us)) (sym h.1) (kind_of_value program.types w t (row_of program.types t) h.0 h.2, tt)
+        subst (λ us. AreOf (kind_of program.types t ∷ []) (map (cell_of w) us)) (sym h.1) (kind_of_value program w t (row_of program.types t) h.0 h.2, tt)
     handled false false false t us h = subst (λ us. AreOf (A ∷ []) (map (cell_of w) us)) (sym h.1) (refl, tt)
 
-    given_are : (as' : List Parameter) (vs : List Value) → Given program w as' vs → AreOf (kinds_of (map (parameter_kind program.types) as')) (map (cell_of w) vs)
+    pub given_are : (as' : List Parameter) (vs : List Value) → Given program w as' vs → AreOf (kinds_of (map (parameter_kind program.types) as')) (map (cell_of w) vs)
     given_are [] vs h = subst (λ vs. AreOf [] (map (cell_of w) vs)) (sym h) tt
     given_are (a ∷ as') vs h =
         let t = id_of a.of in
@@ -211,7 +226,7 @@ module _ (program : Program) where
         goes a = on_run tables a (runs tables number here code rest) p ks
 
         abbrev work : List Cell → Run
-        work us = at_work tables (Calls n us) p ks s (runs tables number here code rest)
+        work us = at_work tables (Calls ByName n us) p ks s (runs tables number here code rest)
 
         -- the code asks for the call of a procedure
         pub plain_asks : q.of ≡ None → runs tables number here code (i.Call n ∷ rest) 0 p ks (pushed cells_given s) ≡ work cells_given
@@ -234,3 +249,13 @@ module _ (program : Program) where
 
         pub slot_asks : (k o : ℕ) → runs tables number here code (i.Virtual k n ∷ rest) 0 p ks (pushed cells_given (Ref (suc o) ∷ s)) ≡ Asks (Opens (Ref (suc o))) (λ x. invokes (invoked tables.procedures n (method_at tables.types (type_at x) k) (suc o) cells_given) (λ z. at_work tables z p ks s (runs tables number here code rest)))
         slot_asks k o = ap (λ f. goes (sends f k n (pushed cells_given (Ref (suc o) ∷ s)))) known.1 ∙ ap goes (taken (sent k) (Ref (suc o) ∷ s))
+
+        abbrev applied_to : List Cell → Stack → Act
+        applied_to us s' = on_callable (λ a o s''. applies tables.procedures shape a o us s'') s'
+
+        -- of what a procedure value stands for; at NIL it is a trap
+        pub none_applied : (o : ℕ) → runs tables number here code (i.CallValue n ∷ rest) 0 p ks (pushed cells_given (CallCell 0 o ∷ s)) ≡ Traps 1 0
+        none_applied o = ap (λ f. goes (calls_value tables.procedures f (pushed cells_given (CallCell 0 o ∷ s)))) known.1 ∙ ap goes (taken applied_to (CallCell 0 o ∷ s))
+
+        pub value_asks : (a o : ℕ) → runs tables number here code (i.CallValue n ∷ rest) 0 p ks (pushed cells_given (CallCell (suc a) o ∷ s)) ≡ goes (applies_as (numbered tables.procedures (suc a)) shape (suc a) o cells_given s)
+        value_asks a o = ap (λ f. goes (calls_value tables.procedures f (pushed cells_given (CallCell (suc a) o ∷ s)))) known.1 ∙ ap goes (taken applied_to (CallCell (suc a) o ∷ s))

@@ -34,6 +34,7 @@ use Rattle.aos_sim.proofs.Designators.{IsFound, places_stay}
 use Rattle.aos_sim.proofs.Exprs.{on_numbers_does, scalar_found, place_does, value_does}
 use Rattle.aos_sim.proofs.Carries.{Carries, Behind, StatementDoes}
 use Rattle.aos_sim.proofs.Stats.{from_here, last_asks, store_asks}
+use Rattle.aos_types.specs.declared.row.TypeRow.{TypeRow}
 
 -- what is changed is of a basic type
 pub changed_basic : (c : Changing) → is_basic (changed_type c) ≡ true
@@ -55,13 +56,13 @@ changed_value program (change.Subtract w) = refl
 changed_value program change.Include = refl
 changed_value program change.Exclude = refl
 
-pub basic_kind : (t : TType) → is_basic t ≡ true → kind_of t ≡ N
-basic_kind (type.Integer w) e = refl
-basic_kind type.Boolean e = refl
-basic_kind type.Char e = refl
-basic_kind type.Set e = refl
-basic_kind type.Any e = absurd (cc)
-basic_kind (type.Named t) e = absurd (cc)
+pub basic_kind : (rows : List TypeRow) (t : TType) → is_basic t ≡ true → kind_of rows t ≡ N
+basic_kind rows (type.Integer w) e = refl
+basic_kind rows type.Boolean e = refl
+basic_kind rows type.Char e = refl
+basic_kind rows type.Set e = refl
+basic_kind rows type.Any e = absurd (cc)
+basic_kind rows (type.Named t) e = absurd (cc)
 
 pub includes_itself : (w : Width) → Includes (type.Integer w) (type.Integer w)
 includes_itself W8 = refl
@@ -107,10 +108,10 @@ module _ (program : Program) (own : Option Procedure) (tables : Tables) (number 
         let q = p + 3 + length (change_code c) in
         let tail = change_code c ++ (i.Store N ∷ rest) in
         let z : p + 1 + 1 + 1 ≡ p + 3 = omega arith in
-        let kind = sym (basic_kind t basic) in
+        let kind = sym (basic_kind program.types t basic) in
         let value = changed_value program c in (
           (λ y. onward (i.Swap ∷ tail) 0 (p + 1 + 1) k (y ∷ (Num (number_of n) ∷ (place_in w a ∷ [])))),
-          e ∙ ap (λ kind. onward (i.Load kind ∷ (i.Swap ∷ tail)) 0 (p + 1) k (place_in w a ∷ (Num (number_of n) ∷ (place_in w a ∷ [])))) (sym (basic_kind t basic)),
+          e ∙ ap (λ kind. onward (i.Load kind ∷ (i.Swap ∷ tail)) 0 (p + 1) k (place_in w a ∷ (Num (number_of n) ∷ (place_in w a ∷ [])))) (sym (basic_kind program.types t basic)),
           (value, scalar_found program own tables number here code typed t value w a named found),
           λ w1 up v got.
               let iv = value_from program typed.predeclared t w1 v basic got in

@@ -28,7 +28,7 @@ use Rattle.aos_sim.proofs.Objects.{some_same}
 pub all_there : (n : ℕ) (cells : List Cell) → length cells ≡ n → if_all n cells ≡ Some cells
 all_there n cells e = rw (eq-eqb (length cells) n e) refl
 
-module _ (program : Program) (made : List Made) (frames : List (Shape Sort)) (x : Rooted (Content Value)) (y : Rooted (List Cell)) (shows : Shows (Is program.types) cell_of (scheme program) made frames x y) (t : TType) where
+module _ (program : Program) (made : List Made) (frames : List (Shape Sort)) (x : Rooted (Content Value)) (y : Rooted (List Cell)) (shows : Shows (Is program) cell_of (scheme program) made frames x y) (t : TType) where
   abbrev now : World Sort
   now = world (scheme program) made frames
 
@@ -45,7 +45,7 @@ module _ (program : Program) (made : List Made) (frames : List (Shape Sort)) (x 
   all_cells p h =
       let n = variable_scalars program.types (id_of t) in
       let size_is : size shape ≡ n = variable_size program.types (id_of t) in
-      let a = loads_alike (Is program.types) cell_of IsPlain (values_kept program.types) (scheme program) made frames x y n (join shape h.0) p.root p.path shows h.1 (let l = size_join shape h.0 in omega (arith, size_is, l)) in
+      let a = loads_alike (Is program) cell_of IsPlain (values_kept program) (scheme program) made frames x y n (join shape h.0) p.root p.path shows h.1 (let l = size_join shape h.0 in omega (arith, size_is, l)) in
       let cells = take n (map (cell_of now) (flatten a.inner)) in
       let many : length cells ≡ n = length-take-le n (map (cell_of now) (flatten a.inner)) (let l = a.long in let z = size_join shape h.0 in omega (arith, l, size_is, z)) in
       record { cells = cells; loaded = a.image; there = ap (option_and_then (if_all n)) a.image ∙ all_there n cells many }
@@ -59,12 +59,12 @@ module _ (program : Program) (made : List Made) (frames : List (Shape Sort)) (x 
     pub cells : List Cell
     pub image : cells_at (variable_scalars program.types (id_of t)) (addr_of now from) y ≡ Some cells
     pub there : is_some (cells_at (variable_scalars program.types (id_of t)) (addr_of now to) y) ≡ true
-    pub alike : Shows (Is program.types) cell_of (scheme program) made frames (write to.root to.path (overlay shape new old) x) (store_all to.root (addr_of now to).cell cells y)
+    pub alike : Shows (Is program) cell_of (scheme program) made frames (write to.root to.path (overlay shape new old) x) (store_all to.root (addr_of now to).cell cells y)
 
   pub copied_alike : (from to : Spot) → HasWhole program now from (id_of t) → HasWhole program now to (id_of t) → CopiedAlike from to
   copied_alike from to hf ht =
       let plain : EachSort IsPlain (join shape ht.0) = each_join IsPlain shape ht.0 (variable_plain program.types (id_of t)) ht.2 in
-      let c = copy_alike (Is program.types) cell_of IsPlain (values_kept program.types) (scheme program) made frames x y shape hf.0 ht.0 from.root from.path to.root to.path shows hf.1 ht.1 plain in
+      let c = copy_alike (Is program) cell_of IsPlain (values_kept program) (scheme program) made frames x y shape hf.0 ht.0 from.root from.path to.root to.path shows hf.1 ht.1 plain in
       let a = all_cells from hf in
       let stored = λ (cells : List Cell). store_all to.root (addr_of now to).cell cells y in
       let loaded : load_all (size shape) from.root (addr_of now from).cell y ≡ Some a.cells = ap (λ m. load_all m from.root (addr_of now from).cell y) (variable_size program.types (id_of t)) ∙ a.loaded in
@@ -77,5 +77,5 @@ module _ (program : Program) (made : List Made) (frames : List (Shape Sort)) (x 
         cells = a.cells;
         image = a.there;
         there = ap is_some (all_cells to ht).there;
-        alike = subst (Shows (Is program.types) cell_of (scheme program) made frames (write to.root to.path (overlay shape c.inner c.old) x)) same c.alike;
+        alike = subst (Shows (Is program) cell_of (scheme program) made frames (write to.root to.path (overlay shape c.inner c.old) x)) same c.alike;
       }

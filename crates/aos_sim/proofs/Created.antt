@@ -142,7 +142,7 @@ module _ (program : Program) where
   abbrev pub begun : Made → Content Value
   begun m = first_content (first_value program) (made_shape program.types m)
 
-  objects_counted : (w : World Sort) (ss : List (Shape Sort)) (cs : List (Content Value)) (ys : List (List Cell)) → AllShown (Is program.types) cell_of w ss cs ys → sum_by memory.counted ys ≡ sum_by store.counted cs
+  objects_counted : (w : World Sort) (ss : List (Shape Sort)) (cs : List (Content Value)) (ys : List (List Cell)) → AllShown (Is program) cell_of w ss cs ys → sum_by memory.counted ys ≡ sum_by store.counted cs
   objects_counted w [] [] [] h = refl
   objects_counted w [] [] (y ∷ ys) h = absurd h
   objects_counted w [] (c ∷ cs) ys h = absurd h
@@ -160,11 +160,11 @@ module _ (program : Program) where
     abbrev now : World Sort
     now = world_of program s.made []
 
-    begun_fits : Fits (Is program.types now) (made_shape program.types m) (begun m)
-    begun_fits = first_fits (Is program.types) cell_of IsPlain (values_kept program.types) (first_value program) (zero_cell program) (first_is program) (first_same program) now (made_shape program.types m) (made_plain m)
+    begun_fits : Fits (Is program now) (made_shape program.types m) (begun m)
+    begun_fits = first_fits (Is program) cell_of IsPlain (values_kept program) (first_value program) (zero_cell program) (first_is program) (first_same program) now (made_shape program.types m) (made_plain m)
 
     begun_cells : map (cell_of now) (flatten (begun m)) ≡ cells
-    begun_cells = first_cells (Is program.types) cell_of IsPlain (values_kept program.types) (first_value program) (zero_cell program) (first_is program) (first_same program) now (made_shape program.types m)
+    begun_cells = first_cells (Is program) cell_of IsPlain (values_kept program) (first_value program) (zero_cell program) (first_is program) (first_same program) now (made_shape program.types m)
 
     long : length cells ≡ length (flatten (begun m))
     long = ap length (sym begun_cells) ∙ length-map (flatten (begun m)) (cell_of now)
@@ -180,5 +180,5 @@ module _ (program : Program) where
     roomy e =
         let p = and_parts (list_all (λ n. nat_le n 16777216) m.lengths) (nat_le (store.counted (begun m) + sum_by store.counted s.objects) 16777216) e in
         let l = leb-true (store.counted (begun m) + sum_by store.counted s.objects) 16777216 p.1 in
-        let many = as_many (Is program.types now) (made_shape program.types m) (begun m) begun_fits in
+        let many = as_many (Is program now) (made_shape program.types m) (begun m) begun_fits in
         (omega (arith, l, many), all_few m.lengths p.0)

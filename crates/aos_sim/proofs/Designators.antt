@@ -80,7 +80,7 @@ module _ (program : Program) where
     pub few : cell_at w p.root p.path + size shape < 2 ^ 32
     pub holds : HoldsType (id_of t) shape
     pub plain : EachSort IsPlain shape
-    pub names : named → Names program.types w (id_of t) p
+    pub names : named → Names program w (id_of t) p
 
   -- the fields of a record or an object of this type are there, and their cells have numbers of 32 bits
   pub record HasFields (t : TypeId) (w : World Sort) (p : Spot) : Type 0 where
@@ -126,7 +126,7 @@ module _ (program : Program) where
           names = λ n. names_grow p (h.names n);
         }
       where
-        names_grow : (p : Spot) → Names program.types w (id_of t) p → Names program.types w' (id_of t) p
+        names_grow : (p : Spot) → Names program w (id_of t) p → Names program w' (id_of t) p
         names_grow p n = record { extends = n.extends; more = n.more; plain = n.plain; there = shape_grows w w' g p.root p.path (join (object_shape program.types (id_of_made p.type)) n.more) n.there }
 
     pub found_cell : (named : Type 0) (t : TType) (p : Spot) → IsFound named t w p → place_in w p ≡ place_in w' p
@@ -185,7 +185,7 @@ module _ (program : Program) where
     rows_hold [] t = variable_holds t
     rows_hold (n ∷ ns) t = refl
 
-    pub names_hold : (t : TypeId) (w : World Sort) (p : Spot) → is_record (row_of program.types t) ≡ true → (n : Names program.types w t p) → HoldsType t (join (object_shape program.types (id_of_made p.type)) n.more)
+    pub names_hold : (t : TypeId) (w : World Sort) (p : Spot) → is_record (row_of program.types t) ≡ true → (n : Names program w t p) → HoldsType t (join (object_shape program.types (id_of_made p.type)) n.more)
     names_hold t w p is n =
         let r = begins_with program typed (id_of_made p.type) t is n.extends in
         record_holds t (join (object_shape program.types (id_of_made p.type)) n.more) (join r.0 n.more) is
@@ -360,7 +360,7 @@ module _ (program : Program) (own : Option Procedure) (tables : Tables) (number 
       }
 
   -- a place that names the type of its record
-  pub names_found : HasTypes program → (named : Type 0) (t : TType) (w : World Sort) (p : Spot) → is_record (row_of program.types (id_of t)) ≡ true → Names program.types w (id_of t) p → IsReached w p → IsFound program named t w p
+  pub names_found : HasTypes program → (named : Type 0) (t : TType) (w : World Sort) (p : Spot) → is_record (row_of program.types (id_of t)) ≡ true → Names program w (id_of t) p → IsReached w p → IsFound program named t w p
   names_found typed named t w p is n reached =
       record {
         shape = join (object_shape program.types (id_of_made p.type)) n.more;
@@ -372,7 +372,7 @@ module _ (program : Program) (own : Option Procedure) (tables : Tables) (number 
       }
 
   -- what a parameter stands for, on the stack
-  alias_found : HasTypes program → (t : TType) (w : World Sort) (b : Bool) → is_record (row_of program.types (id_of t)) ≡ b → (v : Value) → Is program.types w (if b then Variable (id_of t) else Alias (id_of t)) v → OnPlace (IsReached w) v → IsFound program (is_record (row_of program.types (id_of t)) ≡ true) t w (source.place_in v) × (cell_of w v ≡ place_in w (source.place_in v))
+  alias_found : HasTypes program → (t : TType) (w : World Sort) (b : Bool) → is_record (row_of program.types (id_of t)) ≡ b → (v : Value) → Is program w (if b then Variable (id_of t) else Alias (id_of t)) v → OnPlace (IsReached w) v → IsFound program (is_record (row_of program.types (id_of t)) ≡ true) t w (source.place_in v) × (cell_of w v ≡ place_in w (source.place_in v))
   alias_found typed t w true is (Place p) h r = (names_found typed (is_record (row_of program.types (id_of t)) ≡ true) t w p is h r, refl)
   alias_found typed t w false isnt (Place p) h r =
       (record { shape = variable_shape program.types (id_of t); there = h; few = r (variable_shape program.types (id_of t)) h; holds = variable_holds program typed (id_of t); plain = variable_plain program.types (id_of t); names = λ is. absurd (false≢true (sym isnt ∙ is)) }, refl)
@@ -633,7 +633,7 @@ module _ (program : Program) (own : Option Procedure) (tables : Tables) (number 
   length-lengths c (suc n) = ap (λ m. suc m) (length-lengths (suc c) n)
 
   -- what an open array parameter stands for, on the stack
-  elements_found : HasTypes program → (ns : List ℕ) (of : TypeId) (t : TType) → of ≡ id_of t → (w : World Sort) (v : Value) → Is program.types w (Elements of ns) v → OnPlace (IsReached w) v → AreRowsAt program ns t w (source.place_in v) × (cell_of w v ≡ place_in w (source.place_in v))
+  elements_found : HasTypes program → (ns : List ℕ) (of : TypeId) (t : TType) → of ≡ id_of t → (w : World Sort) (v : Value) → Is program w (Elements of ns) v → OnPlace (IsReached w) v → AreRowsAt program ns t w (source.place_in v) × (cell_of w v ≡ place_in w (source.place_in v))
   elements_found typed ns of t e w (Place p) h r =
       let there = h ∙ ap (λ u. Some (nested ns (variable_shape program.types u))) e in
       let s = nested ns (variable_shape program.types (id_of t)) in

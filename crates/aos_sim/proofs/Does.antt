@@ -6,7 +6,7 @@ use Rattle.std.specs.Option.{unwrap_or}
 use Rattle.std.proofs.lemmas.Option.{slice_get-map}
 use Rattle.std.proofs.lemmas.List.{map-append}
 use Rattle.aos_base.specs.declared.number.Width.TheVariants.{W64}
-use Rattle.aos_base.specs.Question.{Tree, Val, Asks, Traps, bind, feed, Reads, Stores, Copies, PutsText, ComparesTexts, Calls, Ends, Makes, Starts, PutsInt, PutsChar, PutsString, PutsNothing, PutsLn, Places, Lengths, Opens, Sizes, Tests}
+use Rattle.aos_base.specs.Question.{Tree, Val, Asks, Traps, bind, feed, Reads, Stores, Copies, PutsText, ComparesTexts, Calls, Ends, Makes, Starts, PutsInt, PutsChar, PutsString, PutsNothing, PutsLn, Places, Lengths, Opens, Sizes, Tests, ByName}
 use Rattle.aos_base.specs.declared.place.Root.TheVariants.{Frame, Module, Object as ObjectRoot}
 use Rattle.aos_base.specs.Rooted.{Made, by_number}
 use Rattle.aos_base.specs.Number.{array_lengths}
@@ -162,7 +162,7 @@ pub record IsFrameOf (p : Program) (own : Option Procedure) (s : Shape Sort) : T
 abbrev pub IsSelf : Program → (ℕ → Option Made) → Option ℕ → (object : ℕ) → Type 0
 IsSelf p made None o = Unit {0}
 IsSelf p made (Some t) o =
-    (k : ℕ) × (m : Made) × (o ≡ suc k) × (made (suc k) ≡ Some m) × HasLengths p.types (row_of p.types (id_of_made m.type)) m
+    (k : ℕ) × (m : Made) × (o ≡ suc k) × (made (suc k) ≡ Some m) × HasLengths p (row_of p.types (id_of_made m.type)) m
     × (comes_to p.types (id_of_made m.type) (id_of_made (suc t)) ≡ true)
 
 abbrev pub KnowsFrame : Program → Option Procedure → (here : Here) → World Sort → Type 0
@@ -206,12 +206,12 @@ pub record IsObject (w : World Sort) (v : Value) (m : Made) : Type 0 where
 module _ (program : Program) where
   -- the question that the code asks where the source asks this one
   abbrev pub placed : World Sort → source.Question → Question
-  placed w (Reads t p) = Reads (kind_of t) (addr_of w p)
+  placed w (Reads t p) = Reads (kind_of program.types t) (addr_of w p)
   placed w (Stores p v) = Stores (addr_of w p) (cell_of w v)
   placed w (Copies t p q) = Copies (variable_scalars program.types (id_of t)) (addr_of w p) (addr_of w q)
   placed w (PutsText strict p n q m) = PutsText strict (addr_of w p) (cell_of w n) (addr_of w q) (cell_of w m)
   placed w (ComparesTexts r p n q m) = ComparesTexts r (addr_of w p) (cell_of w n) (addr_of w q) (cell_of w m)
-  placed w (Calls p vs) = Calls p (map (cell_of w) vs)
+  placed w (Calls how p vs) = Calls ByName p (map (cell_of w) vs)
   placed w (Ends r) = Ends (option_map (cell_of w) r)
   placed w (Makes t vs) = Makes t (map (cell_of w) vs)
   placed w (Starts v) = Starts (cell_of w v)
@@ -242,9 +242,9 @@ module _ (program : Program) where
   abbrev pub Handles : (opens by_reference scalar : Bool) → World Sort → TypeId → List Value → Type 0
   Handles true b c w t us =
       (p : Spot) × (ns : List ℕ) × (us ≡ Place p ∷ map (λ n. Int (pos n)) ns) × (length ns ≡ open_dimensions program.types t)
-      × IsPlace program.types w (Elements (open_element program.types t) ns) p × All IsLength ns
-  Handles false true c w t us = (v : Value) × (us ≡ v ∷ []) × Is program.types w (alias_sort program.types t) v
-  Handles false false true w t us = (v : Value) × (us ≡ v ∷ []) × Is program.types w (Plain t) v
+      × IsPlace program w (Elements (open_element program.types t) ns) p × All IsLength ns
+  Handles false true c w t us = (v : Value) × (us ≡ v ∷ []) × Is program w (alias_sort program.types t) v
+  Handles false false true w t us = (v : Value) × (us ≡ v ∷ []) × Is program w (Plain t) v
   Handles false false false w t us = (p : Spot) × (us ≡ Place p ∷ []) × HasWhole w p t
 
   abbrev pub HandlesFor : World Sort → Parameter → List Value → Type 0
@@ -264,23 +264,23 @@ module _ (program : Program) where
   -- the answer of a call: a function's result, and of a procedure any value
   abbrev pub IsAnswer : World Sort → Option TType → Value → Type 0
   IsAnswer w None v = Unit {0}
-  IsAnswer w (Some t) v = Is program.types w (Plain (id_of t)) v
+  IsAnswer w (Some t) v = Is program w (Plain (id_of t)) v
 
   -- what a frame ends with: a function's result, and a procedure without one
   abbrev pub IsResult : World Sort → Option TType → Option Value → Type 0
   IsResult w None None = Unit {0}
   IsResult w None (Some v) = ⊥
   IsResult w (Some t) None = ⊥
-  IsResult w (Some t) (Some v) = Is program.types w (Plain (id_of t)) v
+  IsResult w (Some t) (Some v) = Is program w (Plain (id_of t)) v
 
   -- an answer of the sort that the question has, where the answer matters
   abbrev pub Conforms : World Sort → source.Question → Value → Type 0
-  Conforms w (Reads t p) v = Is program.types w (Plain (id_of t)) v
+  Conforms w (Reads t p) v = Is program w (Plain (id_of t)) v
   Conforms w (Makes t vs) v = (ns : List ℕ) × (array_lengths (map number_of_value vs) ≡ Some ns) × IsObject w v (record { type = t; lengths = ns }) × All (λ n. n ≤ 16777216) ns
   Conforms w (ComparesTexts r p n q m) v = IsFlag v
-  Conforms w (Calls q vs) v = (r : Routine) → by_number q (routines program) ≡ Some r → IsAnswer w (result_of r.own) v
-  Conforms w (Places p) v = ((k : Sort) → HasScalar w p k → Is program.types w k v) × OnPlace (IsReached w) v
-  Conforms w (Lengths p) v = (k : Sort) → HasScalar w p k → Is program.types w k v
+  Conforms w (Calls how q vs) v = (r : Routine) → by_number q (routines program) ≡ Some r → IsAnswer w (result_of r.own) v
+  Conforms w (Places p) v = ((k : Sort) → HasScalar w p k → Is program w k v) × OnPlace (IsReached w) v
+  Conforms w (Lengths p) v = (k : Sort) → HasScalar w p k → Is program w k v
   Conforms w (Opens u) v =
       (m : Made) → IsObject w u m
       → (v ≡ object_place (source.object_in u) (Some m)) × (w.shape (ObjectRoot (source.object_in u)) ≡ Some (made_shape program.types m)) × OnPlace (IsReached w) v
@@ -296,7 +296,7 @@ module _ (program : Program) where
     -- frame itself; no program asks for an end, which follows its statements
     abbrev pub Valid : World Sort → source.Question → Type 0
     Valid w (Reads t p) = (is_value program.types t ≡ true) × HasScalar w p (Plain (id_of t))
-    Valid w (Stores p v) = (k : Sort) × IsPlain k × HasScalar w p k × Is program.types w k v
+    Valid w (Stores p v) = (k : Sort) × IsPlain k × HasScalar w p k × Is program w k v
     Valid w (Copies t p q) = HasWhole w p (id_of t) × HasWhole w q (id_of t) × (is_whole (row_of program.types (id_of t)) ≡ true)
     Valid w (Makes t vs) =
         (k : ℕ) × (t ≡ suc k) × (k < length program.objects) × (length vs ≡ open_dimensions program.types (id_of_made t)) × AreIntegers vs
@@ -308,7 +308,7 @@ module _ (program : Program) where
     Valid w PutsLn = Unit {0}
     Valid w (PutsText strict p n q m) = HasText w p n × HasRoom w q m
     Valid w (ComparesTexts r p n q m) = HasText w p n × HasText w q m
-    Valid w (Calls q vs) =
+    Valid w (Calls how q vs) =
         (r : Routine) × (by_number q (routines program) ≡ Some r) × Given w (parameters_of r.own) (S.arguments_in (has_self r.own) vs)
         × IsCalledOn w.made (self_type r.own) vs
     Valid w (Ends r) = ⊥
@@ -421,8 +421,8 @@ module _ (program : Program) (here : Here) where
     handles_grow : (o b c : Bool) (t : TypeId) (us : List Value) → Handles program o b c w t us → Handles program o b c w' t us
     handles_grow true b c t us h =
         (h.0, h.1, h.2, h.3, place_grows h.0 (nested h.1 (variable_shape program.types (open_element program.types t))) h.4, h.5)
-    handles_grow false true c t us h = (h.0, h.1, (values_kept program.types).is w w' g (alias_sort program.types t) h.0 h.2)
-    handles_grow false false true t us h = (h.0, h.1, (values_kept program.types).is w w' g (Plain t) h.0 h.2)
+    handles_grow false true c t us h = (h.0, h.1, (values_kept program).is w w' g (alias_sort program.types t) h.0 h.2)
+    handles_grow false false true t us h = (h.0, h.1, (values_kept program).is w w' g (Plain t) h.0 h.2)
     handles_grow false false false t us h = (h.0, h.1, whole_grows h.0 t h.2)
 
     handles_cells : (o b c : Bool) (t : TypeId) (us : List Value) → Handles program o b c w t us → map (cell_of w) us ≡ map (cell_of w') us
@@ -431,9 +431,9 @@ module _ (program : Program) (here : Here) where
         ∙ (λ i. spot_cell w w' g h.0 (nested h.1 (variable_shape program.types (open_element program.types t))) h.4 i ∷ (lengths_are w h.1 ∙ sym (lengths_are w' h.1)) i)
         ∙ sym (ap (map (cell_of w')) h.2)
     handles_cells false true c t us h =
-        ap (map (cell_of w)) h.1 ∙ ap (λ x. x ∷ []) ((values_kept program.types).cells w w' g (alias_sort program.types t) h.0 h.2) ∙ sym (ap (map (cell_of w')) h.1)
+        ap (map (cell_of w)) h.1 ∙ ap (λ x. x ∷ []) ((values_kept program).cells w w' g (alias_sort program.types t) h.0 h.2) ∙ sym (ap (map (cell_of w')) h.1)
     handles_cells false false true t us h =
-        ap (map (cell_of w)) h.1 ∙ ap (λ x. x ∷ []) ((values_kept program.types).cells w w' g (Plain t) h.0 h.2) ∙ sym (ap (map (cell_of w')) h.1)
+        ap (map (cell_of w)) h.1 ∙ ap (λ x. x ∷ []) ((values_kept program).cells w w' g (Plain t) h.0 h.2) ∙ sym (ap (map (cell_of w')) h.1)
     handles_cells false false false t us h =
         ap (map (cell_of w)) h.1 ∙ ap (λ x. x ∷ []) (spot_cell w w' g h.0 (join (variable_shape program.types t) h.2.0) h.2.1) ∙ sym (ap (map (cell_of w')) h.1)
 
@@ -464,8 +464,8 @@ module _ (program : Program) (here : Here) where
 
     -- a valid question is the same one in a world that has grown
     pub placed_same : (q : source.Question) → Valid program here w q → placed program w q ≡ placed program w' q
-    placed_same (Reads t p) h = ap (Reads (kind_of t)) (addr_grows p (One (Plain (id_of t))) h.1)
-    placed_same (Stores p v) h = λ i. Stores (addr_grows p (One h.0) h.2 i) ((values_kept program.types).cells w w' g h.0 v h.3 i)
+    placed_same (Reads t p) h = ap (Reads (kind_of program.types t)) (addr_grows p (One (Plain (id_of t))) h.1)
+    placed_same (Stores p v) h = λ i. Stores (addr_grows p (One h.0) h.2 i) ((values_kept program).cells w w' g h.0 v h.3 i)
     placed_same (Makes t vs) h = ap (Makes t) (integers_cells vs h.4)
     placed_same (Starts v) h = ap Starts (made_cell v h)
     placed_same (PutsInt v n) h = λ i. PutsInt (integer_cell v h.0 i) (integer_cell n h.1 i)
@@ -479,7 +479,7 @@ module _ (program : Program) (here : Here) where
         λ i. PutsText strict (addr_grows p (characters h.0.0) h.0.2 i) (length_cell n h.0.0 h.0.1 i) (addr_grows q (characters h.1.0) h.1.2 i) (length_cell m h.1.0 h.1.1 i)
     placed_same (ComparesTexts r p n q m) h =
         λ i. ComparesTexts r (addr_grows p (characters h.0.0) h.0.2 i) (length_cell n h.0.0 h.0.1 i) (addr_grows q (characters h.1.0) h.1.2 i) (length_cell m h.1.0 h.1.1 i)
-    placed_same (Calls q vs) h = ap (Calls q) (called_cells (self_type h.0.own) (parameters_of h.0.own) vs h.2 h.3)
+    placed_same (Calls how q vs) h = ap (Calls ByName q) (called_cells (self_type h.0.own) (parameters_of h.0.own) vs h.2 h.3)
     placed_same (Ends r) h = absurd h
     placed_same (PutsString p n) h = λ i. PutsString (addr_grows p (characters h.0) h.2 i) (length_cell n h.0 h.1 i)
     placed_same (Places p) h = ap Places (addr_grows p (One h.1) h.3)
@@ -490,7 +490,7 @@ module _ (program : Program) (here : Here) where
 
     pub valid_grows : (q : source.Question) → Valid program here w q → Valid program here w' q
     valid_grows (Reads t p) h = (h.0, place_grows p (One (Plain (id_of t))) h.1)
-    valid_grows (Stores p v) h = (h.0, h.1, place_grows p (One h.0) h.2, (values_kept program.types).is w w' g h.0 v h.3)
+    valid_grows (Stores p v) h = (h.0, h.1, place_grows p (One h.0) h.2, (values_kept program).is w w' g h.0 v h.3)
     valid_grows (Makes t vs) h = h
     valid_grows (Starts v) h = h
     valid_grows (PutsInt v n) h = h
@@ -500,7 +500,7 @@ module _ (program : Program) (here : Here) where
     valid_grows (Copies t p q) h = (whole_grows p (id_of t) h.0, whole_grows q (id_of t) h.1, h.2)
     valid_grows (PutsText strict p n q m) h = (text_grows p n h.0, (h.1.0, h.1.1, place_grows q (characters h.1.0) h.1.2, h.1.3))
     valid_grows (ComparesTexts r p n q m) h = (text_grows p n h.0, text_grows q m h.1)
-    valid_grows (Calls q vs) h =
+    valid_grows (Calls how q vs) h =
         (h.0, h.1, given_grows (parameters_of h.0.own) (S.arguments_in (has_self h.0.own) vs) h.2, called_grows (self_type h.0.own) vs h.3)
     valid_grows (Ends r) h = absurd h
     valid_grows (PutsString p n) h = text_grows p n h
@@ -538,7 +538,7 @@ module _ (program : Program) (here : Here) where
 
   -- what stands in a parameter's cell is a place
   module _ (w : World Sort) where
-    place_reached : AreReached w → (k : Sort) (v : Value) → IsPlaceSort k → Is program.types w k v → OnPlace (IsReached w) v
+    place_reached : AreReached w → (k : Sort) (v : Value) → IsPlaceSort k → Is program w k v → OnPlace (IsReached w) v
     place_reached reached (Plain t) v p h = absurd p
     place_reached reached (Length n) v p h = absurd p
     place_reached reached k (Place q) p h = within_reached w reached q
@@ -546,7 +546,7 @@ module _ (program : Program) (here : Here) where
     place_reached reached (Alias t) v p h = absurd h
     place_reached reached (Elements t ns) v p h = absurd h
 
-    place_noted : (k : Sort) (v : Value) → IsPlaceSort k → Is program.types w k v → noted_as A (Some (cell_of w v)) ≡ Answered (cell_of w v)
+    place_noted : (k : Sort) (v : Value) → IsPlaceSort k → Is program w k v → noted_as A (Some (cell_of w v)) ≡ Answered (cell_of w v)
     place_noted (Plain t) v p h = absurd p
     place_noted (Length n) v p h = absurd p
     place_noted k (Place q) p h = refl
@@ -557,27 +557,27 @@ module _ (program : Program) (here : Here) where
     length_noted : (n : ℕ) (v : Value) → v ≡ Int (pos n) → noted_as N (Some (cell_of w v)) ≡ Answered (cell_of w v)
     length_noted n v e = subst (λ x. noted_as N (Some (cell_of w x)) ≡ Answered (cell_of w x)) (sym e) refl
 
-  module _ (w : World Sort) (s : Shape Sort) (c : Content Value) (cells : List Cell) (at : w.shape (Frame here.below) ≡ Some s) (shown : Shown (Is program.types) cell_of w s c cells) (whole : IsWhole program w) (tables : Tables) (shaped : HasShapes program tables) where
+  module _ (w : World Sort) (s : Shape Sort) (c : Content Value) (cells : List Cell) (at : w.shape (Frame here.below) ≡ Some s) (shown : Shown (Is program) cell_of w s c cells) (whole : IsWhole program w) (tables : Tables) (shaped : HasShapes program tables) where
     -- a scalar of the frame has a value, which is in its cell
     pub record Noticed (p : Spot) (k : Sort) : Type 0 where
-      pub is : Is program.types w k (known c p)
+      pub is : Is program w k (known c p)
       pub cell : slice_get cells (addr_of w p).cell ≡ Some (cell_of w (known c p))
 
     pub noticed : (p : Spot) (k : Sort) → p.root ≡ Frame here.below → HasScalar program w p k → Noticed p k
     noticed p k root has =
         let here_is = ap w.shape root ∙ at in
         let way : inside p.path s ≡ Some (One k) = ap (option_and_then (inside p.path)) (sym here_is) ∙ has in
-        let z = zoomed (Is program.types w) p.path s (One k) c way shown.fits in
+        let z = zoomed (Is program w) p.path s (One k) c way shown.fits in
         by here_is z.inner z.found z.fits z.front z.back z.whole z.place
       where
-        by : w.shape p.root ≡ Some s → (inner : Content Value) → found p.path c ≡ Some inner → Fits (Is program.types w) (One k) inner → (front back : List Value) → flatten c ≡ front ++ (flatten inner ++ back) → length front ≡ offset p.path s → Noticed p k
+        by : w.shape p.root ≡ Some s → (inner : Content Value) → found p.path c ≡ Some inner → Fits (Is program w) (One k) inner → (front back : List Value) → flatten c ≡ front ++ (flatten inner ++ back) → length front ≡ offset p.path s → Noticed p k
         by here_is Empty f fits front back whole place = absurd fits
         by here_is (Row x y) f fits front back whole place = absurd fits
         by here_is (Scalar v) f fits front back whole place =
             let e : known c p ≡ v = ap scalar_in f in
             let n : cell_at w p.root p.path ≡ length front = ap (number_of (offset p.path)) here_is ∙ sym place in
             record {
-              is = subst (Is program.types w k) (sym e) fits;
+              is = subst (Is program w k) (sym e) fits;
               cell = (λ i. slice_get (shown.same i) (n i)) ∙ slice_get-map (cell_of w) (flatten c) (length front)
                   ∙ ap (option_map (cell_of w)) (ap (λ l. slice_get l (length front)) whole ∙ get_behind front v back) ∙ ap (λ x. Some (cell_of w x)) (sym e);
             }
@@ -694,7 +694,7 @@ module _ (program : Program) (here : Here) where
       calm_does m (Asks (Copies t p q) f) d = visible_does R m (Copies t p q) f refl d
       calm_does m (Asks (PutsText strict p n q j) f) d = visible_does R m (PutsText strict p n q j) f refl d
       calm_does m (Asks (ComparesTexts r p n q j) f) d = visible_does R m (ComparesTexts r p n q j) f refl d
-      calm_does m (Asks (Calls q vs) f) d = visible_does R m (Calls q vs) f refl d
+      calm_does m (Asks (Calls how q vs) f) d = visible_does R m (Calls how q vs) f refl d
       calm_does m (Asks (Ends r) f) d = visible_does R m (Ends r) f refl d
       calm_does m (Asks (Makes t vs) f) d = visible_does R m (Makes t vs) f refl d
       calm_does m (Asks (Starts v) f) d = visible_does R m (Starts v) f refl d
@@ -740,7 +740,7 @@ module _ (program : Program) (here : Here) where
           heard_on m (Asks (Copies t p q) f) d = refl
           heard_on m (Asks (PutsText strict p n q j) f) d = refl
           heard_on m (Asks (ComparesTexts r p n q j) f) d = refl
-          heard_on m (Asks (Calls q vs) f) d = refl
+          heard_on m (Asks (Calls how q vs) f) d = refl
           heard_on m (Asks (Ends r) f) d = refl
           heard_on m (Asks (Makes t vs) f) d = refl
           heard_on m (Asks (Starts v) f) d = refl
@@ -754,12 +754,12 @@ module _ (program : Program) (here : Here) where
         calm_heard m r d = heard_on (λ a. Val a) m r (subst (λ z. Does program here R w m z) (sym (bind_val r)) d)
 
   -- in each whole world that has grown
-  pub does_last : {A : Type 0} (R : World Sort → A → Run → Type 0) (w : World Sort) (s : Shape Sort) (c : Content Value) (cells : List Cell) (tables : Tables) (m : Run) (r : Doing A) → ((w' : World Sort) → Grows w w' → (a : A) (m : Run) → R w a m → R w' a m) → w.shape (Frame here.below) ≡ Some s → Shown (Is program.types) cell_of w s c cells → IsWhole program w → HasShapes program tables → Does program here R w m r → Lasts program here R tables.types c cells w m r
+  pub does_last : {A : Type 0} (R : World Sort → A → Run → Type 0) (w : World Sort) (s : Shape Sort) (c : Content Value) (cells : List Cell) (tables : Tables) (m : Run) (r : Doing A) → ((w' : World Sort) → Grows w w' → (a : A) (m : Run) → R w a m → R w' a m) → w.shape (Frame here.below) ≡ Some s → Shown (Is program) cell_of w s c cells → IsWhole program w → HasShapes program tables → Does program here R w m r → Lasts program here R tables.types c cells w m r
   does_last R w s c cells tables m r up at shown whole shaped d =
       record {
         heard = λ w' g. calm_heard w s c cells at shown whole tables shaped R w' g m r d;
         does = λ w' g whole'.
-            calm_does w' s c cells (g.shapes (Frame here.below) s at) (shown_grows (Is program.types) cell_of IsPlain (values_kept program.types) w w' g s c cells shown) whole' tables shaped R m r (does_grows w w' g R (up w' g) m r d);
+            calm_does w' s c cells (g.shapes (Frame here.below) s at) (shown_grows (Is program) cell_of IsPlain (values_kept program) w w' g s c cells shown) whole' tables shaped R m r (does_grows w w' g R (up w' g) m r d);
       }
 
 -- a question that is asked of no frame itself and of no object, and what has no other one first
@@ -803,7 +803,7 @@ module _ {A : Type 0} (rows : List TypeRow) (made : ℕ → Option Made) (c : Co
   calm_again (Asks (Copies t p q) f) = refl
   calm_again (Asks (PutsText strict p n q m) f) = refl
   calm_again (Asks (ComparesTexts r p n q m) f) = refl
-  calm_again (Asks (Calls q vs) f) = refl
+  calm_again (Asks (Calls how q vs) f) = refl
   calm_again (Asks (Ends r) f) = refl
   calm_again (Asks (Makes t vs) f) = refl
   calm_again (Asks (Starts v) f) = refl
@@ -826,7 +826,7 @@ module _ {A : Type 0} (rows : List TypeRow) (made : ℕ → Option Made) (c : Co
   feed_noted (Asks (Copies t p q) f) = refl
   feed_noted (Asks (PutsText strict p n q m) f) = refl
   feed_noted (Asks (ComparesTexts r p n q m) f) = refl
-  feed_noted (Asks (Calls q vs) f) = refl
+  feed_noted (Asks (Calls how q vs) f) = refl
   feed_noted (Asks (Ends r) f) = refl
   feed_noted (Asks (Makes t vs) f) = refl
   feed_noted (Asks (Starts v) f) = refl
@@ -849,7 +849,7 @@ module _ {A : Type 0} (rows : List TypeRow) (made : ℕ → Option Made) (c : Co
   calm_seen (Asks (Copies t p q) f) = tt
   calm_seen (Asks (PutsText strict p n q m) f) = tt
   calm_seen (Asks (ComparesTexts r p n q m) f) = tt
-  calm_seen (Asks (Calls q vs) f) = tt
+  calm_seen (Asks (Calls how q vs) f) = tt
   calm_seen (Asks (Ends r) f) = tt
   calm_seen (Asks (Makes t vs) f) = tt
   calm_seen (Asks (Starts v) f) = tt
@@ -870,7 +870,7 @@ module _ {A : Type 0} (rows : List TypeRow) (made : ℕ → Option Made) (c : Co
   calm_visible_same (Copies t p q) f h = refl
   calm_visible_same (PutsText strict p n q m) f h = refl
   calm_visible_same (ComparesTexts r p n q m) f h = refl
-  calm_visible_same (Calls q vs) f h = refl
+  calm_visible_same (Calls how q vs) f h = refl
   calm_visible_same (Ends r) f h = refl
   calm_visible_same (Makes t vs) f h = refl
   calm_visible_same (Starts v) f h = refl
@@ -901,7 +901,7 @@ module _ {A : Type 0} (rows : List TypeRow) (made : ℕ → Option Made) (c : Co
     calm_bind (Asks (Copies t p q) f) = refl
     calm_bind (Asks (PutsText strict p n q m) f) = refl
     calm_bind (Asks (ComparesTexts r p n q m) f) = refl
-    calm_bind (Asks (Calls q vs) f) = refl
+    calm_bind (Asks (Calls how q vs) f) = refl
     calm_bind (Asks (Ends r) f) = refl
     calm_bind (Asks (Makes t vs) f) = refl
     calm_bind (Asks (Starts v) f) = refl
@@ -924,7 +924,7 @@ module _ {A : Type 0} (rows : List TypeRow) (made : ℕ → Option Made) (c : Co
     feed_noted_bind (Asks (Copies t p q) f) = refl
     feed_noted_bind (Asks (PutsText strict p n q m) f) = refl
     feed_noted_bind (Asks (ComparesTexts r p n q m) f) = refl
-    feed_noted_bind (Asks (Calls q vs) f) = refl
+    feed_noted_bind (Asks (Calls how q vs) f) = refl
     feed_noted_bind (Asks (Ends r) f) = refl
     feed_noted_bind (Asks (Makes t vs) f) = refl
     feed_noted_bind (Asks (Starts v) f) = refl

@@ -230,7 +230,7 @@ module _ (program : Program) where
 
   -- A call
 
-  module _ (ranked : IsRanked program.types) (ps ms : List ℕ) (made : List Made) (fs : List S.Frame) (s : Store) (y : Rooted (List Cell)) (shows : Shows (Is program.types) cell_of (scheme program) made (shapes_of fs) (S.all_rooted fs s) y) (r : Routine) (vs : List Value) (given : Given program (world_of program made (shapes_of fs)) (parameters_of r.own) (S.arguments_in (has_self r.own) vs)) (n : ℕ) (shape : ProcShape) (is : seen_shape shape ≡ shape_of program.types r) where
+  module _ (ranked : IsRanked program.types) (ps ms : List ℕ) (made : List Made) (fs : List S.Frame) (s : Store) (y : Rooted (List Cell)) (shows : Shows (Is program) cell_of (scheme program) made (shapes_of fs) (S.all_rooted fs s) y) (r : Routine) (vs : List Value) (given : Given program (world_of program made (shapes_of fs)) (parameters_of r.own) (S.arguments_in (has_self r.own) vs)) (n : ℕ) (shape : ProcShape) (is : seen_shape shape ≡ shape_of program.types r) where
     abbrev called : S.Frame
     called = S.called_frame program ms r vs fs s
 
@@ -300,7 +300,7 @@ module _ (program : Program) where
         let second = leaves (row (variable_cells rows (locals_of r.own))) in
         let long : length first ≡ length alike.cells = kinds_counted (row (map (parameter_cells rows) (parameters_of r.own)))
         ∙ sym (same_size (shapes_in handed.parameters) (map (parameter_cells rows) (parameters_of r.own)) (parameters_same (parameters_of r.own) handed.parameters alike.parts))
-        ∙ sym (shown_long (Is rows) cell_of above (shape_of_parts handed.parameters) (content_of_parts handed.parameters) alike.cells (alike.parameters stand)) in
+        ∙ sym (shown_long (Is program) cell_of above (shape_of_parts handed.parameters) (content_of_parts handed.parameters) alike.cells (alike.parameters stand)) in
         ap (drop (length alike.cells)) (kinds_are ∙ kinds_of_append (map (parameter_cells rows) (parameters_of r.own)) (variable_cells rows (locals_of r.own)))
         ∙ drop_at first second (length alike.cells) long
 
@@ -316,7 +316,7 @@ module _ (program : Program) where
         ap (λ l. I.handed ps (length fs) y l (map (cell_of now) us) (length kinds)) (ap (λ z. z.params) is ∙ known_parameters rows r.home r.body r.own) ∙ alike.image
 
     -- whose cells show the variables of the other side's
-    pub called_shown : Shown (Is program.types) cell_of above called.shape called.variables entered.cells
+    pub called_shown : Shown (Is program) cell_of above called.shape called.variables entered.cells
     called_shown =
         subst (λ l. PartsShown program above (handed.parameters ++ (own_locals ++ handed.copies)) (alike.cells ++ (map first_cell l ++ alike.copies))) (sym dropped)
         (parts_shown program above handed.parameters (own_locals ++ handed.copies) alike.cells (local_cells ++ alike.copies) (alike.parameters stand)
@@ -326,7 +326,7 @@ module _ (program : Program) where
     pub called_counted : entered.counted ≡ called.counted
     called_counted =
         let counted = ap (λ z. z.counted) is ∙ known_counted rows r.home r.body r.own ∙ sym (same_size front known_parts same) in
-        let copies = shown_long (Is rows) cell_of above (shape_of_parts handed.copies) (content_of_parts handed.copies) alike.copies alike.copied in
+        let copies = shown_long (Is program) cell_of above (shape_of_parts handed.copies) (content_of_parts handed.copies) alike.copies alike.copied in
         (λ j. counted j + copies j) ∙ sym (size_rows front (shapes_in handed.copies)) ∙ ap (λ l. size (row l)) (sym split)
 
     -- where it has few, the procedure's parameters and locals stand in it

@@ -87,7 +87,7 @@ module _ (program : Program) (own : Option Procedure) (tables : Tables) (number 
 
   -- one whose values may be objects
   abbrev pub OfSort : TType → World Sort → Value → Type 0
-  OfSort t w v = Is program.types w (Plain (id_of t)) v
+  OfSort t w v = Is program w (Plain (id_of t)) v
 
   abbrev pub Yields : TType → List Instr → Doing Value → ℕ → Type 0
   Yields t = ComesTo (OfSort t) cell_of
@@ -126,7 +126,7 @@ module _ (program : Program) (own : Option Procedure) (tables : Tables) (number 
   values_stay t w w' g v h = (h, refl)
 
   pub sorts_stay : (t : TType) → Stays (OfSort t) cell_of
-  sorts_stay t w w' g v h = ((values_kept program.types).is w w' g (Plain (id_of t)) v h, (values_kept program.types).cells w w' g (Plain (id_of t)) v h)
+  sorts_stay t w w' g v h = ((values_kept program).is w w' g (Plain (id_of t)) v h, (values_kept program).cells w w' g (Plain (id_of t)) v h)
 
   -- a value of a basic type is one and the other
   pub yields : HasPredeclared program → (t : TType) (xs : List Instr) (r : Doing Value) (at : ℕ) → is_basic t ≡ true → Evaluates t xs r at → Yields t xs r at

@@ -1,6 +1,6 @@
 -- The code of a well-typed designator, array, row of arguments or expression does what this does, for all answers of the right types.
 use Rattle.std.proofs.Common.{◌≡◌, ℕ, zero, suc, ℤ, pos, true, false, Bool, Option, Some, None, ◌+◌, ◌<◌, List, [], ◌∷◌, ◌++◌, length, map, if◌then◌else◌, refl, sym, ap, ◌∙◌, subst, arith, append_assoc, append-nil, length-append}
-use Rattle.std.proofs.Common.{inl, inr}
+use Rattle.std.proofs.Common.{◌⊎◌, inl, inr}
 use Rattle.std.specs.Prelude.{All, slice_get, option_map}
 use Rattle.std.specs.Option.{unwrap_or}
 use Rattle.std.proofs.lemmas.Int.{ints}
@@ -29,7 +29,7 @@ use Rattle.aos_typed.specs.declared.tree.Literal.{Literal}
 use Rattle.aos_typed.specs.declared.tree.Literal.TheVariants as literal
 use Rattle.aos_typed.specs.declared.tree.TType.{TType}
 use Rattle.aos_typed.specs.declared.tree.TType.TheVariants as type
-use Rattle.aos_typed.specs.Program.{Place as Designator, ModuleVar, Local, Passed, Field, Index, Of, Deref, Typed, Guarded, Rows, Known, Opened, Row, Spread, Longer, Arguments, NoMore, Scalar, Whole, Opening, Callee, Plain as PlainCall, Dispatched, Upper, Expr, Lit, SelfRef, Read, Unary, Binary, And, Or, Element, Ord, Chr, CompareTexts, Len, LenBehind, Function, Same, Is as IsOfType, IsRecord, Guard, Had, Parameter, Procedure, Program}
+use Rattle.aos_typed.specs.Program.{Place as Designator, ModuleVar, Local, Passed, Field, Index, Of, Deref, Typed, Guarded, Rows, Known, Opened, Row, Spread, Longer, Arguments, NoMore, Scalar, Whole, Opening, Callee, Plain as PlainCall, Dispatched, Upper, Through, Expr, Lit, SelfRef, Read, Unary, Binary, And, Or, Element, Ord, Chr, CompareTexts, Len, LenBehind, Function, Same, Is as IsOfType, IsRecord, Guard, ProcedureOf, MethodOf, SameProcedure, Had, Parameter, Procedure, Program}
 use Rattle.aos_typed.specs.Numbers.{id_of, id_of_made}
 use Rattle.aos_typed.specs.Routines.{self_type}
 use Rattle.aos_typed.specs.Open.{open_dimensions}
@@ -40,7 +40,7 @@ use Rattle.aos_sim.proofs.Parts.{each_rest}
 use Rattle.aos_typed.specs.Value.{Value, Int, Object, Place, Sort as Kind, Character, literal_value, number_of, given as given_value, unary_sort, binary_sort, binary, element, ord}
 use Rattle.aos_typed.specs.Meaning.{Here, Doing, Found, length_at, text_length, place_of, rows_of, arguments_of, value_of, called as called_of}
 use Rattle.aos_typed.specs.Spot.{Spot}
-use Rattle.aos_typed.specs.WellTyped.{is_basic, is_value, is_reference, is_whole, Includes, Fits, IsLiteral, HasRange, taken, Gives as GivenOf, GivesOfTwo, NamesType, IsGiven, IsConstantText, IsOpening, IsByValue, IsLength, HaveLengths, IsPlaceOf, IsObjectAt, AreRows, AreArguments, IsCalled, IsOf}
+use Rattle.aos_typed.specs.WellTyped.{is_basic, is_procedural, is_value, is_reference, is_whole, Includes, Fits, IsLiteral, HasRange, taken, Gives as GivenOf, GivesOfTwo, NamesType, IsGiven, IsConstantText, IsOpening, IsByValue, IsLength, HaveLengths, IsPlaceOf, IsObjectAt, AreRows, AreArguments, IsCalled, IsOf, IsNamed}
 use Rattle.aos_code.specs.declared.instr.Cell.{Cell}
 use Rattle.aos_code.specs.declared.instr.Cell.TheVariants.{Num, Ref}
 use Rattle.aos_code.specs.declared.instr.Instr.{Instr}
@@ -53,12 +53,13 @@ use Rattle.aos_sim.proofs.Types.{IsValueOf, number_cell, flag_is, included, lite
 use Rattle.aos_sim.proofs.Operators.{unary_agrees, Suit, operands_suit, binary_agrees}
 use Rattle.aos_sim.proofs.First.{all_get}
 use Rattle.aos_sim.proofs.Extended.{record_base, open_some}
-use Rattle.aos_sim.proofs.References.{nil_value, made_reference, to_target, fitting_value, value_is_one, value_no_record, value_scalar}
+use Rattle.aos_sim.proofs.References.{nil_value, no_procedure, made_reference, to_target, fitting_value, value_is_one, value_no_record, value_scalar}
 use Rattle.aos_sim.proofs.Objects.{object_target, deref_does, object_does, spread_does, is_does, guard_does, same_does, is_record_does, guard_place_does, typed_does}
 use Rattle.aos_sim.proofs.Does.{HasPredeclared, HasTypes, HasShapes, IsObject, IsSelf, alias_sort, HasScalar, Handles, HandlesFor, Given, addr_of, lengths_are, Does, knows_grows, along, does_bind, does_more}
 use Rattle.aos_sim.proofs.Evaluates.{OfType, number_in, pushed, pushed-append, Pushed, OnTop, OnStack, OfSort, Brings, ComesTo, Remain, Evaluates, Yields, yields, evaluates, sorts_stay, front_does, piece_does, pieces_do, two_do, values_stay, operand_does, ends_at}
 use Rattle.aos_sim.proofs.Designators.{IsFound, HasFields, has_record, RowsHold, holds_exactly, holds_extension, longer_rows, AreFound, rows_cells, IsText, text_cells, counted_taken, Finds, FindsRows, Hands, FindsText, FindsRoom, places_stay, rows_remain, texts_remain, variable_does, local_does, passed_does, field_does, index_does, array_rows, constant_rows, opened_does, row_does, of_does, rows_text, rows_room}
-use Rattle.aos_sim.proofs.Sends.{Answers, Answered, plain_does, upper_does, dispatched_does}
+use Rattle.aos_sim.proofs.Sends.{Answers, Answered, plain_does, upper_does, dispatched_does, through_does}
+use Rattle.aos_sim.proofs.Callables.{IsProcedureValue, procedure_does, bound_yields, named_comes, none_comes, bound_comes, any_comes, one_does}
 use Rattle.aos_sim.proofs.Results.{Agrees, chr_agrees}
 use Rattle.aos_sim.proofs.Shortcuts.{and_does, or_does}
 
@@ -95,12 +96,14 @@ literal_basic (literal.Char c) type.Any h = absurd h
 literal_basic (literal.Set s) type.Any h = absurd h
 literal_basic (literal.Text c) type.Any h = absurd h
 literal_basic literal.Nil type.Any h = absurd h
+literal_basic literal.NoProcedure type.Any h = absurd h
 literal_basic (literal.Int n) (type.Named k) h = absurd h
 literal_basic (literal.Bool b) (type.Named k) h = absurd h
 literal_basic (literal.Char c) (type.Named k) h = absurd h
 literal_basic (literal.Set s) (type.Named k) h = absurd h
 literal_basic (literal.Text c) (type.Named k) h = absurd h
 literal_basic literal.Nil (type.Named k) h = absurd h
+literal_basic literal.NoProcedure (type.Named k) h = absurd h
 
 range_basic : (t : TType) (low high : ℤ) → HasRange t low high → is_basic t ≡ true
 range_basic (type.Integer w) low high h = refl
@@ -189,10 +192,14 @@ module _ (program : Program) (own : Option Procedure) (tables : Tables) (number 
       loaded (literal.Set n) ok = refl
       loaded (literal.Text c) ok = refl
       loaded literal.Nil ok = absurd ok
+      loaded literal.NoProcedure ok = absurd ok
 
   -- NIL
   nil_does : HasPredeclared program → (t : TType) (at : ℕ) → is_reference program.types t ≡ true → Yield t (value_code program own (Lit literal.Nil) at) (value_of program here (Lit literal.Nil)) at
   nil_does predeclared t at ref w known rest k s = record { is = nil_value program w predeclared t ref; run = refl }
+
+  no_procedure_does : (t : TType) (at : ℕ) → is_procedural program.types t ≡ true → Yield t (value_code program own (Lit literal.NoProcedure) at) (value_of program here (Lit literal.NoProcedure)) at
+  no_procedure_does t at is w known rest k s = record { is = no_procedure program w t is; run = refl }
 
   unary_does : (t u : TType) (op : UnaryOperator) (z : Kind) (xs : List Instr) (r : Doing Value) (at : ℕ) → ((v : Value) → IsValueOf u v → Agrees t z (unary_of op (number_of v))) → Comes u xs r at → Comes t (xs ++ i.Unary op ∷ []) (bind r (λ v. given_value z (unary_of op (number_of v)))) at
   unary_does t u op z xs r at of h w known rest k s =
@@ -225,11 +232,11 @@ module _ (program : Program) (own : Option Procedure) (tables : Tables) (number 
       (λ w' up v m p. record { is = more (ord v) (ord_is v p.is); run = p.run })
 
   -- a place of a scalar is read
-  read_does : HasTypes program → (named : Type 0) (t u : TType) (xs : List Instr) (r : Doing Spot) (at : ℕ) → is_value program.types u ≡ true → Fits program.types t u → Finds program own tables number here code named u xs r at → Yield t (xs ++ i.Load (kind_of u) ∷ []) (bind r (λ p. ask (Reads u p))) at
+  read_does : HasTypes program → (named : Type 0) (t u : TType) (xs : List Instr) (r : Doing Spot) (at : ℕ) → is_value program.types u ≡ true → Fits program t u → Finds program own tables number here code named u xs r at → Yield t (xs ++ i.Load (kind_of program.types u) ∷ []) (bind r (λ p. ask (Reads u p))) at
   read_does typed named t u xs r at value fits h w known rest k s =
-      let q = at + length (xs ++ i.Load (kind_of u) ∷ []) in
-      let n : at + length xs + 1 ≡ q = omega (arith, length-append xs (i.Load (kind_of u) ∷ [])) in
-      piece_does program own tables number here code (IsFound program named u) place_in (Yielded t rest q k s) (λ p. ask (Reads u p)) xs (i.Load (kind_of u) ∷ []) r at rest k s h w known
+      let q = at + length (xs ++ i.Load (kind_of program.types u) ∷ []) in
+      let n : at + length xs + 1 ≡ q = omega (arith, length-append xs (i.Load (kind_of program.types u) ∷ [])) in
+      piece_does program own tables number here code (IsFound program named u) place_in (Yielded t rest q k s) (λ p. ask (Reads u p)) xs (i.Load (kind_of program.types u) ∷ []) r at rest k s h w known
       (λ w1 up p m found e. (
         (λ x. onward rest 0 (at + length xs + 1) k (x ∷ s)),
         e,
@@ -393,8 +400,8 @@ module _ (program : Program) (own : Option Procedure) (tables : Tables) (number 
       (λ w p vs is more. handled_one a rest as' e w (Place p ∷ []) vs (handles w p is given) more)
       (λ w p vs is. refl) ha hb
     where
-      alias : (w : World Sort) (p : Spot) (b : Bool) → is_record (row_of program.types (id_of a.of)) ≡ b → Is program.types w (if b then Variable (id_of a.of) else Alias (id_of a.of)) (Place p) → Is program.types w (alias_sort program.types (id_of a.of)) (Place p)
-      alias w p b is h = subst (λ c. Is program.types w (if c then Variable (id_of a.of) else Alias (id_of a.of)) (Place p)) (sym is) h
+      alias : (w : World Sort) (p : Spot) (b : Bool) → is_record (row_of program.types (id_of a.of)) ≡ b → Is program w (if b then Variable (id_of a.of) else Alias (id_of a.of)) (Place p) → Is program w (alias_sort program.types (id_of a.of)) (Place p)
+      alias w p b is h = subst (λ c. Is program w (if c then Variable (id_of a.of) else Alias (id_of a.of)) (Place p)) (sym is) h
 
       handles : (w : World Sort) (p : Spot) → IsFound program (NamesType program own d u) u w p → IsGiven program own a d u → HandlesFor program w a (Place p ∷ [])
       handles w p is (inl (h, isnt)) =
@@ -441,7 +448,7 @@ module _ (program : Program) (own : Option Procedure) (tables : Tables) (number 
           )
 
   -- what a function gives
-  function_does : HasTypes program → (q : Procedure) (t u : TType) (xs : List Instr) (r : Doing Value) (at : ℕ) → q.result ≡ Some u → Fits program.types t u → Answers program own tables number here code q.result xs r at → Yield t xs r at
+  function_does : HasTypes program → (q : Procedure) (t u : TType) (xs : List Instr) (r : Doing Value) (at : ℕ) → q.result ≡ Some u → Fits program t u → Answers program own tables number here code q.result xs r at → Yield t xs r at
   function_does typed q t u xs r at result fits h w known rest k s =
       let z = at + length xs in
       does_more program here (Answered program own tables number here code q.result rest z k s) (Yielded t rest z k s) w (onward (xs ++ rest) 0 at k s) r (h w known rest k s)
@@ -450,7 +457,7 @@ module _ (program : Program) (own : Option Procedure) (tables : Tables) (number 
       (λ p. record { is = fitting_value program w' typed t u v fits p.is; run = p.run }) p)
 
   -- the object whose method or body it is
-  self_does : HasTypes program → (t : TType) (a at : ℕ) → self_type own ≡ Some a → is_object (row_of program.types (id_of (type.Named a))) ≡ true → Fits program.types t (type.Named a) → Yield t (value_code program own SelfRef at) (value_of program here SelfRef) at
+  self_does : HasTypes program → (t : TType) (a at : ℕ) → self_type own ≡ Some a → is_object (row_of program.types (id_of (type.Named a))) ≡ true → Fits program t (type.Named a) → Yield t (value_code program own SelfRef at) (value_of program here SelfRef) at
   self_does typed t a at of is fits w known rest k s =
       let self = subst (λ o. IsSelf program w.made o here.self) of known.self in
       let id = id_of (type.Named a) in
@@ -458,12 +465,12 @@ module _ (program : Program) (own : Option Procedure) (tables : Tables) (number 
       let object : IsObject w v self.1 = record { number = self.0; is = ap (λ o. Object o) self.2; made = self.3 } in
       record {
         is = fitting_value program w typed t (type.Named a) v fits
-            (to_target program w (type.Named a) id v (object_target program.types id (row_of program.types id) is) (made_reference program.types w (Extends program.types id) v self.1 object self.4 self.5));
+            (to_target program w (type.Named a) id v (object_target program.types id (row_of program.types id) is) (made_reference program w (Extends program id) v self.1 object self.4 self.5));
         run = ap (λ o. on_run tables (gives_self o s) (onward rest) at k) self.2 ∙ ap (λ o. onward rest 0 (at + 1) k (Ref o ∷ s)) (sym self.2);
       }
 
   -- how many dimensions of an array have their lengths behind its place
-  dimensions_are : (r : Rows) (n : ℕ) (t : TType) → AreRows program own r n t → dimensions r ≡ n
+  pub dimensions_are : (r : Rows) (n : ℕ) (t : TType) → AreRows program own r n t → dimensions r ≡ n
   dimensions_are (Known p ns) n t ok = sym ok.0
   dimensions_are (Opened k j) n t ok = sym ok.0
   dimensions_are (Spread e j) n t ok = sym ok.0
@@ -508,7 +515,14 @@ module _ (program : Program) (own : Option Procedure) (tables : Tables) (number 
 
     literal_yields : (l : Literal) (t : TType) (at : ℕ) → IsOf program own (Lit l) t → Yield t (value_code program own (Lit l) at) (value_of program here (Lit l)) at
     literal_yields l t at (inl ok) = told_value t (literal_basic l t ok) (Lit l) at (literal_does t l at ok)
-    literal_yields l t at (inr ok) = subst (λ x. Yield t (value_code program own (Lit x) at) (value_of program here (Lit x)) at) (sym ok.0) (nil_does typed.predeclared t at ok.1)
+    literal_yields l t at (inr (inr ok)) =
+        subst (λ x. Yield t (value_code program own (Lit x) at) (value_of program here (Lit x)) at) (sym ok.0) (no_procedure_does t at ok.1)
+    literal_yields l t at (inr (inl ok)) = subst (λ x. Yield t (value_code program own (Lit x) at) (value_of program here (Lit x)) at) (sym ok.0) (nil_does typed.predeclared t at ok.1)
+
+    -- a procedure value, of a procedure type or named
+    one_comes : (e : Expr) (at : ℕ) → ((u : TType) → IsOf program own e u → Yield u (value_code program own e at) (value_of program here e) at) → (IsNamed program own e → ComesTo program own tables number here code IsProcedureValue cell_of (value_code program own e at) (value_of program here e) at) → ((u : TType) × IsOf program own e u × (is_procedural program.types u ≡ true)) ⊎ IsNamed program own e → ComesTo program own tables number here code IsProcedureValue cell_of (value_code program own e at) (value_of program here e) at
+    one_comes e at by_type by_name (inl h) = any_comes program own tables number here code h.0 (value_code program own e at) (value_of program here e) at h.2 (by_type h.0 h.1)
+    one_comes e at by_type by_name (inr h) = by_name h
 
     mutual
       -- a designator's place, with a variable of its type
@@ -650,7 +664,25 @@ module _ (program : Program) (own : Option Procedure) (tables : Tables) (number 
           (is_record_does program own tables number here code shaped (NamesType program own p ok.0) ok.0 k (k + 1) (place_code program own p at) (place_of program here p) at (omega arith) (place_does p ok.0 ok.1 at))
       yields_do (Guard a k) t ok at =
           guard_does program own tables number here code typed shaped ok.0.0 t k (k + 1) (value_code program own a at) (value_of program here a) at (omega arith) ok.0.2 ok.2 (yields_do a ok.0.0 ok.0.1 at)
+      yields_do (ProcedureOf m k) t ok at = procedure_does program own tables number here code typed t m k ok.0 at ok.1 ok.2
+      yields_do (MethodOf a j k) t ok at =
+          bound_yields program own tables number here code typed shaped j k ok.2.0 ok.2.1 t ok.2.2 (value_code program own a at) (value_of program here a) at ok.1 (yields_do a (type.Named j) ok.0 at)
+      yields_do (SameProcedure a b) t ok at =
+          let ca = value_code program own a at in
+          let pb = at + length ca in
+          truth (SameProcedure a b) t at ok.2
+          (one_does program own tables number here code ca (value_code program own b pb) (value_of program here a) (value_of program here b) at
+          (one_comes a at (λ u h. yields_do a u h at) (λ h. named_does a h at) ok.0)
+          (one_comes b pb (λ u h. yields_do b u h pb) (λ h. named_does b h pb) ok.1))
       yields_do (Had v) t ok at = absurd ok
+
+      -- a procedure that is named
+      named_does : (e : Expr) → IsNamed program own e → (at : ℕ) → ComesTo program own tables number here code IsProcedureValue cell_of (value_code program own e at) (value_of program here e) at
+      named_does (Lit l) h at = subst (λ x. ComesTo program own tables number here code IsProcedureValue cell_of (value_code program own (Lit x) at) (value_of program here (Lit x)) at) (sym h) (none_comes program own tables number here code at)
+      named_does (ProcedureOf m k) h at = named_comes program own tables number here code m k at
+      named_does (MethodOf a j k) h at =
+          bound_comes program own tables number here code typed shaped j k h.2.0 h.2.1 (value_code program own a at) (value_of program here a) at h.1 (yields_do a (type.Named j) h.0 at)
+      named_does _ h at = absurd h
 
       -- a call, for whose arguments the code hands over what the procedure takes
       pub called_do : (c : Callee) (q : Procedure) → IsCalled program own c q → (more : Arguments) → ((at : ℕ) → Hands program own tables number here code q.parameters (arguments_code program own more at) (arguments_of program here more) at) → (at : ℕ) → Answers program own tables number here code q.result (called_code program own c more at) (called_of program here c more) at
@@ -663,6 +695,10 @@ module _ (program : Program) (own : Option Procedure) (tables : Tables) (number 
           let cr = value_code program own e at in
           let pa = at + length cr in
           dispatched_does program own tables number here code typed shaped t k q ok.2 cr (value_of program here e) (arguments_code program own more pa) (arguments_of program here more) at ok.1 (yields_do e (type.Named t) ok.0 at) (hands pa)
+      called_do (Through e t) q ok more hands at =
+          let cr = value_code program own e at in
+          let pa = at + length cr in
+          through_does program own tables number here code typed shaped t q ok.1 cr (value_of program here e) (arguments_code program own more pa) (arguments_of program here more) at (yields_do e (type.Named t) ok.0 at) (hands pa)
       called_do (Upper t k) q ok more hands at =
           upper_does program own tables number here code typed shaped t k q ok.0 (arguments_code program own more (at + 1)) (arguments_of program here more) at ok.1 ok.2 ok.3 (hands (at + 1))
 

@@ -62,16 +62,16 @@ first_basic_is basic.Set = omega arith
 first_basic_is basic.Nil = refl
 first_basic_is (basic.Text n) = refl
 
-first_in_is : (rows : List TypeRow) (w : World Sort) (t : TypeId) (r : Option TypeRow) → IsPlainly rows w t r (first_in r)
-first_in_is rows w t None = refl
-first_in_is rows w t (Some (row.Basic b)) = first_basic_is b
-first_in_is rows w t (Some (row.Array n of)) = refl
-first_in_is rows w t (Some (row.Open of)) = refl
-first_in_is rows w t (Some (row.Record base fields)) = refl
-first_in_is rows w t (Some (row.Pointer to)) = tt
-first_in_is rows w t (Some (row.Object base fields)) = tt
-first_in_is rows w t (Some (row.Procedure formals r)) = refl
-first_in_is rows w t (Some row.Any) = tt
+first_in_is : (program : Program) (w : World Sort) (t : TypeId) (r : Option TypeRow) → IsPlainly program w t r (first_in r)
+first_in_is program w t None = refl
+first_in_is program w t (Some (row.Basic b)) = first_basic_is b
+first_in_is program w t (Some (row.Array n of)) = refl
+first_in_is program w t (Some (row.Open of)) = refl
+first_in_is program w t (Some (row.Record base fields)) = refl
+first_in_is program w t (Some (row.Pointer to)) = tt
+first_in_is program w t (Some (row.Object base fields)) = tt
+first_in_is program w t (Some (row.Procedure formals r)) = refl
+first_in_is program w t (Some row.Any) = tt
 
 first_basic_same : (w : World Sort) (b : Basic) → cell_of w (first_basic b) ≡ first_cell (kind_in (Some (row.Basic b)))
 first_basic_same w basic.ShortInt = refl
@@ -108,8 +108,8 @@ module _ (p : Program) where
   abbrev pub zero_cell : Sort → Cell
   zero_cell k = first_cell (kind_at k)
 
-  pub first_is : (w : World Sort) (k : Sort) → IsPlain k → Is p.types w k (first_value p k)
-  first_is w (Plain t) plain = first_in_is p.types w t (type_row p.types t)
+  pub first_is : (w : World Sort) (k : Sort) → IsPlain k → Is p w k (first_value p k)
+  first_is w (Plain t) plain = first_in_is p w t (type_row p.types t)
   first_is w (RecordPlace t) plain = absurd plain
   first_is w (Alias t) plain = absurd plain
   first_is w (Elements t ns) plain = absurd plain
@@ -135,12 +135,12 @@ module _ (p : Program) where
     variable_same : (v : Variable) → map first_cell (leaves (cells p.types (id_of v.of))) ≡ map (cell_of w) (flatten (first_variable p v))
     variable_same v =
         part_cells (of_variable (contents p.types) p.types (id_of v.of))
-        ∙ sym (first_cells (Is p.types) cell_of IsPlain (values_kept p.types) (first_value p) zero_cell first_is first_same w (variable_shape p.types (id_of v.of)))
+        ∙ sym (first_cells (Is p) cell_of IsPlain (values_kept p) (first_value p) zero_cell first_is first_same w (variable_shape p.types (id_of v.of)))
 
-    pub local_shown : (v : Variable) → let s = variable_shape p.types (id_of v.of) in Shown (Is p.types) cell_of w s (first_content (first_value p) s) (map first_cell (leaves (cells p.types (id_of v.of))))
+    pub local_shown : (v : Variable) → let s = variable_shape p.types (id_of v.of) in Shown (Is p) cell_of w s (first_content (first_value p) s) (map first_cell (leaves (cells p.types (id_of v.of))))
     local_shown v =
         record {
-          fits = first_fits (Is p.types) cell_of IsPlain (values_kept p.types) (first_value p) zero_cell first_is first_same w (variable_shape p.types (id_of v.of)) (plain_parts (of_variable (contents p.types) p.types (id_of v.of)));
+          fits = first_fits (Is p) cell_of IsPlain (values_kept p) (first_value p) zero_cell first_is first_same w (variable_shape p.types (id_of v.of)) (plain_parts (of_variable (contents p.types) p.types (id_of v.of)));
           same = variable_same v;
         }
 
@@ -165,17 +165,17 @@ module _ (p : Program) where
 
     module _ (predeclared : HasPredeclared p) where
       -- a string constant is of characters
-      character_fits : (c : ℕ) → c < 256 → Is p.types w (Plain (id_of type.Char)) (Char c)
-      character_fits c l = subst (λ o. IsPlainly p.types w (id_of type.Char) o (Char c)) (sym (predeclared 5 (omega arith))) l
+      character_fits : (c : ℕ) → c < 256 → Is p w (Plain (id_of type.Char)) (Char c)
+      character_fits c l = subst (λ o. IsPlainly p w (id_of type.Char) o (Char c)) (sym (predeclared 5 (omega arith))) l
 
-      text_fits : (cs : List ℕ) → All (λ c. c < 256) cs → Fits (Is p.types w) (text_shape cs) (text_content cs)
+      text_fits : (cs : List ℕ) → All (λ c. c < 256) cs → Fits (Is p w) (text_shape cs) (text_content cs)
       text_fits [] h = (character_fits 0 (omega arith), tt)
       text_fits (c ∷ cs) h = (character_fits c (h 0 c (omega arith)), text_fits cs (All-tail (λ c. c < 256) c cs h))
 
       abbrev AreTexts : List (List ℕ) → Type 0
       AreTexts ts = All (λ t. All (λ c. c < 256) t) ts
 
-      all_fit : (vs : List Variable) (ts : List (List ℕ)) → AreTexts ts → Fits (Is p.types w) (row_of_shapes (map (λ v. variable_shape p.types (id_of v.of)) vs ++ map text_shape ts)) (row_of (map (first_variable p) vs ++ map text_content ts))
+      all_fit : (vs : List Variable) (ts : List (List ℕ)) → AreTexts ts → Fits (Is p w) (row_of_shapes (map (λ v. variable_shape p.types (id_of v.of)) vs ++ map text_shape ts)) (row_of (map (first_variable p) vs ++ map text_content ts))
       all_fit [] [] h = tt
       all_fit [] (t ∷ ts) h = (text_fits t (h 0 t (omega arith)), all_fit [] ts (All-tail (λ t. All (λ c. c < 256) t) t ts h))
       all_fit (v ∷ vs) ts h = (
@@ -184,7 +184,7 @@ module _ (p : Program) where
       )
 
       -- the cells of the modules show what their variables hold, and their string constants
-      pub modules_shown : (ms : List Module) → All (λ m. AreTexts m.texts) ms → AllShown (Is p.types) cell_of w (map (module_shape p) ms) (map (first_module p) ms) (map (module_cells p.types) ms)
+      pub modules_shown : (ms : List Module) → All (λ m. AreTexts m.texts) ms → AllShown (Is p) cell_of w (map (module_shape p) ms) (map (first_module p) ms) (map (module_cells p.types) ms)
       modules_shown [] h = tt
       modules_shown (m ∷ ms) h = (
         record { fits = all_fit m.variables m.texts (h 0 m (omega arith)); same = all_same m.variables m.texts },

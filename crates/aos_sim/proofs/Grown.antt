@@ -99,7 +99,7 @@ module _ (program : Program) (following : List ℕ) where
       let text = fitted strict (unsigned_abs (number_of room)) (text_in (read from.root from.path x)) in
       stores_text_grown following text (read to.root to.path x) to f fs s
   answer_grown (ComparesTexts r a n b m) f fs s = none s.made
-  answer_grown (Calls q vs) f fs s = calls_grown (by_number q (routines program)) vs f fs s
+  answer_grown (Calls how q vs) f fs s = calls_grown (by_number q (routines program)) vs f fs s
   answer_grown (PutsString a n) f fs s = none s.made
   answer_grown (Places a) f fs s = none s.made
   answer_grown (Lengths a) f fs s = none s.made

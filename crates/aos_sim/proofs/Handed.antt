@@ -125,15 +125,15 @@ other_ends rows ranked t e = by (type_row rows t) refl e
 module _ (program : Program) (w : World Sort) where
   -- the parts of a row are shown by these cells
   abbrev pub PartsShown : List Part → List Cell → Type 0
-  PartsShown ps ys = Shown (Is program.types) cell_of w (shape_of_parts ps) (content_of_parts ps) ys
+  PartsShown ps ys = Shown (Is program) cell_of w (shape_of_parts ps) (content_of_parts ps) ys
 
   pub none_shown : PartsShown [] []
   none_shown = record { fits = tt; same = refl }
 
-  pub more_shown : (p : Part) (ps : List Part) (y z : List Cell) → Shown (Is program.types) cell_of w p.shape p.content y → PartsShown ps z → PartsShown (p ∷ ps) (y ++ z)
-  more_shown p ps y z h k = shown_pair (Is program.types) cell_of w p.shape (shape_of_parts ps) p.content (content_of_parts ps) y z h k
+  pub more_shown : (p : Part) (ps : List Part) (y z : List Cell) → Shown (Is program) cell_of w p.shape p.content y → PartsShown ps z → PartsShown (p ∷ ps) (y ++ z)
+  more_shown p ps y z h k = shown_pair (Is program) cell_of w p.shape (shape_of_parts ps) p.content (content_of_parts ps) y z h k
 
-  fits_parts : (ps qs : List Part) → Fits (Is program.types w) (shape_of_parts ps) (content_of_parts ps) → Fits (Is program.types w) (shape_of_parts qs) (content_of_parts qs) → Fits (Is program.types w) (shape_of_parts (ps ++ qs)) (content_of_parts (ps ++ qs))
+  fits_parts : (ps qs : List Part) → Fits (Is program w) (shape_of_parts ps) (content_of_parts ps) → Fits (Is program w) (shape_of_parts qs) (content_of_parts qs) → Fits (Is program w) (shape_of_parts (ps ++ qs)) (content_of_parts (ps ++ qs))
   fits_parts [] qs h k = k
   fits_parts (p ∷ ps) qs h k = (h.0, fits_parts ps qs h.1 k)
 
@@ -147,10 +147,10 @@ module _ (program : Program) (w : World Sort) where
       }
 
   -- the lengths of an open array
-  lengths_shown : (v : World Sort) (ns : List ℕ) → All IsLength ns → Shown (Is program.types) cell_of w (row (map (λ n. One (Length n)) ns)) (content_row (map (λ u. Scalar u) (lengths_of ns))) (map (cell_of v) (lengths_of ns))
+  lengths_shown : (v : World Sort) (ns : List ℕ) → All IsLength ns → Shown (Is program) cell_of w (row (map (λ n. One (Length n)) ns)) (content_row (map (λ u. Scalar u) (lengths_of ns))) (map (cell_of v) (lengths_of ns))
   lengths_shown v [] h = record { fits = tt; same = refl }
   lengths_shown v (n ∷ ns) h =
-      shown_pair (Is program.types) cell_of w (One (Length n)) (row (map (λ m. One (Length m)) ns)) (Scalar (Int (pos n))) (content_row (map (λ u. Scalar u) (lengths_of ns))) (cell.Num (pos n) ∷ []) (map (cell_of v) (lengths_of ns))
+      shown_pair (Is program) cell_of w (One (Length n)) (row (map (λ m. One (Length m)) ns)) (Scalar (Int (pos n))) (content_row (map (λ u. Scalar u) (lengths_of ns))) (cell.Num (pos n) ∷ []) (map (cell_of v) (lengths_of ns))
       (record { fits = (refl, (all_get IsLength (n ∷ ns) 0 n h refl).1); same = refl }) (lengths_shown v ns (All-tail IsLength n ns h))
 
   -- the next copies in a frame above so many stand behind one another, from this part and this cell on
@@ -166,7 +166,7 @@ module _ (ps : List ℕ) (w : World Sort) where
   lengths_found (n ∷ ns) = ap (option_map (λ l. n ∷ l)) (lengths_found ns)
 
 -- in a world behind those of these frames
-module _ (program : Program) (made : List Made) (frames : List (Shape Sort)) (x : Rooted (Content Value)) (y : Rooted (List Cell)) (shows : Shows (Is program.types) cell_of (scheme program) made frames x y) (w : World Sort) (up : Grows (world (scheme program) made frames) w) (here : ℕ) (ps : List ℕ) (ranked : IsRanked program.types) where
+module _ (program : Program) (made : List Made) (frames : List (Shape Sort)) (x : Rooted (Content Value)) (y : Rooted (List Cell)) (shows : Shows (Is program) cell_of (scheme program) made frames x y) (w : World Sort) (up : Grows (world (scheme program) made frames) w) (here : ℕ) (ps : List ℕ) (ranked : IsRanked program.types) where
   abbrev now : World Sort
   now = world (scheme program) made frames
 
@@ -174,7 +174,7 @@ module _ (program : Program) (made : List Made) (frames : List (Shape Sort)) (x 
   rows = program.types
 
   abbrev IsShown : Shape Sort → Content Value → List Cell → Type 0
-  IsShown = Shown (Is program.types) cell_of w
+  IsShown = Shown (Is program) cell_of w
 
   abbrev parameters : List Parameter → List Value → ℕ → Handed
   parameters = H.handed rows here x
@@ -204,9 +204,9 @@ module _ (program : Program) (made : List Made) (frames : List (Shape Sort)) (x 
       }
 
   -- a scalar
-  scalar_shown : (k : Sort) (v : Value) → Is rows now k v → IsShown (One k) (Scalar v) (cell_of now v ∷ [])
+  scalar_shown : (k : Sort) (v : Value) → Is program now k v → IsShown (One k) (Scalar v) (cell_of now v ∷ [])
   scalar_shown k v h =
-      record { fits = (values_kept rows).is now w up k v h; same = ap (λ c. c ∷ []) ((values_kept rows).cells now w up k v h) }
+      record { fits = (values_kept program).is now w up k v h; same = ap (λ c. c ∷ []) ((values_kept program).cells now w up k v h) }
 
   -- what stands at a place, so many cells
   record Found (p : Spot) (s : Shape Sort) (n : ℕ) : Type 0 where
@@ -216,8 +216,8 @@ module _ (program : Program) (made : List Made) (frames : List (Shape Sort)) (x 
 
   found : (p : Spot) (s : Shape Sort) (n : ℕ) → size s ≡ n → shape_at now p.root p.path ≡ Some s → Found p s n
   found p s n many at =
-      let a = whole_alike (Is rows) cell_of IsPlain (values_kept rows) (scheme program) made frames x y w up p.root p.path s shows at in
-      let long = shown_long (Is rows) cell_of w s a.inner a.cells a.shown ∙ many in
+      let a = whole_alike (Is program) cell_of IsPlain (values_kept program) (scheme program) made frames x y w up p.root p.path s shows at in
+      let long = shown_long (Is program) cell_of w s a.inner a.cells a.shown ∙ many in
       record {
         cells = a.cells;
         there = ap (option_and_then (if_all n)) (ap (λ m. load_all m p.root (cell_at now p.root p.path) y) (sym many) ∙ a.image) ∙ all_there n a.cells long;
@@ -232,8 +232,8 @@ module _ (program : Program) (made : List Made) (frames : List (Shape Sort)) (x 
 
   begun : (p : Spot) (s more : Shape Sort) (n : ℕ) → join s Nothing ≡ s → size s ≡ n → shape_at now p.root p.path ≡ Some (join s more) → Begun p s n
   begun p s more n ends many at =
-      let a = first_alike (Is rows) cell_of IsPlain (values_kept rows) (scheme program) made frames x y w up p.root p.path s more ends shows at in
-      let long = shown_long (Is rows) cell_of w s (cut s a.inner) a.cells a.shown ∙ many in
+      let a = first_alike (Is program) cell_of IsPlain (values_kept program) (scheme program) made frames x y w up p.root p.path s more ends shows at in
+      let long = shown_long (Is program) cell_of w s (cut s a.inner) a.cells a.shown ∙ many in
       record {
         cells = a.cells;
         there = ap (option_and_then (if_all n)) (ap (λ m. load_all m p.root (cell_at now p.root p.path) y) (sym many) ∙ a.image) ∙ all_there n a.cells long;
@@ -241,10 +241,10 @@ module _ (program : Program) (made : List Made) (frames : List (Shape Sort)) (x 
       }
 
   -- an open array's place and lengths
-  open_shown : (of : TypeId) (v : Value) (ns : List ℕ) (c : Cell) → Is rows w (Elements of ns) v → cell_of w v ≡ c → All IsLength ns → let part = open_part of v (lengths_of ns) in IsShown part.shape part.content (c ∷ map (cell_of now) (lengths_of ns))
+  open_shown : (of : TypeId) (v : Value) (ns : List ℕ) (c : Cell) → Is program w (Elements of ns) v → cell_of w v ≡ c → All IsLength ns → let part = open_part of v (lengths_of ns) in IsShown part.shape part.content (c ∷ map (cell_of now) (lengths_of ns))
   open_shown of v ns c is at lengths =
       subst (λ l. IsShown (Pair (One (Elements of l)) (row (map (λ n. One (Length n)) l))) (Row (Scalar v) (content_row (map (λ u. Scalar u) (lengths_of ns)))) (c ∷ map (cell_of now) (lengths_of ns))) (sym (naturals_of ns))
-      (shown_pair (Is rows) cell_of w (One (Elements of ns)) (row (map (λ n. One (Length n)) ns)) (Scalar v) (content_row (map (λ u. Scalar u) (lengths_of ns))) (c ∷ []) (map (cell_of now) (lengths_of ns))
+      (shown_pair (Is program) cell_of w (One (Elements of ns)) (row (map (λ n. One (Length n)) ns)) (Scalar v) (content_row (map (λ u. Scalar u) (lengths_of ns))) (c ∷ []) (map (cell_of now) (lengths_of ns))
       (record { fits = is; same = ap (λ z. z ∷ []) (sym at) }) (lengths_shown program w now ns lengths))
 
   -- what is handed over for a parameter by these kinds of it, before the others
@@ -321,7 +321,7 @@ module _ (program : Program) (made : List Made) (frames : List (Shape Sort)) (x 
     opening v ns long lengths r =
         (ns, long, lengths, ap (λ l. Pair (One (Elements of l)) (row (map (λ n. One (Length n)) l))) (naturals_of ns))
 
-    module _ (p : Spot) (ns : List ℕ) (rest : List Value) (long : length ns ≡ many) (is : Is rows now (Elements of ns) (Place p)) (lengths : All IsLength ns) where
+    module _ (p : Spot) (ns : List ℕ) (rest : List Value) (long : length ns ≡ many) (is : Is program now (Elements of ns) (Place p)) (lengths : All IsLength ns) where
       abbrev first : List Value
       first = lengths_of ns
 
@@ -358,7 +358,7 @@ module _ (program : Program) (made : List Made) (frames : List (Shape Sort)) (x 
           let part = open_part of (Place p) first in
           let source : referred first rest copy ≡ stepped true true true (Place p ∷ (first ++ rest)) copy = λ j. referred (sym taken j) (sym dropped j) copy in
           let image : image_referred handed_cells (map (cell_of now) rest) (Some ns) at ≡ image_referred (take many (map (cell_of now) (first ++ rest))) (drop many (map (cell_of now) (first ++ rest))) (I.lengths_in ps (take many (map (cell_of now) (first ++ rest)))) at = (λ j. image_referred handed_cells (map (cell_of now) rest) (sym (lengths_found ps now ns) j) at) ∙ (λ j. image_referred (sym taken_cells j) (sym dropped_cells j) (I.lengths_in ps (sym taken_cells j)) at) in
-          let shown = open_shown of (Place p) ns place ((values_kept rows).is now w up (Elements of ns) (Place p) is) (sym ((values_kept rows).cells now w up (Elements of ns) (Place p) is)) lengths in
+          let shown = open_shown of (Place p) ns place ((values_kept program).is now w up (Elements of ns) (Place p) is) (sym ((values_kept program).cells now w up (Elements of ns) (Place p) is)) lengths in
           let alike = one_more (taken_so true true) taken_others part [] (place ∷ handed_cells) [] (others rest copy) (cells_of_others (map (cell_of now) rest) at) copy at copy at (opening (Place p) ns long lengths true) (λ st. (shown, st)) (none_shown program w) (ih copy at) in
           subst (λ h. Alike (taken_so true true ∷ taken_others) h (cells_handed (kind true true true ∷ map (parameter_kind rows) as') (map (cell_of now) (Place p ∷ (first ++ rest))) at) copy at) source
           (subst (λ o. Alike (taken_so true true ∷ taken_others) (referred first rest copy) o copy at) image alike)
@@ -387,7 +387,7 @@ module _ (program : Program) (made : List Made) (frames : List (Shape Sort)) (x 
           let same : copy_part.shape ≡ elements = ap (λ l. nested l (variable_shape rows of)) (naturals_of ns) in
           let a = found p elements (cells_of ns (size (cells rows of))) (nested_size ns (variable_shape rows of) ∙ ap (cells_of ns) (cells_size rows of)) there in
           let next = at + length a.cells in
-          let far : at + size copy_part.shape ≡ next = ap (λ n. at + n) (ap size same ∙ sym (shown_long (Is rows) cell_of w elements (H.content_at rows here x (Place p)) a.cells a.shown)) in
+          let far : at + size copy_part.shape ≡ next = ap (λ n. at + n) (ap size same ∙ sym (shown_long (Is program) cell_of w elements (H.content_at rows here x (Place p)) a.cells a.shown)) in
           let whole : PartsShown program w (copy_part ∷ []) a.cells = subst (PartsShown program w (copy_part ∷ [])) (append-nil a.cells)
           (more_shown program w copy_part [] a.cells [] (subst (λ z. IsShown z copy_part.content a.cells) (sym same) a.shown) (none_shown program w)) in
           let stands : Stand program w here copy at (copy_part ∷ (others rest (suc copy)).copies) → IsShown part.shape part.content (cell.Place (FrameRoot here) at 0 ∷ handed_cells) × Stand program w here (suc copy) next (others rest (suc copy)).copies = λ st. (

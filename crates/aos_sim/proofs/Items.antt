@@ -11,7 +11,8 @@ use Rattle.aos_sim.proofs.Runs.{Run, Tables, runs, run}
 use Rattle.aos_sim.proofs.Does.{HasTypes, HasShapes, along, Knows}
 use Rattle.aos_sim.proofs.Carries.{IsOwn, HasStatement, Carries, Behind, StatementDoes, BeginsAt, AtNext, ItemsDo}
 use Rattle.aos_sim.proofs.Stats.{ends, begins_with, assign_does, copy_does, put_text_does, out_does, exit_does, block_does, assert_does, halt_does, perform_does, return_does}
-use Rattle.aos_sim.proofs.Making.{new_does, make_does, with_does, with_record_does}
+use Rattle.aos_sim.proofs.News.{new_does}
+use Rattle.aos_sim.proofs.Making.{make_does, with_does, with_record_does}
 use Rattle.aos_sim.proofs.Loops.{if_does, while_does, repeat_does, loop_does, until_does}
 use Rattle.aos_sim.proofs.Changes.{changed_does}
 use Rattle.aos_sim.proofs.Rounds.{rounds_does, for_does}
@@ -35,7 +36,7 @@ module _ (program : Program) (own : Option Procedure) (tables : Tables) (number 
   statement_does (Change there c p e) x d k after = changed_does program own tables number here code x d k after typed shaped there c p e
   statement_does (Perform there c more) x d k after = perform_does program own tables number here code x d k after typed shaped there c more
   statement_does (Return there e) x d k after = return_does program own tables number here code x d k after typed shaped is_own there e
-  statement_does (New there pl t) x d k after = new_does program own tables number here code x d k after typed shaped there pl t
+  statement_does (New there pl t more) x d k after = new_does program own tables number here code typed shaped x d after k there pl t more
   statement_does (Make there pl t ns) x d k after = make_does program own tables number here code x d k after typed shaped there pl t ns
   statement_does (With there e b) x d k after = with_does program own tables number here code x d k after typed shaped there e b
   statement_does (WithRecord there p b) x d k after = with_record_does program own tables number here code x d k after typed shaped there p b

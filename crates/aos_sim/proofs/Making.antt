@@ -1,17 +1,16 @@
--- NEW: an object is made and stored, and its activity started; a record or an array is made with its lengths, and stored. WITH: an object
--- or a record is guarded, and then statements are carried out.
-use Rattle.std.proofs.Common.{◌≡◌, ℕ, zero, suc, ℤ, pos, negsuc, ◌+◌, ◌≤◌, ◌<◌, Bool, true, false, Option, List, [], ◌∷◌, ◌++◌, length, map, drop, Some, None, refl, sym, ap, ◌∙◌, subst, arith, append-nil, append_assoc, length-append}
-use Rattle.std.specs.Prelude.{◌||◌, All, is_some, slice_get, option_map}
+-- NEW of a pointer: a record or an array is made with its lengths, and stored. WITH: an object or a record is guarded, and then statements
+-- are carried out.
+use Rattle.std.proofs.Common.{◌≡◌, ℕ, zero, suc, ℤ, pos, negsuc, ◌+◌, ◌≤◌, Bool, true, false, Option, List, [], ◌∷◌, ◌++◌, length, map, drop, Some, None, refl, sym, ap, ◌∙◌, subst, arith, append-nil, append_assoc, length-append}
+use Rattle.std.specs.Prelude.{◌||◌, All, is_some, slice_get}
 use Rattle.std.specs.List.{list_any}
 use Rattle.std.proofs.lemmas.Bool.{eq-eqb}
-use Rattle.std.proofs.lemmas.Option.{slice_get_within}
 use Rattle.std.proofs.lemmas.List.{length-map}
 use Rattle.std.proofs.lemmas.List.Elements.{All-nil, All-cons}
 use Rattle.std.proofs.lemmas.Int.{ints}
 use Rattle.aos_base.specs.declared.number.Width.TheVariants.{W64}
 use Rattle.aos_base.specs.declared.text.Pos.{Pos}
 use Rattle.aos_base.specs.Number.{with_length, array_lengths}
-use Rattle.aos_base.specs.Question.{Val, Asks, bind, ask, Stores, Makes, Starts}
+use Rattle.aos_base.specs.Question.{Val, Asks, bind, ask, Stores, Makes}
 use Rattle.aos_base.specs.Rooted.{Made}
 use Rattle.aos_types.specs.declared.row.TypeId.{TypeId}
 use Rattle.aos_types.specs.declared.row.TypeRow.{TypeRow}
@@ -24,15 +23,14 @@ use Rattle.aos_typed.specs.declared.tree.TType.TheVariants as type
 use Rattle.aos_typed.specs.Numbers.{id_of, id_of_made}
 use Rattle.aos_typed.specs.Open.{open_by, open_dimensions, first_same}
 use Rattle.aos_layout.specs.Layout.{leads_to, is_made}
-use Rattle.aos_typed.specs.Program.{Place, Expr, New, Make, With, WithRecord, Stats, Procedure, ObjectType, Program}
+use Rattle.aos_typed.specs.Program.{Place, Expr, Make, With, WithRecord, Stats, Procedure, Program}
 use Rattle.aos_typed.specs.Sort.{Sort, Plain}
 use Rattle.aos_typed.specs.Spot.{Spot}
 use Rattle.aos_typed.specs.Typing.{Extends, HasLengths}
-use Rattle.aos_typed.specs.Value.{Value, Object, number_of}
+use Rattle.aos_typed.specs.Value.{Value, number_of}
 use Rattle.aos_typed.specs.Meaning.{Here, Doing, Item, After, Into, items_of, place_of, value_of, values_of}
-use Rattle.aos_typed.specs.WellTyped.{is_basic, is_value, AreStatements, target_in, target, is_any, IsLength, NamesType, AreLengthsOf}
+use Rattle.aos_typed.specs.WellTyped.{is_value, AreStatements, target_in, target, is_any, IsLength, NamesType, AreLengthsOf}
 use Rattle.aos_code.specs.declared.instr.Cell.{Cell}
-use Rattle.aos_code.specs.declared.instr.Cell.TheVariants as cell
 use Rattle.aos_code.specs.declared.instr.Cell.TheVariants.{Num}
 use Rattle.aos_code.specs.declared.instr.Instr.{Instr}
 use Rattle.aos_code.specs.declared.instr.Instr.TheVariants as i
@@ -44,8 +42,7 @@ use Rattle.aos_sim.specs.Need.{stats_level}
 use Rattle.aos_sim.proofs.Runs.{Run, Onward, Tables, on_run, runs, run, drop_next, drop_past}
 use Rattle.aos_sim.proofs.Types.{number_cell, integer_is, is_integer}
 use Rattle.aos_sim.proofs.Does.{addr_of, HasTypes, HasShapes, IsObject, AreIntegers, Does, Knows, placed, knows_grows, along, does_bind}
-use Rattle.aos_sim.proofs.References.{made_reference, to_target, comes_same}
-use Rattle.aos_sim.proofs.Objects.{object_target}
+use Rattle.aos_sim.proofs.References.{made_reference, to_target, comes_same, reference_value}
 use Rattle.aos_sim.proofs.Evaluates.{OfSort, OfType, number_in, pushed, OnTop, Brings, ComesTo, front_does, piece_does}
 use Rattle.aos_sim.proofs.Designators.{IsFound, counted_all, places_stay}
 use Rattle.aos_places.proofs.Grow.{grows_twice}
@@ -55,7 +52,7 @@ use Rattle.aos_sim.proofs.Stats.{from_here, last_asks}
 
 -- What types values of these are made as.
 
-object_closed : (o : Option TypeRow) → is_object o ≡ true → is_open o ≡ false
+pub object_closed : (o : Option TypeRow) → is_object o ≡ true → is_open o ≡ false
 object_closed None e = absurd (cc)
 object_closed (Some (row.Basic b)) e = absurd (cc)
 object_closed (Some (row.Array n of)) e = absurd (cc)
@@ -66,27 +63,27 @@ object_closed (Some (row.Object base fields)) e = refl
 object_closed (Some (row.Procedure formals r)) e = absurd (cc)
 object_closed (Some row.Any) e = absurd (cc)
 
-closed_lengths : (rows : List TypeRow) (m : Made) (o : Option TypeRow) → is_open o ≡ false → m.lengths ≡ [] → HasLengths rows o m
-closed_lengths rows m None e h = h
-closed_lengths rows m (Some (row.Basic b)) e h = h
-closed_lengths rows m (Some (row.Array n of)) e h = h
-closed_lengths rows m (Some (row.Open of)) e h = absurd (cc)
-closed_lengths rows m (Some (row.Record base fields)) e h = h
-closed_lengths rows m (Some (row.Pointer to)) e h = h
-closed_lengths rows m (Some (row.Object base fields)) e h = h
-closed_lengths rows m (Some (row.Procedure formals r)) e h = h
-closed_lengths rows m (Some row.Any) e h = h
+pub closed_lengths : (program : Program) (m : Made) (o : Option TypeRow) → is_open o ≡ false → m.lengths ≡ [] → HasLengths program o m
+closed_lengths program m None e h = h
+closed_lengths program m (Some (row.Basic b)) e h = h
+closed_lengths program m (Some (row.Array n of)) e h = h
+closed_lengths program m (Some (row.Open of)) e h = absurd (cc)
+closed_lengths program m (Some (row.Record base fields)) e h = h
+closed_lengths program m (Some (row.Pointer to)) e h = h
+closed_lengths program m (Some (row.Object base fields)) e h = h
+closed_lengths program m (Some (row.Procedure formals r)) e h = h
+closed_lengths program m (Some row.Any) e h = h
 
-open_lengths : (rows : List TypeRow) (m : Made) (o : Option TypeRow) → is_open o ≡ true → length m.lengths ≡ open_dimensions rows (id_of_made m.type) → All IsLength m.lengths → HasLengths rows o m
-open_lengths rows m None e h l = absurd (cc)
-open_lengths rows m (Some (row.Basic b)) e h l = absurd (cc)
-open_lengths rows m (Some (row.Array n of)) e h l = absurd (cc)
-open_lengths rows m (Some (row.Open of)) e h l = (h, l)
-open_lengths rows m (Some (row.Record base fields)) e h l = absurd (cc)
-open_lengths rows m (Some (row.Pointer to)) e h l = absurd (cc)
-open_lengths rows m (Some (row.Object base fields)) e h l = absurd (cc)
-open_lengths rows m (Some (row.Procedure formals r)) e h l = absurd (cc)
-open_lengths rows m (Some row.Any) e h l = absurd (cc)
+open_lengths : (program : Program) (m : Made) (o : Option TypeRow) → is_open o ≡ true → length m.lengths ≡ open_dimensions program.types (id_of_made m.type) → All IsLength m.lengths → HasLengths program o m
+open_lengths program m None e h l = absurd (cc)
+open_lengths program m (Some (row.Basic b)) e h l = absurd (cc)
+open_lengths program m (Some (row.Array n of)) e h l = absurd (cc)
+open_lengths program m (Some (row.Open of)) e h l = (h, l)
+open_lengths program m (Some (row.Record base fields)) e h l = absurd (cc)
+open_lengths program m (Some (row.Pointer to)) e h l = absurd (cc)
+open_lengths program m (Some (row.Object base fields)) e h l = absurd (cc)
+open_lengths program m (Some (row.Procedure formals r)) e h l = absurd (cc)
+open_lengths program m (Some row.Any) e h l = absurd (cc)
 
 -- a type that is no open array has no open dimension
 pub none_open : (rows : List TypeRow) (t : TypeId) (n : ℕ) → is_open (row_of rows t) ≡ false → open_by n rows t ≡ 0
@@ -132,14 +129,6 @@ long_lengths (z ∷ zs) ns e = by (λ ms f. long_lengths zs ms f) z (array_lengt
 both_lengths : (ns : List ℕ) → All (λ n. 1 ≤ n) ns → All (λ n. n ≤ 16777216) ns → All IsLength ns
 both_lengths ns a b i n lt = let l = a i n lt in let m = b i n lt in (l, record { low = omega (arith, ints); high = omega (arith, ints, m) })
 
--- what stands beside a type is there
-beside : (os : List ObjectType) (t : ℕ) → option_map (λ o. o.has_body) (slice_get os t) ≡ Some true → t < length os
-beside os t e = by (slice_get os t) refl e
-  where
-    by : (o : Option ObjectType) → slice_get os t ≡ o → option_map (λ o. o.has_body) o ≡ Some true → t < length os
-    by None f h = absurd (cc)
-    by (Some o) f h = slice_get_within os t o f
-
 -- objects of the type may be made that a reference leads to
 any_there : (f : TypeRow → Bool) (xs : List TypeRow) (i : ℕ) (x : TypeRow) → slice_get xs i ≡ Some x → f x ≡ true → list_any f xs ≡ true
 any_there f [] i x e h = absurd (cc)
@@ -169,10 +158,9 @@ target_made rows k t (Some (row.Object base fields)) f e =
 target_made rows k t (Some (row.Procedure formals r)) f e = absurd (cc)
 target_made rows k t (Some row.Any) f e = absurd (cc)
 
-or_three : {c : Bool} (a b : Bool) → c ≡ true → (a || (b || c)) ≡ true
-or_three true b e = refl
-or_three false true e = refl
-or_three false false e = e
+or_second : {c : Bool} (b : Bool) → c ≡ true → (b || c) ≡ true
+or_second true e = refl
+or_second false e = e
 
 module _ (program : Program) (own : Option Procedure) (tables : Tables) (number : ℕ) (here : Here) (code : List Instr) where
   abbrev onward : List Instr → Onward
@@ -234,7 +222,7 @@ module _ (program : Program) (own : Option Procedure) (tables : Tables) (number 
         ap (λ a. on_run tables a (onward rest) p k) acts ∙ ap (λ j. Asks (Makes j (map (cell_of w) all)) (λ x. onward rest 0 (p + 1) k (x ∷ s))) number_is
 
     -- what is made so is a value of a pointer to the type
-    pub made_lengths : (t : ℕ) (es : ℕ) (vs : List Value) (ns : List ℕ) → length vs ≡ es → es ≡ open_dimensions program.types (id_of (type.Named t)) → array_lengths (map number_of vs) ≡ Some ns → All (λ n. n ≤ 16777216) ns → HasLengths program.types (row_of program.types (id_of (type.Named t))) (record { type = suc t; lengths = ns })
+    pub made_lengths : (t : ℕ) (es : ℕ) (vs : List Value) (ns : List ℕ) → length vs ≡ es → es ≡ open_dimensions program.types (id_of (type.Named t)) → array_lengths (map number_of vs) ≡ Some ns → All (λ n. n ≤ 16777216) ns → HasLengths program (row_of program.types (id_of (type.Named t))) (record { type = suc t; lengths = ns })
     made_lengths t es vs ns many dims e few = by (is_open (row_of program.types id)) refl
       where
         id : TypeId
@@ -247,10 +235,10 @@ module _ (program : Program) (own : Option Procedure) (tables : Tables) (number 
         empty [] l = refl
         empty (n ∷ ns) l = absurd (omega (arith, l))
 
-        by : (b : Bool) → is_open (row_of program.types (id_of (type.Named t))) ≡ b → HasLengths program.types (row_of program.types (id_of (type.Named t))) (record { type = suc t; lengths = ns })
-        by true is = open_lengths program.types (record { type = suc t; lengths = ns }) (row_of program.types (id_of (type.Named t))) is long (both_lengths ns (long_lengths (map number_of vs) ns e) few)
+        by : (b : Bool) → is_open (row_of program.types (id_of (type.Named t))) ≡ b → HasLengths program (row_of program.types (id_of (type.Named t))) (record { type = suc t; lengths = ns })
+        by true is = open_lengths program (record { type = suc t; lengths = ns }) (row_of program.types (id_of (type.Named t))) is long (both_lengths ns (long_lengths (map number_of vs) ns e) few)
         by false isnt =
-            closed_lengths program.types (record { type = suc t; lengths = ns }) (row_of program.types (id_of (type.Named t))) isnt
+            closed_lengths program (record { type = suc t; lengths = ns }) (row_of program.types (id_of (type.Named t))) isnt
             (empty ns (long ∙ none_open program.types (id_of (type.Named t)) (length program.types) isnt))
 
   module _ (x d : ℕ) (k : Keeps) (after : List Item) where
@@ -258,65 +246,6 @@ module _ (program : Program) (own : Option Procedure) (tables : Tables) (number 
     Carried p = Carries program own tables number here code after p x d k
 
     module _ (typed : HasTypes program) (shaped : HasShapes program tables) where
-      -- the object stays below the place while it's stored, and is started then
-      pub new_does : (there : Pos) (pl : Place) (t : ℕ) → StatementDoes program own tables number here code x d k after (New there pl t)
-      new_does there pl t w at known has c =
-          let named = type.Named t in
-          let names = NamesType program own pl named in
-          let cp = place_code program own pl (at + 1 + 2) in
-          let p = at + 1 + 2 + length cp in
-          let rest = has.stands.rest in
-          let last = i.Swap ∷ (i.Store R ∷ (i.Start ∷ [])) in
-          let xs = i.NewObject (t + 1) ∷ (i.Dup ∷ (cp ++ last)) in
-          let h1 : drop (at + 1) code ≡ xs ++ rest = drop_next at code (begin there) (xs ++ rest) has.stands.here in
-          let h2 : drop (at + 1 + 1 + 1) code ≡ (cp ++ last) ++ rest = drop_next (at + 1 + 1) code i.Dup ((cp ++ last) ++ rest) (drop_next (at + 1) code (i.NewObject (t + 1)) (i.Dup ∷ ((cp ++ last) ++ rest)) h1) in
-          let two : at + 1 + 1 + 1 ≡ at + 1 + 2 = omega arith in
-          let h3 : drop p code ≡ last ++ rest = drop_past cp (at + 1 + 2) code (last ++ rest) (ap (λ n. drop n code) (sym two) ∙ h2 ∙ append_assoc cp last rest) in
-          let h4 : drop (p + 1 + 1 + 1) code ≡ rest = drop_next (p + 1 + 1) code i.Start rest (drop_next (p + 1) code (i.Store R) (i.Start ∷ rest) (drop_next p code i.Swap (i.Store R ∷ (i.Start ∷ rest)) h3)) in
-          let len : at + suc (length xs) ≡ p + 1 + 1 + 1 = omega (arith, length-append cp last) in
-          let number_is : t + 1 ≡ suc t = omega arith in (
-            (λ x. onward (i.Dup ∷ ((cp ++ last) ++ rest)) 0 (at + 1 + 1) k (x ∷ [])),
-            from_here program own tables number here code (at + 1) (xs ++ rest) k [] h1 ∙ ap (λ n. Asks (Makes n []) (λ x. onward (i.Dup ∷ ((cp ++ last) ++ rest)) 0 (at + 1 + 1) k (x ∷ []))) number_is,
-            (
-              t,
-              refl,
-              beside program.objects t has.typed.3,
-              sym (none_open program.types (id_of named) (length program.types) (object_closed (row_of program.types (id_of named)) has.typed.2)),
-              tt,
-              ap (λ b. b || list_any (leads_to program.types (id_of named)) program.types) has.typed.2,
-            ),
-            λ w1 up v made. along program here (Leaves after) w1 _ _ (bind (place_of program here pl) (stored v)) (ap (λ n. onward ((cp ++ last) ++ rest) 0 n k (cell_of w1 v ∷ (cell_of w1 v ∷ []))) two)
-                (piece_does program own tables number here code (IsFound program names named) place_in (Leaves after) (stored v) cp last (place_of program here pl) (at + 1 + 2) rest k (cell_of w1 v ∷ (cell_of w1 v ∷ []))
-                (place_does program own tables number here code typed shaped pl named has.typed.1 (at + 1 + 2)) w1 (knows_grows program own here w w1 up known)
-                (λ w2 up2 a m is e. stores w2 t a names is has.typed.2 made.2.number v made.2.is made.0 (up2.made (suc made.2.number) (record { type = suc t; lengths = made.0 }) made.2.made) (none made.0 made.1) m rest p
-                (e ∙ ap (λ y. onward (last ++ rest) 0 p k (place_in w2 a ∷ (y ∷ (y ∷ [])))) (ap (cell_of w1) made.2.is)) h4 (subst Carried len c))),
-          )
-        where
-          stored : Value → Spot → Doing After
-          stored v s = bind (ask (Stores s v)) (λ _. bind (ask (Starts v)) (λ _. Val (Into [])))
-
-          none : (ns : List ℕ) → Some [] ≡ Some ns → ns ≡ []
-          none ns e = cc
-
-          stores : (w2 : World Sort) (t : ℕ) (a : Spot) (names : Type 0) → IsFound program names (type.Named t) w2 a → is_object (row_of program.types (id_of (type.Named t))) ≡ true → (o : ℕ) (v : Value) → v ≡ Object (suc o) → (ns : List ℕ) → w2.made (suc o) ≡ Some (record { type = suc t; lengths = ns }) → ns ≡ [] → (m : Run) (rest : List Instr) (p : ℕ) → m ≡ onward (i.Swap ∷ (i.Store R ∷ (i.Start ∷ rest))) 0 p k (place_in w2 a ∷ (cell.Ref (suc o) ∷ (cell.Ref (suc o) ∷ []))) → drop (p + 1 + 1 + 1) code ≡ rest → Carried (p + 1 + 1 + 1) → Does program here (Leaves after) w2 m (bind (ask (Stores a v)) (λ _. bind (ask (Starts v)) (λ _. Val (Into []))))
-          stores w2 t a names is object o v e ns made closed m rest p run there_after cont =
-              let id = id_of (type.Named t) in
-              let to : target program.types (type.Named t) ≡ Some id = object_target program.types id (row_of program.types id) object in
-              let value : is_value program.types (type.Named t) ≡ true = ap is_some to in
-              let obj : IsObject w2 (Object (suc o)) (record { type = suc t; lengths = ns }) = record { number = o; is = refl; made = made } in
-              let lengths = closed_lengths program.types (record { type = suc t; lengths = ns }) (row_of program.types id) (object_closed (row_of program.types id) object) closed in
-              subst (λ v. Does program here (Leaves after) w2 m (bind (ask (Stores a v)) (λ _. bind (ask (Starts v)) (λ _. Val (Into []))))) (sym e) (
-                (λ x. onward (i.Start ∷ rest) 0 (p + 1 + 1) k (cell.Ref (suc o) ∷ [])),
-                run,
-                (
-                  Plain id,
-                  tt,
-                  scalar_found program own tables number here code typed (type.Named t) value w2 a names is,
-                  to_target program w2 (type.Named t) id (Object (suc o)) to (made_reference program.types w2 (Extends program.types id) (Object (suc o)) (record { type = suc t; lengths = ns }) obj lengths (comes_same program.types id)),
-                ),
-                λ w3 up3 u y. last_asks program own tables number here code x d k after (Starts (Object (suc o))) w3 _ (p + 1 + 1) rest refl (o, refl) there_after cont,
-              )
-
       -- a pointer's record or array
       pub make_does : (there : Pos) (pl : Place) (t : ℕ) (ns : List Expr) → StatementDoes program own tables number here code x d k after (Make there pl t ns)
       make_does there pl t ns w at known has c =
@@ -341,32 +270,32 @@ module _ (program : Program) (own : Option Procedure) (tables : Tables) (number 
           (place_does program own tables number here code typed shaped pl u has.typed.0.1 (at + 1)) w known
           (λ w1 up a m found e. along program here (Leaves after) w1 m _ (bind (values_of program here ns) (λ vs. made a vs)) e
           (front_does program own tables number here code (AreValues (length ns)) value_cells (Leaves after) (λ vs. made a vs) cn last (values_of program here ns) pn rest k (place_in w1 a ∷ [])
-          (values_do typed shaped ns has.typed.2 pn) w1 (knows_grows program own here w w1 up known)
+          (values_do typed shaped ns has.typed.3 pn) w1 (knows_grows program own here w w1 up known)
           (λ w2 up2 vs m2 are e2. (
             (λ y. onward (i.Store R ∷ rest) 0 (p + 1) k (y ∷ (place_in w1 a ∷ []))),
             e2 ∙ make_asks typed shaped t w2 vs (length ns) are (i.Store R ∷ rest) p k (place_in w1 a ∷ []),
-            (t, refl, has.typed.1, are.0 ∙ has.typed.3, are.1, target_made program.types (id_of u) (id_of (type.Named t)) (row_of program.types (id_of u)) refl to),
+            (t, refl, has.typed.1, are.0 ∙ has.typed.4, are.1, target_made program.types (id_of u) (id_of (type.Named t)) (row_of program.types (id_of u)) refl to),
             λ w3 up3 v new.
                 let up13 : Grows w1 w3 = grows_twice w1 w2 w3 up2 up3 in
                 let stay = places_stay program own tables number here code named u w1 w3 up13 a found in
-                stores w3 u a named stay.0 to v new.0 new.2 (made_lengths typed shaped t (length ns) vs new.0 are.0 has.typed.3 new.1 new.3) _ rest (p + 1)
+                stores w3 u a named stay.0 to v new.0 new.2 (made_lengths typed shaped t (length ns) vs new.0 are.0 has.typed.4 new.1 new.3) _ rest (p + 1)
                 (ap (λ z. onward (i.Store R ∷ rest) 0 (p + 1) k (cell_of w3 v ∷ (z ∷ []))) stay.1) h3 (subst Carried len c),
           )))))
         where
           made : Spot → List Value → Doing After
           made s vs = bind (ask (Makes (suc t) vs)) (λ o. bind (ask (Stores s o)) (λ _. Val (Into [])))
 
-          stores : (w3 : World Sort) (u : TType) (a : Spot) (named : Type 0) → IsFound program named u w3 a → target program.types u ≡ Some (id_of (type.Named t)) → (v : Value) (ls : List ℕ) → IsObject w3 v (record { type = suc t; lengths = ls }) → HasLengths program.types (row_of program.types (id_of (type.Named t))) (record { type = suc t; lengths = ls }) → (m : Run) (rest : List Instr) (p : ℕ) → m ≡ onward (i.Store R ∷ rest) 0 p k (cell_of w3 v ∷ (place_in w3 a ∷ [])) → drop (p + 1) code ≡ rest → Carried (p + 1) → Does program here (Leaves after) w3 m (bind (ask (Stores a v)) (λ _. Val (Into [])))
+          stores : (w3 : World Sort) (u : TType) (a : Spot) (named : Type 0) → IsFound program named u w3 a → target program.types u ≡ Some (id_of (type.Named t)) → (v : Value) (ls : List ℕ) → IsObject w3 v (record { type = suc t; lengths = ls }) → HasLengths program (row_of program.types (id_of (type.Named t))) (record { type = suc t; lengths = ls }) → (m : Run) (rest : List Instr) (p : ℕ) → m ≡ onward (i.Store R ∷ rest) 0 p k (cell_of w3 v ∷ (place_in w3 a ∷ [])) → drop (p + 1) code ≡ rest → Carried (p + 1) → Does program here (Leaves after) w3 m (bind (ask (Stores a v)) (λ _. Val (Into [])))
           stores w3 u a named is to v ls obj lengths m rest p run there_after cont =
               let id = id_of (type.Named t) in
-              let value : is_value program.types u ≡ true = or_three (is_basic u) (is_any u) (ap is_some to) in
+              let value : is_value program.types u ≡ true = reference_value program u (or_second (is_any u) (ap is_some to)) in
               let as_made : Made = record { type = suc t; lengths = ls } in
               last_asks program own tables number here code x d k after (Stores a v) w3 m p rest
               (run ∙ ap (λ z. onward (i.Store R ∷ rest) 0 p k (z ∷ (place_in w3 a ∷ []))) (ap (cell_of w3) obj.is) ∙ ap (λ z. Asks (Stores (addr_of w3 a) z) (λ y. onward rest 0 (p + 1) k [])) (sym (ap (cell_of w3) obj.is))) (
                 Plain (id_of u),
                 tt,
                 scalar_found program own tables number here code typed u value w3 a named is,
-                to_target program w3 u id v to (made_reference program.types w3 (Extends program.types id) v as_made obj lengths (comes_same program.types id)),
+                to_target program w3 u id v to (made_reference program w3 (Extends program id) v as_made obj lengths (comes_same program.types id)),
               ) there_after cont
 
       -- WITH: what is guarded is dropped

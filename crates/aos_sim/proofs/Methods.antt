@@ -5,23 +5,25 @@ use Rattle.std.proofs.Common.{◌⊎◌, inl, inr}
 use Rattle.std.specs.Prelude.{nat_lt, slice_get, slice_set, option_map}
 use Rattle.std.specs.List.{fold}
 use Rattle.std.specs.Option.{unwrap_or}
-use Rattle.std.proofs.lemmas.Bool.{cases_lt, lt-ltb, ltb-true}
+use Rattle.std.proofs.lemmas.Bool.{false≢true, cases_lt, lt-ltb, ltb-true}
 use Rattle.std.proofs.lemmas.List.{length-map, map-append}
 use Rattle.std.proofs.lemmas.Option.{slice_get-map, slice_get_within, slice_get_past}
 use Rattle.aos_base.specs.Rooted.{by_number}
 use Rattle.aos_types.specs.declared.row.TypeId.{TypeId}
 use Rattle.aos_types.specs.declared.row.TypeRow.{TypeRow}
-use Rattle.aos_types.specs.Table.{row_of, base_of, has_fields}
+use Rattle.aos_types.specs.declared.row.TypeRow.TheVariants as row
+use Rattle.aos_types.specs.Table.{row_of, base_of, has_fields, is_object}
 use Rattle.aos_types.specs.Extension.{comes_to, AreBases}
 use Rattle.aos_types.specs.Chain.{IsRanked}
 use Rattle.aos_types.proofs.Tables.{bases_of, base_part, comes_by_bases, comes_on}
 use Rattle.aos_typed.specs.declared.tree.TType.{TType}
 use Rattle.aos_typed.specs.declared.tree.TType.TheVariants.{Named}
-use Rattle.aos_typed.specs.Methods.{put_at, own_methods, base_type, on_base, slots_by, slots, slot_of, own_procedures, first_method, numbered_from, own_numbers, methods_of, method_in, method_number}
+use Rattle.aos_typed.specs.Methods.{put_at, own_methods, base_type, on_base, or_base, nearest_by, has_body, body_type, slots_by, slots, slot_of, own_procedures, first_method, numbered_from, own_numbers, methods_of, method_in, method_number}
 use Rattle.aos_typed.specs.Numbers.{id_of, predeclared_types, predeclared_rows}
 use Rattle.aos_typed.specs.Program.{Parameter, Procedure, Method, ObjectType, Program}
 use Rattle.aos_typed.specs.Routines.{routine_of, routines}
-use Rattle.aos_typed.specs.WellTyped.{AreSame, Agree, Overrides, AreSlots, IsProcedure, IsObjectType, AreObjectTypes}
+use Rattle.aos_typed.specs.Formals.{AreSame, Agree, HasFormals}
+use Rattle.aos_typed.specs.WellTyped.{Overrides, AreSlots, IsMethod as IsOwnMethod, IsBody, IsBeside, IsObjectType, AreObjectTypes}
 use Rattle.aos_sim.proofs.Lists.{all_get, get_left}
 use Rattle.aos_sim.proofs.Routines.{method_there}
 
@@ -150,31 +152,34 @@ module _ {A B : Type 0} (f : A → B) where
 -- Methods that override.
 
 module _ (p : Program) where
-  same_twice : (t u v : TType) → AreSame p t u → AreSame p u v → AreSame p t v
-  same_twice t u v (inl e) h = subst (λ z. AreSame p z v) (sym e) h
-  same_twice t u v (inr a) (inl e) = subst (λ z. AreSame p t z) e (inr a)
+  same_twice : (t u v : TType) → AreSame p.types t u → AreSame p.types u v → AreSame p.types t v
+  same_twice t u v (inl e) h = subst (λ z. AreSame p.types z v) (sym e) h
+  same_twice t u v (inr a) (inl e) = subst (λ z. AreSame p.types t z) e (inr a)
   same_twice t u v (inr a) (inr b) = inr (a.0, b.1, a.2 ∙ b.2, a.3 ∙ b.3)
 
-  agree_same : (as' : List Parameter) → Agree p as' as'
+  agree_same : (as' : List Parameter) → Agree p.types as' as'
   agree_same [] = tt
   agree_same (a ∷ as') = (refl, inl refl, agree_same as')
 
-  agree_twice : (as' bs cs : List Parameter) → Agree p as' bs → Agree p bs cs → Agree p as' cs
+  agree_twice : (as' bs cs : List Parameter) → Agree p.types as' bs → Agree p.types bs cs → Agree p.types as' cs
   agree_twice [] [] cs h g = g
   agree_twice [] (b ∷ bs) cs h g = absurd h
   agree_twice (a ∷ as') [] cs h g = absurd h
   agree_twice (a ∷ as') (b ∷ bs) [] h g = absurd g
   agree_twice (a ∷ as') (b ∷ bs) (c ∷ cs) h g = (h.0 ∙ g.0, same_twice a.of b.of c.of h.1 g.1, agree_twice as' bs cs h.2 g.2)
 
+  pub formals_twice : (q r s : Procedure) → HasFormals p.types q r → HasFormals p.types r s → HasFormals p.types q s
+  formals_twice q r s h g = (agree_twice q.parameters r.parameters s.parameters h.0 g.0, h.1 ∙ g.1)
+
   overrides_twice : (q r s : Procedure) → Overrides p q r → Overrides p r s → Overrides p q s
-  overrides_twice q r s h g = (agree_twice q.parameters r.parameters s.parameters h.0 g.0, h.1 ∙ g.1)
+  overrides_twice q r s h g = (formals_twice q r s h.0 g.0, h.1 ∙ g.1)
 
   -- the method in the slot of another one, which it overrides, or is
   abbrev InPlace : List Procedure → ℕ → Procedure → Type 0
   InPlace table k r = (q : Procedure) × (slice_get table k ≡ Some q) × Overrides p q r
 
   in_place : (table : List Procedure) (k : ℕ) (r : Procedure) → slice_get table k ≡ Some r → InPlace table k r
-  in_place table k r e = (r, e, (agree_same r.parameters, refl))
+  in_place table k r e = (r, e, ((agree_same r.parameters, refl), refl))
 
   put_over : (table : List Procedure) (m : Method) → ((m.slot ≡ length table) ⊎ ((r : Procedure) × (slice_get table m.slot ≡ Some r) × Overrides p m.procedure r)) → (k : ℕ) (r : Procedure) → slice_get table k ≡ Some r → InPlace (put_at table (slot_of m)) k r
   put_over table m h k r e = by (nat_lt m.slot (length table)) refl h
@@ -231,10 +236,31 @@ pub record IsMethod (p : Program) (d k : ℕ) (q : Procedure) : Type 0 where
   pub is : q.of ≡ Some self
   pub extends : comes_to p.types (id_of (Named d)) (id_of (Named self)) ≡ true
 
--- what holds of the methods of a program's types
+-- the body that the objects of a type have is one that a type has which this one extends
+pub record HasBody (p : Program) (t b : ℕ) : Type 0 where
+  pub below : t < length p.objects
+  pub object : ObjectType
+  pub there : slice_get p.objects b ≡ Some object
+  pub body : IsBody b object.body
+  pub extends : comes_to p.types (id_of (Named t)) (id_of (Named b)) ≡ true
+
+-- beside an object type stands a body
+beside_object : (t : ℕ) (q : Procedure) (r : Option TypeRow) → is_object r ≡ true → IsBeside t q r → IsBody t q
+beside_object t q None e h = absurd (cc)
+beside_object t q (Some (row.Basic b)) e h = absurd (cc)
+beside_object t q (Some (row.Array n of)) e h = absurd (cc)
+beside_object t q (Some (row.Open of)) e h = absurd (cc)
+beside_object t q (Some (row.Record base fields)) e h = absurd (cc)
+beside_object t q (Some (row.Pointer to)) e h = absurd (cc)
+beside_object t q (Some (row.Object base fields)) e h = h
+beside_object t q (Some (row.Procedure formals r)) e h = absurd (cc)
+beside_object t q (Some row.Any) e h = absurd (cc)
+
+-- what holds of the methods of a program's types, and of the bodies of their objects
 pub record HasMethods (p : Program) : Type 0 where
   pub found : (d k : ℕ) (q : Procedure) → method_in p d k ≡ Some q → IsMethod p d k q
   pub overridden : (d t k : ℕ) (q : Procedure) → comes_to p.types (id_of (Named d)) (id_of (Named t)) ≡ true → method_in p t k ≡ Some q → (r : Procedure) × (method_in p d k ≡ Some r) × Overrides p r q
+  pub bodies : (t b : ℕ) → body_type p t ≡ Some b → HasBody p t b
 
 module _ (p : Program) (ranked : IsRanked p.types) (bases : (t b : TypeId) → base_of (row_of p.types t) ≡ Some b → has_fields (row_of p.types b) ≡ true) (predeclared : (k : ℕ) → k < predeclared_types → slice_get p.types k ≡ slice_get predeclared_rows k) (long : length p.types ≡ length p.objects + predeclared_types) where
   abbrev id : ℕ → TypeId
@@ -358,7 +384,7 @@ module _ (p : Program) (ranked : IsRanked p.types) (bases : (t b : TypeId) → b
     own_of t o e i n (m ∷ ms) at each =
         let z : i + 0 ≡ i = omega arith in
         let there : slice_get o.methods i ≡ Some m = ap (slice_get o.methods) (sym z) ∙ each 0 m refl in
-        let is = all_get (λ m. IsProcedure p m.procedure × (m.procedure.of ≡ Some t)) o.methods i m (object_type p objects t o e).methods there in (
+        let is = all_get (λ m. IsOwnMethod p t m.procedure) o.methods i m (object_type p objects t o e).methods there in (
           (t, o.home, ap (λ k. by_number k (routines p)) at ∙ method_there p t i o m e there, is.1, itself t),
           own_of t o e (suc i) (suc n) ms (omega (arith, at)) (λ j x f. let y : suc i + j ≡ i + suc j = omega arith in ap (slice_get o.methods) y ∙ each (suc j) x f),
         )
@@ -374,6 +400,51 @@ module _ (p : Program) (ranked : IsRanked p.types) (bases : (t b : TypeId) → b
 
     base_comes : (t b : ℕ) → IsBase t b → comes_to p.types (id t) (id b) ≡ true
     base_comes t b h = comes_by_bases p.types ranked (id t) (id b) (record { bases = id b ∷ []; are = (h.is, refl) })
+
+    -- what the nearest type tells is told by one that the type extends
+    nearest_there : {A : Type 0} (told : ℕ → Option A) (n t : ℕ) (a : A) → nearest_by p told n t ≡ Some a → (u : ℕ) × (told u ≡ Some a) × (comes_to p.types (id t) (id u) ≡ true)
+    nearest_there told zero t a e = absurd (cc)
+    nearest_there {A = A} told (suc n) t a e = by (λ b f. nearest_there told n b a f) (told t) (base_type p t) refl refl e
+      where
+        by : ((b : ℕ) → nearest_by p told n b ≡ Some a → (u : ℕ) × (told u ≡ Some a) × (comes_to p.types (id b) (id u) ≡ true)) → (x : Option A) (o : Option ℕ) → told t ≡ x → base_type p t ≡ o → or_base (nearest_by p told n) x o ≡ Some a → (u : ℕ) × (told u ≡ Some a) × (comes_to p.types (id t) (id u) ≡ true)
+        by more (Some y) o f g e = (t, f ∙ e, itself t)
+        by more None None f g e = absurd (cc)
+        by more None (Some b) f g e =
+            let r = more b e in (r.0, r.1, comes_on p.types ranked (id t) (id b) (id r.0) (base_comes t b (base_is t b g)) r.2)
+
+    -- past all types there is none
+    none_nearest : {A : Type 0} (told : ℕ → Option A) → ((u : ℕ) → many ≤ u → told u ≡ None) → (n t : ℕ) → many ≤ t → nearest_by p told n t ≡ None
+    none_nearest told none zero t l = refl
+    none_nearest told none (suc n) t l = λ i. or_base (nearest_by p told n) (none t l i) (no_row t l i)
+
+    found_body : (t b : ℕ) → body_type p t ≡ Some b → HasBody p t b
+    found_body t b e =
+        let r = nearest_there (λ u. if has_body p u then Some u else None) many t b e in
+        by r.0 r.2 (has_body p r.0) refl r.1
+      where
+        at : (comes_to p.types (id t) (id b) ≡ true) → (o : Option ObjectType) → slice_get p.objects b ≡ o → unwrap_or (option_map (λ x. x.has_body) o) false ≡ true → HasBody p t b
+        at comes None f h = absurd (cc)
+        at comes (Some x) f h =
+            let is = object_type p objects b x f in
+            let object = either is.others in
+            record { below = inside (cases_lt t many); object = x; there = f; body = beside_object b x.body (row_of p.types (id b)) object is.beside; extends = comes }
+          where
+            inside : (t < many) ⊎ (many ≤ t) → t < many
+            inside (inl l) = l
+            inside (inr l) =
+                let n = none_nearest (λ u. if has_body p u then Some u else None) (λ u m. ap (λ o. if unwrap_or (option_map (λ x. x.has_body) o) false then Some u else None) (slice_get_past p.objects u m)) many t l in
+                let clash : None ≡ Some b = sym n ∙ e in
+                absurd (cc clash)
+
+            either : ((is_object (row_of p.types (id b)) ≡ true) ⊎ ((x.has_body ≡ false) × (x.methods ≡ []))) → is_object (row_of p.types (id b)) ≡ true
+            either (inl is) = is
+            either (inr none) = absurd (false≢true (sym none.0 ∙ h))
+
+        by : (u : ℕ) → comes_to p.types (id t) (id u) ≡ true → (c : Bool) → has_body p u ≡ c → (if c then Some u else None) ≡ Some b → HasBody p t b
+        by u comes false f g = absurd (cc)
+        by u comes true f g =
+            let same : u ≡ b = cc in
+            at (subst (λ z. comes_to p.types (id t) (id z) ≡ true) same comes) (slice_get p.objects b) refl (subst (λ z. has_body p z ≡ true) same f)
 
     all_of : (n t : ℕ) → Each (IsOf t) (slots_by p own_both n t)
     all_of zero t = tt
@@ -445,4 +516,5 @@ module _ (p : Program) (ranked : IsRanked p.types) (bases : (t b : TypeId) → b
     has_methods = record {
       found = found_method;
       overridden = λ d t k q comes e. let r = bases_of p.types (length p.types) (id d) (id t) comes in through r.bases d t k q r.are e;
+      bodies = found_body;
     }

@@ -96,7 +96,7 @@ module _ (program : Program) (following : List ℕ) where
       let text = fitted strict (unsigned_abs (number_of room)) (text_in (read from.root from.path x)) in
       stores_text_lively following text (read to.root to.path x) to f fs s
   answer_lively (ComparesTexts r a n b m) f fs s = λ h. h
-  answer_lively (Calls p vs) f fs s = calls_lively (by_number p (routines program)) vs f fs s
+  answer_lively (Calls how p vs) f fs s = calls_lively (by_number p (routines program)) vs f fs s
   answer_lively (PutsString a n) f fs s = λ h. h
   answer_lively (Places a) f fs s = λ h. h
   answer_lively (Lengths a) f fs s = λ h. h

@@ -21,7 +21,7 @@ use Rattle.aos_types.specs.Shape.{Shape}
 use Rattle.aos_types.specs.Content.{Content, first_content}
 use Rattle.aos_types.specs.World.{read}
 use Rattle.aos_code.specs.declared.image.Image.{Image}
-use Rattle.aos_typed.specs.Program.{Place, ModuleVar, Local, Passed, Field, Index, Of, Deref, Typed, Guarded, Rows, Known as KnownRows, Opened, Row, Spread, Longer, Arguments, NoMore, Scalar, Whole, Opening, Callee, Plain, Dispatched, Upper, Expr, Lit, SelfRef, Read, Unary, Binary, And, Or, Element, Ord, Chr, CompareTexts, Len, LenBehind, Function, Same, Is, IsRecord, Guard, Had, Call, Open as OutOpen, Char as OutChar, Int as OutInt, String as OutString, Ln as OutLn, Stat, Assign, Copy, PutText, If, Case, While, Repeat, Loop, Exit, For, Block, Assert, Halt, Change, Perform, Return, New, Make, With, WithRecord, Out, Arms, Otherwise, Arm, Cases, NoElse, Else, OfLabels, Program}
+use Rattle.aos_typed.specs.Program.{Place, ModuleVar, Local, Passed, Field, Index, Of, Deref, Typed, Guarded, Rows, Known as KnownRows, Opened, Row, Spread, Longer, Arguments, NoMore, Scalar, Whole, Opening, Callee, Plain, Dispatched, Upper, Expr, Lit, SelfRef, Read, Unary, Binary, And, Or, Element, Ord, Chr, CompareTexts, Len, LenBehind, Function, Same, Is, IsRecord, Guard, Had, Call, Open as OutOpen, Char as OutChar, Int as OutInt, String as OutString, Ln as OutLn, Stat, Assign, Copy, PutText, If, Case, While, Repeat, Loop, Exit, For, Block, Assert, Halt, Change, Perform, Return, New, Make, With, WithRecord, Out, Arms, Otherwise, Arm, Cases, NoElse, Else, OfLabels, Program, Through, ProcedureOf, MethodOf, SameProcedure}
 use Rattle.aos_typed.specs.declared.tree.Change.{Change as Changing}
 use Rattle.aos_typed.specs.declared.tree.Change.TheVariants as change
 use Rattle.aos_typed.specs.declared.tree.TType.TheVariants as type
@@ -33,10 +33,11 @@ use Rattle.aos_typed.specs.Text.{text_in, fitted}
 use Rattle.aos_typed.specs.Value.{Value, Int, Flag, Char, Set, Object, Callable, Place as Spotted, number_of, Sort, Integer, Character, Elements, element, given, unary_sort, binary_sort, is_true}
 use Rattle.aos_typed.specs.Store.{Store, has_room, made_in}
 use Rattle.aos_typed.specs.Routines.{Routine, routines}
-use Rattle.aos_typed.specs.Meaning.{Here, Question, Doing, object_in, by_number as by_object, dereferenced, sizes_from, spread, is_instance, guarded, has_type, record_guarded, place_in, dispatched, calls as calls_of, receiver_of, called, Item, Do, Rounds, Round, Until, After, Into, Exits, Returns, leave, is_in, element_of, Found, row_at, lengths_from, place_of, rows_of, arguments_of, value_of, values_of, changed, arms_of, case_of, out_of, stat_of, item_of}
+use Rattle.aos_typed.specs.Meaning.{Here, Question, Doing, object_in, by_number as by_object, dereferenced, sizes_from, spread, is_instance, guarded, has_type, record_guarded, place_in, dispatched, calls as calls_of, receiver_of, called, Item, Do, Rounds, Round, Until, After, Into, Exits, Returns, leave, is_in, element_of, Found, row_at, lengths_from, place_of, rows_of, arguments_of, value_of, values_of, changed, arms_of, case_of, out_of, stat_of, item_of, bound, bound_to, carried_out, initialized, procedure_in}
 use Rattle.aos_typed.specs.Source.{here_of, Frame, Turned, answered, done, all_rooted, begins, ends, finishes, tests, settles, first_value, made_shape, written, prints, makes, makes_with, starts, copies, stores_text, is_deep, enters, called_frame, calls, known, length_in, object_place, has_type_in, calm, noted, answer, goes, item_turn, turn_at, opened, source, first_state, first_store, first_frames}
 use Rattle.aos_sim.specs.Shows.{Shows, NeverLost}
 use Rattle.aos_sim.proofs.Traps.{Leaves, traps_with}
+use Rattle.aos_typed.specs.Methods.{body_type, initializer, is_active}
 
 -- the number of a trap of the language
 abbrev IsKnown : ℕ → Type 0
@@ -189,6 +190,26 @@ calls_come p (Plain m k) o vs = λ x. tt
 calls_come p (Dispatched e t k) o vs =
     nil_comes (object_in o) (Traps 1 0) _ (omega arith) (λ x. dispatched_comes p o t k vs (place_in x).type)
 calls_come p (Upper t k) o vs = λ x. tt
+calls_come p (Through e t) o vs = nil_comes (procedure_in o) (Traps 1 0) _ (omega arith) (λ x. tt)
+
+-- methods as values
+
+bound_to_comes : (p : Program) (v : Value) (t k made : ℕ) → Comes (bound_to p v t k made)
+bound_to_comes p v t k zero = omega arith
+bound_to_comes p v t k (suc d) = either_comes (comes_to p.types (id_of_made (suc d)) (id_of_made (suc t))) _ (Traps 1 0) tt (omega arith)
+
+bound_comes : (p : Program) (v : Value) (t k : ℕ) → Comes (bound p v t k)
+bound_comes p v t k = nil_comes (object_in v) (Traps 1 0) _ (omega arith) (λ x. bound_to_comes p v t k (place_in x).type)
+
+-- objects that are made
+
+initialized_comes : (p : Program) (slot : Option ℕ) (t : ℕ) (o : Value) (vs : List Value) → Comes (initialized p slot t o vs)
+initialized_comes p None t o vs = tt
+initialized_comes p (Some k) t o vs = λ x. tt
+
+carried_comes : (p : Program) (body : Option ℕ) (o : Value) → Comes (carried_out p body o)
+carried_comes p None o = tt
+carried_comes p (Some b) o = either_comes (is_active p b) _ _ (λ x. tt) (λ x. tt)
 
 module _ (program : Program) (here : Here) where
   lengths_come : (k d n : ℕ) → Comes (lengths_from program here k d n)
@@ -229,6 +250,7 @@ module _ (program : Program) (here : Here) where
     receiver_comes (Plain m k) = tt
     receiver_comes (Dispatched e t k) = value_comes e
     receiver_comes (Upper t k) = tt
+    receiver_comes (Through e t) = value_comes e
 
     value_comes : (e : Expr) → Comes (value_of program here e)
     value_comes (Lit l) = tt
@@ -260,6 +282,10 @@ module _ (program : Program) (here : Here) where
     value_comes (Is a t) = comes_then (value_of program here a) _ (value_comes a) (λ v. instance_comes v t)
     value_comes (IsRecord p t) = comes_then (place_of program here p) _ (place_comes p) (λ s. tt)
     value_comes (Guard a t) = comes_then (value_of program here a) _ (value_comes a) (λ v. guarded_comes v t)
+    value_comes (ProcedureOf m k) = tt
+    value_comes (MethodOf a t k) = comes_then (value_of program here a) _ (value_comes a) (λ v. bound_comes program v t k)
+    value_comes (SameProcedure a b) =
+        comes_then (value_of program here a) _ (value_comes a) (λ x. comes_then (value_of program here b) _ (value_comes b) (λ y. tt))
     value_comes (Had v) = tt
 
   values_come : (es : List Expr) → Comes (values_of program here es)
@@ -303,7 +329,11 @@ module _ (program : Program) (here : Here) where
   stat_comes (Perform at c as') = comes_then (called program here c as') _ (value_comes (Function c as')) (λ v. tt)
   stat_comes (Return at None) = tt
   stat_comes (Return at (Some e)) = comes_then (value_of program here e) _ (value_comes e) (λ v. tt)
-  stat_comes (New at p t) = λ o. comes_then (place_of program here p) _ (place_comes p) (λ s v w. tt)
+  stat_comes (New at p t as') =
+      comes_then (place_of program here p) _ (place_comes p)
+      (λ s. comes_then (arguments_of program here as') _ (arguments_come as')
+      (λ vs o. comes_then (initialized program (initializer program t) t o vs) _ (initialized_comes program (initializer program t) t o vs)
+      (λ x y. comes_then (carried_out program (body_type program t) o) _ (carried_comes program (body_type program t) o) (λ z. tt))))
   stat_comes (Make at p t ns) =
       comes_then (place_of program here p) _ (place_comes p) (λ s. comes_then (values_of program here ns) _ (values_come ns) (λ vs o w. tt))
   stat_comes (With at e body) = comes_then (value_of program here e) _ (value_comes e) (λ x. tt)
@@ -333,7 +363,7 @@ module _ (rows : List TypeRow) (made : ℕ → Option Made) (c : Content Value) 
   calm_comes (Asks (Copies t from to) k) h = h
   calm_comes (Asks (PutsText strict from n to room) k) h = h
   calm_comes (Asks (ComparesTexts r a n b m) k) h = h
-  calm_comes (Asks (Calls p vs) k) h = h
+  calm_comes (Asks (Calls how p vs) k) h = h
   calm_comes (Asks (Ends r) k) h = h
   calm_comes (Asks (Makes t vs) k) h = h
   calm_comes (Asks (Starts v) k) h = h
@@ -416,7 +446,7 @@ module _ (program : Program) (following : List ℕ) where
       let text = fitted strict (unsigned_abs (number_of room)) (text_in (read from.root from.path x)) in
       stores_text_known following text (read to.root to.path x) to f fs s
   answer_known (ComparesTexts r a n b m) f fs s = tt
-  answer_known (Calls p vs) f fs s = calls_known (by_number p (routines program)) vs f fs s
+  answer_known (Calls how p vs) f fs s = calls_known (by_number p (routines program)) vs f fs s
   answer_known (PutsString a n) f fs s = tt
   answer_known (Places a) f fs s = tt
   answer_known (Lengths a) f fs s = tt

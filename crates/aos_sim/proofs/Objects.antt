@@ -54,16 +54,16 @@ pub some_same : {A : Type 0} (x y : A) → Some x ≡ Some y → x ≡ y
 some_same x y e = cc
 
 -- an open array has its lengths
-open_lengths : (rows : List TypeRow) (m : Made) (o : Option TypeRow) → is_open o ≡ true → HasLengths rows o m → (length m.lengths ≡ open_dimensions rows (id_of_made m.type)) × All IsLength m.lengths
-open_lengths rows m None e h = absurd (cc)
-open_lengths rows m (Some (row.Basic b)) e h = absurd (cc)
-open_lengths rows m (Some (row.Array n of)) e h = absurd (cc)
-open_lengths rows m (Some (row.Open of)) e h = h
-open_lengths rows m (Some (row.Record base fields)) e h = absurd (cc)
-open_lengths rows m (Some (row.Pointer to)) e h = absurd (cc)
-open_lengths rows m (Some (row.Object base fields)) e h = absurd (cc)
-open_lengths rows m (Some (row.Procedure formals r)) e h = absurd (cc)
-open_lengths rows m (Some row.Any) e h = absurd (cc)
+open_lengths : (program : Program) (m : Made) (o : Option TypeRow) → is_open o ≡ true → HasLengths program o m → (length m.lengths ≡ open_dimensions program.types (id_of_made m.type)) × All IsLength m.lengths
+open_lengths program m None e h = absurd (cc)
+open_lengths program m (Some (row.Basic b)) e h = absurd (cc)
+open_lengths program m (Some (row.Array n of)) e h = absurd (cc)
+open_lengths program m (Some (row.Open of)) e h = h
+open_lengths program m (Some (row.Record base fields)) e h = absurd (cc)
+open_lengths program m (Some (row.Pointer to)) e h = absurd (cc)
+open_lengths program m (Some (row.Object base fields)) e h = absurd (cc)
+open_lengths program m (Some (row.Procedure formals r)) e h = absurd (cc)
+open_lengths program m (Some row.Any) e h = absurd (cc)
 
 -- an object type is what its values are made as
 pub object_target : (rows : List TypeRow) (t : TypeId) (o : Option TypeRow) → is_object o ≡ true → target_in rows t o ≡ Some t
@@ -90,7 +90,7 @@ module _ (program : Program) (own : Option Procedure) (tables : Tables) (number 
 
   -- the place of what it holds
   module _ (typed : HasTypes program) (w : World Sort) (o : ℕ) (m : Made) (t : TType) (extends : comes_to rows (id_of_made m.type) (id_of t) ≡ true) (whole : is_whole (row_of rows (id_of t)) ≡ true) (shape : w.shape (ObjectRoot o) ≡ Some (made_shape rows m)) (reached : IsReached w (spot_of o m)) where
-    object_names : is_record (row_of rows (id_of t)) ≡ true → Names rows w (id_of t) (spot_of o m)
+    object_names : is_record (row_of rows (id_of t)) ≡ true → Names program w (id_of t) (spot_of o m)
     object_names is =
         let d = id_of_made m.type in
         let dynamic = record_extension program typed d (id_of t) is extends in
@@ -128,7 +128,7 @@ module _ (program : Program) (own : Option Procedure) (tables : Tables) (number 
       let behind : p + 1 ≡ q = omega (arith, length-append xs (x ∷ [])) in
       let Q = OnStack tables number here code P place_in rest q k s in
       piece_does program own tables number here code (OfSort program own tables number here code u) cell_of Q (λ v. dereferenced v) xs (x ∷ []) r at rest k s h w known
-      (λ w1 up v m is e. by p q behind w1 v m (nil_or rows w1 (Extends rows (id_of t)) v (of_target program w1 u (id_of t) v to is)) e)
+      (λ w1 up v m is e. by p q behind w1 v m (nil_or program w1 (Extends program (id_of t)) v (of_target program w1 u (id_of t) v to is)) e)
     where
       Reached : ℕ → World Sort → Spot → Run → Type 0
       Reached q = OnStack tables number here code P place_in rest q k s
@@ -142,7 +142,7 @@ module _ (program : Program) (own : Option Procedure) (tables : Tables) (number 
                 ∙ ap (λ n. onward rest 0 q k (cell.Place (ObjectRoot o) n made.type ∷ s)) (sym (ap (number_of_shape (offset [])) shape));
           }) reached
 
-      by : (p q : ℕ) → p + 1 ≡ q → (w1 : World Sort) (v : Value) (m : Run) → (v ≡ Object 0) ⊎ IsMadeAs rows w1 (Extends rows (id_of t)) v → m ≡ onward (i.Deref 0 ∷ rest) 0 p k (cell_of w1 v ∷ s) → Does program here (Reached q) w1 m (dereferenced v)
+      by : (p q : ℕ) → p + 1 ≡ q → (w1 : World Sort) (v : Value) (m : Run) → (v ≡ Object 0) ⊎ IsMadeAs program w1 (Extends program (id_of t)) v → m ≡ onward (i.Deref 0 ∷ rest) 0 p k (cell_of w1 v ∷ s) → Does program here (Reached q) w1 m (dereferenced v)
       by p q behind w1 v m (inl nil) e =
           subst (λ z. m ≡ onward (i.Deref 0 ∷ rest) 0 p k (cell_of w1 z ∷ s) → Does program here (Reached q) w1 m (dereferenced z)) (sym nil) (λ f. (f, omega arith)) e
       by p q behind w1 v m (inr a) e =
@@ -206,7 +206,7 @@ module _ (program : Program) (own : Option Procedure) (tables : Tables) (number 
       let q = at + length (xs ++ x ∷ []) in
       let behind : p + 1 ≡ q = omega (arith, length-append xs (x ∷ [])) in
       piece_does program own tables number here code (OfSort program own tables number here code v) cell_of (Reached q) (λ y. spread y j) xs (x ∷ []) r at rest k s h w known
-      (λ w1 up y m is e. by p q behind w1 y m (nil_or rows w1 (Extends rows u) y (of_target program w1 v u y to is)) e)
+      (λ w1 up y m is e. by p q behind w1 y m (nil_or program w1 (Extends program u) y (of_target program w1 v u y to is)) e)
     where
       Reached : ℕ → World Sort → Found → Run → Type 0
       Reached q = WithRows program own tables number here code (Unit {0}) j t rest q k s
@@ -239,14 +239,14 @@ module _ (program : Program) (own : Option Procedure) (tables : Tables) (number 
                 ∙ ap (λ c. onward rest 0 q k (pushed (map (cell_of w3) vs) (c ∷ s))) (spot_cell w2 w3 up spot at.shape at.there);
           }))) reached
 
-      by : (p q : ℕ) → p + 1 ≡ q → (w1 : World Sort) (y : Value) (m : Run) → (y ≡ Object 0) ⊎ IsMadeAs rows w1 (Extends rows u) y → m ≡ onward (i.OpenRef j ∷ rest) 0 p k (cell_of w1 y ∷ s) → Does program here (Reached q) w1 m (spread y j)
+      by : (p q : ℕ) → p + 1 ≡ q → (w1 : World Sort) (y : Value) (m : Run) → (y ≡ Object 0) ⊎ IsMadeAs program w1 (Extends program u) y → m ≡ onward (i.OpenRef j ∷ rest) 0 p k (cell_of w1 y ∷ s) → Does program here (Reached q) w1 m (spread y j)
       by p q behind w1 y m (inl nil) e =
           subst (λ z. m ≡ onward (i.OpenRef j ∷ rest) 0 p k (cell_of w1 z ∷ s) → Does program here (Reached q) w1 m (spread z j)) (sym nil) (λ f. (f, omega arith)) e
       by p q behind w1 y m (inr a) e =
           let o = a.object.number in
           let obj = made_so w1 o a.made a.object.made in
           let same = rows_made program typed a.made u a.is opens in
-          let l = open_lengths rows a.made (row_of rows (id_of_made a.made.type)) (ap (λ x. is_open (row_of rows x)) same ∙ opens) a.lengths in
+          let l = open_lengths program a.made (row_of rows (id_of_made a.made.type)) (ap (λ x. is_open (row_of rows x)) same ∙ opens) a.lengths in
           let long : length a.made.lengths ≡ j = l.0 ∙ ap (open_dimensions rows) same ∙ sym many in
           subst (λ z. m ≡ onward (i.OpenRef j ∷ rest) 0 p k (cell_of w1 z ∷ s) → Does program here (Reached q) w1 m (spread z j)) (sym a.object.is)
           (λ f. (
@@ -269,12 +269,12 @@ module _ (program : Program) (own : Option Procedure) (tables : Tables) (number 
       let q = at + length (xs ++ x ∷ []) in
       let behind : p + 1 ≡ q = omega (arith, length-append xs (x ∷ [])) in
       piece_does program own tables number here code (OfSort program own tables number here code u) cell_of (Reached q) (λ v. is_instance v t) xs (x ∷ []) r at rest k s h w known
-      (λ w1 up v m is e. by p q behind w1 v m (nil_or rows w1 (λ m. Unit {0}) v (some_object program w1 typed.predeclared u v ref is)) (e ∙ ap (λ j. onward (i.Is j ∷ rest) 0 p k (cell_of w1 v ∷ s)) suc_is))
+      (λ w1 up v m is e. by p q behind w1 v m (nil_or program w1 (λ m. Unit {0}) v (some_object program w1 typed.predeclared u v ref is)) (e ∙ ap (λ j. onward (i.Is j ∷ rest) 0 p k (cell_of w1 v ∷ s)) suc_is))
     where
       Reached : ℕ → World Sort → Value → Run → Type 0
       Reached q = Pushed tables number here code type.Boolean rest q k s
 
-      by : (p q : ℕ) → p + 1 ≡ q → (w1 : World Sort) (v : Value) (m : Run) → (v ≡ Object 0) ⊎ IsMadeAs rows w1 (λ m. Unit {0}) v → m ≡ onward (i.Is (suc t) ∷ rest) 0 p k (cell_of w1 v ∷ s) → Does program here (Reached q) w1 m (is_instance v t)
+      by : (p q : ℕ) → p + 1 ≡ q → (w1 : World Sort) (v : Value) (m : Run) → (v ≡ Object 0) ⊎ IsMadeAs program w1 (λ m. Unit {0}) v → m ≡ onward (i.Is (suc t) ∷ rest) 0 p k (cell_of w1 v ∷ s) → Does program here (Reached q) w1 m (is_instance v t)
       by p q behind w1 v m (inl nil) e =
           subst (λ z. m ≡ onward (i.Is (suc t) ∷ rest) 0 p k (cell_of w1 z ∷ s) → Does program here (Reached q) w1 m (is_instance z t)) (sym nil)
           (λ f. record { is = (false, refl); run = f ∙ ap (λ j. onward rest 0 j k (cell.Num (pos 0) ∷ s)) behind }) e
@@ -303,25 +303,25 @@ module _ (program : Program) (own : Option Procedure) (tables : Tables) (number 
       let q = at + length (xs ++ x ∷ []) in
       let behind : p + 1 ≡ q = omega (arith, length-append xs (x ∷ [])) in
       piece_does program own tables number here code (OfSort program own tables number here code u) cell_of (Reached q) (λ v. guarded v g) xs (x ∷ []) r at rest k s h w known
-      (λ w1 up v m is e. by p q behind w1 v m (nil_or rows w1 (λ m. Unit {0}) v (some_object program w1 typed.predeclared u v ref is)) (e ∙ ap (λ j. onward (i.Guard j ∷ rest) 0 p k (cell_of w1 v ∷ s)) suc_is))
+      (λ w1 up v m is e. by p q behind w1 v m (nil_or program w1 (λ m. Unit {0}) v (some_object program w1 typed.predeclared u v ref is)) (e ∙ ap (λ j. onward (i.Guard j ∷ rest) 0 p k (cell_of w1 v ∷ s)) suc_is))
     where
       Reached : ℕ → World Sort → Value → Run → Type 0
       Reached q = OnStack tables number here code (OfSort program own tables number here code t) cell_of rest q k s
 
       -- what has passed
-      passed_is : (w2 : World Sort) (o : ℕ) (made : Made) → w2.made (suc o) ≡ Some made → HasLengths rows (row_of rows (id_of_made made.type)) made → comes_to rows (id_of_made made.type) (id_of_made (suc g)) ≡ true → ((t ≡ type.Any) ⊎ ((b : TypeId) × (target rows t ≡ Some b) × (comes_to rows (id_of_made (suc g)) b ≡ true))) → Is rows w2 (Plain (id_of t)) (Object (suc o))
+      passed_is : (w2 : World Sort) (o : ℕ) (made : Made) → w2.made (suc o) ≡ Some made → HasLengths program (row_of rows (id_of_made made.type)) made → comes_to rows (id_of_made made.type) (id_of_made (suc g)) ≡ true → ((t ≡ type.Any) ⊎ ((b : TypeId) × (target rows t ≡ Some b) × (comes_to rows (id_of_made (suc g)) b ≡ true))) → Is program w2 (Plain (id_of t)) (Object (suc o))
       passed_is w2 o made there lengths passes (inl any) =
-          to_any program w2 typed.predeclared t (Object (suc o)) any (made_reference rows w2 (λ m. Unit {0}) (Object (suc o)) made (made_so w2 o made there) lengths tt)
+          to_any program w2 typed.predeclared t (Object (suc o)) any (made_reference program w2 (λ m. Unit {0}) (Object (suc o)) made (made_so w2 o made there) lengths tt)
       passed_is w2 o made there lengths passes (inr b) =
           to_target program w2 t b.0 (Object (suc o)) b.1
-          (made_reference rows w2 (Extends rows b.0) (Object (suc o)) made (made_so w2 o made there) lengths (comes_on rows typed.ranked (id_of_made made.type) (id_of_made (suc g)) b.0 passes b.2))
+          (made_reference program w2 (Extends program b.0) (Object (suc o)) made (made_so w2 o made there) lengths (comes_on rows typed.ranked (id_of_made made.type) (id_of_made (suc g)) b.0 passes b.2))
 
-      tested : (p q : ℕ) → p + 1 ≡ q → (w2 : World Sort) (o : ℕ) (made : Made) → w2.made (suc o) ≡ Some made → HasLengths rows (row_of rows (id_of_made made.type)) made → (b : Bool) → comes_to rows (id_of_made made.type) (id_of_made (suc g)) ≡ b → Does program here (Reached q) w2 (if_passed (cell.Num (flag b)) (onward rest 0 (p + 1) k (cell.Ref (suc o) ∷ s))) (if is_true (Flag b) then Val (Object (suc o)) else Traps 3 0)
+      tested : (p q : ℕ) → p + 1 ≡ q → (w2 : World Sort) (o : ℕ) (made : Made) → w2.made (suc o) ≡ Some made → HasLengths program (row_of rows (id_of_made made.type)) made → (b : Bool) → comes_to rows (id_of_made made.type) (id_of_made (suc g)) ≡ b → Does program here (Reached q) w2 (if_passed (cell.Num (flag b)) (onward rest 0 (p + 1) k (cell.Ref (suc o) ∷ s))) (if is_true (Flag b) then Val (Object (suc o)) else Traps 3 0)
       tested p q behind w2 o made there lengths true passes =
           record { is = passed_is w2 o made there lengths passes gives; run = ap (λ j. onward rest 0 j k (cell.Ref (suc o) ∷ s)) behind }
       tested p q behind w2 o made there lengths false fails = (refl, omega arith)
 
-      by : (p q : ℕ) → p + 1 ≡ q → (w1 : World Sort) (v : Value) (m : Run) → (v ≡ Object 0) ⊎ IsMadeAs rows w1 (λ m. Unit {0}) v → m ≡ onward (i.Guard (suc g) ∷ rest) 0 p k (cell_of w1 v ∷ s) → Does program here (Reached q) w1 m (guarded v g)
+      by : (p q : ℕ) → p + 1 ≡ q → (w1 : World Sort) (v : Value) (m : Run) → (v ≡ Object 0) ⊎ IsMadeAs program w1 (λ m. Unit {0}) v → m ≡ onward (i.Guard (suc g) ∷ rest) 0 p k (cell_of w1 v ∷ s) → Does program here (Reached q) w1 m (guarded v g)
       by p q behind w1 v m (inl nil) e =
           subst (λ z. m ≡ onward (i.Guard (suc g) ∷ rest) 0 p k (cell_of w1 z ∷ s) → Does program here (Reached q) w1 m (guarded z g)) (sym nil) (λ f. (f, omega arith)) e
       by p q behind w1 v m (inr a) e =
@@ -340,10 +340,10 @@ module _ (program : Program) (own : Option Procedure) (tables : Tables) (number 
           )) e
 
   -- whether two are one object
-  object_value : (w : World Sort) (P : Made → Type 0) (v : Value) → IsReference rows w P v → v ≡ Object (object_in v)
-  object_value w P v h = by (nil_or rows w P v h)
+  object_value : (w : World Sort) (P : Made → Type 0) (v : Value) → IsReference program w P v → v ≡ Object (object_in v)
+  object_value w P v h = by (nil_or program w P v h)
     where
-      by : (v ≡ Object 0) ⊎ IsMadeAs rows w P v → v ≡ Object (object_in v)
+      by : (v ≡ Object 0) ⊎ IsMadeAs program w P v → v ≡ Object (object_in v)
       by (inl nil) = nil ∙ ap (λ o. Object (object_in o)) (sym nil)
       by (inr a) = a.object.is ∙ ap (λ o. Object (object_in o)) (sym a.object.is)
 
@@ -406,7 +406,7 @@ module _ (program : Program) (own : Option Procedure) (tables : Tables) (number 
             goes false e f = (f, omega arith)
             goes true e f =
                 let n = is.names has_name in
-                let names : Names rows w1 (id_of (type.Named t)) a = record { extends = e; more = n.more; plain = n.plain; there = n.there } in
+                let names : Names program w1 (id_of (type.Named t)) a = record { extends = e; more = n.more; plain = n.plain; there = n.there } in
                 let s' = join (object_shape rows (id_of_made a.type)) n.more in
                 let same : is.shape ≡ s' = some_same is.shape s' (sym is.there ∙ n.there) in
                 record {
@@ -436,7 +436,7 @@ module _ (program : Program) (own : Option Procedure) (tables : Tables) (number 
       let cell_is = cell_at w1 a.root a.path in
       let holds = holds_record program typed id is.shape is_rec is.holds in
       let same = own_contents rows id (record_no_object (row_of rows id) is_rec) in
-      let names : Names rows w1 id a' = record { extends = comes_same rows id; more = holds.0; plain = each_rest IsPlain (variable_shape rows id) holds.0 (subst (EachSort IsPlain) holds.1 is.plain); there = is.there ∙ ap (λ z. Some z) (holds.1 ∙ ap (λ z. join z holds.0) same) } in
+      let names : Names program w1 id a' = record { extends = comes_same rows id; more = holds.0; plain = each_rest IsPlain (variable_shape rows id) holds.0 (subst (EachSort IsPlain) holds.1 is.plain); there = is.there ∙ ap (λ z. Some z) (holds.1 ∙ ap (λ z. join z holds.0) same) } in
       let few : cell_is < 2 ^ 32 = (let f = is.few in omega (arith, f)) in
       let none : cell_is + 0 ≡ cell_is = omega arith in
       record {

@@ -9,16 +9,16 @@ use Rattle.aos_base.specs.declared.operator.Binary.TheVariants.{SetSpan}
 use Rattle.aos_base.specs.declared.operator.Given.{Given}
 use Rattle.aos_base.specs.declared.operator.Given.TheVariants.{Number, Trap, Undefined}
 use Rattle.aos_base.specs.Operators.{natural, unary as unary_of, binary as binary_of}
-use Rattle.aos_base.specs.Question.{Tree, Val, Asks, Traps, bind, feed, ask, Reads, Stores, Copies, PutsText, ComparesTexts, Calls, Ends, Makes, Starts, PutsInt, PutsChar, PutsString, PutsNothing, PutsLn, Places, Lengths, Opens, Sizes, Tests}
+use Rattle.aos_base.specs.Question.{Tree, Val, Asks, Traps, bind, feed, ask, Reads, Stores, Copies, PutsText, ComparesTexts, Calls, Ends, Makes, Starts, PutsInt, PutsChar, PutsString, PutsNothing, PutsLn, Places, Lengths, Opens, Sizes, Tests, ByName, ByType, ByValue, Upward}
 use Rattle.aos_base.specs.Rooted.{Made}
 use Rattle.aos_types.specs.Content.{Content}
 use Rattle.aos_types.specs.Extension.{comes_to}
 use Rattle.aos_typed.specs.Methods.{method_number}
 use Rattle.aos_typed.specs.Numbers.{id_of, id_of_made, procedure_number}
-use Rattle.aos_typed.specs.Program.{Place, ModuleVar, Local, Passed, Field, Index, Of, Deref, Typed, Guarded, Rows, Known, Opened, Row, Spread, Longer, Arguments, NoMore, Scalar, Whole, Opening, Plain, Dispatched, Upper, Expr, Lit, SelfRef, Read, Unary, Binary, And, Or, Element, Ord, Chr, CompareTexts, Len, LenBehind, Function, Same, Is, IsRecord, Guard, Had, Program}
+use Rattle.aos_typed.specs.Program.{Place, ModuleVar, Local, Passed, Field, Index, Of, Deref, Typed, Guarded, Rows, Known, Opened, Row, Spread, Longer, Arguments, NoMore, Scalar, Whole, Opening, Plain, Dispatched, Upper, Expr, Lit, SelfRef, Read, Unary, Binary, And, Or, Element, Ord, Chr, CompareTexts, Len, LenBehind, Function, Same, Is, IsRecord, Guard, Had, Program, Callee, Through, ProcedureOf, MethodOf, SameProcedure}
 use Rattle.aos_typed.specs.Spot.{Spot}
-use Rattle.aos_typed.specs.Value.{Value, Int, Flag, Object, Place as PlaceValue, number_of, Sort, Character, given, unary_sort, binary_sort, unary, binary, element, ord, chr, is_true}
-use Rattle.aos_typed.specs.Meaning.{Here, Question, Doing, Found, found, After, Into, place_in, own_place, part_of, field_of, dispatched, sent, element_of, row_at, length_at, text_length, object_in, by_number, dereferenced, sizes_from, spread, is_instance, guarded, has_type, record_guarded, lengths_from, place_of, rows_of, arguments_of, value_of}
+use Rattle.aos_typed.specs.Value.{Value, Int, Flag, Object, Place as PlaceValue, number_of, Sort, Character, given, unary_sort, binary_sort, unary, binary, element, ord, chr, is_true, Callable}
+use Rattle.aos_typed.specs.Meaning.{Here, Question, Doing, Found, found, After, Into, place_in, own_place, part_of, field_of, dispatched, sent, element_of, row_at, length_at, text_length, object_in, by_number, dereferenced, sizes_from, spread, is_instance, guarded, has_type, record_guarded, lengths_from, place_of, rows_of, arguments_of, value_of, applied, are_one, bound, bound_to, instance_in, on_instance, procedure_in}
 use Rattle.aos_typed.specs.Source.{known, length_in, object_place, has_type_in}
 use Rattle.aos_sim.specs.Rewriting.{is_asking, are_asked, settled, with_first_index, with_first_row, with_first_argument, with_first, rewritten_place, rewritten, DesignatorRewrites, ExpressionRewrites, AssignedRewrites, AssignmentRewrites, StatementRewrites}
 
@@ -126,7 +126,7 @@ module _ (p : Program) (made : ℕ → Option Made) (c : Content Value) where
   settled_bind (Asks (Copies t a b) f) k = ap (Asks (Copies t a b)) (λ i v. settled_bind (f v) k i)
   settled_bind (Asks (PutsText strict a n b m) f) k = ap (Asks (PutsText strict a n b m)) (λ i v. settled_bind (f v) k i)
   settled_bind (Asks (ComparesTexts r a n b m) f) k = ap (Asks (ComparesTexts r a n b m)) (λ i v. settled_bind (f v) k i)
-  settled_bind (Asks (Calls q vs) f) k = ap (Asks (Calls q vs)) (λ i v. settled_bind (f v) k i)
+  settled_bind (Asks (Calls how q vs) f) k = ap (Asks (Calls how q vs)) (λ i v. settled_bind (f v) k i)
   settled_bind (Asks (Ends r) f) k = ap (Asks (Ends r)) (λ i v. settled_bind (f v) k i)
   settled_bind (Asks (Makes t vs) f) k = ap (Asks (Makes t vs)) (λ i v. settled_bind (f v) k i)
   settled_bind (Asks (Starts o) f) k = ap (Asks (Starts o)) (λ i v. settled_bind (f v) k i)
@@ -238,13 +238,30 @@ module _ (p : Program) (made : ℕ → Option Made) (c : Content Value) where
       at_type zero asks = absurd (cc asks)
       at_type (suc d) asks = at_test (comes_to p.types (id_of_made (suc d)) (id_of_made (suc t))) asks
         where
-          at_test : (b : Bool) → is_asking (settled p made c (if b then ask (Calls (method_number p d k) (o ∷ vs)) else Traps 1 0)) ≡ true → feed (v ∷ []) (settled p made c (if b then ask (Calls (method_number p d k) (o ∷ vs)) else Traps 1 0)) ≡ Val v
+          at_test : (b : Bool) → is_asking (settled p made c (if b then ask (Calls ByType (method_number p d k) (o ∷ vs)) else Traps 1 0)) ≡ true → feed (v ∷ []) (settled p made c (if b then ask (Calls ByType (method_number p d k) (o ∷ vs)) else Traps 1 0)) ≡ Val v
           at_test true asks = refl
           at_test false asks = absurd (cc asks)
 
       by : (n : ℕ) → is_asking (settled p made c (by_number n (Traps 1 0) (bind (ask (Opens o)) (λ x. dispatched p o t k vs (place_in x).type)))) ≡ true → feed (v ∷ []) (settled p made c (by_number n (Traps 1 0) (bind (ask (Opens o)) (λ x. dispatched p o t k vs (place_in x).type)))) ≡ Val v
       by zero asks = absurd (cc asks)
       by (suc n) asks = at_type (place_in (object_place (object_in o) (made (object_in o)))).type asks
+
+  -- so does what a procedure value stands for
+  applied_fed : (v o : Value) (vs : List Value) → is_asking (settled p made c (applied o vs)) ≡ true → feed (v ∷ []) (settled p made c (applied o vs)) ≡ Val v
+  applied_fed v o vs asks = by (procedure_in o) asks
+    where
+      by : (n : ℕ) → is_asking (settled p made c (by_number n (Traps 1 0) (ask (Calls ByValue n (on_instance (instance_in o) vs))))) ≡ true → feed (v ∷ []) (settled p made c (by_number n (Traps 1 0) (ask (Calls ByValue n (on_instance (instance_in o) vs))))) ≡ Val v
+      by zero asks = absurd (cc asks)
+      by (suc n) asks = refl
+
+  bound_to_silent : (v : Value) (t k d : ℕ) → is_asking (bound_to p v t k d) ≡ false
+  bound_to_silent v t k zero = refl
+  bound_to_silent v t k (suc d) = either_silent (comes_to p.types (id_of_made (suc d)) (id_of_made (suc t))) (Val (Callable (method_number p d k) (object_in v))) (Traps 1 0) refl refl
+
+  bound_silent : (v : Value) (t k : ℕ) → is_asking (settled p made c (bound p v t k)) ≡ false
+  bound_silent v t k =
+      let d = (place_in (object_place (object_in v) (made (object_in v)))).type in
+      nil_silent (object_in v) (Traps 1 0) _ refl (settled_silent (bound_to p v t k d) (bound_to_silent v t k d))
 
   record_silent : (s : Spot) (t : ℕ) → is_asking (record_guarded p.types s t) ≡ false
   record_silent s t = either_silent (has_type p.types s t) (Val s) (Traps 3 0) refl refl
@@ -310,24 +327,31 @@ module _ (p : Program) (made : ℕ → Option Made) (c : Content Value) where
                 let y = asks_behind (S (rows b)) (λ y. S (ask (compared x y))) none (ap is_asking (sym at) ∙ asks) in
                 ap (feed (v ∷ [])) at ∙ ap (λ r. feed (v ∷ []) (bind r (λ y. S (ask (compared x y))))) y.1
 
-      -- a method called, whose receiver is evaluated first
-      module _ (e : Expr) (t k : ℕ) (more : Arguments) where
+      -- what is called where something is evaluated first, a method's receiver or a procedure value
+      module _ (e : Expr) (more : Arguments) (callee : Expr → Callee) (on : Value → List Value → Doing Value) (meant : (e' : Expr) (us : Arguments) → value (Function (callee e') us) ≡ bind (value e') (λ o. bind (arguments us) (λ vs. on o vs))) (fed : (o : Value) (vs : List Value) → is_asking (settled p made c (on o vs)) ≡ true → feed (v ∷ []) (settled p made c (on o vs)) ≡ Val v) where
         abbrev called_with : Arguments → Value → Doing Value
-        called_with us o = bind (arguments us) (λ vs. sent p o t k vs)
+        called_with us o = bind (arguments us) (λ vs. on o vs)
 
-        dispatch_turns : Turns v (value e) (value (first_value e)) → Turns v (arguments more) (arguments (first_argument more)) → Turns v (value (Function (Dispatched e t k) more)) (value (first_value (Function (Dispatched e t k) more)))
-        dispatch_turns one other =
-            on_two value v (value e) (value (first_value e)) (called_with more) (Function (Dispatched (first_value e) t k) more)
-            (if is_asking (S (arguments more)) then Function (Dispatched e t k) (first_argument more) else Had v) refl one
+        abbrev called_first : Expr
+        called_first =
+            if is_asking (S (value e)) then Function (callee (first_value e)) more
+            else if is_asking (S (arguments more)) then Function (callee e) (first_argument more)
+            else Had v
+
+        called_turns : Turns v (value e) (value (first_value e)) → Turns v (arguments more) (arguments (first_argument more)) → Turns v (bind (value e) (called_with more)) (value called_first)
+        called_turns one other =
+            on_two value v (value e) (value (first_value e)) (called_with more) (Function (callee (first_value e)) more)
+            (if is_asking (S (arguments more)) then Function (callee e) (first_argument more) else Had v) (meant (first_value e) more) one
             (λ o at asks. by o at asks (is_asking (S (arguments more))) refl) (is_asking (S (value e))) refl
           where
-            by : (o : Value) → settled p made c (value e) ≡ Val o → is_asking (settled p made c (called_with more o)) ≡ true → (d : Bool) → is_asking (settled p made c (arguments more)) ≡ d → feed (v ∷ []) (settled p made c (called_with more o)) ≡ settled p made c (value (if d then Function (Dispatched e t k) (first_argument more) else Had v))
+            by : (o : Value) → settled p made c (value e) ≡ Val o → is_asking (settled p made c (called_with more o)) ≡ true → (d : Bool) → is_asking (settled p made c (arguments more)) ≡ d → feed (v ∷ []) (settled p made c (called_with more o)) ≡ settled p made c (value (if d then Function (callee e) (first_argument more) else Had v))
             by o is asks true first =
-                on_first v (arguments more) (arguments (first_argument more)) (λ vs. sent p o t k vs) other first ∙ behind_value (value e) (called_with (first_argument more)) o is
+                on_first v (arguments more) (arguments (first_argument more)) (λ vs. on o vs) other first
+                ∙ behind_value (value e) (called_with (first_argument more)) o is ∙ ap S (sym (meant e (first_argument more)))
             by o is asks false none =
-                let at = settled_bind (arguments more) (λ vs. sent p o t k vs) in
-                let us = asks_behind (S (arguments more)) (λ vs. S (sent p o t k vs)) none (ap is_asking (sym at) ∙ asks) in
-                ap (feed (v ∷ [])) at ∙ ap (λ r. feed (v ∷ []) (bind r (λ vs. S (sent p o t k vs)))) us.1 ∙ sent_fed v o t k us.0 us.2
+                let at = settled_bind (arguments more) (λ vs. on o vs) in
+                let us = asks_behind (S (arguments more)) (λ vs. S (on o vs)) none (ap is_asking (sym at) ∙ asks) in
+                ap (feed (v ∷ [])) at ∙ ap (λ r. feed (v ∷ []) (bind r (λ vs. S (on o vs)))) us.1 ∙ fed o us.0 us.2
 
       mutual
         one_index : (q : Place) → Turns v (place q) (place (first_place q))
@@ -395,10 +419,13 @@ module _ (p : Program) (made : ℕ → Option Made) (c : Content Value) where
         one_read (Len r d) asks = on_one v (rows r) (rows (first_row r)) (λ x. Val (length_at d x)) (λ x. refl) (one_row r) asks
         one_read (LenBehind r n) asks = on_one v (rows r) (rows (first_row r)) (λ x. Val (Int (pos n))) (λ x. refl) (one_row r) asks
         one_read (Function (Plain m k) more) asks =
-            on_last value v (arguments more) (arguments (first_argument more)) (λ vs. Calls (procedure_number p m k) vs) (Function (Plain m k) (first_argument more)) (Had v) (λ vs. refl) refl refl (one_argument more) asks
-        one_read (Function (Dispatched e t k) more) asks = dispatch_turns e t k more (one_read e) (one_argument more) asks
+            on_last value v (arguments more) (arguments (first_argument more)) (λ vs. Calls ByName (procedure_number p m k) vs) (Function (Plain m k) (first_argument more)) (Had v) (λ vs. refl) refl refl (one_argument more) asks
+        one_read (Function (Dispatched e t k) more) asks =
+            called_turns e more (λ d. Dispatched d t k) (λ o vs. sent p o t k vs) (λ d us. refl) (λ o vs. sent_fed v o t k vs) (one_read e) (one_argument more) asks
+        one_read (Function (Through e t) more) asks =
+            called_turns e more (λ d. Through d t) (λ o vs. applied o vs) (λ d us. refl) (λ o vs. applied_fed v o vs) (one_read e) (one_argument more) asks
         one_read (Function (Upper t k) more) asks =
-            on_last value v (arguments more) (arguments (first_argument more)) (λ vs. Calls (method_number p t k) (Object here.self ∷ vs)) (Function (Upper t k) (first_argument more)) (Had v) (λ vs. refl) refl refl (one_argument more) asks
+            on_last value v (arguments more) (arguments (first_argument more)) (λ vs. Calls Upward (method_number p t k) (Object here.self ∷ vs)) (Function (Upper t k) (first_argument more)) (Had v) (λ vs. refl) refl refl (one_argument more) asks
         one_read (Same a b) asks =
             let after : Expr → Value → Doing Value = λ d x. bind (value d) (λ y. Val (Flag (object_in x == object_in y))) in
             on_both value v (value a) (value (first_value a)) (after b) (after (first_value b)) (Same (first_value a) b) (Same a (first_value b)) refl refl (one_read a)
@@ -407,6 +434,12 @@ module _ (p : Program) (made : ℕ → Option Made) (c : Content Value) where
         one_read (IsRecord q t) asks =
             on_one v (place q) (place (first_place q)) (λ s. Val (Flag (has_type p.types s t))) (λ s. refl) (one_index q) asks
         one_read (Guard a t) asks = on_calm v (value a) (value (first_value a)) (λ x. guarded x t) (λ x. guarded_silent x t) (one_read a) asks
+        one_read (ProcedureOf m k) asks = absurd (cc asks)
+        one_read (MethodOf a t k) asks = on_calm v (value a) (value (first_value a)) (λ x. bound p x t k) (λ x. bound_silent x t k) (one_read a) asks
+        one_read (SameProcedure a b) asks =
+            let after : Expr → Value → Doing Value = λ d x. bind (value d) (λ y. Val (Flag (are_one x y))) in
+            on_both value v (value a) (value (first_value a)) (after b) (after (first_value b)) (SameProcedure (first_value a) b) (SameProcedure a (first_value b)) refl refl (one_read a)
+            (λ x. on_one v (value b) (value (first_value b)) (λ y. Val (Flag (are_one x y))) (λ y. refl) (one_read b)) asks
         one_read (Had x) asks = absurd (cc asks)
 
   -- One answer after another

@@ -5,7 +5,7 @@ use Rattle.std.proofs.lemmas.Grind.{reverse_onto}
 use Rattle.std.proofs.Math.Dec.{leb-zero, leb-suc-zero, leb-suc-suc}
 use Rattle.std.specs.Prelude.{pos, nat_le, Option, None, is_some, slice_get, map, reverse, take}
 use Rattle.aos_base.specs.declared.text.Pos.{Pos}
-use Rattle.aos_base.specs.Question.{Tree, Val, Asks, Traps, feed, Reads, Stores, Copies, PutsText, ComparesTexts, Calls, Ends, Makes, Starts, PutsInt, PutsChar, PutsString, PutsNothing, PutsLn, Places, Lengths, Opens, Sizes, Tests}
+use Rattle.aos_base.specs.Question.{Tree, Val, Asks, Traps, feed, Reads, Stores, Copies, PutsText, ComparesTexts, ByName, Calls, Ends, Makes, Starts, PutsInt, PutsChar, PutsString, PutsNothing, PutsLn, Places, Lengths, Opens, Sizes, Tests}
 use Rattle.aos_base.specs.Rooted.{Made}
 use Rattle.aos_base.specs.declared.place.Root.TheVariants.{Object as ObjectRoot}
 use Rattle.aos_base.specs.Operators.{flag}
@@ -17,7 +17,7 @@ use Rattle.aos_code.specs.declared.image.ProcShape.{ProcShape}
 use Rattle.aos_code.specs.declared.image.TypeDesc.{TypeDesc}
 use Rattle.aos_code.specs.declared.image.Image.{Image}
 use Rattle.aos_code.specs.Numbered.{numbered}
-use Rattle.aos_code.specs.Silent.{Here as CodeHere, Stack, Keeps, Question, End, Begins, Fails, Stop, Work, Ended, Look, AtCell, AtElements, IsType, AsType, AtSlot, Act, Goes, Puts, Takes, Looks, Sees, Stops, is_of, kept, extends, length_cells, Noted, Visible, Answered, Unknown, noted, on_noted, Told, Tells, Refuses, Invokes, Unheard, stands_for, invoked, method_at, told_by, on_told, act, on_act, walk, silent}
+use Rattle.aos_code.specs.Silent.{Here as CodeHere, Stack, Keeps, Question, End, Begins, Fails, Stop, Work, Ended, Look, AtCell, AtElements, IsType, AsType, AsMethod, AtSlot, Act, Goes, Puts, Takes, Looks, Sees, Stops, is_of, kept, extends, length_cells, Noted, Visible, Answered, Unknown, noted, on_noted, Told, Tells, Refuses, Invokes, Unheard, stands_for, invoked, bound, method_at, told_by, on_told, act, on_act, walk, silent}
 
 -- where code comes to a Begin: its place in the code and the text, what is kept, and the operands
 pub data Left : Type 0 where
@@ -84,10 +84,17 @@ type_at v = 0
 
 -- the call that an object's type has in a slot, where it has one
 abbrev pub invokes : Told → (Question → Run) → Run
-invokes (Invokes q vs) call = call (Calls q vs)
+invokes (Invokes q vs) call = call (Calls ByName q vs)
 invokes (Tells vs) call = Traps 16 0
 invokes (Refuses n) call = Traps 16 0
 invokes Unheard call = Traps 16 0
+
+-- the method that an object's type has in a slot, as a value with it, where it has one
+abbrev pub binds : Told → (Stack → Run) → Stack → Run
+binds (Tells vs) k s = k (vs ++ s)
+binds (Refuses n) k s = Traps 16 0
+binds (Invokes q vs) k s = Traps 16 0
+binds Unheard k s = Traps 16 0
 
 -- of an image's procedures and types this is known
 module _ (tables : Tables) where
@@ -96,6 +103,7 @@ module _ (tables : Tables) where
   looked (AtElements j) o call k s = Asks (Opens (Ref o)) (λ x. asks_sizes (Ref o) 0 j k (at_elements x ∷ s))
   looked (IsType t) o call k s = Asks (Tests (Ref o) t) (λ x. k (x ∷ s))
   looked (AsType t) o call k s = Asks (Tests (Ref o) t) (λ x. if_passed x (k (Ref o ∷ s)))
+  looked (AsMethod c) o call k s = Asks (Opens (Ref o)) (λ x. binds (bound (method_at tables.types (type_at x) c) o) k s)
   looked (AtSlot c p vs) o call k s =
       Asks (Opens (Ref o)) (λ x. invokes (invoked tables.procedures p (method_at tables.types (type_at x) c) o vs) call)
 
@@ -106,7 +114,7 @@ module _ (tables : Tables) where
   past (Copies n from to) x at k s next = next 0 (at + 1) k s
   past (PutsText strict from n to room) x at k s next = next 0 (at + 1) k s
   past (ComparesTexts r a n b m) x at k s next = next 0 (at + 1) k (x ∷ s)
-  past (Calls p vs) x at k s next = next 0 (at + 1) k (if gives_result (numbered tables.procedures p) then x ∷ s else s)
+  past (Calls how p vs) x at k s next = next 0 (at + 1) k (if gives_result (numbered tables.procedures p) then x ∷ s else s)
   past (Ends r) x at k s next = Traps 0 0
   past (Makes t ns) x at k s next = next 0 (at + 1) k (x ∷ s)
   past (Starts v) x at k s next = next 0 (at + 1) k s
@@ -223,7 +231,7 @@ past_answered tables cells (Stores a x) v at k s next e = absurd (cc)
 past_answered tables cells (Copies n from to) v at k s next e = absurd (cc)
 past_answered tables cells (PutsText strict from n to room) v at k s next e = absurd (cc)
 past_answered tables cells (ComparesTexts r a n b m) v at k s next e = refl
-past_answered tables cells (Calls p vs) v at k s next e = absurd (cc)
+past_answered tables cells (Calls how p vs) v at k s next e = absurd (cc)
 past_answered tables cells (Ends r) v at k s next e = absurd (cc)
 past_answered tables cells (Makes t ns) v at k s next e = refl
 past_answered tables cells (Starts x) v at k s next e = absurd (cc)
@@ -242,7 +250,7 @@ past_same tables (Stores a v) x at k s next next' e = e s
 past_same tables (Copies n from to) x at k s next next' e = e s
 past_same tables (PutsText strict from n to room) x at k s next next' e = e s
 past_same tables (ComparesTexts r a n b m) x at k s next next' e = e (x ∷ s)
-past_same tables (Calls p vs) x at k s next next' e = e (if gives_result (numbered tables.procedures p) then x ∷ s else s)
+past_same tables (Calls how p vs) x at k s next next' e = e (if gives_result (numbered tables.procedures p) then x ∷ s else s)
 past_same tables (Ends r) x at k s next next' e = refl
 past_same tables (Makes t ns) x at k s next next' e = e (x ∷ s)
 past_same tables (Starts v) x at k s next next' e = e s
@@ -283,7 +291,7 @@ module _ (tables : Tables) (made : ℕ → Option Made) (cells : List Cell) (o :
   abbrev told_run : Told → Stack → Run
   told_run (Tells vs) s = calmed (k (vs ++ s))
   told_run (Refuses n) s = Traps n 0
-  told_run (Invokes q vs) s = calmed (call (Calls q vs))
+  told_run (Invokes q vs) s = calmed (call (Calls ByName q vs))
   told_run Unheard s = Traps 16 0
 
   module _ (m : Made) (is : made o ≡ Some m) where
@@ -330,6 +338,10 @@ module _ (tables : Tables) (made : ℕ → Option Made) (cells : List Cell) (o :
         by true = refl
         by false = refl
 
+    bound_told : (n : Option ℕ) (s : Stack) → calmed (binds (bound n o) k s) ≡ told_run (bound n o) s
+    bound_told None s = refl
+    bound_told (Some q) s = refl
+
     tells : (l : Look) (s : Stack) → calmed (looked tables l o call k s) ≡ told_run (told_by tables.procedures types l o (Some m)) s
     tells (AtCell c) s =
         calm_answered types made cells (Opens (Ref o)) (λ x. k (at_cell c x ∷ s)) (Place (ObjectRoot o) 0 m.type) (ap (told_as (λ m. Answered (Place (ObjectRoot o) 0 m.type))) is)
@@ -341,6 +353,9 @@ module _ (tables : Tables) (made : ℕ → Option Made) (cells : List Cell) (o :
     tells (AsType t) s =
         calm_answered types made cells (Tests (Ref o) t) (λ x. if_passed x (k (Ref o ∷ s))) (Num (flag (extends types m.type t))) (ap (told_as (λ m. Answered (Num (flag (extends types m.type t))))) is)
         ∙ test_told (extends types m.type t) s
+    tells (AsMethod c) s =
+        calm_answered types made cells (Opens (Ref o)) (λ x. binds (bound (method_at types (type_at x) c) o) k s) (Place (ObjectRoot o) 0 m.type) (ap (told_as (λ m. Answered (Place (ObjectRoot o) 0 m.type))) is)
+        ∙ bound_told (method_at types m.type c) s
     tells (AtSlot c p vs) s =
         calm_answered types made cells (Opens (Ref o)) (λ x. invokes (invoked tables.procedures p (method_at types (type_at x) c) o vs) call) (Place (ObjectRoot o) 0 m.type) (ap (told_as (λ m. Answered (Place (ObjectRoot o) 0 m.type))) is)
         ∙ method_told p vs s (method_at types m.type c)
@@ -352,6 +367,8 @@ module _ (tables : Tables) (made : ℕ → Option Made) (cells : List Cell) (o :
   tells_nothing e (IsType t) s = calm_unknown types made cells (Tests (Ref o) t) (λ x. k (x ∷ s)) (ap (told_as (λ m. Answered (Num (flag (extends types m.type t))))) e)
   tells_nothing e (AsType t) s =
       calm_unknown types made cells (Tests (Ref o) t) (λ x. if_passed x (k (Ref o ∷ s))) (ap (told_as (λ m. Answered (Num (flag (extends types m.type t))))) e)
+  tells_nothing e (AsMethod c) s =
+      calm_unknown types made cells (Opens (Ref o)) (λ x. binds (bound (method_at types (type_at x) c) o) k s) (ap (told_as (λ m. Answered (Place (ObjectRoot o) 0 m.type))) e)
   tells_nothing e (AtSlot c p vs) s =
       calm_unknown types made cells (Opens (Ref o)) (λ x. invokes (invoked tables.procedures p (method_at types (type_at x) c) o vs) call) (ap (told_as (λ m. Answered (Place (ObjectRoot o) 0 m.type))) e)
 
@@ -369,7 +386,7 @@ answered_noted types made cells (Stores a v) e = refl
 answered_noted types made cells (Copies n from to) e = refl
 answered_noted types made cells (PutsText strict from n to room) e = refl
 answered_noted types made cells (ComparesTexts r a n b m) e = refl
-answered_noted types made cells (Calls p vs) e = refl
+answered_noted types made cells (Calls how p vs) e = refl
 answered_noted types made cells (Ends r) e = refl
 answered_noted types made cells (Makes t ns) e = refl
 answered_noted types made cells (Starts v) e = refl
@@ -394,7 +411,7 @@ object_unnoted cells (Stores a v) e = absurd (cc)
 object_unnoted cells (Copies n from to) e = absurd (cc)
 object_unnoted cells (PutsText strict from n to room) e = absurd (cc)
 object_unnoted cells (ComparesTexts r a n b m) e = absurd (cc)
-object_unnoted cells (Calls p vs) e = absurd (cc)
+object_unnoted cells (Calls how p vs) e = absurd (cc)
 object_unnoted cells (Ends r) e = absurd (cc)
 object_unnoted cells (Makes t ns) e = absurd (cc)
 object_unnoted cells (Starts v) e = absurd (cc)
@@ -444,7 +461,7 @@ module _ (tables : Tables) (made : ℕ → Option Made) (own : ℕ) (here : Here
   by_told : (rest : List Instr) (at : ℕ) → drop (at + 1) code ≡ rest → Leads rest (at + 1) → (o : ℕ) (k : Keeps) (s : Stack) (t : Told) → told_run tables made cells o (λ q. at_work tables q at k s (runs_here rest)) (λ s'. runs_here rest 0 (at + 1) k s') t s ≡ from_stop (on_told t (stops rest) at k s)
   by_told rest at e ih o k s (Tells vs) = ih 0 k (vs ++ s)
   by_told rest at e ih o k s (Refuses n) = refl
-  by_told rest at e ih o k s (Invokes q vs) = by_note rest at e ih (Calls q vs) k s Visible refl false refl
+  by_told rest at e ih o k s (Invokes q vs) = by_note rest at e ih (Calls ByName q vs) k s Visible refl false refl
   by_told rest at e ih o k s Unheard = refl
 
   -- one instruction, where the rest is known

@@ -1,10 +1,13 @@
 -- An image that has a well-typed program's code shows the program.
-use Rattle.std.proofs.Common.{◌≡◌, ℕ, zero, suc, ◌+◌, List, [], ◌∷◌, ◌++◌, map, length, Bool, true, false, Option, Some, None, refl, sym, ap, ◌∙◌, subst, arith}
-use Rattle.std.specs.Prelude.{slice_get, flat_map, is_some, option_map, option_and_then, if◌then◌else◌}
+use Rattle.std.proofs.Common.{◌≡◌, ℕ, zero, suc, ◌+◌, List, [], ◌∷◌, ◌++◌, map, length, true, Option, Some, None, refl, sym, ap, ◌∙◌, subst, arith}
+use Rattle.std.specs.Prelude.{slice_get, flat_map, is_some, option_map, option_and_then}
 use Rattle.std.specs.List.{range_with_len}
+use Rattle.std.proofs.Common.{◌⊎◌, inl, inr, ◌<◌, ◌≤◌}
+use Rattle.std.proofs.lemmas.Bool.{cases_lt}
 use Rattle.std.proofs.lemmas.Option.{slice_get-map}
 use Rattle.std.proofs.lemmas.List.Elements.{All-nil}
 use Rattle.aos_types.specs.Extension.{comes_to}
+use Rattle.aos_types.proofs.Tables.{comes_on}
 use Rattle.aos_types.specs.Shape.{Nothing}
 use Rattle.aos_base.specs.Book.{Where}
 use Rattle.aos_base.specs.Rooted.{Made, by_number}
@@ -12,11 +15,12 @@ use Rattle.aos_base.specs.Machine.{Choice, execution}
 use Rattle.aos_typed.specs.declared.tree.TType.{TType}
 use Rattle.aos_typed.specs.Program.{Variable, ObjectType, Module, Program}
 use Rattle.aos_typed.specs.Routines.{result_of, routine_of}
-use Rattle.aos_typed.specs.Numbers.{id_of_made}
+use Rattle.aos_typed.specs.Numbers.{id_of_made, body_number}
+use Rattle.aos_typed.specs.Methods.{body_type}
 use Rattle.aos_typed.specs.Typing.{Is}
 use Rattle.aos_typed.specs.Store.{Store}
 use Rattle.aos_typed.specs.Source as S
-use Rattle.aos_typed.specs.WellTyped.{IsObjectType, IsWellTyped}
+use Rattle.aos_typed.specs.WellTyped.{IsWellTyped}
 use Rattle.aos_code.specs.declared.image.Image.{Image}
 use Rattle.aos_code.specs.declared.image.ModuleDesc.{ModuleDesc}
 use Rattle.aos_code.specs.declared.image.TypeDesc.{TypeDesc}
@@ -27,12 +31,12 @@ use Rattle.aos_code.specs.Machine.{machine, bodies, home_of}
 use Rattle.aos_concurrency.specs.Simulates.{Simulates, Matches}
 use Rattle.aos_concurrency.specs.Spot.{Anyone}
 use Rattle.aos_concurrency.proofs.Matching.{execution_matches, start_matches, observation_matches, events_match}
-use Rattle.aos_sim.specs.Shows.{numbers_from, body_numbers, IsCodeOf, Shows}
+use Rattle.aos_sim.specs.Shows.{numbers_from, body_in, IsCodeOf, Shows}
 use Rattle.aos_places.specs.Shows.{AllShown}
 use Rattle.aos_sim.specs.Cells.{cell_of}
 use Rattle.aos_sim.proofs.Items.{items_do}
 use Rattle.aos_sim.proofs.First.{modules_shown}
-use Rattle.aos_sim.proofs.Methods.{object_type}
+use Rattle.aos_sim.proofs.Methods.{HasBody, object_type}
 use Rattle.aos_sim.proofs.Objects.{some_same}
 use Rattle.aos_sim.proofs.References.{comes_same}
 use Rattle.aos_sim.proofs.Typed.{has_types}
@@ -40,7 +44,7 @@ use Rattle.aos_sim.proofs.Runs.{tables_of}
 use Rattle.aos_sim.proofs.Does.{HasTypes, HasShapes, IsFrameOf, IsSelf}
 use Rattle.aos_sim.proofs.States.{world_of, IsFew, AreFew, number_get, SameStore, Placed, RoutinesRun, Follows, Waiting, SameFrames, Same, body_same, body_shown, opened_same, same_grows}
 use Rattle.aos_sim.proofs.Routines.{module_there, object_there}
-use Rattle.aos_sim.proofs.Bodies.{has_shapes, home_known, routines_run}
+use Rattle.aos_sim.proofs.Bodies.{alike_at, range_get, range_past, has_shapes, home_known, routines_run}
 use Rattle.aos_sim.proofs.Grown.{turn_grown}
 use Rattle.aos_sim.proofs.Turns.{Together, turn_alike}
 
@@ -78,7 +82,7 @@ module _ (p : Program) (image : Image) (well : IsWellTyped p) (ok : IsCodeOf p i
       record {
         made = refl;
         few = All-nil (IsFew p);
-        of_modules = subst (λ ys. AllShown (Is p.types) cell_of (world_of p [] []) (map (S.module_shape p) ms) (S.first_store p).modules ys) (sym ok.cells) (modules_shown p (world_of p [] []) well.predeclared ms well.texts);
+        of_modules = subst (λ ys. AllShown (Is p) cell_of (world_of p [] []) (map (S.module_shape p) ms) (S.first_store p).modules ys) (sym ok.cells) (modules_shown p (world_of p [] []) well.predeclared ms well.texts);
         of_objects = tt;
       }
 
@@ -106,54 +110,66 @@ module _ (p : Program) (image : Image) (well : IsWellTyped p) (ok : IsCodeOf p i
       subst (λ b. Follows p image (k ∷ range_with_len (k + 1) (length xs)) (bodies b ++ flat_map (λ (x : ModuleDesc). bodies x.body) ds)) (sym here)
       ((m, there, module_there p k m there), below)
 
-  body_number : (k j : ℕ) (xs : List ObjectType) → slice_get (body_numbers k xs) j ≡ option_map (λ x. if x.has_body then k + j else 0) (slice_get xs j)
-  body_number k j [] = refl
-  body_number k zero (y ∷ ys) = let n : k ≡ k + 0 = omega arith in ap (λ m. Some (if y.has_body then m else 0)) n
-  body_number k (suc j) (y ∷ ys) =
-      let n : suc k + j ≡ k + suc j = omega arith in
-      body_number (suc k) j ys ∙ ap (λ m. option_map (λ x. if x.has_body then m else 0) (slice_get ys j)) n
-
   -- the body of an object, by its type on both sides
   module _ (made : List Made) (o t : ℕ) (self : IsSelf p (λ o. by_number o made) (Some t) o) where
-    body_begins : (x : ObjectType) → slice_get os t ≡ Some x → SameFrames p image made (S.body_frame x.home o x.body.body ∷ []) (I.body_frame o (suc (length ms + t)) ∷ [])
-    body_begins x there =
-        let is = object_type p well.objects t x there in
-        body_same p image run made o (suc (length ms + t)) (routine_of x.home x.body) (object_there p t x there) (sym (ap is_some is.proper)) (frame is)
-        (subst (λ z. IsSelf p (λ o. by_number o made) z o) (sym is.own) self)
+    body_begins : (b : ℕ) (has : HasBody p t b) → SameFrames p image made (S.body_frame has.object.home o has.object.body.body ∷ []) (I.body_frame o (body_number p b) ∷ [])
+    body_begins b has =
+        let x = has.object in
+        let is = object_type p well.objects b x has.there in
+        let extends = comes_on p.types typed.ranked (id_of_made self.1.type) (id_of_made (suc t)) (id_of_made (suc b)) self.5 has.extends in
+        body_same p image run made o (body_number p b) (routine_of x.home x.body) (object_there p b x has.there) (sym (ap is_some has.body.proper)) (frame is.bare)
+        (subst (λ z. IsSelf p (λ o. by_number o made) z o) (sym has.body.own) (self.0, self.1, self.2, self.3, self.4, extends))
       where
-        frame : IsObjectType p t x → IsFrameOf p (Some x.body) Nothing
-        frame is =
+        frame : has.object.body.locals ≡ [] → IsFrameOf p (Some has.object.body) Nothing
+        frame bare =
             record {
-              parameters = λ k a e. absurd (let none : slice_get x.body.parameters k ≡ None = ap (λ l. slice_get l k) is.plain in cc (none, e));
+              parameters = λ k a e. absurd (let none : slice_get has.object.body.parameters k ≡ None = ap (λ l. slice_get l k) has.body.plain in cc (none, e));
               locals = λ k u e.
-                  let own : Some x.body ≡ Some e.0 = e.2 in
-                  let same : x.body ≡ e.0 = cc in
-                  let none : option_map (λ (v : Variable). v.of) (slice_get e.0.locals e.1) ≡ None = ap (λ q. option_map (λ (v : Variable). v.of) (slice_get q.locals e.1)) (sym same) ∙ ap (λ l. option_map (λ (v : Variable). v.of) (slice_get l e.1)) is.bare in
+                  let own : Some has.object.body ≡ Some e.0 = e.2 in
+                  let same : has.object.body ≡ e.0 = cc in
+                  let none : option_map (λ (v : Variable). v.of) (slice_get e.0.locals e.1) ≡ None = ap (λ q. option_map (λ (v : Variable). v.of) (slice_get q.locals e.1)) (sym same) ∙ ap (λ l. option_map (λ (v : Variable). v.of) (slice_get l e.1)) bare in
                   let some = e.4 in
                   absurd (cc (none, some));
               few = omega arith;
             }
 
-    object_same : (x : Option ObjectType) (d : Option TypeDesc) → slice_get os t ≡ x → slice_get image.types.items t ≡ d → Same p image made (S.object_frames o x) (I.object_frames o d)
-    object_same x d ex ed =
-        by_case x d ex
-        (ap (option_map (λ (y : TypeDesc). y.body)) (sym ed) ∙ sym (slice_get-map (λ (y : TypeDesc). y.body) image.types.items t) ∙ ap (λ l. slice_get l t) ok.types ∙ body_number (suc (length ms)) t os
-        ∙ ap (option_map (λ x. if x.has_body then suc (length ms) + t else 0)) ex)
-      where
-        with_body : (x : ObjectType) (d : TypeDesc) → slice_get os t ≡ Some x → (b : Bool) → d.body ≡ (if b then suc (length ms) + t else 0) → Same p image made (record { following = []; frames = if b then S.body_frame x.home o x.body.body ∷ [] else [] }) (record { following = []; frames = map (I.body_frame o) (bodies d.body) })
-        with_body x d there false e =
-            subst (λ z. Same p image made (record { following = []; frames = [] }) (record { following = []; frames = map (I.body_frame o) (bodies z) })) (sym e) (record { follows = tt; frames = tt; shown = tt })
-        with_body x d there true e =
-            let n : suc (length ms) + t ≡ suc (length ms + t) = omega arith in
-            let number = suc (length ms + t) in
-            subst (λ z. Same p image made (record { following = []; frames = S.body_frame x.home o x.body.body ∷ [] }) (record { following = []; frames = map (I.body_frame o) (bodies z) })) (sym (e ∙ n))
-            (record { follows = tt; frames = body_begins x there; shown = body_shown p image made o number x.home x.body.body })
+    -- which one it is the type's description tells
+    told : t < length os → (d : TypeDesc) × (slice_get image.types.items t ≡ Some d) × (d.body ≡ body_in p (body_type p t))
+    told l =
+        let z : t + 0 ≡ t = omega arith in
+        let r = alike_at (λ (y : TypeDesc). y.body) (λ k. body_in p (body_type p k)) image.types.items (range_with_len 0 (length os)) ok.types t (t + 0) (range_get (length os) 0 t l) in
+        (r.0, r.1, r.2 ∙ ap (λ k. body_in p (body_type p k)) z)
 
-        by_case : (x : Option ObjectType) (d : Option TypeDesc) → slice_get os t ≡ x → option_map (λ (y : TypeDesc). y.body) d ≡ option_map (λ x. if x.has_body then suc (length ms) + t else 0) x → Same p image made (S.object_frames o x) (I.object_frames o d)
-        by_case None None ex e = record { follows = tt; frames = tt; shown = tt }
-        by_case None (Some d) ex e = absurd (cc e)
-        by_case (Some x) None ex e = absurd (cc e)
-        by_case (Some x) (Some d) ex e = with_body x d ex x.has_body (some_same d.body (if x.has_body then suc (length ms) + t else 0) e)
+    described : (d : TypeDesc) → slice_get image.types.items t ≡ Some d → d.body ≡ body_in p (body_type p t)
+    described d e = by (cases_lt t (length os))
+      where
+        by : (t < length os) ⊎ (length os ≤ t) → d.body ≡ body_in p (body_type p t)
+        by (inl l) =
+            let r = told l in
+            let there = r.1 in
+            let same : r.0 ≡ d = some_same r.0 d (sym there ∙ e) in
+            ap (λ (y : TypeDesc). y.body) (sym same) ∙ r.2
+        by (inr l) =
+            let none : Some d.body ≡ None = ap (option_map (λ (y : TypeDesc). y.body)) (sym e) ∙ sym (slice_get-map (λ (y : TypeDesc). y.body) image.types.items t) ∙ ap (λ l. slice_get l t) ok.types
+            ∙ slice_get-map (λ k. body_in p (body_type p k)) (range_with_len 0 (length os)) t ∙ ap (option_map (λ k. body_in p (body_type p k))) (range_past (length os) 0 t l) in
+            absurd (cc none)
+
+    object_same : (d : Option TypeDesc) → slice_get image.types.items t ≡ d → Same p image made (S.object_frames o (option_and_then (λ b. slice_get os b) (body_type p t))) (I.object_frames o d)
+    object_same d ed = by (body_type p t) refl d ed
+      where
+        begun : List S.Frame → ℕ → Type 0
+        begun fs n = Same p image made (record { following = []; frames = fs }) (record { following = []; frames = map (I.body_frame o) (bodies n) })
+
+        by : (body : Option ℕ) → body_type p t ≡ body → (d : Option TypeDesc) → slice_get image.types.items t ≡ d → Same p image made (S.object_frames o (option_and_then (λ b. slice_get os b) body)) (I.object_frames o d)
+        by None e None f = record { follows = tt; frames = tt; shown = tt }
+        by None e (Some d) f = subst (begun []) (sym (described d f ∙ ap (body_in p) e)) (record { follows = tt; frames = tt; shown = tt })
+        by (Some b) e None f = let r = told (typed.methods.bodies t b e).below in let there = r.1 in absurd (cc (f, there))
+        by (Some b) e (Some d) f =
+            let has = typed.methods.bodies t b e in
+            let x = has.object in
+            subst (λ z. Same p image made (S.object_frames o z) (I.object_frames o (Some d))) (sym has.there)
+            (subst (begun (S.body_frame x.home o x.body.body ∷ [])) (sym (described d f ∙ ap (body_in p) e))
+            (record { follows = tt; frames = body_begins b has; shown = body_shown p image made o (body_number p b) x.home x.body.body }))
 
   -- an object is one of its own type
   self_made : (made : List Made) → AreFew p made → (o : ℕ) (m : Made) (t : ℕ) → by_number o made ≡ Some m → m.type ≡ suc t → IsSelf p (λ o. by_number o made) (Some t) o
@@ -161,13 +177,13 @@ module _ (p : Program) (image : Image) (well : IsWellTyped p) (ok : IsCodeOf p i
   self_made made few (suc k) m t e type_is =
       (k, m, refl, e, (number_get (IsFew p) (suc k) made m few e).1, subst (λ z. comes_to p.types (id_of_made m.type) (id_of_made z) ≡ true) type_is (comes_same p.types (id_of_made m.type)))
 
-  made_same : (made : List Made) → AreFew p made → (o : ℕ) (m : Option Made) → by_number o made ≡ m → Same p image made (S.object_frames o (option_and_then (λ n. by_number n os) (option_map (λ (m : Made). m.type) m))) (I.object_frames o (option_and_then (numbered image.types.items) (option_map (λ (m : Made). m.type) m)))
+  made_same : (made : List Made) → AreFew p made → (o : ℕ) (m : Option Made) → by_number o made ≡ m → Same p image made (S.object_frames o (option_and_then (λ t. slice_get os t) (option_and_then (S.made_body p) (option_map (λ (m : Made). m.type) m)))) (I.object_frames o (option_and_then (numbered image.types.items) (option_map (λ (m : Made). m.type) m)))
   made_same made few o None e = record { follows = tt; frames = tt; shown = tt }
   made_same made few o (Some m) e = by m.type refl
     where
-      by : (n : ℕ) → m.type ≡ n → Same p image made (S.object_frames o (by_number n os)) (I.object_frames o (numbered image.types.items n))
+      by : (n : ℕ) → m.type ≡ n → Same p image made (S.object_frames o (option_and_then (λ t. slice_get os t) (S.made_body p n))) (I.object_frames o (numbered image.types.items n))
       by zero is = record { follows = tt; frames = tt; shown = tt }
-      by (suc n) is = object_same made o n (self_made made few o m n e is) (slice_get os n) (slice_get image.types.items n) refl refl
+      by (suc n) is = object_same made o n (self_made made few o m n e is) (slice_get image.types.items n) refl
 
   object_body_same : (s : Store) (mem : Memory) (o : ℕ) → SameStore p s mem → Same p image s.made (S.body_of p s o) (I.body_of image mem o)
   object_body_same s mem o stores =

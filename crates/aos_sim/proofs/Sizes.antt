@@ -12,6 +12,7 @@ use Rattle.aos_code.specs.declared.instr.Kind.TheVariants.{N}
 use Rattle.aos_sim.specs.Search.{Search, Nowhere, At, Split, arms_in, search_of, search_size, search_code}
 use Rattle.aos_sim.specs.Code.{place_code, value_code, while_code, repeat_code, arm_code, round_code, for_head, step_code, body_place, rounds_with, stat_code, stats_code, arms_code, cases_code, arm_place}
 use Rattle.aos_sim.specs.Need.{stat_level, stats_level, arms_level, cases_level}
+use Rattle.aos_typed.specs.Operands.{operands}
 
 -- a search has as many instructions wherever it stands and leads to
 pub search_length : (place : ℕ → ℕ) (other : ℕ) (t : Search) (d at : ℕ) → length (search_code place other t d at) ≡ search_size t
@@ -101,7 +102,7 @@ module _ (program : Program) (own : Option Procedure) where
     stat_length (Perform here c more) at x y d = refl
     stat_length (Return here None) at x y d = refl
     stat_length (Return here (Some e)) at x y d = refl
-    stat_length (New here p t) at x y d = refl
+    stat_length (New here p t more) at x y d = refl
     stat_length (Make here p t ns) at x y d = refl
     stat_length (With here e body) at x y d =
         let c = value_code program own e (at + 1) in
@@ -169,7 +170,7 @@ mutual
   stat_above (Change here c p e) d = omega arith
   stat_above (Perform here c more) d = omega arith
   stat_above (Return here e) d = omega arith
-  stat_above (New here p t) d = omega arith
+  stat_above (New here p t more) d = omega (arith, le-max_left (suc d) (d + operands more))
   stat_above (Make here p t ns) d = omega arith
   stat_above (With here e body) d = stats_above body d
   stat_above (WithRecord here p body) d = stats_above body d

@@ -16,7 +16,7 @@ use Rattle.aos_code.specs.declared.instr.Instr.TheVariants as instr
 use Rattle.aos_code.specs.declared.image.ProcShape.{ProcShape}
 use Rattle.aos_code.specs.Memory.{Addr}
 use Rattle.aos_code.specs.Numbered.{numbered}
-use Rattle.aos_code.specs.Silent.{Stack, Keeps, Question, Fails, Stop, Work, Ended, Look, AtCell, AtElements, IsType, AsType, Act, Goes, Puts, Takes, Looks, Sees, Stops, object_then, on_object, unless_nil, looks, on_receiver, called, sends, gives_self, extends, Told, Tells, Refuses, Invokes, Unheard, told_by, on_told, lost, kept, is_of, on_any, on_kind, on_number, number_then, place_then, on_place, on_text, length_then, lengths_on, counted_on, gives, given, asserts, gives_place, element, cells_of, length_cells, in_rows, gives_picked, on_kinds, kinds_of, calls, ends, lands, jumps, jumps_on_false, act, Noted, Visible, Answered, Unknown, noted, on_noted, on_act, walk, silent}
+use Rattle.aos_code.specs.Silent.{Stack, Keeps, Question, Fails, Stop, Work, Ended, Look, AtCell, AtElements, IsType, AsType, AsMethod, Act, Goes, Puts, Takes, Looks, Sees, Stops, object_then, on_object, unless_nil, looks, on_receiver, called, callable_then, on_callable, same_formals, applies_to, applies_as, applies, calls_value, sends, gives_self, extends, Told, Tells, Refuses, Invokes, Unheard, told_by, on_told, lost, kept, is_of, on_any, on_kind, on_number, number_then, place_then, on_place, on_text, length_then, lengths_on, counted_on, gives, given, asserts, gives_place, element, cells_of, length_cells, in_rows, gives_picked, on_kinds, kinds_of, calls, ends, lands, jumps, jumps_on_false, act, Noted, Visible, Answered, Unknown, noted, on_noted, on_act, walk, silent}
 use Rattle.aos_base.specs.Rooted.{Made}
 use Rattle.aos_sim.proofs.Runs.{Tables, in_code, on_run, runs, run, drop_next}
 use Rattle.aos_typed.specs.Meaning.{Here}
@@ -133,6 +133,36 @@ calm_sends : (f : Option ProcShape) (slot p : ℕ) (s : Stack) → mark (sends f
 calm_sends None slot p s = refl
 calm_sends (Some f) slot p s = calm_kinds (reverse (kinds_of f.params.items)) [] _ s (λ ws s'. calm_receiver _ s' (λ o s2. refl))
 
+calm_callable_then : (k : ℕ → ℕ → Act) (v : Cell) → ((p o : ℕ) → mark (k p o) ≡ 0) → mark (callable_then k v) ≡ 0
+calm_callable_then k (Num a) h = refl
+calm_callable_then k (Ref o) h = refl
+calm_callable_then k (CallCell p o) h = h p o
+calm_callable_then k (Place root cell type) h = refl
+
+calm_callable : (k : ℕ → ℕ → Stack → Act) (s : Stack) → ((p o : ℕ) (s' : Stack) → mark (k p o s') ≡ 0) → mark (on_callable k s) ≡ 0
+calm_callable k s h = calm_any _ s (λ v s'. calm_callable_then (λ p o. k p o s') v (λ p o. h p o s'))
+
+calm_applies_to : (is_same method : Bool) (p o : ℕ) (vs : List Cell) (s : Stack) → mark (applies_to is_same method p o vs s) ≡ 0
+calm_applies_to true true p zero vs s = refl
+calm_applies_to true true p (suc o) vs s = refl
+calm_applies_to true false p zero vs s = refl
+calm_applies_to true false p (suc o) vs s = refl
+calm_applies_to false true p o vs s = refl
+calm_applies_to false false p o vs s = refl
+
+calm_applies_as : (f : Option ProcShape) (g : ProcShape) (p o : ℕ) (vs : List Cell) (s : Stack) → mark (applies_as f g p o vs s) ≡ 0
+calm_applies_as None g p o vs s = refl
+calm_applies_as (Some f) g p o vs s = calm_applies_to (same_formals f g) f.method p o vs s
+
+calm_applies : (shapes : List ProcShape) (g : ProcShape) (p o : ℕ) (vs : List Cell) (s : Stack) → mark (applies shapes g p o vs s) ≡ 0
+calm_applies shapes g zero o vs s = refl
+calm_applies shapes g (suc p) o vs s = calm_applies_as (numbered shapes (suc p)) g (suc p) o vs s
+
+calm_calls_value : (shapes : List ProcShape) (g : Option ProcShape) (s : Stack) → mark (calls_value shapes g s) ≡ 0
+calm_calls_value shapes None s = refl
+calm_calls_value shapes (Some g) s =
+    calm_kinds (reverse (kinds_of g.params.items)) [] _ s (λ vs s'. calm_callable _ s' (λ p o s2. calm_applies shapes g p o vs s2))
+
 calm_result : (f : ProcShape) (r : Option Kind) (s : Stack) → mark (ends (Some (record f { result = r })) s) ≡ 0
 calm_result f None s = refl
 calm_result f (Some kind) s = calm_kind kind _ s (λ v s'. refl)
@@ -192,6 +222,11 @@ act_starts tables own here (instr.IndexOpen j k) code at s v s' e = marked _ v s
 act_starts tables own here (instr.PickLen d j) code at s v s' e = marked _ v s s' (calm_counted j [] _ s (λ zs r. calm_place _ r (λ a t x. calm_picked (slice_get zs d) x))) e
 act_starts tables own here (instr.Unary op) code at s v s' e = marked _ v s s' (calm_number _ s (λ a r. calm_given (unary op a) r)) e
 act_starts tables own here (instr.Binary op) code at s v s' e = marked _ v s s' (calm_number _ s (λ b r. calm_number _ r (λ a x. calm_given (binary op a b) x))) e
+act_starts tables own here instr.NilCall code at s v s' e = marked _ v s s' refl e
+act_starts tables own here (instr.Proc p) code at s v s' e = marked _ v s s' refl e
+act_starts tables own here instr.EqCall code at s v s' e = marked _ v s s' (calm_callable _ s (λ q i r. calm_callable _ r (λ p o x. refl))) e
+act_starts tables own here (instr.Bind k) code at s v s' e = marked _ v s s' (calm_looks (AsMethod k) (λ r. Stops (Fails 1 0)) s (λ r. refl)) e
+act_starts tables own here (instr.CallValue p) code at s v s' e = marked _ v s s' (calm_calls_value tables.procedures (numbered tables.procedures p) s) e
 act_starts tables own here instr.EqRef code at s v s' e = marked _ v s s' (calm_object _ s (λ b r. calm_object _ r (λ a x. refl))) e
 act_starts tables own here (instr.Is t) code at s v s' e = marked _ v s s' (calm_looks (IsType t) (λ r. gives (Num (pos 0)) r) s (λ r. refl)) e
 act_starts tables own here (instr.IsPlace t) code at s v s' e = marked _ v s s' (calm_place (λ a d r. gives (Num (flag (extends tables.types d t))) r) s (λ a d r. refl)) e

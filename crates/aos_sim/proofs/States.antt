@@ -48,7 +48,7 @@ shapes_of fs = map (λ f. f.shape) fs
 
 -- objects that are made as these have cells with numbers of 32 bits, and the lengths that their types ask for
 abbrev pub IsFew : Program → Made → Type 0
-IsFew program m = (size (made_shape program.types m) < 2 ^ 32) × HasLengths program.types (row_of program.types (id_of_made m.type)) m
+IsFew program m = (size (made_shape program.types m) < 2 ^ 32) × HasLengths program (row_of program.types (id_of_made m.type)) m
 
 abbrev pub AreFew : Program → List Made → Type 0
 AreFew program made = All (IsFew program) made
@@ -61,13 +61,13 @@ number_get P (suc o) xs x h e = all_get P xs o x h e
 pub record SameStore (program : Program) (s : Store) (mem : Memory) : Type 0 where
   pub made : mem.made ≡ s.made
   pub few : AreFew program s.made
-  pub of_modules : AllShown (Is program.types) cell_of (world_of program s.made []) (scheme program).modules s.modules mem.modules
-  pub of_objects : AllShown (Is program.types) cell_of (world_of program s.made []) (map (scheme program).made s.made) s.objects mem.objects
+  pub of_modules : AllShown (Is program) cell_of (world_of program s.made []) (scheme program).modules s.modules mem.modules
+  pub of_objects : AllShown (Is program) cell_of (world_of program s.made []) (map (scheme program).made s.made) s.objects mem.objects
 
 -- the cells of frames show their variables, where these objects were made
 abbrev pub SameVariables : Program → List Made → List S.Frame → List I.Frame → Type 0
 SameVariables program made fs gs =
-    FramesShown (Is program.types) cell_of (scheme program) made (shapes_of fs) (map (λ f. f.variables) fs) (map (λ g. g.cells) gs)
+    FramesShown (Is program) cell_of (scheme program) made (shapes_of fs) (map (λ f. f.variables) fs) (map (λ g. g.cells) gs)
 
 -- a frame above so many others knows its shape
 pub top_shape : (program : Program) (made : List Made) (f : S.Frame) (fs : List S.Frame) → (world_of program made (shapes_of (f ∷ fs))).shape (FrameRoot (length fs)) ≡ Some f.shape
@@ -203,12 +203,12 @@ module _ (program : Program) (image : Image) where
   -- The end of a frame, which may give a result.
 
   -- a result is the same in the world below
-  result_below : (made : List Made) (s : Shape Sort) (shapes : List (Shape Sort)) (t : TType) (v : Value) → Is program.types (world_of program made (s ∷ shapes)) (Plain (id_of t)) v → Is program.types (world_of program made shapes) (Plain (id_of t)) v × (cell_of (world_of program made (s ∷ shapes)) v ≡ cell_of (world_of program made shapes) v)
+  result_below : (made : List Made) (s : Shape Sort) (shapes : List (Shape Sort)) (t : TType) (v : Value) → Is program (world_of program made (s ∷ shapes)) (Plain (id_of t)) v → Is program (world_of program made shapes) (Plain (id_of t)) v × (cell_of (world_of program made (s ∷ shapes)) v ≡ cell_of (world_of program made shapes) v)
   result_below made s shapes t v h =
       let above = world_of program made (s ∷ shapes) in
       let below = world_of program made shapes in
-      let is = (values_kept program.types).plain above below (λ o m e. e) (Plain (id_of t)) v tt h in
-      (is, sym ((values_kept program.types).cells below above (frame_grows (scheme program) made s shapes) (Plain (id_of t)) v is))
+      let is = (values_kept program).plain above below (λ o m e. e) (Plain (id_of t)) v tt h in
+      (is, sym ((values_kept program).cells below above (frame_grows (scheme program) made s shapes) (Plain (id_of t)) v is))
 
   abbrev pub answer_of : Option Value → Value
   answer_of None = S.done
@@ -245,7 +245,7 @@ module _ (program : Program) (image : Image) where
   result_grows w w' g None (Some v) h = absurd h
   result_grows w w' g (Some t) None h = absurd h
   result_grows w w' g (Some t) (Some v) h =
-      ((values_kept program.types).is w w' g (Plain (id_of t)) v h, ap (λ c. Some c) ((values_kept program.types).cells w w' g (Plain (id_of t)) v h))
+      ((values_kept program).is w w' g (Plain (id_of t)) v h, ap (λ c. Some c) ((values_kept program).cells w w' g (Plain (id_of t)) v h))
 
   pub behind_grows : (w w' : World Sort) → Grows w w' → (own : Option Procedure) (number : ℕ) (here : Here) (is : List Item) (a : After) (m : Run) → Behind program own (tables_of image) number here (code_of image number) is w a m → Behind program own (tables_of image) number here (code_of image number) is w' a m
   behind_grows w w' g own number here is (Into new) m h = h
@@ -376,8 +376,8 @@ module _ (program : Program) (image : Image) where
           waiting_grow (result_of place.routine.own) fs gs h.1,
         )
 
-    pub shown_grow : (shapes : List (Shape Sort)) (cs : List (Content Value)) (ys : List (List Cell)) → FramesShown (Is program.types) cell_of (scheme program) made shapes cs ys → FramesShown (Is program.types) cell_of (scheme program) (made ++ more) shapes cs ys
-    shown_grow shapes cs ys h = frames_shown_grow (Is program.types) cell_of IsPlain (values_kept program.types) (first_value program) (zero_cell program) (first_is program) (first_same program) (scheme program) made more shapes cs ys h
+    pub shown_grow : (shapes : List (Shape Sort)) (cs : List (Content Value)) (ys : List (List Cell)) → FramesShown (Is program) cell_of (scheme program) made shapes cs ys → FramesShown (Is program) cell_of (scheme program) (made ++ more) shapes cs ys
+    shown_grow shapes cs ys h = frames_shown_grow (Is program) cell_of IsPlain (values_kept program) (first_value program) (zero_cell program) (first_is program) (first_same program) (scheme program) made more shapes cs ys h
 
     pub same_grows : (x : S.Frames) (y : I.Frames) → Same made x y → Same (made ++ more) x y
     same_grows x y h =

@@ -49,6 +49,7 @@ use Rattle.aos_sim.proofs.Sends.{answer_cells, Answered}
 use Rattle.aos_sim.proofs.Shortcuts.{by_flag}
 use Rattle.aos_sim.proofs.Sizes.{stats_length}
 use Rattle.aos_sim.proofs.Carries.{Stands, IsOwn, AtEnd, HasStatements, Carries, bound, GoesOn, Behind, outside, carries_all, StatementDoes}
+use Rattle.aos_sim.proofs.Stash.{keeps_one, takes_one}
 
 module _ (program : Program) (own : Option Procedure) (tables : Tables) (number : ℕ) (here : Here) (code : List Instr) where
   abbrev onward : List Instr → Onward
@@ -84,11 +85,10 @@ module _ (program : Program) (own : Option Procedure) (tables : Tables) (number 
 
   -- a number is kept, and taken
   pub keeps_number : (c : ℕ) (z : ℤ) (rest : List Instr) (p : ℕ) (k : Keeps) (s : Stack) → c < keeps_in (numbered tables.procedures number) → runs tables number here code (i.Keep c N ∷ rest) 0 p k (Num z ∷ s) ≡ runs tables number here code rest 0 (p + 1) (kept c (Num z) k) s
-  keeps_number c z rest p k s lt = rw (lt-ltb c (keeps_in (numbered tables.procedures number)) lt) refl
+  keeps_number c z rest p k s lt = keeps_one tables number here code c N (Num z) rest p k s (omega (arith, lt)) refl
 
   pub takes_number : (c : ℕ) (z : ℤ) (rest : List Instr) (p : ℕ) (k : Keeps) (s : Stack) → c < keeps_in (numbered tables.procedures number) → k c ≡ Num z → runs tables number here code (i.Kept c N ∷ rest) 0 p k s ≡ runs tables number here code rest 0 (p + 1) k (Num z ∷ s)
-  takes_number c z rest p k s lt e =
-      rw (lt-ltb c (keeps_in (numbered tables.procedures number)) lt) (ap (λ v. if is_of N v then onward rest 0 (p + 1) k (v ∷ s) else Traps 16 0) e)
+  takes_number c z rest p k s lt e = takes_one tables number here code c N (Num z) rest p k s (omega (arith, lt)) refl e
 
   -- what the code comes to where no item is left
   pub ends : IsOwn program own tables number → (m : Run) → GoesOn program own tables number here code [] m → AtEnd (result_of own) m
@@ -137,7 +137,7 @@ module _ (program : Program) (own : Option Procedure) (tables : Tables) (number 
   begins_with (Make there p t ns) at x d k st = ap (λ l. onward l 0 at k []) st.here
   begins_with (With there e b) at x d k st = ap (λ l. onward l 0 at k []) st.here
   begins_with (WithRecord there p b) at x d k st = ap (λ l. onward l 0 at k []) st.here
-  begins_with (New there p t) at x d k st = ap (λ l. onward l 0 at k []) st.here
+  begins_with (New there p t more) at x d k st = ap (λ l. onward l 0 at k []) st.here
   begins_with (Out there call) at x d k st = ap (λ l. onward l 0 at k []) st.here
 
   module _ (x d : ℕ) (k : Keeps) (after : List Item) where
@@ -153,7 +153,7 @@ module _ (program : Program) (own : Option Procedure) (tables : Tables) (number 
     last_asks q w m p rest e ok there c = ((λ x. onward rest 0 (p + 1) k []), e, ok, λ w' up v a. goes_on (p + 1) rest there c)
 
     -- a value above the place that it's stored at
-    pub store_asks : HasTypes program → (t : TType) (w : World Sort) (a : Spot) (rest : List Instr) (p : ℕ) (v : Value) → is_value program.types t ≡ true → Is program.types w (Plain (id_of t)) v → runs tables number here code (i.Store (kind_of t) ∷ rest) 0 p k (cell_of w v ∷ (place_in w a ∷ [])) ≡ Asks (placed program w (Stores a v)) (λ x. runs tables number here code rest 0 (p + 1) k [])
+    pub store_asks : HasTypes program → (t : TType) (w : World Sort) (a : Spot) (rest : List Instr) (p : ℕ) (v : Value) → is_value program.types t ≡ true → Is program w (Plain (id_of t)) v → runs tables number here code (i.Store (kind_of program.types t) ∷ rest) 0 p k (cell_of w v ∷ (place_in w a ∷ [])) ≡ Asks (placed program w (Stores a v)) (λ x. runs tables number here code rest 0 (p + 1) k [])
     store_asks typed t w a rest p v value is = rw (stored_kind program typed.predeclared t value w v is) refl
 
     -- a statement whose code comes to two operands and does its work with its last instruction, which asks
@@ -206,7 +206,7 @@ module _ (program : Program) (own : Option Procedure) (tables : Tables) (number 
           let cp = place_code program own pl (at + 1) in
           let pe = at + 1 + length cp in
           let named = NamesType program own pl t in
-          pair_asks (IsFound program named t) place_in (OfSort program own tables number here code t) cell_of (i.Store (kind_of t)) (λ a v. Stores a v) cp (value_code program own e pe) (place_of program here pl) (value_of program here e) there w at
+          pair_asks (IsFound program named t) place_in (OfSort program own tables number here code t) cell_of (i.Store (kind_of program.types t)) (λ a v. Stores a v) cp (value_code program own e pe) (place_of program here pl) (value_of program here e) there w at
           (places_stay program own tables number here code named t) known has.stands c
           (place_does program own tables number here code typed shaped pl t has.typed.0 (at + 1)) (yields_do program own tables number here code typed shaped e t has.typed.2 pe)
           (λ w' a v found is. (
@@ -370,6 +370,6 @@ module _ (program : Program) (own : Option Procedure) (tables : Tables) (number 
               (yields_do program own tables number here code typed shaped e t ok (at + 1)) w known
               (λ w' up v m of e'. (
                 (λ y. Traps 0 0),
-                e' ∙ returns (cell_kind program.types (id_of t)) (cell_of w' v) rest p some (kind_of_value program.types w' (id_of t) (row_of program.types (id_of t)) v of),
+                e' ∙ returns (cell_kind program.types (id_of t)) (cell_of w' v) rest p some (kind_of_value program w' (id_of t) (row_of program.types (id_of t)) v of),
                 subst (λ r. IsResult program w' r (Some v)) (sym own_is) of,
               )))

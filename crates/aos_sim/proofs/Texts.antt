@@ -121,7 +121,7 @@ module _ (program : Program) (predeclared : HasPredeclared program) (w : World S
     pub long : length codes ≡ n
     pub below : AreCodes codes
 
-  pub codes_of : (n : ℕ) (c : Content Value) → Fits (Is program.types w) (characters n) c → CodesOf n c
+  pub codes_of : (n : ℕ) (c : Content Value) → Fits (Is program w) (characters n) c → CodesOf n c
   codes_of zero (Scalar v) h = absurd h
   codes_of zero Empty h = record { codes = []; is = refl; long = refl; below = tt }
   codes_of zero (Row a b) h = absurd h
@@ -139,7 +139,7 @@ module _ (program : Program) (predeclared : HasPredeclared program) (w : World S
         below = (x.2, r.below);
       }
 
-  pub codes_fit : (n : ℕ) (cs : List ℕ) → length cs ≡ n → AreCodes cs → Fits (Is program.types w) (characters n) (of_codes cs)
+  pub codes_fit : (n : ℕ) (cs : List ℕ) → length cs ≡ n → AreCodes cs → Fits (Is program w) (characters n) (of_codes cs)
   codes_fit zero [] e h = tt
   codes_fit zero (c ∷ cs) e h = absurd (omega (arith, e))
   codes_fit (suc n) [] e h = absurd (omega (arith, e))
@@ -147,7 +147,7 @@ module _ (program : Program) (predeclared : HasPredeclared program) (w : World S
 
 -- In a store and a memory that shows it.
 
-module _ (program : Program) (predeclared : HasPredeclared program) (made : List Made) (frames : List (Shape Sort)) (x : Rooted (Content Value)) (y : Rooted (List Cell)) (shows : Shows (Is program.types) cell_of (scheme program) made frames x y) (following : List ℕ) where
+module _ (program : Program) (predeclared : HasPredeclared program) (made : List Made) (frames : List (Shape Sort)) (x : Rooted (Content Value)) (y : Rooted (List Cell)) (shows : Shows (Is program) cell_of (scheme program) made frames x y) (following : List ℕ) where
   abbrev now : World Sort
   now = world_of program made frames
 
@@ -161,7 +161,7 @@ module _ (program : Program) (predeclared : HasPredeclared program) (made : List
   characters_at : (p : Spot) (n m : ℕ) → HasCharacters now p n → m ≤ n → Characters p n m
   characters_at p n m h few =
       let s = size_characters n in
-      let a = loads_alike (Is program.types) cell_of IsPlain (values_kept program.types) (scheme program) made frames x y m (characters n) p.root p.path shows h (omega (arith, few, s)) in
+      let a = loads_alike (Is program) cell_of IsPlain (values_kept program) (scheme program) made frames x y m (characters n) p.root p.path shows h (omega (arith, few, s)) in
       let c = codes_of program predeclared now n a.inner a.fits in
       let cells = take m (map (cell_of now) (flatten a.inner)) in
       let long : length cells ≡ m = length-take-le m (map (cell_of now) (flatten a.inner)) (let l = a.long in omega (arith, l, s, few)) in
@@ -199,11 +199,11 @@ module _ (program : Program) (predeclared : HasPredeclared program) (made : List
     pub old : Content Value
     pub source : read p.root p.path x ≡ Some old
     pub there : is_some (I.cells_at (length cs) (addr_of now p) y) ≡ true
-    pub alike : Shows (Is program.types) cell_of (scheme program) made frames (write p.root p.path (with_text cs old) x) (store_all p.root (addr_of now p).cell (I.character_cells following cs) y)
+    pub alike : Shows (Is program) cell_of (scheme program) made frames (write p.root p.path (with_text cs old) x) (store_all p.root (addr_of now p).cell (I.character_cells following cs) y)
 
   pub stored_alike : (p : Spot) (n : ℕ) (cs : List ℕ) → HasCharacters now p n → Within n cs → StoredAlike p cs
   stored_alike p n cs h fit =
-      let q = at_place (Is program.types) cell_of IsPlain (values_kept program.types) (scheme program) made frames x y p.root p.path (characters n) shows h in
+      let q = at_place (Is program) cell_of IsPlain (values_kept program) (scheme program) made frames x y p.root p.path (characters n) shows h in
       let c = codes_of program predeclared now n q.inner q.fits in
       let k = length cs in
       let few = fit.few in
@@ -212,14 +212,14 @@ module _ (program : Program) (predeclared : HasPredeclared program) (made : List
       let fitting : k ≤ length c.codes = omega (arith, few, more) in
       let is : with_text cs q.inner ≡ of_codes codes = ap (with_text cs) c.is ∙ with_codes cs c.codes fitting in
       let long : length codes ≡ n = let l = length-append cs (drop k c.codes) in let m = length-drop k c.codes in omega (arith, l, m, few, more) in
-      let fits = subst (Fits (Is program.types now) (characters n)) (sym is) (codes_fit program predeclared now n codes long (with_front cs c.codes fitting fit.codes c.below)) in
+      let fits = subst (Fits (Is program now) (characters n)) (sym is) (codes_fit program predeclared now n codes long (with_front cs c.codes fitting fit.codes c.below)) in
       let first = I.character_cells following cs in
       let count : length first ≡ k = length-map cs (λ z. Num (pos z)) in
       record {
         old = q.inner;
         source = q.got;
         there = ap is_some (characters_at p n k h few).image;
-        alike = first_stored (Is program.types) cell_of IsPlain (values_kept program.types) (scheme program) made frames x y p.root p.path (characters n) q (with_text cs q.inner) fits (plain_characters n) first (let s = size_characters n in omega (arith, count, few, s))
+        alike = first_stored (Is program) cell_of IsPlain (values_kept program) (scheme program) made frames x y p.root p.path (characters n) q (with_text cs q.inner) fits (plain_characters n) first (let s = size_characters n in omega (arith, count, few, s))
             (ap (λ z. map (cell_of now) (flatten z)) is ∙ codes_cells now following codes ∙ map-append (λ z. Num (pos z)) cs (drop k c.codes)
             ∙ ap (λ l. first ++ l) (sym (drop-map (λ z. Num (pos z)) k c.codes) ∙ ap (λ m. drop m (I.character_cells following c.codes)) (sym count)
             ∙ ap (drop (length first)) (sym (codes_cells now following c.codes) ∙ ap (λ z. map (cell_of now) (flatten z)) (sym c.is))));

@@ -12,7 +12,7 @@ use Rattle.aos_base.specs.Text.{order}
 use Rattle.aos_base.specs.declared.text.Pos.{Pos}
 use Rattle.aos_base.specs.declared.kernel.Did.{Did}
 use Rattle.aos_base.specs.declared.kernel.Did.TheVariants.{Went, Ended as NoFrame, Trapped}
-use Rattle.aos_base.specs.Question.{Val, Asks, Traps, bind, feed, Reads, Stores, Copies, PutsText, ComparesTexts, Calls, Ends, Makes, Starts, PutsInt, PutsChar, PutsString, PutsNothing, PutsLn, Places, Lengths, Opens, Sizes, Tests}
+use Rattle.aos_base.specs.Question.{Val, Asks, Traps, bind, feed, Reads, Stores, Copies, PutsText, ComparesTexts, Calls, Ends, Makes, Starts, PutsInt, PutsChar, PutsString, PutsNothing, PutsLn, Places, Lengths, Opens, Sizes, Tests, Manner}
 use Rattle.aos_base.specs.Rooted.{Made, Rooted, by_number, spliced}
 use Rattle.aos_types.specs.Table.{row_of as type_row, is_open}
 use Rattle.aos_types.specs.Shape.{Shape, One, leaves}
@@ -343,11 +343,11 @@ module _ (program : Program) (image : Image) where
       abbrev shapes_now : List (Shape Sort)
       shapes_now = shapes_of (f ∷ fs)
 
-      shows : Shows (Is program.types) cell_of (scheme program) s.made shapes_now variables cells
+      shows : Shows (Is program) cell_of (scheme program) s.made shapes_now variables cells
       shows = record { of_frames = shown; of_modules = stores.of_modules; of_objects = stores.of_objects }
 
-      abbrev read_at : (p : Spot) (z : Sort) → shape_at now p.root p.path ≡ Some (One z) → ReadAlike (Is program.types) cell_of IsPlain (values_kept program.types) (scheme program) s.made shapes_now variables cells p.root p.path z
-      read_at p z e = read_alike (Is program.types) cell_of IsPlain (values_kept program.types) (scheme program) s.made shapes_now variables cells p.root p.path z shows e
+      abbrev read_at : (p : Spot) (z : Sort) → shape_at now p.root p.path ≡ Some (One z) → ReadAlike (Is program) cell_of IsPlain (values_kept program) (scheme program) s.made shapes_now variables cells p.root p.path z
+      read_at p z e = read_alike (Is program) cell_of IsPlain (values_kept program) (scheme program) s.made shapes_now variables cells p.root p.path z shows e
 
       -- a scalar is read
       reads_alike : (u : TType) (a : Spot) (x : Asking (Reads u a)) → Alike (S.answer program ms (Reads u a) top fs s) (I.answer ps shapes types (placed program now (Reads u a)) x.at x.keeps x.stack low gs mem)
@@ -357,7 +357,7 @@ module _ (program : Program) (image : Image) where
           let there = I.goes_on ps (I.behind ps x.at x.keeps (cell_of now r.value ∷ x.stack) low ∷ gs) mem in
           let lost = I.leaves ps (Trapped 16 0) (low ∷ gs) mem in
           subst (λ z. Alike (source z) (I.answer ps shapes types (placed program now (Reads u a)) x.at x.keeps x.stack low gs mem)) (sym (ap scalar_in r.source))
-          (subst (λ o. Alike (source r.value) (I.reads ps (kind_of u) o x.at x.keeps x.stack low gs mem)) (sym r.image)
+          (subst (λ o. Alike (source r.value) (I.reads ps (kind_of program.types u) o x.at x.keeps x.stack low gs mem)) (sym r.image)
           (subst (λ b. Alike (source r.value) (if b then there else lost)) (sym (stored_kind program typed.predeclared u x.valid.0 now r.value r.is))
           (went s mem [] false Went _ _ (λ z. z) (answered_now (Reads u a) x r.value r.is (cell_of now r.value ∷ x.stack) refl))))
 
@@ -368,7 +368,7 @@ module _ (program : Program) (image : Image) where
           let r = read_at a sort x.valid.2 in
           let cell = cell_of now v in
           let source = S.answer program ms (Stores a v) top fs s in
-          let new = stored_alike (Is program.types) cell_of IsPlain (values_kept program.types) (scheme program) s.made shapes_now variables cells a.root a.path (One sort) (Scalar v) shows x.valid.2 x.valid.1 x.valid.3 in
+          let new = stored_alike (Is program) cell_of IsPlain (values_kept program) (scheme program) s.made shapes_now variables cells a.root a.path (One sort) (Scalar v) shows x.valid.2 x.valid.1 x.valid.3 in
           let h = answered_frames (Stores a v) x S.done tt x.stack refl in
           subst (λ o. Alike source (I.writes ps (is_some o) (addr_of now a) (cell ∷ []) x.at x.keeps x.stack low gs mem)) (sym r.image)
           (went _ _ [] false Went _ _ (λ z. z)
@@ -460,10 +460,10 @@ module _ (program : Program) (image : Image) where
         more = objects_grow (scheme program) s.made (one ∷ []) shapes_now
 
         -- it has the lengths that its type asks for
-        lengths : All (λ n. n ≤ 16777216) ns → HasLengths program.types (type_row program.types (id_of_made u)) one
+        lengths : All (λ n. n ≤ 16777216) ns → HasLengths program (type_row program.types (id_of_made u)) one
         lengths few =
             let number = x.valid.0 in
-            subst (λ z. HasLengths program.types (type_row program.types (id_of_made z)) (record { type = z; lengths = ns })) (sym x.valid.1)
+            subst (λ z. HasLengths program (type_row program.types (id_of_made z)) (record { type = z; lengths = ns })) (sym x.valid.1)
             (made_lengths program own tables g.procedure here code typed shaped number (length vs) vs ns refl (x.valid.3 ∙ ap (λ z. open_dimensions program.types (id_of_made z)) x.valid.1) lengths_are few)
 
         made_now : (room : Bool) → has_room one content s ≡ room → Alike (S.makes ms room one content top fs s) (I.makes ps room one zeros x.at x.keeps x.stack low gs mem)
@@ -472,7 +472,7 @@ module _ (program : Program) (image : Image) where
             let w = world_of program made shapes_now in
             let v = Object (new_number s) in
             let room = roomy program s mem stores one e in
-            let new = made_alike (Is program.types) cell_of IsPlain (values_kept program.types) (first_value program) (zero_cell program) (first_is program) (first_same program) (scheme program) s.made shapes_now one variables cells (made_plain program one) shows in
+            let new = made_alike (Is program) cell_of IsPlain (values_kept program) (first_value program) (zero_cell program) (first_is program) (first_same program) (scheme program) s.made shapes_now one variables cells (made_plain program one) shows in
             let last : length s.made ≡ length s.made + 0 = omega arith in
             let found : w.made (new_number s) ≡ Some one = get_right s.made (one ∷ []) (length s.made) 0 last in
             let few : AreFew program made = All-append (IsFew program) s.made (one ∷ []) stores.few (All-cons (IsFew program) one [] (room.0, lengths room.1) (All-nil (IsFew program))) in
@@ -545,7 +545,7 @@ module _ (program : Program) (image : Image) where
           }
 
       -- a procedure is called: a frame is made on both sides, and this one waits for its end
-      module _ (n : ℕ) (vs : List Value) (x : Asking (Calls n vs)) where
+      module _ (how : Manner) (n : ℕ) (vs : List Value) (x : Asking (Calls how n vs)) where
         abbrev routine : Routine
         routine = x.valid.0
 
@@ -607,13 +607,13 @@ module _ (program : Program) (image : Image) where
             by (Some t) on = subst (λ z. IsSelf program now.made (Some t) (S.self_of true z)) (sym on.2) on.3
 
         -- with a result the code goes on with it on the stack
-        stacked : (w : World Sort) (v : Value) → past tables (placed program now (Calls n vs)) (cell_of w v) x.at x.keeps x.stack onward ≡ run_from (x.at + 1) x.keeps (with_answer w (result_of routine.own) v x.stack)
+        stacked : (w : World Sort) (v : Value) → past tables (placed program now (Calls how n vs)) (cell_of w v) x.at x.keeps x.stack onward ≡ run_from (x.at + 1) x.keeps (with_answer w (result_of routine.own) v x.stack)
         stacked w v =
             let known = own_known program tables shaped n routine there in
             ap (λ o. run_from (x.at + 1) x.keeps (if gives_result o then cell_of w v ∷ x.stack else x.stack)) known.1
             ∙ ap (run_from (x.at + 1) x.keeps) (answer_stacked w (result_of routine.own) known.0.result (λ u. layout_kind program.types (id_of u)) v x.stack known.2)
 
-        conforms : (w : World Sort) (v : Value) → IsAnswer program w (result_of routine.own) v → Conforms program w (Calls n vs) v
+        conforms : (w : World Sort) (v : Value) → IsAnswer program w (result_of routine.own) v → Conforms program w (Calls how n vs) v
         conforms w v is r e =
             let same : routine ≡ r = some_same routine r (sym there ∙ e) in
             subst (λ z. IsAnswer program w (result_of z.own) v) same is
@@ -661,7 +661,7 @@ module _ (program : Program) (image : Image) where
                   (
                     record {
                       place = place;
-                      goes = λ w up v is'. answered_so (Calls n vs) x w up v (conforms w v is') (with_answer w (result_of routine.own) v x.stack) (stacked w v);
+                      goes = λ w up v is'. answered_so (Calls how n vs) x w up v (conforms w v is') (with_answer w (result_of routine.own) v x.stack) (stacked w v);
                     },
                     below,
                   ),
@@ -670,7 +670,7 @@ module _ (program : Program) (image : Image) where
               };
             })
 
-        calls_alike : Alike (S.answer program ms (Calls n vs) top fs s) (I.answer ps shapes types (placed program now (Calls n vs)) x.at x.keeps x.stack low gs mem)
+        calls_alike : Alike (S.answer program ms (Calls how n vs) top fs s) (I.answer ps shapes types (placed program now (Calls how n vs)) x.at x.keeps x.stack low gs mem)
         calls_alike =
             let image_so : Option ProcShape → I.Turned = λ o. I.calls ps o n cells_given x.at x.keeps x.stack low gs mem in
             let handed_so : ℕ → Option (I.Handed ps) → I.Turned = λ m o. I.calls_with ps n m shape o x.at x.keeps x.stack low gs mem in
@@ -706,7 +706,7 @@ module _ (program : Program) (image : Image) where
       work_alike (Copies u from to) x = copies_alike u from to x
       work_alike (PutsText strict from n to room) x = texts_put_alike strict from n to room x
       work_alike (ComparesTexts r a n b m) x = compares_alike r a n b m x
-      work_alike (Calls n vs) x = calls_alike n vs x
+      work_alike (Calls how n vs) x = calls_alike how n vs x
       work_alike (Ends r) x = absurd x.valid
       work_alike (PutsString a n) x = strings_alike a n x
       work_alike (Places a) x = absurd x.visible
@@ -769,7 +769,7 @@ module _ (program : Program) (image : Image) where
               heard = λ w up. calm_heard program here now f.shape f.variables g.cells (top_shape program s.made f fs) shown.0 whole tables shaped (Leads is) w up (comes now (grows_same now) whole).0 (bind test on) (does_at now (grows_same now) whole);
               does = λ w up h.
                   subst (λ z. Calmly program here (Leads is) types g.cells w z (goes_known w (bind test on))) (sym (comes w up h).1)
-                  (calm_does program here w f.shape f.variables g.cells (up.shapes (FrameRoot here.below) f.shape (top_shape program s.made f fs)) (shown_grows (Is program.types) cell_of IsPlain (values_kept program.types) now w up f.shape f.variables g.cells shown.0) h tables shaped (Leads is) (comes w up h).0 (bind test on) (does_at w up h));
+                  (calm_does program here w f.shape f.variables g.cells (up.shapes (FrameRoot here.below) f.shape (top_shape program s.made f fs)) (shown_grows (Is program) cell_of IsPlain (values_kept program) now w up f.shape f.variables g.cells shown.0) h tables shaped (Leads is) (comes w up h).0 (bind test on) (does_at w up h));
             }
 
         test_heard : (w : World Sort) → Grows now w → known w test ≡ known now test

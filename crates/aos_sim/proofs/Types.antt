@@ -209,3 +209,4 @@ literal_is (literal.Text c) type.Set h = absurd h
 literal_is (literal.Text c) type.Any h = absurd h
 literal_is (literal.Text c) (type.Named t) h = absurd h
 literal_is literal.Nil t h = absurd h
+literal_is literal.NoProcedure t h = absurd h

@@ -38,12 +38,15 @@ module _ (rows : List TypeRow) (t : TypeId) where
   basic_variable b e =
       ap (λ o. shaped Plain (if is_object o then One t else with_parts (unfolded (length rows) rows) rows t o)) e
 
-  -- so is one of a type whose values are objects, or NIL
+  -- so is one of a type whose values are objects or procedures, or NIL
   pub pointer_variable : (u : TypeId) → row_of rows t ≡ Some (row.Pointer u) → variable_shape rows t ≡ One (Plain t)
   pointer_variable u e = ap (λ o. shaped Plain (if is_object o then One t else with_parts (unfolded (length rows) rows) rows t o)) e
 
   pub any_variable : row_of rows t ≡ Some row.Any → variable_shape rows t ≡ One (Plain t)
   any_variable e = ap (λ o. shaped Plain (if is_object o then One t else with_parts (unfolded (length rows) rows) rows t o)) e
+
+  pub procedure_variable : (formals : _) (r : _) → row_of rows t ≡ Some (row.Procedure formals r) → variable_shape rows t ≡ One (Plain t)
+  procedure_variable formals r e = ap (λ o. shaped Plain (if is_object o then One t else with_parts (unfolded (length rows) rows) rows t o)) e
 
   pub object_variable : is_object (row_of rows t) ≡ true → variable_shape rows t ≡ One (Plain t)
   object_variable e = ap (λ b. shaped Plain (if b then One t else contents rows t)) e
@@ -69,11 +72,11 @@ module _ (program : Program) where
   basic_is_one p t e = basic_variable program.types (id_of t) (basic_of t) (basic_row p t e)
 
   -- values of the row of a basic type are those of the type
-  pub value_from : HasPredeclared program → (t : TType) (w : World Sort) (v : Value) → is_basic t ≡ true → Is program.types w (Plain (id_of t)) v → IsValueOf t v
-  value_from p t w v e h = from_basic t v e (subst (λ o. IsPlainly program.types w (id_of t) o v) (basic_row p t e) h)
+  pub value_from : HasPredeclared program → (t : TType) (w : World Sort) (v : Value) → is_basic t ≡ true → Is program w (Plain (id_of t)) v → IsValueOf t v
+  value_from p t w v e h = from_basic t v e (subst (λ o. IsPlainly program w (id_of t) o v) (basic_row p t e) h)
 
-  pub value_to : HasPredeclared program → (t : TType) (w : World Sort) (v : Value) → is_basic t ≡ true → IsValueOf t v → Is program.types w (Plain (id_of t)) v
-  value_to p t w v e h = subst (λ o. IsPlainly program.types w (id_of t) o v) (sym (basic_row p t e)) (to_basic t v h)
+  pub value_to : HasPredeclared program → (t : TType) (w : World Sort) (v : Value) → is_basic t ≡ true → IsValueOf t v → Is program w (Plain (id_of t)) v
+  value_to p t w v e h = subst (λ o. IsPlainly program w (id_of t) o v) (sym (basic_row p t e)) (to_basic t v h)
 
   -- the shape of a module, and of a variable or a string constant in it
   pub record Stood (m k : ℕ) (s : Shape Sort) : Type 0 where

@@ -109,15 +109,15 @@ module _ (program : Program) (image : Image) where
           | false ↦ (went_moved made f g fs fs' (shapes_kept fs) (change_length F d fs) h.0, waiting_written of fs gs h.1)
         ])
 
-    variables_written : (fs : List S.Frame) (gs : List I.Frame) → FramesShown (Is program.types) cell_of (scheme program) made (shapes_of fs) (change_from_last d a (map (λ f. f.variables) fs)) (change_from_last d b (map (λ g. g.cells) gs)) → SameVariables program made (change_from_last d F fs) (change_from_last d G gs)
+    variables_written : (fs : List S.Frame) (gs : List I.Frame) → FramesShown (Is program) cell_of (scheme program) made (shapes_of fs) (change_from_last d a (map (λ f. f.variables) fs)) (change_from_last d b (map (λ g. g.cells) gs)) → SameVariables program made (change_from_last d F fs) (change_from_last d G gs)
     variables_written fs gs h =
-        subst (λ ss. FramesShown (Is program.types) cell_of (scheme program) made ss (map (λ f. f.variables) (change_from_last d F fs)) (map (λ g. g.cells) (change_from_last d G gs))) (sym (shapes_kept fs))
-        (subst (λ cs. FramesShown (Is program.types) cell_of (scheme program) made (shapes_of fs) cs (map (λ g. g.cells) (change_from_last d G gs))) (sym (change_map F d (λ f. f.variables) a (λ f. refl) fs))
-        (subst (λ ys. FramesShown (Is program.types) cell_of (scheme program) made (shapes_of fs) (change_from_last d a (map (λ f. f.variables) fs)) ys) (sym (change_map G d (λ g. g.cells) b (λ g. refl) gs)) h))
+        subst (λ ss. FramesShown (Is program) cell_of (scheme program) made ss (map (λ f. f.variables) (change_from_last d F fs)) (map (λ g. g.cells) (change_from_last d G gs))) (sym (shapes_kept fs))
+        (subst (λ cs. FramesShown (Is program) cell_of (scheme program) made (shapes_of fs) cs (map (λ g. g.cells) (change_from_last d G gs))) (sym (change_map F d (λ f. f.variables) a (λ f. refl) fs))
+        (subst (λ ys. FramesShown (Is program) cell_of (scheme program) made (shapes_of fs) (change_from_last d a (map (λ f. f.variables) fs)) ys) (sym (change_map G d (λ g. g.cells) b (λ g. refl) gs)) h))
 
   -- where the changed memory shows the changed store, all is the same but for the change
   pub written : HasTypes program → HasShapes program (tables_of image) → (r : Root) (a : Content Value → Content Value) (b : List Cell → List Cell) (s : Store) (mem : Memory) (ms ps : List ℕ) (fs : List S.Frame) (gs : List I.Frame) → mem.made ≡ s.made → AreFew program s.made → Follows program image ms ps → WentFrames program image s.made fs gs →
-      Shows (Is program.types) cell_of (scheme program) s.made (shapes_of fs) (change_root r a (S.all_rooted fs s)) (change_root r b (I.rooted gs mem)) →
+      Shows (Is program) cell_of (scheme program) s.made (shapes_of fs) (change_root r a (S.all_rooted fs s)) (change_root r b (I.rooted gs mem)) →
       SameState program image (store_with r a s) (I.memory_with r b mem) (S.all_frames ms (S.frames_with r a fs)) (I.all_frames ps (I.frames_with r b gs))
   written typed shaped (FrameRoot d) a b s mem ms ps fs gs made few follows went h =
       let shown = variables_written s.made d a b fs gs h.of_frames in

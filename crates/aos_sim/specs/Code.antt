@@ -1,6 +1,6 @@
 -- The code of a program. A jump names its target, so each piece of code is told where it stands. Code of statements is told too where
 -- EXIT leads, and how many FORs and CASEs are around it: what one of them keeps has this number, so that what is in it keeps nothing there.
-use Rattle.std.specs.Prelude.{ℕ, zero, suc, ℤ, pos, ◌+◌, ◌-◌, Option, Some, None, option_map, List, [], ◌∷◌, ◌++◌, length, map, slice_get}
+use Rattle.std.specs.Prelude.{ℕ, zero, suc, ℤ, pos, ◌+◌, Option, Some, None, option_map, List, [], ◌∷◌, ◌++◌, length, map, reverse, slice_get, if◌then◌else◌}
 use Rattle.aos_base.specs.declared.text.Pos.{Pos}
 use Rattle.aos_base.specs.declared.operator.Unary.TheVariants.{Range}
 use Rattle.aos_base.specs.declared.number.Width.{Width}
@@ -13,20 +13,24 @@ use Rattle.aos_typed.specs.declared.tree.Literal.TheVariants as literal
 use Rattle.aos_typed.specs.declared.tree.Change.{Change as Changing}
 use Rattle.aos_typed.specs.declared.tree.Change.TheVariants as change
 use Rattle.aos_typed.specs.Meaning.{until}
-use Rattle.aos_typed.specs.Methods.{method_number}
-use Rattle.aos_typed.specs.Numbers.{id_of, procedure_number}
-use Rattle.aos_typed.specs.Routines.{result_of}
-use Rattle.aos_layout.specs.Frame.{frame}
-use Rattle.aos_typed.specs.Program.{Place, ModuleVar, Local, Passed, Field, Index, Of, Deref, Typed, Guarded, Rows, Known, Opened, Row, Spread, Longer, Arguments, NoMore, Scalar, Whole, Opening, Callee, Plain, Dispatched, Upper, Expr, Lit, SelfRef, Read, Unary, Binary, And, Or, Element, Ord, Chr, CompareTexts, Len, LenBehind, Function, Same, Is, IsRecord, Guard, Had, Call, Open, Char, Int, String, Ln, Stat, Assign, Copy, PutText, If, Case, While, Repeat, Loop, Exit, For, Block, Assert, Halt, Change, Perform, Return, New, Make, With, WithRecord, Out, Stats, Nothing, Then, Arms, Otherwise, Arm, Cases, NoElse, Else, OfLabels, Procedure, Program}
+use Rattle.aos_typed.specs.Methods.{method_number, is_active, body_type, initializer}
+use Rattle.aos_typed.specs.Numbers.{id_of, body_number, procedure_number}
+pub use Rattle.aos_typed.specs.Operands.{dimensions}
+use Rattle.aos_typed.specs.Routines.{parameters_at, result_of}
+use Rattle.aos_layout.specs.Frame.{frame, parameter_kind}
+use Rattle.aos_code.specs.Silent.{kinds_of}
+use Rattle.aos_types.specs.declared.row.TypeRow.{TypeRow}
+use Rattle.aos_types.specs.Table.{row_of, is_procedure}
+use Rattle.aos_typed.specs.Program.{Place, ModuleVar, Local, Passed, Field, Index, Of, Deref, Typed, Guarded, Rows, Known, Opened, Row, Spread, Longer, Arguments, NoMore, Scalar, Whole, Opening, Callee, Plain, Dispatched, Upper, Through, Expr, Lit, SelfRef, Read, Unary, Binary, And, Or, Element, Ord, Chr, CompareTexts, Len, LenBehind, Function, Same, Is, IsRecord, Guard, ProcedureOf, MethodOf, SameProcedure, Had, Call, Open, Char, Int, String, Ln, Stat, Assign, Copy, PutText, If, Case, While, Repeat, Loop, Exit, For, Block, Assert, Halt, Change, Perform, Return, New, Make, With, WithRecord, Out, Stats, Nothing, Then, Arms, Otherwise, Arm, Cases, NoElse, Else, OfLabels, Parameter, Procedure, Program}
 use Rattle.aos_typed.specs.Source.{module_shape}
 use Rattle.aos_sim.specs.Search.{arms_in, search_of, search_size, search_code}
 use Rattle.aos_typed.specs.declared.tree.TType.{TType}
 use Rattle.aos_typed.specs.declared.tree.TType.TheVariants as type
 use Rattle.aos_typed.specs.declared.tree.TType.TheVariants.{Integer}
 use Rattle.aos_code.specs.declared.instr.Kind.{Kind}
-use Rattle.aos_code.specs.declared.instr.Kind.TheVariants.{N, R}
+use Rattle.aos_code.specs.declared.instr.Kind.TheVariants.{N, R, C}
 use Rattle.aos_code.specs.declared.instr.Instr.{Instr}
-use Rattle.aos_code.specs.declared.instr.Instr.TheVariants.{Num, Nil, SelfRef as SelfOf, Virtual, Deref as DerefOf, OpenRef, EqRef, Is as IsOf, IsPlace, Guard as GuardOf, GuardPlace, NewArray, Dup, Drop, Swap, Frame as FrameOf, Param, Length, IndexOpen, PickLen, Call as CallOf, Keep, Kept, Fail, Assert as AssertOf, Halt as HaltOf, Module, Offset, Index as IndexOf, Unary as OnOne, Binary as OnTwo, Jump, JumpFalse, Begin, Load, Store, Copy as CopyOf, PutText as PutTextOf, CmpText, NewObject, Start, Return as ReturnOf, OutChar, OutInt, OutString, OutLn, OutOpen}
+use Rattle.aos_code.specs.declared.instr.Instr.TheVariants.{Num, Nil, NilCall, Proc, Bind, EqCall, CallValue, SelfRef as SelfOf, Virtual, Deref as DerefOf, OpenRef, EqRef, Is as IsOf, IsPlace, Guard as GuardOf, GuardPlace, NewArray, Dup, Drop, Swap, Frame as FrameOf, Param, Length, IndexOpen, PickLen, Call as CallOf, Keep, Kept, Fail, Assert as AssertOf, Halt as HaltOf, Module, Offset, Index as IndexOf, Unary as OnOne, Binary as OnTwo, Jump, JumpFalse, Begin, Load, Store, Copy as CopyOf, PutText as PutTextOf, CmpText, NewObject, Start, Return as ReturnOf, OutChar, OutInt, OutString, OutLn, OutOpen}
 
 abbrev pub begin : Pos → Instr
 begin at = Begin at.line at.col
@@ -39,15 +43,16 @@ literal_code (literal.Char c) = Num (pos c)
 literal_code (literal.Set s) = Num (pos s)
 literal_code (literal.Text t) = Num (pos t.first)
 literal_code literal.Nil = Nil
+literal_code literal.NoProcedure = NilCall
 
--- an object variable's cell has a reference, each other one's a number
-abbrev pub kind_of : TType → Kind
-kind_of (type.Integer w) = N
-kind_of type.Boolean = N
-kind_of type.Char = N
-kind_of type.Set = N
-kind_of type.Any = R
-kind_of (type.Named t) = R
+-- the cell of a procedure variable has a procedure value, an object variable's a reference, and each other one's a number
+abbrev pub kind_of : List TypeRow → TType → Kind
+kind_of rows (type.Integer w) = N
+kind_of rows type.Boolean = N
+kind_of rows type.Char = N
+kind_of rows type.Set = N
+kind_of rows type.Any = R
+kind_of rows (type.Named t) = if is_procedure (row_of rows (id_of (type.Named t))) then C else R
 
 -- two operands and their operator
 abbrev pub operands_code : List Instr → List Instr → Instr → List Instr
@@ -97,14 +102,6 @@ change_code (change.Subtract w) = OnTwo (Sub w) ∷ []
 change_code change.Include = Dup ∷ OnTwo SetSpan ∷ OnTwo Union ∷ []
 change_code change.Exclude = Dup ∷ OnTwo SetSpan ∷ OnTwo Minus ∷ []
 
--- how many dimensions of an array have their lengths behind its place
-abbrev pub dimensions : Rows → ℕ
-dimensions (Known p ns) = length ns
-dimensions (Opened k j) = j
-dimensions (Row r t e) = dimensions r - 1
-dimensions (Spread e j) = j
-dimensions (Longer r ns) = dimensions r + length ns
-
 -- so many lengths of an open array parameter, in cells of the frame from this one on
 abbrev pub lengths_code : (cell many : ℕ) → List Instr
 lengths_code c zero = []
@@ -124,6 +121,20 @@ abbrev pub call_instr : Program → Callee → Instr
 call_instr program (Plain m k) = CallOf (procedure_number program m k)
 call_instr program (Dispatched e t k) = Virtual k (method_number program t k)
 call_instr program (Upper t k) = CallOf (method_number program t k)
+call_instr program (Through e t) = CallValue (body_number program t)
+
+-- the kinds of what a call hands over for parameters
+abbrev pub handed_kinds : List TypeRow → List Parameter → List Kind
+handed_kinds rows ps = kinds_of (map (parameter_kind rows) ps)
+
+-- operands of these kinds, of which the first is the topmost, are kept under numbers from this one on, and are there again
+abbrev pub stash : List Kind → (level : ℕ) → List Instr
+stash [] c = []
+stash (k ∷ ks) c = Keep c k ∷ stash ks (suc c)
+
+abbrev pub unstash : List Kind → (level : ℕ) → List Instr
+unstash [] c = []
+unstash (k ∷ ks) c = unstash ks (suc c) ++ Kept c k ∷ []
 
 -- in a program, whose variables have their cells, in the body of this procedure or of none
 module _ (program : Program) (own : Option Procedure) where
@@ -170,16 +181,17 @@ module _ (program : Program) (own : Option Procedure) where
     arguments_code (Whole p more) at = place_code p at ++ arguments_code more (at + length (place_code p at))
     arguments_code (Opening r more) at = rows_code r at ++ arguments_code more (at + length (rows_code r at))
 
-    -- an object on which something is called lies below the arguments
+    -- an object on which something is called, or a procedure value, lies below the arguments
     pub receiver_code : Callee → ℕ → List Instr
     receiver_code (Plain m k) at = []
     receiver_code (Dispatched e t k) at = value_code e at
     receiver_code (Upper t k) at = SelfOf ∷ []
+    receiver_code (Through e t) at = value_code e at
 
     pub value_code : Expr → ℕ → List Instr
     value_code (Lit l) at = literal_code l ∷ []
     value_code SelfRef at = SelfOf ∷ []
-    value_code (Read t p) at = place_code p at ++ Load (kind_of t) ∷ []
+    value_code (Read t p) at = place_code p at ++ Load (kind_of program.types t) ∷ []
     value_code (Unary op a) at = value_code a at ++ OnOne op ∷ []
     value_code (Binary op a b) at =
         operands_code (value_code a at) (value_code b (at + length (value_code a at))) (OnTwo op)
@@ -198,6 +210,9 @@ module _ (program : Program) (own : Option Procedure) where
     value_code (Is a t) at = value_code a at ++ IsOf (t + 1) ∷ []
     value_code (IsRecord q t) at = place_code q at ++ IsPlace (t + 1) ∷ []
     value_code (Guard a t) at = value_code a at ++ GuardOf (t + 1) ∷ []
+    value_code (ProcedureOf m k) at = Proc (procedure_number program m k) ∷ []
+    value_code (MethodOf a t k) at = value_code a at ++ Bind k ∷ []
+    value_code (SameProcedure a b) at = operands_code (value_code a at) (value_code b (at + length (value_code a at))) EqCall
     value_code (Had v) at = []
 
   abbrev pub called_code : Callee → Arguments → ℕ → List Instr
@@ -222,16 +237,39 @@ module _ (program : Program) (own : Option Procedure) where
   out_code (String r) at = rows_code r at ++ OutString ∷ []
   out_code Ln at = OutLn ∷ []
 
-  -- a new object stays below the place that it's stored at, to be started. The place is a variable, no part of another, whose code
-  -- does no visible work
-  abbrev pub new_code : Place → ℕ → ℕ → List Instr
-  new_code p t at = NewObject (t + 1) ∷ (Dup ∷ (place_code p (at + 2) ++ (Swap ∷ (Store R ∷ (Start ∷ [])))))
+  -- The initializer is called on a new object, which stays below it, with what was kept. The object is kept while it is stored, where
+  -- its body is carried out behind that.
+  abbrev pub initialize_code : (slot : Option ℕ) → (type : ℕ) → List Kind → (level : ℕ) → List Instr
+  initialize_code None t ks level = []
+  initialize_code (Some k) t ks level = Dup ∷ (unstash ks level ++ CallOf (method_number program t k) ∷ [])
+
+  abbrev pub carry_out_instr : (type : ℕ) → Instr
+  carry_out_instr b = if is_active program b then Start else CallOf (body_number program b)
+
+  abbrev pub store_code : (body_of : Option ℕ) → (level : ℕ) → List Instr
+  store_code None level = Store R ∷ []
+  store_code (Some b) level = Dup ∷ Keep level R ∷ Store R ∷ Kept level R ∷ carry_out_instr b ∷ []
+
+  -- what the initializer is handed, where there is one
+  abbrev pub initial_kinds : (slot : Option ℕ) → (type : ℕ) → List Kind
+  initial_kinds None t = []
+  initial_kinds (Some k) t = reverse (handed_kinds program.types (parameters_at program (method_number program t k)))
+
+  -- The place lies below all. What the initializer is handed is found before the object is made, and kept till it is called.
+  abbrev pub new_code : Place → ℕ → Arguments → (at level : ℕ) → List Instr
+  new_code p t more at level =
+      let place = place_code p at in
+      let slot = initializer program t in
+      let ks = initial_kinds slot t in
+      place
+      ++ (arguments_code more (at + length place)
+      ++ (stash ks level ++ (NewObject (t + 1) ∷ (initialize_code slot t ks level ++ store_code (body_type program t) level))))
 
   -- a value for a variable of a type
   abbrev pub assign_code : Pos → TType → Place → Expr → ℕ → List Instr
   assign_code here t p e at =
       begin here
-      ∷ operands_code (place_code p (at + 1)) (value_code e (at + 1 + length (place_code p (at + 1)))) (Store (kind_of t))
+      ∷ operands_code (place_code p (at + 1)) (value_code e (at + 1 + length (place_code p (at + 1)))) (Store (kind_of program.types t))
 
   -- a variable that is changed by a value, which is evaluated before it is read
   abbrev pub changed_code : Pos → Changing → Place → Expr → ℕ → List Instr
@@ -295,7 +333,7 @@ module _ (program : Program) (own : Option Procedure) where
     stat_code (Perform here c more) at exit level = begin here ∷ called_code c more (at + 1)
     stat_code (Return here None) at exit level = begin here ∷ (ReturnOf ∷ [])
     stat_code (Return here (Some e)) at exit level = begin here ∷ (value_code e (at + 1) ++ ReturnOf ∷ [])
-    stat_code (New here p t) at exit level = begin here ∷ new_code p t (at + 1)
+    stat_code (New here p t more) at exit level = begin here ∷ new_code p t more (at + 1) level
     stat_code (Make here p t ns) at exit level = begin here ∷ make_code p t ns (at + 1)
     stat_code (With here e body) at exit level =
         let c = value_code e (at + 1) in begin here ∷ (c ++ (Drop ∷ stats_code body (at + 1 + length c + 1) exit level))

@@ -1,7 +1,7 @@
 -- How many operands code has at most, beyond those that are there where it begins.
 use Rattle.std.specs.Prelude.{◌≡◌, ℕ, suc, ◌+◌, List, [], ◌∷◌, map, max, length, Some, None}
-use Rattle.aos_sim.specs.Code.{dimensions}
-use Rattle.aos_typed.specs.Program.{Place, ModuleVar, Local, Passed, Field, Index, Of, Deref, Typed, Guarded, Rows, Known, Opened, Row, Spread, Longer, Arguments, NoMore, Scalar, Whole, Opening, Callee, Plain, Dispatched, Upper, Expr, Lit, SelfRef, Read, Unary, Binary, And, Or, Element, Ord, Chr, CompareTexts, Len, LenBehind, Function, Same, Is, IsRecord, Guard, Had, Call, Open, Char, Int, String, Ln, Stat, Assign, Copy, PutText, If, Case, While, Repeat, Loop, Exit, For, Block, Assert, Halt, Change, Perform, Return, New, Make, With, WithRecord, Out, Stats, Nothing, Then, Arms, Otherwise, Arm, Cases, NoElse, Else, OfLabels, Program}
+pub use Rattle.aos_typed.specs.Operands.{dimensions, operands}
+use Rattle.aos_typed.specs.Program.{Place, ModuleVar, Local, Passed, Field, Index, Of, Deref, Typed, Guarded, Rows, Known, Opened, Row, Spread, Longer, Arguments, NoMore, Scalar, Whole, Opening, Callee, Plain, Dispatched, Upper, Through, Expr, Lit, SelfRef, Read, Unary, Binary, And, Or, Element, Ord, Chr, CompareTexts, Len, LenBehind, Function, Same, Is, IsRecord, Guard, ProcedureOf, MethodOf, SameProcedure, Had, Call, Open, Char, Int, String, Ln, Stat, Assign, Copy, PutText, If, Case, While, Repeat, Loop, Exit, For, Block, Assert, Halt, Change, Perform, Return, New, Make, With, WithRecord, Out, Stats, Nothing, Then, Arms, Otherwise, Arm, Cases, NoElse, Else, OfLabels, Program}
 use Rattle.aos_typed.specs.declared.tree.Change.{Change as Changing}
 use Rattle.aos_typed.specs.declared.tree.Change.TheVariants as change
 use Rattle.aos_typed.specs.Routines.{routines}
@@ -16,6 +16,7 @@ abbrev pub receivers : Callee → ℕ
 receivers (Plain m k) = 0
 receivers (Dispatched e t k) = 1
 receivers (Upper t k) = 1
+receivers (Through e t) = 1
 
 abbrev mutual
   -- a designator; the place of an array lies below its index
@@ -50,6 +51,7 @@ abbrev mutual
   receiver_need (Plain m k) = 0
   receiver_need (Dispatched e t k) = value_need e
   receiver_need (Upper t k) = 1
+  receiver_need (Through e t) = value_need e
 
   -- an expression; what its left operand gives lies below its right one
   pub value_need : Expr → ℕ
@@ -71,6 +73,9 @@ abbrev mutual
   value_need (Is a t) = value_need a
   value_need (IsRecord q t) = place_need q
   value_need (Guard a t) = value_need a
+  value_need (ProcedureOf m k) = 1
+  value_need (MethodOf a t k) = value_need a
+  value_need (SameProcedure a b) = max (value_need a) (1 + value_need b)
   value_need (Had v) = 1
 
 -- values one above the other
@@ -97,7 +102,7 @@ changed_need (change.Subtract w) place value = max place (2 + value)
 changed_need change.Include place value = max place (max (2 + value) 4)
 changed_need change.Exclude place value = max place (max (2 + value) 4)
 
--- a statement, and a sequence of them; a new object lies twice below the place that it is stored at
+-- a statement, and a sequence of them; a new object lies twice above the place that it is stored at, below what its initializer is handed
 abbrev mutual
   pub stat_need : Stat → ℕ
   stat_need (Assign here t p e) = assign_need (place_need p) (value_need e)
@@ -119,7 +124,7 @@ abbrev mutual
   stat_need (Perform here c more) = max (receiver_need c) (receivers c + arguments_need more)
   stat_need (Return here None) = 0
   stat_need (Return here (Some e)) = value_need e
-  stat_need (New here p t) = 2 + place_need p
+  stat_need (New here p t more) = max (place_need p) (1 + max (arguments_need more) (2 + operands more))
   stat_need (Make here p t ns) = max (place_need p) (1 + max 1 (values_need ns))
   stat_need (With here e body) = max (value_need e) (stats_need body)
   stat_need (WithRecord here p body) = max (place_need p) (stats_need body)
@@ -158,7 +163,7 @@ abbrev mutual
   stat_level (Change here c p e) d = d
   stat_level (Perform here c more) d = d
   stat_level (Return here e) d = d
-  stat_level (New here p t) d = d
+  stat_level (New here p t more) d = max (suc d) (d + operands more)
   stat_level (Make here p t ns) d = d
   stat_level (With here e body) d = stats_level body d
   stat_level (WithRecord here p body) d = stats_level body d

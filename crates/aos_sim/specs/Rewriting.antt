@@ -5,7 +5,7 @@ use Rattle.aos_base.specs.Question.{Tree, Val, Asks, Traps, bind, feed, Places, 
 use Rattle.aos_base.specs.Rooted.{Made}
 use Rattle.aos_types.specs.Content.{Content}
 use Rattle.aos_typed.specs.declared.tree.TType.{TType}
-use Rattle.aos_typed.specs.Program.{Place, ModuleVar, Local, Passed, Field, Index, Of, Deref, Typed, Guarded, Rows, Known, Opened, Row, Spread, Longer, Arguments, NoMore, Scalar, Whole, Opening, Callee, Plain, Dispatched, Upper, Expr, Lit, SelfRef, Read, Unary, Binary, And, Or, Element, Ord, Chr, CompareTexts, Len, LenBehind, Function, Same, Is, IsRecord, Guard, Had, Assign, Program}
+use Rattle.aos_typed.specs.Program.{Place, ModuleVar, Local, Passed, Field, Index, Of, Deref, Typed, Guarded, Rows, Known, Opened, Row, Spread, Longer, Arguments, NoMore, Scalar, Whole, Opening, Callee, Plain, Dispatched, Upper, Through, Expr, Lit, SelfRef, Read, Unary, Binary, And, Or, Element, Ord, Chr, CompareTexts, Len, LenBehind, Function, Same, Is, IsRecord, Guard, ProcedureOf, MethodOf, SameProcedure, Had, Assign, Program}
 use Rattle.aos_typed.specs.Value.{Value}
 use Rattle.aos_typed.specs.Spot.{Spot}
 use Rattle.aos_typed.specs.Meaning.{Here, receiver_of, Doing, object_in, After, place_of, rows_of, arguments_of, value_of, stat_of}
@@ -94,6 +94,7 @@ module _ (p : Program) (here : Here) (made : ℕ → Option Made) (c : Content V
     with_first_receiver l (Plain m k) = Plain m k
     with_first_receiver l (Dispatched e t k) = Dispatched (with_first l e) t k
     with_first_receiver l (Upper t k) = Upper t k
+    with_first_receiver l (Through e t) = Through (with_first l e) t
 
     pub with_first : Value → Expr → Expr
     with_first l (Lit m) = Lit m
@@ -120,6 +121,9 @@ module _ (p : Program) (here : Here) (made : ℕ → Option Made) (c : Content V
     with_first l (Is a t) = Is (with_first l a) t
     with_first l (IsRecord q t) = IsRecord (with_first_index l q) t
     with_first l (Guard a t) = Guard (with_first l a) t
+    with_first l (ProcedureOf m k) = ProcedureOf m k
+    with_first l (MethodOf a t k) = MethodOf (with_first l a) t k
+    with_first l (SameProcedure a b) = if asks_value a then SameProcedure (with_first l a) b else SameProcedure a (with_first l b)
     with_first l (Had v) = Had v
 
   -- and so are the next ones

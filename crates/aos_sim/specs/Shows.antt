@@ -1,5 +1,5 @@
 -- When an image has a program's code, and when it shows the program.
-use Rattle.std.specs.Prelude.{◌≡◌, ◌<◌, ◌^◌, ℕ, suc, pos, false, Option, Some, None, if◌then◌else◌, All, List, [], ◌∷◌, ◌++◌, map, length, drop}
+use Rattle.std.specs.Prelude.{◌≡◌, ◌<◌, ◌^◌, ℕ, suc, pos, false, Option, Some, None, All, List, [], ◌∷◌, ◌++◌, map, length, drop}
 use Rattle.std.specs.List.{flat_map, range_with_len}
 use Rattle.std.specs.String.{string_bytes}
 use Rattle.aos_base.specs.Machine.{Choice, execution}
@@ -7,9 +7,9 @@ use Rattle.aos_base.specs.Observation.{observation}
 use Rattle.aos_types.specs.declared.row.TypeRow.{TypeRow}
 use Rattle.aos_types.specs.Table.{base_of}
 use Rattle.aos_types.specs.Shape.{leaves, row, size}
-use Rattle.aos_typed.specs.Program.{Procedure, ObjectType, Module, Program}
-use Rattle.aos_typed.specs.Methods.{slots, own_numbers}
-use Rattle.aos_typed.specs.Numbers.{predeclared_types}
+use Rattle.aos_typed.specs.Program.{Procedure, Module, Program}
+use Rattle.aos_typed.specs.Methods.{body_type, slots, own_numbers}
+use Rattle.aos_typed.specs.Numbers.{body_number, predeclared_types}
 use Rattle.aos_typed.specs.Routines.{Routine, routines}
 use Rattle.aos_typed.specs.Source.{source, first_state}
 use Rattle.aos_code.specs.declared.instr.Cell.{Cell}
@@ -32,10 +32,13 @@ abbrev pub numbers_from : {A : Type 0} → ℕ → List A → List ℕ
 numbers_from k [] = []
 numbers_from k (x ∷ xs) = k ∷ numbers_from (suc k) xs
 
--- the bodies that the objects of types have, where they have one; the first of what stands beside types has this number
-abbrev pub body_numbers : ℕ → List ObjectType → List ℕ
-body_numbers k [] = []
-body_numbers k (o ∷ os) = (if o.has_body then k else 0) ∷ body_numbers (suc k) os
+-- the number of the body that the objects of a type have, 0 where they have none
+abbrev pub body_in : Program → (body_of : Option ℕ) → ℕ
+body_in p None = 0
+body_in p (Some b) = body_number p b
+
+abbrev pub body_numbers : Program → List ℕ
+body_numbers p = map (λ k. body_in p (body_type p k)) (range_with_len 0 (length p.objects))
 
 -- what the cells of a string constant hold: its characters, and a 0X
 abbrev pub text_cells : List ℕ → List Cell
@@ -69,7 +72,7 @@ pub record IsCode (p : Program) (bs : List Body) (ss : List ProcShape) (ds : Lis
   pub bodies : map (λ b. b.code.items) bs ≡ map (λ r. body_code p r.own r.body) (routines p)
   pub shapes : map seen_shape ss ≡ map (shape_of p.types) (routines p)
   pub starts : map (λ d. d.body) ds ≡ numbers_from 1 p.modules
-  pub types : map (λ t. t.body) ts ≡ body_numbers (suc (length p.modules)) p.objects
+  pub types : map (λ t. t.body) ts ≡ body_numbers p
   pub methods : map (λ t. t.methods.items) ts ≡ map (λ k. slots p (own_numbers p) k) (range_with_len 0 (length p.objects))
   pub bases : map (λ t. t.base) ts ≡ map (λ r. base_number (base_of (Some r))) (drop predeclared_types p.types)
   pub kinds : map (λ t. t.kinds.items) ts ≡ map (λ k. made_kinds p.types (record { 0 = k })) (range_with_len predeclared_types (length p.objects))

@@ -3,6 +3,7 @@ pub mod Seen
 pub mod Value
 pub mod Store
 pub mod Methods
+pub mod Formals
 pub mod Meaning
 pub mod Source
 pub mod Numbers
@@ -11,6 +12,7 @@ pub mod WellTyped
 pub mod Sort
 pub mod Text
 pub mod Open
+pub mod Operands
 pub mod Fields
 pub mod Handed
 pub mod Spot

@@ -14,18 +14,18 @@ use Rattle.aos_typed.specs.declared.tree.Change.{Change as Changing}
 use Rattle.aos_typed.specs.declared.tree.Change.TheVariants as change
 use Rattle.aos_typed.specs.declared.tree.LabelRange.{LabelRange}
 use Rattle.aos_typed.specs.declared.tree.TType.TheVariants.{Integer, Set}
-use Rattle.aos_base.specs.Question.{Tree, Val, Traps, bind, ask, Ask, Reads, Stores, Copies, PutsText, ComparesTexts, Calls, Places, Lengths, Opens, Sizes, Tests, Makes, Starts, PutsInt, PutsChar, PutsString, PutsLn, PutsNothing}
-use Rattle.aos_typed.specs.Program.{Place, ModuleVar, Local, Passed, Field, Index, Of, Deref, Typed, Guarded, Rows, Known, Opened, Row, Spread, Longer, Arguments, NoMore, Scalar, Whole, Opening, Callee, Plain, Dispatched, Upper, Expr, Lit, SelfRef, Read, Unary, Binary, And, Or, Element, Ord, Chr, CompareTexts, Len, LenBehind, Function, Same, Is, IsRecord, Guard, Had, Call, Open as OutOpen, Char as OutChar, Int as OutInt, String as OutString, Ln as OutLn, Stat, Assign, Copy, PutText, If, Case, While, Repeat, Loop, Exit, For, Block, Assert, Halt, Change, Perform, Return, New, Make, With, WithRecord, Out, Stats, Nothing, Then, Arms, Otherwise, Arm, Cases, NoElse, Else, OfLabels, Program}
+use Rattle.aos_base.specs.Question.{Tree, Val, Traps, bind, ask, Ask, ByName, ByType, Upward, Initially, ByCreator, ByValue, Reads, Stores, Copies, PutsText, ComparesTexts, Calls, Places, Lengths, Opens, Sizes, Tests, Makes, Starts, PutsInt, PutsChar, PutsString, PutsLn, PutsNothing}
+use Rattle.aos_typed.specs.Program.{Place, ModuleVar, Local, Passed, Field, Index, Of, Deref, Typed, Guarded, Rows, Known, Opened, Row, Spread, Longer, Arguments, NoMore, Scalar, Whole, Opening, Callee, Plain, Dispatched, Upper, Through, Expr, Lit, SelfRef, Read, Unary, Binary, And, Or, Element, Ord, Chr, CompareTexts, Len, LenBehind, Function, Same, Is, IsRecord, Guard, ProcedureOf, MethodOf, SameProcedure, Had, Call, Open as OutOpen, Char as OutChar, Int as OutInt, String as OutString, Ln as OutLn, Stat, Assign, Copy, PutText, If, Case, While, Repeat, Loop, Exit, For, Block, Assert, Halt, Change, Perform, Return, New, Make, With, WithRecord, Out, Stats, Nothing, Then, Arms, Otherwise, Arm, Cases, NoElse, Else, OfLabels, Program}
 use Rattle.aos_types.specs.declared.row.TypeId.{TypeId}
 use Rattle.aos_types.specs.declared.row.TypeRow.{TypeRow}
 use Rattle.aos_types.specs.Extension.{comes_to}
-use Rattle.aos_typed.specs.Value.{Value, Int, Flag, Object, Place as PlaceValue, number_of, literal_value, unary, binary, element, ord, chr, is_true}
+use Rattle.aos_typed.specs.Value.{Value, Int, Flag, Object, Callable, Place as PlaceValue, number_of, literal_value, unary, binary, element, ord, chr, is_true}
 use Rattle.aos_base.specs.declared.place.Root.TheVariants.{Frame as FrameRoot, Module as ModuleRoot}
 use Rattle.aos_typed.specs.declared.tree.TType.{TType}
 use Rattle.aos_typed.specs.Spot.{Spot, InFrame, OfModule}
 use Rattle.aos_typed.specs.Fields.{declared_as}
-use Rattle.aos_typed.specs.Methods.{method_number}
-use Rattle.aos_typed.specs.Numbers.{id_of, procedure_number, id_of_made}
+use Rattle.aos_typed.specs.Methods.{method_number, is_active, body_type, initializer}
+use Rattle.aos_typed.specs.Numbers.{id_of, body_number, procedure_number, id_of_made}
 
 -- where statements are carried out: how many frames of the activity are below theirs, and the object whose method or body it is, 0
 -- for none
@@ -94,6 +94,15 @@ abbrev pub object_in : Value → ℕ
 object_in (Object o) = o
 object_in v = 0
 
+-- the number of a procedure, 0 for NIL, and the object whose method it is, 0 for none; no well-typed program takes another value for one
+abbrev pub procedure_in : Value → ℕ
+procedure_in (Callable q o) = q
+procedure_in v = 0
+
+abbrev pub instance_in : Value → ℕ
+instance_in (Callable q o) = o
+instance_in v = 0
+
 abbrev pub by_number : {A : Type 0} → ℕ → (at_nil otherwise : Doing A) → Doing A
 by_number zero a b = a
 by_number (suc o) a b = b
@@ -133,17 +142,51 @@ record_guarded rows s t = if has_type rows s t then Val s else Traps 3 0
 abbrev pub dispatched : Program → Value → (type slot : ℕ) → List Value → (made : ℕ) → Doing Value
 dispatched p v t k vs zero = Traps 1 0
 dispatched p v t k vs (suc d) =
-    if comes_to p.types (id_of_made (suc d)) (id_of_made (suc t)) then ask (Calls (method_number p d k) (v ∷ vs)) else Traps 1 0
+    if comes_to p.types (id_of_made (suc d)) (id_of_made (suc t)) then ask (Calls ByType (method_number p d k) (v ∷ vs)) else Traps 1 0
 
 -- a method is called on an object; whether that is NIL is asked behind the arguments
 abbrev pub sent : Program → Value → (type slot : ℕ) → List Value → Doing Value
 sent p v t k vs = unless_nil v (Traps 1 0) (bind (ask (Opens v)) (λ x. dispatched p v t k vs (place_in x).type))
 
+-- the same method as a value, with the object
+abbrev pub bound_to : Program → Value → (type slot : ℕ) → (made : ℕ) → Doing Value
+bound_to p v t k zero = Traps 1 0
+bound_to p v t k (suc d) =
+    if comes_to p.types (id_of_made (suc d)) (id_of_made (suc t)) then Val (Callable (method_number p d k) (object_in v)) else Traps 1 0
+
+abbrev pub bound : Program → Value → (type slot : ℕ) → Doing Value
+bound p v t k = unless_nil v (Traps 1 0) (bind (ask (Opens v)) (λ x. bound_to p v t k (place_in x).type))
+
+-- what a procedure value stands for is called, a method on the value's object
+abbrev pub on_instance : ℕ → List Value → List Value
+on_instance zero vs = vs
+on_instance (suc o) vs = Object (suc o) ∷ vs
+
+abbrev pub applied : Value → List Value → Doing Value
+applied v vs = by_number (procedure_in v) (Traps 1 0) (ask (Calls ByValue (procedure_in v) (on_instance (instance_in v) vs)))
+
+-- whether two procedure values stand for the same
+abbrev pub are_one : Value → Value → Bool
+are_one x y = (procedure_in x == procedure_in y) && (instance_in x == instance_in y)
+
 -- what is called on an object gets it before its arguments
 abbrev pub calls : Program → Callee → Value → List Value → Doing Value
-calls p (Plain m k) o vs = ask (Calls (procedure_number p m k) vs)
+calls p (Plain m k) o vs = ask (Calls ByName (procedure_number p m k) vs)
 calls p (Dispatched e t k) o vs = sent p o t k vs
-calls p (Upper t k) o vs = ask (Calls (method_number p t k) (o ∷ vs))
+calls p (Upper t k) o vs = ask (Calls Upward (method_number p t k) (o ∷ vs))
+calls p (Through e t) o vs = applied o vs
+
+-- Objects that are made (Reali 2002, section on object types).
+
+-- the initializer is called on a new object, where its type has one
+abbrev pub initialized : Program → (slot : Option ℕ) → (type : ℕ) → Value → List Value → Doing Value
+initialized p None t o vs = Val o
+initialized p (Some k) t o vs = ask (Calls Initially (method_number p t k) (o ∷ vs))
+
+-- its body is carried out, by an activity of its own or by its creator, where the type has one
+abbrev pub carried_out : Program → (body_of : Option ℕ) → Value → Doing Value
+carried_out p None o = Val o
+carried_out p (Some b) o = if is_active p b then ask (Starts o) else ask (Calls ByCreator (body_number p b) (o ∷ []))
 
 -- In a procedure's frame here, in a program.
 module _ (p : Program) (here : Here) where
@@ -195,11 +238,12 @@ module _ (p : Program) (here : Here) where
     arguments_of (Opening r as') =
         bind (rows_of r) (λ x. bind (arguments_of as') (λ vs. Val (PlaceValue x.place ∷ (x.lengths ++ vs))))
 
-    -- on what is called: a receiver, which is evaluated before the arguments, or SELF
+    -- on what is called: a receiver or a procedure value, which is evaluated before the arguments, or SELF
     pub receiver_of : Callee → Doing Value
     receiver_of (Plain m k) = Val (Object 0)
     receiver_of (Dispatched e t k) = value_of e
     receiver_of (Upper t k) = Val (Object here.self)
+    receiver_of (Through e t) = value_of e
 
     pub value_of : Expr → Doing Value
     value_of (Lit l) = Val (literal_value l)
@@ -221,6 +265,9 @@ module _ (p : Program) (here : Here) where
     value_of (Is a t) = bind (value_of a) (λ v. is_instance v t)
     value_of (IsRecord q t) = bind (place_of q) (λ s. Val (Flag (has_type p.types s t)))
     value_of (Guard a t) = bind (value_of a) (λ v. guarded v t)
+    value_of (ProcedureOf m k) = Val (Callable (procedure_number p m k) 0)
+    value_of (MethodOf a t k) = bind (value_of a) (λ v. bound p v t k)
+    value_of (SameProcedure a b) = bind (value_of a) (λ x. bind (value_of b) (λ y. Val (Flag (are_one x y))))
     value_of (Had v) = Val v
 
   abbrev pub called : Callee → Arguments → Doing Value
@@ -303,7 +350,7 @@ pos_of (Halt at code) = at
 pos_of (Change at c p e) = at
 pos_of (Perform at c as') = at
 pos_of (Return at e) = at
-pos_of (New at p t) = at
+pos_of (New at p t as') = at
 pos_of (Make at p t ns) = at
 pos_of (With at e body) = at
 pos_of (WithRecord at p body) = at
@@ -364,9 +411,12 @@ module _ (p : Program) (here : Here) where
   stat_of (Perform at c as') = bind (called p here c as') (λ _. Val (Into []))
   stat_of (Return at None) = Val (Returns None)
   stat_of (Return at (Some e)) = bind (value e) (λ v. Val (Returns (Some v)))
-  -- the object is made, then stored in a variable that is no part of another, and then its activity is started
-  stat_of (New at q t) =
-      bind (ask (Makes (suc t) [])) (λ o. bind (place q) (λ s. bind (ask (Stores s o)) (λ _. bind (ask (Starts o)) (λ _. Val (Into [])))))
+  -- a variable is found, then the arguments are evaluated; the object is made, then its initializer is called, then it is stored in the
+  -- variable, and then its body is carried out
+  stat_of (New at q t as') =
+      bind (place q) (λ s. bind (arguments_of p here as') (λ vs. bind (ask (Makes (suc t) [])) (λ o.
+      bind (initialized p (initializer p t) t o vs) (λ _. bind (ask (Stores s o)) (λ _.
+      bind (carried_out p (body_type p t) o) (λ _. Val (Into [])))))))
   -- a pointer is found, then the lengths are evaluated, and the record or the array is made and stored there
   stat_of (Make at q t ns) =
       bind (place q) (λ s. bind (values_of p here ns) (λ vs. bind (ask (Makes (suc t) vs)) (λ o. bind (ask (Stores s o)) (λ _. Val (Into [])))))

@@ -1,6 +1,6 @@
 -- The methods of object types by their slots (Reali 2002, section on methods): a type has those of its base, of which each that it
 -- declares anew takes the place of the one that it overrides, and behind them its new ones.
-use Rattle.std.specs.Prelude.{ℕ, zero, suc, ◌+◌, ◌-◌, nat_lt, List, [], ◌∷◌, ◌++◌, length, map, sum_by, take, fold, slice_get, slice_set, Option, Some, None, option_map, if◌then◌else◌}
+use Rattle.std.specs.Prelude.{ℕ, zero, suc, ◌+◌, ◌-◌, nat_lt, List, [], ◌∷◌, ◌++◌, length, map, sum_by, take, fold, slice_get, slice_set, Option, Some, None, option_map, if◌then◌else◌, Bool, false}
 use Rattle.std.specs.Option.{unwrap_or}
 use Rattle.aos_types.specs.Table.{row_of, base_of}
 use Rattle.aos_typed.specs.declared.tree.TType.TheVariants.{Named}
@@ -26,6 +26,38 @@ base_type p t = option_map (λ b. b.0 - predeclared_types) (base_of (row_of p.ty
 abbrev pub on_base : {A : Type 0} → (ℕ → List A) → Option ℕ → List A
 on_base f None = []
 on_base f (Some b) = f b
+
+-- what the nearest type of a chain tells, the type itself first; it has at most so many bases, itself among them
+abbrev pub or_base : {A : Type 0} → (ℕ → Option A) → Option A → Option ℕ → Option A
+or_base f (Some a) b = Some a
+or_base f None None = None
+or_base f None (Some b) = f b
+
+abbrev pub nearest_by : {A : Type 0} → Program → (told : ℕ → Option A) → ℕ → (type : ℕ) → Option A
+nearest_by p told zero t = None
+nearest_by p told (suc n) t = or_base (nearest_by p told n) (told t) (base_type p t)
+
+abbrev pub nearest : {A : Type 0} → Program → (told : ℕ → Option A) → (type : ℕ) → Option A
+nearest p told t = nearest_by p told (length p.objects) t
+
+-- a type that has a body of its own, and whether that is active
+abbrev pub has_body : Program → (type : ℕ) → Bool
+has_body p t = unwrap_or (option_map (λ o. o.has_body) (slice_get p.objects t)) false
+
+abbrev pub is_active : Program → (type : ℕ) → Bool
+is_active p t = unwrap_or (option_map (λ o. o.is_active) (slice_get p.objects t)) false
+
+-- the type whose body the objects of a type have, which is the nearest one that has a body
+abbrev pub body_type : Program → (type : ℕ) → Option ℕ
+body_type p t = nearest p (λ u. if has_body p u then Some u else None) t
+
+-- the slot of the initializer that a type declares, and of the one that its objects have
+abbrev pub initial_slot : List Method → Option ℕ
+initial_slot [] = None
+initial_slot (m ∷ ms) = if m.procedure.is_initializer then Some m.slot else initial_slot ms
+
+abbrev pub initializer : Program → (type : ℕ) → Option ℕ
+initializer p t = nearest p (λ u. initial_slot (own_methods p u)) t
 
 -- what stands in the slots of a type, where own says what its own methods put in theirs; it has at most so many bases, itself among
 -- them

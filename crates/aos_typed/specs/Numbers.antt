@@ -47,5 +47,8 @@ id_of_made (suc k) = record { 0 = k + predeclared_types }
 abbrev pub procedures_before : Program → ℕ → ℕ
 procedures_before p m = sum_by (λ x. length x.procedures) (take m p.modules)
 
+abbrev pub body_number : Program → (type : ℕ) → ℕ
+body_number p t = suc (length p.modules + t)
+
 abbrev pub procedure_number : Program → (home number : ℕ) → ℕ
 procedure_number p m k = suc (length p.modules + length p.objects + procedures_before p m + k)

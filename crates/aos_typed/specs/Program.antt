@@ -47,11 +47,12 @@ mutual
     Opening : Rows → Arguments → Arguments
 
   -- what is called: a procedure of a module, by the numbers of both; the method that an object's own type has in a slot, where the
-  -- object is known to be of a type; or the method that a type has in a slot, called on SELF
+  -- object is known to be of a type; the method that a type has in a slot, called on SELF; or what a value of a procedure type stands for
   pub data Callee : Type 0 where
     Plain : (home number : ℕ) → Callee
     Dispatched : Expr → (type slot : ℕ) → Callee
     Upper : (type slot : ℕ) → Callee
+    Through : Expr → (type : ℕ) → Callee
 
   -- a text is an array of characters with its length; a length is that of an array whose place is found before, of one of its
   -- dimensions that are open, or of one behind these
@@ -74,6 +75,9 @@ mutual
     Is : Expr → (type : ℕ) → Expr  -- whether an object's type extends this one
     IsRecord : Place → (type : ℕ) → Expr  -- whether the type of the record that a VAR parameter stands for does
     Guard : Expr → (type : ℕ) → Expr  -- an object whose type does
+    ProcedureOf : (home number : ℕ) → Expr
+    MethodOf : Expr → (type slot : ℕ) → Expr  -- with the object, which is known to be of a type
+    SameProcedure : Expr → Expr → Expr
     Had : Value → Expr  -- a value that stands for what was read before; no text has one
 
 -- a call of a procedure of module Out: the number, and in how many places it stands; a text, by its place and the number of elements
@@ -105,7 +109,7 @@ mutual
     Change : Pos → Changing → Place → Expr → Stat
     Perform : Pos → Callee → Arguments → Stat
     Return : Pos → Option Expr → Stat
-    New : Pos → Place → ℕ → Stat
+    New : Pos → Place → (type : ℕ) → Arguments → Stat
     Make : Pos → Place → (type : ℕ) → (lengths : List Expr) → Stat
     With : Pos → Expr → Stats → Stat
     WithRecord : Pos → Place → Stats → Stat
@@ -138,10 +142,11 @@ pub record Parameter : Type 0 where
   pub of : TType
 
 -- a procedure, with the statements of its body; a proper one has no result. A method or an object's body is of a type, by the
--- type's number in the program
+-- type's number in the program; and a method may be an initializer
 pub record Procedure : Type 0 where
   pub name : List ℕ
   pub of : Option ℕ
+  pub is_initializer : Bool
   pub parameters : List Parameter
   pub locals : List Variable
   pub result : Option TType
@@ -152,12 +157,14 @@ pub record Method : Type 0 where
   pub slot : ℕ
   pub procedure : Procedure
 
--- what stands beside a type: its name, the number of its module, the body that its objects carry out, where it has one, and its own
--- methods
+-- what stands beside a type: its name, the number of its module, the body of its objects, where it has one, which an activity of the
+-- object's own carries out where it is active, and its own methods. The body of a procedure type is none: it has the type's formals,
+-- and stands for all procedures that have them
 pub record ObjectType : Type 0 where
   pub name : List ℕ
   pub home : ℕ
   pub has_body : Bool
+  pub is_active : Bool
   pub body : Procedure
   pub methods : List Method
 

@@ -1,6 +1,7 @@
 -- What runs in a program, in the order of its numbers from 1: the bodies of modules, those beside types, the procedures of modules,
 -- and the methods of object types.
 use Rattle.std.specs.Prelude.{ℕ, suc, List, [], ◌∷◌, ◌++◌, map, Bool, is_some, Option, Some, None, option_and_then}
+use Rattle.aos_base.specs.Rooted.{by_number}
 use Rattle.aos_typed.specs.declared.tree.TType.{TType}
 use Rattle.aos_typed.specs.Program.{Stats, Parameter, Variable, Procedure, ObjectType, Module, Program}
 
@@ -56,3 +57,7 @@ abbrev pub routines : Program → List Routine
 routines p =
     bodies_from 0 p.modules
     ++ (map (λ o. routine_of o.home o.body) p.objects ++ (procedures_from 0 p.modules ++ methods_from p.objects))
+
+-- the parameters of what runs under a number
+abbrev pub parameters_at : Program → ℕ → List Parameter
+parameters_at p n = parameters_of (option_and_then (λ r. r.own) (by_number n (routines p)))

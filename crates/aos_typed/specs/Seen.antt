@@ -26,7 +26,7 @@ use Rattle.aos_typed.specs.declared.tree.TMethod.{TMethod}
 use Rattle.aos_typed.specs.declared.tree.TObject.{TObject}
 use Rattle.aos_typed.specs.declared.tree.TModule.{TModule}
 use Rattle.aos_typed.specs.declared.tree.Program.{Program as TProgram}
-use Rattle.aos_typed.specs.Program.{Place, ModuleVar, Local, Passed, Field, Index, Of, Deref, Typed, Guarded, Rows, Known, Opened, Row, Spread, Longer, Arguments, NoMore, Scalar, Whole, Opening, Callee, Plain, Dispatched, Upper, Expr, Lit, SelfRef, Read, Unary, Binary, And, Or, Element, Ord, Chr, CompareTexts, Len, LenBehind, Function, Same, Is, IsRecord, Guard, Call, Open, Char, Int, String, Ln, Stat, Assign, Copy, PutText, If, Case, While, Repeat, Loop, Exit, For, Block, Assert, Halt, Change, Perform, Return, New, Make, With, WithRecord, Out, Stats, Nothing, Then, Arms, Otherwise, Arm, Cases, NoElse, Else, OfLabels, Variable, Parameter, Procedure, Method, ObjectType, Module, Program}
+use Rattle.aos_typed.specs.Program.{Place, ModuleVar, Local, Passed, Field, Index, Of, Deref, Typed, Guarded, Rows, Known, Opened, Row, Spread, Longer, Arguments, NoMore, Scalar, Whole, Opening, Callee, Plain, Dispatched, Upper, Through, Expr, Lit, SelfRef, Read, Unary, Binary, And, Or, Element, Ord, Chr, CompareTexts, Len, LenBehind, Function, Same, Is, IsRecord, Guard, ProcedureOf, MethodOf, SameProcedure, Call, Open, Char, Int, String, Ln, Stat, Assign, Copy, PutText, If, Case, While, Repeat, Loop, Exit, For, Block, Assert, Halt, Change, Perform, Return, New, Make, With, WithRecord, Out, Stats, Nothing, Then, Arms, Otherwise, Arm, Cases, NoElse, Else, OfLabels, Variable, Parameter, Procedure, Method, ObjectType, Module, Program}
 
 abbrev mutual
   pub seen_place : TPlace → Place
@@ -60,6 +60,7 @@ abbrev mutual
   seen_callee (callee.Plain m k) = Plain m k
   seen_callee (callee.Dispatched' p e t k) = Dispatched (seen_expr e) t k
   seen_callee (callee.Upper t k) = Upper t k
+  seen_callee (callee.Through' p e t) = Through (seen_expr e) t
 
   pub seen_expr : TExpr → Expr
   seen_expr (expr.Lit l) = Lit l
@@ -80,6 +81,9 @@ abbrev mutual
   seen_expr (expr.Is' p a t) = Is (seen_expr a) t
   seen_expr (expr.IsRecord' p q t) = IsRecord (seen_place q) t
   seen_expr (expr.Guard' p a t) = Guard (seen_expr a) t
+  seen_expr (expr.ProcedureOf m k) = ProcedureOf m k
+  seen_expr (expr.MethodOf' p a t k) = MethodOf (seen_expr a) t k
+  seen_expr (expr.SameProcedure' p a q b) = SameProcedure (seen_expr a) (seen_expr b)
 
 abbrev pub seen_list : List TArgument → Arguments
 seen_list [] = NoMore
@@ -110,7 +114,7 @@ abbrev mutual
   seen_stat (stat.Change at c p e) = Change at c (seen_place p) (seen_expr e)
   seen_stat (stat.Perform at c as') = Perform at (seen_callee c) (seen_list as'.items)
   seen_stat (stat.Return at e) = Return at (option_map seen_expr e)
-  seen_stat (stat.New at p t) = New at (seen_place p) t
+  seen_stat (stat.New at p t as') = New at (seen_place p) t (seen_list as'.items)
   seen_stat (stat.Make at p t ns) = Make at (seen_place p) t (map seen_expr ns.items)
   seen_stat (stat.With' at e shape body) = With at (seen_expr e) (seen_row body)
   seen_stat (stat.WithRecord' at p shape body) = WithRecord at (seen_place p) (seen_row body)
@@ -158,6 +162,7 @@ seen_procedure p =
     record {
       name = string_bytes p.name;
       of = p.of;
+      is_initializer = p.is_initializer;
       parameters = map seen_parameter p.parameters.items;
       locals = map seen_variable p.locals.items;
       result = p.result;
@@ -173,6 +178,7 @@ seen_object o =
       name = string_bytes o.name;
       home = o.home;
       has_body = o.has_body;
+      is_active = o.is_active;
       body = seen_procedure o.body;
       methods = map seen_method o.methods.items;
     }

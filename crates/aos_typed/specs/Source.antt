@@ -1,5 +1,5 @@
 -- A program as a machine: its store, its frames, and the turns of an activity.
-use Rattle.std.specs.Prelude.{ℕ, suc, ◌+◌, nat_lt, sum_by, ◌++◌, List, [], ◌∷◌, length, drop, Bool, true, false, Option, Some, None, if◌then◌else◌, map, pos, unsigned_abs, slice_get, option_and_then}
+use Rattle.std.specs.Prelude.{ℕ, zero, suc, ◌+◌, nat_lt, sum_by, ◌++◌, List, [], ◌∷◌, length, drop, Bool, true, false, Option, Some, None, if◌then◌else◌, map, pos, unsigned_abs, slice_get, option_and_then}
 use Rattle.std.specs.List.{range_with_len}
 use Rattle.std.specs.Option.{unwrap_or}
 use Rattle.aos_base.specs.declared.text.Pos.{Pos}
@@ -28,6 +28,7 @@ use Rattle.aos_typed.specs.Program.{Stats, Repeat, Variable as TypedVariable, Ob
 use Rattle.aos_typed.specs.Handed.{Part, nested, head, handed}
 use Rattle.aos_typed.specs.Numbers.{id_of, id_of_made}
 use Rattle.aos_typed.specs.Open.{open_element}
+use Rattle.aos_typed.specs.Methods.{body_type}
 use Rattle.aos_typed.specs.Routines.{Routine, parameters_of, locals_of, has_self, gives, routines}
 use Rattle.aos_typed.specs.Sort.{Sort, Plain, Variable, Alias, Elements, Length, variable_shape, object_shape}
 use Rattle.aos_typed.specs.Spot.{Spot, OnHeap}
@@ -319,7 +320,7 @@ module _ (p : Program) (following : List ℕ) where
       let left = text_in (read a.root a.path x) in
       let right = text_in (read b.root b.path x) in
       goes_on following (answered (Flag (holds r (order left right) (pos 0))) f ∷ fs) s
-  answer (Calls q vs) f fs s = calls (by_number q (routines p)) vs f fs s
+  answer (Calls how q vs) f fs s = calls (by_number q (routines p)) vs f fs s
   answer (PutsString a n) f fs s = puts following (text_in (read a.root a.path (all_rooted (f ∷ fs) s))) (answered done f ∷ fs) s
   -- known at once, before a turn comes here
   answer (Places a) f fs s = goes_on following (answered done f ∷ fs) s
@@ -403,9 +404,10 @@ abbrev pub past_all : List Frame → List Frame
 past_all [] = []
 past_all (f ∷ fs) = answered done f ∷ fs
 
+-- with which the body begins that an object has, which is that of a type
 abbrev pub object_frames : ℕ → Option ObjectType → Frames
 object_frames o None = record { following = []; frames = [] }
-object_frames o (Some t) = record { following = []; frames = if t.has_body then body_frame t.home o t.body.body ∷ [] else [] }
+object_frames o (Some t) = record { following = []; frames = body_frame t.home o t.body.body ∷ [] }
 
 module _ (p : Program) where
   -- what a module's variables hold: a row of them, behind which its string constants stand
@@ -442,9 +444,14 @@ module _ (p : Program) where
   abbrev pub past : Frames → Frames
   past fs = let now = opened fs in record now { frames = past_all now.frames }
 
+  -- the type whose body the objects have that are made of a type, by its number from 1
+  abbrev pub made_body : (type : ℕ) → Option ℕ
+  made_body zero = None
+  made_body (suc t) = body_type p t
+
   -- the frames with which an object's activity begins
   abbrev pub body_of : Store → ℕ → Frames
-  body_of s o = object_frames o (option_and_then (λ t. by_number t p.objects) (type_of_object o s))
+  body_of s o = object_frames o (option_and_then (λ t. slice_get p.objects t) (option_and_then made_body (type_of_object o s)))
 
   -- a program as a machine under the kernel
   abbrev pub source : Machine Store Frames

@@ -30,6 +30,7 @@ literal_value (literal.Char c) = Char c
 literal_value (literal.Set s) = Set s
 literal_value (literal.Text t) = Char t.first  -- of one character
 literal_value literal.Nil = Object 0
+literal_value literal.NoProcedure = Callable 0 0
 
 -- the number that a value is given as; what is no number is given as none, here as 0
 abbrev pub number_of : Value → ℤ

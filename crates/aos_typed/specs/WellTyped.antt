@@ -4,7 +4,7 @@
 -- tests is a truth value, and NEW makes an object of its variable's type. No type
 -- contains itself, and none has more scalars than a type may have (Oberon-2 report, 6.2 and 6.3), nor have the variables of a module; only parameters are of open
 -- arrays, and a function gives a scalar (Oberon-2 report, 10.1). The predeclared types stand first in the table.
-use Rattle.std.specs.Prelude.{◌≡◌, ◌≢◌, ◌⊎◌, ℕ, zero, suc, ℤ, pos, ◌≤◌, ◌<◌, ◌+◌, ◌==◌, ◌^◌, nat_le, int_le, List, [], ◌∷◌, ◌++◌, length, All, Bool, true, false, ◌&&◌, ◌||◌, Option, Some, None, slice_get, sum_by, is_some, option_map, option_and_then}
+use Rattle.std.specs.Prelude.{◌≡◌, ◌≢◌, ◌⊎◌, ℕ, zero, suc, ℤ, pos, ◌≤◌, ◌<◌, ◌+◌, ◌==◌, ◌^◌, nat_le, int_le, List, [], ◌∷◌, ◌++◌, length, All, Bool, true, false, ◌&&◌, ◌||◌, Option, Some, None, slice_get, sum_by, is_some, option_map, option_and_then, map}
 use Rattle.std.specs.List.{AllPairs, list_all, list_any}
 use Rattle.std.specs.Char.{is_ascii_digit, is_ascii_alphabetic}
 use Rattle.aos_base.specs.declared.number.Width.{Width}
@@ -20,7 +20,7 @@ use Rattle.aos_types.specs.declared.TheConstants.{MOST_SCALARS}
 use Rattle.aos_types.specs.declared.row.TypeId.{TypeId}
 use Rattle.aos_types.specs.declared.row.TypeRow.{TypeRow}
 use Rattle.aos_types.specs.declared.row.TypeRow.TheVariants as row
-use Rattle.aos_types.specs.Table.{row_of, base_of, has_fields, is_open, is_record, is_scalar, is_object}
+use Rattle.aos_types.specs.Table.{row_of, base_of, has_fields, is_open, is_record, is_scalar, is_object, is_procedure}
 use Rattle.aos_types.specs.Extension.{comes_to}
 use Rattle.aos_types.specs.Contents.{scalars, variable_scalars}
 use Rattle.aos_types.specs.Chain.{NoneContainsItself}
@@ -28,14 +28,15 @@ use Rattle.aos_typed.specs.declared.tree.Literal.{Literal}
 use Rattle.aos_typed.specs.declared.tree.Literal.TheVariants as literal
 use Rattle.aos_typed.specs.declared.tree.TType.{TType}
 use Rattle.aos_typed.specs.declared.tree.TType.TheVariants.{Integer, Boolean, Char, Set, Any, Named}
-use Rattle.aos_typed.specs.Program.{Place, ModuleVar, Local, Passed, Field, Index, Of, Deref, Typed, Guarded, Rows, Known, Opened, Row, Spread, Longer, Arguments, NoMore, Scalar, Whole, Opening, Callee, Plain, Dispatched, Upper, Expr, Lit, SelfRef, Read, Unary, Binary, And, Or, Element, Ord, Chr, CompareTexts, Len, LenBehind, Function, Same, Is, IsRecord, Guard, Had, Call, Open as OutOpen, Char as OutChar, Int as OutInt, String as OutString, Ln as OutLn, Stat, Assign, Copy, PutText, If, Case, While, Repeat, Loop, Exit, For, Block, Assert, Halt, Change, Perform, Return, New, Make, With, WithRecord, Out, Stats, Nothing, Then, Arms, Otherwise, Arm, Cases, NoElse, Else, OfLabels, Parameter, Procedure, Method, ObjectType, Module, Program}
+use Rattle.aos_typed.specs.Program.{Place, ModuleVar, Local, Passed, Field, Index, Of, Deref, Typed, Guarded, Rows, Known, Opened, Row, Spread, Longer, Arguments, NoMore, Scalar, Whole, Opening, Callee, Plain, Dispatched, Upper, Through, Expr, Lit, SelfRef, Read, Unary, Binary, And, Or, Element, Ord, Chr, CompareTexts, Len, LenBehind, Function, Same, Is, IsRecord, Guard, ProcedureOf, MethodOf, SameProcedure, Had, Call, Open as OutOpen, Char as OutChar, Int as OutInt, String as OutString, Ln as OutLn, Stat, Assign, Copy, PutText, If, Case, While, Repeat, Loop, Exit, For, Block, Assert, Halt, Change, Perform, Return, New, Make, With, WithRecord, Out, Stats, Nothing, Then, Arms, Otherwise, Arm, Cases, NoElse, Else, OfLabels, Parameter, Procedure, Method, ObjectType, Module, Program}
 use Rattle.aos_typed.specs.declared.tree.Change.{Change as Changing}
 use Rattle.aos_typed.specs.declared.tree.Change.TheVariants as change
 use Rattle.aos_typed.specs.declared.tree.LabelRange.{LabelRange}
 use Rattle.aos_typed.specs.Meaning.{changed_type}
 use Rattle.aos_typed.specs.Open.{open_dimensions, open_element, first_same}
 pub use Rattle.aos_typed.specs.Fields.{with_base, fields_in, fields_by, field_types, field_type}
-use Rattle.aos_typed.specs.Methods.{put_at, slot_of, on_base, base_type, methods_of, method_in}
+use Rattle.aos_typed.specs.Formals.{HasFormals, pattern_of}
+use Rattle.aos_typed.specs.Methods.{initializer, put_at, slot_of, on_base, base_type, methods_of, method_in}
 use Rattle.aos_typed.specs.Routines.{self_type, result_of}
 use Rattle.aos_typed.specs.Numbers.{id_of, predeclared_types, predeclared_rows}
 
@@ -84,8 +85,17 @@ FitsObject rows t u =
     (is_reference rows u ≡ true)
     × ((t ≡ Any) ⊎ ((a : TypeId) × (b : TypeId) × (target rows t ≡ Some a) × (target rows u ≡ Some b) × (comes_to rows b a ≡ true)))
 
-abbrev pub Fits : List TypeRow → TType → TType → Type 0
-Fits rows t u = Includes t u ⊎ FitsObject rows t u
+-- a procedure type
+abbrev pub is_procedural : List TypeRow → TType → Bool
+is_procedural rows t = is_procedure (row_of rows (id_of t))
+
+-- a value of the second type, which is a procedure type, fits a variable of the first one where both have the same formals
+abbrev pub FitsProcedure : Program → TType → TType → Type 0
+FitsProcedure p t u =
+    (q : Procedure) × (r : Procedure) × (pattern_of p t ≡ Some q) × (pattern_of p u ≡ Some r) × HasFormals p.types r q
+
+abbrev pub Fits : Program → TType → TType → Type 0
+Fits p t u = Includes t u ⊎ (FitsObject p.types t u ⊎ FitsProcedure p t u)
 
 -- a literal is of a type
 abbrev pub IsLiteral : Literal → TType → Type 0
@@ -186,9 +196,9 @@ is_whole (Some (row.Array n t)) = true
 is_whole (Some (row.Record base fields)) = true
 is_whole _ = false
 
--- values of the type are scalars that are built: of a basic type, or objects
+-- values of the type are scalars: of a basic type, objects, or procedures
 abbrev pub is_value : List TypeRow → TType → Bool
-is_value rows t = is_basic t || is_reference rows t
+is_value rows t = is_basic t || (is_reference rows t || is_procedural rows t)
 
 -- a variable that is no part of another; a field of SELF is one, whose place is found without a trap
 abbrev pub is_variable : Place → Bool
@@ -284,6 +294,10 @@ module _ (p : Program) where
   abbrev pub IsByValue : Parameter → TType → Type 0
   IsByValue a t = (is_open_parameter a ≡ false) × (a.by_reference ≡ false) × (a.of ≡ t)
 
+  -- a procedure has the formals of a procedure type
+  abbrev pub IsProcedural : TType → Procedure → Type 0
+  IsProcedural t q = (r : Procedure) × (pattern_of p t ≡ Some r) × HasFormals p.types q r
+
   -- in the body of this procedure, or of none
   module _ (own : Option Procedure) where
     -- a parameter of the procedure, and a local, which are numbered on from the parameters
@@ -372,17 +386,20 @@ module _ (p : Program) where
           × HaveLengths r × AreArguments more rest
 
       -- what is called is a procedure with these parameters and this result: that of a module, the one that the type known of an
-      -- object has in a slot, or the one that SELF's type or a base of it has there
+      -- object has in a slot, the one that SELF's type or a base of it has there, or any that a value of a procedure type stands for
       pub IsCalled : Callee → Procedure → Type 0
       IsCalled (Plain m k) q = procedure_in m k ≡ Some q
       IsCalled (Dispatched e t k) q = IsOf e (Named t) × (is_object (row_of p.types (id_of (Named t))) ≡ true) × (method_in p t k ≡ Some q)
+      IsCalled (Through e t) q = IsOf e (Named t) × (pattern_of p (Named t) ≡ Some q)
       IsCalled (Upper t k) q = (s : ℕ) × (self_type own ≡ Some s) × (comes_to p.types (id_of (Named s)) (id_of (Named t)) ≡ true) × (method_in p t k ≡ Some q)
 
       -- each value of an expression is of a type
       pub IsOf : Expr → TType → Type 0
-      IsOf (Lit l) t = IsLiteral l t ⊎ ((l ≡ literal.Nil) × (is_reference p.types t ≡ true))
-      IsOf SelfRef t = (s : ℕ) × (self_type own ≡ Some s) × (is_object (row_of p.types (id_of (Named s))) ≡ true) × Fits p.types t (Named s)
-      IsOf (Read u place) t = IsPlaceOf place u × (is_value p.types u ≡ true) × Fits p.types t u
+      IsOf (Lit l) t =
+          IsLiteral l t
+          ⊎ (((l ≡ literal.Nil) × (is_reference p.types t ≡ true)) ⊎ ((l ≡ literal.NoProcedure) × (is_procedural p.types t ≡ true)))
+      IsOf SelfRef t = (s : ℕ) × (self_type own ≡ Some s) × (is_object (row_of p.types (id_of (Named s))) ≡ true) × Fits p t (Named s)
+      IsOf (Read u place) t = IsPlaceOf place u × (is_value p.types u ≡ true) × Fits p t u
       IsOf (Unary op a) t = IsOf a (taken op) × Gives op t
       IsOf (Binary op a b) t = Takes op (IsOf a) (IsOf b) × GivesOfTwo op t
       IsOf (And a b) t = IsOf a Boolean × IsOf b Boolean × (t ≡ Boolean)
@@ -395,7 +412,7 @@ module _ (p : Program) where
       IsOf (LenBehind r n) t = (m : ℕ) × (u : TType) × AreRows r m u × IsWithin W32 (pos n) × Includes t (Integer W32)
       IsOf (Function c more) t =
           (q : Procedure) × (u : TType) × IsCalled c q × (q.result ≡ Some u) × (is_value p.types u ≡ true)
-          × Fits p.types t u × AreArguments more q.parameters
+          × Fits p t u × AreArguments more q.parameters
       IsOf (Same a b) t =
           ((u : TType) × IsOf a u × (is_reference p.types u ≡ true)) × ((u : TType) × IsOf b u × (is_reference p.types u ≡ true)) × (t ≡ Boolean)
       IsOf (Is a k) t = ((u : TType) × IsOf a u × (is_reference p.types u ≡ true)) × (k < length p.objects) × (t ≡ Boolean)
@@ -404,7 +421,21 @@ module _ (p : Program) where
       IsOf (Guard a k) t =
           ((u : TType) × IsOf a u × (is_reference p.types u ≡ true)) × (k < length p.objects)
           × ((t ≡ Any) ⊎ ((b : TypeId) × (target p.types t ≡ Some b) × (comes_to p.types (id_of (Named k)) b ≡ true)))
+      IsOf (ProcedureOf m k) t = (q : Procedure) × (procedure_in m k ≡ Some q) × IsProcedural t q
+      IsOf (MethodOf e j k) t =
+          IsOf e (Named j) × (is_object (row_of p.types (id_of (Named j))) ≡ true) × ((q : Procedure) × (method_in p j k ≡ Some q) × IsProcedural t q)
+      IsOf (SameProcedure a b) t =
+          (((u : TType) × IsOf a u × (is_procedural p.types u ≡ true)) ⊎ IsNamed a)
+          × (((u : TType) × IsOf b u × (is_procedural p.types u ≡ true)) ⊎ IsNamed b) × (t ≡ Boolean)
       IsOf (Had v) t = ⊥
+
+      -- a procedure or a method that is named, or none, whatever procedure types there are
+      pub IsNamed : Expr → Type 0
+      IsNamed (Lit l) = l ≡ literal.NoProcedure
+      IsNamed (ProcedureOf m k) = (q : Procedure) × (procedure_in m k ≡ Some q)
+      IsNamed (MethodOf e j k) =
+          IsOf e (Named j) × (is_object (row_of p.types (id_of (Named j))) ≡ true) × ((q : Procedure) × (method_in p j k ≡ Some q))
+      IsNamed _ = ⊥
 
     -- values that are objects
     abbrev pub AreObjects : Expr → Type 0
@@ -420,6 +451,11 @@ module _ (p : Program) where
     IsCall (OutInt a b) = IsOf a (Integer W64) × IsOf b (Integer W64)
     IsCall (OutString r) = AreRows r 1 Char
     IsCall OutLn = Unit {0}
+
+    -- what the initializer of a type is handed, where it has one
+    abbrev pub IsInitialized : (slot : Option ℕ) → (type : ℕ) → Arguments → Type 0
+    IsInitialized None t more = more ≡ NoMore
+    IsInitialized (Some k) t more = (q : Procedure) × (method_in p t k ≡ Some q) × (q.result ≡ None) × AreArguments more q.parameters
 
     -- what a RETURN gives: nothing where the procedure is a proper one, or in a body that is no procedure's
     abbrev pub IsReturn : Option Expr → Option TType → Type 0
@@ -451,12 +487,11 @@ module _ (p : Program) where
       IsStatement (Change at c place e) = IsPlaceOf place (changed_type c) × IsOf e (amount_type c)
       IsStatement (Perform at c more) = (q : Procedure) × IsCalled c q × (q.result ≡ None) × AreArguments more q.parameters
       IsStatement (Return at e) = IsReturn e (result_of own)
-      IsStatement (New at place t) =
-          (is_variable place ≡ true) × IsPlaceOf place (Named t) × (is_object (row_of p.types (id_of (Named t))) ≡ true)
-          × (option_map (λ o. o.has_body) (slice_get p.objects t) ≡ Some true)
+      IsStatement (New at place t more) =
+          IsPlaceOf place (Named t) × (is_object (row_of p.types (id_of (Named t))) ≡ true) × IsInitialized (initializer p t) t more
       IsStatement (Make at place t ns) =
-          ((u : TType) × IsPlaceOf place u × (target p.types u ≡ Some (id_of (Named t)))) × (t < length p.objects) × AreLengthsOf ns
-          × (length ns ≡ open_dimensions p.types (id_of (Named t)))
+          ((u : TType) × IsPlaceOf place u × (target p.types u ≡ Some (id_of (Named t)))) × (t < length p.objects)
+          × (is_object (row_of p.types (id_of (Named t))) ≡ false) × AreLengthsOf ns × (length ns ≡ open_dimensions p.types (id_of (Named t)))
       IsStatement (With at e body) = AreObjects e × AreStatements body
       IsStatement (WithRecord at place body) = ((u : TType) × IsPlaceOf place u × NamesType place u) × AreStatements body
       IsStatement (Out at call) = IsCall call
@@ -513,23 +548,13 @@ pub record IsProcedure (p : Program) (x : Procedure) : Type 0 where
 
 -- What stands beside types.
 
--- the same type, or open arrays of the same elements
-abbrev pub AreSame : Program → TType → TType → Type 0
-AreSame p t u =
-    (t ≡ u)
-    ⊎ ((is_open (row_of p.types (id_of t)) ≡ true) × (is_open (row_of p.types (id_of u)) ≡ true)
-    × (open_dimensions p.types (id_of t) ≡ open_dimensions p.types (id_of u)) × (open_element p.types (id_of t) ≡ open_element p.types (id_of u)))
-
--- two lists of parameters agree where their kinds and types are the same in order
-abbrev pub Agree : Program → List Parameter → List Parameter → Type 0
-Agree p [] [] = Unit {0}
-Agree p [] (b ∷ bs) = ⊥
-Agree p (a ∷ as') [] = ⊥
-Agree p (a ∷ as') (b ∷ bs) = (a.by_reference ≡ b.by_reference) × AreSame p a.of b.of × Agree p as' bs
-
--- a method overrides another one with the same formals and the same result
+-- a method overrides another one with the same formals and the same result, an initializer an initializer
 abbrev pub Overrides : Program → (method other : Procedure) → Type 0
-Overrides p q r = Agree p q.parameters r.parameters × (q.result ≡ r.result)
+Overrides p q r = HasFormals p.types q r × (q.is_initializer ≡ r.is_initializer)
+
+-- an initializer is no function
+abbrev pub IsMethod : Program → (type : ℕ) → Procedure → Type 0
+IsMethod p t q = IsProcedure p q × (q.of ≡ Some t) × (q.is_initializer ≡ true → q.result ≡ None)
 
 -- each of a type's methods is a new one, whose slot is the next behind those before, or overrides the one in its slot
 abbrev pub AreSlots : Program → List Procedure → List Method → Type 0
@@ -538,14 +563,28 @@ AreSlots p table (m ∷ ms) =
     ((m.slot ≡ length table) ⊎ ((r : Procedure) × (slice_get table m.slot ≡ Some r) × Overrides p m.procedure r))
     × AreSlots p (put_at table (slot_of m)) ms
 
+-- what stands for the procedures with these formals is no body, and nothing runs it
+pub record IsPattern (q : Procedure) (formals : List (Bool × TypeId)) (r : Option TypeId) : Type 0 where
+  pub own : q.of ≡ None
+  pub parameters : map (λ a. (a.by_reference, id_of a.of)) q.parameters ≡ formals
+  pub result : option_map id_of q.result ≡ r
+
+-- an object's body has neither parameters nor a result
+pub record IsBody (t : ℕ) (q : Procedure) : Type 0 where
+  pub own : q.of ≡ Some t
+  pub plain : q.parameters ≡ []
+  pub proper : q.result ≡ None
+
+abbrev pub IsBeside : ℕ → Procedure → Option TypeRow → Type 0
+IsBeside t q (Some (row.Procedure formals r)) = IsPattern q formals r
+IsBeside t q r = IsBody t q
+
 -- what stands beside the type of this number
 pub record IsObjectType (p : Program) (t : ℕ) (o : ObjectType) : Type 0 where
   pub body : IsProcedure p o.body
-  pub own : o.body.of ≡ Some t
-  pub plain : o.body.parameters ≡ []
+  pub beside : IsBeside t o.body (row_of p.types (id_of (Named t)))
   pub bare : o.body.locals ≡ []
-  pub proper : o.body.result ≡ None
-  pub methods : All (λ m. IsProcedure p m.procedure × (m.procedure.of ≡ Some t)) o.methods
+  pub methods : All (λ m. IsMethod p t m.procedure) o.methods
   pub slots : AreSlots p (on_base (methods_of p) (base_type p t)) o.methods
   -- what is no object type has neither a body nor methods
   pub others : (is_object (row_of p.types (id_of (Named t))) ≡ true) ⊎ ((o.has_body ≡ false) × (o.methods ≡ []))

@@ -26,6 +26,8 @@ pub enum Literal {
     Text(TextConstant),
     /// No object.
     Nil,
+    /// No procedure.
+    NoProcedure,
 }
 
 /// A designator. The string constants of a module are numbered on from its variables.
@@ -115,6 +117,8 @@ pub enum TCallee {
     Dispatched(Box<TExpr>, u32, u32),
     /// The method that a type has in a slot, called on SELF, by the numbers of both.
     Upper(u32, u32),
+    /// What a value of a procedure type stands for, by the type's number in the program. Trap 1 at NIL.
+    Through(Box<TExpr>, u32),
 }
 
 /// An expression.
@@ -154,6 +158,13 @@ pub enum TExpr {
     IsRecord(Box<TPlace>, u32),
     /// An object whose type extends this one; else, and at NIL, trap 3.
     Guard(Box<TExpr>, u32),
+    /// A procedure of a module as a value, by the numbers of both, each from 0.
+    ProcedureOf(u32, u32),
+    /// A method of an object as a value, with the object, by the type that is known of the object and the method's slot: the one that
+    /// the object's own type has there. Trap 1 at NIL.
+    MethodOf(Box<TExpr>, u32, u32),
+    /// Whether two procedure values stand for one procedure, and for methods of one object, or are both NIL.
+    SameProcedure(Box<TExpr>, Box<TExpr>),
 }
 
 // A long sum has as many left operands, one in another: it is dropped by a loop, which takes no stack.
@@ -172,6 +183,12 @@ impl Drop for TExpr {
                 TExpr::IsRecord(_, _) => return,
                 TExpr::Is(operand, _) => self = Box::into_inner(operand),
                 TExpr::Guard(operand, _) => self = Box::into_inner(operand),
+                TExpr::ProcedureOf(_, _) => return,
+                TExpr::MethodOf(operand, _, _) => self = Box::into_inner(operand),
+                TExpr::SameProcedure(left, right) => {
+                    drop(right);
+                    self = Box::into_inner(left);
+                }
                 TExpr::Same(left, right) => {
                     drop(right);
                     self = Box::into_inner(left);
@@ -291,10 +308,10 @@ pub enum TStat {
     Perform(Pos, TCallee, Vec<TArgument>),
     /// The end of the procedure, with the result of a function.
     Return(Pos, Option<TExpr>),
-    /// NEW of a variable: an object of this type, by the type's number in the program, whose activity is started.
-    New(Pos, TPlace, u32),
-    /// NEW of a pointer, or of an object without a body: a record, an array or an object of this type, by its number in the program,
-    /// and the lengths of an open array.
+    /// NEW of a variable of an object type: an object of this type, by the type's number in the program, and what its initializer is
+    /// handed, where it has one. Then its body is carried out, by an activity of its own where it is active, where it has one.
+    New(Pos, TPlace, u32, Vec<TArgument>),
+    /// NEW of a pointer: a record or an array of this type, by its number in the program, and the lengths of an open array.
     Make(Pos, TPlace, u32, Vec<TExpr>),
     /// WITH: an object that is guarded first, and statements.
     With(Pos, TExpr, Vec<TStat>),
@@ -332,11 +349,12 @@ pub struct TParameter {
 }
 
 /// A procedure, with the statements of its body; a proper one has no result. A method or an object's body says of which type it
-/// is, by the type's number in the program.
+/// is, by the type's number in the program, and an initializer that it is one.
 #[derive(Drop, Debug)]
 pub struct TProcedure {
     pub name: String,
     pub of: Option<u32>,
+    pub is_initializer: bool,
     pub parameters: Vec<TParameter>,
     pub locals: Vec<TVariable>,
     pub result: Option<TType>,
@@ -352,14 +370,17 @@ pub struct TMethod {
 }
 
 /// What stands beside a type that a module defines or writes: its name, which is empty where it has none, the number of its
-/// module in load order from 0, the body that each object's activity carries out, a procedure without parameters and locals, and
-/// the methods that it declares. A type that is no object type, or has no body of its own, has an empty one that nothing carries out.
+/// module in load order from 0, the body of its objects, a procedure without parameters and locals, and the methods that it
+/// declares. A type that is no object type, or has no body of its own, has an empty one that nothing carries out; that of a procedure
+/// type has the type's formals, and stands for all procedures that have them.
 #[derive(Drop, Debug)]
 pub struct TObject {
     pub name: String,
     pub home: u32,
     /// Whether the body is carried out.
     pub has_body: bool,
+    /// Whether each object has an activity of its own that carries out the body; else its creator does.
+    pub is_active: bool,
     pub body: TProcedure,
     pub methods: Vec<TMethod>,
 }

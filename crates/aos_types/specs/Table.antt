@@ -26,6 +26,10 @@ abbrev pub is_pointer : Option TypeRow → Bool
 is_pointer (Some (row.Pointer t)) = true
 is_pointer _ = false
 
+abbrev pub is_procedure : Option TypeRow → Bool
+is_procedure (Some (row.Procedure formals r)) = true
+is_procedure _ = false
+
 abbrev pub is_open : Option TypeRow → Bool
 is_open (Some (row.Open t)) = true
 is_open _ = false
